@@ -1,0 +1,10 @@
+pub mod Lists
+pub mod Varints
+pub mod Keys
+pub mod Newest
+pub mod KeyParts
+pub mod Shifts
+pub mod TableFacts
+pub mod Blocks
+pub mod SkipFacts
+pub mod WordLaws

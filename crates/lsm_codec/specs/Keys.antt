@@ -1,0 +1,53 @@
+-- User keys, internal keys, and their orders (LevelDB's `db/dbformat.h`).
+use Rattle.std.specs.Prelude.{◌≡◌, ℕ, ◌+◌, ◌*◌, ◌^◌, ◌<◌, Bool, true, List, ◌++◌}
+use Rattle.std.specs.Ordering.{nat_cmp, is_le}
+use Rattle.std.specs.declared.cmp.Ordering.{Ordering}
+use Rattle.std.specs.declared.cmp.Ordering.TheVariants.{Less, Equal, Greater}
+use Rattle.std.specs.Cmp.Lexicographic.{slice_cmp}
+use Rattle.std.specs.Int.{w64, to_le_bytes}
+use Rattle.lsm_codec.specs.declared.kind.Kind.{Kind}
+use Rattle.lsm_codec.specs.declared.kind.Kind.TheVariants.{Deletion, Value}
+
+abbrev pub UserKey : Type 0
+UserKey = List ℕ
+
+-- bytewise, a proper prefix first
+unfoldable pub user_le : UserKey → UserKey → Bool
+user_le a b = is_le (slice_cmp nat_cmp a b)
+
+abbrev pub UserLe : UserKey → UserKey → Type 0
+UserLe a b = user_le a b ≡ true
+
+abbrev pub kind_number : Kind → ℕ
+kind_number Deletion = 0
+kind_number Value = 1
+
+-- a sequence and a kind in one number
+abbrev pub packed_of : ℕ → Kind → ℕ
+packed_of seq kind = seq * 256 + kind_number kind
+
+pub record InternalKey : Type 0 where
+  pub user : UserKey
+  pub seq : ℕ
+  pub kind : Kind
+
+abbrev pub packed : InternalKey → ℕ
+packed key = packed_of key.seq key.kind
+
+-- the user key, and eight bytes of the sequence and the kind
+abbrev pub key_bytes : InternalKey → List ℕ
+key_bytes key = key.user ++ to_le_bytes w64 (packed key)
+
+-- these bytes are that key
+pub record IsKey (bytes : List ℕ) (key : InternalKey) : Type 0 where
+  pub bytes_are : bytes ≡ key_bytes key
+  pub fits : key.seq < 2 ^ 56
+
+abbrev pub then_by : Ordering → Ordering → Ordering
+then_by Less second = Less
+then_by Equal second = second
+then_by Greater second = Greater
+
+-- user keys ascending, and of one user key the newest first
+abbrev pub key_cmp : InternalKey → InternalKey → Ordering
+key_cmp a b = then_by (slice_cmp nat_cmp a.user b.user) (nat_cmp (packed b) (packed a))

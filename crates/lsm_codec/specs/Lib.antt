@@ -1,0 +1,10 @@
+pub mod Fault
+pub mod Lists
+pub mod Varint
+pub mod Keys
+pub mod Entries
+pub mod KeyRef
+pub mod Crc
+pub mod Mask
+pub mod Turns
+pub mod Words

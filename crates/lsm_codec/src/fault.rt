@@ -1,0 +1,37 @@
+//! What is wrong with bytes.
+
+ghost use Rattle.std.specs.Prelude.{◌≡◌};
+ghost use Rattle.lsm_codec.specs.Fault.{number_of};
+
+use thiserror::Error;
+
+/// Why a number or an internal key could not be read.
+#[derive(Clone, Copy, Debug, Drop, Error, PartialEq, Eq)]
+pub enum CodecFault {
+    /// The input ends within a number.
+    #[error("Cut")]
+    Cut,
+    /// A number is spelled too long, or is too big.
+    #[error("TooBig")]
+    TooBig,
+    /// An internal key has fewer than eight bytes.
+    #[error("ShortKey")]
+    ShortKey,
+    /// The kind of an internal key is above 1.
+    #[error("BadKind {0}")]
+    BadKind(u8),
+}
+
+impl CodecFault {
+    /// The published number of the refusal.
+    pub fn number(&self) -> u8
+        ensures { result ≡ number_of self.now }
+    {
+        match self {
+            CodecFault::Cut => 2,
+            CodecFault::TooBig => 3,
+            CodecFault::ShortKey => 4,
+            CodecFault::BadKind(_) => 5,
+        }
+    }
+}

@@ -1,0 +1,79 @@
+//! Internal keys: a user key, a sequence and a kind.
+
+ghost use Rattle.std.specs.Prelude.{◌≡◌, ℕ, ◌-◌, ◌^◌, ◌<◌, ◌≤◌, ◌↔◌, ◌⊎◌, ◌++◌, List, length, slice_index, IfOk, IfErr, IsOk, OnOk, OnErr, MatchResult, Ok, Err};
+ghost use Rattle.lsm_codec.specs.Keys.{InternalKey, IsKey, key_bytes, key_cmp};
+
+use crate::fault::CodecFault;
+use crate::kind::Kind;
+use std::alloc::AllocError;
+use std::cmp::Ordering;
+
+/// The greatest sequence, 2^56 - 1: a sequence and a kind share 64 bits (LevelDB's `db/dbformat.h`).
+pub const MAX_SEQ: u64 = 72_057_594_037_927_935;
+
+/// An internal key, whose user key lies in other bytes.
+#[derive(Clone, Copy)]
+pub struct KeyRef<'a> {
+    pub user: &'a [u8],
+    pub seq: u64,
+    pub kind: Kind,
+    ghost seq_fits: { seq < 2 ^ 56 },
+}
+
+impl<'a> KeyRef<'a> {
+    ghost use Rattle.lsm_codec.specs.KeyRef.{key_of};
+
+    /// The parts of an internal key: the user key, then eight bytes, the fixed64 of `sequence * 256 + kind`.
+    /// `ShortKey` where there are fewer than eight bytes, `BadKind` where the kind is above 1.
+    pub fn split(bytes: &'a [u8]) -> Result<KeyRef<'a>, CodecFault>
+        ensures found { IfOk result (λ k. IsKey bytes.now (key_of k)) }
+        ensures only { (key : InternalKey) → IsKey bytes.now key → IfOk result (λ k. key_of k ≡ key) × IsOk result }
+        ensures short { result ≡ Err CodecFault.ShortKey ↔ length bytes.now < 8 }
+        ensures kind { IfErr result (λ e. (e ≡ CodecFault.ShortKey) ⊎ (e ≡ CodecFault.BadKind (slice_index bytes.now (length bytes.now - 8)))) }
+    {
+        if bytes.len() < 8 {
+            return Err(CodecFault::ShortKey);
+        }
+        let (user, tail) = bytes.split_at(bytes.len() - 8);
+        let packed = u64::from_le_bytes([
+            tail[0], tail[1], tail[2], tail[3], tail[4], tail[5], tail[6], tail[7],
+        ]);
+        let kind = match tail[0] {
+            0 => Kind::Deletion,
+            1 => Kind::Value,
+            other => return Err(CodecFault::BadKind(other)),
+        };
+        let seq = packed >> 8;
+        Ok(KeyRef { user, seq, kind })
+    }
+
+    /// The order of internal keys: user keys ascending bytewise, and of one user key the newest first.
+    pub fn compare(&self, other: &KeyRef<'_>) -> Ordering
+        ensures { result ≡ key_cmp (key_of self.now) (key_of other.now) }
+    {
+        match self.user.cmp(other.user) {
+            Ordering::Less => Ordering::Less,
+            Ordering::Greater => Ordering::Greater,
+            Ordering::Equal => (other.seq * 256 + other.kind as u64).cmp(
+                &(self.seq * 256 + self.kind as u64),
+            ),
+        }
+    }
+}
+
+/// Appends the bytes of an internal key. An `Err` leaves the contents as they were.
+pub fn push_key(out: &mut Vec<u8>, user: &[u8], seq: u64, kind: Kind) -> Result<(), AllocError>
+    requires { seq ≤ MAX_SEQ }
+    ensures ok { OnOk result (out.new.items ≡ out.old.items ++ key_bytes record { user = user.now; seq = seq; kind = kind }) }
+    ensures err { OnErr result (out.new.items ≡ out.old.items) }
+{
+    let len = out.len();
+    out.extend_from_slice(user)?;
+    match out.extend_from_slice(&(seq * 256 + kind as u64).to_le_bytes()) {
+        Ok(()) => Ok(()),
+        Err(error) => {
+            out.truncate(len);
+            Err(error)
+        }
+    }
+}

@@ -1,0 +1,9 @@
+//! What an entry does to its key.
+
+/// What an entry does to its user key. As stored in a key: 0 for a deletion, 1 for a value
+/// (`ValueType` of LevelDB's `db/dbformat.h`).
+#[derive(Clone, Copy, Debug, PartialEq, Eq)]
+pub enum Kind {
+    Deletion,
+    Value,
+}
