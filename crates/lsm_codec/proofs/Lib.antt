@@ -3,6 +3,8 @@ pub mod Varints
 pub mod Keys
 pub mod Newest
 pub mod KeyParts
+pub mod KeyOrder
+pub mod KeyBytes
 pub mod Shifts
 pub mod TableFacts
 pub mod Blocks

@@ -1,5 +1,5 @@
 -- User keys, internal keys, and their orders (LevelDB's `db/dbformat.h`).
-use Rattle.std.specs.Prelude.{◌≡◌, ℕ, ◌+◌, ◌*◌, ◌^◌, ◌<◌, Bool, true, List, ◌++◌}
+use Rattle.std.specs.Prelude.{◌≡◌, ℕ, ◌+◌, ◌-◌, ◌*◌, ◌^◌, ◌<◌, ◌≤◌, Bool, true, List, ◌++◌, length, Some, slice_get}
 use Rattle.std.specs.Ordering.{nat_cmp, is_le}
 use Rattle.std.specs.declared.cmp.Ordering.{Ordering}
 use Rattle.std.specs.declared.cmp.Ordering.TheVariants.{Less, Equal, Greater}
@@ -42,6 +42,12 @@ key_bytes key = key.user ++ to_le_bytes w64 (packed key)
 pub record IsKey (bytes : List ℕ) (key : InternalKey) : Type 0 where
   pub bytes_are : bytes ≡ key_bytes key
   pub fits : key.seq < 2 ^ 56
+
+-- Eight bytes are there, and the first of them, where the kind stands, is above 1.
+pub record IsBadKind (bytes : List ℕ) (kind : ℕ) : Type 0 where
+  pub long : 8 ≤ length bytes
+  pub stands : slice_get bytes (length bytes - 8) ≡ Some kind
+  pub above : 1 < kind
 
 abbrev pub then_by : Ordering → Ordering → Ordering
 then_by Less second = Less

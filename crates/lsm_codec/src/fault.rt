@@ -1,7 +1,7 @@
 //! What is wrong with bytes.
 
 ghost use Rattle.std.specs.Prelude.{◌≡◌};
-ghost use Rattle.lsm_codec.specs.Fault.{number_of};
+ghost use Rattle.lsm_codec.specs.Fault.{number_of, name_of};
 
 use thiserror::Error;
 
@@ -32,6 +32,18 @@ impl CodecFault {
             CodecFault::TooBig => 3,
             CodecFault::ShortKey => 4,
             CodecFault::BadKind(_) => 5,
+        }
+    }
+
+    /// The name of the refusal, without its fields.
+    pub fn name(&self) -> &'static str
+        ensures { result.now ≡ name_of self.now }
+    {
+        match self {
+            CodecFault::Cut => "Cut",
+            CodecFault::TooBig => "TooBig",
+            CodecFault::ShortKey => "ShortKey",
+            CodecFault::BadKind(_) => "BadKind",
         }
     }
 }

@@ -1,7 +1,7 @@
 //! Internal keys: a user key, a sequence and a kind.
 
 ghost use Rattle.std.specs.Prelude.{◌≡◌, ℕ, ◌-◌, ◌^◌, ◌<◌, ◌≤◌, ◌↔◌, ◌⊎◌, ◌++◌, List, length, slice_index, IfOk, IfErr, IsOk, OnOk, OnErr, MatchResult, Ok, Err};
-ghost use Rattle.lsm_codec.specs.Keys.{InternalKey, IsKey, key_bytes, key_cmp};
+ghost use Rattle.lsm_codec.specs.Keys.{InternalKey, IsKey, IsBadKind, key_bytes, key_cmp};
 
 use crate::fault::CodecFault;
 use crate::kind::Kind;
@@ -29,6 +29,7 @@ impl<'a> KeyRef<'a> {
         ensures found { IfOk result (λ k. IsKey bytes.now (key_of k)) }
         ensures only { (key : InternalKey) → IsKey bytes.now key → IfOk result (λ k. key_of k ≡ key) × IsOk result }
         ensures short { result ≡ Err CodecFault.ShortKey ↔ length bytes.now < 8 }
+        ensures bad_kind { (kind : ℕ) → result ≡ Err (CodecFault.BadKind kind) ↔ IsBadKind bytes.now kind }
         ensures kind { IfErr result (λ e. (e ≡ CodecFault.ShortKey) ⊎ (e ≡ CodecFault.BadKind (slice_index bytes.now (length bytes.now - 8)))) }
     {
         if bytes.len() < 8 {
@@ -65,6 +66,7 @@ impl<'a> KeyRef<'a> {
 pub fn push_key(out: &mut Vec<u8>, user: &[u8], seq: u64, kind: Kind) -> Result<(), AllocError>
     requires { seq ≤ MAX_SEQ }
     ensures ok { OnOk result (out.new.items ≡ out.old.items ++ key_bytes record { user = user.now; seq = seq; kind = kind }) }
+    ensures is_key { IsKey (key_bytes record { user = user.now; seq = seq; kind = kind }) record { user = user.now; seq = seq; kind = kind } }
     ensures err { OnErr result (out.new.items ≡ out.old.items) }
 {
     let len = out.len();
