@@ -209,12 +209,12 @@ big_is (suc most) max (b ∷ bs) m fits is =
     at_high big (Err fault) e why rec = elim (rec (e ∙ ap (λ (x : CodecFault). Err x) why)) [
       | inl endless ↦ inl record { long = omega (arith, endless.long); open_ended = (big, endless.open_ended) }
       | inr o ↦ inr record {
-          len = suc o.len;
-          here = omega (arith, o.here);
-          short = omega (arith, o.short);
-          groups = groups-cons b (take o.len bs) big (fits 0) o.groups;
-          over = omega (arith, o.over);
-        }
+        len = suc o.len;
+        here = omega (arith, o.here);
+        short = omega (arith, o.short);
+        groups = groups-cons b (take o.len bs) big (fits 0) o.groups;
+        over = omega (arith, o.over);
+      }
     ]
 
 endless_is : (most max : ℕ) (bytes : List ℕ) → IsEndless most bytes → varint_at most max bytes ≡ Err TooBig

@@ -14,6 +14,8 @@ mod kind;
 mod list;
 mod stride_tables;
 mod stridewise;
+#[cfg(test)]
+mod tests;
 mod varint;
 mod wordwise;
 
