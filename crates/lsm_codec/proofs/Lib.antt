@@ -10,3 +10,4 @@ pub mod TableFacts
 pub mod Blocks
 pub mod SkipFacts
 pub mod WordLaws
+pub mod Masks

@@ -18,6 +18,7 @@ user_le a b = is_le (slice_cmp nat_cmp a b)
 abbrev pub UserLe : UserKey → UserKey → Type 0
 UserLe a b = user_le a b ≡ true
 
+-- as a key stores it
 abbrev pub kind_number : Kind → ℕ
 kind_number Deletion = 0
 kind_number Value = 1
@@ -49,6 +50,7 @@ pub record IsBadKind (bytes : List ℕ) (kind : ℕ) : Type 0 where
   pub stands : slice_get bytes (length bytes - 8) ≡ Some kind
   pub above : 1 < kind
 
+-- the first, unless it is `Equal`
 abbrev pub then_by : Ordering → Ordering → Ordering
 then_by Less second = Less
 then_by Equal second = second
