@@ -1,16 +1,15 @@
 -- The order of internal keys and of entries is total, and strict between different keys.
-use Rattle.std.proofs.Common.{◌≡◌, ℕ, ◌+◌, ◌*◌, ◌<◌, ◌≤◌, true, false, refl, sym, ◌∙◌, ap, subst, inl, inr, arith}
+use Rattle.std.proofs.Common.{◌≡◌, ℕ, ◌<◌, false, refl, sym, ◌∙◌, ap, inl, inr, arith}
 use Rattle.std.proofs.Common.{Ordering, Less, Equal, Greater}
-use Rattle.std.specs.Prelude.{◌⊎◌, ◌↔◌}
+use Rattle.std.specs.Prelude.{◌⊎◌}
 use Rattle.std.specs.Cmp.Lexicographic.{slice_cmp}
 use Rattle.std.specs.Cmp.{IsTotalOrder}
-use Rattle.std.specs.Ordering.{nat_cmp, is_eq, is_gt, is_le, is_lt, ordering_reverse, MatchOrdering, flip_args, on}
+use Rattle.std.specs.Ordering.{nat_cmp, is_eq, is_gt, is_le, ordering_reverse}
 use Rattle.std.proofs.lemmas.Map.Text.{is_eq-slice_cmp}
-use Rattle.std.proofs.lemmas.Cmp.{nat_list_cmp_total, nat_cmp_total, on_total, back_total, then_total, tied_itself, tied_back, upto, ranked}
+use Rattle.std.proofs.lemmas.Cmp.{nat_list_cmp_total, nat_cmp_total, on_total, back_total, then_total, tied_itself, upto, ranked}
 use Rattle.std.specs.Cmp.{nat_cmp_is}
 use Rattle.lsm_codec.specs.declared.kind.Kind.{Kind}
-use Rattle.lsm_codec.specs.declared.kind.Kind.TheVariants.{Deletion, Value}
-use Rattle.lsm_codec.specs.Keys.{UserKey, UserLe, user_le, InternalKey, packed_of, packed, kind_number, then_by, key_cmp}
+use Rattle.lsm_codec.specs.Keys.{UserKey, UserLe, user_le, InternalKey, packed_of, packed, then_by, key_cmp}
 use Rattle.lsm_codec.specs.Entries.{Entry, internal_key, stamp, entry_cmp}
 use Rattle.lsm_codec.proofs.Keys.{key_from_test}
 use Rattle.lsm_codec.proofs.Newest.{kind_number_le, same_kind}
