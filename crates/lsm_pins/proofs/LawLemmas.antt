@@ -1,17 +1,16 @@
 -- The laws follow from the rule.
-use Rattle.std.proofs.Common.{◌≡◌, ◌≢◌, ◌⊎◌, ℕ, zero, suc, ◌+◌, ◌<◌, true, false, Option, Some, None, List, [], ◌∷◌, cond, eqb, eq-eqb, ne_eqb, get_or, refl, sym, ap, ◌∙◌, subst, arith}
+use Rattle.std.proofs.Common.{◌≡◌, ◌≢◌, ℕ, suc, ◌+◌, ◌<◌, Option, Some, None, List, [], ◌∷◌, cond, eqb, eq-eqb, ne_eqb, get_or, refl, sym, ap, ◌∙◌, subst, arith}
 use Rattle.std.proofs.lemmas.List.Sums.{sum_by-cons}
-use Rattle.std.proofs.lemmas.Option.{slice_get-map}
 use Rattle.std.specs.Prelude.{slice_get, sum_by}
 use mathlib.Core.Logic.{dite}
 use native.Mathlib.Decide.{ℕ_discrete}
 use Rattle.lsm_pins.specs.declared.view.View.{View}
 use Rattle.lsm_pins.specs.declared.slot_record.SlotRecord.{SlotRecord}
 use Rattle.lsm_pins.specs.Head.{head_of, count_in}
-use Rattle.lsm_pins.specs.SlotRecord.{IsInUse, ids_of}
-use Rattle.lsm_pins.specs.View.{HasId, held_at, pin_at}
+use Rattle.lsm_pins.specs.SlotRecord.{IsInUse}
+use Rattle.lsm_pins.specs.View.{held_at, pin_at}
 use Rattle.lsm_pins.specs.Rule.{BoardState, IsKept, current_pins, current_slot}
-use Rattle.lsm_pins.specs.Laws.{BoardLaw, HeldIsNotFree, IsLaw, IsPublisher, MissedIsHeld}
+use Rattle.lsm_pins.specs.Laws.{BoardLaw, HeldIsNotFree, IsPublisher, MissedIsHeld}
 use Rattle.lsm_pins.proofs.PinSteps.{head_count}
 use Rattle.lsm_pins.proofs.SlotLemmas.{in_use-has_id}
 use Rattle.lsm_pins.proofs.ViewLemmas.{free_apart}

@@ -1,14 +1,14 @@
 -- The id in each slot, and which slots are free, by the publisher's records.
-use Rattle.std.proofs.Common.{◌≡◌, ◌≢◌, ℕ, Bool, true, false, true≢false, cond, ◌+◌, ◌-◌, ◌<◌, Option, Some, None, List, ◌∷◌, length, map, replicate, set, refl, sym, ap, ◌∙◌, subst, zero, suc, arith}
+use Rattle.std.proofs.Common.{◌≡◌, ◌≢◌, ℕ, Bool, true, false, true≢false, cond, ◌+◌, ◌-◌, ◌<◌, Option, Some, None, List, ◌∷◌, length, replicate, set, refl, sym, ap, ◌∙◌, zero, suc, arith}
 use Rattle.std.proofs.Math.ListN.{get_or-map}
 use Rattle.std.proofs.Math.Seq.{map-set_same}
 use Rattle.std.proofs.lemmas.List.{length-map, map-set}
-use Rattle.std.proofs.lemmas.Option.{get_or_from_slice_get, slice_get-get_or, slice_get-map, slice_get_within}
+use Rattle.std.proofs.lemmas.Option.{get_or_from_slice_get, slice_get-map, slice_get_within}
 use Rattle.std.specs.Prelude.{slice_get, option_map, IsTrue}
 use mathlib.Core.Logic.{dite}
 use native.Mathlib.Decide.{ℕ_discrete}
 use Rattle.lsm_pins.specs.declared.slot_record.SlotRecord.{SlotRecord}
-use Rattle.lsm_pins.specs.SlotRecord.{IsInUse, first_records, freed_records, ids_of, published_records, record_at, slot_record, unused}
+use Rattle.lsm_pins.specs.SlotRecord.{IsInUse, first_records, freed_records, ids_of, published_records, record_at, unused}
 use Rattle.lsm_pins.specs.declared.view.View.{View}
 use Rattle.lsm_pins.specs.View.{IsFree, is_unheld, looked_view, published_view, slot_ids}
 use Rattle.lsm_pins.proofs.ListLemmas.{set_here, set_else}

@@ -1,5 +1,5 @@
 -- The laws on views, after one view is changed or one is added.
-use Rattle.std.proofs.Common.{◌≡◌, ◌≢◌, ℕ, ◌+◌, ◌*◌, ◌^◌, Some, None, ◌<◌, ◌≤◌, true, false, true≢false, eqb, List, [], ◌∷◌, ◌++◌, set, sym, ap, ◌∙◌, subst, ⊎_elim, arith}
+use Rattle.std.proofs.Common.{◌≡◌, ◌≢◌, ℕ, ◌^◌, Some, None, ◌<◌, ◌≤◌, true, eqb, List, [], ◌∷◌, ◌++◌, set, sym, ap, ◌∙◌, subst, ⊎_elim, arith}
 use Rattle.lsm_pins.specs.declared.view.View.{View}
 use Rattle.lsm_pins.specs.declared.slot_record.SlotRecord.{SlotRecord}
 use Rattle.lsm_pins.proofs.SumLemmas.{sum_few, cond_le}
@@ -8,7 +8,7 @@ use Rattle.lsm_pins.specs.View.{copied_view, noted_view, parts_of, pins_of, told
 use Rattle.lsm_pins.specs.Rule.{BoardState, Fits, IsBounded, KnowsPin}
 use Rattle.lsm_pins.proofs.ListLemmas.{at_set, at_snoc}
 use Rattle.std.proofs.lemmas.Option.{none-some, same_Some}
-use Rattle.std.specs.Prelude.{slice_get, sum_by, option_map}
+use Rattle.std.specs.Prelude.{slice_get, sum_by}
 
 abbrev pub Few : ℕ → List View → Type 0
 Few id views = (by : ℕ) (v : View) → slice_get views by ≡ Some v → IsBounded id v

@@ -1,5 +1,5 @@
 -- The law of a board, in words of its slots, pins and views. This project's rule.
-use Rattle.std.specs.Prelude.{◌≡◌, ◌≢◌, ℕ, suc, ◌+◌, ◌<◌, ◌≤◌, true, Some, None, List, sum_by, slice_get, slice_index}
+use Rattle.std.specs.Prelude.{◌≡◌, ◌≢◌, ℕ, suc, ◌+◌, ◌≤◌, true, Some, None, List, sum_by, slice_get, slice_index}
 use Rattle.atomic_table.specs.Table.{State}
 use Rattle.lsm_pins.specs.declared.view.View.{View}
 use Rattle.lsm_pins.specs.declared.rule.Start.{Start}

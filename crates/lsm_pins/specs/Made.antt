@@ -1,5 +1,5 @@
 -- What making a board gives.
-use Rattle.std.specs.Prelude.{◌≡◌, ℕ, None}
+use Rattle.std.specs.Prelude.{◌≡◌, ℕ}
 use Rattle.atomic_table.specs.Seated.{TableId}
 use Rattle.lsm_pins.specs.declared.pinner.Pinner.{Pinner}
 use Rattle.lsm_pins.specs.View.{reader_view, first_view, start_of}

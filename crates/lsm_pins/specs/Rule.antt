@@ -1,5 +1,5 @@
 -- The rule of a board: how its words and the views of its seats belong together between any two steps. This project's rule.
-use Rattle.std.specs.Prelude.{◌≡◌, ℕ, suc, ◌+◌, ◌*◌, ◌^◌, ◌<◌, ◌≤◌, ◌==◌, true, cond, Option, Some, None, List, length, sum_by, slice_get, slice_index}
+use Rattle.std.specs.Prelude.{◌≡◌, ℕ, suc, ◌+◌, ◌*◌, ◌^◌, ◌<◌, ◌≤◌, ◌==◌, true, cond, Some, None, List, length, sum_by, slice_get, slice_index}
 use Rattle.atomic_table.specs.Table.{State}
 use Rattle.lsm_pins.specs.declared.view.View.{View}
 use Rattle.lsm_pins.specs.declared.rule.Start.{Start}

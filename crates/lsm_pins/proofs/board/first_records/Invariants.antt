@@ -1,4 +1,4 @@
-use Rattle.std.proofs.Common.{◌≡◌, ◌-◌, ◌∷◌, Some, false, replicate}
+use Rattle.std.proofs.Common.{◌≡◌, ◌-◌, ◌∷◌, Some, replicate}
 use Rattle.lsm_pins.specs.SlotRecord.{slot_record, unused}
 use Rattle.lsm_pins.proofs.board.first_records.Given as goal
 

@@ -1,5 +1,4 @@
 use Rattle.std.proofs.Common.{◌≡◌, Some, rules}
-use Rattle.lsm_pins.specs.View.{slot_ids}
 use Rattle.lsm_pins.proofs.SlotLemmas.{in_use-has_id}
 use Rattle.lsm_pins.proofs.ViewLemmas.{met_in_use}
 use Rattle.lsm_pins.proofs.publisher.Publisher.meet.Goals as goal
