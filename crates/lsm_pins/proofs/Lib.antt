@@ -1,0 +1,8 @@
+mod ListLemmas
+mod SlotLemmas
+mod SumLemmas
+mod ViewLemmas
+mod PinSteps
+mod PublishSteps
+mod SeatSteps
+mod LawLemmas

@@ -1,0 +1,10 @@
+pub mod Head
+pub mod Known
+pub mod Laws
+pub mod Made
+pub mod Pinner
+pub mod Publisher
+pub mod Rule
+pub mod SlotRecord
+pub mod Step
+pub mod View

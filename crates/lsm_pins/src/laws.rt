@@ -1,0 +1,20 @@
+//! The laws of a board. Each holds between any two steps, whatever threads pin, unpin, publish, look, learn, cut, join or
+//! check in whatever order: of every state of the words and the views that the rule allows.
+
+ghost use Rattle.lsm_pins.specs.Laws.{IsLaw, BoardLaw, HeldIsNotFree, MissedIsHeld};
+
+/// The head has the publisher's slot and id; the pins of each slot are those that were given back and those that views
+/// hold; no view has seen a greater id than the publisher's; views that saw one id saw one slot for it.
+pub fn board_law()
+    ensures { IsLaw BoardLaw }
+{}
+
+/// No slot is free while a view holds it: the slot has the id of the view's pin.
+pub fn held_is_not_free()
+    ensures { IsLaw HeldIsNotFree }
+{}
+
+/// A look that answers false of a slot that is not current means that a view holds the slot.
+pub fn missed_is_held()
+    ensures { IsLaw MissedIsHeld }
+{}
