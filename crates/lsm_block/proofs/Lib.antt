@@ -3,3 +3,4 @@ pub mod EntryLaws
 pub mod ScanLaws
 pub mod RestartLaws
 pub mod BlockLaws
+pub mod WalkLaws
