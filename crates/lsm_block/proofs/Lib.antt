@@ -4,3 +4,4 @@ pub mod ScanLaws
 pub mod RestartLaws
 pub mod BlockLaws
 pub mod WalkLaws
+pub mod SeenLaws

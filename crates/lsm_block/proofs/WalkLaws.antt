@@ -221,6 +221,18 @@ walk_on out before rs key rest total p after b xs fits le e pass =
     ∙ ap (λ (t : Bool). restart_fault t (entry_fault later.stop (if_none out (if_not (comes_after key p.key) start (disorder p.key later.placed))))) good
     ∙ ap (λ (d : Option ℕ). restart_fault (rises later.stop (starts_of later.placed) b xs) (entry_fault later.stop d)) (sym (noted out (comes_after key p.key) start (disorder p.key later.placed))))
 
+-- the same, with the key, the number and the note that the code has
+pub walk_moves : (out : Option ℕ) (before : ℕ) (rs key rest : List ℕ) (total : ℕ) (p : Piece) (after : List ℕ) (b : ℕ) (xs : List ℕ) (shared : ℕ) (next : List ℕ) (mark : Option ℕ)
+    → IsBytes rest → length rest ≤ total → entry_at key rest ≡ Some (p, after) → p.shared ≡ shared → p.key ≡ next → Some (b, xs) ≡ passed before rs (total - length rest) shared
+    → mark ≡ if_none out (if_not (comes_after key next) (total - length rest) None)
+    → fault_from mark b xs next (scan (length after) total next after) ≡ fault_from out before rs key (scan (length rest) total key rest)
+walk_moves out before rs key rest total p after b xs shared next mark fits le e s k pass n =
+    let start = total - length rest in
+    let passes : passed before rs start p.shared ≡ Some (b, xs) = ap (passed before rs start) s ∙ sym pass in
+    ap (λ (o : Option ℕ). fault_from o b xs next (scan (length after) total next after)) n
+    ∙ ap (λ (q : List ℕ). fault_from (if_none out (if_not (comes_after key q) start None)) b xs q (scan (length after) total q after)) (sym k)
+    ∙ walk_on out before rs key rest total p after b xs fits le e passes
+
 pub walk_bad : (out : Option ℕ) (before : ℕ) (rs key rest : List ℕ) (total : ℕ) (p : Piece) (after : List ℕ) → IsBytes rest → length rest ≤ total
     → entry_at key rest ≡ Some (p, after) → passed before rs (total - length rest) p.shared ≡ None
     → Some BadRestarts ≡ fault_from out before rs key (scan (length rest) total key rest)
