@@ -5,3 +5,6 @@ pub mod RestartLaws
 pub mod BlockLaws
 pub mod WalkLaws
 pub mod SeenLaws
+pub mod OrderLaws
+pub mod SeekLaws
+pub mod HeldLaws

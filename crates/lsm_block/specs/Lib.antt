@@ -3,3 +3,6 @@ pub mod Block
 pub mod Reading
 pub mod Walking
 pub mod Gives
+pub mod Seeking
+pub mod Held
+pub mod Building
