@@ -23,7 +23,7 @@ kind_number_at : (n : ℕ) → n ≤ 1 → kind_number (kind_at n) ≡ n
 kind_number_at zero h = refl
 kind_number_at (suc n) h = omega arith
 
-length-key : (k : InternalKey) → length (key_bytes k) ≡ length k.user + 8
+pub length-key : (k : InternalKey) → length (key_bytes k) ≡ length k.user + 8
 length-key k = length-append k.user (to_le_bytes w64 (packed k))
 
 packed_fits : (k : InternalKey) → k.seq < 2 ^ 56 → packed k < 2 ^ 64
@@ -92,6 +92,10 @@ internal_takes bytes fits h =
       fits = omega (arith, below);
       packed_is = whole;
     }
+
+-- how many bytes of a key are left beyond so many
+pub length-unshared : (shared : ℕ) (k : InternalKey) → length k.user + 8 - shared ≡ length (drop shared (key_bytes k))
+length-unshared shared k = omega (arith, length-drop shared (key_bytes k), length-key k)
 
 -- ---- the order, by the bytes
 

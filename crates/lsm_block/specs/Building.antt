@@ -1,10 +1,11 @@
 -- The bytes of a block that the writer makes of entries: what each shares with the key before it, and where the restarts
 -- are (LevelDB's `table/block_builder.cc`).
-use Rattle.std.specs.Prelude.{◌≡◌, ℕ, zero, suc, ◌+◌, ◌%◌, ◌^◌, ◌<◌, ◌&&◌, Bool, true, false, nat_lt, ◌==◌, List, [], ◌∷◌, ◌++◌, length, drop}
+use Rattle.std.specs.Prelude.{◌≡◌, ℕ, zero, suc, ◌+◌, ◌%◌, ◌^◌, ◌<◌, ◌&&◌, Bool, true, false, nat_lt, ◌==◌, List, [], ◌∷◌, ◌++◌, length, drop, Option, Some, None}
 use Rattle.std.specs.List.{flat_map, AllByRecursion}
 use Rattle.std.specs.Int.{w32, to_le_bytes}
 use Rattle.lsm_codec.specs.Varint.{varint32}
-use Rattle.lsm_codec.specs.Entries.{Entry}
+use Rattle.lsm_codec.specs.Keys.{InternalKey}
+use Rattle.lsm_codec.specs.Entries.{Entry, internal_key}
 use Rattle.lsm_block.specs.Block.{Ascends, key_text}
 use Rattle.lsm_block.specs.Seeking.{readable}
 
@@ -33,6 +34,10 @@ shared_at interval index before key = shared_if (is_restart interval index) (com
 -- three numbers, the rest of the key and the value
 abbrev pub parts_text : ℕ → List ℕ → List ℕ → List ℕ
 parts_text shared unshared value = varint32 shared ++ (varint32 (length unshared) ++ (varint32 (length value) ++ (unshared ++ value)))
+
+-- how long that is
+abbrev pub own_len : ℕ → ℕ → ℕ → ℕ
+own_len shared unshared_len value_len = length (varint32 shared) + length (varint32 unshared_len) + length (varint32 value_len) + unshared_len + value_len
 
 -- an entry that shares so many bytes of its key
 abbrev pub sharing_text : ℕ → Entry → List ℕ
@@ -83,6 +88,12 @@ pub record Building : Type 0 where
 abbrev pub last_text : List ℕ → List Entry → List ℕ
 last_text before [] = before
 last_text before (e ∷ es) = last_text (key_text e) es
+
+-- the last key, if there is one
+abbrev pub last_key : List Entry → Option InternalKey
+last_key [] = None
+last_key (e ∷ []) = Some (internal_key e)
+last_key (e ∷ f ∷ es) = last_key (f ∷ es)
 
 -- the entries that a text spells
 unfoldable pub entries_in : List ℕ → List Entry
