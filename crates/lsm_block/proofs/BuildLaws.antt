@@ -11,8 +11,8 @@ use Rattle.lsm_codec.specs.Keys.{InternalKey, key_bytes}
 use Rattle.lsm_codec.specs.Entries.{Entry, internal_key}
 use Rattle.lsm_codec.proofs.Varints.{is_shortest}
 use Rattle.lsm_block.specs.Block.{EntryText, IsBlock, Spells, Ascends, Rises, start_at, key_text}
-use Rattle.lsm_block.specs.Building.{one_more, common, is_restart, is_later_restart, Built, FitsEntry, own_len, parts_text, shared_if, shared_at, sharing_text, entries_text, offset_if, later_restarts, with_restarts, block_bytes, last_text, last_key, entries_in}
-use Rattle.lsm_block.specs.Held.{bytes_of}
+use Rattle.lsm_block.specs.Building.{one_more, common, is_restart, is_later_restart, Built, FitsEntry, own_len, grown_len, parts_text, shared_if, shared_at, sharing_text, entries_text, offset_if, later_restarts, with_restarts, block_bytes, last_text, last_key, entries_in}
+use Rattle.lsm_block.specs.Held.{Kept, bytes_of}
 use Rattle.lsm_block.proofs.EntryLaws.{own-some, some_is}
 use Rattle.lsm_block.proofs.SeekLaws.{reads_all}
 
@@ -347,13 +347,13 @@ length-parts shared unshared value =
     omega (arith, length-append (varint32 shared) (varint32 (length unshared) ++ (varint32 (length value) ++ (unshared ++ value))),
     length-append (varint32 (length unshared)) (varint32 (length value) ++ (unshared ++ value)), length-append (varint32 (length value)) (unshared ++ value), length-append unshared value)
 
-pub too_large : (interval count : ℕ) (es : List Entry) (text offsets last : List ℕ) (e : Entry) (text_len offsets_len shared : ℕ) (later : Bool) (unshared_len : ℕ)
+-- how long the block is with an entry more
+pub length-with : (interval count : ℕ) (es : List Entry) (text offsets last : List ℕ) (e : Entry) (text_len offsets_len shared : ℕ) (later : Bool) (unshared_len : ℕ)
     → Built interval es text offsets last count → text_len ≡ length text → offsets_len ≡ length offsets → shared ≡ shared_at interval count last (key_text e)
     → later ≡ is_later_restart interval count → unshared_len ≡ length (drop shared (key_text e))
-    → ltb (text_len + own_len shared unshared_len (length e.value) + (offsets_len + length (flat_map (to_le_bytes w32) (offset_if later text_len))) + 8) (2 ^ 32) ≡ false
-    → 2 ^ 32 ≤ length (block_bytes interval (es ++ e ∷ []))
+    → length (block_bytes interval (es ++ e ∷ [])) ≡ grown_len text_len offsets_len later shared unshared_len (length e.value)
 unfolding block_bytes
-too_large interval count es text offsets last e tl ol shared later unshared_len b tl-is ol-is shared-is later-is unshared-is test =
+length-with interval count es text offsets last e tl ol shared later unshared_len b tl-is ol-is shared-is later-is unshared-is =
     let key = key_text e in
     let z : 0 + length es ≡ length es = omega arith in
     let zt : 0 + length (entries_text interval 0 [] es) ≡ length (entries_text interval 0 [] es) = omega arith in
@@ -364,43 +364,13 @@ too_large interval count es text offsets last e tl ol shared later unshared_len 
     let t = ap (λ (xs : List ℕ). length xs) push ∙ length-append (entries_text interval 0 [] es) own in
     let o = ap (λ (xs : List ℕ). length (flat_map (to_le_bytes w32) xs)) more ∙ ap (λ (xs : List ℕ). length xs) (words-push (later_restarts interval 0 0 [] es) offset)
     ∙ length-append (flat_map (to_le_bytes w32) (later_restarts interval 0 0 [] es)) (flat_map (to_le_bytes w32) offset) in
-    let big = rw (tl-is, ol-is, unshared-is, shared-is, later-is, b.count_is, b.last_is, b.text_is, b.offsets_are) at (ltb-false _ _ test) in
     let own_is = length-parts (shared_at interval (length es) (last_text [] es) key) (drop (shared_at interval (length es) (last_text [] es) key) key) e.value in
     let whole = length-whole (entries_text interval 0 [] (es ++ e ∷ [])) (later_restarts interval 0 0 [] (es ++ e ∷ [])) in
-    omega (arith, t, o, big, whole, own_is)
-
-pub finished : (interval count : ℕ) (es : List Entry) (text offsets last : List ℕ) → Built interval es text offsets last count
-    → ((text ++ to_le_bytes w32 0) ++ offsets) ++ to_le_bytes w32 (length offsets / 4 + 1) ≡ block_bytes interval es
-unfolding block_bytes
-finished interval count es text offsets last b =
-    let later = later_restarts interval 0 0 [] es in
-    let four = ap (λ (xs : List ℕ). length xs) b.offsets_are ∙ length-words later in
-    let n : length offsets / 4 ≡ length later = omega (arith, four) in
-    rw n (rw (b.text_is, b.offsets_are) (simp append_assoc))
-
-pub is_block : (interval count : ℕ) (es : List Entry) (text offsets last : List ℕ) → Built interval es text offsets last count → IsBlock (block_bytes interval es) es
-is_block interval count es text offsets last b = block_built interval es b.fit b.ascend (omega (arith, length-built interval count es text offsets last b, b.small))
-
--- A builder that has room for an entry, and takes it.
-pub grows : (interval count : ℕ) (es : List Entry) (text offsets last : List ℕ) (e : Entry) (text_len offsets_len shared : ℕ) (later : Bool) (unshared_len : ℕ) (unshared text2 offsets2 last2 : List ℕ)
-    → Built interval es text offsets last count → text_len ≡ length text → offsets_len ≡ length offsets → shared ≡ shared_at interval count last (key_text e)
-    → later ≡ is_later_restart interval count → unshared ≡ drop shared (key_text e) → unshared_len ≡ length (drop shared (key_text e))
-    → ltb (text_len + own_len shared unshared_len (length e.value) + (offsets_len + length (flat_map (to_le_bytes w32) (offset_if later text_len))) + 8) (2 ^ 32) ≡ true
-    → e.seq < 2 ^ 56 → Ascends (es ++ e ∷ [])
-    → text2 ≡ text ++ parts_text shared unshared e.value → offsets2 ≡ offsets ++ flat_map (to_le_bytes w32) (offset_if later (length text)) → last2 ≡ key_text e
-    → Built interval (es ++ e ∷ []) text2 offsets2 last2 (count + 1)
-grows interval count es text offsets last e tl ol shared later unshared_len unshared text2 offsets2 last2 b tl-is ol-is shared-is later-is unshared-is len-is test seq_fits ascend t o l =
-    let words = flat_map (to_le_bytes w32) (offset_if later (length text)) in
-    let room = rw (tl-is, ol-is) at (ltb-true _ _ test) in
-    let parts = length-parts shared unshared e.value in
-    let same : unshared_len ≡ length unshared = len-is ∙ ap (λ (xs : List ℕ). length xs) (sym unshared-is) in
-    let own : own_len shared unshared_len (length e.value) ≡ length (parts_text shared unshared e.value) = ap (λ (n : ℕ). own_len shared n (length e.value)) same ∙ sym parts in
-    let tlen = ap (λ (xs : List ℕ). length xs) t ∙ length-append text (parts_text shared unshared e.value) in
-    let olen = ap (λ (xs : List ℕ). length xs) o ∙ length-append offsets words in
-    let t2 = rw (unshared-is, shared-is) at t in
-    let o2 = rw later-is at o in
-    let built = grown interval count es text offsets last e text2 offsets2 b seq_fits ascend (omega (arith, room)) t2 o2 (omega (arith, room, own, tlen, olen)) in
-    subst (λ (xs : List ℕ). Built interval (es ++ e ∷ []) text2 offsets2 xs (count + 1)) (sym l) built
+    let sum : length (block_bytes interval (es ++ e ∷ []))
+        ≡ grown_len (length (entries_text interval 0 [] es)) (length (flat_map (to_le_bytes w32) (later_restarts interval 0 0 [] es))) (is_later_restart interval (length es))
+            (shared_at interval (length es) (last_text [] es) key) (length (drop (shared_at interval (length es) (last_text [] es) key) key)) (length e.value) =
+    omega (arith, t, o, whole, own_is) in
+    rw (tl-is, ol-is, unshared-is, shared-is, later-is, b.count_is, b.last_is, b.text_is, b.offsets_are) sum
 
 -- ---- the last key
 
@@ -433,6 +403,51 @@ pub last_fits : (es : List Entry) (k : InternalKey) → AllByRecursion FitsEntry
 last_fits [] k f e = absurd cc
 last_fits (e ∷ []) k f same = let is : internal_key e ≡ k = some_is (internal_key e) k same in subst (λ (x : InternalKey). x.seq < 2 ^ 56) is f.0.seq
 last_fits (e ∷ g ∷ es) k f same = last_fits (g ∷ es) k f.1 same
+
+pub finished : (interval count : ℕ) (es : List Entry) (text offsets last : List ℕ) → Built interval es text offsets last count
+    → ((text ++ to_le_bytes w32 0) ++ offsets) ++ to_le_bytes w32 (length offsets / 4 + 1) ≡ block_bytes interval es
+unfolding block_bytes
+finished interval count es text offsets last b =
+    let later = later_restarts interval 0 0 [] es in
+    let four = ap (λ (xs : List ℕ). length xs) b.offsets_are ∙ length-words later in
+    let n : length offsets / 4 ≡ length later = omega (arith, four) in
+    rw n (rw (b.text_is, b.offsets_are) (simp append_assoc))
+
+-- the same, with the parts one after another
+pub pushed : (interval count : ℕ) (es : List Entry) (text offsets last : List ℕ) → Built interval es text offsets last count
+    → text ++ (to_le_bytes w32 0 ++ (offsets ++ to_le_bytes w32 (length offsets / 4 + 1))) ≡ block_bytes interval es
+pushed interval count es text offsets last b = simp append_assoc at (finished interval count es text offsets last b)
+
+pub kept_last : (interval count : ℕ) (es : List Entry) (text offsets last : List ℕ) → Built interval es text offsets last count → Kept (last_key es) last
+kept_last interval count es text offsets last b = subst (λ (xs : List ℕ). Kept (last_key es) xs) (sym (b.last_is ∙ last-text es)) (kept (last_key es) (λ k e. last_fits es k b.fit e))
+  where
+    kept : (o : Option InternalKey) → ((k : InternalKey) → o ≡ Some k → k.seq < 2 ^ 56) → Kept o (bytes_of o)
+    kept None f = refl
+    kept (Some k) f = record { bytes_are = refl; fits = f k refl }
+
+pub is_block : (interval count : ℕ) (es : List Entry) (text offsets last : List ℕ) → Built interval es text offsets last count → IsBlock (block_bytes interval es) es
+is_block interval count es text offsets last b = block_built interval es b.fit b.ascend (omega (arith, length-built interval count es text offsets last b, b.small))
+
+-- A builder that has room for an entry, and takes it.
+pub grows : (interval count : ℕ) (es : List Entry) (text offsets last : List ℕ) (e : Entry) (text_len offsets_len shared : ℕ) (later : Bool) (unshared_len : ℕ) (unshared text2 offsets2 last2 : List ℕ)
+    → Built interval es text offsets last count → text_len ≡ length text → offsets_len ≡ length offsets → shared ≡ shared_at interval count last (key_text e)
+    → later ≡ is_later_restart interval count → unshared ≡ drop shared (key_text e) → unshared_len ≡ length (drop shared (key_text e))
+    → grown_len text_len offsets_len later shared unshared_len (length e.value) < 2 ^ 32
+    → e.seq < 2 ^ 56 → Ascends (es ++ e ∷ [])
+    → text2 ≡ text ++ parts_text shared unshared e.value → offsets2 ≡ offsets ++ flat_map (to_le_bytes w32) (offset_if later (length text)) → last2 ≡ key_text e
+    → Built interval (es ++ e ∷ []) text2 offsets2 last2 (count + 1)
+grows interval count es text offsets last e tl ol shared later unshared_len unshared text2 offsets2 last2 b tl-is ol-is shared-is later-is unshared-is len-is test seq_fits ascend t o l =
+    let words = flat_map (to_le_bytes w32) (offset_if later (length text)) in
+    let room = rw (tl-is, ol-is) at test in
+    let parts = length-parts shared unshared e.value in
+    let same : unshared_len ≡ length unshared = len-is ∙ ap (λ (xs : List ℕ). length xs) (sym unshared-is) in
+    let own : own_len shared unshared_len (length e.value) ≡ length (parts_text shared unshared e.value) = ap (λ (n : ℕ). own_len shared n (length e.value)) same ∙ sym parts in
+    let tlen = ap (λ (xs : List ℕ). length xs) t ∙ length-append text (parts_text shared unshared e.value) in
+    let olen = ap (λ (xs : List ℕ). length xs) o ∙ length-append offsets words in
+    let t2 = rw (unshared-is, shared-is) at t in
+    let o2 = rw later-is at o in
+    let built = grown interval count es text offsets last e text2 offsets2 b seq_fits ascend (omega (arith, room)) t2 o2 (omega (arith, room, own, tlen, olen)) in
+    subst (λ (xs : List ℕ). Built interval (es ++ e ∷ []) text2 offsets2 xs (count + 1)) (sym l) built
 
 -- ---- a key whose parts lie apart
 

@@ -53,6 +53,11 @@ abbrev pub offset_if : Bool → ℕ → List ℕ
 offset_if true offset = offset ∷ []
 offset_if false offset = []
 
+-- how long a block is with an entry more, by the lengths of its parts
+abbrev pub grown_len : ℕ → ℕ → Bool → ℕ → ℕ → ℕ → ℕ
+grown_len text_len offsets_len restarts shared unshared_len value_len =
+    text_len + own_len shared unshared_len value_len + (offsets_len + length (flat_map (to_le_bytes w32) (offset_if restarts text_len))) + 8
+
 abbrev pub is_later_restart : ℕ → ℕ → Bool
 is_later_restart interval index = nat_lt 0 index && is_restart interval index
 

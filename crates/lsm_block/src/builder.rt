@@ -4,11 +4,12 @@ ghost use Rattle.std.specs.Prelude.{◌≡◌, ℕ, ◌<◌, ◌≤◌, ◌^◌,
 ghost use Rattle.lsm_codec.specs.KeyRef.{key_of};
 ghost use Rattle.lsm_codec.specs.Entries.{Entry};
 ghost use Rattle.lsm_block.specs.Block.{IsBlock, Ascends, entry_of};
-ghost use Rattle.lsm_block.specs.Building.{Building, block_bytes};
+ghost use Rattle.lsm_block.specs.Building.{Building, block_bytes, last_key};
+ghost use Rattle.std.specs.Option.{option_map};
 ghost use Rattle.lsm_block.specs.declared.build_fault.BuildFault.TheVariants.{OutOfMemory, TooLarge};
 
 use crate::build_fault::BuildFault;
-use crate::entry_text::{has_room, is_later, push_entry, shared_with};
+use crate::entry_text::{grown_size, is_later, push_block, push_entry, shared_with};
 use lsm_codec::{KeyRef, push_key};
 use std::alloc::{AllocError, Global};
 use std::marker::Model;
@@ -62,6 +63,35 @@ impl BlockBuilder {
         self.text.len() + self.offsets.len() + 8
     }
 
+    /// How many bytes the block would have with this entry too: exact below 2^32, and 2^32 at least where it would have as
+    /// many or more. So `add` answers `TooLarge` just where this is above 2^32 - 1.
+    pub fn size_with(&self, key: &KeyRef<'_>, value: &[u8]) -> u64
+        ensures exact { length (block_bytes self.now.interval (self.now.entries ++ entry_of (key_of key.now) value.now ∷ [])) < 2 ^ 32 → result ≡ length (block_bytes self.now.interval (self.now.entries ++ entry_of (key_of key.now) value.now ∷ [])) }
+        ensures over { 2 ^ 32 ≤ length (block_bytes self.now.interval (self.now.entries ++ entry_of (key_of key.now) value.now ∷ [])) → 2 ^ 32 ≤ result }
+    {
+        let shared = shared_with(self.interval, self.count, &self.last, key);
+        let later = is_later(self.interval, self.count);
+        let unshared = key.user.len() + 8 - shared;
+        grown_size(
+            self.text.len(),
+            self.offsets.len(),
+            later,
+            shared,
+            unshared,
+            value.len(),
+        )
+    }
+
+    /// The key of the last entry, if there is one.
+    pub fn last_key(&self) -> Option<KeyRef<'_>>
+        ensures { option_map key_of result ≡ last_key self.now.entries }
+    {
+        match KeyRef::split(&self.last) {
+            Ok(key) => Some(key),
+            Err(_) => None,
+        }
+    }
+
     /// Adds an entry after the others. `TooLarge` where the block would pass 2^32 - 1 bytes. An `Err` leaves the builder as
     /// it was.
     pub fn add(&mut self, key: &KeyRef<'_>, value: &[u8]) -> Result<(), BuildFault>
@@ -74,14 +104,15 @@ impl BlockBuilder {
         let shared = shared_with(self.interval, self.count, &self.last, key);
         let later = is_later(self.interval, self.count);
         let unshared = key.user.len() + 8 - shared;
-        if !has_room(
+        let size = grown_size(
             self.text.len(),
             self.offsets.len(),
             later,
             shared,
             unshared,
             value.len(),
-        ) {
+        );
+        if size > u32::MAX as u64 {
             return Err(BuildFault::TooLarge);
         }
         self.spare.clear();
@@ -98,6 +129,25 @@ impl BlockBuilder {
         swap(&mut self.last, &mut self.spare);
         self.count += 1;
         Ok(())
+    }
+
+    /// Appends the block of the entries. An `Err` leaves the contents of `out` as they were.
+    pub fn write_to(&self, out: &mut Vec<u8>) -> Result<(), AllocError>
+        ensures ok { OnOk result (out.new.items ≡ out.old.items ++ block_bytes self.now.interval self.now.entries) }
+        ensures block { IsBlock (block_bytes self.now.interval self.now.entries) self.now.entries }
+        ensures err { OnErr result (out.new.items ≡ out.old.items) }
+    {
+        push_block(out, &self.text, &self.offsets)
+    }
+
+    /// Takes all entries out. The builder keeps its memory.
+    pub fn clear(&mut self)
+        ensures { self.new ≡ record { interval = self.old.interval; entries = [] } }
+    {
+        self.count = 0;
+        self.text.clear();
+        self.offsets.clear();
+        self.last.clear();
     }
 
     /// The block of the entries.

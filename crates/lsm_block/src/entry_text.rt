@@ -1,13 +1,14 @@
 //! The text of an entry as it is written.
 
-ghost use Rattle.std.specs.Prelude.{◌≡◌, nat_lt, ℕ, ◌+◌, ◌^◌, ◌<◌, ◌≤◌, ◌++◌, List, length, take, vec_len, OnOk, OnErr};
+ghost use Rattle.std.specs.Prelude.{◌≡◌, ℕ, ◌+◌, ◌/◌, ◌^◌, ◌<◌, ◌≤◌, ◌++◌, List, length, take, vec_len, OnOk, OnErr};
 ghost use Rattle.std.specs.Int.{w32, to_le_bytes};
 ghost use Rattle.std.specs.List.{flat_map};
 ghost use Rattle.lsm_codec.specs.Varint.{varint32, shortest};
-ghost use Rattle.lsm_codec.specs.Keys.{packed, key_bytes};
+ghost use Rattle.lsm_codec.specs.Keys.{key_bytes};
 ghost use Rattle.lsm_codec.specs.KeyRef.{key_of};
-ghost use Rattle.lsm_block.specs.Building.{common, offset_if, parts_text, own_len, is_restart, is_later_restart, shared_at};
+ghost use Rattle.lsm_block.specs.Building.{common, offset_if, parts_text, grown_len, is_restart, is_later_restart, shared_at};
 
+use crate::key::packed_of;
 use lsm_codec::{KeyRef, put_varint32};
 use std::alloc::AllocError;
 
@@ -20,13 +21,6 @@ fn common_prefix(a: &[u8], b: &[u8]) -> usize
         i += 1;
     }
     i
-}
-
-/// The sequence and the kind of a key in one number.
-fn packed_of(key: &KeyRef<'_>) -> u64
-    ensures { result ≡ packed (key_of key.now) }
-{
-    key.seq * 256 + key.kind as u64
 }
 
 /// How many bytes of a key stand at the front of the key before it.
@@ -72,22 +66,23 @@ fn varint_len(n: u64) -> u64
     1 + varint_len(n / 128)
 }
 
-/// Whether a block stays below 2^32 bytes with an entry more, by the lengths of its parts.
-pub(crate) fn has_room(
+/// How many bytes a block has with an entry more, by the lengths of its parts: exact below 2^32, and 2^32 at least elsewhere.
+pub(crate) fn grown_size(
     text: usize,
     offsets: usize,
     restarts: bool,
     shared: usize,
     unshared: usize,
     value: usize,
-) -> bool
+) -> u64
     requires text { text < 2 ^ 32 }
     requires offsets { offsets < 2 ^ 32 }
     requires shared { shared < 2 ^ 32 }
-    ensures room { result ≡ nat_lt (text + own_len shared unshared value + (offsets + length (flat_map (to_le_bytes w32) (offset_if restarts text))) + 8) (2 ^ 32) }
+    ensures exact { grown_len text offsets restarts shared unshared value < 2 ^ 32 → result ≡ grown_len text offsets restarts shared unshared value }
+    ensures over { 2 ^ 32 ≤ grown_len text offsets restarts shared unshared value → 2 ^ 32 ≤ result }
 {
     if unshared > u32::MAX as usize || value > u32::MAX as usize {
-        return false;
+        return u64::MAX;
     }
     let own = varint_len(shared as u64)
         + varint_len(unshared as u64)
@@ -95,7 +90,7 @@ pub(crate) fn has_room(
         + unshared as u64
         + value as u64;
     let offset = if restarts { 4 } else { 0 };
-    text as u64 + own + (offsets as u64 + offset) + 8 <= u32::MAX as u64
+    text as u64 + own + (offsets as u64 + offset) + 8
 }
 
 /// Appends the text of an entry. After an `Err` a part of it may stand there.
@@ -153,5 +148,34 @@ pub(crate) fn push_entry(
         }
     } else {
         Ok(())
+    }
+}
+
+/// Appends the parts of a block. After an `Err` some of them may stand there.
+fn push_block_parts(out: &mut Vec<u8>, text: &[u8], offsets: &[u8]) -> Result<(), AllocError>
+    requires { length offsets.now < 2 ^ 32 }
+    ensures ok { OnOk result (out.new.items ≡ out.old.items ++ (text.now ++ (to_le_bytes w32 0 ++ (offsets.now ++ to_le_bytes w32 (length offsets.now / 4 + 1))))) }
+    ensures front { take (vec_len out.old) out.new.items ≡ out.old.items }
+{
+    out.extend_from_slice(text)?;
+    out.extend_from_slice(&0u32.to_le_bytes())?;
+    out.extend_from_slice(offsets)?;
+    out.extend_from_slice(&((offsets.len() / 4 + 1) as u32).to_le_bytes())?;
+    Ok(())
+}
+
+/// Appends a block by its parts. An `Err` leaves the contents as they were.
+pub(crate) fn push_block(out: &mut Vec<u8>, text: &[u8], offsets: &[u8]) -> Result<(), AllocError>
+    requires { length offsets.now < 2 ^ 32 }
+    ensures ok { OnOk result (out.new.items ≡ out.old.items ++ (text.now ++ (to_le_bytes w32 0 ++ (offsets.now ++ to_le_bytes w32 (length offsets.now / 4 + 1))))) }
+    ensures err { OnErr result (out.new.items ≡ out.old.items) }
+{
+    let len = out.len();
+    match push_block_parts(out, text, offsets) {
+        Ok(()) => Ok(()),
+        Err(error) => {
+            out.truncate(len);
+            Err(error)
+        }
     }
 }

@@ -7,6 +7,7 @@ mod builder;
 mod entry;
 mod entry_text;
 mod fault;
+mod key;
 mod walk;
 
 pub use block::{Block, check_bytes, one_block};

@@ -1,11 +1,12 @@
 -- What a builder has after an entry more.
-use Rattle.std.proofs.Common.{◌≡◌, ℕ, ◌+◌, ◌^◌, ◌<◌, ◌≤◌, List, [], ◌∷◌, ◌++◌, length, drop, refl, sym, ap, ◌∙◌, subst, arith}
+use Rattle.std.proofs.Common.{◌≡◌, ℕ, ◌+◌, ◌^◌, ◌<◌, ◌≤◌, List, [], ◌∷◌, ◌++◌, length, drop, refl, sym, ap, ◌∙◌, subst, arith, inl, inr}
+use Rattle.std.proofs.lemmas.Bool.{cases_lt}
 use Rattle.lsm_codec.specs.KeyRef.{key_of}
 use Rattle.lsm_codec.specs.Entries.{Entry}
 use Rattle.lsm_block.specs.Block.{Ascends, entry_of, key_text}
 use Rattle.lsm_block.specs.Building.{Building, Built, block_bytes, entries_in, shared_at}
 use Rattle.lsm_block.proofs.KeyLaws.{length-key, length-unshared}
-use Rattle.lsm_block.proofs.BuildLaws.{shares_at, share_small, few, too_large, grows, length-built, built_itself, entries_of-built}
+use Rattle.lsm_block.proofs.BuildLaws.{shares_at, share_small, few, length-with, grows, length-built, built_itself, entries_of-built}
 use Rattle.lsm_block.proofs.builder.BlockBuilder.add.Goals as goal
 
 pub overflow_sub-unshared : goal.overflow_sub-unshared
@@ -15,20 +16,27 @@ overflow_sub-unshared c =
     let shares = rw (← c.deref.ensures.value, ← c.shared_with-shared.ensures) at ((shares_at s.interval s.count s.last.items (key_text e)).in_key) in
     omega (arith, shares, length-key (key_of c.args.key.now))
 
-pub has_room-requires-clause-shared : goal.has_room-requires-clause-shared
-has_room-requires-clause-shared c =
+pub grown_size-size-requires-clause-shared : goal.grown_size-size-requires-clause-shared
+grown_size-size-requires-clause-shared c =
     let s = c.self.inside in
     let e = entry_of (key_of c.args.key.now) c.args.value.now in
     rw (c.shared_with-shared.ensures, c.deref.ensures.value) (share_small s.interval s.count (entries_in s.text.items) s.text.items s.offsets.items s.last.items (key_text e) c.self.invariant)
 
-pub returns-then-not-has_room-clause-large : goal.returns-then-not-has_room-clause-large
-returns-then-not-has_room-clause-large c same =
+by_size : (n m : ℕ) → (2 ^ 32 ≤ n → 2 ^ 32 ≤ m) → m < 2 ^ 32 → n < 2 ^ 32
+by_size n m over small = elim (cases_lt n (2 ^ 32)) [ inl lt ↦ lt | inr le ↦ absurd (omega (arith, over le, small)) ]
+
+by_large : (n m : ℕ) → (n < 2 ^ 32 → m ≡ n) → 2 ^ 32 ≤ m → 2 ^ 32 ≤ n
+by_large n m exact large = elim (cases_lt n (2 ^ 32)) [ inl lt ↦ absurd (omega (arith, exact lt, large, lt)) | inr le ↦ le ]
+
+pub returns-then-size-clause-large : goal.returns-then-size-clause-large
+returns-then-size-clause-large c same =
     let s = c.self.inside in
     let e = entry_of (key_of c.args.key.now) c.args.value.now in
+    let with = length-with s.interval s.count (entries_in s.text.items) s.text.items s.offsets.items s.last.items e _ _ _ _ _ c.self.invariant
+        (c.len.ensures ∙ s.text.ok.0) (c.len-2.ensures ∙ s.offsets.ok.0) (c.shared_with-shared.ensures ∙ ap (λ (xs : List ℕ). shared_at s.interval s.count xs (key_text e)) c.deref.ensures.value)
+        c.is_later-later.ensures (length-unshared c.shared_with-shared.result (key_of c.args.key.now)) in
     subst (λ (b : Building). 2 ^ 32 ≤ length (block_bytes b.interval (b.entries ++ e ∷ []))) c.self.view_is
-    (too_large s.interval s.count (entries_in s.text.items) s.text.items s.offsets.items s.last.items e _ _ _ _ _ c.self.invariant
-    (c.len.ensures ∙ s.text.ok.0) (c.len-2.ensures ∙ s.offsets.ok.0) (c.shared_with-shared.ensures ∙ ap (λ (xs : List ℕ). shared_at s.interval s.count xs (key_text e)) c.deref.ensures.value)
-    c.is_later-later.ensures (length-unshared c.shared_with-shared.result (key_of c.args.key.now)) (sym c.has_room.ensures.room ∙ c.if-not-has_room.true))
+    (rw with (by_large _ _ c.grown_size-size.ensures.exact (omega (arith, c.if-size.true))))
 
 pub split_at-requires : goal.split_at-requires
 split_at-requires c =
@@ -59,7 +67,7 @@ invariant_of-self-2 c =
         (grows s.interval s.count (entries_in s.text.items) s.text.items s.offsets.items s.last.items e _ _ _ _ _ _ c.push_entry.new.text.items c.push_entry.new.offsets.items c.swap.new.x.items
         c.self.invariant (c.len.ensures ∙ s.text.ok.0) (c.len-2.ensures ∙ s.offsets.ok.0) (c.shared_with-shared.ensures ∙ ap (λ (xs : List ℕ). shared_at s.interval s.count xs (key_text e)) c.deref.ensures.value)
         c.is_later-later.ensures (c.split_at.ensures.back ∙ ap (λ (xs : List ℕ). drop c.shared_with-shared.result xs) (c.deref-2.ensures.value ∙ spare)) (length-unshared c.shared_with-shared.result (key_of c.args.key.now))
-        (sym c.has_room.ensures.room ∙ c.if-not-has_room.false) c.args.key.now.seq_fits
+        (by_size _ _ c.grown_size-size.ensures.over (omega (arith, c.if-size.false))) c.args.key.now.seq_fits
         (subst (λ (b : Building). Ascends (b.entries ++ e ∷ [])) (sym c.self.view_is) c.requires.ascends)
         c.in_ok-push_entry.ensures.ok c.in_ok-push_entry.ensures.offsets (rw c.swap.ensures.x_after spare)) in
     built_itself s.interval (s.count + 1) (entries_in s.text.items ++ e ∷ []) c.push_entry.new.text.items c.push_entry.new.offsets.items c.swap.new.x.items built
@@ -73,7 +81,7 @@ returns-clause-ok c =
         (grows s.interval s.count (entries_in s.text.items) s.text.items s.offsets.items s.last.items e _ _ _ _ _ _ c.push_entry.new.text.items c.push_entry.new.offsets.items c.swap.new.x.items
         c.self.invariant (c.len.ensures ∙ s.text.ok.0) (c.len-2.ensures ∙ s.offsets.ok.0) (c.shared_with-shared.ensures ∙ ap (λ (xs : List ℕ). shared_at s.interval s.count xs (key_text e)) c.deref.ensures.value)
         c.is_later-later.ensures (c.split_at.ensures.back ∙ ap (λ (xs : List ℕ). drop c.shared_with-shared.result xs) (c.deref-2.ensures.value ∙ spare)) (length-unshared c.shared_with-shared.result (key_of c.args.key.now))
-        (sym c.has_room.ensures.room ∙ c.if-not-has_room.false) c.args.key.now.seq_fits
+        (by_size _ _ c.grown_size-size.ensures.over (omega (arith, c.if-size.false))) c.args.key.now.seq_fits
         (subst (λ (b : Building). Ascends (b.entries ++ e ∷ [])) (sym c.self.view_is) c.requires.ascends)
         c.in_ok-push_entry.ensures.ok c.in_ok-push_entry.ensures.offsets (rw c.swap.ensures.x_after spare)) in
     let same = entries_of-built s.interval (s.count + 1) (entries_in s.text.items ++ e ∷ []) c.push_entry.new.text.items c.push_entry.new.offsets.items c.swap.new.x.items built in
@@ -89,7 +97,7 @@ returns-clause-fits c =
         (grows s.interval s.count (entries_in s.text.items) s.text.items s.offsets.items s.last.items e _ _ _ _ _ _ c.push_entry.new.text.items c.push_entry.new.offsets.items c.swap.new.x.items
         c.self.invariant (c.len.ensures ∙ s.text.ok.0) (c.len-2.ensures ∙ s.offsets.ok.0) (c.shared_with-shared.ensures ∙ ap (λ (xs : List ℕ). shared_at s.interval s.count xs (key_text e)) c.deref.ensures.value)
         c.is_later-later.ensures (c.split_at.ensures.back ∙ ap (λ (xs : List ℕ). drop c.shared_with-shared.result xs) (c.deref-2.ensures.value ∙ spare)) (length-unshared c.shared_with-shared.result (key_of c.args.key.now))
-        (sym c.has_room.ensures.room ∙ c.if-not-has_room.false) c.args.key.now.seq_fits
+        (by_size _ _ c.grown_size-size.ensures.over (omega (arith, c.if-size.false))) c.args.key.now.seq_fits
         (subst (λ (b : Building). Ascends (b.entries ++ e ∷ [])) (sym c.self.view_is) c.requires.ascends)
         c.in_ok-push_entry.ensures.ok c.in_ok-push_entry.ensures.offsets (rw c.swap.ensures.x_after spare)) in
     let itself = built_itself s.interval (s.count + 1) (entries_in s.text.items ++ e ∷ []) c.push_entry.new.text.items c.push_entry.new.offsets.items c.swap.new.x.items built in
