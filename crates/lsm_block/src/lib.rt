@@ -8,6 +8,7 @@ mod entry;
 mod entry_text;
 mod fault;
 mod key;
+mod search;
 mod walk;
 
 pub use block::{Block, check_bytes, one_block};
