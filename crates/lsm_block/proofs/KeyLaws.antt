@@ -168,6 +168,10 @@ internal_of bytes k h = ap is_internal h.bytes_are ∙ internal_again k
 pub kept_as : (bytes : List ℕ) → IsKey bytes (key_at bytes) → Kept (last_of bytes) bytes
 kept_as bytes h = subst (λ (o : Option InternalKey). Kept o bytes) (sym (last-key bytes (internal_of bytes (key_at bytes) h))) h
 
+pub no_last : last_of [] ≡ None
+unfolding last_of is_internal
+no_last = refl
+
 pub none_kept : Kept (last_of []) []
 unfolding last_of is_internal
 none_kept = refl
