@@ -67,8 +67,13 @@ sharing-is before e shared f s = record {
 
 pub own-holds : (shared : ℕ) (unshared value : List ℕ) → length unshared + length value ≤ length (parts_text shared unshared value)
 own-holds shared unshared value =
-    omega (arith, length-append (varint32 shared) (varint32 (length unshared) ++ (varint32 (length value) ++ (unshared ++ value))),
-    length-append (varint32 (length unshared)) (varint32 (length value) ++ (unshared ++ value)), length-append (varint32 (length value)) (unshared ++ value), length-append unshared value)
+    omega (
+      arith,
+      length-append (varint32 shared) (varint32 (length unshared) ++ (varint32 (length value) ++ (unshared ++ value))),
+      length-append (varint32 (length unshared)) (varint32 (length value) ++ (unshared ++ value)),
+      length-append (varint32 (length value)) (unshared ++ value),
+      length-append unshared value,
+    )
 
 -- ---- the text of all entries
 
@@ -85,9 +90,16 @@ unfolding starts_from entries_text
 spelled interval index offset before [] f = (refl, refl)
 spelled interval index offset before (e ∷ es) f =
     let shared = shared_at interval index before (key_text e) in
-    let own = sharing_text shared e in
-    (shared, own, entries_text interval (suc index) (key_text e) es, starts_from interval (suc index) (offset + length own) (key_text e) es,
-    sharing-is before e shared f.0 (shares_at interval index before (key_text e)), refl, refl, spelled interval (suc index) (offset + length own) (key_text e) es f.1)
+    let own = sharing_text shared e in (
+      shared,
+      own,
+      entries_text interval (suc index) (key_text e) es,
+      starts_from interval (suc index) (offset + length own) (key_text e) es,
+      sharing-is before e shared f.0 (shares_at interval index before (key_text e)),
+      refl,
+      refl,
+      spelled interval (suc index) (offset + length own) (key_text e) es f.1,
+    )
 
 pub entries_in-is : (interval : ℕ) (es : List Entry) → AllByRecursion FitsEntry es → entries_in (entries_text interval 0 [] es) ≡ es
 unfolding entries_in
@@ -123,8 +135,8 @@ rises_on interval index offset least before front all (e ∷ es) f lt is =
     let others = starts_from interval (suc (suc index)) (offset + length own) (key_text e) es in
     let some = own-length before e shared f.0 (shares_at interval (suc index) before (key_text e)) in
     let goal = rises_if (is_restart interval (suc index)) least offset before (key_text e) front others (later_restarts interval (suc (suc index)) (offset + length own) (key_text e) es) lt
-        (λ bound le whole same. rises_on interval (suc index) (offset + length own) bound (key_text e) (front ++ start_at shared offset) whole es f.1 (omega (arith, le, some))
-            (same ∙ sym (append_assoc front (start_at shared offset) others))) in
+    (λ bound le whole same. rises_on interval (suc index) (offset + length own) bound (key_text e) (front ++ start_at shared offset) whole es f.1 (omega (arith, le, some))
+    (same ∙ sym (append_assoc front (start_at shared offset) others))) in
     let later = later_restarts interval (suc (suc index)) (offset + length own) (key_text e) es in
     let pos : ltb 0 (suc index) ≡ true = lt-ltb 0 (suc index) (omega arith) in
     let here = subst (λ (b : Bool). Rises (front ++ (start_at shared offset ++ others)) least (offset_if (b && is_restart interval (suc index)) offset ++ later)) (sym pos) goal in
@@ -163,8 +175,12 @@ length-words (x ∷ xs) = length-append (to_le_bytes w32 x) (flat_map (to_le_byt
 
 pub length-whole : (text later : List ℕ) → length (with_restarts text later) ≡ length text + length (flat_map (to_le_bytes w32) later) + 8
 length-whole text later =
-    omega (arith, length-append text (flat_map (to_le_bytes w32) (0 ∷ later) ++ to_le_bytes w32 (length later + 1)),
-    length-append (flat_map (to_le_bytes w32) (0 ∷ later)) (to_le_bytes w32 (length later + 1)), length-append (to_le_bytes w32 0) (flat_map (to_le_bytes w32) later))
+    omega (
+      arith,
+      length-append text (flat_map (to_le_bytes w32) (0 ∷ later) ++ to_le_bytes w32 (length later + 1)),
+      length-append (flat_map (to_le_bytes w32) (0 ∷ later)) (to_le_bytes w32 (length later + 1)),
+      length-append (to_le_bytes w32 0) (flat_map (to_le_bytes w32) later),
+    )
 
 -- What the writer makes of entries that fit and ascend is a block of them.
 pub block_built : (interval : ℕ) (es : List Entry) → AllByRecursion FitsEntry es → Ascends es → length (block_bytes interval es) < 2 ^ 32 → IsBlock (block_bytes interval es) es
@@ -334,8 +350,12 @@ unfolding entries_text
 few-in interval index before [] f = omega arith
 few-in interval index before (e ∷ es) f =
     let own = sharing_text (shared_at interval index before (key_text e)) e in
-    omega (arith, length-append own (entries_text interval (suc index) (key_text e) es), own-length before e (shared_at interval index before (key_text e)) f.0 (shares_at interval index before (key_text e)),
-    few-in interval (suc index) (key_text e) es f.1)
+    omega (
+      arith,
+      length-append own (entries_text interval (suc index) (key_text e) es),
+      own-length before e (shared_at interval index before (key_text e)) f.0 (shares_at interval index before (key_text e)),
+      few-in interval (suc index) (key_text e) es f.1,
+    )
 
 pub few : (interval count : ℕ) (es : List Entry) (text offsets last : List ℕ) → Built interval es text offsets last count → count < 2 ^ 32
 few interval count es text offsets last b =
@@ -345,8 +365,13 @@ few interval count es text offsets last b =
 -- how long the text of an entry is
 pub length-parts : (shared : ℕ) (unshared value : List ℕ) → length (parts_text shared unshared value) ≡ own_len shared (length unshared) (length value)
 length-parts shared unshared value =
-    omega (arith, length-append (varint32 shared) (varint32 (length unshared) ++ (varint32 (length value) ++ (unshared ++ value))),
-    length-append (varint32 (length unshared)) (varint32 (length value) ++ (unshared ++ value)), length-append (varint32 (length value)) (unshared ++ value), length-append unshared value)
+    omega (
+      arith,
+      length-append (varint32 shared) (varint32 (length unshared) ++ (varint32 (length value) ++ (unshared ++ value))),
+      length-append (varint32 (length unshared)) (varint32 (length value) ++ (unshared ++ value)),
+      length-append (varint32 (length value)) (unshared ++ value),
+      length-append unshared value,
+    )
 
 -- how long the block is with an entry more
 pub length-with : (interval count : ℕ) (es : List Entry) (text offsets last : List ℕ) (e : Entry) (text_len offsets_len shared : ℕ) (later : Bool) (unshared_len : ℕ)
@@ -368,8 +393,8 @@ length-with interval count es text offsets last e tl ol shared later unshared_le
     let own_is = length-parts (shared_at interval (length es) (last_text [] es) key) (drop (shared_at interval (length es) (last_text [] es) key) key) e.value in
     let whole = length-whole (entries_text interval 0 [] (es ++ e ∷ [])) (later_restarts interval 0 0 [] (es ++ e ∷ [])) in
     let sum : length (block_bytes interval (es ++ e ∷ []))
-        ≡ grown_len (length (entries_text interval 0 [] es)) (length (flat_map (to_le_bytes w32) (later_restarts interval 0 0 [] es))) (is_later_restart interval (length es))
-            (shared_at interval (length es) (last_text [] es) key) (length (drop (shared_at interval (length es) (last_text [] es) key) key)) (length e.value) =
+    ≡ grown_len (length (entries_text interval 0 [] es)) (length (flat_map (to_le_bytes w32) (later_restarts interval 0 0 [] es))) (is_later_restart interval (length es))
+    (shared_at interval (length es) (last_text [] es) key) (length (drop (shared_at interval (length es) (last_text [] es) key) key)) (length e.value) =
     omega (arith, t, o, whole, own_is) in
     rw (tl-is, ol-is, unshared-is, shared-is, later-is, b.count_is, b.last_is, b.text_is, b.offsets_are) sum
 

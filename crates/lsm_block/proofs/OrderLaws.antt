@@ -25,15 +25,15 @@ key_trans a b c h k =
     let later = nat_cmp (packed c) (packed a) in
     elim (either_first (slice_cmp nat_cmp a.user b.user) (nat_cmp (packed b) (packed a)) h) [
       | inl ab ↦ elim (either_first (slice_cmp nat_cmp b.user c.user) (nat_cmp (packed c) (packed b)) k) [
-          | inl bc ↦ first_less (slice_cmp nat_cmp a.user c.user) later (nat_list_cmp_total.trans a.user b.user c.user ab bc)
-          | inr bc ↦ first_less (slice_cmp nat_cmp a.user c.user) later (subst (λ (w : List ℕ). slice_cmp nat_cmp a.user w ≡ Less) (exact_bytes b.user c.user bc.0) ab)
-        ]
+        | inl bc ↦ first_less (slice_cmp nat_cmp a.user c.user) later (nat_list_cmp_total.trans a.user b.user c.user ab bc)
+        | inr bc ↦ first_less (slice_cmp nat_cmp a.user c.user) later (subst (λ (w : List ℕ). slice_cmp nat_cmp a.user w ≡ Less) (exact_bytes b.user c.user bc.0) ab)
+      ]
       | inr ab ↦ elim (either_first (slice_cmp nat_cmp b.user c.user) (nat_cmp (packed c) (packed b)) k) [
-          | inl bc ↦ first_less (slice_cmp nat_cmp a.user c.user) later (subst (λ (w : List ℕ). slice_cmp nat_cmp w c.user ≡ Less) (sym (exact_bytes a.user b.user ab.0)) bc)
-          | inr bc ↦
-              let both : slice_cmp nat_cmp a.user c.user ≡ Equal = subst (λ (w : List ℕ). slice_cmp nat_cmp w c.user ≡ Equal) (sym (exact_bytes a.user b.user ab.0)) bc.0 in
-              ap (λ (o : Ordering). then_by o later) both ∙ nat_cmp_total.trans (packed c) (packed b) (packed a) bc.1 ab.1
-        ]
+        | inl bc ↦ first_less (slice_cmp nat_cmp a.user c.user) later (subst (λ (w : List ℕ). slice_cmp nat_cmp w c.user ≡ Less) (sym (exact_bytes a.user b.user ab.0)) bc)
+        | inr bc ↦
+            let both : slice_cmp nat_cmp a.user c.user ≡ Equal = subst (λ (w : List ℕ). slice_cmp nat_cmp w c.user ≡ Equal) (sym (exact_bytes a.user b.user ab.0)) bc.0 in
+            ap (λ (o : Ordering). then_by o later) both ∙ nat_cmp_total.trans (packed c) (packed b) (packed a) bc.1 ab.1
+      ]
     ]
 
 -- ---- the first entry not below a key

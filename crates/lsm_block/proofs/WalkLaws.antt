@@ -105,6 +105,7 @@ no_matter start before (r ∷ rs) starts stop j h = by_judged (is_judged stop r)
         let other = ne_eqb start r (λ q. absurd (omega (arith, q, above, h))) in
         let later = go (omega (arith, above, h)) in
         rw (k, other, later) refl
+
     by_judged : (b : Bool) → is_judged stop r ≡ b → (start ≤ r → rises stop (start ∷ starts) r rs ≡ rises stop starts r rs)
         → (may_follow stop (start ∷ starts) before r && rises stop (start ∷ starts) r rs) ≡ (may_follow stop starts before r && rises stop starts r rs)
     by_judged false e go =
@@ -172,6 +173,7 @@ pass_good start before shared (r ∷ rs) starts stop b xs j e = by_place (ltb st
         let q = and_parts (eqb r start) (eqb shared 0) p.0 in
         restart_here start before shared r rs starts stop j (eqb-true _ _ q.1) (eqb-true _ _ q.0) (ltb-true _ _ p.1)
         ∙ ap (λ (q : ℕ × List ℕ). rises stop starts q.0 q.1) (some_is (r, rs) (b, xs) found)
+
     by_place : (t : Bool) → ltb start r ≡ t → rises stop (start_at shared start ++ starts) before (r ∷ rs) ≡ rises stop starts b xs
     by_place true t =
         let found : Some (before, r ∷ rs) ≡ Some (b, xs) = rw t at e in
@@ -194,6 +196,7 @@ pass_bad start before shared (r ∷ rs) starts stop j none e = by_place (ltb sta
         let c = lt-ltb before r high in
         let bad : true ≡ false = rw (a, b, c) at t in
         absurd cc)
+
     by_place : (t : Bool) → ltb start r ≡ t → rises stop (start_at shared start ++ starts) before (r ∷ rs) ≡ false
     by_place true t = let bad : Some (before, r ∷ rs) ≡ None = rw t at e in absurd cc
     by_place false t =

@@ -167,11 +167,7 @@ impl BlockBuilder {
         ensures bytes { IfOk result (λ v. v.items ≡ block_bytes self.interval self.entries) }
         ensures block { IfOk result (λ v. IsBlock v.items self.entries) }
     {
-        let BlockBuilder {
-            text,
-            offsets,
-            ..
-        } = self;
+        let BlockBuilder { text, offsets, .. } = self;
         let mut out = text;
         out.extend_from_slice(&0u32.to_le_bytes())?;
         out.extend_from_slice(&offsets)?;

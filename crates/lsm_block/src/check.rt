@@ -59,5 +59,4 @@ pub fn check_bytes(alloc: Global, bytes: &[u8]) -> Result<(), BlockFault>
 /// At most one list of entries fits a block's bytes.
 pub fn one_block()
     ensures { (bytes : List ℕ) (es fs : List Entry) → IsBlock bytes es → IsBlock bytes fs → es ≡ fs }
-{
-}
+{}

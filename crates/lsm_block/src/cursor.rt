@@ -72,7 +72,12 @@ impl Cursor {
     }
 
     /// Goes before the first entry that is not below the key. An `Err` goes before the first entry.
-    pub(crate) fn seek_in(&mut self, text: &[u8], offsets: &[u8], key: &KeyRef<'_>) -> Result<(), AllocError>
+    pub(crate) fn seek_in(
+        &mut self,
+        text: &[u8],
+        offsets: &[u8],
+        key: &KeyRef<'_>,
+    ) -> Result<(), AllocError>
         requires { 4 ≤ length offsets.now }
         ensures found { OnOk result ((es : List Entry) → Parts text.now offsets.now es → rest_of (text_and_entries text.now) self.new ≡ not_below (key_of key.now) es) }
         ensures err { OnErr result (self.new ≡ record { offset = 0; last = None }) }

@@ -5,18 +5,20 @@
 //! built one is the block of just the entries added, byte for byte by the writer's rules.
 #![tactic(auto)]
 
+mod block;
+mod block_ref;
 mod build_fault;
-mod entry_text;
 mod builder;
+mod check;
+mod cursor;
+mod entry;
+mod entry_text;
 mod fault;
 mod key;
-mod entry;
-mod walk;
-mod check;
 mod search;
-mod cursor;
-mod block_ref;
-mod block;
+#[cfg(test)]
+mod tests;
+mod walk;
 
 pub use block::Block;
 pub use block_ref::BlockRef;

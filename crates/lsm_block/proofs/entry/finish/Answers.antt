@@ -11,8 +11,8 @@ returns-clause-kept c =
     let front = take c.args.shared c.args.before.now in
     let new = take c.args.unshared c.args.rest.now in
     let key : c.extend_from_slice-2.new.self.items ≡ front ++ new =
-        rw (c.in_ok-extend_from_slice.ensures.items, c.clear.ensures.items, c.split_at.ensures.front, c.split_at-3.ensures.front) at c.in_ok-extend_from_slice-2.ensures.items in
+    rw (c.in_ok-extend_from_slice.ensures.items, c.clear.ensures.items, c.split_at.ensures.front, c.split_at-3.ensures.front) at c.in_ok-extend_from_slice-2.ensures.items in
     let fits : IsBytes (front ++ new) = IsBytes-append front new
-        (IsBytes-take c.args.shared c.args.before.now (λ i. omega (arith, c.type_inv.before i))) (IsBytes-take c.args.unshared c.args.rest.now (λ i. omega (arith, c.type_inv.rest i))) in
+    (IsBytes-take c.args.shared c.args.before.now (λ i. omega (arith, c.type_inv.before i))) (IsBytes-take c.args.unshared c.args.rest.now (λ i. omega (arith, c.type_inv.rest i))) in
     let internal = rw (c.deref.ensures.value, key) at (sym c.is_internal_key.ensures ∙ c.if-not-is_internal_key.false) in
     subst (λ (xs : List ℕ). IsKey xs (key_at xs)) (sym key) (is_key (front ++ new) fits internal)

@@ -12,9 +12,10 @@ use Rattle.lsm_block.proofs.SeekLaws.{read_on_some, read_on_none, scan_ends}
 use Rattle.lsm_block.proofs.search.scan_to.Goals as goal
 
 pub loop-offset-init : goal.loop-offset-init
-loop-offset-init c =
-    (ap (λ (b : List ℕ). not_below (key_of c.args.key.now) (readable (length c.args.text.now) b (drop c.args.start c.args.text.now))) c.requires,
-    subst (λ (b : List ℕ). Kept (last_of b) b) (sym c.requires) none_kept)
+loop-offset-init c = (
+  ap (λ (b : List ℕ). not_below (key_of c.args.key.now) (readable (length c.args.text.now) b (drop c.args.start c.args.text.now))) c.requires,
+  subst (λ (b : List ℕ). Kept (last_of b) b) (sym c.requires) none_kept,
+)
 
 pub returns-in_default-clause-found : goal.returns-in_default-clause-found
 returns-in_default-clause-found c =
@@ -34,7 +35,7 @@ returns-then-not-is_below-clause-found c =
     let read = rw (c.in-Some.is, c.rest_from-rest.ensures, c.deref.ensures.value) at c.in_ok-after.ensures.reads in
     let m = read_on_some c.args.text.now c.loop-offset.before.items c.loop-offset.offset _ _ _ _ (λ i. omega (arith, c.type_inv.text i)) (omega (arith, c.loop-offset-test.true)) read in
     let above : is_lt (key_cmp (key_at c.read_into.new.key.items) key) ≡ false =
-        ap (λ (k : List ℕ). is_lt (key_cmp (key_at k) key)) (sym c.deref-in-loop-offset.ensures.value) ∙ sym c.is_below.ensures ∙ c.if-not-is_below.true in
+    ap (λ (k : List ℕ). is_lt (key_cmp (key_at k) key)) (sym c.deref-in-loop-offset.ensures.value) ∙ sym c.is_below.ensures ∙ c.if-not-is_below.true in
     m.moves ∙ sym (below-stop key (entry_of (key_at c.read_into.new.key.items) _) _ above) ∙ ap (not_below key) (sym m.moves) ∙ c.loop-offset.invariant.0
 
 pub overflow_sub-offset : goal.overflow_sub-offset
@@ -55,7 +56,7 @@ loop-offset-preserved c =
     let read = rw (c.in-Some.is, c.rest_from-rest.ensures, c.deref.ensures.value) at c.in_ok-after.ensures.reads in
     let m = read_on_some c.args.text.now c.loop-offset.before.items c.loop-offset.offset _ _ _ _ (λ i. omega (arith, c.type_inv.text i)) (omega (arith, c.loop-offset-test.true)) read in
     let below : is_lt (key_cmp (key_at c.read_into.new.key.items) key) ≡ true =
-        ap (λ (k : List ℕ). is_lt (key_cmp (key_at k) key)) (sym c.deref-in-loop-offset.ensures.value) ∙ sym c.is_below.ensures ∙ c.if-not-is_below.false in
+    ap (λ (k : List ℕ). is_lt (key_cmp (key_at k) key)) (sym c.deref-in-loop-offset.ensures.value) ∙ sym c.is_below.ensures ∙ c.if-not-is_below.false in
     let kept = kept_as c.read_into.new.key.items (rw c.in-Some.is at c.in_ok-after.ensures.kept) in
     rw c.swap.ensures.x_after
     (sym (below-step key (entry_of (key_at c.read_into.new.key.items) _) _ below) ∙ ap (not_below key) (sym m.moves) ∙ c.loop-offset.invariant.0, kept)

@@ -16,9 +16,12 @@ loop-rest-init c =
     let rs = words (length c.args.offsets.now / 4) c.args.offsets.now in
     let all = scan (length c.args.text.now) (length c.args.text.now) [] c.args.text.now in
     let some : 0 < length rs = omega (arith, length-words (length c.args.offsets.now / 4) c.args.offsets.now, c.requires) in
-    rw (c.new-before.ensures.items)
-    (ap (λ (q : ℕ × List ℕ). fault_from None q.0 q.1 [] all) c.begin-last.ensures ∙ walk_begins all rs some,
-    λ i. omega (arith, c.type_inv.text i), omega arith, λ h. absurd (omega (arith, h)))
+    rw (c.new-before.ensures.items) (
+      ap (λ (q : ℕ × List ℕ). fault_from None q.0 q.1 [] all) c.begin-last.ensures ∙ walk_begins all rs some,
+      λ i. omega (arith, c.type_inv.text i),
+      omega arith,
+      λ h. absurd (omega (arith, h)),
+    )
 
 pub returns-in_default : goal.returns-in_default
 returns-in_default c =
@@ -60,7 +63,7 @@ loop-rest-preserved c =
     let pass = rw c.in-Some-pass.is at c.pass.ensures in
     let out = rw (c.deref-in-loop-rest.ensures.value, c.deref-in-loop-rest-2.ensures.value) at c.note-out.ensures in
     let moved = walk_moves c.loop-rest.out c.loop-rest.last (words (length c.loop-rest.left.now / 4) c.loop-rest.left.now) key rest total found.piece after _ _ _ c.read_into.new.key.items _
-        c.loop-rest.invariant.1 c.loop-rest.invariant.2 found.is found.shared_is found.key_is pass out in
+    c.loop-rest.invariant.1 c.loop-rest.invariant.2 found.is found.shared_is found.key_is pass out in
     rw c.swap.ensures.x_after (moved ∙ c.loop-rest.invariant.0, l.fits, omega (arith, l.shorter, c.loop-rest.invariant.2), λ h. next)
 
 pub returns : goal.returns

@@ -33,8 +33,8 @@ returns-then-size-clause-large c same =
     let s = c.self.inside in
     let e = entry_of (key_of c.args.key.now) c.args.value.now in
     let with = length-with s.interval s.count (entries_in s.text.items) s.text.items s.offsets.items s.last.items e _ _ _ _ _ c.self.invariant
-        (c.len.ensures ∙ s.text.ok.0) (c.len-2.ensures ∙ s.offsets.ok.0) (c.shared_with-shared.ensures ∙ ap (λ (xs : List ℕ). shared_at s.interval s.count xs (key_text e)) c.deref.ensures.value)
-        c.is_later-later.ensures (length-unshared c.shared_with-shared.result (key_of c.args.key.now)) in
+    (c.len.ensures ∙ s.text.ok.0) (c.len-2.ensures ∙ s.offsets.ok.0) (c.shared_with-shared.ensures ∙ ap (λ (xs : List ℕ). shared_at s.interval s.count xs (key_text e)) c.deref.ensures.value)
+    c.is_later-later.ensures (length-unshared c.shared_with-shared.result (key_of c.args.key.now)) in
     subst (λ (b : Building). 2 ^ 32 ≤ length (block_bytes b.interval (b.entries ++ e ∷ []))) c.self.view_is
     (rw with (by_large _ _ c.grown_size-size.ensures.exact (omega (arith, c.if-size.true))))
 
@@ -64,12 +64,12 @@ invariant_of-self-2 c =
     let e = entry_of (key_of c.args.key.now) c.args.value.now in
     let spare : c.push_key.new.out.items ≡ key_text e = rw c.clear.ensures.items at c.in_ok-push_key.ensures.ok in
     let built : Built s.interval (entries_in s.text.items ++ e ∷ []) c.push_entry.new.text.items c.push_entry.new.offsets.items c.swap.new.x.items (s.count + 1) =
-        (grows s.interval s.count (entries_in s.text.items) s.text.items s.offsets.items s.last.items e _ _ _ _ _ _ c.push_entry.new.text.items c.push_entry.new.offsets.items c.swap.new.x.items
-        c.self.invariant (c.len.ensures ∙ s.text.ok.0) (c.len-2.ensures ∙ s.offsets.ok.0) (c.shared_with-shared.ensures ∙ ap (λ (xs : List ℕ). shared_at s.interval s.count xs (key_text e)) c.deref.ensures.value)
-        c.is_later-later.ensures (c.split_at.ensures.back ∙ ap (λ (xs : List ℕ). drop c.shared_with-shared.result xs) (c.deref-2.ensures.value ∙ spare)) (length-unshared c.shared_with-shared.result (key_of c.args.key.now))
-        (by_size _ _ c.grown_size-size.ensures.over (omega (arith, c.if-size.false))) c.args.key.now.seq_fits
-        (subst (λ (b : Building). Ascends (b.entries ++ e ∷ [])) (sym c.self.view_is) c.requires.ascends)
-        c.in_ok-push_entry.ensures.ok c.in_ok-push_entry.ensures.offsets (rw c.swap.ensures.x_after spare)) in
+    (grows s.interval s.count (entries_in s.text.items) s.text.items s.offsets.items s.last.items e _ _ _ _ _ _ c.push_entry.new.text.items c.push_entry.new.offsets.items c.swap.new.x.items
+    c.self.invariant (c.len.ensures ∙ s.text.ok.0) (c.len-2.ensures ∙ s.offsets.ok.0) (c.shared_with-shared.ensures ∙ ap (λ (xs : List ℕ). shared_at s.interval s.count xs (key_text e)) c.deref.ensures.value)
+    c.is_later-later.ensures (c.split_at.ensures.back ∙ ap (λ (xs : List ℕ). drop c.shared_with-shared.result xs) (c.deref-2.ensures.value ∙ spare)) (length-unshared c.shared_with-shared.result (key_of c.args.key.now))
+    (by_size _ _ c.grown_size-size.ensures.over (omega (arith, c.if-size.false))) c.args.key.now.seq_fits
+    (subst (λ (b : Building). Ascends (b.entries ++ e ∷ [])) (sym c.self.view_is) c.requires.ascends)
+    c.in_ok-push_entry.ensures.ok c.in_ok-push_entry.ensures.offsets (rw c.swap.ensures.x_after spare)) in
     built_itself s.interval (s.count + 1) (entries_in s.text.items ++ e ∷ []) c.push_entry.new.text.items c.push_entry.new.offsets.items c.swap.new.x.items built
 
 pub returns-clause-ok : goal.returns-clause-ok
@@ -78,12 +78,12 @@ returns-clause-ok c =
     let e = entry_of (key_of c.args.key.now) c.args.value.now in
     let spare : c.push_key.new.out.items ≡ key_text e = rw c.clear.ensures.items at c.in_ok-push_key.ensures.ok in
     let built : Built s.interval (entries_in s.text.items ++ e ∷ []) c.push_entry.new.text.items c.push_entry.new.offsets.items c.swap.new.x.items (s.count + 1) =
-        (grows s.interval s.count (entries_in s.text.items) s.text.items s.offsets.items s.last.items e _ _ _ _ _ _ c.push_entry.new.text.items c.push_entry.new.offsets.items c.swap.new.x.items
-        c.self.invariant (c.len.ensures ∙ s.text.ok.0) (c.len-2.ensures ∙ s.offsets.ok.0) (c.shared_with-shared.ensures ∙ ap (λ (xs : List ℕ). shared_at s.interval s.count xs (key_text e)) c.deref.ensures.value)
-        c.is_later-later.ensures (c.split_at.ensures.back ∙ ap (λ (xs : List ℕ). drop c.shared_with-shared.result xs) (c.deref-2.ensures.value ∙ spare)) (length-unshared c.shared_with-shared.result (key_of c.args.key.now))
-        (by_size _ _ c.grown_size-size.ensures.over (omega (arith, c.if-size.false))) c.args.key.now.seq_fits
-        (subst (λ (b : Building). Ascends (b.entries ++ e ∷ [])) (sym c.self.view_is) c.requires.ascends)
-        c.in_ok-push_entry.ensures.ok c.in_ok-push_entry.ensures.offsets (rw c.swap.ensures.x_after spare)) in
+    (grows s.interval s.count (entries_in s.text.items) s.text.items s.offsets.items s.last.items e _ _ _ _ _ _ c.push_entry.new.text.items c.push_entry.new.offsets.items c.swap.new.x.items
+    c.self.invariant (c.len.ensures ∙ s.text.ok.0) (c.len-2.ensures ∙ s.offsets.ok.0) (c.shared_with-shared.ensures ∙ ap (λ (xs : List ℕ). shared_at s.interval s.count xs (key_text e)) c.deref.ensures.value)
+    c.is_later-later.ensures (c.split_at.ensures.back ∙ ap (λ (xs : List ℕ). drop c.shared_with-shared.result xs) (c.deref-2.ensures.value ∙ spare)) (length-unshared c.shared_with-shared.result (key_of c.args.key.now))
+    (by_size _ _ c.grown_size-size.ensures.over (omega (arith, c.if-size.false))) c.args.key.now.seq_fits
+    (subst (λ (b : Building). Ascends (b.entries ++ e ∷ [])) (sym c.self.view_is) c.requires.ascends)
+    c.in_ok-push_entry.ensures.ok c.in_ok-push_entry.ensures.offsets (rw c.swap.ensures.x_after spare)) in
     let same = entries_of-built s.interval (s.count + 1) (entries_in s.text.items ++ e ∷ []) c.push_entry.new.text.items c.push_entry.new.offsets.items c.swap.new.x.items built in
     ap (λ (es : List Entry). record { interval = s.interval; entries = es }) same
     ∙ ap (λ (b : Building). record { interval = b.interval; entries = b.entries ++ e ∷ [] }) c.self.view_is
@@ -94,11 +94,11 @@ returns-clause-fits c =
     let e = entry_of (key_of c.args.key.now) c.args.value.now in
     let spare : c.push_key.new.out.items ≡ key_text e = rw c.clear.ensures.items at c.in_ok-push_key.ensures.ok in
     let built : Built s.interval (entries_in s.text.items ++ e ∷ []) c.push_entry.new.text.items c.push_entry.new.offsets.items c.swap.new.x.items (s.count + 1) =
-        (grows s.interval s.count (entries_in s.text.items) s.text.items s.offsets.items s.last.items e _ _ _ _ _ _ c.push_entry.new.text.items c.push_entry.new.offsets.items c.swap.new.x.items
-        c.self.invariant (c.len.ensures ∙ s.text.ok.0) (c.len-2.ensures ∙ s.offsets.ok.0) (c.shared_with-shared.ensures ∙ ap (λ (xs : List ℕ). shared_at s.interval s.count xs (key_text e)) c.deref.ensures.value)
-        c.is_later-later.ensures (c.split_at.ensures.back ∙ ap (λ (xs : List ℕ). drop c.shared_with-shared.result xs) (c.deref-2.ensures.value ∙ spare)) (length-unshared c.shared_with-shared.result (key_of c.args.key.now))
-        (by_size _ _ c.grown_size-size.ensures.over (omega (arith, c.if-size.false))) c.args.key.now.seq_fits
-        (subst (λ (b : Building). Ascends (b.entries ++ e ∷ [])) (sym c.self.view_is) c.requires.ascends)
-        c.in_ok-push_entry.ensures.ok c.in_ok-push_entry.ensures.offsets (rw c.swap.ensures.x_after spare)) in
+    (grows s.interval s.count (entries_in s.text.items) s.text.items s.offsets.items s.last.items e _ _ _ _ _ _ c.push_entry.new.text.items c.push_entry.new.offsets.items c.swap.new.x.items
+    c.self.invariant (c.len.ensures ∙ s.text.ok.0) (c.len-2.ensures ∙ s.offsets.ok.0) (c.shared_with-shared.ensures ∙ ap (λ (xs : List ℕ). shared_at s.interval s.count xs (key_text e)) c.deref.ensures.value)
+    c.is_later-later.ensures (c.split_at.ensures.back ∙ ap (λ (xs : List ℕ). drop c.shared_with-shared.result xs) (c.deref-2.ensures.value ∙ spare)) (length-unshared c.shared_with-shared.result (key_of c.args.key.now))
+    (by_size _ _ c.grown_size-size.ensures.over (omega (arith, c.if-size.false))) c.args.key.now.seq_fits
+    (subst (λ (b : Building). Ascends (b.entries ++ e ∷ [])) (sym c.self.view_is) c.requires.ascends)
+    c.in_ok-push_entry.ensures.ok c.in_ok-push_entry.ensures.offsets (rw c.swap.ensures.x_after spare)) in
     let itself = built_itself s.interval (s.count + 1) (entries_in s.text.items ++ e ∷ []) c.push_entry.new.text.items c.push_entry.new.offsets.items c.swap.new.x.items built in
     omega (arith, itself.small, length-built s.interval (s.count + 1) (entries_in c.push_entry.new.text.items) c.push_entry.new.text.items c.push_entry.new.offsets.items c.swap.new.x.items itself)

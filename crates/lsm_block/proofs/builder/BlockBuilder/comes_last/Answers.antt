@@ -13,7 +13,7 @@ returns-in-Some-clause-ascends c is value =
     let ascend = subst (λ (b : Building). Ascends b.entries) c.self.view_is c.self.invariant.ascend in
     let last = rw c.in-Some.is at c.last_key.ensures in
     let after : after_last (last_key c.args.self.now.entries) key ≡ true =
-        ap (λ (o : Option InternalKey). after_last o key) (sym last) ∙ ap (λ (o : Ordering). is_lt o) (sym c.compare.ensures) ∙ sym c.is_lt.ensures ∙ is in
+    ap (λ (o : Option InternalKey). after_last o key) (sym last) ∙ ap (λ (o : Ordering). is_lt o) (sym c.compare.ensures) ∙ sym c.is_lt.ensures ∙ is in
     ascends-push c.args.self.now.entries (entry_of key value) ascend after
 
 pub returns-in-None-clause-ascends : goal.returns-in-None-clause-ascends

@@ -17,5 +17,5 @@ pub returns-in-Err : goal.returns-in-Err
 returns-in-Err c =
     let s = c.self.inside in
     kept_none (last_key (entries_in s.text.items)) s.last.items (kept_last s.interval s.count (entries_in s.text.items) s.text.items s.offsets.items s.last.items c.self.invariant)
-        (λ k h. (let bad = (c.in-Err.ensures.only k (subst (λ (xs : List ℕ). IsKey xs k) (sym c.deref.ensures.value) h)).1 in absurd cc))
+    (λ k h. (let bad = (c.in-Err.ensures.only k (subst (λ (xs : List ℕ). IsKey xs k) (sym c.deref.ensures.value) h)).1 in absurd cc))
     ∙ ap (λ (b : Building). last_key b.entries) c.self.view_is

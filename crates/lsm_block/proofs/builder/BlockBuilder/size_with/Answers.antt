@@ -24,8 +24,8 @@ returns-clause-exact c =
     let s = c.self.inside in
     let e = entry_of (key_of c.args.key.now) c.args.value.now in
     let with = length-with s.interval s.count (entries_in s.text.items) s.text.items s.offsets.items s.last.items e _ _ _ _ _ c.self.invariant
-        (c.len.ensures ∙ s.text.ok.0) (c.len-2.ensures ∙ s.offsets.ok.0) (c.shared_with-shared.ensures ∙ ap (λ (xs : List ℕ). shared_at s.interval s.count xs (key_text e)) c.deref.ensures.value)
-        c.is_later-later.ensures (length-unshared c.shared_with-shared.result (key_of c.args.key.now)) in
+    (c.len.ensures ∙ s.text.ok.0) (c.len-2.ensures ∙ s.offsets.ok.0) (c.shared_with-shared.ensures ∙ ap (λ (xs : List ℕ). shared_at s.interval s.count xs (key_text e)) c.deref.ensures.value)
+    c.is_later-later.ensures (length-unshared c.shared_with-shared.result (key_of c.args.key.now)) in
     subst (λ (b : Building). length (block_bytes b.interval (b.entries ++ e ∷ [])) < 2 ^ 32 → c.grown_size.result ≡ length (block_bytes b.interval (b.entries ++ e ∷ []))) c.self.view_is
     (rw with c.grown_size.ensures.exact)
 
@@ -34,7 +34,7 @@ returns-clause-over c =
     let s = c.self.inside in
     let e = entry_of (key_of c.args.key.now) c.args.value.now in
     let with = length-with s.interval s.count (entries_in s.text.items) s.text.items s.offsets.items s.last.items e _ _ _ _ _ c.self.invariant
-        (c.len.ensures ∙ s.text.ok.0) (c.len-2.ensures ∙ s.offsets.ok.0) (c.shared_with-shared.ensures ∙ ap (λ (xs : List ℕ). shared_at s.interval s.count xs (key_text e)) c.deref.ensures.value)
-        c.is_later-later.ensures (length-unshared c.shared_with-shared.result (key_of c.args.key.now)) in
+    (c.len.ensures ∙ s.text.ok.0) (c.len-2.ensures ∙ s.offsets.ok.0) (c.shared_with-shared.ensures ∙ ap (λ (xs : List ℕ). shared_at s.interval s.count xs (key_text e)) c.deref.ensures.value)
+    c.is_later-later.ensures (length-unshared c.shared_with-shared.result (key_of c.args.key.now)) in
     subst (λ (b : Building). 2 ^ 32 ≤ length (block_bytes b.interval (b.entries ++ e ∷ [])) → 2 ^ 32 ≤ c.grown_size.result) c.self.view_is
     (rw with c.grown_size.ensures.over)

@@ -14,5 +14,5 @@ pub returns-in-Err : goal.returns-in-Err
 returns-in-Err c =
     let s = c.self.inside in
     kept_none (last_of s.before.items) s.before.items c.self.invariant
-        (λ k h. (let bad = (c.in-Err.ensures.only k (subst (λ (xs : List ℕ). IsKey xs k) (sym c.deref.ensures.value) h)).1 in absurd cc))
+    (λ k h. (let bad = (c.in-Err.ensures.only k (subst (λ (xs : List ℕ). IsKey xs k) (sym c.deref.ensures.value) h)).1 in absurd cc))
     ∙ ap (λ (p : Place). p.last) c.self.view_is
