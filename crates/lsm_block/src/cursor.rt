@@ -82,7 +82,7 @@ impl Cursor {
         ensures found { OnOk result ((es : List Entry) → Parts text.now offsets.now es → rest_of (text_and_entries text.now) self.new ≡ not_below (key_of key.now) es) }
         ensures err { OnErr result (self.new ≡ record { offset = 0; last = None }) }
     {
-        self.before.clear();
+        self.restart();
         let start = find_restart(text, offsets, key);
         match scan_to(text, start, key, &mut self.before, &mut self.spare) {
             Ok(offset) => {
@@ -90,7 +90,6 @@ impl Cursor {
                 Ok(())
             }
             Err(error) => {
-                self.offset = 0;
                 self.before.clear();
                 Err(error)
             }
