@@ -1,6 +1,6 @@
 -- What is read as an entry is spelled so, and what is spelled so is read.
 use Rattle.std.proofs.Common.{◌≡◌, ℕ, ◌+◌, ◌-◌, ◌<◌, ◌≤◌, ◌^◌, Bool, true, false, cond, leb, List, [], ◌∷◌, ◌++◌, length, get_or, take, drop, Option, Some, None, Result, Ok, Err, refl, sym, ap, ◌∙◌, subst, append_assoc, arith, inl, inr}
-use Rattle.std.specs.Prelude.{◌&&◌, ◌⊎◌}
+use Rattle.std.specs.Prelude.{◌&&◌}
 use Rattle.std.specs.Option.{option_map}
 use Rattle.std.proofs.lemmas.Bool.{cases_lt, lt-leb, lt-ltb, le-leb, leb-true, and_parts}
 use Rattle.std.proofs.lemmas.List.{take_all, take_at, drop_at, take-append-drop, length-append, length-take, length-drop, length-take-le, get_or-drop, get_or-take, get_or_past, get_or_append_left, get_or-append_right}
@@ -8,8 +8,8 @@ use Rattle.lsm_codec.specs.declared.fault.CodecFault.{CodecFault}
 use Rattle.lsm_codec.specs.Varint.{AreGroups, IsVarint32, varint_at, varint32_at}
 use Rattle.lsm_codec.specs.Entries.{Entry, internal_key}
 use Rattle.lsm_codec.proofs.Varints.{Front, varint_takes, varint_again, IsBytes}
-use Rattle.lsm_block.specs.Block.{EntryText, entry_of, key_text}
-use Rattle.lsm_block.specs.Reading.{Piece, ◌>>=◌, found_of, number_at, numbers_at, shared_key, is_internal, key_at, piece_of, entry_at, entry}
+use Rattle.lsm_block.specs.Block.{EntryText, key_text}
+use Rattle.lsm_block.specs.Reading.{Piece, ◌>>=◌, found_of, number_at, numbers_at, shared_key, is_internal, piece_of, entry_at, entry}
 use Rattle.lsm_block.proofs.KeyLaws.{key_again, internal_again, internal_takes}
 
 -- ---- what is spelled is read

@@ -1,6 +1,5 @@
 -- Internal keys and their bytes, both ways.
-use Rattle.std.proofs.Common.{◌≡◌, ℕ, zero, suc, ◌+◌, ◌-◌, ◌*◌, ◌/◌, ◌%◌, ◌^◌, ◌<◌, ◌≤◌, Bool, true, false, cond, leb, ltb, eqb, Ordering, Less, Equal, Greater, Option, Some, None, List, [], ◌∷◌, ◌++◌, length, get_or, take, drop, refl, sym, ap, ◌∙◌, subst, arith}
-use Rattle.std.specs.Prelude.{◌&&◌}
+use Rattle.std.proofs.Common.{◌≡◌, ℕ, zero, suc, ◌+◌, ◌-◌, ◌*◌, ◌/◌, ◌%◌, ◌^◌, ◌<◌, ◌≤◌, Bool, true, false, cond, leb, ltb, eqb, Ordering, Less, Equal, Greater, Option, Some, None, List, [], ◌++◌, length, get_or, take, drop, refl, sym, ap, ◌∙◌, subst, arith}
 use Rattle.std.specs.Int.{w64, to_le_bytes, from_le_bytes}
 use Rattle.std.proofs.lemmas.Nat.{le_bytes_8, from_le_bytes-to_le_bytes_8}
 use Rattle.std.proofs.lemmas.Bool.{le-leb, leb-true, and_parts}
@@ -10,7 +9,6 @@ use Rattle.lsm_codec.specs.declared.kind.Kind.TheVariants.{Deletion, Value}
 use Rattle.std.specs.Ordering.{nat_cmp, is_lt}
 use Rattle.std.specs.Cmp.Lexicographic.{slice_cmp}
 use Rattle.lsm_codec.specs.Keys.{InternalKey, IsKey, kind_number, packed, key_bytes, then_by, key_cmp}
-use Rattle.lsm_codec.specs.Entries.{Entry}
 use Rattle.lsm_codec.proofs.Newest.{kind_number_le}
 use Rattle.lsm_codec.proofs.Varints.{IsBytes}
 use Rattle.lsm_block.specs.Held.{Kept, bytes_of, last_if, last_of}

@@ -1,15 +1,14 @@
 -- A whole text of entries that is read is spelled so, and the other way round.
 use Rattle.std.proofs.Common.{◌≡◌, ℕ, zero, suc, ◌+◌, ◌-◌, ◌<◌, ◌≤◌, Bool, true, false, List, [], ◌∷◌, ◌++◌, length, Option, Some, None, Less, Equal, Greater, Ordering, refl, sym, ap, ◌∙◌, subst, arith, inl, inr}
-use Rattle.std.specs.Prelude.{◌&&◌, ◌⊎◌}
+use Rattle.std.specs.Prelude.{◌⊎◌}
 use Rattle.std.specs.List.{AllByRecursion}
 use Rattle.std.specs.Ordering.{is_lt}
 use Rattle.std.proofs.lemmas.List.{length-append}
-use Rattle.std.proofs.lemmas.Bool.{leb-true, and_parts}
 use Rattle.lsm_codec.specs.Keys.{key_cmp}
 use Rattle.lsm_codec.specs.Entries.{Entry, entry_cmp}
 use Rattle.lsm_codec.proofs.Varints.{IsBytes}
 use Rattle.lsm_block.specs.Block.{Spells, Ascends, start_at, key_text}
-use Rattle.lsm_block.specs.Reading.{Piece, Placed, Scan, nothing, entry_at, scan, entry, entries_of, starts_of, is_internal, key_at, comes_after, if_not, disorder}
+use Rattle.lsm_block.specs.Reading.{Piece, Placed, Scan, nothing, entry_at, scan, entry, entries_of, starts_of, key_at, comes_after, if_not, disorder}
 use Rattle.lsm_block.proofs.EntryLaws.{sharing, entry_again, entry_again_is, entry_takes, own-some, IsBytes-after}
 
 -- ---- steps of a scan

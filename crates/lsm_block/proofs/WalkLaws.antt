@@ -1,15 +1,12 @@
 -- One walk over entries and restart offsets finds the first fault of a block.
-use Rattle.std.proofs.Common.{◌≡◌, ℕ, zero, suc, ◌+◌, ◌-◌, ◌*◌, ◌/◌, ◌^◌, ◌<◌, ◌≤◌, Bool, true, false, cond, leb, ltb, eqb, List, [], ◌∷◌, ◌++◌, length, take, drop, Option, Some, None, refl, sym, ap, ◌∙◌, subst, arith, inl, inr}
-use Rattle.std.specs.Prelude.{◌&&◌, ◌||◌, ◌⊎◌}
+use Rattle.std.proofs.Common.{◌≡◌, ℕ, zero, suc, ◌-◌, ◌<◌, ◌≤◌, Bool, true, false, cond, leb, ltb, eqb, List, [], ◌∷◌, ◌++◌, length, Option, Some, None, refl, sym, ap, ◌∙◌, subst, arith, inl, inr}
+use Rattle.std.specs.Prelude.{◌&&◌, ◌||◌}
 use Rattle.std.specs.List.{list_any, list_all}
-use Rattle.std.specs.Int.{w32, from_le_bytes}
 use Rattle.std.proofs.lemmas.Bool.{and_parts, cases_lt, ne_eqb, eq-eqb, eqb-true, lt-ltb, le-ltb, ltb-true, ltb-false, lt-leb, le-leb}
-use Rattle.std.proofs.lemmas.List.{length-append, length-drop, drop_at, take-append-drop}
 use Rattle.lsm_codec.proofs.Varints.{IsBytes}
-use Rattle.lsm_block.specs.declared.fault.BlockFault.{BlockFault}
 use Rattle.lsm_block.specs.declared.fault.BlockFault.TheVariants.{BadRestarts, BadEntry}
 use Rattle.lsm_block.specs.Block.{start_at}
-use Rattle.lsm_block.specs.Reading.{Piece, Placed, Scan, nothing, number_at, numbers_at, piece_of, entry_at, scan, starts_of, is_judged, if_judged, may_follow, rises, restarts_fit, if_not, comes_after, disorder, entry_fault, restart_fault, first_fault}
+use Rattle.lsm_block.specs.Reading.{Piece, Scan, nothing, entry_at, scan, starts_of, is_judged, if_judged, may_follow, rises, restarts_fit, if_not, comes_after, disorder, entry_fault, restart_fault, first_fault}
 use Rattle.lsm_block.specs.Walking.{begun, passed, if_none, fault_from, fault_at_stop, is_nothing, fault_at_end}
 use Rattle.lsm_block.proofs.EntryLaws.{some_is, leaves}
 use Rattle.lsm_block.proofs.ScanLaws.{placed_at, scan-empty, scan-some, scan-none, either}

@@ -1,7 +1,7 @@
-use Rattle.std.proofs.Common.{◌≡◌, true, ℕ, List, ◌++◌, take, sym, ◌∙◌, subst, arith}
+use Rattle.std.proofs.Common.{◌≡◌, ℕ, List, ◌++◌, take, sym, ◌∙◌, subst, arith}
 use Rattle.lsm_codec.specs.Keys.{IsKey}
 use Rattle.lsm_codec.proofs.Varints.{IsBytes}
-use Rattle.lsm_block.specs.Reading.{is_internal, key_at}
+use Rattle.lsm_block.specs.Reading.{key_at}
 use Rattle.lsm_block.proofs.KeyLaws.{is_key}
 use Rattle.lsm_block.proofs.EntryLaws.{IsBytes-take, IsBytes-append}
 use Rattle.lsm_block.proofs.entry.finish.Goals as goal

@@ -1,4 +1,4 @@
-use Rattle.std.proofs.Common.{ℕ, ◌-◌, List, length, ap, sym, ◌∙◌, arith}
+use Rattle.std.proofs.Common.{ℕ, ◌-◌, List, length, ap, sym, arith}
 use Rattle.lsm_codec.proofs.Varints.{shortest-last, shortest-more}
 use Rattle.lsm_block.proofs.entry_text.+varint_len.Goals as goal
 

@@ -1,7 +1,6 @@
-use Rattle.std.proofs.Common.{◌≡◌, ◌+◌, ◌<◌, ◌≤◌, length, drop, refl, sym, ap, ◌∙◌, arith}
+use Rattle.std.proofs.Common.{◌≡◌, ◌<◌, length, drop, sym, ◌∙◌, arith}
 use Rattle.std.specs.Int.{w64, to_le_bytes}
-use Rattle.std.proofs.lemmas.List.{length-drop}
-use Rattle.lsm_codec.specs.Keys.{packed, key_bytes}
+use Rattle.lsm_codec.specs.Keys.{packed}
 use Rattle.lsm_codec.specs.KeyRef.{key_of}
 use Rattle.lsm_block.specs.Building.{common}
 use Rattle.lsm_block.proofs.BuildLaws.{common-fits, common-user, common-all}

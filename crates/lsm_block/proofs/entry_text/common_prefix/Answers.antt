@@ -1,4 +1,4 @@
-use Rattle.std.proofs.Common.{◌≡◌, ◌+◌, sym, ◌∙◌, ap, arith}
+use Rattle.std.proofs.Common.{arith}
 use Rattle.lsm_block.proofs.BuildLaws.{common-same, common-other, common-end_left, common-end_right}
 use Rattle.lsm_block.proofs.entry_text.common_prefix.Goals as goal
 

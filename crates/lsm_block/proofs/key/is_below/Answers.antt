@@ -1,4 +1,4 @@
-use Rattle.std.proofs.Common.{◌≡◌, Ordering, Less, Equal, Greater, sym, ◌∙◌, arith}
+use Rattle.std.proofs.Common.{◌≡◌, Less, Equal, Greater, sym, ◌∙◌, arith}
 use Rattle.std.specs.Ordering.{nat_cmp}
 use Rattle.std.specs.Cmp.Lexicographic.{slice_cmp}
 use Rattle.lsm_codec.specs.KeyRef.{key_of}

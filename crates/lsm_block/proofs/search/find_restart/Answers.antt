@@ -1,6 +1,6 @@
-use Rattle.std.proofs.Common.{◌≡◌, ◌+◌, ◌-◌, ◌/◌, ℕ, sym, ap, ◌∙◌, subst, arith}
+use Rattle.std.proofs.Common.{◌+◌, ◌-◌, ◌/◌, ℕ, subst, arith}
 use Rattle.lsm_codec.specs.KeyRef.{key_of}
-use Rattle.lsm_block.specs.Seeking.{StartsBelow, word_of}
+use Rattle.lsm_block.specs.Seeking.{StartsBelow}
 use Rattle.lsm_block.proofs.SeekLaws.{low_starts, low_moves}
 use Rattle.lsm_block.proofs.search.find_restart.Goals as goal
 

@@ -1,4 +1,4 @@
-use Rattle.std.proofs.Common.{◌≡◌, ◌-◌, ◌<◌, length, drop, sym, ap, ◌∙◌, arith}
+use Rattle.std.proofs.Common.{arith}
 use Rattle.lsm_block.proofs.KeyLaws.{kept_as}
 use Rattle.lsm_block.proofs.SeekLaws.{read_on_some, read_on_none, scan_ends}
 use Rattle.lsm_block.proofs.search.step.Goals as goal

@@ -1,13 +1,11 @@
-use Rattle.std.proofs.Common.{◌≡◌, ◌-◌, ◌<◌, ◌/◌, ℕ, List, [], Option, None, Some, Bool, true, length, refl, sym, ap, ◌∙◌, subst, arith}
-use Rattle.std.proofs.lemmas.Bool.{eqb-true}
+use Rattle.std.proofs.Common.{◌≡◌, ◌<◌, ◌/◌, ℕ, List, [], None, true, length, sym, ap, ◌∙◌, subst, arith}
 use Rattle.std.proofs.lemmas.Bool.Decides.{nat_tests}
-use Rattle.lsm_block.specs.declared.fault.BlockFault.{BlockFault}
-use Rattle.lsm_block.specs.Reading.{Piece, words, is_internal, comes_after, if_not, entry_at, scan, first_fault}
-use Rattle.lsm_block.specs.Walking.{begun, passed, if_none, fault_from}
+use Rattle.lsm_block.specs.Reading.{words, is_internal, scan}
+use Rattle.lsm_block.specs.Walking.{fault_from}
 use Rattle.lsm_block.proofs.EntryLaws.{leaves}
 use Rattle.lsm_block.proofs.BlockLaws.{read_internal}
 use Rattle.lsm_block.proofs.RestartLaws.{length-words}
-use Rattle.lsm_block.proofs.SeenLaws.{Seen, seen_some, seen_none}
+use Rattle.lsm_block.proofs.SeenLaws.{seen_some, seen_none}
 use Rattle.lsm_block.proofs.WalkLaws.{walk_begins, walk_moves, walk_bad, walk_stop, walk_end}
 use Rattle.lsm_block.proofs.walk.find_fault.Goals as goal
 

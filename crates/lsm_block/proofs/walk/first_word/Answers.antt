@@ -1,4 +1,4 @@
-use Rattle.std.proofs.Common.{◌∷◌, ◌/◌, ℕ, sym, ap, ◌∙◌, length, drop, arith}
+use Rattle.std.proofs.Common.{◌∷◌, ◌/◌, ℕ, sym, ap, ◌∙◌, length, drop}
 use Rattle.lsm_block.specs.Reading.{words}
 use Rattle.lsm_block.proofs.RestartLaws.{words-step, front_word}
 use Rattle.lsm_block.proofs.walk.first_word.Goals as goal

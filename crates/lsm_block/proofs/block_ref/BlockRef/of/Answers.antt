@@ -1,4 +1,4 @@
-use Rattle.std.proofs.Common.{sym, ◌∙◌, length, take}
+use Rattle.std.proofs.Common.{sym, length}
 use Rattle.lsm_block.specs.Held.{held}
 use Rattle.lsm_block.proofs.HeldLaws.{some_parts, holds_found, holds_itself, holds_entries}
 use Rattle.lsm_block.proofs.block_ref.BlockRef.of.Goals as goal

@@ -1,4 +1,4 @@
-use Rattle.std.proofs.Common.{◌≡◌, ℕ, List, sym, ◌∙◌, subst}
+use Rattle.std.proofs.Common.{◌≡◌, ℕ, List, sym, subst}
 use Rattle.lsm_block.specs.Block.{IsBlock}
 use Rattle.lsm_block.specs.Building.{Building, block_bytes, entries_in}
 use Rattle.lsm_block.proofs.BuildLaws.{finished, is_block}

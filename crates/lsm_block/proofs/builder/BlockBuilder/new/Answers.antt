@@ -1,6 +1,6 @@
 use Rattle.std.proofs.Common.{ℕ, List, [], ap, ◌∙◌}
 use Rattle.lsm_codec.specs.Entries.{Entry}
-use Rattle.lsm_block.specs.Building.{Building, Built, entries_in}
+use Rattle.lsm_block.specs.Building.{entries_in}
 use Rattle.lsm_block.proofs.BuildLaws.{nothing_built, built_itself, entries_of-built}
 use Rattle.lsm_block.proofs.builder.BlockBuilder.new.Goals as goal
 

@@ -1,6 +1,6 @@
 use Rattle.std.proofs.Common.{ℕ, List, Option, sym, ap, ◌∙◌, subst}
 use Rattle.lsm_codec.specs.Keys.{InternalKey}
-use Rattle.lsm_block.specs.Held.{Place, Kept, last_of}
+use Rattle.lsm_block.specs.Held.{Kept, last_of}
 use Rattle.lsm_block.proofs.KeyLaws.{none_kept, no_last}
 use Rattle.lsm_block.proofs.cursor.Cursor.start.Goals as goal
 
