@@ -1,0 +1,9 @@
+pub mod Fault
+pub mod BuildFault
+pub mod Block
+pub mod Reading
+pub mod Walking
+pub mod Gives
+pub mod Seeking
+pub mod Held
+pub mod Building
