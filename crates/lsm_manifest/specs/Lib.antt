@@ -1,0 +1,5 @@
+pub mod LogFault
+pub mod Log
+pub mod LogReading
+pub mod LogView
+pub mod LogWriting
