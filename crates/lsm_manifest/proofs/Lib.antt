@@ -3,3 +3,7 @@ pub mod RecordLaws
 pub mod LogLoop
 pub mod PrefixLaws
 pub mod WriterLaws
+pub mod EditLaws
+pub mod EditFold
+pub mod EditFits
+pub mod EditLoop

@@ -3,3 +3,9 @@ pub mod Log
 pub mod LogReading
 pub mod LogView
 pub mod LogWriting
+pub mod EditFault
+pub mod Edit
+pub mod EditReading
+pub mod EditView
+pub mod DraftView
+pub mod EditFit

@@ -9,7 +9,17 @@ mod fragment;
 mod log;
 mod log_fault;
 mod writer;
+mod edit_fault;
+mod file_meta;
+mod parts;
+mod field;
+mod draft;
+mod edit;
 
+pub use edit::{Edit, one_edit};
+pub use edit_fault::EditFault;
+pub use file_meta::FileMeta;
 pub use log::{Log, one_log, read_log};
 pub use log_fault::LogFault;
+pub use parts::{AddedFile, CompactPointer, DeletedFile};
 pub use writer::{LogWriter, prefixes};
