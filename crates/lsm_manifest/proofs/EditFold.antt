@@ -120,7 +120,7 @@ edit_of-push fs (Added x) =
     rw (e0, e1, e2, e3, e4, e5, e6, e7) refl
 
 -- fields after one another
-pub with_fields : Edit → List Field → Edit
+unfoldable pub with_fields : Edit → List Field → Edit
 with_fields e [] = e
 with_fields e (f ∷ fs) = with_fields (with_field e f) fs
 

@@ -7,3 +7,4 @@ pub mod EditLaws
 pub mod EditFold
 pub mod EditFits
 pub mod EditLoop
+pub mod EditWriterLaws

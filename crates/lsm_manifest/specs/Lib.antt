@@ -9,3 +9,5 @@ pub mod EditReading
 pub mod EditView
 pub mod DraftView
 pub mod EditFit
+pub mod EditWriting
+pub mod LentView

@@ -1,13 +1,14 @@
 //! Version edits (LevelDB's `db/version_edit.cc`).
 
-ghost use Rattle.std.specs.Prelude.{◌≡◌, ℕ, List, IfOk, Ok};
+ghost use Rattle.std.specs.Prelude.{◌≡◌, ◌++◌, ℕ, List, IfOk, Ok, OnOk, OnErr};
 
 use crate::draft::Draft;
 use crate::edit_fault::EditFault;
+use crate::edit_writer::push_edit;
 use crate::field::Field;
 use crate::parts::{AddedFile, CompactPointer, DeletedFile};
 use lsm_codec::{Bytes, List};
-use std::alloc::Global;
+use std::alloc::{AllocError, Global};
 
 /// A change of the levels, as one record of the manifest spells it. A field that the edit lacks is `None`, or an empty list.
 #[derive(Debug, Drop)]
@@ -31,6 +32,7 @@ ghost use Rattle.lsm_manifest.specs.Edit.{IsEdit};
 ghost use Rattle.lsm_manifest.specs.EditReading.{edit_at};
 ghost use Rattle.lsm_manifest.specs.EditView.{Gives};
 ghost use Rattle.lsm_manifest.specs.EditFit.{Change, IsFit};
+ghost use Rattle.lsm_manifest.specs.EditWriting.{AreInOrder, edit_text};
 
 impl Edit {
     /// Reads an edit: its fields in any order; of several values of one number field or of the comparator the last. The first
@@ -49,6 +51,30 @@ impl Edit {
         ensures fit { IfOk result IsFit }
     {
         read(alloc, bytes)
+    }
+
+    /// Appends the bytes of the edit: comparator, log number, previous log number, next file number, last sequence, pointers,
+    /// deletions, additions. A caller has the deletions by level, then number, as LevelDB writes them.
+    #[tactic(auto, unfolding(crate::specs::EditWriting::edit_text), using(crate::proofs::EditWriterLaws::edit_written))]
+    pub fn encode(&self, out: &mut Vec<u8>) -> Result<(), AllocError>
+        requires fit { IsFit self.now }
+        requires ordered { AreInOrder self.now.deleted }
+
+        // An `Err` leaves the contents as they were.
+        ensures err { OnErr result (out.new.items ≡ out.old.items) }
+
+        // These bytes are added, and they spell the edit.
+        ensures bytes { OnOk result (out.new.items ≡ out.old.items ++ edit_text self.now) }
+        ensures spelled { OnOk result (IsEdit (edit_text self.now) self.now) }
+    {
+        let len = out.len();
+        match push_edit(out, self) {
+            Ok(()) => Ok(()),
+            Err(error) => {
+                out.truncate(len);
+                Err(error)
+            }
+        }
     }
 }
 

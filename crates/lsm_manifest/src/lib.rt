@@ -14,7 +14,9 @@ mod file_meta;
 mod parts;
 mod field;
 mod draft;
+mod lent;
 mod edit;
+mod edit_writer;
 
 pub use edit::{Edit, one_edit};
 pub use edit_fault::EditFault;
