@@ -11,3 +11,5 @@ pub mod DraftView
 pub mod EditFit
 pub mod EditWriting
 pub mod LentView
+pub mod ReplayFault
+pub mod Standing

@@ -17,6 +17,8 @@ mod draft;
 mod lent;
 mod edit;
 mod edit_writer;
+mod replay_fault;
+mod standing;
 
 pub use edit::{Edit, one_edit};
 pub use edit_fault::EditFault;
@@ -24,4 +26,5 @@ pub use file_meta::FileMeta;
 pub use log::{Log, one_log, read_log};
 pub use log_fault::LogFault;
 pub use parts::{AddedFile, CompactPointer, DeletedFile};
+pub use replay_fault::ReplayFault;
 pub use writer::{LogWriter, prefixes};

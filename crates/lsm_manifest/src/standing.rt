@@ -1,0 +1,55 @@
+//! The files that stand after some edits, by number.
+
+ghost use Rattle.std.specs.Prelude.{◌≡◌, ◌==◌, ◌⊎◌, ℕ, false, if◌then◌else◌, Some, None, IfSome, IsSome, OnOk, IfErr};
+
+use crate::parts::{AddedFile, DeletedFile};
+use crate::replay_fault::ReplayFault;
+use std::alloc::Global;
+use std::collections::BTreeMap;
+
+/// The files that stand, each under its number: no two have one.
+#[derive(Drop)]
+pub(crate) struct Standing<'a> {
+    files: BTreeMap<u64, &'a AddedFile>,
+}
+
+impl<'a> Standing<'a> {
+    ghost use Rattle.lsm_manifest.specs.Standing.{file_at};
+
+    pub(crate) fn new(alloc: Global) -> Standing<'a>
+        ensures { (n : ℕ) → file_at result n ≡ None }
+    {
+        Standing {
+            files: BTreeMap::new(alloc),
+        }
+    }
+
+    /// Takes out the file of this number, if it stands at this level.
+    pub(crate) fn delete(&mut self, file: &DeletedFile)
+        ensures here { IfSome (file_at self.old file.now.number) (λ a. file_at self.new file.now.number ≡ (if a.level == file.now.level then None else Some a)) }
+        ensures none { file_at self.old file.now.number ≡ None → file_at self.new file.now.number ≡ None }
+        ensures others { (n : ℕ) → n == file.now.number ≡ false → file_at self.new n ≡ file_at self.old n }
+    {
+        let Some(added) = self.files.get(&file.number) else {
+            return;
+        };
+        if added.level == file.level {
+            self.files.remove(&file.number);
+        }
+    }
+
+    /// Puts in a file whose number does not stand.
+    pub(crate) fn add(&mut self, added: &'a AddedFile) -> Result<(), ReplayFault>
+        ensures was { OnOk result (file_at self.old added.now.file.number ≡ None) }
+        ensures here { OnOk result (file_at self.new added.now.file.number ≡ Some added.now) }
+        ensures others { OnOk result ((n : ℕ) → n == added.now.file.number ≡ false → file_at self.new n ≡ file_at self.old n) }
+        ensures err { IfErr result (λ e. (e ≡ ReplayFault.OutOfMemory) ⊎ ((e ≡ ReplayFault.DoubleFile added.now.file.number) × IsSome (file_at self.old added.now.file.number))) }
+    {
+        let number = added.file.number;
+        if self.files.contains_key(&number) {
+            return Err(ReplayFault::DoubleFile(number));
+        }
+        self.files.insert(number, added)?;
+        Ok(())
+    }
+}
