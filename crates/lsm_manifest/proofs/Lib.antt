@@ -8,3 +8,4 @@ pub mod EditFold
 pub mod EditFits
 pub mod EditLoop
 pub mod EditWriterLaws
+pub mod StandingLaws

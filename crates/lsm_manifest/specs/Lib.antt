@@ -13,3 +13,4 @@ pub mod EditWriting
 pub mod LentView
 pub mod ReplayFault
 pub mod Standing
+pub mod Replay

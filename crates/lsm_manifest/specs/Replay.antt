@@ -1,0 +1,107 @@
+-- What a row of edits comes to (LevelDB's `doc/impl.md`, `db/version_set.cc`): the files that some edit adds and no later edit
+-- deletes, with the last value of each number field and pointer.
+use Rattle.std.specs.Prelude.{◌≡◌, ℕ, ◌≤◌, ◌⊎◌, ◌↔◌, List, [], ◌∷◌, ◌++◌, Option, Some, None, IsSome, IsSomeAnd, codes, get_or, unwrap_or, ◌==◌, if◌then◌else◌}
+use Rattle.std.specs.Option.{option_or}
+use Rattle.lsm_codec.specs.Lists.{Has}
+use Rattle.lsm_manifest.specs.declared.file_meta.FileMeta.{FileMeta}
+use Rattle.lsm_manifest.specs.declared.parts.CompactPointer.{CompactPointer}
+use Rattle.lsm_manifest.specs.declared.parts.DeletedFile.{DeletedFile}
+use Rattle.lsm_manifest.specs.declared.parts.AddedFile.{AddedFile}
+use Rattle.lsm_manifest.specs.declared.edit.Edit.{Edit}
+use Rattle.lsm_manifest.specs.declared.replay_fault.ReplayFault.{ReplayFault}
+use Rattle.lsm_manifest.specs.declared.replay_fault.ReplayFault.TheVariants.{OutOfMemory, NoNextFile, NoLogNumber, NoLastSequence, OtherComparator, DoubleFile}
+
+-- what deletes a file
+abbrev pub deletion_of : AddedFile → DeletedFile
+deletion_of a = record { level = a.level; number = a.file.number }
+
+-- No edit of these deletes the file.
+abbrev pub Spare : List Edit → AddedFile → Type 0
+Spare [] a = Unit {0}
+Spare (e ∷ es) a = (Has e.deleted (deletion_of a) → ⊥) × Spare es a
+
+-- Some edit adds the file at its level, and no later edit deletes it.
+abbrev pub Stands : List Edit → AddedFile → Type 0
+Stands [] a = ⊥
+Stands (e ∷ es) a = (Has e.added a × Spare es a) ⊎ Stands es a
+
+-- ---- edits at fault
+
+-- Within one edit deletions come before additions: what stands after the edits, these deletions and these additions.
+abbrev pub StandsIn : List Edit → List DeletedFile → List AddedFile → AddedFile → Type 0
+StandsIn es ds xs a = (Stands es a × (Has ds (deletion_of a) → ⊥)) ⊎ Has xs a
+
+-- A file of this number stands there, at any level.
+abbrev pub IsTaken : List Edit → List DeletedFile → List AddedFile → ℕ → Type 0
+IsTaken es ds xs number = (b : AddedFile) × (b.file.number ≡ number) × StandsIn es ds xs b
+
+-- Each addition has a number that is not taken when it comes.
+abbrev pub AreNew : List Edit → List DeletedFile → List AddedFile → Type 0
+AreNew es ds xs = (front : List AddedFile) (one : AddedFile) (back : List AddedFile) → xs ≡ front ++ one ∷ back → IsTaken es ds front one.file.number → ⊥
+
+-- The first addition whose number is taken when it comes has this number.
+pub record AddsTwice (es : List Edit) (e : Edit) (number : ℕ) : Type 0 where
+  pub front : List AddedFile
+  pub one : AddedFile
+  pub back : List AddedFile
+  pub parts : e.added ≡ front ++ one ∷ back
+  pub number_is : one.file.number ≡ number
+  pub taken : IsTaken es e.deleted front number
+  pub before : AreNew es e.deleted front
+
+abbrev pub NamesOther : Edit → Type 0
+NamesOther e = IsSomeAnd e.comparator (λ name. name ≡ codes "leveldb.BytewiseComparator" → ⊥)
+
+-- The edit, after the edits before it, has no fault.
+pub record IsInnocent (es : List Edit) (e : Edit) : Type 0 where
+  pub comparator : NamesOther e → ⊥
+  pub added : AreNew es e.deleted e.added
+
+-- The edit, after the edits before it, has this fault. The comparator is judged first.
+abbrev pub HasFault : List Edit → Edit → ReplayFault → Type 0
+HasFault es e OutOfMemory = Unit {0}
+HasFault es e NoNextFile = ⊥
+HasFault es e NoLogNumber = ⊥
+HasFault es e NoLastSequence = ⊥
+HasFault es e OtherComparator = NamesOther e
+HasFault es e (DoubleFile number) = (NamesOther e → ⊥) × AddsTwice es e number
+
+-- No edit of these has a fault.
+abbrev pub AreInnocent : List Edit → Type 0
+AreInnocent edits = (earlier : List Edit) (e : Edit) (later : List Edit) → edits ≡ earlier ++ e ∷ later → IsInnocent earlier e
+
+-- The first edit that has a fault has this one.
+pub record IsFirstFault (edits : List Edit) (fault : ReplayFault) : Type 0 where
+  pub earlier : List Edit
+  pub edit : Edit
+  pub later : List Edit
+  pub parts : edits ≡ earlier ++ edit ∷ later
+  pub innocent : AreInnocent earlier
+  pub is : HasFault earlier edit fault
+
+-- ---- last values
+
+-- the last value of a field in a row of edits
+unfoldable pub last_in : {A : Type 0} → (Edit → Option A) → List Edit → Option A
+last_in pick [] = None
+last_in pick (e ∷ es) = option_or (last_in pick es) (pick e)
+
+-- the last pointer of a level in a list
+unfoldable pub pointer_in : ℕ → List CompactPointer → Option (List ℕ)
+pointer_in level [] = None
+pointer_in level (p ∷ ps) = option_or (pointer_in level ps) (if p.level == level then Some p.key else None)
+
+abbrev pub last_log : List Edit → Option ℕ
+last_log es = last_in (λ e. e.log) es
+
+abbrev pub last_prev_log : List Edit → Option ℕ
+last_prev_log es = last_in (λ e. e.prev_log) es
+
+abbrev pub last_next : List Edit → Option ℕ
+last_next es = last_in (λ e. e.next) es
+
+abbrev pub last_sequence : List Edit → Option ℕ
+last_sequence es = last_in (λ e. e.last) es
+
+abbrev pub last_pointer : ℕ → List Edit → Option (List ℕ)
+last_pointer level es = last_in (λ e. pointer_in level e.pointers) es
