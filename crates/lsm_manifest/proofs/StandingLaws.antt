@@ -1,17 +1,16 @@
 -- What stands after one more deletion, one more addition, one more edit.
-use Rattle.std.proofs.Common.{◌≡◌, ℕ, ◌⊎◌, Bool, true, false, cond, eqb, List, [], ◌∷◌, ◌++◌, Option, Some, None, refl, sym, ap, ◌∙◌, subst, arith, inl, inr}
-use Rattle.std.specs.Prelude.{IfSome, IsSome}
-use Rattle.std.proofs.lemmas.Bool.{eqb-true, eqb-false, eq-eqb, ne_eqb}
+use Rattle.std.proofs.Common.{◌≡◌, ℕ, ◌+◌, ◌<◌, ◌⊎◌, Bool, true, false, cond, eqb, List, [], ◌∷◌, ◌++◌, length, take, drop, get_or, Option, Some, None, Result, Ok, Err, refl, sym, ap, ◌∙◌, subst, append_assoc, inl, inr}
+use Rattle.std.specs.Prelude.{IfSome, IsSome, OnOk, IfErr}
+use Rattle.std.proofs.lemmas.Bool.{eqb-true, eqb-false}
+use Rattle.std.proofs.lemmas.List.{take_more, take-append-drop}
 use Rattle.lsm_codec.specs.Lists.{Has}
 use Rattle.lsm_manifest.specs.declared.parts.DeletedFile.{DeletedFile}
 use Rattle.lsm_manifest.specs.declared.parts.AddedFile.{AddedFile}
 use Rattle.lsm_manifest.specs.declared.edit.Edit.{Edit}
-use Rattle.lsm_manifest.specs.Replay.{deletion_of, Spare, Stands, StandsIn, IsTaken, AreNew}
-
--- the files of a table are those of which P holds
-pub record Tracks (P : AddedFile → Type 0) (f : ℕ → Option AddedFile) : Type 0 where
-  pub found : (n : ℕ) (a : AddedFile) → f n ≡ Some a → (a.file.number ≡ n) × P a
-  pub all : (a : AddedFile) → P a → f a.file.number ≡ Some a
+use Rattle.lsm_manifest.specs.declared.replay_fault.ReplayFault.{ReplayFault}
+use Rattle.lsm_manifest.specs.declared.replay_fault.ReplayFault.TheVariants.{OutOfMemory, NoNextFile, NoLogNumber, NoLastSequence, OtherComparator, DoubleFile}
+use Rattle.lsm_manifest.specs.Replay.{deletion_of, Spare, Stands, StandsIn, IsTaken, AreNew, AddsTaken, IsDouble, NamesOther, HasFault}
+use Rattle.lsm_manifest.specs.Standing.{Tracks}
 
 pub tracks_same : (P Q : AddedFile → Type 0) (f : ℕ → Option AddedFile) → ((a : AddedFile) → P a → Q a) → ((a : AddedFile) → Q a → P a) → Tracks P f → Tracks Q f
 tracks_same P Q f to from t = record { found = λ n a e. let h = t.found n a e in (h.0, to a h.1); all = λ a q. t.all a (from a q) }
@@ -228,3 +227,52 @@ tracks_edit es e f t = tracks_same (StandsIn es e.deleted e.added) (Stands (es +
 
 pub tracks_none : (f : ℕ → Option AddedFile) → ((n : ℕ) → f n ≡ None) → Tracks (Stands []) f
 tracks_none f none = record { found = λ n a e. absurd (none_some a (f n) (none n) e); all = λ a h. absurd h }
+
+-- ---- the loops over an edit's deletions and additions
+
+pub deletes_next : (es : List Edit) (xs : List DeletedFile) (i : ℕ) (d : DeletedFile) (f g : ℕ → Option AddedFile) → i < length xs → Tracks (StandsIn es (take i xs) []) f → Deleted (get_or xs i d) f g
+    → Tracks (StandsIn es (take (i + 1) xs) []) g
+deletes_next es xs i d f g lt t x =
+    subst (λ (ds : List DeletedFile). Tracks (StandsIn es ds []) g) (sym (take_more xs i d lt)) (tracks_deleted es (take i xs) (get_or xs i d) f g t x)
+
+one_more : (xs : List AddedFile) (i : ℕ) (x : AddedFile) → i < length xs → x ≡ get_or xs i x → take (i + 1) xs ≡ take i xs ++ x ∷ []
+one_more xs i x lt at = take_more xs i x lt ∙ ap (λ (y : AddedFile). take i xs ++ y ∷ []) (sym at)
+
+pub adds_next : (es : List Edit) (ds : List DeletedFile) (xs : List AddedFile) (i : ℕ) (x : AddedFile) (f g : ℕ → Option AddedFile) → i < length xs → x ≡ get_or xs i x
+    → Tracks (StandsIn es ds (take i xs)) f × AreNew es ds (take i xs) → Added x f g → Tracks (StandsIn es ds (take (i + 1) xs)) g × AreNew es ds (take (i + 1) xs)
+adds_next es ds xs i x f g lt at (t, new) y =
+    let both : Tracks (StandsIn es ds (take i xs ++ x ∷ [])) g × AreNew es ds (take i xs ++ x ∷ []) = (tracks_added es ds (take i xs) x f g t y, new_more es ds (take i xs) x f t y.was new) in
+    subst (λ (ys : List AddedFile). Tracks (StandsIn es ds ys) g × AreNew es ds ys) (sym (one_more xs i x lt at)) both
+
+pub double_at : (es : List Edit) (ds : List DeletedFile) (xs : List AddedFile) (i : ℕ) (x : AddedFile) (f : ℕ → Option AddedFile) (e : ReplayFault) → i < length xs → x ≡ get_or xs i x
+    → Tracks (StandsIn es ds (take i xs)) f × AreNew es ds (take i xs) → (e ≡ OutOfMemory) ⊎ ((e ≡ DoubleFile x.file.number) × IsSome (f x.file.number)) → IsDouble es ds xs e
+double_at es ds xs i x f e lt at (t, new) (inl m) = subst (IsDouble es ds xs) (sym m) tt
+double_at es ds xs i x f e lt at (t, new) (inr (m, some)) =
+    let back = drop (i + 1) xs in
+    let parts : xs ≡ take i xs ++ x ∷ back = sym (take-append-drop (i + 1) xs) ∙ ap (λ (y : List AddedFile). y ++ back) (one_more xs i x lt at) ∙ append_assoc (take i xs) (x ∷ []) back in
+    let d : AddsTaken es ds xs x.file.number = record {
+      front = take i xs;
+      one = x;
+      back = back;
+      parts = parts;
+      number_is = refl;
+      taken = taken_is es ds (take i xs) x.file.number f t (f x.file.number) refl some;
+      before = new;
+    } in
+    subst (IsDouble es ds xs) (sym m) d
+
+pub fault_of : (es : List Edit) (e : Edit) (f : ReplayFault) → (NamesOther e → ⊥) → IsDouble es e.deleted e.added f → HasFault es e f
+fault_of es e OutOfMemory same d = tt
+fault_of es e NoNextFile same d = d
+fault_of es e NoLogNumber same d = d
+fault_of es e NoLastSequence same d = d
+fault_of es e OtherComparator same d = absurd d
+fault_of es e (DoubleFile n) same d = (same, d)
+
+pub ok_then : {T E P Q : Type 0} (r : Result T E) → OnOk r P → (P → Q) → OnOk r Q
+ok_then (Ok x) p f = f p
+ok_then (Err d) p f = tt
+
+pub err_then : {T E : Type 0} (P Q : E → Type 0) (r : Result T E) → IfErr r P → ((e : E) → P e → Q e) → IfErr r Q
+err_then P Q (Ok x) p f = tt
+err_then P Q (Err d) p f = f d p

@@ -12,5 +12,5 @@ pub mod EditFit
 pub mod EditWriting
 pub mod LentView
 pub mod ReplayFault
-pub mod Standing
 pub mod Replay
+pub mod Standing

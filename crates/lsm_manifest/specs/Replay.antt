@@ -11,6 +11,10 @@ use Rattle.lsm_manifest.specs.declared.edit.Edit.{Edit}
 use Rattle.lsm_manifest.specs.declared.replay_fault.ReplayFault.{ReplayFault}
 use Rattle.lsm_manifest.specs.declared.replay_fault.ReplayFault.TheVariants.{OutOfMemory, NoNextFile, NoLogNumber, NoLastSequence, OtherComparator, DoubleFile}
 
+-- a deletion, under a name that no type of src/ has
+abbrev pub Deletion : Type 0
+Deletion = DeletedFile
+
 -- what deletes a file
 abbrev pub deletion_of : AddedFile → DeletedFile
 deletion_of a = record { level = a.level; number = a.file.number }
@@ -40,14 +44,23 @@ abbrev pub AreNew : List Edit → List DeletedFile → List AddedFile → Type 0
 AreNew es ds xs = (front : List AddedFile) (one : AddedFile) (back : List AddedFile) → xs ≡ front ++ one ∷ back → IsTaken es ds front one.file.number → ⊥
 
 -- The first addition whose number is taken when it comes has this number.
-pub record AddsTwice (es : List Edit) (e : Edit) (number : ℕ) : Type 0 where
+pub record AddsTaken (es : List Edit) (ds : List DeletedFile) (xs : List AddedFile) (number : ℕ) : Type 0 where
   pub front : List AddedFile
   pub one : AddedFile
   pub back : List AddedFile
-  pub parts : e.added ≡ front ++ one ∷ back
+  pub parts : xs ≡ front ++ one ∷ back
   pub number_is : one.file.number ≡ number
-  pub taken : IsTaken es e.deleted front number
-  pub before : AreNew es e.deleted front
+  pub taken : IsTaken es ds front number
+  pub before : AreNew es ds front
+
+-- the fault of additions, if memory did not run out
+abbrev pub IsDouble : List Edit → List DeletedFile → List AddedFile → ReplayFault → Type 0
+IsDouble es ds xs OutOfMemory = Unit {0}
+IsDouble es ds xs NoNextFile = ⊥
+IsDouble es ds xs NoLogNumber = ⊥
+IsDouble es ds xs NoLastSequence = ⊥
+IsDouble es ds xs OtherComparator = ⊥
+IsDouble es ds xs (DoubleFile number) = AddsTaken es ds xs number
 
 abbrev pub NamesOther : Edit → Type 0
 NamesOther e = IsSomeAnd e.comparator (λ name. name ≡ codes "leveldb.BytewiseComparator" → ⊥)
@@ -64,7 +77,7 @@ HasFault es e NoNextFile = ⊥
 HasFault es e NoLogNumber = ⊥
 HasFault es e NoLastSequence = ⊥
 HasFault es e OtherComparator = NamesOther e
-HasFault es e (DoubleFile number) = (NamesOther e → ⊥) × AddsTwice es e number
+HasFault es e (DoubleFile number) = (NamesOther e → ⊥) × AddsTaken es e.deleted e.added number
 
 -- No edit of these has a fault.
 abbrev pub AreInnocent : List Edit → Type 0

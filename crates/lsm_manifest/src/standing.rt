@@ -1,7 +1,10 @@
 //! The files that stand after some edits, by number.
 
-ghost use Rattle.std.specs.Prelude.{◌≡◌, ◌==◌, ◌⊎◌, ℕ, false, if◌then◌else◌, Some, None, IfSome, IsSome, OnOk, IfErr};
+ghost use Rattle.std.specs.Prelude.{◌≡◌, ◌==◌, ◌⊎◌, ◌↔◌, ◌++◌, [], ◌∷◌, ℕ, List, false, IsTrue, if◌then◌else◌, Some, None, IfSome, IsSome, OnOk, IfErr};
+ghost use Rattle.lsm_manifest.specs.EditFit.{Change};
+ghost use Rattle.lsm_manifest.specs.Replay.{Deletion, Stands, StandsIn, AreNew, IsDouble, NamesOther, IsInnocent, HasFault};
 
+use crate::edit::Edit;
 use crate::parts::{AddedFile, DeletedFile};
 use crate::replay_fault::ReplayFault;
 use std::alloc::Global;
@@ -14,7 +17,7 @@ pub(crate) struct Standing<'a> {
 }
 
 impl<'a> Standing<'a> {
-    ghost use Rattle.lsm_manifest.specs.Standing.{file_at};
+    ghost use Rattle.lsm_manifest.specs.Standing.{file_at, Tracks};
 
     pub(crate) fn new(alloc: Global) -> Standing<'a>
         ensures { (n : ℕ) → file_at result n ≡ None }
@@ -51,5 +54,47 @@ impl<'a> Standing<'a> {
         }
         self.files.insert(number, added)?;
         Ok(())
+    }
+
+    /// Takes out what these deletions name: a deletion of a file that does not stand is ignored.
+    fn delete_all(&mut self, deleted: &[DeletedFile])
+        ensures { (es : List Change) → Tracks (Stands es) (file_at self.old) → Tracks (StandsIn es deleted.now []) (file_at self.new) }
+    {
+        for file in deleted {
+            self.delete(file);
+        }
+    }
+
+    /// Puts in what these additions name, up to the first whose number stands.
+    fn add_all(&mut self, added: &'a [AddedFile]) -> Result<(), ReplayFault>
+        ensures ok { OnOk result ((es : List Change) (ds : List Deletion) → Tracks (StandsIn es ds []) (file_at self.old) → Tracks (StandsIn es ds added.now) (file_at self.new) × AreNew es ds added.now) }
+        ensures err { IfErr result (λ e. (es : List Change) (ds : List Deletion) → Tracks (StandsIn es ds []) (file_at self.old) → IsDouble es ds added.now e) }
+    {
+        for file in added {
+            self.add(file)?;
+        }
+        Ok(())
+    }
+
+    /// One more edit: its comparator is judged first, its deletions come before its additions.
+    pub(crate) fn apply(&mut self, edit: &'a Edit) -> Result<(), ReplayFault>
+        ensures ok { OnOk result ((es : List Change) → Tracks (Stands es) (file_at self.old) → Tracks (Stands (es ++ edit.now ∷ [])) (file_at self.new) × IsInnocent es edit.now) }
+        ensures err { IfErr result (λ e. (es : List Change) → Tracks (Stands es) (file_at self.old) → HasFault es edit.now e) }
+    {
+        if names_other(edit) {
+            return Err(ReplayFault::OtherComparator);
+        }
+        self.delete_all(edit.deleted.as_slice());
+        self.add_all(edit.added.as_slice())
+    }
+}
+
+/// Whether an edit names a comparator other than LevelDB's own.
+fn names_other(edit: &Edit) -> bool
+    ensures { IsTrue result ↔ NamesOther edit.now }
+{
+    match &edit.comparator {
+        Some(name) => name.as_slice() != b"leveldb.BytewiseComparator".as_slice(),
+        None => false,
     }
 }
