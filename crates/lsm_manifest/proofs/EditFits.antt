@@ -5,7 +5,8 @@ use Rattle.std.specs.List.{All, cons_option}
 use Rattle.std.specs.Option.{option_or}
 use Rattle.std.proofs.lemmas.List.Elements.{All-nil, All-cons}
 use Rattle.lsm_manifest.specs.declared.edit.Edit.{Edit}
-use Rattle.lsm_manifest.specs.Edit.{Field, Comparator, Log, Prev, Next, Last, Pointer, Deleted, Added, KeyText, FieldText, AreFields, comparator_of, pointer_of, deleted_of, added_of, last_value, all_values, edit_of, IsEdit}
+use Rattle.lsm_manifest.specs.Last.{last_by}
+use Rattle.lsm_manifest.specs.Edit.{Field, Comparator, Log, Prev, Next, Last, Pointer, Deleted, Added, KeyText, FieldText, AreFields, comparator_of, pointer_of, deleted_of, added_of, all_values, edit_of, IsEdit}
 use Rattle.lsm_manifest.specs.EditFit.{FitsKey, FitsPointer, FitsDeleted, FitsAdded, IsFit}
 
 fits_key : (key own : List ℕ) → KeyText key own → FitsKey key
@@ -24,10 +25,10 @@ or_fits : {A : Type 0} (P : A → Type 0) (a b : Option A) → IfSome a P → If
 or_fits P None b h k = k
 or_fits P (Some x) b h k = h
 
-last_fits : {A : Type 0} (pick : Field → Option A) (P : A → Type 0) → ((f : Field) (own : List ℕ) → FieldText f own → IfSome (pick f) P) → (fs : List Field) (text : List ℕ) → AreFields fs text → IfSome (last_value pick fs) P
-unfolding last_value
+last_fits : {A : Type 0} (pick : Field → Option A) (P : A → Type 0) → ((f : Field) (own : List ℕ) → FieldText f own → IfSome (pick f) P) → (fs : List Field) (text : List ℕ) → AreFields fs text → IfSome (last_by pick fs) P
+unfolding last_by
 last_fits pick P one [] text is = tt
-last_fits pick P one (f ∷ fs) text (own, later, is, first, more) = or_fits P (last_value pick fs) (pick f) (last_fits pick P one fs later more) (one f own first)
+last_fits pick P one (f ∷ fs) text (own, later, is, first, more) = or_fits P (last_by pick fs) (pick f) (last_fits pick P one fs later more) (one f own first)
 
 comparator_fits : (f : Field) (own : List ℕ) → FieldText f own → IfSome (comparator_of f) (λ name. length name < 2 ^ 32)
 comparator_fits (Comparator x) own t = omega (arith, t.body_is.size_is.fits)

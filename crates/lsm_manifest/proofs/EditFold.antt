@@ -4,28 +4,17 @@ use Rattle.std.specs.Option.{option_or}
 use Rattle.std.specs.List.{cons_option}
 use Rattle.std.proofs.lemmas.List.{append-nil}
 use Rattle.std.proofs.lemmas.List.Elements.{filter_map-append}
-use Rattle.lsm_manifest.specs.Edit.{Field, Comparator, Log, Prev, Next, Last, Pointer, Deleted, Added, comparator_of, log_of, prev_of, next_of, last_of, pointer_of, deleted_of, added_of, last_value, all_values, edit_of}
+use Rattle.lsm_manifest.specs.Last.{last_by}
+use Rattle.lsm_manifest.proofs.LastLaws.{last_by-push}
+use Rattle.lsm_manifest.specs.Edit.{Field, Comparator, Log, Prev, Next, Last, Pointer, Deleted, Added, comparator_of, log_of, prev_of, next_of, last_of, pointer_of, deleted_of, added_of, all_values, edit_of}
 use Rattle.lsm_manifest.specs.declared.edit.Edit.{Edit}
 use Rattle.lsm_manifest.specs.DraftView.{with_field}
 
-option_or-assoc : {A : Type 0} (a b c : Option A) → option_or (option_or a b) c ≡ option_or a (option_or b c)
-option_or-assoc None b c = refl
-option_or-assoc (Some x) b c = refl
+value_stays : {A : Type 0} (pick : Field → Option A) (fs : List Field) (f : Field) → pick f ≡ None → last_by pick (fs ++ f ∷ []) ≡ last_by pick fs
+value_stays {A} pick fs f e = last_by-push pick fs f ∙ ap (λ (x : Option A). option_or x (last_by pick fs)) e
 
-option_or-none : {A : Type 0} (a : Option A) → option_or a None ≡ a
-option_or-none None = refl
-option_or-none (Some x) = refl
-
-last_value-push : {A : Type 0} (pick : Field → Option A) (fs : List Field) (f : Field) → last_value pick (fs ++ f ∷ []) ≡ option_or (pick f) (last_value pick fs)
-unfolding last_value
-last_value-push {A} pick [] f = sym (option_or-none (pick f))
-last_value-push {A} pick (g ∷ gs) f = ap (λ (x : Option A). option_or x (pick g)) (last_value-push pick gs f) ∙ option_or-assoc (pick f) (last_value pick gs) (pick g)
-
-value_stays : {A : Type 0} (pick : Field → Option A) (fs : List Field) (f : Field) → pick f ≡ None → last_value pick (fs ++ f ∷ []) ≡ last_value pick fs
-value_stays {A} pick fs f e = last_value-push pick fs f ∙ ap (λ (x : Option A). option_or x (last_value pick fs)) e
-
-value_set : {A : Type 0} (pick : Field → Option A) (fs : List Field) (f : Field) (x : A) → pick f ≡ Some x → last_value pick (fs ++ f ∷ []) ≡ Some x
-value_set {A} pick fs f x e = last_value-push pick fs f ∙ ap (λ (y : Option A). option_or y (last_value pick fs)) e
+value_set : {A : Type 0} (pick : Field → Option A) (fs : List Field) (f : Field) (x : A) → pick f ≡ Some x → last_by pick (fs ++ f ∷ []) ≡ Some x
+value_set {A} pick fs f x e = last_by-push pick fs f ∙ ap (λ (y : Option A). option_or y (last_by pick fs)) e
 
 all_values-push : {A : Type 0} (pick : Field → Option A) (fs : List Field) (f : Field) → all_values pick (fs ++ f ∷ []) ≡ all_values pick fs ++ cons_option (pick f) []
 unfolding all_values

@@ -8,7 +8,8 @@ use Rattle.lsm_manifest.specs.declared.parts.CompactPointer.{CompactPointer}
 use Rattle.lsm_manifest.specs.declared.parts.DeletedFile.{DeletedFile}
 use Rattle.lsm_manifest.specs.declared.parts.AddedFile.{AddedFile}
 use Rattle.lsm_manifest.specs.declared.edit.Edit.{Edit}
-use Rattle.lsm_manifest.specs.Edit.{Field, Comparator, Log, Prev, Next, Last, Pointer, Deleted, Added, Both, NumberText, LevelText, BytesText, KeyText, tag_of, BodyText, FieldText, AreFields, last_value, all_values, edit_of, IsEdit}
+use Rattle.lsm_manifest.specs.Last.{last_by}
+use Rattle.lsm_manifest.specs.Edit.{Field, Comparator, Log, Prev, Next, Last, Pointer, Deleted, Added, Both, NumberText, LevelText, BytesText, KeyText, tag_of, BodyText, FieldText, AreFields, all_values, edit_of, IsEdit}
 use Rattle.lsm_manifest.specs.EditFit.{FitsKey}
 use Rattle.lsm_manifest.specs.EditWriting.{bytes_text, body_text, field_text, fields_text, FitsField, FitNumbers, optional, pointer_field, deleted_field, added_field, fields_in, edit_text, AddsFields}
 use Rattle.lsm_manifest.specs.DraftView.{with_field}
@@ -178,7 +179,7 @@ with_last c a p n None = refl
 with_last c a p n (Some x) = refl
 
 edit_of-none : edit_of [] ≡ head None None None None None
-unfolding last_value all_values
+unfolding last_by all_values
 edit_of-none = refl
 
 -- one more part of an edit's fields

@@ -1,8 +1,8 @@
 -- What a version edit is: fields, each a tag and its parts, in any order (LevelDB's `db/version_edit.cc`), and what they come to.
 use Rattle.std.specs.Prelude.{Option, Some, None, ◌≡◌, ℕ, ◌-◌, ◌≤◌, ◌&&◌, Bool, true, nat_le, List, [], ◌∷◌, ◌++◌, length, get_or}
 use Rattle.std.specs.List.{filter_map}
-use Rattle.std.specs.Option.{option_or}
 use Rattle.lsm_codec.specs.Varint.{IsVarint32, IsVarint64}
+use Rattle.lsm_manifest.specs.Last.{last_by}
 use Rattle.lsm_manifest.specs.declared.file_meta.FileMeta.{FileMeta}
 use Rattle.lsm_manifest.specs.declared.parts.CompactPointer.{CompactPointer}
 use Rattle.lsm_manifest.specs.declared.parts.DeletedFile.{DeletedFile}
@@ -116,21 +116,17 @@ abbrev pub added_of : Field → Option AddedFile
 added_of (Added x) = Some (record { level = x.0; file = record { number = x.1.0; size = x.1.1.0; smallest = x.1.1.1.0; largest = x.1.1.1.1 } })
 added_of _ = None
 
--- the last value of a kind, and all of a kind in order
-unfoldable pub last_value : {A : Type 0} → (Field → Option A) → List Field → Option A
-last_value pick [] = None
-last_value pick (f ∷ fs) = option_or (last_value pick fs) (pick f)
-
+-- all values of a kind, in order
 unfoldable pub all_values : {A : Type 0} → (Field → Option A) → List Field → List A
 all_values pick fs = filter_map pick fs
 
 abbrev pub edit_of : List Field → Edit
 edit_of fs = record {
-  comparator = last_value comparator_of fs;
-  log = last_value log_of fs;
-  prev_log = last_value prev_of fs;
-  next = last_value next_of fs;
-  last = last_value last_of fs;
+  comparator = last_by comparator_of fs;
+  log = last_by log_of fs;
+  prev_log = last_by prev_of fs;
+  next = last_by next_of fs;
+  last = last_by last_of fs;
   pointers = all_values pointer_of fs;
   deleted = all_values deleted_of fs;
   added = all_values added_of fs;

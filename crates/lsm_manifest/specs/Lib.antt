@@ -4,6 +4,7 @@ pub mod LogReading
 pub mod LogView
 pub mod LogWriting
 pub mod EditFault
+pub mod Last
 pub mod Edit
 pub mod EditReading
 pub mod EditView
@@ -14,3 +15,7 @@ pub mod LentView
 pub mod ReplayFault
 pub mod Replay
 pub mod Standing
+pub mod FileOrder
+pub mod Shape
+pub mod Numbers
+pub mod Level

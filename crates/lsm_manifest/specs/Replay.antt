@@ -1,8 +1,8 @@
 -- What a row of edits comes to (LevelDB's `doc/impl.md`, `db/version_set.cc`): the files that some edit adds and no later edit
 -- deletes, with the last value of each number field and pointer.
 use Rattle.std.specs.Prelude.{◌≡◌, ℕ, ◌≤◌, ◌⊎◌, ◌↔◌, List, [], ◌∷◌, ◌++◌, Option, Some, None, IsSome, IsSomeAnd, codes, get_or, unwrap_or, ◌==◌, if◌then◌else◌}
-use Rattle.std.specs.Option.{option_or}
 use Rattle.lsm_codec.specs.Lists.{Has}
+use Rattle.lsm_manifest.specs.Last.{last_by}
 use Rattle.lsm_manifest.specs.declared.file_meta.FileMeta.{FileMeta}
 use Rattle.lsm_manifest.specs.declared.parts.CompactPointer.{CompactPointer}
 use Rattle.lsm_manifest.specs.declared.parts.DeletedFile.{DeletedFile}
@@ -94,27 +94,21 @@ pub record IsFirstFault (edits : List Edit) (fault : ReplayFault) : Type 0 where
 
 -- ---- last values
 
--- the last value of a field in a row of edits
-unfoldable pub last_in : {A : Type 0} → (Edit → Option A) → List Edit → Option A
-last_in pick [] = None
-last_in pick (e ∷ es) = option_or (last_in pick es) (pick e)
-
 -- the last pointer of a level in a list
 unfoldable pub pointer_in : ℕ → List CompactPointer → Option (List ℕ)
-pointer_in level [] = None
-pointer_in level (p ∷ ps) = option_or (pointer_in level ps) (if p.level == level then Some p.key else None)
+pointer_in level ps = last_by (λ p. if p.level == level then Some p.key else None) ps
 
 abbrev pub last_log : List Edit → Option ℕ
-last_log es = last_in (λ e. e.log) es
+last_log es = last_by (λ e. e.log) es
 
 abbrev pub last_prev_log : List Edit → Option ℕ
-last_prev_log es = last_in (λ e. e.prev_log) es
+last_prev_log es = last_by (λ e. e.prev_log) es
 
 abbrev pub last_next : List Edit → Option ℕ
-last_next es = last_in (λ e. e.next) es
+last_next es = last_by (λ e. e.next) es
 
 abbrev pub last_sequence : List Edit → Option ℕ
-last_sequence es = last_in (λ e. e.last) es
+last_sequence es = last_by (λ e. e.last) es
 
 abbrev pub last_pointer : ℕ → List Edit → Option (List ℕ)
-last_pointer level es = last_in (λ e. pointer_in level e.pointers) es
+last_pointer level es = last_by (λ e. pointer_in level e.pointers) es

@@ -26,7 +26,7 @@ ghost use Rattle.lsm_manifest.specs.EditView.{field_of};
 ghost use Rattle.lsm_manifest.specs.DraftView.{draft_of, with_field};
 
 impl Draft {
-    #[tactic(auto, unfolding(crate::specs::Edit::last_value, crate::specs::Edit::all_values))]
+    #[tactic(auto, unfolding(crate::specs::Last::last_by, crate::specs::Edit::all_values))]
     pub(crate) fn new(alloc: Global) -> Draft
         ensures { draft_of result ≡ edit_of [] }
     {

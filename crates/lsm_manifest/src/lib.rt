@@ -19,6 +19,8 @@ mod edit;
 mod edit_writer;
 mod replay_fault;
 mod standing;
+mod numbers;
+mod shape;
 
 pub use edit::{Edit, one_edit};
 pub use edit_fault::EditFault;
@@ -27,4 +29,5 @@ pub use log::{Log, one_log, read_log};
 pub use log_fault::LogFault;
 pub use parts::{AddedFile, CompactPointer, DeletedFile};
 pub use replay_fault::ReplayFault;
+pub use shape::Shape;
 pub use writer::{LogWriter, prefixes};

@@ -1,13 +1,15 @@
 //! The files that stand after some edits, by number.
 
-ghost use Rattle.std.specs.Prelude.{◌≡◌, ◌==◌, ◌⊎◌, ◌↔◌, ◌++◌, [], ◌∷◌, ℕ, List, false, IsTrue, if◌then◌else◌, Some, None, IfSome, IsSome, OnOk, IfErr};
+ghost use Rattle.std.specs.Prelude.{◌≡◌, ◌==◌, ◌⊎◌, ◌↔◌, ◌++◌, [], ◌∷◌, ℕ, List, false, IsTrue, if◌then◌else◌, Some, None, IfSome, IsSome, OnOk, IfOk, IfErr};
 ghost use Rattle.lsm_manifest.specs.EditFit.{Change};
 ghost use Rattle.lsm_manifest.specs.Replay.{Deletion, Stands, StandsIn, AreNew, IsDouble, NamesOther, IsInnocent, HasFault};
 
 use crate::edit::Edit;
+use crate::file_meta::FileMeta;
 use crate::parts::{AddedFile, DeletedFile};
 use crate::replay_fault::ReplayFault;
-use std::alloc::Global;
+use lsm_codec::List;
+use std::alloc::{AllocError, Global};
 use std::collections::BTreeMap;
 
 /// The files that stand, each under its number: no two have one.
@@ -17,7 +19,11 @@ pub(crate) struct Standing<'a> {
 }
 
 impl<'a> Standing<'a> {
+    ghost use Rattle.std.specs.Ordering.{nat_cmp};
+    ghost use Rattle.std.specs.BTreeMap.{IsOrdered};
     ghost use Rattle.lsm_manifest.specs.Standing.{file_at, Tracks};
+    ghost use Rattle.lsm_manifest.specs.Level.{level_of, all_of};
+    ghost use Rattle.lsm_manifest.specs.Shape.{HoldsLevel};
 
     pub(crate) fn new(alloc: Global) -> Standing<'a>
         ensures { (n : ℕ) → file_at result n ≡ None }
@@ -86,6 +92,30 @@ impl<'a> Standing<'a> {
         }
         self.delete_all(edit.deleted.as_slice());
         self.add_all(edit.added.as_slice())
+    }
+
+    /// Copies of the files that stand at a level, in the order of the level.
+    pub(crate) fn level(&self, alloc: Global, level: u8) -> Result<List<FileMeta>, AllocError>
+        ensures { IfOk result (λ files. (es : List Change) → Tracks (Stands es) (file_at self.now) → HoldsLevel es level files) }
+    {
+        let mut files = self.copies(alloc, level)?;
+        files.sort_unstable_by(|a, b| a.compare(b));
+        Ok(List::of(files))
+    }
+
+    /// Copies of the files that stand at a level, by number.
+    fn copies(&self, alloc: Global, level: u8) -> Result<Vec<FileMeta>, AllocError>
+        ensures ordered { IsOrdered nat_cmp self.now.files }
+        ensures files { IfOk result (λ files. files.items ≡ level_of level (all_of self.now)) }
+    {
+        let mut files = Vec::new(alloc);
+        for added in self.files.values() {
+            if added.level != level {
+                continue;
+            }
+            files.push(added.file.try_copy(alloc)?)?;
+        }
+        Ok(files)
     }
 }
 
