@@ -26,7 +26,7 @@ use Rattle.lsm_manifest.specs.declared.standing.Standing.{Standing}
 use Rattle.lsm_manifest.specs.FileOrder.{user_part, packed_part, file_cmp}
 use Rattle.lsm_manifest.specs.Level.{on_level, level_of, all_of, same_number, HaveOwnNumbers}
 use Rattle.lsm_manifest.specs.Replay.{Stands}
-use Rattle.lsm_manifest.specs.Shape.{HoldsLevel}
+use Rattle.lsm_manifest.specs.HeldLevel.{HoldsLevel}
 use Rattle.lsm_manifest.specs.Standing.{file_at, Tracks}
 
 abbrev Entries : Type 0

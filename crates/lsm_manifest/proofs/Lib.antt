@@ -11,3 +11,4 @@ pub mod EditLoop
 pub mod EditWriterLaws
 pub mod StandingLaws
 pub mod LevelLaws
+pub mod ReplayLaws

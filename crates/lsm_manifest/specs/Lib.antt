@@ -16,6 +16,7 @@ pub mod ReplayFault
 pub mod Replay
 pub mod Standing
 pub mod FileOrder
+pub mod HeldLevel
 pub mod Shape
 pub mod Numbers
 pub mod Level

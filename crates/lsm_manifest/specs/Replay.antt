@@ -92,6 +92,15 @@ pub record IsFirstFault (edits : List Edit) (fault : ReplayFault) : Type 0 where
   pub innocent : AreInnocent earlier
   pub is : HasFault earlier edit fault
 
+-- the fault of a row of edits, if memory did not run out
+abbrev pub IsFault : List Edit → ReplayFault → Type 0
+IsFault edits OutOfMemory = Unit {0}
+IsFault edits NoNextFile = ⊥
+IsFault edits NoLogNumber = ⊥
+IsFault edits NoLastSequence = ⊥
+IsFault edits OtherComparator = IsFirstFault edits OtherComparator
+IsFault edits (DoubleFile number) = IsFirstFault edits (DoubleFile number)
+
 -- ---- last values
 
 -- the last pointer of a level in a list

@@ -1,19 +1,11 @@
 -- What a replay gives, and what it refuses.
-use Rattle.std.specs.Prelude.{◌≡◌, ℕ, ◌≤◌, ◌↔◌, List, [], Option, Some, None, IsSome, get_or, unwrap_or}
-use Rattle.std.specs.List.Sorted.{IsStrictlySortedBy}
-use Rattle.lsm_codec.specs.Lists.{Has}
-use Rattle.lsm_manifest.specs.declared.file_meta.FileMeta.{FileMeta}
+use Rattle.std.specs.Prelude.{◌≡◌, ℕ, ◌≤◌, List, [], Option, Some, None, IsSome, get_or, unwrap_or}
 use Rattle.lsm_manifest.specs.declared.edit.Edit.{Edit}
 use Rattle.lsm_manifest.specs.declared.shape.Shape.{Shape}
 use Rattle.lsm_manifest.specs.declared.replay_fault.ReplayFault.{ReplayFault}
 use Rattle.lsm_manifest.specs.declared.replay_fault.ReplayFault.TheVariants.{OutOfMemory, NoNextFile, NoLogNumber, NoLastSequence, OtherComparator, DoubleFile}
-use Rattle.lsm_manifest.specs.FileOrder.{file_cmp}
-use Rattle.lsm_manifest.specs.Replay.{Stands, AreInnocent, IsFirstFault, last_log, last_prev_log, last_next, last_sequence, last_pointer}
-
--- The list has just the files that stand at this level, each once, by smallest internal key, then number.
-pub record HoldsLevel (edits : List Edit) (level : ℕ) (held : List FileMeta) : Type 0 where
-  pub files : (file : FileMeta) → Has held file ↔ Stands edits (record { level = level; file = file })
-  pub ordered : IsStrictlySortedBy file_cmp held
+use Rattle.lsm_manifest.specs.HeldLevel.{HoldsLevel}
+use Rattle.lsm_manifest.specs.Replay.{AreInnocent, IsFirstFault, last_log, last_prev_log, last_next, last_sequence, last_pointer}
 
 -- The shape is what the edits come to, and none of them has a fault.
 pub record IsReplayed (edits : List Edit) (shape : Shape) : Type 0 where

@@ -29,5 +29,5 @@ pub use log::{Log, one_log, read_log};
 pub use log_fault::LogFault;
 pub use parts::{AddedFile, CompactPointer, DeletedFile};
 pub use replay_fault::ReplayFault;
-pub use shape::Shape;
+pub use shape::{Shape, replay};
 pub use writer::{LogWriter, prefixes};

@@ -23,7 +23,7 @@ impl<'a> Standing<'a> {
     ghost use Rattle.std.specs.BTreeMap.{IsOrdered};
     ghost use Rattle.lsm_manifest.specs.Standing.{file_at, Tracks};
     ghost use Rattle.lsm_manifest.specs.Level.{level_of, all_of};
-    ghost use Rattle.lsm_manifest.specs.Shape.{HoldsLevel};
+    ghost use Rattle.lsm_manifest.specs.HeldLevel.{HoldsLevel};
 
     pub(crate) fn new(alloc: Global) -> Standing<'a>
         ensures { (n : ℕ) → file_at result n ≡ None }
