@@ -224,7 +224,7 @@ level_held es s level xs ys t up is moved sorted =
     record {
       files = λ file. (
         λ h. level_stands es s t up level file (subst (λ (zs : List FileMeta). Has zs file) is (contains_has xs file (Contains-permutation ys xs file (IsPermutation-sym xs ys moved) (has_contains ys file h)))),
-        λ st. contains_has ys file (Contains-permutation xs ys file moved (has_contains xs file (subst (λ (zs : List FileMeta). Has zs file) (sym is) (stands_level es s t up level file st))))
+        λ st. contains_has ys file (Contains-permutation xs ys file moved (has_contains xs file (subst (λ (zs : List FileMeta). Has zs file) (sym is) (stands_level es s t up level file st)))),
       );
       ordered = strict ys sorted (IsDistinct-IsPermutation same_number flips xs ys moved own);
     }

@@ -98,3 +98,6 @@ fn read(alloc: Global, text: &[u8]) -> Result<Edit, EditFault>
 pub fn one_edit()
     ensures { (bytes : List ℕ) (e f : Change) → IsEdit bytes e → IsEdit bytes f → e ≡ f }
 {}
+
+#[cfg(test)]
+mod tests;

@@ -4,23 +4,23 @@
 //! them spells the first of the edits, and edits give one shape.
 #![tactic(auto)]
 
+mod draft;
+mod edit;
+mod edit_fault;
+mod edit_writer;
+mod field;
+mod file_meta;
 mod found;
 mod fragment;
+mod lent;
 mod log;
 mod log_fault;
-mod writer;
-mod edit_fault;
-mod file_meta;
-mod parts;
-mod field;
-mod draft;
-mod lent;
-mod edit;
-mod edit_writer;
-mod replay_fault;
-mod standing;
 mod numbers;
+mod parts;
+mod replay_fault;
 mod shape;
+mod standing;
+mod writer;
 
 pub use edit::{Edit, one_edit};
 pub use edit_fault::EditFault;

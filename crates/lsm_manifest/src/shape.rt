@@ -102,3 +102,6 @@ fn pointers(alloc: Global, edits: &[Edit]) -> Result<[Option<Bytes>; 7], AllocEr
         pointer_0, pointer_1, pointer_2, pointer_3, pointer_4, pointer_5, pointer_6,
     ])
 }
+
+#[cfg(test)]
+mod tests;

@@ -126,3 +126,6 @@ impl LogWriter {
 pub fn prefixes()
     ensures { (bytes : List ℕ) (records : List (List ℕ)) → AreRecords 0 bytes records → (n : ℕ) → SpellsPrefix (take n bytes) records }
 {}
+
+#[cfg(test)]
+mod tests;

@@ -10,8 +10,8 @@ returns-clause-ok c =
     let first = rw c.as_slice.ensures at c.delete_all.ensures in
     let then = rw c.as_slice-2.ensures at c.add_all.ensures.ok in
     ok_then c.add_all.result then (λ p. λ es t.
-      let q = p es c.args.edit.now.deleted (first es t) in
-      (tracks_edit es c.args.edit.now (file_at c.add_all.new.self) q.0, record { comparator = same; added = q.1 }))
+    let q = p es c.args.edit.now.deleted (first es t) in
+    (tracks_edit es c.args.edit.now (file_at c.add_all.new.self) q.0, record { comparator = same; added = q.1 }))
 
 pub returns-clause-err : goal.returns-clause-err
 returns-clause-err c =
