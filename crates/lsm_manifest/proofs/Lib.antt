@@ -12,3 +12,4 @@ pub mod EditWriterLaws
 pub mod StandingLaws
 pub mod LevelLaws
 pub mod ReplayLaws
+pub mod FileOrderLaws

@@ -6,7 +6,6 @@ use Rattle.lsm_manifest.specs.declared.parts.AddedFile.{AddedFile}
 use Rattle.lsm_manifest.specs.declared.replay_fault.ReplayFault.{ReplayFault}
 use Rattle.lsm_manifest.specs.declared.replay_fault.ReplayFault.TheVariants.{OutOfMemory, NoNextFile, NoLogNumber, NoLastSequence, OtherComparator, DoubleFile}
 use Rattle.lsm_manifest.specs.Replay.{Stands, IsInnocent, HasFault, AreInnocent, IsFirstFault, IsFault}
-use Rattle.lsm_manifest.specs.Shape.{IsRefused}
 use Rattle.lsm_manifest.specs.Standing.{Tracks}
 use Rattle.lsm_manifest.proofs.StandingLaws.{snoc_parts}
 
@@ -51,23 +50,3 @@ fails_at xs i x NoLogNumber lt at all is = is
 fails_at xs i x NoLastSequence lt at all is = is
 fails_at xs i x OtherComparator lt at all is = first_fault xs i x OtherComparator lt at all is
 fails_at xs i x (DoubleFile n) lt at all is = first_fault xs i x (DoubleFile n) lt at all is
-
-pub refused : (xs : List Edit) (f : ReplayFault) → IsFault xs f → IsRefused xs f
-refused xs OutOfMemory is = tt
-refused xs NoNextFile is = absurd is
-refused xs NoLogNumber is = absurd is
-refused xs NoLastSequence is = absurd is
-refused xs OtherComparator is = is
-refused xs (DoubleFile n) is = is
-
--- what holds at each of seven places
-pub at_each : {X : Type 0} (P : ℕ → X → Type 0) (d a0 a1 a2 a3 a4 a5 a6 : X) → P 0 a0 → P 1 a1 → P 2 a2 → P 3 a3 → P 4 a4 → P 5 a5 → P 6 a6
-    → (n : ℕ) → n ≤ 6 → P n (get_or (a0 ∷ a1 ∷ a2 ∷ a3 ∷ a4 ∷ a5 ∷ a6 ∷ []) n d)
-at_each P d a0 a1 a2 a3 a4 a5 a6 p0 p1 p2 p3 p4 p5 p6 zero le = p0
-at_each P d a0 a1 a2 a3 a4 a5 a6 p0 p1 p2 p3 p4 p5 p6 (suc zero) le = p1
-at_each P d a0 a1 a2 a3 a4 a5 a6 p0 p1 p2 p3 p4 p5 p6 (suc (suc zero)) le = p2
-at_each P d a0 a1 a2 a3 a4 a5 a6 p0 p1 p2 p3 p4 p5 p6 (suc (suc (suc zero))) le = p3
-at_each P d a0 a1 a2 a3 a4 a5 a6 p0 p1 p2 p3 p4 p5 p6 (suc (suc (suc (suc zero)))) le = p4
-at_each P d a0 a1 a2 a3 a4 a5 a6 p0 p1 p2 p3 p4 p5 p6 (suc (suc (suc (suc (suc zero))))) le = p5
-at_each P d a0 a1 a2 a3 a4 a5 a6 p0 p1 p2 p3 p4 p5 p6 (suc (suc (suc (suc (suc (suc zero)))))) le = p6
-at_each P d a0 a1 a2 a3 a4 a5 a6 p0 p1 p2 p3 p4 p5 p6 (suc (suc (suc (suc (suc (suc (suc n))))))) le = absurd (omega arith)

@@ -18,6 +18,10 @@ tracks_same P Q f to from t = record { found = λ n a e. let h = t.found n a e i
 some_is : (a b : AddedFile) (o : Option AddedFile) → o ≡ Some a → o ≡ Some b → a ≡ b
 some_is a b o x y = let e : Some a ≡ Some b = sym x ∙ y in cc
 
+-- of one number there is one file
+pub tracks_one : (P : AddedFile → Type 0) (f : ℕ → Option AddedFile) → Tracks P f → (a b : AddedFile) → P a → P b → a.file.number ≡ b.file.number → a ≡ b
+tracks_one P f t a b p q e = some_is a b (f a.file.number) (t.all a p) (ap f e ∙ t.all b q)
+
 none_some : (a : AddedFile) (o : Option AddedFile) → o ≡ None → o ≡ Some a → ⊥
 none_some a o x y = cc
 

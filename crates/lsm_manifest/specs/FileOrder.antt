@@ -18,3 +18,7 @@ abbrev pub file_cmp : FileMeta → FileMeta → Ordering
 file_cmp f g =
     ordering_then (slice_cmp nat_cmp (user_part f.smallest) (user_part g.smallest))
     (ordering_then (nat_cmp (packed_part g.smallest) (packed_part f.smallest)) (nat_cmp f.number g.number))
+
+-- a table file, under a name that no type of src/ has
+abbrev pub TableFile : Type 0
+TableFile = FileMeta

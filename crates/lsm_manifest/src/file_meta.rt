@@ -46,6 +46,10 @@ impl FileMeta {
     }
 }
 
+ghost use Rattle.std.specs.Ordering.{nat_cmp};
+ghost use Rattle.lsm_codec.specs.Keys.{InternalKey, IsKey, key_cmp, then_by};
+ghost use Rattle.lsm_manifest.specs.FileOrder.{file_cmp, TableFile};
+
 /// The parts of an internal key: the user key, and the number of its last eight bytes.
 #[tactic(auto, unfolding(crate::specs::FileOrder::user_part, crate::specs::FileOrder::packed_part))]
 fn parts(key: &[u8]) -> (&[u8], u64)
@@ -61,3 +65,8 @@ fn parts(key: &[u8]) -> (&[u8], u64)
     ]);
     (user, packed)
 }
+
+/// A law: over internal keys `compare` is the order of internal keys, then of numbers.
+pub fn file_order()
+    ensures { (f g : TableFile) (k l : InternalKey) → IsKey f.smallest k → IsKey g.smallest l → file_cmp f g ≡ then_by (key_cmp k l) (nat_cmp f.number g.number) }
+{}

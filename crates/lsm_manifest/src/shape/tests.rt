@@ -2,7 +2,7 @@ use super::*;
 use crate::log::read_log;
 use crate::parts::{AddedFile, CompactPointer, DeletedFile};
 use crate::writer::LogWriter;
-use lsm_codec::{Kind, push_key};
+use lsm_codec::{Kind, push_key, put_varint64};
 use std::test::Fail;
 
 /// The edit of a new database.
@@ -19,18 +19,14 @@ const MOVE: [u8; 48] = [
     0x00, 0x00, 0x00, 0x00, 0x00, 0x00, 0x09, 0x6b, 0x01, 0x01, 0x00, 0x00, 0x00, 0x00, 0x00, 0x00,
 ];
 
-fn key(alloc: Global, user: u8, seq: u64) -> Result<Bytes, AllocError>
-    requires { seq < 2 ^ 56 }
-{
+fn key(alloc: Global, user: u8, seq: u16) -> Result<Bytes, AllocError> {
     let mut bytes: Vec<u8> = Vec::new(alloc);
-    push_key(&mut bytes, &[user], seq, Kind::Value)?;
+    push_key(&mut bytes, &[user], seq as u64, Kind::Value)?;
     Ok(Bytes::of(bytes))
 }
 
 /// An edit that adds a file of one key, and has no other field.
-fn adding(alloc: Global, level: u8, number: u64, user: u8, seq: u64) -> Result<Edit, AllocError>
-    requires { seq < 2 ^ 56 }
-{
+fn adding(alloc: Global, level: u8, number: u64, user: u8, seq: u16) -> Result<Edit, AllocError> {
     let mut added: Vec<AddedFile> = Vec::new(alloc);
     let smallest = key(alloc, user, seq)?;
     let largest = key(alloc, user, seq)?;
@@ -53,6 +49,18 @@ fn adding(alloc: Global, level: u8, number: u64, user: u8, seq: u64) -> Result<E
         deleted: List::of(Vec::new(alloc)),
         added: List::of(added),
     })
+}
+
+/// The bytes of an edit that adds a file of one key at level 0 and deletes the file of the number above.
+fn put_edit(out: &mut Vec<u8>, number: u16, user: u8, seq: u16) -> Result<(), AllocError> {
+    out.extend_from_slice([6, 0].as_slice())?;
+    put_varint64(out, number as u64 + 1)?;
+    out.extend_from_slice([7, 0].as_slice())?;
+    put_varint64(out, number as u64)?;
+    out.extend_from_slice([114, 9].as_slice())?;
+    push_key(out, &[user], seq as u64, Kind::Value)?;
+    out.push(9)?;
+    push_key(out, &[user], seq as u64, Kind::Value)
 }
 
 /// An edit with these number fields alone.
@@ -225,19 +233,10 @@ fn replays_four_hundred_edits(rt: HostRuntime) -> Result<(), Fail> {
     let mut log: Vec<u8> = Vec::new(rt.alloc());
     let mut writer = LogWriter::at(0);
     writer.append(&mut log, FIRST_EDIT.as_slice())?;
-    for i in 0..400_u64 {
-        // Each adds a file of the number 400 - i at level 0 and deletes the one before it.
-        let number = 400_u64.saturating_sub(i);
-        let mut edit = adding(rt.alloc(), 0, number, (i % 200) as u8, i)?;
-        let mut deleted: Vec<DeletedFile> = Vec::new(rt.alloc());
-        deleted.push(DeletedFile {
-            level: 0,
-            number: number + 1,
-        })?;
-        edit.deleted = List::of(deleted);
-        let mut bytes: Vec<u8> = Vec::new(rt.alloc());
-        edit.encode(&mut bytes)?;
-        writer.append(&mut log, &bytes)?;
+    for i in 0..400_u16 {
+        let mut edit: Vec<u8> = Vec::new(rt.alloc());
+        put_edit(&mut edit, 400 - i, (i % 200) as u8, i)?;
+        writer.append(&mut log, &edit)?;
     }
     let Ok(log) = read_log(rt.alloc(), &log) else {
         panic!(&rt; "no log");

@@ -1,3 +1,5 @@
+ghost use Rattle.std.specs.Prelude.{◌<◌, length};
+
 use super::*;
 use crate::log::read_log;
 use crate::log_fault::LogFault;
@@ -75,9 +77,9 @@ fn fault(alloc: Global, bytes: &[u8]) -> Option<LogFault> {
 fn writes_the_first_manifest(rt: HostRuntime) -> Result<(), Fail> {
     let mut out: Vec<u8> = Vec::new(rt.alloc());
     LogWriter::at(0).append(&mut out, FIRST_EDIT.as_slice())?;
-    assert_eq!(rt; out.len(), 41);
-    assert_eq!(rt; out.get(..7), Some(FIRST_HEADER.as_slice()));
-    assert_eq!(rt; out.get(7..), Some(FIRST_EDIT.as_slice()));
+    let mut want: Vec<u8> = Vec::from_slice(rt.alloc(), FIRST_HEADER.as_slice())?;
+    want.extend_from_slice(FIRST_EDIT.as_slice())?;
+    assert_eq!(rt; out.as_slice(), want.as_slice());
     Ok(())
 }
 

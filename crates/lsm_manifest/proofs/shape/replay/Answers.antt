@@ -1,5 +1,7 @@
 use Rattle.std.proofs.Common.{ℕ, Option, sym, ap, ◌∙◌}
 use Rattle.std.specs.Option.{unwrap_or}
+use Rattle.lsm_manifest.specs.Replay.{Stands}
+use Rattle.lsm_manifest.proofs.StandingLaws.{tracks_one}
 use Rattle.lsm_manifest.proofs.shape.replay.Goals as goal
 
 pub returns-clause-found : goal.returns-clause-found
@@ -8,6 +10,7 @@ returns-clause-found c =
     let numbers = c.of-numbers.ensures in
     record {
       innocent = stood.1;
+      numbers = tracks_one (Stands c.args.edits.now) _ stood.0;
       levels = λ level le. c.in_ok-levels.ensures c.args.edits.now stood.0 level le;
       pointers = c.in_ok-pointers.ensures;
       log = sym numbers.log ∙ c.in-Some-log.is;
