@@ -1,0 +1,4 @@
+pub mod Fault
+pub mod Block
+pub mod Reading
+pub mod Gives

@@ -1,0 +1,6 @@
+//! Blocks.
+#![tactic(auto)]
+
+mod fault;
+
+pub use fault::BlockFault;
