@@ -1,0 +1,5 @@
+pub mod ByteLists
+pub mod ReadingLaws
+pub mod HandleLaws
+pub mod StoredBlockLaws
+pub mod FooterLaws

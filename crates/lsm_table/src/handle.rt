@@ -15,13 +15,12 @@ pub struct Handle {
 
 impl Handle {
     ghost use Rattle.std.specs.Prelude.{◌≡◌, ◌++◌, OnOk, OnErr};
-    ghost use Rattle.lsm_table.specs.Handle.{IsHandle, handle_text, handle_at};
+    ghost use Rattle.lsm_table.specs.Handle.{handle_text, handle_at};
     ghost use Rattle.lsm_table.specs.Reading.{Gives};
 
     /// Appends the shortest spelling. An `Err` leaves the contents as they were.
     pub(crate) fn put(&self, out: &mut Vec<u8>) -> Result<(), AllocError>
         ensures ok { OnOk result (out.new.items ≡ out.old.items ++ handle_text self.now) }
-        ensures is { IsHandle (handle_text self.now) self.now }
         ensures err { OnErr result (out.new.items ≡ out.old.items) }
     {
         let len = out.len();

@@ -3,9 +3,11 @@
 //! Stands on `lsm_block` and `lsm_codec`. Its contract: a table is its list of entries.
 #![tactic(auto)]
 
-mod table_options;
-mod table_fault;
+mod footer;
 mod handle;
+mod stored_block;
+mod table_fault;
+mod table_options;
 
 pub use table_fault::TableFault;
 pub use table_options::TableOptions;
