@@ -1,0 +1,5 @@
+pub mod KeyLaws
+pub mod EntryLaws
+pub mod ScanLaws
+pub mod RestartLaws
+pub mod BlockLaws

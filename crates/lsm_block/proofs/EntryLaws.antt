@@ -1,0 +1,172 @@
+-- What is read as an entry is spelled so, and what is spelled so is read.
+use Rattle.std.proofs.Common.{◌≡◌, ℕ, ◌+◌, ◌-◌, ◌<◌, ◌≤◌, ◌^◌, Bool, true, false, cond, leb, List, [], ◌∷◌, ◌++◌, length, get_or, take, drop, Option, Some, None, Result, Ok, Err, refl, sym, ap, ◌∙◌, subst, append_assoc, arith, inl, inr}
+use Rattle.std.specs.Prelude.{◌&&◌, ◌⊎◌}
+use Rattle.std.proofs.lemmas.Bool.{cases_lt, le-leb, leb-true, and_parts}
+use Rattle.std.proofs.lemmas.List.{take_at, drop_at, take-append-drop, length-append, length-take, length-drop, length-take-le, get_or-drop, get_or-take, get_or_past, get_or_append_left, get_or-append_right}
+use Rattle.lsm_codec.specs.declared.fault.CodecFault.{CodecFault}
+use Rattle.lsm_codec.specs.Varint.{AreGroups, varint32_at}
+use Rattle.lsm_codec.specs.Entries.{Entry, internal_key}
+use Rattle.lsm_codec.proofs.Varints.{Front, varint_takes, varint_again, IsBytes}
+use Rattle.lsm_block.specs.Block.{EntryText, entry_of, key_text}
+use Rattle.lsm_block.specs.Reading.{Piece, ◌>>=◌, found_of, number_at, numbers_at, shared_key, is_internal, key_at, piece_of, entry_at, entry}
+use Rattle.lsm_block.proofs.KeyLaws.{key_again, internal_again, internal_takes}
+
+-- ---- what is spelled is read
+
+-- the piece of an entry that shares so many bytes of its key
+abbrev pub sharing : ℕ → Entry → Piece
+sharing shared e = record { shared = shared; key = key_text e; value = e.value }
+
+pub entry_again_is : (shared : ℕ) (e : Entry) → e.seq < 2 ^ 56 → entry (sharing shared e) ≡ e
+entry_again_is shared e h = let k = key_again (internal_key e) h in rw k refl
+
+piece_again : (before u v rest key : List ℕ) (shared : ℕ) → shared ≤ length before → take shared before ++ u ≡ key → is_internal key ≡ true
+    → piece_of before shared (length u) (length v) (u ++ (v ++ rest)) ≡ Some (record { shared = shared; key = key; value = v }, rest)
+unfolding piece_of
+piece_again before u v rest key shared within key_is internal =
+    let t1 : take (length u) (u ++ (v ++ rest)) ≡ u = take_at u (v ++ rest) (length u) refl in
+    let d1 : drop (length u) (u ++ (v ++ rest)) ≡ v ++ rest = drop_at u (v ++ rest) (length u) refl in
+    let t2 : take (length v) (v ++ rest) ≡ v = take_at v rest (length v) refl in
+    let d2 : drop (length v) (v ++ rest) ≡ rest = drop_at v rest (length v) refl in
+    let c1 : leb shared (length before) ≡ true = le-leb _ _ within in
+    let c2 : leb (length u + length v) (length (u ++ (v ++ rest))) ≡ true = le-leb _ _ (omega (arith, length-append u (v ++ rest), length-append v rest)) in
+    rw (c1, c2, t1, d1, t2, d2, key_is, internal) refl
+
+pub entry_again : (before own rest : List ℕ) (e : Entry) (shared : ℕ) → EntryText before e shared own → entry_at before (own ++ rest) ≡ Some (sharing shared e, rest)
+unfolding entry_at numbers_at
+entry_again before own rest e shared t =
+    let x3 = t.unshared ++ (e.value ++ rest) in
+    let x2 = t.length_text ++ x3 in
+    let x1 = t.unshared_text ++ x2 in
+    let regrouped : own ++ rest ≡ t.shared_text ++ x1 = ap (λ (x : List ℕ). x ++ rest) t.text_is ∙ simp append_assoc in
+    let v1 = varint_again 5 (2 ^ 32 - 1) t.shared_text x1 shared t.shared_is in
+    let v2 = varint_again 5 (2 ^ 32 - 1) t.unshared_text x2 (length t.unshared) t.unshared_is in
+    let v3 = varint_again 5 (2 ^ 32 - 1) t.length_text x3 (length e.value) t.length_is in
+    ap (entry_at before) regrouped ∙ rw (v1, v2, v3) (piece_again before t.unshared e.value rest (key_text e) shared t.within t.key_is (internal_again (internal_key e)))
+
+groups-some : (bytes : List ℕ) → AreGroups bytes → 0 < length bytes
+groups-some [] g = absurd g
+groups-some (b ∷ bs) g = omega arith
+
+pub own-some : (before own : List ℕ) (e : Entry) (shared : ℕ) → EntryText before e shared own → 0 < length own
+own-some before own e shared t =
+    omega (arith, ap length t.text_is, length-append t.shared_text (t.unshared_text ++ (t.length_text ++ (t.unshared ++ e.value))), groups-some t.shared_text t.shared_is.groups)
+
+-- ---- bytes
+
+pub IsBytes-take : (n : ℕ) (bytes : List ℕ) → IsBytes bytes → IsBytes (take n bytes)
+IsBytes-take n bytes h i =
+    elim (cases_lt i n) [
+      | inl lt ↦ rw (get_or-take n bytes i 0 lt) (h i)
+      | inr le ↦ rw (get_or_past (take n bytes) i 0 (omega (arith, length-take n bytes))) (omega arith)
+    ]
+
+pub IsBytes-drop : (n : ℕ) (bytes : List ℕ) → IsBytes bytes → IsBytes (drop n bytes)
+IsBytes-drop n bytes h i = rw get_or-drop (h (n + i))
+
+pub IsBytes-append : (xs ys : List ℕ) → IsBytes xs → IsBytes ys → IsBytes (xs ++ ys)
+IsBytes-append xs ys h k i =
+    elim (cases_lt i (length xs)) [
+      | inl lt ↦ rw (get_or_append_left xs ys 0 i lt) (h i)
+      | inr le ↦ rw (get_or-append_right xs ys (length xs) i 0 refl le) (k (i - length xs))
+    ]
+
+pub IsBytes-after : (bytes front rest : List ℕ) → bytes ≡ front ++ rest → IsBytes bytes → IsBytes rest
+IsBytes-after bytes front rest e fits i =
+    let d : drop (length front) bytes ≡ rest = ap (drop (length front)) e ∙ drop_at front rest (length front) refl in
+    let f : get_or (drop (length front) bytes) i 0 < 256 = rw get_or-drop (fits (length front + i)) in
+    rw d at f
+
+pub IsBytes-front : (bytes front rest : List ℕ) → bytes ≡ front ++ rest → IsBytes bytes → IsBytes front
+IsBytes-front bytes front rest e fits =
+    let f : take (length front) bytes ≡ front = ap (take (length front)) e ∙ take_at front rest (length front) refl in
+    subst IsBytes f (IsBytes-take (length front) bytes fits)
+
+pub no_bytes : IsBytes []
+no_bytes i = omega arith
+
+-- ---- what is read is spelled
+
+pub bind_some : {A B : Type 0} (r : Option A) (f : A → Option B) (y : B) → (r >>= f) ≡ Some y → (x : A) × (r ≡ Some x) × (f x ≡ Some y)
+bind_some (Some x) f y e = (x, refl, e)
+bind_some None f y e = absurd cc
+
+pub some_is : {A : Type 0} (x y : A) → Some x ≡ Some y → x ≡ y
+some_is x y e = cc
+
+pub guard_some : {A : Type 0} (b : Bool) (x y : A) → cond b (Some x) None ≡ Some y → (b ≡ true) × (x ≡ y)
+guard_some true x y e = (refl, some_is x y e)
+guard_some false x y e = absurd cc
+
+found-is : (r : Result (ℕ × List ℕ) CodecFault) (x : ℕ × List ℕ) → found_of r ≡ Some x → r ≡ Ok x
+found-is (Ok y) x e = ap (λ (z : ℕ × List ℕ). Ok z) (some_is y x e)
+found-is (Err f) x e = absurd cc
+
+number_takes : (bytes : List ℕ) (n : ℕ) (rest : List ℕ) → IsBytes bytes → number_at bytes ≡ Some (n, rest) → Front 5 (2 ^ 32 - 1) n bytes rest
+number_takes bytes n rest fits e = varint_takes 5 (2 ^ 32 - 1) bytes n rest (omega arith) fits (found-is (varint32_at bytes) (n, rest) e)
+
+-- the text of a piece, and what follows it
+pub record Taken (before text : List ℕ) (p : Piece) (rest : List ℕ) : Type 0 where
+  pub own : List ℕ
+  pub parts : text ≡ own ++ rest
+  pub is : EntryText before (entry p) p.shared own
+  pub key_is : key_text (entry p) ≡ p.key
+  pub internal : is_internal p.key ≡ true
+  pub key_fits : IsBytes p.key
+
+pub entry_takes : (before text : List ℕ) (p : Piece) (rest : List ℕ) → IsBytes before → IsBytes text → entry_at before text ≡ Some (p, rest) → Taken before text p rest
+unfolding entry_at numbers_at piece_of
+entry_takes before text p rest old fits e =
+    let b0 = bind_some (numbers_at text) _ (p, rest) e in
+    let b1 = bind_some (number_at text) _ b0.0 b0.1 in
+    let s = b1.0 in
+    let f1 = number_takes text s.0 s.1 fits b1.1 in
+    let fits1 = IsBytes-after text f1.front s.1 f1.parts fits in
+    let b2 = bind_some (number_at s.1) _ b0.0 b1.2 in
+    let u = b2.0 in
+    let f2 = number_takes s.1 u.0 u.1 fits1 b2.1 in
+    let fits2 = IsBytes-after s.1 f2.front u.1 f2.parts fits1 in
+    let b3 = bind_some (number_at u.1) _ b0.0 b2.2 in
+    let v = b3.0 in
+    let f3 = number_takes u.1 v.0 v.1 fits2 b3.1 in
+    let fits3 = IsBytes-after u.1 f3.front v.1 f3.parts fits2 in
+    let numbers : (s.0, u.0, v.0, v.1) ≡ b0.0 = some_is _ _ b3.2 in
+    let read : piece_of before s.0 u.0 v.0 v.1 ≡ Some (p, rest) = ap (λ (n : ℕ × ℕ × ℕ × List ℕ). piece_of before n.0 n.1 n.2 n.3) numbers ∙ b0.2 in
+    let new = take u.0 v.1 in
+    let value = take v.0 (drop u.0 v.1) in
+    let after = drop v.0 (drop u.0 v.1) in
+    let key = shared_key before s.0 u.0 v.1 in
+    let g = guard_some (leb s.0 (length before) && leb (u.0 + v.0) (length v.1) && is_internal key)
+    (record { shared = s.0; key = key; value = value }, after) (p, rest) read in
+    let t1 = and_parts (leb s.0 (length before) && leb (u.0 + v.0) (length v.1)) (is_internal key) g.0 in
+    let t2 = and_parts (leb s.0 (length before)) (leb (u.0 + v.0) (length v.1)) t1.0 in
+    let within : s.0 ≤ length before = leb-true _ _ t2.0 in
+    let room : u.0 + v.0 ≤ length v.1 = leb-true _ _ t2.1 in
+    let new_len : length new ≡ u.0 = length-take-le u.0 v.1 (omega arith) in
+    let value_len : length value ≡ v.0 = length-take-le v.0 (drop u.0 v.1) (omega (arith, length-drop u.0 v.1)) in
+    let third : v.1 ≡ new ++ (value ++ after) = sym (take-append-drop u.0 v.1) ∙ ap (λ (x : List ℕ). new ++ x) (sym (take-append-drop v.0 (drop u.0 v.1))) in
+    let whole : text ≡ f1.front ++ (f2.front ++ (f3.front ++ (new ++ (value ++ after)))) =
+    f1.parts ∙ ap (λ (x : List ℕ). f1.front ++ x) (f2.parts ∙ ap (λ (x : List ℕ). f2.front ++ x) (f3.parts ∙ ap (λ (x : List ℕ). f3.front ++ x) third)) in
+    let key_fits : IsBytes key = IsBytes-append (take s.0 before) new (IsBytes-take s.0 before old) (IsBytes-take u.0 v.1 fits3) in
+    let internal = internal_takes key key_fits t1.1 in
+    let taken : Taken before text (record { shared = s.0; key = key; value = value }) after = record {
+      own = f1.front ++ (f2.front ++ (f3.front ++ (new ++ value)));
+      parts = whole ∙ simp append_assoc;
+      is = record {
+        shared_text = f1.front;
+        unshared_text = f2.front;
+        length_text = f3.front;
+        unshared = new;
+        shared_is = f1.is;
+        unshared_is = rw new_len f2.is;
+        length_is = rw value_len f3.is;
+        within = within;
+        key_is = sym internal.spelled;
+        seq_fits = internal.fits;
+        text_is = refl;
+      };
+      key_is = internal.spelled;
+      internal = t1.1;
+      key_fits = key_fits;
+    } in
+    subst (λ (q : Piece × List ℕ). Taken before text q.0 q.1) g.1 taken
