@@ -115,7 +115,7 @@ footer_written f a b =
       padding = replicate (40 - length places) 0;
       metaindex_is = handle_is f.metaindex a;
       index_is = handle_is f.index b;
-      length_is = omega (arith, handle_short f.metaindex a, handle_short f.index b, length-append (handle_text f.metaindex) (handle_text f.index), length-replicate (40 - length places) 0);
+      length_is = omega (arith, handle_short f.metaindex a, handle_short f.index b, length-append (handle_text f.metaindex) (handle_text f.index), length-replicate {A = ℕ} (40 - length places) 0);
       bytes_are = simp append_assoc;
     }
 

@@ -3,3 +3,5 @@ pub mod ReadingLaws
 pub mod HandleLaws
 pub mod StoredBlockLaws
 pub mod FooterLaws
+pub mod DataLaws
+pub mod TableLaws

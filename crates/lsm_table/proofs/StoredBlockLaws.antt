@@ -58,6 +58,7 @@ unsealed_again offset size contents len =
     let after : drop (size + 1) text ≡ sum = ap (drop (size + 1)) front ∙ drop_at (contents ++ 0 ∷ []) sum (size + 1) one in
     let found : take size text ≡ contents = take_at contents (0 ∷ sum) size len in
     let rest : drop size text ≡ 0 ∷ sum = drop_at contents (0 ∷ sum) size len in
+    let long : size < length text = omega (arith, length-stored contents, len) in
     let here : drop size text ≡ get_or text size 0 ∷ drop (size + 1) text = rw (add-one, drop-cons text size 0) refl in
     let plain : get_or text size 0 ≡ 0 = cc in
     let right : bytes_eq (drop (size + 1) text) (seal (take (size + 1) text)) ≡ true = bytes_same _ _ (after ∙ ap seal (sym covered)) in

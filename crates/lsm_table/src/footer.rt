@@ -50,8 +50,8 @@ impl Footer {
     }
 
     /// The 48 bytes; the padding is zeros.
-    pub(crate) fn text(&self, alloc: Global) -> Result<Vec<u8>, AllocError>
-        ensures { IfOk result (λ v. v.items ≡ footer_text self.now) }
+    pub(crate) fn text(self, alloc: Global) -> Result<Vec<u8>, AllocError>
+        ensures { IfOk result (λ v. v.items ≡ footer_text self) }
     {
         let mut out = Vec::with_capacity(alloc, FOOTER)?;
         self.metaindex.put(&mut out)?;
