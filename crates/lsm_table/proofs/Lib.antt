@@ -5,3 +5,6 @@ pub mod StoredBlockLaws
 pub mod FooterLaws
 pub mod DataLaws
 pub mod TableLaws
+pub mod KeyOrder
+pub mod SearchLaws
+pub mod IndexLaws

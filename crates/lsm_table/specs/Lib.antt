@@ -6,3 +6,4 @@ pub mod Footer
 pub mod StoredBlock
 pub mod Table
 pub mod TableReading
+pub mod Searching
