@@ -8,3 +8,4 @@ pub mod TableLaws
 pub mod KeyOrder
 pub mod SearchLaws
 pub mod IndexLaws
+pub mod BuildingLaws

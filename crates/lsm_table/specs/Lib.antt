@@ -7,3 +7,4 @@ pub mod StoredBlock
 pub mod Table
 pub mod TableReading
 pub mod Searching
+pub mod TableBuilding
