@@ -10,6 +10,7 @@ use Rattle.lsm_block.specs.declared.fault.BlockFault.{BlockFault}
 use Rattle.lsm_block.specs.declared.fault.BlockFault.TheVariants.{BadRestarts, BadEntry, OutOfOrder}
 use Rattle.lsm_block.specs.Block.{IsBlock, Rises, Ascends}
 use Rattle.lsm_block.specs.Reading.{Piece, ◌>>=◌, shared_key, is_internal, numbers_at, piece_of, entry_at, Scan, scan, entries_of, starts_of, restarts_fit, rises, disorder, entry_fault, restart_fault, first_fault, unless, judged, block_of, parts_at, block_at}
+use Rattle.lsm_block.proofs.KeyLaws.{internal_long}
 use Rattle.lsm_block.proofs.EntryLaws.{some_is, guard_some, IsBytes-front, no_bytes, bind_some}
 use Rattle.lsm_block.proofs.ScanLaws.{scan-some, scan-none, scan_again, scan_takes, HaveKeys, ascends, ordered, either}
 use Rattle.lsm_block.proofs.RestartLaws.{Tail, Fit, tail_takes, tail_again, rises_takes, rises_again}
@@ -25,10 +26,6 @@ read_internal before text p rest e =
     let g = guard_some (leb n.0 (length before) && leb (n.1 + n.2) (length n.3) && is_internal key) (record { shared = n.0; key = key; value = take n.2 (drop n.1 n.3) }, drop n.2 (drop n.1 n.3)) (p, rest) b.2 in
     let internal = (and_parts (leb n.0 (length before) && leb (n.1 + n.2) (length n.3)) (is_internal key) g.0).1 in
     subst (λ (q : Piece × List ℕ). is_internal q.0.key ≡ true) g.1 internal
-
-pub internal_long : (key : List ℕ) → is_internal key ≡ true → 8 ≤ length key
-unfolding is_internal
-internal_long key h = leb-true _ _ (and_parts (leb 8 (length key)) (leb (get_or key (length key - 8) 0) 1) h).0
 
 pub have_keys : (count total : ℕ) (before text : List ℕ) → HaveKeys (scan count total before text).placed
 unfolding scan

@@ -1,10 +1,10 @@
 -- What is read as an entry is spelled so, and what is spelled so is read.
 use Rattle.std.proofs.Common.{◌≡◌, ℕ, ◌+◌, ◌-◌, ◌<◌, ◌≤◌, ◌^◌, Bool, true, false, cond, leb, List, [], ◌∷◌, ◌++◌, length, get_or, take, drop, Option, Some, None, Result, Ok, Err, refl, sym, ap, ◌∙◌, subst, append_assoc, arith, inl, inr}
 use Rattle.std.specs.Prelude.{◌&&◌, ◌⊎◌}
-use Rattle.std.proofs.lemmas.Bool.{cases_lt, le-leb, leb-true, and_parts}
-use Rattle.std.proofs.lemmas.List.{take_at, drop_at, take-append-drop, length-append, length-take, length-drop, length-take-le, get_or-drop, get_or-take, get_or_past, get_or_append_left, get_or-append_right}
+use Rattle.std.proofs.lemmas.Bool.{cases_lt, lt-ltb, le-leb, leb-true, and_parts}
+use Rattle.std.proofs.lemmas.List.{take_all, take_at, drop_at, take-append-drop, length-append, length-take, length-drop, length-take-le, get_or-drop, get_or-take, get_or_past, get_or_append_left, get_or-append_right}
 use Rattle.lsm_codec.specs.declared.fault.CodecFault.{CodecFault}
-use Rattle.lsm_codec.specs.Varint.{AreGroups, varint32_at}
+use Rattle.lsm_codec.specs.Varint.{AreGroups, IsVarint32, varint_at, varint32_at}
 use Rattle.lsm_codec.specs.Entries.{Entry, internal_key}
 use Rattle.lsm_codec.proofs.Varints.{Front, varint_takes, varint_again, IsBytes}
 use Rattle.lsm_block.specs.Block.{EntryText, entry_of, key_text}
@@ -105,68 +105,150 @@ found-is (Err f) x e = absurd cc
 number_takes : (bytes : List ℕ) (n : ℕ) (rest : List ℕ) → IsBytes bytes → number_at bytes ≡ Some (n, rest) → Front 5 (2 ^ 32 - 1) n bytes rest
 number_takes bytes n rest fits e = varint_takes 5 (2 ^ 32 - 1) bytes n rest (omega arith) fits (found-is (varint32_at bytes) (n, rest) e)
 
+-- the texts of three numbers, and what follows them
+pub record Numbered (text : List ℕ) (shared unshared len : ℕ) (rest : List ℕ) : Type 0 where
+  pub shared_text : List ℕ
+  pub unshared_text : List ℕ
+  pub length_text : List ℕ
+  pub shared_is : IsVarint32 shared_text shared
+  pub unshared_is : IsVarint32 unshared_text unshared
+  pub length_is : IsVarint32 length_text len
+  pub parts : text ≡ shared_text ++ (unshared_text ++ (length_text ++ rest))
+  pub fits : IsBytes rest
+
+numbers_takes : (text : List ℕ) (n : ℕ × ℕ × ℕ × List ℕ) → IsBytes text → numbers_at text ≡ Some n → Numbered text n.0 n.1 n.2 n.3
+unfolding numbers_at
+numbers_takes text n fits e =
+    let b1 = bind_some (number_at text) _ n e in
+    let s = b1.0 in
+    let f1 = number_takes text s.0 s.1 fits b1.1 in
+    let fits1 = IsBytes-after text f1.front s.1 f1.parts fits in
+    let b2 = bind_some (number_at s.1) _ n b1.2 in
+    let u = b2.0 in
+    let f2 = number_takes s.1 u.0 u.1 fits1 b2.1 in
+    let fits2 = IsBytes-after s.1 f2.front u.1 f2.parts fits1 in
+    let b3 = bind_some (number_at u.1) _ n b2.2 in
+    let v = b3.0 in
+    let f3 = number_takes u.1 v.0 v.1 fits2 b3.1 in
+    let numbered : Numbered text s.0 u.0 v.0 v.1 = record {
+      shared_text = f1.front;
+      unshared_text = f2.front;
+      length_text = f3.front;
+      shared_is = f1.is;
+      unshared_is = f2.is;
+      length_is = f3.is;
+      parts = f1.parts ∙ ap (λ (x : List ℕ). f1.front ++ x) (f2.parts ∙ ap (λ (x : List ℕ). f2.front ++ x) f3.parts);
+      fits = IsBytes-after u.1 f3.front v.1 f3.parts fits2;
+    } in
+    subst (λ (q : ℕ × ℕ × ℕ × List ℕ). Numbered text q.0 q.1 q.2 q.3) (some_is (s.0, u.0, v.0, v.1) n b3.2) numbered
+
+-- an entry cut out of a text: its numbers, its bytes of the key, its value, and what follows it
+pub record Cut (before text : List ℕ) (p : Piece) (rest : List ℕ) : Type 0 where
+  pub new : List ℕ
+  pub after_numbers : List ℕ
+  pub numbers : Numbered text p.shared (length new) (length p.value) after_numbers
+  pub parts : after_numbers ≡ new ++ (p.value ++ rest)
+  pub within : p.shared ≤ length before
+  pub key_is : take p.shared before ++ new ≡ p.key
+  pub internal : is_internal p.key ≡ true
+
+pub entry_cut : (before text : List ℕ) (p : Piece) (rest : List ℕ) → IsBytes text → entry_at before text ≡ Some (p, rest) → Cut before text p rest
+unfolding entry_at piece_of
+entry_cut before text p rest fits e =
+    let b = bind_some (numbers_at text) _ (p, rest) e in
+    let n = b.0 in
+    let numbers = numbers_takes text n fits b.1 in
+    let new = take n.1 n.3 in
+    let value = take n.2 (drop n.1 n.3) in
+    let after = drop n.2 (drop n.1 n.3) in
+    let key = shared_key before n.0 n.1 n.3 in
+    let g = guard_some (leb n.0 (length before) && leb (n.1 + n.2) (length n.3) && is_internal key)
+    (record { shared = n.0; key = key; value = value }, after) (p, rest) b.2 in
+    let t1 = and_parts (leb n.0 (length before) && leb (n.1 + n.2) (length n.3)) (is_internal key) g.0 in
+    let t2 = and_parts (leb n.0 (length before)) (leb (n.1 + n.2) (length n.3)) t1.0 in
+    let room : n.1 + n.2 ≤ length n.3 = leb-true _ _ t2.1 in
+    let new_len : length new ≡ n.1 = length-take-le n.1 n.3 (omega arith) in
+    let value_len : length value ≡ n.2 = length-take-le n.2 (drop n.1 n.3) (omega (arith, length-drop n.1 n.3)) in
+    let cut : Cut before text (record { shared = n.0; key = key; value = value }) after = record {
+      new = new;
+      after_numbers = n.3;
+      numbers = rw (new_len, value_len) numbers;
+      parts = sym (take-append-drop n.1 n.3) ∙ ap (λ (x : List ℕ). new ++ x) (sym (take-append-drop n.2 (drop n.1 n.3)));
+      within = leb-true _ _ t2.0;
+      key_is = refl;
+      internal = t1.1;
+    } in
+    subst (λ (q : Piece × List ℕ). Cut before text q.0 q.1) g.1 cut
+
+abbrev own_text : {before text : List ℕ} {p : Piece} {rest : List ℕ} → Cut before text p rest → List ℕ
+own_text {p = p} c = c.numbers.shared_text ++ (c.numbers.unshared_text ++ (c.numbers.length_text ++ (c.new ++ p.value)))
+
+own_parts : (before text : List ℕ) (p : Piece) (rest : List ℕ) (c : Cut before text p rest) → text ≡ own_text c ++ rest
+own_parts before text p rest c =
+    c.numbers.parts ∙ ap (λ (x : List ℕ). c.numbers.shared_text ++ (c.numbers.unshared_text ++ (c.numbers.length_text ++ x))) c.parts ∙ simp append_assoc
+
+-- what an entry leaves
+pub record Leaves (text after : List ℕ) : Type 0 where
+  pub shorter : length after < length text
+  pub place : drop (length text - length after) text ≡ after
+  pub fits : IsBytes after
+
+pub leaves : (before text : List ℕ) (p : Piece) (after : List ℕ) → IsBytes text → entry_at before text ≡ Some (p, after) → Leaves text after
+leaves before text p after fits e =
+    let c = entry_cut before text p after fits e in
+    let own = own_text c in
+    let parts = own_parts before text p after c in
+    let some : 0 < length own = omega (arith, length-append c.numbers.shared_text (c.numbers.unshared_text ++ (c.numbers.length_text ++ (c.new ++ p.value))), groups-some c.numbers.shared_text c.numbers.shared_is.groups) in
+    let len : length text ≡ length own + length after = ap (λ (xs : List ℕ). length xs) parts ∙ length-append own after in
+    let k : length text - length after ≡ length own = omega arith in
+    record { shorter = omega arith; place = rw k (ap (drop (length own)) parts ∙ drop_at own after (length own) refl); fits = IsBytes-after text own after parts fits }
+
 -- the text of a piece, and what follows it
 pub record Taken (before text : List ℕ) (p : Piece) (rest : List ℕ) : Type 0 where
   pub own : List ℕ
   pub parts : text ≡ own ++ rest
   pub is : EntryText before (entry p) p.shared own
   pub key_is : key_text (entry p) ≡ p.key
-  pub internal : is_internal p.key ≡ true
   pub key_fits : IsBytes p.key
 
 pub entry_takes : (before text : List ℕ) (p : Piece) (rest : List ℕ) → IsBytes before → IsBytes text → entry_at before text ≡ Some (p, rest) → Taken before text p rest
-unfolding entry_at numbers_at piece_of
 entry_takes before text p rest old fits e =
-    let b0 = bind_some (numbers_at text) _ (p, rest) e in
-    let b1 = bind_some (number_at text) _ b0.0 b0.1 in
-    let s = b1.0 in
-    let f1 = number_takes text s.0 s.1 fits b1.1 in
-    let fits1 = IsBytes-after text f1.front s.1 f1.parts fits in
-    let b2 = bind_some (number_at s.1) _ b0.0 b1.2 in
-    let u = b2.0 in
-    let f2 = number_takes s.1 u.0 u.1 fits1 b2.1 in
-    let fits2 = IsBytes-after s.1 f2.front u.1 f2.parts fits1 in
-    let b3 = bind_some (number_at u.1) _ b0.0 b2.2 in
-    let v = b3.0 in
-    let f3 = number_takes u.1 v.0 v.1 fits2 b3.1 in
-    let fits3 = IsBytes-after u.1 f3.front v.1 f3.parts fits2 in
-    let numbers : (s.0, u.0, v.0, v.1) ≡ b0.0 = some_is _ _ b3.2 in
-    let read : piece_of before s.0 u.0 v.0 v.1 ≡ Some (p, rest) = ap (λ (n : ℕ × ℕ × ℕ × List ℕ). piece_of before n.0 n.1 n.2 n.3) numbers ∙ b0.2 in
-    let new = take u.0 v.1 in
-    let value = take v.0 (drop u.0 v.1) in
-    let after = drop v.0 (drop u.0 v.1) in
-    let key = shared_key before s.0 u.0 v.1 in
-    let g = guard_some (leb s.0 (length before) && leb (u.0 + v.0) (length v.1) && is_internal key)
-    (record { shared = s.0; key = key; value = value }, after) (p, rest) read in
-    let t1 = and_parts (leb s.0 (length before) && leb (u.0 + v.0) (length v.1)) (is_internal key) g.0 in
-    let t2 = and_parts (leb s.0 (length before)) (leb (u.0 + v.0) (length v.1)) t1.0 in
-    let within : s.0 ≤ length before = leb-true _ _ t2.0 in
-    let room : u.0 + v.0 ≤ length v.1 = leb-true _ _ t2.1 in
-    let new_len : length new ≡ u.0 = length-take-le u.0 v.1 (omega arith) in
-    let value_len : length value ≡ v.0 = length-take-le v.0 (drop u.0 v.1) (omega (arith, length-drop u.0 v.1)) in
-    let third : v.1 ≡ new ++ (value ++ after) = sym (take-append-drop u.0 v.1) ∙ ap (λ (x : List ℕ). new ++ x) (sym (take-append-drop v.0 (drop u.0 v.1))) in
-    let whole : text ≡ f1.front ++ (f2.front ++ (f3.front ++ (new ++ (value ++ after)))) =
-    f1.parts ∙ ap (λ (x : List ℕ). f1.front ++ x) (f2.parts ∙ ap (λ (x : List ℕ). f2.front ++ x) (f3.parts ∙ ap (λ (x : List ℕ). f3.front ++ x) third)) in
-    let key_fits : IsBytes key = IsBytes-append (take s.0 before) new (IsBytes-take s.0 before old) (IsBytes-take u.0 v.1 fits3) in
-    let internal = internal_takes key key_fits t1.1 in
-    let taken : Taken before text (record { shared = s.0; key = key; value = value }) after = record {
-      own = f1.front ++ (f2.front ++ (f3.front ++ (new ++ value)));
-      parts = whole ∙ simp append_assoc;
+    let c = entry_cut before text p rest fits e in
+    let n = c.numbers in
+    let new_fits : IsBytes c.new = IsBytes-front c.after_numbers c.new (p.value ++ rest) c.parts n.fits in
+    let key_fits : IsBytes p.key = subst IsBytes c.key_is (IsBytes-append (take p.shared before) c.new (IsBytes-take p.shared before old) new_fits) in
+    let internal = internal_takes p.key key_fits c.internal in
+    record {
+      own = own_text c;
+      parts = own_parts before text p rest c;
       is = record {
-        shared_text = f1.front;
-        unshared_text = f2.front;
-        length_text = f3.front;
-        unshared = new;
-        shared_is = f1.is;
-        unshared_is = rw new_len f2.is;
-        length_is = rw value_len f3.is;
-        within = within;
-        key_is = sym internal.spelled;
+        shared_text = n.shared_text;
+        unshared_text = n.unshared_text;
+        length_text = n.length_text;
+        unshared = c.new;
+        shared_is = n.shared_is;
+        unshared_is = n.unshared_is;
+        length_is = n.length_is;
+        within = c.within;
+        key_is = c.key_is ∙ sym internal.spelled;
         seq_fits = internal.fits;
         text_is = refl;
       };
       key_is = internal.spelled;
-      internal = t1.1;
       key_fits = key_fits;
-    } in
-    subst (λ (q : Piece × List ℕ). Taken before text q.0 q.1) g.1 taken
+    }
+
+-- ---- three numbers below 128 are three bytes
+
+pub short_numbers : (text : List ℕ) → 3 ≤ length text → get_or text 0 0 < 128 → get_or text 1 0 < 128 → get_or text 2 0 < 128
+    → numbers_at text ≡ Some (get_or text 0 0, get_or text 1 0, get_or text 2 0, take (length text - 3) (drop 3 text))
+unfolding numbers_at varint_at
+short_numbers [] len a b c = absurd (omega arith)
+short_numbers (x ∷ []) len a b c = absurd (omega arith)
+short_numbers (x ∷ y ∷ []) len a b c = absurd (omega arith)
+short_numbers (x ∷ y ∷ z ∷ rest) len a b c =
+    let ta = lt-ltb x 128 a in
+    let tb = lt-ltb y 128 b in
+    let tc = lt-ltb z 128 c in
+    let all : take (length (x ∷ y ∷ z ∷ rest) - 3) rest ≡ rest = take_all (length (x ∷ y ∷ z ∷ rest) - 3) rest (omega arith) in
+    rw (ta, tb, tc, all) refl

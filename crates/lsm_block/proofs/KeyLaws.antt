@@ -1,5 +1,5 @@
 -- Internal keys and their bytes, both ways.
-use Rattle.std.proofs.Common.{◌≡◌, ℕ, zero, suc, ◌+◌, ◌-◌, ◌*◌, ◌/◌, ◌%◌, ◌^◌, ◌<◌, ◌≤◌, Bool, true, false, leb, List, [], ◌∷◌, ◌++◌, length, get_or, take, drop, refl, sym, ap, ◌∙◌, arith}
+use Rattle.std.proofs.Common.{◌≡◌, ℕ, zero, suc, ◌+◌, ◌-◌, ◌*◌, ◌/◌, ◌%◌, ◌^◌, ◌<◌, ◌≤◌, Bool, true, false, cond, leb, ltb, eqb, Ordering, Less, Equal, Greater, List, [], ◌∷◌, ◌++◌, length, get_or, take, drop, refl, sym, ap, ◌∙◌, arith}
 use Rattle.std.specs.Prelude.{◌&&◌}
 use Rattle.std.specs.Int.{w64, to_le_bytes, from_le_bytes}
 use Rattle.std.proofs.lemmas.Nat.{le_bytes_8, from_le_bytes-to_le_bytes_8}
@@ -7,7 +7,9 @@ use Rattle.std.proofs.lemmas.Bool.{le-leb, leb-true, and_parts}
 use Rattle.std.proofs.lemmas.List.{take_at, drop_at, take-append-drop, length-append, length-drop, get_or-drop, get_or-append-add}
 use Rattle.lsm_codec.specs.declared.kind.Kind.{Kind}
 use Rattle.lsm_codec.specs.declared.kind.Kind.TheVariants.{Deletion, Value}
-use Rattle.lsm_codec.specs.Keys.{InternalKey, kind_number, packed, key_bytes}
+use Rattle.std.specs.Ordering.{nat_cmp, is_lt}
+use Rattle.std.specs.Cmp.Lexicographic.{slice_cmp}
+use Rattle.lsm_codec.specs.Keys.{InternalKey, kind_number, packed, key_bytes, then_by, key_cmp}
 use Rattle.lsm_codec.specs.Entries.{Entry}
 use Rattle.lsm_codec.proofs.Newest.{kind_number_le}
 use Rattle.lsm_codec.proofs.Varints.{IsBytes}
@@ -90,3 +92,34 @@ internal_takes bytes fits h =
       fits = omega (arith, below);
       packed_is = whole;
     }
+
+-- ---- the order, by the bytes
+
+less_than : (x y : ℕ) → is_lt (nat_cmp x y) ≡ ltb x y
+less_than x y = less_cases (ltb x y) (eqb x y)
+  where
+    less_cases : (b e : Bool) → is_lt (cond b Less (cond e Equal Greater)) ≡ b
+    less_cases true e = refl
+    less_cases false true = refl
+    less_cases false false = refl
+
+-- the order of two keys, by what their bytes show
+pub order_at : (a b : List ℕ) → IsBytes a → IsBytes b → is_internal a ≡ true → is_internal b ≡ true
+    → is_lt (key_cmp (key_at a) (key_at b)) ≡ is_lt (then_by (slice_cmp nat_cmp (user_of a) (user_of b)) (nat_cmp (tail_of b) (tail_of a)))
+unfolding key_at
+order_at a b fa fb ha hb =
+    let x = (internal_takes a fa ha).packed_is in
+    let y = (internal_takes b fb hb).packed_is in
+    rw (x, y) refl
+
+pub order_less : (a b : List ℕ) (o : Ordering) → IsBytes a → IsBytes b → is_internal a ≡ true → is_internal b ≡ true → slice_cmp nat_cmp (user_of a) (user_of b) ≡ o
+    → is_lt (key_cmp (key_at a) (key_at b)) ≡ is_lt (then_by o (nat_cmp (tail_of b) (tail_of a)))
+order_less a b o fa fb ha hb e = order_at a b fa fb ha hb ∙ ap (λ (p : Ordering). is_lt (then_by p (nat_cmp (tail_of b) (tail_of a)))) e
+
+pub order_equal : (a b : List ℕ) → IsBytes a → IsBytes b → is_internal a ≡ true → is_internal b ≡ true → slice_cmp nat_cmp (user_of a) (user_of b) ≡ Equal
+    → is_lt (key_cmp (key_at a) (key_at b)) ≡ ltb (tail_of b) (tail_of a)
+order_equal a b fa fb ha hb e = order_less a b Equal fa fb ha hb e ∙ less_than (tail_of b) (tail_of a)
+
+pub internal_long : (key : List ℕ) → is_internal key ≡ true → 8 ≤ length key
+unfolding is_internal
+internal_long key h = leb-true _ _ (and_parts (leb 8 (length key)) (leb (get_or key (length key - 8) 0) 1) h).0

@@ -1,5 +1,5 @@
 -- The restarts of a block: what is read is spelled so, and the other way round.
-use Rattle.std.proofs.Common.{◌≡◌, ℕ, zero, suc, ◌+◌, ◌-◌, ◌*◌, ◌^◌, ◌<◌, ◌≤◌, Bool, true, false, leb, ltb, eqb, List, [], ◌∷◌, ◌++◌, length, take, drop, Some, None, refl, sym, ap, ap₂, ◌∙◌, subst, append_assoc, arith, inl, inr}
+use Rattle.std.proofs.Common.{◌≡◌, ℕ, zero, suc, ◌+◌, ◌-◌, ◌*◌, ◌/◌, ◌^◌, ◌<◌, ◌≤◌, Bool, true, false, leb, ltb, eqb, List, [], ◌∷◌, ◌++◌, length, get_or, take, drop, Some, None, refl, sym, ap, ap₂, ◌∙◌, subst, append_assoc, arith, inl, inr}
 use Rattle.std.specs.Prelude.{◌&&◌, ◌||◌, ◌⊎◌, Contains}
 use Rattle.std.specs.List.{list_any, flat_map, AllByRecursion}
 use Rattle.std.specs.Int.{w32, to_le_bytes, from_le_bytes}
@@ -156,3 +156,25 @@ tail_again bytes text rs t =
     let d1 : drop (length text) (text ++ spelled) ≡ spelled = drop_at text spelled (length text) refl in
     let again = words_again rs t.fits in
     rw (long, front, count, one, room, at, t1, d1, again) refl
+
+-- ---- numbers of four bytes, one at a time
+
+pub words-step : (bytes : List ℕ) → 4 ≤ length bytes → words (length bytes / 4) bytes ≡ from_le_bytes w32 (take 4 bytes) ∷ words (length (drop 4 bytes) / 4) (drop 4 bytes)
+unfolding words
+words-step bytes h =
+    let len = length-drop 4 bytes in
+    let k : length bytes / 4 ≡ suc (length (drop 4 bytes) / 4) = omega (arith, len) in
+    ap (λ (n : ℕ). words n bytes) k
+
+pub words-done : (bytes : List ℕ) → length bytes < 4 → words (length bytes / 4) bytes ≡ []
+unfolding words
+words-done bytes h =
+    let k : length bytes / 4 ≡ 0 = omega arith in
+    ap (λ (n : ℕ). words n bytes) k
+
+pub front_word : (bytes : List ℕ) → 4 ≤ length bytes → from_le_bytes w32 (get_or bytes 0 0 ∷ get_or bytes 1 0 ∷ get_or bytes 2 0 ∷ get_or bytes 3 0 ∷ []) ≡ from_le_bytes w32 (take 4 bytes)
+front_word [] h = absurd (omega arith)
+front_word (a ∷ []) h = absurd (omega arith)
+front_word (a ∷ b ∷ []) h = absurd (omega arith)
+front_word (a ∷ b ∷ c ∷ []) h = absurd (omega arith)
+front_word (a ∷ b ∷ c ∷ d ∷ rest) h = refl
