@@ -8,3 +8,4 @@ pub mod Table
 pub mod TableReading
 pub mod Searching
 pub mod TableBuilding
+pub mod TableMaking
