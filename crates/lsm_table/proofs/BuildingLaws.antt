@@ -154,7 +154,7 @@ grouped-cons : (options : TableOptions) (taken : List Entry) (e : Entry) (es : L
 unfolding grouped
 grouped-cons options taken e es = refl
 
-grouped-nil : (options : TableOptions) (taken : List Entry) → grouped options taken [] ≡ record { closed = []; taken = taken }
+pub grouped-nil : (options : TableOptions) (taken : List Entry) → grouped options taken [] ≡ record { closed = []; taken = taken }
 unfolding grouped
 grouped-nil options taken = refl
 
@@ -180,7 +180,7 @@ grouped-entries options taken [] = ap entries_of (grouped-nil options taken) ∙
 grouped-entries options taken (e ∷ es) =
     ap entries_of (grouped-cons options taken e es) ∙ kept_if (is_full options (taken ++ e ∷ [])) options (taken ++ e ∷ []) es (λ rest. grouped-entries options rest es) ∙ append_assoc taken (e ∷ []) es
 
-when-entries : (full : Bool) (groups : List (List Entry)) (taken : List Entry) → entries_of (closed_when full groups taken) ≡ concat groups ++ taken
+pub when-entries : (full : Bool) (groups : List (List Entry)) (taken : List Entry) → entries_of (closed_when full groups taken) ≡ concat groups ++ taken
 when-entries true groups taken =
     append-nil (concat (groups ++ taken ∷ [])) ∙ concat-append groups (taken ∷ []) ∙ ap (λ (xs : List Entry). concat groups ++ xs) (append-nil taken)
 when-entries false groups taken = refl

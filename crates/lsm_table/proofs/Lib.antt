@@ -9,3 +9,4 @@ pub mod KeyOrder
 pub mod SearchLaws
 pub mod IndexLaws
 pub mod BuildingLaws
+pub mod MakingLaws
