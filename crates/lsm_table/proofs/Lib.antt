@@ -10,3 +10,4 @@ pub mod SearchLaws
 pub mod IndexLaws
 pub mod BuildingLaws
 pub mod MakingLaws
+pub mod HeldTableLaws

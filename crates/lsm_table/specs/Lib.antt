@@ -9,3 +9,4 @@ pub mod TableReading
 pub mod Searching
 pub mod TableBuilding
 pub mod TableMaking
+pub mod HeldTable
