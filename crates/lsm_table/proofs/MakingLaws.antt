@@ -68,107 +68,126 @@ made_entries options entries front taken index m =
 
 -- ---- one more block
 
-filled-push : (groups : List (List Entry)) (e : Entry) (es : List Entry) → AreFilled groups → AreFilled (groups ++ (e ∷ es) ∷ [])
-filled-push [] e es f = tt
-filled-push ([] ∷ groups) e es f = absurd f
-filled-push ((g ∷ gs) ∷ groups) e es f = filled-push groups e es f
+not_empty_full : (options : TableOptions) → AreInRange options → (taken : List Entry) → is_full options taken ≡ true → last_group taken ≡ taken ∷ []
+not_empty_full options r [] full = absurd (cc (full, none_full options r))
+not_empty_full options r (e ∷ es) full = refl
 
-blocks-push : (interval : ℕ) (groups : List (List Entry)) (group : List Entry) → AreBlocks interval groups → IsBlock (block_bytes interval group) group → AreBlocks interval (groups ++ group ∷ [])
-blocks-push interval [] group b g = (g, tt)
-blocks-push interval (x ∷ groups) group b g = (b.0, blocks-push interval groups group b.1 g)
+filled-last : (groups : List (List Entry)) (taken : List Entry) → AreFilled groups → AreFilled (groups ++ last_group taken)
+filled-last [] [] f = tt
+filled-last [] (t ∷ ts) f = tt
+filled-last ([] ∷ groups) taken f = absurd f
+filled-last ((g ∷ gs) ∷ groups) taken f = filled-last groups taken f
 
-pub data_text-push : (interval : ℕ) (groups : List (List Entry)) (group : List Entry) → data_text interval (groups ++ group ∷ []) ≡ data_text interval groups ++ stored (block_bytes interval group)
+blocks-last : (interval : ℕ) (groups : List (List Entry)) (taken : List Entry) → AreBlocks interval groups → IsBlock (block_bytes interval taken) taken → AreBlocks interval (groups ++ last_group taken)
+blocks-last interval [] [] b t = tt
+blocks-last interval [] (x ∷ xs) b t = (t, tt)
+blocks-last interval (x ∷ groups) taken b t = (b.0, blocks-last interval groups taken b.1 t)
+
+pub data_text-append : (interval : ℕ) (groups more : List (List Entry)) → data_text interval (groups ++ more) ≡ data_text interval groups ++ data_text interval more
 unfolding data_text
-data_text-push interval [] group = append-nil (stored (block_bytes interval group))
-data_text-push interval (x ∷ groups) group =
-    ap (λ (xs : List ℕ). stored (block_bytes interval x) ++ xs) (data_text-push interval groups group) ∙ sym (append_assoc (stored (block_bytes interval x)) (data_text interval groups) (stored (block_bytes interval group)))
+data_text-append interval [] more = refl
+data_text-append interval (x ∷ groups) more =
+    ap (λ (xs : List ℕ). stored (block_bytes interval x) ++ xs) (data_text-append interval groups more) ∙ sym (append_assoc (stored (block_bytes interval x)) (data_text interval groups) (data_text interval more))
 
-abbrev pub next_entry : ℕ → ℕ → Entry → List Entry → Entry
-next_entry interval offset e es = index_entry (last_of e es) (place offset (block_bytes interval (e ∷ es)))
+pub data_text-one : (interval : ℕ) (group : List Entry) → data_text interval (group ∷ []) ≡ stored (block_bytes interval group)
+unfolding data_text
+data_text-one interval group = append-nil (stored (block_bytes interval group))
 
-pub index_of-push : (interval offset : ℕ) (groups : List (List Entry)) (e : Entry) (es : List Entry) → AreFilled groups
-    → index_of interval offset (groups ++ (e ∷ es) ∷ []) ≡ index_of interval offset groups ++ next_entry interval (offset + length (data_text interval groups)) e es ∷ []
+pub data_text-none : (interval : ℕ) → data_text interval [] ≡ []
+unfolding data_text
+data_text-none interval = refl
+
+pub index_of-append : (interval offset : ℕ) (groups more : List (List Entry)) → AreFilled groups
+    → index_of interval offset (groups ++ more) ≡ index_of interval offset groups ++ index_of interval (offset + length (data_text interval groups)) more
 unfolding data_text index_of
-index_of-push interval offset [] e es f = ap (λ (n : ℕ). next_entry interval n e es ∷ []) (omega arith)
-index_of-push interval offset ([] ∷ groups) e es f = absurd f
-index_of-push interval offset ((g ∷ gs) ∷ groups) e es f =
+index_of-append interval offset [] more f = ap (λ (n : ℕ). index_of interval n more) (omega arith)
+index_of-append interval offset ([] ∷ groups) more f = absurd f
+index_of-append interval offset ((g ∷ gs) ∷ groups) more f =
     let own = stored (block_bytes interval (g ∷ gs)) in
+    let first = index_entry (last_of g gs) (place offset (block_bytes interval (g ∷ gs))) in
     let k : offset + length own + length (data_text interval groups) ≡ offset + length (own ++ data_text interval groups) = omega (arith, length-append own (data_text interval groups)) in
-    ap (λ (xs : List Entry). next_entry interval offset g gs ∷ xs) (index_of-push interval (offset + length own) groups e es f)
-    ∙ ap (λ (n : ℕ). next_entry interval offset g gs ∷ (index_of interval (offset + length own) groups ++ next_entry interval n e es ∷ [])) k
+    ap (λ (xs : List Entry). first ∷ xs) (index_of-append interval (offset + length own) groups more f)
+    ∙ ap (λ (n : ℕ). first ∷ (index_of interval (offset + length own) groups ++ index_of interval n more)) k
 
--- what the open block adds to the index
-pub made_index : (options : TableOptions) (entries : List Entry) (front : List ℕ) (taken index : Building) (e : Entry) (es : List Entry) (m : Made options entries front taken index) → taken.entries ≡ e ∷ es
-    → index_of options.restart_interval 0 (m.groups ++ taken.entries ∷ []) ≡ index.entries ++ next_entry options.restart_interval (length front) e es ∷ []
-made_index options entries front taken index e es m is =
+pub index_of-one : (interval offset : ℕ) (e : Entry) (es : List Entry) → index_of interval offset ((e ∷ es) ∷ []) ≡ index_entry (last_of e es) (place offset (block_bytes interval (e ∷ es))) ∷ []
+unfolding index_of
+index_of-one interval offset e es = refl
+
+pub index_of-none : (interval offset : ℕ) → index_of interval offset [] ≡ []
+unfolding index_of
+index_of-none interval offset = refl
+
+-- the index with the open block
+pub made_index : (options : TableOptions) (entries : List Entry) (front : List ℕ) (taken index : Building) (m : Made options entries front taken index) (more : List (List Entry))
+    → index_of options.restart_interval 0 (m.groups ++ more) ≡ index.entries ++ index_of options.restart_interval (length front) more
+made_index options entries front taken index m more =
     let interval = options.restart_interval in
     let n : 0 + length (data_text interval m.groups) ≡ length front = omega (arith, ap length m.front_is) in
-    ap (λ (xs : List Entry). index_of interval 0 (m.groups ++ xs ∷ [])) is ∙ index_of-push interval 0 m.groups e es m.filled
-    ∙ ap (λ (k : ℕ). index_of interval 0 m.groups ++ next_entry interval k e es ∷ []) n
-    ∙ ap (λ (xs : List Entry). xs ++ next_entry interval (length front) e es ∷ []) (sym m.index_is)
+    index_of-append interval 0 m.groups more m.filled ∙ ap (λ (k : ℕ). index_of interval 0 m.groups ++ index_of interval k more) n
+    ∙ ap (λ (xs : List Entry). xs ++ index_of interval (length front) more) (sym m.index_is)
 
-all_good : (options : TableOptions) (entries : List Entry) (front : List ℕ) (taken index : Building) (e : Entry) (es : List Entry) (m : Made options entries front taken index) → taken.entries ≡ e ∷ es → Good None (m.groups ++ (e ∷ es) ∷ [])
-all_good options entries front taken index e es m is =
-    let whole : entries ≡ concat (m.groups ++ (e ∷ es) ∷ []) ++ [] =
-    made_parts options entries front taken index m ∙ ap (λ (xs : List Entry). concat m.groups ++ xs) (is ∙ sym (append-nil (e ∷ es))) ∙ sym (concat-append m.groups ((e ∷ es) ∷ [])) ∙ sym (append-nil _) in
-    good_groups None (m.groups ++ (e ∷ es) ∷ []) [] (filled-push m.groups e es m.filled) (any-first _) (subst Ascends whole m.ascends)
+pub all_good : (options : TableOptions) (entries : List Entry) (front : List ℕ) (taken index : Building) (m : Made options entries front taken index) → Good None (m.groups ++ last_group taken.entries)
+all_good options entries front taken index m =
+    let whole : entries ≡ concat (m.groups ++ last_group taken.entries) ++ [] =
+    made_parts options entries front taken index m ∙ ap (λ (xs : List Entry). concat m.groups ++ xs) (sym (concat-last taken.entries)) ∙ sym (concat-append m.groups (last_group taken.entries)) ∙ sym (append-nil _) in
+    good_groups None (m.groups ++ last_group taken.entries) [] (filled-last m.groups taken.entries m.filled) (any-first _) (subst Ascends whole m.ascends)
 
-pub made_index_ascends : (options : TableOptions) (entries : List Entry) (front : List ℕ) (taken index : Building) (e : Entry) (es : List Entry) → Made options entries front taken index → taken.entries ≡ e ∷ es
-    → IsBlock (block_bytes options.restart_interval taken.entries) taken.entries → Ascends (index.entries ++ next_entry options.restart_interval (length front) e es ∷ [])
-made_index_ascends options entries front taken index e es m is b =
+pub made_index_ascends : (options : TableOptions) (entries : List Entry) (front : List ℕ) (taken index : Building) → Made options entries front taken index
+    → IsBlock (block_bytes options.restart_interval taken.entries) taken.entries → Ascends (index.entries ++ index_of options.restart_interval (length front) (last_group taken.entries))
+made_index_ascends options entries front taken index m b =
     let interval = options.restart_interval in
-    let block = subst (λ (xs : List Entry). IsBlock (block_bytes interval xs) xs) is b in
-    let all = index_ascends interval 0 None (m.groups ++ (e ∷ es) ∷ []) (all_good options entries front taken index e es m is) (blocks-push interval m.groups (e ∷ es) m.blocks block) in
-    let same = ap (λ (xs : List Entry). index_of interval 0 (m.groups ++ xs ∷ [])) (sym is) ∙ made_index options entries front taken index e es m is in
-    subst Ascends same all
+    subst Ascends (made_index options entries front taken index m (last_group taken.entries))
+    (index_ascends interval 0 None (m.groups ++ last_group taken.entries) (all_good options entries front taken index m) (blocks-last interval m.groups taken.entries m.blocks b))
 
 -- a full block is moved to the others
-pub made_closed : (options : TableOptions) (entries : List Entry) (front : List ℕ) (taken index : Building) (e : Entry) (es : List Entry) → Made options entries front taken index → taken.entries ≡ e ∷ es → is_full options taken.entries ≡ true
-    → IsBlock (block_bytes options.restart_interval taken.entries) taken.entries → length (front ++ stored (block_bytes options.restart_interval taken.entries)) < 2 ^ 64
-    → Made options entries (front ++ stored (block_bytes options.restart_interval taken.entries)) (building options.restart_interval []) (building 1 (index.entries ++ next_entry options.restart_interval (length front) e es ∷ []))
-made_closed options entries front taken index e es m is full b short =
+pub made_closed : (options : TableOptions) (entries : List Entry) (front : List ℕ) (taken index : Building) → Made options entries front taken index → is_full options taken.entries ≡ true
+    → IsBlock (block_bytes options.restart_interval taken.entries) taken.entries → (after : List ℕ) (done left : Building) → after ≡ front ++ data_text options.restart_interval (last_group taken.entries) → length after < 2 ^ 64
+    → left ≡ building options.restart_interval [] → done ≡ building 1 (index.entries ++ index_of options.restart_interval (length front) (last_group taken.entries)) → Made options entries after left done
+made_closed options entries front taken index m full b after done left after_is short left_is done_is =
     let interval = options.restart_interval in
-    let block = block_bytes interval taken.entries in
+    let one = not_empty_full options m.in_range taken.entries full in
+    let left_none : left.entries ≡ [] = ap (λ (x : Building). x.entries) left_is in
+    let not_full : is_full options left.entries ≡ false = ap (is_full options) left_none ∙ none_full options m.in_range in
+    let falls : grouped options [] entries ≡ record { closed = m.groups ++ last_group taken.entries; taken = left.entries } =
+    m.falls ∙ ap (λ (x : Bool). closed_when x m.groups taken.entries) full ∙ cc in
     record {
-      groups = m.groups ++ taken.entries ∷ [];
+      groups = m.groups ++ last_group taken.entries;
       in_range = m.in_range;
-      falls = m.falls ∙ ap (λ (x : Bool). closed_when x m.groups taken.entries) full ∙ ap (λ (x : Bool). closed_when x (m.groups ++ taken.entries ∷ []) []) (sym (none_full options m.in_range));
+      falls = falls ∙ ap (λ (x : Bool). closed_when x (m.groups ++ last_group taken.entries) left.entries) (sym not_full);
       ascends = m.ascends;
-      filled = subst (λ (xs : List Entry). AreFilled (m.groups ++ xs ∷ [])) (sym is) (filled-push m.groups e es m.filled);
-      blocks = blocks-push interval m.groups taken.entries m.blocks b;
-      front_is = ap (λ (xs : List ℕ). xs ++ stored block) m.front_is ∙ sym (data_text-push interval m.groups taken.entries);
-      index_is = sym (made_index options entries front taken index e es m is);
-      taken_by = refl;
-      index_by = refl;
-      room = λ f. absurd (cc (f, none_full options m.in_range));
+      filled = filled-last m.groups taken.entries m.filled;
+      blocks = blocks-last interval m.groups taken.entries m.blocks b;
+      front_is = after_is ∙ ap (λ (xs : List ℕ). xs ++ data_text interval (last_group taken.entries)) m.front_is ∙ sym (data_text-append interval m.groups (last_group taken.entries));
+      index_is = ap (λ (x : Building). x.entries) done_is ∙ sym (made_index options entries front taken index m (last_group taken.entries));
+      taken_by = ap (λ (x : Building). x.interval) left_is;
+      index_by = ap (λ (x : Building). x.interval) done_is;
+      room = λ f. absurd (cc (f, not_full));
       short = short;
     }
 
 -- ---- one more entry
 
 pub made_more : (options : TableOptions) (entries : List Entry) (front : List ℕ) (taken index : Building) (e : Entry) (m : Made options entries front taken index) → is_full options taken.entries ≡ false → Ascends (entries ++ e ∷ [])
-    → (is_full options (taken.entries ++ e ∷ []) ≡ true → length (index_block options.restart_interval (m.groups ++ (taken.entries ++ e ∷ []) ∷ [])) < 2 ^ 32)
-    → Made options (entries ++ e ∷ []) front (building options.restart_interval (taken.entries ++ e ∷ [])) index
-made_more options entries front taken index e m open_still ascends room = record {
+    → (more : Building) → more ≡ building taken.interval (taken.entries ++ e ∷ [])
+    → (is_full options more.entries ≡ true → length (block_bytes 1 (index.entries ++ index_of options.restart_interval (length front) (last_group more.entries))) < 2 ^ 32)
+    → Made options (entries ++ e ∷ []) front more index
+made_more options entries front taken index e m open_still ascends more more_is room = record {
   groups = m.groups;
   in_range = m.in_range;
-  falls = grouped-push options [] entries e ∙ ap (λ (g : Grouped). one_more options g e) (m.falls ∙ ap (λ (x : Bool). closed_when x m.groups taken.entries) open_still);
+  falls = grouped-push options [] entries e ∙ ap (λ (g : Grouped). one_more options g e) (m.falls ∙ ap (λ (x : Bool). closed_when x m.groups taken.entries) open_still)
+      ∙ ap (λ (xs : List Entry). closed_when (is_full options xs) m.groups xs) (sym (ap (λ (x : Building). x.entries) more_is));
   ascends = ascends;
   filled = m.filled;
   blocks = m.blocks;
   front_is = m.front_is;
   index_is = m.index_is;
-  taken_by = refl;
+  taken_by = ap (λ (x : Building). x.interval) more_is ∙ m.taken_by;
   index_by = m.index_by;
-  room = room;
+  room = λ full. subst (λ (xs : List Entry). length (block_bytes 1 xs) < 2 ^ 32) (sym (made_index options entries front taken index m (last_group more.entries))) (room full);
   short = m.short;
 }
 
 -- ---- the end
-
-not_empty_full : (options : TableOptions) → AreInRange options → (taken : List Entry) → is_full options taken ≡ true → last_group taken ≡ taken ∷ []
-not_empty_full options r [] full = absurd (cc (full, none_full options r))
-not_empty_full options r (e ∷ es) full = refl
 
 groups_when : (options : TableOptions) → AreInRange options → (groups : List (List Entry)) (taken : List Entry) (full : Bool) → is_full options taken ≡ full → groups_of (closed_when full groups taken) ≡ groups ++ last_group taken
 groups_when options r groups taken true full = append-nil (groups ++ taken ∷ []) ∙ ap (λ (xs : List (List Entry)). groups ++ xs) (sym (not_empty_full options r taken full))
@@ -187,7 +206,8 @@ groups_by-entries options entries = groups-concat (grouped options [] entries) �
 -- how many bytes of closed blocks there are
 written_when : (options : TableOptions) (front : List ℕ) (groups : List (List Entry)) (taken : List Entry) → front ≡ data_text options.restart_interval groups
     → data_text options.restart_interval (closed_when true groups taken).closed ≡ front ++ stored (block_bytes options.restart_interval taken)
-written_when options front groups taken is = data_text-push options.restart_interval groups taken ∙ ap (λ (xs : List ℕ). xs ++ stored (block_bytes options.restart_interval taken)) (sym is)
+written_when options front groups taken is =
+    data_text-append options.restart_interval groups (taken ∷ []) ∙ ap (λ (xs : List ℕ). xs ++ data_text options.restart_interval (taken ∷ [])) (sym is) ∙ ap (λ (xs : List ℕ). front ++ xs) (data_text-one options.restart_interval taken)
 
 pub written_full : (options : TableOptions) (entries : List Entry) (front : List ℕ) (taken index : Building) → Made options entries front taken index → is_full options taken.entries ≡ true
     → length (written_bytes options entries) ≡ length front + (length (block_bytes options.restart_interval taken.entries) + 5)
@@ -200,3 +220,22 @@ pub written_open : (options : TableOptions) (entries : List Entry) (front : List
     → length (written_bytes options entries) ≡ length front
 written_open options entries front taken index m full =
     ap (λ (g : Grouped). length (data_text options.restart_interval g.closed)) (m.falls ∙ ap (λ (x : Bool). closed_when x m.groups taken.entries) full) ∙ ap (λ (xs : List ℕ). length xs) (sym m.front_is)
+
+-- The file of the closed blocks, the last one, and their index.
+pub made_table : (options : TableOptions) (entries : List Entry) (front : List ℕ) (taken index : Building) (m : Made options entries front taken index) → IsBlock (block_bytes options.restart_interval taken.entries) taken.entries
+    → IsBlock (index_block options.restart_interval (m.groups ++ last_group taken.entries)) (index_of options.restart_interval 0 (m.groups ++ last_group taken.entries))
+    → length (file_of_groups options.restart_interval (m.groups ++ last_group taken.entries)) < 2 ^ 64
+    → IsTable (table_bytes options entries) entries
+unfolding table_bytes
+made_table options entries front taken index m b i small =
+    let interval = options.restart_interval in
+    let groups = m.groups ++ last_group taken.entries in
+    let same = sym (made_groups options entries front taken index m) in
+    let built = file_built interval groups (all_good options entries front taken index m) (blocks-last interval m.groups taken.entries m.blocks b) i small in
+    let named = subst (λ (gs : List (List Entry)). IsTable (file_of_groups interval gs) (concat gs)) same built in
+    subst (λ (es : List Entry). IsTable (file_of_groups interval (groups_by options entries)) es) (groups_by-entries options entries) named
+
+pub made_bytes : (options : TableOptions) (entries : List Entry) (front : List ℕ) (taken index : Building) (m : Made options entries front taken index)
+    → table_bytes options entries ≡ file_of_groups options.restart_interval (m.groups ++ last_group taken.entries)
+unfolding table_bytes
+made_bytes options entries front taken index m = ap (file_of_groups options.restart_interval) (made_groups options entries front taken index m)

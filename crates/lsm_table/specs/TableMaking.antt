@@ -9,7 +9,7 @@ use Rattle.lsm_table.specs.declared.table_fault.TableFault.{TableFault}
 use Rattle.lsm_table.specs.Options.{AreInRange}
 use Rattle.lsm_table.specs.Table.{concat}
 use Rattle.lsm_table.specs.TableReading.{data_at}
-use Rattle.lsm_table.specs.TableBuilding.{Grouped, is_full, grouped, data_text, index_of, index_block}
+use Rattle.lsm_table.specs.TableBuilding.{Grouped, is_full, grouped, last_group, data_text, index_of, index_block}
 
 -- a table that is being built
 pub record Making : Type 0 where
@@ -50,5 +50,5 @@ pub record Made (options : TableOptions) (entries : List Entry) (front : List �
   pub index_is : index.entries ≡ index_of options.restart_interval 0 groups
   pub taken_by : taken.interval ≡ options.restart_interval
   pub index_by : index.interval ≡ 1
-  pub room : is_full options taken.entries ≡ true → length (index_block options.restart_interval (groups ++ taken.entries ∷ [])) < 2 ^ 32
+  pub room : is_full options taken.entries ≡ true → length (index_block options.restart_interval (groups ++ last_group taken.entries)) < 2 ^ 32
   pub short : length front < 2 ^ 64
