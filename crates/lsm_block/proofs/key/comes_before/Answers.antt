@@ -3,7 +3,7 @@ use Rattle.std.specs.Ordering.{nat_cmp}
 use Rattle.std.specs.Cmp.Lexicographic.{slice_cmp}
 use Rattle.lsm_block.specs.Reading.{user_of}
 use Rattle.lsm_block.proofs.KeyLaws.{internal_long, order_less, order_equal}
-use Rattle.lsm_block.proofs.entry.comes_before.Goals as goal
+use Rattle.lsm_block.proofs.key.comes_before.Goals as goal
 
 pub overflow_sub-a : goal.overflow_sub-a
 overflow_sub-a c = internal_long c.args.a.now c.requires.first
