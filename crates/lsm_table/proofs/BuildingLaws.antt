@@ -107,14 +107,17 @@ good_groups bound ((e ∷ es) ∷ groups) rest f b a =
 
 -- ---- the index
 
-pub index_ascends : (interval offset : ℕ) (bound : Option InternalKey) (groups : List (List Entry)) → Good bound groups → AreBlocks interval groups → Ascends (index_of interval offset groups)
+abbrev pub AllAscend : List (List Entry) → Type 0
+AllAscend groups = AllByRecursion (λ group. Ascends group) groups
+
+pub index_ascends : (interval offset : ℕ) (bound : Option InternalKey) (groups : List (List Entry)) → Good bound groups → AllAscend groups → Ascends (index_of interval offset groups)
 unfolding index_of
 index_ascends interval offset bound [] g b = tt
 index_ascends interval offset bound ([] ∷ groups) g b = absurd g
 index_ascends interval offset bound ((e ∷ es) ∷ []) g b = tt
 index_ascends interval offset bound ((e ∷ es) ∷ ([] ∷ groups)) g b = absurd g.1
 index_ascends interval offset bound ((e ∷ es) ∷ ((f ∷ fs) ∷ groups)) g b =
-    (before_last (internal_key (last_of e es)) f fs g.1.0 b.1.0.ascends, index_ascends interval (offset + length (stored (block_bytes interval (e ∷ es)))) (Some (internal_key (last_of e es))) ((f ∷ fs) ∷ groups) g.1 b.1)
+    (before_last (internal_key (last_of e es)) f fs g.1.0 b.1.0, index_ascends interval (offset + length (stored (block_bytes interval (e ∷ es)))) (Some (internal_key (last_of e es))) ((f ∷ fs) ∷ groups) g.1 b.1)
   where
     before_last : (k : InternalKey) (f : Entry) (fs : List Entry) → key_cmp k (internal_key f) ≡ Less → Ascends (f ∷ fs) → key_cmp k (internal_key (last_of f fs)) ≡ Less
     before_last k f [] h a = h

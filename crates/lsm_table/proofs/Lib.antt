@@ -11,3 +11,4 @@ pub mod IndexLaws
 pub mod BuildingLaws
 pub mod MakingLaws
 pub mod HeldTableLaws
+pub mod CloseLaws

@@ -16,11 +16,11 @@ use Rattle.lsm_table.specs.TableBuilding.{Grouped, is_full, grouped, last_group,
 use Rattle.lsm_table.specs.TableMaking.{Making, groups_or_none, entries_made, AreFilled, AreBlocks, closed_when, Made}
 use Rattle.lsm_table.proofs.StoredBlockLaws.{length-stored}
 use Rattle.lsm_table.proofs.DataLaws.{data_again}
-use Rattle.lsm_table.proofs.BuildingLaws.{Good, stand, any-first, good_groups, index_ascends, grouped-nil, grouped-push, concat-append, concat-last, one_more, entries_of, grouped-entries, when-entries, file_built}
+use Rattle.lsm_table.proofs.BuildingLaws.{Good, stand, any-first, good_groups, ascends_rest, AllAscend, index_ascends, grouped-nil, grouped-push, concat-append, concat-last, one_more, entries_of, grouped-entries, when-entries, file_built}
 
 -- ---- an open block without an entry
 
-length-none : (interval : ℕ) → length (block_bytes interval []) ≡ 8
+pub length-none : (interval : ℕ) → length (block_bytes interval []) ≡ 8
 unfolding block_bytes entries_text later_restarts
 length-none interval = refl
 
@@ -44,6 +44,7 @@ made_none options r = record {
   taken_by = refl;
   index_by = refl;
   room = λ full. absurd (cc (full, none_full options r));
+  small = omega (arith, length-none options.restart_interval);
   short = omega arith;
 }
 
@@ -132,16 +133,22 @@ all_good options entries front taken index m =
     made_parts options entries front taken index m ∙ ap (λ (xs : List Entry). concat m.groups ++ xs) (sym (concat-last taken.entries)) ∙ sym (concat-append m.groups (last_group taken.entries)) ∙ sym (append-nil _) in
     good_groups None (m.groups ++ last_group taken.entries) [] (filled-last m.groups taken.entries m.filled) (any-first _) (subst Ascends whole m.ascends)
 
+all_ascend : (interval : ℕ) (groups : List (List Entry)) (taken : List Entry) → AreBlocks interval groups → Ascends taken → AllAscend (groups ++ last_group taken)
+all_ascend interval [] [] b t = tt
+all_ascend interval [] (x ∷ xs) b t = (t, tt)
+all_ascend interval (x ∷ groups) taken b t = (b.0.ascends, all_ascend interval groups taken b.1 t)
+
 pub made_index_ascends : (options : TableOptions) (entries : List Entry) (front : List ℕ) (taken index : Building) → Made options entries front taken index
-    → IsBlock (block_bytes options.restart_interval taken.entries) taken.entries → Ascends (index.entries ++ index_of options.restart_interval (length front) (last_group taken.entries))
-made_index_ascends options entries front taken index m b =
+    → Ascends (index.entries ++ index_of options.restart_interval (length front) (last_group taken.entries))
+made_index_ascends options entries front taken index m =
     let interval = options.restart_interval in
+    let last = ascends_rest (concat m.groups) taken.entries (subst Ascends (made_parts options entries front taken index m) m.ascends) in
     subst Ascends (made_index options entries front taken index m (last_group taken.entries))
-    (index_ascends interval 0 None (m.groups ++ last_group taken.entries) (all_good options entries front taken index m) (blocks-last interval m.groups taken.entries m.blocks b))
+    (index_ascends interval 0 None (m.groups ++ last_group taken.entries) (all_good options entries front taken index m) (all_ascend interval m.groups taken.entries m.blocks last))
 
 -- a full block is moved to the others
 pub made_closed : (options : TableOptions) (entries : List Entry) (front : List ℕ) (taken index : Building) → Made options entries front taken index → is_full options taken.entries ≡ true
-    → IsBlock (block_bytes options.restart_interval taken.entries) taken.entries → (after : List ℕ) (done left : Building) → after ≡ front ++ data_text options.restart_interval (last_group taken.entries) → length after < 2 ^ 64
+    → IsBlock (block_bytes options.restart_interval taken.entries) taken.entries → (after : List ℕ) (done left : Building) → after ≡ front ++ data_text options.restart_interval (last_group taken.entries) → length after < 2 ^ 63
     → left ≡ building options.restart_interval [] → done ≡ building 1 (index.entries ++ index_of options.restart_interval (length front) (last_group taken.entries)) → Made options entries after left done
 made_closed options entries front taken index m full b after done left after_is short left_is done_is =
     let interval = options.restart_interval in
@@ -162,6 +169,7 @@ made_closed options entries front taken index m full b after done left after_is 
       taken_by = ap (λ (x : Building). x.interval) left_is;
       index_by = ap (λ (x : Building). x.interval) done_is;
       room = λ f. absurd (cc (f, not_full));
+      small = subst (λ (xs : List Entry). length (block_bytes interval xs) < 2 ^ 32) (sym left_none) (omega (arith, length-none interval));
       short = short;
     }
 
@@ -170,8 +178,8 @@ made_closed options entries front taken index m full b after done left after_is 
 pub made_more : (options : TableOptions) (entries : List Entry) (front : List ℕ) (taken index : Building) (e : Entry) (m : Made options entries front taken index) → is_full options taken.entries ≡ false → Ascends (entries ++ e ∷ [])
     → (more : Building) → more ≡ building taken.interval (taken.entries ++ e ∷ [])
     → (is_full options more.entries ≡ true → length (block_bytes 1 (index.entries ++ index_of options.restart_interval (length front) (last_group more.entries))) < 2 ^ 32)
-    → Made options (entries ++ e ∷ []) front more index
-made_more options entries front taken index e m open_still ascends more more_is room = record {
+    → length (block_bytes options.restart_interval more.entries) < 2 ^ 32 → Made options (entries ++ e ∷ []) front more index
+made_more options entries front taken index e m open_still ascends more more_is room small = record {
   groups = m.groups;
   in_range = m.in_range;
   falls = grouped-push options [] entries e ∙ ap (λ (g : Grouped). one_more options g e) (m.falls ∙ ap (λ (x : Bool). closed_when x m.groups taken.entries) open_still)
@@ -184,6 +192,7 @@ made_more options entries front taken index e m open_still ascends more more_is 
   taken_by = ap (λ (x : Building). x.interval) more_is ∙ m.taken_by;
   index_by = m.index_by;
   room = λ full. subst (λ (xs : List Entry). length (block_bytes 1 xs) < 2 ^ 32) (sym (made_index options entries front taken index m (last_group more.entries))) (room full);
+  small = small;
   short = m.short;
 }
 

@@ -51,4 +51,5 @@ pub record Made (options : TableOptions) (entries : List Entry) (front : List �
   pub taken_by : taken.interval ≡ options.restart_interval
   pub index_by : index.interval ≡ 1
   pub room : is_full options taken.entries ≡ true → length (index_block options.restart_interval (groups ++ last_group taken.entries)) < 2 ^ 32
-  pub short : length front < 2 ^ 64
+  pub small : length (block_bytes options.restart_interval taken.entries) < 2 ^ 32
+  pub short : length front < 2 ^ 63
