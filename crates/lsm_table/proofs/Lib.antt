@@ -12,3 +12,4 @@ pub mod BuildingLaws
 pub mod MakingLaws
 pub mod HeldTableLaws
 pub mod CloseLaws
+pub mod SettleLaws

@@ -1,15 +1,16 @@
 -- What a builder keeps of the entries that were added.
-use Rattle.std.specs.Prelude.{◌≡◌, ℕ, ◌^◌, ◌<◌, Bool, true, false, List, [], ◌∷◌, ◌++◌, length, None, Result, Ok, Err}
+use Rattle.std.specs.Prelude.{◌≡◌, ℕ, ◌^◌, ◌<◌, ◌≤◌, ◌⊎◌, Bool, true, false, List, [], ◌∷◌, ◌++◌, length, None, Result, Ok, Err}
 use Rattle.std.specs.List.{AllByRecursion}
-use Rattle.lsm_codec.specs.Entries.{Entry}
-use Rattle.lsm_block.specs.Block.{IsBlock, Ascends}
+use Rattle.lsm_codec.specs.Entries.{Entry, internal_key}
+use Rattle.lsm_block.specs.Block.{IsBlock, Ascends, entry_of}
 use Rattle.lsm_block.specs.Building.{block_bytes, Building}
 use Rattle.lsm_table.specs.declared.table_options.TableOptions.{TableOptions}
 use Rattle.lsm_table.specs.declared.table_fault.TableFault.{TableFault}
 use Rattle.lsm_table.specs.Options.{AreInRange}
+use Rattle.lsm_table.specs.Handle.{handle_text}
 use Rattle.lsm_table.specs.Table.{concat}
 use Rattle.lsm_table.specs.TableReading.{data_at}
-use Rattle.lsm_table.specs.TableBuilding.{Grouped, is_full, grouped, last_group, data_text, index_of, index_block}
+use Rattle.lsm_table.specs.TableBuilding.{Grouped, is_full, grouped, last_group, data_text, place, index_of, index_block}
 
 -- a table that is being built
 pub record Making : Type 0 where
@@ -53,3 +54,18 @@ pub record Made (options : TableOptions) (entries : List Entry) (front : List �
   pub room : is_full options taken.entries ≡ true → length (index_block options.restart_interval (groups ++ last_group taken.entries)) < 2 ^ 32
   pub small : length (block_bytes options.restart_interval taken.entries) < 2 ^ 32
   pub short : length front < 2 ^ 63
+
+-- ---- one entry more
+
+-- the index block, with the open block if this entry is its last
+abbrev pub index_with : ℕ → Building → Building → Entry → List ℕ
+index_with offset taken index e =
+    block_bytes index.interval (index.entries ++ entry_of (internal_key e) (handle_text (place offset (block_bytes taken.interval (taken.entries ++ e ∷ [])))) ∷ [])
+
+-- The entry passes no limit.
+pub record HasRoom (options : TableOptions) (offset : ℕ) (taken index : Building) (e : Entry) : Type 0 where
+  pub block : length (block_bytes taken.interval (taken.entries ++ e ∷ [])) < 2 ^ 32
+  pub index_block : options.block_size ≤ length (block_bytes taken.interval (taken.entries ++ e ∷ [])) → length (index_with offset taken index e) < 2 ^ 32
+
+abbrev pub LacksRoom : ℕ → Building → Building → Entry → Type 0
+LacksRoom offset taken index e = (2 ^ 32 ≤ length (block_bytes taken.interval (taken.entries ++ e ∷ []))) ⊎ (2 ^ 32 ≤ length (index_with offset taken index e))

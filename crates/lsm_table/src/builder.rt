@@ -10,7 +10,7 @@ ghost use Rattle.lsm_table.specs.Options.{AreInRange};
 ghost use Rattle.lsm_table.specs.Handle.{handle_text};
 ghost use Rattle.lsm_table.specs.Table.{IsTable};
 ghost use Rattle.lsm_table.specs.TableBuilding.{is_full, grouped, last_group, data_text, index_of, index_block, file_of, groups_by, table_bytes, written_bytes, PassesLimit};
-ghost use Rattle.lsm_table.specs.TableMaking.{Made};
+ghost use Rattle.lsm_table.specs.TableMaking.{Made, HasRoom, LacksRoom};
 
 use crate::footer::Footer;
 use crate::handle::Handle;
@@ -60,6 +60,32 @@ fn has_index_room(
     place.clear();
     handle.put(place)?;
     Ok(index.size_with(key, place) <= u32::MAX as u64)
+}
+
+/// Whether an entry more passes no limit: that of the open block, and that of the index block where the entry fills it.
+fn has_room(
+    options: TableOptions,
+    offset: u64,
+    taken: &BlockBuilder,
+    index: &BlockBuilder,
+    key: &KeyRef<'_>,
+    value: &[u8],
+    place: &mut Vec<u8>,
+) -> Result<bool, AllocError>
+    ensures yes { IfOk result (λ r. r ≡ true → HasRoom options offset taken.now index.now (entry_of (key_of key.now) value.now)) }
+    ensures no { IfOk result (λ r. r ≡ false → LacksRoom offset taken.now index.now (entry_of (key_of key.now) value.now)) }
+{
+    let size = taken.size_with(key, value);
+    if size > u32::MAX as u64 {
+        return Ok(false);
+    }
+    if size < options.block_size as u64 {
+        return Ok(true);
+    }
+    match has_index_room(index, key, Handle { offset, size }, place) {
+        Ok(has) => Ok(has),
+        Err(error) => Err(error),
+    }
 }
 
 /// Moves the open block to the closed ones, if it has an entry. An `Err` changes nothing.
@@ -120,7 +146,10 @@ fn settle(
     if taken.size_estimate() < options.block_size {
         return Ok(());
     }
-    close(front, taken, index, place)
+    match close(front, taken, index, place) {
+        Ok(()) => Ok(()),
+        Err(fault) => Err(fault),
+    }
 }
 
 /// The file that begins with the data blocks: an empty metaindex block, the index block and the footer follow them.
@@ -187,17 +216,22 @@ impl TableBuilder {
             &mut self.index,
             &mut self.place,
         )?;
-        let size = self.taken.size_with(&key, value);
-        if size > u32::MAX as u64 {
+        let offset = self.front.len() as u64;
+        if !has_room(
+            self.options,
+            offset,
+            &self.taken,
+            &self.index,
+            &key,
+            value,
+            &mut self.place,
+        )? {
             return Err(BuildFault::TooLarge);
         }
-        if size >= self.options.block_size as u64 {
-            let offset = self.front.len() as u64;
-            if !has_index_room(&self.index, &key, Handle { offset, size }, &mut self.place)? {
-                return Err(BuildFault::TooLarge);
-            }
+        match self.taken.add(&key, value) {
+            Ok(()) => Ok(()),
+            Err(fault) => Err(fault),
         }
-        self.taken.add(&key, value)
     }
 
     /// How many bytes the finished data blocks have, with their trailers.
@@ -226,7 +260,13 @@ impl TableBuilder {
             mut place,
             ..
         } = self;
-        close(&mut front, &mut taken, &mut index, &mut place)?;
-        Ok(end(alloc, front, &index)?)
+        match close(&mut front, &mut taken, &mut index, &mut place) {
+            Ok(()) => {}
+            Err(fault) => return Err(fault),
+        }
+        match end(alloc, front, &index) {
+            Ok(file) => Ok(file),
+            Err(_) => Err(BuildFault::OutOfMemory),
+        }
     }
 }
