@@ -8,12 +8,13 @@ use Rattle.std.proofs.lemmas.Bool.{eqb-true, eq-eqb, ne_eqb, lt-ltb, ltb-true, l
 use Rattle.std.proofs.lemmas.List.{length-append, append-nil, take-append-drop, drop_all, length-take-le}
 use Rattle.lsm_codec.specs.Varint.{varint32}
 use Rattle.lsm_codec.specs.Keys.{InternalKey, key_bytes}
-use Rattle.lsm_codec.specs.Entries.{Entry, internal_key}
+use Rattle.lsm_codec.specs.Entries.{Entry, internal_key, entry_cmp}
 use Rattle.lsm_codec.proofs.Varints.{is_shortest}
 use Rattle.lsm_block.specs.Block.{EntryText, IsBlock, Spells, Ascends, Rises, start_at, key_text}
-use Rattle.lsm_block.specs.Building.{one_more, common, is_restart, is_later_restart, Built, FitsEntry, own_len, grown_len, parts_text, shared_if, shared_at, sharing_text, entries_text, offset_if, later_restarts, with_restarts, block_bytes, last_text, last_key, entries_in}
+use Rattle.lsm_block.specs.Building.{one_more, common, is_restart, is_later_restart, Built, FitsEntry, own_len, grown_len, after_last, parts_text, shared_if, shared_at, sharing_text, entries_text, offset_if, later_restarts, with_restarts, block_bytes, last_text, last_key, entries_in}
 use Rattle.lsm_block.specs.Held.{Kept, bytes_of}
 use Rattle.lsm_block.proofs.EntryLaws.{own-some, some_is}
+use Rattle.lsm_block.proofs.ScanLaws.{is_less}
 use Rattle.lsm_block.proofs.SeekLaws.{reads_all}
 
 -- ---- what two keys have in common
@@ -403,6 +404,11 @@ pub last_fits : (es : List Entry) (k : InternalKey) → AllByRecursion FitsEntry
 last_fits [] k f e = absurd cc
 last_fits (e ∷ []) k f same = let is : internal_key e ≡ k = some_is (internal_key e) k same in subst (λ (x : InternalKey). x.seq < 2 ^ 56) is f.0.seq
 last_fits (e ∷ g ∷ es) k f same = last_fits (g ∷ es) k f.1 same
+
+pub ascends-push : (es : List Entry) (e : Entry) → Ascends es → after_last (last_key es) (internal_key e) ≡ true → Ascends (es ++ e ∷ [])
+ascends-push [] e a h = tt
+ascends-push (x ∷ []) e a h = (is_less (entry_cmp x e) h, tt)
+ascends-push (x ∷ y ∷ es) e a h = (a.0, ascends-push (y ∷ es) e a.1 h)
 
 pub finished : (interval count : ℕ) (es : List Entry) (text offsets last : List ℕ) → Built interval es text offsets last count
     → ((text ++ to_le_bytes w32 0) ++ offsets) ++ to_le_bytes w32 (length offsets / 4 + 1) ≡ block_bytes interval es

@@ -1,5 +1,5 @@
 -- Internal keys and their bytes, both ways.
-use Rattle.std.proofs.Common.{◌≡◌, ℕ, zero, suc, ◌+◌, ◌-◌, ◌*◌, ◌/◌, ◌%◌, ◌^◌, ◌<◌, ◌≤◌, Bool, true, false, cond, leb, ltb, eqb, Ordering, Less, Equal, Greater, Option, Some, None, List, [], ◌∷◌, ◌++◌, length, get_or, take, drop, refl, sym, ap, ◌∙◌, arith}
+use Rattle.std.proofs.Common.{◌≡◌, ℕ, zero, suc, ◌+◌, ◌-◌, ◌*◌, ◌/◌, ◌%◌, ◌^◌, ◌<◌, ◌≤◌, Bool, true, false, cond, leb, ltb, eqb, Ordering, Less, Equal, Greater, Option, Some, None, List, [], ◌∷◌, ◌++◌, length, get_or, take, drop, refl, sym, ap, ◌∙◌, subst, arith}
 use Rattle.std.specs.Prelude.{◌&&◌}
 use Rattle.std.specs.Int.{w64, to_le_bytes, from_le_bytes}
 use Rattle.std.proofs.lemmas.Nat.{le_bytes_8, from_le_bytes-to_le_bytes_8}
@@ -13,7 +13,7 @@ use Rattle.lsm_codec.specs.Keys.{InternalKey, IsKey, kind_number, packed, key_by
 use Rattle.lsm_codec.specs.Entries.{Entry}
 use Rattle.lsm_codec.proofs.Newest.{kind_number_le}
 use Rattle.lsm_codec.proofs.Varints.{IsBytes}
-use Rattle.lsm_block.specs.Held.{Kept, bytes_of}
+use Rattle.lsm_block.specs.Held.{Kept, bytes_of, last_if, last_of}
 use Rattle.lsm_block.specs.Reading.{is_internal, user_of, tail_of, kind_at, key_at}
 
 kind_again : (kind : Kind) → kind_at (kind_number kind) ≡ kind
@@ -156,6 +156,25 @@ kept_none (Some k) bytes h not = absurd (not k h)
 pub kept_bytes : (o : Option InternalKey) (bytes : List ℕ) → Kept o bytes → bytes ≡ bytes_of o
 kept_bytes None bytes h = h
 kept_bytes (Some k) bytes h = h.bytes_are
+
+-- bytes of a key are kept as it
+pub last-key : (bytes : List ℕ) → is_internal bytes ≡ true → last_of bytes ≡ Some (key_at bytes)
+unfolding last_of
+last-key bytes h = ap (λ (b : Bool). last_if b bytes) h
+
+pub internal_of : (bytes : List ℕ) (k : InternalKey) → IsKey bytes k → is_internal bytes ≡ true
+internal_of bytes k h = ap is_internal h.bytes_are ∙ internal_again k
+
+pub kept_as : (bytes : List ℕ) → IsKey bytes (key_at bytes) → Kept (last_of bytes) bytes
+kept_as bytes h = subst (λ (o : Option InternalKey). Kept o bytes) (sym (last-key bytes (internal_of bytes (key_at bytes) h))) h
+
+pub no_last : last_of [] ≡ None
+unfolding last_of is_internal
+no_last = refl
+
+pub none_kept : Kept (last_of []) []
+unfolding last_of is_internal
+none_kept = refl
 
 pub internal_long : (key : List ℕ) → is_internal key ≡ true → 8 ≤ length key
 unfolding is_internal

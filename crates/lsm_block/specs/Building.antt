@@ -2,9 +2,10 @@
 -- are (LevelDB's `table/block_builder.cc`).
 use Rattle.std.specs.Prelude.{◌≡◌, ℕ, zero, suc, ◌+◌, ◌%◌, ◌^◌, ◌<◌, ◌&&◌, Bool, true, false, nat_lt, ◌==◌, List, [], ◌∷◌, ◌++◌, length, drop, Option, Some, None}
 use Rattle.std.specs.List.{flat_map, AllByRecursion}
+use Rattle.std.specs.Ordering.{is_lt}
 use Rattle.std.specs.Int.{w32, to_le_bytes}
 use Rattle.lsm_codec.specs.Varint.{varint32}
-use Rattle.lsm_codec.specs.Keys.{InternalKey}
+use Rattle.lsm_codec.specs.Keys.{InternalKey, key_cmp}
 use Rattle.lsm_codec.specs.Entries.{Entry, internal_key}
 use Rattle.lsm_block.specs.Block.{Ascends, key_text}
 use Rattle.lsm_block.specs.Seeking.{readable}
@@ -99,6 +100,10 @@ abbrev pub last_key : List Entry → Option InternalKey
 last_key [] = None
 last_key (e ∷ []) = Some (internal_key e)
 last_key (e ∷ f ∷ es) = last_key (f ∷ es)
+
+abbrev pub after_last : Option InternalKey → InternalKey → Bool
+after_last None key = true
+after_last (Some last) key = is_lt (key_cmp last key)
 
 -- the entries that a text spells
 unfoldable pub entries_in : List ℕ → List Entry

@@ -1,10 +1,10 @@
 //! A block that is being built.
 
-ghost use Rattle.std.specs.Prelude.{◌≡◌, ℕ, ◌<◌, ◌≤◌, ◌^◌, List, [], ◌∷◌, ◌++◌, length, IfOk, OnOk, OnErr, Err};
+ghost use Rattle.std.specs.Prelude.{◌≡◌, ℕ, ◌<◌, ◌≤◌, ◌^◌, List, [], ◌∷◌, ◌++◌, length, true, IfOk, OnOk, OnErr, Err};
 ghost use Rattle.lsm_codec.specs.KeyRef.{key_of};
 ghost use Rattle.lsm_codec.specs.Entries.{Entry};
 ghost use Rattle.lsm_block.specs.Block.{IsBlock, Ascends, entry_of};
-ghost use Rattle.lsm_block.specs.Building.{Building, block_bytes, last_key};
+ghost use Rattle.lsm_block.specs.Building.{Building, block_bytes, last_key, after_last};
 ghost use Rattle.std.specs.Option.{option_map};
 ghost use Rattle.lsm_block.specs.declared.build_fault.BuildFault.TheVariants.{OutOfMemory, TooLarge};
 
@@ -89,6 +89,18 @@ impl BlockBuilder {
         match KeyRef::split(&self.last) {
             Ok(key) => Some(key),
             Err(_) => None,
+        }
+    }
+
+    /// Whether an entry of this key may be added: it stands after the last one.
+    pub fn comes_last(&self, key: &KeyRef<'_>) -> bool
+        ensures exact { result ≡ after_last (last_key self.now.entries) (key_of key.now) }
+        ensures ascends { result ≡ true → (value : List ℕ) → Ascends (self.now.entries ++ entry_of (key_of key.now) value ∷ []) }
+    {
+        let _text = &self.text;
+        match self.last_key() {
+            Some(last) => last.compare(key).is_lt(),
+            None => true,
         }
     }
 

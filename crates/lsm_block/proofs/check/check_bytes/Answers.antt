@@ -3,7 +3,7 @@ use Rattle.lsm_codec.specs.Entries.{Entry}
 use Rattle.lsm_block.specs.Block.{IsBlock}
 use Rattle.lsm_block.specs.Held.{text_and_entries}
 use Rattle.lsm_block.proofs.HeldLaws.{held_at, held_is, is_ok, still_fails}
-use Rattle.lsm_block.proofs.block.check_bytes.Goals as goal
+use Rattle.lsm_block.proofs.check.check_bytes.Goals as goal
 
 pub returns-in-Ok-clause-found : goal.returns-in-Ok-clause-found
 returns-in-Ok-clause-found c =

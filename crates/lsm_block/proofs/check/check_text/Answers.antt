@@ -1,6 +1,6 @@
 use Rattle.std.proofs.Common.{sym, ◌∙◌, arith}
 use Rattle.lsm_block.proofs.HeldLaws.{no_parts, fails_is, fault_found, checked}
-use Rattle.lsm_block.proofs.block.check_text.Goals as goal
+use Rattle.lsm_block.proofs.check.check_text.Goals as goal
 
 pub returns-in_default-clause-fault : goal.returns-in_default-clause-fault
 returns-in_default-clause-fault c = no_parts c.args.bytes.now (sym (rw c.in_default.is at c.parts.ensures.reads))
