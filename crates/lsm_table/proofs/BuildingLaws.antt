@@ -25,22 +25,14 @@ use Rattle.lsm_table.proofs.SearchLaws.{AllAfter, after_trans, less_le, ascends_
 
 -- ---- groups that may stand as data blocks one after another
 
-abbrev pub ComesAfter : Option InternalKey → Entry → Type 0
-ComesAfter None e = Unit {0}
-ComesAfter (Some bound) e = key_cmp bound (internal_key e) ≡ Less
-
 -- each with an entry, the first of which comes after the last entry of the group before
 abbrev pub Good : Option InternalKey → List (List Entry) → Type 0
 Good bound [] = Unit {0}
 Good bound ([] ∷ groups) = ⊥
-Good bound ((e ∷ es) ∷ groups) = ComesAfter bound e × Good (Some (internal_key (last_of e es))) groups
-
-after_bound : (bound : Option Entry) (e : Entry) → ComesAfter (option_map internal_key bound) e → IsAfter bound e
-after_bound None e h = tt
-after_bound (Some i) e h = h
+Good bound ((e ∷ es) ∷ groups) = IsAfter bound e × Good (Some (internal_key (last_of e es))) groups
 
 -- each data block stands where the index says, whatever stands before and after
-pub stand : (interval : ℕ) (front : List ℕ) (bound : Option Entry) (groups : List (List Entry)) → Good (option_map internal_key bound) groups → AreBlocks interval groups
+pub stand : (interval : ℕ) (front : List ℕ) (bound : Option InternalKey) (groups : List (List Entry)) → Good bound groups → AreBlocks interval groups
     → length front + length (data_text interval groups) < 2 ^ 64 → (after : List ℕ) → DataBlocks (front ++ (data_text interval groups ++ after)) bound (index_of interval (length front) groups) groups
 unfolding data_text index_of
 stand interval front bound [] g b small after = tt
@@ -55,9 +47,9 @@ stand interval front bound ((e ∷ es) ∷ groups) g b small after =
     let handle = place (length front) block in
     let i = index_entry (last_of e es) handle in
     let shift : (front ++ stored block) ++ (later ++ after) ≡ body = simp append_assoc in
-    let next = stand interval (front ++ stored block) (Some i) groups g.1 b.1 (omega (arith, small, l1, l2, l3)) after in
-    let next2 = subst (λ (xs : List ℕ). DataBlocks xs (Some i) (index_of interval (length (front ++ stored block)) groups) groups) shift next in
-    let next3 = subst (λ (n : ℕ). DataBlocks body (Some i) (index_of interval n groups) groups) l3 next2 in
+    let next = stand interval (front ++ stored block) (Some (internal_key i)) groups g.1 b.1 (omega (arith, small, l1, l2, l3)) after in
+    let next2 = subst (λ (xs : List ℕ). DataBlocks xs (Some (internal_key i)) (index_of interval (length (front ++ stored block)) groups) groups) shift next in
+    let next3 = subst (λ (n : ℕ). DataBlocks body (Some (internal_key i)) (index_of interval n groups) groups) l3 next2 in
     let here : DataBlock body i.value (e ∷ es) = record {
       handle = handle;
       contents = block;
@@ -65,13 +57,13 @@ stand interval front bound ((e ∷ es) ∷ groups) g b small after =
       held = record { before = front; after = later ++ after; offset_is = refl; size_is = refl; body_is = simp append_assoc };
       block = b.0;
     } in
-    (here, after_bound bound e g.0, self_le (internal_key (last_of e es)), next3)
+    (here, g.0, self_le (internal_key (last_of e es)), next3)
 
 -- ---- ascending entries fall into good groups
 
 abbrev pub First : Option InternalKey → List Entry → Type 0
 First bound [] = Unit {0}
-First bound (e ∷ es) = ComesAfter bound e
+First bound (e ∷ es) = IsAfter bound e
 
 pub any-first : (es : List Entry) → First None es
 any-first [] = tt

@@ -2,7 +2,8 @@
 use Rattle.std.proofs.Common.{◌≡◌, ℕ, ◌+◌, ◌-◌, ◌<◌, ◌≤◌, Bool, true, false, List, [], ◌∷◌, ◌++◌, length, take, drop, Option, Some, None, Result, Ok, Err, refl, sym, ap, ◌∙◌, subst, append_assoc, arith}
 use Rattle.std.specs.List.{flat_map}
 use Rattle.std.proofs.lemmas.List.{take_at, drop_at, length-append, length-drop, append-nil}
-use Rattle.lsm_codec.specs.Entries.{Entry, newest}
+use Rattle.lsm_codec.specs.Keys.{InternalKey}
+use Rattle.lsm_codec.specs.Entries.{Entry, internal_key, newest}
 use Rattle.lsm_block.specs.Block.{IsBlock, Ascends}
 use Rattle.lsm_block.specs.Reading.{block_at}
 use Rattle.lsm_block.specs.Held.{held}
@@ -71,14 +72,14 @@ named body i es d =
     let b = block_again d.contents es d.block in
     rw (h, c, b) refl
 
-pub all_named : (body : List ℕ) (bound : Option Entry) (index : List Entry) (groups : List (List Entry)) → DataBlocks body bound index groups → flat_map (entries_named body) index ≡ concat groups
+pub all_named : (body : List ℕ) (bound : Option InternalKey) (index : List Entry) (groups : List (List Entry)) → DataBlocks body bound index groups → flat_map (entries_named body) index ≡ concat groups
 all_named body bound [] [] d = refl
 all_named body bound [] (group ∷ groups) d = absurd d
 all_named body bound (i ∷ index) [] d = absurd d
 all_named body bound (i ∷ index) ([] ∷ groups) d = absurd d
 all_named body bound (i ∷ index) ((e ∷ es) ∷ groups) d =
     let here = named body i (e ∷ es) d.0 in
-    let later = all_named body (Some i) index groups d.3 in
+    let later = all_named body (Some (internal_key i)) index groups d.3 in
     rw (here, later) refl
 
 -- ---- a row of data blocks
@@ -103,7 +104,7 @@ names_part body i index entries n = by_groups n.groups n.blocks n.entries_are
       others = xs;
       rest = concat groups;
       block = d.0;
-      later = record { bound = Some i; groups = groups; ascends = ascends_tail i index n.ascends; blocks = d.3; entries_are = refl };
+      later = record { bound = Some (internal_key i); groups = groups; ascends = ascends_tail i index n.ascends; blocks = d.3; entries_are = refl };
       entries_are = e;
     }
 

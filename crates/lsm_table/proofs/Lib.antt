@@ -13,3 +13,4 @@ pub mod MakingLaws
 pub mod HeldTableLaws
 pub mod CloseLaws
 pub mod SettleLaws
+pub mod StepLaws

@@ -198,7 +198,7 @@ made_more options entries front taken index e m open_still ascends more more_is 
 
 -- ---- the end
 
-groups_when : (options : TableOptions) → AreInRange options → (groups : List (List Entry)) (taken : List Entry) (full : Bool) → is_full options taken ≡ full → groups_of (closed_when full groups taken) ≡ groups ++ last_group taken
+pub groups_when : (options : TableOptions) → AreInRange options → (groups : List (List Entry)) (taken : List Entry) (full : Bool) → is_full options taken ≡ full → groups_of (closed_when full groups taken) ≡ groups ++ last_group taken
 groups_when options r groups taken true full = append-nil (groups ++ taken ∷ []) ∙ ap (λ (xs : List (List Entry)). groups ++ xs) (sym (not_empty_full options r taken full))
 groups_when options r groups taken false full = refl
 

@@ -2,6 +2,7 @@
 use Rattle.std.specs.Prelude.{◌≡◌, ℕ, List, [], ◌∷◌, ◌++◌, Option, Some, None, Result, Ok, Err}
 use Rattle.std.specs.List.{flat_map}
 use Rattle.lsm_codec.specs.declared.kind.Kind.{Kind}
+use Rattle.lsm_codec.specs.Keys.{InternalKey}
 use Rattle.lsm_codec.specs.Entries.{Entry, shown}
 use Rattle.lsm_block.specs.Block.{Ascends}
 use Rattle.lsm_block.specs.Reading.{block_at}
@@ -38,7 +39,7 @@ left_of body here index = here ++ flat_map (entries_named body) index
 
 -- Index entries name data blocks one after another.
 pub record Names (body : List ℕ) (index : List Entry) (entries : List Entry) : Type 0 where
-  pub bound : Option Entry
+  pub bound : Option InternalKey
   pub groups : List (List Entry)
   pub ascends : Ascends index
   pub blocks : DataBlocks body bound index groups

@@ -228,10 +228,7 @@ impl TableBuilder {
         )? {
             return Err(BuildFault::TooLarge);
         }
-        match self.taken.add(&key, value) {
-            Ok(()) => Ok(()),
-            Err(fault) => Err(fault),
-        }
+        self.taken.add(&key, value)
     }
 
     /// How many bytes the finished data blocks have, with their trailers.
