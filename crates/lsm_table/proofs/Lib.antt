@@ -14,3 +14,4 @@ pub mod HeldTableLaws
 pub mod CloseLaws
 pub mod SettleLaws
 pub mod StepLaws
+pub mod EndLaws

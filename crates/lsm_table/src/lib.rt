@@ -9,6 +9,7 @@ mod handle;
 mod stored_block;
 mod footer;
 mod builder;
+mod check;
 
 pub use builder::TableBuilder;
 pub use lsm_block::BuildFault;
