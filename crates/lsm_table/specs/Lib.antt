@@ -1,0 +1,12 @@
+pub mod Options
+pub mod Fault
+pub mod Reading
+pub mod Handle
+pub mod Footer
+pub mod StoredBlock
+pub mod Table
+pub mod TableReading
+pub mod TableBuilding
+pub mod TableMaking
+pub mod Judging
+pub mod HeldTable

@@ -1,0 +1,17 @@
+//! Sorted tables of entries: a file of blocks, with an index of its data blocks.
+//!
+//! Stands on `lsm_block` and `lsm_codec`. Its contract: a table is its list of entries.
+#![tactic(auto)]
+
+mod table_options;
+mod table_fault;
+mod handle;
+mod stored_block;
+mod footer;
+mod builder;
+mod check;
+
+pub use builder::TableBuilder;
+pub use lsm_block::BuildFault;
+pub use table_fault::TableFault;
+pub use table_options::TableOptions;
