@@ -1,0 +1,3 @@
+pub mod ShelfFault
+pub mod Told
+pub mod Account

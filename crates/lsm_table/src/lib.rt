@@ -1,0 +1,13 @@
+//! Sorted tables, the shelves on which they lie, and the registry of their records.
+//!
+//! Stands on `lsm_codec` and `boxcar`.
+#![tactic(auto)]
+
+mod account;
+mod shelf;
+mod shelf_fault;
+mod slip;
+
+pub use shelf::Shelf;
+pub use shelf_fault::ShelfFault;
+pub use slip::Slip;
