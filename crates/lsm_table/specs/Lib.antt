@@ -1,3 +1,5 @@
 pub mod ShelfFault
 pub mod Told
 pub mod Account
+pub mod Directory
+pub mod MemoryShelf

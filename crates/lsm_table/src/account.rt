@@ -1,7 +1,8 @@
 //! What a shelf's value was told, kept without memory.
 
-ghost use Rattle.std.specs.Prelude.{◌≡◌, ◌∷◌, ◌++◌, [], IfErr};
-ghost use Rattle.lsm_table.specs.Account.{counted_by};
+ghost use Rattle.std.specs.Prelude.{◌≡◌, ◌≤◌, ◌∷◌, ◌++◌, [], IfErr};
+ghost use Rattle.lsm_table.specs.Account.{counted_by, told_in};
+ghost use Rattle.lsm_table.specs.Told.{Place, Counted};
 
 use crate::shelf_fault::ShelfFault;
 use boxcar::tag::{Names, Tag};
@@ -86,6 +87,12 @@ impl Account {
     pub(crate) fn count<T: Drop>(&mut self, outcome: Result<T, ShelfFault>) -> Result<T, ShelfFault>
         ensures same { result ≡ outcome }
         ensures counted { self.new ≡ counted_by outcome self.old }
+        ensures faults { self.old.faults ≤ self.new.faults }
+        ensures misses { self.old.misses ≤ self.new.misses }
+        ensures gone { self.new.gone ≡ self.old.gone }
+        ensures sent { self.new.sent ≡ self.old.sent }
+        ensures found { self.new.found ≡ self.old.found }
+        ensures cause { IfErr result (λ e. (p : Place) → Counted e (told_in p self.old) (told_in p self.new)) }
     {
         match &outcome {
             Err(ShelfFault::Device) => self.faults = self.faults.saturating_add(1),

@@ -4,10 +4,16 @@
 #![tactic(auto)]
 
 mod account;
+mod directory;
+mod image;
+mod memory_receipt;
+mod memory_shelf;
 mod shelf;
 mod shelf_fault;
 mod slip;
 
+pub use memory_receipt::MemoryReceipt;
+pub use memory_shelf::MemoryShelf;
 pub use shelf::Shelf;
 pub use shelf_fault::ShelfFault;
 pub use slip::Slip;
