@@ -3,3 +3,4 @@ pub mod Told
 pub mod Account
 pub mod Directory
 pub mod MemoryShelf
+pub mod Registry

@@ -94,19 +94,28 @@ impl Directory {
     }
 
     /// Makes these bytes the manifest. Answers the bytes that it has then.
-    pub(crate) fn start(&mut self, number: u64, bytes: Vec<u8>) -> Result<Tag, ShelfFault>
-        ensures ok { IfOk result (λ t. (t.numbers ≡ bytes.items) × (manifest_of self.new ≡ Some (number, bytes.items))) }
+    pub(crate) fn start(
+        &mut self,
+        alloc: Global,
+        number: u64,
+        bytes: &[u8],
+    ) -> Result<Tag, ShelfFault>
+        ensures ok { IfOk result (λ t. (t.numbers ≡ bytes.now) × (manifest_of self.new ≡ Some (number, bytes.now))) }
         ensures taken { IsErrOf result (ShelfFault.Taken number) ↔ (contains nat_cmp self.old.started number ≡ true) }
         ensures cause { IfErr result (TakenIs number) }
         ensures err { OnErr result (manifest_of self.new ≡ manifest_of self.old) }
         ensures tables { self.new.tables ≡ self.old.tables }
     {
-        if !self.started.insert(number)? {
+        if self.started.contains(&number) {
             return Err(ShelfFault::Taken(number));
         }
-        let written = tag_of_bytes(bytes.as_slice());
-        self.manifest = Some(Manifest { number, bytes });
-        Ok(written)
+        let copy = Vec::from_slice(alloc, bytes)?;
+        self.started.insert(number)?;
+        self.manifest = Some(Manifest {
+            number,
+            bytes: copy,
+        });
+        Ok(tag_of_bytes(bytes))
     }
 
     /// Puts bytes behind those of the manifest. Answers the bytes that it put there.

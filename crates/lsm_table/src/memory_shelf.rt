@@ -135,8 +135,7 @@ impl Contents {
         ensures ok { IfOk result (λ t. t.numbers ≡ bytes.now) }
         ensures err { IfErr result (TakenIs number) }
     {
-        let bytes = Vec::from_slice(alloc, bytes)?;
-        self.directory.lock(rt).start(number, bytes)
+        self.directory.lock(rt).start(alloc, number, bytes)
     }
 
     /// Appends to the manifest. Answers the bytes that it appended.
