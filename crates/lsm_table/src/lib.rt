@@ -5,7 +5,13 @@
 
 mod account;
 mod directory;
+mod file_names;
+mod file_receipt;
+mod file_shelf;
+mod folder;
 mod image;
+mod io_fault;
+mod listing;
 mod memory_receipt;
 mod memory_shelf;
 mod naming;
@@ -16,6 +22,8 @@ mod slip;
 mod table_record;
 mod table_ref;
 
+pub use file_receipt::FileReceipt;
+pub use file_shelf::FileShelf;
 pub use memory_receipt::MemoryReceipt;
 pub use memory_shelf::MemoryShelf;
 pub use naming::Naming;
