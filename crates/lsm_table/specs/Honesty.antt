@@ -12,6 +12,11 @@ OnFile path bytes = Unit {0}
 pub ReadAnswered : (path : List ℕ) (offset len : ℕ) (bytes : List ℕ) → Type 0
 ReadAnswered path offset len bytes = Unit {0}
 
+-- a call is told in one way
+pub OnFile-prop : (path bytes : List ℕ) → IsProp (OnFile path bytes)
+unfolding OnFile
+OnFile-prop path bytes = Unit-prop
+
 pub on_file : (path bytes : List ℕ) → OnFile path bytes
 unfolding OnFile
 on_file path bytes = tt

@@ -2,7 +2,7 @@
 
 ghost use Rattle.std.specs.Prelude.{◌≡◌, ◌≤◌, ◌^◌, length};
 ghost use Rattle.lsm_table.specs.FileNames.{path_in, table_name};
-ghost use Rattle.lsm_table.specs.Honesty.{OnFile};
+ghost use Rattle.lsm_table.specs.Honesty.{OnFile, OnFile-prop};
 
 use crate::slip::Slip;
 use boxcar::tag::Tag;
@@ -17,7 +17,7 @@ pub struct FileReceipt {
     pub(crate) image: Tag,
     ghost sized: { size ≡ length image.numbers },
     ghost limit: { size ≤ 2 ^ 30 },
-    ghost stored: { ∥ OnFile (path_in folder.numbers (table_name number)) image.numbers ∥₁ },
+    ghost stored: { OnFile (path_in folder.numbers (table_name number)) image.numbers } by { OnFile-prop (path_in folder.numbers (table_name number)) image.numbers },
 }
 
 impl Slip for FileReceipt {

@@ -18,6 +18,8 @@ mod naming;
 mod registry;
 mod shelf;
 mod shelf_fault;
+#[cfg(test)]
+mod shelf_tests;
 mod slip;
 mod table_record;
 mod table_ref;
