@@ -2,10 +2,10 @@
 
 ghost use Rattle.std.specs.Prelude.{◌≡◌, ◌+◌, ◌≤◌, ◌^◌, ◌∷◌, ◌++◌, [], length, take, drop, IfOk, IfErr, OnOk, OnErr, string_bytes};
 ghost use Rattle.std.specs.List.Sorted.{IsStrictlyIncreasing};
-ghost use Rattle.lsm_table.specs.Told.{NotTaken, NotNamed, TakenIs};
+ghost use Rattle.lsm_table.specs.Told.{NotTaken, NotNamed, TakenIs, fresh};
 ghost use Rattle.lsm_table.specs.FileNames.{path_in, table_name};
 ghost use Rattle.lsm_table.specs.Honesty.{ReadAnswered};
-ghost use Rattle.lsm_table.specs.FileShelf.{folder_place, IsOfFolder};
+ghost use Rattle.lsm_table.specs.FileShelf.{IsOfFolder, file_told, folder_place};
 
 use crate::account::{Account, tag_of_both, tag_of_bytes, tag_of_number};
 use crate::file_names::{
@@ -44,7 +44,10 @@ fn number_asked(folder: &str, number: u64, asked: &Tag) -> Tag
 
 impl<R: Files + AllocGlobal + Clone + Drop> FileShelf<R> {
     /// A shelf on the folder of this path. `Device` where it is no folder that can be opened.
-    pub fn open(rt: R, path: &str) -> Result<FileShelf<R>, ShelfFault> {
+    pub fn open(rt: R, path: &str) -> Result<FileShelf<R>, ShelfFault>
+        ensures fresh { IfOk result (λ s. file_told s ≡ fresh (folder_place path.now)) }
+        ensures err { IfErr result NotNamed }
+    {
         let _opened = rt.open_dir(path).map_err(|e| device(e))?;
         Ok(FileShelf {
             path: String::from_str(rt.alloc(), path)?,
@@ -191,14 +194,13 @@ impl<R: Files + AllocGlobal + Clone + Drop> FileShelf<R> {
 }
 
 impl<R: Files + AllocGlobal + Clone + Drop + Send + Sync> Shelf for FileShelf<R> {
-    ghost use Rattle.lsm_table.specs.Account.{told_in};
     ghost use Rattle.lsm_table.specs.Honesty.{FilesAreHonest};
 
     type Receipt = FileReceipt;
 
     ghost honest = { FilesAreHonest };
 
-    ghost told = { λ s. told_in (folder_place (string_bytes s.path)) s.account };
+    ghost told = { file_told };
 
     ghost is_of = { IsOfFolder };
 
@@ -287,4 +289,11 @@ impl<R: Files + AllocGlobal + Clone + Drop + Send + Sync> Shelf for FileShelf<R>
     fn failures(&self) -> (u64, u64) {
         (self.account.faults, self.account.misses)
     }
+}
+
+fn crosses_threads<T: Send>(_: &T) {}
+
+/// A shelf may go to another thread.
+fn is_sent<R: Files + AllocGlobal + Clone + Drop + Send + Sync>(shelf: &FileShelf<R>) {
+    crosses_threads(shelf);
 }

@@ -266,3 +266,10 @@ impl Shelf for MemoryShelf {
         (self.account.faults, self.account.misses)
     }
 }
+
+fn crosses_threads<T: Send>(_: &T) {}
+
+/// A shelf may go to another thread.
+fn is_sent(shelf: &MemoryShelf) {
+    crosses_threads(shelf);
+}
