@@ -20,6 +20,7 @@ use crate::shelf::Shelf;
 use crate::shelf_fault::ShelfFault;
 use boxcar::tag::Tag;
 use std::alloc::Global;
+use std::fs;
 use std::fs::Files;
 use std::sync::Wait;
 
@@ -177,8 +178,20 @@ impl<R: Files + AllocGlobal + Clone + Drop> FileShelf<R> {
         }
         let path = manifest_path(alloc, self.path.as_str(), number)?;
         folder::write_new(&self.rt, path.as_str(), bytes).map_err(|e| taken(e, number))?;
-        self.name_manifest(alloc, number)?;
+        let named = self.name_manifest(alloc, number);
+        if named.is_err() && self.names_another(alloc, number) {
+            let _ = fs::remove_file(&self.rt, path.as_str());
+        }
+        named?;
         Ok(tag_of_bytes(bytes))
+    }
+
+    /// Whether `CURRENT` surely does not name this manifest, so that it may be removed.
+    fn names_another(&self, alloc: Global, number: u64) -> bool {
+        match self.current(alloc) {
+            Ok(named) => named != number,
+            Err(fault) => fault == ShelfFault::Missing,
+        }
     }
 
     /// Appends to the manifest. Answers the bytes that it appended.

@@ -23,6 +23,7 @@ mod shelf_tests;
 mod slip;
 mod table_record;
 mod table_ref;
+mod whole_image;
 
 pub use file_receipt::FileReceipt;
 pub use file_shelf::FileShelf;

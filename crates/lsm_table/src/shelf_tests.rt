@@ -211,8 +211,15 @@ fn a_device_that_fails_is_told(rt: HostRuntime) -> Result<(), Fail> {
     let fault = shelf.read_at(rt.alloc(), &receipt, 0, 10).err();
     assert_eq!(rt; fault, Some(ShelfFault::Device));
 
-    // A manifest on a device that is always full.
+    // A manifest that could not be named is not left behind.
+    let temporary = format!(in rt.alloc(); "{folder}/000001.dbtmp")?;
+    fs::create_dir(&rt, temporary.as_str())?;
+    let started = shelf.start_manifest(&rt, rt.alloc(), 1, b"");
+    assert_eq!(rt; started, Err(ShelfFault::Device));
+    fs::remove_dir(&rt, temporary.as_str())?;
     shelf.start_manifest(&rt, rt.alloc(), 1, b"")?;
+
+    // A manifest on a device that is always full.
     let manifest = format!(in rt.alloc(); "{folder}/MANIFEST-000001")?;
     fs::remove_file(&rt, manifest.as_str())?;
     std::os::unix::fs::symlink(&rt, "/dev/full", manifest.as_str())?;
@@ -231,7 +238,7 @@ fn a_device_that_fails_is_told(rt: HostRuntime) -> Result<(), Fail> {
         shelf.load(&rt, rt.alloc(), 5).err(),
         Some(ShelfFault::Missing)
     );
-    assert_eq!(rt; shelf.failures(), (4, 1));
+    assert_eq!(rt; shelf.failures(), (5, 1));
     assert_eq!(rt;
         FileShelf::open(rt.clone()?, folder).err(),
         Some(ShelfFault::Device)
