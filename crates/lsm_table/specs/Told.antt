@@ -82,3 +82,10 @@ NotNamed OutOfMemory = Unit {0}
 NotNamed Device = Unit {0}
 NotNamed Missing = ⊥
 NotNamed (Taken n) = ⊥
+
+-- the refusals of a shelf that has no device
+abbrev pub NotDevice : ShelfFault → Type 0
+NotDevice OutOfMemory = Unit {0}
+NotDevice Device = ⊥
+NotDevice Missing = Unit {0}
+NotDevice (Taken n) = Unit {0}

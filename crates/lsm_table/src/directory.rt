@@ -6,7 +6,7 @@ ghost use Rattle.std.specs.BTreeMap.{get, keys};
 ghost use Rattle.std.specs.BTreeSet.{contains};
 ghost use Rattle.std.specs.List.Sorted.{IsStrictlyIncreasing};
 ghost use Rattle.lsm_table.specs.Directory.{manifest_of};
-ghost use Rattle.lsm_table.specs.Told.{NotTaken, TakenIs};
+ghost use Rattle.lsm_table.specs.Told.{NotDevice, NotTaken, TakenIs};
 
 use crate::account::{tag_of_bytes, tag_of_number};
 use crate::image::Image;
@@ -85,6 +85,7 @@ impl Directory {
     pub(crate) fn read(&self, alloc: Global) -> Result<(u64, Vec<u8>), ShelfFault>
         ensures ok { IfOk result (λ r. manifest_of self.now ≡ Some (r.0, r.1.items)) }
         ensures missing { IsErrOf result ShelfFault.Missing ↔ (manifest_of self.now ≡ None) }
+        ensures device { IfErr result NotDevice }
         ensures memory { IfSome (manifest_of self.now) (λ m. IfErr result (λ e. e ≡ ShelfFault.OutOfMemory)) }
     {
         match &self.manifest {
@@ -103,6 +104,7 @@ impl Directory {
         ensures ok { IfOk result (λ t. (t.numbers ≡ bytes.now) × (manifest_of self.new ≡ Some (number, bytes.now))) }
         ensures taken { IsErrOf result (ShelfFault.Taken number) ↔ (contains nat_cmp self.old.started number ≡ true) }
         ensures cause { IfErr result (TakenIs number) }
+        ensures device { IfErr result NotDevice }
         ensures err { OnErr result (manifest_of self.new ≡ manifest_of self.old) }
         ensures tables { self.new.tables ≡ self.old.tables }
     {
@@ -123,6 +125,7 @@ impl Directory {
         ensures ok { IfOk result (λ t. (t.numbers ≡ bytes.now) × IfSome (manifest_of self.old) (λ m. manifest_of self.new ≡ Some (m.0, m.1 ++ bytes.now))) }
         ensures missing { IsErrOf result ShelfFault.Missing ↔ (manifest_of self.old ≡ None) }
         ensures cause { IfErr result NotTaken }
+        ensures device { IfErr result NotDevice }
         ensures err { OnErr result (manifest_of self.new ≡ manifest_of self.old) }
         ensures tables { self.new.tables ≡ self.old.tables }
     {

@@ -1,9 +1,9 @@
 //! Tables and a manifest in memory.
 
-ghost use Rattle.std.specs.Prelude.{◌≡◌, ◌+◌, ◌≤◌, ◌^◌, ◌∷◌, ◌++◌, [], length, take, drop, IfOk, IfErr, OnOk, OnErr};
+ghost use Rattle.std.specs.Prelude.{◌≡◌, ◌↔◌, ◌+◌, ◌<◌, ◌≤◌, ◌^◌, ◌∷◌, ◌++◌, [], length, take, drop, IfOk, IfErr, IsErrOf, OnOk, OnErr};
 ghost use Rattle.std.specs.List.Sorted.{IsStrictlyIncreasing};
 ghost use Rattle.boxcar.specs.Table.{Shows};
-ghost use Rattle.lsm_table.specs.Told.{NotTaken, TakenIs};
+ghost use Rattle.lsm_table.specs.Told.{Becomes, Counted, NotDevice, NotNamed, NotTaken, TakenIs, fresh, finding, removing, sending};
 
 use crate::account::{Account, tag_of_both, tag_of_bytes, tag_of_number};
 use crate::directory::Directory;
@@ -34,6 +34,7 @@ impl Contents {
         ensures image { IfOk result (λ r. r.token.value.bytes.items ≡ image.now) }
         ensures shown { IfOk result (λ r. Shows self.now.images r.token) }
         ensures err { IfErr result (TakenIs number) }
+        ensures device { IsErrOf result ShelfFault.Device ↔ (2 ^ 30 < length image.now) }
     {
         if image.len() > MAX_IMAGE {
             return Err(ShelfFault::Device);
@@ -81,6 +82,7 @@ impl Contents {
         ensures image { IfOk result (λ r. r.0.token.value.bytes.items ≡ r.1.items) }
         ensures shown { IfOk result (λ r. Shows self.now.images r.0.token) }
         ensures err { IfErr result NotTaken }
+        ensures device { IfErr result NotDevice }
     {
         let Some(index) = self.directory.lock(rt).index_of(number) else {
             return Err(ShelfFault::Missing);
@@ -103,6 +105,7 @@ impl Contents {
     fn remove<R: Wait>(&self, rt: &R, number: u64) -> (Tag, Result<(), ShelfFault>)
         ensures asked { result.0.numbers ≡ number ∷ [] }
         ensures err { IfErr result.1 NotTaken }
+        ensures device { IfErr result.1 NotDevice }
     {
         let (asked, was) = self.directory.lock(rt).remove(number);
         if was {
@@ -119,7 +122,8 @@ impl Contents {
     }
 
     fn read_manifest<R: Wait>(&self, rt: &R, alloc: Global) -> Result<(u64, Vec<u8>), ShelfFault>
-        ensures { IfErr result NotTaken }
+        ensures err { IfErr result NotTaken }
+        ensures device { IfErr result NotDevice }
     {
         self.directory.lock(rt).read(alloc)
     }
@@ -134,6 +138,7 @@ impl Contents {
     ) -> Result<Tag, ShelfFault>
         ensures ok { IfOk result (λ t. t.numbers ≡ bytes.now) }
         ensures err { IfErr result (TakenIs number) }
+        ensures device { IfErr result NotDevice }
     {
         self.directory.lock(rt).start(alloc, number, bytes)
     }
@@ -142,6 +147,7 @@ impl Contents {
     fn append_manifest<R: Wait>(&self, rt: &R, bytes: &[u8]) -> Result<Tag, ShelfFault>
         ensures ok { IfOk result (λ t. t.numbers ≡ bytes.now) }
         ensures err { IfErr result NotTaken }
+        ensures device { IfErr result NotDevice }
     {
         self.directory.lock(rt).append(bytes)
     }
@@ -155,7 +161,6 @@ pub struct MemoryShelf {
 }
 
 impl MemoryShelf {
-    ghost use Rattle.lsm_table.specs.Told.{fresh};
     ghost use Rattle.lsm_table.specs.MemoryShelf.{memory_told};
 
     /// A shelf without tables and without a manifest.
@@ -189,7 +194,12 @@ impl Shelf for MemoryShelf {
         alloc: Global,
         number: u64,
         image: &[u8],
-    ) -> Result<MemoryReceipt, ShelfFault> {
+    ) -> Result<MemoryReceipt, ShelfFault>
+        ensures receipt { IfOk result (λ r. (r.number ≡ number) × (r.token.value.bytes.items ≡ image.now) × IsOfMemory (memory_told self.old).place r) }
+        ensures told { Becomes (memory_told self.old) (memory_told self.new) }
+        ensures cause { IfErr result (λ e. TakenIs number e × Counted e (memory_told self.old) (memory_told self.new)) }
+        ensures device { IsErrOf result ShelfFault.Device ↔ (2 ^ 30 < length image.now) }
+    {
         let outcome = self.contents.put(rt, alloc, number, image);
         self.account.count(outcome)
     }
@@ -200,7 +210,14 @@ impl Shelf for MemoryShelf {
         receipt: &MemoryReceipt,
         offset: u64,
         len: usize,
-    ) -> Result<Vec<u8>, ShelfFault> {
+    ) -> Result<Vec<u8>, ShelfFault>
+        requires here { IsOfMemory (memory_told self.old).place receipt.now }
+        requires inside { offset + len ≤ length receipt.now.token.value.bytes.items }
+        ensures bytes { IfOk result (λ v. v.items ≡ take len (drop offset receipt.now.token.value.bytes.items)) }
+        ensures told { Becomes (memory_told self.old) (memory_told self.new) }
+        ensures cause { IfErr result (λ e. NotTaken e × Counted e (memory_told self.old) (memory_told self.new)) }
+        ensures memory { IfErr result (λ e. e ≡ ShelfFault.OutOfMemory) }
+    {
         Ok(self.contents.part(alloc, receipt, offset as usize, len)?)
     }
 
@@ -209,18 +226,32 @@ impl Shelf for MemoryShelf {
         rt: &R,
         alloc: Global,
         number: u64,
-    ) -> Result<(MemoryReceipt, Vec<u8>), ShelfFault> {
+    ) -> Result<(MemoryReceipt, Vec<u8>), ShelfFault>
+        ensures receipt { IfOk result (λ r. (r.0.number ≡ number) × (r.0.token.value.bytes.items ≡ r.1.items) × IsOfMemory (memory_told self.old).place r.0) }
+        ensures told { Becomes (memory_told self.old) (memory_told self.new) }
+        ensures cause { IfErr result (λ e. NotTaken e × Counted e (memory_told self.old) (memory_told self.new)) }
+        ensures device { IfErr result NotDevice }
+    {
         let outcome = self.contents.load(rt, alloc, number);
         self.account.count(outcome)
     }
 
-    fn remove<R: Wait>(&mut self, rt: &R, number: u64) -> Result<(), ShelfFault> {
+    fn remove<R: Wait>(&mut self, rt: &R, number: u64) -> Result<(), ShelfFault>
+        ensures told { Becomes (removing number (memory_told self.old)) (memory_told self.new) }
+        ensures cause { IfErr result (λ e. NotTaken e × Counted e (memory_told self.old) (memory_told self.new)) }
+        ensures device { IfErr result NotDevice }
+    {
         let (asked, outcome) = self.contents.remove(rt, number);
         self.account.gone = tag_of_both(&asked, &self.account.gone);
         self.account.count(outcome)
     }
 
-    fn list<R: Wait>(&mut self, rt: &R, alloc: Global) -> Result<Vec<u64>, ShelfFault> {
+    fn list<R: Wait>(&mut self, rt: &R, alloc: Global) -> Result<Vec<u64>, ShelfFault>
+        ensures ascending { IfOk result (λ v. IsStrictlyIncreasing v.items) }
+        ensures told { Becomes (memory_told self.old) (memory_told self.new) }
+        ensures cause { IfErr result (λ e. NotNamed e × Counted e (memory_told self.old) (memory_told self.new)) }
+        ensures memory { IfErr result (λ e. e ≡ ShelfFault.OutOfMemory) }
+    {
         Ok(self.contents.list(rt, alloc)?)
     }
 
@@ -228,7 +259,12 @@ impl Shelf for MemoryShelf {
         &mut self,
         rt: &R,
         alloc: Global,
-    ) -> Result<(u64, Vec<u8>), ShelfFault> {
+    ) -> Result<(u64, Vec<u8>), ShelfFault>
+        ensures ok { IfOk result (λ r. Becomes (finding r.0 r.1.items (memory_told self.old)) (memory_told self.new)) }
+        ensures err { OnErr result (Becomes (memory_told self.old) (memory_told self.new)) }
+        ensures cause { IfErr result (λ e. NotTaken e × Counted e (memory_told self.old) (memory_told self.new)) }
+        ensures device { IfErr result NotDevice }
+    {
         let outcome = self.contents.read_manifest(rt, alloc);
         let (number, bytes) = self.account.count(outcome)?;
         self.account.sent = tag_of_bytes(bytes.as_slice());
@@ -242,20 +278,35 @@ impl Shelf for MemoryShelf {
         alloc: Global,
         number: u64,
         bytes: &[u8],
-    ) -> Result<(), ShelfFault> {
+    ) -> Result<(), ShelfFault>
+        ensures ok { OnOk result (Becomes (sending bytes.now (memory_told self.old)) (memory_told self.new)) }
+        ensures err { OnErr result (Becomes (memory_told self.old) (memory_told self.new)) }
+        ensures cause { IfErr result (λ e. TakenIs number e × Counted e (memory_told self.old) (memory_told self.new)) }
+        ensures device { IfErr result NotDevice }
+    {
         let outcome = self.contents.start_manifest(rt, alloc, number, bytes);
         self.account.sent = self.account.count(outcome)?;
         Ok(())
     }
 
-    fn append_manifest<R: Wait>(&mut self, rt: &R, bytes: &[u8]) -> Result<(), ShelfFault> {
+    fn append_manifest<R: Wait>(&mut self, rt: &R, bytes: &[u8]) -> Result<(), ShelfFault>
+        ensures ok { OnOk result (Becomes (sending ((memory_told self.old).sent ++ bytes.now) (memory_told self.old)) (memory_told self.new)) }
+        ensures err { OnErr result (Becomes (memory_told self.old) (memory_told self.new)) }
+        ensures cause { IfErr result (λ e. NotTaken e × Counted e (memory_told self.old) (memory_told self.new)) }
+        ensures device { IfErr result NotDevice }
+    {
         let outcome = self.contents.append_manifest(rt, bytes);
         let appended = self.account.count(outcome)?;
         self.account.sent = tag_of_both(&self.account.sent, &appended);
         Ok(())
     }
 
-    fn fork(&mut self, _alloc: Global) -> Result<MemoryShelf, ShelfFault> {
+    fn fork(&mut self, _alloc: Global) -> Result<MemoryShelf, ShelfFault>
+        ensures fork { IfOk result (λ s. memory_told s ≡ fresh (memory_told self.old).place) }
+        ensures told { Becomes (memory_told self.old) (memory_told self.new) }
+        ensures cause { IfErr result (λ e. NotNamed e × Counted e (memory_told self.old) (memory_told self.new)) }
+        ensures memory { IfErr result (λ e. e ≡ ShelfFault.OutOfMemory) }
+    {
         Ok(MemoryShelf {
             contents: Arc::try_clone(&self.contents)?,
             account: Account::new(),
