@@ -1,5 +1,5 @@
 -- A shelf in memory, as contracts see it (this project's rule).
-use Rattle.std.specs.Prelude.{◌≡◌}
+use Rattle.std.specs.Prelude.{ℕ, List}
 use Rattle.std.specs.Arc.{arc_value}
 use Rattle.boxcar.specs.Table.{Shows}
 use Rattle.lsm_table.specs.declared.memory_shelf.MemoryShelf.{MemoryShelf}
@@ -14,3 +14,10 @@ memory_told s = told_in (arc_value s.contents).images s.account
 -- the receipt shows an image of that vector
 abbrev pub IsOfMemory : Place → MemoryReceipt → Type 0
 IsOfMemory p r = Shows p r.token
+
+-- the number and the bytes of the image for which it stands
+abbrev pub memory_number : MemoryReceipt → ℕ
+memory_number r = r.number
+
+abbrev pub memory_image : MemoryReceipt → List ℕ
+memory_image r = r.token.value.bytes.items

@@ -178,7 +178,7 @@ impl MemoryShelf {
 }
 
 impl Shelf for MemoryShelf {
-    ghost use Rattle.lsm_table.specs.MemoryShelf.{memory_told, IsOfMemory};
+    ghost use Rattle.lsm_table.specs.MemoryShelf.{IsOfMemory, memory_image, memory_number, memory_told};
 
     type Receipt = MemoryReceipt;
 
@@ -195,7 +195,7 @@ impl Shelf for MemoryShelf {
         number: u64,
         image: &[u8],
     ) -> Result<MemoryReceipt, ShelfFault>
-        ensures receipt { IfOk result (λ r. (r.number ≡ number) × (r.token.value.bytes.items ≡ image.now) × IsOfMemory (memory_told self.old).place r) }
+        ensures receipt { IfOk result (λ r. (memory_number r ≡ number) × (memory_image r ≡ image.now) × IsOfMemory (memory_told self.old).place r) }
         ensures told { Becomes (memory_told self.old) (memory_told self.new) }
         ensures cause { IfErr result (λ e. TakenIs number e × Counted e (memory_told self.old) (memory_told self.new)) }
         ensures device { IsErrOf result ShelfFault.Device ↔ (2 ^ 30 < length image.now) }
@@ -212,8 +212,8 @@ impl Shelf for MemoryShelf {
         len: usize,
     ) -> Result<Vec<u8>, ShelfFault>
         requires here { IsOfMemory (memory_told self.old).place receipt.now }
-        requires inside { offset + len ≤ length receipt.now.token.value.bytes.items }
-        ensures bytes { IfOk result (λ v. v.items ≡ take len (drop offset receipt.now.token.value.bytes.items)) }
+        requires inside { offset + len ≤ length (memory_image receipt.now) }
+        ensures bytes { IfOk result (λ v. v.items ≡ take len (drop offset (memory_image receipt.now))) }
         ensures told { Becomes (memory_told self.old) (memory_told self.new) }
         ensures cause { IfErr result (λ e. NotTaken e × Counted e (memory_told self.old) (memory_told self.new)) }
         ensures memory { IfErr result (λ e. e ≡ ShelfFault.OutOfMemory) }
@@ -227,7 +227,7 @@ impl Shelf for MemoryShelf {
         alloc: Global,
         number: u64,
     ) -> Result<(MemoryReceipt, Vec<u8>), ShelfFault>
-        ensures receipt { IfOk result (λ r. (r.0.number ≡ number) × (r.0.token.value.bytes.items ≡ r.1.items) × IsOfMemory (memory_told self.old).place r.0) }
+        ensures receipt { IfOk result (λ r. (memory_number r.0 ≡ number) × (memory_image r.0 ≡ r.1.items) × IsOfMemory (memory_told self.old).place r.0) }
         ensures told { Becomes (memory_told self.old) (memory_told self.new) }
         ensures cause { IfErr result (λ e. NotTaken e × Counted e (memory_told self.old) (memory_told self.new)) }
         ensures device { IfErr result NotDevice }
