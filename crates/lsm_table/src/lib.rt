@@ -1,9 +1,12 @@
-//! Sorted tables, the shelves on which they lie, and the registry of their records.
+//! Sorted tables as LevelDB's `doc/table_format.md` spells them, the shelves on which tables and the manifest lie, and the
+//! registry of table records.
 //!
-//! Stands on `lsm_codec` and `boxcar`.
+//! Stands on `lsm_codec` for keys and bytes and on `boxcar` for lists that threads share. Its contract: a record of the
+//! registry stands for the image that was put, and under a shelf's premise reads give that image's bytes.
 #![tactic(auto)]
 
 mod account;
+mod contents;
 mod directory;
 mod file_names;
 mod file_receipt;
