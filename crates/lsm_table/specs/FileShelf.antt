@@ -4,7 +4,6 @@ use Rattle.lsm_table.specs.declared.file_receipt.FileReceipt.{FileReceipt}
 use Rattle.lsm_table.specs.declared.file_shelf.FileShelf.{FileShelf}
 use Rattle.lsm_table.specs.Account.{told_in}
 use Rattle.lsm_table.specs.Told.{Place, Told}
-use Rattle.lsm_table.specs.FileNames.{path_in, table_name}
 
 -- a folder's contents are named by its path
 abbrev pub folder_place : List ℕ → Place
