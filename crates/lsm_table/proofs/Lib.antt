@@ -15,3 +15,6 @@ pub mod CloseLaws
 pub mod SettleLaws
 pub mod StepLaws
 pub mod EndLaws
+pub mod Ascending
+pub mod Padding
+pub mod Honest

@@ -10,3 +10,12 @@ pub mod TableBuilding
 pub mod TableMaking
 pub mod Judging
 pub mod HeldTable
+pub mod ShelfFault
+pub mod Told
+pub mod Account
+pub mod Directory
+pub mod MemoryShelf
+pub mod FileNames
+pub mod Honesty
+pub mod FileShelf
+pub mod Registry

@@ -1,17 +1,52 @@
-//! Sorted tables of entries: a file of blocks, with an index of its data blocks.
+//! Sorted tables as LevelDB's `doc/table_format.md` spells them, the shelves on which tables and the manifest lie, and the
+//! registry of table records.
 //!
-//! Stands on `lsm_block` and `lsm_codec`. Its contract: a table is its list of entries.
+//! Stands on `lsm_block` for the blocks of a table, and on `boxcar` for lists that threads share. Its contract: a table is
+//! its list of entries; a record of the registry stands for the image that was put.
 #![tactic(auto)]
 
-mod table_options;
-mod table_fault;
-mod handle;
-mod stored_block;
-mod footer;
+mod account;
 mod builder;
 mod check;
+mod contents;
+mod directory;
+mod file_names;
+mod file_receipt;
+mod file_shelf;
+mod folder;
+mod footer;
+mod handle;
+mod image;
+mod io_fault;
+mod listing;
+mod memory_receipt;
+mod memory_shelf;
+mod naming;
+mod registry;
+mod shelf;
+mod shelf_fault;
+#[cfg(test)]
+mod shelf_tests;
+mod slip;
+mod stored_block;
+mod table_fault;
+mod table_options;
+mod table_record;
+mod table_ref;
+mod whole_image;
 
 pub use builder::TableBuilder;
+pub use file_receipt::FileReceipt;
+pub use file_shelf::FileShelf;
 pub use lsm_block::BuildFault;
+pub use memory_receipt::MemoryReceipt;
+pub use memory_shelf::MemoryShelf;
+pub use naming::Naming;
+pub use registry::Registry;
+pub use shelf::Shelf;
+pub use shelf_fault::ShelfFault;
+pub use slip::Slip;
 pub use table_fault::TableFault;
 pub use table_options::TableOptions;
+pub use table_record::TableRecord;
+pub use table_ref::TableRef;

@@ -1,0 +1,34 @@
+//! What is known of a table.
+
+ghost use Rattle.std.specs.Prelude.{◌≡◌, length};
+
+use crate::slip::Slip;
+use lsm_codec::Bytes;
+
+/// What is known of a table that lies on a shelf: its first and last internal key and the receipt of its image, which has
+/// the table's number and its size.
+#[derive(Drop)]
+pub struct TableRecord<C: Slip> {
+    /// The first internal key of the table.
+    pub smallest: Bytes,
+    /// The last internal key of the table.
+    pub largest: Bytes,
+    /// What the shelf gave for the table's image.
+    pub receipt: C,
+}
+
+impl<C: Slip> TableRecord<C> {
+    /// The number of the table's file.
+    pub fn number(&self) -> u64
+        ensures { result ≡ C.number self.now.receipt }
+    {
+        self.receipt.number()
+    }
+
+    /// The table's size in bytes.
+    pub fn size(&self) -> u64
+        ensures { result ≡ length (C.image self.now.receipt) }
+    {
+        self.receipt.size()
+    }
+}
