@@ -15,3 +15,5 @@ pub mod CloseLaws
 pub mod SettleLaws
 pub mod StepLaws
 pub mod EndLaws
+pub mod JudgeLaws
+pub mod CheckLaws
