@@ -58,7 +58,7 @@ after_is_same (Some b) e = refl
 abbrev pub found_key : InternalKey → Option InternalKey
 found_key key = Some key
 
-some_key : (a b : InternalKey) → found_key a ≡ found_key b → a ≡ b
+pub some_key : (a b : InternalKey) → found_key a ≡ found_key b → a ≡ b
 some_key a b e = cc
 
 pub placed_is : (block : HeldBlock) (old new : Place) (o : Option (List ℕ)) (v : List ℕ) (bound : Option InternalKey) (first key : InternalKey) (value : List ℕ) (r : Bool) → Given block old new o → o ≡ Some v → rest_of block old ≡ block.entries

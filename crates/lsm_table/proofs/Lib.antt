@@ -15,6 +15,10 @@ pub mod CloseLaws
 pub mod SettleLaws
 pub mod StepLaws
 pub mod EndLaws
+pub mod JudgeLaws
+pub mod CheckLaws
+pub mod HeldBlockLaws
+pub mod IterLaws
 pub mod Ascending
 pub mod Padding
 pub mod Honest

@@ -126,3 +126,28 @@ fn judge_data(alloc: Global, body: &[u8], index: &BlockRef<'_>) -> Result<(), Ta
     }
     Ok(())
 }
+
+/// Judges a file: its footer, its index block, and its data blocks. What comes back is the place of the index block.
+#[tactic(auto, unfolding(crate::specs::TableReading::table_at))]
+pub(crate) fn judge(alloc: Global, file: &[u8]) -> Result<Handle, TableFault>
+    ensures whole { Gives (λ _. tt) result (settled (table_at file.now)) }
+    ensures index { IfOk result (λ handle. (footer : Footer) × (footer_at file.now ≡ Ok footer) × (footer.index ≡ handle)) }
+{
+    let footer = match Footer::of(file) {
+        Ok(footer) => footer,
+        Err(fault) => return Err(fault),
+    };
+    let (body, _) = file.split_at(file.len() - FOOTER);
+    let contents = match contents_of(body, footer.index) {
+        Ok(contents) => contents,
+        Err(fault) => return Err(fault),
+    };
+    match check_bytes(alloc, contents) {
+        Ok(()) => {}
+        Err(fault) => return Err(TableFault::from(fault)),
+    }
+    match judge_data(alloc, body, &BlockRef::of(contents)) {
+        Ok(()) => Ok(footer.index),
+        Err(fault) => Err(fault),
+    }
+}
