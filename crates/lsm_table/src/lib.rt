@@ -20,3 +20,6 @@ pub use table::{Table, one_table};
 pub use table_fault::TableFault;
 pub use table_iter::TableIter;
 pub use table_options::TableOptions;
+
+#[cfg(test)]
+mod tests;
