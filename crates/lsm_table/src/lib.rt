@@ -36,6 +36,8 @@ mod table_iter;
 mod table_options;
 mod table_record;
 mod table_ref;
+#[cfg(test)]
+mod tests;
 mod whole_image;
 
 pub use builder::TableBuilder;
