@@ -1,0 +1,3 @@
+pub mod EntryList
+pub mod EntryReading
+pub mod EntryPrinting

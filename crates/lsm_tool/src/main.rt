@@ -1,0 +1,6 @@
+//! The program `lsm`.
+#![tactic(auto)]
+
+mod words;
+
+fn main() {}

@@ -1,0 +1,50 @@
+//! The words of a line.
+
+ghost use Rattle.std.specs.Prelude.{◌≡◌, ℕ, ◌<◌, ◌^◌, List, length};
+ghost use Rattle.std.specs.Option.{option_map};
+ghost use Rattle.lsm_tool.specs.EntryReading.{parts_at, digits_at, sequence_at};
+
+use lsm_codec::MAX_SEQ;
+
+/// What stands before the first separator, and what stands after it.
+pub(crate) fn parts<'a>(separator: u8, text: &'a [u8]) -> Option<(&'a [u8], &'a [u8])>
+    ensures { option_map (λ p. (p.0.now, p.1.now)) result ≡ parts_at separator text.now }
+{
+    for i in 0..text.len() {
+        if text[i] == separator {
+            return Some((&text[..i], &text[i + 1..]));
+        }
+    }
+    None
+}
+
+#[tactic(auto, unfolding(crate::specs::EntryReading::digits_at))]
+fn digits(n: u64, word: &[u8]) -> Option<u64>
+    requires { n < 2 ^ 56 }
+    ensures { result ≡ digits_at n word.now }
+{
+    match word {
+        [] => Some(n),
+        [byte, rest @ ..] => {
+            if !(b'0'..=b'9').contains(byte) {
+                return None;
+            }
+            let n = n * 10 + (byte - b'0') as u64;
+            if n > MAX_SEQ {
+                return None;
+            }
+            digits(n, rest)
+        }
+    }
+}
+
+/// The sequence that a word spells.
+#[tactic(auto, unfolding(crate::specs::EntryReading::sequence_at))]
+pub(crate) fn sequence(word: &[u8]) -> Option<u64>
+    ensures { result ≡ sequence_at word.now }
+{
+    if word.is_empty() || word.len() > 20 {
+        return None;
+    }
+    digits(0, word)
+}
