@@ -1,1 +1,5 @@
 pub mod PartLaws
+pub mod WordLaws
+pub mod SequenceLaws
+pub mod LineLaws
+pub mod ListLaws

@@ -1,5 +1,5 @@
 -- Reading a text list of entries from left to right.
-use Rattle.std.specs.Prelude.{ℕ, suc, ◌+◌, ◌-◌, ◌*◌, ◌^◌, ◌==◌, ◌&&◌, nat_lt, nat_le, Bool, true, false, cond, if◌then◌else◌, List, [], ◌∷◌, ◌++◌, length, codes, Option, Some, None, Result, Ok, Err}
+use Rattle.std.specs.Prelude.{◌≡◌, ℕ, suc, ◌+◌, ◌-◌, ◌*◌, ◌^◌, ◌==◌, ◌&&◌, nat_lt, nat_le, Bool, true, false, cond, if◌then◌else◌, List, [], ◌∷◌, ◌++◌, length, codes, Option, Some, None, Result, Ok, Err}
 use Rattle.std.specs.Ordering.{is_lt}
 use Rattle.std.specs.Str.{bytes_eq}
 use Rattle.hex.specs.Hex.{decode_of}
@@ -78,3 +78,8 @@ entries_at i before (l ∷ ls) = entries_on (suc i) before (λ e. entries_at (su
 -- the entries of a text, or the number of its first bad line
 abbrev pub list_at : List ℕ → Result (List Entry) ℕ
 list_at text = entries_at 0 None (lines_of text)
+
+-- a test that succeeded left what was read, and otherwise nothing is there to read
+abbrev pub Reads : {A : Type 0} → Bool → A → Option A → Type 0
+Reads true found o = o ≡ Some found
+Reads false found o = o ≡ None

@@ -1,3 +1,5 @@
 pub mod EntryList
 pub mod EntryReading
 pub mod EntryPrinting
+pub mod EntryView
+pub mod ReaderView

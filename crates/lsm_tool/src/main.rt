@@ -1,6 +1,8 @@
 //! The program `lsm`.
 #![tactic(auto)]
 
+mod entry_buffer;
+mod entry_reader;
 mod words;
 
 fn main() {}
