@@ -3,3 +3,4 @@ pub mod WordLaws
 pub mod SequenceLaws
 pub mod LineLaws
 pub mod ListLaws
+pub mod PrintLaws

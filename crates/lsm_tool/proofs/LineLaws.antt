@@ -24,25 +24,40 @@ bind_some : {A B : Type 0} (o : Option A) (f : A → Option B) (y : B) → (o >>
 bind_some (Some x) f y e = (x, refl, e)
 bind_some None f y e = absurd cc
 
--- ---- words have no space
+-- ---- words have neither a space nor a newline
 
-digits-HasNo : (ds : List ℕ) → AllDigits 10 ds → HasNo 32 ds
-digits-HasNo [] h = tt
-digits-HasNo (c ∷ cs) h = let range = digit_from_value c h.0 in (λ e. absurd (omega (arith, range.0)), digits-HasNo cs h.1)
+-- no digit, and no dot
+abbrev pub IsBetween : ℕ → Type 0
+IsBetween separator = (separator < 46) × (is_hex_digit separator ≡ false)
 
-hex_digit-other : (c : ℕ) → is_hex_digit c ≡ true → c ≢ 32
-hex_digit-other c h e = let bad : is_hex_digit 32 ≡ true = ap is_hex_digit (sym e) ∙ h in absurd cc
+pub digits-HasNo : (separator : ℕ) (ds : List ℕ) → IsBetween separator → AllDigits 10 ds → HasNo separator ds
+digits-HasNo separator [] b h = tt
+digits-HasNo separator (c ∷ cs) b h =
+    let range = digit_from_value c h.0 in
+    (λ e. absurd (omega (arith, range.0, b.0)), digits-HasNo separator cs b h.1)
 
-hex-HasNo : (cs : List ℕ) → AllPass is_hex_digit cs → HasNo 32 cs
-hex-HasNo [] h = tt
-hex-HasNo (c ∷ cs) h = (hex_digit-other c (All-head (λ (x : ℕ). is_hex_digit x ≡ true) c cs h), hex-HasNo cs (All-tail (λ (x : ℕ). is_hex_digit x ≡ true) c cs h))
+hex_digit-other : (separator c : ℕ) → is_hex_digit separator ≡ false → is_hex_digit c ≡ true → c ≢ separator
+hex_digit-other separator c b h e = let bad : true ≡ false = sym h ∙ ap is_hex_digit e ∙ b in absurd cc
 
-dot-HasNo : (word : List ℕ) → word ≡ codes "." → HasNo 32 word
-dot-HasNo word e = rw e ((λ bad. absurd (omega arith)), tt)
+hex-HasNo : (separator : ℕ) (cs : List ℕ) → is_hex_digit separator ≡ false → AllPass is_hex_digit cs → HasNo separator cs
+hex-HasNo separator [] b h = tt
+hex-HasNo separator (c ∷ cs) b h = (
+  hex_digit-other separator c b (All-head (λ (x : ℕ). is_hex_digit x ≡ true) c cs h),
+  hex-HasNo separator cs b (All-tail (λ (x : ℕ). is_hex_digit x ≡ true) c cs h),
+)
 
-pub word-HasNo : (word bytes : List ℕ) → IsBytesWord word bytes → HasNo 32 word
-word-HasNo word [] h = dot-HasNo word h
-word-HasNo word (b ∷ bs) h = hex-HasNo word (decode_of-ok word (b ∷ bs) h).1
+dot-HasNo : (separator : ℕ) (word : List ℕ) → separator < 46 → word ≡ codes "." → HasNo separator word
+dot-HasNo separator word b e = rw e ((λ bad. absurd (omega arith)), tt)
+
+pub word-HasNo : (separator : ℕ) (word bytes : List ℕ) → IsBetween separator → IsBytesWord word bytes → HasNo separator word
+word-HasNo separator word [] b h = dot-HasNo separator word b.0 h
+word-HasNo separator word (c ∷ cs) b h = hex-HasNo separator word b.1 (decode_of-ok word (c ∷ cs) h).1
+
+pub space : IsBetween 32
+space = (omega arith, refl)
+
+pub newline : IsBetween 10
+newline = (omega arith, refl)
 
 -- ---- what stands after the sequence
 
@@ -124,8 +139,8 @@ entry_takes line e h =
 pub entry_again : (line : List ℕ) (e : Entry) → IsEntryLine line e → entry_at line ≡ Some e
 unfolding entry_at
 entry_again line e l =
-    let e1 = parts_again 32 l.key_word (l.sequence_word ++ (32 ∷ l.action)) (word-HasNo l.key_word e.user l.key) in
-    let e2 = parts_again 32 l.sequence_word l.action (digits-HasNo l.sequence_word l.sequence.digits.1) in
+    let e1 = parts_again 32 l.key_word (l.sequence_word ++ (32 ∷ l.action)) (word-HasNo 32 l.key_word e.user space l.key) in
+    let e2 = parts_again 32 l.sequence_word l.action (digits-HasNo 32 l.sequence_word space l.sequence.digits.1) in
     let e3 = bytes_again most_key l.key_word e.user l.key l.key_fits in
     let e4 = sequence_again l.sequence_word e.seq l.sequence in
     let e5 = action_again l.action e.kind e.value l.acts in

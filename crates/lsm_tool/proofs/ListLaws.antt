@@ -1,9 +1,9 @@
 -- A list is read as it is spelled, and spelled as it is read; the first bad line is told exactly.
-use Rattle.std.proofs.Common.{◌≡◌, ◌≢◌, ℕ, suc, ◌+◌, ◌-◌, ◌<◌, ◌≤◌, Bool, true, false, cond, List, [], ◌∷◌, ◌++◌, length, take, Option, Some, None, Result, Ok, Err, refl, sym, ap, ◌∙◌, subst, arith, inl, inr}
+use Rattle.std.proofs.Common.{◌≡◌, ◌≢◌, ℕ, zero, suc, ◌+◌, ◌-◌, ◌<◌, ◌≤◌, Bool, true, false, cond, List, [], ◌∷◌, ◌++◌, length, take, Option, Some, None, Result, Ok, Err, refl, sym, ap, ◌∙◌, subst, arith, inl, inr}
 use Rattle.std.specs.Prelude.{◌⊎◌}
 use Rattle.std.proofs.Common.{Ordering, Less, Equal, Greater}
 use Rattle.std.specs.Ordering.{is_lt}
-use Rattle.std.proofs.lemmas.Bool.{cases_Bool}
+use Rattle.std.proofs.lemmas.Bool.{cases_Bool, cases_order}
 use Rattle.lsm_codec.specs.Entries.{Entry, entry_cmp}
 use Rattle.lsm_tool.specs.EntryList.{lines_of, AreEntryLines, AreEntries, Ascends, IsEntryList, IsFirstBadLine}
 use Rattle.lsm_tool.specs.EntryReading.{entry_at, may_follow, in_front, entries_on, entries_at, list_at}
@@ -187,3 +187,53 @@ list_bad text i h =
       good = (b.good.0, rw before record { spelled = b.good.1.0; ascending = ascends_is b.good.0 b.good.1.1 });
       bad = λ es a. b.bad es (rw place at (a.spelled), is_ascends es a.ascending);
     }
+
+-- ---- and it is told
+
+-- the front lines of a list are a list
+front_lines : (k : ℕ) (lines : List (List ℕ)) (es : List Entry) → AreEntryLines lines es → AreEntryLines (take k lines) (take k es)
+front_lines zero lines es h = tt
+front_lines (suc k) [] [] h = tt
+front_lines (suc k) [] (e ∷ es) h = absurd h
+front_lines (suc k) (l ∷ ls) [] h = absurd h
+front_lines (suc k) (l ∷ ls) (e ∷ es) h = (h.0, front_lines k ls es h.1)
+
+front_ascends : (k : ℕ) (before : Option Entry) (es : List Entry) → AscendsFrom before es → AscendsFrom before (take k es)
+front_ascends zero before es h = tt
+front_ascends (suc k) before [] h = tt
+front_ascends (suc k) before (e ∷ es) h = (h.0, front_ascends k (Some e) es h.1)
+
+front_is : (k : ℕ) (lines : List (List ℕ)) (es : List Entry) → AreEntries lines es → AreEntries (take k lines) (take k es)
+front_is k lines es a = record {
+  spelled = front_lines k lines es a.spelled;
+  ascending = ascends_is (take k es) (front_ascends k None es (is_ascends es a.ascending));
+}
+
+take_take : (k n : ℕ) (lines : List (List ℕ)) → k ≤ n → take k (take n lines) ≡ take k lines
+take_take zero n lines h = refl
+take_take (suc k) zero lines h = absurd (omega arith)
+take_take (suc k) (suc n) [] h = refl
+take_take (suc k) (suc n) (l ∷ ls) h = ap (λ (xs : List (List ℕ)). l ∷ xs) (take_take k n ls (omega arith))
+
+-- a bad line is not behind another
+no_earlier : (text : List ℕ) (i j : ℕ) → IsFirstBadLine text i → IsFirstBadLine text j → i < j → ⊥
+no_earlier text i j a b h =
+    let short : i ≤ j - 1 = omega arith in
+    let front = front_is i (take (j - 1) (lines_of text)) b.good.0 b.good.1 in
+    a.bad (take i b.good.0) (subst (λ (ls : List (List ℕ)). AreEntries ls (take i b.good.0)) (take_take i (j - 1) (lines_of text) short) front)
+
+pub one_bad : (text : List ℕ) (i j : ℕ) → IsFirstBadLine text i → IsFirstBadLine text j → i ≡ j
+one_bad text i j a b = elim (cases_order i j) [
+  | inl same ↦ same
+  | inr other ↦ elim other [
+    | inl below ↦ absurd (no_earlier text i j a b below)
+    | inr above ↦ absurd (no_earlier text j i b a above)
+  ]
+]
+
+told : (text : List ℕ) (i : ℕ) (r : Result (List Entry) ℕ) → list_at text ≡ r → IsFirstBadLine text i → r ≡ Err i
+told text i (Ok es) h b = absurd (b.bad (take i es) (front_is i (lines_of text) es (list_takes text es h)))
+told text i (Err j) h b = ap (λ k. Err k) (one_bad text j i (list_bad text j h) b)
+
+pub bad_again : (text : List ℕ) (i : ℕ) → IsFirstBadLine text i → list_at text ≡ Err i
+bad_again text i b = told text i (list_at text) refl b

@@ -3,6 +3,7 @@
 
 mod entry_buffer;
 mod entry_reader;
+mod spelling;
 mod words;
 
 fn main() {}
