@@ -3,3 +3,4 @@ pub mod EntryReading
 pub mod EntryPrinting
 pub mod EntryView
 pub mod ReaderView
+pub mod Fault

@@ -3,7 +3,7 @@ use Rattle.std.specs.Prelude.{◌≡◌, ℕ, ◌==◌, ⊤, Bool, true, false, 
 use Rattle.lsm_codec.specs.Entries.{Entry}
 use Rattle.lsm_tool.specs.declared.entry_reader.EntryReader.{EntryReader}
 use Rattle.lsm_tool.specs.declared.entry_reader.LineFault.{LineFault}
-use Rattle.lsm_tool.specs.declared.entry_reader.LineFault.TheVariants.{BadLine, Memory}
+use Rattle.lsm_tool.specs.declared.entry_reader.LineFault.TheVariants.{BadLine, OutOfMemory}
 use Rattle.lsm_tool.specs.EntryList.{lines_of}
 use Rattle.lsm_tool.specs.EntryReading.{entries_at, in_front, may_follow}
 use Rattle.lsm_tool.specs.EntryView.{entry_of}
@@ -27,4 +27,4 @@ Advances false old new = rest_of old ≡ Ok []
 -- a step met a bad line
 abbrev pub Stops : LineFault → EntryReader → Type 0
 Stops (BadLine i) old = rest_of old ≡ Err i
-Stops (Memory e) old = ⊤
+Stops OutOfMemory old = ⊤

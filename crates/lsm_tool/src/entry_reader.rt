@@ -2,7 +2,7 @@
 
 ghost use Rattle.std.specs.Prelude.{◌≡◌, ◌+◌, ◌<◌, ◌^◌, ◌∷◌, length, IfOk, IfErr, None};
 ghost use Rattle.lsm_tool.specs.EntryList.{lines_of};
-ghost use Rattle.lsm_tool.specs.declared.entry_reader.LineFault.TheVariants.{Memory};
+ghost use Rattle.lsm_tool.specs.declared.entry_reader.LineFault.TheVariants.{OutOfMemory};
 
 use crate::entry_buffer::EntryBuffer;
 use crate::words::parts;
@@ -15,14 +15,15 @@ use std::mem;
 pub(crate) enum LineFault {
     /// The number of the first bad line, from 1.
     BadLine(usize),
-    Memory(AllocError),
+    /// A growth of memory was refused.
+    OutOfMemory,
 }
 
 impl From<AllocError> for LineFault {
-    ghost from_gives = { λ e f. f ≡ Memory e };
+    ghost from_gives = { λ _ f. f ≡ OutOfMemory };
 
-    fn from(error: AllocError) -> LineFault {
-        LineFault::Memory(error)
+    fn from(_error: AllocError) -> LineFault {
+        LineFault::OutOfMemory
     }
 }
 

@@ -1,0 +1,9 @@
+-- The faults of the parts as faults of the program.
+use Rattle.lsm_tool.specs.declared.entry_reader.LineFault.{LineFault}
+use Rattle.lsm_tool.specs.declared.entry_reader.LineFault.TheVariants.{BadLine as BadLineOfList, OutOfMemory as NoMemoryForList}
+use Rattle.lsm_tool.specs.declared.fault.Fault.{Fault}
+use Rattle.lsm_tool.specs.declared.fault.Fault.TheVariants.{BadLine, OutOfMemory}
+
+abbrev pub of_line : LineFault → Fault
+of_line (BadLineOfList line) = BadLine line
+of_line NoMemoryForList = OutOfMemory

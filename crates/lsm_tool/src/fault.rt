@@ -1,0 +1,45 @@
+//! Why a command ends with status 1, as the line on standard error says.
+
+ghost use Rattle.std.specs.Prelude.{◌≡◌};
+ghost use Rattle.lsm_tool.specs.Fault.{of_line};
+ghost use Rattle.lsm_tool.specs.declared.fault.Fault.TheVariants.{OutOfMemory};
+
+use crate::entry_reader::LineFault;
+use std::alloc::AllocError;
+use thiserror::Error;
+
+/// What a command could not do. Of a refusal the published number and name, and then its fields.
+#[derive(Debug, Drop, Error)]
+pub(crate) enum Fault {
+    /// A read failed, or there are more than 64 MiB to read.
+    #[error("read fault")]
+    Read,
+    /// A write failed.
+    #[error("write fault")]
+    Write,
+    /// The number of the first bad line, from 1.
+    #[error("bad line {0}")]
+    BadLine(usize),
+    /// A growth of memory was refused.
+    #[error("refused 1 OutOfMemory")]
+    OutOfMemory,
+}
+
+impl From<AllocError> for Fault {
+    ghost from_gives = { λ _ f. f ≡ OutOfMemory };
+
+    fn from(_error: AllocError) -> Fault {
+        Fault::OutOfMemory
+    }
+}
+
+impl From<LineFault> for Fault {
+    ghost from_gives = { λ e f. f ≡ of_line e };
+
+    fn from(error: LineFault) -> Fault {
+        match error {
+            LineFault::BadLine(line) => Fault::BadLine(line),
+            LineFault::OutOfMemory => Fault::OutOfMemory,
+        }
+    }
+}
