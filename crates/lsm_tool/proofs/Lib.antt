@@ -4,3 +4,4 @@ pub mod SequenceLaws
 pub mod LineLaws
 pub mod ListLaws
 pub mod PrintLaws
+pub mod StreamLaws

@@ -18,7 +18,7 @@ pub(crate) fn read_input<R: Read>(alloc: Global, input: &mut R) -> Result<Vec<u8
     ensures fault { IfErr result (λ e. (e ≡ ReadFault) ⊎ (e ≡ OutOfMemory)) }
 {
     let mut bytes = Vec::new(alloc);
-    let read = input.by_ref().take(MAX_INPUT + 1).read_to_end(&mut bytes);
+    let read = (&mut *input).take(MAX_INPUT + 1).read_to_end(&mut bytes);
     match read {
         Err(error) if error.kind() == ErrorKind::OutOfMemory => Err(Fault::OutOfMemory),
         Err(_) => Err(Fault::Read),
