@@ -1,0 +1,10 @@
+pub mod KeyLaws
+pub mod EntryLaws
+pub mod ScanLaws
+pub mod RestartLaws
+pub mod BlockLaws
+pub mod WalkLaws
+pub mod SeenLaws
+pub mod OrderLaws
+pub mod SeekLaws
+pub mod HeldLaws

@@ -1,0 +1,198 @@
+-- Reading from a restart on gives what follows there.
+use Rattle.std.proofs.Common.{◌≡◌, ℕ, zero, suc, ◌+◌, ◌-◌, ◌*◌, ◌/◌, ◌^◌, ◌<◌, ◌≤◌, Bool, true, false, List, [], ◌∷◌, ◌++◌, length, take, drop, get_or, Option, Some, None, refl, sym, ap, ◌∙◌, subst, append_assoc, arith, inl, inr}
+use Rattle.std.specs.Prelude.{◌⊎◌, Contains}
+use Rattle.std.specs.List.{flat_map, AllByRecursion}
+use Rattle.std.specs.Ordering.{is_lt}
+use Rattle.std.specs.Int.{w32, to_le_bytes, from_le_bytes}
+use Rattle.std.proofs.lemmas.Nat.{from_le_bytes-to_le_bytes_4}
+use Rattle.std.proofs.lemmas.List.{take_at, drop_at, length-append, length-drop, drop-drop, drop_all}
+use Rattle.std.proofs.Math.Seq.{drop-append-add}
+use Rattle.lsm_codec.specs.Varint.{varint_at}
+use Rattle.lsm_codec.specs.Keys.{InternalKey, key_cmp}
+use Rattle.lsm_codec.specs.Entries.{Entry, internal_key}
+use Rattle.lsm_codec.proofs.Varints.{IsBytes}
+use Rattle.lsm_block.specs.Block.{EntryText, Spells, Rises, start_at, Ascends, key_text}
+use Rattle.lsm_block.specs.Reading.{Piece, numbers_at, entry_at, entry, key_at}
+use Rattle.lsm_block.specs.Seeking.{readable, read_on, not_below, word_of, Parts}
+use Rattle.lsm_block.proofs.KeyLaws.{key_again}
+use Rattle.lsm_block.proofs.EntryLaws.{sharing, entry_again, entry_again_is, own-some, some_is, leaves, IsBytes-drop}
+use Rattle.lsm_block.proofs.RestartLaws.{Fit, length-spelled}
+use Rattle.lsm_block.proofs.ScanLaws.{either}
+use Rattle.lsm_block.proofs.OrderLaws.{below_front}
+
+-- ---- reading
+
+pub entry-empty : (before : List ℕ) → entry_at before [] ≡ None
+unfolding entry_at numbers_at varint_at
+entry-empty before = refl
+
+pub read_some : (count : ℕ) (before text : List ℕ) (p : Piece) (after : List ℕ) → entry_at before text ≡ Some (p, after)
+    → readable (suc count) before text ≡ entry p ∷ readable count p.key after
+unfolding readable
+read_some count before text p after e = ap (read_on (readable count)) e
+
+pub read_none : (count : ℕ) (before text : List ℕ) → entry_at before text ≡ None → readable count before text ≡ []
+unfolding readable
+read_none zero before text e = refl
+read_none (suc count) before text e = ap (read_on (readable count)) e
+
+-- Any count that is long enough reads the same.
+pub enough : (m n : ℕ) (before text : List ℕ) → IsBytes text → length text ≤ m → length text ≤ n → readable m before text ≡ readable n before text
+enough zero n before text fits h k =
+    elim (either (entry_at before text)) [
+      | inl none ↦ read_none zero before text none ∙ sym (read_none n before text none)
+      | inr found ↦ absurd (omega (arith, (leaves before text found.0.0 found.0.1 fits found.1).shorter))
+    ]
+enough (suc m) zero before text fits h k =
+    elim (either (entry_at before text)) [
+      | inl none ↦ read_none (suc m) before text none ∙ sym (read_none zero before text none)
+      | inr found ↦ absurd (omega (arith, (leaves before text found.0.0 found.0.1 fits found.1).shorter))
+    ]
+enough (suc m) (suc n) before text fits h k =
+    elim (either (entry_at before text)) [
+      | inl none ↦ read_none (suc m) before text none ∙ sym (read_none (suc n) before text none)
+      | inr found ↦
+          let p = found.0.0 in
+          let after = found.0.1 in
+          let l = leaves before text p after fits found.1 in
+          read_some m before text p after found.1
+          ∙ ap (λ (es : List Entry). entry p ∷ es) (enough m n p.key after l.fits (omega (arith, l.shorter)) (omega (arith, l.shorter)))
+          ∙ sym (read_some n before text p after found.1)
+    ]
+
+-- One step, with the same count.
+pub reads_on : (count : ℕ) (before text : List ℕ) (p : Piece) (after : List ℕ) → IsBytes text → length text ≤ count → entry_at before text ≡ Some (p, after)
+    → readable count before text ≡ entry p ∷ readable count p.key after
+reads_on zero before text p after fits h e = absurd (omega (arith, (leaves before text p after fits e).shorter))
+reads_on (suc count) before text p after fits h e =
+    let l = leaves before text p after fits e in
+    read_some count before text p after e ∙ ap (λ (es : List Entry). entry p ∷ es) (enough count (suc count) p.key after l.fits (omega (arith, l.shorter)) (omega (arith, l.shorter)))
+
+-- a text of entries is read as these entries
+pub reads_all : (es : List Entry) (count offset : ℕ) (before text starts : List ℕ) → Spells offset before text starts es → length text ≤ count → readable count before text ≡ es
+reads_all [] count offset before text starts s h = read_none count before text (ap (entry_at before) s.0 ∙ entry-empty before)
+reads_all (e ∷ es) zero offset before text starts s h = absurd (omega (arith, ap (λ (xs : List ℕ). length xs) s.5, length-append s.1 s.2, own-some before s.1 e s.0 s.4))
+reads_all (e ∷ es) (suc count) offset before text starts s h =
+    let some = own-some before s.1 e s.0 s.4 in
+    let len = ap (λ (xs : List ℕ). length xs) s.5 ∙ length-append s.1 s.2 in
+    read_some count before text (sharing s.0 e) s.2 (ap (entry_at before) s.5 ∙ entry_again before s.1 s.2 e s.0 s.4)
+    ∙ ap (λ (x : Entry). x ∷ readable count (key_text e) s.2) (entry_again_is s.0 e s.4.seq_fits)
+    ∙ ap (λ (xs : List Entry). e ∷ xs) (reads_all es count (offset + length s.1) (key_text e) s.2 s.3 s.7 (omega (arith, len, some)))
+
+-- ---- from a restart on
+
+-- the entries from an offset on, where the first of them shares nothing
+pub record Splits (whole : List ℕ) (o : ℕ) (es : List Entry) : Type 0 where
+  pub front : List Entry
+  pub rest : List Entry
+  pub later : List ℕ
+  pub parts : es ≡ front ++ rest
+  pub spelled : Spells o [] (drop o whole) later rest
+
+here_or_later : (shared offset o : ℕ) (others : List ℕ) → Contains (start_at shared offset ++ others) o → ((shared ≡ 0) × (offset ≡ o)) ⊎ Contains others o
+here_or_later zero offset o others (zero, h, is) = inl (refl, is)
+here_or_later zero offset o others (suc k, h, is) = inr (k, omega (arith, h), is)
+here_or_later (suc shared) offset o others c = inr c
+
+-- what shares nothing may follow any key
+after_none : (before own : List ℕ) (e : Entry) → EntryText before e 0 own → EntryText [] e 0 own
+after_none before own e t = record {
+  shared_text = t.shared_text;
+  unshared_text = t.unshared_text;
+  length_text = t.length_text;
+  unshared = t.unshared;
+  shared_is = t.shared_is;
+  unshared_is = t.unshared_is;
+  length_is = t.length_is;
+  within = omega arith;
+  key_is = t.key_is;
+  seq_fits = t.seq_fits;
+  text_is = t.text_is;
+}
+
+splits : (es : List Entry) (offset o : ℕ) (before text starts whole : List ℕ) → Spells offset before text starts es → text ≡ drop offset whole → Contains starts o → Splits whole o es
+splits [] offset o before text starts whole s is c = let d = subst (λ (xs : List ℕ). Contains xs o) s.1 c in absurd (omega (arith, d.1))
+splits (e ∷ es) offset o before text starts whole s is c =
+    let own = s.1 in
+    let rest = s.2 in
+    elim (here_or_later s.0 offset o s.3 (subst (λ (xs : List ℕ). Contains xs o) s.6 c)) [
+      | inl here ↦
+          let t : EntryText [] e 0 own = after_none before own e (subst (λ (n : ℕ). EntryText before e n own) here.0 s.4) in
+          let stands : Spells offset [] text (start_at 0 offset ++ s.3) (e ∷ es) = (0, own, rest, s.3, t, s.5, refl, s.7) in
+          let placed = subst (λ (xs : List ℕ). Spells offset [] xs (start_at 0 offset ++ s.3) (e ∷ es)) is stands in
+          subst (λ (n : ℕ). Splits whole n (e ∷ es)) here.1 (record { front = []; rest = e ∷ es; later = start_at 0 offset ++ s.3; parts = refl; spelled = placed })
+      | inr later ↦
+          let next : rest ≡ drop (offset + length own) whole =
+          sym (drop_at own rest (length own) refl) ∙ ap (drop (length own)) (sym s.5 ∙ is) ∙ drop-drop (length own) offset whole in
+          let sp = splits es (offset + length own) o (key_text e) rest s.3 whole s.7 next later in
+          record { front = e ∷ sp.front; rest = sp.rest; later = sp.later; parts = ap (λ (xs : List Entry). e ∷ xs) sp.parts; spelled = sp.spelled }
+    ]
+
+restart_in : (starts : List ℕ) (b : ℕ) (rs : List ℕ) (i : ℕ) → Rises starts b rs → i < length rs → Contains starts (get_or rs i 0)
+restart_in starts b [] i r h = absurd (omega arith)
+restart_in starts b (x ∷ rs) zero r h = r.1
+restart_in starts b (x ∷ rs) (suc i) r h = restart_in starts x rs i r.2 (omega (arith, h))
+
+word_is : (rs : List ℕ) (i : ℕ) → Fit rs → i < length rs → word_of (flat_map (to_le_bytes w32) rs) i ≡ get_or rs i 0
+word_is [] i f h = absurd (omega arith)
+word_is (r ∷ rs) zero f h =
+    ap (from_le_bytes w32) (take_at (to_le_bytes w32 r) (flat_map (to_le_bytes w32) rs) 4 refl) ∙ from_le_bytes-to_le_bytes_4 r f.0
+word_is (r ∷ rs) (suc i) f h =
+    let k : 4 * suc i ≡ 4 + 4 * i = omega arith in
+    let d : drop (4 + 4 * i) (to_le_bytes w32 r ++ flat_map (to_le_bytes w32) rs) ≡ drop (4 * i) (flat_map (to_le_bytes w32) rs) = drop-append-add (to_le_bytes w32 r) (flat_map (to_le_bytes w32) rs) (4 * i) in
+    ap (λ (n : ℕ). from_le_bytes w32 (take 4 (drop n (to_le_bytes w32 r ++ flat_map (to_le_bytes w32) rs)))) k
+    ∙ ap (λ (xs : List ℕ). from_le_bytes w32 (take 4 xs)) d
+    ∙ word_is rs i f.1 (omega (arith, h))
+
+restart_of : (text offsets : List ℕ) (es : List Entry) (p : Parts text offsets es) (i : ℕ) → i < length (0 ∷ p.restarts) → Splits text (get_or (0 ∷ p.restarts) i 0) es
+restart_of text offsets es p zero h = record { front = []; rest = es; later = p.starts; parts = refl; spelled = p.spelled }
+restart_of text offsets es p (suc i) h = splits es 0 (get_or p.restarts i 0) [] text p.starts text p.spelled refl (restart_in p.starts 0 p.restarts i p.rises (omega (arith, h)))
+
+pub restart_splits : (text offsets : List ℕ) (es : List Entry) → Parts text offsets es → (i : ℕ) → i < length offsets / 4 → Splits text (word_of offsets i) es
+restart_splits text offsets es p i h =
+    let len = ap (λ (xs : List ℕ). length xs) p.offsets_are ∙ length-spelled (0 ∷ p.restarts) in
+    let few : i < length (0 ∷ p.restarts) = omega (arith, len, h) in
+    let w : word_of offsets i ≡ get_or (0 ∷ p.restarts) i 0 = ap (λ (xs : List ℕ). word_of xs i) p.offsets_are ∙ word_is (0 ∷ p.restarts) i (omega arith, p.fits) few in
+    subst (λ (n : ℕ). Splits text n es) (sym w) (restart_of text offsets es p i few)
+
+-- From an entry below the key on, the search finds the same.
+below_there : (key : InternalKey) (text : List ℕ) (o : ℕ) (front rest es : List Entry) (later : List ℕ) (p : Piece) (after : List ℕ) → Ascends es → es ≡ front ++ rest → Spells o [] (drop o text) later rest
+    → entry_at [] (drop o text) ≡ Some (p, after) → is_lt (key_cmp (key_at p.key) key) ≡ true → not_below key rest ≡ not_below key es
+below_there key text o front [] es later p after s is sp e h = let bad = sym e ∙ ap (entry_at []) sp.0 ∙ entry-empty [] in absurd cc
+below_there key text o front (x ∷ xs) es later p after s is sp e h =
+    let again = sym (ap (entry_at []) sp.5 ∙ entry_again [] sp.1 sp.2 x sp.0 sp.4) ∙ e in
+    let pair = some_is (sharing sp.0 x, sp.2) (p, after) again in
+    let same : key_text x ≡ p.key = ap (λ (q : Piece × List ℕ). q.0.key) pair in
+    let of_key : key_at p.key ≡ internal_key x = ap key_at (sym same) ∙ key_again (internal_key x) sp.4.seq_fits in
+    let below : is_lt (key_cmp (internal_key x) key) ≡ true = ap (λ (k : InternalKey). is_lt (key_cmp k key)) (sym of_key) ∙ h in
+    sym (below_front front x xs key (subst Ascends is s) below) ∙ ap (not_below key) (sym is)
+
+pub low_moves : (key : InternalKey) (text offsets : List ℕ) (es : List Entry) (i : ℕ) (p : Piece) (after : List ℕ) → Parts text offsets es → i < length offsets / 4
+    → entry_at [] (drop (word_of offsets i) text) ≡ Some (p, after) → is_lt (key_cmp (key_at p.key) key) ≡ true
+    → not_below key (readable (length text) [] (drop (word_of offsets i) text)) ≡ not_below key es
+low_moves key text offsets es i p after parts lt e h =
+    let sp = restart_splits text offsets es parts i lt in
+    let o = word_of offsets i in
+    ap (not_below key) (reads_all sp.rest (length text) o [] (drop o text) sp.later sp.spelled (omega (arith, length-drop o text)))
+    ∙ below_there key text o sp.front sp.rest es sp.later p after parts.ascends sp.parts sp.spelled e h
+
+pub low_starts : (key : InternalKey) (text offsets : List ℕ) (es : List Entry) → Parts text offsets es → not_below key (readable (length text) [] (drop (word_of offsets 0) text)) ≡ not_below key es
+low_starts key text offsets es p =
+    let w : word_of offsets 0 ≡ 0 = ap (λ (xs : List ℕ). word_of xs 0) p.offsets_are ∙ word_is (0 ∷ p.restarts) 0 (omega arith, p.fits) (omega arith) in
+    ap (λ (n : ℕ). not_below key (readable (length text) [] (drop n text))) w ∙ ap (not_below key) (reads_all es (length text) 0 [] text p.starts p.spelled (omega arith))
+
+-- ---- one step of a scan
+
+pub scan_moves : (text before : List ℕ) (offset : ℕ) (p : Piece) (after : List ℕ) → IsBytes text → offset < length text → entry_at before (drop offset text) ≡ Some (p, after)
+    → (readable (length text) before (drop offset text) ≡ entry p ∷ readable (length text) p.key (drop (length text - length after) text)) × (length after < length text - offset)
+scan_moves text before offset p after fits lt e =
+    let fits2 = IsBytes-drop offset text fits in
+    let len = length-drop offset text in
+    let l = leaves before (drop offset text) p after fits2 e in
+    let k : offset + (length (drop offset text) - length after) ≡ length text - length after = omega (arith, l.shorter, len) in
+    let there : drop (length text - length after) text ≡ after =
+    ap (λ (n : ℕ). drop n text) (sym k) ∙ sym (drop-drop (length (drop offset text) - length after) offset text) ∙ l.place in
+    (reads_on (length text) before (drop offset text) p after fits2 (omega (arith, len)) e ∙ ap (λ (xs : List ℕ). entry p ∷ readable (length text) p.key xs) (sym there), omega (arith, l.shorter, len))
+
+pub scan_ends : (text before : List ℕ) (offset : ℕ) → length text ≤ offset → readable (length text) before (drop offset text) ≡ []
+scan_ends text before offset h = read_none (length text) before (drop offset text) (ap (entry_at before) (drop_all offset text h) ∙ entry-empty before)

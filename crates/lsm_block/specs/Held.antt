@@ -1,0 +1,55 @@
+-- A block that is held, and a place in it.
+use Rattle.std.specs.Prelude.{◌≡◌, ℕ, Bool, true, false, cond, List, [], ◌∷◌, length, drop, Option, Some, None, Result, Ok, Err}
+use Rattle.lsm_codec.specs.Keys.{InternalKey, key_bytes}
+use Rattle.lsm_codec.specs.Entries.{Entry}
+use Rattle.lsm_block.specs.Block.{IsBlock}
+use Rattle.lsm_block.specs.declared.fault.BlockFault.{BlockFault}
+use Rattle.lsm_block.specs.Reading.{is_internal, key_at, block_at}
+use Rattle.lsm_block.specs.Seeking.{readable}
+
+-- a block: its entries, and the text that spells them
+pub record HeldBlock : Type 0 where
+  pub text : List ℕ
+  pub entries : List Entry
+
+-- a place in a block: an offset in the text, and the key of the entry before it, if one was read
+pub record Place : Type 0 where
+  pub offset : ℕ
+  pub last : Option InternalKey
+
+abbrev pub bytes_of : Option InternalKey → List ℕ
+bytes_of None = []
+bytes_of (Some key) = key_bytes key
+
+-- the entries of a block from a place on
+abbrev pub rest_of : HeldBlock → Place → List Entry
+rest_of block place = readable (length block.text) (bytes_of place.last) (drop place.offset block.text)
+
+abbrev pub first_of : List Entry → Option Entry
+first_of [] = None
+first_of (e ∷ es) = Some e
+
+-- the text and the entries that it spells
+abbrev pub text_and_entries : List ℕ → HeldBlock
+text_and_entries text = record { text = text; entries = readable (length text) [] text }
+
+-- the bytes are a block of the entries, whose text has this length
+pub record Holds (bytes : List ℕ) (text_len : ℕ) (entries : List Entry) : Type 0 where
+  pub block : IsBlock bytes entries
+  pub text_len_is : text_len ≡ length block.text
+
+-- the key that the bytes are, if they are one
+abbrev pub last_if : Bool → List ℕ → Option InternalKey
+last_if true bytes = Some (key_at bytes)
+last_if false bytes = None
+
+unfoldable pub last_of : List ℕ → Option InternalKey
+last_of bytes = last_if (is_internal bytes) bytes
+
+abbrev pub or_none : Result (List Entry) BlockFault → List Entry
+or_none (Ok es) = es
+or_none (Err f) = []
+
+-- the entries of the block that the bytes are, and none where they are no block
+unfoldable pub held : List ℕ → List Entry
+held bytes = or_none (block_at bytes)

@@ -1,0 +1,41 @@
+-- Reading a block from a place on, and the first entry not below a key.
+use Rattle.std.specs.Prelude.{◌≡◌, ℕ, zero, suc, ◌+◌, ◌*◌, ◌^◌, ◌<◌, Bool, true, false, List, [], ◌∷◌, take, drop, Option, Some, None}
+use Rattle.std.specs.List.{flat_map, AllByRecursion}
+use Rattle.std.specs.Ordering.{is_lt}
+use Rattle.std.specs.Int.{w32, to_le_bytes, from_le_bytes}
+use Rattle.lsm_codec.specs.Keys.{InternalKey, key_cmp}
+use Rattle.lsm_codec.specs.Entries.{Entry, internal_key}
+use Rattle.lsm_block.specs.Block.{Spells, Ascends, Rises}
+use Rattle.lsm_block.specs.Reading.{Piece, entry_at, entry}
+
+abbrev pub read_on : (List ℕ → List ℕ → List Entry) → Option (Piece × List ℕ) → List Entry
+read_on later None = []
+read_on later (Some found) = entry found.0 ∷ later found.0.key found.1
+
+-- the entries that can be read from the front of a text on, after the key before it; the count is no less than they are
+unfoldable pub readable : ℕ → List ℕ → List ℕ → List Entry
+readable zero before text = []
+readable (suc count) before text = read_on (readable count) (entry_at before text)
+
+abbrev pub drop_if : Bool → List Entry → List Entry → List Entry
+drop_if true later all = later
+drop_if false later all = all
+
+-- from the first entry on whose key is not below this one
+unfoldable pub not_below : InternalKey → List Entry → List Entry
+not_below key [] = []
+not_below key (e ∷ es) = drop_if (is_lt (key_cmp (internal_key e) key)) (not_below key es) (e ∷ es)
+
+-- the number at this place of a row of numbers of four bytes
+abbrev pub word_of : List ℕ → ℕ → ℕ
+word_of bytes i = from_le_bytes w32 (take 4 (drop (4 * i) bytes))
+
+-- the text and the restart bytes of a block of the entries
+pub record Parts (text offsets : List ℕ) (entries : List Entry) : Type 0 where
+  pub starts : List ℕ
+  pub restarts : List ℕ
+  pub spelled : Spells 0 [] text starts entries
+  pub ascends : Ascends entries
+  pub rises : Rises starts 0 restarts
+  pub fits : AllByRecursion (λ offset. offset < 2 ^ 32) restarts
+  pub offsets_are : offsets ≡ flat_map (to_le_bytes w32) (0 ∷ restarts)

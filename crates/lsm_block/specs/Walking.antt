@@ -1,0 +1,47 @@
+-- One walk over the entries of a block and its restart offsets side by side.
+use Rattle.std.specs.Prelude.{ℕ, zero, suc, ◌&&◌, Bool, true, false, nat_lt, nat_le, ◌==◌, if◌then◌else◌, List, [], ◌∷◌, Option, Some, None}
+use Rattle.std.specs.List.{list_all}
+use Rattle.lsm_block.specs.declared.fault.BlockFault.{BlockFault}
+use Rattle.lsm_block.specs.declared.fault.BlockFault.TheVariants.{BadEntry}
+use Rattle.lsm_block.specs.Reading.{Piece, Scan, starts_of, rises, disorder, entry_fault, restart_fault}
+
+-- what is seen of an entry that was read: how much of its key is shared, its key, its value, and what follows it
+abbrev pub seen : Piece × List ℕ → ℕ × List ℕ × List ℕ × List ℕ
+seen found = (found.0.shared, found.0.key, found.0.value, found.1)
+
+-- The offset before the walk, and those that are left: the first is passed where it is 0. Where it is not, none follows it,
+-- since it does not rise above itself.
+abbrev pub begun : List ℕ → ℕ × List ℕ
+begun [] = (0, [])
+begun (zero ∷ offsets) = (0, offsets)
+begun (suc offset ∷ offsets) = (suc offset, suc offset ∷ offsets)
+
+-- The restart offsets that are left, and the last one before them, when an entry that stands here was read. An offset
+-- that is not beyond the entry has to be its own: it shares nothing then, and the offset rises.
+unfoldable pub passed : ℕ → List ℕ → ℕ → ℕ → Option (ℕ × List ℕ)
+passed before [] start shared = Some (before, [])
+passed before (offset ∷ offsets) start shared =
+    if nat_lt start offset then Some (before, offset ∷ offsets)
+    else (if (offset == start) && (shared == 0) && nat_lt before offset then Some (offset, offsets) else None)
+
+abbrev pub if_none : Option ℕ → Option ℕ → Option ℕ
+if_none None later = later
+if_none (Some offset) later = Some offset
+
+-- The first fault of what is left: where an entry before it was out of order, the last restart offset that was passed
+-- and those that are left, the key before, and what is read from here on.
+abbrev pub fault_from : Option ℕ → ℕ → List ℕ → List ℕ → Scan → Option BlockFault
+fault_from out before offsets key later =
+    restart_fault (rises later.stop (starts_of later.placed) before offsets) (entry_fault later.stop (if_none out (disorder key later.placed)))
+
+-- the fault of a block whose reading stops here
+abbrev pub fault_at_stop : ℕ → List ℕ → Option BlockFault
+fault_at_stop start offsets = restart_fault (list_all (λ offset. nat_le start offset) offsets) (Some (BadEntry start))
+
+abbrev pub is_nothing : List ℕ → Bool
+is_nothing [] = true
+is_nothing (offset ∷ offsets) = false
+
+-- the fault of a block whose entries can all be read
+abbrev pub fault_at_end : Option ℕ → List ℕ → Option BlockFault
+fault_at_end out offsets = restart_fault (is_nothing offsets) (entry_fault None out)

@@ -1,0 +1,11 @@
+pub mod ByteLists
+pub mod ReadingLaws
+pub mod HandleLaws
+pub mod StoredBlockLaws
+pub mod FooterLaws
+pub mod DataLaws
+pub mod TableLaws
+pub mod KeyOrder
+pub mod SearchLaws
+pub mod IndexLaws
+pub mod BuildingLaws

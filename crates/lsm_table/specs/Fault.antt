@@ -1,0 +1,25 @@
+-- The published numbers of refusals, and a block's refusal as one of its table.
+use Rattle.std.specs.Prelude.{ℕ}
+use Rattle.lsm_block.specs.declared.fault.BlockFault.{BlockFault}
+use Rattle.lsm_block.specs.declared.fault.BlockFault.TheVariants as block
+use Rattle.lsm_table.specs.declared.table_fault.TableFault.{TableFault}
+use Rattle.lsm_table.specs.declared.table_fault.TableFault.TheVariants.{OutOfMemory, BadRestarts, BadEntry, OutOfOrder, ShortFile, BadMagic, BadHandle, BadChecksum, Compressed, BadBlockType, BadIndex}
+
+abbrev pub number_of : TableFault → ℕ
+number_of OutOfMemory = 1
+number_of BadRestarts = 6
+number_of (BadEntry offset) = 7
+number_of (OutOfOrder offset) = 8
+number_of ShortFile = 12
+number_of BadMagic = 13
+number_of BadHandle = 14
+number_of (BadChecksum offset) = 15
+number_of (Compressed kind) = 16
+number_of (BadBlockType kind) = 17
+number_of BadIndex = 18
+
+abbrev pub of_block : BlockFault → TableFault
+of_block block.OutOfMemory = OutOfMemory
+of_block block.BadRestarts = BadRestarts
+of_block (block.BadEntry offset) = BadEntry offset
+of_block (block.OutOfOrder offset) = OutOfOrder offset

@@ -1,0 +1,13 @@
+//! Sorted tables of entries: a file of blocks, with an index of its data blocks.
+//!
+//! Stands on `lsm_block` and `lsm_codec`. Its contract: a table is its list of entries.
+#![tactic(auto)]
+
+mod footer;
+mod handle;
+mod stored_block;
+mod table_fault;
+mod table_options;
+
+pub use table_fault::TableFault;
+pub use table_options::TableOptions;

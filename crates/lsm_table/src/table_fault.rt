@@ -1,0 +1,98 @@
+//! Why bytes are no table.
+
+ghost use Rattle.std.specs.Prelude.{◌≡◌};
+ghost use Rattle.lsm_table.specs.declared.table_fault.TableFault.TheVariants.{OutOfMemory};
+ghost use Rattle.lsm_table.specs.Fault.{number_of, of_block};
+
+use lsm_block::BlockFault;
+use std::alloc::{AllocError, AllocFailed};
+use thiserror::Error;
+
+/// Why a table could not be read. The offset of `BadChecksum` counts bytes from the start of the file, those of `BadEntry`
+/// and `OutOfOrder` from the start of their block.
+#[derive(Clone, Copy, Debug, Drop, Error, PartialEq, Eq)]
+pub enum TableFault {
+    /// A growth of memory was refused.
+    #[error("OutOfMemory")]
+    OutOfMemory,
+    /// The restarts of a block are wrong.
+    #[error("BadRestarts")]
+    BadRestarts,
+    /// An entry of a block cannot be read, or its key is no internal key.
+    #[error("BadEntry {0}")]
+    BadEntry(u64),
+    /// A key of a block is not greater than the one before it.
+    #[error("OutOfOrder {0}")]
+    OutOfOrder(u64),
+    /// The file has fewer than 48 bytes.
+    #[error("ShortFile")]
+    ShortFile,
+    /// The last eight bytes are not those of a table.
+    #[error("BadMagic")]
+    BadMagic,
+    /// A place in the footer cannot be decoded, or a block lies outside the part before the footer.
+    #[error("BadHandle")]
+    BadHandle,
+    /// The checksum of the block at this offset is wrong.
+    #[error("BadChecksum {0}")]
+    BadChecksum(u64),
+    /// A block is compressed: type 1 (Snappy) or 2 (Zstandard).
+    #[error("Compressed {0}")]
+    Compressed(u8),
+    /// A block has a type above 2.
+    #[error("BadBlockType {0}")]
+    BadBlockType(u8),
+    /// The value of an index entry is not one place, a data block has no entry, or its keys do not lie between the index keys.
+    #[error("BadIndex")]
+    BadIndex,
+}
+
+impl TableFault {
+    /// The published number of the refusal.
+    pub fn number(&self) -> u8
+        ensures { result ≡ number_of self.now }
+    {
+        match self {
+            TableFault::OutOfMemory => 1,
+            TableFault::BadRestarts => 6,
+            TableFault::BadEntry(_) => 7,
+            TableFault::OutOfOrder(_) => 8,
+            TableFault::ShortFile => 12,
+            TableFault::BadMagic => 13,
+            TableFault::BadHandle => 14,
+            TableFault::BadChecksum(_) => 15,
+            TableFault::Compressed(_) => 16,
+            TableFault::BadBlockType(_) => 17,
+            TableFault::BadIndex => 18,
+        }
+    }
+}
+
+impl From<BlockFault> for TableFault {
+    ghost from_gives = { λ fault e. e ≡ of_block fault };
+
+    fn from(fault: BlockFault) -> TableFault {
+        match fault {
+            BlockFault::OutOfMemory => TableFault::OutOfMemory,
+            BlockFault::BadRestarts => TableFault::BadRestarts,
+            BlockFault::BadEntry(offset) => TableFault::BadEntry(offset),
+            BlockFault::OutOfOrder(offset) => TableFault::OutOfOrder(offset),
+        }
+    }
+}
+
+impl From<AllocError> for TableFault {
+    ghost from_gives = { λ _ e. e ≡ OutOfMemory };
+
+    fn from(_error: AllocError) -> TableFault {
+        TableFault::OutOfMemory
+    }
+}
+
+impl<T: Drop> From<AllocFailed<T>> for TableFault {
+    ghost from_gives = { λ _ e. e ≡ OutOfMemory };
+
+    fn from(_error: AllocFailed<T>) -> TableFault {
+        TableFault::OutOfMemory
+    }
+}
