@@ -4,8 +4,9 @@ use Rattle.std.specs.Prelude.{◌⊎◌}
 use Rattle.std.proofs.Common.{Ordering, Less, Equal, Greater}
 use Rattle.std.specs.Ordering.{is_lt}
 use Rattle.std.proofs.lemmas.Bool.{cases_Bool, cases_order}
+use Rattle.lsm_block.specs.Block.{Ascends}
 use Rattle.lsm_codec.specs.Entries.{Entry, entry_cmp}
-use Rattle.lsm_tool.specs.EntryList.{lines_of, AreEntryLines, AreEntries, Ascends, IsEntryList, IsFirstBadLine}
+use Rattle.lsm_tool.specs.EntryList.{lines_of, AreEntryLines, AreEntries, IsEntryList, IsFirstBadLine}
 use Rattle.lsm_tool.specs.EntryReading.{entry_at, may_follow, in_front, entries_on, entries_at, list_at}
 use Rattle.lsm_tool.proofs.PartLaws.{lines_of-nil}
 use Rattle.lsm_tool.proofs.LineLaws.{entry_takes, entry_again}

@@ -8,8 +8,9 @@ use Rattle.hex.specs.Hex.{IsBytes, encode_lower}
 use Rattle.hex.proofs.HexLemmas.{decode_of-encode_lower}
 use Rattle.lsm_codec.specs.declared.kind.Kind.{Kind}
 use Rattle.lsm_codec.specs.declared.kind.Kind.TheVariants.{Deletion, Value}
+use Rattle.lsm_block.specs.Block.{Ascends}
 use Rattle.lsm_codec.specs.Entries.{Entry}
-use Rattle.lsm_tool.specs.EntryList.{IsBytesWord, IsSequenceWord, IsAction, IsEntryLine, IsEntryList, AreEntryLines, Ascends, lines_of, most_key, most_value}
+use Rattle.lsm_tool.specs.EntryList.{IsBytesWord, IsSequenceWord, IsAction, IsEntryLine, IsEntryList, AreEntryLines, lines_of, most_key, most_value}
 use Rattle.lsm_tool.specs.EntryPrinting.{bytes_word, action_text, entry_line, entry_list, IsPlainValue, IsListable}
 use Rattle.lsm_tool.proofs.PartLaws.{HasNo, HasNo-append, parts_again, first_line_is, lines_of-nil}
 use Rattle.lsm_tool.proofs.LineLaws.{IsBetween, newline, digits-HasNo, word-HasNo}

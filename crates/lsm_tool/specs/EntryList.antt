@@ -2,11 +2,11 @@
 -- One entry a line, `KEY SEQ put VALUE` or `KEY SEQ del`, in the order of tables.
 use Rattle.std.specs.Prelude.{◌≡◌, ℕ, ◌-◌, ◌^◌, ◌<◌, ◌≤◌, ◌==◌, ⊤, cond, List, [], ◌∷◌, ◌++◌, length, take, codes, Ok}
 use Rattle.std.specs.Str.Parse.{IsNumeral, digits_value}
-use Rattle.std.specs.declared.cmp.Ordering.TheVariants.{Less}
 use Rattle.hex.specs.Hex.{decode_of}
 use Rattle.lsm_codec.specs.declared.kind.Kind.{Kind}
 use Rattle.lsm_codec.specs.declared.kind.Kind.TheVariants.{Deletion, Value}
-use Rattle.lsm_codec.specs.Entries.{Entry, entry_cmp}
+use Rattle.lsm_codec.specs.Entries.{Entry}
+use Rattle.lsm_block.specs.Block.{Ascends}
 
 abbrev pub with_first : ℕ → List (List ℕ) → List (List ℕ)
 with_first c [] = (c ∷ []) ∷ []
@@ -59,12 +59,6 @@ AreEntryLines [] [] = ⊤
 AreEntryLines [] (e ∷ es) = ⊥
 AreEntryLines (l ∷ ls) [] = ⊥
 AreEntryLines (l ∷ ls) (e ∷ es) = IsEntryLine l e × AreEntryLines ls es
-
--- each entry stands after the one before it
-abbrev pub Ascends : List Entry → Type 0
-Ascends [] = ⊤
-Ascends (e ∷ []) = ⊤
-Ascends (e ∷ f ∷ es) = (entry_cmp e f ≡ Less) × Ascends (f ∷ es)
 
 -- The lines are a list of the entries.
 pub record AreEntries (lines : List (List ℕ)) (entries : List Entry) : Type 0 where

@@ -4,3 +4,4 @@ pub mod EntryPrinting
 pub mod EntryView
 pub mod ReaderView
 pub mod Fault
+pub mod Commands

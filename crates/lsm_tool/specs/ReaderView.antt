@@ -1,5 +1,5 @@
 -- What a reader of a text list has still to read.
-use Rattle.std.specs.Prelude.{◌≡◌, ℕ, ◌==◌, ⊤, Bool, true, false, cond, List, [], Option, Some, None, Result, Ok, Err}
+use Rattle.std.specs.Prelude.{◌≡◌, ℕ, ◌==◌, ⊤, Bool, true, false, cond, List, [], Option, Some, None, Result, Ok, Err, length}
 use Rattle.lsm_codec.specs.Entries.{Entry}
 use Rattle.lsm_tool.specs.declared.entry_reader.EntryReader.{EntryReader}
 use Rattle.lsm_tool.specs.declared.entry_reader.LineFault.{LineFault}
@@ -28,3 +28,7 @@ Advances false old new = rest_of old ≡ Ok []
 abbrev pub Stops : LineFault → EntryReader → Type 0
 Stops (BadLine i) old = rest_of old ≡ Err i
 Stops OutOfMemory old = ⊤
+
+-- how much is still to read
+abbrev pub left_of : EntryReader → ℕ
+left_of r = length r.rest.now

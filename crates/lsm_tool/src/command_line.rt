@@ -50,6 +50,7 @@ fn command<'a>(alloc: Global) -> Result<Command<'a>, AllocError> {
     Command::new(alloc, "lsm")
         .about("Makes LevelDB's files, and shows what is in them")
         .no_binary_name(true)
+        .bin_name("lsm")?
         .subcommand_required(true)
         .subcommand(make_table)?
         .subcommand(dump)

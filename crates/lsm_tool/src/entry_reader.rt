@@ -1,6 +1,6 @@
 //! The entries of a text list, one after another.
 
-ghost use Rattle.std.specs.Prelude.{◌≡◌, ◌+◌, ◌<◌, ◌^◌, ◌∷◌, length, IfOk, IfErr, None};
+ghost use Rattle.std.specs.Prelude.{◌≡◌, ◌+◌, ◌<◌, ◌^◌, ◌∷◌, length, IfOk, IfErr, None, true};
 ghost use Rattle.lsm_tool.specs.EntryList.{lines_of};
 ghost use Rattle.lsm_tool.specs.declared.entry_reader.LineFault.TheVariants.{OutOfMemory};
 
@@ -39,7 +39,7 @@ pub(crate) struct EntryReader<'a> {
 
 impl<'a> EntryReader<'a> {
     ghost use Rattle.lsm_tool.specs.EntryReading.{list_at};
-    ghost use Rattle.lsm_tool.specs.ReaderView.{before_of, rest_of, Advances, Stops};
+    ghost use Rattle.lsm_tool.specs.ReaderView.{before_of, rest_of, left_of, Advances, Stops};
 
     pub(crate) fn new(alloc: Global, text: &'a [u8]) -> EntryReader<'a>
         ensures rest { rest_of result ≡ list_at text.now }
@@ -58,6 +58,7 @@ impl<'a> EntryReader<'a> {
     pub(crate) fn next(&mut self) -> Result<bool, LineFault>
         ensures ok { IfOk result (λ more. Advances more self.old self.new) }
         ensures err { IfErr result (λ e. Stops e self.old) }
+        ensures shorter { IfOk result (λ more. more ≡ true → left_of self.new < left_of self.old) }
     {
         if self.rest.is_empty() {
             return Ok(false);

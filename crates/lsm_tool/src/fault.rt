@@ -1,10 +1,11 @@
 //! Why a command ends with status 1, as the line on standard error says.
 
 ghost use Rattle.std.specs.Prelude.{◌≡◌};
-ghost use Rattle.lsm_tool.specs.Fault.{of_line};
+ghost use Rattle.lsm_tool.specs.Fault.{of_line, of_table};
 ghost use Rattle.lsm_tool.specs.declared.fault.Fault.TheVariants.{OutOfMemory};
 
 use crate::entry_reader::LineFault;
+use lsm_table::TableFault;
 use std::alloc::AllocError;
 use thiserror::Error;
 
@@ -23,6 +24,9 @@ pub(crate) enum Fault {
     /// A growth of memory was refused.
     #[error("refused 1 OutOfMemory")]
     OutOfMemory,
+    /// Bytes are no table.
+    #[error("refused {} {}", .0.number(), .0)]
+    Table(TableFault),
 }
 
 impl From<AllocError> for Fault {
@@ -40,6 +44,17 @@ impl From<LineFault> for Fault {
         match error {
             LineFault::BadLine(line) => Fault::BadLine(line),
             LineFault::OutOfMemory => Fault::OutOfMemory,
+        }
+    }
+}
+
+impl From<TableFault> for Fault {
+    ghost from_gives = { λ e f. f ≡ of_table e };
+
+    fn from(error: TableFault) -> Fault {
+        match error {
+            TableFault::OutOfMemory => Fault::OutOfMemory,
+            fault => Fault::Table(fault),
         }
     }
 }

@@ -1,0 +1,26 @@
+-- What the commands answer, and what their faults say.
+use Rattle.std.specs.Prelude.{◌≡◌, ℕ, ⊤, List, Err}
+use Rattle.lsm_codec.specs.Entries.{Entry}
+use Rattle.lsm_table.specs.Table.{IsTable}
+use Rattle.lsm_table.specs.TableReading.{table_at}
+use Rattle.lsm_tool.specs.declared.command_line.CommandName.{CommandName}
+use Rattle.lsm_tool.specs.declared.command_line.CommandName.TheVariants.{MakeTable, Dump}
+use Rattle.lsm_tool.specs.declared.fault.Fault.{Fault}
+use Rattle.lsm_tool.specs.declared.fault.Fault.TheVariants.{Read, Write, BadLine, OutOfMemory, Table}
+use Rattle.lsm_tool.specs.EntryList.{IsEntryList, IsFirstBadLine}
+use Rattle.lsm_tool.specs.EntryPrinting.{entry_list}
+
+-- what a command writes on standard output for what it reads on standard input
+abbrev pub Answers : CommandName → List ℕ → List ℕ → Type 0
+Answers MakeTable input output = (entries : List Entry) × IsEntryList input entries × IsTable output entries
+Answers Dump input output = (entries : List Entry) × IsTable input entries × (output ≡ entry_list entries)
+
+-- What a fault says of the input. A failed read or write, and want of memory, say nothing of it.
+abbrev pub Explains : CommandName → List ℕ → Fault → Type 0
+Explains name input Read = ⊤
+Explains name input Write = ⊤
+Explains name input OutOfMemory = ⊤
+Explains MakeTable input (BadLine i) = IsFirstBadLine input i
+Explains MakeTable input (Table fault) = ⊥
+Explains Dump input (BadLine i) = ⊥
+Explains Dump input (Table fault) = table_at input ≡ Err fault
