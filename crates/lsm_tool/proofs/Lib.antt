@@ -5,3 +5,4 @@ pub mod LineLaws
 pub mod ListLaws
 pub mod PrintLaws
 pub mod StreamLaws
+pub mod MakingLaws

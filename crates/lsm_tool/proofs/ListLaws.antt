@@ -26,7 +26,7 @@ abbrev pub AscendsFrom : Option Entry → List Entry → Type 0
 AscendsFrom before [] = Unit {0}
 AscendsFrom before (e ∷ es) = (may_follow before e ≡ true) × AscendsFrom (Some e) es
 
-is_less : (o : Ordering) → is_lt o ≡ true → o ≡ Less
+pub is_less : (o : Ordering) → is_lt o ≡ true → o ≡ Less
 is_less Less h = refl
 is_less Equal h = absurd cc
 is_less Greater h = absurd cc
@@ -103,8 +103,8 @@ list_takes text es h =
 pub list_again : (text : List ℕ) (es : List Entry) → IsEntryList text es → list_at text ≡ Ok es
 list_again text es l = entries_again 0 None (lines_of text) es (l.spelled, is_ascends es l.ascending)
 
-pub one_list : (text : List ℕ) (es fs : List Entry) → IsEntryList text es → IsEntryList text fs → es ≡ fs
-one_list text es fs l m = let h : Ok es ≡ Ok fs = sym (list_again text es l) ∙ list_again text fs m in cc
+pub one_list_lem : (text : List ℕ) (es fs : List Entry) → IsEntryList text es → IsEntryList text fs → es ≡ fs
+one_list_lem text es fs l m = let h : Ok es ≡ Ok fs = sym (list_again text es l) ∙ list_again text fs m in cc
 
 -- ---- the first bad line
 
@@ -238,3 +238,14 @@ told text i (Err j) h b = ap (λ k. Err k) (one_bad text j i (list_bad text j h)
 
 pub bad_again : (text : List ℕ) (i : ℕ) → IsFirstBadLine text i → list_at text ≡ Err i
 bad_again text i b = told text i (list_at text) refl b
+
+pub not_both : (text : List ℕ) (es : List Entry) (i : ℕ) → IsEntryList text es → IsFirstBadLine text i → ⊥
+not_both text es i l b = b.bad (take i es) (front_is i (lines_of text) es l)
+
+either_of : (text : List ℕ) (r : Result (List Entry) ℕ) → list_at text ≡ r
+    → ((es : List Entry) × IsEntryList text es) ⊎ ((i : ℕ) × IsFirstBadLine text i)
+either_of text (Ok es) h = inl (es, list_takes text es h)
+either_of text (Err i) h = inr (i, list_bad text i h)
+
+pub list_or_bad : (text : List ℕ) → ((es : List Entry) × IsEntryList text es) ⊎ ((i : ℕ) × IsFirstBadLine text i)
+list_or_bad text = either_of text (list_at text) refl

@@ -6,7 +6,7 @@ use Rattle.lsm_table.specs.TableReading.{table_at}
 use Rattle.lsm_tool.specs.declared.command_line.CommandName.{CommandName}
 use Rattle.lsm_tool.specs.declared.command_line.CommandName.TheVariants.{MakeTable, Dump}
 use Rattle.lsm_tool.specs.declared.fault.Fault.{Fault}
-use Rattle.lsm_tool.specs.declared.fault.Fault.TheVariants.{Read, Write, BadLine, OutOfMemory, Table}
+use Rattle.lsm_tool.specs.declared.fault.Fault.TheVariants.{Read, Write, BadLine, OutOfMemory, Table, TooLarge}
 use Rattle.lsm_tool.specs.EntryList.{IsEntryList, IsFirstBadLine}
 use Rattle.lsm_tool.specs.EntryPrinting.{entry_list}
 
@@ -22,5 +22,7 @@ Explains name input Write = ⊤
 Explains name input OutOfMemory = ⊤
 Explains MakeTable input (BadLine i) = IsFirstBadLine input i
 Explains MakeTable input (Table fault) = ⊥
+Explains MakeTable input TooLarge = ⊤
 Explains Dump input (BadLine i) = ⊥
+Explains Dump input TooLarge = ⊥
 Explains Dump input (Table fault) = table_at input ≡ Err fault

@@ -1,15 +1,56 @@
 //! What the commands answer.
 
-ghost use Rattle.std.specs.Prelude.{◌≡◌, ◌≢◌, ◌⊎◌, IfOk, IfErr, IfSome, OnOk, List, ℕ};
+ghost use Rattle.std.specs.Prelude.{◌≡◌, ◌≢◌, IfOk, IfErr, IfSome, OnOk, List, ℕ};
 ghost use Rattle.std.specs.Io.KnownBytes.{Appends, Keeps};
+ghost use Rattle.lsm_codec.specs.Entries.{Entry};
+ghost use Rattle.lsm_table.specs.Table.{IsTable};
+ghost use Rattle.lsm_tool.specs.EntryList.{IsEntryList};
+ghost use Rattle.lsm_tool.specs.EntryPrinting.{entry_list};
 ghost use Rattle.lsm_tool.specs.Commands.{Answers, Explains};
+ghost use Rattle.lsm_tool.specs.declared.command_line.CommandName.TheVariants.{MakeTable, Dump};
 ghost use Rattle.lsm_tool.specs.declared.fault.Fault.TheVariants.{Write as WriteFault, Read as ReadFault};
 
 use crate::command_line::CommandName;
+use crate::entry_reader::EntryReader;
 use crate::fault::Fault;
+use crate::mock::{Table, TableBuilder};
+use crate::spelling::push_entry;
 use crate::streams::{read_input, write_output};
+use lsm_table::TableOptions;
 use std::alloc::Global;
 use std::io::{Read, Write};
+
+/// The table of a list of entries.
+fn make_table(alloc: Global, list: &[u8]) -> Result<Vec<u8>, Fault>
+    ensures made { IfOk result (λ table. Answers MakeTable list.now table.items) }
+    ensures explained { IfErr result (λ e. Explains MakeTable list.now e) }
+    ensures own { IfErr result (λ e. (e ≢ ReadFault) × (e ≢ WriteFault)) }
+{
+    let mut reader = EntryReader::new(alloc, list);
+    let mut builder = TableBuilder::new(alloc, TableOptions::usual());
+    while reader.next()? {
+        let entry = &reader.entry;
+        builder.add(&entry.user, entry.seq, entry.kind, &entry.value)?;
+    }
+    Ok(builder.finish()?)
+}
+
+/// The list of a table's entries.
+fn print_table(alloc: Global, file: Vec<u8>) -> Result<Vec<u8>, Fault>
+    ensures printed { IfOk result (λ list. Answers Dump file.items list.items) }
+    ensures explained { IfErr result (λ e. Explains Dump file.items e) }
+    ensures own { IfErr result (λ e. (e ≢ ReadFault) × (e ≢ WriteFault)) }
+{
+    let table = Table::check(alloc, file)?;
+    let mut list = Vec::new(alloc);
+    let mut entries = table.iter(alloc);
+    while let Some(value) = entries.next()? {
+        if let Some(key) = entries.key() {
+            push_entry(&mut list, key.user, key.seq, key.kind, value)?;
+        }
+    }
+    Ok(list)
+}
 
 /// What a command writes for what it read.
 fn answer(alloc: Global, name: CommandName, input: Vec<u8>) -> Result<Vec<u8>, Fault>
@@ -17,7 +58,10 @@ fn answer(alloc: Global, name: CommandName, input: Vec<u8>) -> Result<Vec<u8>, F
     ensures explained { IfErr result (λ e. Explains name input.items e) }
     ensures own { IfErr result (λ e. (e ≢ ReadFault) × (e ≢ WriteFault)) }
 {
-    Err(Fault::OutOfMemory)
+    match name {
+        CommandName::MakeTable => make_table(alloc, &input),
+        CommandName::Dump => print_table(alloc, input),
+    }
 }
 
 /// Reads all of standard input, and then writes what the command answers; or nothing at all, but for a failed write.

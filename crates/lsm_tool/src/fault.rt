@@ -1,10 +1,11 @@
 //! Why a command ends with status 1, as the line on standard error says.
 
 ghost use Rattle.std.specs.Prelude.{◌≡◌};
-ghost use Rattle.lsm_tool.specs.Fault.{of_line, of_table};
+ghost use Rattle.lsm_tool.specs.Fault.{of_line, of_table, of_build};
 ghost use Rattle.lsm_tool.specs.declared.fault.Fault.TheVariants.{OutOfMemory};
 
 use crate::entry_reader::LineFault;
+use crate::mock::BuildFault;
 use lsm_table::TableFault;
 use std::alloc::AllocError;
 use thiserror::Error;
@@ -27,6 +28,9 @@ pub(crate) enum Fault {
     /// Bytes are no table.
     #[error("refused {} {}", .0.number(), .0)]
     Table(TableFault),
+    /// A block of a table would have more than 2^32 - 1 bytes.
+    #[error("refused 39 TooLarge")]
+    TooLarge,
 }
 
 impl From<AllocError> for Fault {
@@ -55,6 +59,17 @@ impl From<TableFault> for Fault {
         match error {
             TableFault::OutOfMemory => Fault::OutOfMemory,
             fault => Fault::Table(fault),
+        }
+    }
+}
+
+impl From<BuildFault> for Fault {
+    ghost from_gives = { λ e f. f ≡ of_build e };
+
+    fn from(error: BuildFault) -> Fault {
+        match error {
+            BuildFault::OutOfMemory => Fault::OutOfMemory,
+            BuildFault::TooLarge => Fault::TooLarge,
         }
     }
 }

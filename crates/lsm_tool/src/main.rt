@@ -4,6 +4,8 @@
 //! writes on standard output for what it reads on standard input, in `commands`.
 #![tactic(auto)]
 
+mod mock;
+mod laws;
 mod words;
 mod entry_buffer;
 mod entry_reader;
