@@ -1,0 +1,14 @@
+pub mod FragmentLaws
+pub mod RecordLaws
+pub mod LogLoop
+pub mod PrefixLaws
+pub mod WriterLaws
+pub mod EditLaws
+pub mod LastLaws
+pub mod EditFold
+pub mod EditFits
+pub mod EditLoop
+pub mod EditWriterLaws
+pub mod StandingLaws
+pub mod LevelLaws
+pub mod ReplayLaws

@@ -1,0 +1,37 @@
+-- What the readers of a log return, as reading on lists gives it.
+use Rattle.std.specs.Prelude.{◌≡◌, ℕ, List, [], Some, None, Result, Ok, Err}
+use Rattle.lsm_manifest.specs.declared.log_fault.LogFault.{LogFault}
+use Rattle.lsm_manifest.specs.declared.log_fault.LogFault.TheVariants.{OutOfMemory, LogChecksum, LogOrder, LogType}
+use Rattle.lsm_manifest.specs.declared.fragment.FragmentType.{FragmentType}
+use Rattle.lsm_manifest.specs.declared.fragment.FragmentType.TheVariants.{Full, First, Middle, Last}
+use Rattle.lsm_manifest.specs.declared.found.Found.{Found as Held}
+use Rattle.lsm_manifest.specs.declared.found.Found.TheVariants as held
+use Rattle.lsm_manifest.specs.declared.log.Log.{Log}
+use Rattle.lsm_manifest.specs.LogReading.{Found}
+
+-- What was returned is what reading gives, unless memory ran out.
+abbrev pub Fails : {Y : Type 0} → LogFault → Result Y LogFault → Type 0
+Fails OutOfMemory read = Unit {0}
+Fails (LogChecksum offset) read = read ≡ Err (LogChecksum offset)
+Fails (LogOrder offset) read = read ≡ Err (LogOrder offset)
+Fails (LogType offset) read = read ≡ Err (LogType offset)
+
+abbrev pub Gives : {X Y : Type 0} → (X → Y) → Result X LogFault → Result Y LogFault → Type 0
+Gives see (Ok x) read = read ≡ Ok (see x)
+Gives see (Err e) read = Fails e read
+
+-- the byte of a fragment's type
+abbrev pub type_byte : FragmentType → ℕ
+type_byte Full = 1
+type_byte First = 2
+type_byte Middle = 3
+type_byte Last = 4
+
+-- what stands at a place, without where it lies in memory
+abbrev pub found_of : Held → Found
+found_of held.End = None
+found_of (held.Skipped rest) = Some (0, [], rest.now)
+found_of (held.Fragment kind body rest) = Some (type_byte kind, body.now, rest.now)
+
+abbrev pub seen : Log → List (List ℕ) × ℕ
+seen log = (log.records, log.rest)

@@ -1,0 +1,28 @@
+-- What a replay gives, and what it refuses.
+use Rattle.std.specs.Prelude.{◌≡◌, ℕ, ◌≤◌, List, [], Option, Some, None, IsSome, get_or, unwrap_or}
+use Rattle.lsm_manifest.specs.declared.edit.Edit.{Edit}
+use Rattle.lsm_manifest.specs.declared.shape.Shape.{Shape}
+use Rattle.lsm_manifest.specs.declared.replay_fault.ReplayFault.{ReplayFault}
+use Rattle.lsm_manifest.specs.declared.replay_fault.ReplayFault.TheVariants.{OutOfMemory, NoNextFile, NoLogNumber, NoLastSequence, OtherComparator, DoubleFile}
+use Rattle.lsm_manifest.specs.HeldLevel.{HoldsLevel}
+use Rattle.lsm_manifest.specs.Replay.{AreInnocent, IsFirstFault, last_log, last_prev_log, last_next, last_sequence, last_pointer}
+
+-- The shape is what the edits come to, and none of them has a fault.
+pub record IsReplayed (edits : List Edit) (shape : Shape) : Type 0 where
+  pub innocent : AreInnocent edits
+  pub levels : (level : ℕ) → level ≤ 6 → HoldsLevel edits level (get_or shape.levels level [])
+  pub pointers : (level : ℕ) → level ≤ 6 → get_or shape.pointers level None ≡ last_pointer level edits
+  pub log : last_log edits ≡ Some shape.log
+  pub prev_log : unwrap_or (last_prev_log edits) 0 ≡ shape.prev_log
+  pub next : last_next edits ≡ Some shape.next
+  pub last : last_sequence edits ≡ Some shape.last
+
+-- Why a replay refuses the edits: the first fault of an edit; where there is none, a number field that no edit has, the next
+-- file number before the log number before the last sequence.
+abbrev pub IsRefused : List Edit → ReplayFault → Type 0
+IsRefused edits OutOfMemory = Unit {0}
+IsRefused edits OtherComparator = IsFirstFault edits OtherComparator
+IsRefused edits (DoubleFile number) = IsFirstFault edits (DoubleFile number)
+IsRefused edits NoNextFile = AreInnocent edits × (last_next edits ≡ None)
+IsRefused edits NoLogNumber = AreInnocent edits × IsSome (last_next edits) × (last_log edits ≡ None)
+IsRefused edits NoLastSequence = AreInnocent edits × IsSome (last_next edits) × IsSome (last_log edits) × (last_sequence edits ≡ None)

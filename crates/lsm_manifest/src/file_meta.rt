@@ -1,0 +1,63 @@
+//! A table file as the manifest names it.
+
+ghost use Rattle.std.specs.Prelude.{◌≡◌, IfOk};
+ghost use Rattle.lsm_manifest.specs.FileOrder.{user_part, packed_part};
+
+use lsm_codec::Bytes;
+use std::alloc::{AllocError, Global};
+use std::cmp::Ordering;
+
+/// A table file: its number, its size in bytes, and its smallest and largest internal key.
+#[derive(Debug, Drop)]
+pub struct FileMeta {
+    pub number: u64,
+    pub size: u64,
+    pub smallest: Bytes,
+    pub largest: Bytes,
+}
+
+impl FileMeta {
+    ghost use Rattle.lsm_manifest.specs.FileOrder.{file_cmp};
+
+    /// The order of files in a level: by smallest internal key (user keys ascending bytewise, of one user key the newest
+    /// first), then by number.
+    pub fn compare(&self, other: &FileMeta) -> Ordering
+        ensures { result ≡ file_cmp self.now other.now }
+    {
+        let (user, packed) = parts(self.smallest.as_slice());
+        let (other_user, other_packed) = parts(other.smallest.as_slice());
+        user.cmp(other_user)
+            .then(other_packed.cmp(&packed))
+            .then(self.number.cmp(&other.number))
+    }
+
+    /// A copy, in memory of its own.
+    pub fn try_copy(&self, alloc: Global) -> Result<FileMeta, AllocError>
+        ensures { IfOk result (λ file. file ≡ self.now) }
+    {
+        let smallest = Vec::from_slice(alloc, self.smallest.as_slice())?;
+        let largest = Vec::from_slice(alloc, self.largest.as_slice())?;
+        Ok(FileMeta {
+            number: self.number,
+            size: self.size,
+            smallest: Bytes::of(smallest),
+            largest: Bytes::of(largest),
+        })
+    }
+}
+
+/// The parts of an internal key: the user key, and the number of its last eight bytes.
+#[tactic(auto, unfolding(crate::specs::FileOrder::user_part, crate::specs::FileOrder::packed_part))]
+fn parts(key: &[u8]) -> (&[u8], u64)
+    ensures user { result.0.now ≡ user_part key.now }
+    ensures packed { result.1 ≡ packed_part key.now }
+{
+    if key.len() < 8 {
+        return (key, 0);
+    }
+    let (user, tail) = key.split_at(key.len() - 8);
+    let packed = u64::from_le_bytes([
+        tail[0], tail[1], tail[2], tail[3], tail[4], tail[5], tail[6], tail[7],
+    ]);
+    (user, packed)
+}

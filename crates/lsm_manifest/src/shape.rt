@@ -1,0 +1,104 @@
+//! What a row of edits comes to.
+
+ghost use Rattle.std.specs.Prelude.{◌≡◌, ◌≤◌, ℕ, List, [], None, get_or, IfOk, IfErr};
+ghost use Rattle.lsm_manifest.specs.EditFit.{Change};
+ghost use Rattle.lsm_manifest.specs.Replay.{Stands, AreInnocent, IsFault, last_pointer};
+ghost use Rattle.lsm_manifest.specs.Standing.{file_at, Tracks};
+
+use crate::edit::Edit;
+use crate::file_meta::FileMeta;
+use crate::numbers::{Numbers, last_key};
+use crate::replay_fault::ReplayFault;
+use crate::standing::Standing;
+use lsm_codec::{Bytes, List};
+use std::alloc::{AllocError, Global};
+
+/// The files of the seven levels, each level by smallest internal key, then number; the compaction pointers of the levels, each
+/// an internal key; the numbers of the write-ahead log and of the one before it, the next file number, and the last sequence.
+#[derive(Debug, Drop)]
+pub struct Shape {
+    pub levels: [List<FileMeta>; 7],
+    pub pointers: [Option<Bytes>; 7],
+    pub log: u64,
+    pub prev_log: u64,
+    pub next: u64,
+    pub last: u64,
+}
+
+ghost use Rattle.lsm_manifest.specs.HeldLevel.{HoldsLevel};
+ghost use Rattle.lsm_manifest.specs.Shape.{IsReplayed, IsRefused};
+
+/// The files that some edit adds and no later edit deletes, of levels 0 to 6, with the last value of each number field and
+/// pointer; the previous log number is 0 where no edit has it. `OtherComparator` and `DoubleFile` are those of the first edit
+/// that has one of them (the comparator is judged first); then come `NoNextFile`, `NoLogNumber` and `NoLastSequence`.
+pub fn replay(alloc: Global, edits: &[Edit]) -> Result<Shape, ReplayFault>
+    // The shape is what the edits come to, and none of them has a fault.
+    ensures found { IfOk result (λ shape. IsReplayed edits.now shape) }
+
+    // Which fault it is.
+    ensures refused { IfErr result (λ fault. IsRefused edits.now fault) }
+{
+    let standing = stand(alloc, edits)?;
+    let numbers = Numbers::of(edits);
+    let Some(next) = numbers.next else {
+        return Err(ReplayFault::NoNextFile);
+    };
+    let Some(log) = numbers.log else {
+        return Err(ReplayFault::NoLogNumber);
+    };
+    let Some(last) = numbers.last else {
+        return Err(ReplayFault::NoLastSequence);
+    };
+    let levels = levels(alloc, &standing)?;
+    let pointers = pointers(alloc, edits)?;
+    Ok(Shape {
+        levels,
+        pointers,
+        log,
+        prev_log: numbers.prev_log.unwrap_or(0),
+        next,
+        last,
+    })
+}
+
+/// The files that stand after the edits.
+fn stand<'a>(alloc: Global, edits: &'a [Edit]) -> Result<Standing<'a>, ReplayFault>
+    ensures ok { IfOk result (λ s. Tracks (Stands edits.now) (file_at s) × AreInnocent edits.now) }
+    ensures err { IfErr result (λ fault. IsFault edits.now fault) }
+{
+    let mut standing = Standing::new(alloc);
+    for edit in edits {
+        standing.apply(edit)?;
+    }
+    Ok(standing)
+}
+
+fn levels(alloc: Global, standing: &Standing<'_>) -> Result<[List<FileMeta>; 7], AllocError>
+    ensures { IfOk result (λ levels. (es : List Change) → Tracks (Stands es) (file_at standing.now) → (level : ℕ) → level ≤ 6 → HoldsLevel es level (get_or levels level [])) }
+{
+    let level_0 = standing.level(alloc, 0)?;
+    let level_1 = standing.level(alloc, 1)?;
+    let level_2 = standing.level(alloc, 2)?;
+    let level_3 = standing.level(alloc, 3)?;
+    let level_4 = standing.level(alloc, 4)?;
+    let level_5 = standing.level(alloc, 5)?;
+    let level_6 = standing.level(alloc, 6)?;
+    Ok([
+        level_0, level_1, level_2, level_3, level_4, level_5, level_6,
+    ])
+}
+
+fn pointers(alloc: Global, edits: &[Edit]) -> Result<[Option<Bytes>; 7], AllocError>
+    ensures { IfOk result (λ pointers. (level : ℕ) → level ≤ 6 → get_or pointers level None ≡ last_pointer level edits.now) }
+{
+    let pointer_0 = last_key(alloc, edits, 0)?;
+    let pointer_1 = last_key(alloc, edits, 1)?;
+    let pointer_2 = last_key(alloc, edits, 2)?;
+    let pointer_3 = last_key(alloc, edits, 3)?;
+    let pointer_4 = last_key(alloc, edits, 4)?;
+    let pointer_5 = last_key(alloc, edits, 5)?;
+    let pointer_6 = last_key(alloc, edits, 6)?;
+    Ok([
+        pointer_0, pointer_1, pointer_2, pointer_3, pointer_4, pointer_5, pointer_6,
+    ])
+}
