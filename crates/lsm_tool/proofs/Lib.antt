@@ -6,3 +6,4 @@ pub mod ListLaws
 pub mod PrintLaws
 pub mod StreamLaws
 pub mod MakingLaws
+pub mod LineLists

@@ -6,3 +6,4 @@ pub mod ReaderView
 pub mod Fault
 pub mod Commands
 pub mod Mock
+pub mod ManifestPrinting

@@ -10,6 +10,7 @@ mod words;
 mod entry_buffer;
 mod entry_reader;
 mod spelling;
+mod edit_spelling;
 mod fault;
 mod streams;
 mod commands;
