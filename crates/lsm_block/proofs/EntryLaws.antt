@@ -1,7 +1,8 @@
 -- What is read as an entry is spelled so, and what is spelled so is read.
 use Rattle.std.proofs.Common.{◌≡◌, ℕ, ◌+◌, ◌-◌, ◌<◌, ◌≤◌, ◌^◌, Bool, true, false, cond, leb, List, [], ◌∷◌, ◌++◌, length, get_or, take, drop, Option, Some, None, Result, Ok, Err, refl, sym, ap, ◌∙◌, subst, append_assoc, arith, inl, inr}
 use Rattle.std.specs.Prelude.{◌&&◌, ◌⊎◌}
-use Rattle.std.proofs.lemmas.Bool.{cases_lt, lt-ltb, le-leb, leb-true, and_parts}
+use Rattle.std.specs.Option.{option_map}
+use Rattle.std.proofs.lemmas.Bool.{cases_lt, lt-leb, lt-ltb, le-leb, leb-true, and_parts}
 use Rattle.std.proofs.lemmas.List.{take_all, take_at, drop_at, take-append-drop, length-append, length-take, length-drop, length-take-le, get_or-drop, get_or-take, get_or_past, get_or_append_left, get_or-append_right}
 use Rattle.lsm_codec.specs.declared.fault.CodecFault.{CodecFault}
 use Rattle.lsm_codec.specs.Varint.{AreGroups, IsVarint32, varint_at, varint32_at}
@@ -252,3 +253,28 @@ short_numbers (x ∷ y ∷ z ∷ rest) len a b c =
     let tc = lt-ltb z 128 c in
     let all : take (length (x ∷ y ∷ z ∷ rest) - 3) rest ≡ rest = take_all (length (x ∷ y ∷ z ∷ rest) - 3) rest (omega arith) in
     rw (ta, tb, tc, all) refl
+
+-- ---- the key of an entry that follows no key
+
+abbrev pub first_of_text : List ℕ → Option (List ℕ)
+first_of_text text = option_map (λ f. f.0.key) (entry_at [] text)
+
+pub first_unread : (text : List ℕ) → numbers_at text ≡ None → first_of_text text ≡ None
+unfolding entry_at
+first_unread text e = rw e refl
+
+pub first_shares : (text : List ℕ) (shared u l : ℕ) (rest : List ℕ) → numbers_at text ≡ Some (shared, u, l, rest) → 0 < shared → first_of_text text ≡ None
+unfolding entry_at piece_of
+first_shares text shared u l rest e h = let no = lt-leb _ _ h in rw (e, no) refl
+
+pub first_short : (text : List ℕ) (u l : ℕ) (rest : List ℕ) → numbers_at text ≡ Some (0, u, l, rest) → length rest < u + l → first_of_text text ≡ None
+unfolding entry_at piece_of
+first_short text u l rest e h = let no = lt-leb _ _ h in rw (e, no) refl
+
+pub first_other : (text : List ℕ) (u l : ℕ) (rest : List ℕ) → numbers_at text ≡ Some (0, u, l, rest) → u + l ≤ length rest → is_internal (take u rest) ≡ false → first_of_text text ≡ None
+unfolding entry_at piece_of
+first_other text u l rest e h i = let yes = le-leb _ _ h in rw (e, yes, i) refl
+
+pub first_read : (text : List ℕ) (u l : ℕ) (rest : List ℕ) → numbers_at text ≡ Some (0, u, l, rest) → u + l ≤ length rest → is_internal (take u rest) ≡ true → first_of_text text ≡ Some (take u rest)
+unfolding entry_at piece_of
+first_read text u l rest e h i = let yes = le-leb _ _ h in rw (e, yes, i) refl

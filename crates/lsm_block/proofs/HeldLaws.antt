@@ -7,11 +7,12 @@ use Rattle.lsm_codec.specs.Entries.{Entry}
 use Rattle.lsm_codec.proofs.Varints.{IsBytes}
 use Rattle.lsm_block.specs.declared.fault.BlockFault.{BlockFault}
 use Rattle.lsm_block.specs.declared.fault.BlockFault.TheVariants.{OutOfMemory, BadRestarts, BadEntry, OutOfOrder}
-use Rattle.lsm_block.specs.Block.{IsBlock}
+use Rattle.lsm_block.specs.Block.{IsBlock, entry_of}
 use Rattle.lsm_block.specs.Gives.{Fails}
-use Rattle.lsm_block.specs.Reading.{block_at, block_of, parts_at, scan, first_fault, unless, entries_of}
-use Rattle.lsm_block.specs.Seeking.{readable, Parts}
-use Rattle.lsm_block.specs.Held.{Holds, text_and_entries, held, or_none}
+use Rattle.lsm_block.specs.Reading.{key_at, block_at, block_of, parts_at, scan, first_fault, unless, entries_of}
+use Rattle.lsm_block.specs.Seeking.{readable, Parts, Steps}
+use Rattle.lsm_block.specs.Held.{Holds, text_and_entries, held, or_none, Kept, last_of, Given}
+use Rattle.lsm_block.proofs.KeyLaws.{kept_bytes, last-key}
 use Rattle.lsm_block.proofs.EntryLaws.{some_is}
 use Rattle.lsm_block.proofs.RestartLaws.{tail_again, length-spelled}
 use Rattle.lsm_block.proofs.BlockLaws.{tail_of_block, block_takes, block_again, one_block}
@@ -112,3 +113,24 @@ still_fails f bytes es b h = subst (λ (read : Result (List Entry) BlockFault). 
 -- the same entries, where a block is held
 pub same_entries : (bytes : List ℕ) (n : ℕ) (es fs : List Entry) → Holds bytes n es → IsBlock bytes fs → is_ok fs ≡ is_ok es
 same_entries bytes n es fs h b = ap (λ (xs : List Entry). is_ok xs) (one_block bytes fs es b h.block)
+
+-- what a step of the code is, as contracts see it
+pub given_steps : (text before before' : List ℕ) (offset offset' : ℕ) (r : Option (List ℕ)) → Kept (last_of before) before → Kept (last_of before') before' → Steps text offset before offset' before' r
+    → Given (text_and_entries text) (record { offset = offset; last = last_of before }) (record { offset = offset'; last = last_of before' }) r
+given_steps text before before' offset offset' None k k' s =
+    let old = ap (λ (b : List ℕ). readable (length text) b (drop offset text)) (kept_bytes (last_of before) before k) in
+    let new = ap (λ (b : List ℕ). readable (length text) b (drop offset' text)) (kept_bytes (last_of before') before' k') in
+    (sym old ∙ s.0, sym new ∙ s.1)
+given_steps text before before' offset offset' (Some value) k k' s =
+    let old = ap (λ (b : List ℕ). readable (length text) b (drop offset text)) (kept_bytes (last_of before) before k) in
+    let new = ap (λ (b : List ℕ). readable (length text) b (drop offset' text)) (kept_bytes (last_of before') before' k') in
+    (key_at before', last-key before' s.0, sym old ∙ s.1 ∙ ap (λ (es : List Entry). entry_of (key_at before') value ∷ es) new)
+
+-- a block whose text was found
+pub holds_found : (bytes text rs : List ℕ) (es : List Entry) → IsBlock bytes es → parts_at bytes ≡ Some (text, rs) → Holds bytes (length text) es
+holds_found bytes text rs es b p =
+    let same = some_is (text, rs) (b.text, 0 ∷ b.restarts) (sym p ∙ tail_again bytes b.text (0 ∷ b.restarts) (tail_of_block bytes es b)) in
+    record { block = b; text_len_is = ap (λ (q : List ℕ × List ℕ). length q.0) same }
+
+pub some_parts : (bytes : List ℕ) (es : List Entry) → IsBlock bytes es → None ≡ parts_at bytes → ⊥
+some_parts bytes es b e = let bad = e ∙ tail_again bytes b.text (0 ∷ b.restarts) (tail_of_block bytes es b) in absurd cc

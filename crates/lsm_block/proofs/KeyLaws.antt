@@ -1,5 +1,5 @@
 -- Internal keys and their bytes, both ways.
-use Rattle.std.proofs.Common.{◌≡◌, ℕ, zero, suc, ◌+◌, ◌-◌, ◌*◌, ◌/◌, ◌%◌, ◌^◌, ◌<◌, ◌≤◌, Bool, true, false, cond, leb, ltb, eqb, Ordering, Less, Equal, Greater, List, [], ◌∷◌, ◌++◌, length, get_or, take, drop, refl, sym, ap, ◌∙◌, arith}
+use Rattle.std.proofs.Common.{◌≡◌, ℕ, zero, suc, ◌+◌, ◌-◌, ◌*◌, ◌/◌, ◌%◌, ◌^◌, ◌<◌, ◌≤◌, Bool, true, false, cond, leb, ltb, eqb, Ordering, Less, Equal, Greater, Option, Some, None, List, [], ◌∷◌, ◌++◌, length, get_or, take, drop, refl, sym, ap, ◌∙◌, subst, arith}
 use Rattle.std.specs.Prelude.{◌&&◌}
 use Rattle.std.specs.Int.{w64, to_le_bytes, from_le_bytes}
 use Rattle.std.proofs.lemmas.Nat.{le_bytes_8, from_le_bytes-to_le_bytes_8}
@@ -9,10 +9,11 @@ use Rattle.lsm_codec.specs.declared.kind.Kind.{Kind}
 use Rattle.lsm_codec.specs.declared.kind.Kind.TheVariants.{Deletion, Value}
 use Rattle.std.specs.Ordering.{nat_cmp, is_lt}
 use Rattle.std.specs.Cmp.Lexicographic.{slice_cmp}
-use Rattle.lsm_codec.specs.Keys.{InternalKey, kind_number, packed, key_bytes, then_by, key_cmp}
+use Rattle.lsm_codec.specs.Keys.{InternalKey, IsKey, kind_number, packed, key_bytes, then_by, key_cmp}
 use Rattle.lsm_codec.specs.Entries.{Entry}
 use Rattle.lsm_codec.proofs.Newest.{kind_number_le}
 use Rattle.lsm_codec.proofs.Varints.{IsBytes}
+use Rattle.lsm_block.specs.Held.{Kept, bytes_of, last_if, last_of}
 use Rattle.lsm_block.specs.Reading.{is_internal, user_of, tail_of, kind_at, key_at}
 
 kind_again : (kind : Kind) → kind_at (kind_number kind) ≡ kind
@@ -23,7 +24,7 @@ kind_number_at : (n : ℕ) → n ≤ 1 → kind_number (kind_at n) ≡ n
 kind_number_at zero h = refl
 kind_number_at (suc n) h = omega arith
 
-length-key : (k : InternalKey) → length (key_bytes k) ≡ length k.user + 8
+pub length-key : (k : InternalKey) → length (key_bytes k) ≡ length k.user + 8
 length-key k = length-append k.user (to_le_bytes w64 (packed k))
 
 packed_fits : (k : InternalKey) → k.seq < 2 ^ 56 → packed k < 2 ^ 64
@@ -93,6 +94,10 @@ internal_takes bytes fits h =
       packed_is = whole;
     }
 
+-- how many bytes of a key are left beyond so many
+pub length-unshared : (shared : ℕ) (k : InternalKey) → length k.user + 8 - shared ≡ length (drop shared (key_bytes k))
+length-unshared shared k = omega (arith, length-drop shared (key_bytes k), length-key k)
+
 -- ---- the order, by the bytes
 
 less_than : (x y : ℕ) → is_lt (nat_cmp x y) ≡ ltb x y
@@ -119,6 +124,57 @@ order_less a b o fa fb ha hb e = order_at a b fa fb ha hb ∙ ap (λ (p : Orderi
 pub order_equal : (a b : List ℕ) → IsBytes a → IsBytes b → is_internal a ≡ true → is_internal b ≡ true → slice_cmp nat_cmp (user_of a) (user_of b) ≡ Equal
     → is_lt (key_cmp (key_at a) (key_at b)) ≡ ltb (tail_of b) (tail_of a)
 order_equal a b fa fb ha hb e = order_less a b Equal fa fb ha hb e ∙ less_than (tail_of b) (tail_of a)
+
+-- the order of a key that bytes are and another
+pub below_by : (a : List ℕ) (k : InternalKey) (o : Ordering) → IsBytes a → is_internal a ≡ true → slice_cmp nat_cmp (user_of a) k.user ≡ o
+    → is_lt (key_cmp (key_at a) k) ≡ is_lt (then_by o (nat_cmp (packed k) (tail_of a)))
+unfolding key_at
+below_by a k o fa ha e =
+    let x = (internal_takes a fa ha).packed_is in
+    rw x (ap (λ (p : Ordering). is_lt (then_by p (nat_cmp (packed k) (tail_of a)))) e)
+
+pub below_equal : (a : List ℕ) (k : InternalKey) → IsBytes a → is_internal a ≡ true → slice_cmp nat_cmp (user_of a) k.user ≡ Equal
+    → is_lt (key_cmp (key_at a) k) ≡ ltb (packed k) (tail_of a)
+below_equal a k fa ha e = below_by a k Equal fa ha e ∙ less_than (packed k) (tail_of a)
+
+-- ---- a key that is kept
+
+pub is_key : (bytes : List ℕ) → IsBytes bytes → is_internal bytes ≡ true → IsKey bytes (key_at bytes)
+is_key bytes fits h = let t = internal_takes bytes fits h in record { bytes_are = sym t.spelled; fits = t.fits }
+
+pub same_key : (bytes : List ℕ) (j k : InternalKey) → IsKey bytes j → IsKey bytes k → j ≡ k
+same_key bytes j k h g = sym (key_again j h.fits) ∙ ap key_at (sym h.bytes_are ∙ g.bytes_are) ∙ key_again k g.fits
+
+pub kept_some : (o : Option InternalKey) (bytes : List ℕ) (k : InternalKey) → Kept o bytes → IsKey bytes k → Some k ≡ o
+kept_some None bytes k h g = absurd (omega (arith, ap (λ (xs : List ℕ). length xs) h, ap (λ (xs : List ℕ). length xs) g.bytes_are, length-key k))
+kept_some (Some j) bytes k h g = ap (λ (x : InternalKey). Some x) (same_key bytes k j g h)
+
+pub kept_none : (o : Option InternalKey) (bytes : List ℕ) → Kept o bytes → ((k : InternalKey) → IsKey bytes k → ⊥) → None ≡ o
+kept_none None bytes h not = refl
+kept_none (Some k) bytes h not = absurd (not k h)
+
+pub kept_bytes : (o : Option InternalKey) (bytes : List ℕ) → Kept o bytes → bytes ≡ bytes_of o
+kept_bytes None bytes h = h
+kept_bytes (Some k) bytes h = h.bytes_are
+
+-- bytes of a key are kept as it
+pub last-key : (bytes : List ℕ) → is_internal bytes ≡ true → last_of bytes ≡ Some (key_at bytes)
+unfolding last_of
+last-key bytes h = ap (λ (b : Bool). last_if b bytes) h
+
+pub internal_of : (bytes : List ℕ) (k : InternalKey) → IsKey bytes k → is_internal bytes ≡ true
+internal_of bytes k h = ap is_internal h.bytes_are ∙ internal_again k
+
+pub kept_as : (bytes : List ℕ) → IsKey bytes (key_at bytes) → Kept (last_of bytes) bytes
+kept_as bytes h = subst (λ (o : Option InternalKey). Kept o bytes) (sym (last-key bytes (internal_of bytes (key_at bytes) h))) h
+
+pub no_last : last_of [] ≡ None
+unfolding last_of is_internal
+no_last = refl
+
+pub none_kept : Kept (last_of []) []
+unfolding last_of is_internal
+none_kept = refl
 
 pub internal_long : (key : List ℕ) → is_internal key ≡ true → 8 ≤ length key
 unfolding is_internal

@@ -8,3 +8,4 @@ pub mod SeenLaws
 pub mod OrderLaws
 pub mod SeekLaws
 pub mod HeldLaws
+pub mod BuildLaws

@@ -1,6 +1,7 @@
 -- Reading from a restart on gives what follows there.
 use Rattle.std.proofs.Common.{◌≡◌, ℕ, zero, suc, ◌+◌, ◌-◌, ◌*◌, ◌/◌, ◌^◌, ◌<◌, ◌≤◌, Bool, true, false, List, [], ◌∷◌, ◌++◌, length, take, drop, get_or, Option, Some, None, refl, sym, ap, ◌∙◌, subst, append_assoc, arith, inl, inr}
 use Rattle.std.specs.Prelude.{◌⊎◌, Contains}
+use Rattle.std.specs.Option.{option_map}
 use Rattle.std.specs.List.{flat_map, AllByRecursion}
 use Rattle.std.specs.Ordering.{is_lt}
 use Rattle.std.specs.Int.{w32, to_le_bytes, from_le_bytes}
@@ -11,13 +12,16 @@ use Rattle.lsm_codec.specs.Varint.{varint_at}
 use Rattle.lsm_codec.specs.Keys.{InternalKey, key_cmp}
 use Rattle.lsm_codec.specs.Entries.{Entry, internal_key}
 use Rattle.lsm_codec.proofs.Varints.{IsBytes}
-use Rattle.lsm_block.specs.Block.{EntryText, Spells, Rises, start_at, Ascends, key_text}
-use Rattle.lsm_block.specs.Reading.{Piece, numbers_at, entry_at, entry, key_at}
-use Rattle.lsm_block.specs.Seeking.{readable, read_on, not_below, word_of, Parts}
+use Rattle.lsm_block.specs.Block.{entry_of, EntryText, Spells, Rises, start_at, Ascends, key_text}
+use Rattle.lsm_block.specs.Reading.{Piece, is_internal, numbers_at, entry_at, entry, key_at}
+use Rattle.lsm_block.specs.Seeking.{readable, read_on, not_below, word_of, Parts, StartsBelow}
+use Rattle.lsm_block.specs.Walking.{seen}
 use Rattle.lsm_block.proofs.KeyLaws.{key_again}
 use Rattle.lsm_block.proofs.EntryLaws.{sharing, entry_again, entry_again_is, own-some, some_is, leaves, IsBytes-drop}
 use Rattle.lsm_block.proofs.RestartLaws.{Fit, length-spelled}
 use Rattle.lsm_block.proofs.ScanLaws.{either}
+use Rattle.lsm_block.proofs.BlockLaws.{read_internal}
+use Rattle.lsm_block.proofs.SeenLaws.{sees, seen_some, seen_none}
 use Rattle.lsm_block.proofs.OrderLaws.{below_front}
 
 -- ---- reading
@@ -196,3 +200,42 @@ scan_moves text before offset p after fits lt e =
 
 pub scan_ends : (text before : List ℕ) (offset : ℕ) → length text ≤ offset → readable (length text) before (drop offset text) ≡ []
 scan_ends text before offset h = read_none (length text) before (drop offset text) (ap (entry_at before) (drop_all offset text h) ∙ entry-empty before)
+
+-- ---- a step, as the code sees it
+
+-- an entry that was read at an offset
+pub record ReadOn (text before : List ℕ) (offset : ℕ) (key value after : List ℕ) : Type 0 where
+  pub internal : is_internal key ≡ true
+  pub moves : readable (length text) before (drop offset text) ≡ entry_of (key_at key) value ∷ readable (length text) key (drop (length text - length after) text)
+  pub shorter : length after < length text - offset
+
+pub read_on_some : (text before : List ℕ) (offset shared : ℕ) (key value after : List ℕ) → IsBytes text → offset < length text
+    → Some (sees shared key value after) ≡ option_map seen (entry_at before (drop offset text)) → ReadOn text before offset key value after
+read_on_some text before offset shared key value after fits lt e =
+    let s = seen_some (entry_at before (drop offset text)) shared key value after e in
+    let p = s.piece in
+    let m = scan_moves text before offset p after fits lt s.is in
+    let next = drop (length text - length after) text in
+    record {
+      internal = subst (λ (k : List ℕ). is_internal k ≡ true) s.key_is (read_internal before (drop offset text) p after s.is);
+      moves = m.0 ∙ ap (λ (k : List ℕ). entry_of (key_at k) p.value ∷ readable (length text) k next) s.key_is ∙ ap (λ (v : List ℕ). entry_of (key_at key) v ∷ readable (length text) key next) s.value_is;
+      shorter = m.1;
+    }
+
+pub read_on_none : (text before : List ℕ) (offset : ℕ) → None ≡ option_map seen (entry_at before (drop offset text)) → readable (length text) before (drop offset text) ≡ []
+read_on_none text before offset e = read_none (length text) before (drop offset text) (seen_none (entry_at before (drop offset text)) e)
+
+first_some : (o : Option (Piece × List ℕ)) (k : List ℕ) → Some k ≡ option_map (λ f. f.0.key) o → (p : Piece) × (after : List ℕ) × (o ≡ Some (p, after)) × (p.key ≡ k)
+first_some None k e = absurd cc
+first_some (Some found) k e = (found.0, found.1, refl, some_is found.0.key k (sym e))
+
+-- the key at a restart
+pub starts_below : (text : List ℕ) (offset : ℕ) (k : List ℕ) (key : InternalKey) → Some k ≡ option_map (λ f. f.0.key) (entry_at [] (drop offset text)) → is_lt (key_cmp (key_at k) key) ≡ true → StartsBelow text offset key
+starts_below text offset k key e h =
+    let f = first_some (entry_at [] (drop offset text)) k e in
+    record { piece = f.0; after = f.1; read = f.2; below = subst (λ (x : List ℕ). is_lt (key_cmp (key_at x) key) ≡ true) (sym f.3) h }
+
+pub first_internal : (text : List ℕ) (offset : ℕ) (k : List ℕ) → Some k ≡ option_map (λ f. f.0.key) (entry_at [] (drop offset text)) → is_internal k ≡ true
+first_internal text offset k e =
+    let f = first_some (entry_at [] (drop offset text)) k e in
+    subst (λ (x : List ℕ). is_internal x ≡ true) f.3 (read_internal [] (drop offset text) f.0 f.1 f.2)

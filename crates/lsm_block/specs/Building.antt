@@ -1,10 +1,12 @@
 -- The bytes of a block that the writer makes of entries: what each shares with the key before it, and where the restarts
 -- are (LevelDB's `table/block_builder.cc`).
-use Rattle.std.specs.Prelude.{◌≡◌, ℕ, zero, suc, ◌+◌, ◌%◌, ◌^◌, ◌<◌, ◌&&◌, Bool, true, false, nat_lt, ◌==◌, List, [], ◌∷◌, ◌++◌, length, drop}
+use Rattle.std.specs.Prelude.{◌≡◌, ℕ, zero, suc, ◌+◌, ◌%◌, ◌^◌, ◌<◌, ◌&&◌, Bool, true, false, nat_lt, ◌==◌, List, [], ◌∷◌, ◌++◌, length, drop, Option, Some, None}
 use Rattle.std.specs.List.{flat_map, AllByRecursion}
+use Rattle.std.specs.Ordering.{is_lt}
 use Rattle.std.specs.Int.{w32, to_le_bytes}
 use Rattle.lsm_codec.specs.Varint.{varint32}
-use Rattle.lsm_codec.specs.Entries.{Entry}
+use Rattle.lsm_codec.specs.Keys.{InternalKey, key_cmp}
+use Rattle.lsm_codec.specs.Entries.{Entry, internal_key}
 use Rattle.lsm_block.specs.Block.{Ascends, key_text}
 use Rattle.lsm_block.specs.Seeking.{readable}
 
@@ -34,6 +36,10 @@ shared_at interval index before key = shared_if (is_restart interval index) (com
 abbrev pub parts_text : ℕ → List ℕ → List ℕ → List ℕ
 parts_text shared unshared value = varint32 shared ++ (varint32 (length unshared) ++ (varint32 (length value) ++ (unshared ++ value)))
 
+-- how long that is
+abbrev pub own_len : ℕ → ℕ → ℕ → ℕ
+own_len shared unshared_len value_len = length (varint32 shared) + length (varint32 unshared_len) + length (varint32 value_len) + unshared_len + value_len
+
 -- an entry that shares so many bytes of its key
 abbrev pub sharing_text : ℕ → Entry → List ℕ
 sharing_text shared e = parts_text shared (drop shared (key_text e)) e.value
@@ -47,6 +53,11 @@ entries_text interval index before (e ∷ es) =
 abbrev pub offset_if : Bool → ℕ → List ℕ
 offset_if true offset = offset ∷ []
 offset_if false offset = []
+
+-- how long a block is with an entry more, by the lengths of its parts
+abbrev pub grown_len : ℕ → ℕ → Bool → ℕ → ℕ → ℕ → ℕ
+grown_len text_len offsets_len restarts shared unshared_len value_len =
+    text_len + own_len shared unshared_len value_len + (offsets_len + length (flat_map (to_le_bytes w32) (offset_if restarts text_len))) + 8
 
 abbrev pub is_later_restart : ℕ → ℕ → Bool
 is_later_restart interval index = nat_lt 0 index && is_restart interval index
@@ -83,6 +94,16 @@ pub record Building : Type 0 where
 abbrev pub last_text : List ℕ → List Entry → List ℕ
 last_text before [] = before
 last_text before (e ∷ es) = last_text (key_text e) es
+
+-- the last key, if there is one
+abbrev pub last_key : List Entry → Option InternalKey
+last_key [] = None
+last_key (e ∷ []) = Some (internal_key e)
+last_key (e ∷ f ∷ es) = last_key (f ∷ es)
+
+abbrev pub after_last : Option InternalKey → InternalKey → Bool
+after_last None key = true
+after_last (Some last) key = is_lt (key_cmp last key)
 
 -- the entries that a text spells
 unfoldable pub entries_in : List ℕ → List Entry

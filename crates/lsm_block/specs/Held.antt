@@ -1,8 +1,8 @@
 -- A block that is held, and a place in it.
 use Rattle.std.specs.Prelude.{◌≡◌, ℕ, Bool, true, false, cond, List, [], ◌∷◌, length, drop, Option, Some, None, Result, Ok, Err}
-use Rattle.lsm_codec.specs.Keys.{InternalKey, key_bytes}
+use Rattle.lsm_codec.specs.Keys.{InternalKey, IsKey, key_bytes}
 use Rattle.lsm_codec.specs.Entries.{Entry}
-use Rattle.lsm_block.specs.Block.{IsBlock}
+use Rattle.lsm_block.specs.Block.{IsBlock, entry_of}
 use Rattle.lsm_block.specs.declared.fault.BlockFault.{BlockFault}
 use Rattle.lsm_block.specs.Reading.{is_internal, key_at, block_at}
 use Rattle.lsm_block.specs.Seeking.{readable}
@@ -45,6 +45,16 @@ last_if false bytes = None
 
 unfoldable pub last_of : List ℕ → Option InternalKey
 last_of bytes = last_if (is_internal bytes) bytes
+
+-- The bytes are those of the key, or there is none and no bytes.
+abbrev pub Kept : Option InternalKey → List ℕ → Type 0
+Kept None bytes = bytes ≡ []
+Kept (Some key) bytes = IsKey bytes key
+
+-- What a step hands out: nothing where no entry is left, and else the value of the next entry, whose key is then the last.
+abbrev pub Given : HeldBlock → Place → Place → Option (List ℕ) → Type 0
+Given block old new None = (rest_of block old ≡ []) × (rest_of block new ≡ [])
+Given block old new (Some value) = (key : InternalKey) × (new.last ≡ Some key) × (rest_of block old ≡ entry_of key value ∷ rest_of block new)
 
 abbrev pub or_none : Result (List Entry) BlockFault → List Entry
 or_none (Ok es) = es

@@ -1,4 +1,5 @@
 pub mod Fault
+pub mod BuildFault
 pub mod Block
 pub mod Reading
 pub mod Walking

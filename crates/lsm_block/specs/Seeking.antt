@@ -1,12 +1,12 @@
 -- Reading a block from a place on, and the first entry not below a key.
-use Rattle.std.specs.Prelude.{◌≡◌, ℕ, zero, suc, ◌+◌, ◌*◌, ◌^◌, ◌<◌, Bool, true, false, List, [], ◌∷◌, take, drop, Option, Some, None}
+use Rattle.std.specs.Prelude.{◌≡◌, ℕ, zero, suc, ◌+◌, ◌*◌, ◌^◌, ◌<◌, Bool, true, false, List, [], ◌∷◌, length, take, drop, Option, Some, None}
 use Rattle.std.specs.List.{flat_map, AllByRecursion}
 use Rattle.std.specs.Ordering.{is_lt}
 use Rattle.std.specs.Int.{w32, to_le_bytes, from_le_bytes}
 use Rattle.lsm_codec.specs.Keys.{InternalKey, key_cmp}
 use Rattle.lsm_codec.specs.Entries.{Entry, internal_key}
-use Rattle.lsm_block.specs.Block.{Spells, Ascends, Rises}
-use Rattle.lsm_block.specs.Reading.{Piece, entry_at, entry}
+use Rattle.lsm_block.specs.Block.{entry_of, Spells, Ascends, Rises}
+use Rattle.lsm_block.specs.Reading.{Piece, is_internal, key_at, entry_at, entry}
 
 abbrev pub read_on : (List ℕ → List ℕ → List Entry) → Option (Piece × List ℕ) → List Entry
 read_on later None = []
@@ -39,3 +39,17 @@ pub record Parts (text offsets : List ℕ) (entries : List Entry) : Type 0 where
   pub rises : Rises starts 0 restarts
   pub fits : AllByRecursion (λ offset. offset < 2 ^ 32) restarts
   pub offsets_are : offsets ≡ flat_map (to_le_bytes w32) (0 ∷ restarts)
+
+-- an entry can be read at this offset that follows no key, and its key is below this one
+pub record StartsBelow (text : List ℕ) (offset : ℕ) (key : InternalKey) : Type 0 where
+  pub piece : Piece
+  pub after : List ℕ
+  pub read : entry_at [] (drop offset text) ≡ Some (piece, after)
+  pub below : is_lt (key_cmp (key_at piece.key) key) ≡ true
+
+-- What a step from an offset and the key before it to others reads: nothing where no entry is left, and else an entry of
+-- this value whose key is the next one's key before.
+abbrev pub Steps : List ℕ → ℕ → List ℕ → ℕ → List ℕ → Option (List ℕ) → Type 0
+Steps text offset before offset' before' None = (readable (length text) before (drop offset text) ≡ []) × (readable (length text) before' (drop offset' text) ≡ [])
+Steps text offset before offset' before' (Some value) =
+    (is_internal before' ≡ true) × (readable (length text) before (drop offset text) ≡ entry_of (key_at before') value ∷ readable (length text) before' (drop offset' text))

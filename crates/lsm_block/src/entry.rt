@@ -1,23 +1,14 @@
 //! The entries of a block, one at a time.
 
-ghost use Rattle.std.specs.Prelude.{◌≡◌, ◌<◌, ◌≤◌, ℕ, List, length, true, IfOk};
-ghost use Rattle.std.specs.Ordering.{is_lt};
-ghost use Rattle.lsm_codec.specs.Keys.{key_cmp};
+ghost use Rattle.std.specs.Prelude.{◌≡◌, [], ℕ, List, IfOk, OnSome};
 ghost use Rattle.std.specs.Option.{option_map};
-ghost use Rattle.lsm_block.specs.Reading.{is_internal, tail_of, number_at, numbers_at, piece_of, entry_at, key_at, comes_after};
+ghost use Rattle.lsm_block.specs.Reading.{number_at, numbers_at, piece_of, entry_at, key_at};
+ghost use Rattle.lsm_codec.specs.Keys.{IsKey};
 ghost use Rattle.lsm_block.specs.Walking.{seen};
 
+use crate::key::is_internal_key;
 use lsm_codec::get_varint32;
 use std::alloc::AllocError;
-use std::cmp::Ordering;
-
-/// Whether bytes are an internal key: eight at least, and the kind is 0 or 1.
-#[tactic(auto, unfolding(crate::specs::Reading::is_internal))]
-fn is_internal_key(key: &[u8]) -> bool
-    ensures { result ≡ is_internal key.now }
-{
-    key.len() >= 8 && key[key.len() - 8] <= 1
-}
 
 /// A varint32 and what follows it.
 fn number(bytes: &[u8]) -> Option<(u32, &[u8])>
@@ -65,6 +56,7 @@ fn finish<'a>(
     key: &mut Vec<u8>,
 ) -> Result<Option<(u32, &'a [u8], &'a [u8])>, AllocError>
     ensures reads { IfOk result (λ r. option_map (λ x. (x.0, key.new.items, x.1.now, x.2.now)) r ≡ option_map seen (piece_of before.now shared unshared len rest.now)) }
+    ensures kept { IfOk result (λ r. OnSome r (IsKey key.new.items (key_at key.new.items))) }
 {
     if shared as usize > before.len() {
         return Ok(None);
@@ -93,6 +85,7 @@ pub(crate) fn read_into<'a>(
     key: &mut Vec<u8>,
 ) -> Result<Option<(u32, &'a [u8], &'a [u8])>, AllocError>
     ensures reads { IfOk result (λ r. option_map (λ x. (x.0, key.new.items, x.1.now, x.2.now)) r ≡ option_map seen (entry_at before.now text.now)) }
+    ensures kept { IfOk result (λ r. OnSome r (IsKey key.new.items (key_at key.new.items))) }
 {
     let Some((shared, unshared, len, rest)) = numbers(text) else {
         return Ok(None);
@@ -100,38 +93,22 @@ pub(crate) fn read_into<'a>(
     finish(before, shared, unshared, len, rest, key)
 }
 
-/// The last eight bytes of an internal key as a number.
-fn tail(key: &[u8]) -> u64
-    requires { 8 ≤ length key.now }
-    ensures { result ≡ tail_of key.now }
+/// The key of the entry at the front of a text that follows no key, if it can be read.
+pub(crate) fn first_key(text: &[u8]) -> Option<&[u8]>
+    ensures { option_map (λ k. k.now) result ≡ option_map (λ f. f.0.key) (entry_at [] text.now) }
 {
-    let (_, tail) = key.split_at(key.len() - 8);
-    u64::from_le_bytes([
-        tail[0], tail[1], tail[2], tail[3], tail[4], tail[5], tail[6], tail[7],
-    ])
-}
-
-/// Whether one internal key stands before another: user keys ascending, and of one user key the newest first.
-fn comes_before(a: &[u8], b: &[u8]) -> bool
-    requires first { is_internal a.now ≡ true }
-    requires second { is_internal b.now ≡ true }
-    ensures { result ≡ is_lt (key_cmp (key_at a.now) (key_at b.now)) }
-{
-    let (a_user, _) = a.split_at(a.len() - 8);
-    let (b_user, _) = b.split_at(b.len() - 8);
-    match a_user.cmp(b_user) {
-        Ordering::Less => true,
-        Ordering::Equal => tail(b) < tail(a),
-        Ordering::Greater => false,
+    let Some((shared, unshared, len, rest)) = numbers(text) else {
+        return None;
+    };
+    if shared != 0 {
+        return None;
     }
-}
-
-/// Whether a key comes after the key before it, of which there are no bytes where there is none.
-#[tactic(auto, unfolding(crate::specs::Reading::comes_after))]
-pub(crate) fn is_after(before: &[u8], key: &[u8]) -> bool
-    requires before { 0 < length before.now → is_internal before.now ≡ true }
-    requires key { is_internal key.now ≡ true }
-    ensures { result ≡ comes_after before.now key.now }
-{
-    before.is_empty() || comes_before(before, key)
+    if rest.len() < unshared as usize + len as usize {
+        return None;
+    }
+    let (key, _) = rest.split_at(unshared as usize);
+    if !is_internal_key(key) {
+        return None;
+    }
+    Some(key)
 }

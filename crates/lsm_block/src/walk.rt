@@ -6,8 +6,9 @@ ghost use Rattle.std.specs.Option.{option_map};
 ghost use Rattle.lsm_block.specs.Reading.{words, is_internal, comes_after, if_not, entry_at, scan, first_fault};
 ghost use Rattle.lsm_block.specs.Walking.{begun, passed, if_none, fault_from, fault_at_stop, is_nothing, fault_at_end};
 
-use crate::entry::{is_after, read_into};
+use crate::entry::read_into;
 use crate::fault::BlockFault;
+use crate::key::is_after;
 use std::alloc::{AllocError, Global};
 use std::mem::swap;
 

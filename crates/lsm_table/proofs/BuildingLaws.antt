@@ -15,6 +15,7 @@ use Rattle.lsm_table.specs.Handle.{handle_text}
 use Rattle.lsm_table.specs.Footer.{footer_text}
 use Rattle.lsm_table.specs.StoredBlock.{trailer, stored, Holds}
 use Rattle.lsm_table.specs.Table.{DataBlock, DataBlocks, IsAfter, IsTable, last_of, concat}
+use Rattle.lsm_table.specs.TableMaking.{AreFilled, AreBlocks, closed_when}
 use Rattle.lsm_table.specs.TableBuilding.{Grouped, closed_first, is_full, close_if, grouped, last_group, groups_of, data_text, place, index_entry, index_of, file_of, index_block, file_of_groups, groups_by, table_bytes}
 use Rattle.lsm_table.proofs.HandleLaws.{FitsHandle, handle_is}
 use Rattle.lsm_table.proofs.StoredBlockLaws.{length-stored}
@@ -24,26 +25,14 @@ use Rattle.lsm_table.proofs.SearchLaws.{AllAfter, after_trans, less_le, ascends_
 
 -- ---- groups that may stand as data blocks one after another
 
-abbrev pub ComesAfter : Option InternalKey → Entry → Type 0
-ComesAfter None e = Unit {0}
-ComesAfter (Some bound) e = key_cmp bound (internal_key e) ≡ Less
-
 -- each with an entry, the first of which comes after the last entry of the group before
 abbrev pub Good : Option InternalKey → List (List Entry) → Type 0
 Good bound [] = Unit {0}
 Good bound ([] ∷ groups) = ⊥
-Good bound ((e ∷ es) ∷ groups) = ComesAfter bound e × Good (Some (internal_key (last_of e es))) groups
-
--- each group's block is one
-abbrev pub AreBlocks : ℕ → List (List Entry) → Type 0
-AreBlocks interval groups = AllByRecursion (λ group. IsBlock (block_bytes interval group) group) groups
-
-after_bound : (bound : Option Entry) (e : Entry) → ComesAfter (option_map internal_key bound) e → IsAfter bound e
-after_bound None e h = tt
-after_bound (Some i) e h = h
+Good bound ((e ∷ es) ∷ groups) = IsAfter bound e × Good (Some (internal_key (last_of e es))) groups
 
 -- each data block stands where the index says, whatever stands before and after
-pub stand : (interval : ℕ) (front : List ℕ) (bound : Option Entry) (groups : List (List Entry)) → Good (option_map internal_key bound) groups → AreBlocks interval groups
+pub stand : (interval : ℕ) (front : List ℕ) (bound : Option InternalKey) (groups : List (List Entry)) → Good bound groups → AreBlocks interval groups
     → length front + length (data_text interval groups) < 2 ^ 64 → (after : List ℕ) → DataBlocks (front ++ (data_text interval groups ++ after)) bound (index_of interval (length front) groups) groups
 unfolding data_text index_of
 stand interval front bound [] g b small after = tt
@@ -58,9 +47,9 @@ stand interval front bound ((e ∷ es) ∷ groups) g b small after =
     let handle = place (length front) block in
     let i = index_entry (last_of e es) handle in
     let shift : (front ++ stored block) ++ (later ++ after) ≡ body = simp append_assoc in
-    let next = stand interval (front ++ stored block) (Some i) groups g.1 b.1 (omega (arith, small, l1, l2, l3)) after in
-    let next2 = subst (λ (xs : List ℕ). DataBlocks xs (Some i) (index_of interval (length (front ++ stored block)) groups) groups) shift next in
-    let next3 = subst (λ (n : ℕ). DataBlocks body (Some i) (index_of interval n groups) groups) l3 next2 in
+    let next = stand interval (front ++ stored block) (Some (internal_key i)) groups g.1 b.1 (omega (arith, small, l1, l2, l3)) after in
+    let next2 = subst (λ (xs : List ℕ). DataBlocks xs (Some (internal_key i)) (index_of interval (length (front ++ stored block)) groups) groups) shift next in
+    let next3 = subst (λ (n : ℕ). DataBlocks body (Some (internal_key i)) (index_of interval n groups) groups) l3 next2 in
     let here : DataBlock body i.value (e ∷ es) = record {
       handle = handle;
       contents = block;
@@ -68,18 +57,13 @@ stand interval front bound ((e ∷ es) ∷ groups) g b small after =
       held = record { before = front; after = later ++ after; offset_is = refl; size_is = refl; body_is = simp append_assoc };
       block = b.0;
     } in
-    (here, after_bound bound e g.0, self_le (internal_key (last_of e es)), next3)
+    (here, g.0, self_le (internal_key (last_of e es)), next3)
 
 -- ---- ascending entries fall into good groups
 
-abbrev pub AreFilled : List (List Entry) → Type 0
-AreFilled [] = Unit {0}
-AreFilled ([] ∷ groups) = ⊥
-AreFilled ((e ∷ es) ∷ groups) = AreFilled groups
-
 abbrev pub First : Option InternalKey → List Entry → Type 0
 First bound [] = Unit {0}
-First bound (e ∷ es) = ComesAfter bound e
+First bound (e ∷ es) = IsAfter bound e
 
 pub any-first : (es : List Entry) → First None es
 any-first [] = tt
@@ -115,14 +99,17 @@ good_groups bound ((e ∷ es) ∷ groups) rest f b a =
 
 -- ---- the index
 
-pub index_ascends : (interval offset : ℕ) (bound : Option InternalKey) (groups : List (List Entry)) → Good bound groups → AreBlocks interval groups → Ascends (index_of interval offset groups)
+abbrev pub AllAscend : List (List Entry) → Type 0
+AllAscend groups = AllByRecursion (λ group. Ascends group) groups
+
+pub index_ascends : (interval offset : ℕ) (bound : Option InternalKey) (groups : List (List Entry)) → Good bound groups → AllAscend groups → Ascends (index_of interval offset groups)
 unfolding index_of
 index_ascends interval offset bound [] g b = tt
 index_ascends interval offset bound ([] ∷ groups) g b = absurd g
 index_ascends interval offset bound ((e ∷ es) ∷ []) g b = tt
 index_ascends interval offset bound ((e ∷ es) ∷ ([] ∷ groups)) g b = absurd g.1
 index_ascends interval offset bound ((e ∷ es) ∷ ((f ∷ fs) ∷ groups)) g b =
-    (before_last (internal_key (last_of e es)) f fs g.1.0 b.1.0.ascends, index_ascends interval (offset + length (stored (block_bytes interval (e ∷ es)))) (Some (internal_key (last_of e es))) ((f ∷ fs) ∷ groups) g.1 b.1)
+    (before_last (internal_key (last_of e es)) f fs g.1.0 b.1.0, index_ascends interval (offset + length (stored (block_bytes interval (e ∷ es)))) (Some (internal_key (last_of e es))) ((f ∷ fs) ∷ groups) g.1 b.1)
   where
     before_last : (k : InternalKey) (f : Entry) (fs : List Entry) → key_cmp k (internal_key f) ≡ Less → Ascends (f ∷ fs) → key_cmp k (internal_key (last_of f fs)) ≡ Less
     before_last k f [] h a = h
@@ -139,18 +126,14 @@ concat-last [] = refl
 concat-last (t ∷ ts) = append-nil (t ∷ ts)
 
 -- what one entry more does
-abbrev pub one_more_if : Bool → Grouped → List Entry → Grouped
-one_more_if true g taken = record { closed = g.closed ++ taken ∷ []; taken = [] }
-one_more_if false g taken = record { closed = g.closed; taken = taken }
-
 abbrev pub one_more : TableOptions → Grouped → Entry → Grouped
-one_more options g e = one_more_if (is_full options (g.taken ++ e ∷ [])) g (g.taken ++ e ∷ [])
+one_more options g e = closed_when (is_full options (g.taken ++ e ∷ [])) g.closed (g.taken ++ e ∷ [])
 
-first_one_more : (full : Bool) (group : List Entry) (g : Grouped) (taken : List Entry) → one_more_if full (closed_first group g) taken ≡ closed_first group (one_more_if full g taken)
-first_one_more true group g taken = refl
-first_one_more false group g taken = refl
+first_one_more : (full : Bool) (group : List Entry) (groups : List (List Entry)) (taken : List Entry) → closed_when full (group ∷ groups) taken ≡ closed_first group (closed_when full groups taken)
+first_one_more true group groups taken = refl
+first_one_more false group groups taken = refl
 
-last_one : (full : Bool) (options : TableOptions) (taken : List Entry) → close_if full (λ rest. grouped options rest []) taken ≡ one_more_if full (record { closed = []; taken = taken }) taken
+last_one : (full : Bool) (options : TableOptions) (taken : List Entry) → close_if full (λ rest. grouped options rest []) taken ≡ closed_when full [] taken
 unfolding grouped
 last_one true options taken = refl
 last_one false options taken = refl
@@ -158,7 +141,7 @@ last_one false options taken = refl
 push_if : (full : Bool) (options : TableOptions) (taken : List Entry) (es : List Entry) (x : Entry) → ((rest : List Entry) → grouped options rest (es ++ x ∷ []) ≡ one_more options (grouped options rest es) x)
     → close_if full (λ rest. grouped options rest (es ++ x ∷ [])) taken ≡ one_more options (close_if full (λ rest. grouped options rest es) taken) x
 push_if true options taken es x go =
-    ap (closed_first taken) (go []) ∙ sym (first_one_more (is_full options ((grouped options [] es).taken ++ x ∷ [])) taken (grouped options [] es) ((grouped options [] es).taken ++ x ∷ []))
+    ap (closed_first taken) (go []) ∙ sym (first_one_more (is_full options ((grouped options [] es).taken ++ x ∷ [])) taken (grouped options [] es).closed ((grouped options [] es).taken ++ x ∷ []))
 push_if false options taken es x go = go taken
 
 grouped-cons : (options : TableOptions) (taken : List Entry) (e : Entry) (es : List Entry)
@@ -166,21 +149,36 @@ grouped-cons : (options : TableOptions) (taken : List Entry) (e : Entry) (es : L
 unfolding grouped
 grouped-cons options taken e es = refl
 
-grouped-nil : (options : TableOptions) (taken : List Entry) → grouped options taken [] ≡ record { closed = []; taken = taken }
+pub grouped-nil : (options : TableOptions) (taken : List Entry) → grouped options taken [] ≡ record { closed = []; taken = taken }
 unfolding grouped
 grouped-nil options taken = refl
 
 pub grouped-push : (options : TableOptions) (taken : List Entry) (es : List Entry) (x : Entry) → grouped options taken (es ++ x ∷ []) ≡ one_more options (grouped options taken es) x
 grouped-push options taken [] x =
-    grouped-cons options taken x [] ∙ last_one (is_full options (taken ++ x ∷ [])) options (taken ++ x ∷ []) ∙ last_empty (is_full options (taken ++ x ∷ [])) options taken (taken ++ x ∷ [])
+    grouped-cons options taken x [] ∙ last_one (is_full options (taken ++ x ∷ [])) options (taken ++ x ∷ [])
     ∙ ap (λ (g : Grouped). one_more options g x) (sym (grouped-nil options taken))
-  where
-    last_empty : (full : Bool) (options : TableOptions) (taken more : List Entry) → one_more_if full (record { closed = []; taken = more }) more ≡ one_more_if full (record { closed = []; taken = taken }) more
-    last_empty true options taken more = refl
-    last_empty false options taken more = refl
 grouped-push options taken (e ∷ es) x =
     grouped-cons options taken e (es ++ x ∷ []) ∙ push_if (is_full options (taken ++ e ∷ [])) options (taken ++ e ∷ []) es x (λ rest. grouped-push options rest es x)
     ∙ ap (λ (g : Grouped). one_more options g x) (sym (grouped-cons options taken e es))
+
+-- no entry is lost or made
+abbrev pub entries_of : Grouped → List Entry
+entries_of g = concat g.closed ++ g.taken
+
+kept_if : (full : Bool) (options : TableOptions) (taken es : List Entry) → ((rest : List Entry) → entries_of (grouped options rest es) ≡ rest ++ es) → entries_of (close_if full (λ rest. grouped options rest es) taken) ≡ taken ++ es
+kept_if true options taken es go =
+    append_assoc taken (concat (grouped options [] es).closed) (grouped options [] es).taken ∙ ap (λ (xs : List Entry). taken ++ xs) (go [])
+kept_if false options taken es go = go taken
+
+pub grouped-entries : (options : TableOptions) (taken es : List Entry) → entries_of (grouped options taken es) ≡ taken ++ es
+grouped-entries options taken [] = ap entries_of (grouped-nil options taken) ∙ sym (append-nil taken)
+grouped-entries options taken (e ∷ es) =
+    ap entries_of (grouped-cons options taken e es) ∙ kept_if (is_full options (taken ++ e ∷ [])) options (taken ++ e ∷ []) es (λ rest. grouped-entries options rest es) ∙ append_assoc taken (e ∷ []) es
+
+pub when-entries : (full : Bool) (groups : List (List Entry)) (taken : List Entry) → entries_of (closed_when full groups taken) ≡ concat groups ++ taken
+when-entries true groups taken =
+    append-nil (concat (groups ++ taken ∷ [])) ∙ concat-append groups (taken ∷ []) ∙ ap (λ (xs : List Entry). concat groups ++ xs) (append-nil taken)
+when-entries false groups taken = refl
 
 -- ---- the whole
 

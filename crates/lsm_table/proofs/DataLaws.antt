@@ -6,7 +6,8 @@ use Rattle.std.specs.declared.cmp.Ordering.{Ordering}
 use Rattle.std.specs.declared.cmp.Ordering.TheVariants.{Less, Equal, Greater}
 use Rattle.std.proofs.lemmas.Bool.{eqb-true}
 use Rattle.std.proofs.lemmas.List.{append-nil}
-use Rattle.lsm_codec.specs.Entries.{Entry, entry_cmp}
+use Rattle.lsm_codec.specs.Keys.{InternalKey, key_cmp}
+use Rattle.lsm_codec.specs.Entries.{Entry, internal_key, entry_cmp}
 use Rattle.lsm_codec.proofs.Varints.{IsBytes}
 use Rattle.lsm_block.specs.Block.{IsBlock, Spells, key_text}
 use Rattle.lsm_block.specs.Reading.{block_at}
@@ -54,7 +55,7 @@ no_rest : (xs : List ℕ) → eqb (length xs) 0 ≡ true → xs ≡ []
 no_rest [] e = refl
 no_rest (x ∷ xs) e = absurd (omega (arith, eqb-true (length (x ∷ xs)) 0 e))
 
-data_block_takes : (body : List ℕ) (bound : Option Entry) (i : Entry) (es : List Entry) → IsBytes body → IsBytes i.value → data_block_at body bound i ≡ Ok es
+data_block_takes : (body : List ℕ) (bound : Option InternalKey) (i : Entry) (es : List Entry) → IsBytes body → IsBytes i.value → data_block_at body bound i ≡ Ok es
     → (are_placed bound i es ≡ true) × DataBlock body i.value es
 unfolding data_block_at
 data_block_takes body bound i es fits value_fits e =
@@ -77,7 +78,7 @@ data_block_takes body bound i es fits value_fits e =
     } in
     subst (λ (x : List Entry). (are_placed bound i x ≡ true) × DataBlock body i.value x) same (g3.0, block)
 
-data_block_again : (body : List ℕ) (bound : Option Entry) (i : Entry) (es : List Entry) → are_placed bound i es ≡ true → DataBlock body i.value es → data_block_at body bound i ≡ Ok es
+data_block_again : (body : List ℕ) (bound : Option InternalKey) (i : Entry) (es : List Entry) → are_placed bound i es ≡ true → DataBlock body i.value es → data_block_at body bound i ≡ Ok es
 unfolding data_block_at
 data_block_again body bound i es p d =
     let h : handle_at BadIndex i.value ≡ Ok (d.handle, []) = ap (handle_at BadIndex) (sym (append-nil i.value)) ∙ handle_again BadIndex i.value [] d.handle d.handle_is in
@@ -92,31 +93,31 @@ is_less Less e = refl
 is_less Equal e = absurd cc
 is_less Greater e = absurd cc
 
-after_is : (bound : Option Entry) (e : Entry) → is_after bound e ≡ true → IsAfter bound e
+after_is : (bound : Option InternalKey) (e : Entry) → is_after bound e ≡ true → IsAfter bound e
 after_is None e h = tt
-after_is (Some b) e h = is_less (entry_cmp b e) h
+after_is (Some b) e h = is_less (key_cmp b (internal_key e)) h
 
-is_after-true : (bound : Option Entry) (e : Entry) → IsAfter bound e → is_after bound e ≡ true
+is_after-true : (bound : Option InternalKey) (e : Entry) → IsAfter bound e → is_after bound e ≡ true
 is_after-true None e h = refl
 is_after-true (Some b) e h = ap is_lt h
 
-pub data_takes : (index : List Entry) (body : List ℕ) (bound : Option Entry) (groups : List (List Entry)) → IsBytes body → ValuesFit index → data_at body bound index ≡ Ok groups → DataBlocks body bound index groups
+pub data_takes : (index : List Entry) (body : List ℕ) (bound : Option InternalKey) (groups : List (List Entry)) → IsBytes body → ValuesFit index → data_at body bound index ≡ Ok groups → DataBlocks body bound index groups
 unfolding data_at
 data_takes [] body bound groups fits values e = subst (λ (x : List (List Entry)). DataBlocks body bound [] x) (ok_is [] groups e) tt
 data_takes (i ∷ index) body bound groups fits values e =
     let b1 = bind_ok (data_block_at body bound i) _ groups e in
     let d = data_block_takes body bound i b1.0 fits values.0 b1.1 in
-    let b2 = bind_ok (data_at body (Some i) index) _ groups b1.2 in
-    let later = data_takes index body (Some i) b2.0 fits values.1 b2.1 in
+    let b2 = bind_ok (data_at body (Some (internal_key i)) index) _ groups b1.2 in
+    let later = data_takes index body (Some (internal_key i)) b2.0 fits values.1 b2.1 in
     subst (λ (x : List (List Entry)). DataBlocks body bound (i ∷ index) x) (ok_is (b1.0 ∷ b2.0) groups b2.2) (join b1.0 d b2.0 later)
   where
-    join : (es : List Entry) → (are_placed bound i es ≡ true) × DataBlock body i.value es → (gs : List (List Entry)) → DataBlocks body (Some i) index gs → DataBlocks body bound (i ∷ index) (es ∷ gs)
+    join : (es : List Entry) → (are_placed bound i es ≡ true) × DataBlock body i.value es → (gs : List (List Entry)) → DataBlocks body (Some (internal_key i)) index gs → DataBlocks body bound (i ∷ index) (es ∷ gs)
     join [] d gs later = absurd cc
     join (e ∷ es) d gs later =
         let both = and_true (is_after bound e) (is_le (entry_cmp (last_of e es) i)) d.0 in
         (d.1, after_is bound e both.0, both.1, later)
 
-pub data_again : (index : List Entry) (body : List ℕ) (bound : Option Entry) (groups : List (List Entry)) → DataBlocks body bound index groups → data_at body bound index ≡ Ok groups
+pub data_again : (index : List Entry) (body : List ℕ) (bound : Option InternalKey) (groups : List (List Entry)) → DataBlocks body bound index groups → data_at body bound index ≡ Ok groups
 unfolding data_at
 data_again [] body bound [] d = refl
 data_again [] body bound (g ∷ gs) d = absurd d
@@ -126,5 +127,5 @@ data_again (i ∷ index) body bound ((e ∷ es) ∷ gs) d =
     let after = is_after-true bound e d.1 in
     let p : are_placed bound i (e ∷ es) ≡ true = rw (after, d.2) refl in
     let one = data_block_again body bound i (e ∷ es) p d.0 in
-    let later = data_again index body (Some i) gs d.3 in
+    let later = data_again index body (Some (internal_key i)) gs d.3 in
     rw (one, later) refl

@@ -5,7 +5,7 @@ use Rattle.std.specs.Ordering.{is_lt, is_le}
 use Rattle.lsm_codec.specs.Keys.{InternalKey, key_cmp}
 use Rattle.lsm_codec.specs.Entries.{Entry, internal_key, entry_cmp}
 use Rattle.lsm_block.specs.Block.{IsBlock, Spells, Ascends, key_text}
-use Rattle.lsm_table.specs.Searching.{not_below, drop_if}
+use Rattle.lsm_block.specs.Seeking.{not_below, drop_if}
 use Rattle.lsm_table.specs.Table.{DataBlock, DataBlocks, IsAfter, last_of, concat}
 use Rattle.lsm_table.proofs.KeyOrder.{key_cmp_total, le_less_trans, not_less, less_not, is_less, self_le}
 use Rattle.lsm_table.proofs.SearchLaws.{below-step, below-stop, below-nothing, either_bool, AllAfter, after_trans, less_le, ascends_after, ascends_tail, after_stays, SeqsFit}
@@ -65,7 +65,7 @@ all_less i key last (e ∷ es) s h k =
     (le_less_trans (internal_key e) (internal_key last) key s.0 (le_less_trans (internal_key last) (internal_key i) key h k), all_less i key last es s.1 h k)
 
 -- all entries of data blocks come after the index key before them
-pub data_after : (body : List ℕ) (bound : Entry) (index : List Entry) (groups : List (List Entry)) → Ascends (bound ∷ index) → DataBlocks body (Some bound) index groups → AllAfter (internal_key bound) (concat groups)
+pub data_after : (body : List ℕ) (bound : Entry) (index : List Entry) (groups : List (List Entry)) → Ascends (bound ∷ index) → DataBlocks body (Some (internal_key bound)) index groups → AllAfter (internal_key bound) (concat groups)
 data_after body bound [] [] a d = tt
 data_after body bound [] (group ∷ groups) a d = absurd d
 data_after body bound (i ∷ index) [] a d = absurd d
@@ -76,7 +76,7 @@ data_after body bound (i ∷ index) ((e ∷ es) ∷ groups) a d =
     let later = after_trans (internal_key bound) (internal_key i) (concat groups) (less_le (entry_cmp bound i) a.0) (data_after body i index groups a.1 d.3) in
     all_append (λ x. key_cmp (internal_key bound) (internal_key x) ≡ Less) (e ∷ es) (concat groups) here later
 
-pub index_finds : (key : InternalKey) (body : List ℕ) (bound : Option Entry) (index : List Entry) (groups : List (List Entry)) → Ascends index → DataBlocks body bound index groups
+pub index_finds : (key : InternalKey) (body : List ℕ) (bound : Option InternalKey) (index : List Entry) (groups : List (List Entry)) → Ascends index → DataBlocks body bound index groups
     → not_below key (concat groups) ≡ from_index key index groups
 unfolding from_index
 index_finds key body bound [] [] a d = below-nothing key
@@ -88,7 +88,7 @@ index_finds key body bound (i ∷ index) ((e ∷ es) ∷ groups) a d =
       | inl below ↦
           all_below key (e ∷ es) (concat groups)
           (all_less i key (last_of e es) (e ∷ es) (up_to_last e es (block_ascends body i.value (e ∷ es) d.0)) d.2 (is_less (key_cmp (internal_key i) key) below))
-          ∙ index_finds key body (Some i) index groups (ascends_tail i index a) d.3
+          ∙ index_finds key body (Some (internal_key i)) index groups (ascends_tail i index a) d.3
           ∙ ap (λ (b : Bool). go_if b (from_index key index groups) (not_below key (e ∷ es) ++ concat groups)) (sym below)
       | inr above ↦
           append_stays key (e ∷ es) (concat groups) (after_trans key (internal_key i) (concat groups) (not_less (internal_key i) key above) (data_after body i index groups a d.3))
@@ -107,23 +107,23 @@ ascends_join e [] [] a f g = tt
 ascends_join e [] (y ∷ ys) a f g = (f.0, g)
 ascends_join e (x ∷ es) ys a f g = (a.0, ascends_join x es ys a.1 f g)
 
-pub data_ascends : (body : List ℕ) (bound : Option Entry) (index : List Entry) (groups : List (List Entry)) → Ascends index → DataBlocks body bound index groups → Ascends (concat groups)
+pub data_ascends : (body : List ℕ) (bound : Option InternalKey) (index : List Entry) (groups : List (List Entry)) → Ascends index → DataBlocks body bound index groups → Ascends (concat groups)
 data_ascends body bound [] [] a d = tt
 data_ascends body bound [] (group ∷ groups) a d = absurd d
 data_ascends body bound (i ∷ index) [] a d = absurd d
 data_ascends body bound (i ∷ index) ([] ∷ groups) a d = absurd d
 data_ascends body bound (i ∷ index) ((e ∷ es) ∷ groups) a d =
     ascends_join e es (concat groups) (block_ascends body i.value (e ∷ es) d.0) (after_trans (internal_key (last_of e es)) (internal_key i) (concat groups) d.2 (data_after body i index groups a d.3))
-    (data_ascends body (Some i) index groups (ascends_tail i index a) d.3)
+    (data_ascends body (Some (internal_key i)) index groups (ascends_tail i index a) d.3)
 
 spelled_fit : (es : List Entry) (offset : ℕ) (before text starts : List ℕ) → Spells offset before text starts es → SeqsFit es
 spelled_fit [] offset before text starts s = tt
 spelled_fit (e ∷ es) offset before text starts s = (s.4.seq_fits, spelled_fit es _ (key_text e) s.2 s.3 s.7)
 
-pub data_seqs : (body : List ℕ) (bound : Option Entry) (index : List Entry) (groups : List (List Entry)) → DataBlocks body bound index groups → SeqsFit (concat groups)
+pub data_seqs : (body : List ℕ) (bound : Option InternalKey) (index : List Entry) (groups : List (List Entry)) → DataBlocks body bound index groups → SeqsFit (concat groups)
 data_seqs body bound [] [] d = tt
 data_seqs body bound [] (group ∷ groups) d = absurd d
 data_seqs body bound (i ∷ index) [] d = absurd d
 data_seqs body bound (i ∷ index) ([] ∷ groups) d = absurd d
 data_seqs body bound (i ∷ index) ((e ∷ es) ∷ groups) d =
-    all_append (λ x. x.seq < 2 ^ 56) (e ∷ es) (concat groups) (spelled_fit (e ∷ es) 0 [] d.0.block.text d.0.block.starts d.0.block.spelled) (data_seqs body (Some i) index groups d.3)
+    all_append (λ x. x.seq < 2 ^ 56) (e ∷ es) (concat groups) (spelled_fit (e ∷ es) 0 [] d.0.block.text d.0.block.starts d.0.block.spelled) (data_seqs body (Some (internal_key i)) index groups d.3)

@@ -9,3 +9,8 @@ pub mod KeyOrder
 pub mod SearchLaws
 pub mod IndexLaws
 pub mod BuildingLaws
+pub mod MakingLaws
+pub mod HeldTableLaws
+pub mod CloseLaws
+pub mod SettleLaws
+pub mod StepLaws

@@ -15,7 +15,7 @@ use Rattle.lsm_codec.specs.Lists.{Has}
 use Rattle.lsm_codec.proofs.Keys.{key_from_test, test_from_key, user_le_antisym}
 use Rattle.lsm_codec.proofs.Newest.{IsAllowed, allowed_says, allowed_from, kind_number_le, Finds, newest_finds}
 use Rattle.lsm_block.specs.Block.{Ascends}
-use Rattle.lsm_table.specs.Searching.{not_below, drop_if}
+use Rattle.lsm_block.specs.Seeking.{not_below, drop_if}
 use Rattle.lsm_table.proofs.KeyOrder.{key_cmp_total, le_less_trans, not_less, less_not, is_less}
 
 -- ---- the first entry not below a key

@@ -6,5 +6,6 @@ pub mod Footer
 pub mod StoredBlock
 pub mod Table
 pub mod TableReading
-pub mod Searching
 pub mod TableBuilding
+pub mod TableMaking
+pub mod HeldTable

@@ -3,7 +3,8 @@ use Rattle.std.specs.Prelude.{◌≡◌, ℕ, true, List, [], ◌∷◌, ◌++�
 use Rattle.std.specs.List.{flat_map}
 use Rattle.std.specs.Ordering.{is_le}
 use Rattle.std.specs.declared.cmp.Ordering.TheVariants.{Less}
-use Rattle.lsm_codec.specs.Entries.{Entry, entry_cmp}
+use Rattle.lsm_codec.specs.Keys.{InternalKey, key_cmp}
+use Rattle.lsm_codec.specs.Entries.{Entry, internal_key, entry_cmp}
 use Rattle.lsm_block.specs.Block.{IsBlock}
 use Rattle.lsm_table.specs.declared.handle.Handle.{Handle}
 use Rattle.lsm_table.specs.declared.footer.Footer.{Footer}
@@ -19,10 +20,10 @@ pub record DataBlock (body value : List ℕ) (entries : List Entry) : Type 0 whe
   pub held : Holds body handle contents
   pub block : IsBlock contents entries
 
--- the entry comes after this index entry, where there is one
-abbrev pub IsAfter : Option Entry → Entry → Type 0
+-- the entry comes after this index key, where there is one
+abbrev pub IsAfter : Option InternalKey → Entry → Type 0
 IsAfter None e = Unit {0}
-IsAfter (Some bound) e = entry_cmp bound e ≡ Less
+IsAfter (Some bound) e = key_cmp bound (internal_key e) ≡ Less
 
 abbrev pub last_of : Entry → List Entry → Entry
 last_of e [] = e
@@ -30,13 +31,13 @@ last_of e (f ∷ fs) = last_of f fs
 
 -- The index names one data block after the other, each with an entry. Its keys part them: each is at least the last key of
 -- its data block, and less than the first key of the next. The data blocks may stand anywhere in the file.
-abbrev pub DataBlocks : List ℕ → Option Entry → List Entry → List (List Entry) → Type 0
+abbrev pub DataBlocks : List ℕ → Option InternalKey → List Entry → List (List Entry) → Type 0
 DataBlocks body bound [] [] = Unit {0}
 DataBlocks body bound [] (group ∷ groups) = ⊥
 DataBlocks body bound (i ∷ index) [] = ⊥
 DataBlocks body bound (i ∷ index) ([] ∷ groups) = ⊥
 DataBlocks body bound (i ∷ index) ((e ∷ es) ∷ groups) =
-    DataBlock body i.value (e ∷ es) × IsAfter bound e × (is_le (entry_cmp (last_of e es) i) ≡ true) × DataBlocks body (Some i) index groups
+    DataBlock body i.value (e ∷ es) × IsAfter bound e × (is_le (entry_cmp (last_of e es) i) ≡ true) × DataBlocks body (Some (internal_key i)) index groups
 
 abbrev pub concat : List (List Entry) → List Entry
 concat groups = flat_map (λ group. group) groups

@@ -2,7 +2,8 @@
 -- or the first fault in this order.
 use Rattle.std.specs.Prelude.{ℕ, ◌==◌, ◌&&◌, Bool, true, false, List, [], ◌∷◌, length, Option, Some, None, Result, Ok, Err}
 use Rattle.std.specs.Ordering.{is_lt, is_le}
-use Rattle.lsm_codec.specs.Entries.{Entry, entry_cmp}
+use Rattle.lsm_codec.specs.Keys.{InternalKey, key_cmp}
+use Rattle.lsm_codec.specs.Entries.{Entry, internal_key, entry_cmp}
 use Rattle.lsm_block.specs.declared.fault.BlockFault.{BlockFault}
 use Rattle.lsm_block.specs.Reading.{block_at}
 use Rattle.lsm_table.specs.declared.table_fault.TableFault.{TableFault}
@@ -19,17 +20,17 @@ abbrev pub block_or : Result (List Entry) BlockFault → Result (List Entry) Tab
 block_or (Ok entries) = Ok entries
 block_or (Err fault) = Err (of_block fault)
 
-abbrev pub is_after : Option Entry → Entry → Bool
+abbrev pub is_after : Option InternalKey → Entry → Bool
 is_after None e = true
-is_after (Some bound) e = is_lt (entry_cmp bound e)
+is_after (Some bound) e = is_lt (key_cmp bound (internal_key e))
 
--- Whether a data block has an entry, and its entries lie between the index entry before and its own.
-abbrev pub are_placed : Option Entry → Entry → List Entry → Bool
+-- Whether a data block has an entry, and its entries lie between the index key before and its own.
+abbrev pub are_placed : Option InternalKey → Entry → List Entry → Bool
 are_placed bound i [] = false
 are_placed bound i (e ∷ es) = is_after bound e && is_le (entry_cmp (last_of e es) i)
 
 -- the data block of an index entry
-unfoldable pub data_block_at : List ℕ → Option Entry → Entry → Result (List Entry) TableFault
+unfoldable pub data_block_at : List ℕ → Option InternalKey → Entry → Result (List Entry) TableFault
 data_block_at body bound i = do
   handle ← handle_at BadIndex i.value
   contents ← guarded (length handle.1 == 0) BadIndex (contents_at body handle.0)
@@ -37,11 +38,11 @@ data_block_at body bound i = do
   guarded (are_placed bound i entries) BadIndex (Ok entries)
 
 -- the data blocks of index entries
-unfoldable pub data_at : List ℕ → Option Entry → List Entry → Result (List (List Entry)) TableFault
+unfoldable pub data_at : List ℕ → Option InternalKey → List Entry → Result (List (List Entry)) TableFault
 data_at body bound [] = Ok []
 data_at body bound (i ∷ index) = do
   entries ← data_block_at body bound i
-  groups ← data_at body (Some i) index
+  groups ← data_at body (Some (internal_key i)) index
   Ok (entries ∷ groups)
 
 -- the entries of a table, or the first fault

@@ -3,11 +3,14 @@
 //! Stands on `lsm_block` and `lsm_codec`. Its contract: a table is its list of entries.
 #![tactic(auto)]
 
-mod footer;
+mod table_options;
+mod table_fault;
 mod handle;
 mod stored_block;
-mod table_fault;
-mod table_options;
+mod footer;
+mod builder;
 
+pub use builder::TableBuilder;
+pub use lsm_block::BuildFault;
 pub use table_fault::TableFault;
 pub use table_options::TableOptions;

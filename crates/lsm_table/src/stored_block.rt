@@ -1,12 +1,15 @@
 //! A block with its trailer, as it stands in a table's file.
 
-ghost use Rattle.std.specs.Prelude.{◌≡◌, ◌+◌, ◌++◌, ℕ, List, length, OnOk, OnErr};
+ghost use Rattle.std.specs.Prelude.{◌≡◌, ◌≤◌, ◌+◌, ◌++◌, ℕ, List, length, drop, vec_len, OnOk, OnErr};
 ghost use Rattle.lsm_codec.specs.Crc.{crc_of};
+ghost use Rattle.lsm_block.specs.Block.{IsBlock};
+ghost use Rattle.lsm_block.specs.Building.{block_bytes};
 ghost use Rattle.lsm_table.specs.Reading.{Gives};
-ghost use Rattle.lsm_table.specs.StoredBlock.{seal, stored, unsealed, contents_at};
+ghost use Rattle.lsm_table.specs.StoredBlock.{seal, trailer, stored, unsealed, contents_at};
 
 use crate::handle::Handle;
 use crate::table_fault::TableFault;
+use lsm_block::BlockBuilder;
 use lsm_codec::{crc32c, crc_extend, mask};
 use std::alloc::AllocError;
 
@@ -56,18 +59,30 @@ pub(crate) fn contents_of(body: &[u8], handle: Handle) -> Result<&[u8], TableFau
     unseal(handle.offset, handle.size as usize, text)
 }
 
-/// Appends a block and its trailer. An `Err` leaves the contents of `out` as they were.
-pub(crate) fn put_stored(out: &mut Vec<u8>, contents: &[u8]) -> Result<(), AllocError>
-    ensures ok { OnOk result (out.new.items ≡ out.old.items ++ stored contents.now) }
+/// Appends the trailer of the contents that stand from the start on. An `Err` leaves `out` as it was.
+#[tactic(auto, unfolding(crate::specs::StoredBlock::seal))]
+fn put_trailer(out: &mut Vec<u8>, start: usize) -> Result<(), AllocError>
+    requires { start ≤ vec_len out.old }
+    ensures ok { OnOk result (out.new.items ≡ out.old.items ++ trailer (drop start out.old.items)) }
     ensures err { OnErr result (out.new.items ≡ out.old.items) }
 {
+    let (_, contents) = out.split_at(start);
     let sum = seal_of(crc_extend(crc32c(contents), &[0]));
-    let len = out.len();
-    out.extend_from_slice(contents)?;
-    match out.extend_from_slice(&[0, sum[0], sum[1], sum[2], sum[3]]) {
+    out.extend_from_slice(&[0, sum[0], sum[1], sum[2], sum[3]])
+}
+
+/// Appends the block of a builder, and its trailer. An `Err` leaves `out` as it was.
+pub(crate) fn put_block(out: &mut Vec<u8>, block: &BlockBuilder) -> Result<(), AllocError>
+    ensures ok { OnOk result (out.new.items ≡ out.old.items ++ stored (block_bytes block.now.interval block.now.entries)) }
+    ensures block { IsBlock (block_bytes block.now.interval block.now.entries) block.now.entries }
+    ensures err { OnErr result (out.new.items ≡ out.old.items) }
+{
+    let start = out.len();
+    block.write_to(out)?;
+    match put_trailer(out, start) {
         Ok(()) => Ok(()),
         Err(error) => {
-            out.truncate(len);
+            out.truncate(start);
             Err(error)
         }
     }

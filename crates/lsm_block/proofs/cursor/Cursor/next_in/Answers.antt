@@ -1,0 +1,13 @@
+use Rattle.std.proofs.Common.{ℕ, List, Option, Bor, subst}
+use Rattle.std.specs.Option.{option_map}
+use Rattle.lsm_block.specs.Held.{Place, Given, last_of, text_and_entries}
+use Rattle.lsm_block.proofs.HeldLaws.{given_steps}
+use Rattle.lsm_block.proofs.cursor.Cursor.next_in.Goals as goal
+
+pub returns-clause-given : goal.returns-clause-given
+returns-clause-given c =
+    let s = c.self.inside in
+    let value : Option (List ℕ) = option_map (λ (v : Bor (List ℕ)). v.now) c.in_ok-value.value in
+    let new : Place = record { offset = c.in_ok-value.offset; last = last_of c.step.new.before.items } in
+    subst (λ (old : Place). Given (text_and_entries c.args.text.now) old new value) c.self.view_is
+    (given_steps c.args.text.now s.before.items c.step.new.before.items s.offset c.in_ok-value.offset value c.self.invariant c.in_ok-value.ensures.kept c.in_ok-value.ensures.steps)

@@ -1,0 +1,13 @@
+use Rattle.std.proofs.Common.{◌≡◌, [], ◌-◌, ◌/◌, ◌<◌, ◌≤◌, List, length, drop}
+use Rattle.lsm_codec.specs.Entries.{Entry}
+use Rattle.lsm_block.specs.Seeking.{readable, not_below, word_of, Parts}
+use Rattle.lsm_codec.specs.KeyRef.{key_of}
+use Rattle.lsm_block.proofs.search.find_restart.Given as goal
+
+abbrev pub invariant-loop-low : goal.invariant-loop-low
+invariant-loop-low l =
+    (l.low ≤ l.high) × (l.high < length l.offsets / 4)
+    × ((es : List Entry) → Parts l.text l.offsets es → not_below (key_of l.key) (readable (length l.text) [] (drop (word_of l.offsets l.low) l.text)) ≡ not_below (key_of l.key) es)
+
+abbrev pub decreases-loop-low : goal.decreases-loop-low
+decreases-loop-low l = l.high - l.low

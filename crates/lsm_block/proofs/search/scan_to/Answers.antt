@@ -1,0 +1,66 @@
+use Rattle.std.proofs.Common.{◌≡◌, ◌+◌, ◌-◌, ◌<◌, ℕ, List, [], length, drop, true, false, sym, ap, ◌∙◌, subst, arith}
+use Rattle.std.specs.Ordering.{is_lt}
+use Rattle.lsm_codec.specs.Keys.{key_cmp}
+use Rattle.lsm_codec.specs.KeyRef.{key_of}
+use Rattle.lsm_block.specs.Block.{entry_of}
+use Rattle.lsm_block.specs.Reading.{key_at}
+use Rattle.lsm_block.specs.Seeking.{readable, not_below}
+use Rattle.lsm_block.specs.Held.{Kept, last_of}
+use Rattle.lsm_block.proofs.KeyLaws.{none_kept, kept_as}
+use Rattle.lsm_block.proofs.OrderLaws.{below-step, below-stop, below-nothing}
+use Rattle.lsm_block.proofs.SeekLaws.{read_on_some, read_on_none, scan_ends}
+use Rattle.lsm_block.proofs.search.scan_to.Goals as goal
+
+pub loop-offset-init : goal.loop-offset-init
+loop-offset-init c =
+    (ap (λ (b : List ℕ). not_below (key_of c.args.key.now) (readable (length c.args.text.now) b (drop c.args.start c.args.text.now))) c.requires,
+    subst (λ (b : List ℕ). Kept (last_of b) b) (sym c.requires) none_kept)
+
+pub returns-in_default-clause-found : goal.returns-in_default-clause-found
+returns-in_default-clause-found c =
+    let read = rw (c.in_default.is, c.rest_from-rest.ensures, c.deref.ensures.value) at c.in_ok-after.ensures.reads in
+    let none = read_on_none c.args.text.now c.loop-offset.before.items c.loop-offset.offset read in
+    none ∙ below-nothing (key_of c.args.key.now) ∙ ap (not_below (key_of c.args.key.now)) (sym none) ∙ c.loop-offset.invariant.0
+
+pub is_below-requires : goal.is_below-requires
+is_below-requires c =
+    let read = rw (c.in-Some.is, c.rest_from-rest.ensures, c.deref.ensures.value) at c.in_ok-after.ensures.reads in
+    let m = read_on_some c.args.text.now c.loop-offset.before.items c.loop-offset.offset _ _ _ _ (λ i. omega (arith, c.type_inv.text i)) (omega (arith, c.loop-offset-test.true)) read in
+    rw c.deref-in-loop-offset.ensures.value m.internal
+
+pub returns-then-not-is_below-clause-found : goal.returns-then-not-is_below-clause-found
+returns-then-not-is_below-clause-found c =
+    let key = key_of c.args.key.now in
+    let read = rw (c.in-Some.is, c.rest_from-rest.ensures, c.deref.ensures.value) at c.in_ok-after.ensures.reads in
+    let m = read_on_some c.args.text.now c.loop-offset.before.items c.loop-offset.offset _ _ _ _ (λ i. omega (arith, c.type_inv.text i)) (omega (arith, c.loop-offset-test.true)) read in
+    let above : is_lt (key_cmp (key_at c.read_into.new.key.items) key) ≡ false =
+        ap (λ (k : List ℕ). is_lt (key_cmp (key_at k) key)) (sym c.deref-in-loop-offset.ensures.value) ∙ sym c.is_below.ensures ∙ c.if-not-is_below.true in
+    m.moves ∙ sym (below-stop key (entry_of (key_at c.read_into.new.key.items) _) _ above) ∙ ap (not_below key) (sym m.moves) ∙ c.loop-offset.invariant.0
+
+pub overflow_sub-offset : goal.overflow_sub-offset
+overflow_sub-offset c =
+    let read = rw (c.in-Some.is, c.rest_from-rest.ensures, c.deref.ensures.value) at c.in_ok-after.ensures.reads in
+    let m = read_on_some c.args.text.now c.loop-offset.before.items c.loop-offset.offset _ _ _ _ (λ i. omega (arith, c.type_inv.text i)) (omega (arith, c.loop-offset-test.true)) read in
+    omega (arith, m.shorter)
+
+pub loop-offset-smaller : goal.loop-offset-smaller
+loop-offset-smaller c =
+    let read = rw (c.in-Some.is, c.rest_from-rest.ensures, c.deref.ensures.value) at c.in_ok-after.ensures.reads in
+    let m = read_on_some c.args.text.now c.loop-offset.before.items c.loop-offset.offset _ _ _ _ (λ i. omega (arith, c.type_inv.text i)) (omega (arith, c.loop-offset-test.true)) read in
+    omega (arith, m.shorter, c.loop-offset-test.true)
+
+pub loop-offset-preserved : goal.loop-offset-preserved
+loop-offset-preserved c =
+    let key = key_of c.args.key.now in
+    let read = rw (c.in-Some.is, c.rest_from-rest.ensures, c.deref.ensures.value) at c.in_ok-after.ensures.reads in
+    let m = read_on_some c.args.text.now c.loop-offset.before.items c.loop-offset.offset _ _ _ _ (λ i. omega (arith, c.type_inv.text i)) (omega (arith, c.loop-offset-test.true)) read in
+    let below : is_lt (key_cmp (key_at c.read_into.new.key.items) key) ≡ true =
+        ap (λ (k : List ℕ). is_lt (key_cmp (key_at k) key)) (sym c.deref-in-loop-offset.ensures.value) ∙ sym c.is_below.ensures ∙ c.if-not-is_below.false in
+    let kept = kept_as c.read_into.new.key.items (rw c.in-Some.is at c.in_ok-after.ensures.kept) in
+    rw c.swap.ensures.x_after
+    (sym (below-step key (entry_of (key_at c.read_into.new.key.items) _) _ below) ∙ ap (not_below key) (sym m.moves) ∙ c.loop-offset.invariant.0, kept)
+
+pub returns-clause-found : goal.returns-clause-found
+returns-clause-found c =
+    let none = scan_ends c.args.text.now c.loop-offset.before.items c.loop-offset.offset (omega (arith, c.loop-offset-test.false)) in
+    none ∙ below-nothing (key_of c.args.key.now) ∙ ap (not_below (key_of c.args.key.now)) (sym none) ∙ c.loop-offset.invariant.0

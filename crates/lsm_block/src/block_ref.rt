@@ -1,0 +1,80 @@
+//! A block whose bytes lie elsewhere.
+
+ghost use Rattle.std.specs.Prelude.{◌≡◌, ℕ, List, None, take, IfOk, OnOk, OnErr};
+ghost use Rattle.std.specs.Option.{option_map};
+ghost use Rattle.lsm_codec.specs.KeyRef.{key_of};
+ghost use Rattle.lsm_block.specs.Block.{IsBlock};
+ghost use Rattle.lsm_block.specs.Seeking.{not_below};
+ghost use Rattle.lsm_block.specs.Held.{Holds, rest_of, text_and_entries, held, Given};
+
+use crate::check::parts;
+use crate::cursor::Cursor;
+use lsm_codec::KeyRef;
+use std::alloc::AllocError;
+use std::marker::Model;
+
+/// A checked block whose bytes lie elsewhere, as in the image of a table. Contracts see it as they see a `Block`.
+#[derive(Drop)]
+pub struct BlockRef<'a> {
+    text: &'a [u8],
+    offsets: &'a [u8],
+}
+
+impl<'a> Model for BlockRef<'a> {
+    ghost use Rattle.lsm_block.specs.Seeking.{Parts};
+    ghost use Rattle.lsm_block.specs.Held.{HeldBlock, text_and_entries};
+
+    ghost Value = { HeldBlock };
+
+    ghost view = { λ b. text_and_entries b.text.now };
+
+    ghost invariant = { λ b. Parts b.text.now b.offsets.now (text_and_entries b.text.now).entries };
+}
+
+impl<'a> BlockRef<'a> {
+    /// The block that bytes are which were checked before. Takes no memory, and reads but the number of restarts.
+    pub fn of(bytes: &'a [u8]) -> BlockRef<'a>
+        requires { IsBlock bytes.now (held bytes.now) }
+        ensures { result.entries ≡ held bytes.now }
+    {
+        let Some((text, _)) = parts(bytes) else {
+            unreachable!()
+        };
+        BlockRef::at(bytes, text.len())
+    }
+
+    /// The block that bytes are whose text of entries is so long.
+    pub(crate) fn at(bytes: &'a [u8], text_len: usize) -> BlockRef<'a>
+        requires { Holds bytes.now text_len (text_and_entries (take text_len bytes.now)).entries }
+        ensures { result ≡ text_and_entries (take text_len bytes.now) }
+    {
+        let (text, tail) = bytes.split_at(text_len);
+        let (offsets, _) = tail.split_at(tail.len() - 4);
+        BlockRef { text, offsets }
+    }
+
+    /// Sets the cursor before the first entry.
+    pub fn rewind(&self, cursor: &mut Cursor)
+        ensures front { cursor.new ≡ record { offset = 0; last = None } }
+        ensures rest { rest_of self.now cursor.new ≡ self.now.entries }
+    {
+        let _text = self.text;
+        cursor.restart();
+    }
+
+    /// Sets the cursor before the first entry that is not below the key. An `Err` sets it before the first entry.
+    pub fn seek(&self, cursor: &mut Cursor, key: &KeyRef<'_>) -> Result<(), AllocError>
+        ensures found { OnOk result (rest_of self.now cursor.new ≡ not_below (key_of key.now) self.now.entries) }
+        ensures err { OnErr result (cursor.new ≡ record { offset = 0; last = None }) }
+    {
+        cursor.seek_in(self.text, self.offsets, key)
+    }
+
+    /// Goes to the next entry, and lends its value; `Cursor::key` then lends its key. An `Err` leaves the cursor.
+    pub fn next(&self, cursor: &mut Cursor) -> Result<Option<&'a [u8]>, AllocError>
+        ensures given { IfOk result (λ r. Given self.now cursor.old cursor.new (option_map (λ v. v.now) r)) }
+        ensures err { OnErr result (cursor.new ≡ cursor.old) }
+    {
+        cursor.next_in(self.text)
+    }
+}

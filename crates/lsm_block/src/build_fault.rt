@@ -1,0 +1,40 @@
+//! Why a block could not be built.
+
+ghost use Rattle.std.specs.Prelude.{◌≡◌};
+ghost use Rattle.lsm_block.specs.declared.build_fault.BuildFault.TheVariants.{OutOfMemory};
+
+use std::alloc::AllocError;
+use thiserror::Error;
+
+/// Why an entry could not be added to a block.
+#[derive(Clone, Copy, Debug, Drop, Error, PartialEq, Eq)]
+pub enum BuildFault {
+    /// A growth was refused.
+    #[error("OutOfMemory")]
+    OutOfMemory,
+    /// The block would have more than 2^32 - 1 bytes.
+    #[error("TooLarge")]
+    TooLarge,
+}
+
+impl BuildFault {
+    ghost use Rattle.lsm_block.specs.BuildFault.{number_of};
+
+    /// The published number of the refusal.
+    pub fn number(&self) -> u8
+        ensures { result ≡ number_of self.now }
+    {
+        match self {
+            BuildFault::OutOfMemory => 1,
+            BuildFault::TooLarge => 39,
+        }
+    }
+}
+
+impl From<AllocError> for BuildFault {
+    ghost from_gives = { λ _ e. e ≡ OutOfMemory };
+
+    fn from(_e: AllocError) -> BuildFault {
+        BuildFault::OutOfMemory
+    }
+}

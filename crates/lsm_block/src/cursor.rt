@@ -1,0 +1,104 @@
+//! A place in a block.
+
+ghost use Rattle.std.specs.Prelude.{◌≡◌, ◌≤◌, ℕ, List, None, length, IfOk, OnOk, OnErr};
+ghost use Rattle.std.specs.Option.{option_map};
+ghost use Rattle.lsm_codec.specs.KeyRef.{key_of};
+ghost use Rattle.lsm_codec.specs.Entries.{Entry};
+ghost use Rattle.lsm_block.specs.Seeking.{not_below, Parts};
+ghost use Rattle.lsm_block.specs.Held.{rest_of, text_and_entries, Given};
+
+use crate::block::Block;
+use crate::search::{find_restart, scan_to, step};
+use lsm_codec::KeyRef;
+use std::alloc::{AllocError, Global};
+use std::marker::Model;
+
+/// A place in a block: the next entry's offset, and the key before it. Contracts see it so. One cursor with its memory
+/// may go through many blocks, one after another.
+#[derive(Debug, Drop)]
+pub struct Cursor {
+    offset: usize,
+    before: Vec<u8>,
+    // Memory for the next key.
+    spare: Vec<u8>,
+}
+
+impl Model for Cursor {
+    ghost use Rattle.lsm_block.specs.Held.{Place, Kept, last_of};
+
+    ghost Value = { Place };
+
+    ghost view = { λ c. record { offset = c.offset; last = last_of c.before.items } };
+
+    ghost invariant = { λ c. Kept (last_of c.before.items) c.before.items };
+}
+
+impl Cursor {
+    /// A cursor before the first entry of any block. Takes no memory.
+    pub fn start(alloc: Global) -> Cursor
+        ensures { result ≡ record { offset = 0; last = None } }
+    {
+        Cursor {
+            offset: 0,
+            before: Vec::new(alloc),
+            spare: Vec::new(alloc),
+        }
+    }
+
+    /// Goes before the first entry.
+    pub fn restart(&mut self)
+        ensures { self.new ≡ record { offset = 0; last = None } }
+    {
+        self.offset = 0;
+        self.before.clear();
+    }
+
+    /// The key of the entry that was given last, if one was.
+    pub fn key(&self) -> Option<KeyRef<'_>>
+        ensures { option_map key_of result ≡ self.now.last }
+    {
+        match KeyRef::split(&self.before) {
+            Ok(key) => Some(key),
+            Err(_) => None,
+        }
+    }
+
+    /// Goes to the next entry of a block, and lends its value; `key` then lends its key. An `Err` leaves the cursor.
+    pub fn next<'b>(&mut self, block: &'b Block) -> Result<Option<&'b [u8]>, AllocError>
+        ensures given { IfOk result (λ r. Given block.now self.old self.new (option_map (λ v. v.now) r)) }
+        ensures err { OnErr result (self.new ≡ self.old) }
+    {
+        block.as_ref().next(self)
+    }
+
+    /// Goes before the first entry that is not below the key. An `Err` goes before the first entry.
+    pub(crate) fn seek_in(&mut self, text: &[u8], offsets: &[u8], key: &KeyRef<'_>) -> Result<(), AllocError>
+        requires { 4 ≤ length offsets.now }
+        ensures found { OnOk result ((es : List Entry) → Parts text.now offsets.now es → rest_of (text_and_entries text.now) self.new ≡ not_below (key_of key.now) es) }
+        ensures err { OnErr result (self.new ≡ record { offset = 0; last = None }) }
+    {
+        self.before.clear();
+        let start = find_restart(text, offsets, key);
+        match scan_to(text, start, key, &mut self.before, &mut self.spare) {
+            Ok(offset) => {
+                self.offset = offset;
+                Ok(())
+            }
+            Err(error) => {
+                self.offset = 0;
+                self.before.clear();
+                Err(error)
+            }
+        }
+    }
+
+    /// Goes to the next entry of a text of entries, and lends its value. An `Err` leaves the cursor.
+    pub(crate) fn next_in<'b>(&mut self, text: &'b [u8]) -> Result<Option<&'b [u8]>, AllocError>
+        ensures given { IfOk result (λ r. Given (text_and_entries text.now) self.old self.new (option_map (λ v. v.now) r)) }
+        ensures err { OnErr result (self.new ≡ self.old) }
+    {
+        let (value, offset) = step(text, self.offset, &mut self.before, &mut self.spare)?;
+        self.offset = offset;
+        Ok(value)
+    }
+}

@@ -1,0 +1,114 @@
+//! Going through the entries of a block, and the search for a key.
+
+ghost use Rattle.std.specs.Prelude.{◌≡◌, [], ◌*◌, ◌+◌, ◌/◌, ◌≤◌, ◌<◌, ℕ, List, length, drop, true, IfOk, OnErr};
+ghost use Rattle.std.specs.Option.{option_map};
+ghost use Rattle.lsm_codec.specs.KeyRef.{key_of};
+ghost use Rattle.lsm_codec.specs.Entries.{Entry};
+ghost use Rattle.lsm_block.specs.Seeking.{readable, not_below, word_of, Parts, StartsBelow, Steps};
+ghost use Rattle.lsm_block.specs.Held.{Kept, last_of};
+
+use crate::entry::{first_key, read_into};
+use crate::key::is_below;
+use lsm_codec::KeyRef;
+use std::alloc::AllocError;
+use std::mem::swap;
+
+/// What follows an offset.
+fn rest_from(text: &[u8], offset: usize) -> &[u8]
+    ensures { result.now ≡ drop offset text.now }
+{
+    if offset >= text.len() {
+        return &[];
+    }
+    let (_, rest) = text.split_at(offset);
+    rest
+}
+
+/// The number at this place of a row of numbers of four bytes.
+fn word_at(bytes: &[u8], i: usize) -> u32
+    requires { 4 * i + 4 ≤ length bytes.now }
+    ensures { result ≡ word_of bytes.now i }
+{
+    let (_, rest) = bytes.split_at(4 * i);
+    let (word, _) = rest.split_at(4);
+    u32::from_le_bytes([word[0], word[1], word[2], word[3]])
+}
+
+/// Whether the entry at a restart stands before the key.
+fn starts_below(text: &[u8], restart: usize, key: &KeyRef<'_>) -> bool
+    ensures { result ≡ true → StartsBelow text.now restart (key_of key.now) }
+{
+    match first_key(rest_from(text, restart)) {
+        Some(first) => is_below(first, key),
+        None => false,
+    }
+}
+
+/// The offset of a restart from which on the search finds the same as from the front: the last whose key is below this one.
+pub(crate) fn find_restart(text: &[u8], offsets: &[u8], key: &KeyRef<'_>) -> usize
+    requires { 4 ≤ length offsets.now }
+    ensures { (es : List Entry) → Parts text.now offsets.now es → not_below (key_of key.now) (readable (length text.now) [] (drop result text.now)) ≡ not_below (key_of key.now) es }
+{
+    let mut low: usize = 0;
+    let mut high: usize = offsets.len() / 4 - 1;
+    while low < high {
+        let middle = low + (high - low + 1) / 2;
+        if starts_below(text, word_at(offsets, middle) as usize, key) {
+            low = middle;
+        } else {
+            high = middle - 1;
+        }
+    }
+    word_at(offsets, low) as usize
+}
+
+/// Goes on from a restart to the first entry that is not below the key: its offset, and `before` is the key before it.
+pub(crate) fn scan_to(
+    text: &[u8],
+    start: usize,
+    key: &KeyRef<'_>,
+    before: &mut Vec<u8>,
+    spare: &mut Vec<u8>,
+) -> Result<usize, AllocError>
+    requires { before.old.items ≡ [] }
+    ensures found { IfOk result (λ o. readable (length text.now) before.new.items (drop o text.now) ≡ not_below (key_of key.now) (readable (length text.now) [] (drop start text.now))) }
+    ensures kept { IfOk result (λ _. Kept (last_of before.new.items) before.new.items) }
+{
+    let mut offset = start;
+    while offset < text.len() {
+        let rest = rest_from(text, offset);
+        let Some((_, _, after)) = read_into(before, rest, spare)? else {
+            return Ok(offset);
+        };
+        if !is_below(spare, key) {
+            return Ok(offset);
+        }
+        swap(before, spare);
+        offset = text.len() - after.len();
+    }
+    Ok(offset)
+}
+
+/// Reads the entry at an offset, whose key goes to `before`, and lends its value; the number is the next offset. An `Err`
+/// leaves `before`.
+pub(crate) fn step<'b>(
+    text: &'b [u8],
+    offset: usize,
+    before: &mut Vec<u8>,
+    spare: &mut Vec<u8>,
+) -> Result<(Option<&'b [u8]>, usize), AllocError>
+    requires { Kept (last_of before.old.items) before.old.items }
+    ensures steps { IfOk result (λ r. Steps text.now offset before.old.items r.1 before.new.items (option_map (λ v. v.now) r.0)) }
+    ensures kept { Kept (last_of before.new.items) before.new.items }
+    ensures err { OnErr result (before.new.items ≡ before.old.items) }
+{
+    if offset >= text.len() {
+        return Ok((None, offset));
+    }
+    let rest = rest_from(text, offset);
+    let Some((_, value, after)) = read_into(before, rest, spare)? else {
+        return Ok((None, offset));
+    };
+    swap(before, spare);
+    Ok((Some(value), text.len() - after.len()))
+}

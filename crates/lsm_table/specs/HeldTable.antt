@@ -1,0 +1,46 @@
+-- A table that was checked, and what is left of it for a reader.
+use Rattle.std.specs.Prelude.{◌≡◌, ℕ, List, [], ◌∷◌, ◌++◌, Option, Some, None, Result, Ok, Err}
+use Rattle.std.specs.List.{flat_map}
+use Rattle.lsm_codec.specs.declared.kind.Kind.{Kind}
+use Rattle.lsm_codec.specs.Keys.{InternalKey}
+use Rattle.lsm_codec.specs.Entries.{Entry, shown}
+use Rattle.lsm_block.specs.Block.{Ascends}
+use Rattle.lsm_block.specs.Reading.{block_at}
+use Rattle.lsm_table.specs.declared.table_fault.TableFault.{TableFault}
+use Rattle.lsm_table.specs.declared.table_fault.TableFault.TheVariants.{BadIndex}
+use Rattle.lsm_table.specs.declared.handle.Handle.{Handle}
+use Rattle.lsm_table.specs.Reading.{◌>>=◌}
+use Rattle.lsm_table.specs.Handle.{handle_at}
+use Rattle.lsm_table.specs.StoredBlock.{contents_at}
+use Rattle.lsm_table.specs.Footer.{body_of}
+use Rattle.lsm_table.specs.Table.{DataBlocks, IsTable, concat}
+use Rattle.lsm_table.specs.TableReading.{block_or, table_at}
+
+abbrev pub entries_or_none : Result (List Entry) TableFault → List Entry
+entries_or_none (Ok entries) = entries
+entries_or_none (Err fault) = []
+
+-- the entries of the table that the bytes are, and none where they are no table
+unfoldable pub entries_in : List ℕ → List Entry
+entries_in bytes = entries_or_none (table_at bytes)
+
+-- The file is a table, whose index block stands there.
+pub record HeldTable (file : List ℕ) (index : Handle) : Type 0 where
+  pub table : IsTable file (entries_in file)
+  pub index_is : table.footer.index ≡ index
+
+-- the entries of the data block that an index entry names
+unfoldable pub entries_named : List ℕ → Entry → List Entry
+entries_named body i = entries_or_none (handle_at BadIndex i.value >>= λ handle. contents_at body handle.0 >>= λ contents. block_or (block_at contents))
+
+-- What is left of a table: the rest of a data block, and the data blocks that these index entries name.
+abbrev pub left_of : List ℕ → List Entry → List Entry → List Entry
+left_of body here index = here ++ flat_map (entries_named body) index
+
+-- Index entries name data blocks one after another.
+pub record Names (body : List ℕ) (index : List Entry) (entries : List Entry) : Type 0 where
+  pub bound : Option InternalKey
+  pub groups : List (List Entry)
+  pub ascends : Ascends index
+  pub blocks : DataBlocks body bound index groups
+  pub entries_are : concat groups ≡ entries
