@@ -1,11 +1,11 @@
 -- A list that is read entry by entry.
-use Rattle.std.proofs.Common.{◌≡◌, ℕ, ◌+◌, ◌<◌, ◌≤◌, Bool, true, false, cond, List, [], ◌∷◌, ◌++◌, length, Option, Some, None, Result, Ok, Err, refl, sym, ap, ◌∙◌, subst, append_assoc, append-nil, arith}
+use Rattle.std.proofs.Common.{◌≡◌, ℕ, ◌+◌, ◌<◌, ◌≤◌, ◌^◌, inl, inr, Bool, true, false, cond, List, [], ◌∷◌, ◌++◌, length, Option, Some, None, Result, Ok, Err, refl, sym, ap, ◌∙◌, subst, append_assoc, append-nil, arith}
 use Rattle.std.proofs.Common.{Ordering, Less, Equal, Greater}
 use Rattle.std.specs.Ordering.{is_lt}
 use Rattle.lsm_codec.specs.Entries.{Entry, entry_cmp}
 use Rattle.lsm_block.specs.Block.{Ascends}
 use Rattle.lsm_tool.specs.EntryList.{IsEntryList, IsFirstBadLine}
-use Rattle.lsm_tool.specs.EntryReading.{may_follow, in_front, list_at}
+use Rattle.lsm_tool.specs.EntryReading.{may_follow, in_front, joined, list_at, BeginsWith}
 use Rattle.lsm_tool.specs.declared.entry_reader.EntryReader.{EntryReader}
 use Rattle.lsm_tool.specs.declared.entry_reader.LineFault.{LineFault}
 use Rattle.lsm_tool.specs.declared.entry_reader.LineFault.TheVariants.{BadLine, OutOfMemory}
@@ -14,8 +14,11 @@ use Rattle.lsm_tool.specs.declared.command_line.CommandName.TheVariants.{MakeTab
 use Rattle.lsm_tool.specs.declared.fault.Fault.{Fault}
 use Rattle.std.specs.Prelude.{IfErr, IsErrAnd}
 use Rattle.lsm_tool.specs.ReaderView.{before_of, rest_of, Stops}
-use Rattle.lsm_tool.specs.Fault.{of_line}
-use Rattle.lsm_tool.specs.Commands.{Explains}
+use Rattle.lsm_block.specs.declared.build_fault.BuildFault.{BuildFault}
+use Rattle.lsm_block.specs.declared.build_fault.BuildFault.TheVariants.{OutOfMemory as NoMemory, TooLarge}
+use Rattle.lsm_table.specs.TableBuilding.{PassesLimit, index_block, groups_by}
+use Rattle.lsm_tool.specs.Fault.{of_line, of_build}
+use Rattle.lsm_tool.specs.Commands.{Explains, usual}
 use Rattle.lsm_tool.proofs.ListLaws.{list_takes, list_bad, is_less}
 
 -- the last entry, if there is one
@@ -23,11 +26,6 @@ abbrev pub last_entry : List Entry → Option Entry
 last_entry [] = None
 last_entry (e ∷ []) = Some e
 last_entry (e ∷ f ∷ es) = last_entry (f ∷ es)
-
--- entries in front of those still to read
-abbrev pub joined : List Entry → Result (List Entry) ℕ → Result (List Entry) ℕ
-joined front (Ok es) = Ok (front ++ es)
-joined front (Err i) = Err i
 
 -- how far the text has been read: what was read, and what is left
 pub record IsAt (text : List ℕ) (entries : List Entry) (before : Option Entry) (rest : Result (List Entry) ℕ) : Type 0 where
@@ -85,3 +83,16 @@ pub explained_err : {A : Type 0} (name : CommandName) (text : List ℕ) (r : Res
     → IfErr r (λ e. Explains name text e)
 explained_err name text (Ok x) f h k = tt
 explained_err name text (Err e) f h k = subst (λ (x : Fault). Explains name text x) (sym h) k
+
+-- ---- a block that would be too large
+
+pub add_explained : (text : List ℕ) (es : List Entry) (e : Entry) (before : Option Entry) (rest : Result (List Entry) ℕ) (fault : BuildFault)
+    → IsAt text es before rest → (fault ≡ TooLarge → PassesLimit usual es e) → Explains MakeTable text (of_build fault)
+add_explained text es e before rest NoMemory at large = tt
+add_explained text es e before rest TooLarge at large = (es, (rest, at.whole), inl (e, large refl))
+
+pub finish_explained : (text : List ℕ) (es : List Entry) (before : Option Entry) (rest : Result (List Entry) ℕ) (fault : BuildFault)
+    → IsAt text es before rest → (fault ≡ TooLarge → 2 ^ 32 ≤ length (index_block usual.restart_interval (groups_by usual es)))
+    → Explains MakeTable text (of_build fault)
+finish_explained text es before rest NoMemory at large = tt
+finish_explained text es before rest TooLarge at large = (es, (rest, at.whole), inr (large refl))

@@ -79,6 +79,15 @@ entries_at i before (l ∷ ls) = entries_on (suc i) before (λ e. entries_at (su
 abbrev pub list_at : List ℕ → Result (List Entry) ℕ
 list_at text = entries_at 0 None (lines_of text)
 
+-- entries in front of those that are still to be read, or of the bad line
+abbrev pub joined : List Entry → Result (List Entry) ℕ → Result (List Entry) ℕ
+joined front (Ok es) = Ok (front ++ es)
+joined front (Err i) = Err i
+
+-- the text begins with lines for these entries
+abbrev pub BeginsWith : List ℕ → List Entry → Type 0
+BeginsWith text entries = (rest : Result (List Entry) ℕ) × (list_at text ≡ joined entries rest)
+
 -- a test that succeeded left what was read, and otherwise nothing is there to read
 abbrev pub Reads : {A : Type 0} → Bool → A → Option A → Type 0
 Reads true found o = o ≡ Some found

@@ -1,8 +1,8 @@
 -- The faults of the parts as faults of the program.
 use Rattle.lsm_table.specs.declared.table_fault.TableFault.{TableFault}
 use Rattle.lsm_table.specs.declared.table_fault.TableFault.TheVariants.{OutOfMemory as NoMemoryForTable}
-use Rattle.lsm_tool.specs.declared.mock.BuildFault.{BuildFault}
-use Rattle.lsm_tool.specs.declared.mock.BuildFault.TheVariants.{OutOfMemory as NoMemoryForBlock, TooLarge as TooLargeBlock}
+use Rattle.lsm_block.specs.declared.build_fault.BuildFault.{BuildFault}
+use Rattle.lsm_block.specs.declared.build_fault.BuildFault.TheVariants.{OutOfMemory as NoMemoryForBlock, TooLarge as TooLargeBlock}
 use Rattle.lsm_tool.specs.declared.entry_reader.LineFault.{LineFault}
 use Rattle.lsm_tool.specs.declared.entry_reader.LineFault.TheVariants.{BadLine as BadLineOfList, OutOfMemory as NoMemoryForList}
 use Rattle.lsm_tool.specs.declared.fault.Fault.{Fault}

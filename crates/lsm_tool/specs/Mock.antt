@@ -2,11 +2,6 @@ use Rattle.std.specs.Prelude.{◌≡◌, ℕ, List, [], ◌∷◌, Option, Some,
 use Rattle.lsm_codec.specs.Entries.{Entry}
 use Rattle.lsm_codec.specs.Keys.{InternalKey}
 use Rattle.lsm_block.specs.Block.{entry_of}
-use Rattle.lsm_table.specs.declared.table_options.TableOptions.{TableOptions}
-
-pub record Making : Type 0 where
-  pub options : TableOptions
-  pub entries : List Entry
 
 pub record Iterating : Type 0 where
   pub last : Option InternalKey

@@ -13,10 +13,10 @@ ghost use Rattle.lsm_tool.specs.declared.fault.Fault.TheVariants.{Write as Write
 use crate::command_line::CommandName;
 use crate::entry_reader::EntryReader;
 use crate::fault::Fault;
-use crate::mock::{Table, TableBuilder};
+use crate::mock::Table;
 use crate::spelling::push_entry;
 use crate::streams::{read_input, write_output};
-use lsm_table::TableOptions;
+use lsm_table::{TableBuilder, TableOptions};
 use std::alloc::Global;
 use std::io::{Read, Write};
 
@@ -28,7 +28,7 @@ fn make_table(alloc: Global, list: &[u8]) -> Result<Vec<u8>, Fault>
 {
     let mut reader = EntryReader::new(alloc, list);
     let mut builder = TableBuilder::new(alloc, TableOptions::usual());
-    while reader.next()? {
+    'lines: while reader.next()? {
         let entry = &reader.entry;
         builder.add(&entry.user, entry.seq, entry.kind, &entry.value)?;
     }
@@ -44,7 +44,7 @@ fn print_table(alloc: Global, file: Vec<u8>) -> Result<Vec<u8>, Fault>
     let table = Table::check(alloc, file)?;
     let mut list = Vec::new(alloc);
     let mut entries = table.iter(alloc);
-    while let Some(value) = entries.next()? {
+    'values: while let Some(value) = entries.next()? {
         if let Some(key) = entries.key() {
             push_entry(&mut list, key.user, key.seq, key.kind, value)?;
         }

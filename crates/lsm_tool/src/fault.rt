@@ -5,8 +5,7 @@ ghost use Rattle.lsm_tool.specs.Fault.{of_line, of_table, of_build};
 ghost use Rattle.lsm_tool.specs.declared.fault.Fault.TheVariants.{OutOfMemory};
 
 use crate::entry_reader::LineFault;
-use crate::mock::BuildFault;
-use lsm_table::TableFault;
+use lsm_table::{BuildFault, TableFault};
 use std::alloc::AllocError;
 use thiserror::Error;
 

@@ -9,70 +9,13 @@ ghost use Rattle.lsm_table.specs.Table.{IsTable};
 ghost use Rattle.lsm_table.specs.TableReading.{table_at};
 ghost use Rattle.lsm_table.specs.TableBuilding.{table_bytes};
 ghost use Rattle.lsm_table.specs.Reading.{Gives};
-ghost use Rattle.lsm_tool.specs.Mock.{Making, Iterating, Steps};
+ghost use Rattle.lsm_tool.specs.Mock.{Iterating, Steps};
 ghost use Rattle.lsm_table.specs.declared.table_fault.TableFault.TheVariants.{OutOfMemory as NoTableMemory};
 
-use lsm_codec::{KeyRef, Kind, MAX_SEQ};
-use lsm_table::{TableFault, TableOptions};
+use lsm_codec::KeyRef;
+use lsm_table::TableFault;
 use std::alloc::Global;
 use std::marker::Model;
-use thiserror::Error;
-
-#[derive(Clone, Copy, Debug, Drop, Error, PartialEq, Eq)]
-pub enum BuildFault {
-    #[error("OutOfMemory")]
-    OutOfMemory,
-    #[error("TooLarge")]
-    TooLarge,
-}
-
-impl BuildFault {
-    pub fn number(&self) -> u8 {
-        match self {
-            BuildFault::OutOfMemory => 1,
-            BuildFault::TooLarge => 39,
-        }
-    }
-}
-
-#[derive(Debug, Drop)]
-pub struct TableBuilder {
-    options: TableOptions,
-}
-
-impl Model for TableBuilder {
-    ghost use Rattle.std.specs.Prelude.{[]};
-    ghost use Rattle.lsm_tool.specs.Mock.{Making};
-
-    ghost Value = { Making };
-
-    ghost view = { λ b. record { options = b.options; entries = [] } };
-}
-
-impl TableBuilder {
-    pub fn new(alloc: Global, options: TableOptions) -> TableBuilder
-        requires { AreInRange options }
-        ensures { result ≡ record { options = options; entries = [] } }
-    {
-        TableBuilder { options }
-    }
-
-    pub fn add(&mut self, user: &[u8], seq: u64, kind: Kind, value: &[u8]) -> Result<(), BuildFault>
-        requires seq { seq ≤ MAX_SEQ }
-        requires ascends { Ascends (self.old.entries ++ record { user = user.now; seq = seq; kind = kind; value = value.now } ∷ []) }
-        ensures ok { OnOk result (self.new ≡ record { options = self.old.options; entries = self.old.entries ++ record { user = user.now; seq = seq; kind = kind; value = value.now } ∷ [] }) }
-        ensures err { OnErr result (self.new ≡ self.old) }
-    {
-        Err(BuildFault::OutOfMemory)
-    }
-
-    pub fn finish(self) -> Result<Vec<u8>, BuildFault>
-        ensures bytes { IfOk result (λ v. v.items ≡ table_bytes self.options self.entries) }
-        ensures table { IfOk result (λ v. IsTable v.items self.entries) }
-    {
-        Err(BuildFault::OutOfMemory)
-    }
-}
 
 #[derive(Debug, Drop)]
 pub struct Table {
