@@ -6,4 +6,5 @@ pub mod ListLaws
 pub mod PrintLaws
 pub mod StreamLaws
 pub mod MakingLaws
+pub mod ManifestLaws
 pub mod LineLists

@@ -20,9 +20,12 @@ key_word key =
 unfoldable pub number_line : List ℕ → ℕ → List ℕ
 number_line word n = word ++ (decimal n ++ (10 ∷ []))
 
+unfoldable pub name_line : List ℕ → List ℕ
+name_line name = codes "comparator " ++ (bytes_word name ++ (10 ∷ []))
+
 unfoldable pub comparator_line : Option (List ℕ) → List ℕ
 comparator_line None = []
-comparator_line (Some name) = codes "comparator " ++ (bytes_word name ++ (10 ∷ []))
+comparator_line (Some name) = name_line name
 
 unfoldable pub field_line : List ℕ → Option ℕ → List ℕ
 field_line word None = []

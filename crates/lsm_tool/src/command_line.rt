@@ -13,6 +13,8 @@ pub(crate) enum CommandName {
     MakeTable,
     /// The list of a table's entries.
     Dump,
+    /// The edits of a manifest.
+    Manifest,
 }
 
 /// What a command line asks for.
@@ -38,6 +40,14 @@ Other bytes are refused by number and name, as in `refused 13 BadMagic`.";
 
 const DUMP_EXAMPLE: &str = "Example: lsm dump < a.ldb";
 
+const MANIFEST: &str = "Reads a LevelDB manifest on standard input and prints its edits on standard output: for each `edit I` and then
+its fields, with keys as `KEY@SEQ+` for a value and `KEY@SEQ-` for a deletion. The last line, `rest B`, counts the bytes at the
+end that hold no whole record. The edits are not replayed.
+
+Other bytes are refused by number and name, as in `refused 19 LogChecksum 0`.";
+
+const MANIFEST_EXAMPLE: &str = "Example: lsm manifest < db/MANIFEST-000001";
+
 fn command<'a>(alloc: Global) -> Result<Command<'a>, AllocError> {
     let make_table = Command::new(alloc, "mktable")
         .about("Makes a table of the entries on standard input")
@@ -47,13 +57,18 @@ fn command<'a>(alloc: Global) -> Result<Command<'a>, AllocError> {
         .about("Prints the entries of the table on standard input")
         .long_about(DUMP)
         .after_help(DUMP_EXAMPLE);
+    let manifest = Command::new(alloc, "manifest")
+        .about("Prints the edits of the manifest on standard input")
+        .long_about(MANIFEST)
+        .after_help(MANIFEST_EXAMPLE);
     Command::new(alloc, "lsm")
         .about("Makes LevelDB's files, and shows what is in them")
         .no_binary_name(true)
         .bin_name("lsm")?
         .subcommand_required(true)
         .subcommand(make_table)?
-        .subcommand(dump)
+        .subcommand(dump)?
+        .subcommand(manifest)
 }
 
 fn text_of(alloc: Global, error: &clap::Error) -> Result<Vec<u8>, AllocError> {
@@ -69,7 +84,8 @@ pub(crate) fn parse<S: AsStr>(alloc: Global, words: &[S]) -> Result<CommandLine,
     match command(alloc)?.try_get_matches_from(words) {
         Ok(matches) => match matches.subcommand_name() {
             Some("mktable") => Ok(CommandLine::Run(CommandName::MakeTable)),
-            _ => Ok(CommandLine::Run(CommandName::Dump)),
+            Some("dump") => Ok(CommandLine::Run(CommandName::Dump)),
+            _ => Ok(CommandLine::Run(CommandName::Manifest)),
         },
         Err(error) if error.kind() == ErrorKind::OutOfMemory => Err(AllocError),
         Err(error) if error.use_stderr() => Ok(CommandLine::Bad(text_of(alloc, &error)?)),

@@ -7,15 +7,17 @@ ghost use Rattle.lsm_table.specs.Table.{IsTable};
 ghost use Rattle.lsm_tool.specs.EntryList.{IsEntryList};
 ghost use Rattle.lsm_tool.specs.EntryPrinting.{entry_list};
 ghost use Rattle.lsm_tool.specs.Commands.{Answers, Explains};
-ghost use Rattle.lsm_tool.specs.declared.command_line.CommandName.TheVariants.{MakeTable, Dump};
+ghost use Rattle.lsm_tool.specs.declared.command_line.CommandName.TheVariants.{MakeTable, Dump, Manifest};
 ghost use Rattle.lsm_tool.specs.declared.fault.Fault.TheVariants.{Write as WriteFault, Read as ReadFault};
 
 use crate::command_line::CommandName;
+use crate::edit_spelling::{push_edit, push_number};
 use crate::entry_reader::EntryReader;
 use crate::fault::Fault;
 use crate::mock::Table;
 use crate::spelling::push_entry;
 use crate::streams::{read_input, write_output};
+use lsm_manifest::{Edit, read_log};
 use lsm_table::{TableBuilder, TableOptions};
 use std::alloc::Global;
 use std::io::{Read, Write};
@@ -52,6 +54,23 @@ fn print_table(alloc: Global, file: Vec<u8>) -> Result<Vec<u8>, Fault>
     Ok(list)
 }
 
+/// The edits of a manifest, and how many bytes at its end hold no whole record.
+fn list_manifest(alloc: Global, manifest: &[u8]) -> Result<Vec<u8>, Fault>
+    ensures listed { IfOk result (λ text. Answers Manifest manifest.now text.items) }
+    ensures explained { IfErr result (λ e. Explains Manifest manifest.now e) }
+    ensures own { IfErr result (λ e. (e ≢ ReadFault) × (e ≢ WriteFault)) }
+{
+    let log = read_log(alloc, manifest)?;
+    let records = log.records.as_slice();
+    let mut text = Vec::new(alloc);
+    'records: for (i, record) in records.iter().enumerate() {
+        let edit = Edit::decode(alloc, record.as_slice())?;
+        push_edit(&mut text, i as u64 + 1, &edit)?;
+    }
+    push_number(&mut text, b"rest ", log.rest)?;
+    Ok(text)
+}
+
 /// What a command writes for what it read.
 fn answer(alloc: Global, name: CommandName, input: Vec<u8>) -> Result<Vec<u8>, Fault>
     ensures answered { IfOk result (λ output. Answers name input.items output.items) }
@@ -61,6 +80,7 @@ fn answer(alloc: Global, name: CommandName, input: Vec<u8>) -> Result<Vec<u8>, F
     match name {
         CommandName::MakeTable => make_table(alloc, &input),
         CommandName::Dump => print_table(alloc, input),
+        CommandName::Manifest => list_manifest(alloc, &input),
     }
 }
 

@@ -3,7 +3,7 @@
 ghost use Rattle.std.specs.Prelude.{◌≡◌, ◌++◌, OnOk, List, ℕ, codes};
 ghost use Rattle.std.specs.List.{flat_map};
 ghost use Rattle.lsm_manifest.specs.FileOrder.{user_part, packed_part};
-ghost use Rattle.lsm_tool.specs.ManifestPrinting.{key_word, number_line, comparator_line, field_line, pointer_line, deleted_line, file_words, added_line, number_lines, list_lines, edit_lines};
+ghost use Rattle.lsm_tool.specs.ManifestPrinting.{key_word, number_line, name_line, comparator_line, field_line, pointer_line, deleted_line, file_words, added_line, number_lines, list_lines, edit_lines};
 
 use crate::spelling::{push_bytes, push_decimal};
 use lsm_codec::Bytes;
@@ -60,17 +60,24 @@ fn push_field(out: &mut Vec<u8>, word: &[u8], value: Option<u64>) -> Result<(), 
     }
 }
 
+#[tactic(auto, unfolding(crate::specs::ManifestPrinting::name_line))]
+fn push_name(out: &mut Vec<u8>, name: &[u8]) -> Result<(), AllocError>
+    ensures { OnOk result (out.new.items ≡ out.old.items ++ name_line name.now) }
+{
+    out.extend_from_slice(b"comparator ")?;
+    push_bytes(out, name)?;
+    out.push(b'\n')?;
+    Ok(())
+}
+
 #[tactic(auto, unfolding(crate::specs::ManifestPrinting::comparator_line))]
 fn push_comparator(out: &mut Vec<u8>, name: &Option<Bytes>) -> Result<(), AllocError>
     ensures { OnOk result (out.new.items ≡ out.old.items ++ comparator_line name.now) }
 {
-    if let Some(name) = name {
-        out.extend_from_slice(b"comparator ")?;
-        push_bytes(out, name.as_slice())?;
-        out.push(b'\n')?;
-        return Ok(());
+    match name {
+        Some(name) => push_name(out, name.as_slice()),
+        None => Ok(()),
     }
-    Ok(())
 }
 
 #[tactic(auto, unfolding(crate::specs::ManifestPrinting::pointer_line))]

@@ -1,10 +1,11 @@
 //! Why a command ends with status 1, as the line on standard error says.
 
 ghost use Rattle.std.specs.Prelude.{◌≡◌};
-ghost use Rattle.lsm_tool.specs.Fault.{of_line, of_table, of_build};
+ghost use Rattle.lsm_tool.specs.Fault.{of_line, of_table, of_build, of_log, of_edit};
 ghost use Rattle.lsm_tool.specs.declared.fault.Fault.TheVariants.{OutOfMemory};
 
 use crate::entry_reader::LineFault;
+use lsm_manifest::{EditFault, LogFault};
 use lsm_table::{BuildFault, TableFault};
 use std::alloc::AllocError;
 use thiserror::Error;
@@ -27,6 +28,12 @@ pub(crate) enum Fault {
     /// Bytes are no table.
     #[error("refused {} {}", .0.number(), .0)]
     Table(TableFault),
+    /// Bytes are no record log.
+    #[error("refused {} {}", .0.number(), .0)]
+    Log(LogFault),
+    /// A record is no version edit.
+    #[error("refused {} {}", .0.number(), .0)]
+    Edit(EditFault),
     /// A block of a table would have more than 2^32 - 1 bytes.
     #[error("refused 39 TooLarge")]
     TooLarge,
@@ -69,6 +76,28 @@ impl From<BuildFault> for Fault {
         match error {
             BuildFault::OutOfMemory => Fault::OutOfMemory,
             BuildFault::TooLarge => Fault::TooLarge,
+        }
+    }
+}
+
+impl From<LogFault> for Fault {
+    ghost from_gives = { λ e f. f ≡ of_log e };
+
+    fn from(error: LogFault) -> Fault {
+        match error {
+            LogFault::OutOfMemory => Fault::OutOfMemory,
+            fault => Fault::Log(fault),
+        }
+    }
+}
+
+impl From<EditFault> for Fault {
+    ghost from_gives = { λ e f. f ≡ of_edit e };
+
+    fn from(error: EditFault) -> Fault {
+        match error {
+            EditFault::OutOfMemory => Fault::OutOfMemory,
+            fault => Fault::Edit(fault),
         }
     }
 }
