@@ -14,3 +14,6 @@ pub mod HeldTableLaws
 pub mod CloseLaws
 pub mod SettleLaws
 pub mod StepLaws
+pub mod EndLaws
+pub mod JudgeLaws
+pub mod CheckLaws

@@ -8,4 +8,5 @@ pub mod Table
 pub mod TableReading
 pub mod TableBuilding
 pub mod TableMaking
+pub mod Judging
 pub mod HeldTable

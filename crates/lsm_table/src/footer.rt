@@ -20,7 +20,7 @@ pub struct Footer {
 }
 
 impl Footer {
-    ghost use Rattle.std.specs.Prelude.{◌≡◌, ◌++◌, IfOk};
+    ghost use Rattle.std.specs.Prelude.{◌≡◌, ◌≤◌, ◌++◌, length, IfOk};
     ghost use Rattle.lsm_table.specs.Reading.{Gives};
     ghost use Rattle.lsm_table.specs.Footer.{places_at, footer_at, footer_text};
 
@@ -36,7 +36,8 @@ impl Footer {
     /// Reads the footer of a file: its length, its magic number and both places, in this order.
     #[tactic(auto, unfolding(crate::specs::Footer::footer_at))]
     pub(crate) fn of(file: &[u8]) -> Result<Footer, TableFault>
-        ensures { Gives (λ x. x) result (footer_at file.now) }
+        ensures reads { Gives (λ x. x) result (footer_at file.now) }
+        ensures long { IfOk result (λ _. FOOTER ≤ length file.now) }
     {
         if file.len() < FOOTER {
             return Err(TableFault::ShortFile);

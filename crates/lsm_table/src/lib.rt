@@ -9,8 +9,11 @@ mod handle;
 mod stored_block;
 mod footer;
 mod builder;
+mod check;
+mod table;
 
 pub use builder::TableBuilder;
 pub use lsm_block::BuildFault;
+pub use table::{Table, one_table};
 pub use table_fault::TableFault;
 pub use table_options::TableOptions;

@@ -1,0 +1,153 @@
+//! Whether a file is a table.
+
+ghost use Rattle.std.specs.Prelude.{◌≡◌, ℕ, List, ◌∷◌, None, IfOk, Ok};
+ghost use Rattle.std.specs.Option.{option_map};
+ghost use Rattle.lsm_codec.specs.KeyRef.{key_of};
+ghost use Rattle.lsm_block.specs.Block.{Ascends, entry_of};
+ghost use Rattle.lsm_table.specs.Reading.{Gives, settled};
+ghost use Rattle.lsm_table.specs.Footer.{footer_at};
+ghost use Rattle.lsm_table.specs.TableReading.{are_placed, data_block_at, data_at, table_at};
+ghost use Rattle.lsm_table.specs.Judging.{comes_after, ends_at};
+ghost use Rattle.lsm_block.specs.Seeking.{not_below};
+
+use crate::footer::{FOOTER, Footer};
+use crate::handle::Handle;
+use crate::stored_block::contents_of;
+use crate::table_fault::TableFault;
+use lsm_block::{BlockRef, Cursor, check_bytes};
+use lsm_codec::KeyRef;
+use std::alloc::{AllocError, Global};
+use std::cmp::Ordering;
+
+/// Whether a key comes after the index key before it, where there is one.
+fn follows(bound: Option<KeyRef<'_>>, key: &KeyRef<'_>) -> bool
+    ensures { result ≡ comes_after (option_map key_of bound.entry) (key_of key.now) }
+{
+    match bound {
+        None => true,
+        Some(before) => before.compare(key) == Ordering::Less,
+    }
+}
+
+/// Whether the last entry of a block is at most at a key. Goes by the restarts, and leaves the cursor where it may be.
+fn ends_by(block: &BlockRef<'_>, key: &KeyRef<'_>, cursor: &mut Cursor) -> Result<bool, AllocError>
+    ensures { IfOk result (λ r. r ≡ ends_at (key_of key.now) (not_below (key_of key.now) block.now.entries)) }
+{
+    block.seek(cursor, key)?;
+    if block.next(cursor)?.is_none() {
+        return Ok(true);
+    }
+    let Some(found) = cursor.key() else {
+        return Ok(false);
+    };
+    if found.compare(key) == Ordering::Greater {
+        return Ok(false);
+    }
+    Ok(block.next(cursor)?.is_none())
+}
+
+/// Whether a block has an entry, and its entries lie between the index key before and its own.
+fn is_placed(
+    block: &BlockRef<'_>,
+    bound: Option<KeyRef<'_>>,
+    key: &KeyRef<'_>,
+    cursor: &mut Cursor,
+) -> Result<bool, AllocError>
+    requires { Ascends block.now.entries }
+    ensures { (value : List ℕ) → IfOk result (λ r. r ≡ are_placed (option_map key_of bound.entry) (entry_of (key_of key.now) value) block.now.entries) }
+{
+    block.rewind(cursor);
+    let Some(_value) = block.next(cursor)? else {
+        return Ok(false);
+    };
+    let Some(first) = cursor.key() else {
+        return Ok(false);
+    };
+    if !follows(bound, &first) {
+        return Ok(false);
+    }
+    match ends_by(block, key, cursor) {
+        Ok(ends) => Ok(ends),
+        Err(error) => Err(error),
+    }
+}
+
+/// Judges the data block of an index entry: its place, the block, and its keys.
+#[tactic(auto, unfolding(crate::specs::TableReading::data_block_at))]
+fn judge_block(
+    alloc: Global,
+    body: &[u8],
+    bound: Option<KeyRef<'_>>,
+    key: &KeyRef<'_>,
+    place: &[u8],
+    cursor: &mut Cursor,
+) -> Result<(), TableFault>
+    ensures { Gives (λ _. tt) result (settled (data_block_at body.now (option_map key_of bound.entry) (entry_of (key_of key.now) place.now))) }
+{
+    let (handle, rest) = match Handle::get(TableFault::BadIndex, place) {
+        Ok(found) => found,
+        Err(fault) => return Err(fault),
+    };
+    if !rest.is_empty() {
+        return Err(TableFault::BadIndex);
+    }
+    let contents = match contents_of(body, handle) {
+        Ok(contents) => contents,
+        Err(fault) => return Err(fault),
+    };
+    match check_bytes(alloc, contents) {
+        Ok(()) => {}
+        Err(fault) => return Err(TableFault::from(fault)),
+    }
+    if !is_placed(&BlockRef::of(contents), bound, key, cursor)? {
+        return Err(TableFault::BadIndex);
+    }
+    Ok(())
+}
+
+/// Judges the data blocks that an index names, one after another.
+fn judge_data(alloc: Global, body: &[u8], index: &BlockRef<'_>) -> Result<(), TableFault>
+    ensures { Gives (λ _. tt) result (settled (data_at body.now None index.now.entries)) }
+{
+    let mut cursor = Cursor::start(alloc);
+    let mut before = Cursor::start(alloc);
+    let mut here = Cursor::start(alloc);
+    index.rewind(&mut before);
+    index.rewind(&mut here);
+    while let Some(place) = index.next(&mut here)? {
+        let Some(key) = here.key() else {
+            return Err(TableFault::BadIndex);
+        };
+        match judge_block(alloc, body, before.key(), &key, place, &mut cursor) {
+            Ok(()) => {}
+            Err(fault) => return Err(fault),
+        }
+        let _ = index.next(&mut before)?;
+    }
+    Ok(())
+}
+
+/// Judges a file: its footer, its index block, and its data blocks. What comes back is the place of the index block.
+#[tactic(auto, unfolding(crate::specs::TableReading::table_at))]
+pub(crate) fn judge(alloc: Global, file: &[u8]) -> Result<Handle, TableFault>
+    ensures whole { Gives (λ _. tt) result (settled (table_at file.now)) }
+    ensures index { IfOk result (λ handle. (footer : Footer) × (footer_at file.now ≡ Ok footer) × (footer.index ≡ handle)) }
+{
+    let footer = match Footer::of(file) {
+        Ok(footer) => footer,
+        Err(fault) => return Err(fault),
+    };
+    let (body, _) = file.split_at(file.len() - FOOTER);
+    let contents = match contents_of(body, footer.index) {
+        Ok(contents) => contents,
+        Err(fault) => return Err(fault),
+    };
+    match check_bytes(alloc, contents) {
+        Ok(()) => {}
+        Err(fault) => return Err(TableFault::from(fault)),
+    }
+    match judge_data(alloc, body, &BlockRef::of(contents)) {
+        Ok(()) => Ok(footer.index),
+        Err(fault) => Err(fault),
+    }
+}

@@ -1,0 +1,70 @@
+//! A table that was checked.
+
+ghost use Rattle.std.specs.Prelude.{◌≡◌, List, ℕ, IfOk, Ok};
+ghost use Rattle.lsm_codec.specs.Entries.{Entry};
+ghost use Rattle.lsm_table.specs.Reading.{Gives};
+ghost use Rattle.lsm_table.specs.Table.{IsTable};
+ghost use Rattle.lsm_table.specs.TableReading.{table_at};
+ghost use Rattle.lsm_table.specs.HeldTable.{HeldTable, entries_in};
+
+use crate::check::judge;
+use crate::handle::Handle;
+use crate::table_fault::TableFault;
+use std::alloc::Global;
+use std::marker::Model;
+
+/// A checked table, which holds its file. Contracts see it as its entries.
+#[derive(Debug, Drop)]
+pub struct Table {
+    file: Vec<u8>,
+    // Where the index block stands.
+    index: Handle,
+}
+
+impl Model for Table {
+    ghost use Rattle.std.specs.Prelude.{List};
+    ghost use Rattle.lsm_codec.specs.Entries.{Entry};
+    ghost use Rattle.lsm_table.specs.HeldTable.{HeldTable, entries_in};
+
+    ghost Value = { List Entry };
+
+    ghost view = { λ t. entries_in t.file.items };
+
+    ghost invariant = { λ t. HeldTable t.file.items t.index };
+}
+
+/// Judges a file. What comes back is the place of its index block.
+fn hold(alloc: Global, file: &[u8]) -> Result<Handle, TableFault>
+    ensures held { IfOk result (λ index. HeldTable file.now index) }
+    ensures exact { Gives (λ _. entries_in file.now) result (table_at file.now) }
+{
+    match judge(alloc, file) {
+        Ok(index) => Ok(index),
+        Err(fault) => Err(fault),
+    }
+}
+
+impl Table {
+    /// The table of a file. What is wrong with it is named by the first fault in this order: the footer (length, magic
+    /// number, places), the index block, and then for each index entry its value, its data block (place, checksum, type, the
+    /// block's own rules) and its keys.
+    pub fn check(alloc: Global, file: Vec<u8>) -> Result<Table, TableFault>
+        // What is read is the table's.
+        ensures found { IfOk result (λ t. IsTable file.items t) }
+        // What is a table is read, unless memory runs out.
+        ensures only { (es : List Entry) → IsTable file.items es → Gives (λ t. t) result (Ok es) }
+        // Which fault it is.
+        ensures exact { Gives (λ t. t) result (table_at file.items) }
+    {
+        match hold(alloc, &file) {
+            Ok(index) => Ok(Table { file, index }),
+            Err(fault) => Err(fault),
+        }
+    }
+}
+
+/// At most one list of entries fits a table's bytes.
+pub fn one_table()
+    ensures { (bytes : List ℕ) (es fs : List Entry) → IsTable bytes es → IsTable bytes fs → es ≡ fs }
+{
+}
