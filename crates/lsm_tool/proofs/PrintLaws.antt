@@ -1,7 +1,6 @@
 -- What is printed for entries is a list of just those entries.
-use Rattle.std.proofs.Common.{◌≡◌, ◌≢◌, ℕ, ◌+◌, ◌^◌, ◌<◌, ◌≤◌, List, [], ◌∷◌, ◌++◌, length, drop, codes, None, decimal, Ok, Some, refl, sym, ap, ◌∙◌, subst, arith, append_assoc, append-nil}
+use Rattle.std.proofs.Common.{◌≡◌, ◌≢◌, ℕ, ◌+◌, ◌^◌, ◌<◌, ◌≤◌, List, [], ◌∷◌, ◌++◌, length, codes, decimal, Ok, Some, refl, sym, ap, ◌∙◌, subst, arith, append_assoc, append-nil}
 use Rattle.std.specs.List.{flat_map}
-use Rattle.lsm_tool.specs.Mock.{first_of}
 use Rattle.std.specs.Prelude.{All}
 use Rattle.std.proofs.lemmas.Fmt.{decimal_is_IsNumeral, length-decimal-le}
 use Rattle.std.proofs.lemmas.List.Elements.{All-head, All-tail}
@@ -87,19 +86,14 @@ entry_list-is es h a = record { spelled = printed_lines es h; ascending = a }
 
 -- ---- line by line
 
-first_and_rest : (es : List Entry) (e : Entry) → first_of es ≡ Some e → es ≡ e ∷ drop 1 es
-first_and_rest [] e h = absurd cc
-first_and_rest (f ∷ fs) e h = ap (λ (x : Entry). x ∷ fs) (cc)
-
 -- the line of the first entry that was left
 pub line_more : (whole before after : List ℕ) (left later : List Entry) (e : Entry) → whole ≡ before ++ entry_list left
-    → first_of left ≡ Some e → later ≡ drop 1 left → after ≡ before ++ entry_line e → whole ≡ after ++ entry_list later
+    → left ≡ e ∷ later → after ≡ before ++ entry_line e → whole ≡ after ++ entry_list later
 unfolding entry_list
-line_more whole before after left later e so_far first moved added =
-    so_far ∙ ap (λ (es : List Entry). before ++ flat_map entry_line es) (first_and_rest left e first)
-    ∙ sym (append_assoc before (entry_line e) (flat_map entry_line (drop 1 left)))
-    ∙ ap (λ (xs : List ℕ). xs ++ flat_map entry_line (drop 1 left)) (sym added)
-    ∙ ap (λ (es : List Entry). after ++ flat_map entry_line es) (sym moved)
+line_more whole before after left later e so_far first added =
+    so_far ∙ ap (λ (es : List Entry). before ++ flat_map entry_line es) first
+    ∙ sym (append_assoc before (entry_line e) (flat_map entry_line later))
+    ∙ ap (λ (xs : List ℕ). xs ++ flat_map entry_line later) (sym added)
 
 pub lines_end : (whole all : List ℕ) (left : List Entry) → whole ≡ all ++ entry_list left → left ≡ [] → all ≡ whole
 unfolding entry_list

@@ -14,11 +14,10 @@ use crate::command_line::CommandName;
 use crate::edit_spelling::{push_edit, push_number};
 use crate::entry_reader::EntryReader;
 use crate::fault::Fault;
-use crate::mock::Table;
 use crate::spelling::push_entry;
 use crate::streams::{read_input, write_output};
 use lsm_manifest::{Edit, read_log};
-use lsm_table::{TableBuilder, TableOptions};
+use lsm_table::{Table, TableBuilder, TableOptions};
 use std::alloc::Global;
 use std::io::{Read, Write};
 
@@ -45,8 +44,9 @@ fn print_table(alloc: Global, file: Vec<u8>) -> Result<Vec<u8>, Fault>
 {
     let table = Table::check(alloc, file)?;
     let mut list = Vec::new(alloc);
-    let mut entries = table.iter(alloc);
-    'values: while let Some(value) = entries.next()? {
+    let mut entries = crate::mock::iter(&table, alloc);
+    // The one fault of going on is want of memory.
+    'values: while let Some(value) = entries.next().map_err(|_| Fault::OutOfMemory)? {
         if let Some(key) = entries.key() {
             push_entry(&mut list, key.user, key.seq, key.kind, value)?;
         }
