@@ -5,5 +5,4 @@ pub mod EntryView
 pub mod ReaderView
 pub mod Fault
 pub mod Commands
-pub mod Mock
 pub mod ManifestPrinting

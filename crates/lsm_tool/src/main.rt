@@ -4,7 +4,6 @@
 //! writes on standard output for what it reads on standard input, in `commands`.
 #![tactic(auto)]
 
-mod mock;
 mod laws;
 mod words;
 mod entry_buffer;
