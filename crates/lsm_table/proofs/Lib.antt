@@ -17,3 +17,5 @@ pub mod StepLaws
 pub mod EndLaws
 pub mod JudgeLaws
 pub mod CheckLaws
+pub mod HeldBlockLaws
+pub mod IterLaws

@@ -4,14 +4,14 @@ use Rattle.std.specs.List.{flat_map}
 use Rattle.lsm_codec.specs.declared.kind.Kind.{Kind}
 use Rattle.lsm_codec.specs.Keys.{InternalKey}
 use Rattle.lsm_codec.specs.Entries.{Entry, shown}
-use Rattle.lsm_block.specs.Block.{Ascends}
+use Rattle.lsm_block.specs.Block.{Ascends, IsBlock, entry_of}
 use Rattle.lsm_block.specs.Reading.{block_at}
 use Rattle.lsm_table.specs.declared.table_fault.TableFault.{TableFault}
 use Rattle.lsm_table.specs.declared.table_fault.TableFault.TheVariants.{BadIndex}
 use Rattle.lsm_table.specs.declared.handle.Handle.{Handle}
 use Rattle.lsm_table.specs.Reading.{◌>>=◌}
-use Rattle.lsm_table.specs.Handle.{handle_at}
-use Rattle.lsm_table.specs.StoredBlock.{contents_at}
+use Rattle.lsm_table.specs.Handle.{IsHandle, handle_at}
+use Rattle.lsm_table.specs.StoredBlock.{Holds, contents_at}
 use Rattle.lsm_table.specs.Footer.{body_of}
 use Rattle.lsm_table.specs.Table.{DataBlocks, IsTable, concat}
 use Rattle.lsm_table.specs.TableReading.{block_or, table_at}
@@ -44,3 +44,31 @@ pub record Names (body : List ℕ) (index : List Entry) (entries : List Entry) :
   pub ascends : Ascends index
   pub blocks : DataBlocks body bound index groups
   pub entries_are : concat groups ≡ entries
+
+-- A block of these entries stands there.
+pub record BlockAt (body : List ℕ) (handle : Handle) (entries : List Entry) : Type 0 where
+  pub contents : List ℕ
+  pub held : Holds body handle contents
+  pub block : IsBlock contents entries
+
+abbrev pub IsSpelled : List ℕ → Type 0
+IsSpelled bytes = (handle : Handle) × IsHandle bytes handle
+
+-- The bytes spell this place and no other one.
+abbrev pub SpellsJust : List ℕ → Handle → Type 0
+SpellsJust bytes handle = (other : Handle) → IsHandle bytes other → handle ≡ other
+
+-- ---- going through a table
+
+-- what is left of a table, and the key of the entry that was given last
+pub record Walk : Type 0 where
+  pub last : Option InternalKey
+  pub left : List Entry
+
+abbrev pub AreNamed : List ℕ → List Entry → Type 0
+AreNamed body index = (entries : List Entry) × Names body index entries
+
+-- What a step hands out: nothing where no entry is left, and else the value of the next entry, whose key is then the last.
+abbrev pub Steps : Walk → Walk → Option (List ℕ) → Type 0
+Steps old new None = (old.left ≡ []) × (new.left ≡ [])
+Steps old new (Some value) = (key : InternalKey) × (new.last ≡ Some key) × (old.left ≡ entry_of key value ∷ new.left)

@@ -17,6 +17,7 @@ impl Handle {
     ghost use Rattle.std.specs.Prelude.{◌≡◌, ◌++◌, OnOk, OnErr};
     ghost use Rattle.lsm_table.specs.Handle.{handle_text, handle_at};
     ghost use Rattle.lsm_table.specs.Reading.{Gives};
+    ghost use Rattle.lsm_table.specs.HeldTable.{IsSpelled, SpellsJust};
 
     /// Appends the shortest spelling. An `Err` leaves the contents as they were.
     pub(crate) fn put(&self, out: &mut Vec<u8>) -> Result<(), AllocError>
@@ -48,5 +49,20 @@ impl Handle {
         };
         let (_, after) = rest.split_at(used);
         Ok((Handle { offset, size }, after))
+    }
+
+    /// The place that bytes spell which were read before.
+    pub(crate) fn spelled(bytes: &[u8]) -> Handle
+        requires { IsSpelled bytes.now }
+        ensures { SpellsJust bytes.now result }
+    {
+        let Ok((offset, used)) = get_varint64(bytes) else {
+            unreachable!()
+        };
+        let (_, rest) = bytes.split_at(used);
+        let Ok((size, _)) = get_varint64(rest) else {
+            unreachable!()
+        };
+        Handle { offset, size }
     }
 }

@@ -10,10 +10,16 @@ mod stored_block;
 mod footer;
 mod builder;
 mod check;
+mod held_block;
 mod table;
+mod table_iter;
 
 pub use builder::TableBuilder;
 pub use lsm_block::BuildFault;
 pub use table::{Table, one_table};
 pub use table_fault::TableFault;
+pub use table_iter::TableIter;
 pub use table_options::TableOptions;
+
+#[cfg(test)]
+mod tests;

@@ -5,11 +5,15 @@ ghost use Rattle.lsm_codec.specs.Entries.{Entry};
 ghost use Rattle.lsm_table.specs.Reading.{Gives};
 ghost use Rattle.lsm_table.specs.Table.{IsTable};
 ghost use Rattle.lsm_table.specs.TableReading.{table_at};
-ghost use Rattle.lsm_table.specs.HeldTable.{HeldTable, entries_in};
+ghost use Rattle.lsm_table.specs.HeldTable.{HeldTable, entries_in, Names};
 
 use crate::check::judge;
+use crate::footer::FOOTER;
+use crate::held_block::block_at;
 use crate::handle::Handle;
 use crate::table_fault::TableFault;
+use crate::table_iter::TableIter;
+use lsm_block::BlockRef;
 use std::alloc::Global;
 use std::marker::Model;
 
@@ -60,6 +64,22 @@ impl Table {
             Ok(index) => Ok(Table { file, index }),
             Err(fault) => Err(fault),
         }
+    }
+
+    /// The part before the footer, and the index block.
+    fn parts(&self) -> (&[u8], BlockRef<'_>)
+        ensures { Names result.0.now result.1.entries self.now }
+    {
+        let (body, _) = self.file.split_at(self.file.len() - FOOTER);
+        (body, block_at(body, self.index))
+    }
+
+    /// Before the first entry. Takes no memory.
+    pub fn iter(&self, alloc: Global) -> TableIter<'_>
+        ensures { result.left ≡ self.now }
+    {
+        let (body, index) = self.parts();
+        TableIter::over(alloc, body, index)
     }
 }
 

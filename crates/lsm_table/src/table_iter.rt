@@ -1,0 +1,81 @@
+//! Going through a table.
+
+ghost use Rattle.std.specs.Prelude.{◌≡◌, [], IfOk, OnErr};
+ghost use Rattle.std.specs.Option.{option_map};
+ghost use Rattle.lsm_codec.specs.KeyRef.{key_of};
+ghost use Rattle.lsm_block.specs.Held.{rest_of};
+ghost use Rattle.lsm_table.specs.HeldTable.{AreNamed, Steps, left_of};
+
+use crate::held_block::{data_block, no_entries};
+use crate::table_fault::TableFault;
+use lsm_block::{BlockRef, Cursor};
+use lsm_codec::KeyRef;
+use std::alloc::Global;
+use std::marker::Model;
+
+/// A place in a checked table. Contracts see it as the entries that are left, and the key of the one given last.
+#[derive(Drop)]
+pub struct TableIter<'t> {
+    body: &'t [u8],
+    index: BlockRef<'t>,
+    // The data block whose entries are given.
+    data: BlockRef<'t>,
+    next_block: Cursor,
+    here: Cursor,
+}
+
+impl<'t> Model for TableIter<'t> {
+    ghost use Rattle.lsm_block.specs.Held.{rest_of};
+    ghost use Rattle.lsm_table.specs.HeldTable.{Walk, AreNamed, left_of};
+
+    ghost Value = { Walk };
+
+    ghost view = { λ t. record { last = t.here.last; left = left_of t.body.now (rest_of t.data t.here) (rest_of t.index t.next_block) } };
+
+    ghost invariant = { λ t. AreNamed t.body.now (rest_of t.index t.next_block) };
+}
+
+impl<'t> TableIter<'t> {
+    /// Before the first entry of the data blocks that an index names.
+    pub(crate) fn over(alloc: Global, body: &'t [u8], index: BlockRef<'t>) -> TableIter<'t>
+        requires { AreNamed body.now index.entries }
+        ensures { result.left ≡ left_of body.now [] index.entry.entries }
+    {
+        let mut next_block = Cursor::start(alloc);
+        index.rewind(&mut next_block);
+        let data = no_entries();
+        let mut here = Cursor::start(alloc);
+        data.rewind(&mut here);
+        TableIter {
+            body,
+            index,
+            data,
+            next_block,
+            here,
+        }
+    }
+
+    /// The key of the entry that was given last, if one was.
+    pub fn key(&self) -> Option<KeyRef<'_>>
+        ensures { option_map key_of result ≡ self.now.last }
+    {
+        self.here.key()
+    }
+
+    /// Goes to the next entry, and lends its value for as long as the table is lent; `key` then lends its key. The one fault
+    /// is `OutOfMemory`, and leaves the entries that are left.
+    pub fn next(&mut self) -> Result<Option<&'t [u8]>, TableFault>
+        ensures given { IfOk result (λ r. Steps self.old self.new (option_map (λ v. v.now) r)) }
+        ensures err { OnErr result (self.new.left ≡ self.old.left) }
+    {
+        if let Some(value) = self.data.next(&mut self.here)? {
+            return Ok(Some(value));
+        }
+        let Some(place) = self.index.next(&mut self.next_block)? else {
+            return Ok(None);
+        };
+        self.data = data_block(self.body, place);
+        self.data.rewind(&mut self.here);
+        Ok(self.data.next(&mut self.here)?)
+    }
+}
