@@ -9,14 +9,16 @@ use Rattle.lsm_manifest.specs.EditReading.{edit_at}
 use Rattle.lsm_manifest.specs.EditFit.{Change}
 use Rattle.lsm_tool.specs.ManifestPrinting.{manifest_text}
 use Rattle.lsm_table.specs.Table.{IsTable}
+use Rattle.lsm_table.specs.TableReading.{table_at}
 use Rattle.lsm_tool.specs.declared.command_line.CommandName.{CommandName}
-use Rattle.lsm_tool.specs.declared.command_line.CommandName.TheVariants.{MakeTable, Manifest}
+use Rattle.lsm_tool.specs.declared.command_line.CommandName.TheVariants.{MakeTable, Dump, Manifest}
 use Rattle.lsm_tool.specs.declared.fault.Fault.{Fault}
 use Rattle.lsm_tool.specs.declared.fault.Fault.TheVariants.{Read, Write, BadLine, OutOfMemory, Table, TooLarge, Log, Edit}
 use Rattle.lsm_table.specs.declared.table_options.TableOptions.{TableOptions}
 use Rattle.lsm_table.specs.TableBuilding.{PassesLimit, index_block, groups_by}
 use Rattle.lsm_tool.specs.EntryReading.{BeginsWith}
 use Rattle.lsm_tool.specs.EntryList.{IsEntryList, IsFirstBadLine}
+use Rattle.lsm_tool.specs.EntryPrinting.{entry_list}
 
 -- record by record
 abbrev pub AreEdits : List (List ℕ) → List Change → Type 0
@@ -28,6 +30,7 @@ AreEdits (r ∷ rs) (e ∷ es) = IsEdit r e × AreEdits rs es
 -- what a command writes on standard output for what it reads on standard input
 abbrev pub Answers : CommandName → List ℕ → List ℕ → Type 0
 Answers MakeTable input output = (entries : List Entry) × IsEntryList input entries × IsTable output entries
+Answers Dump input output = (entries : List Entry) × IsTable input entries × (output ≡ entry_list entries)
 Answers Manifest input output =
     (records : List (List ℕ)) × (rest : ℕ) × (edits : List Change)
     × IsLog input records rest × AreEdits records edits × (output ≡ manifest_text edits rest)
@@ -62,8 +65,13 @@ Explains MakeTable input (Table fault) = ⊥
 Explains MakeTable input TooLarge = IsTooLarge input
 Explains MakeTable input (Log fault) = ⊥
 Explains MakeTable input (Edit fault) = ⊥
+Explains Dump input (BadLine i) = ⊥
+Explains Dump input (Log fault) = ⊥
+Explains Dump input (Edit fault) = ⊥
 Explains Manifest input (BadLine i) = ⊥
 Explains Manifest input (Table fault) = ⊥
 Explains Manifest input TooLarge = ⊥
 Explains Manifest input (Log fault) = log_at input ≡ Err fault
 Explains Manifest input (Edit fault) = HasBadEdit input fault
+Explains Dump input TooLarge = ⊥
+Explains Dump input (Table fault) = table_at input ≡ Err fault

@@ -11,6 +11,8 @@ use std::io::Write;
 pub(crate) enum CommandName {
     /// A table from a list of entries.
     MakeTable,
+    /// The list of a table's entries.
+    Dump,
     /// The edits of a manifest.
     Manifest,
 }
@@ -32,6 +34,12 @@ A line is `KEY SEQ put VALUE` or `KEY SEQ del`: KEY and VALUE in hex, `.` for no
 
 const MAKE_TABLE_EXAMPLE: &str = "Example: printf '61 1 put 76\\n' | lsm mktable > a.ldb";
 
+const DUMP: &str = "Reads a LevelDB table on standard input and prints its entries on standard output, as lines that `mktable` reads.
+
+Other bytes are refused by number and name, as in `refused 13 BadMagic`.";
+
+const DUMP_EXAMPLE: &str = "Example: lsm dump < a.ldb";
+
 const MANIFEST: &str = "Reads a LevelDB manifest on standard input and prints its edits on standard output: for each `edit I` and then
 its fields, with keys as `KEY@SEQ+` for a value and `KEY@SEQ-` for a deletion. The last line, `rest B`, counts the bytes at the
 end that hold no whole record. The edits are not replayed.
@@ -45,6 +53,10 @@ fn command<'a>(alloc: Global) -> Result<Command<'a>, AllocError> {
         .about("Makes a table of the entries on standard input")
         .long_about(MAKE_TABLE)
         .after_help(MAKE_TABLE_EXAMPLE);
+    let dump = Command::new(alloc, "dump")
+        .about("Prints the entries of the table on standard input")
+        .long_about(DUMP)
+        .after_help(DUMP_EXAMPLE);
     let manifest = Command::new(alloc, "manifest")
         .about("Prints the edits of the manifest on standard input")
         .long_about(MANIFEST)
@@ -55,6 +67,7 @@ fn command<'a>(alloc: Global) -> Result<Command<'a>, AllocError> {
         .bin_name("lsm")?
         .subcommand_required(true)
         .subcommand(make_table)?
+        .subcommand(dump)?
         .subcommand(manifest)
 }
 
@@ -71,6 +84,7 @@ pub(crate) fn parse<S: AsStr>(alloc: Global, words: &[S]) -> Result<CommandLine,
     match command(alloc)?.try_get_matches_from(words) {
         Ok(matches) => match matches.subcommand_name() {
             Some("mktable") => Ok(CommandLine::Run(CommandName::MakeTable)),
+            Some("dump") => Ok(CommandLine::Run(CommandName::Dump)),
             _ => Ok(CommandLine::Run(CommandName::Manifest)),
         },
         Err(error) if error.kind() == ErrorKind::OutOfMemory => Err(AllocError),

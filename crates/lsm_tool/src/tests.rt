@@ -92,6 +92,26 @@ fn makes_tables(rt: HostRuntime) -> Result<(), Fail> {
 }
 
 #[test]
+fn dumps_tables(rt: HostRuntime) -> Result<(), Fail> {
+    expect_done(&rt, &["dump"], small_table(rt.alloc())?.as_slice(), b"61 1 put 76\n")?;
+    expect_done(&rt, &["dump"], empty_table(rt.alloc())?.as_slice(), b"")
+}
+
+#[test]
+fn gives_lists_back(rt: HostRuntime) -> Result<(), Fail> {
+    for (list, want) in [
+        ("61 2 put 76\n61 1 del\n", "61 2 put 76\n61 1 del\n"),
+        (". 72057594037927935 put .\nAB 0 put Cd", ". 72057594037927935 put .\nab 0 put cd\n"),
+        ("61 1 put 76\n61 1 del\n6100 9 del\n62 007 put 00ff\n", "61 1 put 76\n61 1 del\n6100 9 del\n62 7 put 00ff\n"),
+    ] {
+        let made = outcome(rt.alloc(), &["mktable"], list.as_bytes())?;
+        assert_eq!(rt; made.status, 0);
+        expect_done(&rt, &["dump"], made.out.as_slice(), want.as_bytes())?;
+    }
+    Ok(())
+}
+
+#[test]
 fn names_the_first_bad_line(rt: HostRuntime) -> Result<(), Fail> {
     for (list, want) in [
         ("61 1 put 76\n61 2 put 76\n", "bad line 2\n"),
@@ -138,9 +158,58 @@ fn keeps_the_limits(rt: HostRuntime) -> Result<(), Fail> {
         let line = long_line(rt.alloc(), key, value)?;
         let made = outcome(rt.alloc(), &["mktable"], line.as_slice())?;
         assert_eq!(rt; made.status, status, "key {key}, value {value}");
-        if status == 1 {
+        if status == 0 {
+            expect_done(&rt, &["dump"], made.out.as_slice(), line.as_slice())?;
+        } else {
             assert_eq!(rt; made.err.as_slice(), b"bad line 1\n".as_slice());
         }
+    }
+    Ok(())
+}
+
+/// The small table with other bytes from an offset on, and right checksums.
+fn altered(alloc: Global, offset: usize, bytes: &[u8]) -> Result<Vec<u8>, Fail> {
+    let mut table = small_table(alloc)?;
+    for (i, byte) in bytes.iter().enumerate() {
+        if let Some(place) = table.as_mut_slice().get_mut(offset + i) {
+            *place = *byte;
+        }
+    }
+    for (start, end) in [(0usize, 22usize), (39, 62)] {
+        if let (Some(stored), Some(trailer)) = (table.as_slice().get(start..end), table.as_slice().get(end..end + 4)) {
+            let _ = trailer;
+            let sum = mask(crc32c(stored)).to_le_bytes();
+            for (i, byte) in sum.iter().enumerate() {
+                if let Some(place) = table.as_mut_slice().get_mut(end + i) {
+                    *place = *byte;
+                }
+            }
+        }
+    }
+    Ok(table)
+}
+
+#[test]
+fn refuses_what_is_no_table(rt: HostRuntime) -> Result<(), Fail> {
+    let alloc = rt.alloc();
+    let mut cut = small_table(alloc)?;
+    cut.truncate(113);
+    expect_refused(&rt, &["dump"], cut.as_slice(), "refused 13 BadMagic\n")?;
+    cut.truncate(47);
+    expect_refused(&rt, &["dump"], cut.as_slice(), "refused 12 ShortFile\n")?;
+    let mut flipped = small_table(alloc)?;
+    if let Some(byte) = flipped.as_mut_slice().get_mut(12) {
+        *byte ^= 1;
+    }
+    expect_refused(&rt, &["dump"], flipped.as_slice(), "refused 15 BadChecksum 0\n")?;
+    for (offset, byte, want) in [
+        (21, 1, "refused 16 Compressed 1\n"),
+        (21, 9, "refused 17 BadBlockType 9\n"),
+        (43, 2, "refused 18 BadIndex\n"),
+        (0, 1, "refused 7 BadEntry 0\n"),
+        (13, 1, "refused 6 BadRestarts\n"),
+    ] {
+        expect_refused(&rt, &["dump"], altered(alloc, offset, &[byte])?.as_slice(), want)?;
     }
     Ok(())
 }
@@ -151,11 +220,11 @@ fn knows_its_command_line(rt: HostRuntime) -> Result<(), Fail> {
         ([].as_slice(), 2),
         (["nonsense"].as_slice(), 2),
         (["mktable", "extra"].as_slice(), 2),
-        (["manifest", "--wrong"].as_slice(), 2),
+        (["dump", "--wrong"].as_slice(), 2),
         (["--help"].as_slice(), 0),
         (["help"].as_slice(), 0),
         (["mktable", "--help"].as_slice(), 0),
-        (["manifest", "--help"].as_slice(), 0),
+        (["dump", "--help"].as_slice(), 0),
     ] {
         let run = outcome(rt.alloc(), words, b"")?;
         assert_eq!(rt; run.status, want, "{words:?}");
@@ -207,7 +276,7 @@ fn reports_failed_reads(rt: HostRuntime) -> Result<(), Fail> {
         (ErrorKind::UnexpectedEof, "read fault\n"),
         (ErrorKind::OutOfMemory, "refused 1 OutOfMemory\n"),
     ] {
-        for word in ["mktable", "manifest"] {
+        for word in ["mktable", "dump"] {
             let mut out = Vec::new(rt.alloc());
             let mut err = Vec::new(rt.alloc());
             let status = run(rt.alloc(), &[word], &mut Broken(kind), &mut out, &mut err);
@@ -221,7 +290,8 @@ fn reports_failed_reads(rt: HostRuntime) -> Result<(), Fail> {
 
 #[test]
 fn reports_failed_writes(rt: HostRuntime) -> Result<(), Fail> {
-    for (word, input) in [("mktable", b"61 1 put 76".as_slice()), ("manifest", b"".as_slice()), ("--help", b"".as_slice())] {
+    let table = small_table(rt.alloc())?;
+    for (word, input) in [("mktable", b"61 1 put 76".as_slice()), ("dump", table.as_slice()), ("--help", b"".as_slice())] {
         let mut err = Vec::new(rt.alloc());
         let mut reader = input;
         let status = run(rt.alloc(), &[word], &mut reader, &mut Broken(ErrorKind::StorageFull), &mut err);
@@ -257,10 +327,10 @@ impl Read for Zeros {
 
 #[test]
 fn reads_64_mebibytes(rt: HostRuntime) -> Result<(), Fail> {
-    for (count, want) in [(67_108_864, "bad line 1\n"), (67_108_865, "read fault\n")] {
+    for (count, want) in [(67_108_864, "refused 13 BadMagic\n"), (67_108_865, "read fault\n")] {
         let mut out = Vec::new(rt.alloc());
         let mut err = Vec::new(rt.alloc());
-        let status = run(rt.alloc(), &["mktable"], &mut Zeros(count), &mut out, &mut err);
+        let status = run(rt.alloc(), &["dump"], &mut Zeros(count), &mut out, &mut err);
         assert_eq!(rt; status, 1);
         assert_eq!(rt; err.as_slice(), want.as_bytes());
     }
