@@ -1,0 +1,14 @@
+use Rattle.std.proofs.Common.{◌≡◌, ◌++◌, rules, sym, ap, take, length, List, ℕ, ◌∙◌}
+use Rattle.std.specs.List.{flat_map}
+use Rattle.lsm_tool.specs.ManifestPrinting.{pointer_line}
+use Rattle.lsm_tool.proofs.LineLists.{lines_more, lines_all}
+use Rattle.lsm_tool.proofs.edit_spelling.push_pointers.Goals as goal
+
+pub loop-pointer-preserved : goal.loop-pointer-preserved
+loop-pointer-preserved c =
+    lines_more pointer_line c.args.pointers.now c.loop-pointer.pointer-index c.pointer-item.result c.args.out.now.items c.loop-pointer.out.items c.push_pointer.new.out.items
+    (search rules) c.pointer-item.is c.loop-pointer.invariant c.in_ok-push_pointer.ensures
+
+pub returns : goal.returns
+returns c =
+    lines_all pointer_line c.args.pointers.now c.loop-pointer.pointer-index c.args.out.now.items c.loop-pointer.out.items (search rules) c.loop-pointer.invariant

@@ -1,0 +1,78 @@
+//! One run of the program.
+
+ghost use Rattle.std.specs.Prelude.{◌≡◌, ◌≢◌, ◌≤◌, ◌⊎◌, IfOk, IfErr};
+ghost use Rattle.std.specs.Io.KnownBytes.{Keeps};
+ghost use Rattle.lsm_tool.specs.declared.fault.Fault.TheVariants.{Write as WriteFault};
+
+use crate::command_line::{CommandLine, parse};
+use crate::commands::perform;
+use crate::fault::Fault;
+use crate::streams::write_output;
+use std::alloc::Global;
+use std::convert::AsStr;
+use std::io::{self, ErrorKind, Read, Write};
+
+/// Does what the words ask for: status 0, or 2 for a bad command line.
+fn obey<S: AsStr, R: Read, O: Write, E: Write>(
+    alloc: Global,
+    words: &[S],
+    input: &mut R,
+    out: &mut O,
+    err: &mut E,
+) -> Result<u8, Fault>
+    ensures status { IfOk result (λ status. (status ≡ 0) ⊎ ((status ≡ 2) × Keeps (O.contents out.old) (O.contents out.new))) }
+    ensures kept { IfErr result (λ e. e ≢ WriteFault → Keeps (O.contents out.old) (O.contents out.new)) }
+{
+    match parse(alloc, words)? {
+        CommandLine::Run(name) => {
+            perform(alloc, name, input, out)?;
+            Ok(0)
+        }
+        CommandLine::Help(text) => {
+            write_output(out, &text)?;
+            Ok(0)
+        }
+        CommandLine::Bad(text) => {
+            let _ = write_output(err, &text);
+            Ok(2)
+        }
+    }
+}
+
+/// Runs the program on the words after its name, and answers its exit status: 0 where it is done, 1 where it is refused, 2 for
+/// a bad command line. A fault is one line on `err`; then nothing is written to `out`, but for a write fault.
+///
+/// `bad line I` names the first bad line of a list, `refused N Name ..` a refusal by its published number and name. A read
+/// that fails, or that gives more than 64 MiB, is `read fault`, a write that fails `write fault`.
+pub(crate) fn run<S: AsStr, R: Read, O: Write, E: Write>(
+    alloc: Global,
+    words: &[S],
+    input: &mut R,
+    out: &mut O,
+    err: &mut E,
+) -> u8
+    ensures status { result ≤ 2 }
+    ensures kept { result ≡ 2 → Keeps (O.contents out.old) (O.contents out.new) }
+{
+    match obey(alloc, words, input, out, err) {
+        Ok(status) => status,
+        Err(fault) => {
+            let _ = writeln!(err, "{fault}");
+            let _ = err.flush();
+            1
+        }
+    }
+}
+
+/// What is answered where the words could not be had: 2 where one is no UTF-8, and 1 for want of memory.
+pub(crate) fn refuse_words<E: Write>(error: &io::Error, err: &mut E) -> u8
+    ensures { result ≤ 2 }
+{
+    let (status, text) = if error.kind() == ErrorKind::OutOfMemory {
+        (1, b"refused 1 OutOfMemory\n".as_slice())
+    } else {
+        (2, b"error: a word of the command line is not UTF-8\n".as_slice())
+    };
+    let _ = write_output(err, text);
+    status
+}
