@@ -1,0 +1,17 @@
+pub mod Order
+pub mod Drops
+pub mod Kept
+pub mod Installs
+pub mod Ingests
+pub mod Splits
+pub mod Depths
+pub mod Moves
+pub mod Plans
+pub mod Streams
+pub mod Cuts
+pub mod Merging
+pub mod Least
+pub mod Taking
+pub mod Merged
+pub mod Levels
+pub mod Ages

@@ -1,0 +1,6 @@
+//! Levels of files and what they answer: the law of a version, reads, what a merge of files keeps and what its install changes.
+//!
+//! Stands on `lsm_codec`. Its contract: a lawful version answers as its union of entries, and a merge is its sources in order.
+#![tactic(auto)]
+
+pub mod laws;
