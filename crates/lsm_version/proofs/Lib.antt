@@ -15,3 +15,4 @@ pub mod Taking
 pub mod Merged
 pub mod Levels
 pub mod Ages
+pub mod Scanning

@@ -6,3 +6,4 @@ pub mod Streams
 pub mod Merging
 pub mod Levels
 pub mod Ages
+pub mod Scanning

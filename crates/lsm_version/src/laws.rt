@@ -1,13 +1,16 @@
 //! Laws of versions, merges and installs. Each function's contract is one law; its body is empty.
 
 ghost use Rattle.std.specs.Prelude.{◌≡◌, ◌≤◌, ◌<◌, ℕ, suc, None, List};
+ghost use Rattle.std.specs.List.{filter, flat_map};
 ghost use Rattle.lsm_codec.specs.Entries.{Entry, answer};
 ghost use Rattle.lsm_codec.specs.Keys.{UserKey};
 ghost use Rattle.lsm_codec.specs.Lists.{Has};
 ghost use Rattle.lsm_version.specs.Files.{Apart, File, InOrder, IsLawful, IsSplit, OneEach, all_entries};
 ghost use Rattle.lsm_version.specs.Jobs.{AreOutputs, Changed, Conflicts, Gains, Holds, IsMove, IsOpenIn, Job};
 ghost use Rattle.lsm_version.specs.Kept.{kept_entries};
+ghost use Rattle.lsm_version.specs.Merging.{AreSorted, IsSorted, is_alike, merge_all};
 ghost use Rattle.lsm_version.specs.Plans.{IsClosed, IsJobOf, Plan};
+ghost use Rattle.lsm_version.specs.Scanning.{IsScan, pairs_of};
 ghost use Rattle.lsm_version.specs.Streams.{IsAscending, IsCut, IsMerge, streamed};
 
 /// The laws below hold where the files of a level lie apart in user keys, and where they lie in order of internal keys.
@@ -83,4 +86,19 @@ pub fn streaming_keeps_the_kept()
         → streamed floor ranges None merged ≡ kept_entries merged floor ranges }
     ensures pieces { (level floor : ℕ) (merged es : List Entry) (ranges : List (UserKey × UserKey)) (outs : List File) → IsMerge merged es
         → IsCut level (kept_entries merged floor ranges) outs → Holds level (kept_entries es floor ranges) outs }
+{}
+
+/// The merge of sorted lists is in order, has the entries of one user key, sequence and kind just as the lists have them one after
+/// another, and has the lists' entries and no other. Where it ascends it is the merge that installs rest on.
+pub fn merges_are_in_order()
+    ensures order { (ls : List (List Entry)) → AreSorted ls → IsSorted (merge_all ls) }
+    ensures alike { (e : Entry) (ls : List (List Entry)) → AreSorted ls → filter (is_alike e) (merge_all ls) ≡ flat_map (filter (is_alike e)) ls }
+    ensures from { (ls : List (List Entry)) (e : Entry) → Has (merge_all ls) e → Has (flat_map (λ l. l) ls) e }
+    ensures to { (ls : List (List Entry)) (e : Entry) → Has (flat_map (λ l. l) ls) e → Has (merge_all ls) e }
+    ensures whole { (ls : List (List Entry)) → IsAscending (merge_all ls) → IsMerge (merge_all ls) (flat_map (λ l. l) ls) }
+{}
+
+/// What a scan shows of a sorted list is each user key that has an answer, with it, ascending.
+pub fn scans_show_answers()
+    ensures { (s : ℕ) (es : List Entry) → IsSorted es → IsScan s es (pairs_of s None es) }
 {}

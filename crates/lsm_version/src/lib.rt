@@ -4,3 +4,14 @@
 #![tactic(auto)]
 
 pub mod laws;
+mod merger;
+mod owned_entry;
+mod scan;
+mod source;
+mod stream;
+
+pub use merger::Merger;
+pub use owned_entry::OwnedEntry;
+pub use scan::{Pair, Scan};
+pub use source::Source;
+pub use stream::{ListStream, Stream};
