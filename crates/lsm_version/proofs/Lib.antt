@@ -10,9 +10,8 @@ pub mod Plans
 pub mod Streams
 pub mod Cuts
 pub mod Merging
-pub mod Least
-pub mod Taking
 pub mod Merged
+pub mod Joining
 pub mod Levels
 pub mod Ages
 pub mod Scanning

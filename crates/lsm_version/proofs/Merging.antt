@@ -1,13 +1,12 @@
--- Taking the first entry of the list that leads takes the first of the merge.
-use Rattle.std.proofs.Common.{◌≡◌, zero, suc, ℕ, ◌<◌, Bool, true, false, cond, List, [], ◌∷◌, ◌++◌, length, get_or, refl, sym, ◌∙◌, ap, subst, inl, inr, arith}
+-- The first entry of a merge, its members, its order.
+use Rattle.std.proofs.Common.{◌≡◌, Bool, true, false, cond, List, [], ◌∷◌, ◌++◌, refl, sym, ◌∙◌, ap, subst, inl, inr}
 use Rattle.std.specs.Prelude.{◌⊎◌}
 use Rattle.std.proofs.lemmas.Bool.{and_parts}
 use Rattle.std.specs.List.{flat_map, filter}
-use Rattle.std.proofs.Math.ListN.{set}
 use Rattle.lsm_codec.specs.Entries.{Entry}
 use Rattle.lsm_codec.specs.Lists.{Has}
 use Rattle.lsm_codec.proofs.Lists.{has_left, has_right, has_cases}
-use Rattle.lsm_version.specs.Merging.{AreSorted, is_alike, goes_first, IsSorted, onto, merge, merge_all, leads, IsLeast}
+use Rattle.lsm_version.specs.Merging.{AreSorted, is_alike, goes_first, IsSorted, onto, merge, merge_all, leads}
 use Rattle.lsm_version.proofs.Order.{first_trans, first_total, true_or_not}
 
 -- a list that leads the other gives the merge's first
@@ -41,48 +40,6 @@ leads_merge l (x ∷ xs) (y ∷ ys) h k = go (goes_first x y) refl
         head : (l : List Entry) (z : Entry) (rs bs : List Entry) → leads l (z ∷ rs) ≡ true → leads l (z ∷ bs) ≡ true
         head [] z rs bs t = absurd (cc t)
         head (w ∷ ws) z rs bs t = t
-
-pub leads_all : (x : Entry) (xs : List Entry) (ls : List (List Entry)) → ((j : ℕ) → j < length ls → leads (x ∷ xs) (get_or ls j []) ≡ true) → leads (x ∷ xs) (merge_all ls) ≡ true
-leads_all x xs [] h = refl
-leads_all x xs (m ∷ ls) h = leads_merge (x ∷ xs) m (merge_all ls) (h 0 (omega arith)) (leads_all x xs ls (λ j lt. h (suc j) (omega arith)))
-
--- the first of the list that leads is the first of the merge, and the rest is the merge of what is left
-pub takes_first : (ls : List (List Entry)) (i : ℕ) (x : Entry) (xs : List Entry) → i < length ls → get_or ls i [] ≡ x ∷ xs
-    → ((j : ℕ) → j < i → leads (get_or ls j []) (x ∷ xs) ≡ false) → ((j : ℕ) → i < j → j < length ls → leads (x ∷ xs) (get_or ls j []) ≡ true)
-    → merge_all ls ≡ x ∷ merge_all (set ls i xs)
-takes_first [] i x xs lt e before after = absurd (omega arith)
-takes_first (l ∷ ls) zero x xs lt e before after =
-    ap (λ (m : List Entry). merge m (merge_all ls)) e ∙ merge_left x xs (merge_all ls) (leads_all x xs ls (λ j less. after (suc j) (omega arith) (omega arith)))
-takes_first (l ∷ ls) (suc i) x xs lt e before after =
-    let rest : merge_all ls ≡ x ∷ merge_all (set ls i xs) = takes_first ls i x xs (omega arith) e (λ j less. before (suc j) (omega arith)) (λ j less more. after (suc j) (omega arith) (omega arith)) in
-    ap (λ (m : List Entry). merge l m) rest ∙ merge_right l x (merge_all (set ls i xs)) (head l (before 0 (omega arith)))
-  where
-    head : (m : List Entry) → leads m (x ∷ xs) ≡ false → leads m (x ∷ merge_all (set ls i xs)) ≡ false
-    head [] h = refl
-    head (z ∷ zs) h = h
-
--- where the leading list is empty, so is the merge
-pub all_empty : (ls : List (List Entry)) → ((j : ℕ) → j < length ls → get_or ls j [] ≡ []) → merge_all ls ≡ []
-all_empty [] h = refl
-all_empty (l ∷ ls) h = ap (λ (m : List Entry). merge m (merge_all ls)) (h 0 (omega arith)) ∙ all_empty ls (λ j lt. h (suc j) (omega arith))
-
-empty_before : (m : List Entry) → leads m [] ≡ false → m ≡ []
-empty_before [] h = refl
-empty_before (x ∷ xs) h = absurd (cc h)
-
-pub least_empty : (ls : List (List Entry)) (i : ℕ) → IsLeast ls i → get_or ls i [] ≡ [] → (j : ℕ) → j < length ls → get_or ls j [] ≡ []
-least_empty ls i least e j lt = go (nat_cases j i)
-  where
-    nat_cases : (a b : ℕ) → (a < b) ⊎ ((a ≡ b) ⊎ (b < a))
-    nat_cases zero zero = inr (inl refl)
-    nat_cases zero (suc b) = inl (omega arith)
-    nat_cases (suc a) zero = inr (inr (omega arith))
-    nat_cases (suc a) (suc b) = elim (nat_cases a b) [ inl l ↦ inl (omega arith) | inr r ↦ elim r [ inl e ↦ inr (inl (ap suc e)) | inr g ↦ inr (inr (omega arith)) ] ]
-
-    go : (j < i) ⊎ ((j ≡ i) ⊎ (i < j)) → get_or ls j [] ≡ []
-    go (inl l) = empty_before (get_or ls j []) (subst (λ (m : List Entry). leads (get_or ls j []) m ≡ false) e (least.earlier j l))
-    go (inr (inl same)) = subst (λ (k : ℕ). get_or ls k [] ≡ []) (sym same) e
-    go (inr (inr g)) = absurd (cc (subst (λ (m : List Entry). leads m (get_or ls j []) ≡ true) e (least.later j g lt)))
 
 -- the merge has the lists' entries
 onto_cases : (x : Entry) (rest : List Entry → List Entry) (ys : List Entry) (e : Entry) (P : Type 0)

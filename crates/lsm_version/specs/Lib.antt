@@ -4,6 +4,7 @@ pub mod Jobs
 pub mod Plans
 pub mod Streams
 pub mod Merging
+pub mod Tree
 pub mod Levels
 pub mod Ages
 pub mod Scanning

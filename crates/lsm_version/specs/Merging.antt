@@ -1,5 +1,5 @@
 -- The merge of lists in order (LevelDB's `doc/impl.md`, "Compactions": a compaction merges the contents of its files).
-use Rattle.std.specs.Prelude.{◌≡◌, ℕ, ◌<◌, Bool, true, false, ◌&&◌, cond, List, [], ◌∷◌, Option, Some, None, length, slice_index_or}
+use Rattle.std.specs.Prelude.{◌≡◌, Bool, true, false, ◌&&◌, cond, List, [], ◌∷◌, Option, Some, None}
 use Rattle.std.specs.Ordering.{is_le}
 use Rattle.lsm_codec.specs.Lists.{Has}
 use Rattle.lsm_codec.specs.Entries.{Entry, entry_cmp}
@@ -43,12 +43,6 @@ abbrev pub leads : List Entry → List Entry → Bool
 leads [] m = false
 leads (x ∷ xs) [] = true
 leads (x ∷ xs) (y ∷ ys) = goes_first x y
-
--- the list at i is the one to hand out from: it leads each later one, and no earlier one leads it
-pub record IsLeast (ls : List (List Entry)) (i : ℕ) : Type 0 where
-  pub inside : i < length ls
-  pub earlier : (j : ℕ) → j < i → leads (slice_index_or ls j []) (slice_index_or ls i []) ≡ false
-  pub later : (j : ℕ) → i < j → j < length ls → leads (slice_index_or ls i []) (slice_index_or ls j []) ≡ true
 
 -- a first entry in hand, and what is left behind it
 abbrev pub at_head : Option Entry → List Entry → List Entry

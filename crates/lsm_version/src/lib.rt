@@ -9,6 +9,7 @@ mod owned_entry;
 mod scan;
 mod source;
 mod stream;
+mod tree;
 
 pub use merger::Merger;
 pub use owned_entry::OwnedEntry;

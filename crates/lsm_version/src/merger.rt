@@ -1,63 +1,48 @@
 //! The merge of several sources.
 
-ghost use Rattle.std.specs.Prelude.{◌≡◌, ◌<◌, IfOk, OnErr, MatchOption, [], ◌∷◌, length};
-ghost use Rattle.lsm_version.specs.Merging.{IsLeast, merge_all};
+ghost use Rattle.std.specs.Prelude.{◌≡◌, IfOk};
+ghost use Rattle.lsm_version.specs.Merging.{merge_all};
 
 use crate::owned_entry::OwnedEntry;
 use crate::source::Source;
 use crate::stream::Stream;
+use crate::tree::{Tree, next, of_last};
+use std::alloc::Global;
 use std::marker::Model;
-
-// The source to hand out from.
-fn least<S: Stream>(sources: &[Source<S>]) -> usize
-    requires { 0 < length sources.now }
-    ensures { IsLeast sources.now result }
-{
-    let mut best = 0;
-    for i in 1..sources.len() {
-        let keeps = sources[best].leads(&sources[i]);
-        if !keeps {
-            best = i;
-        }
-    }
-    best
-}
-
-// The first entry of the source to hand out from.
-fn next_of<S: Stream>(sources: &mut Vec<Source<S>>) -> Result<Option<OwnedEntry>, S::Fault>
-    ensures ok { IfOk result (λ r. MatchOption r ((merge_all sources.old.items ≡ []) × (merge_all sources.new.items ≡ [])) (λ e. merge_all sources.old.items ≡ e ∷ merge_all sources.new.items)) }
-    ensures err { OnErr result (merge_all sources.new.items ≡ merge_all sources.old.items) }
-{
-    if sources.is_empty() {
-        return Ok(None);
-    }
-    let i = least(sources.as_slice());
-    sources[i].next()
-}
 
 /// The entries of several sources in order; those of one user key, sequence and kind in the order of the sources.
 /// Contracts see what is left: the merge of what is left of each source.
+///
+/// A step compares as many entries as the logarithm of the number of sources; each source is read some entries ahead.
 #[derive(Drop)]
 pub struct Merger<S: Stream> {
-    sources: Vec<Source<S>>,
+    tree: Option<Tree<Source<S>>>,
 }
 
 impl<S: Stream> Model for Merger<S> {
     ghost use Rattle.std.specs.Prelude.{List};
     ghost use Rattle.lsm_codec.specs.Entries.{Entry};
-    ghost use Rattle.lsm_version.specs.Merging.{merge_all};
+    ghost use Rattle.lsm_version.specs.Tree.{IsReadyIfAny, left_of_any};
 
     ghost Value = { List Entry };
 
-    ghost view = { λ m. merge_all m.sources.items };
+    ghost view = { λ m. left_of_any m.tree };
+
+    ghost invariant = { λ m. IsReadyIfAny m.tree };
 }
 
 impl<S: Stream> Merger<S> {
-    /// What is left is the merge of what is left of the sources.
-    pub fn new(sources: Vec<Source<S>>) -> Merger<S>
-        ensures { result ≡ merge_all sources.items }
+    /// What is left is the merge of what is left of the sources. After a fault the sources are given up.
+    pub fn new(alloc: Global, sources: Vec<Source<S>>) -> Result<Merger<S>, S::Fault>
+        ensures { IfOk result (λ m. m ≡ merge_all sources.items) }
     {
-        Merger { sources }
+        let mut sources = sources;
+        let count = sources.len();
+        if count == 0 {
+            return Ok(Merger { tree: None });
+        }
+        let tree = of_last(alloc, &mut sources, count)?;
+        Ok(Merger { tree: Some(tree) })
     }
 }
 
@@ -67,6 +52,9 @@ impl<S: Stream> Stream for Merger<S> {
     ghost left = { λ m. m };
 
     fn next(&mut self) -> Result<Option<OwnedEntry>, S::Fault> {
-        next_of(&mut self.sources)
+        match &mut self.tree {
+            None => Ok(None),
+            Some(tree) => next(tree),
+        }
     }
 }
