@@ -8,8 +8,8 @@ use Rattle.lsm_codec.specs.Keys.{UserLe}
 use Rattle.lsm_codec.specs.Lists.{Has}
 use Rattle.lsm_codec.proofs.Keys.{key_from_test, test_from_key, user_le_antisym, user_le_refl}
 use Rattle.lsm_codec.proofs.Newest.{seq_le}
-use Rattle.lsm_version.specs.Ages.{Placed, is_aged, ages_along, IsAgeOrder}
-use Rattle.lsm_version.specs.Merging.{goes_first}
+use Rattle.lsm_version.specs.Ages.{is_aged, ages_along, IsAgeOrder}
+use Rattle.lsm_version.specs.Merging.{Placed, IsOrdered, goes_first}
 use Rattle.lsm_version.proofs.Order.{first_says}
 
 -- q stands behind p: no shallower, and older where deeper
@@ -39,11 +39,6 @@ aged_trans p q r a b le le' = record {
     go : (t : Bool) → nat_lt p.0 q.0 ≡ t → p.0 < r.0 → r.1.seq < p.1.seq
     go true e lt = (let x = a.age (ltb-true p.0 q.0 e) in omega arith)
     go false e lt = (let ge = ltb-false p.0 q.0 e in let y = b.age (omega arith) in omega arith)
-
--- the placed entries, without their depths, are in order
-abbrev pub IsOrdered : List Placed → Type 0
-IsOrdered [] = Unit {0}
-IsOrdered (p ∷ ps) = ((q : Placed) → Has ps q → goes_first p.1 q.1 ≡ true) × IsOrdered ps
 
 key_up : (x y : Entry) → goes_first x y ≡ true → UserLe x.user y.user
 key_up x y h = elim (first_says x y h) [ inl s ↦ subst (UserLe x.user) s.0 (user_le_refl x.user) | inr n ↦ n.1 ]

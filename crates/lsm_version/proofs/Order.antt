@@ -1,5 +1,5 @@
 -- The order of entries, by its parts; the order in which they are handed out is total and transitive.
-use Rattle.std.proofs.Common.{◌≡◌, ℕ, ◌≤◌, ◌<◌, Bool, true, false, List, [], ◌∷◌, Ordering, Less, Equal, Greater, refl, sym, ◌∙◌, ap, subst, inl, inr, arith}
+use Rattle.std.proofs.Common.{◌≡◌, ℕ, ◌≤◌, ◌<◌, Bool, true, false, Ordering, Less, Equal, Greater, refl, sym, ◌∙◌, ap, subst, inl, inr, arith}
 use Rattle.std.specs.Prelude.{◌⊎◌}
 use Rattle.std.specs.Cmp.{ranks, nat_cmp_is}
 use Rattle.std.specs.Cmp.Lexicographic.{slice_cmp}
@@ -9,7 +9,7 @@ use Rattle.lsm_codec.specs.Entries.{Entry, stamp}
 use Rattle.lsm_codec.specs.Keys.{UserKey, UserLe, user_le, then_by}
 use Rattle.lsm_codec.proofs.Keys.{key_from_test, test_from_key, user_le_trans, user_le_total, user_le_antisym, user_le_refl}
 use Rattle.lsm_version.specs.Files.{Before}
-use Rattle.lsm_version.specs.Merging.{goes_first, leads}
+use Rattle.lsm_version.specs.Merging.{goes_first}
 
 user_less : (a b : UserKey) → slice_cmp nat_cmp a b ≡ Less → UserLe a b × (a ≡ b → ⊥)
 unfolding user_le
@@ -146,19 +146,3 @@ first_total x y h = before_first y x (not_first_says x y h)
 pub true_or_not : (b : Bool) → (b ≡ true → ⊥) → b ≡ false
 true_or_not true h = absurd (h refl)
 true_or_not false h = refl
-
--- both ways of the search for the list that leads
-pub leads_trans : (l m n : List Entry) → leads l m ≡ true → leads m n ≡ true → leads l n ≡ true
-leads_trans [] m n h k = absurd (cc h)
-leads_trans (x ∷ xs) [] n h k = absurd (cc k)
-leads_trans (x ∷ xs) (y ∷ ys) [] h k = refl
-leads_trans (x ∷ xs) (y ∷ ys) (z ∷ zs) h k = first_trans x y z h k
-
-pub led_trans : (l m n : List Entry) → leads l m ≡ false → leads m n ≡ false → leads l n ≡ false
-led_trans [] m n h k = refl
-led_trans (x ∷ xs) [] n h k = absurd (cc h)
-led_trans (x ∷ xs) (y ∷ ys) [] h k = absurd (cc k)
-led_trans (x ∷ xs) (y ∷ ys) (z ∷ zs) h k = true_or_not (goes_first x z) (λ t. absurd (cc (k, first_trans y x z (first_total x y h) t)))
-
-pub leads_not : (l m n : List Entry) → leads l m ≡ true → leads l n ≡ false → leads m n ≡ false
-leads_not l m n h k = true_or_not (leads m n) (λ t. absurd (cc (k, leads_trans l m n h t)))

@@ -1,12 +1,8 @@
 -- Entries with the depths of their files, in order: older ones of a user key lie no shallower.
-use Rattle.std.specs.Prelude.{◌≡◌, ℕ, ◌<◌, Bool, true, ◌&&◌, ◌||◌, not, List, [], ◌∷◌, nat_lt, nat_le}
+use Rattle.std.specs.Prelude.{◌≡◌, ◌<◌, Bool, true, ◌&&◌, ◌||◌, not, List, [], ◌∷◌, nat_lt, nat_le}
 use Rattle.std.specs.Str.{bytes_eq}
 use Rattle.lsm_codec.specs.Lists.{Has}
-use Rattle.lsm_codec.specs.Entries.{Entry}
-
--- an entry at a depth
-abbrev pub Placed : Type 0
-Placed = ℕ × Entry
+use Rattle.lsm_version.specs.Merging.{Placed}
 
 -- where both are of one user key, the later one lies no shallower, and where it lies deeper it is older
 abbrev pub is_aged : Placed → Placed → Bool

@@ -8,7 +8,7 @@ ghost use Rattle.lsm_codec.specs.Lists.{Has};
 ghost use Rattle.lsm_version.specs.Files.{Apart, File, InOrder, IsLawful, IsSplit, OneEach, all_entries};
 ghost use Rattle.lsm_version.specs.Jobs.{AreOutputs, Changed, Conflicts, Gains, Holds, IsMove, IsOpenIn, Job};
 ghost use Rattle.lsm_version.specs.Kept.{kept_entries};
-ghost use Rattle.lsm_version.specs.Merging.{AreSorted, IsSorted, is_alike, merge_all};
+ghost use Rattle.lsm_version.specs.Merging.{AreOrdered, IsOrdered, IsSorted, Placed, entries_of, is_alike, merge_all, placed_at};
 ghost use Rattle.lsm_version.specs.Plans.{IsClosed, IsJobOf, Plan};
 ghost use Rattle.lsm_version.specs.Scanning.{IsScan, pairs_of};
 ghost use Rattle.lsm_version.specs.Streams.{IsAscending, IsCut, IsMerge, streamed};
@@ -91,11 +91,12 @@ pub fn streaming_keeps_the_kept()
 /// The merge of sorted lists is in order, has the entries of one user key, sequence and kind just as the lists have them one after
 /// another, and has the lists' entries and no other. Where it ascends it is the merge that installs rest on.
 pub fn merges_are_in_order()
-    ensures order { (ls : List (List Entry)) → AreSorted ls → IsSorted (merge_all ls) }
-    ensures alike { (e : Entry) (ls : List (List Entry)) → AreSorted ls → filter (is_alike e) (merge_all ls) ≡ flat_map (filter (is_alike e)) ls }
-    ensures from { (ls : List (List Entry)) (e : Entry) → Has (merge_all ls) e → Has (flat_map (λ l. l) ls) e }
-    ensures to { (ls : List (List Entry)) (e : Entry) → Has (flat_map (λ l. l) ls) e → Has (merge_all ls) e }
-    ensures whole { (ls : List (List Entry)) → IsAscending (merge_all ls) → IsMerge (merge_all ls) (flat_map (λ l. l) ls) }
+    ensures lists { (place : ℕ) (es : List Entry) → IsSorted es → IsOrdered (placed_at place es) }
+    ensures order { (ls : List (List Placed)) → AreOrdered ls → IsSorted (entries_of (merge_all ls)) }
+    ensures alike { (e : Entry) (ls : List (List Placed)) → AreOrdered ls → filter (is_alike e) (merge_all ls) ≡ flat_map (filter (is_alike e)) ls }
+    ensures from { (ls : List (List Placed)) (p : Placed) → Has (merge_all ls) p → Has (flat_map (λ l. l) ls) p }
+    ensures to { (ls : List (List Placed)) (p : Placed) → Has (flat_map (λ l. l) ls) p → Has (merge_all ls) p }
+    ensures whole { (ls : List (List Placed)) → IsAscending (entries_of (merge_all ls)) → IsMerge (entries_of (merge_all ls)) (entries_of (flat_map (λ l. l) ls)) }
 {}
 
 /// What a scan shows of a sorted list is each user key that has an answer, with it, ascending.

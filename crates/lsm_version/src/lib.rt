@@ -3,16 +3,20 @@
 //! Stands on `lsm_codec`. Its contract: a lawful version answers as its union of entries, and a merge is its sources in order.
 #![tactic(auto)]
 
+mod input;
 pub mod laws;
 mod merger;
 mod owned_entry;
+mod placed;
 mod scan;
 mod source;
 mod stream;
 mod tree;
 
+pub use input::Input;
 pub use merger::Merger;
 pub use owned_entry::OwnedEntry;
+pub use placed::Placed;
 pub use scan::{Pair, Scan};
 pub use source::Source;
 pub use stream::{ListStream, Stream};

@@ -1,10 +1,11 @@
 //! The merge of several sources.
 
-ghost use Rattle.std.specs.Prelude.{◌≡◌, IfOk};
-ghost use Rattle.lsm_version.specs.Merging.{merge_all};
+ghost use Rattle.std.specs.Prelude.{◌≡◌, IfOk, OnErr, MatchOption, [], ◌∷◌};
+ghost use Rattle.lsm_version.specs.Merging.{entries_of, merge_all};
 
+use crate::input::Input;
 use crate::owned_entry::OwnedEntry;
-use crate::source::Source;
+use crate::placed::Placed;
 use crate::stream::Stream;
 use crate::tree::{Tree, next, of_last};
 use std::alloc::Global;
@@ -16,15 +17,15 @@ use std::marker::Model;
 /// A step compares as many entries as the logarithm of the number of sources; each source is read some entries ahead.
 #[derive(Drop)]
 pub struct Merger<S: Stream> {
-    tree: Option<Tree<Source<S>>>,
+    tree: Option<Tree<Input<S>, Placed>>,
 }
 
 impl<S: Stream> Model for Merger<S> {
     ghost use Rattle.std.specs.Prelude.{List};
-    ghost use Rattle.lsm_codec.specs.Entries.{Entry};
+    ghost use Rattle.lsm_version.specs.Merging.{Placed};
     ghost use Rattle.lsm_version.specs.Tree.{IsReadyIfAny, left_of_any};
 
-    ghost Value = { List Entry };
+    ghost Value = { List Placed };
 
     ghost view = { λ m. left_of_any m.tree };
 
@@ -33,7 +34,7 @@ impl<S: Stream> Model for Merger<S> {
 
 impl<S: Stream> Merger<S> {
     /// What is left is the merge of what is left of the sources. After a fault the sources are given up.
-    pub fn new(alloc: Global, sources: Vec<Source<S>>) -> Result<Merger<S>, S::Fault>
+    pub fn new(alloc: Global, sources: Vec<Input<S>>) -> Result<Merger<S>, S::Fault>
         ensures { IfOk result (λ m. m ≡ merge_all sources.items) }
     {
         let mut sources = sources;
@@ -44,17 +45,28 @@ impl<S: Stream> Merger<S> {
         let tree = of_last(alloc, &mut sources, count)?;
         Ok(Merger { tree: Some(tree) })
     }
+
+    /// The next entry with its source's place, or none at the end. After a fault what is left is as before.
+    pub fn next_placed(&mut self) -> Result<Option<Placed>, S::Fault>
+        ensures ok { IfOk result (λ r. MatchOption r ((self.old ≡ []) × (self.new ≡ [])) (λ p. self.old ≡ p ∷ self.new)) }
+        ensures err { OnErr result (self.new ≡ self.old) }
+    {
+        match &mut self.tree {
+            None => Ok(None),
+            Some(tree) => next(tree),
+        }
+    }
 }
 
 impl<S: Stream> Stream for Merger<S> {
     type Fault = S::Fault;
 
-    ghost left = { λ m. m };
+    ghost left = { λ m. entries_of m };
 
     fn next(&mut self) -> Result<Option<OwnedEntry>, S::Fault> {
-        match &mut self.tree {
+        match self.next_placed()? {
             None => Ok(None),
-            Some(tree) => next(tree),
+            Some(placed) => Ok(Some(placed.into_entry())),
         }
     }
 }

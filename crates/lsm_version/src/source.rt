@@ -1,7 +1,7 @@
 //! A source of a merge: a stream with its first entry in hand.
 
 ghost use Rattle.std.specs.Prelude.{◌≡◌, IfOk, OnErr, MatchOption, [], ◌∷◌};
-ghost use Rattle.lsm_version.specs.Merging.{IsHead, leads};
+ghost use Rattle.lsm_version.specs.Merging.{IsHead};
 
 use crate::owned_entry::OwnedEntry;
 use crate::stream::Stream;
@@ -42,17 +42,6 @@ impl<S: Stream> Source<S> {
         ensures { MatchOption result (self.now ≡ []) (λ e. IsHead e.now self.now) }
     {
         self.head.as_ref()
-    }
-
-    /// Whether this source has an entry, and it may be handed out before the other's.
-    pub(crate) fn leads(&self, other: &Source<S>) -> bool
-        ensures { result ≡ leads self.now other.now }
-    {
-        match (&self.head, &other.head) {
-            (None, _) => false,
-            (Some(_own), None) => true,
-            (Some(own), Some(others)) => own.goes_first(others),
-        }
     }
 
     /// The first entry, or none at the end. After a fault the source is as before.

@@ -1,35 +1,36 @@
 //! A tree of merges, each of two: a step costs one comparison a fork on the way to one source.
 
 ghost use Rattle.std.specs.Prelude.{◌≡◌, ◌+◌, ◌<◌, ◌≤◌, IfOk, OnOk, OnErr, MatchOption, [], ◌∷◌, length};
-ghost use Rattle.lsm_version.specs.Merging.{IsHead, leads, merge, merge_all};
+ghost use Rattle.lsm_version.specs.Merging.{IsPlacedHead, leads, merge, merge_all};
 ghost use Rattle.lsm_version.specs.Tree.{left_of, IsReady};
 
+use crate::input::Input;
 use crate::owned_entry::OwnedEntry;
-use crate::source::Source;
+use crate::placed::Placed;
 use crate::stream::Stream;
 use std::alloc::{AllocError, Global};
 use std::mem;
 
 /// A source, or the merge of two trees with its first entry in hand.
 #[derive(Drop)]
-pub(crate) enum Tree<X> {
+pub(crate) enum Tree<X, E> {
     Leaf(X),
-    Fork(Option<OwnedEntry>, Box<Tree<X>>, Box<Tree<X>>),
+    Fork(Option<E>, Box<Tree<X, E>>, Box<Tree<X, E>>),
 }
 
 /// The first entry, if there is one.
-fn head<S: Stream>(tree: &Tree<Source<S>>) -> Option<&OwnedEntry>
+fn head<S: Stream>(tree: &Tree<Input<S>, Placed>) -> Option<&OwnedEntry>
     requires { IsReady tree.now }
-    ensures { MatchOption result (left_of tree.now ≡ []) (λ e. IsHead e.now (left_of tree.now)) }
+    ensures { MatchOption result (left_of tree.now ≡ []) (λ e. IsPlacedHead e.now (left_of tree.now)) }
 {
     match tree {
         Tree::Leaf(source) => source.head(),
-        Tree::Fork(head, _, _) => head.as_ref(),
+        Tree::Fork(head, _, _) => head.as_ref().map(Placed::entry),
     }
 }
 
 /// Whether the first tree has an entry, and it may be handed out before the second's.
-fn is_led<S: Stream>(first: &Tree<Source<S>>, second: &Tree<Source<S>>) -> bool
+fn is_led<S: Stream>(first: &Tree<Input<S>, Placed>, second: &Tree<Input<S>, Placed>) -> bool
     requires first { IsReady first.now }
     requires second { IsReady second.now }
     ensures { result ≡ leads (left_of first.now) (left_of second.now) }
@@ -42,7 +43,7 @@ fn is_led<S: Stream>(first: &Tree<Source<S>>, second: &Tree<Source<S>>) -> bool
 }
 
 /// The first entry, or none at the end. After a fault what is left is as before.
-pub(crate) fn next<S: Stream>(tree: &mut Tree<Source<S>>) -> Result<Option<OwnedEntry>, S::Fault>
+pub(crate) fn next<S: Stream>(tree: &mut Tree<Input<S>, Placed>) -> Result<Option<Placed>, S::Fault>
     requires { IsReady tree.old }
     ensures ready { IsReady tree.new }
     ensures ok { IfOk result (λ r. MatchOption r ((left_of tree.old ≡ []) × (left_of tree.new ≡ [])) (λ e. left_of tree.old ≡ e ∷ left_of tree.new)) }
@@ -66,9 +67,9 @@ pub(crate) fn next<S: Stream>(tree: &mut Tree<Source<S>>) -> Result<Option<Owned
 
 /// The first entry of the merge of two trees, or none at the end.
 fn next_of_two<S: Stream>(
-    first: &mut Tree<Source<S>>,
-    second: &mut Tree<Source<S>>,
-) -> Result<Option<OwnedEntry>, S::Fault>
+    first: &mut Tree<Input<S>, Placed>,
+    second: &mut Tree<Input<S>, Placed>,
+) -> Result<Option<Placed>, S::Fault>
     requires first { IsReady first.old }
     requires second { IsReady second.old }
     ensures first_ready { IsReady first.new }
@@ -85,8 +86,8 @@ fn next_of_two<S: Stream>(
 
 fn boxed<S: Stream>(
     alloc: Global,
-    tree: Tree<Source<S>>,
-) -> Result<Box<Tree<Source<S>>>, AllocError>
+    tree: Tree<Input<S>, Placed>,
+) -> Result<Box<Tree<Input<S>, Placed>>, AllocError>
     ensures { IfOk result (λ b. b.value ≡ tree) }
 {
     Ok(Box::new(alloc, tree)?)
@@ -95,9 +96,9 @@ fn boxed<S: Stream>(
 /// The merge of two trees.
 fn fork<S: Stream>(
     alloc: Global,
-    first: Tree<Source<S>>,
-    second: Tree<Source<S>>,
-) -> Result<Tree<Source<S>>, S::Fault>
+    first: Tree<Input<S>, Placed>,
+    second: Tree<Input<S>, Placed>,
+) -> Result<Tree<Input<S>, Placed>, S::Fault>
     requires first { IsReady first }
     requires second { IsReady second }
     ensures ready { IfOk result IsReady }
@@ -110,7 +111,7 @@ fn fork<S: Stream>(
 }
 
 /// The last source, which is taken out.
-fn last<S: Stream>(sources: &mut Vec<Source<S>>) -> Tree<Source<S>>
+fn last<S: Stream>(sources: &mut Vec<Input<S>>) -> Tree<Input<S>, Placed>
     requires { 0 < length sources.old.items }
     ensures ready { IsReady result }
     ensures left { merge_all sources.old.items ≡ merge (merge_all sources.new.items) (left_of result) }
@@ -125,9 +126,9 @@ fn last<S: Stream>(sources: &mut Vec<Source<S>>) -> Tree<Source<S>>
 /// The merge of the last sources, so many, which are taken out.
 pub(crate) fn of_last<S: Stream>(
     alloc: Global,
-    sources: &mut Vec<Source<S>>,
+    sources: &mut Vec<Input<S>>,
     count: usize,
-) -> Result<Tree<Source<S>>, S::Fault>
+) -> Result<Tree<Input<S>, Placed>, S::Fault>
     requires some { 0 < count }
     requires inside { count ≤ length sources.old.items }
     ensures ready { IfOk result IsReady }

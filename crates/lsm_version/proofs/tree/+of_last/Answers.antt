@@ -1,13 +1,13 @@
 use Rattle.std.proofs.Common.{◌≡◌, List}
 use Rattle.std.specs.Prelude.{Result, Ok, Err, IfOk}
-use Rattle.lsm_codec.specs.Entries.{Entry}
+use Rattle.lsm_version.specs.Merging.{Placed}
 use Rattle.lsm_version.specs.Merging.{merge, merge_all}
 use Rattle.lsm_version.specs.Tree.{left_of}
 use Rattle.lsm_version.specs.declared.tree.Tree.{Tree}
 use Rattle.lsm_version.proofs.Joining.{joined}
 use Rattle.lsm_version.proofs.tree.+of_last.Goals as goal
 
-joined_ok : {E : Type 0} (old mid new : List (List Entry)) (first second : List Entry) (r : Result (Tree (List Entry)) E)
+joined_ok : {E : Type 0} (old mid new : List (List Placed)) (first second : List Placed) (r : Result (Tree (List Placed) Placed) E)
     → merge_all old ≡ merge (merge_all mid) second → merge_all mid ≡ merge (merge_all new) first
     → IfOk r (λ t. left_of t ≡ merge first second) → IfOk r (λ t. merge_all old ≡ merge (merge_all new) (left_of t))
 joined_ok old mid new first second (Ok t) e f h = joined old mid new first second (left_of t) e f h
