@@ -12,6 +12,6 @@ pub mod Cuts
 pub mod Merging
 pub mod Merged
 pub mod Joining
-pub mod Levels
-pub mod Ages
+pub mod Ranges
+pub mod AgeLaws
 pub mod Scanning

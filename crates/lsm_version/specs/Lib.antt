@@ -5,6 +5,6 @@ pub mod Plans
 pub mod Streams
 pub mod Merging
 pub mod Tree
-pub mod Levels
+pub mod Ranges
 pub mod Ages
 pub mod Scanning

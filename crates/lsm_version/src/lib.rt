@@ -3,7 +3,9 @@
 //! Stands on `lsm_codec`. Its contract: a lawful version answers as its union of entries, and a merge is its sources in order.
 #![tactic(auto)]
 
+mod ages;
 mod input;
+mod key_range;
 pub mod laws;
 mod merger;
 mod owned_entry;
@@ -13,7 +15,9 @@ mod source;
 mod stream;
 mod tree;
 
+pub use ages::against_age;
 pub use input::Input;
+pub use key_range::{KeyRange, Lie, lie_of};
 pub use merger::Merger;
 pub use owned_entry::OwnedEntry;
 pub use placed::Placed;

@@ -4,8 +4,8 @@ ghost use Rattle.std.specs.Prelude.{◌≡◌, ◌≤◌, IfOk};
 ghost use Rattle.std.specs.Str.{bytes_eq};
 ghost use Rattle.lsm_version.specs.Merging.{goes_first};
 
-use lsm_codec::{KeyRef, Kind, MAX_SEQ};
-use std::alloc::AllocError;
+use lsm_codec::{Bytes, KeyRef, Kind, MAX_SEQ};
+use std::alloc::{AllocError, Global};
 use std::marker::Model;
 
 /// An entry of a table: what the write with this sequence did to its user key. A deletion's value has no bytes that matter.
@@ -109,4 +109,12 @@ impl OwnedEntry {
         };
         own.compare(&others).is_le()
     }
+}
+
+pub(crate) fn copy_of(alloc: Global, user: &[u8]) -> Result<Bytes, AllocError>
+    ensures { IfOk result (λ b. b ≡ user.now) }
+{
+    let mut bytes = Vec::new(alloc);
+    bytes.extend_from_slice(user)?;
+    Ok(Bytes::of(bytes))
 }

@@ -4,11 +4,11 @@ ghost use Rattle.std.specs.Prelude.{◌≡◌, ◌≤◌, false, IfOk, OnErr, On
 ghost use Rattle.lsm_version.specs.Merging.{IsHead};
 ghost use Rattle.lsm_version.specs.Scanning.{IsTurn, is_answered, is_head_passed, is_passed, pairs_of};
 
-use crate::owned_entry::OwnedEntry;
+use crate::owned_entry::{OwnedEntry, copy_of};
 use crate::source::Source;
 use crate::stream::Stream;
 use lsm_codec::{Bytes, Kind};
-use std::alloc::{AllocError, Global};
+use std::alloc::Global;
 use std::marker::Model;
 
 // Whether the user key is the one that was answered last.
@@ -79,14 +79,6 @@ fn skip<S: Stream>(source: &mut Source<S>, told: &Option<Bytes>, seq: u64) -> Re
         let _passed = source.next()?;
     }
     Ok(())
-}
-
-fn copy_of(alloc: Global, user: &[u8]) -> Result<Bytes, AllocError>
-    ensures { IfOk result (λ b. b ≡ user.now) }
-{
-    let mut bytes = Vec::new(alloc);
-    bytes.extend_from_slice(user)?;
-    Ok(Bytes::of(bytes))
 }
 
 // Takes out the first entry, and remembers its user key.
