@@ -3,8 +3,11 @@ pub mod Varints
 pub mod Keys
 pub mod Newest
 pub mod KeyParts
+pub mod KeyOrder
+pub mod KeyBytes
 pub mod Shifts
 pub mod TableFacts
 pub mod Blocks
 pub mod SkipFacts
 pub mod WordLaws
+pub mod Masks

@@ -3,10 +3,10 @@ use Rattle.std.proofs.Common.{◌≡◌, ℕ, zero, suc, ◌+◌, ◌-◌, ◌*�
 use Rattle.std.specs.Prelude.{IfOk, IfErr, ◌↔◌}
 use Rattle.std.proofs.Math.Nat.{pow-suc}
 use Rattle.std.proofs.lemmas.Bool.{cases_lt, le-ltb, lt-ltb, le-leb, lt-leb}
-use Rattle.std.proofs.lemmas.List.{take_all, take_at, take-append-drop, length-drop, length-append}
+use Rattle.std.proofs.lemmas.List.{take_all, take_at, take-append-drop, length-take-le, length-drop, length-append}
 use Rattle.lsm_codec.specs.declared.fault.CodecFault.{CodecFault}
 use Rattle.lsm_codec.specs.declared.fault.CodecFault.TheVariants.{Cut, TooBig}
-use Rattle.lsm_codec.specs.Varint.{AreGroups, value_of, IsVarint, IsCut, GetsVarint, Reads, IsShortest, with_low, varint_at, shortest}
+use Rattle.lsm_codec.specs.Varint.{AreGroups, value_of, IsVarint, IsCut, IsEndless, IsOver, IsTooBig, GetsVarint, Reads, IsShortest, with_low, varint_at, shortest}
 
 -- the rest that a slice pattern binds
 pub tail_is : (bytes : List ℕ) → take (length bytes - 1) (drop 1 bytes) ≡ drop 1 bytes
@@ -162,6 +162,95 @@ is_cut (suc most) max (b ∷ bs) c =
     let more = is_cut most max bs record { short = omega (arith, c.short); open_ended = c.open_ended.1 } in
     rw (no, more) refl
 
+-- ---- too long, or too big
+
+abbrev FailsHigh : ℕ → ℕ → Result (ℕ × List ℕ) CodecFault → Type 0
+FailsHigh max low (Ok high) = max < low + 128 * high.0
+FailsHigh max low (Err e) = e ≡ TooBig
+
+with_low_big : (max low : ℕ) (r : Result (ℕ × List ℕ) CodecFault) → with_low max low r ≡ Err TooBig → FailsHigh max low r
+with_low_big max low (Err e) is = cc
+with_low_big max low (Ok high) is =
+    elim (cases_lt max (low + 128 * high.0)) [
+      | inl big ↦ big
+      | inr small ↦ let yes = le-leb _ _ small in let bad = rw yes at is in absurd cc
+    ]
+
+more_groups : (most max b : ℕ) (bs front rest : List ℕ) → 128 ≤ b → b < 256 → bs ≡ front ++ rest → AreGroups front → length front ≤ most → max < b % 128 + 128 * value_of front
+    → IsOver (suc most) max (b ∷ bs)
+more_groups most max b bs front rest big fits parts groups short over =
+    let here : take (length front) bs ≡ front = ap (take (length front)) parts ∙ take_at front rest (length front) refl in
+    record {
+      len = suc (length front);
+      here = omega (arith, ap length parts, length-append front rest);
+      short = omega (arith, short);
+      groups = rw here (groups-cons b front big fits groups);
+      over = rw here over;
+    }
+
+pub big_is : (most max : ℕ) (bytes : List ℕ) → 127 ≤ max → IsBytes bytes → varint_at most max bytes ≡ Err TooBig → IsTooBig most max bytes
+unfolding varint_at
+big_is zero max bytes m fits is = inl record { long = omega arith; open_ended = tt }
+big_is (suc most) max [] m fits is = absurd cc
+big_is (suc most) max (b ∷ bs) m fits is =
+    elim (cases_lt b 128) [
+      | inl small ↦ let yes = lt-ltb _ _ small in let bad = rw yes at is in absurd cc
+      | inr big ↦
+          let no = le-ltb _ _ big in
+          let high = with_low_big max (b % 128) (varint_at most max bs) (rw no at is) in
+          at_high big (varint_at most max bs) refl high (big_is most max bs m (λ i. fits (suc i)))
+    ]
+  where
+    at_high : 128 ≤ b → (r : Result (ℕ × List ℕ) CodecFault) → varint_at most max bs ≡ r → FailsHigh max (b % 128) r
+        → (varint_at most max bs ≡ Err TooBig → IsTooBig most max bs) → IsTooBig (suc most) max (b ∷ bs)
+    at_high big (Ok high) e over rec =
+        let f = varint_takes most max bs high.0 high.1 m (λ i. fits (suc i)) e in
+        inr (more_groups most max b bs f.front high.1 big (fits 0) f.parts f.is.groups f.is.short (omega (arith, over, f.is.value)))
+    at_high big (Err fault) e why rec = elim (rec (e ∙ ap (λ (x : CodecFault). Err x) why)) [
+      | inl endless ↦ inl record { long = omega (arith, endless.long); open_ended = (big, endless.open_ended) }
+      | inr o ↦ inr record {
+        len = suc o.len;
+        here = omega (arith, o.here);
+        short = omega (arith, o.short);
+        groups = groups-cons b (take o.len bs) big (fits 0) o.groups;
+        over = omega (arith, o.over);
+      }
+    ]
+
+endless_is : (most max : ℕ) (bytes : List ℕ) → IsEndless most bytes → varint_at most max bytes ≡ Err TooBig
+unfolding varint_at
+endless_is zero max bytes e = refl
+endless_is (suc most) max [] e = absurd (omega (arith, e.long))
+endless_is (suc most) max (b ∷ bs) e =
+    let no = le-ltb b 128 e.open_ended.0 in
+    let more = endless_is most max bs record { long = omega (arith, e.long); open_ended = e.open_ended.1 } in
+    rw (no, more) refl
+
+over_is : (most max : ℕ) (front rest : List ℕ) → 127 ≤ max → AreGroups front → length front ≤ most → max < value_of front → varint_at most max (front ++ rest) ≡ Err TooBig
+unfolding varint_at
+over_is most max [] rest m groups short over = absurd groups
+over_is zero max (b ∷ bs) rest m groups short over = absurd (omega (arith, short))
+over_is (suc most) max (b ∷ []) rest m groups short over = absurd (omega (arith, over, m))
+over_is (suc most) max (b ∷ c ∷ bs) rest m groups short over =
+    let no = le-ltb b 128 groups.0 in
+    let high = value_of (c ∷ bs) in
+    elim (cases_lt max high) [
+      | inl big ↦
+          let more = over_is most max (c ∷ bs) rest m groups.2 (omega (arith, short)) big in
+          rw (no, more) refl
+      | inr small ↦
+          let more : IsVarint most max (c ∷ bs) high = record { groups = groups.2; short = omega (arith, short); value = refl; fits = small } in
+          let found = varint_again most max (c ∷ bs) rest high more in
+          let too_big = lt-leb (b % 128 + 128 * high) max over in
+          rw (no, found, too_big) refl
+    ]
+
+pub is_big : (most max : ℕ) (bytes : List ℕ) → 127 ≤ max → IsTooBig most max bytes → varint_at most max bytes ≡ Err TooBig
+is_big most max bytes m (inl endless) = endless_is most max bytes endless
+is_big most max bytes m (inr o) =
+    let short : length (take o.len bytes) ≤ most = omega (arith, length-take-le o.len bytes o.here, o.short) in
+    ap (varint_at most max) (sym (take-append-drop o.len bytes)) ∙ over_is most max (take o.len bytes) (drop o.len bytes) m o.groups short o.over
+
 -- ---- what the readers promise
 
 abbrev pub AnswersFault : Result (ℕ × ℕ) CodecFault → Type 0
@@ -193,10 +282,32 @@ cut_from most max bytes (Err e) is =
 cut_from most max bytes (Ok r) is =
     (λ h. absurd cc, λ c. let k = sym is.0 ∙ is_cut most max bytes c in absurd cc)
 
+too_big_from : (most max : ℕ) (bytes : List ℕ) (result : Result (ℕ × ℕ) CodecFault) → 127 ≤ max → IsBytes bytes → Reads bytes result (varint_at most max bytes)
+    → result ≡ Err TooBig ↔ IsTooBig most max bytes
+too_big_from most max bytes (Err e) m fits is =
+    (λ h. big_is most max bytes m fits (let k : e ≡ TooBig = cc in is ∙ ap (λ (x : CodecFault). Err x) k), λ b. let k : Err e ≡ Err TooBig = sym is ∙ is_big most max bytes m b in let same : e ≡ TooBig = cc in ap (λ (x : CodecFault). Err x) same)
+too_big_from most max bytes (Ok r) m fits is =
+    (λ h. absurd cc, λ b. let k = sym is.0 ∙ is_big most max bytes m b in absurd cc)
+
 pub gets_from : (most max : ℕ) (bytes : List ℕ) (result : Result (ℕ × ℕ) CodecFault) → 127 ≤ max → IsBytes bytes → AnswersFault result → Reads bytes result (varint_at most max bytes)
     → GetsVarint most max bytes result
 gets_from most max bytes result m fits fault is =
-    record { found = found_from most max bytes result m fits is; only = only_from most max bytes result is; cut = cut_from most max bytes result is; fault = fault }
+    record { found = found_from most max bytes result m fits is; only = only_from most max bytes result is; cut = cut_from most max bytes result is; too_big = too_big_from most max bytes result m fits is; fault = fault }
+
+-- ---- one number, one front
+
+-- bytes spell at most one number
+pub IsVarint-number : (most max : ℕ) (bytes : List ℕ) (m n : ℕ) → IsVarint most max bytes m → IsVarint most max bytes n → m ≡ n
+IsVarint-number most max bytes m n v w = sym v.value ∙ w.value
+
+-- and at most one front of theirs spells a number
+pub IsVarint-front : (most max : ℕ) (bytes : List ℕ) (i j m n : ℕ) → i ≤ length bytes → j ≤ length bytes → IsVarint most max (take i bytes) m → IsVarint most max (take j bytes) n
+    → (i ≡ j) × (m ≡ n)
+IsVarint-front most max bytes i j m n i_in j_in v w =
+    let first : varint_at most max bytes ≡ done m (drop i bytes) = ap (varint_at most max) (sym (take-append-drop i bytes)) ∙ varint_again most max (take i bytes) (drop i bytes) m v in
+    let second : varint_at most max bytes ≡ done n (drop j bytes) = ap (varint_at most max) (sym (take-append-drop j bytes)) ∙ varint_again most max (take j bytes) (drop j bytes) n w in
+    let both = done_is m n (drop i bytes) (drop j bytes) (sym first ∙ second) in
+    (omega (arith, ap length both.1, length-drop i bytes, length-drop j bytes, i_in, j_in), both.0)
 
 -- ---- the shortest spelling
 

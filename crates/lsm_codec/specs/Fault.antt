@@ -1,5 +1,5 @@
--- The published numbers of refusals.
-use Rattle.std.specs.Prelude.{ℕ}
+-- The numbers and names of refusals, under which the program reports them (this project's rule).
+use Rattle.std.specs.Prelude.{ℕ, List, codes}
 use Rattle.lsm_codec.specs.declared.fault.CodecFault.{CodecFault}
 use Rattle.lsm_codec.specs.declared.fault.CodecFault.TheVariants.{Cut, TooBig, ShortKey, BadKind}
 
@@ -8,3 +8,9 @@ number_of Cut = 2
 number_of TooBig = 3
 number_of ShortKey = 4
 number_of (BadKind kind) = 5
+
+abbrev pub name_of : CodecFault → List ℕ
+name_of Cut = codes "Cut"
+name_of TooBig = codes "TooBig"
+name_of ShortKey = codes "ShortKey"
+name_of (BadKind kind) = codes "BadKind"

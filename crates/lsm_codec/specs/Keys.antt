@@ -1,5 +1,5 @@
 -- User keys, internal keys, and their orders (LevelDB's `db/dbformat.h`).
-use Rattle.std.specs.Prelude.{◌≡◌, ℕ, ◌+◌, ◌*◌, ◌^◌, ◌<◌, Bool, true, List, ◌++◌}
+use Rattle.std.specs.Prelude.{◌≡◌, ℕ, ◌+◌, ◌-◌, ◌*◌, ◌^◌, ◌<◌, ◌≤◌, Bool, true, List, ◌++◌, length, Some, slice_get}
 use Rattle.std.specs.Ordering.{nat_cmp, is_le}
 use Rattle.std.specs.declared.cmp.Ordering.{Ordering}
 use Rattle.std.specs.declared.cmp.Ordering.TheVariants.{Less, Equal, Greater}
@@ -18,6 +18,7 @@ user_le a b = is_le (slice_cmp nat_cmp a b)
 abbrev pub UserLe : UserKey → UserKey → Type 0
 UserLe a b = user_le a b ≡ true
 
+-- as a key stores it
 abbrev pub kind_number : Kind → ℕ
 kind_number Deletion = 0
 kind_number Value = 1
@@ -43,6 +44,13 @@ pub record IsKey (bytes : List ℕ) (key : InternalKey) : Type 0 where
   pub bytes_are : bytes ≡ key_bytes key
   pub fits : key.seq < 2 ^ 56
 
+-- Eight bytes are there, and the first of them, where the kind stands, is above 1.
+pub record IsBadKind (bytes : List ℕ) (kind : ℕ) : Type 0 where
+  pub long : 8 ≤ length bytes
+  pub stands : slice_get bytes (length bytes - 8) ≡ Some kind
+  pub above : 1 < kind
+
+-- the first, unless it is `Equal`
 abbrev pub then_by : Ordering → Ordering → Ordering
 then_by Less second = Less
 then_by Equal second = second

@@ -1,4 +1,4 @@
--- The division where only bits of 0 come in.
+-- The division where only bits of 0 come in: what the tables hold.
 use Rattle.std.specs.Prelude.{ℕ, zero, suc, ◌*◌, ◌/◌, ◌%◌, bit_xor}
 use Rattle.lsm_codec.specs.Crc.{castagnoli}
 

@@ -1,4 +1,4 @@
--- Numbers in groups of seven bits.
+-- Numbers in groups of seven bits (the varints of LevelDB's `util/coding.h`).
 use Rattle.std.specs.Prelude.{◌≡◌, ℕ, zero, suc, ◌+◌, ◌-◌, ◌*◌, ◌/◌, ◌%◌, ◌^◌, ◌<◌, ◌≤◌, ◌⊎◌, List, [], ◌∷◌, length, take, drop, Result, Ok, Err, IfOk, IfErr, ◌↔◌, nat_lt, nat_le, if◌then◌else◌}
 use Rattle.std.specs.List.{AllByRecursion}
 use Rattle.lsm_codec.specs.declared.fault.CodecFault.{CodecFault}
@@ -33,11 +33,31 @@ pub record IsCut (most : ℕ) (bytes : List ℕ) : Type 0 where
   pub short : length bytes < most
   pub open_ended : AllByRecursion (λ b. 128 ≤ b) bytes
 
--- What a reader of a number answers: Ok exactly where a front of the bytes spells one, with it and its length.
+-- No byte within the bound ends the number.
+pub record IsEndless (most : ℕ) (bytes : List ℕ) : Type 0 where
+  pub long : most ≤ length bytes
+  pub open_ended : AllByRecursion (λ b. 128 ≤ b) (take most bytes)
+
+-- Groups within the bound stand at the front, and what they spell is above max.
+pub record IsOver (most max : ℕ) (bytes : List ℕ) : Type 0 where
+  pub len : ℕ
+  pub here : len ≤ length bytes
+  pub short : len ≤ most
+  pub groups : AreGroups (take len bytes)
+  pub over : max < value_of (take len bytes)
+
+-- A number that is spelled too long, or is too big. To refuse the second is this project's rule: LevelDB drops the bits
+-- in excess, and never writes them.
+abbrev pub IsTooBig : ℕ → ℕ → List ℕ → Type 0
+IsTooBig most max bytes = IsEndless most bytes ⊎ IsOver most max bytes
+
+-- What a reader of a number answers: Ok exactly where a front of the bytes spells one, with it and its length, and each
+-- refusal exactly where it is due.
 pub record GetsVarint (most max : ℕ) (bytes : List ℕ) (result : Result (ℕ × ℕ) CodecFault) : Type 0 where
   pub found : IfOk result (λ r. (r.1 ≤ length bytes) × IsVarint most max (take r.1 bytes) r.0)
   pub only : (len n : ℕ) → len ≤ length bytes → IsVarint most max (take len bytes) n → result ≡ Ok (n, len)
   pub cut : result ≡ Err Cut ↔ IsCut most bytes
+  pub too_big : result ≡ Err TooBig ↔ IsTooBig most max bytes
   pub fault : IfErr result (λ e. (e ≡ Cut) ⊎ (e ≡ TooBig))
 
 -- a group in front of the number that its further groups give

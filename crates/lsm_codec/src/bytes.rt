@@ -17,18 +17,21 @@ impl Model for Bytes {
 }
 
 impl Bytes {
+    /// The bytes of a vector.
     pub fn of(items: Vec<u8>) -> Bytes
         ensures { result ≡ items.items }
     {
         Bytes { items }
     }
 
+    /// Lends the bytes.
     pub fn as_slice(&self) -> &[u8]
         ensures { result.now ≡ self.now }
     {
         &self.items
     }
 
+    /// Hands the vector back.
     pub fn into_vec(self) -> Vec<u8>
         ensures { result.items ≡ self }
     {

@@ -1,7 +1,7 @@
-//! What is wrong with bytes.
+//! What is wrong with bytes that should spell a number or an internal key.
 
 ghost use Rattle.std.specs.Prelude.{◌≡◌};
-ghost use Rattle.lsm_codec.specs.Fault.{number_of};
+ghost use Rattle.lsm_codec.specs.Fault.{number_of, name_of};
 
 use thiserror::Error;
 
@@ -11,19 +11,19 @@ pub enum CodecFault {
     /// The input ends within a number.
     #[error("Cut")]
     Cut,
-    /// A number is spelled too long, or is too big.
+    /// A number is spelled in more bytes than its form allows, or is above the greatest of its form.
     #[error("TooBig")]
     TooBig,
     /// An internal key has fewer than eight bytes.
     #[error("ShortKey")]
     ShortKey,
-    /// The kind of an internal key is above 1.
+    /// The kind of an internal key, which this is, is above 1.
     #[error("BadKind {0}")]
     BadKind(u8),
 }
 
 impl CodecFault {
-    /// The published number of the refusal.
+    /// The number under which the program reports the refusal.
     pub fn number(&self) -> u8
         ensures { result ≡ number_of self.now }
     {
@@ -32,6 +32,18 @@ impl CodecFault {
             CodecFault::TooBig => 3,
             CodecFault::ShortKey => 4,
             CodecFault::BadKind(_) => 5,
+        }
+    }
+
+    /// The name under which the program reports the refusal. The fields are not in it; `Display` adds them.
+    pub fn name(&self) -> &'static str
+        ensures { result.now ≡ name_of self.now }
+    {
+        match self {
+            CodecFault::Cut => "Cut",
+            CodecFault::TooBig => "TooBig",
+            CodecFault::ShortKey => "ShortKey",
+            CodecFault::BadKind(_) => "BadKind",
         }
     }
 }

@@ -1,21 +1,26 @@
-//! Internal keys: a user key, a sequence and a kind.
+//! Internal keys: a user key, then eight bytes, the fixed64 of `sequence * 256 + kind`
+//! (the internal keys of LevelDB's `db/dbformat.h`).
 
 ghost use Rattle.std.specs.Prelude.{◌≡◌, ℕ, ◌-◌, ◌^◌, ◌<◌, ◌≤◌, ◌↔◌, ◌⊎◌, ◌++◌, List, length, slice_index, IfOk, IfErr, IsOk, OnOk, OnErr, MatchResult, Ok, Err};
-ghost use Rattle.lsm_codec.specs.Keys.{InternalKey, IsKey, key_bytes, key_cmp};
+ghost use Rattle.lsm_codec.specs.Keys.{InternalKey, IsKey, IsBadKind, key_bytes, key_cmp};
 
 use crate::fault::CodecFault;
 use crate::kind::Kind;
 use std::alloc::AllocError;
 use std::cmp::Ordering;
 
-/// The greatest sequence, 2^56 - 1: a sequence and a kind share 64 bits (LevelDB's `db/dbformat.h`).
+/// The greatest sequence, 2^56 - 1: a sequence and a kind share 64 bits (`kMaxSequenceNumber` of LevelDB's
+/// `db/dbformat.h`).
 pub const MAX_SEQ: u64 = 72_057_594_037_927_935;
 
 /// An internal key, whose user key lies in other bytes.
 #[derive(Clone, Copy)]
 pub struct KeyRef<'a> {
+    /// The key that users see, any bytes.
     pub user: &'a [u8],
+    /// The sequence of the write, at most `MAX_SEQ`.
     pub seq: u64,
+    /// What the write did.
     pub kind: Kind,
     ghost seq_fits: { seq < 2 ^ 56 },
 }
@@ -23,12 +28,16 @@ pub struct KeyRef<'a> {
 impl<'a> KeyRef<'a> {
     ghost use Rattle.lsm_codec.specs.KeyRef.{key_of};
 
-    /// The parts of an internal key: the user key, then eight bytes, the fixed64 of `sequence * 256 + kind`.
-    /// `ShortKey` where there are fewer than eight bytes, `BadKind` where the kind is above 1.
+    /// The parts of an internal key.
+    ///
+    /// # Errors
+    /// `ShortKey` where there are fewer than 8 bytes. `BadKind` with the kind's byte, the eighth from the end, where
+    /// that is above 1.
     pub fn split(bytes: &'a [u8]) -> Result<KeyRef<'a>, CodecFault>
         ensures found { IfOk result (λ k. IsKey bytes.now (key_of k)) }
         ensures only { (key : InternalKey) → IsKey bytes.now key → IfOk result (λ k. key_of k ≡ key) × IsOk result }
         ensures short { result ≡ Err CodecFault.ShortKey ↔ length bytes.now < 8 }
+        ensures bad_kind { (kind : ℕ) → result ≡ Err (CodecFault.BadKind kind) ↔ IsBadKind bytes.now kind }
         ensures kind { IfErr result (λ e. (e ≡ CodecFault.ShortKey) ⊎ (e ≡ CodecFault.BadKind (slice_index bytes.now (length bytes.now - 8)))) }
     {
         if bytes.len() < 8 {
@@ -47,7 +56,8 @@ impl<'a> KeyRef<'a> {
         Ok(KeyRef { user, seq, kind })
     }
 
-    /// The order of internal keys: user keys ascending bytewise, and of one user key the newest first.
+    /// The order of internal keys: user keys ascending bytewise, a proper prefix first, and of one user key the
+    /// greater `sequence * 256 + kind` first, so that the newest write comes first.
     pub fn compare(&self, other: &KeyRef<'_>) -> Ordering
         ensures { result ≡ key_cmp (key_of self.now) (key_of other.now) }
     {
@@ -61,10 +71,14 @@ impl<'a> KeyRef<'a> {
     }
 }
 
-/// Appends the bytes of an internal key. An `Err` leaves the contents as they were.
+/// Appends the bytes of an internal key: the user key, and eight bytes of the sequence and the kind.
+///
+/// # Errors
+/// `AllocError` where a growth of `out` was refused: its contents are then as before.
 pub fn push_key(out: &mut Vec<u8>, user: &[u8], seq: u64, kind: Kind) -> Result<(), AllocError>
     requires { seq ≤ MAX_SEQ }
     ensures ok { OnOk result (out.new.items ≡ out.old.items ++ key_bytes record { user = user.now; seq = seq; kind = kind }) }
+    ensures is_key { IsKey (key_bytes record { user = user.now; seq = seq; kind = kind }) record { user = user.now; seq = seq; kind = kind } }
     ensures err { OnErr result (out.new.items ≡ out.old.items) }
 {
     let len = out.len();

@@ -4,6 +4,8 @@
 /// (`ValueType` of LevelDB's `db/dbformat.h`).
 #[derive(Clone, Copy, Debug, PartialEq, Eq)]
 pub enum Kind {
+    /// The key has no value from this write on.
     Deletion,
+    /// The key has the entry's value from this write on.
     Value,
 }

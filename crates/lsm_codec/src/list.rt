@@ -17,18 +17,21 @@ impl<T> Model for List<T> {
 }
 
 impl<T> List<T> {
+    /// The elements of a vector.
     pub fn of(items: Vec<T>) -> List<T>
         ensures { result ≡ items.items }
     {
         List { items }
     }
 
+    /// Lends the elements.
     pub fn as_slice(&self) -> &[T]
         ensures { result.now ≡ self.now }
     {
         &self.items
     }
 
+    /// Hands the vector back.
     pub fn into_vec(self) -> Vec<T>
         ensures { result.items ≡ self }
     {

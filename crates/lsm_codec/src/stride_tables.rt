@@ -1,4 +1,5 @@
-//! The tables that skip a stride of 32 bytes.
+//! Eight tables of CRC-32C that skip a stride: entry `b` of table `k` is the register after the byte `b` and `24 + k` bytes
+//! of 0.
 ghost use Rattle.std.specs.Prelude.{◌≡◌};
 ghost use Rattle.lsm_codec.specs.Turns.{turns};
 

@@ -1,4 +1,5 @@
-//! Four words of 64 bits side by side, 32 bytes per step.
+//! The register of the checksum moved on by a stride of 32 bytes a step: four words of 64 bits side by side, so that no
+//! word waits for the one before it.
 
 ghost use Rattle.std.specs.Prelude.{◌≡◌, [], ◌∷◌, ◌++◌, ◌<◌, ◌≤◌, ◌^◌, ℕ, List, length, bit_xor};
 ghost use Rattle.lsm_codec.specs.Crc.{register_after, crc_of, crc_after};
@@ -36,6 +37,7 @@ fn far(word: u64) -> u32
                                 ^ skip_0((word >> 56) as u8)))))))
 }
 
+/// Eight bytes as a word, the lowest first.
 fn word(bytes: &[u8]) -> u64
     requires { length bytes.now ≡ 8 }
     ensures { (register : ℕ) → register_after register bytes.now ≡ turns 64 (bit_xor register result) }
@@ -54,6 +56,7 @@ struct Words {
     fourth: u64,
 }
 
+/// The words of a stride.
 fn read(block: &[u8]) -> Words
     requires { length block.now ≡ 32 }
     ensures { (register : ℕ) → register_after register block.now ≡ after_words register (result.first ∷ result.second ∷ result.third ∷ result.fourth ∷ []) }
@@ -69,6 +72,7 @@ fn read(block: &[u8]) -> Words
     }
 }
 
+/// The words after one more stride: each moves on by itself, and takes in the word in its place.
 fn stride(state: Words, block: &[u8]) -> Words
     requires { length block.now ≡ 32 }
     ensures { register_after (after_words 0 (state.first ∷ state.second ∷ state.third ∷ state.fourth ∷ [])) block.now ≡ after_words 0 (result.first ∷ result.second ∷ result.third ∷ result.fourth ∷ []) }
@@ -82,6 +86,7 @@ fn stride(state: Words, block: &[u8]) -> Words
     }
 }
 
+/// The words that stand for a register and the first stride.
 fn start(register: u32, block: &[u8]) -> Words
     requires { length block.now ≡ 32 }
     ensures { register_after register block.now ≡ after_words 0 (result.first ∷ result.second ∷ result.third ∷ result.fourth ∷ []) }
@@ -95,6 +100,7 @@ fn start(register: u32, block: &[u8]) -> Words
     }
 }
 
+/// The register that four words stand for.
 fn joined(state: Words) -> u32
     ensures { result ≡ after_words 0 (state.first ∷ state.second ∷ state.third ∷ state.fourth ∷ []) }
 {
@@ -104,6 +110,7 @@ fn joined(state: Words) -> u32
     near(third as u64 ^ state.fourth)
 }
 
+/// The register after the bytes.
 pub(crate) fn absorb_strides(register: u32, bytes: &[u8]) -> u32
     ensures { result ≡ register_after register bytes.now }
 {

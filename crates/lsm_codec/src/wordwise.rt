@@ -1,4 +1,4 @@
-//! Eight bytes per step.
+//! The register of the checksum moved on by eight bytes a step, over eight tables.
 
 ghost use Rattle.std.specs.Prelude.{◌≡◌, [], ◌∷◌, ◌++◌, ◌<◌, ◌^◌, ℕ, List, length};
 ghost use Rattle.lsm_codec.specs.Crc.{register_after, crc_of, crc_after};
