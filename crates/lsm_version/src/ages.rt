@@ -38,8 +38,7 @@ pub fn against_age<S: Stream>(
     alloc: Global,
     merger: &mut Merger<S>,
 ) -> Result<Option<Bytes>, S::Fault>
-    requires { IsOrdered merger.old }
-    ensures { IfOk result (λ r. MatchOption r (IsAgeOrder merger.old) (λ k. IsLeastAgainstAge merger.old k)) }
+    ensures { IsOrdered merger.old → IfOk result (λ r. MatchOption r (IsAgeOrder merger.old) (λ k. IsLeastAgainstAge merger.old k)) }
 {
     let mut before = None;
     while let Some(placed) = merger.next_placed()? {

@@ -79,8 +79,7 @@ pub(crate) fn is_at_most(a: &[u8], b: &[u8]) -> bool
 
 /// How the files of a level lie, of which these are the ranges in the level's order. Each is compared with the next one alone.
 pub fn lie_of(ranges: &[KeyRange<'_>]) -> Lie
-    requires { IsLevel ranges.now }
-    ensures { LieSo ranges.now result }
+    ensures { IsLevel ranges.now → LieSo ranges.now result }
 {
     let mut lie = Lie::Apart;
     let mut rest = ranges;

@@ -13,6 +13,8 @@ mod placed;
 mod scan;
 mod source;
 mod stream;
+#[cfg(test)]
+mod tests;
 mod tree;
 
 pub use ages::against_age;

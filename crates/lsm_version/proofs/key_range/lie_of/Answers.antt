@@ -9,4 +9,4 @@ none_left lie [] h = refl
 none_left lie (a ∷ rest) h = absurd (omega arith)
 
 pub returns : goal.returns
-returns c = lies_so c.args.ranges.now c.loop-rest.lie c.requires (c.loop-rest.invariant ∙ none_left c.loop-rest.lie c.loop-rest.rest.now c.in_default.len_below)
+returns c = λ level. lies_so c.args.ranges.now c.loop-rest.lie level (c.loop-rest.invariant ∙ none_left c.loop-rest.lie c.loop-rest.rest.now c.in_default.len_below)
