@@ -4,8 +4,8 @@ use Rattle.std.proofs.lemmas.Bool.{cases_lt, cases_order}
 use Rattle.lsm_codec.specs.Entries.{Entry, stamp, newest}
 use Rattle.lsm_codec.specs.Keys.{UserKey}
 use Rattle.lsm_codec.specs.Lists.{Has}
-use Rattle.lsm_codec.proofs.Newest.{IsAllowed, IsNewest, stamp_lt}
-use Rattle.lsm_version.specs.Files.{File, all_entries, Shallower, IsLawful, IsSplit}
+use Rattle.lsm_codec.proofs.Newest.{IsAllowed, IsNewest, Finds, newest_finds, allowed_from, stamp_lt}
+use Rattle.lsm_version.specs.Files.{File, all_entries, Shallower, IsLawful, IsSplit, GoesByDepth}
 use Rattle.lsm_version.proofs.Drops.{newest_is}
 use Rattle.lsm_version.proofs.Installs.{all_has, has_all, one_each}
 
@@ -40,3 +40,8 @@ depth_newest Split i v F k s e l hF n above beside = newest_is (all_entries v) k
         | inr gt ↦ absurd (above G y hG (inl gt) ky a)
       ]
     ]
+
+pub goes_by_depth : (Split : File → File → Type 0) → IsSplit Split → GoesByDepth Split
+goes_by_depth Split i v F k s e l hF n above beside = depth_newest Split i v F k s e l hF (subst (Finds F.entries k s) n (newest_finds k s F.entries))
+    (λ G y hG sh ky a. absurd (cc (above G y hG sh ky, allowed_from k s y a)))
+    (λ G y hG same pos ky a. beside G y hG same pos ky (allowed_from k s y a))

@@ -15,3 +15,4 @@ pub mod Joining
 pub mod Ranges
 pub mod AgeLaws
 pub mod Scanning
+pub mod Checked

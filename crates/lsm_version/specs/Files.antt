@@ -1,10 +1,10 @@
 -- Files in their places, and the law of a version (LevelDB's `doc/impl.md`, "Levels").
-use Rattle.std.specs.Prelude.{◌≡◌, ℕ, ◌<◌, ◌≤◌, List, ◌⊎◌}
+use Rattle.std.specs.Prelude.{◌≡◌, ℕ, ◌<◌, ◌≤◌, true, false, Some, List, ◌⊎◌}
 use Rattle.std.specs.List.{flat_map}
 use Rattle.std.specs.declared.cmp.Ordering.TheVariants.{Less}
 use Rattle.lsm_codec.specs.Lists.{Has}
 use Rattle.lsm_codec.specs.Keys.{UserKey, UserLe}
-use Rattle.lsm_codec.specs.Entries.{Entry, stamp, entry_cmp}
+use Rattle.lsm_codec.specs.Entries.{Entry, stamp, entry_cmp, is_allowed, newest}
 
 -- a table in its place: its least and its greatest user key, and its entries
 pub record File : Type 0 where
@@ -73,3 +73,11 @@ pub record IsSplit (Split : File → File → Type 0) : Type 0 where
   pub apart : (F G : File) → Fits F → Fits G → Apart F G → Split F G
   pub distinct : (F G : File) (x y : Entry) → Fits F → Fits G → Split F G → Has F.entries x → Has G.entries y
       → x.user ≡ y.user → stamp x ≡ stamp y → ⊥
+
+-- The newest entry of a file that a read allows is the newest of the version, where no file of a lesser depth has an entry that the
+-- read allows, and no other file of its level has one with a greater stamp.
+abbrev pub GoesByDepth : (File → File → Type 0) → Type 0
+GoesByDepth Split = (v : List File) (F : File) (k : UserKey) (s : ℕ) (e : Entry) → IsLawful Split v → Has v F → newest k s F.entries ≡ Some e
+    → ((G : File) (y : Entry) → Has v G → Shallower G F → Has G.entries y → is_allowed k s y ≡ false)
+    → ((G : File) (y : Entry) → Has v G → G.level ≡ F.level → 1 ≤ F.level → Has G.entries y → is_allowed k s y ≡ true → stamp y ≤ stamp e)
+    → newest k s (all_entries v) ≡ Some e

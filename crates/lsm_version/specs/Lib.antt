@@ -8,3 +8,4 @@ pub mod Tree
 pub mod Ranges
 pub mod Ages
 pub mod Scanning
+pub mod Checking

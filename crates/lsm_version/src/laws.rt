@@ -5,7 +5,8 @@ ghost use Rattle.std.specs.List.{filter, flat_map};
 ghost use Rattle.lsm_codec.specs.Entries.{Entry, answer};
 ghost use Rattle.lsm_codec.specs.Keys.{UserKey};
 ghost use Rattle.lsm_codec.specs.Lists.{Has};
-ghost use Rattle.lsm_version.specs.Files.{Apart, File, InOrder, IsLawful, IsSplit, OneEach, all_entries};
+ghost use Rattle.lsm_version.specs.Files.{Apart, File, GoesByDepth, InOrder, IsLawful, IsSplit, OneEach, all_entries};
+ghost use Rattle.lsm_version.specs.Checking.{IsJudged, Listed, files_from};
 ghost use Rattle.lsm_version.specs.Jobs.{AreOutputs, Changed, Conflicts, Gains, Holds, IsMove, IsOpenIn, Job};
 ghost use Rattle.lsm_version.specs.Kept.{kept_entries};
 ghost use Rattle.lsm_version.specs.Merging.{AreOrdered, IsOrdered, IsSorted, Placed, entries_of, is_alike, merge_all, placed_at};
@@ -102,4 +103,16 @@ pub fn merges_are_in_order()
 /// What a scan shows of a sorted list is each user key that has an answer, with it, ascending.
 pub fn scans_show_answers()
     ensures { (s : ℕ) (es : List Entry) → IsSorted es → IsScan s es (pairs_of s None es) }
+{}
+
+/// What is judged of tables one by one, level by level, and along the merge of all their entries makes a lawful version.
+pub fn judged_versions_are_lawful()
+    ensures { (levels : List (List Listed)) (depth : File → ℕ) (placed : List Placed) → IsJudged levels depth placed → IsLawful Apart (files_from 0 levels) }
+{}
+
+/// A read goes by depths: the newest entry of a file is the newest of the version where no file of a lesser depth has an entry that the
+/// read allows, and no other file of its level has a newer one.
+pub fn reads_go_by_depth()
+    ensures apart { GoesByDepth Apart }
+    ensures in_order { GoesByDepth InOrder }
 {}
