@@ -1,12 +1,11 @@
 -- What is judged of the tables of all levels makes a lawful version.
-use Rattle.std.proofs.Common.{◌≡◌, zero, suc, ℕ, ◌+◌, ◌≤◌, ◌<◌, List, [], ◌∷◌, ◌++◌, refl, sym, ◌∙◌, ap, subst, inl, inr, arith}
+use Rattle.std.proofs.Common.{◌≡◌, zero, suc, ℕ, ◌+◌, ◌≤◌, List, [], ◌∷◌, refl, sym, ◌∙◌, ap, subst, inl, inr, arith}
 use Rattle.std.specs.Prelude.{◌⊎◌}
-use Rattle.lsm_codec.specs.Entries.{Entry}
 use Rattle.lsm_codec.specs.Keys.{InternalKey}
 use Rattle.lsm_codec.specs.Lists.{Has}
 use Rattle.lsm_codec.proofs.Lists.{has_cases}
 use Rattle.lsm_version.specs.Checking.{Listed, IsRangeOf, ranges_of, file_at, files_at, files_from, level_in, IsJudged}
-use Rattle.lsm_version.specs.Files.{File, Apart, Fits, Shallower, IsLawful}
+use Rattle.lsm_version.specs.Files.{File, Apart, Fits, IsLawful}
 use Rattle.lsm_version.specs.Merging.{Placed}
 use Rattle.lsm_version.specs.Ranges.{Range, EachPair, ShareUsers}
 use Rattle.lsm_version.proofs.Cuts.{ends_fits}

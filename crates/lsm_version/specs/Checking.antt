@@ -1,7 +1,6 @@
 -- What is judged of files one by one, level by level, and along all their entries, before they are taken as a version.
 use Rattle.std.specs.Prelude.{◌≡◌, ℕ, zero, suc, ◌<◌, ◌≤◌, List, [], ◌∷◌, ◌++◌}
 use Rattle.lsm_codec.specs.Lists.{Has}
-use Rattle.lsm_codec.specs.Keys.{InternalKey}
 use Rattle.lsm_codec.specs.Entries.{Entry, internal_key}
 use Rattle.lsm_version.specs.Files.{File, Shallower}
 use Rattle.lsm_version.specs.Merging.{Placed}

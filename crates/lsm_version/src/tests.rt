@@ -1,7 +1,6 @@
 //! Merges, scans and judgments over lists whose answers were worked out by hand.
 
-ghost use Rattle.std.specs.Prelude.{List};
-ghost use Rattle.lsm_codec.specs.Entries.{Entry};
+ghost use Rattle.std.specs.Prelude.{◌<◌};
 
 use crate::{
     Input, KeyRange, Lie, ListStream, Merger, OwnedEntry, Scan, Source, Stream, against_age, lie_of,
@@ -190,12 +189,28 @@ fn scans(rt: HostRuntime) -> Result<(), Fail> {
 fn judges_ages(rt: HostRuntime) -> Result<(), Fail> {
     let value = Kind::Value;
     let rows: [(&[Row<'_>], &[Row<'_>], Option<&[u8]>); 4] = [
-        (&[(b"k", 1, value, b"")], &[(b"k", 5, value, b"")], Some(b"k")),
-        (&[(b"k", 5, value, b"")], &[(b"k", 1, value, b"")], None),
-        (&[(b"k", 5, value, b"")], &[(b"k", 5, Kind::Deletion, b"")], Some(b"k")),
         (
-            &[(b"a", 9, value, b""), (b"c", 2, value, b""), (b"d", 2, value, b"")],
-            &[(b"b", 9, value, b""), (b"c", 2, value, b""), (b"d", 7, value, b"")],
+            &[(b"k", 1, value, b"")],
+            &[(b"k", 5, value, b"")],
+            Some(b"k"),
+        ),
+        (&[(b"k", 5, value, b"")], &[(b"k", 1, value, b"")], None),
+        (
+            &[(b"k", 5, value, b"")],
+            &[(b"k", 5, Kind::Deletion, b"")],
+            Some(b"k"),
+        ),
+        (
+            &[
+                (b"a", 9, value, b""),
+                (b"c", 2, value, b""),
+                (b"d", 2, value, b""),
+            ],
+            &[
+                (b"b", 9, value, b""),
+                (b"c", 2, value, b""),
+                (b"d", 7, value, b""),
+            ],
             Some(b"c"),
         ),
     ];
