@@ -6,9 +6,9 @@ use Rattle.lsm_codec.specs.Keys.{InternalKey, UserLe, user_le}
 use Rattle.lsm_codec.specs.Entries.{Entry}
 use Rattle.lsm_codec.proofs.Keys.{user_le_trans, user_le_total, user_le_refl}
 use Rattle.lsm_version.specs.Merging.{goes_first}
-use Rattle.lsm_version.specs.Ranges.{Range, KeyLe, key_le, MeetInKeys, ShareUsers, EachPair, SomePair, IsLevel, LieSo, next_lie, worse, lie_along}
-use Rattle.lsm_version.specs.declared.key_range.Lie.{Lie}
-use Rattle.lsm_version.specs.declared.key_range.Lie.TheVariants.{Overlap, Shared, Apart}
+use Rattle.lsm_version.specs.Ranges.{Range, KeyLe, key_le, MeetInKeys, ShareUsers, EachPair, SomePair, IsLevel, IsLaidOut, next_layout, worse, layout_along}
+use Rattle.lsm_version.specs.declared.key_range.Layout.{Layout}
+use Rattle.lsm_version.specs.declared.key_range.Layout.TheVariants.{Overlap, Shared, Apart}
 use Rattle.lsm_version.proofs.Order.{first_says, first_trans, first_total}
 
 -- a key as an entry without a value
@@ -36,8 +36,8 @@ key_le_total a b = go (goes_first (entry_at a) (entry_at b)) refl
 pub key_le_user : (a b : InternalKey) → KeyLe a b → UserLe a.user b.user
 key_le_user a b h = elim (first_says (entry_at a) (entry_at b) (first_of_le a b h)) [ inl s ↦ subst (UserLe a.user) s.0 (user_le_refl a.user) | inr n ↦ n.1 ]
 
--- along the list each lie is at worst this one
-abbrev pub NoWorse : Lie → Lie → Type 0
+-- along the list each layout is at worst this one
+abbrev pub NoWorse : Layout → Layout → Type 0
 NoWorse Overlap m = Unit {0}
 NoWorse Shared Overlap = ⊥
 NoWorse Shared Shared = Unit {0}
@@ -46,7 +46,7 @@ NoWorse Apart Overlap = ⊥
 NoWorse Apart Shared = ⊥
 NoWorse Apart Apart = Unit {0}
 
-worse_left : (l m n : Lie) → NoWorse n (worse l m) → NoWorse n l
+worse_left : (l m n : Layout) → NoWorse n (worse l m) → NoWorse n l
 worse_left Overlap m n h = h
 worse_left Shared Overlap Overlap h = tt
 worse_left Shared Overlap Shared h = absurd h
@@ -57,7 +57,7 @@ worse_left Apart m Overlap h = tt
 worse_left Apart m Shared h = tt
 worse_left Apart m Apart h = tt
 
-worse_right : (l m n : Lie) → NoWorse n (worse l m) → NoWorse n m
+worse_right : (l m n : Layout) → NoWorse n (worse l m) → NoWorse n m
 worse_right Overlap m Overlap h = tt
 worse_right Overlap m Shared h = absurd h
 worse_right Overlap m Apart h = absurd h
@@ -78,7 +78,7 @@ SomeNext P [] = ⊥
 SomeNext P (a ∷ []) = ⊥
 SomeNext P (a ∷ b ∷ rest) = P a b ⊎ SomeNext P (b ∷ rest)
 
-no_worse : (l m : Lie) → l ≡ m → NoWorse m l
+no_worse : (l m : Layout) → l ≡ m → NoWorse m l
 no_worse l Overlap e = tt
 no_worse Shared Shared e = tt
 no_worse Apart Apart e = tt
@@ -87,7 +87,7 @@ no_worse Overlap Apart e = absurd (cc e)
 no_worse Shared Apart e = absurd (cc e)
 no_worse Apart Shared e = absurd (cc e)
 
-worse_is : (l k m : Lie) → worse l k ≡ m → (l ≡ m) ⊎ (k ≡ m)
+worse_is : (l k m : Layout) → worse l k ≡ m → (l ≡ m) ⊎ (k ≡ m)
 worse_is Overlap k m e = inl e
 worse_is Shared Overlap m e = inr e
 worse_is Shared Shared m e = inl e
@@ -95,36 +95,36 @@ worse_is Shared Apart m e = inl e
 worse_is Apart k m e = inr e
 
 -- what the judgment of a list says of its neighbours
-record IsAlong (lie m : Lie) (ranges : List Range) : Type 0 where
-  start : NoWorse m lie
-  each : EachNext (λ a b. NoWorse m (next_lie a b)) ranges
-  some : (lie ≡ m) ⊎ SomeNext (λ a b. next_lie a b ≡ m) ranges
+record IsAlong (layout m : Layout) (ranges : List Range) : Type 0 where
+  start : NoWorse m layout
+  each : EachNext (λ a b. NoWorse m (next_layout a b)) ranges
+  some : (layout ≡ m) ⊎ SomeNext (λ a b. next_layout a b ≡ m) ranges
 
-along : (ranges : List Range) (lie m : Lie) → lie_along lie ranges ≡ m → IsAlong lie m ranges
-along [] lie m e = record { start = no_worse lie m e; each = tt; some = inl e }
-along (a ∷ []) lie m e = record { start = no_worse lie m e; each = tt; some = inl e }
-along (a ∷ b ∷ rest) lie m e =
-    let r = along (b ∷ rest) (worse lie (next_lie a b)) m e in
+along : (ranges : List Range) (layout m : Layout) → layout_along layout ranges ≡ m → IsAlong layout m ranges
+along [] layout m e = record { start = no_worse layout m e; each = tt; some = inl e }
+along (a ∷ []) layout m e = record { start = no_worse layout m e; each = tt; some = inl e }
+along (a ∷ b ∷ rest) layout m e =
+    let r = along (b ∷ rest) (worse layout (next_layout a b)) m e in
     record {
-      start = worse_left lie (next_lie a b) m r.start;
-      each = (worse_right lie (next_lie a b) m r.start, r.each);
+      start = worse_left layout (next_layout a b) m r.start;
+      each = (worse_right layout (next_layout a b) m r.start, r.each);
       some = elim r.some [
-        | inl s ↦ elim (worse_is lie (next_lie a b) m s) [ inl l ↦ inl l | inr n ↦ inr (inl n) ]
+        | inl s ↦ elim (worse_is layout (next_layout a b) m s) [ inl l ↦ inl l | inr n ↦ inr (inl n) ]
         | inr t ↦ inr (inr t)
       ];
     }
 
-keys_clear : (a b : Range) → NoWorse Shared (next_lie a b) → KeyLe b.smallest a.largest → ⊥
+keys_clear : (a b : Range) → NoWorse Shared (next_layout a b) → KeyLe b.smallest a.largest → ⊥
 keys_clear a b h le = subst (λ (t : Bool). NoWorse Shared (cond t Overlap (cond (user_le b.smallest.user a.largest.user) Shared Apart))) le h
 
-users_clear : (a b : Range) → NoWorse Apart (next_lie a b) → UserLe b.smallest.user a.largest.user → ⊥
+users_clear : (a b : Range) → NoWorse Apart (next_layout a b) → UserLe b.smallest.user a.largest.user → ⊥
 users_clear a b h le = go (key_le b.smallest a.largest) (subst (λ (t : Bool). NoWorse Apart (cond (key_le b.smallest a.largest) Overlap (cond t Shared Apart))) le h)
   where
     go : (t : Bool) → NoWorse Apart (cond t Overlap Shared) → ⊥
     go true h = h
     go false h = h
 
-is_overlap : (a b : Range) → next_lie a b ≡ Overlap → KeyLe b.smallest a.largest
+is_overlap : (a b : Range) → next_layout a b ≡ Overlap → KeyLe b.smallest a.largest
 is_overlap a b h = go (key_le b.smallest a.largest) refl (user_le b.smallest.user a.largest.user) h
   where
     go : (t : Bool) → key_le b.smallest a.largest ≡ t → (u : Bool) → cond t Overlap (cond u Shared Apart) ≡ Overlap → KeyLe b.smallest a.largest
@@ -132,7 +132,7 @@ is_overlap a b h = go (key_le b.smallest a.largest) refl (user_le b.smallest.use
     go false e true h = absurd (cc h)
     go false e false h = absurd (cc h)
 
-is_shared : (a b : Range) → next_lie a b ≡ Shared → UserLe b.smallest.user a.largest.user
+is_shared : (a b : Range) → next_layout a b ≡ Shared → UserLe b.smallest.user a.largest.user
 is_shared a b h = go (key_le b.smallest a.largest) (user_le b.smallest.user a.largest.user) refl h
   where
     go : (t u : Bool) → user_le b.smallest.user a.largest.user ≡ u → cond t Overlap (cond u Shared Apart) ≡ Shared → UserLe b.smallest.user a.largest.user
@@ -185,19 +185,19 @@ by_keys = record { trans = key_le_trans; total = key_le_total }
 by_users : IsReading UserLe (λ r. r.smallest.user) (λ r. r.largest.user)
 by_users = record { trans = user_le_trans; total = user_le_total }
 
-pub lies_so : (ranges : List Range) (lie : Lie) → IsLevel ranges → lie_along Apart ranges ≡ lie → LieSo ranges lie
-lies_so ranges Overlap l e = some_pair (λ a b. next_lie a b ≡ Overlap) MeetInKeys ranges l
+pub laid_out : (ranges : List Range) (layout : Layout) → IsLevel ranges → layout_along Apart ranges ≡ layout → IsLaidOut ranges layout
+laid_out ranges Overlap l e = some_pair (λ a b. next_layout a b ≡ Overlap) MeetInKeys ranges l
     (λ a b up own h. (key_le_trans a.smallest b.smallest b.largest up own, is_overlap a b h))
     (elim (along ranges Apart Overlap e).some [ inl w ↦ absurd (cc w) | inr s ↦ s ])
-lies_so ranges Shared l e = (
+laid_out ranges Shared l e = (
   each_pair (λ a b. KeyLe b.smallest a.largest → ⊥) (λ a b. MeetInKeys a b → ⊥) (λ a b n m. n m.1) ranges
       (each_after KeyLe (λ r. r.smallest) (λ r. r.largest) by_keys ranges l.each
-      (each_next (λ a b. NoWorse Shared (next_lie a b)) (λ a b. KeyLe b.smallest a.largest → ⊥) keys_clear ranges (along ranges Apart Shared e).each)),
-  some_pair (λ a b. next_lie a b ≡ Shared) ShareUsers ranges l
+      (each_next (λ a b. NoWorse Shared (next_layout a b)) (λ a b. KeyLe b.smallest a.largest → ⊥) keys_clear ranges (along ranges Apart Shared e).each)),
+  some_pair (λ a b. next_layout a b ≡ Shared) ShareUsers ranges l
       (λ a b up own h. (key_le_user a.smallest b.largest (key_le_trans a.smallest b.smallest b.largest up own), is_shared a b h))
       (elim (along ranges Apart Shared e).some [ inl w ↦ absurd (cc w) | inr s ↦ s ]),
 )
-lies_so ranges Apart l e =
+laid_out ranges Apart l e =
     each_pair (λ a b. UserLe b.smallest.user a.largest.user → ⊥) (λ a b. ShareUsers a b → ⊥) (λ a b n m. n m.1) ranges
     (each_after UserLe (λ r. r.smallest.user) (λ r. r.largest.user) by_users ranges (λ a h. key_le_user a.smallest a.largest (l.each a h))
-    (each_next (λ a b. NoWorse Apart (next_lie a b)) (λ a b. UserLe b.smallest.user a.largest.user → ⊥) users_clear ranges (along ranges Apart Apart e).each))
+    (each_next (λ a b. NoWorse Apart (next_layout a b)) (λ a b. UserLe b.smallest.user a.largest.user → ⊥) users_clear ranges (along ranges Apart Apart e).each))

@@ -3,8 +3,8 @@ use Rattle.std.specs.Prelude.{◌≡◌, Bool, true, cond, List, [], ◌∷◌, 
 use Rattle.std.specs.Ordering.{is_le}
 use Rattle.lsm_codec.specs.Lists.{Has}
 use Rattle.lsm_codec.specs.Keys.{InternalKey, UserLe, user_le, key_cmp}
-use Rattle.lsm_version.specs.declared.key_range.Lie.{Lie}
-use Rattle.lsm_version.specs.declared.key_range.Lie.TheVariants.{Overlap, Shared, Apart}
+use Rattle.lsm_version.specs.declared.key_range.Layout.{Layout}
+use Rattle.lsm_version.specs.declared.key_range.Layout.TheVariants.{Overlap, Shared, Apart}
 
 -- a file's smallest and largest internal key
 pub record Range : Type 0 where
@@ -43,24 +43,24 @@ pub record IsLevel (ranges : List Range) : Type 0 where
   pub order : EachPair (λ a b. KeyLe a.smallest b.smallest) ranges
 
 -- how the files of a level lie
-abbrev pub LieSo : List Range → Lie → Type 0
-LieSo ranges Overlap = SomePair MeetInKeys ranges
-LieSo ranges Shared = EachPair (λ a b. MeetInKeys a b → ⊥) ranges × SomePair ShareUsers ranges
-LieSo ranges Apart = EachPair (λ a b. ShareUsers a b → ⊥) ranges
+abbrev pub IsLaidOut : List Range → Layout → Type 0
+IsLaidOut ranges Overlap = SomePair MeetInKeys ranges
+IsLaidOut ranges Shared = EachPair (λ a b. MeetInKeys a b → ⊥) ranges × SomePair ShareUsers ranges
+IsLaidOut ranges Apart = EachPair (λ a b. ShareUsers a b → ⊥) ranges
 
 -- ---- how the code judges: each range against the next one
 
-abbrev pub next_lie : Range → Range → Lie
-next_lie a b = cond (key_le b.smallest a.largest) Overlap (cond (user_le b.smallest.user a.largest.user) Shared Apart)
+abbrev pub next_layout : Range → Range → Layout
+next_layout a b = cond (key_le b.smallest a.largest) Overlap (cond (user_le b.smallest.user a.largest.user) Shared Apart)
 
-abbrev pub worse : Lie → Lie → Lie
+abbrev pub worse : Layout → Layout → Layout
 worse Overlap m = Overlap
 worse Shared Overlap = Overlap
 worse Shared Shared = Shared
 worse Shared Apart = Shared
 worse Apart m = m
 
-abbrev pub lie_along : Lie → List Range → Lie
-lie_along lie [] = lie
-lie_along lie (a ∷ []) = lie
-lie_along lie (a ∷ b ∷ rest) = lie_along (worse lie (next_lie a b)) (b ∷ rest)
+abbrev pub layout_along : Layout → List Range → Layout
+layout_along layout [] = layout
+layout_along layout (a ∷ []) = layout
+layout_along layout (a ∷ b ∷ rest) = layout_along (worse layout (next_layout a b)) (b ∷ rest)

@@ -3,14 +3,14 @@
 ghost use Rattle.std.specs.Prelude.{◌≡◌};
 ghost use Rattle.lsm_codec.specs.KeyRef.{key_of};
 ghost use Rattle.lsm_codec.specs.Keys.{user_le};
-ghost use Rattle.lsm_version.specs.Ranges.{IsLevel, LieSo, lie_along, next_lie, worse};
+ghost use Rattle.lsm_version.specs.Ranges.{IsLevel, IsLaidOut, layout_along, next_layout, worse};
 
 use lsm_codec::KeyRef;
 use std::marker::Model;
 
 /// How the files of a level from 1 on lie.
 #[derive(Clone, Copy, Debug, PartialEq, Eq)]
-pub enum Lie {
+pub enum Layout {
     /// Two files meet in internal keys.
     Overlap,
     /// No two files meet in internal keys, but two share a user key.
@@ -19,15 +19,15 @@ pub enum Lie {
     Apart,
 }
 
-impl Lie {
-    fn worse(self, other: Lie) -> Lie
+impl Layout {
+    fn worse(self, other: Layout) -> Layout
         ensures { result ≡ worse self other }
     {
         match (self, other) {
-            (Lie::Overlap, _) => Lie::Overlap,
-            (Lie::Shared, Lie::Overlap) => Lie::Overlap,
-            (Lie::Shared, _) => Lie::Shared,
-            (Lie::Apart, other) => other,
+            (Layout::Overlap, _) => Layout::Overlap,
+            (Layout::Shared, Layout::Overlap) => Layout::Overlap,
+            (Layout::Shared, _) => Layout::Shared,
+            (Layout::Apart, other) => other,
         }
     }
 }
@@ -57,15 +57,15 @@ impl<'a> KeyRange<'a> {
 
     /// How this range and the next one of its level lie.
     #[tactic(auto, unfolding(crate::specs::Ranges::key_le))]
-    fn next_lie(&self, next: &KeyRange<'_>) -> Lie
-        ensures { result ≡ next_lie self.now next.now }
+    fn next_layout(&self, next: &KeyRange<'_>) -> Layout
+        ensures { result ≡ next_layout self.now next.now }
     {
         if next.smallest.compare(&self.largest).is_le() {
-            Lie::Overlap
+            Layout::Overlap
         } else if is_at_most(next.smallest.user, self.largest.user) {
-            Lie::Shared
+            Layout::Shared
         } else {
-            Lie::Apart
+            Layout::Apart
         }
     }
 }
@@ -78,16 +78,16 @@ pub(crate) fn is_at_most(a: &[u8], b: &[u8]) -> bool
 }
 
 /// How the files of a level lie, of which these are the ranges in the level's order. Each is compared with the next one alone.
-pub fn lie_of(ranges: &[KeyRange<'_>]) -> Lie
-    ensures { IsLevel ranges.now → LieSo ranges.now result }
+pub fn layout_of(ranges: &[KeyRange<'_>]) -> Layout
+    ensures { IsLevel ranges.now → IsLaidOut ranges.now result }
 {
-    let mut lie = Lie::Apart;
+    let mut layout = Layout::Apart;
     let mut rest = ranges;
     while let [first, tail @ ..] = rest {
         if let [second, ..] = tail {
-            lie = lie.worse(first.next_lie(second));
+            layout = layout.worse(first.next_layout(second));
         }
         rest = tail;
     }
-    lie
+    layout
 }

@@ -19,7 +19,7 @@ mod tree;
 
 pub use ages::against_age;
 pub use input::Input;
-pub use key_range::{KeyRange, Lie, lie_of};
+pub use key_range::{KeyRange, Layout, layout_of};
 pub use merger::Merger;
 pub use owned_entry::OwnedEntry;
 pub use placed::Placed;

@@ -3,7 +3,7 @@
 ghost use Rattle.std.specs.Prelude.{◌<◌};
 
 use crate::{
-    Input, KeyRange, Lie, ListStream, Merger, OwnedEntry, Scan, Source, Stream, against_age, lie_of,
+    Input, KeyRange, Layout, ListStream, Merger, OwnedEntry, Scan, Source, Stream, against_age, layout_of,
 };
 use lsm_codec::{KeyRef, Kind, MAX_SEQ};
 use std::alloc::{AllocError, Global};
@@ -240,22 +240,22 @@ fn judges_levels(rt: HostRuntime) {
         KeyRange::new(key(b"a", 1), key(b"c", 1)),
         KeyRange::new(key(b"b", 1), key(b"d", 1)),
     ];
-    assert_eq!(rt; lie_of(&overlap), Lie::Overlap);
+    assert_eq!(rt; layout_of(&overlap), Layout::Overlap);
     let shared = [
         KeyRange::new(key(b"k", 2), key(b"k", 2)),
         KeyRange::new(key(b"k", 1), key(b"k", 1)),
     ];
-    assert_eq!(rt; lie_of(&shared), Lie::Shared);
+    assert_eq!(rt; layout_of(&shared), Layout::Shared);
     let last = [
         KeyRange::new(key(b"a", 1), key(b"b", 1)),
         KeyRange::new(key(b"c", 1), key(b"e", 1)),
         KeyRange::new(key(b"e", 1), key(b"f", 1)),
     ];
-    assert_eq!(rt; lie_of(&last), Lie::Overlap);
+    assert_eq!(rt; layout_of(&last), Layout::Overlap);
     let apart = [
         KeyRange::new(key(b"a", 1), key(b"b", 1)),
         KeyRange::new(key(b"c", 1), key(b"e", 1)),
     ];
-    assert_eq!(rt; lie_of(&apart), Lie::Apart);
-    assert_eq!(rt; lie_of(&[]), Lie::Apart);
+    assert_eq!(rt; layout_of(&apart), Layout::Apart);
+    assert_eq!(rt; layout_of(&[]), Layout::Apart);
 }
