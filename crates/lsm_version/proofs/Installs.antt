@@ -35,7 +35,7 @@ input_says v job F numbers inputs h t =
 pub input_from : (job : Job) (F : File) → Has job.inputs F → is_input job F ≡ true
 input_from job F h = any_at (λ (G : File). G.number == F.number) job.inputs F h (eq-eqb F.number F.number refl)
 
--- an input's entries layout within the hull
+-- an input's entries lie within the hull
 pub in_hull : (v : List File) (job : Job) (F : File) (e : Entry) → ((G : File) → Has v G → Fits G) → IsOpenIn v job → Has job.inputs F → Has F.entries e
     → UserLe job.low e.user × UserLe e.user job.high
 in_hull v job F e fits o h k =
