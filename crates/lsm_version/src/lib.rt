@@ -1,0 +1,28 @@
+//! Levels of files and what they answer: the law of a version, reads, what a merge of files keeps and what its install changes.
+//!
+//! Stands on `lsm_codec`. Its contract: a lawful version answers as its union of entries, and a merge is its sources in order.
+#![tactic(auto)]
+
+mod ages;
+mod input;
+mod key_range;
+pub mod laws;
+mod merger;
+mod owned_entry;
+mod placed;
+mod scan;
+mod source;
+mod stream;
+#[cfg(test)]
+mod tests;
+mod tree;
+
+pub use ages::against_age;
+pub use input::Input;
+pub use key_range::{KeyRange, Layout, layout_of};
+pub use merger::Merger;
+pub use owned_entry::OwnedEntry;
+pub use placed::Placed;
+pub use scan::{Pair, Scan};
+pub use source::Source;
+pub use stream::{ListStream, Stream};
