@@ -112,6 +112,7 @@ impl BlockBuilder {
         ensures fits { OnOk result (length (block_bytes self.new.interval self.new.entries) < 2 ^ 32) }
         ensures err { OnErr result (self.new ≡ self.old) }
         ensures large { result ≡ Err TooLarge → 2 ^ 32 ≤ length (block_bytes self.old.interval (self.old.entries ++ entry_of (key_of key.now) value.now ∷ [])) }
+        ensures over { 2 ^ 32 ≤ length (block_bytes self.old.interval (self.old.entries ++ entry_of (key_of key.now) value.now ∷ [])) → result ≡ Err TooLarge }
     {
         let shared = shared_with(self.interval, self.count, &self.last, key);
         let later = is_later(self.interval, self.count);
