@@ -1,5 +1,5 @@
 -- The files of one level, in order.
-use Rattle.std.proofs.Common.{◌≡◌, ℕ, zero, suc, ◌+◌, ◌<◌, ◌≤◌, Bool, true, false, cond, eqb, List, [], ◌∷◌, ◌++◌, length, get_or, map, Option, Some, None, Bor, refl, sym, ap, ◌∙◌, subst, append_assoc, arith, inl, inr}
+use Rattle.std.proofs.Common.{◌≡◌, ℕ, zero, suc, ◌+◌, ◌<◌, Bool, true, false, cond, eqb, List, [], ◌∷◌, ◌++◌, length, get_or, map, Option, Some, None, Bor, refl, sym, ap, ◌∙◌, subst, append_assoc, arith, inl, inr}
 use Rattle.std.specs.Prelude.{Contains}
 use Rattle.std.specs.List.{cons_option, AllByRecursion, IsDistinct}
 use Rattle.std.specs.List.Sorted.{IsSorted, IsPermutation, IsStrictlySortedBy}
@@ -15,7 +15,7 @@ use Rattle.std.proofs.lemmas.Bool.{eqb-true, eqb-false, eq-eqb, ne_eqb}
 use Rattle.std.proofs.lemmas.Cmp.{nat_cmp_total, on_total, then_total, back_total, tied_itself}
 use Rattle.std.proofs.lemmas.List.{append-nil}
 use Rattle.std.proofs.lemmas.List.Sorted.{ranks_by, IsPermutation-sym, Contains-permutation}
-use Rattle.std.proofs.lemmas.Map.Keys.{sorted_head, sorted_tail, IsDistinct-cons, IsDistinct-IsPermutation, apart_from_distinct, sorted_from_all_adjacent}
+use Rattle.std.proofs.lemmas.Map.Keys.{sorted_head, sorted_tail, IsDistinct-IsPermutation, apart_from_distinct, sorted_from_all_adjacent}
 use Rattle.std.proofs.lemmas.Map.Lookups.{exact_unsigned}
 use Rattle.std.proofs.lemmas.Map.Views.{btree_map_get_iff}
 use Rattle.lsm_codec.specs.Lists.{Has}
@@ -24,7 +24,7 @@ use Rattle.lsm_manifest.specs.declared.parts.AddedFile.{AddedFile}
 use Rattle.lsm_manifest.specs.declared.edit.Edit.{Edit}
 use Rattle.lsm_manifest.specs.declared.standing.Standing.{Standing}
 use Rattle.lsm_manifest.specs.FileOrder.{user_part, packed_part, file_cmp}
-use Rattle.lsm_manifest.specs.Level.{on_level, level_of, all_of, same_number, HaveOwnNumbers}
+use Rattle.lsm_manifest.specs.Level.{level_of, all_of, same_number, HaveOwnNumbers}
 use Rattle.lsm_manifest.specs.Replay.{Stands}
 use Rattle.lsm_manifest.specs.HeldLevel.{HoldsLevel}
 use Rattle.lsm_manifest.specs.Standing.{file_at, Tracks}

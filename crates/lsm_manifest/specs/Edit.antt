@@ -3,7 +3,6 @@ use Rattle.std.specs.Prelude.{Option, Some, None, ◌≡◌, ℕ, ◌-◌, ◌�
 use Rattle.std.specs.List.{filter_map}
 use Rattle.lsm_codec.specs.Varint.{IsVarint32, IsVarint64}
 use Rattle.lsm_manifest.specs.Last.{last_by}
-use Rattle.lsm_manifest.specs.declared.file_meta.FileMeta.{FileMeta}
 use Rattle.lsm_manifest.specs.declared.parts.CompactPointer.{CompactPointer}
 use Rattle.lsm_manifest.specs.declared.parts.DeletedFile.{DeletedFile}
 use Rattle.lsm_manifest.specs.declared.parts.AddedFile.{AddedFile}

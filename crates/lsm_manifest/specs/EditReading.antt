@@ -1,4 +1,4 @@
--- Reading an edit from left to right, with the first fault.
+-- Reading an edit from left to right, with the first fault (this project's rule).
 use Rattle.std.specs.Prelude.{ℕ, zero, suc, nat_le, ◌==◌, if◌then◌else◌, List, [], ◌∷◌, length, take, drop, Result, Ok, Err}
 use Rattle.lsm_codec.specs.declared.fault.CodecFault.{CodecFault}
 use Rattle.lsm_codec.specs.Varint.{varint32_at, varint64_at}

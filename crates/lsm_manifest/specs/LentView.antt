@@ -1,5 +1,4 @@
 -- A field that is lent, without where it lies in memory.
-use Rattle.std.specs.Prelude.{List, []}
 use Rattle.lsm_manifest.specs.declared.lent.LentField.{LentField}
 use Rattle.lsm_manifest.specs.declared.lent.LentField.TheVariants as lent
 use Rattle.lsm_manifest.specs.Edit.{Field, Comparator, Log, Prev, Next, Last, Pointer, Deleted, Added}

@@ -1,5 +1,7 @@
--- What a record log is: blocks of fragments, records of fragments, and a rest that holds no whole record.
-use Rattle.std.specs.Prelude.{◌≡◌, ℕ, zero, suc, ◌+◌, ◌-◌, ◌*◌, ◌/◌, ◌%◌, ◌^◌, ◌<◌, ◌≤◌, ◌⊎◌, Bool, true, false, ◌&&◌, ◌||◌, ◌==◌, List, [], ◌∷◌, ◌++◌, length, get_or}
+-- What a record log is (LevelDB's `doc/log_format.md`): blocks of 32,768 bytes, fragments that lie within a block, records of
+-- fragments, and a rest that holds no whole record. That zeros in a header's place are skipped outside a record is this
+-- project's rule.
+use Rattle.std.specs.Prelude.{◌≡◌, ℕ, zero, suc, ◌+◌, ◌-◌, ◌%◌, ◌<◌, ◌≤◌, ◌⊎◌, Bool, true, false, ◌&&◌, ◌||◌, ◌==◌, List, [], ◌∷◌, ◌++◌, length, get_or}
 use Rattle.std.specs.Int.{w16, w32, to_le_bytes, from_le_bytes}
 use Rattle.lsm_codec.specs.Crc.{crc_of}
 use Rattle.lsm_codec.specs.Mask.{masked}

@@ -1,4 +1,4 @@
--- Reading a log from left to right, with the first fault.
+-- Reading a log from left to right, with the first fault and its offset (this project's rule; LevelDB's reader drops what is at fault).
 use Rattle.std.specs.Prelude.{ℕ, zero, suc, ◌+◌, ◌-◌, ◌&&◌, ◌||◌, Bool, true, false, nat_lt, nat_le, ◌==◌, if◌then◌else◌, List, [], ◌∷◌, ◌++◌, length, take, drop, Option, Some, None, Result, Ok, Err}
 use Rattle.std.specs.Str.{bytes_eq}
 use Rattle.lsm_manifest.specs.declared.log_fault.LogFault.{LogFault}

@@ -1,9 +1,8 @@
 -- What a row of edits comes to (LevelDB's `doc/impl.md`, `db/version_set.cc`): the files that some edit adds and no later edit
 -- deletes, with the last value of each number field and pointer.
-use Rattle.std.specs.Prelude.{◌≡◌, ℕ, ◌≤◌, ◌⊎◌, ◌↔◌, List, [], ◌∷◌, ◌++◌, Option, Some, None, IsSome, IsSomeAnd, codes, get_or, unwrap_or, ◌==◌, if◌then◌else◌}
+use Rattle.std.specs.Prelude.{◌≡◌, ℕ, ◌⊎◌, List, [], ◌∷◌, ◌++◌, Option, Some, None, IsSomeAnd, codes, ◌==◌, if◌then◌else◌}
 use Rattle.lsm_codec.specs.Lists.{Has}
 use Rattle.lsm_manifest.specs.Last.{last_by}
-use Rattle.lsm_manifest.specs.declared.file_meta.FileMeta.{FileMeta}
 use Rattle.lsm_manifest.specs.declared.parts.CompactPointer.{CompactPointer}
 use Rattle.lsm_manifest.specs.declared.parts.DeletedFile.{DeletedFile}
 use Rattle.lsm_manifest.specs.declared.parts.AddedFile.{AddedFile}

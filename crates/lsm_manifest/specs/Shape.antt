@@ -1,5 +1,5 @@
--- What a replay gives, and what it refuses.
-use Rattle.std.specs.Prelude.{◌≡◌, ℕ, ◌≤◌, List, [], Option, Some, None, IsSome, get_or, unwrap_or}
+-- What a replay gives (LevelDB's `VersionSet::Recover`), and what it refuses (this project's rule).
+use Rattle.std.specs.Prelude.{◌≡◌, ℕ, ◌≤◌, List, [], Some, None, IsSome, get_or, unwrap_or}
 use Rattle.lsm_manifest.specs.declared.parts.AddedFile.{AddedFile}
 use Rattle.lsm_manifest.specs.declared.edit.Edit.{Edit}
 use Rattle.lsm_manifest.specs.declared.shape.Shape.{Shape}

@@ -1,4 +1,4 @@
-use Rattle.std.proofs.Common.{length, sym, ◌∙◌, arith}
+use Rattle.std.proofs.Common.{length, sym, arith}
 use Rattle.std.proofs.lemmas.Result.{err_from_is_err_and}
 use Rattle.lsm_manifest.specs.LogReading.{records_at}
 use Rattle.lsm_manifest.proofs.LogLoop.{stops_over, fails_over, goes_over, runs_out_over}

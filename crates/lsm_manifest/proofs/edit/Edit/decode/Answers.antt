@@ -1,4 +1,4 @@
-use Rattle.std.proofs.Common.{ℕ, List, length, Result, Ok, Err, arith, subst}
+use Rattle.std.proofs.Common.{ℕ, List, Result, Ok, Err, arith, subst}
 use Rattle.std.specs.Prelude.{IfOk}
 use Rattle.lsm_codec.proofs.Varints.{IsBytes}
 use Rattle.lsm_manifest.specs.declared.edit_fault.EditFault.{EditFault}

@@ -1,6 +1,5 @@
-use Rattle.std.proofs.Common.{[]}
 use Rattle.lsm_manifest.specs.Standing.{file_at}
-use Rattle.lsm_manifest.specs.Replay.{NamesOther, IsDouble}
+use Rattle.lsm_manifest.specs.Replay.{NamesOther}
 use Rattle.lsm_manifest.proofs.StandingLaws.{tracks_edit, fault_of, ok_then, err_then}
 use Rattle.lsm_manifest.proofs.standing.Standing.apply.Goals as goal
 
