@@ -114,9 +114,9 @@ unfolding user_le
 user_le_from a b h =
     elim (le_cases (key_cmp a b) h) [
       | inl less ↦ elim (by_user (slice_cmp nat_cmp a.user b.user) (nat_cmp (packed b) (packed a)) less) [
-          | inl first ↦ ap is_le first
-          | inr second ↦ ap is_le second.0
-        ]
+        | inl first ↦ ap is_le first
+        | inr second ↦ ap is_le second.0
+      ]
       | inr equal ↦ ap is_le (both_equal (slice_cmp nat_cmp a.user b.user) (nat_cmp (packed b) (packed a)) equal).0
     ]
 

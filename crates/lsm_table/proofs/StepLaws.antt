@@ -43,9 +43,9 @@ adding options entries front taken index more offset e m open_still a r at is =
     let small : length (block_bytes interval (taken.entries ++ e ∷ [])) < 2 ^ 32 = omega (arith, size, r.block) in
     made_more options entries front taken index e m open_still a more is
     (λ full.
-      let reached : options.block_size ≤ length (block_bytes interval (taken.entries ++ e ∷ [])) = leb-true _ _ (subst (λ (xs : List Entry). is_full options xs ≡ true) all full) in
-      let fits = subst (λ (xs : List ℕ). length xs < 2 ^ 32) (sym (index_more options entries front taken index offset e m at)) (r.index_block (omega (arith, size, reached))) in
-      subst (λ (xs : List Entry). length (block_bytes 1 (index.entries ++ index_of interval (length front) (last_group xs))) < 2 ^ 32) (sym all) fits)
+    let reached : options.block_size ≤ length (block_bytes interval (taken.entries ++ e ∷ [])) = leb-true _ _ (subst (λ (xs : List Entry). is_full options xs ≡ true) all full) in
+    let fits = subst (λ (xs : List ℕ). length xs < 2 ^ 32) (sym (index_more options entries front taken index offset e m at)) (r.index_block (omega (arith, size, reached))) in
+    subst (λ (xs : List Entry). length (block_bytes 1 (index.entries ++ index_of interval (length front) (last_group xs))) < 2 ^ 32) (sym all) fits)
     (subst (λ (xs : List Entry). length (block_bytes interval xs) < 2 ^ 32) (sym all) small)
 
 groups_more : (options : TableOptions) (entries : List Entry) (front : List ℕ) (taken index : Building) (e : Entry) (m : Made options entries front taken index) → is_full options taken.entries ≡ false

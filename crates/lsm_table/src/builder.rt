@@ -195,13 +195,7 @@ impl TableBuilder {
 
     /// Adds an entry after the others. `TooLarge` where its data block, or the index block, would pass 2^32 - 1 bytes.
     /// An `Err` leaves the builder as it was.
-    pub fn add(
-        &mut self,
-        user: &[u8],
-        seq: u64,
-        kind: Kind,
-        value: &[u8],
-    ) -> Result<(), BuildFault>
+    pub fn add(&mut self, user: &[u8], seq: u64, kind: Kind, value: &[u8]) -> Result<(), BuildFault>
         requires seq { seq ≤ MAX_SEQ }
         requires ascends { Ascends (self.old.entries ++ record { user = user.now; seq = seq; kind = kind; value = value.now } ∷ []) }
         ensures ok { OnOk result (self.new ≡ record { options = self.old.options; entries = self.old.entries ++ record { user = user.now; seq = seq; kind = kind; value = value.now } ∷ [] }) }

@@ -10,7 +10,7 @@ ghost use Rattle.lsm_table.specs.StoredBlock.{seal, trailer, stored, unsealed, c
 use crate::handle::Handle;
 use crate::table_fault::TableFault;
 use lsm_block::BlockBuilder;
-use lsm_codec::{crc32c, crc_extend, mask};
+use lsm_codec::{crc_extend, crc32c, mask};
 use std::alloc::AllocError;
 
 /// A type byte and a checksum follow the contents of a block.

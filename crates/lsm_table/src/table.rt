@@ -9,8 +9,8 @@ ghost use Rattle.lsm_table.specs.HeldTable.{HeldTable, entries_in, Names};
 
 use crate::check::judge;
 use crate::footer::FOOTER;
-use crate::held_block::block_at;
 use crate::handle::Handle;
+use crate::held_block::block_at;
 use crate::table_fault::TableFault;
 use crate::table_iter::TableIter;
 use lsm_block::BlockRef;
@@ -86,5 +86,4 @@ impl Table {
 /// At most one list of entries fits a table's bytes.
 pub fn one_table()
     ensures { (bytes : List ℕ) (es fs : List Entry) → IsTable bytes es → IsTable bytes fs → es ≡ fs }
-{
-}
+{}

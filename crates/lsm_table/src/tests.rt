@@ -8,10 +8,14 @@ use std::test::Fail;
 const DATA: [u8; 26] = [
     0, 9, 1, 0x61, 1, 1, 0, 0, 0, 0, 0, 0, 0x76, 0, 0, 0, 0, 1, 0, 0, 0, 0, 0x1a, 0x0a, 0xe3, 0x8e,
 ];
+
 const EMPTY: [u8; 13] = [0, 0, 0, 0, 1, 0, 0, 0, 0, 0xc0, 0xf2, 0xa1, 0xb0];
+
 const INDEX: [u8; 27] = [
-    0, 9, 2, 0x61, 1, 1, 0, 0, 0, 0, 0, 0, 0, 0x15, 0, 0, 0, 0, 1, 0, 0, 0, 0, 0x36, 0x49, 0x25, 0xbf,
+    0, 9, 2, 0x61, 1, 1, 0, 0, 0, 0, 0, 0, 0, 0x15, 0, 0, 0, 0, 1, 0, 0, 0, 0, 0x36, 0x49, 0x25,
+    0xbf,
 ];
+
 const MAGIC: [u8; 8] = [0x57, 0xfb, 0x80, 0x8b, 0x24, 0x75, 0x47, 0xdb];
 
 /// The table of "a" at sequence 1 with the value "v", 114 bytes.
@@ -83,7 +87,11 @@ fn names_the_fault_of_each_prefix(rt: HostRuntime) -> Result<(), Fail> {
     for len in 0..114 {
         let mut file = one_entry(rt.alloc())?;
         file.truncate(len);
-        let expected = if len < 48 { TableFault::ShortFile } else { TableFault::BadMagic };
+        let expected = if len < 48 {
+            TableFault::ShortFile
+        } else {
+            TableFault::BadMagic
+        };
         assert_eq!(rt; fault_of(rt.alloc(), file), Some(expected));
     }
     Ok(())

@@ -166,9 +166,9 @@ bad_of first before l ls i (Some e) reads h later = elim (cases_Bool (may_follow
   | inr not_so ↦
       let at : Err (suc first) ≡ Err i = rw not_so at h in
       bad_here first before l ls i (cc) (λ f found follows.
-          let same : Some e ≡ Some f = sym reads ∙ found in
-          let is : e ≡ f = cc in
-          let bad : true ≡ false = sym follows ∙ sym (ap (may_follow before) is) ∙ not_so in cc)
+      let same : Some e ≡ Some f = sym reads ∙ found in
+      let is : e ≡ f = cc in
+      let bad : true ≡ false = sym follows ∙ sym (ap (may_follow before) is) ∙ not_so in cc)
 ]
 
 entries_bad : (first : ℕ) (before : Option Entry) (lines : List (List ℕ)) (i : ℕ) → entries_at first before lines ≡ Err i → Bad first before lines i

@@ -56,9 +56,9 @@ printed_more records i before after r e h is p spelled added =
     record {
       edits = p.edits ++ e ∷ [];
       decoded = subst (λ (rs : List (List ℕ)). AreEdits rs (p.edits ++ e ∷ [])) (sym (take_more records i [] h))
-      (edits_push (take i records) p.edits (get_or records i []) e p.decoded own);
+          (edits_push (take i records) p.edits (get_or records i []) e p.decoded own);
       text_is = added ∙ ap (λ (xs : List ℕ). xs ++ edit_lines (i + 1) e) p.text_is
-      ∙ ap (λ m. edits_lines 1 p.edits ++ edit_lines m e) number ∙ sym (edits_lines_push 1 p.edits e);
+          ∙ ap (λ m. edits_lines 1 p.edits ++ edit_lines m e) number ∙ sym (edits_lines_push 1 p.edits e);
     }
 
 pub printed_all : (records : List (List ℕ)) (i rest : ℕ) (before after : List ℕ) → length records ≤ i → Printed records i before

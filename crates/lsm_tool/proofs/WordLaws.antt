@@ -23,8 +23,8 @@ pub no_bytes : (most : ℕ) (word : List ℕ) → bytes_eq word (codes ".") ≡ 
 unfolding bytes_at
 no_bytes most word other h =
     rw other (few_of-none most (decode_of word) (λ bs e.
-        let len = (decode_of-ok word bs e).2 in
-        elim h [ inl short ↦ inl (omega arith) | inr long ↦ inr (omega arith) ]))
+    let len = (decode_of-ok word bs e).2 in
+    elim h [ inl short ↦ inl (omega arith) | inr long ↦ inr (omega arith) ]))
 
 few_of-some : (most : ℕ) (r : Result (List ℕ) FromHexError) (bs : List ℕ) → few_of most r ≡ Some bs
     → (r ≡ Ok bs) × (0 < length bs) × (length bs ≤ most)

@@ -12,11 +12,9 @@ pub(crate) fn one_list()
     ensures list { (text : List ℕ) (es fs : List Entry) → IsEntryList text es → IsEntryList text fs → es ≡ fs }
     ensures both { (text : List ℕ) (es : List Entry) (i : ℕ) → IsEntryList text es → IsFirstBadLine text i → ⊥ }
     ensures line { (text : List ℕ) (i j : ℕ) → IsFirstBadLine text i → IsFirstBadLine text j → i ≡ j }
-{
-}
+{}
 
 /// What is printed for entries that stand in order is a list of just those, where lines can spell them.
 pub(crate) fn printed_list()
     ensures { (es : List Entry) → All IsListable es → Ascends es → IsEntryList (entry_list es) es }
-{
-}
+{}

@@ -4,20 +4,19 @@
 //! writes on standard output for what it reads on standard input, in `commands`.
 #![tactic(auto)]
 
-mod laws;
-mod words;
+mod command_line;
+mod commands;
+mod edit_spelling;
 mod entry_buffer;
 mod entry_reader;
-mod spelling;
-mod edit_spelling;
 mod fault;
-mod streams;
-mod commands;
-mod command_line;
+mod laws;
 mod run;
-
+mod spelling;
+mod streams;
 #[cfg(test)]
 mod tests;
+mod words;
 
 use std::alloc::Global;
 use std::env::{self, Env};

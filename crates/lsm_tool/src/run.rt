@@ -71,7 +71,10 @@ pub(crate) fn refuse_words<E: Write>(error: &io::Error, err: &mut E) -> u8
     let (status, text) = if error.kind() == ErrorKind::OutOfMemory {
         (1, b"refused 1 OutOfMemory\n".as_slice())
     } else {
-        (2, b"error: a word of the command line is not UTF-8\n".as_slice())
+        (
+            2,
+            b"error: a word of the command line is not UTF-8\n".as_slice(),
+        )
     };
     let _ = write_output(err, text);
     status

@@ -15,7 +15,10 @@ pub(crate) fn push_bytes(out: &mut Vec<u8>, bytes: &[u8]) -> Result<(), AllocErr
         return Ok(());
     }
     let start = out.len();
-    let end = bytes.len().checked_mul(2).and_then(|len| len.checked_add(start));
+    let end = bytes
+        .len()
+        .checked_mul(2)
+        .and_then(|len| len.checked_add(start));
     out.resize(end.ok_or(AllocError)?, 0)?;
     let _ = hex::encode_to_slice(bytes, &mut out[start..]);
     Ok(())
@@ -49,7 +52,13 @@ fn push_action(out: &mut Vec<u8>, kind: Kind, value: &[u8]) -> Result<(), AllocE
 
 /// Appends the line of an entry.
 #[tactic(auto, unfolding(crate::specs::EntryPrinting::entry_line))]
-pub(crate) fn push_entry(out: &mut Vec<u8>, user: &[u8], seq: u64, kind: Kind, value: &[u8]) -> Result<(), AllocError>
+pub(crate) fn push_entry(
+    out: &mut Vec<u8>,
+    user: &[u8],
+    seq: u64,
+    kind: Kind,
+    value: &[u8],
+) -> Result<(), AllocError>
     ensures { OnOk result (out.new.items ≡ out.old.items ++ entry_line record { user = user.now; seq = seq; kind = kind; value = value.now }) }
 {
     push_bytes(out, user)?;

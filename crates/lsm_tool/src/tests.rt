@@ -19,10 +19,16 @@ fn bytes_of(alloc: Global, text: &str) -> Result<Vec<u8>, Fail> {
 }
 
 const DATA: &str = "00 09 01 61 01 01 00 00 00 00 00 00 76 00 00 00 00 01 00 00 00 00 1a 0a e3 8e";
+
 const METAINDEX: &str = "00 00 00 00 01 00 00 00 00 c0 f2 a1 b0";
-const INDEX: &str = "00 09 02 61 01 01 00 00 00 00 00 00 00 15 00 00 00 00 01 00 00 00 00 36 49 25 bf";
+
+const INDEX: &str =
+    "00 09 02 61 01 01 00 00 00 00 00 00 00 15 00 00 00 00 01 00 00 00 00 36 49 25 bf";
+
 const FOOTER: &str = "1a 08 27 16";
+
 const EMPTY_FOOTER: &str = "00 08 0d 08";
+
 const MAGIC: &str = "57 fb 80 8b 24 75 47 db";
 
 fn joined(alloc: Global, parts: &[&str]) -> Result<Vec<u8>, Fail> {
@@ -62,7 +68,12 @@ fn outcome(alloc: Global, words: &[&str], input: &[u8]) -> Result<Answer, AllocE
 }
 
 /// Runs the words, and asserts what they write on standard output.
-fn expect_done(rt: &(impl Abort + AllocGlobal), words: &[&str], input: &[u8], want: &[u8]) -> Result<(), Fail> {
+fn expect_done(
+    rt: &(impl Abort + AllocGlobal),
+    words: &[&str],
+    input: &[u8],
+    want: &[u8],
+) -> Result<(), Fail> {
     let run = outcome(rt.alloc(), words, input)?;
     assert_eq!(rt; run.err.as_slice(), b"".as_slice());
     assert_eq!(rt; run.out.as_slice(), want);
@@ -71,7 +82,12 @@ fn expect_done(rt: &(impl Abort + AllocGlobal), words: &[&str], input: &[u8], wa
 }
 
 /// Runs the words, and asserts the line that they write on standard error.
-fn expect_refused(rt: &(impl Abort + AllocGlobal), words: &[&str], input: &[u8], want: &str) -> Result<(), Fail> {
+fn expect_refused(
+    rt: &(impl Abort + AllocGlobal),
+    words: &[&str],
+    input: &[u8],
+    want: &str,
+) -> Result<(), Fail> {
     let run = outcome(rt.alloc(), words, input)?;
     assert_eq!(rt; run.out.as_slice(), b"".as_slice());
     assert_eq!(rt; run.err.as_slice(), want.as_bytes());
@@ -83,7 +99,11 @@ fn expect_refused(rt: &(impl Abort + AllocGlobal), words: &[&str], input: &[u8],
 fn makes_tables(rt: HostRuntime) -> Result<(), Fail> {
     let table = small_table(rt.alloc())?;
     assert_eq!(rt; table.len(), 114);
-    for line in ["61 1 put 76\n", "61 1 put 76", "61 00000000000000000001 put 76\n"] {
+    for line in [
+        "61 1 put 76\n",
+        "61 1 put 76",
+        "61 00000000000000000001 put 76\n",
+    ] {
         expect_done(&rt, &["mktable"], line.as_bytes(), table.as_slice())?;
     }
     let empty = empty_table(rt.alloc())?;
@@ -93,7 +113,12 @@ fn makes_tables(rt: HostRuntime) -> Result<(), Fail> {
 
 #[test]
 fn dumps_tables(rt: HostRuntime) -> Result<(), Fail> {
-    expect_done(&rt, &["dump"], small_table(rt.alloc())?.as_slice(), b"61 1 put 76\n")?;
+    expect_done(
+        &rt,
+        &["dump"],
+        small_table(rt.alloc())?.as_slice(),
+        b"61 1 put 76\n",
+    )?;
     expect_done(&rt, &["dump"], empty_table(rt.alloc())?.as_slice(), b"")
 }
 
@@ -101,8 +126,14 @@ fn dumps_tables(rt: HostRuntime) -> Result<(), Fail> {
 fn gives_lists_back(rt: HostRuntime) -> Result<(), Fail> {
     for (list, want) in [
         ("61 2 put 76\n61 1 del\n", "61 2 put 76\n61 1 del\n"),
-        (". 72057594037927935 put .\nAB 0 put Cd", ". 72057594037927935 put .\nab 0 put cd\n"),
-        ("61 1 put 76\n61 1 del\n6100 9 del\n62 007 put 00ff\n", "61 1 put 76\n61 1 del\n6100 9 del\n62 7 put 00ff\n"),
+        (
+            ". 72057594037927935 put .\nAB 0 put Cd",
+            ". 72057594037927935 put .\nab 0 put cd\n",
+        ),
+        (
+            "61 1 put 76\n61 1 del\n6100 9 del\n62 007 put 00ff\n",
+            "61 1 put 76\n61 1 del\n6100 9 del\n62 7 put 00ff\n",
+        ),
     ] {
         let made = outcome(rt.alloc(), &["mktable"], list.as_bytes())?;
         assert_eq!(rt; made.status, 0);
@@ -154,7 +185,12 @@ fn long_line(alloc: Global, key: usize, value: usize) -> Result<Vec<u8>, Fail> {
 
 #[test]
 fn keeps_the_limits(rt: HostRuntime) -> Result<(), Fail> {
-    for (key, value, status) in [(4096, 1, 0), (4097, 1, 1), (1, 1_048_576, 0), (1, 1_048_577, 1)] {
+    for (key, value, status) in [
+        (4096, 1, 0),
+        (4097, 1, 1),
+        (1, 1_048_576, 0),
+        (1, 1_048_577, 1),
+    ] {
         let line = long_line(rt.alloc(), key, value)?;
         let made = outcome(rt.alloc(), &["mktable"], line.as_slice())?;
         assert_eq!(rt; made.status, status, "key {key}, value {value}");
@@ -176,7 +212,10 @@ fn altered(alloc: Global, offset: usize, bytes: &[u8]) -> Result<Vec<u8>, Fail> 
         }
     }
     for (start, end) in [(0usize, 22usize), (39, 62)] {
-        if let (Some(stored), Some(trailer)) = (table.as_slice().get(start..end), table.as_slice().get(end..end + 4)) {
+        if let (Some(stored), Some(trailer)) = (
+            table.as_slice().get(start..end),
+            table.as_slice().get(end..end + 4),
+        ) {
             let _ = trailer;
             let sum = mask(crc32c(stored)).to_le_bytes();
             for (i, byte) in sum.iter().enumerate() {
@@ -201,7 +240,12 @@ fn refuses_what_is_no_table(rt: HostRuntime) -> Result<(), Fail> {
     if let Some(byte) = flipped.as_mut_slice().get_mut(12) {
         *byte ^= 1;
     }
-    expect_refused(&rt, &["dump"], flipped.as_slice(), "refused 15 BadChecksum 0\n")?;
+    expect_refused(
+        &rt,
+        &["dump"],
+        flipped.as_slice(),
+        "refused 15 BadChecksum 0\n",
+    )?;
     for (offset, byte, want) in [
         (21, 1, "refused 16 Compressed 1\n"),
         (21, 9, "refused 17 BadBlockType 9\n"),
@@ -209,7 +253,12 @@ fn refuses_what_is_no_table(rt: HostRuntime) -> Result<(), Fail> {
         (0, 1, "refused 7 BadEntry 0\n"),
         (13, 1, "refused 6 BadRestarts\n"),
     ] {
-        expect_refused(&rt, &["dump"], altered(alloc, offset, &[byte])?.as_slice(), want)?;
+        expect_refused(
+            &rt,
+            &["dump"],
+            altered(alloc, offset, &[byte])?.as_slice(),
+            want,
+        )?;
     }
     Ok(())
 }
@@ -230,8 +279,16 @@ fn knows_its_command_line(rt: HostRuntime) -> Result<(), Fail> {
         assert_eq!(rt; run.status, want, "{words:?}");
         assert!(rt; run.out.is_empty() == (want == 2), "{words:?}");
         assert!(rt; run.err.is_empty() == (want == 0), "{words:?}");
-        let text = if want == 0 { run.out.as_slice() } else { run.err.as_slice() };
-        assert!(rt; text.windows(10).any(|part| part == b"Usage: lsm".as_slice()), "{words:?}");
+        let text = if want == 0 {
+            run.out.as_slice()
+        } else {
+            run.err.as_slice()
+        };
+        assert!(rt;
+            text.windows(10)
+                .any(|part| part == b"Usage: lsm".as_slice()),
+            "{words:?}"
+        );
     }
     Ok(())
 }
@@ -291,10 +348,20 @@ fn reports_failed_reads(rt: HostRuntime) -> Result<(), Fail> {
 #[test]
 fn reports_failed_writes(rt: HostRuntime) -> Result<(), Fail> {
     let table = small_table(rt.alloc())?;
-    for (word, input) in [("mktable", b"61 1 put 76".as_slice()), ("dump", table.as_slice()), ("--help", b"".as_slice())] {
+    for (word, input) in [
+        ("mktable", b"61 1 put 76".as_slice()),
+        ("dump", table.as_slice()),
+        ("--help", b"".as_slice()),
+    ] {
         let mut err = Vec::new(rt.alloc());
         let mut reader = input;
-        let status = run(rt.alloc(), &[word], &mut reader, &mut Broken(ErrorKind::StorageFull), &mut err);
+        let status = run(
+            rt.alloc(),
+            &[word],
+            &mut reader,
+            &mut Broken(ErrorKind::StorageFull),
+            &mut err,
+        );
         assert_eq!(rt; status, 1);
         assert_eq!(rt; err.as_slice(), b"write fault\n".as_slice());
         err.clear();
@@ -305,7 +372,13 @@ fn reports_failed_writes(rt: HostRuntime) -> Result<(), Fail> {
     }
     let mut reader = b"\n".as_slice();
     let mut out = Vec::new(rt.alloc());
-    let status = run(rt.alloc(), &["mktable"], &mut reader, &mut out, &mut Broken(ErrorKind::StorageFull));
+    let status = run(
+        rt.alloc(),
+        &["mktable"],
+        &mut reader,
+        &mut out,
+        &mut Broken(ErrorKind::StorageFull),
+    );
     assert_eq!(rt; status, 1);
     Ok(())
 }
@@ -327,7 +400,10 @@ impl Read for Zeros {
 
 #[test]
 fn reads_64_mebibytes(rt: HostRuntime) -> Result<(), Fail> {
-    for (count, want) in [(67_108_864, "refused 13 BadMagic\n"), (67_108_865, "read fault\n")] {
+    for (count, want) in [
+        (67_108_864, "refused 13 BadMagic\n"),
+        (67_108_865, "read fault\n"),
+    ] {
         let mut out = Vec::new(rt.alloc());
         let mut err = Vec::new(rt.alloc());
         let status = run(rt.alloc(), &["dump"], &mut Zeros(count), &mut out, &mut err);
@@ -337,9 +413,15 @@ fn reads_64_mebibytes(rt: HostRuntime) -> Result<(), Fail> {
     Ok(())
 }
 
-const FIRST_EDIT: &str = "01 1a 6c 65 76 65 6c 64 62 2e 42 79 74 65 77 69 73 65 43 6f 6d 70 61 72 61 74 6f 72 02 00 03 02 04 00";
-const SECOND_EDIT: &str = "02 00 09 00 03 03 04 01 07 00 02 72 09 6b 01 01 00 00 00 00 00 00 09 6b 01 01 00 00 00 00 00 00";
-const FIRST_LINES: &str = "edit 1\ncomparator 6c6576656c64622e4279746577697365436f6d70617261746f72\nlog 0\nnext 2\nlast 0\n";
+const FIRST_EDIT: &str =
+    "01 1a 6c 65 76 65 6c 64 62 2e 42 79 74 65 77 69 73 65 43 6f 6d 70 61 72 61 74 6f 72 02 00 03 02 04 00";
+
+const SECOND_EDIT: &str =
+    "02 00 09 00 03 03 04 01 07 00 02 72 09 6b 01 01 00 00 00 00 00 00 09 6b 01 01 00 00 00 00 00 00";
+
+const FIRST_LINES: &str =
+    "edit 1\ncomparator 6c6576656c64622e4279746577697365436f6d70617261746f72\nlog 0\nnext 2\nlast 0\n";
+
 const SECOND_LINES: &str = "edit 2\nlog 0\nprev 0\nnext 3\nlast 1\nadd 0 2 114 6b@1+ 6b@1+\n";
 
 /// Appends a record in one fragment.
@@ -367,8 +449,14 @@ fn lists_manifests(rt: HostRuntime) -> Result<(), Fail> {
     append(alloc, &mut log, SECOND_EDIT)?;
     assert_eq!(rt; log.len(), 80);
     for (bytes, parts) in [
-        (log.as_slice(), [FIRST_LINES, SECOND_LINES, "rest 0\n"].as_slice()),
-        (log.as_slice().get(..79).unwrap_or(&[]), [FIRST_LINES, "rest 38\n"].as_slice()),
+        (
+            log.as_slice(),
+            [FIRST_LINES, SECOND_LINES, "rest 0\n"].as_slice(),
+        ),
+        (
+            log.as_slice().get(..79).unwrap_or(&[]),
+            [FIRST_LINES, "rest 38\n"].as_slice(),
+        ),
         (zeros.as_slice(), [FIRST_LINES, "rest 20\n"].as_slice()),
         (b"".as_slice(), ["rest 0\n"].as_slice()),
     ] {
@@ -406,7 +494,12 @@ fn refuses_what_is_no_manifest(rt: HostRuntime) -> Result<(), Fail> {
     if let Some(byte) = log.as_mut_slice().get_mut(10) {
         *byte ^= 1;
     }
-    expect_refused(&rt, &["manifest"], log.as_slice(), "refused 19 LogChecksum 0\n")?;
+    expect_refused(
+        &rt,
+        &["manifest"],
+        log.as_slice(),
+        "refused 19 LogChecksum 0\n",
+    )?;
     for (edit, want) in [
         ("08", "refused 22 UnknownTag 8\n"),
         ("06 07 05", "refused 23 BadLevel 7\n"),

@@ -35,10 +35,11 @@ lines-preserved c =
 
 pub returns-clause-made : goal.returns-clause-made
 returns-clause-made c =
-    let next = rw c.if-branch.false at c.in_ok-next.ensures.ok in
-    (c.lines.builder.entries,
-    at_end c.args.list.now c.lines.builder.entries (before_of c.lines.reader) (rest_of c.lines.reader) c.lines.invariant.reading next,
-    c.in_ok-finish.ensures.table)
+    let next = rw c.if-branch.false at c.in_ok-next.ensures.ok in (
+      c.lines.builder.entries,
+      at_end c.args.list.now c.lines.builder.entries (before_of c.lines.reader) (rest_of c.lines.reader) c.lines.invariant.reading next,
+      c.in_ok-finish.ensures.table,
+    )
 
 pub returns-in_err-add-clause-explained : goal.returns-in_err-add-clause-explained
 returns-in_err-add-clause-explained c =

@@ -108,8 +108,8 @@ returns-in_err-push_key-clause-over c h =
     let s = c.self.inside in
     let e = entry_of (key_of c.args.key.now) c.args.value.now in
     let with = length-with s.interval s.count (entries_in s.text.items) s.text.items s.offsets.items s.last.items e _ _ _ _ _ c.self.invariant
-        (c.len.ensures ∙ s.text.ok.0) (c.len-2.ensures ∙ s.offsets.ok.0) (c.shared_with-shared.ensures ∙ ap (λ (xs : List ℕ). shared_at s.interval s.count xs (key_text e)) c.deref.ensures.value)
-        c.is_later-later.ensures (length-unshared c.shared_with-shared.result (key_of c.args.key.now)) in
+    (c.len.ensures ∙ s.text.ok.0) (c.len-2.ensures ∙ s.offsets.ok.0) (c.shared_with-shared.ensures ∙ ap (λ (xs : List ℕ). shared_at s.interval s.count xs (key_text e)) c.deref.ensures.value)
+    c.is_later-later.ensures (length-unshared c.shared_with-shared.result (key_of c.args.key.now)) in
     let small = by_size _ _ c.grown_size-size.ensures.over (omega (arith, c.if-size.false)) in
     let fits : length (block_bytes s.interval (entries_in s.text.items ++ e ∷ [])) < 2 ^ 32 = rw with small in
     let below = subst (λ (b : Building). length (block_bytes b.interval (b.entries ++ e ∷ [])) < 2 ^ 32) c.self.view_is fits in
@@ -120,8 +120,8 @@ returns-in_err-push_entry-clause-over c h =
     let s = c.self.inside in
     let e = entry_of (key_of c.args.key.now) c.args.value.now in
     let with = length-with s.interval s.count (entries_in s.text.items) s.text.items s.offsets.items s.last.items e _ _ _ _ _ c.self.invariant
-        (c.len.ensures ∙ s.text.ok.0) (c.len-2.ensures ∙ s.offsets.ok.0) (c.shared_with-shared.ensures ∙ ap (λ (xs : List ℕ). shared_at s.interval s.count xs (key_text e)) c.deref.ensures.value)
-        c.is_later-later.ensures (length-unshared c.shared_with-shared.result (key_of c.args.key.now)) in
+    (c.len.ensures ∙ s.text.ok.0) (c.len-2.ensures ∙ s.offsets.ok.0) (c.shared_with-shared.ensures ∙ ap (λ (xs : List ℕ). shared_at s.interval s.count xs (key_text e)) c.deref.ensures.value)
+    c.is_later-later.ensures (length-unshared c.shared_with-shared.result (key_of c.args.key.now)) in
     let small = by_size _ _ c.grown_size-size.ensures.over (omega (arith, c.if-size.false)) in
     let fits : length (block_bytes s.interval (entries_in s.text.items ++ e ∷ [])) < 2 ^ 32 = rw with small in
     let below = subst (λ (b : Building). length (block_bytes b.interval (b.entries ++ e ∷ [])) < 2 ^ 32) c.self.view_is fits in
@@ -132,8 +132,8 @@ returns-clause-over c h =
     let s = c.self.inside in
     let e = entry_of (key_of c.args.key.now) c.args.value.now in
     let with = length-with s.interval s.count (entries_in s.text.items) s.text.items s.offsets.items s.last.items e _ _ _ _ _ c.self.invariant
-        (c.len.ensures ∙ s.text.ok.0) (c.len-2.ensures ∙ s.offsets.ok.0) (c.shared_with-shared.ensures ∙ ap (λ (xs : List ℕ). shared_at s.interval s.count xs (key_text e)) c.deref.ensures.value)
-        c.is_later-later.ensures (length-unshared c.shared_with-shared.result (key_of c.args.key.now)) in
+    (c.len.ensures ∙ s.text.ok.0) (c.len-2.ensures ∙ s.offsets.ok.0) (c.shared_with-shared.ensures ∙ ap (λ (xs : List ℕ). shared_at s.interval s.count xs (key_text e)) c.deref.ensures.value)
+    c.is_later-later.ensures (length-unshared c.shared_with-shared.result (key_of c.args.key.now)) in
     let small = by_size _ _ c.grown_size-size.ensures.over (omega (arith, c.if-size.false)) in
     let fits : length (block_bytes s.interval (entries_in s.text.items ++ e ∷ [])) < 2 ^ 32 = rw with small in
     let below = subst (λ (b : Building). length (block_bytes b.interval (b.entries ++ e ∷ [])) < 2 ^ 32) c.self.view_is fits in

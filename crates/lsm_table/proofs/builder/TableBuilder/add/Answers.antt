@@ -68,9 +68,9 @@ returns-clause-ok c =
     let index = c.settle.new.index in
     on_ok_by c.add.result (c.add.new.self ≡ building c.settle.new.taken.interval (c.settle.new.taken.entries ++ e ∷ [])) _ c.add.ensures.ok
     (λ is. made_seen i.options (es ++ e ∷ []) front c.add.new.self index
-        (adding i.options es front c.settle.new.taken index c.add.new.self c.len-offset.result e (c.in_ok-settle.ensures.ok es c.self.invariant) c.in_ok-settle.ensures.not_full a
-        (c.in_ok-has_room.ensures.yes c.if-not-branch.false) (omega (arith, c.len-offset.ensures)) is)
-      ∙ ap (λ (x : Making). making x.options (x.entries ++ e ∷ [])) c.self.view_is)
+    (adding i.options es front c.settle.new.taken index c.add.new.self c.len-offset.result e (c.in_ok-settle.ensures.ok es c.self.invariant) c.in_ok-settle.ensures.not_full a
+    (c.in_ok-has_room.ensures.yes c.if-not-branch.false) (omega (arith, c.len-offset.ensures)) is)
+    ∙ ap (λ (x : Making). making x.options (x.entries ++ e ∷ [])) c.self.view_is)
 
 pub returns-clause-err : goal.returns-clause-err
 returns-clause-err c =
