@@ -11,7 +11,7 @@ trap 'rm -rf "$scratch"' EXIT
 mkdir -p "$scratch/crates/bench_checksum/src"
 cp -a "$top/crates/lsm_codec" "$scratch/crates/lsm_codec"
 rm -rf "$scratch/crates/lsm_codec/must-fail"
-cp "$here/main.rt" "$scratch/crates/bench_checksum/src/main.rt"
+cp "$here/checksum.rattle" "$scratch/crates/bench_checksum/src/main.rt"
 grep '^lsm_codec:' "$top/crates.txt" > "$scratch/crates.txt"
 echo 'bench_checksum: lsm_codec' >> "$scratch/crates.txt"
 (cd "$scratch/crates/bench_checksum" && rt run > "$scratch/first" 2> "$scratch/log") || { cat "$scratch/log" >&2; exit 1; }
