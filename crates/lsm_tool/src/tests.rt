@@ -249,7 +249,7 @@ fn refuses_what_is_no_table(rt: HostRuntime) -> Result<(), Fail> {
     for (offset, byte, want) in [
         (21, 1, "refused 16 Compressed 1\n"),
         (21, 9, "refused 17 BadBlockType 9\n"),
-        (43, 2, "refused 18 BadIndex\n"),
+        (44, 2, "refused 18 BadIndex\n"),
         (0, 1, "refused 7 BadEntry 0\n"),
         (13, 1, "refused 6 BadRestarts\n"),
     ] {
