@@ -3,7 +3,8 @@
 ghost use Rattle.std.specs.Prelude.{◌<◌};
 
 use crate::{
-    Input, KeyRange, Layout, ListStream, Merger, OwnedEntry, Scan, Source, Stream, against_age, layout_of,
+    Input, KeyRange, Layout, ListStream, Merger, OwnedEntry, Scan, Source, Stream, against_age,
+    layout_of,
 };
 use lsm_codec::{KeyRef, Kind, MAX_SEQ};
 use std::alloc::{AllocError, Global};
