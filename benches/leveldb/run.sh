@@ -1,0 +1,55 @@
+#!/usr/bin/env bash
+# Compares `lsm` with the real LevelDB (Debian's libleveldb-dev): tables made of one list byte by byte, each other's tables read, and the
+# tables (with filter blocks and shortened separators) and the manifest of a directory that LevelDB made.
+# Prints one line for each comparison, and times for a list of a million entries.
+set -euo pipefail
+here=$(cd "$(dirname "$0")" && pwd)
+top=$(cd "$here/../.." && pwd)
+lsm=${LSM:-$top/lsm}
+work=$(mktemp -d)
+trap 'rm -rf "$work"' EXIT
+g++ -O2 -o "$work/table" "$here/table_of_list.cc" -lleveldb
+g++ -O2 -o "$work/database" "$here/database.cc" -lleveldb
+
+list() { # LINES VALUE_BYTES: keys of 16 hex digits, every ninth a deletion, some keys with several entries
+  awk -v n="$1" -v size="$2" 'BEGIN {
+    for (i = 0; i < n; i++) {
+      key = sprintf("%016x", int(i / 3) * 4001); value = sprintf("%016x", i * 2654435761 % 4294967296)
+      while (length(value) < 2 * size) value = value value
+      value = size ? substr(value, 1, 2 * size) : "."
+      if (i % 9 == 5) print key, n - i, "del"; else print key, n - i, "put", value
+    }
+  }'
+}
+
+for shape in "0 0" "1 1" "2 0" "17 4" "1000 16" "20000 100" "300 5000"; do
+  set -- $shape
+  list "$1" "$2" > "$work/list"
+  "$lsm" mktable < "$work/list" > "$work/ours"
+  "$work/table" build 4096 16 "$work/theirs" < "$work/list"
+  cmp "$work/ours" "$work/theirs"
+  "$lsm" dump < "$work/theirs" | cmp - "$work/list"
+  "$work/table" dump "$work/ours" | cmp - "$work/list"
+  echo "a list of $1 entries with values of $2 bytes: the same $(wc -c < "$work/ours") bytes, each reads the other's"
+done
+
+"$work/database" "$work/db" 100000
+entries=0
+for file in "$work"/db/*.ldb; do
+  "$lsm" dump < "$file" > "$work/ours"
+  "$work/table" dump "$file" | cmp - "$work/ours"
+  entries=$((entries + $(wc -l < "$work/ours")))
+done
+echo "LevelDB's directory: $(ls "$work"/db/*.ldb | wc -l) tables, $entries entries, read as LevelDB reads them"
+"$lsm" manifest < "$work"/db/MANIFEST-* > "$work/manifest"
+echo "its manifest: $(grep -c '^edit' "$work/manifest") edits, $(tail -1 "$work/manifest")"
+
+list 1000000 16 > "$work/list"
+TIMEFORMAT='%U user %S sys %R real'
+for turn in 1 2 3; do
+  echo -n "mktable lsm:     "; time "$lsm" mktable < "$work/list" > "$work/ours"
+  echo -n "mktable LevelDB: "; time "$work/table" build 4096 16 "$work/theirs" < "$work/list"
+  echo -n "dump lsm:        "; time "$lsm" dump < "$work/ours" > "$work/out"
+  echo -n "dump LevelDB:    "; time "$work/table" dump "$work/ours" > "$work/out2"
+done
+cmp "$work/ours" "$work/theirs"; cmp "$work/out" "$work/out2"
