@@ -203,29 +203,25 @@ fn keeps_the_limits(rt: HostRuntime) -> Result<(), Fail> {
     Ok(())
 }
 
-/// The small table with other bytes from an offset on, and right checksums.
-fn altered(alloc: Global, offset: usize, bytes: &[u8]) -> Result<Vec<u8>, Fail> {
+/// Appends a block with its type byte, and the checksum of both.
+fn push_sealed(out: &mut Vec<u8>, block: &[u8]) -> Result<(), Fail> {
+    out.extend_from_slice(block)?;
+    out.extend_from_slice(&mask(crc32c(block)).to_le_bytes())?;
+    Ok(())
+}
+
+/// The small table with another byte at an offset, and right checksums.
+fn altered(alloc: Global, offset: usize, byte: u8) -> Result<Vec<u8>, Fail> {
     let mut table = small_table(alloc)?;
-    for (i, byte) in bytes.iter().enumerate() {
-        if let Some(place) = table.as_mut_slice().get_mut(offset + i) {
-            *place = *byte;
-        }
+    if let Some(place) = table.as_mut_slice().get_mut(offset) {
+        *place = byte;
     }
-    for (start, end) in [(0usize, 22usize), (39, 62)] {
-        if let (Some(stored), Some(trailer)) = (
-            table.as_slice().get(start..end),
-            table.as_slice().get(end..end + 4),
-        ) {
-            let _ = trailer;
-            let sum = mask(crc32c(stored)).to_le_bytes();
-            for (i, byte) in sum.iter().enumerate() {
-                if let Some(place) = table.as_mut_slice().get_mut(end + i) {
-                    *place = *byte;
-                }
-            }
-        }
-    }
-    Ok(table)
+    let mut file = Vec::new(alloc);
+    push_sealed(&mut file, table.as_slice().get(..22).unwrap_or(&[]))?;
+    file.extend_from_slice(table.as_slice().get(26..39).unwrap_or(&[]))?;
+    push_sealed(&mut file, table.as_slice().get(39..62).unwrap_or(&[]))?;
+    file.extend_from_slice(table.as_slice().get(66..).unwrap_or(&[]))?;
+    Ok(file)
 }
 
 #[test]
@@ -256,40 +252,41 @@ fn refuses_what_is_no_table(rt: HostRuntime) -> Result<(), Fail> {
         expect_refused(
             &rt,
             &["dump"],
-            altered(alloc, offset, &[byte])?.as_slice(),
+            altered(alloc, offset, byte)?.as_slice(),
             want,
         )?;
     }
     Ok(())
 }
 
+/// A run on these words ends with this status, and writes the usage where that goes: on `out` for help, else on `err`.
+fn expect_usage(rt: &(impl Abort + AllocGlobal), words: &[&str], want: u8) -> Result<(), Fail> {
+    let run = outcome(rt.alloc(), words, b"")?;
+    assert_eq!(rt; run.status, want);
+    assert!(rt; run.out.is_empty() == (want == 2));
+    assert!(rt; run.err.is_empty() == (want == 0));
+    let text = if want == 0 {
+        run.out.as_slice()
+    } else {
+        run.err.as_slice()
+    };
+    assert!(rt;
+        text.windows(10)
+            .any(|part| part == b"Usage: lsm".as_slice())
+    );
+    Ok(())
+}
+
 #[test]
 fn knows_its_command_line(rt: HostRuntime) -> Result<(), Fail> {
-    for (words, want) in [
-        ([].as_slice(), 2),
-        (["nonsense"].as_slice(), 2),
-        (["mktable", "extra"].as_slice(), 2),
-        (["dump", "--wrong"].as_slice(), 2),
-        (["--help"].as_slice(), 0),
-        (["help"].as_slice(), 0),
-        (["mktable", "--help"].as_slice(), 0),
-        (["dump", "--help"].as_slice(), 0),
-    ] {
-        let run = outcome(rt.alloc(), words, b"")?;
-        assert_eq!(rt; run.status, want, "{words:?}");
-        assert!(rt; run.out.is_empty() == (want == 2), "{words:?}");
-        assert!(rt; run.err.is_empty() == (want == 0), "{words:?}");
-        let text = if want == 0 {
-            run.out.as_slice()
-        } else {
-            run.err.as_slice()
-        };
-        assert!(rt;
-            text.windows(10)
-                .any(|part| part == b"Usage: lsm".as_slice()),
-            "{words:?}"
-        );
-    }
+    expect_usage(&rt, &[], 2)?;
+    expect_usage(&rt, &["nonsense"], 2)?;
+    expect_usage(&rt, &["mktable", "extra"], 2)?;
+    expect_usage(&rt, &["dump", "--wrong"], 2)?;
+    expect_usage(&rt, &["--help"], 0)?;
+    expect_usage(&rt, &["help"], 0)?;
+    expect_usage(&rt, &["mktable", "--help"], 0)?;
+    expect_usage(&rt, &["dump", "--help"], 0)?;
     Ok(())
 }
 
