@@ -259,21 +259,24 @@ fn refuses_what_is_no_table(rt: HostRuntime) -> Result<(), Fail> {
     Ok(())
 }
 
+/// Whether a text has the usage line.
+fn names_usage(text: &[u8]) -> bool {
+    text.windows(10)
+        .any(|part| part == b"Usage: lsm".as_slice())
+}
+
 /// A run on these words ends with this status, and writes the usage where that goes: on `out` for help, else on `err`.
 fn expect_usage(rt: &(impl Abort + AllocGlobal), words: &[&str], want: u8) -> Result<(), Fail> {
     let run = outcome(rt.alloc(), words, b"")?;
     assert_eq!(rt; run.status, want);
     assert!(rt; run.out.is_empty() == (want == 2));
     assert!(rt; run.err.is_empty() == (want == 0));
-    let text = if want == 0 {
-        run.out.as_slice()
+    let told = if want == 0 {
+        names_usage(&run.out)
     } else {
-        run.err.as_slice()
+        names_usage(&run.err)
     };
-    assert!(rt;
-        text.windows(10)
-            .any(|part| part == b"Usage: lsm".as_slice())
-    );
+    assert!(rt; told);
     Ok(())
 }
 
