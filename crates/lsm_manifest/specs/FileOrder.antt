@@ -13,11 +13,14 @@ user_part key = if nat_lt (length key) 8 then key else take (length key - 8) key
 unfoldable pub packed_part : List ℕ → ℕ
 packed_part key = if nat_lt (length key) 8 then 0 else from_le_bytes w64 (drop (length key - 8) key)
 
--- of one user key the newest first
+-- by smallest internal key, of one user key the newest first, and then by number
+abbrev pub place_cmp : List ℕ → ℕ → List ℕ → ℕ → Ordering
+place_cmp smallest number other_smallest other_number =
+    ordering_then (slice_cmp nat_cmp (user_part smallest) (user_part other_smallest))
+    (ordering_then (nat_cmp (packed_part other_smallest) (packed_part smallest)) (nat_cmp number other_number))
+
 abbrev pub file_cmp : FileMeta → FileMeta → Ordering
-file_cmp f g =
-    ordering_then (slice_cmp nat_cmp (user_part f.smallest) (user_part g.smallest))
-    (ordering_then (nat_cmp (packed_part g.smallest) (packed_part f.smallest)) (nat_cmp f.number g.number))
+file_cmp f g = place_cmp f.smallest f.number g.smallest g.number
 
 -- a table file, under a name that no type of src/ has
 abbrev pub TableFile : Type 0

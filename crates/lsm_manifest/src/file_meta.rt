@@ -24,11 +24,12 @@ impl FileMeta {
     pub fn compare(&self, other: &FileMeta) -> Ordering
         ensures { result ≡ file_cmp self.now other.now }
     {
-        let (user, packed) = parts(self.smallest.as_slice());
-        let (other_user, other_packed) = parts(other.smallest.as_slice());
-        user.cmp(other_user)
-            .then(other_packed.cmp(&packed))
-            .then(self.number.cmp(&other.number))
+        compare_places(
+            self.smallest.as_slice(),
+            self.number,
+            other.smallest.as_slice(),
+            other.number,
+        )
     }
 
     /// A copy, in memory of its own.
@@ -48,7 +49,7 @@ impl FileMeta {
 
 ghost use Rattle.std.specs.Ordering.{nat_cmp};
 ghost use Rattle.lsm_codec.specs.Keys.{InternalKey, IsKey, key_cmp, then_by};
-ghost use Rattle.lsm_manifest.specs.FileOrder.{file_cmp, TableFile};
+ghost use Rattle.lsm_manifest.specs.FileOrder.{file_cmp, place_cmp, TableFile};
 
 /// The parts of an internal key: the user key, and the number of its last eight bytes.
 #[tactic(auto, unfolding(crate::specs::FileOrder::user_part, crate::specs::FileOrder::packed_part))]
@@ -64,6 +65,22 @@ fn parts(key: &[u8]) -> (&[u8], u64)
         tail[0], tail[1], tail[2], tail[3], tail[4], tail[5], tail[6], tail[7],
     ]);
     (user, packed)
+}
+
+/// The order of two files in a level, by their smallest internal keys and their numbers: what `FileMeta::compare` goes by.
+pub fn compare_places(
+    smallest: &[u8],
+    number: u64,
+    other_smallest: &[u8],
+    other_number: u64,
+) -> Ordering
+    ensures { result ≡ place_cmp smallest.now number other_smallest.now other_number }
+{
+    let (user, packed) = parts(smallest);
+    let (other_user, other_packed) = parts(other_smallest);
+    user.cmp(other_user)
+        .then(other_packed.cmp(&packed))
+        .then(number.cmp(&other_number))
 }
 
 /// A law: over internal keys `compare` is the order of internal keys, then of numbers.

@@ -24,7 +24,7 @@ mod writer;
 
 pub use edit::{Edit, one_edit};
 pub use edit_fault::EditFault;
-pub use file_meta::{FileMeta, file_order};
+pub use file_meta::{FileMeta, compare_places, file_order};
 pub use log::{Log, one_log, read_log};
 pub use log_fault::LogFault;
 pub use parts::{AddedFile, CompactPointer, DeletedFile};

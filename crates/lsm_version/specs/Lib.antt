@@ -9,3 +9,4 @@ pub mod Ranges
 pub mod Ages
 pub mod Scanning
 pub mod Checking
+pub mod Versions

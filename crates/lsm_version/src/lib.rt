@@ -16,6 +16,7 @@ mod stream;
 #[cfg(test)]
 mod tests;
 mod tree;
+mod version;
 
 pub use ages::against_age;
 pub use input::Input;
@@ -26,3 +27,4 @@ pub use placed::Placed;
 pub use scan::{Pair, Scan};
 pub use source::Source;
 pub use stream::{ListStream, Stream};
+pub use version::Version;
