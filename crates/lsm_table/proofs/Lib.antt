@@ -22,3 +22,4 @@ pub mod IterLaws
 pub mod Ascending
 pub mod Padding
 pub mod Honest
+pub mod LastLaws
