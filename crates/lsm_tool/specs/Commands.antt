@@ -15,7 +15,7 @@ use Rattle.lsm_tool.specs.declared.command_line.CommandName.TheVariants.{MakeTab
 use Rattle.lsm_tool.specs.declared.fault.Fault.{Fault}
 use Rattle.lsm_tool.specs.declared.fault.Fault.TheVariants.{Read, Write, BadLine, OutOfMemory, Table, TooLarge, Log, Edit}
 use Rattle.lsm_table.specs.declared.table_options.TableOptions.{TableOptions}
-use Rattle.lsm_table.specs.TableBuilding.{PassesLimit, index_block, groups_by}
+use Rattle.lsm_table.specs.TableBuilding.{PassesLimit, index_block, groups_by, table_bytes}
 use Rattle.lsm_tool.specs.EntryReading.{BeginsWith}
 use Rattle.lsm_tool.specs.EntryList.{IsEntryList, IsFirstBadLine}
 use Rattle.lsm_tool.specs.EntryPrinting.{entry_list}
@@ -27,9 +27,13 @@ AreEdits [] (e ∷ es) = ⊥
 AreEdits (r ∷ rs) [] = ⊥
 AreEdits (r ∷ rs) (e ∷ es) = IsEdit r e × AreEdits rs es
 
+-- The options of the tables that `mktable` makes.
+abbrev pub usual : TableOptions
+usual = record { block_size = 4096; restart_interval = 16 }
+
 -- what a command writes on standard output for what it reads on standard input
 abbrev pub Answers : CommandName → List ℕ → List ℕ → Type 0
-Answers MakeTable input output = (entries : List Entry) × IsEntryList input entries × IsTable output entries
+Answers MakeTable input output = (entries : List Entry) × IsEntryList input entries × IsTable output entries × (output ≡ table_bytes usual entries)
 Answers Dump input output = (entries : List Entry) × IsTable input entries × (output ≡ entry_list entries)
 Answers Manifest input output =
     (records : List (List ℕ)) × (rest : ℕ) × (edits : List Change)
@@ -45,10 +49,6 @@ pub record HasBadEdit (input : List ℕ) (fault : EditFault) : Type 0 where
   pub within : place < length records
   pub good : AreEdits (take place records) edits
   pub bad : edit_at (get_or records place []) ≡ Err fault
-
--- The options of the tables that `mktable` makes.
-abbrev pub usual : TableOptions
-usual = record { block_size = 4096; restart_interval = 16 }
 
 -- The input begins with entries of which a block would pass 2 ^ 32 - 1 bytes: a data block with one more, or the index block.
 abbrev pub IsTooLarge : List ℕ → Type 0

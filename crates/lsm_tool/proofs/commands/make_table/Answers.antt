@@ -39,6 +39,7 @@ returns-clause-made c =
       c.lines.builder.entries,
       at_end c.args.list.now c.lines.builder.entries (before_of c.lines.reader) (rest_of c.lines.reader) c.lines.invariant.reading next,
       c.in_ok-finish.ensures.table,
+      rw c.lines.invariant.options at c.in_ok-finish.ensures.bytes,
     )
 
 pub returns-in_err-add-clause-explained : goal.returns-in_err-add-clause-explained
