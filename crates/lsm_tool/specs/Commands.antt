@@ -1,5 +1,6 @@
 -- What the commands answer, and what their faults say.
-use Rattle.std.specs.Prelude.{◌≡◌, ℕ, ◌^◌, ◌<◌, ◌≤◌, ◌⊎◌, ⊤, List, [], ◌∷◌, length, take, get_or, Err}
+use Rattle.std.specs.Prelude.{◌≡◌, ℕ, ◌^◌, ◌<◌, ◌≤◌, ◌⊎◌, ⊤, List, [], ◌∷◌, length, take, get_or, Err, Option, IfSome}
+use Rattle.std.specs.Io.KnownBytes.{Appends, Keeps}
 use Rattle.lsm_codec.specs.Entries.{Entry}
 use Rattle.lsm_manifest.specs.declared.edit_fault.EditFault.{EditFault}
 use Rattle.lsm_manifest.specs.Log.{IsLog}
@@ -12,6 +13,8 @@ use Rattle.lsm_table.specs.Table.{IsTable}
 use Rattle.lsm_table.specs.TableReading.{table_at}
 use Rattle.lsm_tool.specs.declared.command_line.CommandName.{CommandName}
 use Rattle.lsm_tool.specs.declared.command_line.CommandName.TheVariants.{MakeTable, Dump, Manifest}
+use Rattle.lsm_tool.specs.declared.command_line.CommandLine.{CommandLine}
+use Rattle.lsm_tool.specs.declared.command_line.CommandLine.TheVariants.{Run, Help, Bad}
 use Rattle.lsm_tool.specs.declared.fault.Fault.{Fault}
 use Rattle.lsm_tool.specs.declared.fault.Fault.TheVariants.{Read, Write, BadLine, OutOfMemory, Table, TooLarge, Log, Edit}
 use Rattle.lsm_table.specs.declared.table_options.TableOptions.{TableOptions}
@@ -75,3 +78,17 @@ Explains Manifest input (Log fault) = log_at input ≡ Err fault
 Explains Manifest input (Edit fault) = HasBadEdit input fault
 Explains Dump input TooLarge = ⊥
 Explains Dump input (Table fault) = table_at input ≡ Err fault
+
+-- ---- command lines
+
+-- What stands on standard output after a command line was followed without a fault, and the exit status.
+abbrev pub IsFollowed : CommandLine → Option (List ℕ) → Option (List ℕ) → Option (List ℕ) → ℕ → Type 0
+IsFollowed (Run name) input old new status = (status ≡ 0) × IfSome input (λ text. (output : List ℕ) × Answers name text output × Appends old new output)
+IsFollowed (Help text) input old new status = (status ≡ 0) × Appends old new text.items
+IsFollowed (Bad text) input old new status = (status ≡ 2) × Keeps old new
+
+-- What a fault says of the command line and the input: where help was asked for it is a failed write.
+abbrev pub IsExplained : CommandLine → Option (List ℕ) → Fault → Type 0
+IsExplained (Run name) input fault = IfSome input (λ text. Explains name text fault)
+IsExplained (Help text) input fault = fault ≡ Write
+IsExplained (Bad text) input fault = ⊥

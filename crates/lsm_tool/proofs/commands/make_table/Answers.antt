@@ -1,13 +1,11 @@
-use Rattle.std.proofs.Common.{◌≡◌, true, false, rules, List, [], ◌∷◌, ◌++◌, Some, Ok, Err, refl, sym, ◌∙◌, ap, subst}
-use Rattle.lsm_codec.specs.Entries.{Entry}
-use Rattle.lsm_block.specs.Block.{Ascends}
+use Rattle.std.proofs.Common.{Err, ◌∙◌, ap}
 use Rattle.lsm_table.specs.TableMaking.{Making}
 use Rattle.lsm_tool.specs.ReaderView.{before_of, rest_of}
 use Rattle.lsm_tool.specs.EntryView.{entry_of}
 use Rattle.lsm_block.specs.declared.build_fault.BuildFault.{BuildFault}
 use Rattle.lsm_tool.specs.Fault.{of_line, of_build}
 use Rattle.lsm_tool.specs.declared.command_line.CommandName.TheVariants.{MakeTable}
-use Rattle.lsm_tool.proofs.MakingLaws.{IsAt, next_ascends, at_next, at_end, line_explained, add_explained, finish_explained, explained_err}
+use Rattle.lsm_tool.proofs.MakingLaws.{next_ascends, at_next, at_end, line_explained, add_explained, finish_explained, explained_err}
 use Rattle.lsm_tool.proofs.commands.make_table.Goals as goal
 
 pub returns-in_err-next-clause-explained : goal.returns-in_err-next-clause-explained
