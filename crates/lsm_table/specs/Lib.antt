@@ -21,3 +21,5 @@ pub mod FileShelf
 pub mod Registry
 pub mod ReadFault
 pub mod Found
+pub mod OpenTable
+pub mod Searching

@@ -24,8 +24,10 @@ mod listing;
 mod memory_receipt;
 mod memory_shelf;
 mod naming;
+mod open_table;
 mod read_fault;
 mod registry;
+mod search;
 mod shelf;
 mod shelf_fault;
 #[cfg(test)]
@@ -50,6 +52,7 @@ pub use lsm_block::BuildFault;
 pub use memory_receipt::MemoryReceipt;
 pub use memory_shelf::MemoryShelf;
 pub use naming::Naming;
+pub use open_table::OpenTable;
 pub use read_fault::ReadFault;
 pub use registry::Registry;
 pub use shelf::Shelf;
