@@ -19,6 +19,7 @@ use crate::open_table::OpenTable;
 use crate::read_fault::ReadFault;
 use crate::search::{Search, key_for, search_block};
 use crate::shelf::Shelf;
+use crate::table_entries::TableEntries;
 use crate::table_fault::TableFault;
 use crate::table_iter::TableIter;
 use crate::whole_image::read_image;
@@ -133,6 +134,14 @@ impl Table {
     {
         let (body, index) = self.parts();
         TableIter::over(alloc, body, index)
+    }
+
+    /// Hands the table over to a reader, before the first entry. Takes no memory.
+    pub fn into_entries(self, alloc: Global) -> TableEntries
+        ensures { result.left ≡ self }
+    {
+        let Table { file, index } = self;
+        TableEntries::over(alloc, file, index)
     }
 }
 
