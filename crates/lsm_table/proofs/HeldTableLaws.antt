@@ -30,6 +30,10 @@ entries_in-is bytes es e = ap entries_or_none e
 pub table_held : (bytes : List ℕ) (es : List Entry) → IsTable bytes es → entries_in bytes ≡ es
 table_held bytes es t = entries_in-is bytes es (table_again bytes es t)
 
+-- What a table's bytes hold is the table's.
+pub table_itself : (bytes : List ℕ) (es : List Entry) → IsTable bytes es → IsTable bytes (entries_in bytes)
+table_itself bytes es t = subst (λ (xs : List Entry). IsTable bytes xs) (sym (table_held bytes es t)) t
+
 -- where the contents stand
 pub record Slice (body : List ℕ) (handle : Handle) (contents : List ℕ) : Type 0 where
   pub begins : handle.offset ≤ length body

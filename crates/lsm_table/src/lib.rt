@@ -61,7 +61,7 @@ pub use registry::Registry;
 pub use shelf::Shelf;
 pub use shelf_fault::ShelfFault;
 pub use slip::Slip;
-pub use table::{Table, one_table};
+pub use table::{Table, entries_are, one_table};
 pub use table_entries::TableEntries;
 pub use table_fault::TableFault;
 pub use table_iter::TableIter;

@@ -47,17 +47,6 @@ impl Model for Table {
     ghost invariant = { λ t. HeldTable t.file.items t.index };
 }
 
-/// Judges a file. What comes back is the place of its index block.
-fn hold(alloc: Global, file: &[u8]) -> Result<Handle, TableFault>
-    ensures held { IfOk result (λ index. HeldTable file.now index) }
-    ensures exact { Gives (λ _. entries_in file.now) result (table_at file.now) }
-{
-    match judge(alloc, file) {
-        Ok(index) => Ok(index),
-        Err(fault) => Err(fault),
-    }
-}
-
 impl Table {
     /// The table of a file. What is wrong with it is named by the first fault in this order: the footer (length, magic
     /// number, places), the index block, and then for each index entry its value, its data block (place, checksum, type, the
@@ -70,7 +59,7 @@ impl Table {
         // Which fault it is.
         ensures exact { Gives (λ t. t) result (table_at file.items) }
     {
-        match hold(alloc, &file) {
+        match judge(alloc, &file) {
             Ok(index) => Ok(Table { file, index }),
             Err(fault) => Err(fault),
         }
@@ -148,4 +137,10 @@ impl Table {
 /// At most one list of entries fits a table's bytes.
 pub fn one_table()
     ensures { (bytes : List ℕ) (es fs : List Entry) → IsTable bytes es → IsTable bytes fs → es ≡ fs }
+{}
+
+/// What a table's bytes hold, as contracts name it, is the table's entries.
+pub fn entries_are()
+    ensures same { (bytes : List ℕ) (es : List Entry) → IsTable bytes es → entries_in bytes ≡ es }
+    ensures table { (bytes : List ℕ) (es : List Entry) → IsTable bytes es → IsTable bytes (entries_in bytes) }
 {}
