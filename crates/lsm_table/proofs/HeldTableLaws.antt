@@ -1,24 +1,23 @@
 -- What a checked table holds, and where.
-use Rattle.std.proofs.Common.{◌≡◌, ℕ, ◌+◌, ◌-◌, ◌<◌, ◌≤◌, Bool, true, false, List, [], ◌∷◌, ◌++◌, length, take, drop, Option, Some, None, Result, Ok, Err, refl, sym, ap, ◌∙◌, subst, append_assoc, arith}
+use Rattle.std.proofs.Common.{◌≡◌, ℕ, ◌≤◌, List, [], ◌∷◌, ◌++◌, length, take, drop, Option, Some, None, Ok, refl, sym, ap, ◌∙◌, subst, arith}
 use Rattle.std.specs.List.{flat_map}
-use Rattle.std.proofs.lemmas.List.{take_at, drop_at, length-append, length-drop, append-nil}
+use Rattle.std.proofs.lemmas.List.{take_at, drop_at, length-append, append-nil}
 use Rattle.lsm_codec.specs.Keys.{InternalKey}
-use Rattle.lsm_codec.specs.Entries.{Entry, internal_key, newest}
-use Rattle.lsm_block.specs.Block.{IsBlock, Ascends}
-use Rattle.lsm_block.specs.Reading.{block_at}
-use Rattle.lsm_block.specs.Held.{HeldBlock, held}
+use Rattle.lsm_codec.specs.Entries.{Entry, internal_key}
+use Rattle.lsm_block.specs.Block.{IsBlock}
+use Rattle.lsm_block.specs.Held.{held}
 use Rattle.lsm_block.proofs.BlockLaws.{block_again}
 use Rattle.lsm_block.proofs.HeldLaws.{held_is}
 use Rattle.lsm_table.specs.declared.table_fault.TableFault.TheVariants.{BadIndex}
 use Rattle.lsm_table.specs.declared.handle.Handle.{Handle}
-use Rattle.lsm_table.specs.Handle.{IsHandle, handle_at}
-use Rattle.lsm_table.specs.StoredBlock.{trailer, Holds, contents_at}
-use Rattle.lsm_table.specs.Footer.{body_of, footer_of}
+use Rattle.lsm_table.specs.Handle.{handle_at}
+use Rattle.lsm_table.specs.StoredBlock.{trailer, Holds}
+use Rattle.lsm_table.specs.Footer.{body_of}
 use Rattle.lsm_table.specs.Table.{DataBlock, DataBlocks, IsTable, concat}
 use Rattle.lsm_table.specs.TableReading.{table_at}
-use Rattle.lsm_table.specs.HeldTable.{entries_or_none, entries_in, HeldTable, entries_named, left_of, Names, BlockAt}
+use Rattle.lsm_table.specs.HeldTable.{entries_or_none, entries_in, HeldTable, entries_named, Names, BlockAt}
 use Rattle.lsm_table.proofs.HandleLaws.{handle_again}
-use Rattle.lsm_table.proofs.StoredBlockLaws.{length-trailer, contents_again}
+use Rattle.lsm_table.proofs.StoredBlockLaws.{contents_again}
 use Rattle.lsm_table.proofs.FooterLaws.{ends, length-footer}
 use Rattle.lsm_table.proofs.TableLaws.{table_again}
 use Rattle.lsm_table.proofs.SearchLaws.{ascends_tail}
@@ -29,6 +28,10 @@ entries_in-is bytes es e = ap entries_or_none e
 
 pub table_held : (bytes : List ℕ) (es : List Entry) → IsTable bytes es → entries_in bytes ≡ es
 table_held bytes es t = entries_in-is bytes es (table_again bytes es t)
+
+-- What a table's bytes hold is the table's.
+pub table_itself : (bytes : List ℕ) (es : List Entry) → IsTable bytes es → IsTable bytes (entries_in bytes)
+table_itself bytes es t = subst (λ (xs : List Entry). IsTable bytes xs) (sym (table_held bytes es t)) t
 
 -- where the contents stand
 pub record Slice (body : List ℕ) (handle : Handle) (contents : List ℕ) : Type 0 where
@@ -120,15 +123,6 @@ names_all body index entries n = all_named body n.bound index n.groups n.blocks 
 
 pub table_names : (file : List ℕ) (es : List Entry) (t : IsTable file es) → Names t.body t.index es
 table_names file es t = record { bound = None; groups = t.groups; ascends = t.indexed.ascends; blocks = t.blocks; entries_are = t.entries_are }
-
--- what is lent of a checked table names its entries
-pub table_parts : (file body : List ℕ) (index : Handle) (block : HeldBlock) → HeldTable file index → body ≡ body_of file → ((es : List Entry) → BlockAt body index es → block.entries ≡ es) → Names body block.entries (entries_in file)
-table_parts file body index block h is there =
-    let t = h.table in
-    let same : t.body ≡ body = sym (is ∙ (bodied file (entries_in file) t).is) in
-    let held = subst (λ (x : Handle). Holds body x t.contents) h.index_is (subst (λ (xs : List ℕ). Holds xs t.footer.index t.contents) same t.held) in
-    let entries = there t.index (record { contents = t.contents; held = held; block = t.indexed }) in
-    subst (λ (xs : List Entry). Names body xs (entries_in file)) (sym entries) (subst (λ (xs : List ℕ). Names xs t.index (entries_in file)) same (table_names file (entries_in file) t))
 
 pub table_block : (file body : List ℕ) (index : Handle) (h : HeldTable file index) → body ≡ body_of file → BlockAt body index h.table.index
 table_block file body index h is =

@@ -11,6 +11,11 @@ pub mod IndexLaws
 pub mod BuildingLaws
 pub mod MakingLaws
 pub mod HeldTableLaws
+pub mod Telling
+pub mod FoundLaws
+pub mod OpenLaws
+pub mod GetLaws
+pub mod EntriesLaws
 pub mod CloseLaws
 pub mod SettleLaws
 pub mod StepLaws

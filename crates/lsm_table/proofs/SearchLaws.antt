@@ -1,22 +1,21 @@
 -- In ascending entries a read finds what stands at the key of its user key and sequence.
-use Rattle.std.proofs.Common.{◌≡◌, ℕ, ◌+◌, ◌*◌, ◌^◌, ◌<◌, ◌≤◌, ◌⊎◌, Bool, true, false, cond, List, [], ◌∷◌, ◌++◌, Option, Some, None, refl, sym, ap, ◌∙◌, subst, inl, inr, arith, Ordering, Less, Equal, Greater}
+use Rattle.std.proofs.Common.{◌≡◌, ℕ, ◌+◌, ◌^◌, ◌<◌, ◌≤◌, ◌⊎◌, Bool, true, false, cond, List, [], ◌∷◌, Option, Some, None, refl, sym, ap, ◌∙◌, subst, inl, inr, arith, Ordering, Less, Equal, Greater}
 use Rattle.std.specs.Prelude.{nat_lt, nat_le, ◌&&◌}
 use Rattle.std.specs.Str.{bytes_eq}
-use Rattle.std.specs.List.{flat_map, AllByRecursion}
+use Rattle.std.specs.List.{AllByRecursion}
 use Rattle.std.specs.Ordering.{nat_cmp, is_lt, is_le, ordering_reverse}
 use Rattle.std.specs.Cmp.Lexicographic.{slice_cmp}
-use Rattle.std.proofs.lemmas.Bool.{lt-ltb, le-ltb, le-leb, lt-leb, leb-true, ltb-true, ltb-false}
+use Rattle.std.proofs.lemmas.Bool.{le-ltb, le-leb}
 use Rattle.std.proofs.lemmas.Cmp.{nat_list_cmp_total, ranked}
-use Rattle.std.proofs.lemmas.Map.Lookups.{exact_bytes}
-use Rattle.lsm_codec.specs.declared.kind.Kind.TheVariants.{Value}
-use Rattle.lsm_codec.specs.Keys.{UserKey, UserLe, user_le, InternalKey, kind_number, packed, key_cmp, then_by}
+use Rattle.lsm_codec.specs.Keys.{UserKey, UserLe, user_le, InternalKey, packed, key_cmp, then_by}
 use Rattle.lsm_codec.specs.Entries.{Entry, internal_key, entry_cmp, stamp, is_allowed, first_of_two, newest}
 use Rattle.lsm_codec.specs.Lists.{Has}
 use Rattle.lsm_codec.proofs.Keys.{key_from_test, test_from_key, user_le_antisym}
 use Rattle.lsm_codec.proofs.Newest.{IsAllowed, allowed_says, allowed_from, kind_number_le, Finds, newest_finds}
 use Rattle.lsm_block.specs.Block.{Ascends}
 use Rattle.lsm_block.specs.Seeking.{not_below, drop_if}
-use Rattle.lsm_table.proofs.KeyOrder.{key_cmp_total, le_less_trans, not_less, less_not, is_less}
+use Rattle.lsm_table.specs.Searching.{read_key, of_user}
+use Rattle.lsm_table.proofs.KeyOrder.{le_less_trans, not_less, less_not, is_less}
 
 -- ---- the first entry not below a key
 
@@ -129,7 +128,7 @@ none_allowed : (k : UserKey) (s : ℕ) (es : List Entry) → NoneAllowed k s es 
 none_allowed k s [] h = refl
 none_allowed k s (e ∷ es) h = let here = h.0 in rw here (none_allowed k s es h.1)
 
-after_at : (key : InternalKey) (es : List Entry) (f : Entry) → AllAfter key es → Has es f → key_cmp key (internal_key f) ≡ Less
+pub after_at : (key : InternalKey) (es : List Entry) (f : Entry) → AllAfter key es → Has es f → key_cmp key (internal_key f) ≡ Less
 after_at key [] f s h = absurd h
 after_at key (e ∷ es) f s h = elim h [ inl same ↦ subst (λ (x : Entry). key_cmp key (internal_key x) ≡ Less) same s.0 | inr rest ↦ after_at key es f s.1 rest ]
 
@@ -146,15 +145,6 @@ allowed_first k s e es after a =
     let here = allowed_from k s e a in
     let first = first_is_newest k s e es after a.key (newest k s es) (newest_finds k s es) in
     rw here (ap (λ (x : Entry). Some x) first)
-
--- the key from which on a read looks
-abbrev pub read_key : UserKey → ℕ → InternalKey
-read_key k s = record { user = k; seq = s; kind = Value }
-
--- the first of the entries, if it is the user's
-abbrev pub of_user : UserKey → List Entry → Option Entry
-of_user k [] = None
-of_user k (e ∷ es) = cond (bytes_eq e.user k) (Some e) None
 
 not_allowed_below : (k : UserKey) (s : ℕ) (e : Entry) → key_cmp (internal_key e) (read_key k s) ≡ Less → (b : Bool) → is_allowed k s e ≡ b → b ≡ false
 not_allowed_below k s e h false t = refl
