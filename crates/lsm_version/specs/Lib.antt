@@ -10,3 +10,4 @@ pub mod Ages
 pub mod Scanning
 pub mod Checking
 pub mod Versions
+pub mod Changes

@@ -8,6 +8,7 @@ mod input;
 mod key_range;
 pub mod laws;
 mod merger;
+mod ordered_level;
 mod owned_entry;
 mod placed;
 mod scan;
