@@ -4,6 +4,7 @@
 #![tactic(auto)]
 
 mod ages;
+mod change;
 mod input;
 mod key_range;
 pub mod laws;
