@@ -18,3 +18,4 @@ pub mod Scanning
 pub mod Checked
 pub mod Placing
 pub mod Changing
+pub mod ChangedFiles

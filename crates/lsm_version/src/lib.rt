@@ -21,6 +21,7 @@ mod tree;
 mod version;
 
 pub use ages::against_age;
+pub use change::changed_files;
 pub use input::Input;
 pub use key_range::{KeyRange, Layout, layout_of};
 pub use merger::Merger;
