@@ -19,3 +19,7 @@ pub mod FileNames
 pub mod Honesty
 pub mod FileShelf
 pub mod Registry
+pub mod ReadFault
+pub mod Found
+pub mod OpenTable
+pub mod Searching
