@@ -19,3 +19,4 @@ pub mod Checked
 pub mod Placing
 pub mod Changing
 pub mod ChangedFiles
+pub mod Rising

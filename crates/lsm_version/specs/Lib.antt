@@ -11,3 +11,4 @@ pub mod Scanning
 pub mod Checking
 pub mod Versions
 pub mod Changes
+pub mod Reads

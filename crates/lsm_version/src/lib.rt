@@ -18,6 +18,7 @@ mod stream;
 #[cfg(test)]
 mod tests;
 mod tree;
+mod user_range;
 mod version;
 
 pub use ages::against_age;
