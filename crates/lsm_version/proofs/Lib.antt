@@ -20,3 +20,5 @@ pub mod Placing
 pub mod Changing
 pub mod ChangedFiles
 pub mod Rising
+pub mod Youngest
+pub mod Finding

@@ -1,20 +1,19 @@
 -- The tables of a level from 1 on rise, and their ranges of user keys have no key in common.
-use Rattle.std.proofs.Common.{◌≡◌, ℕ, zero, suc, ◌+◌, ◌<◌, ◌≤◌, Bool, true, false, List, [], ◌∷◌, length, get_or, refl, sym, ◌∙◌, ap, subst, inl, inr, arith}
+use Rattle.std.proofs.Common.{◌≡◌, ℕ, zero, suc, ◌+◌, ◌<◌, ◌≤◌, true, false, List, [], ◌∷◌, length, get_or, refl, sym, ◌∙◌, ap, subst, inl, inr, arith}
 use Rattle.std.proofs.Common.{Ordering, Less, Equal, Greater}
-use Rattle.std.specs.Prelude.{◌⊎◌}
 use Rattle.std.specs.Ordering.{nat_cmp, is_lt, is_le, ordering_reverse}
-use Rattle.std.proofs.lemmas.Bool.{and_parts, and_from, cases_eq}
+use Rattle.std.proofs.lemmas.Bool.{and_parts, cases_eq}
 use Rattle.std.proofs.lemmas.List.{get_or_default}
 use Rattle.std.proofs.lemmas.List.Sorted.{sorted_far}
 use Rattle.lsm_codec.specs.Lists.{Has}
-use Rattle.lsm_codec.specs.Keys.{UserKey, UserLe, InternalKey, IsKey, user_le, key_cmp, then_by}
+use Rattle.lsm_codec.specs.Keys.{UserKey, UserLe, InternalKey, IsKey, key_cmp, then_by}
 use Rattle.lsm_codec.proofs.Keys.{user_le_trans, user_le_total, user_le_refl}
 use Rattle.lsm_codec.proofs.KeyBytes.{take-key_bytes}
 use Rattle.lsm_codec.proofs.KeyOrder.{key_cmp-swapped}
 use Rattle.lsm_table.specs.Registry.{Table}
-use Rattle.lsm_manifest.specs.FileOrder.{TableFile, place_cmp}
+use Rattle.lsm_manifest.specs.FileOrder.{TableFile}
 use Rattle.lsm_manifest.proofs.FileOrderLaws.{order_is}
-use Rattle.lsm_version.specs.Files.{File, Meets, Apart, Fits, IsLawful}
+use Rattle.lsm_version.specs.Files.{File, Apart, Fits, IsLawful}
 use Rattle.lsm_version.specs.Ranges.{KeyLe, key_le}
 use Rattle.lsm_version.specs.Versions.{IsWhole, file_of, files_of, stands_before, user_of}
 use Rattle.lsm_version.specs.Reads.{IsSoundLevel, IsRising, begins_by, reaches, covers}
@@ -71,12 +70,12 @@ pub level_rises : (n : ℕ) (ts : List Table) → 1 ≤ n → IsSoundLevel n ts 
 level_rises n ts pos s = record {
   lows = λ i j d le lt. lows i j d le lt;
   highs = λ i j d le lt. ends_later n (files_of n ts) (file_of n (get_or ts i d)) (file_of n (get_or ts j d)) pos s.lawful
-    (has_files n ts (get_or ts i d) (has_at ts i d (omega arith))) (has_files n ts (get_or ts j d) (has_at ts j d lt)) refl refl (lows i j d le lt);
+      (has_files n ts (get_or ts i d) (has_at ts i d (omega arith))) (has_files n ts (get_or ts j d) (has_at ts j d lt)) refl refl (lows i j d le lt);
 }
   where
     lows : (i j : ℕ) (d : Table) → i ≤ j → j < length ts → UserLe (user_of (get_or ts i d).smallest) (user_of (get_or ts j d).smallest)
     lows i j d le lt = begins_later (get_or ts i d) (get_or ts j d) (s.whole (get_or ts i d) (has_at ts i d (omega arith))) (s.whole (get_or ts j d) (has_at ts j d lt))
-      (sorted_far stands_before places_rank ts s.order i j d le lt)
+        (sorted_far stands_before places_rank ts s.order i j d le lt)
 
 -- two tables of a level whose ranges have one key are one file
 pub covers_same : (n : ℕ) (ts : List Table) (t u : Table) (k : UserKey) → 1 ≤ n → IsSoundLevel n ts → Has ts t → Has ts u → covers t k ≡ true → covers u k ≡ true
@@ -86,7 +85,7 @@ covers_same n ts t u k pos s ht hu ct cu = elim (cases_eq t.number u.number) [
   | inr other ↦ (let a = and_parts (begins_by t k) (reaches t k) ct in
       let b = and_parts (begins_by u k) (reaches u k) cu in
       absurd (s.lawful.split (file_of n t) (file_of n u) (has_files n ts t ht) (has_files n ts u hu) refl pos other
-        (user_le_trans (user_of t.smallest) k (user_of u.largest) a.0 b.1, user_le_trans (user_of u.smallest) k (user_of t.largest) b.0 a.1)))
+      (user_le_trans (user_of t.smallest) k (user_of u.largest) a.0 b.1, user_le_trans (user_of u.smallest) k (user_of t.largest) b.0 a.1)))
 ]
 
 -- ---- the search for the first table that reaches a key
@@ -102,4 +101,4 @@ pub before_more : (ts : List Table) (m : ℕ) (x : Table) (k : UserKey) → IsRi
 before_more ts m x k r inside is here i d lt =
     let same : get_or ts m d ≡ x = get_or_default ts m d x inside ∙ sym is in
     true_or_not (reaches (get_or ts i d) k) (λ h. (let there = user_le_trans k (user_of (get_or ts i d).largest) (user_of x.largest) h
-      (subst (λ (y : Table). UserLe (user_of (get_or ts i d).largest) (user_of y.largest)) same (r.highs i m d (omega arith) inside)) in absurd (cc (here, there))))
+    (subst (λ (y : Table). UserLe (user_of (get_or ts i d).largest) (user_of y.largest)) same (r.highs i m d (omega arith) inside)) in absurd (cc (here, there))))

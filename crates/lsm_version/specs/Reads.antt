@@ -1,5 +1,5 @@
 -- What a read relies on in levels, and how it looks for a user key (LevelDB's `doc/impl.md`, "Levels").
-use Rattle.std.specs.Prelude.{◌≡◌, ℕ, ◌<◌, ◌≤◌, Bool, true, false, ◌&&◌, List, [], ◌∷◌, length, Option, Some, None, nat_lt, slice_index_or}
+use Rattle.std.specs.Prelude.{◌≡◌, ℕ, ◌<◌, ◌≤◌, Bool, true, false, ◌&&◌, List, length, Option, Some, None, nat_lt, slice_index_or}
 use Rattle.std.specs.List.Sorted.{IsSortedBy}
 use Rattle.lsm_codec.specs.Lists.{Has}
 use Rattle.lsm_codec.specs.Keys.{UserKey, UserLe, user_le}

@@ -5,6 +5,8 @@
 
 mod ages;
 mod change;
+mod find;
+mod get;
 mod input;
 mod key_range;
 pub mod laws;

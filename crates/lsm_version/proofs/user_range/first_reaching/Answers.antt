@@ -1,4 +1,4 @@
-use Rattle.std.proofs.Common.{◌<◌, ◌+◌, ◌-◌, ◌/◌, sym, ◌∙◌, length, arith, rules}
+use Rattle.std.proofs.Common.{◌+◌, ◌-◌, ◌/◌, sym, ◌∙◌, arith}
 use Rattle.lsm_version.proofs.Rising.{after_more, before_more}
 use Rattle.lsm_version.proofs.user_range.first_reaching.Goals as goal
 
