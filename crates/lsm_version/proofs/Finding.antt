@@ -126,10 +126,10 @@ range_missed n ts k s l none = newest_none k s (all_entries (files_of n ts)) (λ
 pub reached_covers : (ts : List Table) (p : ℕ) (x : Table) (k : UserKey) → IsFirstReaching k ts p → p < length ts → x ≡ get_or ts p x → begins_by x k ≡ true → covers x k ≡ true
 reached_covers ts p x k f lt is b = and_from (begins_by x k) (reaches x k) b (ap (λ (y : Table). reaches y k) is ∙ f.after p x (omega arith) lt)
 
-and_false_left : (a b : Bool) → a ≡ false → (a && b) ≡ false
+pub and_false_left : (a b : Bool) → a ≡ false → (a && b) ≡ false
 and_false_left a b h = rw h refl
 
-and_false_right : (a b : Bool) → b ≡ false → (a && b) ≡ false
+pub and_false_right : (a b : Bool) → b ≡ false → (a && b) ≡ false
 and_false_right true b h = h
 and_false_right false b h = refl
 

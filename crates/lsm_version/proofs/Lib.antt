@@ -22,3 +22,4 @@ pub mod ChangedFiles
 pub mod Rising
 pub mod Youngest
 pub mod Finding
+pub mod Overlaps

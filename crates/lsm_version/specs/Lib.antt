@@ -12,3 +12,4 @@ pub mod Checking
 pub mod Versions
 pub mod Changes
 pub mod Reads
+pub mod Overlap

@@ -12,6 +12,7 @@ mod key_range;
 pub mod laws;
 mod merger;
 mod ordered_level;
+mod overlap;
 mod owned_entry;
 mod placed;
 mod scan;
