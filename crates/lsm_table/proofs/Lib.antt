@@ -26,3 +26,4 @@ pub mod Telling
 pub mod FoundLaws
 pub mod OpenLaws
 pub mod GetLaws
+pub mod EntriesLaws

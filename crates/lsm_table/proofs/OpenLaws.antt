@@ -1,7 +1,9 @@
 -- What a table is whose footer and index block were judged.
-use Rattle.std.proofs.Common.{◌≡◌, ℕ, ◌-◌, ◌≤◌, Bool, true, false, leb, List, [], length, take, None, Result, Ok, Err, refl, sym, ap, ◌∙◌, subst, arith}
+use Rattle.std.proofs.Common.{◌≡◌, ℕ, ◌-◌, ◌≤◌, Bool, true, false, leb, eqb, List, [], length, take, Option, None, Result, Ok, Err, refl, sym, ap, ◌∙◌, subst, arith}
+use Rattle.std.specs.Prelude.{IfErr}
 use Rattle.std.proofs.lemmas.Bool.{leb-true}
 use Rattle.std.proofs.lemmas.List.{append-nil}
+use Rattle.lsm_codec.specs.Keys.{InternalKey}
 use Rattle.lsm_codec.specs.Entries.{Entry}
 use Rattle.lsm_codec.proofs.Varints.{IsBytes}
 use Rattle.lsm_block.specs.Reading.{block_at}
@@ -9,18 +11,18 @@ use Rattle.lsm_block.specs.Held.{HeldBlock}
 use Rattle.lsm_block.proofs.EntryLaws.{IsBytes-take}
 use Rattle.lsm_block.proofs.BlockLaws.{block_takes, block_again}
 use Rattle.lsm_table.specs.declared.table_fault.TableFault.{TableFault}
-use Rattle.lsm_table.specs.declared.table_fault.TableFault.TheVariants.{ShortFile, BadIndex}
+use Rattle.lsm_table.specs.declared.table_fault.TableFault.TheVariants.{OutOfMemory, BadRestarts, BadEntry, OutOfOrder, ShortFile, BadMagic, BadHandle, BadChecksum, Compressed, BadBlockType, BadIndex}
 use Rattle.lsm_table.specs.declared.read_fault.ReadFault.{ReadFault}
 use Rattle.lsm_table.specs.declared.read_fault.ReadFault.TheVariants.{Shelf, Table}
 use Rattle.lsm_table.specs.declared.handle.Handle.{Handle}
 use Rattle.lsm_table.specs.declared.footer.Footer.{Footer}
-use Rattle.lsm_table.specs.Reading.{◌>>=◌, settled, is_memory, FailsUnless, Fails}
+use Rattle.lsm_table.specs.Reading.{◌>>=◌, guarded, settled, is_memory, FailsUnless, Fails}
 use Rattle.lsm_table.specs.ReadFault.{IsMemory, IsMemoryOrShelf}
 use Rattle.lsm_table.specs.Handle.{handle_at}
 use Rattle.lsm_table.specs.StoredBlock.{Holds, contents_at}
 use Rattle.lsm_table.specs.Footer.{footer_at, body_of}
 use Rattle.lsm_table.specs.Table.{DataBlock, DataBlocks, IsTable, concat}
-use Rattle.lsm_table.specs.TableReading.{block_or, data_at, table_at}
+use Rattle.lsm_table.specs.TableReading.{block_or, are_placed, data_block_at, data_at, table_at}
 use Rattle.lsm_table.specs.HeldTable.{HeldTable, Names, BlockAt, entries_in}
 use Rattle.lsm_table.specs.OpenTable.{opening_at, IsOpened, Opens, block_named}
 use Rattle.lsm_table.proofs.ReadingLaws.{bind_ok, guard_ok, ok_is, block_ok}
@@ -32,8 +34,17 @@ use Rattle.lsm_table.proofs.TableLaws.{table_again}
 use Rattle.lsm_table.proofs.HeldTableLaws.{Bodied, bodied, table_block, table_names}
 use Rattle.lsm_table.proofs.JudgeLaws.{well}
 
-abbrev entries_read : List Entry → Result (List Entry) TableFault
+abbrev pub entries_read : List Entry → Result (List Entry) TableFault
 entries_read es = Ok es
+
+-- steps, and a last one
+two_then : {A B C : Type 0} (r : Result A TableFault) (f : A → Result B TableFault) (g : B → Result C TableFault) → (r >>= λ x. f x >>= g) ≡ ((r >>= f) >>= g)
+two_then (Err fault) f g = refl
+two_then (Ok x) f g = refl
+
+three_then : {A B C D : Type 0} (r : Result A TableFault) (f : A → Result B TableFault) (g : B → Result C TableFault) (h : C → Result D TableFault) → (r >>= λ x. f x >>= λ y. g y >>= h) ≡ ((r >>= λ x. f x >>= g) >>= h)
+three_then (Err fault) f g h = refl
+three_then (Ok x) f g h = two_then (f x) g h
 
 -- ---- opening
 
@@ -83,18 +94,10 @@ rest_settled : (r : Result (List (List Entry)) TableFault) → settled (r >>= λ
 rest_settled (Ok groups) = refl
 rest_settled (Err fault) = refl
 
-first_settled : {A B : Type 0} (footer : Result Footer TableFault) (f : Footer → Result A TableFault) (g : A → Result (List Entry) TableFault) (h : List Entry → Result B TableFault) → (footer >>= λ x. f x >>= λ y. g y >>= h) ≡ ((footer >>= λ x. f x >>= g) >>= h)
-first_settled (Err fault) f g h = refl
-first_settled (Ok x) f g h = second (f x) g h
-  where
-    second : {A B : Type 0} (r : Result A TableFault) (g : A → Result (List Entry) TableFault) (h : List Entry → Result B TableFault) → (r >>= λ y. g y >>= h) ≡ ((r >>= g) >>= h)
-    second (Err fault) g h = refl
-    second (Ok y) g h = refl
-
 -- a table is opened, and then its data blocks are read
 pub opens_first : (file : List ℕ) → table_at file ≡ (opening_at file >>= λ index. data_at (body_of file) None index >>= λ groups. Ok (concat groups))
 unfolding table_at opening_at
-opens_first file = first_settled (footer_at file) (λ footer. contents_at (body_of file) footer.index) (λ contents. block_or (block_at contents)) (λ index. data_at (body_of file) None index >>= λ groups. Ok (concat groups))
+opens_first file = three_then (footer_at file) (λ footer. contents_at (body_of file) footer.index) (λ contents. block_or (block_at contents)) (λ index. data_at (body_of file) None index >>= λ groups. Ok (concat groups))
 
 pub rest_of_table : (file body : List ℕ) (index : List Entry) → body ≡ body_of file → opening_at file ≡ Ok index → settled (data_at body None index) ≡ settled (table_at file)
 rest_of_table file body index is e =
@@ -142,3 +145,46 @@ named_fails fault body place es r d f = fails_any fault es r (subst (λ (read : 
 pub read_names : (file read body : List ℕ) (es index : List Entry) → IsTable file es → read ≡ file → body ≡ body_of read → opening_at read ≡ Ok index → Names body index es
 read_names file read body es index t same is e =
     subst (λ (xs : List ℕ). Names xs index es) (sym (is ∙ ap body_of same)) (opened_names file es index t (subst (λ (xs : List ℕ). opening_at xs ≡ Ok index) same e))
+
+-- ---- judging the data block of an index entry
+
+-- it is read, and then its keys are judged
+judged_after : (body : List ℕ) (bound : Option InternalKey) (i : Entry) → data_block_at body bound i ≡ (block_named body i.value >>= λ es. guarded (are_placed bound i es) BadIndex (Ok es))
+unfolding data_block_at block_named
+judged_after body bound i =
+    three_then (handle_at BadIndex i.value) (λ handle. guarded (eqb (length handle.1) 0) BadIndex (contents_at body handle.0)) (λ contents. block_or (block_at contents)) (λ es. guarded (are_placed bound i es) BadIndex (Ok es))
+
+pub judged_as : (body : List ℕ) (bound : Option InternalKey) (i : Entry) (es : List Entry) (placed : Bool) → block_named body i.value ≡ Ok es → placed ≡ are_placed bound i es → settled (data_block_at body bound i) ≡ settled (guarded placed BadIndex (entries_read es))
+judged_as body bound i es placed e p =
+    ap settled (judged_after body bound i) ∙ ap (λ (r : Result (List Entry) TableFault). settled (r >>= λ xs. guarded (are_placed bound i xs) BadIndex (Ok xs))) e ∙ ap (λ (b : Bool). settled (guarded b BadIndex (entries_read es))) (sym p)
+
+unless_then : (memory : Bool) (fault : TableFault) (r : Result (List Entry) TableFault) (h : List Entry → Result (List Entry) TableFault) → FailsUnless memory fault r → FailsUnless memory fault (settled (r >>= h))
+unless_then true fault r h f = tt
+unless_then false fault (Ok es) h f = absurd cc
+unless_then false fault (Err e) h f = let same : e ≡ fault = cc in ap (λ (x : TableFault). Err x) same
+
+pub judged_not : (fault : TableFault) (body : List ℕ) (bound : Option InternalKey) (i : Entry) → Fails fault (block_named body i.value) → Fails fault (settled (data_block_at body bound i))
+judged_not fault body bound i f =
+    subst (λ (r : Result (List Entry) TableFault). Fails fault (settled r)) (sym (judged_after body bound i)) (unless_then (is_memory fault) fault (block_named body i.value) (λ es. guarded (are_placed bound i es) BadIndex (Ok es)) f)
+
+-- ---- for callers
+
+-- what reads a value can fail for want of memory alone
+pub memory_only : {X : Type 0} (fault : TableFault) (x : X) → Fails {Y = X} fault (Ok x) → IsMemory fault
+memory_only OutOfMemory x f = tt
+memory_only BadRestarts x f = absurd cc
+memory_only (BadEntry offset) x f = absurd cc
+memory_only (OutOfOrder offset) x f = absurd cc
+memory_only ShortFile x f = absurd cc
+memory_only BadMagic x f = absurd cc
+memory_only BadHandle x f = absurd cc
+memory_only (BadChecksum offset) x f = absurd cc
+memory_only (Compressed kind) x f = absurd cc
+memory_only (BadBlockType kind) x f = absurd cc
+memory_only BadIndex x f = absurd cc
+
+-- A table is opened, unless the shelf refuses or memory runs out.
+pub opens_table : {X : Type 0} (r : Result X ReadFault) (image : List ℕ) (es : List Entry) → IsTable image es → Opens r (opening_at image) → IfErr r IsMemoryOrShelf
+opens_table (Ok x) image es t o = tt
+opens_table (Err (Shelf fault)) image es t o = tt
+opens_table (Err (Table fault)) image es t o = memory_only fault t.index (subst (λ (r : Result (List Entry) TableFault). Fails fault r) (opening_again image es t) o)

@@ -130,7 +130,7 @@ none_allowed : (k : UserKey) (s : ℕ) (es : List Entry) → NoneAllowed k s es 
 none_allowed k s [] h = refl
 none_allowed k s (e ∷ es) h = let here = h.0 in rw here (none_allowed k s es h.1)
 
-after_at : (key : InternalKey) (es : List Entry) (f : Entry) → AllAfter key es → Has es f → key_cmp key (internal_key f) ≡ Less
+pub after_at : (key : InternalKey) (es : List Entry) (f : Entry) → AllAfter key es → Has es f → key_cmp key (internal_key f) ≡ Less
 after_at key [] f s h = absurd h
 after_at key (e ∷ es) f s h = elim h [ inl same ↦ subst (λ (x : Entry). key_cmp key (internal_key x) ≡ Less) same s.0 | inr rest ↦ after_at key es f s.1 rest ]
 

@@ -23,3 +23,4 @@ pub mod ReadFault
 pub mod Found
 pub mod OpenTable
 pub mod Searching
+pub mod TableEntries

@@ -1,11 +1,12 @@
 //! Whether a file is a table.
 
-ghost use Rattle.std.specs.Prelude.{◌≡◌, ℕ, List, ◌∷◌, None, IfOk};
+ghost use Rattle.std.specs.Prelude.{◌≡◌, ℕ, List, ◌∷◌, None, IfOk, OnOk};
 ghost use Rattle.std.specs.Option.{option_map};
 ghost use Rattle.lsm_codec.specs.KeyRef.{key_of};
 ghost use Rattle.lsm_block.specs.Block.{Ascends, entry_of};
 ghost use Rattle.lsm_table.specs.Reading.{Gives, settled};
 ghost use Rattle.lsm_table.specs.TableReading.{are_placed, data_block_at, data_at, table_at};
+ghost use Rattle.lsm_table.specs.HeldTable.{HeldTable, entries_in};
 ghost use Rattle.lsm_table.specs.OpenTable.{IsOpened, opening_at, block_named};
 ghost use Rattle.lsm_table.specs.Judging.{comes_after, ends_at};
 ghost use Rattle.lsm_block.specs.Seeking.{not_below};
@@ -73,17 +74,15 @@ fn is_placed(
     }
 }
 
-/// Judges the data block of an index entry: its place, the block, and its keys.
-#[tactic(auto, unfolding(crate::specs::TableReading::data_block_at))]
-fn judge_block(
+/// The block that the value of an index entry names, whatever the file holds.
+#[tactic(auto, unfolding(crate::specs::OpenTable::block_named))]
+pub(crate) fn named_block<'a>(
     alloc: Global,
-    body: &[u8],
-    bound: Option<KeyRef<'_>>,
-    key: &KeyRef<'_>,
+    body: &'a [u8],
     place: &[u8],
-    cursor: &mut Cursor,
-) -> Result<(), TableFault>
-    ensures { Gives (λ _. tt) result (settled (data_block_at body.now (option_map key_of bound.entry) (entry_of (key_of key.now) place.now))) }
+) -> Result<BlockRef<'a>, TableFault>
+    ensures exact { Gives (λ b. b.entries) result (block_named body.now place.now) }
+    ensures ascends { IfOk result (λ b. Ascends b.entries) }
 {
     let (handle, rest) = match Handle::get(TableFault::BadIndex, place) {
         Ok(found) => found,
@@ -97,10 +96,27 @@ fn judge_block(
         Err(fault) => return Err(fault),
     };
     match check_bytes(alloc, contents) {
-        Ok(()) => {}
-        Err(fault) => return Err(TableFault::from(fault)),
+        Ok(()) => Ok(BlockRef::of(contents)),
+        Err(fault) => Err(TableFault::from(fault)),
     }
-    if !is_placed(&BlockRef::of(contents), bound, key, cursor)? {
+}
+
+/// Judges the data block of an index entry: its place, the block, and its keys.
+fn judge_block(
+    alloc: Global,
+    body: &[u8],
+    bound: Option<KeyRef<'_>>,
+    key: &KeyRef<'_>,
+    place: &[u8],
+    cursor: &mut Cursor,
+) -> Result<(), TableFault>
+    ensures { Gives (λ _. tt) result (settled (data_block_at body.now (option_map key_of bound.entry) (entry_of (key_of key.now) place.now))) }
+{
+    let block = match named_block(alloc, body, place) {
+        Ok(block) => block,
+        Err(fault) => return Err(fault),
+    };
+    if !is_placed(&block, bound, key, cursor)? {
         return Err(TableFault::BadIndex);
     }
     Ok(())
@@ -152,7 +168,8 @@ pub(crate) fn judge_opening(alloc: Global, file: &[u8]) -> Result<Handle, TableF
 /// Judges the data blocks of a file whose footer and index block were judged.
 pub(crate) fn judge_rest(alloc: Global, file: &[u8], index: Handle) -> Result<(), TableFault>
     requires { IsOpened file.now index }
-    ensures { Gives (λ _. tt) result (settled (table_at file.now)) }
+    ensures held { OnOk result (HeldTable file.now index) }
+    ensures exact { Gives (λ _. entries_in file.now) result (table_at file.now) }
 {
     let (body, block) = parts(file, index);
     match judge_data(alloc, body, &block) {
@@ -161,36 +178,10 @@ pub(crate) fn judge_rest(alloc: Global, file: &[u8], index: Handle) -> Result<()
     }
 }
 
-/// The block that the value of an index entry names, whatever the file holds.
-#[tactic(auto, unfolding(crate::specs::OpenTable::block_named))]
-pub(crate) fn named_block<'a>(
-    alloc: Global,
-    body: &'a [u8],
-    place: &[u8],
-) -> Result<BlockRef<'a>, TableFault>
-    ensures { Gives (λ b. b.entries) result (block_named body.now place.now) }
-{
-    let (handle, rest) = match Handle::get(TableFault::BadIndex, place) {
-        Ok(found) => found,
-        Err(fault) => return Err(fault),
-    };
-    if !rest.is_empty() {
-        return Err(TableFault::BadIndex);
-    }
-    let contents = match contents_of(body, handle) {
-        Ok(contents) => contents,
-        Err(fault) => return Err(fault),
-    };
-    match check_bytes(alloc, contents) {
-        Ok(()) => Ok(BlockRef::of(contents)),
-        Err(fault) => Err(TableFault::from(fault)),
-    }
-}
-
 /// Judges a file: its footer, its index block, and its data blocks. What comes back is the place of the index block.
 pub(crate) fn judge(alloc: Global, file: &[u8]) -> Result<Handle, TableFault>
-    ensures whole { Gives (λ _. tt) result (settled (table_at file.now)) }
-    ensures opened { IfOk result (λ index. IsOpened file.now index) }
+    ensures held { IfOk result (λ index. HeldTable file.now index) }
+    ensures exact { Gives (λ _. entries_in file.now) result (table_at file.now) }
 {
     let index = match judge_opening(alloc, file) {
         Ok(index) => index,

@@ -5,14 +5,16 @@ ghost use Rattle.lsm_codec.specs.Entries.{Entry, newest};
 ghost use Rattle.lsm_table.specs.Reading.{Gives, settled};
 ghost use Rattle.lsm_table.specs.Footer.{body_of};
 ghost use Rattle.lsm_table.specs.Table.{IsTable};
+ghost use Rattle.lsm_table.specs.TableReading.{table_at};
 ghost use Rattle.lsm_table.specs.Found.{seen, found_in};
 ghost use Rattle.lsm_table.specs.OpenTable.{opening_at};
 
-use crate::check::{judge_opening, named_block};
+use crate::check::{judge_opening, judge_rest, named_block};
 use crate::found::Found;
 use crate::handle::Handle;
 use crate::held_block::parts;
 use crate::search::{Search, key_for, search_block};
+use crate::table_entries::TableEntries;
 use crate::table_fault::TableFault;
 use lsm_block::Cursor;
 use std::alloc::Global;
@@ -72,5 +74,21 @@ impl OpenTable {
             }
         }
         Ok(None)
+    }
+    /// Judges all data blocks, and hands the table over to a reader, before the first entry. What is wrong is named by the
+    /// first fault in the order of `Table::check`.
+    pub fn into_entries(self, alloc: Global) -> Result<TableEntries, TableFault>
+        // What is read is the table's.
+        ensures found { IfOk result (λ w. IsTable self w.left) }
+        // What is a table is read, unless memory runs out.
+        ensures only { (es : List Entry) → IsTable self es → Gives (λ w. w.left) result (Ok es) }
+        // Which fault it is.
+        ensures exact { Gives (λ w. w.left) result (table_at self) }
+    {
+        let OpenTable { file, index } = self;
+        match judge_rest(alloc, &file, index) {
+            Ok(()) => Ok(TableEntries::over(alloc, file, index)),
+            Err(fault) => Err(fault),
+        }
     }
 }

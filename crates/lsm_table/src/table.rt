@@ -19,6 +19,7 @@ use crate::open_table::OpenTable;
 use crate::read_fault::ReadFault;
 use crate::search::{Search, key_for, search_block};
 use crate::shelf::Shelf;
+use crate::table_entries::TableEntries;
 use crate::table_fault::TableFault;
 use crate::table_iter::TableIter;
 use crate::whole_image::read_image;
@@ -46,17 +47,6 @@ impl Model for Table {
     ghost invariant = { λ t. HeldTable t.file.items t.index };
 }
 
-/// Judges a file. What comes back is the place of its index block.
-fn hold(alloc: Global, file: &[u8]) -> Result<Handle, TableFault>
-    ensures held { IfOk result (λ index. HeldTable file.now index) }
-    ensures exact { Gives (λ _. entries_in file.now) result (table_at file.now) }
-{
-    match judge(alloc, file) {
-        Ok(index) => Ok(index),
-        Err(fault) => Err(fault),
-    }
-}
-
 impl Table {
     /// The table of a file. What is wrong with it is named by the first fault in this order: the footer (length, magic
     /// number, places), the index block, and then for each index entry its value, its data block (place, checksum, type, the
@@ -69,7 +59,7 @@ impl Table {
         // Which fault it is.
         ensures exact { Gives (λ t. t) result (table_at file.items) }
     {
-        match hold(alloc, &file) {
+        match judge(alloc, &file) {
             Ok(index) => Ok(Table { file, index }),
             Err(fault) => Err(fault),
         }
@@ -134,9 +124,23 @@ impl Table {
         let (body, index) = self.parts();
         TableIter::over(alloc, body, index)
     }
+
+    /// Hands the table over to a reader, before the first entry. Takes no memory.
+    pub fn into_entries(self, alloc: Global) -> TableEntries
+        ensures { result.left ≡ self }
+    {
+        let Table { file, index } = self;
+        TableEntries::over(alloc, file, index)
+    }
 }
 
 /// At most one list of entries fits a table's bytes.
 pub fn one_table()
     ensures { (bytes : List ℕ) (es fs : List Entry) → IsTable bytes es → IsTable bytes fs → es ≡ fs }
+{}
+
+/// What a table's bytes hold, as contracts name it, is the table's entries.
+pub fn entries_are()
+    ensures same { (bytes : List ℕ) (es : List Entry) → IsTable bytes es → entries_in bytes ≡ es }
+    ensures table { (bytes : List ℕ) (es : List Entry) → IsTable bytes es → IsTable bytes (entries_in bytes) }
 {}
