@@ -13,3 +13,4 @@ pub mod Versions
 pub mod Changes
 pub mod Reads
 pub mod Overlap
+pub mod TableStream

@@ -18,6 +18,7 @@ mod placed;
 mod scan;
 mod source;
 mod stream;
+mod table_stream;
 #[cfg(test)]
 mod tests;
 mod tree;
@@ -34,4 +35,5 @@ pub use placed::Placed;
 pub use scan::{Pair, Scan};
 pub use source::Source;
 pub use stream::{ListStream, Stream};
+pub use table_stream::TableStream;
 pub use version::Version;
