@@ -23,3 +23,4 @@ pub mod Rising
 pub mod Youngest
 pub mod Finding
 pub mod Overlaps
+pub mod ScanLaws

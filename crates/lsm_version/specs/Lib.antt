@@ -14,3 +14,4 @@ pub mod Changes
 pub mod Reads
 pub mod Overlap
 pub mod TableStream
+pub mod Sources

@@ -24,6 +24,7 @@ mod tests;
 mod tree;
 mod user_range;
 mod version;
+mod version_scan;
 
 pub use ages::against_age;
 pub use change::changed_files;
