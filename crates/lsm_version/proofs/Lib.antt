@@ -16,3 +16,11 @@ pub mod Ranges
 pub mod AgeLaws
 pub mod Scanning
 pub mod Checked
+pub mod Placing
+pub mod Changing
+pub mod ChangedFiles
+pub mod Rising
+pub mod Youngest
+pub mod Finding
+pub mod Overlaps
+pub mod ScanLaws

@@ -10,3 +10,8 @@ pub mod Ages
 pub mod Scanning
 pub mod Checking
 pub mod Versions
+pub mod Changes
+pub mod Reads
+pub mod Overlap
+pub mod TableStream
+pub mod Sources

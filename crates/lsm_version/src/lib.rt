@@ -4,21 +4,30 @@
 #![tactic(auto)]
 
 mod ages;
+mod change;
+mod find;
+mod get;
 mod input;
 mod key_range;
 pub mod laws;
 mod merger;
+mod ordered_level;
+mod overlap;
 mod owned_entry;
 mod placed;
 mod scan;
 mod source;
 mod stream;
+mod table_stream;
 #[cfg(test)]
 mod tests;
 mod tree;
+mod user_range;
 mod version;
+mod version_scan;
 
 pub use ages::against_age;
+pub use change::changed_files;
 pub use input::Input;
 pub use key_range::{KeyRange, Layout, layout_of};
 pub use merger::Merger;
@@ -27,4 +36,5 @@ pub use placed::Placed;
 pub use scan::{Pair, Scan};
 pub use source::Source;
 pub use stream::{ListStream, Stream};
+pub use table_stream::TableStream;
 pub use version::Version;
