@@ -22,3 +22,5 @@ pub mod IterLaws
 pub mod Ascending
 pub mod Padding
 pub mod Honest
+pub mod Telling
+pub mod FoundLaws

@@ -19,3 +19,5 @@ pub mod FileNames
 pub mod Honesty
 pub mod FileShelf
 pub mod Registry
+pub mod ReadFault
+pub mod Found

@@ -2,7 +2,7 @@
 
 ghost use Rattle.std.specs.Prelude.{◌≡◌};
 ghost use Rattle.lsm_table.specs.declared.table_fault.TableFault.TheVariants.{OutOfMemory};
-ghost use Rattle.lsm_table.specs.Fault.{number_of, of_block};
+ghost use Rattle.lsm_table.specs.Fault.{number_of, name_of, of_block};
 
 use lsm_block::BlockFault;
 use std::alloc::{AllocError, AllocFailed};
@@ -64,6 +64,25 @@ impl TableFault {
             TableFault::Compressed(_) => 16,
             TableFault::BadBlockType(_) => 17,
             TableFault::BadIndex => 18,
+        }
+    }
+
+    /// The published name of the refusal, without its fields.
+    pub fn name(&self) -> &'static str
+        ensures { result.now ≡ name_of self.now }
+    {
+        match self {
+            TableFault::OutOfMemory => "OutOfMemory",
+            TableFault::BadRestarts => "BadRestarts",
+            TableFault::BadEntry(_) => "BadEntry",
+            TableFault::OutOfOrder(_) => "OutOfOrder",
+            TableFault::ShortFile => "ShortFile",
+            TableFault::BadMagic => "BadMagic",
+            TableFault::BadHandle => "BadHandle",
+            TableFault::BadChecksum(_) => "BadChecksum",
+            TableFault::Compressed(_) => "Compressed",
+            TableFault::BadBlockType(_) => "BadBlockType",
+            TableFault::BadIndex => "BadIndex",
         }
     }
 }
