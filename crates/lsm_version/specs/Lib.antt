@@ -10,3 +10,5 @@ pub mod Ages
 pub mod Scanning
 pub mod Checking
 pub mod Versions
+pub mod CheckFault
+pub mod HeldStream

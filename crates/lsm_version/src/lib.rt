@@ -4,8 +4,11 @@
 #![tactic(auto)]
 
 mod ages;
+mod check_fault;
+mod held_stream;
 mod input;
 mod key_range;
+mod key_word;
 pub mod laws;
 mod merger;
 mod owned_entry;
@@ -19,6 +22,7 @@ mod tree;
 mod version;
 
 pub use ages::against_age;
+pub use check_fault::CheckFault;
 pub use input::Input;
 pub use key_range::{KeyRange, Layout, layout_of};
 pub use merger::Merger;
