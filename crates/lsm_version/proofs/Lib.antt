@@ -16,3 +16,4 @@ pub mod Ranges
 pub mod AgeLaws
 pub mod Scanning
 pub mod Checked
+pub mod Spans

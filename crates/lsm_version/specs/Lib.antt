@@ -12,3 +12,4 @@ pub mod Checking
 pub mod Versions
 pub mod CheckFault
 pub mod HeldStream
+pub mod CheckedFiles

@@ -15,6 +15,7 @@ mod owned_entry;
 mod placed;
 mod scan;
 mod source;
+mod span;
 mod stream;
 #[cfg(test)]
 mod tests;
