@@ -17,3 +17,4 @@ pub mod AgeLaws
 pub mod Scanning
 pub mod Checked
 pub mod Spans
+pub mod CheckedFiles

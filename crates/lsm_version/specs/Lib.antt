@@ -13,3 +13,4 @@ pub mod Versions
 pub mod CheckFault
 pub mod HeldStream
 pub mod CheckedFiles
+pub mod FileRefusal

@@ -5,8 +5,9 @@ ghost use Rattle.lsm_version.specs.HeldStream.{bare_all};
 
 use crate::owned_entry::OwnedEntry;
 use crate::stream::Stream;
-use lsm_table::{TableFault, TableIter};
-use std::alloc::Global;
+use crate::walk::step;
+use lsm_table::TableIter;
+use std::alloc::{AllocError, Global};
 use std::marker::Model;
 
 /// Hands out the entries of a checked table without their values.
@@ -44,13 +45,13 @@ impl<'t> HeldStream<'t> {
 }
 
 impl<'t> Stream for HeldStream<'t> {
-    type Fault = TableFault;
+    type Fault = AllocError;
 
     ghost left = { λ s. s };
 
-    fn next(&mut self) -> Result<Option<OwnedEntry>, TableFault> {
+    fn next(&mut self) -> Result<Option<OwnedEntry>, AllocError> {
         if !self.waits {
-            if self.iter.next()?.is_none() {
+            if step(&mut self.iter)?.is_none() {
                 return Ok(None);
             }
             self.waits = true;

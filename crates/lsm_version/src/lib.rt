@@ -5,6 +5,7 @@
 
 mod ages;
 mod check_fault;
+mod checked_table;
 mod held_stream;
 mod input;
 mod key_range;
@@ -21,6 +22,7 @@ mod stream;
 mod tests;
 mod tree;
 mod version;
+mod walk;
 
 pub use ages::against_age;
 pub use check_fault::CheckFault;

@@ -5,16 +5,17 @@ ghost use Rattle.lsm_codec.specs.KeyRef.{key_of};
 ghost use Rattle.lsm_version.specs.CheckedFiles.{IsSpanned, ends_with, starts_with};
 ghost use Rattle.lsm_version.specs.Streams.{IsAscending};
 
+use crate::walk::step;
 use lsm_codec::KeyRef;
-use lsm_table::{Table, TableFault};
-use std::alloc::Global;
+use lsm_table::Table;
+use std::alloc::{AllocError, Global};
 
 /// Whether the first entry has this key.
-fn starts_with(alloc: Global, table: &Table, key: &KeyRef<'_>) -> Result<bool, TableFault>
+fn starts_with(alloc: Global, table: &Table, key: &KeyRef<'_>) -> Result<bool, AllocError>
     ensures { IfOk result (λ r. r ≡ starts_with (key_of key.now) table.now) }
 {
     let mut entries = table.iter(alloc);
-    if entries.next()?.is_none() {
+    if step(&mut entries)?.is_none() {
         return Ok(false);
     }
     match entries.key() {
@@ -29,12 +30,12 @@ fn ends_with(
     table: &Table,
     key: &KeyRef<'_>,
     last: u64,
-) -> Result<bool, TableFault>
+) -> Result<bool, AllocError>
     ensures { IfOk result (λ r. r ≡ ends_with last (key_of key.now) false table.now) }
 {
     let mut entries = table.iter(alloc);
     let mut ends = false;
-    while let Some(_value) = entries.next()? {
+    while let Some(_value) = step(&mut entries)? {
         let Some(here) = entries.key() else {
             unreachable!()
         };
@@ -53,7 +54,7 @@ pub(crate) fn is_spanned(
     smallest: &[u8],
     largest: &[u8],
     last: u64,
-) -> Result<bool, TableFault>
+) -> Result<bool, AllocError>
     requires { IsAscending table.now }
     ensures { IfOk result (λ r. IsTrue r ↔ IsSpanned last smallest.now largest.now table.now) }
 {
