@@ -16,8 +16,8 @@ is_table image es t = subst (IsTable image) (held_as image es t) t
 
 pub image_says : (last : ℕ) (file : TableFile) (image : List ℕ) (es : List Entry) (size : ℕ) (r : Bool) → IsTable image es → size ≡ length image
     → (r ≡ true → (size ≡ file.size) × IsSpanned last file.smallest file.largest es) → r ≡ true → IsImageOf last file image
-image_says last file image es size r t long says yes =
-    let judged : (size ≡ file.size) × IsSpanned last file.smallest file.largest es = says yes in
+image_says last file image es size r t long says holds =
+    let judged : (size ≡ file.size) × IsSpanned last file.smallest file.largest es = says holds in
     record {
       table = is_table image es t;
       size = sym long ∙ judged.0;
@@ -26,6 +26,6 @@ image_says last file image es size r t long says yes =
 
 pub image_not : (last : ℕ) (file : TableFile) (image : List ℕ) (es : List Entry) (size : ℕ) (r : Bool) → IsTable image es → size ≡ length image
     → ((size ≡ file.size) × IsSpanned last file.smallest file.largest es → r ≡ true) → r ≡ false → IsImageOf last file image → ⊥
-image_not last file image es size r t long from no i =
-    let yes : r ≡ true = from (long ∙ i.size, subst (IsSpanned last file.smallest file.largest) (sym (held_as image es t)) i.spanned) in
-    absurd (cc (yes, no))
+image_not last file image es size r t long from fails i =
+    let holds : r ≡ true = from (long ∙ i.size, subst (IsSpanned last file.smallest file.largest) (sym (held_as image es t)) i.spanned) in
+    absurd (cc (holds, fails))

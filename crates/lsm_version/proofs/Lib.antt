@@ -18,3 +18,5 @@ pub mod Scanning
 pub mod Checked
 pub mod Spans
 pub mod CheckedFiles
+pub mod Placing
+pub mod Changing

@@ -14,3 +14,6 @@ pub mod CheckFault
 pub mod HeldStream
 pub mod CheckedFiles
 pub mod FileRefusal
+pub mod Changes
+pub mod FileNumbers
+pub mod CheckRefusal

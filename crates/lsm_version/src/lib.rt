@@ -4,14 +4,17 @@
 #![tactic(auto)]
 
 mod ages;
+mod change;
 mod check_fault;
 mod checked_table;
+mod file_numbers;
 mod held_stream;
 mod input;
 mod key_range;
 mod key_word;
 pub mod laws;
 mod merger;
+mod ordered_level;
 mod owned_entry;
 mod placed;
 mod scan;

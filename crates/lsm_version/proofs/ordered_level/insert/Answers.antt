@@ -1,0 +1,17 @@
+use Rattle.std.proofs.Common.{◌∙◌, List, ap, sym, subst, take, drop, not}
+use Rattle.std.specs.List.{filter}
+use Rattle.lsm_table.specs.Registry.{Table}
+use Rattle.std.specs.List.Sorted.{IsSortedBy}
+use Rattle.lsm_version.specs.Versions.{stands_before}
+use Rattle.lsm_version.proofs.Placing.{placed_at, placed_sorted}
+use Rattle.lsm_version.proofs.ordered_level.insert.Goals as goal
+
+pub returns-clause-ok : goal.returns-clause-ok
+returns-clause-ok g c = c.in_ok-insert.ensures.items ∙ placed_at c.args.table c.args.level.now.items c.place_in-place.result
+    (ap (take c.place_in-place.result) (sym c.as_slice.ensures.value) ∙ c.place_in-place.ensures.before ∙ ap (filter (λ u. not (stands_before c.args.table u))) c.as_slice.ensures.value)
+    (ap (drop c.place_in-place.result) (sym c.as_slice.ensures.value) ∙ c.place_in-place.ensures.behind ∙ ap (filter (λ u. stands_before c.args.table u)) c.as_slice.ensures.value)
+
+pub returns-clause-order : goal.returns-clause-order
+returns-clause-order g c =
+    let is = returns-clause-ok g c in
+    subst (λ (us : List Table). IsSortedBy stands_before us) (sym is) (placed_sorted c.args.table c.args.level.now.items c.requires.order)

@@ -1,0 +1,159 @@
+//! A version with other tables.
+
+ghost use Rattle.std.specs.Prelude.{◌≡◌, ◌≤◌, ◌<◌, map, length, IfOk, IfSome, OnOk};
+ghost use Rattle.std.specs.List.{All, filter};
+ghost use Rattle.std.specs.List.Sorted.{IsSortedBy};
+ghost use Rattle.lsm_version.specs.Changes.{changed, coming, is_kept, level_after, levels_after, placed_all, with_pointer};
+ghost use Rattle.lsm_version.specs.Versions.{AreInOrder, IsSound, stands_before};
+
+use crate::ordered_level::insert;
+use crate::owned_entry::copy_of;
+use crate::version::Version;
+use lsm_codec::Bytes;
+use lsm_table::{Naming, Registry, Shelf, TableRef};
+use std::alloc::{AllocError, Global};
+use std::sync::Arc;
+
+/// The tables of a level whose numbers are not deleted.
+fn kept<N: Naming, S: Shelf>(
+    alloc: Global,
+    registry: &Registry<S::Receipt>,
+    level: &[TableRef<N, S>],
+    deleted: &[u64],
+) -> Result<Vec<TableRef<N, S>>, AllocError>
+    requires { registry.now ≡ N.registry }
+    ensures { IfOk result (λ v. v.items ≡ filter (is_kept deleted.now) level.now) }
+{
+    let mut kept = Vec::new(alloc);
+    for table in level {
+        if !deleted.contains(&registry.record(table).number()) {
+            kept.push(table.again())?;
+        }
+    }
+    Ok(kept)
+}
+
+/// Puts the tables that come to a level into it.
+fn place_all<N: Naming, S: Shelf>(
+    registry: &Registry<S::Receipt>,
+    level: &mut Vec<TableRef<N, S>>,
+    number: usize,
+    added: &[(usize, TableRef<N, S>)],
+) -> Result<(), AllocError>
+    requires named { registry.now ≡ N.registry }
+    requires order { IsSortedBy stands_before level.old.items }
+    ensures ok { OnOk result (level.new.items ≡ placed_all (coming number added.now) level.old.items) }
+    ensures order { IsSortedBy stands_before level.new.items }
+{
+    for one in added {
+        if one.0 == number {
+            insert(registry, level, one.1.again())?;
+        }
+    }
+    Ok(())
+}
+
+/// A level without the deleted tables, and then with those that come to it.
+#[tactic(auto, unfolding(crate::specs::Changes::level_after))]
+fn level_after<N: Naming, S: Shelf>(
+    alloc: Global,
+    registry: &Registry<S::Receipt>,
+    number: usize,
+    level: &[TableRef<N, S>],
+    deleted: &[u64],
+    added: &[(usize, TableRef<N, S>)],
+) -> Result<Vec<TableRef<N, S>>, AllocError>
+    requires named { registry.now ≡ N.registry }
+    requires order { IsSortedBy stands_before level.now }
+    ensures { IfOk result (λ v. v.items ≡ level_after deleted.now added.now number level.now) }
+{
+    let mut after = kept(alloc, registry, level, deleted)?;
+    place_all(registry, &mut after, number, added)?;
+    Ok(after)
+}
+
+/// All levels without the deleted tables and with the added ones.
+fn levels_after<N: Naming, S: Shelf>(
+    alloc: Global,
+    registry: &Registry<S::Receipt>,
+    levels: &[Vec<TableRef<N, S>>],
+    deleted: &[u64],
+    added: &[(usize, TableRef<N, S>)],
+) -> Result<Vec<Vec<TableRef<N, S>>>, AllocError>
+    requires named { registry.now ≡ N.registry }
+    requires order { AreInOrder (map (λ l. l.items) levels.now) }
+    ensures { IfOk result (λ v. map (λ l. l.items) v.items ≡ levels_after deleted.now added.now 0 (map (λ l. l.items) levels.now)) }
+{
+    let mut after = Vec::new(alloc);
+    for (number, level) in levels.iter().enumerate() {
+        let tables = level_after(alloc, registry, number, level.as_slice(), deleted, added)?;
+        after.push(tables)?;
+    }
+    Ok(after)
+}
+
+/// Copies of compaction pointers, of which one is replaced.
+fn with_pointer(
+    alloc: Global,
+    pointers: &[Option<Bytes>],
+    pointer: Option<(usize, Bytes)>,
+) -> Result<Vec<Option<Bytes>>, AllocError>
+    requires { IfSome pointer (λ p. p.0 < length pointers.now) }
+    ensures { IfOk result (λ v. v.items ≡ with_pointer pointer pointers.now) }
+{
+    let mut copies = copies_of(alloc, pointers)?;
+    if let Some((level, key)) = pointer {
+        copies[level] = Some(key);
+    }
+    Ok(copies)
+}
+
+fn copies_of(alloc: Global, pointers: &[Option<Bytes>]) -> Result<Vec<Option<Bytes>>, AllocError>
+    ensures { IfOk result (λ v. v.items ≡ pointers.now) }
+{
+    let mut copies = Vec::new(alloc);
+    for pointer in pointers {
+        let copy = match pointer {
+            None => None,
+            Some(key) => Some(copy_of(alloc, key.as_slice())?),
+        };
+        copies.push(copy)?;
+    }
+    Ok(copies)
+}
+
+impl<N: Naming, S: Shelf> Version<N, S> {
+    /// The version without the tables of the deleted numbers and with the added ones, each at its level, 0 to 6, and in its place there;
+    /// the pointer of a level, 0 to 6, is replaced by an internal key, and the last sequence by another one. `AllocError` where a growth
+    /// was refused.
+    ///
+    /// Deletions come before additions: a table that moves to another level is deleted and added under one number.
+    pub fn change(
+        &self,
+        alloc: Global,
+        deleted: &[u64],
+        added: &[(usize, TableRef<N, S>)],
+        pointer: Option<(usize, Bytes)>,
+        last: u64,
+    ) -> Result<Version<N, S>, AllocError>
+        requires levels { All (λ a. a.0 ≤ 6) added.now }
+        requires pointer { IfSome pointer (λ p. p.0 ≤ 6) }
+        requires sound { S.honest → IsSound (changed deleted.now added.now pointer last self.now) }
+        ensures { IfOk result (λ v. v ≡ changed deleted.now added.now pointer last self.now) }
+    {
+        let levels = levels_after(
+            alloc,
+            &self.registry,
+            self.levels.as_slice(),
+            deleted,
+            added,
+        )?;
+        let pointers = with_pointer(alloc, self.pointers.as_slice(), pointer)?;
+        Ok(Version {
+            registry: Arc::try_clone(&self.registry)?,
+            levels,
+            pointers,
+            last,
+        })
+    }
+}
