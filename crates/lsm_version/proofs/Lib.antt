@@ -20,3 +20,4 @@ pub mod Spans
 pub mod CheckedFiles
 pub mod Placing
 pub mod Changing
+pub mod Numbers
