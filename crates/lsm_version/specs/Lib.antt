@@ -17,3 +17,4 @@ pub mod FileRefusal
 pub mod Changes
 pub mod FileNumbers
 pub mod CheckRefusal
+pub mod Loading

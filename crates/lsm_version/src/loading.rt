@@ -1,0 +1,41 @@
+//! The files of a shape, read level by level.
+
+ghost use Rattle.std.specs.Prelude.{◌≡◌, IfErr, IfOk};
+ghost use Rattle.lsm_table.specs.HeldTable.{entries_in};
+ghost use Rattle.lsm_table.specs.Told.{Becomes};
+ghost use Rattle.lsm_version.specs.CheckFault.{CheckCounted};
+ghost use Rattle.lsm_version.specs.CheckedFiles.{IsFileOf};
+ghost use Rattle.lsm_version.specs.FileRefusal.{IsFileRefusal};
+
+use crate::check_fault::CheckFault;
+use crate::checked_table::{read_table, record_table};
+use crate::deep_table::DeepTable;
+use lsm_manifest::FileMeta;
+use lsm_table::{Naming, Registry, Shelf, TableRef};
+use std::alloc::Global;
+use std::sync::Wait;
+
+/// Reads and judges the table of a file, and adds its record.
+pub(crate) fn load_file<N: Naming, S: Shelf, R: Wait>(
+    shelf: &mut S,
+    rt: &R,
+    alloc: Global,
+    registry: &Registry<S::Receipt>,
+    file: &FileMeta,
+    depth: u64,
+    last: u64,
+) -> Result<(TableRef<N, S>, DeepTable), CheckFault>
+    requires here { (S.told shelf.old).place ≡ N.place }
+    requires named { registry.now ≡ N.registry }
+    ensures file { IfOk result (λ r. IsFileOf last file.now r.0) }
+    ensures stored { IfOk result (λ t. (r : S.Receipt) × S.is_of N.place r × (S.Receipt.number r ≡ t.0.number) × (S.Receipt.image r ≡ t.0.image)) }
+    ensures deep { IfOk result (λ r. r.1 ≡ (depth, entries_in r.0.image)) }
+    ensures refused { IfErr result (λ e. IsFileRefusal (λ image. (r : S.Receipt) × S.is_of N.place r × (S.Receipt.number r ≡ file.now.number) × (S.Receipt.image r ≡ image)) last file.now e) }
+    ensures told { Becomes (S.told shelf.old) (S.told shelf.new) }
+    ensures cause { IfErr result (λ e. CheckCounted e (S.told shelf.old) (S.told shelf.new)) }
+{
+    let (receipt, table) = read_table(shelf, rt, alloc, file, last)?;
+    let record = record_table(rt, alloc, registry, file, receipt)?;
+    Ok((record, DeepTable::new(depth, table)))
+}
+
