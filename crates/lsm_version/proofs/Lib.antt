@@ -21,3 +21,4 @@ pub mod CheckedFiles
 pub mod Placing
 pub mod Changing
 pub mod Numbers
+pub mod LevelReads

@@ -1,16 +1,9 @@
 -- Why a check refuses a shape (this project's rule).
 use Rattle.std.specs.Prelude.{ℕ, List}
-use Rattle.lsm_table.specs.ReadFault.{IsMemory}
-use Rattle.lsm_table.specs.declared.read_fault.ReadFault.{ReadFault}
-use Rattle.lsm_table.specs.declared.read_fault.ReadFault.TheVariants.{Shelf, Table}
 use Rattle.lsm_version.specs.declared.check_fault.CheckFault.{CheckFault}
 use Rattle.lsm_version.specs.declared.check_fault.CheckFault.TheVariants.{Read, DoubleFile, Overlap, WrongRange, AgeOrder, SharedBoundary}
 use Rattle.lsm_version.specs.FileNumbers.{IsLeastTwice}
-
--- memory ran out
-abbrev pub IsWant : ReadFault → Type 0
-IsWant (Shelf fault) = ⊥
-IsWant (Table fault) = IsMemory fault
+use Rattle.lsm_version.specs.FileRefusal.{IsWant}
 
 -- the refusals of the numbers of files
 abbrev pub IsNumberRefusal : List ℕ → CheckFault → Type 0

@@ -1,6 +1,9 @@
 -- Why a check refuses a file of a shape (this project's rule).
-use Rattle.std.specs.Prelude.{◌≡◌, ℕ, false, List, Err}
+use Rattle.std.specs.Prelude.{◌≡◌, ◌⊎◌, ℕ, false, List, Err}
+use Rattle.lsm_codec.specs.Lists.{Has}
 use Rattle.lsm_table.specs.declared.read_fault.ReadFault.TheVariants.{Shelf, Table}
+use Rattle.lsm_table.specs.ReadFault.{IsMemory}
+use Rattle.lsm_table.specs.declared.read_fault.ReadFault.{ReadFault}
 use Rattle.lsm_table.specs.Reading.{is_memory}
 use Rattle.lsm_table.specs.Table.{IsTable}
 use Rattle.lsm_table.specs.TableReading.{table_at}
@@ -21,3 +24,21 @@ IsFileRefusal Stored last file (DoubleFile number) = ⊥
 IsFileRefusal Stored last file (Overlap level) = ⊥
 IsFileRefusal Stored last file (SharedBoundary level) = ⊥
 IsFileRefusal Stored last file (AgeOrder user) = ⊥
+
+-- memory ran out over the bytes of a table
+abbrev pub IsWant : ReadFault → Type 0
+IsWant (Shelf fault) = ⊥
+IsWant (Table fault) = IsMemory fault
+
+-- memory ran out
+abbrev pub IsMemoryRefusal : CheckFault → Type 0
+IsMemoryRefusal (Read fault) = IsWant fault
+IsMemoryRefusal (WrongRange number) = ⊥
+IsMemoryRefusal (DoubleFile number) = ⊥
+IsMemoryRefusal (Overlap level) = ⊥
+IsMemoryRefusal (SharedBoundary level) = ⊥
+IsMemoryRefusal (AgeOrder user) = ⊥
+
+-- memory ran out, or one of the files is refused
+abbrev pub IsFilesRefusal : (ℕ → List ℕ → Type 0) → ℕ → List TableFile → CheckFault → Type 0
+IsFilesRefusal Stored last files fault = IsMemoryRefusal fault ⊎ ((file : TableFile) × Has files file × IsFileRefusal (Stored file.number) last file fault)

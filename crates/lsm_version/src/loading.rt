@@ -1,22 +1,27 @@
 //! The files of a shape, read level by level.
 
-ghost use Rattle.std.specs.Prelude.{◌≡◌, IfErr, IfOk};
+ghost use Rattle.std.specs.Prelude.{◌≡◌, ◌++◌, IfErr, IfOk, List};
+ghost use Rattle.std.specs.List.Sorted.{IsSortedBy};
 ghost use Rattle.lsm_table.specs.HeldTable.{entries_in};
 ghost use Rattle.lsm_table.specs.Told.{Becomes};
 ghost use Rattle.lsm_version.specs.CheckFault.{CheckCounted};
 ghost use Rattle.lsm_version.specs.CheckedFiles.{IsFileOf};
-ghost use Rattle.lsm_version.specs.FileRefusal.{IsFileRefusal};
+ghost use Rattle.lsm_version.specs.FileRefusal.{IsFileRefusal, IsFilesRefusal};
+ghost use Rattle.lsm_version.specs.Loading.{Deep, IsLevelRead};
+ghost use Rattle.lsm_version.specs.Versions.{stands_before};
 
 use crate::check_fault::CheckFault;
 use crate::checked_table::{read_table, record_table};
 use crate::deep_table::DeepTable;
+use crate::file_level::FileLevel;
+use crate::ordered_level::insert;
 use lsm_manifest::FileMeta;
 use lsm_table::{Naming, Registry, Shelf, TableRef};
 use std::alloc::Global;
 use std::sync::Wait;
 
 /// Reads and judges the table of a file, and adds its record.
-pub(crate) fn load_file<N: Naming, S: Shelf, R: Wait>(
+fn load_file<N: Naming, S: Shelf, R: Wait>(
     shelf: &mut S,
     rt: &R,
     alloc: Global,
@@ -39,3 +44,31 @@ pub(crate) fn load_file<N: Naming, S: Shelf, R: Wait>(
     Ok((record, DeepTable::new(depth, table)))
 }
 
+/// Reads the files of a level, and puts their tables into place one after another.
+pub(crate) fn load_level<N: Naming, S: Shelf, R: Wait>(
+    shelf: &mut S,
+    rt: &R,
+    alloc: Global,
+    registry: &Registry<S::Receipt>,
+    level: &FileLevel<'_>,
+    last: u64,
+    deep: &mut Vec<DeepTable>,
+) -> Result<Vec<TableRef<N, S>>, CheckFault>
+    requires here { (S.told shelf.old).place ≡ N.place }
+    requires named { registry.now ≡ N.registry }
+    ensures read { IfOk result (λ v. (more : List Deep) × (deep.new.items ≡ deep.old.items ++ more) × IsLevelRead (λ number image. (r : S.Receipt) × S.is_of N.place r × (S.Receipt.number r ≡ number) × (S.Receipt.image r ≡ image)) last level.now v.items more) }
+    ensures order { IfOk result (λ v. IsSortedBy stands_before v.items) }
+    ensures refused { IfErr result (λ e. IsFilesRefusal (λ number image. (r : S.Receipt) × S.is_of N.place r × (S.Receipt.number r ≡ number) × (S.Receipt.image r ≡ image)) last level.now.files e) }
+    ensures told { Becomes (S.told shelf.old) (S.told shelf.new) }
+    ensures cause { IfErr result (λ e. CheckCounted e (S.told shelf.old) (S.told shelf.new)) }
+{
+    let mut tables = Vec::new(alloc);
+    let files = level.files();
+    for file in files {
+        let depth = level.depth(file.number);
+        let (table, entries) = load_file(shelf, rt, alloc, registry, file, depth, last)?;
+        insert(registry, &mut tables, table)?;
+        deep.push(entries)?;
+    }
+    Ok(tables)
+}
