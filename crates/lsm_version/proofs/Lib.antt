@@ -22,3 +22,5 @@ pub mod Placing
 pub mod Changing
 pub mod Numbers
 pub mod LevelReads
+pub mod LevelRanges
+pub mod DeepAges

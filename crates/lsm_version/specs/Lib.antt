@@ -18,3 +18,5 @@ pub mod Changes
 pub mod FileNumbers
 pub mod CheckRefusal
 pub mod Loading
+pub mod LevelLayouts
+pub mod DeepAges

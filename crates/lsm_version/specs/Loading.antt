@@ -17,6 +17,11 @@ pub record FileLevel : Type 0 where
   pub files : List TableFile
   pub shallow : List TableFile
 
+-- the files of all levels
+abbrev pub all_files : List (List TableFile) → List TableFile
+all_files [] = []
+all_files (files ∷ levels) = files ++ all_files levels
+
 -- ---- depths
 
 -- how many files have a greater number

@@ -3,6 +3,7 @@
 //! Stands on `lsm_codec`. Its contract: a lawful version answers as its union of entries, and a merge is its sources in order.
 #![tactic(auto)]
 
+mod age_judgment;
 mod ages;
 mod change;
 mod check_fault;
@@ -15,6 +16,7 @@ mod input;
 mod key_range;
 mod key_word;
 pub mod laws;
+mod layouts;
 mod loading;
 mod merger;
 mod ordered_level;
