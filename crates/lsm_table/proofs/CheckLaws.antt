@@ -6,10 +6,10 @@ use Rattle.lsm_table.specs.declared.table_fault.TableFault.{TableFault}
 use Rattle.lsm_table.specs.declared.handle.Handle.{Handle}
 use Rattle.lsm_table.specs.declared.footer.Footer.{Footer}
 use Rattle.lsm_table.specs.Reading.{settled, is_memory, FailsUnless, Fails}
-use Rattle.lsm_table.specs.Footer.{footer_at}
 use Rattle.lsm_table.specs.Table.{IsTable}
 use Rattle.lsm_table.specs.TableReading.{table_at}
 use Rattle.lsm_table.specs.HeldTable.{entries_in, HeldTable}
+use Rattle.lsm_table.specs.OpenTable.{IsOpened}
 use Rattle.lsm_table.proofs.ReadingLaws.{ok_is}
 use Rattle.lsm_table.proofs.FooterLaws.{footer_again}
 use Rattle.lsm_table.proofs.TableLaws.{table_takes, table_again}
@@ -29,11 +29,11 @@ reads_well file h =
 pub table_well : (file : List ℕ) → IsBytes file → settled (table_at file) ≡ well → IsTable file (entries_in file)
 table_well file fits h = table_takes file (entries_in file) fits (reads_well file h)
 
-pub held_well : (file : List ℕ) (index : Handle) → IsBytes file → settled (table_at file) ≡ well → (footer : Footer) × (footer_at file ≡ Ok footer) × (footer.index ≡ index) → HeldTable file index
-held_well file index fits h f =
+pub held_well : (file : List ℕ) (index : Handle) → IsBytes file → settled (table_at file) ≡ well → IsOpened file index → HeldTable file index
+held_well file index fits h o =
     let t = table_well file fits h in
-    let same : t.footer ≡ f.0 = ok_is t.footer f.0 (sym (footer_again file t.body t.footer_text t.footer t.footed t.bytes_are) ∙ f.1) in
-    record { table = t; index_is = ap (λ (x : Footer). x.index) same ∙ f.2 }
+    let same : t.footer ≡ o.footer = ok_is t.footer o.footer (sym (footer_again file t.body t.footer_text t.footer t.footed t.bytes_are) ∙ o.footed) in
+    record { table = t; index_is = ap (λ (x : Footer). x.index) same ∙ o.index_is }
 
 unless_whole : (memory : Bool) (fault : TableFault) (r : Result (List Entry) TableFault) → FailsUnless memory fault (settled r) → FailsUnless memory fault r
 unless_whole true fault r h = tt

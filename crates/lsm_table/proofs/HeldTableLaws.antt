@@ -30,6 +30,10 @@ entries_in-is bytes es e = ap entries_or_none e
 pub table_held : (bytes : List ℕ) (es : List Entry) → IsTable bytes es → entries_in bytes ≡ es
 table_held bytes es t = entries_in-is bytes es (table_again bytes es t)
 
+-- What a table's bytes hold is the table's.
+pub table_itself : (bytes : List ℕ) (es : List Entry) → IsTable bytes es → IsTable bytes (entries_in bytes)
+table_itself bytes es t = subst (λ (xs : List Entry). IsTable bytes xs) (sym (table_held bytes es t)) t
+
 -- where the contents stand
 pub record Slice (body : List ℕ) (handle : Handle) (contents : List ℕ) : Type 0 where
   pub begins : handle.offset ≤ length body
@@ -120,15 +124,6 @@ names_all body index entries n = all_named body n.bound index n.groups n.blocks 
 
 pub table_names : (file : List ℕ) (es : List Entry) (t : IsTable file es) → Names t.body t.index es
 table_names file es t = record { bound = None; groups = t.groups; ascends = t.indexed.ascends; blocks = t.blocks; entries_are = t.entries_are }
-
--- what is lent of a checked table names its entries
-pub table_parts : (file body : List ℕ) (index : Handle) (block : HeldBlock) → HeldTable file index → body ≡ body_of file → ((es : List Entry) → BlockAt body index es → block.entries ≡ es) → Names body block.entries (entries_in file)
-table_parts file body index block h is there =
-    let t = h.table in
-    let same : t.body ≡ body = sym (is ∙ (bodied file (entries_in file) t).is) in
-    let held = subst (λ (x : Handle). Holds body x t.contents) h.index_is (subst (λ (xs : List ℕ). Holds xs t.footer.index t.contents) same t.held) in
-    let entries = there t.index (record { contents = t.contents; held = held; block = t.indexed }) in
-    subst (λ (xs : List Entry). Names body xs (entries_in file)) (sym entries) (subst (λ (xs : List ℕ). Names xs t.index (entries_in file)) same (table_names file (entries_in file) t))
 
 pub table_block : (file body : List ℕ) (index : Handle) (h : HeldTable file index) → body ≡ body_of file → BlockAt body index h.table.index
 table_block file body index h is =

@@ -30,7 +30,7 @@ below_step_by : (key : InternalKey) (e : Entry) (es : List Entry) → key_cmp (i
 below_step_by key e es h = below-step key e es (ap is_lt h)
 
 -- what is below a key throughout
-all_below : (key : InternalKey) (xs ys : List Entry) → AllByRecursion (λ e. key_cmp (internal_key e) key ≡ Less) xs → not_below key (xs ++ ys) ≡ not_below key ys
+pub all_below : (key : InternalKey) (xs ys : List Entry) → AllByRecursion (λ e. key_cmp (internal_key e) key ≡ Less) xs → not_below key (xs ++ ys) ≡ not_below key ys
 all_below key [] ys h = refl
 all_below key (x ∷ xs) ys h = below_step_by key x (xs ++ ys) h.0 ∙ all_below key xs ys h.1
 
@@ -58,7 +58,7 @@ up_to_last e (f ∷ es) a =
 pub block_ascends : (body value : List ℕ) (es : List Entry) → DataBlock body value es → Ascends es
 block_ascends body value es d = d.block.ascends
 
-all_less : (i : Entry) (key : InternalKey) (last : Entry) (es : List Entry) → AllByRecursion (λ x. is_le (entry_cmp x last) ≡ true) es → is_le (entry_cmp last i) ≡ true → key_cmp (internal_key i) key ≡ Less
+pub all_less : (i : Entry) (key : InternalKey) (last : Entry) (es : List Entry) → AllByRecursion (λ x. is_le (entry_cmp x last) ≡ true) es → is_le (entry_cmp last i) ≡ true → key_cmp (internal_key i) key ≡ Less
     → AllByRecursion (λ e. key_cmp (internal_key e) key ≡ Less) es
 all_less i key last [] s h k = tt
 all_less i key last (e ∷ es) s h k =

@@ -52,3 +52,11 @@ self_le a = le_self (key_cmp a a) (key_cmp_total.antisymm a a)
     le_self Less e = refl
     le_self Equal e = refl
     le_self Greater e = absurd cc
+
+pub self_not : (a : InternalKey) → is_lt (key_cmp a a) ≡ false
+self_not a = not_self (key_cmp a a) (key_cmp_total.antisymm a a)
+  where
+    not_self : (o : Ordering) → o ≡ ordering_reverse o → is_lt o ≡ false
+    not_self Less e = absurd cc
+    not_self Equal e = refl
+    not_self Greater e = refl

@@ -24,3 +24,6 @@ pub mod Padding
 pub mod Honest
 pub mod Telling
 pub mod FoundLaws
+pub mod OpenLaws
+pub mod GetLaws
+pub mod EntriesLaws

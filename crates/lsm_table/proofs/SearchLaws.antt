@@ -16,6 +16,7 @@ use Rattle.lsm_codec.proofs.Keys.{key_from_test, test_from_key, user_le_antisym}
 use Rattle.lsm_codec.proofs.Newest.{IsAllowed, allowed_says, allowed_from, kind_number_le, Finds, newest_finds}
 use Rattle.lsm_block.specs.Block.{Ascends}
 use Rattle.lsm_block.specs.Seeking.{not_below, drop_if}
+use Rattle.lsm_table.specs.Searching.{read_key, of_user}
 use Rattle.lsm_table.proofs.KeyOrder.{key_cmp_total, le_less_trans, not_less, less_not, is_less}
 
 -- ---- the first entry not below a key
@@ -129,7 +130,7 @@ none_allowed : (k : UserKey) (s : ℕ) (es : List Entry) → NoneAllowed k s es 
 none_allowed k s [] h = refl
 none_allowed k s (e ∷ es) h = let here = h.0 in rw here (none_allowed k s es h.1)
 
-after_at : (key : InternalKey) (es : List Entry) (f : Entry) → AllAfter key es → Has es f → key_cmp key (internal_key f) ≡ Less
+pub after_at : (key : InternalKey) (es : List Entry) (f : Entry) → AllAfter key es → Has es f → key_cmp key (internal_key f) ≡ Less
 after_at key [] f s h = absurd h
 after_at key (e ∷ es) f s h = elim h [ inl same ↦ subst (λ (x : Entry). key_cmp key (internal_key x) ≡ Less) same s.0 | inr rest ↦ after_at key es f s.1 rest ]
 
@@ -146,15 +147,6 @@ allowed_first k s e es after a =
     let here = allowed_from k s e a in
     let first = first_is_newest k s e es after a.key (newest k s es) (newest_finds k s es) in
     rw here (ap (λ (x : Entry). Some x) first)
-
--- the key from which on a read looks
-abbrev pub read_key : UserKey → ℕ → InternalKey
-read_key k s = record { user = k; seq = s; kind = Value }
-
--- the first of the entries, if it is the user's
-abbrev pub of_user : UserKey → List Entry → Option Entry
-of_user k [] = None
-of_user k (e ∷ es) = cond (bytes_eq e.user k) (Some e) None
 
 not_allowed_below : (k : UserKey) (s : ℕ) (e : Entry) → key_cmp (internal_key e) (read_key k s) ≡ Less → (b : Bool) → is_allowed k s e ≡ b → b ≡ false
 not_allowed_below k s e h false t = refl

@@ -21,3 +21,6 @@ pub mod FileShelf
 pub mod Registry
 pub mod ReadFault
 pub mod Found
+pub mod OpenTable
+pub mod Searching
+pub mod TableEntries

@@ -1,17 +1,19 @@
 //! Whether a file is a table.
 
-ghost use Rattle.std.specs.Prelude.{◌≡◌, ℕ, List, ◌∷◌, None, IfOk, Ok};
+ghost use Rattle.std.specs.Prelude.{◌≡◌, ℕ, List, ◌∷◌, None, IfOk, OnOk};
 ghost use Rattle.std.specs.Option.{option_map};
 ghost use Rattle.lsm_codec.specs.KeyRef.{key_of};
 ghost use Rattle.lsm_block.specs.Block.{Ascends, entry_of};
 ghost use Rattle.lsm_table.specs.Reading.{Gives, settled};
-ghost use Rattle.lsm_table.specs.Footer.{footer_at};
 ghost use Rattle.lsm_table.specs.TableReading.{are_placed, data_block_at, data_at, table_at};
+ghost use Rattle.lsm_table.specs.HeldTable.{HeldTable, entries_in};
+ghost use Rattle.lsm_table.specs.OpenTable.{IsOpened, opening_at, block_named};
 ghost use Rattle.lsm_table.specs.Judging.{comes_after, ends_at};
 ghost use Rattle.lsm_block.specs.Seeking.{not_below};
 
 use crate::footer::{FOOTER, Footer};
 use crate::handle::Handle;
+use crate::held_block::parts;
 use crate::stored_block::contents_of;
 use crate::table_fault::TableFault;
 use lsm_block::{BlockRef, Cursor, check_bytes};
@@ -72,17 +74,15 @@ fn is_placed(
     }
 }
 
-/// Judges the data block of an index entry: its place, the block, and its keys.
-#[tactic(auto, unfolding(crate::specs::TableReading::data_block_at))]
-fn judge_block(
+/// The block that the value of an index entry names, whatever the file holds.
+#[tactic(auto, unfolding(crate::specs::OpenTable::block_named))]
+pub(crate) fn named_block<'a>(
     alloc: Global,
-    body: &[u8],
-    bound: Option<KeyRef<'_>>,
-    key: &KeyRef<'_>,
+    body: &'a [u8],
     place: &[u8],
-    cursor: &mut Cursor,
-) -> Result<(), TableFault>
-    ensures { Gives (λ _. tt) result (settled (data_block_at body.now (option_map key_of bound.entry) (entry_of (key_of key.now) place.now))) }
+) -> Result<BlockRef<'a>, TableFault>
+    ensures exact { Gives (λ b. b.entries) result (block_named body.now place.now) }
+    ensures ascends { IfOk result (λ b. Ascends b.entries) }
 {
     let (handle, rest) = match Handle::get(TableFault::BadIndex, place) {
         Ok(found) => found,
@@ -96,10 +96,27 @@ fn judge_block(
         Err(fault) => return Err(fault),
     };
     match check_bytes(alloc, contents) {
-        Ok(()) => {}
-        Err(fault) => return Err(TableFault::from(fault)),
+        Ok(()) => Ok(BlockRef::of(contents)),
+        Err(fault) => Err(TableFault::from(fault)),
     }
-    if !is_placed(&BlockRef::of(contents), bound, key, cursor)? {
+}
+
+/// Judges the data block of an index entry: its place, the block, and its keys.
+fn judge_block(
+    alloc: Global,
+    body: &[u8],
+    bound: Option<KeyRef<'_>>,
+    key: &KeyRef<'_>,
+    place: &[u8],
+    cursor: &mut Cursor,
+) -> Result<(), TableFault>
+    ensures { Gives (λ _. tt) result (settled (data_block_at body.now (option_map key_of bound.entry) (entry_of (key_of key.now) place.now))) }
+{
+    let block = match named_block(alloc, body, place) {
+        Ok(block) => block,
+        Err(fault) => return Err(fault),
+    };
+    if !is_placed(&block, bound, key, cursor)? {
         return Err(TableFault::BadIndex);
     }
     Ok(())
@@ -127,11 +144,11 @@ fn judge_data(alloc: Global, body: &[u8], index: &BlockRef<'_>) -> Result<(), Ta
     Ok(())
 }
 
-/// Judges a file: its footer, its index block, and its data blocks. What comes back is the place of the index block.
-#[tactic(auto, unfolding(crate::specs::TableReading::table_at))]
-pub(crate) fn judge(alloc: Global, file: &[u8]) -> Result<Handle, TableFault>
-    ensures whole { Gives (λ _. tt) result (settled (table_at file.now)) }
-    ensures index { IfOk result (λ handle. (footer : Footer) × (footer_at file.now ≡ Ok footer) × (footer.index ≡ handle)) }
+/// Judges the footer and the index block of a file. What comes back is the place of the index block.
+#[tactic(auto, unfolding(crate::specs::OpenTable::opening_at))]
+pub(crate) fn judge_opening(alloc: Global, file: &[u8]) -> Result<Handle, TableFault>
+    ensures whole { Gives (λ _. tt) result (settled (opening_at file.now)) }
+    ensures opened { IfOk result (λ index. IsOpened file.now index) }
 {
     let footer = match Footer::of(file) {
         Ok(footer) => footer,
@@ -143,11 +160,35 @@ pub(crate) fn judge(alloc: Global, file: &[u8]) -> Result<Handle, TableFault>
         Err(fault) => return Err(fault),
     };
     match check_bytes(alloc, contents) {
-        Ok(()) => {}
-        Err(fault) => return Err(TableFault::from(fault)),
-    }
-    match judge_data(alloc, body, &BlockRef::of(contents)) {
         Ok(()) => Ok(footer.index),
+        Err(fault) => Err(TableFault::from(fault)),
+    }
+}
+
+/// Judges the data blocks of a file whose footer and index block were judged.
+pub(crate) fn judge_rest(alloc: Global, file: &[u8], index: Handle) -> Result<(), TableFault>
+    requires { IsOpened file.now index }
+    ensures held { OnOk result (HeldTable file.now index) }
+    ensures exact { Gives (λ _. entries_in file.now) result (table_at file.now) }
+{
+    let (body, block) = parts(file, index);
+    match judge_data(alloc, body, &block) {
+        Ok(()) => Ok(()),
+        Err(fault) => Err(fault),
+    }
+}
+
+/// Judges a file: its footer, its index block, and its data blocks. What comes back is the place of the index block.
+pub(crate) fn judge(alloc: Global, file: &[u8]) -> Result<Handle, TableFault>
+    ensures held { IfOk result (λ index. HeldTable file.now index) }
+    ensures exact { Gives (λ _. entries_in file.now) result (table_at file.now) }
+{
+    let index = match judge_opening(alloc, file) {
+        Ok(index) => index,
+        Err(fault) => return Err(fault),
+    };
+    match judge_rest(alloc, file, index) {
+        Ok(()) => Ok(index),
         Err(fault) => Err(fault),
     }
 }

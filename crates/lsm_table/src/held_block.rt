@@ -3,8 +3,12 @@
 ghost use Rattle.std.specs.Prelude.{◌≡◌, [], ℕ, List};
 ghost use Rattle.lsm_codec.specs.Entries.{Entry};
 ghost use Rattle.lsm_table.specs.Table.{DataBlock};
+ghost use Rattle.std.specs.Prelude.{Ok};
+ghost use Rattle.lsm_table.specs.Footer.{body_of};
 ghost use Rattle.lsm_table.specs.HeldTable.{BlockAt};
+ghost use Rattle.lsm_table.specs.OpenTable.{IsOpened, opening_at};
 
+use crate::footer::FOOTER;
 use crate::handle::Handle;
 use lsm_block::BlockRef;
 
@@ -16,6 +20,16 @@ pub(crate) fn block_at<'a>(body: &'a [u8], handle: Handle) -> BlockRef<'a>
     let (_, rest) = body.split_at(handle.offset as usize);
     let (contents, _) = rest.split_at(handle.size as usize);
     BlockRef::of(contents)
+}
+
+/// The part of an opened table before the footer, and its index block.
+pub(crate) fn parts(file: &[u8], index: Handle) -> (&[u8], BlockRef<'_>)
+    requires { IsOpened file.now index }
+    ensures body { result.0.now ≡ body_of file.now }
+    ensures index { opening_at file.now ≡ Ok result.1.entries }
+{
+    let (body, _) = file.split_at(file.len() - FOOTER);
+    (body, block_at(body, index))
 }
 
 /// The data block that the value of an index entry names.

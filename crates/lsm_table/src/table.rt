@@ -1,19 +1,29 @@
 //! A table that was checked.
 
-ghost use Rattle.std.specs.Prelude.{◌≡◌, List, ℕ, IfOk, Ok};
-ghost use Rattle.lsm_codec.specs.Entries.{Entry};
+ghost use Rattle.std.specs.Prelude.{◌≡◌, List, ℕ, IfOk, IfErr, Ok};
+ghost use Rattle.lsm_codec.specs.Entries.{Entry, newest};
 ghost use Rattle.lsm_table.specs.Reading.{Gives};
 ghost use Rattle.lsm_table.specs.Table.{IsTable};
 ghost use Rattle.lsm_table.specs.TableReading.{table_at};
 ghost use Rattle.lsm_table.specs.HeldTable.{HeldTable, entries_in, Names};
+ghost use Rattle.lsm_table.specs.Found.{seen, found_in};
+ghost use Rattle.lsm_table.specs.OpenTable.{Opens, opening_at};
+ghost use Rattle.lsm_table.specs.ReadFault.{ReadCounted};
+ghost use Rattle.lsm_table.specs.Told.{Becomes};
 
 use crate::check::judge;
-use crate::footer::FOOTER;
+use crate::found::Found;
 use crate::handle::Handle;
-use crate::held_block::block_at;
+use crate::held_block::{data_block, parts};
+use crate::open_table::OpenTable;
+use crate::read_fault::ReadFault;
+use crate::search::{Search, key_for, search_block};
+use crate::shelf::Shelf;
+use crate::table_entries::TableEntries;
 use crate::table_fault::TableFault;
 use crate::table_iter::TableIter;
-use lsm_block::BlockRef;
+use crate::whole_image::read_image;
+use lsm_block::{BlockRef, Cursor};
 use std::alloc::Global;
 use std::marker::Model;
 
@@ -37,17 +47,6 @@ impl Model for Table {
     ghost invariant = { λ t. HeldTable t.file.items t.index };
 }
 
-/// Judges a file. What comes back is the place of its index block.
-fn hold(alloc: Global, file: &[u8]) -> Result<Handle, TableFault>
-    ensures held { IfOk result (λ index. HeldTable file.now index) }
-    ensures exact { Gives (λ _. entries_in file.now) result (table_at file.now) }
-{
-    match judge(alloc, file) {
-        Ok(index) => Ok(index),
-        Err(fault) => Err(fault),
-    }
-}
-
 impl Table {
     /// The table of a file. What is wrong with it is named by the first fault in this order: the footer (length, magic
     /// number, places), the index block, and then for each index entry its value, its data block (place, checksum, type, the
@@ -60,9 +59,35 @@ impl Table {
         // Which fault it is.
         ensures exact { Gives (λ t. t) result (table_at file.items) }
     {
-        match hold(alloc, &file) {
+        match judge(alloc, &file) {
             Ok(index) => Ok(Table { file, index }),
             Err(fault) => Err(fault),
+        }
+    }
+
+    /// Opens the table of a receipt by one read of the whole image: its footer and its index block are judged now, and its
+    /// data blocks when they are read.
+    ///
+    /// `Shelf` where the shelf refused, and `Table` with the first fault of the footer and the index block.
+    pub fn open<S: Shelf>(
+        shelf: &mut S,
+        alloc: Global,
+        receipt: &S::Receipt,
+    ) -> Result<OpenTable, ReadFault>
+        requires here { S.is_of (S.told shelf.old).place receipt.now }
+        ensures image { S.honest → IfOk result (λ t. t ≡ S.Receipt.image receipt.now) }
+        // Which fault it is.
+        ensures exact { S.honest → Opens result (opening_at (S.Receipt.image receipt.now)) }
+        ensures told { Becomes (S.told shelf.old) (S.told shelf.new) }
+        ensures cause { IfErr result (λ e. ReadCounted e (S.told shelf.old) (S.told shelf.new)) }
+    {
+        let file = match read_image(alloc, shelf, receipt) {
+            Ok(file) => file,
+            Err(fault) => return Err(ReadFault::Shelf(fault)),
+        };
+        match OpenTable::judge(alloc, file) {
+            Ok(table) => Ok(table),
+            Err(fault) => Err(ReadFault::Table(fault)),
         }
     }
 
@@ -70,8 +95,26 @@ impl Table {
     fn parts(&self) -> (&[u8], BlockRef<'_>)
         ensures { Names result.0.now result.1.entries self.now }
     {
-        let (body, _) = self.file.split_at(self.file.len() - FOOTER);
-        (body, block_at(body, self.index))
+        parts(&self.file, self.index)
+    }
+
+    /// What a read of the user key finds at the sequence: the newest entry with a sequence at most `seq`. The one fault is
+    /// `OutOfMemory`.
+    pub fn get(&self, alloc: Global, user: &[u8], seq: u64) -> Result<Option<Found>, TableFault>
+        ensures { Gives seen result (Ok (found_in (newest user.now seq self.now))) }
+    {
+        let (body, index) = self.parts();
+        let key = key_for(user, seq);
+        let mut blocks = Cursor::start(alloc);
+        let mut here = Cursor::start(alloc);
+        index.seek(&mut blocks, &key)?;
+        while let Some(place) = index.next(&mut blocks)? {
+            match search_block(alloc, &data_block(body, place), &mut here, &key)? {
+                Search::GoesOn => {}
+                Search::Ended(found) => return Ok(found),
+            }
+        }
+        Ok(None)
     }
 
     /// Before the first entry. Takes no memory.
@@ -81,9 +124,23 @@ impl Table {
         let (body, index) = self.parts();
         TableIter::over(alloc, body, index)
     }
+
+    /// Hands the table over to a reader, before the first entry. Takes no memory.
+    pub fn into_entries(self, alloc: Global) -> TableEntries
+        ensures { result.left ≡ self }
+    {
+        let Table { file, index } = self;
+        TableEntries::over(alloc, file, index)
+    }
 }
 
 /// At most one list of entries fits a table's bytes.
 pub fn one_table()
     ensures { (bytes : List ℕ) (es fs : List Entry) → IsTable bytes es → IsTable bytes fs → es ≡ fs }
+{}
+
+/// What a table's bytes hold, as contracts name it, is the table's entries.
+pub fn entries_are()
+    ensures same { (bytes : List ℕ) (es : List Entry) → IsTable bytes es → entries_in bytes ≡ es }
+    ensures table { (bytes : List ℕ) (es : List Entry) → IsTable bytes es → IsTable bytes (entries_in bytes) }
 {}

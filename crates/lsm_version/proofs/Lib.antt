@@ -24,3 +24,8 @@ pub mod Numbers
 pub mod LevelReads
 pub mod LevelRanges
 pub mod DeepAges
+pub mod ChangedFiles
+pub mod Rising
+pub mod Youngest
+pub mod Finding
+pub mod Overlaps

@@ -20,3 +20,5 @@ pub mod CheckRefusal
 pub mod Loading
 pub mod LevelLayouts
 pub mod DeepAges
+pub mod Reads
+pub mod Overlap

@@ -157,3 +157,16 @@ impl<N: Naming, S: Shelf> Version<N, S> {
         })
     }
 }
+
+ghost use Rattle.std.specs.Prelude.{ℕ, ◌⊎◌, ◌↔◌, List, Option};
+ghost use Rattle.lsm_codec.specs.Lists.{Has};
+ghost use Rattle.lsm_table.specs.Registry.{Table};
+ghost use Rattle.lsm_version.specs.Files.{File};
+ghost use Rattle.lsm_version.specs.Changes.{added_files};
+ghost use Rattle.lsm_version.specs.Versions.{Levels, files};
+
+/// A law: a file is of the changed version exactly where it is of an added table, or of the version before and its number not deleted.
+pub fn changed_files()
+    ensures { (deleted : List ℕ) (added : List (ℕ × Table)) (pointer : Option (ℕ × List ℕ)) (last : ℕ) (v : Levels) (F : File) → length v.tables ≡ 7 → All (λ a. a.0 ≤ 6) added
+        → (Has (files (changed deleted added pointer last v)) F ↔ ((Has (files v) F × (Has deleted F.number → ⊥)) ⊎ Has (added_files added) F)) }
+{}

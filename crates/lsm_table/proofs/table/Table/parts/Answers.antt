@@ -1,14 +1,17 @@
-use Rattle.std.proofs.Common.{◌≡◌, ◌-◌, ℕ, List, length, take, refl, sym, ap, ◌∙◌, subst, arith}
+use Rattle.std.proofs.Common.{ℕ, List, sym, subst}
 use Rattle.lsm_codec.specs.Entries.{Entry}
-use Rattle.lsm_table.specs.Footer.{body_of}
 use Rattle.lsm_table.specs.HeldTable.{Names}
-use Rattle.lsm_table.proofs.HeldTableLaws.{table_parts}
+use Rattle.lsm_table.specs.OpenTable.{IsOpened}
+use Rattle.lsm_table.proofs.OpenLaws.{held_opened, read_names}
 use Rattle.lsm_table.proofs.table.Table.parts.Goals as goal
+
+pub parts-requires : goal.parts-requires
+parts-requires c =
+    let i = c.self.inside in
+    subst (λ (xs : List ℕ). IsOpened xs i.index) (sym c.deref.ensures.value) (held_opened i.file.items i.index c.self.invariant)
 
 pub returns : goal.returns
 returns c =
-    let n : c.len.result - 48 ≡ length c.self.inside.file.items - 48 = omega (arith, c.len.ensures, c.self.inside.file.ok.0) in
-    let is : c.split_at.result.0.now ≡ body_of c.self.inside.file.items =
-    c.split_at.ensures.front ∙ ap (take (c.len.result - 48)) c.deref.ensures.value ∙ ap (λ (k : ℕ). take k c.self.inside.file.items) n in
-    subst (λ (es : List Entry). Names c.split_at.result.0.now c.block_at.result.entries es) c.self.view_is
-    (table_parts c.self.inside.file.items c.split_at.result.0.now c.self.inside.index c.block_at.result c.self.invariant is c.block_at.ensures)
+    let i = c.self.inside in
+    subst (λ (es : List Entry). Names c.parts.result.0.now c.parts.result.1.entries es) c.self.view_is
+    (read_names i.file.items c.deref.result.now c.parts.result.0.now _ c.parts.result.1.entries c.self.invariant.table c.deref.ensures.value c.parts.ensures.body c.parts.ensures.index)

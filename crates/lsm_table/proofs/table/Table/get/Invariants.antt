@@ -1,0 +1,11 @@
+use Rattle.std.proofs.Common.{length}
+use Rattle.lsm_codec.specs.KeyRef.{key_of}
+use Rattle.lsm_block.specs.Held.{rest_of}
+use Rattle.lsm_table.specs.Searching.{Sought}
+use Rattle.lsm_table.proofs.table.Table.get.Given as goal
+
+abbrev pub invariant-loop-here : goal.invariant-loop-here
+invariant-loop-here l = Sought (key_of l.key) l.body (rest_of l.index l.blocks) l.self
+
+abbrev pub decreases-loop-here : goal.decreases-loop-here
+decreases-loop-here l = length (rest_of l.index l.blocks)

@@ -1,0 +1,11 @@
+use Rattle.std.proofs.Common.{List, [], ◌∙◌, ap}
+use Rattle.lsm_codec.specs.Entries.{Entry}
+use Rattle.lsm_block.specs.Held.{Place}
+use Rattle.lsm_table.specs.TableEntries.{left_in}
+use Rattle.lsm_table.proofs.EntriesLaws.{all_left}
+use Rattle.lsm_table.proofs.table_entries.TableEntries.over.Goals as goal
+
+pub returns : goal.returns
+returns c =
+    ap (λ (xs : List Entry). left_in c.args.file.items xs c.start.result.last) c.new.ensures.items
+    ∙ ap (λ (p : Place). left_in c.args.file.items [] p.last) c.start.ensures ∙ all_left c.args.file.items c.args.index c.requires
