@@ -29,3 +29,5 @@ pub mod Rising
 pub mod Youngest
 pub mod Finding
 pub mod Overlaps
+pub mod Judged
+pub mod Refused

@@ -6,6 +6,7 @@
 mod age_judgment;
 mod ages;
 mod change;
+mod check;
 mod check_fault;
 mod checked_table;
 mod deep_table;
