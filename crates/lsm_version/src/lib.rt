@@ -1,15 +1,28 @@
-//! Levels of files and what they answer: the law of a version, reads, what a merge of files keeps and what its install changes.
+//! Levels of files and what they answer: versions over tables on a shelf, their law, reads, what a merge of files keeps and what
+//! its install changes.
 //!
-//! Stands on `lsm_codec`. Its contract: a lawful version answers as its union of entries, and a merge is its sources in order.
+//! Stands on `lsm_table` for tables, shelves and the registry, and on `lsm_manifest` for the shape of a version. Its contract: a
+//! lawful version answers as its union of entries, and a merge is its sources in order.
 #![tactic(auto)]
 
+mod age_judgment;
 mod ages;
 mod change;
+mod check;
+mod check_fault;
+mod checked_table;
+mod deep_table;
+mod file_level;
+mod file_numbers;
+mod held_stream;
 mod find;
 mod get;
 mod input;
 mod key_range;
+mod key_word;
 pub mod laws;
+mod layouts;
+mod loading;
 mod merger;
 mod ordered_level;
 mod overlap;
@@ -17,6 +30,7 @@ mod owned_entry;
 mod placed;
 mod scan;
 mod source;
+mod span;
 mod stream;
 mod table_stream;
 #[cfg(test)]
@@ -25,8 +39,10 @@ mod tree;
 mod user_range;
 mod version;
 mod version_scan;
+mod walk;
 
 pub use ages::against_age;
+pub use check_fault::CheckFault;
 pub use change::changed_files;
 pub use input::Input;
 pub use key_range::{KeyRange, Layout, layout_of};
