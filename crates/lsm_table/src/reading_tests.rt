@@ -1,12 +1,15 @@
 //! Reads of tables, foreign and altered ones among them, and of tables on a shelf.
 
+use crate::shelf_tests::scratch;
 use crate::{
-    Found, MemoryShelf, ReadFault, Shelf, Table, TableBuilder, TableEntries, TableFault,
+    FileShelf, Found, MemoryShelf, ReadFault, Shelf, Table, TableBuilder, TableEntries, TableFault,
     TableOptions,
 };
 use lsm_codec::{Kind, crc_extend, crc32c, mask};
 use std::alloc::{AllocError, Global};
+use std::fs;
 use std::process::Abort;
+use std::sync::Wait;
 use std::test::Fail;
 
 /// The end of a block with one restart.
@@ -165,16 +168,33 @@ fn a_checked_table_hands_its_entries_over(rt: HostRuntime) -> Result<(), Fail> {
     gives_two_entries(&rt, table.into_entries(rt.alloc()))
 }
 
-#[test]
-fn reads_of_a_table_on_a_shelf(rt: HostRuntime) -> Result<(), Fail> {
-    let alloc = rt.alloc();
-    let mut shelf = MemoryShelf::new(alloc)?;
-    let receipt = shelf.put(&rt, alloc, 1, &two_blocks(alloc)?)?;
-    let table = Table::open(&mut shelf, alloc, &receipt)?;
+/// Reads the table of `two_blocks` on a shelf.
+fn reads_on_a_shelf<S: Shelf, R: Wait + Abort>(
+    rt: &R,
+    alloc: Global,
+    shelf: &mut S,
+) -> Result<(), Fail> {
+    let receipt = shelf.put(rt, alloc, 1, &two_blocks(alloc)?)?;
+    let table = Table::open(shelf, alloc, &receipt)?;
     assert!(rt; table.get(alloc, b"a", 2)?.is_none());
     assert!(rt; is_value(&table.get(alloc, b"a", 4)?, b"y"));
     assert!(rt; is_value(&table.get(alloc, b"a", 5)?, b"x"));
-    gives_two_entries(&rt, table.into_entries(alloc)?)
+    gives_two_entries(rt, table.into_entries(alloc)?)
+}
+
+#[test]
+fn reads_of_a_table_in_memory(rt: HostRuntime) -> Result<(), Fail> {
+    let mut shelf = MemoryShelf::new(rt.alloc())?;
+    reads_on_a_shelf(&rt, rt.alloc(), &mut shelf)
+}
+
+#[test]
+fn reads_of_a_table_in_a_folder(rt: HostRuntime) -> Result<(), Fail> {
+    let path = scratch(&rt, "reads")?;
+    let mut shelf = FileShelf::open(rt.clone()?, path.as_str())?;
+    reads_on_a_shelf(&rt, rt.alloc(), &mut shelf)?;
+    fs::remove_dir_all(&rt, path.as_str())?;
+    Ok(())
 }
 
 #[test]
