@@ -60,10 +60,10 @@ impl OpenTable {
     {
         let (body, index) = parts(&self.file, self.index);
         let key = key_for(user, seq);
-        let mut blocks = Cursor::start(alloc);
+        let mut next_block = Cursor::start(alloc);
         let mut here = Cursor::start(alloc);
-        index.seek(&mut blocks, &key)?;
-        while let Some(place) = index.next(&mut blocks)? {
+        index.seek(&mut next_block, &key)?;
+        while let Some(place) = index.next(&mut next_block)? {
             let block = match named_block(alloc, body, place) {
                 Ok(block) => block,
                 Err(fault) => return Err(fault),

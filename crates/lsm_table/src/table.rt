@@ -105,10 +105,10 @@ impl Table {
     {
         let (body, index) = self.parts();
         let key = key_for(user, seq);
-        let mut blocks = Cursor::start(alloc);
+        let mut next_block = Cursor::start(alloc);
         let mut here = Cursor::start(alloc);
-        index.seek(&mut blocks, &key)?;
-        while let Some(place) = index.next(&mut blocks)? {
+        index.seek(&mut next_block, &key)?;
+        while let Some(place) = index.next(&mut next_block)? {
             match search_block(alloc, &data_block(body, place), &mut here, &key)? {
                 Search::GoesOn => {}
                 Search::Ended(found) => return Ok(found),
