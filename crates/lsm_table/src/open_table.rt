@@ -1,6 +1,6 @@
 //! A table whose data blocks are judged when they are read.
 
-ghost use Rattle.std.specs.Prelude.{◌≡◌, ℕ, List, IfOk, Ok};
+ghost use Rattle.std.specs.Prelude.{◌≡◌, ℕ, List, None, IfOk, Ok};
 ghost use Rattle.lsm_codec.specs.Entries.{Entry, newest};
 ghost use Rattle.lsm_table.specs.Reading.{Gives, settled};
 ghost use Rattle.lsm_table.specs.Footer.{body_of};
@@ -84,6 +84,8 @@ impl OpenTable {
         ensures only { (es : List Entry) → IsTable self es → Gives (λ w. w.left) result (Ok es) }
         // Which fault it is.
         ensures exact { Gives (λ w. w.left) result (table_at self) }
+        // It stands before the first entry.
+        ensures last { IfOk result (λ w. w.last ≡ None) }
     {
         let OpenTable { file, index } = self;
         match judge_rest(alloc, &file, index) {
