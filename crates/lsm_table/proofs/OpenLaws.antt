@@ -1,6 +1,6 @@
 -- What a table is whose footer and index block were judged.
 use Rattle.std.proofs.Common.{◌≡◌, ℕ, ◌≤◌, Bool, true, false, leb, eqb, List, [], length, Option, None, Result, Ok, Err, refl, sym, ap, ◌∙◌, subst}
-use Rattle.std.specs.Prelude.{IfErr}
+use Rattle.std.specs.Prelude.{IfOk, IfErr}
 use Rattle.std.proofs.lemmas.Bool.{leb-true}
 use Rattle.std.proofs.lemmas.List.{append-nil}
 use Rattle.lsm_codec.specs.Keys.{InternalKey}
@@ -13,7 +13,7 @@ use Rattle.lsm_table.specs.declared.read_fault.ReadFault.{ReadFault}
 use Rattle.lsm_table.specs.declared.read_fault.ReadFault.TheVariants.{Shelf, Table}
 use Rattle.lsm_table.specs.declared.handle.Handle.{Handle}
 use Rattle.lsm_table.specs.declared.footer.Footer.{Footer}
-use Rattle.lsm_table.specs.Reading.{◌>>=◌, guarded, settled, is_memory, FailsUnless, Fails}
+use Rattle.lsm_table.specs.Reading.{◌>>=◌, guarded, settled, is_memory, FailsUnless, Fails, Gives}
 use Rattle.lsm_table.specs.ReadFault.{IsMemory, IsMemoryOrShelf}
 use Rattle.lsm_table.specs.Handle.{handle_at}
 use Rattle.lsm_table.specs.StoredBlock.{Holds, contents_at}
@@ -176,6 +176,15 @@ memory_only (BadChecksum offset) x f = absurd cc
 memory_only (Compressed kind) x f = absurd cc
 memory_only (BadBlockType kind) x f = absurd cc
 memory_only BadIndex x f = absurd cc
+
+-- what a reader returned that reads a value: that value, or want of memory
+pub gives_value : {X Y : Type 0} (see : X → Y) (r : Result X TableFault) (y : Y) → Gives see r (Ok y) → IfOk r (λ x. see x ≡ y)
+gives_value see (Ok x) y g = sym (ok_is y (see x) g)
+gives_value see (Err fault) y g = tt
+
+pub gives_memory : {X Y : Type 0} (see : X → Y) (r : Result X TableFault) (y : Y) → Gives see r (Ok y) → IfErr r IsMemory
+gives_memory see (Ok x) y g = tt
+gives_memory see (Err fault) y g = memory_only fault y g
 
 -- A table is opened, unless the shelf refuses or memory runs out.
 pub opens_table : {X : Type 0} (r : Result X ReadFault) (image : List ℕ) (es : List Entry) → IsTable image es → Opens r (opening_at image) → IfErr r IsMemoryOrShelf

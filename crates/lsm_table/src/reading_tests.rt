@@ -1,12 +1,15 @@
 //! Reads of tables, foreign and altered ones among them, and of tables on a shelf.
 
+use crate::shelf_tests::scratch;
 use crate::{
-    Found, MemoryShelf, ReadFault, Shelf, Table, TableBuilder, TableEntries, TableFault,
+    FileShelf, Found, MemoryShelf, ReadFault, Shelf, Table, TableBuilder, TableEntries, TableFault,
     TableOptions,
 };
 use lsm_codec::{Kind, crc_extend, crc32c, mask};
 use std::alloc::{AllocError, Global};
+use std::fs;
 use std::process::Abort;
+use std::sync::Wait;
 use std::test::Fail;
 
 /// The end of a block with one restart.
@@ -165,16 +168,37 @@ fn a_checked_table_hands_its_entries_over(rt: HostRuntime) -> Result<(), Fail> {
     gives_two_entries(&rt, table.into_entries(rt.alloc()))
 }
 
-#[test]
-fn reads_of_a_table_on_a_shelf(rt: HostRuntime) -> Result<(), Fail> {
-    let alloc = rt.alloc();
-    let mut shelf = MemoryShelf::new(alloc)?;
-    let receipt = shelf.put(&rt, alloc, 1, &two_blocks(alloc)?)?;
-    let table = Table::open(&mut shelf, alloc, &receipt)?;
+/// Reads the table of one entry and that of `two_blocks` on a shelf.
+fn reads_on_a_shelf<S: Shelf, R: Wait + Abort>(
+    rt: &R,
+    alloc: Global,
+    shelf: &mut S,
+) -> Result<(), Fail> {
+    let receipt = shelf.put(rt, alloc, 2, &ONE)?;
+    let one = Table::open(shelf, alloc, &receipt)?;
+    assert!(rt; one.get(alloc, b"a", 0)?.is_none());
+    assert!(rt; is_value(&one.get(alloc, b"a", 1)?, b"v"));
+    let receipt = shelf.put(rt, alloc, 1, &two_blocks(alloc)?)?;
+    let table = Table::open(shelf, alloc, &receipt)?;
     assert!(rt; table.get(alloc, b"a", 2)?.is_none());
     assert!(rt; is_value(&table.get(alloc, b"a", 4)?, b"y"));
     assert!(rt; is_value(&table.get(alloc, b"a", 5)?, b"x"));
-    gives_two_entries(&rt, table.into_entries(alloc)?)
+    gives_two_entries(rt, table.into_entries(alloc)?)
+}
+
+#[test]
+fn reads_of_a_table_in_memory(rt: HostRuntime) -> Result<(), Fail> {
+    let mut shelf = MemoryShelf::new(rt.alloc())?;
+    reads_on_a_shelf(&rt, rt.alloc(), &mut shelf)
+}
+
+#[test]
+fn reads_of_a_table_in_a_folder(rt: HostRuntime) -> Result<(), Fail> {
+    let path = scratch(&rt, "reads")?;
+    let mut shelf = FileShelf::open(rt.clone()?, path.as_str())?;
+    reads_on_a_shelf(&rt, rt.alloc(), &mut shelf)?;
+    fs::remove_dir_all(&rt, path.as_str())?;
+    Ok(())
 }
 
 #[test]
@@ -188,18 +212,43 @@ fn an_image_cut_by_a_byte_is_not_opened(rt: HostRuntime) -> Result<(), Fail> {
     Ok(())
 }
 
-#[test]
-fn a_flipped_bit_is_found_when_it_is_read(rt: HostRuntime) -> Result<(), Fail> {
-    let alloc = rt.alloc();
+/// The faults of a read of "a" at 1 and of going through the table, where the image is opened in memory.
+fn faults_when_read<R: Wait>(
+    rt: &R,
+    alloc: Global,
+    image: &[u8],
+) -> Result<(Option<TableFault>, Option<TableFault>), Fail> {
     let mut shelf = MemoryShelf::new(alloc)?;
-    let mut image = ONE;
-    image[12] ^= 1;
-    let receipt = shelf.put(&rt, alloc, 1, &image)?;
+    let receipt = shelf.put(rt, alloc, 1, image)?;
     let table = Table::open(&mut shelf, alloc, &receipt)?;
-    let found = table.get(alloc, b"a", 1);
-    assert_eq!(rt; found.err(), Some(TableFault::BadChecksum(0)));
-    let entries = table.into_entries(alloc);
-    assert_eq!(rt; entries.err(), Some(TableFault::BadChecksum(0)));
+    let read = table.get(alloc, b"a", 1).err();
+    Ok((read, table.into_entries(alloc).err()))
+}
+
+#[test]
+fn a_bad_data_block_is_found_when_it_is_read(rt: HostRuntime) -> Result<(), Fail> {
+    let alloc = rt.alloc();
+    let mut flipped = ONE;
+    flipped[12] ^= 1;
+    let checksum = Some(TableFault::BadChecksum(0));
+    assert_eq!(rt;
+        faults_when_read(&rt, alloc, &flipped)?,
+        (checksum, checksum)
+    );
+    let image = foreign(alloc, 1, &[1], b"v", &[1])?;
+    let compressed = Some(TableFault::Compressed(1));
+    assert_eq!(rt;
+        faults_when_read(&rt, alloc, &image)?,
+        (compressed, compressed)
+    );
+    let image = foreign(alloc, 9, &[1], b"v", &[1])?;
+    let unknown = Some(TableFault::BadBlockType(9));
+    assert_eq!(rt; faults_when_read(&rt, alloc, &image)?, (unknown, unknown));
+    let image = foreign(alloc, 0, &[1], b"v", &[2])?;
+    assert_eq!(rt;
+        faults_when_read(&rt, alloc, &image)?,
+        (None, Some(TableFault::BadIndex))
+    );
     Ok(())
 }
 
