@@ -10,7 +10,6 @@ use Rattle.lsm_version.specs.Merging.{Placed, placed_at, goes_first, IsSorted, I
 use Rattle.lsm_version.specs.Streams.{IsAscending}
 use Rattle.lsm_version.proofs.Merged.{ascending_sorted, sorted_ordered}
 
-
 bare_first : (x y : Entry) → goes_first x y ≡ true → goes_first (bare x) (bare y) ≡ true
 unfolding goes_first
 bare_first x y h = h

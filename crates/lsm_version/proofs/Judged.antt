@@ -465,13 +465,13 @@ apart_files levels seven apart F G hF hG same pos ne =
     let most : f.0 ≤ 6 = (let lt = inside levels f.0 f.1 f.2 in omega arith) in
     let lies = apart f.0 (omega arith) most in
     subst (λ (D : File). Apart D G) f.3 (subst (λ (D : File). Apart (file_of (0 + f.0) f.1) D) g.3 (
-      elim (pair_apart (level_in levels f.0) lies.0 lies.1 lies.2 f.1 g.1 f.2 there) [
-        | inl e ↦ absurd (ne (ap (λ (D : File). D.number) (sym f.3) ∙ ap (λ (t : Table). t.number) e ∙ ap (λ (D : File). D.number) g.3))
-        | inr o ↦ elim o [
-          | inl p ↦ p
-          | inr p ↦ (λ m. p (m.1, m.0))
-        ]
+    elim (pair_apart (level_in levels f.0) lies.0 lies.1 lies.2 f.1 g.1 f.2 there) [
+      | inl e ↦ absurd (ne (ap (λ (D : File). D.number) (sym f.3) ∙ ap (λ (t : Table). t.number) e ∙ ap (λ (D : File). D.number) g.3))
+      | inr o ↦ elim o [
+        | inl p ↦ p
+        | inr p ↦ (λ m. p (m.1, m.0))
       ]
+    ]
     ))
 
 pub sound_version : (last : ℕ) (shape : List (List TableFile)) (read : List (List Table)) (pointers : List (Option (List ℕ))) → length shape ≡ 7 → AreLevelsOf last shape read

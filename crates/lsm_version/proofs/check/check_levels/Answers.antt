@@ -19,7 +19,7 @@ judge_layouts-requires-clause-seven g c κs within =
     let r = c.in_ok-levels.ensures.read in
     let shape : length c.args.shape.now.levels ≡ 7 = search rules in
     let tables : length (map (λ l. l.items) c.in_ok-levels.levels.items) ≡ 7 =
-        ap length r.placed ∙ length-placed r.read ∙ same_length c.args.shape.now.last c.args.shape.now.levels r.read r.files ∙ shape in
+    ap length r.placed ∙ length-placed r.read ∙ same_length c.args.shape.now.last c.args.shape.now.levels r.read r.files ∙ shape in
     ap length c.deref.ensures.value ∙ sym (length-map c.in_ok-levels.levels.items (λ l. l.items)) ∙ tables
 
 pub judge_layouts-requires-clause-whole : goal.judge_layouts-requires-clause-whole
@@ -35,7 +35,7 @@ returns-in_err-judge_layouts-clause-refused g c =
     let tables : List (List Table) = map (λ l. l.items) c.in_ok-levels.levels.items in
     let are : AreTablesOf Stored c.args.shape.now tables = record { read = r.read; files = r.files; stored = r.stored; placed = r.placed; order = c.in_ok-levels.ensures.order } in
     let refused : IsLayoutRefusal tables fault =
-        subst (λ (ls : List (List Table)). IsLayoutRefusal ls fault) (ap (map (λ l. l.items)) c.deref.ensures.value) c.in_err-judge_layouts.ensures.refused in
+    subst (λ (ls : List (List Table)). IsLayoutRefusal ls fault) (ap (map (λ l. l.items)) c.deref.ensures.value) c.in_err-judge_layouts.ensures.refused in
     let p = err_from_is_err_and c.from_residual-in_err-judge_layouts.result c.from_residual-in_err-judge_layouts.ensures.1 in
     rw (p.1, p.2) (layout_refused Stored c.args.shape.now tables fault are refused)
 
@@ -47,10 +47,10 @@ returns-in_err-judge_ages-clause-refused g c =
     let tables : List (List Table) = map (λ l. l.items) c.in_ok-levels.levels.items in
     let are : AreTablesOf Stored c.args.shape.now tables = record { read = r.read; files = r.files; stored = r.stored; placed = r.placed; order = c.in_ok-levels.ensures.order } in
     let refused : IsAgeRefusal (merged (get_or c.args.shape.now.levels 0 []) r.read) fault =
-        subst (λ (ds : List Deep). IsAgeRefusal (merge_all (bare_placed ds)) fault) (c.deref-2.ensures.value ∙ r.depths) c.in_err-judge_ages.ensures.refused in
+    subst (λ (ds : List Deep). IsAgeRefusal (merge_all (bare_placed ds)) fault) (c.deref-2.ensures.value ∙ r.depths) c.in_err-judge_ages.ensures.refused in
     let p = err_from_is_err_and c.from_residual-in_err-judge_ages.result c.from_residual-in_err-judge_ages.ensures.1 in
     rw (p.1, p.2) (age_refused Stored c.args.shape.now tables (merged (get_or c.args.shape.now.levels 0 []) r.read) fault are (λ user h.
-      subst (λ (ls : List (List Table)). IsLeastAgainst (files_from 0 ls) user) (sym r.placed) (least_against c.args.shape.now.last c.args.shape.now.levels r.read user r.files h)) refused)
+    subst (λ (ls : List (List Table)). IsLeastAgainst (files_from 0 ls) user) (sym r.placed) (least_against c.args.shape.now.last c.args.shape.now.levels r.read user r.files h)) refused)
 
 pub returns-clause-tables : goal.returns-clause-tables
 returns-clause-tables g c =
