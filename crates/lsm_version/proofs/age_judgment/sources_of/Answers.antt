@@ -1,5 +1,4 @@
-use Rattle.std.proofs.Common.{◌≡◌, ℕ, List, [], ◌∷◌, ◌++◌, take, sym, ◌∙◌, ap, subst}
-use Rattle.lsm_version.specs.DeepAges.{bare_placed}
+use Rattle.std.proofs.Common.{◌≡◌, ℕ, List, [], ◌∷◌, ◌++◌, sym, ◌∙◌, ap, subst}
 use Rattle.lsm_version.specs.HeldStream.{bare_all}
 use Rattle.lsm_version.specs.Loading.{Deep}
 use Rattle.lsm_version.specs.Merging.{Placed, AreOrdered, placed_at}

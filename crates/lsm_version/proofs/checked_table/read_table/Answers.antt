@@ -1,4 +1,4 @@
-use Rattle.std.proofs.Common.{◌≡◌, rules, length, true, false, not, refl, sym, ◌∙◌, ap, subst}
+use Rattle.std.proofs.Common.{◌≡◌, rules, length, true, false, refl, sym, ◌∙◌, ap, subst}
 use Rattle.lsm_table.specs.HeldTable.{entries_in}
 use Rattle.lsm_version.specs.CheckedFiles.{IsImageOf}
 use Rattle.lsm_version.proofs.Spans.{table_ascends}

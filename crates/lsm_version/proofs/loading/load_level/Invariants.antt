@@ -1,7 +1,7 @@
-use Rattle.std.proofs.Common.{◌≡◌, ◌++◌, ℕ, List, take}
+use Rattle.std.proofs.Common.{◌≡◌, ◌++◌, List, take}
 use Rattle.std.specs.List.Sorted.{IsSortedBy}
 use Rattle.lsm_table.specs.Told.{Becomes}
-use Rattle.lsm_version.specs.Loading.{Deep, FileLevel, IsLevelRead}
+use Rattle.lsm_version.specs.Loading.{Deep, IsLevelRead}
 use Rattle.lsm_version.specs.Versions.{stands_before}
 use Rattle.lsm_version.proofs.loading.load_level.Given as goal
 

@@ -1,4 +1,4 @@
-use Rattle.std.proofs.Common.{◌≡◌, ◌+◌, ◌<◌, ℕ, take, List, [], ◌∷◌, ◌++◌, length, get_or, map, arith, ap, sym, ◌∙◌, subst}
+use Rattle.std.proofs.Common.{◌≡◌, ◌+◌, ℕ, take, List, [], ◌∷◌, ◌++◌, get_or, map, arith, ap, sym, ◌∙◌, subst}
 use Rattle.std.proofs.lemmas.List.{map-append, get_or_default}
 use Rattle.std.proofs.lemmas.Result.{err_from_is_err_and}
 use Rattle.lsm_manifest.specs.FileOrder.{TableFile}
