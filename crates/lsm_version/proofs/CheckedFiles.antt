@@ -1,8 +1,7 @@
 -- One file of a shape: whether its table is the file's.
-use Rattle.std.proofs.Common.{◌≡◌, ℕ, Bool, true, false, List, length, Ok, sym, ◌∙◌, subst}
+use Rattle.std.proofs.Common.{◌≡◌, ℕ, Bool, true, false, List, length, sym, ◌∙◌, subst}
 use Rattle.lsm_codec.specs.Entries.{Entry}
 use Rattle.lsm_table.specs.Table.{IsTable}
-use Rattle.lsm_table.specs.TableReading.{table_at}
 use Rattle.lsm_table.specs.HeldTable.{entries_in}
 use Rattle.lsm_table.proofs.HeldTableLaws.{table_held}
 use Rattle.lsm_manifest.specs.FileOrder.{TableFile}

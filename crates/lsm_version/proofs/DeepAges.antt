@@ -1,5 +1,5 @@
 -- The keys of tables at their depths, merged.
-use Rattle.std.proofs.Common.{◌≡◌, ℕ, suc, ◌+◌, ◌<◌, ◌≤◌, true, List, [], ◌∷◌, ◌++◌, length, get_or, drop, take, refl, sym, ◌∙◌, ap, subst, inl, inr, arith}
+use Rattle.std.proofs.Common.{◌≡◌, ℕ, ◌+◌, ◌<◌, true, List, [], ◌∷◌, ◌++◌, length, get_or, take, refl, sym, ◌∙◌, ap, subst, inl, inr}
 use Rattle.std.proofs.lemmas.List.{take_more}
 use Rattle.lsm_codec.specs.Lists.{Has}
 use Rattle.lsm_codec.specs.Entries.{Entry}
@@ -9,7 +9,6 @@ use Rattle.lsm_version.specs.Loading.{Deep}
 use Rattle.lsm_version.specs.Merging.{Placed, placed_at, goes_first, IsSorted, IsOrdered, AreOrdered}
 use Rattle.lsm_version.specs.Streams.{IsAscending}
 use Rattle.lsm_version.proofs.Merged.{ascending_sorted, sorted_ordered}
-
 
 bare_first : (x y : Entry) → goes_first x y ≡ true → goes_first (bare x) (bare y) ≡ true
 unfolding goes_first

@@ -1,32 +1,28 @@
 -- What was judged of the tables of a shape makes them a sound version.
-use Rattle.std.proofs.Common.{◌≡◌, ℕ, zero, suc, ◌+◌, ◌-◌, ◌<◌, ◌≤◌, ◌==◌, Bool, true, false, cond, List, [], ◌∷◌, ◌++◌, length, map, get_or, take, Option, refl, sym, ◌∙◌, ap, subst, inl, inr, arith}
+use Rattle.std.proofs.Common.{◌≡◌, ℕ, zero, suc, ◌+◌, ◌<◌, ◌≤◌, ◌==◌, Bool, true, false, cond, List, [], ◌∷◌, ◌++◌, length, get_or, Option, refl, sym, ◌∙◌, ap, subst, inl, inr, arith}
 use Rattle.std.specs.Prelude.{◌⊎◌, nat_lt}
-use Rattle.std.specs.List.{flat_map, count_by}
-use Rattle.std.proofs.lemmas.Bool.{eqb-true, eq-eqb, ltb-true, ltb-false, cases_lt, cases_eq}
+use Rattle.std.proofs.lemmas.Bool.{eq-eqb, ltb-true, ltb-false, cases_lt, cases_eq}
 use Rattle.std.proofs.lemmas.List.Sums.{sum_by-cons, count_by-le-length}
 use Rattle.lsm_codec.specs.Lists.{Has}
-use Rattle.lsm_codec.specs.Keys.{UserKey, UserLe, InternalKey, IsKey}
-use Rattle.lsm_codec.specs.Entries.{Entry, internal_key}
+use Rattle.lsm_codec.specs.Keys.{UserKey, UserLe, IsKey}
+use Rattle.lsm_codec.specs.Entries.{Entry}
 use Rattle.lsm_codec.proofs.Lists.{has_left, has_right, has_cases, has_flat, flat_has}
-use Rattle.lsm_codec.proofs.KeyBytes.{IsKey-unique}
 use Rattle.lsm_table.specs.Registry.{Table}
 use Rattle.lsm_table.specs.HeldTable.{entries_in}
 use Rattle.lsm_manifest.specs.FileOrder.{TableFile}
 use Rattle.lsm_version.specs.Ages.{IsAgeOrder, IsAgainstAge, IsLeastAgainstAge}
-use Rattle.lsm_version.specs.Changes.{placed_all}
-use Rattle.lsm_version.specs.CheckedFiles.{IsFileOf, IsSpanned, IsImageOf}
-use Rattle.lsm_version.specs.Checking as checking
-use Rattle.lsm_version.specs.Checking.{Listed, IsRangeOf}
-use Rattle.lsm_version.specs.CheckRefusal.{IsAgainst, IsLeastAgainst, AreTablesOf}
+use Rattle.lsm_version.specs.CheckedFiles.{IsFileOf}
+use Rattle.lsm_version.specs.Checking.{Listed}
+use Rattle.lsm_version.specs.CheckRefusal.{IsAgainst, IsLeastAgainst}
 use Rattle.lsm_version.specs.DeepAges.{bare_placed}
 use Rattle.lsm_version.specs.FileNumbers.{file_numbers, numbers_of, times, AreDistinct}
-use Rattle.lsm_version.specs.Files.{File, Apart, Fits, IsLawful, Shallower}
+use Rattle.lsm_version.specs.Files.{File, Apart, Fits, Shallower}
 use Rattle.lsm_version.specs.HeldStream.{bare, bare_all}
-use Rattle.lsm_version.specs.LevelLayouts.{AreWhole, AreLevelsWhole, AreRangesOf, LieAs, LieApart}
+use Rattle.lsm_version.specs.LevelLayouts.{AreWhole, AreLevelsWhole, AreRangesOf, LieApart}
 use Rattle.lsm_version.specs.Loading.{Deep, newer_count, depth_at, depth_of, deep_of, deep_all, deep_from, AreFilesOf, AreLevelsOf, placed_levels}
 use Rattle.lsm_version.specs.Merging.{Placed, placed_at, merge_all}
 use Rattle.lsm_version.specs.Ranges.{Range, EachPair, ShareUsers}
-use Rattle.lsm_version.specs.Versions.{Levels, IsSound, IsWhole, file_of, files_of, files_from, level_in, user_of}
+use Rattle.lsm_version.specs.Versions.{IsSound, IsWhole, file_of, files_of, files_from, level_in, user_of}
 use Rattle.lsm_version.proofs.Checked.{file_fits}
 use Rattle.lsm_version.proofs.ChangedFiles.{files_has, has_files, all_has, has_all}
 use Rattle.lsm_version.proofs.DeepAges.{bare_from, has_bare}
@@ -465,13 +461,13 @@ apart_files levels seven apart F G hF hG same pos ne =
     let most : f.0 ≤ 6 = (let lt = inside levels f.0 f.1 f.2 in omega arith) in
     let lies = apart f.0 (omega arith) most in
     subst (λ (D : File). Apart D G) f.3 (subst (λ (D : File). Apart (file_of (0 + f.0) f.1) D) g.3 (
-      elim (pair_apart (level_in levels f.0) lies.0 lies.1 lies.2 f.1 g.1 f.2 there) [
-        | inl e ↦ absurd (ne (ap (λ (D : File). D.number) (sym f.3) ∙ ap (λ (t : Table). t.number) e ∙ ap (λ (D : File). D.number) g.3))
-        | inr o ↦ elim o [
-          | inl p ↦ p
-          | inr p ↦ (λ m. p (m.1, m.0))
-        ]
+    elim (pair_apart (level_in levels f.0) lies.0 lies.1 lies.2 f.1 g.1 f.2 there) [
+      | inl e ↦ absurd (ne (ap (λ (D : File). D.number) (sym f.3) ∙ ap (λ (t : Table). t.number) e ∙ ap (λ (D : File). D.number) g.3))
+      | inr o ↦ elim o [
+        | inl p ↦ p
+        | inr p ↦ (λ m. p (m.1, m.0))
       ]
+    ]
     ))
 
 pub sound_version : (last : ℕ) (shape : List (List TableFile)) (read : List (List Table)) (pointers : List (Option (List ℕ))) → length shape ≡ 7 → AreLevelsOf last shape read

@@ -1,18 +1,17 @@
 -- The ranges of a level's tables.
-use Rattle.std.proofs.Common.{◌≡◌, ℕ, zero, suc, ◌+◌, ◌<◌, ◌≤◌, Bool, true, false, List, [], ◌∷◌, ◌++◌, Ordering, Less, Equal, Greater, length, get_or, take, map, Option, Some, None, refl, sym, ◌∙◌, ap, subst, inl, inr, arith}
-use Rattle.std.specs.Prelude.{◌⊎◌}
+use Rattle.std.proofs.Common.{◌≡◌, ℕ, zero, suc, ◌+◌, ◌<◌, ◌≤◌, true, false, List, [], ◌∷◌, ◌++◌, Ordering, Less, Equal, Greater, length, get_or, take, map, Option, Some, None, refl, sym, ◌∙◌, ap, subst, inl, inr, arith}
 use Rattle.std.specs.Ordering.{nat_cmp, is_lt, is_le, ordering_reverse}
 use Rattle.std.proofs.lemmas.List.{take_more, take_all}
 use Rattle.std.proofs.lemmas.Bool.{cases_eq}
 use Rattle.std.specs.List.Sorted.{IsSortedBy}
 use Rattle.lsm_codec.specs.Lists.{Has}
-use Rattle.lsm_codec.specs.Keys.{InternalKey, IsKey, key_cmp, key_bytes, then_by}
+use Rattle.lsm_codec.specs.Keys.{InternalKey, IsKey, key_cmp, then_by}
 use Rattle.lsm_codec.specs.Entries.{Entry, internal_key}
 use Rattle.lsm_codec.proofs.KeyBytes.{IsKey-unique}
 use Rattle.lsm_codec.proofs.KeyOrder.{key_cmp-swapped, key_cmp-same}
 use Rattle.lsm_table.specs.Registry.{Table}
 use Rattle.lsm_table.specs.HeldTable.{entries_in}
-use Rattle.lsm_manifest.specs.FileOrder.{TableFile, place_cmp}
+use Rattle.lsm_manifest.specs.FileOrder.{TableFile}
 use Rattle.lsm_manifest.proofs.FileOrderLaws.{order_is}
 use Rattle.lsm_version.specs.Files.{Before}
 use Rattle.lsm_version.specs.Streams.{IsAscending}

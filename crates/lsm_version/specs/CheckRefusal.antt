@@ -1,17 +1,16 @@
 -- What a check gives of a shape, and why it refuses one (this project's rule).
-use Rattle.std.specs.Prelude.{◌≡◌, ℕ, ◌≤◌, List}
+use Rattle.std.specs.Prelude.{◌≡◌, ◌⊎◌, ℕ, ◌≤◌, List}
 use Rattle.lsm_codec.specs.Lists.{Has}
 use Rattle.lsm_codec.specs.Keys.{UserKey, UserLe}
 use Rattle.lsm_codec.specs.Entries.{Entry}
 use Rattle.lsm_table.specs.Registry.{Table}
-use Rattle.lsm_manifest.specs.FileOrder.{TableFile}
 use Rattle.lsm_manifest.specs.declared.shape.Shape.{Shape}
 use Rattle.lsm_version.specs.declared.check_fault.CheckFault.{CheckFault}
 use Rattle.lsm_version.specs.declared.check_fault.CheckFault.TheVariants.{Read, DoubleFile, Overlap, WrongRange, AgeOrder, SharedBoundary}
 use Rattle.lsm_version.specs.Files.{File, Shallower}
-use Rattle.lsm_version.specs.FileNumbers.{IsLeastTwice, numbers_of}
+use Rattle.lsm_version.specs.FileNumbers.{AreDistinct, IsLeastTwice, numbers_of}
 use Rattle.lsm_version.specs.FileRefusal.{IsWant, IsFilesRefusal}
-use Rattle.lsm_version.specs.LevelLayouts.{IsLayoutRefusal}
+use Rattle.lsm_version.specs.LevelLayouts.{IsLayoutRefusal, LieApart}
 use Rattle.lsm_version.specs.Loading.{AreLevelsOf, AreLevelsStored, all_files, placed_levels}
 use Rattle.lsm_version.specs.Versions.{Levels, AreInOrder, files_from}
 
@@ -24,8 +23,9 @@ pub record IsOfShape (shape : Shape) (v : Levels) : Type 0 where
   pub pointers : v.pointers ≡ shape.pointers
   pub last : v.last ≡ shape.last
 
--- These tables were read from the shelf for the files of the shape, and each is its file's.
+-- No two files of the shape have one number; these tables were read from the shelf for the files, and each is its file's.
 pub record AreTablesOf (Stored : ℕ → List ℕ → Type 0) (shape : Shape) (tables : List (List Table)) : Type 0 where
+  pub numbers : AreDistinct (numbers_of shape.levels)
   pub read : List (List Table)
   pub files : AreLevelsOf shape.last shape.levels read
   pub stored : AreLevelsStored Stored read
@@ -51,12 +51,12 @@ IsNumberRefusal numbers (WrongRange number) = ⊥
 IsNumberRefusal numbers (AgeOrder user) = ⊥
 IsNumberRefusal numbers (SharedBoundary level) = ⊥
 
--- `Stored` says which images the shelf holds under which numbers. Two files have one number; or a file is refused; or the tables of all
--- files were read, and a level from 1 on or the age order is refused.
+-- `Stored` says which images the shelf holds under which numbers. Memory ran out; or two files have one number; or a file is refused;
+-- or the tables of all files were read, and a level from 1 on is refused; or no level is, and the age order is.
 abbrev pub IsRefusal : (ℕ → List ℕ → Type 0) → Shape → CheckFault → Type 0
 IsRefusal Stored shape (DoubleFile number) = IsLeastTwice (numbers_of shape.levels) number
-IsRefusal Stored shape (Read fault) = IsFilesRefusal Stored shape.last (all_files shape.levels) (Read fault)
-IsRefusal Stored shape (WrongRange number) = IsFilesRefusal Stored shape.last (all_files shape.levels) (WrongRange number)
+IsRefusal Stored shape (Read fault) = IsWant fault ⊎ (AreDistinct (numbers_of shape.levels) × IsFilesRefusal Stored shape.last (all_files shape.levels) (Read fault))
+IsRefusal Stored shape (WrongRange number) = AreDistinct (numbers_of shape.levels) × IsFilesRefusal Stored shape.last (all_files shape.levels) (WrongRange number)
 IsRefusal Stored shape (Overlap level) = (tables : List (List Table)) × AreTablesOf Stored shape tables × IsLayoutRefusal tables (Overlap level)
 IsRefusal Stored shape (SharedBoundary level) = (tables : List (List Table)) × AreTablesOf Stored shape tables × IsLayoutRefusal tables (SharedBoundary level)
-IsRefusal Stored shape (AgeOrder user) = (tables : List (List Table)) × AreTablesOf Stored shape tables × IsLeastAgainst (files_from 0 tables) user
+IsRefusal Stored shape (AgeOrder user) = (tables : List (List Table)) × AreTablesOf Stored shape tables × LieApart tables × IsLeastAgainst (files_from 0 tables) user

@@ -1,6 +1,5 @@
 -- How the tables of a level lie by their smallest and largest internal keys (LevelDB's `doc/impl.md`, "Levels").
-use Rattle.std.specs.Prelude.{◌≡◌, ◌⊎◌, ℕ, ◌<◌, ◌≤◌, List, [], ◌∷◌, Option, Some, None}
-use Rattle.lsm_codec.specs.Lists.{Has}
+use Rattle.std.specs.Prelude.{◌⊎◌, ℕ, ◌<◌, ◌≤◌, List, [], ◌∷◌, Option, Some, None}
 use Rattle.lsm_codec.specs.Keys.{IsKey}
 use Rattle.lsm_table.specs.Registry.{Table}
 use Rattle.lsm_version.specs.Ranges.{Range, IsLaidOut}

@@ -2,12 +2,11 @@
 -- its own, the greatest number first, and the levels from 1 on follow).
 use Rattle.std.specs.Prelude.{◌≡◌, ℕ, zero, suc, ◌+◌, List, [], ◌∷◌, ◌++◌, length, nat_lt}
 use Rattle.std.specs.List.{count_by}
-use Rattle.lsm_codec.specs.Lists.{Has}
 use Rattle.lsm_codec.specs.Entries.{Entry}
 use Rattle.lsm_table.specs.Registry.{Table}
 use Rattle.lsm_manifest.specs.FileOrder.{TableFile}
 use Rattle.lsm_version.specs.Files.{File}
-use Rattle.lsm_version.specs.Versions.{file_of, files_of}
+use Rattle.lsm_version.specs.Versions.{file_of}
 use Rattle.lsm_version.specs.Changes.{placed_all}
 use Rattle.lsm_version.specs.CheckedFiles.{IsFileOf}
 

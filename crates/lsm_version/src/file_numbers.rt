@@ -47,10 +47,7 @@ fn first_twice(numbers: &[u64]) -> Option<u64>
 }
 
 /// Refuses the least number that two files have.
-pub(crate) fn judge_numbers(
-    alloc: Global,
-    levels: &[List<FileMeta>],
-) -> Result<(), CheckFault>
+pub(crate) fn judge_numbers(alloc: Global, levels: &[List<FileMeta>]) -> Result<(), CheckFault>
     ensures ok { OnOk result (AreDistinct (numbers_of levels.now)) }
     ensures refused { IfErr result (λ e. IsNumberRefusal (numbers_of levels.now) e) }
 {

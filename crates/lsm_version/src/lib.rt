@@ -10,13 +10,15 @@ mod ages;
 mod change;
 mod check;
 mod check_fault;
+#[cfg(test)]
+mod check_tests;
 mod checked_table;
 mod deep_table;
 mod file_level;
 mod file_numbers;
-mod held_stream;
 mod find;
 mod get;
+mod held_stream;
 mod input;
 mod key_range;
 mod key_word;
@@ -42,8 +44,8 @@ mod version_scan;
 mod walk;
 
 pub use ages::against_age;
-pub use check_fault::CheckFault;
 pub use change::changed_files;
+pub use check_fault::CheckFault;
 pub use input::Input;
 pub use key_range::{KeyRange, Layout, layout_of};
 pub use merger::Merger;

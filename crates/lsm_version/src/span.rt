@@ -25,12 +25,7 @@ fn starts_with(alloc: Global, table: &Table, key: &KeyRef<'_>) -> Result<bool, A
 }
 
 /// Whether the last entry has this key, and none is above the last sequence.
-fn ends_with(
-    alloc: Global,
-    table: &Table,
-    key: &KeyRef<'_>,
-    last: u64,
-) -> Result<bool, AllocError>
+fn ends_with(alloc: Global, table: &Table, key: &KeyRef<'_>, last: u64) -> Result<bool, AllocError>
     ensures { IfOk result (λ r. r ≡ ends_with last (key_of key.now) false table.now) }
 {
     let mut entries = table.iter(alloc);

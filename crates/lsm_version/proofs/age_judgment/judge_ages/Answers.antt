@@ -1,6 +1,5 @@
-use Rattle.std.proofs.Common.{◌≡◌, List, sym, ◌∙◌, ap, subst}
+use Rattle.std.proofs.Common.{List, sym, ◌∙◌, ap, subst}
 use Rattle.lsm_version.specs.Ages.{IsAgeOrder, IsLeastAgainstAge}
-use Rattle.lsm_version.specs.DeepAges.{bare_placed}
 use Rattle.lsm_version.specs.Merging.{Placed, IsOrdered, merge_all}
 use Rattle.lsm_version.proofs.Merging.{merged_ordered}
 use Rattle.lsm_version.proofs.age_judgment.judge_ages.Goals as goal

@@ -1,4 +1,4 @@
-use Rattle.std.proofs.Common.{◌≡◌, rules, length, true, false, not, refl, sym, ◌∙◌, ap, subst}
+use Rattle.std.proofs.Common.{◌≡◌, rules, length, true, false, refl, sym, ◌∙◌, ap, subst}
 use Rattle.lsm_table.specs.HeldTable.{entries_in}
 use Rattle.lsm_version.specs.CheckedFiles.{IsImageOf}
 use Rattle.lsm_version.proofs.Spans.{table_ascends}
@@ -15,8 +15,12 @@ returns-then-not-branch-clause-refused g c =
     let long : c.len-size.result ≡ length bytes = search rules in
     let fails : c.in_ok-is_file.field-0 ≡ false = cc in (
       refl,
-      (bytes, (c.in_ok-receipt.receipt, from.2, from.0, from.1), is_table bytes c.in_ok-table.table c.in_ok-table.ensures.found,
-      image_not c.args.last c.args.file.now bytes c.in_ok-table.table c.len-size.result c.in_ok-is_file.field-0 c.in_ok-table.ensures.found long c.in_ok-is_file.ensures.1 fails),
+      (
+        bytes,
+        (c.in_ok-receipt.receipt, from.2, from.0, from.1),
+        is_table bytes c.in_ok-table.table c.in_ok-table.ensures.found,
+        image_not c.args.last c.args.file.now bytes c.in_ok-table.table c.len-size.result c.in_ok-is_file.field-0 c.in_ok-table.ensures.found long c.in_ok-is_file.ensures.1 fails,
+      ),
     )
 
 pub returns-clause-image : goal.returns-clause-image
@@ -26,6 +30,6 @@ returns-clause-image g c =
     let long : c.len-size.result ≡ length bytes = search rules in
     let holds : c.in_ok-is_file.field-0 ≡ true = cc in (
       subst (IsImageOf c.args.last c.args.file.now) (sym from.1)
-      (image_says c.args.last c.args.file.now bytes c.in_ok-table.table c.len-size.result c.in_ok-is_file.field-0 c.in_ok-table.ensures.found long c.in_ok-is_file.ensures.0 holds),
+          (image_says c.args.last c.args.file.now bytes c.in_ok-table.table c.len-size.result c.in_ok-is_file.field-0 c.in_ok-table.ensures.found long c.in_ok-is_file.ensures.0 holds),
       held_as bytes c.in_ok-table.table c.in_ok-table.ensures.found ∙ ap entries_in (sym from.1),
     )

@@ -1,4 +1,4 @@
-use Rattle.std.proofs.Common.{◌≡◌, ◌<◌, ◌+◌, ℕ, List, ◌∷◌, ◌++◌, take, get_or, length, sym, ◌∙◌, subst}
+use Rattle.std.proofs.Common.{◌+◌, ℕ, List, take, sym, ◌∙◌, subst}
 use Rattle.lsm_codec.specs.Keys.{IsKey}
 use Rattle.lsm_version.specs.Ranges.{Range, IsLevel, IsLaidOut}
 use Rattle.lsm_version.specs.Versions.{IsWhole}

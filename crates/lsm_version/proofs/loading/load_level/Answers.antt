@@ -14,8 +14,11 @@ loop-file-init g c =
     record {
       told = becomes_same _;
       order = λ k d low lt. absurd (omega (arith, ap length c.new-tables.ensures.items));
-      read = ([], sym (append-nil c.args.deep.now.items),
-          subst (λ (ts : List Table). IsLevelRead Stored c.args.last (front_of c.args.level.now 0) ts []) (sym c.new-tables.ensures.items) (level_start Stored c.args.last c.args.level.now));
+      read = (
+        [],
+        sym (append-nil c.args.deep.now.items),
+        subst (λ (ts : List Table). IsLevelRead Stored c.args.last (front_of c.args.level.now 0) ts []) (sym c.new-tables.ensures.items) (level_start Stored c.args.last c.args.level.now),
+      );
     }
 
 pub returns-in_err-table-clause-refused : goal.returns-in_err-table-clause-refused
@@ -41,8 +44,10 @@ loop-file-preserved g c =
     record {
       told = becomes_then _ _ _ c.loop-file.invariant.told c.load_file.ensures.told;
       order = c.in_ok-insert.ensures.order;
-      read = (more.0 ++ c.in_ok-table.entries ∷ [],
-          c.in_ok-push.ensures.items ∙ ap (λ (ds : List Deep). ds ++ c.in_ok-table.entries ∷ []) more.1 ∙ append_assoc c.args.deep.now.items more.0 (c.in_ok-table.entries ∷ []),
-          level_more Stored c.args.last level i file c.in_ok-table.table c.in_ok-table.entries c.loop-file.tables.items c.insert.new.level.items more.0
-          lt at c.in_ok-table.ensures.file c.in_ok-table.ensures.stored (c.in_ok-table.ensures.deep ∙ ap (λ (n : ℕ). let d : Deep = (n, entries_in c.in_ok-table.table.image) in d) c.depth-depth.ensures) c.in_ok-insert.ensures.ok more.2);
+      read = (
+        more.0 ++ c.in_ok-table.entries ∷ [],
+        c.in_ok-push.ensures.items ∙ ap (λ (ds : List Deep). ds ++ c.in_ok-table.entries ∷ []) more.1 ∙ append_assoc c.args.deep.now.items more.0 (c.in_ok-table.entries ∷ []),
+        level_more Stored c.args.last level i file c.in_ok-table.table c.in_ok-table.entries c.loop-file.tables.items c.insert.new.level.items more.0
+            lt at c.in_ok-table.ensures.file c.in_ok-table.ensures.stored (c.in_ok-table.ensures.deep ∙ ap (λ (n : ℕ). let d : Deep = (n, entries_in c.in_ok-table.table.image) in d) c.depth-depth.ensures) c.in_ok-insert.ensures.ok more.2,
+      );
     }

@@ -1,4 +1,4 @@
-use Rattle.std.proofs.Common.{◌≡◌, ◌+◌, ◌<◌, ℕ, take, List, [], ◌∷◌, ◌++◌, length, get_or, map, arith, ap, sym, ◌∙◌, subst}
+use Rattle.std.proofs.Common.{◌≡◌, ◌+◌, ℕ, take, List, [], ◌∷◌, ◌++◌, get_or, map, arith, ap, sym, ◌∙◌, subst}
 use Rattle.std.proofs.lemmas.List.{map-append, get_or_default}
 use Rattle.std.proofs.lemmas.Result.{err_from_is_err_and}
 use Rattle.lsm_manifest.specs.FileOrder.{TableFile}
@@ -33,10 +33,10 @@ loop-number-preserved g c =
     let read = c.in_ok-here.ensures.read in
     let first : c.as_slice-shallow.result.now ≡ shallow = c.as_slice-shallow.ensures ∙ c.index-levels-0.is ∙ get_or_default levels 0 c.index-levels-0.result [] (let lt = c.loop-number-test.true in omega arith) in
     let level : c.new-files.result ≡ record { number = n; files = files; shallow = shallow } =
-        c.new-files.ensures ∙ ap (λ (fs : List TableFile). let l : FileLevel = record { number = n; files = fs; shallow = c.as_slice-shallow.result.now } in l) c.as_slice.ensures
-        ∙ ap (λ (fs : List TableFile). let l : FileLevel = record { number = n; files = files; shallow = fs } in l) first in
+    c.new-files.ensures ∙ ap (λ (fs : List TableFile). let l : FileLevel = record { number = n; files = fs; shallow = c.as_slice-shallow.result.now } in l) c.as_slice.ensures
+    ∙ ap (λ (fs : List TableFile). let l : FileLevel = record { number = n; files = files; shallow = fs } in l) first in
     let seen : map (λ l. l.items) c.push.new.self.items ≡ map (λ l. l.items) c.loop-number.tables.items ++ here ∷ [] =
-        ap (map (λ l. l.items)) c.in_ok-push.ensures.items ∙ map-append (λ l. l.items) c.loop-number.tables.items (c.in_ok-here.here ∷ []) in
+    ap (map (λ l. l.items)) c.in_ok-push.ensures.items ∙ map-append (λ l. l.items) c.loop-number.tables.items (c.in_ok-here.here ∷ []) in
     record {
       told = becomes_then _ _ _ c.loop-number.invariant.told c.load_level.ensures.told;
       order = subst AreInOrder (sym seen) (order_push _ here c.loop-number.invariant.order c.in_ok-here.ensures.order);

@@ -1,4 +1,4 @@
-use Rattle.std.proofs.Common.{◌≡◌, ℕ, [], List, take, map, get_or}
+use Rattle.std.proofs.Common.{◌≡◌, [], take, map, get_or}
 use Rattle.lsm_table.specs.Told.{Becomes}
 use Rattle.lsm_version.specs.Loading.{AreRead}
 use Rattle.lsm_version.specs.Versions.{AreInOrder}
