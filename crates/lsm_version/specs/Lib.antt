@@ -10,7 +10,16 @@ pub mod Ages
 pub mod Scanning
 pub mod Checking
 pub mod Versions
+pub mod CheckFault
+pub mod HeldStream
+pub mod CheckedFiles
+pub mod FileRefusal
 pub mod Changes
+pub mod FileNumbers
+pub mod CheckRefusal
+pub mod Loading
+pub mod LevelLayouts
+pub mod DeepAges
 pub mod Reads
 pub mod Overlap
 pub mod TableStream

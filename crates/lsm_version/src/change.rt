@@ -108,7 +108,10 @@ fn with_pointer(
     Ok(copies)
 }
 
-fn copies_of(alloc: Global, pointers: &[Option<Bytes>]) -> Result<Vec<Option<Bytes>>, AllocError>
+pub(crate) fn copies_of(
+    alloc: Global,
+    pointers: &[Option<Bytes>],
+) -> Result<Vec<Option<Bytes>>, AllocError>
     ensures { IfOk result (λ v. v.items ≡ pointers.now) }
 {
     let mut copies = Vec::new(alloc);

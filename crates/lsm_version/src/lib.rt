@@ -3,13 +3,24 @@
 //! Stands on `lsm_codec`. Its contract: a lawful version answers as its union of entries, and a merge is its sources in order.
 #![tactic(auto)]
 
+mod age_judgment;
 mod ages;
 mod change;
+mod check;
+mod check_fault;
+mod checked_table;
+mod deep_table;
+mod file_level;
+mod file_numbers;
 mod find;
 mod get;
+mod held_stream;
 mod input;
 mod key_range;
+mod key_word;
 pub mod laws;
+mod layouts;
+mod loading;
 mod merger;
 mod ordered_level;
 mod overlap;
@@ -17,6 +28,7 @@ mod owned_entry;
 mod placed;
 mod scan;
 mod source;
+mod span;
 mod stream;
 mod table_stream;
 #[cfg(test)]
@@ -25,9 +37,11 @@ mod tree;
 mod user_range;
 mod version;
 mod version_scan;
+mod walk;
 
 pub use ages::against_age;
 pub use change::changed_files;
+pub use check_fault::CheckFault;
 pub use input::Input;
 pub use key_range::{KeyRange, Layout, layout_of};
 pub use merger::Merger;

@@ -1,0 +1,502 @@
+-- What was judged of the tables of a shape makes them a sound version.
+use Rattle.std.proofs.Common.{◌≡◌, ℕ, zero, suc, ◌+◌, ◌-◌, ◌<◌, ◌≤◌, ◌==◌, Bool, true, false, cond, List, [], ◌∷◌, ◌++◌, length, map, get_or, take, Option, refl, sym, ◌∙◌, ap, subst, inl, inr, arith}
+use Rattle.std.specs.Prelude.{◌⊎◌, nat_lt}
+use Rattle.std.specs.List.{flat_map, count_by}
+use Rattle.std.proofs.lemmas.Bool.{eqb-true, eq-eqb, ltb-true, ltb-false, cases_lt, cases_eq}
+use Rattle.std.proofs.lemmas.List.Sums.{sum_by-cons, count_by-le-length}
+use Rattle.lsm_codec.specs.Lists.{Has}
+use Rattle.lsm_codec.specs.Keys.{UserKey, UserLe, InternalKey, IsKey}
+use Rattle.lsm_codec.specs.Entries.{Entry, internal_key}
+use Rattle.lsm_codec.proofs.Lists.{has_left, has_right, has_cases, has_flat, flat_has}
+use Rattle.lsm_codec.proofs.KeyBytes.{IsKey-unique}
+use Rattle.lsm_table.specs.Registry.{Table}
+use Rattle.lsm_table.specs.HeldTable.{entries_in}
+use Rattle.lsm_manifest.specs.FileOrder.{TableFile}
+use Rattle.lsm_version.specs.Ages.{IsAgeOrder, IsAgainstAge, IsLeastAgainstAge}
+use Rattle.lsm_version.specs.Changes.{placed_all}
+use Rattle.lsm_version.specs.CheckedFiles.{IsFileOf, IsSpanned, IsImageOf}
+use Rattle.lsm_version.specs.Checking as checking
+use Rattle.lsm_version.specs.Checking.{Listed, IsRangeOf}
+use Rattle.lsm_version.specs.CheckRefusal.{IsAgainst, IsLeastAgainst, AreTablesOf}
+use Rattle.lsm_version.specs.DeepAges.{bare_placed}
+use Rattle.lsm_version.specs.FileNumbers.{file_numbers, numbers_of, times, AreDistinct}
+use Rattle.lsm_version.specs.Files.{File, Apart, Fits, IsLawful, Shallower}
+use Rattle.lsm_version.specs.HeldStream.{bare, bare_all}
+use Rattle.lsm_version.specs.LevelLayouts.{AreWhole, AreLevelsWhole, AreRangesOf, LieAs, LieApart}
+use Rattle.lsm_version.specs.Loading.{Deep, newer_count, depth_at, depth_of, deep_of, deep_all, deep_from, AreFilesOf, AreLevelsOf, placed_levels}
+use Rattle.lsm_version.specs.Merging.{Placed, placed_at, merge_all}
+use Rattle.lsm_version.specs.Ranges.{Range, EachPair, ShareUsers}
+use Rattle.lsm_version.specs.Versions.{Levels, IsSound, IsWhole, file_of, files_of, files_from, level_in, user_of}
+use Rattle.lsm_version.proofs.Checked.{file_fits}
+use Rattle.lsm_version.proofs.ChangedFiles.{files_has, has_files, all_has, has_all}
+use Rattle.lsm_version.proofs.DeepAges.{bare_from, has_bare}
+use Rattle.lsm_version.proofs.LevelRanges.{whole_at, whole_in}
+use Rattle.lsm_version.proofs.LevelReads.{same_length}
+use Rattle.lsm_version.proofs.Merging.{merged_from, merged_has}
+use Rattle.lsm_version.proofs.Rising.{user_of-key}
+
+-- ---- a file of a level, and the table of which it is
+
+pub file_in : (m : ℕ) (levels : List (List Table)) (F : File) → Has (files_from m levels) F → (n : ℕ) × (t : Table) × Has (level_in levels n) t × (file_of (m + n) t ≡ F)
+file_in m [] F h = absurd h
+file_in m (ts ∷ levels) F h = elim (has_cases (files_of m ts) (files_from (suc m) levels) F h) [
+  | inl a ↦ (let r = files_has m ts F a in
+      let here : m + 0 ≡ m = omega arith in
+      (zero, r.0, r.1, ap (λ (n : ℕ). file_of n r.0) here ∙ r.2))
+  | inr b ↦ (let r = file_in (suc m) levels F b in
+      let there : m + suc r.0 ≡ suc m + r.0 = omega arith in
+      (suc r.0, r.1, r.2, ap (λ (n : ℕ). file_of n r.1) there ∙ r.3))
+]
+
+pub in_files : (m : ℕ) (levels : List (List Table)) (n : ℕ) (t : Table) → Has (level_in levels n) t → Has (files_from m levels) (file_of (m + n) t)
+in_files m [] n t h = absurd h
+in_files m (ts ∷ levels) zero t h =
+    let here : m ≡ m + 0 = omega arith in
+    subst (λ (n : ℕ). Has (files_of m ts ++ files_from (suc m) levels) (file_of n t)) here (has_left (files_of m ts) (files_from (suc m) levels) (file_of m t) (has_files m ts t h))
+in_files m (ts ∷ levels) (suc n) t h =
+    let there : suc m + n ≡ m + suc n = omega arith in
+    subst (λ (k : ℕ). Has (files_of m ts ++ files_from (suc m) levels) (file_of k t)) there (has_right (files_of m ts) (files_from (suc m) levels) (file_of (suc m + n) t) (in_files (suc m) levels n t h))
+
+-- ---- tables in place are those that were read
+
+level_placed : (read : List (List Table)) (n : ℕ) (t : Table) → Has (level_in (placed_levels read) n) t → Has (level_in read n) t
+level_placed [] n t h = absurd h
+level_placed (ts ∷ read) zero t h = elim (all_has ts [] t h) [ inl a ↦ a | inr b ↦ absurd b ]
+level_placed (ts ∷ read) (suc n) t h = level_placed read n t h
+
+placed_level : (read : List (List Table)) (n : ℕ) (t : Table) → Has (level_in read n) t → Has (level_in (placed_levels read) n) t
+placed_level [] n t h = absurd h
+placed_level (ts ∷ read) zero t h = has_all ts [] t (inl h)
+placed_level (ts ∷ read) (suc n) t h = placed_level read n t h
+
+pub files_read : (read : List (List Table)) (F : File) → Has (files_from 0 (placed_levels read)) F → Has (files_from 0 read) F
+files_read read F h = let r = file_in 0 (placed_levels read) F h in subst (Has (files_from 0 read)) r.3 (in_files 0 read r.0 r.1 (level_placed read r.0 r.1 r.2))
+
+pub read_files : (read : List (List Table)) (F : File) → Has (files_from 0 read) F → Has (files_from 0 (placed_levels read)) F
+read_files read F h = let r = file_in 0 read F h in subst (Has (files_from 0 (placed_levels read))) r.3 (in_files 0 (placed_levels read) r.0 r.1 (placed_level read r.0 r.1 r.2))
+
+-- ---- each table is a file's
+
+abbrev pub FileFor : ℕ → List TableFile → Table → Type 0
+FileFor last files t = (f : TableFile) × Has files f × IsFileOf last f t
+
+file_for : (last : ℕ) (files : List TableFile) (ts : List Table) → AreFilesOf last files ts → (t : Table) → Has ts t → FileFor last files t
+file_for last [] [] a t h = absurd h
+file_for last [] (u ∷ ts) a t h = absurd a
+file_for last (f ∷ files) [] a t h = absurd h
+file_for last (f ∷ files) (u ∷ ts) a t (inl e) = (f, inl refl, subst (IsFileOf last f) e a.0)
+file_for last (f ∷ files) (u ∷ ts) a t (inr h) = (let r = file_for last files ts a.1 t h in (r.0, inr r.1, r.2))
+
+abbrev shape_level : List (List TableFile) → ℕ → List TableFile
+shape_level shape n = get_or shape n []
+
+level_for : (last : ℕ) (shape : List (List TableFile)) (read : List (List Table)) → AreLevelsOf last shape read → (n : ℕ) (t : Table) → Has (level_in read n) t → FileFor last (get_or shape n []) t
+level_for last [] [] a n t h = absurd h
+level_for last [] (ts ∷ read) a n t h = absurd a
+level_for last (fs ∷ shape) [] a n t h = absurd h
+level_for last (fs ∷ shape) (ts ∷ read) a zero t h = file_for last fs ts a.0 t h
+level_for last (fs ∷ shape) (ts ∷ read) a (suc n) t h = level_for last shape read a.1 n t h
+
+pub whole_of : (last : ℕ) (f : TableFile) (t : Table) → IsFileOf last f t → IsWhole t
+whole_of last f t i = record {
+  range = i.image.spanned.range;
+  table = i.image.table;
+  smallest = subst (λ (b : List ℕ). IsKey b i.image.spanned.range.smallest) (sym i.smallest) i.image.spanned.first;
+  largest = subst (λ (b : List ℕ). IsKey b i.image.spanned.range.largest) (sym i.largest) i.image.spanned.end;
+  entries = i.image.spanned.spans;
+}
+
+whole_each : (ts : List Table) → ((t : Table) → Has ts t → IsWhole t) → AreWhole ts
+whole_each [] f = tt
+whole_each (t ∷ ts) f = (f t (inl refl), whole_each ts (λ u h. f u (inr h)))
+
+levels_each : (levels : List (List Table)) → ((n : ℕ) (t : Table) → Has (level_in levels n) t → IsWhole t) → AreLevelsWhole levels
+levels_each [] f = tt
+levels_each (ts ∷ levels) f = (whole_each ts (λ t h. f zero t h), levels_each levels (λ n t h. f (suc n) t h))
+
+pub placed_whole : (last : ℕ) (shape : List (List TableFile)) (read : List (List Table)) → AreLevelsOf last shape read → AreLevelsWhole (placed_levels read)
+placed_whole last shape read a =
+    levels_each (placed_levels read) (λ n t h. (let r = level_for last shape read a n t (level_placed read n t h) in whole_of last r.0 t r.2))
+
+-- ---- no two files have one number
+
+one_more : (n a : ℕ) (ns : List ℕ) → times n (a ∷ ns) ≡ cond (a == n) 1 0 + times n ns
+one_more n a ns = sum_by-cons (λ m. cond (m == n) 1 0) a ns
+
+stands : (n : ℕ) (ns : List ℕ) → Has ns n → 1 ≤ times n ns
+stands n [] h = absurd h
+stands n (a ∷ ns) (inl e) =
+    let here : (a == n) ≡ true = eq-eqb a n e in
+    let more : times n (a ∷ ns) ≡ 1 + times n ns = one_more n a ns ∙ ap (λ (b : Bool). cond b 1 0 + times n ns) here in omega arith
+stands n (a ∷ ns) (inr h) = let more = one_more n a ns in let rest = stands n ns h in omega arith
+
+numbers : List File → List ℕ
+numbers [] = []
+numbers (F ∷ Fs) = F.number ∷ numbers Fs
+
+numbers-append : (Fs Gs : List File) → numbers (Fs ++ Gs) ≡ numbers Fs ++ numbers Gs
+unfolding numbers
+numbers-append [] Gs = refl
+numbers-append (F ∷ Fs) Gs = ap (λ (ns : List ℕ). F.number ∷ ns) (numbers-append Fs Gs)
+
+has_number : (Fs : List File) (F : File) → Has Fs F → Has (numbers Fs) F.number
+unfolding numbers
+has_number [] F h = absurd h
+has_number (G ∷ Fs) F (inl e) = inl (ap (λ (X : File). X.number) e)
+has_number (G ∷ Fs) F (inr h) = inr (has_number Fs F h)
+
+twice : (n a : ℕ) (ns : List ℕ) → AreDistinct (a ∷ ns) → a ≡ n → Has ns n → ⊥
+twice n a ns d e h =
+    let here : (a == n) ≡ true = eq-eqb a n e in
+    let more : times n (a ∷ ns) ≡ 1 + times n ns = one_more n a ns ∙ ap (λ (b : Bool). cond b 1 0 + times n ns) here in
+    let rest = stands n ns h in let few = d n in absurd (omega arith)
+
+distinct_rest : (a : ℕ) (ns : List ℕ) → AreDistinct (a ∷ ns) → AreDistinct ns
+distinct_rest a ns d n = let more = one_more n a ns in let few = d n in omega arith
+
+one_file : (Fs : List File) → AreDistinct (numbers Fs) → (F G : File) → Has Fs F → Has Fs G → F.number ≡ G.number → F ≡ G
+unfolding numbers
+one_file [] d F G hF hG e = absurd hF
+one_file (X ∷ Fs) d F G (inl a) (inl b) e = sym a ∙ b
+one_file (X ∷ Fs) d F G (inl a) (inr h) e = absurd (twice G.number X.number (numbers Fs) d (ap (λ (Z : File). Z.number) a ∙ e) (has_number Fs G h))
+one_file (X ∷ Fs) d F G (inr h) (inl b) e = absurd (twice F.number X.number (numbers Fs) d (ap (λ (Z : File). Z.number) b ∙ sym e) (has_number Fs F h))
+one_file (X ∷ Fs) d F G (inr h) (inr k) e = one_file Fs (distinct_rest X.number (numbers Fs) d) F G h k e
+
+level_numbers : (last m : ℕ) (files : List TableFile) (ts : List Table) → AreFilesOf last files ts → numbers (files_of m ts) ≡ file_numbers files
+unfolding numbers
+level_numbers last m [] [] a = refl
+level_numbers last m [] (t ∷ ts) a = absurd a
+level_numbers last m (f ∷ files) [] a = absurd a
+level_numbers last m (f ∷ files) (t ∷ ts) a = ap (λ (n : ℕ). n ∷ numbers (files_of m ts)) a.0.number ∙ ap (λ (ns : List ℕ). f.number ∷ ns) (level_numbers last m files ts a.1)
+
+all_numbers : (last m : ℕ) (shape : List (List TableFile)) (read : List (List Table)) → AreLevelsOf last shape read → numbers (files_from m read) ≡ numbers_of shape
+unfolding numbers
+all_numbers last m [] [] a = refl
+all_numbers last m [] (ts ∷ read) a = absurd a
+all_numbers last m (fs ∷ shape) [] a = absurd a
+all_numbers last m (fs ∷ shape) (ts ∷ read) a =
+    numbers-append (files_of m ts) (files_from (suc m) read)
+    ∙ ap (λ (ns : List ℕ). ns ++ numbers (files_from (suc m) read)) (level_numbers last m fs ts a.0)
+    ∙ ap (λ (ns : List ℕ). file_numbers fs ++ ns) (all_numbers last (suc m) shape read a.1)
+
+pub one_number : (last : ℕ) (shape : List (List TableFile)) (read : List (List Table)) → AreLevelsOf last shape read → AreDistinct (numbers_of shape)
+    → (F G : File) → Has (files_from 0 read) F → Has (files_from 0 read) G → F.number ≡ G.number → F ≡ G
+one_number last shape read a d = one_file (files_from 0 read) (subst AreDistinct (sym (all_numbers last 0 shape read a)) d)
+
+-- ---- depths
+
+more_than : (n m : ℕ) (fs : List TableFile) → n ≤ m → newer_count fs m ≤ newer_count fs n
+more_than n m [] le = omega arith
+more_than n m (f ∷ fs) le =
+    let x = count_more n f fs in let y = count_more m f fs in let rest = more_than n m fs le in
+    let one = go (nat_lt m f.number) (nat_lt n f.number) refl refl in omega arith
+  where
+    go : (a b : Bool) → nat_lt m f.number ≡ a → nat_lt n f.number ≡ b → cond a 1 0 ≤ cond b 1 0
+    go false b e g = omega arith
+    go true true e g = omega arith
+    go true false e g = (let lt = ltb-true m f.number e in let ge = ltb-false n f.number g in absurd (omega arith))
+
+    count_more : (k : ℕ) (f : TableFile) (fs : List TableFile) → newer_count (f ∷ fs) k ≡ cond (nat_lt k f.number) 1 0 + newer_count fs k
+    count_more k f fs = sum_by-cons (λ g. cond (nat_lt k g.number) 1 0) f fs
+
+count_one : (k : ℕ) (f : TableFile) (fs : List TableFile) → newer_count (f ∷ fs) k ≡ cond (nat_lt k f.number) 1 0 + newer_count fs k
+count_one k f fs = sum_by-cons (λ g. cond (nat_lt k g.number) 1 0) f fs
+
+-- the greatest number first: a file of a lesser number lies deeper
+fewer_than : (n m : ℕ) (fs : List TableFile) (f : TableFile) → Has fs f → f.number ≡ m → n < m → newer_count fs m < newer_count fs n
+fewer_than n m [] f h e lt = absurd h
+fewer_than n m (g ∷ fs) f (inl s) e lt =
+    let same : g.number ≡ m = ap (λ (x : TableFile). x.number) s ∙ e in
+    let x = count_one n g fs in let y = count_one m g fs in let rest = more_than n m fs (omega arith) in
+    let one = go (nat_lt m g.number) (nat_lt n g.number) refl refl same in omega arith
+  where
+    go : (a b : Bool) → nat_lt m g.number ≡ a → nat_lt n g.number ≡ b → g.number ≡ m → cond a 1 0 < cond b 1 0
+    go false true p q same = omega arith
+    go false false p q same = (let ge = ltb-false n g.number q in absurd (omega arith))
+    go true b p q same = (let gt = ltb-true m g.number p in absurd (omega arith))
+fewer_than n m (g ∷ fs) f (inr h) e lt =
+    let x = count_one n g fs in let y = count_one m g fs in let rest = fewer_than n m fs f h e lt in
+    let one = go (nat_lt m g.number) (nat_lt n g.number) refl refl in omega arith
+  where
+    go : (a b : Bool) → nat_lt m g.number ≡ a → nat_lt n g.number ≡ b → cond a 1 0 ≤ cond b 1 0
+    go false b p q = omega arith
+    go true true p q = omega arith
+    go true false p q = (let gt = ltb-true m g.number p in let ge = ltb-false n g.number q in absurd (omega arith))
+
+-- a file of level 0 stands among these
+abbrev IsAmong : List TableFile → File → Type 0
+IsAmong shallow F = F.level ≡ 0 → (f : TableFile) × Has shallow f × (f.number ≡ F.number)
+
+depth_zero : (shallow : List TableFile) (level number : ℕ) → level ≡ 0 → depth_at shallow level number ≡ newer_count shallow number
+depth_zero shallow zero number e = refl
+depth_zero shallow (suc level) number e = absurd (omega arith)
+
+depth_more : (shallow : List TableFile) (level number : ℕ) → 1 ≤ level → depth_at shallow level number ≡ length shallow + level
+depth_more shallow zero number pos = absurd (omega arith)
+depth_more shallow (suc level) number pos = refl
+
+few : (shallow : List TableFile) (number : ℕ) → newer_count shallow number ≤ length shallow
+few shallow number = count_by-le-length (λ f. nat_lt number f.number) shallow
+
+shallower_less : (shallow : List TableFile) (F G : File) → IsAmong shallow F → Shallower F G → depth_of shallow F < depth_of shallow G
+shallower_less shallow F G among (inr s) =
+    let f = among s.0 in
+    let x = depth_zero shallow F.level F.number s.0 in let y = depth_zero shallow G.level G.number s.1 in
+    let lt = fewer_than G.number F.number shallow f.0 f.1 f.2 s.2 in omega arith
+shallower_less shallow F G among (inl lt) =
+    let y = depth_more shallow G.level G.number (omega arith) in
+    elim (cases_eq F.level 0) [
+      | inl z ↦ (let x = depth_zero shallow F.level F.number z in let most = few shallow F.number in omega arith)
+      | inr p ↦ (let x = depth_more shallow F.level F.number (omega arith) in omega arith)
+    ]
+
+less_shallower : (shallow : List TableFile) (F G : File) → depth_of shallow F < depth_of shallow G → Shallower F G
+less_shallower shallow F G lt =
+    elim (cases_eq F.level 0) [
+      | inl z ↦ elim (cases_eq G.level 0) [
+        | inl w ↦ elim (cases_lt G.number F.number) [
+          | inl n ↦ inr (z, w, n)
+          | inr n ↦ (let x = depth_zero shallow F.level F.number z in let y = depth_zero shallow G.level G.number w in let le = more_than F.number G.number shallow n in absurd (omega arith))
+        ]
+        | inr q ↦ inl (omega arith)
+      ]
+      | inr p ↦ elim (cases_eq G.level 0) [
+        | inl w ↦ (let x = depth_more shallow F.level F.number (omega arith) in let y = depth_zero shallow G.level G.number w in let most = few shallow G.number in absurd (omega arith))
+        | inr q ↦ (let x = depth_more shallow F.level F.number (omega arith) in let y = depth_more shallow G.level G.number (omega arith) in inl (omega arith))
+      ]
+    ]
+
+pub read_among : (last : ℕ) (shape : List (List TableFile)) (read : List (List Table)) → AreLevelsOf last shape read → (F : File) → Has (files_from 0 read) F → IsAmong (get_or shape 0 []) F
+read_among last shape read a F h = λ z.
+    let r = file_in 0 read F h in
+    let level : r.0 ≡ 0 = (let e = ap (λ (X : File). X.level) r.3 in omega arith) in
+    let f = level_for last shape read a 0 r.1 (subst (λ (n : ℕ). Has (level_in read n) r.1) level r.2) in
+    (f.0, f.1, sym f.2.number ∙ ap (λ (X : File). X.number) r.3)
+
+-- ---- entries at their depths
+
+deep_level : (shallow : List TableFile) (m : ℕ) (ts : List Table) (F : File) → Has (files_of m ts) F → Has (deep_all shallow m ts) (deep_of shallow F)
+deep_level shallow m [] F h = absurd h
+deep_level shallow m (t ∷ ts) F (inl e) = inl (ap (deep_of shallow) e)
+deep_level shallow m (t ∷ ts) F (inr h) = inr (deep_level shallow m ts F h)
+
+level_deep : (shallow : List TableFile) (m : ℕ) (ts : List Table) (d : Deep) → Has (deep_all shallow m ts) d → (F : File) × Has (files_of m ts) F × (deep_of shallow F ≡ d)
+level_deep shallow m [] d h = absurd h
+level_deep shallow m (t ∷ ts) d (inl e) = (file_of m t, inl refl, e)
+level_deep shallow m (t ∷ ts) d (inr h) = (let r = level_deep shallow m ts d h in (r.0, inr r.1, r.2))
+
+has_deep : (shallow : List TableFile) (m : ℕ) (read : List (List Table)) (F : File) → Has (files_from m read) F → Has (deep_from shallow m read) (deep_of shallow F)
+has_deep shallow m [] F h = absurd h
+has_deep shallow m (ts ∷ read) F h = elim (has_cases (files_of m ts) (files_from (suc m) read) F h) [
+  | inl a ↦ has_left (deep_all shallow m ts) (deep_from shallow (suc m) read) (deep_of shallow F) (deep_level shallow m ts F a)
+  | inr b ↦ has_right (deep_all shallow m ts) (deep_from shallow (suc m) read) (deep_of shallow F) (has_deep shallow (suc m) read F b)
+]
+
+deep_has : (shallow : List TableFile) (m : ℕ) (read : List (List Table)) (d : Deep) → Has (deep_from shallow m read) d → (F : File) × Has (files_from m read) F × (deep_of shallow F ≡ d)
+deep_has shallow m [] d h = absurd h
+deep_has shallow m (ts ∷ read) d h = elim (has_cases (deep_all shallow m ts) (deep_from shallow (suc m) read) d h) [
+  | inl a ↦ (let r = level_deep shallow m ts d a in (r.0, has_left (files_of m ts) (files_from (suc m) read) r.0 r.1, r.2))
+  | inr b ↦ (let r = deep_has shallow (suc m) read d b in (r.0, has_right (files_of m ts) (files_from (suc m) read) r.0 r.1, r.2))
+]
+
+at_place : (place : ℕ) (es : List Entry) (e : Entry) → Has es e → Has (placed_at place es) (place, e)
+at_place place [] e h = absurd h
+at_place place (x ∷ es) e (inl s) = inl (ap (λ (y : Entry). let p : Placed = (place, y) in p) s)
+at_place place (x ∷ es) e (inr h) = inr (at_place place es e h)
+
+place_at : (place : ℕ) (es : List Entry) (p : Placed) → Has (placed_at place es) p → (e : Entry) × Has es e × (let q : Placed = (place, e) in q ≡ p)
+place_at place [] p h = absurd h
+place_at place (x ∷ es) p (inl s) = (x, inl refl, s)
+place_at place (x ∷ es) p (inr h) = (let r = place_at place es p h in (r.0, inr r.1, r.2))
+
+has_list : (ds : List Deep) (d : Deep) → Has ds d → Has (bare_placed ds) (placed_at d.0 (bare_all d.1))
+has_list [] d h = absurd h
+has_list (x ∷ ds) d (inl e) = inl (ap (λ (y : Deep). placed_at y.0 (bare_all y.1)) e)
+has_list (x ∷ ds) d (inr h) = inr (has_list ds d h)
+
+list_has : (ds : List Deep) (l : List Placed) → Has (bare_placed ds) l → (d : Deep) × Has ds d × (placed_at d.0 (bare_all d.1) ≡ l)
+list_has [] l h = absurd h
+list_has (x ∷ ds) l (inl e) = (x, inl refl, e)
+list_has (x ∷ ds) l (inr h) = (let r = list_has ds l h in (r.0, inr r.1, r.2))
+
+merged_entry : (ds : List Deep) (d : Deep) (e : Entry) → Has ds d → Has d.1 e → Has (merge_all (bare_placed ds)) (d.0, bare e)
+merged_entry ds d e h k =
+    merged_has (bare_placed ds) (d.0, bare e) (has_flat (λ l. l) (bare_placed ds) (placed_at d.0 (bare_all d.1)) (d.0, bare e) (has_list ds d h) (at_place d.0 (bare_all d.1) (bare e) (has_bare d.1 e k)))
+
+-- an entry of the merge is one of a file, without its value, at the file's depth
+record IsOfFile (shallow : List TableFile) (read : List (List Table)) (p : Placed) : Type 0 where
+  file : File
+  entry : Entry
+  here : Has (files_from 0 read) file
+  has : Has file.entries entry
+  depth : depth_of shallow file ≡ p.0
+  same : bare entry ≡ p.1
+
+entry_of_file : (shallow : List TableFile) (read : List (List Table)) (p : Placed) → Has (merge_all (bare_placed (deep_from shallow 0 read))) p → IsOfFile shallow read p
+entry_of_file shallow read p h =
+    let ds = deep_from shallow 0 read in
+    let r = flat_has (λ l. l) (bare_placed ds) p (merged_from (bare_placed ds) p h) in
+    let d = list_has ds r.0 r.1 in
+    let f = deep_has shallow 0 read d.0 d.1 in
+    let e = place_at (d.0).0 (bare_all (d.0).1) p (subst (λ (l : List Placed). Has l p) (sym d.2) r.2) in
+    let b = bare_from (d.0).1 e.0 e.1 in
+    record {
+      file = f.0;
+      entry = b.0;
+      here = f.1;
+      has = subst (λ (es : List Entry). Has es b.0) (sym (ap (λ (x : Deep). x.1) f.2)) b.1;
+      depth = ap (λ (x : Deep). x.0) f.2 ∙ ap (λ (x : Placed). x.0) e.2;
+      same = b.2 ∙ ap (λ (x : Placed). x.1) e.2;
+    }
+
+-- ---- the age order
+
+abbrev pub merged : List TableFile → List (List Table) → List Placed
+merged shallow read = merge_all (bare_placed (deep_from shallow 0 read))
+
+pub newer_above : (last : ℕ) (shape : List (List TableFile)) (read : List (List Table)) → AreLevelsOf last shape read → IsAgeOrder (merged (get_or shape 0 []) read)
+    → (F G : File) (x y : Entry) → Has (files_from 0 read) F → Has (files_from 0 read) G → Shallower F G → Has F.entries x → Has G.entries y → x.user ≡ y.user → y.seq < x.seq
+newer_above last shape read a ages F G x y hF hG s kx ky same =
+    let shallow = get_or shape 0 [] in
+    let ds = deep_from shallow 0 read in
+    ages (depth_of shallow F, bare x) (depth_of shallow G, bare y) (merged_entry ds (deep_of shallow F) x (has_deep shallow 0 read F hF) kx)
+    (merged_entry ds (deep_of shallow G) y (has_deep shallow 0 read G hG) ky) same (shallower_less shallow F G (read_among last shape read a F hF) s)
+
+against_from : (last : ℕ) (shape : List (List TableFile)) (read : List (List Table)) (k : UserKey) → AreLevelsOf last shape read → IsAgainst (files_from 0 (placed_levels read)) k → IsAgainstAge (merged (get_or shape 0 []) read) k
+against_from last shape read k a (F, G, x, y, hF, hG, s, kx, ky, ux, uy, le) =
+    let shallow = get_or shape 0 [] in
+    let ds = deep_from shallow 0 read in
+    let rF = files_read read F hF in
+    let rG = files_read read G hG in (
+      (depth_of shallow F, bare x),
+      (depth_of shallow G, bare y),
+      merged_entry ds (deep_of shallow F) x (has_deep shallow 0 read F rF) kx,
+      merged_entry ds (deep_of shallow G) y (has_deep shallow 0 read G rG) ky,
+      ux,
+      uy,
+      shallower_less shallow F G (read_among last shape read a F rF) s,
+      le,
+    )
+
+against_says : (shallow : List TableFile) (read : List (List Table)) (k : UserKey) → IsAgainstAge (merged shallow read) k → IsAgainst (files_from 0 (placed_levels read)) k
+against_says shallow read k (p, q, hp, hq, up, uq, lt, le) =
+    let f = entry_of_file shallow read p hp in
+    let g = entry_of_file shallow read q hq in
+    let ef = ap (λ (e : Entry). e.seq) f.same in
+    let eg = ap (λ (e : Entry). e.seq) g.same in (
+      f.file,
+      g.file,
+      f.entry,
+      g.entry,
+      read_files read f.file f.here,
+      read_files read g.file g.here,
+      less_shallower shallow f.file g.file (let df = f.depth in let dg = g.depth in omega arith),
+      f.has,
+      g.has,
+      ap (λ (e : Entry). e.user) f.same ∙ up,
+      ap (λ (e : Entry). e.user) g.same ∙ uq,
+      omega arith,
+    )
+
+pub least_against : (last : ℕ) (shape : List (List TableFile)) (read : List (List Table)) (k : UserKey) → AreLevelsOf last shape read → IsLeastAgainstAge (merged (get_or shape 0 []) read) k
+    → IsLeastAgainst (files_from 0 (placed_levels read)) k
+least_against last shape read k a l = record {
+  here = against_says (get_or shape 0 []) read k l.here;
+  least = λ other h. l.least other (against_from last shape read other a h);
+}
+
+-- ---- files of a level apart
+
+range_in : (ts : List Table) (rs : List Range) → AreRangesOf ts rs → (t : Table) → Has ts t → (r : Range) × Has rs r × IsKey t.smallest r.smallest × IsKey t.largest r.largest
+range_in [] rs a t h = absurd h
+range_in (u ∷ ts) [] a t h = absurd a
+range_in (u ∷ ts) (r ∷ rs) a t (inl e) = (r, inl refl, subst (λ (x : Table). IsKey x.smallest r.smallest) e a.0, subst (λ (x : Table). IsKey x.largest r.largest) e a.1)
+range_in (u ∷ ts) (r ∷ rs) a t (inr h) = (let s = range_in ts rs a.2 t h in (s.0, inr s.1, s.2, s.3))
+
+abbrev AreApart : Table → Table → Type 0
+AreApart t u = UserLe (user_of t.smallest) (user_of u.largest) × UserLe (user_of u.smallest) (user_of t.largest) → ⊥
+
+keys_apart : (t u : Table) (r s : Range) → IsKey t.smallest r.smallest → IsKey t.largest r.largest → IsKey u.smallest s.smallest → IsKey u.largest s.largest → (ShareUsers r s → ⊥) → AreApart t u
+keys_apart t u r s a b c d no_share m = no_share (
+  subst (λ (k : UserKey). UserLe k s.largest.user) (user_of-key t.smallest r.smallest a) (subst (λ (k : UserKey). UserLe (user_of t.smallest) k) (user_of-key u.largest s.largest d) m.0),
+  subst (λ (k : UserKey). UserLe k r.largest.user) (user_of-key u.smallest s.smallest c) (subst (λ (k : UserKey). UserLe (user_of u.smallest) k) (user_of-key t.largest r.largest b) m.1),
+)
+
+pair_apart : (ts : List Table) (rs : List Range) → AreRangesOf ts rs → EachPair (λ a b. ShareUsers a b → ⊥) rs → (t u : Table) → Has ts t → Has ts u → (t ≡ u) ⊎ (AreApart t u ⊎ AreApart u t)
+pair_apart [] rs a p t u ht hu = absurd ht
+pair_apart (x ∷ ts) [] a p t u ht hu = absurd a
+pair_apart (x ∷ ts) (r ∷ rs) a p t u (inl e) (inl f) = inl (sym e ∙ f)
+pair_apart (x ∷ ts) (r ∷ rs) a p t u (inl e) (inr h) =
+    let s = range_in ts rs a.2 u h in inr (inl (subst (λ (y : Table). AreApart y u) e (keys_apart x u r s.0 a.0 a.1 s.2 s.3 (p.0 s.0 s.1))))
+pair_apart (x ∷ ts) (r ∷ rs) a p t u (inr h) (inl f) =
+    let s = range_in ts rs a.2 t h in inr (inr (subst (λ (y : Table). AreApart y t) f (keys_apart x t r s.0 a.0 a.1 s.2 s.3 (p.0 s.0 s.1))))
+pair_apart (x ∷ ts) (r ∷ rs) a p t u (inr h) (inr k) = pair_apart ts rs a.2 p.1 t u h k
+
+-- ---- the law of the version
+
+listed : (t : Table) → IsWhole t → Listed
+listed t w = record { number = t.number; range = w.range; entries = entries_in t.image }
+
+pub table_fits : (n : ℕ) (t : Table) → IsWhole t → Fits (file_of n t)
+unfolding listed
+table_fits n t w =
+    subst Fits
+    (ap (λ (k : UserKey). let F : File = record { level = n; number = t.number; low = k; high = w.range.largest.user; entries = entries_in t.image } in F) (sym (user_of-key t.smallest w.range.smallest w.smallest))
+    ∙ ap (λ (k : UserKey). let F : File = record { level = n; number = t.number; low = user_of t.smallest; high = k; entries = entries_in t.image } in F) (sym (user_of-key t.largest w.range.largest w.largest)))
+    (file_fits n (listed t w) w.entries)
+
+inside : (levels : List (List Table)) (n : ℕ) (t : Table) → Has (level_in levels n) t → n < length levels
+inside [] n t h = absurd h
+inside (ts ∷ levels) zero t h = omega arith
+inside (ts ∷ levels) (suc n) t h = let lt = inside levels n t h in omega arith
+
+pub length-placed : (read : List (List Table)) → length (placed_levels read) ≡ length read
+length-placed [] = refl
+length-placed (ts ∷ read) = ap suc (length-placed read)
+
+apart_files : (levels : List (List Table)) → length levels ≡ 7 → LieApart levels → (F G : File) → Has (files_from 0 levels) F → Has (files_from 0 levels) G
+    → F.level ≡ G.level → 1 ≤ F.level → (F.number ≡ G.number → ⊥) → Apart F G
+apart_files levels seven apart F G hF hG same pos ne =
+    let f = file_in 0 levels F hF in
+    let g = file_in 0 levels G hG in
+    let lf : f.0 ≡ F.level = (let e = ap (λ (D : File). D.level) f.3 in omega arith) in
+    let lg : g.0 ≡ f.0 = (let e = ap (λ (D : File). D.level) g.3 in omega arith) in
+    let there : Has (level_in levels f.0) g.1 = subst (λ (n : ℕ). Has (level_in levels n) g.1) lg g.2 in
+    let most : f.0 ≤ 6 = (let lt = inside levels f.0 f.1 f.2 in omega arith) in
+    let lies = apart f.0 (omega arith) most in
+    subst (λ (D : File). Apart D G) f.3 (subst (λ (D : File). Apart (file_of (0 + f.0) f.1) D) g.3 (
+      elim (pair_apart (level_in levels f.0) lies.0 lies.1 lies.2 f.1 g.1 f.2 there) [
+        | inl e ↦ absurd (ne (ap (λ (D : File). D.number) (sym f.3) ∙ ap (λ (t : Table). t.number) e ∙ ap (λ (D : File). D.number) g.3))
+        | inr o ↦ elim o [
+          | inl p ↦ p
+          | inr p ↦ (λ m. p (m.1, m.0))
+        ]
+      ]
+    ))
+
+pub sound_version : (last : ℕ) (shape : List (List TableFile)) (read : List (List Table)) (pointers : List (Option (List ℕ))) → length shape ≡ 7 → AreLevelsOf last shape read
+    → AreDistinct (numbers_of shape) → LieApart (placed_levels read) → IsAgeOrder (merged (get_or shape 0 []) read)
+    → IsSound (record { tables = placed_levels read; pointers = pointers; last = last })
+sound_version last shape read pointers seven a d apart ages =
+    let levels : List (List Table) = placed_levels read in
+    let long : length levels ≡ 7 = length-placed read ∙ same_length last shape read a ∙ seven in
+    let whole : (n : ℕ) (t : Table) → Has (level_in levels n) t → IsWhole t = λ n t h. whole_at (level_in levels n) t (whole_in levels n (placed_whole last shape read a)) h in
+    record {
+      lawful = record {
+        fits = λ F h. (let r = file_in 0 levels F h in subst Fits r.3 (table_fits (0 + r.0) r.1 (whole r.0 r.1 r.2)));
+        numbers = λ F G hF hG e. one_number last shape read a d F G (files_read read F hF) (files_read read G hG) e;
+        split = apart_files levels long apart;
+        depth = λ F G x y hF hG s kx ky same. newer_above last shape read a ages F G x y (files_read read F hF) (files_read read G hG) s kx ky same;
+      };
+      tables = whole;
+      reached = λ F e hF he.
+          let r = file_in 0 read F (files_read read F hF) in
+          let f = level_for last shape read a r.0 r.1 r.2 in
+          f.2.image.spanned.reached e (subst (λ (X : File). Has X.entries e) (sym r.3) he);
+    }
+
+-- ---- a version of other tables that are equal to these
+
+pub sound_tables : (last : ℕ) (tables levels : List (List Table)) (pointers : List (Option (List ℕ))) → tables ≡ levels
+    → IsSound (record { tables = levels; pointers = pointers; last = last }) → IsSound (record { tables = tables; pointers = pointers; last = last })
+sound_tables last tables levels pointers e s = subst (λ (ts : List (List Table)). IsSound (record { tables = ts; pointers = pointers; last = last })) (sym e) s

@@ -1,0 +1,127 @@
+-- Judging where a table begins and ends says where its entries do.
+use Rattle.std.proofs.Common.{◌≡◌, ℕ, ◌≤◌, Bool, true, false, List, [], ◌∷◌, ◌++◌, Ordering, Less, Equal, Greater, refl, sym, ap, ◌∙◌, subst, inl, inr}
+use Rattle.std.specs.Prelude.{◌⊎◌, nat_le}
+use Rattle.std.specs.Ordering.{is_eq}
+use Rattle.std.proofs.lemmas.Bool.{and_parts, and_from, leb-true, le-leb}
+use Rattle.lsm_codec.specs.Lists.{Has}
+use Rattle.lsm_codec.specs.Keys.{InternalKey, IsKey, key_cmp}
+use Rattle.lsm_codec.specs.Entries.{Entry, internal_key, entry_cmp}
+use Rattle.lsm_codec.proofs.KeyOrder.{key_cmp-Equal, key_cmp-same}
+use Rattle.lsm_block.specs.Block.{Ascends}
+use Rattle.lsm_table.specs.Table.{IsTable}
+use Rattle.lsm_table.proofs.KeyOrder.{key_cmp_total}
+use Rattle.lsm_table.proofs.IndexLaws.{data_ascends}
+use Rattle.lsm_version.specs.Streams.{IsAscending}
+use Rattle.lsm_version.specs.CheckedFiles.{IsSpanned, starts_with, ends_with}
+
+-- ---- a table's entries ascend
+
+after_first : (e : Entry) (es : List Entry) → Ascends (e ∷ es) → (y : Entry) → Has es y → entry_cmp e y ≡ Less
+after_first e [] a y h = absurd h
+after_first e (f ∷ es) a y (inl s) = subst (λ (z : Entry). entry_cmp e z ≡ Less) s a.0
+after_first e (f ∷ es) a y (inr h) = key_cmp_total.trans (internal_key e) (internal_key f) (internal_key y) a.0 (after_first f es a.1 y h)
+
+tail_of : (e : Entry) (es : List Entry) → Ascends (e ∷ es) → Ascends es
+tail_of e [] a = tt
+tail_of e (f ∷ es) a = a.1
+
+pub ascending_from : (es : List Entry) → Ascends es → IsAscending es
+ascending_from [] a = tt
+ascending_from (e ∷ es) a = (after_first e es a, ascending_from es (tail_of e es a))
+
+pub table_ascends : (bytes : List ℕ) (es : List Entry) → IsTable bytes es → IsAscending es
+table_ascends bytes es t = ascending_from es (subst Ascends t.entries_are (data_ascends t.body _ t.index t.groups t.indexed.ascends t.blocks))
+
+-- ---- what the tests say
+
+equal_says : (a b : InternalKey) → is_eq (key_cmp a b) ≡ true → a ≡ b
+equal_says a b h = key_cmp-Equal a b (go (key_cmp a b) h)
+  where
+    go : (o : Ordering) → is_eq o ≡ true → o ≡ Equal
+    go Less e = absurd (cc e)
+    go Equal e = refl
+    go Greater e = absurd (cc e)
+
+equal_from : (a b : InternalKey) → a ≡ b → is_eq (key_cmp a b) ≡ true
+equal_from a b e = ap is_eq (key_cmp-same a b e)
+
+abbrev pub Begins : InternalKey → List Entry → Type 0
+Begins key es = (e : Entry) × (rest : List Entry) × (es ≡ e ∷ rest) × (internal_key e ≡ key)
+
+abbrev pub Ends : InternalKey → List Entry → Type 0
+Ends key es = (front : List Entry) × (e : Entry) × (es ≡ front ++ e ∷ []) × (internal_key e ≡ key)
+
+begins_says : (key : InternalKey) (es : List Entry) → starts_with key es ≡ true → Begins key es
+begins_says key [] h = absurd (cc h)
+begins_says key (e ∷ es) h = (e, es, refl, equal_says (internal_key e) key h)
+
+begins_from : (key : InternalKey) (es : List Entry) → Begins key es → starts_with key es ≡ true
+begins_from key es b = subst (λ (l : List Entry). starts_with key l ≡ true) (sym b.2) (equal_from (internal_key b.0) key b.3)
+
+-- what the walk to the end says of an entry before it that has the key
+record IsEnd (last : ℕ) (key : InternalKey) (ends : Bool) (es : List Entry) : Type 0 where
+  reached : (e : Entry) → Has es e → e.seq ≤ last
+  end : ((es ≡ []) × (ends ≡ true)) ⊎ Ends key es
+
+ends_says : (last : ℕ) (key : InternalKey) (ends : Bool) (es : List Entry) → ends_with last key ends es ≡ true → IsEnd last key ends es
+ends_says last key ends [] h = record { reached = λ e k. absurd k; end = inl (refl, h) }
+ends_says last key ends (e ∷ es) h =
+    let parts = and_parts (nat_le e.seq last) (ends_with last key (is_eq (key_cmp (internal_key e) key)) es) h in
+    let rest = ends_says last key (is_eq (key_cmp (internal_key e) key)) es parts.1 in
+    record {
+      reached = λ x k. elim k [ inl s ↦ subst (λ (z : Entry). z.seq ≤ last) s (leb-true e.seq last parts.0) | inr t ↦ rest.reached x t ];
+      end = inr (elim rest.end [
+        | inl none ↦ ([], e, ap (λ (l : List Entry). e ∷ l) none.0, equal_says (internal_key e) key none.1)
+        | inr more ↦ (e ∷ more.0, more.1, ap (λ (l : List Entry). e ∷ l) more.2, more.3)
+      ]);
+    }
+
+ends_from_front : (last : ℕ) (key : InternalKey) (ends : Bool) (front : List Entry) (e : Entry) → ((x : Entry) → Has (front ++ e ∷ []) x → x.seq ≤ last) → internal_key e ≡ key → ends_with last key ends (front ++ e ∷ []) ≡ true
+ends_from_front last key ends [] e r k = and_from (nat_le e.seq last) (is_eq (key_cmp (internal_key e) key)) (le-leb e.seq last (r e (inl refl))) (equal_from (internal_key e) key k)
+ends_from_front last key ends (f ∷ front) e r k =
+    and_from (nat_le f.seq last) (ends_with last key (is_eq (key_cmp (internal_key f) key)) (front ++ e ∷ [])) (le-leb f.seq last (r f (inl refl)))
+    (ends_from_front last key (is_eq (key_cmp (internal_key f) key)) front e (λ x h. r x (inr h)) k)
+
+ends_from : (last : ℕ) (key : InternalKey) (ends : Bool) (es : List Entry) → ((x : Entry) → Has es x → x.seq ≤ last) → Ends key es → ends_with last key ends es ≡ true
+ends_from last key ends es r d =
+    subst (λ (l : List Entry). ends_with last key ends l ≡ true) (sym d.2)
+    (ends_from_front last key ends d.0 d.1 (λ x h. r x (subst (λ (l : List Entry). Has l x) (sym d.2) h)) d.3)
+
+-- ---- a table between two keys
+
+pub spanned_says : (last : ℕ) (smallest largest : List ℕ) (es : List Entry) (first end : InternalKey) → IsKey smallest first → IsKey largest end → IsAscending es
+    → starts_with first es ≡ true → ends_with last end false es ≡ true → IsSpanned last smallest largest es
+spanned_says last smallest largest es first end ks kl up b d =
+    let judged = ends_says last end false es d in
+    record {
+      range = record { smallest = first; largest = end };
+      first = ks;
+      end = kl;
+      spans = record {
+        ascending = up;
+        first = begins_says first es b;
+        last = elim judged.end [ inl none ↦ absurd (cc none.1) | inr e ↦ e ];
+      };
+      reached = judged.reached;
+    }
+
+pub spanned_begins : (last : ℕ) (smallest largest : List ℕ) (es : List Entry) (s : IsSpanned last smallest largest es) → starts_with s.range.smallest es ≡ true
+spanned_begins last smallest largest es s = begins_from s.range.smallest es s.spans.first
+
+pub spanned_ends : (last : ℕ) (smallest largest : List ℕ) (es : List Entry) (s : IsSpanned last smallest largest es) → ends_with last s.range.largest false es ≡ true
+spanned_ends last smallest largest es s = ends_from last s.range.largest false es s.reached s.spans.last
+
+pub spanned_whole : (last : ℕ) (smallest largest : List ℕ) (es : List Entry) (first end : InternalKey) (r : Bool) → IsKey smallest first → IsKey largest end
+    → ((key : InternalKey) → IsKey smallest key → first ≡ key) → ((key : InternalKey) → IsKey largest key → end ≡ key) → IsAscending es
+    → starts_with first es ≡ true → r ≡ ends_with last end false es → (r ≡ true → IsSpanned last smallest largest es) × (IsSpanned last smallest largest es → r ≡ true)
+spanned_whole last smallest largest es first end r ks kl same_first same_end up b e = (
+  λ t. spanned_says last smallest largest es first end ks kl up b (sym e ∙ t),
+  λ s. e ∙ subst (λ (k : InternalKey). ends_with last k false es ≡ true) (sym (same_end s.range.largest s.end)) (spanned_ends last smallest largest es s),
+)
+
+pub spanned_not : (last : ℕ) (smallest largest : List ℕ) (es : List Entry) (first : InternalKey) (r : Bool) → ((key : InternalKey) → IsKey smallest key → first ≡ key)
+    → r ≡ starts_with first es → r ≡ false → (r ≡ true → IsSpanned last smallest largest es) × (IsSpanned last smallest largest es → r ≡ true)
+spanned_not last smallest largest es first r same_first e f = (
+  λ t. absurd (cc (f, t)),
+  λ s. e ∙ subst (λ (k : InternalKey). starts_with k es ≡ true) (sym (same_first s.range.smallest s.first)) (spanned_begins last smallest largest es s),
+)

@@ -1,0 +1,62 @@
+-- What a check gives of a shape, and why it refuses one (this project's rule).
+use Rattle.std.specs.Prelude.{◌≡◌, ℕ, ◌≤◌, List}
+use Rattle.lsm_codec.specs.Lists.{Has}
+use Rattle.lsm_codec.specs.Keys.{UserKey, UserLe}
+use Rattle.lsm_codec.specs.Entries.{Entry}
+use Rattle.lsm_table.specs.Registry.{Table}
+use Rattle.lsm_manifest.specs.FileOrder.{TableFile}
+use Rattle.lsm_manifest.specs.declared.shape.Shape.{Shape}
+use Rattle.lsm_version.specs.declared.check_fault.CheckFault.{CheckFault}
+use Rattle.lsm_version.specs.declared.check_fault.CheckFault.TheVariants.{Read, DoubleFile, Overlap, WrongRange, AgeOrder, SharedBoundary}
+use Rattle.lsm_version.specs.Files.{File, Shallower}
+use Rattle.lsm_version.specs.FileNumbers.{IsLeastTwice, numbers_of}
+use Rattle.lsm_version.specs.FileRefusal.{IsWant, IsFilesRefusal}
+use Rattle.lsm_version.specs.LevelLayouts.{IsLayoutRefusal}
+use Rattle.lsm_version.specs.Loading.{AreLevelsOf, AreLevelsStored, all_files, placed_levels}
+use Rattle.lsm_version.specs.Versions.{Levels, AreInOrder, files_from}
+
+-- The version has a table for each file of the shape, the shape's pointers and its last sequence. The tables of a level were put
+-- into place one after another, in the order of the shape's files.
+pub record IsOfShape (shape : Shape) (v : Levels) : Type 0 where
+  pub read : List (List Table)
+  pub files : AreLevelsOf shape.last shape.levels read
+  pub placed : v.tables ≡ placed_levels read
+  pub pointers : v.pointers ≡ shape.pointers
+  pub last : v.last ≡ shape.last
+
+-- These tables were read from the shelf for the files of the shape, and each is its file's.
+pub record AreTablesOf (Stored : ℕ → List ℕ → Type 0) (shape : Shape) (tables : List (List Table)) : Type 0 where
+  pub read : List (List Table)
+  pub files : AreLevelsOf shape.last shape.levels read
+  pub stored : AreLevelsStored Stored read
+  pub placed : tables ≡ placed_levels read
+  pub order : AreInOrder tables
+
+-- of the user key an entry has no lesser sequence than one that lies shallower
+abbrev pub IsAgainst : List File → UserKey → Type 0
+IsAgainst v k = (F : File) × (G : File) × (x : Entry) × (y : Entry) × Has v F × Has v G × Shallower F G × Has F.entries x × Has G.entries y
+    × (x.user ≡ k) × (y.user ≡ k) × (x.seq ≤ y.seq)
+
+-- the least user key of which this is so
+pub record IsLeastAgainst (v : List File) (k : UserKey) : Type 0 where
+  pub here : IsAgainst v k
+  pub least : (other : UserKey) → IsAgainst v other → UserLe k other
+
+-- the refusals of the numbers of files
+abbrev pub IsNumberRefusal : List ℕ → CheckFault → Type 0
+IsNumberRefusal numbers (Read fault) = IsWant fault
+IsNumberRefusal numbers (DoubleFile number) = IsLeastTwice numbers number
+IsNumberRefusal numbers (Overlap level) = ⊥
+IsNumberRefusal numbers (WrongRange number) = ⊥
+IsNumberRefusal numbers (AgeOrder user) = ⊥
+IsNumberRefusal numbers (SharedBoundary level) = ⊥
+
+-- `Stored` says which images the shelf holds under which numbers. Two files have one number; or a file is refused; or the tables of all
+-- files were read, and a level from 1 on or the age order is refused.
+abbrev pub IsRefusal : (ℕ → List ℕ → Type 0) → Shape → CheckFault → Type 0
+IsRefusal Stored shape (DoubleFile number) = IsLeastTwice (numbers_of shape.levels) number
+IsRefusal Stored shape (Read fault) = IsFilesRefusal Stored shape.last (all_files shape.levels) (Read fault)
+IsRefusal Stored shape (WrongRange number) = IsFilesRefusal Stored shape.last (all_files shape.levels) (WrongRange number)
+IsRefusal Stored shape (Overlap level) = (tables : List (List Table)) × AreTablesOf Stored shape tables × IsLayoutRefusal tables (Overlap level)
+IsRefusal Stored shape (SharedBoundary level) = (tables : List (List Table)) × AreTablesOf Stored shape tables × IsLayoutRefusal tables (SharedBoundary level)
+IsRefusal Stored shape (AgeOrder user) = (tables : List (List Table)) × AreTablesOf Stored shape tables × IsLeastAgainst (files_from 0 tables) user

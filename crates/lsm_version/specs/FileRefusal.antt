@@ -1,0 +1,44 @@
+-- Why a check refuses a file of a shape (this project's rule).
+use Rattle.std.specs.Prelude.{◌≡◌, ◌⊎◌, ℕ, false, List, Err}
+use Rattle.lsm_codec.specs.Lists.{Has}
+use Rattle.lsm_table.specs.declared.read_fault.ReadFault.TheVariants.{Shelf, Table}
+use Rattle.lsm_table.specs.ReadFault.{IsMemory}
+use Rattle.lsm_table.specs.declared.read_fault.ReadFault.{ReadFault}
+use Rattle.lsm_table.specs.Reading.{is_memory}
+use Rattle.lsm_table.specs.Table.{IsTable}
+use Rattle.lsm_table.specs.TableReading.{table_at}
+use Rattle.lsm_table.specs.HeldTable.{entries_in}
+use Rattle.lsm_manifest.specs.FileOrder.{TableFile}
+use Rattle.lsm_version.specs.declared.check_fault.CheckFault.{CheckFault}
+use Rattle.lsm_version.specs.declared.check_fault.CheckFault.TheVariants.{Read, DoubleFile, Overlap, WrongRange, AgeOrder, SharedBoundary}
+use Rattle.lsm_version.specs.CheckedFiles.{IsImageOf}
+
+-- `Stored` says which images the shelf holds under the file's number. The shelf refused, or memory ran out; or a stored image is
+-- no table; or it is a table, and not the file's.
+abbrev pub IsFileRefusal : (List ℕ → Type 0) → ℕ → TableFile → CheckFault → Type 0
+IsFileRefusal Stored last file (Read (Shelf fault)) = Unit {0}
+IsFileRefusal Stored last file (Read (Table fault)) = is_memory fault ≡ false → (image : List ℕ) × Stored image × (table_at image ≡ Err fault)
+IsFileRefusal Stored last file (WrongRange number) =
+    (number ≡ file.number) × ((image : List ℕ) × Stored image × IsTable image (entries_in image) × (IsImageOf last file image → ⊥))
+IsFileRefusal Stored last file (DoubleFile number) = ⊥
+IsFileRefusal Stored last file (Overlap level) = ⊥
+IsFileRefusal Stored last file (SharedBoundary level) = ⊥
+IsFileRefusal Stored last file (AgeOrder user) = ⊥
+
+-- memory ran out over the bytes of a table
+abbrev pub IsWant : ReadFault → Type 0
+IsWant (Shelf fault) = ⊥
+IsWant (Table fault) = IsMemory fault
+
+-- memory ran out
+abbrev pub IsMemoryRefusal : CheckFault → Type 0
+IsMemoryRefusal (Read fault) = IsWant fault
+IsMemoryRefusal (WrongRange number) = ⊥
+IsMemoryRefusal (DoubleFile number) = ⊥
+IsMemoryRefusal (Overlap level) = ⊥
+IsMemoryRefusal (SharedBoundary level) = ⊥
+IsMemoryRefusal (AgeOrder user) = ⊥
+
+-- memory ran out, or one of the files is refused
+abbrev pub IsFilesRefusal : (ℕ → List ℕ → Type 0) → ℕ → List TableFile → CheckFault → Type 0
+IsFilesRefusal Stored last files fault = IsMemoryRefusal fault ⊎ ((file : TableFile) × Has files file × IsFileRefusal (Stored file.number) last file fault)

@@ -1,0 +1,84 @@
+//! The version of a shape.
+
+ghost use Rattle.std.specs.Prelude.{◌≡◌, IfErr, IfOk, List, Option, length, map, ℕ};
+ghost use Rattle.lsm_table.specs.Told.{Becomes};
+ghost use Rattle.lsm_version.specs.CheckFault.{CheckCounted};
+ghost use Rattle.lsm_version.specs.CheckRefusal.{AreTablesOf, IsRefusal};
+ghost use Rattle.lsm_version.specs.Versions.{IsSound};
+
+use crate::age_judgment::judge_ages;
+use crate::change::copies_of;
+use crate::check_fault::CheckFault;
+use crate::file_numbers::judge_numbers;
+use crate::layouts::judge_layouts;
+use crate::loading::load_levels;
+use crate::version::Version;
+use lsm_manifest::Shape;
+use lsm_table::{Naming, Registry, Shelf, TableRef};
+use std::alloc::Global;
+use std::sync::{Arc, Wait};
+
+/// Reads and judges the tables of a shape, level by level.
+fn check_levels<N: Naming, S: Shelf, R: Wait>(
+    shelf: &mut S,
+    rt: &R,
+    alloc: Global,
+    registry: &Registry<S::Receipt>,
+    shape: &Shape,
+) -> Result<Vec<Vec<TableRef<N, S>>>, CheckFault>
+    requires here { (S.told shelf.old).place ≡ N.place }
+    requires named { registry.now ≡ N.registry }
+    ensures tables { IfOk result (λ v. AreTablesOf (λ number image. (r : S.Receipt) × S.is_of N.place r × (S.Receipt.number r ≡ number) × (S.Receipt.image r ≡ image)) shape.now (map (λ l. l.items) v.items)) }
+    ensures seven { IfOk result (λ v. length v.items ≡ 7) }
+    ensures sound { IfOk result (λ v. (pointers : List (Option (List ℕ))) → IsSound record { tables = map (λ l. l.items) v.items; pointers = pointers; last = shape.now.last }) }
+    ensures refused { IfErr result (λ e. IsRefusal (λ number image. (r : S.Receipt) × S.is_of N.place r × (S.Receipt.number r ≡ number) × (S.Receipt.image r ≡ image)) shape.now e) }
+    ensures told { Becomes (S.told shelf.old) (S.told shelf.new) }
+    ensures cause { IfErr result (λ e. CheckCounted e (S.told shelf.old) (S.told shelf.new)) }
+{
+    judge_numbers(alloc, &shape.levels)?;
+    let (levels, deep) = load_levels(shelf, rt, alloc, registry, shape)?;
+    judge_layouts(alloc, registry, &levels)?;
+    judge_ages(alloc, &deep)?;
+    Ok(levels)
+}
+
+impl<N: Naming, S: Shelf> Version<N, S> {
+    ghost use Rattle.std.specs.Arc.{arc_value};
+    ghost use Rattle.lsm_version.specs.CheckRefusal.{IsOfShape, IsRefusal};
+    ghost use Rattle.lsm_version.specs.Versions.{IsSound};
+
+    /// The version of a shape: reads every table of it from the shelf, and judges them. The version is sound whatever the shelf gave,
+    /// as long as the shelf's later reads are honest.
+    ///
+    /// `DoubleFile` with the least number that two files have; then the files by level, and in a level in the order of the shape: the
+    /// shelf's refusals, those of a table, and `WrongRange` where a table has another size, another first or last internal key than
+    /// the shape says, no entries, or an entry above the last sequence; then `Overlap` with the least level from 1 on in which two
+    /// files meet in internal keys; then `SharedBoundary` with the least level in which two files share a user key; then `AgeOrder`
+    /// with the least user key of which a deeper entry has no lesser sequence than a shallower one (that a key's entries are newer the
+    /// shallower they lie is what LevelDB's `doc/impl.md` builds on; that a database which breaks it is refused is this project's
+    /// rule).
+    pub fn check<R: Wait>(
+        shelf: &mut S,
+        rt: &R,
+        alloc: Global,
+        shape: &Shape,
+        registry: Arc<Registry<S::Receipt>>,
+    ) -> Result<Version<N, S>, CheckFault>
+        requires here { (S.told shelf.old).place ≡ N.place }
+        requires named { arc_value registry ≡ N.registry }
+        ensures shape { IfOk result (λ v. IsOfShape shape.now v) }
+        ensures sound { IfOk result (λ v. IsSound v) }
+        ensures refused { IfErr result (λ e. IsRefusal (λ number image. (r : S.Receipt) × S.is_of N.place r × (S.Receipt.number r ≡ number) × (S.Receipt.image r ≡ image)) shape.now e) }
+        ensures told { Becomes (S.told shelf.old) (S.told shelf.new) }
+        ensures cause { IfErr result (λ e. CheckCounted e (S.told shelf.old) (S.told shelf.new)) }
+    {
+        let levels = check_levels(shelf, rt, alloc, &registry, shape)?;
+        let pointers = copies_of(alloc, &shape.pointers)?;
+        Ok(Version {
+            registry,
+            levels,
+            pointers,
+            last: shape.last,
+        })
+    }
+}
