@@ -1,15 +1,12 @@
 -- What a table is whose footer and index block were judged.
-use Rattle.std.proofs.Common.{◌≡◌, ℕ, ◌-◌, ◌≤◌, Bool, true, false, leb, eqb, List, [], length, take, Option, None, Result, Ok, Err, refl, sym, ap, ◌∙◌, subst, arith}
+use Rattle.std.proofs.Common.{◌≡◌, ℕ, ◌≤◌, Bool, true, false, leb, eqb, List, [], length, Option, None, Result, Ok, Err, refl, sym, ap, ◌∙◌, subst}
 use Rattle.std.specs.Prelude.{IfErr}
 use Rattle.std.proofs.lemmas.Bool.{leb-true}
 use Rattle.std.proofs.lemmas.List.{append-nil}
 use Rattle.lsm_codec.specs.Keys.{InternalKey}
 use Rattle.lsm_codec.specs.Entries.{Entry}
-use Rattle.lsm_codec.proofs.Varints.{IsBytes}
 use Rattle.lsm_block.specs.Reading.{block_at}
-use Rattle.lsm_block.specs.Held.{HeldBlock}
-use Rattle.lsm_block.proofs.EntryLaws.{IsBytes-take}
-use Rattle.lsm_block.proofs.BlockLaws.{block_takes, block_again}
+use Rattle.lsm_block.proofs.BlockLaws.{block_again}
 use Rattle.lsm_table.specs.declared.table_fault.TableFault.{TableFault}
 use Rattle.lsm_table.specs.declared.table_fault.TableFault.TheVariants.{OutOfMemory, BadRestarts, BadEntry, OutOfOrder, ShortFile, BadMagic, BadHandle, BadChecksum, Compressed, BadBlockType, BadIndex}
 use Rattle.lsm_table.specs.declared.read_fault.ReadFault.{ReadFault}
@@ -21,18 +18,15 @@ use Rattle.lsm_table.specs.ReadFault.{IsMemory, IsMemoryOrShelf}
 use Rattle.lsm_table.specs.Handle.{handle_at}
 use Rattle.lsm_table.specs.StoredBlock.{Holds, contents_at}
 use Rattle.lsm_table.specs.Footer.{footer_at, body_of}
-use Rattle.lsm_table.specs.Table.{DataBlock, DataBlocks, IsTable, concat}
+use Rattle.lsm_table.specs.Table.{DataBlock, IsTable, concat}
 use Rattle.lsm_table.specs.TableReading.{block_or, are_placed, data_block_at, data_at, table_at}
-use Rattle.lsm_table.specs.HeldTable.{HeldTable, Names, BlockAt, entries_in}
+use Rattle.lsm_table.specs.HeldTable.{HeldTable, Names, BlockAt}
 use Rattle.lsm_table.specs.OpenTable.{opening_at, IsOpened, Opens, block_named}
-use Rattle.lsm_table.proofs.ReadingLaws.{bind_ok, guard_ok, ok_is, block_ok}
+use Rattle.lsm_table.proofs.ReadingLaws.{guard_ok, ok_is}
 use Rattle.lsm_table.proofs.HandleLaws.{handle_again}
-use Rattle.lsm_table.proofs.StoredBlockLaws.{contents_takes, contents_again}
-use Rattle.lsm_table.proofs.FooterLaws.{footer_again, ends}
-use Rattle.lsm_table.proofs.DataLaws.{held_fits}
-use Rattle.lsm_table.proofs.TableLaws.{table_again}
-use Rattle.lsm_table.proofs.HeldTableLaws.{Bodied, bodied, table_block, table_names}
-use Rattle.lsm_table.proofs.JudgeLaws.{well}
+use Rattle.lsm_table.proofs.StoredBlockLaws.{contents_again}
+use Rattle.lsm_table.proofs.FooterLaws.{footer_again}
+use Rattle.lsm_table.proofs.HeldTableLaws.{bodied, table_block, table_names}
 
 abbrev pub entries_read : List Entry → Result (List Entry) TableFault
 entries_read es = Ok es

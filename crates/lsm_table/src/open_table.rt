@@ -75,6 +75,7 @@ impl OpenTable {
         }
         Ok(None)
     }
+
     /// Judges all data blocks, and hands the table over to a reader, before the first entry. What is wrong is named by the
     /// first fault in the order of `Table::check`.
     pub fn into_entries(self, alloc: Global) -> Result<TableEntries, TableFault>
