@@ -1,27 +1,22 @@
 -- What the builder makes of entries is a table of them.
-use Rattle.std.proofs.Common.{◌≡◌, ℕ, ◌+◌, ◌-◌, ◌^◌, ◌<◌, ◌≤◌, Bool, true, false, List, [], ◌∷◌, ◌++◌, length, Option, Some, None, refl, sym, ap, ◌∙◌, subst, append_assoc, arith, Less}
-use Rattle.std.specs.List.{flat_map, AllByRecursion}
-use Rattle.std.specs.Option.{option_map}
-use Rattle.std.specs.Ordering.{is_le}
+use Rattle.std.proofs.Common.{◌≡◌, ℕ, ◌+◌, ◌^◌, ◌<◌, Bool, true, false, List, [], ◌∷◌, ◌++◌, length, Option, Some, None, refl, sym, ap, ◌∙◌, subst, append_assoc, arith, Less}
+use Rattle.std.specs.List.{AllByRecursion}
 use Rattle.std.proofs.lemmas.List.{length-append, append-nil}
 use Rattle.lsm_codec.specs.Keys.{InternalKey, key_cmp}
-use Rattle.lsm_codec.specs.Entries.{Entry, internal_key, entry_cmp}
-use Rattle.lsm_block.specs.Block.{IsBlock, Ascends, entry_of}
+use Rattle.lsm_codec.specs.Entries.{Entry, internal_key}
+use Rattle.lsm_block.specs.Block.{IsBlock, Ascends}
 use Rattle.lsm_block.specs.Building.{block_bytes}
 use Rattle.lsm_table.specs.declared.table_options.TableOptions.{TableOptions}
-use Rattle.lsm_table.specs.declared.handle.Handle.{Handle}
 use Rattle.lsm_table.specs.declared.footer.Footer.{Footer}
-use Rattle.lsm_table.specs.Handle.{handle_text}
 use Rattle.lsm_table.specs.Footer.{footer_text}
-use Rattle.lsm_table.specs.StoredBlock.{trailer, stored, Holds}
+use Rattle.lsm_table.specs.StoredBlock.{trailer, stored}
 use Rattle.lsm_table.specs.Table.{DataBlock, DataBlocks, IsAfter, IsTable, last_of, concat}
 use Rattle.lsm_table.specs.TableMaking.{AreFilled, AreBlocks, closed_when}
-use Rattle.lsm_table.specs.TableBuilding.{Grouped, closed_first, is_full, close_if, grouped, last_group, groups_of, data_text, place, index_entry, index_of, file_of, index_block, file_of_groups, groups_by, table_bytes}
-use Rattle.lsm_table.proofs.HandleLaws.{FitsHandle, handle_is}
+use Rattle.lsm_table.specs.TableBuilding.{Grouped, closed_first, is_full, close_if, grouped, last_group, data_text, place, index_entry, index_of, index_block, file_of_groups}
+use Rattle.lsm_table.proofs.HandleLaws.{handle_is}
 use Rattle.lsm_table.proofs.StoredBlockLaws.{length-stored}
 use Rattle.lsm_table.proofs.FooterLaws.{footer_written}
 use Rattle.lsm_table.proofs.KeyOrder.{key_cmp_total, self_le}
-use Rattle.lsm_table.proofs.SearchLaws.{AllAfter, after_trans, less_le, ascends_after, ascends_tail}
 
 -- ---- groups that may stand as data blocks one after another
 

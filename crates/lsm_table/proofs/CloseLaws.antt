@@ -1,12 +1,10 @@
 -- The open block by its last key.
-use Rattle.std.proofs.Common.{◌≡◌, ℕ, ◌^◌, ◌<◌, List, [], ◌∷◌, ◌++◌, length, Option, Some, None, refl, sym, ap, ◌∙◌, subst, arith}
-use Rattle.std.proofs.lemmas.List.{append-nil}
+use Rattle.std.proofs.Common.{◌≡◌, ℕ, List, [], ◌∷◌, ◌++◌, length, Option, Some, None, refl, sym, ap, ◌∙◌, arith}
 use Rattle.lsm_codec.specs.Keys.{InternalKey}
 use Rattle.lsm_codec.specs.Entries.{Entry, internal_key}
 use Rattle.lsm_block.specs.Block.{IsBlock, entry_of}
 use Rattle.lsm_block.specs.Building.{block_bytes, last_key, Building}
 use Rattle.lsm_block.proofs.BuildLaws.{block_built}
-use Rattle.lsm_table.specs.declared.handle.Handle.{Handle}
 use Rattle.lsm_table.specs.Handle.{handle_text}
 use Rattle.lsm_table.specs.StoredBlock.{stored}
 use Rattle.lsm_table.specs.Table.{last_of}

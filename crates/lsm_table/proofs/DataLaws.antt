@@ -1,5 +1,5 @@
 -- What is read as data blocks is one after the other, and the other way round.
-use Rattle.std.proofs.Common.{◌≡◌, ℕ, ◌+◌, Bool, true, false, eqb, List, [], ◌∷◌, ◌++◌, length, Option, Some, None, Result, Ok, refl, sym, ap, ◌∙◌, subst, arith}
+use Rattle.std.proofs.Common.{◌≡◌, ℕ, ◌+◌, true, eqb, List, [], ◌∷◌, ◌++◌, length, Option, Some, None, Ok, refl, sym, ap, ◌∙◌, subst, arith}
 use Rattle.std.specs.List.{AllByRecursion}
 use Rattle.std.specs.Ordering.{is_lt, is_le}
 use Rattle.std.specs.declared.cmp.Ordering.{Ordering}
@@ -13,10 +13,9 @@ use Rattle.lsm_block.specs.Block.{IsBlock, Spells, key_text}
 use Rattle.lsm_block.specs.Reading.{block_at}
 use Rattle.lsm_block.proofs.EntryLaws.{IsBytes-after, IsBytes-front}
 use Rattle.lsm_block.proofs.BlockLaws.{block_takes, block_again}
-use Rattle.lsm_table.specs.declared.table_fault.TableFault.{TableFault}
 use Rattle.lsm_table.specs.declared.table_fault.TableFault.TheVariants.{BadIndex}
 use Rattle.lsm_table.specs.declared.handle.Handle.{Handle}
-use Rattle.lsm_table.specs.Reading.{◌>>=◌, guarded}
+use Rattle.lsm_table.specs.Reading.{guarded}
 use Rattle.lsm_table.specs.Handle.{IsHandle, handle_at}
 use Rattle.lsm_table.specs.StoredBlock.{Holds, contents_at}
 use Rattle.lsm_table.specs.Table.{DataBlock, DataBlocks, IsAfter, last_of}

@@ -1,8 +1,8 @@
 -- The last of ascending entries, by a search.
-use Rattle.std.proofs.Common.{◌≡◌, ◌⊎◌, ℕ, Bool, true, false, List, [], ◌∷◌, Option, Some, None, refl, sym, ap, ◌∙◌, subst, inl, inr, Ordering, Less, Equal, Greater}
+use Rattle.std.proofs.Common.{◌≡◌, ℕ, Bool, true, false, List, [], ◌∷◌, Option, Some, None, refl, sym, ap, ◌∙◌, subst, inl, inr, Ordering, Less, Equal, Greater}
 use Rattle.std.specs.Ordering.{is_lt, is_le, ordering_reverse}
 use Rattle.lsm_codec.specs.Keys.{InternalKey, key_cmp}
-use Rattle.lsm_codec.specs.Entries.{Entry, internal_key, entry_cmp}
+use Rattle.lsm_codec.specs.Entries.{Entry, internal_key}
 use Rattle.std.specs.Prelude.{◌&&◌}
 use Rattle.lsm_block.specs.Block.{Ascends, entry_of}
 use Rattle.lsm_block.specs.Held.{HeldBlock, Place, rest_of, Given}
@@ -10,7 +10,7 @@ use Rattle.lsm_block.specs.Seeking.{not_below}
 use Rattle.lsm_table.specs.Table.{last_of}
 use Rattle.lsm_table.specs.TableReading.{is_after, are_placed}
 use Rattle.lsm_table.specs.Judging.{comes_after, ends_at}
-use Rattle.lsm_table.proofs.KeyOrder.{key_cmp_total, le_less_trans, not_less, is_less}
+use Rattle.lsm_table.proofs.KeyOrder.{key_cmp_total, le_less_trans, not_less}
 use Rattle.lsm_table.proofs.SearchLaws.{below-step, below-stop, below-nothing, either_bool}
 
 le_if_less : (o : Ordering) → is_lt o ≡ true → is_le o ≡ true

@@ -1,5 +1,5 @@
 -- What is read as a footer is one, and what is one is read.
-use Rattle.std.proofs.Common.{◌≡◌, ℕ, ◌+◌, ◌-◌, ◌<◌, ◌≤◌, true, leb, List, ◌++◌, length, take, drop, replicate, Result, Ok, refl, sym, ap, ◌∙◌, subst, append_assoc, arith}
+use Rattle.std.proofs.Common.{◌≡◌, ℕ, ◌+◌, ◌-◌, ◌≤◌, true, leb, List, ◌++◌, length, take, drop, replicate, Ok, refl, sym, ap, ◌∙◌, subst, append_assoc, arith}
 use Rattle.std.specs.Str.{bytes_eq}
 use Rattle.std.proofs.lemmas.Bool.{le-leb, leb-true}
 use Rattle.std.proofs.lemmas.List.{take_at, drop_at, take-append-drop, length-append, length-drop, length-take-le, length-replicate, take_all}
@@ -8,9 +8,8 @@ use Rattle.lsm_block.proofs.EntryLaws.{IsBytes-after, IsBytes-take, IsBytes-drop
 use Rattle.lsm_table.specs.declared.table_fault.TableFault.TheVariants.{ShortFile, BadMagic, BadHandle}
 use Rattle.lsm_table.specs.declared.handle.Handle.{Handle}
 use Rattle.lsm_table.specs.declared.footer.Footer.{Footer}
-use Rattle.lsm_table.specs.Reading.{◌>>=◌, guarded}
 use Rattle.lsm_table.specs.Handle.{handle_at, handle_text}
-use Rattle.lsm_table.specs.Footer.{magic, IsFooter, places_at, footer_of, body_of, footer_at, padded, footer_text}
+use Rattle.lsm_table.specs.Footer.{magic, IsFooter, places_at, footer_of, body_of, footer_at, footer_text}
 use Rattle.lsm_table.proofs.ByteLists.{same_bytes, bytes_same}
 use Rattle.lsm_table.proofs.ReadingLaws.{bind_ok, guard_ok, ok_is}
 use Rattle.lsm_table.proofs.HandleLaws.{handle_takes, handle_again, FitsHandle, handle_is, handle_short}

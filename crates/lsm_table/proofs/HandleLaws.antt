@@ -1,12 +1,12 @@
 -- What is read as a place is spelled so, and what is spelled so is read.
-use Rattle.std.proofs.Common.{◌≡◌, ℕ, ◌+◌, ◌-◌, ◌^◌, ◌<◌, ◌≤◌, List, ◌++◌, length, Result, Ok, refl, sym, ap, ◌∙◌, subst, append_assoc, arith}
+use Rattle.std.proofs.Common.{◌≡◌, ℕ, ◌-◌, ◌^◌, ◌<◌, ◌≤◌, List, ◌++◌, length, Ok, refl, sym, ap, ◌∙◌, subst, append_assoc, arith}
 use Rattle.std.proofs.lemmas.List.{length-append}
 use Rattle.lsm_codec.specs.Varint.{varint64, varint64_at}
 use Rattle.lsm_codec.proofs.Varints.{varint_takes, varint_again, is_shortest, IsBytes}
 use Rattle.lsm_block.proofs.EntryLaws.{IsBytes-after}
 use Rattle.lsm_table.specs.declared.table_fault.TableFault.{TableFault}
 use Rattle.lsm_table.specs.declared.handle.Handle.{Handle}
-use Rattle.lsm_table.specs.Reading.{◌>>=◌, number_or}
+use Rattle.lsm_table.specs.Reading.{number_or}
 use Rattle.lsm_table.specs.Handle.{IsHandle, handle_text, handle_at}
 use Rattle.lsm_table.proofs.ReadingLaws.{bind_ok, number_ok, ok_is}
 

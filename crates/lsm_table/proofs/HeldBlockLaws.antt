@@ -1,7 +1,7 @@
 -- The blocks of a checked table, as they are lent.
-use Rattle.std.proofs.Common.{◌≡◌, ℕ, ◌-◌, ◌^◌, ◌<◌, ◌≤◌, List, [], ◌∷◌, ◌++◌, length, take, drop, Result, Ok, refl, sym, ap, ◌∙◌, subst, arith}
+use Rattle.std.proofs.Common.{◌≡◌, ℕ, ◌-◌, ◌^◌, ◌≤◌, List, [], ◌∷◌, length, take, drop, Result, Ok, refl, sym, ap, ◌∙◌, subst, arith}
 use Rattle.lsm_codec.specs.declared.fault.CodecFault.{CodecFault}
-use Rattle.lsm_codec.specs.Varint.{IsVarint64, varint64_at}
+use Rattle.lsm_codec.specs.Varint.{varint64_at}
 use Rattle.lsm_codec.proofs.Varints.{done_is, varint_again}
 use Rattle.std.proofs.lemmas.List.{append-nil}
 use Rattle.lsm_codec.specs.Entries.{Entry}

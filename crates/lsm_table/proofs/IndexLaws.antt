@@ -1,13 +1,13 @@
 -- A search by the index finds what a search of all entries finds.
-use Rattle.std.proofs.Common.{◌≡◌, ℕ, ◌^◌, ◌<◌, ◌⊎◌, Bool, true, false, List, [], ◌∷◌, ◌++◌, Option, Some, None, refl, sym, ap, ◌∙◌, subst, inl, inr, Less}
-use Rattle.std.specs.List.{flat_map, AllByRecursion}
+use Rattle.std.proofs.Common.{◌≡◌, ℕ, ◌^◌, ◌<◌, Bool, true, false, List, [], ◌∷◌, ◌++◌, Option, Some, refl, sym, ap, ◌∙◌, inl, inr, Less}
+use Rattle.std.specs.List.{AllByRecursion}
 use Rattle.std.specs.Ordering.{is_lt, is_le}
 use Rattle.lsm_codec.specs.Keys.{InternalKey, key_cmp}
 use Rattle.lsm_codec.specs.Entries.{Entry, internal_key, entry_cmp}
-use Rattle.lsm_block.specs.Block.{IsBlock, Spells, Ascends, key_text}
-use Rattle.lsm_block.specs.Seeking.{not_below, drop_if}
-use Rattle.lsm_table.specs.Table.{DataBlock, DataBlocks, IsAfter, last_of, concat}
-use Rattle.lsm_table.proofs.KeyOrder.{key_cmp_total, le_less_trans, not_less, less_not, is_less, self_le}
+use Rattle.lsm_block.specs.Block.{Spells, Ascends, key_text}
+use Rattle.lsm_block.specs.Seeking.{not_below}
+use Rattle.lsm_table.specs.Table.{DataBlock, DataBlocks, last_of, concat}
+use Rattle.lsm_table.proofs.KeyOrder.{key_cmp_total, le_less_trans, not_less, is_less, self_le}
 use Rattle.lsm_table.proofs.SearchLaws.{below-step, below-stop, below-nothing, either_bool, AllAfter, after_trans, less_le, ascends_after, ascends_tail, after_stays, SeqsFit}
 
 abbrev pub go_if : Bool → List Entry → List Entry → List Entry

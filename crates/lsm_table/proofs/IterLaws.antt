@@ -1,5 +1,5 @@
 -- Going on into the next data block.
-use Rattle.std.proofs.Common.{◌≡◌, ℕ, List, [], ◌∷◌, ◌++◌, Option, Some, None, Result, Ok, Err, refl, sym, ap, ◌∙◌, subst, append_assoc}
+use Rattle.std.proofs.Common.{◌≡◌, ℕ, List, [], ◌∷◌, ◌++◌, Option, Some, None, Result, Ok, Err, sym, ap, ◌∙◌, subst}
 use Rattle.std.specs.Prelude.{OnErr}
 use Rattle.std.specs.List.{flat_map}
 use Rattle.lsm_codec.specs.Keys.{InternalKey}
@@ -8,7 +8,7 @@ use Rattle.lsm_block.specs.Block.{entry_of}
 use Rattle.lsm_block.specs.Held.{HeldBlock, Place, rest_of, Given}
 use Rattle.lsm_table.specs.Table.{DataBlock}
 use Rattle.lsm_table.specs.HeldTable.{entries_named, left_of, Names, AreNamed, Walk, Steps}
-use Rattle.lsm_table.proofs.HeldTableLaws.{Parted, names_part, named}
+use Rattle.lsm_table.proofs.HeldTableLaws.{names_part, named}
 use Rattle.lsm_table.proofs.JudgeLaws.{lent, nothing_lent}
 
 pub on_err_any : {A E : Type 0} (r : Result A E) (P : Type 0) → P → OnErr r P

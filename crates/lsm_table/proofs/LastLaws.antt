@@ -1,5 +1,5 @@
 -- The last entry of a table that is being built stands in the open data block, or else the index has its key.
-use Rattle.std.proofs.Common.{◌≡◌, ℕ, ◌+◌, List, [], ◌∷◌, ◌++◌, length, Option, Some, None, refl, sym, ap, ◌∙◌}
+use Rattle.std.proofs.Common.{◌≡◌, ℕ, ◌+◌, List, [], ◌∷◌, ◌++◌, length, Some, None, refl, sym, ap, ◌∙◌}
 use Rattle.std.proofs.lemmas.List.{append-nil}
 use Rattle.lsm_codec.specs.Keys.{InternalKey}
 use Rattle.lsm_codec.specs.Entries.{Entry, internal_key}
@@ -7,7 +7,7 @@ use Rattle.lsm_block.specs.Building.{Building, block_bytes, last_key}
 use Rattle.lsm_table.specs.declared.table_options.TableOptions.{TableOptions}
 use Rattle.lsm_table.specs.StoredBlock.{stored}
 use Rattle.lsm_table.specs.Table.{last_of, concat}
-use Rattle.lsm_table.specs.TableBuilding.{index_entry, index_of, place}
+use Rattle.lsm_table.specs.TableBuilding.{index_of}
 use Rattle.lsm_table.specs.TableMaking.{AreFilled, Made}
 use Rattle.lsm_table.proofs.MakingLaws.{made_parts}
 

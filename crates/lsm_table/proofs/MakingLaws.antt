@@ -1,10 +1,8 @@
 -- What a builder keeps: one more block, one more entry, the end.
-use Rattle.std.proofs.Common.{◌≡◌, ℕ, ◌+◌, ◌-◌, ◌^◌, ◌<◌, ◌≤◌, ◌⊎◌, Bool, true, false, leb, List, [], ◌∷◌, ◌++◌, length, Option, Some, None, Ok, refl, sym, ap, ◌∙◌, subst, append_assoc, arith}
-use Rattle.std.specs.Prelude.{nat_le}
-use Rattle.std.specs.List.{flat_map, AllByRecursion}
-use Rattle.std.proofs.lemmas.Bool.{lt-leb, leb-true}
+use Rattle.std.proofs.Common.{◌≡◌, ℕ, ◌+◌, ◌^◌, ◌<◌, Bool, true, false, List, [], ◌∷◌, ◌++◌, length, None, Ok, refl, sym, ap, ◌∙◌, subst, append_assoc, arith}
+use Rattle.std.proofs.lemmas.Bool.{lt-leb}
 use Rattle.std.proofs.lemmas.List.{length-append, append-nil}
-use Rattle.lsm_codec.specs.Entries.{Entry, internal_key}
+use Rattle.lsm_codec.specs.Entries.{Entry}
 use Rattle.lsm_block.specs.Block.{IsBlock, Ascends}
 use Rattle.lsm_block.specs.Building.{block_bytes, entries_text, later_restarts, Building}
 use Rattle.lsm_table.specs.declared.table_options.TableOptions.{TableOptions}
@@ -13,7 +11,7 @@ use Rattle.lsm_table.specs.StoredBlock.{stored}
 use Rattle.lsm_table.specs.Table.{DataBlocks, IsTable, last_of, concat}
 use Rattle.lsm_table.specs.TableReading.{data_at}
 use Rattle.lsm_table.specs.TableBuilding.{Grouped, is_full, grouped, last_group, groups_of, data_text, place, index_entry, index_of, index_block, file_of_groups, groups_by, table_bytes, written_bytes}
-use Rattle.lsm_table.specs.TableMaking.{Making, groups_or_none, entries_made, AreFilled, AreBlocks, closed_when, Made}
+use Rattle.lsm_table.specs.TableMaking.{entries_made, AreFilled, AreBlocks, closed_when, Made}
 use Rattle.lsm_table.proofs.StoredBlockLaws.{length-stored}
 use Rattle.lsm_table.proofs.DataLaws.{data_again}
 use Rattle.lsm_table.proofs.BuildingLaws.{Good, stand, any-first, good_groups, ascends_rest, AllAscend, index_ascends, grouped-nil, grouped-push, concat-append, concat-last, one_more, entries_of, grouped-entries, when-entries, file_built}

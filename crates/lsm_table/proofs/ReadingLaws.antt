@@ -1,5 +1,5 @@
 -- Steps of a reader.
-use Rattle.std.proofs.Common.{◌≡◌, ℕ, Bool, true, false, List, Result, Ok, Err, refl, sym, ap, ◌∙◌}
+use Rattle.std.proofs.Common.{◌≡◌, ℕ, Bool, true, false, List, Result, Ok, Err, refl, ap}
 use Rattle.lsm_codec.specs.declared.fault.CodecFault.{CodecFault}
 use Rattle.lsm_codec.specs.Entries.{Entry}
 use Rattle.lsm_block.specs.declared.fault.BlockFault.{BlockFault}

@@ -1,14 +1,14 @@
 -- What the builder's steps leave.
-use Rattle.std.proofs.Common.{◌≡◌, ℕ, ◌+◌, ◌^◌, ◌<◌, ◌≤◌, Bool, true, false, List, [], ◌∷◌, ◌++◌, length, refl, sym, ap, ◌∙◌, subst, arith}
+use Rattle.std.proofs.Common.{◌≡◌, ℕ, ◌^◌, ◌<◌, ◌≤◌, true, false, List, [], ◌++◌, length, sym, ap, ◌∙◌, subst, arith}
 use Rattle.std.proofs.lemmas.Bool.{le-leb, lt-leb}
 use Rattle.lsm_codec.specs.Entries.{Entry}
 use Rattle.lsm_block.specs.Block.{IsBlock, Ascends}
 use Rattle.lsm_block.specs.Building.{block_bytes, Building}
 use Rattle.lsm_table.specs.declared.table_options.TableOptions.{TableOptions}
 use Rattle.lsm_table.specs.Options.{AreInRange}
-use Rattle.lsm_table.specs.TableBuilding.{is_full, last_group, data_text, index_of, index_block, written_bytes}
+use Rattle.lsm_table.specs.TableBuilding.{is_full, last_group, data_text, index_of, index_block}
 use Rattle.lsm_table.specs.TableMaking.{Making, entries_made, Made}
-use Rattle.lsm_table.proofs.MakingLaws.{building, made_none, made_entries, made_index, made_index_ascends, made_closed, written_full, written_open}
+use Rattle.lsm_table.proofs.MakingLaws.{building, made_none, made_entries, made_index, made_index_ascends, made_closed}
 
 abbrev pub making : TableOptions → List Entry → Making
 making options entries = record { options = options; entries = entries }

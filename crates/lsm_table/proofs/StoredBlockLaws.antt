@@ -1,14 +1,11 @@
 -- What is read as a stored block stands there, and what stands there is read.
-use Rattle.std.proofs.Common.{◌≡◌, ℕ, ◌+◌, ◌-◌, ◌<◌, ◌≤◌, true, leb, eqb, List, [], ◌∷◌, ◌++◌, length, get_or, take, drop, Result, Ok, refl, sym, ap, ◌∙◌, subst, append_assoc, arith, add-one}
+use Rattle.std.proofs.Common.{◌≡◌, ℕ, ◌+◌, ◌<◌, ◌≤◌, true, leb, eqb, List, [], ◌∷◌, ◌++◌, length, get_or, take, drop, Ok, refl, sym, ap, ◌∙◌, subst, append_assoc, arith, add-one}
 use Rattle.std.specs.Str.{bytes_eq}
-use Rattle.std.specs.Int.{w32, to_le_bytes}
 use Rattle.std.proofs.Math.Seq.{drop-cons}
 use Rattle.std.proofs.lemmas.Bool.{le-leb, leb-true, eqb-true}
 use Rattle.std.proofs.lemmas.List.{take_at, drop_at, take-append-drop, length-append, length-drop, length-take-le}
-use Rattle.lsm_table.specs.declared.table_fault.TableFault.{TableFault}
 use Rattle.lsm_table.specs.declared.table_fault.TableFault.TheVariants.{BadHandle, BadChecksum}
 use Rattle.lsm_table.specs.declared.handle.Handle.{Handle}
-use Rattle.lsm_table.specs.Reading.{guarded}
 use Rattle.lsm_table.specs.StoredBlock.{seal, trailer, stored, Holds, kind_fault, unsealed, contents_at}
 use Rattle.lsm_table.proofs.ByteLists.{same_bytes, bytes_same}
 use Rattle.lsm_table.proofs.ReadingLaws.{guard_ok, ok_is}

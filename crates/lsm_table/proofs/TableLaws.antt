@@ -1,5 +1,5 @@
 -- What is read as a table is one, and what is one is read.
-use Rattle.std.proofs.Common.{◌≡◌, ℕ, ◌-◌, List, ◌++◌, length, None, Ok, refl, sym, ap, ◌∙◌}
+use Rattle.std.proofs.Common.{◌≡◌, ℕ, ◌-◌, List, length, None, Ok, sym, ap, ◌∙◌}
 use Rattle.lsm_codec.specs.Entries.{Entry}
 use Rattle.lsm_codec.proofs.Varints.{IsBytes}
 use Rattle.lsm_block.specs.Reading.{block_at}

@@ -1,11 +1,10 @@
-use Rattle.std.proofs.Common.{◌≡◌, ◌++◌, ◌∷◌, ◌^◌, ◌≤◌, [], List, ℕ, length, Err, refl, sym, ap, ◌∙◌, subst, arith}
+use Rattle.std.proofs.Common.{◌++◌, ◌^◌, ◌≤◌, [], List, ℕ, length, sym, ap, ◌∙◌, subst, arith}
 use Rattle.std.proofs.lemmas.List.{append-nil}
 use Rattle.lsm_codec.specs.KeyRef.{key_of}
 use Rattle.lsm_codec.specs.Entries.{Entry}
-use Rattle.lsm_block.specs.Block.{Ascends, entry_of}
-use Rattle.lsm_block.specs.Building.{block_bytes, Building}
+use Rattle.lsm_block.specs.Block.{Ascends}
+use Rattle.lsm_block.specs.Building.{block_bytes}
 use Rattle.lsm_table.specs.Handle.{handle_text}
-use Rattle.lsm_table.specs.TableBuilding.{place}
 use Rattle.lsm_table.proofs.MakingLaws.{building}
 use Rattle.lsm_table.proofs.CloseLaws.{one_group, no_group, same_building, added_index}
 use Rattle.lsm_table.proofs.builder.close.Goals as goal

@@ -1,4 +1,4 @@
-use Rattle.std.proofs.Common.{◌≡◌, Err, ap, ◌∙◌, arith}
+use Rattle.std.proofs.Common.{ap, ◌∙◌, arith}
 use Rattle.lsm_block.specs.Building.{Building}
 use Rattle.lsm_table.specs.TableBuilding.{is_full}
 use Rattle.lsm_table.proofs.MakingLaws.{none_full}

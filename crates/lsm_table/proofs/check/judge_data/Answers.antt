@@ -1,4 +1,4 @@
-use Rattle.std.proofs.Common.{◌≡◌, Some, None, refl, sym, ap, ◌∙◌}
+use Rattle.std.proofs.Common.{◌≡◌, Some, None, refl, ap}
 use Rattle.std.specs.Option.{option_map}
 use Rattle.lsm_codec.specs.KeyRef.{key_of}
 use Rattle.lsm_block.specs.Held.{Place}

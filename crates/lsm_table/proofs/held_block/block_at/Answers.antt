@@ -1,4 +1,4 @@
-use Rattle.std.proofs.Common.{◌≡◌, ℕ, List, sym, ap, ◌∙◌, take, drop, subst}
+use Rattle.std.proofs.Common.{ℕ, List, sym, ap, ◌∙◌, take, subst}
 use Rattle.lsm_block.specs.Block.{IsBlock}
 use Rattle.lsm_block.specs.Held.{held}
 use Rattle.lsm_table.proofs.HeldBlockLaws.{is_there, held_there}

@@ -1,4 +1,4 @@
-use Rattle.std.proofs.Common.{◌≡◌, ◌^◌, ◌≤◌, List, ℕ, length, ◌∙◌, subst, arith}
+use Rattle.std.proofs.Common.{◌≡◌, ◌^◌, ◌≤◌, length, subst, arith}
 use Rattle.lsm_table.specs.Table.{IsTable}
 use Rattle.lsm_table.specs.TableBuilding.{index_block, groups_by, table_bytes}
 use Rattle.lsm_table.specs.TableMaking.{Making, entries_made}

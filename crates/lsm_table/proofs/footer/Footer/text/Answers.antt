@@ -1,6 +1,6 @@
 use Rattle.std.proofs.Common.{◌≡◌, ◌++◌, ◌-◌, List, ℕ, length, take, replicate, refl, ap, ◌∙◌, arith}
 use Rattle.lsm_table.specs.Handle.{handle_text}
-use Rattle.lsm_table.specs.Footer.{magic, footer_text}
+use Rattle.lsm_table.specs.Footer.{magic}
 use Rattle.lsm_table.proofs.FooterLaws.{places_fit}
 use Rattle.lsm_table.proofs.footer.Footer.text.Goals as goal
 

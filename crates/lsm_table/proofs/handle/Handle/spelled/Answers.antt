@@ -1,6 +1,5 @@
-use Rattle.std.proofs.Common.{◌≡◌, refl, sym, ap, ◌∙◌}
+use Rattle.std.proofs.Common.{sym, ap, ◌∙◌}
 use Rattle.lsm_codec.specs.Varint.{varint64_at}
-use Rattle.lsm_table.specs.declared.handle.Handle.{Handle}
 use Rattle.lsm_table.proofs.HeldBlockLaws.{offset_read, size_read, first_is, second_is, same_handle}
 use Rattle.lsm_table.proofs.handle.Handle.spelled.Goals as goal
 
