@@ -9,7 +9,7 @@ shared=$(mktemp -d -p /dev/shm)
 trap 'rm -rf "$scratch" "$shared"' EXIT
 
 bench="$scratch/crates/bench_version"
-mkdir -p "$bench/src" "$bench/proofs/main"
+mkdir -p "$bench/src" "$bench/proofs/main" "$bench/proofs/measured"
 for crate in lsm_codec lsm_block lsm_table lsm_manifest lsm_version; do
     cp -a "$top/crates/$crate" "$scratch/crates/$crate"
     rm -rf "$scratch/crates/$crate/must-fail"
@@ -24,6 +24,14 @@ use Rattle.bench_version.proofs.main.Given as goal
 -- the registry and the contents that were just made
 abbrev pub ghosts-measured : goal.ghosts-measured
 ghosts-measured g a = record { registry = arc_value a.registry; place = (arc_value a.shelf.contents).images }
+END
+cat > "$bench/proofs/measured/Invariants.antt" <<'END'
+use Rattle.std.proofs.Common.{◌≡◌}
+use Rattle.bench_version.proofs.measured.Given as goal
+
+-- the shelf's contents are those of the name
+abbrev pub invariant-loop-i : goal.invariant-loop-i
+invariant-loop-i g l = (g.S.Shelf.told l.shelf).place ≡ g.N.Naming.place
 END
 echo 'bench_version: lsm_version lsm_table lsm_block lsm_manifest lsm_codec boxcar' >> "$scratch/crates.txt"
 (cd "$bench" && rt run > "$scratch/first" 2> "$scratch/log") || { cat "$scratch/log" >&2; exit 1; }
