@@ -1,8 +1,12 @@
--- The published numbers of a builder's refusals.
-use Rattle.std.specs.Prelude.{ℕ}
+-- The published numbers and names of a builder's refusals.
+use Rattle.std.specs.Prelude.{ℕ, List, codes}
 use Rattle.lsm_block.specs.declared.build_fault.BuildFault.{BuildFault}
 use Rattle.lsm_block.specs.declared.build_fault.BuildFault.TheVariants.{OutOfMemory, TooLarge}
 
 abbrev pub number_of : BuildFault → ℕ
 number_of OutOfMemory = 1
 number_of TooLarge = 39
+
+abbrev pub name_of : BuildFault → List ℕ
+name_of OutOfMemory = codes "OutOfMemory"
+name_of TooLarge = codes "TooLarge"

@@ -1,5 +1,5 @@
--- The published numbers of refusals.
-use Rattle.std.specs.Prelude.{ℕ}
+-- The published numbers and names of refusals.
+use Rattle.std.specs.Prelude.{ℕ, List, codes}
 use Rattle.lsm_block.specs.declared.fault.BlockFault.{BlockFault}
 use Rattle.lsm_block.specs.declared.fault.BlockFault.TheVariants.{OutOfMemory, BadRestarts, BadEntry, OutOfOrder}
 
@@ -8,3 +8,9 @@ number_of OutOfMemory = 1
 number_of BadRestarts = 6
 number_of (BadEntry offset) = 7
 number_of (OutOfOrder offset) = 8
+
+abbrev pub name_of : BlockFault → List ℕ
+name_of OutOfMemory = codes "OutOfMemory"
+name_of BadRestarts = codes "BadRestarts"
+name_of (BadEntry offset) = codes "BadEntry"
+name_of (OutOfOrder offset) = codes "OutOfOrder"

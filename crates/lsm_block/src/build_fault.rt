@@ -18,7 +18,7 @@ pub enum BuildFault {
 }
 
 impl BuildFault {
-    ghost use Rattle.lsm_block.specs.BuildFault.{number_of};
+    ghost use Rattle.lsm_block.specs.BuildFault.{number_of, name_of};
 
     /// The published number of the refusal.
     pub fn number(&self) -> u8
@@ -27,6 +27,16 @@ impl BuildFault {
         match self {
             BuildFault::OutOfMemory => 1,
             BuildFault::TooLarge => 39,
+        }
+    }
+
+    /// The published name of the refusal.
+    pub fn name(&self) -> &'static str
+        ensures { result.now ≡ name_of self.now }
+    {
+        match self {
+            BuildFault::OutOfMemory => "OutOfMemory",
+            BuildFault::TooLarge => "TooLarge",
         }
     }
 }

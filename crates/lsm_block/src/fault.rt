@@ -26,7 +26,7 @@ pub enum BlockFault {
 }
 
 impl BlockFault {
-    ghost use Rattle.lsm_block.specs.Fault.{number_of};
+    ghost use Rattle.lsm_block.specs.Fault.{number_of, name_of};
 
     /// The published number of the refusal.
     pub fn number(&self) -> u8
@@ -37,6 +37,18 @@ impl BlockFault {
             BlockFault::BadRestarts => 6,
             BlockFault::BadEntry(_) => 7,
             BlockFault::OutOfOrder(_) => 8,
+        }
+    }
+
+    /// The published name of the refusal. The offset is not in it; `Display` adds it.
+    pub fn name(&self) -> &'static str
+        ensures { result.now ≡ name_of self.now }
+    {
+        match self {
+            BlockFault::OutOfMemory => "OutOfMemory",
+            BlockFault::BadRestarts => "BadRestarts",
+            BlockFault::BadEntry(_) => "BadEntry",
+            BlockFault::OutOfOrder(_) => "OutOfOrder",
         }
     }
 }

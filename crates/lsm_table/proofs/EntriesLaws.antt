@@ -1,5 +1,5 @@
 -- Going through a table that is held, data block by data block.
-use Rattle.std.proofs.Common.{◌≡◌, ℕ, Bool, true, false, List, [], ◌∷◌, ◌++◌, Option, Some, None, Ok, refl, sym, ap, ◌∙◌, subst, inl, inr, Less}
+use Rattle.std.proofs.Common.{◌≡◌, ℕ, List, [], ◌∷◌, ◌++◌, Option, Some, None, Ok, refl, sym, ap, ◌∙◌, subst, inl, inr, Less}
 use Rattle.std.specs.List.{flat_map}
 use Rattle.std.specs.Ordering.{is_lt}
 use Rattle.lsm_codec.specs.Keys.{InternalKey, key_cmp}
@@ -11,12 +11,12 @@ use Rattle.lsm_block.specs.Seeking.{not_below}
 use Rattle.lsm_table.specs.declared.handle.Handle.{Handle}
 use Rattle.lsm_table.specs.Footer.{body_of}
 use Rattle.lsm_table.specs.Table.{DataBlock}
-use Rattle.lsm_table.specs.HeldTable.{HeldTable, Names, AreNamed, entries_in, entries_named, entries_or_none, left_of}
+use Rattle.lsm_table.specs.HeldTable.{HeldTable, Names, AreNamed, entries_in, entries_named, entries_or_none}
 use Rattle.lsm_table.specs.OpenTable.{opening_at}
-use Rattle.lsm_table.specs.TableEntries.{index_in, but_first, after, left_in, NextPlace, NextBlock}
+use Rattle.lsm_table.specs.TableEntries.{index_in, but_first, after, left_in, NextPlace}
 use Rattle.lsm_table.proofs.KeyOrder.{self_not}
 use Rattle.lsm_table.proofs.SearchLaws.{below-step, below-stop, below-nothing, either_bool, ascends_tail, ascends_after, after_at}
-use Rattle.lsm_table.proofs.HeldTableLaws.{Parted, names_part, names_all, named}
+use Rattle.lsm_table.proofs.HeldTableLaws.{names_part, names_all, named}
 use Rattle.lsm_table.proofs.OpenLaws.{opening_again, opened_names}
 use Rattle.lsm_table.proofs.GetLaws.{sought_first}
 

@@ -1,13 +1,12 @@
 -- A search of a table, data block by data block.
-use Rattle.std.proofs.Common.{◌≡◌, ℕ, ◌+◌, ◌-◌, ◌^◌, ◌<◌, ◌≤◌, ◌⊎◌, min, Bool, true, false, ltb, List, [], ◌∷◌, ◌++◌, length, Option, Some, None, Result, Ok, refl, sym, ap, ◌∙◌, subst, inl, inr, arith}
-use Rattle.std.specs.List.{flat_map, AllByRecursion}
-use Rattle.std.specs.Ordering.{is_lt, is_le}
+use Rattle.std.proofs.Common.{◌≡◌, ℕ, ◌+◌, ◌-◌, ◌^◌, ◌<◌, ◌≤◌, ◌⊎◌, min, ltb, List, [], ◌∷◌, ◌++◌, length, Option, Some, None, Result, Ok, refl, sym, ap, ◌∙◌, subst, inl, inr, arith}
+use Rattle.std.specs.Ordering.{is_lt}
 use Rattle.std.proofs.lemmas.Bool.{ltb-true, ltb-false}
 use Rattle.lsm_codec.specs.Keys.{UserKey, InternalKey, key_cmp}
-use Rattle.lsm_codec.specs.Entries.{Entry, internal_key, entry_cmp, newest}
+use Rattle.lsm_codec.specs.Entries.{Entry, internal_key, newest}
 use Rattle.lsm_block.specs.Block.{Ascends, entry_of}
 use Rattle.lsm_block.specs.Held.{HeldBlock, Place, rest_of, Given}
-use Rattle.lsm_block.specs.Seeking.{not_below, drop_if}
+use Rattle.lsm_block.specs.Seeking.{not_below}
 use Rattle.lsm_table.specs.declared.table_fault.TableFault.{TableFault}
 use Rattle.lsm_table.specs.declared.found.Found.{Found}
 use Rattle.lsm_table.specs.declared.search.Search.{Search}
@@ -19,7 +18,7 @@ use Rattle.lsm_table.specs.Searching.{read_key, of_user, Tells, Sought}
 use Rattle.lsm_table.proofs.KeyOrder.{is_less}
 use Rattle.lsm_table.proofs.SearchLaws.{below-step, below-stop, below-nothing, either_bool, ascends_tail, newest_at, newest_capped}
 use Rattle.lsm_table.proofs.IndexLaws.{up_to_last, block_ascends, all_less, all_below, data_ascends, data_seqs}
-use Rattle.lsm_table.proofs.HeldTableLaws.{Parted, names_part, names_none}
+use Rattle.lsm_table.proofs.HeldTableLaws.{names_part, names_none}
 use Rattle.lsm_table.proofs.JudgeLaws.{lent, nothing_lent}
 
 -- ---- what a search of one block tells

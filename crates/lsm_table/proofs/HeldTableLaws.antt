@@ -1,24 +1,23 @@
 -- What a checked table holds, and where.
-use Rattle.std.proofs.Common.{◌≡◌, ℕ, ◌+◌, ◌-◌, ◌<◌, ◌≤◌, Bool, true, false, List, [], ◌∷◌, ◌++◌, length, take, drop, Option, Some, None, Result, Ok, Err, refl, sym, ap, ◌∙◌, subst, append_assoc, arith}
+use Rattle.std.proofs.Common.{◌≡◌, ℕ, ◌≤◌, List, [], ◌∷◌, ◌++◌, length, take, drop, Option, Some, None, Ok, refl, sym, ap, ◌∙◌, subst, arith}
 use Rattle.std.specs.List.{flat_map}
-use Rattle.std.proofs.lemmas.List.{take_at, drop_at, length-append, length-drop, append-nil}
+use Rattle.std.proofs.lemmas.List.{take_at, drop_at, length-append, append-nil}
 use Rattle.lsm_codec.specs.Keys.{InternalKey}
-use Rattle.lsm_codec.specs.Entries.{Entry, internal_key, newest}
-use Rattle.lsm_block.specs.Block.{IsBlock, Ascends}
-use Rattle.lsm_block.specs.Reading.{block_at}
-use Rattle.lsm_block.specs.Held.{HeldBlock, held}
+use Rattle.lsm_codec.specs.Entries.{Entry, internal_key}
+use Rattle.lsm_block.specs.Block.{IsBlock}
+use Rattle.lsm_block.specs.Held.{held}
 use Rattle.lsm_block.proofs.BlockLaws.{block_again}
 use Rattle.lsm_block.proofs.HeldLaws.{held_is}
 use Rattle.lsm_table.specs.declared.table_fault.TableFault.TheVariants.{BadIndex}
 use Rattle.lsm_table.specs.declared.handle.Handle.{Handle}
-use Rattle.lsm_table.specs.Handle.{IsHandle, handle_at}
-use Rattle.lsm_table.specs.StoredBlock.{trailer, Holds, contents_at}
-use Rattle.lsm_table.specs.Footer.{body_of, footer_of}
+use Rattle.lsm_table.specs.Handle.{handle_at}
+use Rattle.lsm_table.specs.StoredBlock.{trailer, Holds}
+use Rattle.lsm_table.specs.Footer.{body_of}
 use Rattle.lsm_table.specs.Table.{DataBlock, DataBlocks, IsTable, concat}
 use Rattle.lsm_table.specs.TableReading.{table_at}
-use Rattle.lsm_table.specs.HeldTable.{entries_or_none, entries_in, HeldTable, entries_named, left_of, Names, BlockAt}
+use Rattle.lsm_table.specs.HeldTable.{entries_or_none, entries_in, HeldTable, entries_named, Names, BlockAt}
 use Rattle.lsm_table.proofs.HandleLaws.{handle_again}
-use Rattle.lsm_table.proofs.StoredBlockLaws.{length-trailer, contents_again}
+use Rattle.lsm_table.proofs.StoredBlockLaws.{contents_again}
 use Rattle.lsm_table.proofs.FooterLaws.{ends, length-footer}
 use Rattle.lsm_table.proofs.TableLaws.{table_again}
 use Rattle.lsm_table.proofs.SearchLaws.{ascends_tail}

@@ -1,10 +1,9 @@
 -- The order of internal keys is total.
-use Rattle.std.proofs.Common.{◌≡◌, true, false, refl, sym, ◌∙◌, ap, Ordering, Less, Equal, Greater}
+use Rattle.std.proofs.Common.{◌≡◌, true, false, refl, sym, ◌∙◌, Ordering, Less, Equal, Greater}
 use Rattle.std.specs.Cmp.{IsTotalOrder}
 use Rattle.std.specs.Ordering.{is_lt, is_le, ordering_reverse}
 use Rattle.std.proofs.lemmas.Cmp.{nat_list_cmp_total, nat_cmp_total, on_total, then_total, back_total}
 use Rattle.lsm_codec.specs.Keys.{InternalKey, packed, key_cmp}
-use Rattle.lsm_codec.specs.Entries.{Entry, internal_key, entry_cmp}
 
 pub key_cmp_total : IsTotalOrder key_cmp
 key_cmp_total = then_total (on_total (λ (k : InternalKey). k.user) nat_list_cmp_total) (back_total (on_total packed nat_cmp_total))

@@ -11,6 +11,11 @@ pub mod IndexLaws
 pub mod BuildingLaws
 pub mod MakingLaws
 pub mod HeldTableLaws
+pub mod Telling
+pub mod FoundLaws
+pub mod OpenLaws
+pub mod GetLaws
+pub mod EntriesLaws
 pub mod CloseLaws
 pub mod SettleLaws
 pub mod StepLaws
@@ -22,8 +27,4 @@ pub mod IterLaws
 pub mod Ascending
 pub mod Padding
 pub mod Honest
-pub mod Telling
-pub mod FoundLaws
-pub mod OpenLaws
-pub mod GetLaws
-pub mod EntriesLaws
+pub mod LastLaws

@@ -1,38 +1,32 @@
 -- What a table is whose footer and index block were judged.
-use Rattle.std.proofs.Common.{◌≡◌, ℕ, ◌-◌, ◌≤◌, Bool, true, false, leb, eqb, List, [], length, take, Option, None, Result, Ok, Err, refl, sym, ap, ◌∙◌, subst, arith}
-use Rattle.std.specs.Prelude.{IfErr}
+use Rattle.std.proofs.Common.{◌≡◌, ℕ, ◌≤◌, Bool, true, false, leb, eqb, List, [], length, Option, None, Result, Ok, Err, refl, sym, ap, ◌∙◌, subst}
+use Rattle.std.specs.Prelude.{IfOk, IfErr}
 use Rattle.std.proofs.lemmas.Bool.{leb-true}
 use Rattle.std.proofs.lemmas.List.{append-nil}
 use Rattle.lsm_codec.specs.Keys.{InternalKey}
 use Rattle.lsm_codec.specs.Entries.{Entry}
-use Rattle.lsm_codec.proofs.Varints.{IsBytes}
 use Rattle.lsm_block.specs.Reading.{block_at}
-use Rattle.lsm_block.specs.Held.{HeldBlock}
-use Rattle.lsm_block.proofs.EntryLaws.{IsBytes-take}
-use Rattle.lsm_block.proofs.BlockLaws.{block_takes, block_again}
+use Rattle.lsm_block.proofs.BlockLaws.{block_again}
 use Rattle.lsm_table.specs.declared.table_fault.TableFault.{TableFault}
 use Rattle.lsm_table.specs.declared.table_fault.TableFault.TheVariants.{OutOfMemory, BadRestarts, BadEntry, OutOfOrder, ShortFile, BadMagic, BadHandle, BadChecksum, Compressed, BadBlockType, BadIndex}
 use Rattle.lsm_table.specs.declared.read_fault.ReadFault.{ReadFault}
 use Rattle.lsm_table.specs.declared.read_fault.ReadFault.TheVariants.{Shelf, Table}
 use Rattle.lsm_table.specs.declared.handle.Handle.{Handle}
 use Rattle.lsm_table.specs.declared.footer.Footer.{Footer}
-use Rattle.lsm_table.specs.Reading.{◌>>=◌, guarded, settled, is_memory, FailsUnless, Fails}
+use Rattle.lsm_table.specs.Reading.{◌>>=◌, guarded, settled, is_memory, FailsUnless, Fails, Gives}
 use Rattle.lsm_table.specs.ReadFault.{IsMemory, IsMemoryOrShelf}
 use Rattle.lsm_table.specs.Handle.{handle_at}
 use Rattle.lsm_table.specs.StoredBlock.{Holds, contents_at}
 use Rattle.lsm_table.specs.Footer.{footer_at, body_of}
-use Rattle.lsm_table.specs.Table.{DataBlock, DataBlocks, IsTable, concat}
+use Rattle.lsm_table.specs.Table.{DataBlock, IsTable, concat}
 use Rattle.lsm_table.specs.TableReading.{block_or, are_placed, data_block_at, data_at, table_at}
-use Rattle.lsm_table.specs.HeldTable.{HeldTable, Names, BlockAt, entries_in}
+use Rattle.lsm_table.specs.HeldTable.{HeldTable, Names, BlockAt}
 use Rattle.lsm_table.specs.OpenTable.{opening_at, IsOpened, Opens, block_named}
-use Rattle.lsm_table.proofs.ReadingLaws.{bind_ok, guard_ok, ok_is, block_ok}
+use Rattle.lsm_table.proofs.ReadingLaws.{guard_ok, ok_is}
 use Rattle.lsm_table.proofs.HandleLaws.{handle_again}
-use Rattle.lsm_table.proofs.StoredBlockLaws.{contents_takes, contents_again}
-use Rattle.lsm_table.proofs.FooterLaws.{footer_again, ends}
-use Rattle.lsm_table.proofs.DataLaws.{held_fits}
-use Rattle.lsm_table.proofs.TableLaws.{table_again}
-use Rattle.lsm_table.proofs.HeldTableLaws.{Bodied, bodied, table_block, table_names}
-use Rattle.lsm_table.proofs.JudgeLaws.{well}
+use Rattle.lsm_table.proofs.StoredBlockLaws.{contents_again}
+use Rattle.lsm_table.proofs.FooterLaws.{footer_again}
+use Rattle.lsm_table.proofs.HeldTableLaws.{bodied, table_block, table_names}
 
 abbrev pub entries_read : List Entry → Result (List Entry) TableFault
 entries_read es = Ok es
@@ -182,6 +176,15 @@ memory_only (BadChecksum offset) x f = absurd cc
 memory_only (Compressed kind) x f = absurd cc
 memory_only (BadBlockType kind) x f = absurd cc
 memory_only BadIndex x f = absurd cc
+
+-- what a reader returned that reads a value: that value, or want of memory
+pub gives_value : {X Y : Type 0} (see : X → Y) (r : Result X TableFault) (y : Y) → Gives see r (Ok y) → IfOk r (λ x. see x ≡ y)
+gives_value see (Ok x) y g = sym (ok_is y (see x) g)
+gives_value see (Err fault) y g = tt
+
+pub gives_memory : {X Y : Type 0} (see : X → Y) (r : Result X TableFault) (y : Y) → Gives see r (Ok y) → IfErr r IsMemory
+gives_memory see (Ok x) y g = tt
+gives_memory see (Err fault) y g = memory_only fault y g
 
 -- A table is opened, unless the shelf refuses or memory runs out.
 pub opens_table : {X : Type 0} (r : Result X ReadFault) (image : List ℕ) (es : List Entry) → IsTable image es → Opens r (opening_at image) → IfErr r IsMemoryOrShelf

@@ -1,15 +1,13 @@
 -- In ascending entries a read finds what stands at the key of its user key and sequence.
-use Rattle.std.proofs.Common.{◌≡◌, ℕ, ◌+◌, ◌*◌, ◌^◌, ◌<◌, ◌≤◌, ◌⊎◌, Bool, true, false, cond, List, [], ◌∷◌, ◌++◌, Option, Some, None, refl, sym, ap, ◌∙◌, subst, inl, inr, arith, Ordering, Less, Equal, Greater}
+use Rattle.std.proofs.Common.{◌≡◌, ℕ, ◌+◌, ◌^◌, ◌<◌, ◌≤◌, ◌⊎◌, Bool, true, false, cond, List, [], ◌∷◌, Option, Some, None, refl, sym, ap, ◌∙◌, subst, inl, inr, arith, Ordering, Less, Equal, Greater}
 use Rattle.std.specs.Prelude.{nat_lt, nat_le, ◌&&◌}
 use Rattle.std.specs.Str.{bytes_eq}
-use Rattle.std.specs.List.{flat_map, AllByRecursion}
+use Rattle.std.specs.List.{AllByRecursion}
 use Rattle.std.specs.Ordering.{nat_cmp, is_lt, is_le, ordering_reverse}
 use Rattle.std.specs.Cmp.Lexicographic.{slice_cmp}
-use Rattle.std.proofs.lemmas.Bool.{lt-ltb, le-ltb, le-leb, lt-leb, leb-true, ltb-true, ltb-false}
+use Rattle.std.proofs.lemmas.Bool.{le-ltb, le-leb}
 use Rattle.std.proofs.lemmas.Cmp.{nat_list_cmp_total, ranked}
-use Rattle.std.proofs.lemmas.Map.Lookups.{exact_bytes}
-use Rattle.lsm_codec.specs.declared.kind.Kind.TheVariants.{Value}
-use Rattle.lsm_codec.specs.Keys.{UserKey, UserLe, user_le, InternalKey, kind_number, packed, key_cmp, then_by}
+use Rattle.lsm_codec.specs.Keys.{UserKey, UserLe, user_le, InternalKey, packed, key_cmp, then_by}
 use Rattle.lsm_codec.specs.Entries.{Entry, internal_key, entry_cmp, stamp, is_allowed, first_of_two, newest}
 use Rattle.lsm_codec.specs.Lists.{Has}
 use Rattle.lsm_codec.proofs.Keys.{key_from_test, test_from_key, user_le_antisym}
@@ -17,7 +15,7 @@ use Rattle.lsm_codec.proofs.Newest.{IsAllowed, allowed_says, allowed_from, kind_
 use Rattle.lsm_block.specs.Block.{Ascends}
 use Rattle.lsm_block.specs.Seeking.{not_below, drop_if}
 use Rattle.lsm_table.specs.Searching.{read_key, of_user}
-use Rattle.lsm_table.proofs.KeyOrder.{key_cmp_total, le_less_trans, not_less, less_not, is_less}
+use Rattle.lsm_table.proofs.KeyOrder.{le_less_trans, not_less, less_not, is_less}
 
 -- ---- the first entry not below a key
 

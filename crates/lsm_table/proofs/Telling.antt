@@ -1,5 +1,5 @@
 -- Calls of a shelf one after another.
-use Rattle.std.proofs.Common.{◌≡◌, ℕ, ◌≤◌, refl, ◌∙◌, arith}
+use Rattle.std.proofs.Common.{◌≡◌, refl, ◌∙◌, arith}
 use Rattle.lsm_table.specs.Told.{Told, Becomes, Counted}
 use Rattle.lsm_table.specs.ReadFault.{ReadCounted}
 use Rattle.lsm_table.specs.declared.shelf_fault.ShelfFault.{ShelfFault}

@@ -1,9 +1,8 @@
 -- A table that was checked, and what is left of it for a reader.
 use Rattle.std.specs.Prelude.{◌≡◌, ℕ, List, [], ◌∷◌, ◌++◌, Option, Some, None, Result, Ok, Err}
 use Rattle.std.specs.List.{flat_map}
-use Rattle.lsm_codec.specs.declared.kind.Kind.{Kind}
 use Rattle.lsm_codec.specs.Keys.{InternalKey}
-use Rattle.lsm_codec.specs.Entries.{Entry, shown}
+use Rattle.lsm_codec.specs.Entries.{Entry}
 use Rattle.lsm_block.specs.Block.{Ascends, IsBlock, entry_of}
 use Rattle.lsm_block.specs.Reading.{block_at}
 use Rattle.lsm_table.specs.declared.table_fault.TableFault.{TableFault}
@@ -12,7 +11,6 @@ use Rattle.lsm_table.specs.declared.handle.Handle.{Handle}
 use Rattle.lsm_table.specs.Reading.{◌>>=◌}
 use Rattle.lsm_table.specs.Handle.{IsHandle, handle_at}
 use Rattle.lsm_table.specs.StoredBlock.{Holds, contents_at}
-use Rattle.lsm_table.specs.Footer.{body_of}
 use Rattle.lsm_table.specs.Table.{DataBlocks, IsTable, concat}
 use Rattle.lsm_table.specs.TableReading.{block_or, table_at}
 

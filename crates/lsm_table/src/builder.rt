@@ -4,7 +4,8 @@ ghost use Rattle.std.specs.Prelude.{◌≡◌, ◌<◌, ◌≤◌, ◌^◌, true
 ghost use Rattle.lsm_codec.specs.KeyRef.{key_of};
 ghost use Rattle.lsm_codec.specs.Entries.{Entry};
 ghost use Rattle.lsm_block.specs.Block.{IsBlock, Ascends, entry_of};
-ghost use Rattle.lsm_block.specs.Building.{block_bytes};
+ghost use Rattle.lsm_block.specs.Building.{after_last, block_bytes, last_key};
+ghost use Rattle.std.specs.Option.{option_map};
 ghost use Rattle.lsm_block.specs.declared.build_fault.BuildFault.TheVariants.{TooLarge};
 ghost use Rattle.lsm_table.specs.Options.{AreInRange};
 ghost use Rattle.lsm_table.specs.Handle.{handle_text};
@@ -190,6 +191,28 @@ impl TableBuilder {
             taken: BlockBuilder::new(alloc, options.restart_interval),
             index: BlockBuilder::new(alloc, 1),
             place: Vec::new(alloc),
+        }
+    }
+
+    /// The key of the last entry, if there is one.
+    pub fn last_key(&self) -> Option<KeyRef<'_>>
+        ensures key { option_map key_of result ≡ last_key self.now.entries }
+        ensures ascends { Ascends self.now.entries }
+    {
+        match self.taken.last_key() {
+            Some(key) => Some(key),
+            None => self.index.last_key(),
+        }
+    }
+
+    /// Whether an entry of this key may be added: it stands after the last one.
+    pub fn comes_last(&self, key: &KeyRef<'_>) -> bool
+        ensures exact { result ≡ after_last (last_key self.now.entries) (key_of key.now) }
+        ensures ascends { result ≡ true → (value : List ℕ) → Ascends (self.now.entries ++ entry_of (key_of key.now) value ∷ []) }
+    {
+        match self.last_key() {
+            Some(last) => last.compare(key).is_lt(),
+            None => true,
         }
     }
 

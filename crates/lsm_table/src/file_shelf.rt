@@ -150,7 +150,8 @@ impl<R: Files + AllocGlobal + Clone + Drop> FileShelf<R> {
         Ok((number, bytes))
     }
 
-    /// Makes a manifest that was written the one that `CURRENT` names.
+    /// Makes a manifest that was written the one that `CURRENT` names. The folder is synced before and after, so that no crash
+    /// leaves a `CURRENT` that names a file which the folder does not list.
     fn name_manifest(&self, alloc: Global, number: u64) -> Result<(), ShelfFault>
         ensures { IfErr result NotNamed }
     {
@@ -158,6 +159,7 @@ impl<R: Files + AllocGlobal + Clone + Drop> FileShelf<R> {
         let temporary = temporary_path(alloc, folder, number)?;
         let current = current_path(alloc, folder)?;
         let text = text_of_current(alloc, number)?;
+        folder::sync_folder(&self.rt, folder).map_err(|e| device(e))?;
         let named = folder::replace(
             &self.rt,
             temporary.as_str(),

@@ -28,6 +28,8 @@ mod memory_shelf;
 mod naming;
 mod open_table;
 mod read_fault;
+#[cfg(test)]
+mod reading_tests;
 mod registry;
 mod search;
 mod shelf;

@@ -1,6 +1,6 @@
 //! A table whose data blocks are judged when they are read.
 
-ghost use Rattle.std.specs.Prelude.{◌≡◌, ℕ, List, IfOk, Ok};
+ghost use Rattle.std.specs.Prelude.{◌≡◌, ℕ, List, None, IfOk, Ok};
 ghost use Rattle.lsm_codec.specs.Entries.{Entry, newest};
 ghost use Rattle.lsm_table.specs.Reading.{Gives, settled};
 ghost use Rattle.lsm_table.specs.Footer.{body_of};
@@ -60,10 +60,10 @@ impl OpenTable {
     {
         let (body, index) = parts(&self.file, self.index);
         let key = key_for(user, seq);
-        let mut blocks = Cursor::start(alloc);
+        let mut next_block = Cursor::start(alloc);
         let mut here = Cursor::start(alloc);
-        index.seek(&mut blocks, &key)?;
-        while let Some(place) = index.next(&mut blocks)? {
+        index.seek(&mut next_block, &key)?;
+        while let Some(place) = index.next(&mut next_block)? {
             let block = match named_block(alloc, body, place) {
                 Ok(block) => block,
                 Err(fault) => return Err(fault),
@@ -75,6 +75,7 @@ impl OpenTable {
         }
         Ok(None)
     }
+
     /// Judges all data blocks, and hands the table over to a reader, before the first entry. What is wrong is named by the
     /// first fault in the order of `Table::check`.
     pub fn into_entries(self, alloc: Global) -> Result<TableEntries, TableFault>
@@ -84,6 +85,8 @@ impl OpenTable {
         ensures only { (es : List Entry) → IsTable self es → Gives (λ w. w.left) result (Ok es) }
         // Which fault it is.
         ensures exact { Gives (λ w. w.left) result (table_at self) }
+        // It stands before the first entry.
+        ensures last { IfOk result (λ w. w.last ≡ None) }
     {
         let OpenTable { file, index } = self;
         match judge_rest(alloc, &file, index) {

@@ -21,7 +21,7 @@ use std::thread::Threads;
 use std::{env, fs, process, thread};
 
 /// A new folder of this test's own. `remove_dir_all` takes it away.
-fn scratch(rt: &HostRuntime, name: &str) -> Result<String, Fail> {
+pub(crate) fn scratch(rt: &HostRuntime, name: &str) -> Result<String, Fail> {
     let parent = env::temp_dir(rt)?;
     let parent = parent.to_str().ok_or("no path")?;
     let id = process::id(rt.process());

@@ -1,6 +1,6 @@
 //! A table that was checked.
 
-ghost use Rattle.std.specs.Prelude.{◌≡◌, List, ℕ, IfOk, IfErr, Ok};
+ghost use Rattle.std.specs.Prelude.{◌≡◌, List, ℕ, None, IfOk, IfErr, Ok};
 ghost use Rattle.lsm_codec.specs.Entries.{Entry, newest};
 ghost use Rattle.lsm_table.specs.Reading.{Gives};
 ghost use Rattle.lsm_table.specs.Table.{IsTable};
@@ -105,10 +105,10 @@ impl Table {
     {
         let (body, index) = self.parts();
         let key = key_for(user, seq);
-        let mut blocks = Cursor::start(alloc);
+        let mut next_block = Cursor::start(alloc);
         let mut here = Cursor::start(alloc);
-        index.seek(&mut blocks, &key)?;
-        while let Some(place) = index.next(&mut blocks)? {
+        index.seek(&mut next_block, &key)?;
+        while let Some(place) = index.next(&mut next_block)? {
             match search_block(alloc, &data_block(body, place), &mut here, &key)? {
                 Search::GoesOn => {}
                 Search::Ended(found) => return Ok(found),
@@ -127,7 +127,8 @@ impl Table {
 
     /// Hands the table over to a reader, before the first entry. Takes no memory.
     pub fn into_entries(self, alloc: Global) -> TableEntries
-        ensures { result.left ≡ self }
+        ensures left { result.left ≡ self }
+        ensures last { result.last ≡ None }
     {
         let Table { file, index } = self;
         TableEntries::over(alloc, file, index)

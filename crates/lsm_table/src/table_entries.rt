@@ -1,6 +1,6 @@
 //! Going through a table that is held.
 
-ghost use Rattle.std.specs.Prelude.{◌≡◌, List, ℕ, IfOk, IfErr, OnErr};
+ghost use Rattle.std.specs.Prelude.{◌≡◌, List, ℕ, None, IfOk, IfErr, OnErr};
 ghost use Rattle.std.specs.Option.{option_map};
 ghost use Rattle.lsm_codec.specs.KeyRef.{key_of};
 ghost use Rattle.lsm_block.specs.Block.{Ascends};
@@ -104,7 +104,8 @@ impl TableEntries {
     /// Before the first entry of a checked table.
     pub(crate) fn over(alloc: Global, file: Vec<u8>, index: Handle) -> TableEntries
         requires { HeldTable file.items index }
-        ensures { result.left ≡ entries_in file.items }
+        ensures left { result.left ≡ entries_in file.items }
+        ensures last { result.last ≡ None }
     {
         TableEntries {
             alloc,

@@ -19,7 +19,7 @@ pub struct TableIter<'t> {
     body: &'t [u8],
     index: BlockRef<'t>,
     // The data block whose entries are given.
-    data: BlockRef<'t>,
+    block: BlockRef<'t>,
     next_block: Cursor,
     here: Cursor,
 }
@@ -30,7 +30,7 @@ impl<'t> Model for TableIter<'t> {
 
     ghost Value = { Walk };
 
-    ghost view = { λ t. record { last = t.here.last; left = left_of t.body.now (rest_of t.data t.here) (rest_of t.index t.next_block) } };
+    ghost view = { λ t. record { last = t.here.last; left = left_of t.body.now (rest_of t.block t.here) (rest_of t.index t.next_block) } };
 
     ghost invariant = { λ t. AreNamed t.body.now (rest_of t.index t.next_block) };
 }
@@ -43,13 +43,13 @@ impl<'t> TableIter<'t> {
     {
         let mut next_block = Cursor::start(alloc);
         index.rewind(&mut next_block);
-        let data = no_entries();
+        let block = no_entries();
         let mut here = Cursor::start(alloc);
-        data.rewind(&mut here);
+        block.rewind(&mut here);
         TableIter {
             body,
             index,
-            data,
+            block,
             next_block,
             here,
         }
@@ -68,14 +68,14 @@ impl<'t> TableIter<'t> {
         ensures given { IfOk result (λ r. Steps self.old self.new (option_map (λ v. v.now) r)) }
         ensures err { OnErr result (self.new.left ≡ self.old.left) }
     {
-        if let Some(value) = self.data.next(&mut self.here)? {
+        if let Some(value) = self.block.next(&mut self.here)? {
             return Ok(Some(value));
         }
         let Some(place) = self.index.next(&mut self.next_block)? else {
             return Ok(None);
         };
-        self.data = data_block(self.body, place);
-        self.data.rewind(&mut self.here);
-        Ok(self.data.next(&mut self.here)?)
+        self.block = data_block(self.body, place);
+        self.block.rewind(&mut self.here);
+        Ok(self.block.next(&mut self.here)?)
     }
 }

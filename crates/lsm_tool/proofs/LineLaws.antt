@@ -1,20 +1,18 @@
 -- A line is read as it is spelled, and spelled as it is read.
-use Rattle.std.proofs.Common.{◌≡◌, ◌≢◌, ℕ, suc, ◌+◌, ◌-◌, ◌^◌, ◌<◌, ◌≤◌, Bool, true, false, cond, List, [], ◌∷◌, ◌++◌, length, codes, Option, Some, None, Result, Ok, Err, refl, sym, ap, ◌∙◌, subst, arith, inl, inr, append_assoc}
-use Rattle.std.specs.Prelude.{◌⊎◌}
+use Rattle.std.proofs.Common.{◌≡◌, ◌≢◌, ℕ, ◌<◌, ◌≤◌, true, false, List, [], ◌∷◌, ◌++◌, length, codes, Option, Some, None, refl, sym, ap, ◌∙◌, subst, arith, inl, inr}
 use Rattle.std.proofs.lemmas.Bool.{cases_Bool}
 use Rattle.std.proofs.lemmas.Slice.Eq.{bytes_eq-Decides}
 use Rattle.std.specs.Str.{bytes_eq}
 use Rattle.std.specs.Str.Parse.{AllDigits}
-use Rattle.std.specs.Char.{digit_value}
 use Rattle.std.proofs.lemmas.Str.Parse.{digit_from_value}
 use Rattle.std.proofs.lemmas.List.Elements.{All-head, All-tail}
 use Rattle.std.specs.List.{AllPass}
-use Rattle.hex.specs.Hex.{decode_of, is_hex_digit}
+use Rattle.hex.specs.Hex.{is_hex_digit}
 use Rattle.hex.proofs.HexLemmas.{decode_of-ok}
 use Rattle.lsm_codec.specs.declared.kind.Kind.{Kind}
 use Rattle.lsm_codec.specs.declared.kind.Kind.TheVariants.{Deletion, Value}
 use Rattle.lsm_codec.specs.Entries.{Entry}
-use Rattle.lsm_tool.specs.EntryList.{IsBytesWord, IsSequenceWord, IsAction, IsEntryLine, most_key, most_value}
+use Rattle.lsm_tool.specs.EntryList.{IsBytesWord, IsAction, IsEntryLine, most_key, most_value}
 use Rattle.lsm_tool.specs.EntryReading.{◌>>=◌, parts_at, bytes_at, sequence_at, put_at, action_at, entry_at}
 use Rattle.lsm_tool.proofs.PartLaws.{HasNo, parts_take, parts_again}
 use Rattle.lsm_tool.proofs.WordLaws.{bytes_takes, bytes_again}

@@ -1,11 +1,9 @@
 -- A list that is read entry by entry.
-use Rattle.std.proofs.Common.{◌≡◌, ℕ, ◌+◌, ◌<◌, ◌≤◌, ◌^◌, inl, inr, Bool, true, false, cond, List, [], ◌∷◌, ◌++◌, length, Option, Some, None, Result, Ok, Err, refl, sym, ap, ◌∙◌, subst, append_assoc, append-nil, arith}
-use Rattle.std.proofs.Common.{Ordering, Less, Equal, Greater}
-use Rattle.std.specs.Ordering.{is_lt}
+use Rattle.std.proofs.Common.{◌≡◌, ℕ, ◌≤◌, ◌^◌, inl, inr, true, List, [], ◌∷◌, ◌++◌, length, Option, Some, None, Result, Ok, Err, refl, sym, ap, ◌∙◌, subst, append_assoc, append-nil}
 use Rattle.lsm_codec.specs.Entries.{Entry, entry_cmp}
 use Rattle.lsm_block.specs.Block.{Ascends}
 use Rattle.lsm_tool.specs.EntryList.{IsEntryList, IsFirstBadLine}
-use Rattle.lsm_tool.specs.EntryReading.{may_follow, in_front, joined, list_at, BeginsWith}
+use Rattle.lsm_tool.specs.EntryReading.{may_follow, in_front, joined, list_at}
 use Rattle.lsm_tool.specs.declared.entry_reader.EntryReader.{EntryReader}
 use Rattle.lsm_tool.specs.declared.entry_reader.LineFault.{LineFault}
 use Rattle.lsm_tool.specs.declared.entry_reader.LineFault.TheVariants.{BadLine, OutOfMemory}

@@ -1,19 +1,19 @@
 -- What is printed for entries is a list of just those entries.
-use Rattle.std.proofs.Common.{◌≡◌, ◌≢◌, ℕ, ◌+◌, ◌^◌, ◌<◌, ◌≤◌, List, [], ◌∷◌, ◌++◌, length, codes, decimal, Ok, Some, refl, sym, ap, ◌∙◌, subst, arith, append_assoc, append-nil}
+use Rattle.std.proofs.Common.{◌≡◌, ℕ, ◌^◌, ◌<◌, List, [], ◌∷◌, ◌++◌, decimal, refl, sym, ap, ◌∙◌, subst, arith, append_assoc, append-nil}
 use Rattle.std.specs.List.{flat_map}
 use Rattle.std.specs.Prelude.{All}
 use Rattle.std.proofs.lemmas.Fmt.{decimal_is_IsNumeral, length-decimal-le}
 use Rattle.std.proofs.lemmas.List.Elements.{All-head, All-tail}
-use Rattle.hex.specs.Hex.{IsBytes, encode_lower}
+use Rattle.hex.specs.Hex.{IsBytes}
 use Rattle.hex.proofs.HexLemmas.{decode_of-encode_lower}
 use Rattle.lsm_codec.specs.declared.kind.Kind.{Kind}
 use Rattle.lsm_codec.specs.declared.kind.Kind.TheVariants.{Deletion, Value}
 use Rattle.lsm_block.specs.Block.{Ascends}
 use Rattle.lsm_codec.specs.Entries.{Entry}
-use Rattle.lsm_tool.specs.EntryList.{IsBytesWord, IsSequenceWord, IsAction, IsEntryLine, IsEntryList, AreEntryLines, lines_of, most_key, most_value}
+use Rattle.lsm_tool.specs.EntryList.{IsBytesWord, IsSequenceWord, IsAction, IsEntryLine, IsEntryList, AreEntryLines, lines_of}
 use Rattle.lsm_tool.specs.EntryPrinting.{bytes_word, action_text, entry_line, entry_list, IsPlainValue, IsListable}
 use Rattle.lsm_tool.proofs.PartLaws.{HasNo, HasNo-append, parts_again, first_line_is, lines_of-nil}
-use Rattle.lsm_tool.proofs.LineLaws.{IsBetween, newline, digits-HasNo, word-HasNo}
+use Rattle.lsm_tool.proofs.LineLaws.{newline, digits-HasNo, word-HasNo}
 
 pub bytes_word-is : (bytes : List ℕ) → IsBytes bytes → IsBytesWord (bytes_word bytes) bytes
 bytes_word-is [] h = refl

@@ -1,5 +1,6 @@
 -- What the commands answer, and what their faults say.
-use Rattle.std.specs.Prelude.{◌≡◌, ℕ, ◌^◌, ◌<◌, ◌≤◌, ◌⊎◌, ⊤, List, [], ◌∷◌, length, take, get_or, Err}
+use Rattle.std.specs.Prelude.{◌≡◌, ℕ, ◌^◌, ◌<◌, ◌≤◌, ◌⊎◌, ⊤, List, [], ◌∷◌, length, take, get_or, Err, Option, IfSome}
+use Rattle.std.specs.Io.KnownBytes.{Appends, Keeps}
 use Rattle.lsm_codec.specs.Entries.{Entry}
 use Rattle.lsm_manifest.specs.declared.edit_fault.EditFault.{EditFault}
 use Rattle.lsm_manifest.specs.Log.{IsLog}
@@ -12,10 +13,12 @@ use Rattle.lsm_table.specs.Table.{IsTable}
 use Rattle.lsm_table.specs.TableReading.{table_at}
 use Rattle.lsm_tool.specs.declared.command_line.CommandName.{CommandName}
 use Rattle.lsm_tool.specs.declared.command_line.CommandName.TheVariants.{MakeTable, Dump, Manifest}
+use Rattle.lsm_tool.specs.declared.command_line.CommandLine.{CommandLine}
+use Rattle.lsm_tool.specs.declared.command_line.CommandLine.TheVariants.{Run, Help, Bad}
 use Rattle.lsm_tool.specs.declared.fault.Fault.{Fault}
 use Rattle.lsm_tool.specs.declared.fault.Fault.TheVariants.{Read, Write, BadLine, OutOfMemory, Table, TooLarge, Log, Edit}
 use Rattle.lsm_table.specs.declared.table_options.TableOptions.{TableOptions}
-use Rattle.lsm_table.specs.TableBuilding.{PassesLimit, index_block, groups_by}
+use Rattle.lsm_table.specs.TableBuilding.{PassesLimit, index_block, groups_by, table_bytes}
 use Rattle.lsm_tool.specs.EntryReading.{BeginsWith}
 use Rattle.lsm_tool.specs.EntryList.{IsEntryList, IsFirstBadLine}
 use Rattle.lsm_tool.specs.EntryPrinting.{entry_list}
@@ -27,9 +30,13 @@ AreEdits [] (e ∷ es) = ⊥
 AreEdits (r ∷ rs) [] = ⊥
 AreEdits (r ∷ rs) (e ∷ es) = IsEdit r e × AreEdits rs es
 
+-- The options of the tables that `mktable` makes.
+abbrev pub usual : TableOptions
+usual = record { block_size = 4096; restart_interval = 16 }
+
 -- what a command writes on standard output for what it reads on standard input
 abbrev pub Answers : CommandName → List ℕ → List ℕ → Type 0
-Answers MakeTable input output = (entries : List Entry) × IsEntryList input entries × IsTable output entries
+Answers MakeTable input output = (entries : List Entry) × IsEntryList input entries × IsTable output entries × (output ≡ table_bytes usual entries)
 Answers Dump input output = (entries : List Entry) × IsTable input entries × (output ≡ entry_list entries)
 Answers Manifest input output =
     (records : List (List ℕ)) × (rest : ℕ) × (edits : List Change)
@@ -45,10 +52,6 @@ pub record HasBadEdit (input : List ℕ) (fault : EditFault) : Type 0 where
   pub within : place < length records
   pub good : AreEdits (take place records) edits
   pub bad : edit_at (get_or records place []) ≡ Err fault
-
--- The options of the tables that `mktable` makes.
-abbrev pub usual : TableOptions
-usual = record { block_size = 4096; restart_interval = 16 }
 
 -- The input begins with entries of which a block would pass 2 ^ 32 - 1 bytes: a data block with one more, or the index block.
 abbrev pub IsTooLarge : List ℕ → Type 0
@@ -75,3 +78,17 @@ Explains Manifest input (Log fault) = log_at input ≡ Err fault
 Explains Manifest input (Edit fault) = HasBadEdit input fault
 Explains Dump input TooLarge = ⊥
 Explains Dump input (Table fault) = table_at input ≡ Err fault
+
+-- ---- command lines
+
+-- What stands on standard output after a command line was followed without a fault, and the exit status.
+abbrev pub IsFollowed : CommandLine → Option (List ℕ) → Option (List ℕ) → Option (List ℕ) → ℕ → Type 0
+IsFollowed (Run name) input old new status = (status ≡ 0) × IfSome input (λ text. (output : List ℕ) × Answers name text output × Appends old new output)
+IsFollowed (Help text) input old new status = (status ≡ 0) × Appends old new text.items
+IsFollowed (Bad text) input old new status = (status ≡ 2) × Keeps old new
+
+-- What a fault says of the command line and the input: where help was asked for it is a failed write.
+abbrev pub IsExplained : CommandLine → Option (List ℕ) → Fault → Type 0
+IsExplained (Run name) input fault = IfSome input (λ text. Explains name text fault)
+IsExplained (Help text) input fault = fault ≡ Write
+IsExplained (Bad text) input fault = ⊥

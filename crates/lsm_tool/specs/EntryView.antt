@@ -1,5 +1,4 @@
 -- What the reader of a list of entries holds, as entries and lines.
-use Rattle.std.specs.Prelude.{◌≡◌, ℕ, ◌==◌, Bool, true, false, cond, List, Option, Some, None, Result, length}
 use Rattle.lsm_codec.specs.Entries.{Entry}
 use Rattle.lsm_tool.specs.declared.entry_buffer.EntryBuffer.{EntryBuffer}
 

@@ -2,6 +2,8 @@
 
 ghost use Rattle.std.specs.Prelude.{◌≡◌, ◌≢◌, ◌≤◌, ◌⊎◌, IfOk, IfErr};
 ghost use Rattle.std.specs.Io.KnownBytes.{Keeps};
+ghost use Rattle.std.specs.IoError.{error_kind};
+ghost use Rattle.lsm_tool.specs.Commands.{IsExplained, IsFollowed};
 ghost use Rattle.lsm_tool.specs.declared.fault.Fault.TheVariants.{Write as WriteFault};
 
 use crate::command_line::{CommandLine, parse};
@@ -12,18 +14,19 @@ use std::alloc::Global;
 use std::convert::AsStr;
 use std::io::{self, ErrorKind, Read, Write};
 
-/// Does what the words ask for: status 0, or 2 for a bad command line.
-fn obey<S: AsStr, R: Read, O: Write, E: Write>(
+/// Does what a command line asks for: status 0, or 2 for a bad one.
+fn follow<R: Read, O: Write, E: Write>(
     alloc: Global,
-    words: &[S],
+    line: CommandLine,
     input: &mut R,
     out: &mut O,
     err: &mut E,
 ) -> Result<u8, Fault>
-    ensures status { IfOk result (λ status. (status ≡ 0) ⊎ ((status ≡ 2) × Keeps (O.contents out.old) (O.contents out.new))) }
+    ensures done { IfOk result (λ status. IsFollowed line (R.remaining input.old) (O.contents out.old) (O.contents out.new) status) }
+    ensures explained { IfErr result (λ e. IsExplained line (R.remaining input.old) e) }
     ensures kept { IfErr result (λ e. e ≢ WriteFault → Keeps (O.contents out.old) (O.contents out.new)) }
 {
-    match parse(alloc, words)? {
+    match line {
         CommandLine::Run(name) => {
             perform(alloc, name, input, out)?;
             Ok(0)
@@ -37,6 +40,21 @@ fn obey<S: AsStr, R: Read, O: Write, E: Write>(
             Ok(2)
         }
     }
+}
+
+/// Does what the words ask for: status 0, or 2 for a bad command line.
+fn obey<S: AsStr, R: Read, O: Write, E: Write>(
+    alloc: Global,
+    words: &[S],
+    input: &mut R,
+    out: &mut O,
+    err: &mut E,
+) -> Result<u8, Fault>
+    ensures status { IfOk result (λ status. (status ≡ 0) ⊎ ((status ≡ 2) × Keeps (O.contents out.old) (O.contents out.new))) }
+    ensures kept { IfErr result (λ e. e ≢ WriteFault → Keeps (O.contents out.old) (O.contents out.new)) }
+{
+    let line = parse(alloc, words)?;
+    follow(alloc, line, input, out, err)
 }
 
 /// Runs the program on the words after its name, and answers its exit status: 0 where it is done, 1 where it is refused, 2 for
@@ -66,7 +84,8 @@ pub(crate) fn run<S: AsStr, R: Read, O: Write, E: Write>(
 
 /// What is answered where the words could not be had: 2 where one is no UTF-8, and 1 for want of memory.
 pub(crate) fn refuse_words<E: Write>(error: &io::Error, err: &mut E) -> u8
-    ensures { result ≤ 2 }
+    ensures memory { error_kind error.now ≡ ErrorKind.OutOfMemory → result ≡ 1 }
+    ensures other { error_kind error.now ≢ ErrorKind.OutOfMemory → result ≡ 2 }
 {
     let (status, text) = if error.kind() == ErrorKind::OutOfMemory {
         (1, b"refused 1 OutOfMemory\n".as_slice())

@@ -29,5 +29,6 @@ pub mod Rising
 pub mod Youngest
 pub mod Finding
 pub mod Overlaps
+pub mod ScanLaws
 pub mod Judged
 pub mod Refused

@@ -22,3 +22,5 @@ pub mod LevelLayouts
 pub mod DeepAges
 pub mod Reads
 pub mod Overlap
+pub mod TableStream
+pub mod Sources

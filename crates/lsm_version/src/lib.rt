@@ -1,6 +1,8 @@
-//! Levels of files and what they answer: the law of a version, reads, what a merge of files keeps and what its install changes.
+//! Levels of files and what they answer: versions over tables on a shelf, their law, reads, what a merge of files keeps and what
+//! its install changes.
 //!
-//! Stands on `lsm_codec`. Its contract: a lawful version answers as its union of entries, and a merge is its sources in order.
+//! Stands on `lsm_table` for tables, shelves and the registry, and on `lsm_manifest` for the shape of a version. Its contract: a
+//! lawful version answers as its union of entries, and a merge is its sources in order.
 #![tactic(auto)]
 
 mod age_judgment;
@@ -32,11 +34,13 @@ mod scan;
 mod source;
 mod span;
 mod stream;
+mod table_stream;
 #[cfg(test)]
 mod tests;
 mod tree;
 mod user_range;
 mod version;
+mod version_scan;
 mod walk;
 
 pub use ages::against_age;
@@ -50,4 +54,5 @@ pub use placed::Placed;
 pub use scan::{Pair, Scan};
 pub use source::Source;
 pub use stream::{ListStream, Stream};
+pub use table_stream::TableStream;
 pub use version::Version;

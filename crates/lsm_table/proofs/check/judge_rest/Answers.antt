@@ -1,10 +1,7 @@
-use Rattle.std.proofs.Common.{◌≡◌, ℕ, List, None, sym, ◌∙◌, subst, Result, arith}
-use Rattle.lsm_codec.specs.Entries.{Entry}
+use Rattle.std.proofs.Common.{◌≡◌, None, sym, ◌∙◌, subst, Result, arith}
 use Rattle.lsm_table.specs.declared.table_fault.TableFault.{TableFault}
 use Rattle.lsm_table.specs.Reading.{Fails, settled}
-use Rattle.lsm_table.specs.Footer.{body_of}
-use Rattle.lsm_table.specs.OpenTable.{opening_at}
-use Rattle.lsm_table.specs.TableReading.{data_at, table_at}
+use Rattle.lsm_table.specs.TableReading.{data_at}
 use Rattle.lsm_table.proofs.CheckLaws.{held_well, reads_well, fails_whole}
 use Rattle.lsm_table.proofs.OpenLaws.{rest_of_table}
 use Rattle.lsm_table.proofs.JudgeLaws.{well}

@@ -1,13 +1,11 @@
-use Rattle.std.proofs.Common.{◌≡◌, true, false, rules, List, [], ◌∷◌, ◌++◌, Some, Ok, Err, refl, sym, ◌∙◌, ap, subst}
-use Rattle.lsm_codec.specs.Entries.{Entry}
-use Rattle.lsm_block.specs.Block.{Ascends}
+use Rattle.std.proofs.Common.{Err, ◌∙◌, ap}
 use Rattle.lsm_table.specs.TableMaking.{Making}
 use Rattle.lsm_tool.specs.ReaderView.{before_of, rest_of}
 use Rattle.lsm_tool.specs.EntryView.{entry_of}
 use Rattle.lsm_block.specs.declared.build_fault.BuildFault.{BuildFault}
 use Rattle.lsm_tool.specs.Fault.{of_line, of_build}
 use Rattle.lsm_tool.specs.declared.command_line.CommandName.TheVariants.{MakeTable}
-use Rattle.lsm_tool.proofs.MakingLaws.{IsAt, next_ascends, at_next, at_end, line_explained, add_explained, finish_explained, explained_err}
+use Rattle.lsm_tool.proofs.MakingLaws.{next_ascends, at_next, at_end, line_explained, add_explained, finish_explained, explained_err}
 use Rattle.lsm_tool.proofs.commands.make_table.Goals as goal
 
 pub returns-in_err-next-clause-explained : goal.returns-in_err-next-clause-explained
@@ -39,6 +37,7 @@ returns-clause-made c =
       c.lines.builder.entries,
       at_end c.args.list.now c.lines.builder.entries (before_of c.lines.reader) (rest_of c.lines.reader) c.lines.invariant.reading next,
       c.in_ok-finish.ensures.table,
+      rw c.lines.invariant.options at c.in_ok-finish.ensures.bytes,
     )
 
 pub returns-in_err-add-clause-explained : goal.returns-in_err-add-clause-explained

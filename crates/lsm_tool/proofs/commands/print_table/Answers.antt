@@ -1,5 +1,4 @@
-use Rattle.std.proofs.Common.{◌≡◌, ℕ, List, [], ◌∷◌, Some, rules, sym, ◌∙◌, ap}
-use Rattle.lsm_codec.specs.Entries.{Entry}
+use Rattle.std.proofs.Common.{◌≡◌, ◌∷◌, Some, ◌∙◌, ap}
 use Rattle.lsm_codec.specs.Keys.{InternalKey}
 use Rattle.lsm_codec.specs.KeyRef.{key_of}
 use Rattle.lsm_block.specs.Block.{entry_of}

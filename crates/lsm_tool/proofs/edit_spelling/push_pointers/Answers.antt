@@ -1,5 +1,4 @@
-use Rattle.std.proofs.Common.{◌≡◌, ◌++◌, rules, sym, ap, take, length, List, ℕ, ◌∙◌}
-use Rattle.std.specs.List.{flat_map}
+use Rattle.std.proofs.Common.{rules}
 use Rattle.lsm_tool.specs.ManifestPrinting.{pointer_line}
 use Rattle.lsm_tool.proofs.LineLists.{lines_more, lines_all}
 use Rattle.lsm_tool.proofs.edit_spelling.push_pointers.Goals as goal

@@ -1,4 +1,4 @@
-use Rattle.std.proofs.Common.{◌≡◌, ℕ, List, ◌∷◌, [], take, drop, length, ap, sym, ◌∙◌, arith, rules}
+use Rattle.std.proofs.Common.{◌∷◌, length, ap, sym, ◌∙◌, arith, rules}
 use Rattle.std.proofs.lemmas.List.{length-append, take_all, drop_all}
 use Rattle.lsm_tool.specs.EntryList.{lines_of}
 use Rattle.lsm_tool.proofs.PartLaws.{parts_take, first_line_is, only_line_is}

@@ -1,4 +1,4 @@
-use Rattle.std.proofs.Common.{◌≡◌, ◌≤◌, length, rules, []}
+use Rattle.std.proofs.Common.{◌≤◌, length, rules}
 use Rattle.lsm_tool.proofs.StreamLaws.{whole_read}
 use Rattle.lsm_tool.proofs.streams.read_input.Goals as goal
 

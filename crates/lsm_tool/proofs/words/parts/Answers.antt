@@ -1,4 +1,4 @@
-use Rattle.std.proofs.Common.{◌≡◌, ◌+◌, ◌∙◌, sym, length, take, drop, ap, arith, rules, ◌-◌, Some, ℕ, List}
+use Rattle.std.proofs.Common.{◌+◌, ◌∙◌, sym, length, take, drop, ap, arith, rules, ◌-◌, Some, ℕ, List}
 use Rattle.std.proofs.lemmas.List.{take_all, length-drop}
 use Rattle.lsm_tool.proofs.PartLaws.{step_found, step_other, step_end}
 use Rattle.lsm_tool.proofs.words.parts.Goals as goal

@@ -12,7 +12,7 @@ returns-in-Ok-clause-only c es t =
     let file = c.self.inside.file.items in
     let read : table_at c.deref.result.now ≡ Ok (entries_in c.deref.result.now) = c.in-Ok.ensures.exact in
     let here = subst (λ (xs : List ℕ). table_at xs ≡ Ok (entries_in xs)) c.deref.ensures.value read in
-    sym (table_again c.args.self es t) ∙ subst (λ (xs : List ℕ). table_at xs ≡ Ok (entries_in file)) c.self.view_is here ∙ ap entries_read (sym c.over.ensures)
+    sym (table_again c.args.self es t) ∙ subst (λ (xs : List ℕ). table_at xs ≡ Ok (entries_in file)) c.self.view_is here ∙ ap entries_read (sym c.over.ensures.left)
 
 pub returns-in-Err-clause-only : goal.returns-in-Err-clause-only
 returns-in-Err-clause-only c es t =

@@ -5,7 +5,7 @@ use Rattle.lsm_table.specs.Searching.{Sought}
 use Rattle.lsm_table.proofs.table.Table.get.Given as goal
 
 abbrev pub invariant-loop-here : goal.invariant-loop-here
-invariant-loop-here l = Sought (key_of l.key) l.body (rest_of l.index l.blocks) l.self
+invariant-loop-here l = Sought (key_of l.key) l.body (rest_of l.index l.next_block) l.self
 
 abbrev pub decreases-loop-here : goal.decreases-loop-here
-decreases-loop-here l = length (rest_of l.index l.blocks)
+decreases-loop-here l = length (rest_of l.index l.next_block)

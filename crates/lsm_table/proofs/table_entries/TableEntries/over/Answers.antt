@@ -5,7 +5,7 @@ use Rattle.lsm_table.specs.TableEntries.{left_in}
 use Rattle.lsm_table.proofs.EntriesLaws.{all_left}
 use Rattle.lsm_table.proofs.table_entries.TableEntries.over.Goals as goal
 
-pub returns : goal.returns
-returns c =
+pub returns-clause-left : goal.returns-clause-left
+returns-clause-left c =
     ap (λ (xs : List Entry). left_in c.args.file.items xs c.start.result.last) c.new.ensures.items
     ∙ ap (λ (p : Place). left_in c.args.file.items [] p.last) c.start.ensures ∙ all_left c.args.file.items c.args.index c.requires

@@ -1,5 +1,4 @@
-use Rattle.std.proofs.Common.{◌≡◌, length, arith, rules}
-use Rattle.std.proofs.lemmas.Bool.{eqb-true}
+use Rattle.std.proofs.Common.{rules}
 use Rattle.lsm_tool.specs.ReaderView.{before_of}
 use Rattle.lsm_tool.proofs.ListLaws.{entries_at-end}
 use Rattle.lsm_tool.proofs.entry_reader.EntryReader.next.Goals as goal

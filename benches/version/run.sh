@@ -1,0 +1,38 @@
+#!/usr/bin/env bash
+# Times a version of a million entries over a shelf in memory: its check, reads of single keys, a scan; and, where libleveldb-dev is there, a
+# database of LevelDB with the same writes in /dev/shm. Needs rt. Proves the program in a scratch folder first, over what crates/*/out keep.
+set -euo pipefail
+here=$(cd "$(dirname "$0")" && pwd)
+top=$(cd "$here/../.." && pwd)
+scratch=$(mktemp -d)
+shared=$(mktemp -d -p /dev/shm)
+trap 'rm -rf "$scratch" "$shared"' EXIT
+
+bench="$scratch/crates/bench_version"
+mkdir -p "$bench/src" "$bench/proofs/main"
+for crate in lsm_codec lsm_block lsm_table lsm_manifest lsm_version; do
+    cp -a "$top/crates/$crate" "$scratch/crates/$crate"
+    rm -rf "$scratch/crates/$crate/must-fail"
+    grep "^$crate" "$top/crates.txt" >> "$scratch/crates.txt"
+done
+cp "$top/HANDLES" "$scratch/HANDLES"
+cp "$here/version.rattle" "$bench/src/main.rt"
+cat > "$bench/proofs/main/Invariants.antt" <<'END'
+use Rattle.std.specs.Arc.{arc_value}
+use Rattle.bench_version.proofs.main.Given as goal
+
+-- the registry and the contents that were just made
+abbrev pub ghosts-measured : goal.ghosts-measured
+ghosts-measured g a = record { registry = arc_value a.registry; place = (arc_value a.shelf.contents).images }
+END
+echo 'bench_version: lsm_version lsm_table lsm_block lsm_manifest lsm_codec boxcar' >> "$scratch/crates.txt"
+(cd "$bench" && rt run > "$scratch/first" 2> "$scratch/log") || { cat "$scratch/log" >&2; exit 1; }
+if g++ -O2 -o "$scratch/leveldb" "$here/leveldb.cc" -lleveldb 2> "$scratch/log"; then leveldb=yes; else leveldb=no; fi
+
+date -u '+%Y-%m-%d %H:%M UTC'
+sed -n 's/^model name[^:]*: //p' /proc/cpuinfo | head -1
+uptime | sed 's/.*load/load/'
+for turn in 1 2 3; do
+    "$bench/out/bench_version"
+    [[ $leveldb == no ]] || "$scratch/leveldb" "$shared/$turn"
+done
