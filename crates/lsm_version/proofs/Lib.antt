@@ -32,3 +32,4 @@ pub mod Overlaps
 pub mod ScanLaws
 pub mod Judged
 pub mod Refused
+pub mod Deletions

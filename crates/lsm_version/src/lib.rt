@@ -41,6 +41,8 @@ mod tree;
 mod user_range;
 mod version;
 mod version_scan;
+#[cfg(test)]
+mod version_tests;
 mod walk;
 
 pub use ages::against_age;
