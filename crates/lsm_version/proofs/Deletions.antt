@@ -1,8 +1,7 @@
 -- A version that loses files stays sound.
-use Rattle.std.proofs.Common.{◌≡◌, ℕ, zero, suc, ◌≤◌, List, [], ◌∷◌, sym, inl, inr, arith}
+use Rattle.std.proofs.Common.{ℕ, zero, suc, ◌≤◌, List, [], ◌∷◌, inl, inr, arith}
 use Rattle.std.specs.Prelude.{Option}
 use Rattle.lsm_codec.specs.Lists.{Has}
-use Rattle.lsm_codec.specs.Entries.{Entry}
 use Rattle.lsm_codec.proofs.Lists.{filter_has}
 use Rattle.lsm_table.specs.Registry.{Table}
 use Rattle.lsm_version.specs.Files.{File}
