@@ -10,7 +10,7 @@
 #include <iostream>
 #include <string>
 
-#include "leveldb/comparator.h"
+#include "internal_keys.h"
 #include "leveldb/env.h"
 #include "leveldb/iterator.h"
 #include "leveldb/options.h"
@@ -18,25 +18,6 @@
 #include "leveldb/table_builder.h"
 
 namespace {
-
-uint64_t Packed(const leveldb::Slice& key) {
-  uint64_t packed = 0;
-  for (int i = 7; i >= 0; i--) packed = packed << 8 | static_cast<unsigned char>(key[key.size() - 8 + i]);
-  return packed;
-}
-
-class InternalKeys : public leveldb::Comparator {
- public:
-  int Compare(const leveldb::Slice& a, const leveldb::Slice& b) const override {
-    int order = leveldb::Slice(a.data(), a.size() - 8).compare(leveldb::Slice(b.data(), b.size() - 8));
-    if (order != 0) return order;
-    uint64_t x = Packed(a), y = Packed(b);
-    return x > y ? -1 : x < y ? 1 : 0;
-  }
-  const char* Name() const override { return "leveldb.InternalKeyComparator"; }
-  void FindShortestSeparator(std::string*, const leveldb::Slice&) const override {}
-  void FindShortSuccessor(std::string*) const override {}
-};
 
 std::string FromHex(const std::string& word) {
   std::string bytes;

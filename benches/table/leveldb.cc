@@ -5,7 +5,7 @@
 #include <cstring>
 #include <string>
 
-#include "leveldb/comparator.h"
+#include "../leveldb/internal_keys.h"
 #include "leveldb/env.h"
 #include "leveldb/iterator.h"
 #include "leveldb/options.h"
@@ -13,25 +13,6 @@
 #include "leveldb/table_builder.h"
 
 namespace {
-
-uint64_t Packed(const leveldb::Slice& key) {
-  uint64_t packed;
-  std::memcpy(&packed, key.data() + key.size() - 8, 8);
-  return packed;
-}
-
-class InternalKeys : public leveldb::Comparator {
- public:
-  int Compare(const leveldb::Slice& a, const leveldb::Slice& b) const override {
-    int order = leveldb::Slice(a.data(), a.size() - 8).compare(leveldb::Slice(b.data(), b.size() - 8));
-    if (order != 0) return order;
-    uint64_t x = Packed(a), y = Packed(b);
-    return x > y ? -1 : x < y ? 1 : 0;
-  }
-  const char* Name() const override { return "leveldb.InternalKeyComparator"; }
-  void FindShortestSeparator(std::string*, const leveldb::Slice&) const override {}
-  void FindShortSuccessor(std::string*) const override {}
-};
 
 class Written : public leveldb::WritableFile {
  public:
