@@ -3,6 +3,7 @@ pub mod EntryLaws
 pub mod ScanLaws
 pub mod RestartLaws
 pub mod BlockLaws
+pub mod JoinLaws
 pub mod WalkLaws
 pub mod SeenLaws
 pub mod OrderLaws

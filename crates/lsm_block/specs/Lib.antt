@@ -5,5 +5,6 @@ pub mod Reading
 pub mod Walking
 pub mod Gives
 pub mod Seeking
+pub mod KeyParts
 pub mod Held
 pub mod Building

@@ -25,7 +25,7 @@ pub(crate) fn packed_of(key: &KeyRef<'_>) -> u64
 }
 
 /// The last eight bytes of an internal key as a number.
-fn tail(key: &[u8]) -> u64
+pub(crate) fn tail(key: &[u8]) -> u64
     requires { 8 ≤ length key.now }
     ensures { result ≡ tail_of key.now }
 {
