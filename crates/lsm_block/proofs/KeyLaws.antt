@@ -166,6 +166,16 @@ internal_of bytes k h = ap is_internal h.bytes_are ∙ internal_again k
 pub kept_as : (bytes : List ℕ) → IsKey bytes (key_at bytes) → Kept (last_of bytes) bytes
 kept_as bytes h = subst (λ (o : Option InternalKey). Kept o bytes) (sym (last-key bytes (internal_of bytes (key_at bytes) h))) h
 
+pub kept_internal : (bytes : List ℕ) → Kept (last_of bytes) bytes → 0 < length bytes → is_internal bytes ≡ true
+unfolding last_of
+kept_internal bytes kept some = by_test (is_internal bytes) refl
+  where
+    by_test : (b : Bool) → is_internal bytes ≡ b → is_internal bytes ≡ true
+    by_test true e = e
+    by_test false e =
+        let none : bytes ≡ [] = subst (λ (b : Bool). Kept (last_if b bytes) bytes) e kept in
+        absurd (omega (arith, some, ap (λ (xs : List ℕ). length xs) none))
+
 pub no_last : last_of [] ≡ None
 unfolding last_of is_internal
 no_last = refl

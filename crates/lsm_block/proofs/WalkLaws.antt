@@ -6,9 +6,12 @@ use Rattle.std.proofs.lemmas.Bool.{and_parts, cases_lt, ne_eqb, eq-eqb, eqb-true
 use Rattle.lsm_codec.proofs.Varints.{IsBytes}
 use Rattle.lsm_block.specs.declared.fault.BlockFault.TheVariants.{BadRestarts, BadEntry}
 use Rattle.lsm_block.specs.Block.{start_at}
-use Rattle.lsm_block.specs.Reading.{Piece, Scan, nothing, entry_at, scan, starts_of, is_judged, if_judged, may_follow, rises, restarts_fit, if_not, comes_after, disorder, entry_fault, restart_fault, first_fault}
+use Rattle.lsm_block.specs.Reading.{Piece, Scan, nothing, entry_at, scan, starts_of, is_judged, if_judged, may_follow, rises, restarts_fit, if_not, is_internal, key_at, comes_after, disorder, entries_of, entry_fault, restart_fault, first_fault}
+use Rattle.lsm_codec.specs.Keys.{InternalKey}
+use Rattle.lsm_block.specs.Held.{last_of, last_after}
 use Rattle.lsm_block.specs.Walking.{begun, passed, if_none, fault_from, fault_at_stop, is_nothing, fault_at_end}
 use Rattle.lsm_block.proofs.EntryLaws.{some_is, leaves}
+use Rattle.lsm_block.proofs.KeyLaws.{last-key}
 use Rattle.lsm_block.proofs.ScanLaws.{placed_at, scan-empty, scan-some, scan-none, either}
 
 -- ---- the count of a scan
@@ -286,6 +289,19 @@ walk_end out before rs key [] total e =
     ∙ ap (λ (t : Bool). restart_fault t (entry_fault None (if_none out None))) (end_rises before rs)
     ∙ ap (λ (d : Option ℕ). restart_fault (is_nothing rs) (entry_fault None d)) (if_none-none out))
 walk_end out before rs key (b ∷ bs) total e = absurd (omega (arith, e))
+
+-- ---- the last key
+
+pub last_moves : (key rest : List ℕ) (total : ℕ) (p : Piece) (after next : List ℕ) → IsBytes rest → entry_at key rest ≡ Some (p, after) → p.key ≡ next → is_internal next ≡ true
+    → last_after (last_of next) (entries_of (scan (length after) total next after).placed) ≡ last_after (last_of key) (entries_of (scan (length rest) total key rest).placed)
+last_moves key rest total p after next fits e k internal =
+    ap (λ (o : Option InternalKey). last_after o (entries_of (scan (length after) total next after).placed)) (last-key next internal)
+    ∙ ap (λ (q : List ℕ). last_after (Some (key_at q)) (entries_of (scan (length after) total q after).placed)) (sym k)
+    ∙ sym (ap (λ (s : Scan). last_after (last_of key) (entries_of s.placed)) (scan-entry total key rest p after fits e))
+
+pub last_ends : (key rest : List ℕ) (total : ℕ) → length rest ≡ 0 → last_of key ≡ last_after (last_of key) (entries_of (scan (length rest) total key rest).placed)
+last_ends key [] total e = sym (ap (λ (s : Scan). last_after (last_of key) (entries_of s.placed)) (scan-empty 0 total key))
+last_ends key (b ∷ bs) total e = absurd (omega (arith, e))
 
 -- ---- the first offset
 

@@ -1,7 +1,7 @@
 -- A block that is held, and a place in it.
 use Rattle.std.specs.Prelude.{◌≡◌, ℕ, Bool, true, false, List, [], ◌∷◌, length, drop, Option, Some, None, Result, Ok, Err}
 use Rattle.lsm_codec.specs.Keys.{InternalKey, IsKey, key_bytes}
-use Rattle.lsm_codec.specs.Entries.{Entry}
+use Rattle.lsm_codec.specs.Entries.{Entry, internal_key}
 use Rattle.lsm_block.specs.Block.{IsBlock, entry_of}
 use Rattle.lsm_block.specs.declared.fault.BlockFault.{BlockFault}
 use Rattle.lsm_block.specs.Reading.{is_internal, key_at, block_at}
@@ -50,6 +50,11 @@ last_of bytes = last_if (is_internal bytes) bytes
 abbrev pub Kept : Option InternalKey → List ℕ → Type 0
 Kept None bytes = bytes ≡ []
 Kept (Some key) bytes = IsKey bytes key
+
+-- the key of the last of these entries, or this one where there is none
+abbrev pub last_after : Option InternalKey → List Entry → Option InternalKey
+last_after key [] = key
+last_after key (e ∷ es) = last_after (Some (internal_key e)) es
 
 -- What a step hands out: nothing where no entry is left, and else the value of the next entry, whose key is then the last.
 abbrev pub Given : HeldBlock → Place → Place → Option (List ℕ) → Type 0

@@ -10,7 +10,6 @@ ghost use Rattle.lsm_block.specs.Seeking.{not_below};
 ghost use Rattle.lsm_block.specs.Held.{rest_of};
 
 use crate::block_ref::BlockRef;
-use crate::check::check_text;
 use crate::cursor::Cursor;
 use crate::fault::BlockFault;
 use lsm_codec::KeyRef;
@@ -46,7 +45,7 @@ impl Block {
         // Which fault it is.
         ensures exact { Gives (λ b. b.entries) result (block_at bytes.items) }
     {
-        match check_text(alloc, &bytes) {
+        match Cursor::start(alloc).judge(&bytes) {
             Ok(text_len) => Ok(Block { bytes, text_len }),
             Err(fault) => Err(fault),
         }

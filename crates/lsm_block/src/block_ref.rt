@@ -1,14 +1,18 @@
 //! A block whose bytes lie elsewhere.
 
-ghost use Rattle.std.specs.Prelude.{◌≡◌, ℕ, List, None, take, IfOk, OnOk, OnErr};
+ghost use Rattle.std.specs.Prelude.{◌≡◌, ℕ, List, [], None, take, IfOk, OnOk, OnErr, Ok};
 ghost use Rattle.std.specs.Option.{option_map};
 ghost use Rattle.lsm_codec.specs.KeyRef.{key_of};
 ghost use Rattle.lsm_block.specs.Block.{IsBlock};
 ghost use Rattle.lsm_block.specs.Seeking.{not_below};
-ghost use Rattle.lsm_block.specs.Held.{Holds, rest_of, text_and_entries, held, Given};
+ghost use Rattle.lsm_codec.specs.Entries.{Entry};
+ghost use Rattle.lsm_block.specs.Reading.{block_at};
+ghost use Rattle.lsm_block.specs.Gives.{Gives};
+ghost use Rattle.lsm_block.specs.Held.{Holds, rest_of, last_after, text_and_entries, held, Given};
 
 use crate::check::parts;
 use crate::cursor::Cursor;
+use crate::fault::BlockFault;
 use lsm_codec::KeyRef;
 use std::alloc::AllocError;
 use std::marker::Model;
@@ -41,6 +45,22 @@ impl<'a> BlockRef<'a> {
             unreachable!()
         };
         BlockRef::at(bytes, text.len())
+    }
+
+    /// The block that bytes are, judged as `Block::check` does; the cursor goes after the last entry. An `Err` sets it before
+    /// the first entry.
+    pub fn check(bytes: &'a [u8], cursor: &mut Cursor) -> Result<BlockRef<'a>, BlockFault>
+        ensures found { IfOk result (λ b. IsBlock bytes.now b.entries) }
+        ensures only { (es : List Entry) → IsBlock bytes.now es → Gives (λ b. b.entries) result (Ok es) }
+        ensures exact { Gives (λ b. b.entries) result (block_at bytes.now) }
+        ensures last { IfOk result (λ b. cursor.new.last ≡ last_after None b.entries) }
+        ensures rest { IfOk result (λ b. rest_of b cursor.new ≡ []) }
+        ensures err { OnErr result (cursor.new ≡ record { offset = 0; last = None }) }
+    {
+        match cursor.judge(bytes) {
+            Ok(text_len) => Ok(BlockRef::at(bytes, text_len)),
+            Err(fault) => Err(fault),
+        }
     }
 
     /// The block that bytes are whose text of entries is so long.

@@ -1,13 +1,14 @@
 //! The check of bytes that may be a block.
 
-ghost use Rattle.std.specs.Prelude.{◌≡◌, ◌/◌, ◌≤◌, ℕ, List, length, take, IfOk, IfErr, IfSome, OnOk, Ok};
+ghost use Rattle.std.specs.Prelude.{◌≡◌, ◌/◌, ◌≤◌, ℕ, List, [], None, length, take, IfOk, IfErr, IfSome, OnOk, Ok};
 ghost use Rattle.std.specs.Option.{option_map};
 ghost use Rattle.lsm_codec.specs.Entries.{Entry};
 ghost use Rattle.lsm_block.specs.Block.{IsBlock};
 ghost use Rattle.lsm_block.specs.Reading.{words, parts_at, block_at};
 ghost use Rattle.lsm_block.specs.Gives.{Gives, Fails};
-ghost use Rattle.lsm_block.specs.Held.{Holds, text_and_entries, held};
+ghost use Rattle.lsm_block.specs.Held.{Holds, Kept, last_of, last_after, text_and_entries, held};
 
+use crate::cursor::Cursor;
 use crate::fault::BlockFault;
 use crate::walk::find_fault;
 use std::alloc::Global;
@@ -30,15 +31,18 @@ pub(crate) fn parts(bytes: &[u8]) -> Option<(&[u8], &[u8])>
     Some((text, offsets))
 }
 
-/// How long the text of the entries is, if there is no fault.
-pub(crate) fn check_text(alloc: Global, bytes: &[u8]) -> Result<usize, BlockFault>
+/// How long the text of the entries is, if there is no fault; `key` is the last key then.
+pub(crate) fn check_text(bytes: &[u8], key: &mut Vec<u8>) -> Result<usize, BlockFault>
+    requires { key.old.items ≡ [] }
     ensures holds { IfOk result (λ n. Holds bytes.now n (text_and_entries (take n bytes.now)).entries) }
     ensures fault { IfErr result (λ f. Fails f (block_at bytes.now)) }
+    ensures last { IfOk result (λ n. last_of key.new.items ≡ last_after None (text_and_entries (take n bytes.now)).entries) }
+    ensures kept { Kept (last_of key.new.items) key.new.items }
 {
     let Some((text, offsets)) = parts(bytes) else {
         return Err(BlockFault::BadRestarts);
     };
-    match find_fault(alloc, text, offsets)? {
+    match find_fault(text, offsets, key)? {
         Some(fault) => Err(fault),
         None => Ok(text.len()),
     }
@@ -50,7 +54,7 @@ pub fn check_bytes(alloc: Global, bytes: &[u8]) -> Result<(), BlockFault>
     ensures only { (es : List Entry) → IsBlock bytes.now es → Gives (λ _. es) result (Ok es) }
     ensures exact { Gives (λ _. held bytes.now) result (block_at bytes.now) }
 {
-    match check_text(alloc, bytes) {
+    match Cursor::start(alloc).judge(bytes) {
         Ok(_) => Ok(()),
         Err(fault) => Err(fault),
     }

@@ -1,13 +1,17 @@
 //! A place in a block.
 
-ghost use Rattle.std.specs.Prelude.{◌≡◌, ◌≤◌, ℕ, List, None, length, IfOk, OnOk, OnErr};
+ghost use Rattle.std.specs.Prelude.{◌≡◌, ◌≤◌, ℕ, List, None, length, take, IfOk, IfErr, OnOk, OnErr};
 ghost use Rattle.std.specs.Option.{option_map};
 ghost use Rattle.lsm_codec.specs.KeyRef.{key_of};
 ghost use Rattle.lsm_codec.specs.Entries.{Entry};
 ghost use Rattle.lsm_block.specs.Seeking.{not_below, Parts};
-ghost use Rattle.lsm_block.specs.Held.{rest_of, text_and_entries, Given};
+ghost use Rattle.lsm_block.specs.Reading.{block_at};
+ghost use Rattle.lsm_block.specs.Gives.{Fails};
+ghost use Rattle.lsm_block.specs.Held.{rest_of, text_and_entries, last_after, Holds, Given};
 
 use crate::block::Block;
+use crate::check::check_text;
+use crate::fault::BlockFault;
 use crate::search::{find_restart, scan_to, step};
 use lsm_codec::KeyRef;
 use std::alloc::{AllocError, Global};
@@ -19,8 +23,6 @@ use std::marker::Model;
 pub struct Cursor {
     offset: usize,
     before: Vec<u8>,
-    // Memory for the next key.
-    spare: Vec<u8>,
 }
 
 impl Model for Cursor {
@@ -41,7 +43,6 @@ impl Cursor {
         Cursor {
             offset: 0,
             before: Vec::new(alloc),
-            spare: Vec::new(alloc),
         }
     }
 
@@ -71,6 +72,27 @@ impl Cursor {
         block.as_ref().next(self)
     }
 
+    /// Judges bytes, and goes after their last entry; how long the text of the entries is comes back. An `Err` goes before
+    /// the first entry.
+    pub(crate) fn judge(&mut self, bytes: &[u8]) -> Result<usize, BlockFault>
+        ensures holds { IfOk result (λ n. Holds bytes.now n (text_and_entries (take n bytes.now)).entries) }
+        ensures fault { IfErr result (λ f. Fails f (block_at bytes.now)) }
+        ensures last { IfOk result (λ n. self.new ≡ record { offset = n; last = last_after None (text_and_entries (take n bytes.now)).entries }) }
+        ensures err { OnErr result (self.new ≡ record { offset = 0; last = None }) }
+    {
+        self.restart();
+        match check_text(bytes, &mut self.before) {
+            Ok(text_len) => {
+                self.offset = text_len;
+                Ok(text_len)
+            }
+            Err(fault) => {
+                self.before.clear();
+                Err(fault)
+            }
+        }
+    }
+
     /// Goes before the first entry that is not below the key. An `Err` goes before the first entry.
     pub(crate) fn seek_in(
         &mut self,
@@ -84,7 +106,7 @@ impl Cursor {
     {
         self.restart();
         let start = find_restart(text, offsets, key);
-        match scan_to(text, start, key, &mut self.before, &mut self.spare) {
+        match scan_to(text, start, key, &mut self.before) {
             Ok(offset) => {
                 self.offset = offset;
                 Ok(())
@@ -101,7 +123,7 @@ impl Cursor {
         ensures given { IfOk result (λ r. Given (text_and_entries text.now) self.old self.new (option_map (λ v. v.now) r)) }
         ensures err { OnErr result (self.new ≡ self.old) }
     {
-        let (value, offset) = step(text, self.offset, &mut self.before, &mut self.spare)?;
+        let (value, offset) = step(text, self.offset, &mut self.before)?;
         self.offset = offset;
         Ok(value)
     }

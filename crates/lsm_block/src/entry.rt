@@ -1,14 +1,14 @@
 //! The entries of a block, one at a time.
 
-ghost use Rattle.std.specs.Prelude.{◌≡◌, [], ℕ, List, IfOk, OnSome};
+ghost use Rattle.std.specs.Prelude.{◌≡◌, ◌≤◌, ◌++◌, [], ℕ, List, length, take, IfSome};
 ghost use Rattle.std.specs.Option.{option_map};
 ghost use Rattle.lsm_block.specs.Reading.{number_at, numbers_at, piece_of, entry_at, key_at};
 ghost use Rattle.lsm_codec.specs.Keys.{IsKey};
 ghost use Rattle.lsm_block.specs.Walking.{seen};
 
 use crate::key::is_internal_key;
+use crate::shared_key::SharedKey;
 use lsm_codec::get_varint32;
-use std::alloc::AllocError;
 
 /// A varint32 and what follows it.
 fn number(bytes: &[u8]) -> Option<(u32, &[u8])>
@@ -45,52 +45,53 @@ fn numbers(text: &[u8]) -> Option<(u32, u32, u32, &[u8])>
     long_numbers(text)
 }
 
-/// The rest of an entry whose three numbers are read: its key goes to `key`, its value and what follows are lent.
-#[tactic(auto, unfolding(crate::specs::Reading::piece_of))]
-fn finish<'a>(
-    before: &[u8],
-    shared: u32,
-    unshared: u32,
-    len: u32,
-    rest: &'a [u8],
-    key: &mut Vec<u8>,
-) -> Result<Option<(u32, &'a [u8], &'a [u8])>, AllocError>
-    ensures reads { IfOk result (λ r. option_map (λ x. (x.0, key.new.items, x.1.now, x.2.now)) r ≡ option_map seen (piece_of before.now shared unshared len rest.now)) }
-    ensures kept { IfOk result (λ r. OnSome r (IsKey key.new.items (key_at key.new.items))) }
-{
-    if shared as usize > before.len() {
-        return Ok(None);
-    }
-    if rest.len() < unshared as usize + len as usize {
-        return Ok(None);
-    }
-    let (new, after) = rest.split_at(unshared as usize);
-    let (value, after) = after.split_at(len as usize);
-    let (front, _) = before.split_at(shared as usize);
-    key.clear();
-    key.extend_from_slice(front)?;
-    key.extend_from_slice(new)?;
-    if !is_internal_key(key) {
-        return Ok(None);
-    }
-    Ok(Some((shared, value, after)))
+/// An entry as it lies in a text: how much of its key it shares with the key before it, the bytes of its key beyond that,
+/// its value, and what follows it.
+#[derive(Clone, Copy)]
+pub(crate) struct RawEntry<'a> {
+    pub(crate) shared: u32,
+    pub(crate) own: &'a [u8],
+    pub(crate) value: &'a [u8],
+    pub(crate) after: &'a [u8],
 }
 
-/// Reads the entry at the front of a text, after the key before it: its key goes to `key`; how much of it is shared, its
-/// value and what follows come back.
-#[tactic(auto, unfolding(crate::specs::Reading::entry_at))]
-pub(crate) fn read_into<'a>(
-    before: &[u8],
-    text: &'a [u8],
-    key: &mut Vec<u8>,
-) -> Result<Option<(u32, &'a [u8], &'a [u8])>, AllocError>
-    ensures reads { IfOk result (λ r. option_map (λ x. (x.0, key.new.items, x.1.now, x.2.now)) r ≡ option_map seen (entry_at before.now text.now)) }
-    ensures kept { IfOk result (λ r. OnSome r (IsKey key.new.items (key_at key.new.items))) }
-{
-    let Some((shared, unshared, len, rest)) = numbers(text) else {
-        return Ok(None);
-    };
-    finish(before, shared, unshared, len, rest, key)
+impl<'a> RawEntry<'a> {
+    /// The entry whose three numbers are read.
+    #[tactic(auto, unfolding(crate::specs::Reading::piece_of))]
+    fn of(before: &[u8], shared: u32, unshared: u32, len: u32, rest: &'a [u8]) -> Option<RawEntry<'a>>
+        ensures reads { option_map (λ e. (e.shared, take e.shared before.now ++ e.own.now, e.value.now, e.after.now)) result ≡ option_map seen (piece_of before.now shared unshared len rest.now) }
+        ensures within { IfSome result (λ e. e.shared ≤ length before.now) }
+        ensures kept { IfSome result (λ e. IsKey (take e.shared before.now ++ e.own.now) (key_at (take e.shared before.now ++ e.own.now))) }
+    {
+        if shared as usize > before.len() {
+            return None;
+        }
+        if rest.len() < unshared as usize + len as usize {
+            return None;
+        }
+        let (own, after) = rest.split_at(unshared as usize);
+        let (value, after) = after.split_at(len as usize);
+        if !SharedKey::of(before, shared as usize, own).is_internal() {
+            return None;
+        }
+        Some(RawEntry {
+            shared,
+            own,
+            value,
+            after,
+        })
+    }
+
+    /// The entry at the front of a text, after the key before it, if one can be read.
+    #[tactic(auto, unfolding(crate::specs::Reading::entry_at))]
+    pub(crate) fn read(before: &[u8], text: &'a [u8]) -> Option<RawEntry<'a>>
+        ensures reads { option_map (λ e. (e.shared, take e.shared before.now ++ e.own.now, e.value.now, e.after.now)) result ≡ option_map seen (entry_at before.now text.now) }
+        ensures within { IfSome result (λ e. e.shared ≤ length before.now) }
+        ensures kept { IfSome result (λ e. IsKey (take e.shared before.now ++ e.own.now) (key_at (take e.shared before.now ++ e.own.now))) }
+    {
+        let (shared, unshared, len, rest) = numbers(text)?;
+        RawEntry::of(before, shared, unshared, len, rest)
+    }
 }
 
 /// The key of the entry at the front of a text that follows no key, if it can be read.

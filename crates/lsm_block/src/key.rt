@@ -1,10 +1,10 @@
 //! Internal keys as they lie in a block.
 
-ghost use Rattle.std.specs.Prelude.{◌≡◌, ◌<◌, ◌≤◌, ℕ, List, length, true};
+ghost use Rattle.std.specs.Prelude.{◌≡◌, ◌≤◌, ℕ, List, length, true};
 ghost use Rattle.std.specs.Ordering.{is_lt};
 ghost use Rattle.lsm_codec.specs.Keys.{packed, key_cmp};
 ghost use Rattle.lsm_codec.specs.KeyRef.{key_of};
-ghost use Rattle.lsm_block.specs.Reading.{is_internal, tail_of, key_at, comes_after};
+ghost use Rattle.lsm_block.specs.Reading.{is_internal, tail_of, key_at};
 
 use lsm_codec::KeyRef;
 use std::cmp::Ordering;
@@ -33,31 +33,6 @@ pub(crate) fn tail(key: &[u8]) -> u64
     u64::from_le_bytes([
         tail[0], tail[1], tail[2], tail[3], tail[4], tail[5], tail[6], tail[7],
     ])
-}
-
-/// Whether one internal key stands before another: user keys ascending, and of one user key the newest first.
-fn comes_before(a: &[u8], b: &[u8]) -> bool
-    requires first { is_internal a.now ≡ true }
-    requires second { is_internal b.now ≡ true }
-    ensures { result ≡ is_lt (key_cmp (key_at a.now) (key_at b.now)) }
-{
-    let (a_user, _) = a.split_at(a.len() - 8);
-    let (b_user, _) = b.split_at(b.len() - 8);
-    match a_user.cmp(b_user) {
-        Ordering::Less => true,
-        Ordering::Equal => tail(b) < tail(a),
-        Ordering::Greater => false,
-    }
-}
-
-/// Whether a key comes after the key before it, of which there are no bytes where there is none.
-#[tactic(auto, unfolding(crate::specs::Reading::comes_after))]
-pub(crate) fn is_after(before: &[u8], key: &[u8]) -> bool
-    requires before { 0 < length before.now → is_internal before.now ≡ true }
-    requires key { is_internal key.now ≡ true }
-    ensures { result ≡ comes_after before.now key.now }
-{
-    before.is_empty() || comes_before(before, key)
 }
 
 /// Whether an internal key stands before the one that is searched for.

@@ -15,7 +15,6 @@ mod entry;
 mod entry_text;
 mod fault;
 mod key;
-mod raw_entry;
 mod search;
 mod shared_key;
 #[cfg(test)]

@@ -7,11 +7,11 @@ ghost use Rattle.lsm_codec.specs.Entries.{Entry};
 ghost use Rattle.lsm_block.specs.Seeking.{readable, not_below, word_of, Parts, StartsBelow, Steps};
 ghost use Rattle.lsm_block.specs.Held.{Kept, last_of};
 
-use crate::entry::{first_key, read_into};
+use crate::entry::{RawEntry, first_key};
 use crate::key::is_below;
+use crate::shared_key::{SharedKey, put_together};
 use lsm_codec::KeyRef;
 use std::alloc::AllocError;
-use std::mem::swap;
 
 /// What follows an offset.
 fn rest_from(text: &[u8], offset: usize) -> &[u8]
@@ -68,7 +68,6 @@ pub(crate) fn scan_to(
     start: usize,
     key: &KeyRef<'_>,
     before: &mut Vec<u8>,
-    spare: &mut Vec<u8>,
 ) -> Result<usize, AllocError>
     requires { before.old.items ≡ [] }
     ensures found { IfOk result (λ o. readable (length text.now) before.new.items (drop o text.now) ≡ not_below (key_of key.now) (readable (length text.now) [] (drop start text.now))) }
@@ -77,14 +76,15 @@ pub(crate) fn scan_to(
     let mut offset = start;
     while offset < text.len() {
         let rest = rest_from(text, offset);
-        let Some((_, _, after)) = read_into(before, rest, spare)? else {
+        let Some(entry) = RawEntry::read(before, rest) else {
             return Ok(offset);
         };
-        if !is_below(spare, key) {
+        let shared = entry.shared as usize;
+        if !SharedKey::of(before, shared, entry.own).is_below(key) {
             return Ok(offset);
         }
-        swap(before, spare);
-        offset = text.len() - after.len();
+        put_together(before, shared, entry.own)?;
+        offset = text.len() - entry.after.len();
     }
     Ok(offset)
 }
@@ -95,7 +95,6 @@ pub(crate) fn step<'b>(
     text: &'b [u8],
     offset: usize,
     before: &mut Vec<u8>,
-    spare: &mut Vec<u8>,
 ) -> Result<(Option<&'b [u8]>, usize), AllocError>
     requires { Kept (last_of before.old.items) before.old.items }
     ensures steps { IfOk result (λ r. Steps text.now offset before.old.items r.1 before.new.items (option_map (λ v. v.now) r.0)) }
@@ -106,9 +105,9 @@ pub(crate) fn step<'b>(
         return Ok((None, offset));
     }
     let rest = rest_from(text, offset);
-    let Some((_, value, after)) = read_into(before, rest, spare)? else {
+    let Some(entry) = RawEntry::read(before, rest) else {
         return Ok((None, offset));
     };
-    swap(before, spare);
-    Ok((Some(value), text.len() - after.len()))
+    put_together(before, entry.shared as usize, entry.own)?;
+    Ok((Some(entry.value), text.len() - entry.after.len()))
 }

@@ -1,16 +1,17 @@
 //! One walk over the entries of a block and its restart offsets side by side.
 
-ghost use Rattle.std.specs.Prelude.{◌≡◌, [], ◌∷◌, ◌/◌, ◌<◌, ◌≤◌, ℕ, List, length, drop, true, nat_le, None, IfOk};
+ghost use Rattle.std.specs.Prelude.{◌≡◌, [], ◌∷◌, ◌/◌, ◌<◌, ◌≤◌, ℕ, List, length, drop, true, nat_le, None, Some, IfOk};
 ghost use Rattle.std.specs.List.{list_all};
 ghost use Rattle.std.specs.Option.{option_map};
-ghost use Rattle.lsm_block.specs.Reading.{words, is_internal, comes_after, if_not, entry_at, scan, first_fault};
+ghost use Rattle.lsm_block.specs.Reading.{words, is_internal, comes_after, if_not, entry_at, scan, entries_of, first_fault};
+ghost use Rattle.lsm_block.specs.KeyParts.{joined};
+ghost use Rattle.lsm_block.specs.Held.{Kept, last_of, last_after};
 ghost use Rattle.lsm_block.specs.Walking.{begun, passed, if_none, fault_from, fault_at_stop, is_nothing, fault_at_end};
 
-use crate::entry::read_into;
+use crate::entry::RawEntry;
 use crate::fault::BlockFault;
-use crate::key::is_after;
-use std::alloc::{AllocError, Global};
-use std::mem::swap;
+use crate::shared_key::{SharedKey, put_together};
+use std::alloc::AllocError;
 
 /// The first number of a row of numbers of four bytes.
 fn first_word(bytes: &[u8]) -> u32
@@ -53,13 +54,13 @@ fn pass(before: u32, offsets: &[u8], start: u64, shared: u32) -> Option<(u32, &[
     None
 }
 
-/// Where the first entry stands that is out of order, the one that starts here included.
-fn note(out: Option<u64>, before: &[u8], key: &[u8], start: u64) -> Option<u64>
-    requires before { 0 < length before.now → is_internal before.now ≡ true }
-    requires key { is_internal key.now ≡ true }
-    ensures { result ≡ if_none out (if_not (comes_after before.now key.now) start None) }
+/// Where the first entry stands that is out of order, the one of this key that starts here included.
+fn note(out: Option<u64>, key: &SharedKey<'_, '_>, start: u64) -> Option<u64>
+    requires before { 0 < length key.now.before → is_internal key.now.before ≡ true }
+    requires key { is_internal (joined key.now) ≡ true }
+    ensures { result ≡ if_none out (if_not (comes_after key.now.before (joined key.now)) start None) }
 {
-    if out.is_some() || is_after(before, key) {
+    if out.is_some() || key.is_after() {
         out
     } else {
         Some(start)
@@ -67,18 +68,18 @@ fn note(out: Option<u64>, before: &[u8], key: &[u8], start: u64) -> Option<u64>
 }
 
 /// The fault of a block whose reading stops here: the restart offsets below this place are judged.
-fn fault_where_stopped(start: u64, offsets: &[u8]) -> Option<BlockFault>
-    ensures { result ≡ fault_at_stop start (words (length offsets.now / 4) offsets.now) }
+fn fault_where_stopped(start: u64, offsets: &[u8]) -> BlockFault
+    ensures { Some result ≡ fault_at_stop start (words (length offsets.now / 4) offsets.now) }
 {
     let mut rest = offsets;
     while rest.len() >= 4 {
         if (first_word(rest) as u64) < start {
-            return Some(BlockFault::BadRestarts);
+            return BlockFault::BadRestarts;
         }
         let (_, after) = rest.split_at(4);
         rest = after;
     }
-    Some(BlockFault::BadEntry(start))
+    BlockFault::BadEntry(start)
 }
 
 /// The fault of a block whose entries can all be read.
@@ -94,33 +95,36 @@ fn fault_at_last(out: Option<u64>, offsets: &[u8]) -> Option<BlockFault>
     }
 }
 
-/// The first fault of a block, by the text of its entries and its restart offsets.
+/// The first fault of a block, by the text of its entries and its restart offsets. Where there is none, `key` is the last
+/// key.
 pub(crate) fn find_fault(
-    alloc: Global,
     text: &[u8],
     offsets: &[u8],
+    key: &mut Vec<u8>,
 ) -> Result<Option<BlockFault>, AllocError>
-    requires { 4 ≤ length offsets.now }
-    ensures { IfOk result (λ f. f ≡ first_fault (scan (length text.now) (length text.now) [] text.now) (words (length offsets.now / 4) offsets.now)) }
+    requires offsets { 4 ≤ length offsets.now }
+    requires key { key.old.items ≡ [] }
+    ensures fault { IfOk result (λ f. f ≡ first_fault (scan (length text.now) (length text.now) [] text.now) (words (length offsets.now / 4) offsets.now)) }
+    ensures last { IfOk result (λ f. f ≡ None → last_of key.new.items ≡ last_after None (entries_of (scan (length text.now) (length text.now) [] text.now).placed)) }
+    ensures kept { Kept (last_of key.new.items) key.new.items }
 {
-    let mut before: Vec<u8> = Vec::new(alloc);
-    let mut key: Vec<u8> = Vec::new(alloc);
     let (mut last, mut left) = begin(offsets);
     let mut out: Option<u64> = None;
     let mut rest = text;
     while !rest.is_empty() {
         let start = (text.len() - rest.len()) as u64;
-        let Some((shared, _, after)) = read_into(&before, rest, &mut key)? else {
-            return Ok(fault_where_stopped(start, left));
+        let Some(entry) = RawEntry::read(key, rest) else {
+            return Ok(Some(fault_where_stopped(start, left)));
         };
-        let Some((passed, further)) = pass(last, left, start, shared) else {
+        let Some((passed, further)) = pass(last, left, start, entry.shared) else {
             return Ok(Some(BlockFault::BadRestarts));
         };
-        out = note(out, &before, &key, start);
-        swap(&mut before, &mut key);
+        let shared = entry.shared as usize;
+        out = note(out, &SharedKey::of(key, shared, entry.own), start);
+        put_together(key, shared, entry.own)?;
         last = passed;
         left = further;
-        rest = after;
+        rest = entry.after;
     }
     Ok(fault_at_last(out, left))
 }
