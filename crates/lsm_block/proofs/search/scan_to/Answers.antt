@@ -19,47 +19,45 @@ loop-offset-init c = (
 
 pub returns-in_default-clause-found : goal.returns-in_default-clause-found
 returns-in_default-clause-found c =
-    let read = rw (c.in_default.is, c.rest_from-rest.ensures, c.deref.ensures.value) at c.in_ok-after.ensures.reads in
+    let read = rw (c.rest_from-rest.ensures, c.deref.ensures.value) at c.in_default.ensures.reads in
     let none = read_on_none c.args.text.now c.loop-offset.before.items c.loop-offset.offset read in
     none ∙ below-nothing (key_of c.args.key.now) ∙ ap (not_below (key_of c.args.key.now)) (sym none) ∙ c.loop-offset.invariant.0
 
 pub is_below-requires : goal.is_below-requires
 is_below-requires c =
-    let read = rw (c.in-Some.is, c.rest_from-rest.ensures, c.deref.ensures.value) at c.in_ok-after.ensures.reads in
+    let read = rw (c.rest_from-rest.ensures, c.deref.ensures.value) at c.in-Some.ensures.reads in
     let m = read_on_some c.args.text.now c.loop-offset.before.items c.loop-offset.offset _ _ _ _ (λ i. omega (arith, c.type_inv.text i)) (omega (arith, c.loop-offset-test.true)) read in
-    rw c.deref-in-loop-offset.ensures.value m.internal
+    rw (c.of.ensures, c.deref-in-loop-offset.ensures.value) m.internal
 
 pub returns-then-not-is_below-clause-found : goal.returns-then-not-is_below-clause-found
 returns-then-not-is_below-clause-found c =
     let key = key_of c.args.key.now in
-    let read = rw (c.in-Some.is, c.rest_from-rest.ensures, c.deref.ensures.value) at c.in_ok-after.ensures.reads in
+    let read = rw (c.rest_from-rest.ensures, c.deref.ensures.value) at c.in-Some.ensures.reads in
     let m = read_on_some c.args.text.now c.loop-offset.before.items c.loop-offset.offset _ _ _ _ (λ i. omega (arith, c.type_inv.text i)) (omega (arith, c.loop-offset-test.true)) read in
-    let above : is_lt (key_cmp (key_at c.read_into.new.key.items) key) ≡ false =
-    ap (λ (k : List ℕ). is_lt (key_cmp (key_at k) key)) (sym c.deref-in-loop-offset.ensures.value) ∙ sym c.is_below.ensures ∙ c.if-not-is_below.true in
-    m.moves ∙ sym (below-stop key (entry_of (key_at c.read_into.new.key.items) _) _ above) ∙ ap (not_below key) (sym m.moves) ∙ c.loop-offset.invariant.0
+    let above = rw (c.of.ensures, c.deref-in-loop-offset.ensures.value) at (sym c.is_below.ensures ∙ c.if-not-is_below.true) in
+    m.moves ∙ sym (below-stop key (entry_of (key_at _) _) _ above) ∙ ap (not_below key) (sym m.moves) ∙ c.loop-offset.invariant.0
 
 pub overflow_sub-offset : goal.overflow_sub-offset
 overflow_sub-offset c =
-    let read = rw (c.in-Some.is, c.rest_from-rest.ensures, c.deref.ensures.value) at c.in_ok-after.ensures.reads in
+    let read = rw (c.rest_from-rest.ensures, c.deref.ensures.value) at c.in-Some.ensures.reads in
     let m = read_on_some c.args.text.now c.loop-offset.before.items c.loop-offset.offset _ _ _ _ (λ i. omega (arith, c.type_inv.text i)) (omega (arith, c.loop-offset-test.true)) read in
     omega (arith, m.shorter)
 
 pub loop-offset-smaller : goal.loop-offset-smaller
 loop-offset-smaller c =
-    let read = rw (c.in-Some.is, c.rest_from-rest.ensures, c.deref.ensures.value) at c.in_ok-after.ensures.reads in
+    let read = rw (c.rest_from-rest.ensures, c.deref.ensures.value) at c.in-Some.ensures.reads in
     let m = read_on_some c.args.text.now c.loop-offset.before.items c.loop-offset.offset _ _ _ _ (λ i. omega (arith, c.type_inv.text i)) (omega (arith, c.loop-offset-test.true)) read in
     omega (arith, m.shorter, c.loop-offset-test.true)
 
 pub loop-offset-preserved : goal.loop-offset-preserved
 loop-offset-preserved c =
     let key = key_of c.args.key.now in
-    let read = rw (c.in-Some.is, c.rest_from-rest.ensures, c.deref.ensures.value) at c.in_ok-after.ensures.reads in
+    let read = rw (c.rest_from-rest.ensures, c.deref.ensures.value) at c.in-Some.ensures.reads in
     let m = read_on_some c.args.text.now c.loop-offset.before.items c.loop-offset.offset _ _ _ _ (λ i. omega (arith, c.type_inv.text i)) (omega (arith, c.loop-offset-test.true)) read in
-    let below : is_lt (key_cmp (key_at c.read_into.new.key.items) key) ≡ true =
-    ap (λ (k : List ℕ). is_lt (key_cmp (key_at k) key)) (sym c.deref-in-loop-offset.ensures.value) ∙ sym c.is_below.ensures ∙ c.if-not-is_below.false in
-    let kept = kept_as c.read_into.new.key.items (rw c.in-Some.is at c.in_ok-after.ensures.kept) in
-    rw c.swap.ensures.x_after
-    (sym (below-step key (entry_of (key_at c.read_into.new.key.items) _) _ below) ∙ ap (not_below key) (sym m.moves) ∙ c.loop-offset.invariant.0, kept)
+    let below = rw (c.of.ensures, c.deref-in-loop-offset.ensures.value) at (sym c.is_below.ensures ∙ c.if-not-is_below.false) in
+    let kept = kept_as _ (rw c.deref.ensures.value at c.in-Some.ensures.kept) in
+    rw c.in_ok-put_together.ensures.ok
+    (sym (below-step key (entry_of (key_at _) _) _ below) ∙ ap (not_below key) (sym m.moves) ∙ c.loop-offset.invariant.0, kept)
 
 pub returns-clause-found : goal.returns-clause-found
 returns-clause-found c =
