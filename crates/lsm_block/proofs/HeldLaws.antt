@@ -98,6 +98,12 @@ checked bytes text rs fits p e =
     let same = some_is (text, rs) (b.text, 0 ∷ b.restarts) (sym p ∙ tail_again bytes b.text (0 ∷ b.restarts) (tail_of_block bytes es b)) in
     holds_itself bytes (length text) es (record { block = b; text_len_is = ap (λ (q : List ℕ × List ℕ). length q.0) same })
 
+-- what was read of it is what is held
+pub checked_entries : (bytes text rs : List ℕ) → IsBytes bytes → parts_at bytes ≡ Some (text, rs) → None ≡ first_fault (scan (length text) (length text) [] text) rs
+    → entries_of (scan (length text) (length text) [] text).placed ≡ (text_and_entries (take (length text) bytes)).entries
+checked_entries bytes text rs fits p e =
+    ap or_none (sym (no_fault bytes text rs p e) ∙ block_again bytes (text_and_entries (take (length text) bytes)).entries (checked bytes text rs fits p e).block)
+
 -- what a held block is read as
 pub held_at : (bytes : List ℕ) (n : ℕ) (es : List Entry) → Holds bytes n es → block_at bytes ≡ is_ok es
 held_at bytes n es h = block_again bytes es h.block

@@ -45,7 +45,8 @@ impl Block {
         // Which fault it is.
         ensures exact { Gives (λ b. b.entries) result (block_at bytes.items) }
     {
-        match Cursor::start(alloc).judge(&bytes) {
+        let mut cursor = Cursor::start(alloc);
+        match cursor.judge(&bytes) {
             Ok(text_len) => Ok(Block { bytes, text_len }),
             Err(fault) => Err(fault),
         }

@@ -54,7 +54,8 @@ pub fn check_bytes(alloc: Global, bytes: &[u8]) -> Result<(), BlockFault>
     ensures only { (es : List Entry) → IsBlock bytes.now es → Gives (λ _. es) result (Ok es) }
     ensures exact { Gives (λ _. held bytes.now) result (block_at bytes.now) }
 {
-    match Cursor::start(alloc).judge(bytes) {
+    let mut cursor = Cursor::start(alloc);
+    match cursor.judge(bytes) {
         Ok(_) => Ok(()),
         Err(fault) => Err(fault),
     }

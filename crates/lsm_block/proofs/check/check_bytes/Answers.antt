@@ -16,5 +16,5 @@ returns-in-Ok-clause-exact c =
     let read = held_at c.args.bytes.now c.in-Ok.field-0 es c.in-Ok.ensures.holds in
     read ∙ ap (λ (xs : List Entry). is_ok xs) (sym (held_is c.args.bytes.now es read))
 
-pub returns-in-Err-clause-only : goal.returns-in-Err-clause-only
-returns-in-Err-clause-only c es b = still_fails c.in-Err.fault c.args.bytes.now es b c.in-Err.ensures.fault
+pub returns-clause-only : goal.returns-clause-only
+returns-clause-only c es b = still_fails c.in-Err.fault c.args.bytes.now es b c.in-Err.ensures.fault

@@ -1,6 +1,4 @@
-use Rattle.std.proofs.Common.{◌≡◌, ℕ, List, length, drop, true, false, sym, ap, ◌∙◌, subst, arith}
-use Rattle.std.specs.Ordering.{is_lt}
-use Rattle.lsm_codec.specs.Keys.{key_cmp}
+use Rattle.std.proofs.Common.{ℕ, List, length, drop, sym, ap, ◌∙◌, subst, arith}
 use Rattle.lsm_codec.specs.KeyRef.{key_of}
 use Rattle.lsm_block.specs.Block.{entry_of}
 use Rattle.lsm_block.specs.Reading.{key_at}

@@ -1,4 +1,4 @@
-use Rattle.std.proofs.Common.{◌≡◌, ◌++◌, take, sym, ◌∙◌, arith}
+use Rattle.std.proofs.Common.{◌++◌, take, sym, ◌∙◌, arith}
 use Rattle.lsm_codec.proofs.Varints.{IsBytes}
 use Rattle.lsm_block.proofs.KeyLaws.{is_key}
 use Rattle.lsm_block.proofs.EntryLaws.{IsBytes-take, IsBytes-append}

@@ -1,5 +1,5 @@
-use Rattle.std.proofs.Common.{◌≡◌, ◌<◌, ◌+◌, ◌≤◌, length, sym, ◌∙◌, ap, subst, arith}
-use Rattle.lsm_block.specs.KeyParts.{KeyParts, AreParts, joined}
+use Rattle.std.proofs.Common.{length, ap, subst, arith}
+use Rattle.lsm_block.specs.KeyParts.{KeyParts, AreParts}
 use Rattle.lsm_block.proofs.JoinLaws.{joined-length, before_by_length, before_in_front, before_by_rest}
 use Rattle.lsm_block.proofs.shared_key.SharedKey.compare_before.Goals.{then-self-lt8-via-then-self-lt8, then-self-lt8-via-else-self-lt8+then-self}
 use Rattle.lsm_block.proofs.shared_key.SharedKey.compare_before.Goals as goal

@@ -1,4 +1,4 @@
-use Rattle.std.proofs.Common.{◌≡◌, ◌<◌, ◌≤◌, length, arith, ap}
+use Rattle.std.proofs.Common.{length, arith, ap}
 use Rattle.lsm_block.specs.KeyParts.{KeyParts, joined}
 use Rattle.lsm_block.proofs.JoinLaws.{joined-length, joined-fits, user_by_front, user_by_short, user_by_parts}
 use Rattle.lsm_block.proofs.shared_key.SharedKey.compare_user.Goals as goal

@@ -1,9 +1,6 @@
-use Rattle.std.proofs.Common.{◌≡◌, Less, Equal, Greater, sym, ◌∙◌, arith}
-use Rattle.std.specs.Ordering.{nat_cmp}
-use Rattle.std.specs.Cmp.Lexicographic.{slice_cmp}
+use Rattle.std.proofs.Common.{Less, Greater, sym, ◌∙◌}
 use Rattle.lsm_codec.specs.KeyRef.{key_of}
 use Rattle.lsm_block.specs.KeyParts.{joined}
-use Rattle.lsm_block.specs.Reading.{user_of}
 use Rattle.lsm_block.proofs.KeyLaws.{internal_long, below_by, below_equal}
 use Rattle.lsm_block.proofs.shared_key.SharedKey.is_below.Goals as goal
 
