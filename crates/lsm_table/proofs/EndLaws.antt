@@ -1,53 +1,14 @@
--- The last of ascending entries, by a search.
-use Rattle.std.proofs.Common.{◌≡◌, ℕ, Bool, true, false, List, [], ◌∷◌, Option, Some, None, refl, sym, ap, ◌∙◌, subst, inl, inr, Ordering, Less, Equal, Greater}
-use Rattle.std.specs.Ordering.{is_lt, is_le, ordering_reverse}
+-- Whether a data block lies where its index entry says, by its first and its last key.
+use Rattle.std.proofs.Common.{◌≡◌, ℕ, Bool, true, false, List, [], ◌∷◌, Option, Some, None, refl, sym, ap, ◌∙◌, subst, Ordering, Less, Equal, Greater}
+use Rattle.std.specs.Ordering.{is_gt, is_le}
 use Rattle.lsm_codec.specs.Keys.{InternalKey, key_cmp}
 use Rattle.lsm_codec.specs.Entries.{Entry, internal_key}
 use Rattle.std.specs.Prelude.{◌&&◌}
-use Rattle.lsm_block.specs.Block.{Ascends, entry_of}
-use Rattle.lsm_block.specs.Held.{HeldBlock, Place, rest_of, Given}
-use Rattle.lsm_block.specs.Seeking.{not_below}
+use Rattle.lsm_block.specs.Block.{entry_of}
+use Rattle.lsm_block.specs.Held.{HeldBlock, Place, rest_of, last_after, Given}
 use Rattle.lsm_table.specs.Table.{last_of}
 use Rattle.lsm_table.specs.TableReading.{is_after, are_placed}
-use Rattle.lsm_table.specs.Judging.{comes_after, ends_at}
-use Rattle.lsm_table.proofs.KeyOrder.{key_cmp_total, le_less_trans, not_less}
-use Rattle.lsm_table.proofs.SearchLaws.{below-step, below-stop, below-nothing, either_bool}
-
-le_if_less : (o : Ordering) → is_lt o ≡ true → is_le o ≡ true
-le_if_less Less h = refl
-le_if_less Equal h = absurd cc
-le_if_less Greater h = absurd cc
-
-reverse_not_le : (o p : Ordering) → o ≡ ordering_reverse p → p ≡ Less → is_le o ≡ false
-reverse_not_le Less Less e h = absurd cc
-reverse_not_le Less Equal e h = absurd cc
-reverse_not_le Less Greater e h = absurd cc
-reverse_not_le Equal Less e h = absurd cc
-reverse_not_le Equal Equal e h = absurd cc
-reverse_not_le Equal Greater e h = absurd cc
-reverse_not_le Greater p e h = refl
-
-after_not_le : (a b : InternalKey) → key_cmp b a ≡ Less → is_le (key_cmp a b) ≡ false
-after_not_le a b h = reverse_not_le (key_cmp a b) (key_cmp b a) (key_cmp_total.antisymm a b) h
-
--- a key before the first of ascending entries is before the last
-before_last : (key : InternalKey) (f : Entry) (fs : List Entry) → key_cmp key (internal_key f) ≡ Less → Ascends (f ∷ fs) → key_cmp key (internal_key (last_of f fs)) ≡ Less
-before_last key f [] h a = h
-before_last key f (g ∷ fs) h a = before_last key g fs (key_cmp_total.trans key (internal_key f) (internal_key g) h a.0) a.1
-
-pub ends_is : (key : InternalKey) (e : Entry) (es : List Entry) → Ascends (e ∷ es) → ends_at key (not_below key (e ∷ es)) ≡ is_le (key_cmp (internal_key (last_of e es)) key)
-ends_is key e [] a =
-    elim (either_bool (is_lt (key_cmp (internal_key e) key))) [
-      | inl below ↦ ap (ends_at key) (below-step key e [] below ∙ below-nothing key) ∙ sym (le_if_less (key_cmp (internal_key e) key) below)
-      | inr above ↦ ap (ends_at key) (below-stop key e [] above)
-    ]
-ends_is key e (f ∷ es) a =
-    elim (either_bool (is_lt (key_cmp (internal_key e) key))) [
-      | inl below ↦ ap (ends_at key) (below-step key e (f ∷ es) below) ∙ ends_is key f es a.1
-      | inr above ↦
-          let after = le_less_trans key (internal_key e) (internal_key f) (not_less (internal_key e) key above) a.0 in
-          ap (ends_at key) (below-stop key e (f ∷ es) above) ∙ sym (after_not_le (internal_key (last_of f es)) key (before_last key f es after a.1))
-    ]
+use Rattle.lsm_table.specs.Judging.{comes_after}
 
 pub after_is_same : (bound : Option InternalKey) (e : Entry) → comes_after bound (internal_key e) ≡ is_after bound e
 after_is_same None e = refl
@@ -61,14 +22,51 @@ found_key key = Some key
 pub some_key : (a b : InternalKey) → found_key a ≡ found_key b → a ≡ b
 some_key a b e = cc
 
-pub placed_is : (block : HeldBlock) (old new : Place) (o : Option (List ℕ)) (v : List ℕ) (bound : Option InternalKey) (first key : InternalKey) (value : List ℕ) (r : Bool) → Given block old new o → o ≡ Some v → rest_of block old ≡ block.entries
-    → found_key first ≡ new.last → comes_after bound first ≡ true → Ascends block.entries → r ≡ ends_at key (not_below key block.entries) → r ≡ are_placed bound (entry_of key value) block.entries
-placed_is block old new o v bound first key value r g is all at after ascends ends =
+-- ---- the last entry, as a cursor gives it
+
+last_from : (e : Entry) (es : List Entry) → last_after (Some (internal_key e)) es ≡ found_key (internal_key (last_of e es))
+last_from e [] = refl
+last_from e (f ∷ es) = last_from f es
+
+pub no_last : (es : List Entry) (bound : Option InternalKey) (i : Entry) → None ≡ last_after None es → false ≡ are_placed bound i es
+no_last [] bound i h = refl
+no_last (e ∷ es) bound i h = let bad = h ∙ last_from e es in absurd cc
+
+not_le : (o : Ordering) → is_gt o ≡ true → is_le o ≡ false
+not_le Less h = absurd cc
+not_le Equal h = absurd cc
+not_le Greater h = refl
+
+is_less : (o : Ordering) → is_gt o ≡ false → is_le o ≡ true
+is_less Less h = refl
+is_less Equal h = refl
+is_less Greater h = absurd cc
+
+and_no : (a b : Bool) → b ≡ false → false ≡ (a && b)
+and_no true b h = sym h
+and_no false b h = refl
+
+and_yes : (a b : Bool) → b ≡ true → a ≡ (a && b)
+and_yes true b h = sym h
+and_yes false b h = refl
+
+-- a block whose last key stands after its index key
+pub late : (es : List Entry) (bound : Option InternalKey) (last key : InternalKey) (value : List ℕ) → found_key last ≡ last_after None es → is_gt (key_cmp last key) ≡ true → false ≡ are_placed bound (entry_of key value) es
+late [] bound last key value h g = refl
+late (e ∷ es) bound last key value h g =
+    let same : last ≡ internal_key (last_of e es) = some_key last (internal_key (last_of e es)) (h ∙ last_from e es) in
+    and_no (is_after bound e) (is_le (key_cmp (internal_key (last_of e es)) key)) (not_le (key_cmp (internal_key (last_of e es)) key) (ap (λ (k : InternalKey). is_gt (key_cmp k key)) (sym same) ∙ g))
+
+-- a block whose last key does not
+pub placed_is : (block : HeldBlock) (old new : Place) (o : Option (List ℕ)) (v : List ℕ) (bound : Option InternalKey) (first last key : InternalKey) (value : List ℕ) (r : Bool) → Given block old new o → o ≡ Some v → rest_of block old ≡ block.entries
+    → found_key first ≡ new.last → found_key last ≡ last_after None block.entries → is_gt (key_cmp last key) ≡ false → r ≡ comes_after bound first → r ≡ are_placed bound (entry_of key value) block.entries
+placed_is block old new o v bound first last key value r g is all at ends le after =
     let given = subst (Given block old new) is g in
     let e = entry_of given.0 v in
-    let parts : block.entries ≡ e ∷ rest_of block new = sym all ∙ given.2 in
+    let rest = rest_of block new in
+    let parts : block.entries ≡ e ∷ rest = sym all ∙ given.2 in
     let same : first ≡ given.0 = some_key first given.0 (at ∙ given.1) in
-    let here : is_after bound e ≡ true = sym (after_is_same bound e) ∙ ap (comes_after bound) (sym same) ∙ after in
-    let last = ends_is key e (rest_of block new) (subst Ascends parts ascends) in
-    ends ∙ ap (λ (es : List Entry). ends_at key (not_below key es)) parts ∙ last ∙ ap (λ (b : Bool). b && is_le (key_cmp (internal_key (last_of e (rest_of block new))) key)) (sym here)
+    let final : last ≡ internal_key (last_of e rest) = some_key last (internal_key (last_of e rest)) (ends ∙ ap (last_after None) parts ∙ last_from e rest) in
+    after ∙ ap (comes_after bound) same ∙ after_is_same bound e
+    ∙ and_yes (is_after bound e) (is_le (key_cmp (internal_key (last_of e rest)) key)) (ap (λ (k : InternalKey). is_le (key_cmp k key)) (sym final) ∙ is_less (key_cmp last key) le)
     ∙ ap (are_placed bound (entry_of key value)) (sym parts)

@@ -1,8 +1,7 @@
 -- Judging a data block by its first and last entry.
-use Rattle.std.specs.Prelude.{◌≡◌, ℕ, Bool, true, false, List, [], ◌∷◌, Option, Some, None}
-use Rattle.std.specs.Ordering.{is_lt, is_le}
+use Rattle.std.specs.Prelude.{◌≡◌, ℕ, Bool, true, List, Option, Some, None}
+use Rattle.std.specs.Ordering.{is_lt}
 use Rattle.lsm_codec.specs.Keys.{InternalKey, key_cmp}
-use Rattle.lsm_codec.specs.Entries.{Entry, internal_key}
 use Rattle.lsm_block.specs.Held.{HeldBlock, Place, rest_of}
 use Rattle.lsm_table.specs.Reading.{settled}
 use Rattle.lsm_table.specs.TableReading.{data_at}
@@ -11,12 +10,6 @@ use Rattle.lsm_table.specs.TableReading.{data_at}
 abbrev pub comes_after : Option InternalKey → InternalKey → Bool
 comes_after None key = true
 comes_after (Some bound) key = is_lt (key_cmp bound key)
-
--- Of the entries that are not below the key: whether there is at most one, at the key.
-abbrev pub ends_at : InternalKey → List Entry → Bool
-ends_at key [] = true
-ends_at key (e ∷ []) = is_le (key_cmp (internal_key e) key)
-ends_at key (e ∷ f ∷ es) = false
 
 -- What two cursors over an index tell while its data blocks are judged: one stands at the entry that comes next, the other
 -- is one entry behind when its key is asked for, and else at the same place.

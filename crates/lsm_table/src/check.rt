@@ -8,8 +8,8 @@ ghost use Rattle.lsm_table.specs.Reading.{Gives, settled};
 ghost use Rattle.lsm_table.specs.TableReading.{are_placed, data_block_at, data_at, table_at};
 ghost use Rattle.lsm_table.specs.HeldTable.{HeldTable, entries_in};
 ghost use Rattle.lsm_table.specs.OpenTable.{IsOpened, opening_at, block_named};
-ghost use Rattle.lsm_table.specs.Judging.{comes_after, ends_at};
-ghost use Rattle.lsm_block.specs.Seeking.{not_below};
+ghost use Rattle.lsm_block.specs.Held.{last_after};
+ghost use Rattle.lsm_table.specs.Judging.{comes_after};
 
 use crate::footer::{FOOTER, Footer};
 use crate::handle::Handle;
@@ -31,33 +31,23 @@ fn follows(bound: Option<KeyRef<'_>>, key: &KeyRef<'_>) -> bool
     }
 }
 
-/// Whether the last entry of a block is at most at a key. Goes by the restarts, and leaves the cursor where it may be.
-fn ends_by(block: &BlockRef<'_>, key: &KeyRef<'_>, cursor: &mut Cursor) -> Result<bool, AllocError>
-    ensures { IfOk result (λ r. r ≡ ends_at (key_of key.now) (not_below (key_of key.now) block.now.entries)) }
-{
-    block.seek(cursor, key)?;
-    if block.next(cursor)?.is_none() {
-        return Ok(true);
-    }
-    let Some(found) = cursor.key() else {
-        return Ok(false);
-    };
-    if found.compare(key) == Ordering::Greater {
-        return Ok(false);
-    }
-    Ok(block.next(cursor)?.is_none())
-}
-
-/// Whether a block has an entry, and its entries lie between the index key before and its own.
+/// Whether a block has an entry, and its entries lie between the index key before and its own. The cursor stands after the
+/// last entry; where it is left does not matter.
 fn is_placed(
     block: &BlockRef<'_>,
     bound: Option<KeyRef<'_>>,
     key: &KeyRef<'_>,
     cursor: &mut Cursor,
 ) -> Result<bool, AllocError>
-    requires { Ascends block.now.entries }
+    requires { cursor.old.last ≡ last_after None block.now.entries }
     ensures { (value : List ℕ) → IfOk result (λ r. r ≡ are_placed (option_map key_of bound.entry) (entry_of (key_of key.now) value) block.now.entries) }
 {
+    let Some(last) = cursor.key() else {
+        return Ok(false);
+    };
+    if last.compare(key).is_gt() {
+        return Ok(false);
+    }
     block.rewind(cursor);
     let Some(_value) = block.next(cursor)? else {
         return Ok(false);
@@ -65,23 +55,18 @@ fn is_placed(
     let Some(first) = cursor.key() else {
         return Ok(false);
     };
-    if !follows(bound, &first) {
-        return Ok(false);
-    }
-    match ends_by(block, key, cursor) {
-        Ok(ends) => Ok(ends),
-        Err(error) => Err(error),
-    }
+    Ok(follows(bound, &first))
 }
 
-/// The block that the value of an index entry names, whatever the file holds.
+/// The block that the value of an index entry names, whatever the file holds. Leaves the cursor after its last entry.
 #[tactic(auto, unfolding(crate::specs::OpenTable::block_named))]
 pub(crate) fn named_block<'a>(
-    alloc: Global,
     body: &'a [u8],
     place: &[u8],
+    cursor: &mut Cursor,
 ) -> Result<BlockRef<'a>, TableFault>
     ensures exact { Gives (λ b. b.entries) result (block_named body.now place.now) }
+    ensures last { IfOk result (λ b. cursor.new.last ≡ last_after None b.entries) }
     ensures ascends { IfOk result (λ b. Ascends b.entries) }
 {
     let (handle, rest) = match Handle::get(TableFault::BadIndex, place) {
@@ -95,15 +80,14 @@ pub(crate) fn named_block<'a>(
         Ok(contents) => contents,
         Err(fault) => return Err(fault),
     };
-    match check_bytes(alloc, contents) {
-        Ok(()) => Ok(BlockRef::of(contents)),
+    match BlockRef::check(contents, cursor) {
+        Ok(block) => Ok(block),
         Err(fault) => Err(TableFault::from(fault)),
     }
 }
 
 /// Judges the data block of an index entry: its place, the block, and its keys.
 fn judge_block(
-    alloc: Global,
     body: &[u8],
     bound: Option<KeyRef<'_>>,
     key: &KeyRef<'_>,
@@ -112,7 +96,7 @@ fn judge_block(
 ) -> Result<(), TableFault>
     ensures { Gives (λ _. tt) result (settled (data_block_at body.now (option_map key_of bound.entry) (entry_of (key_of key.now) place.now))) }
 {
-    let block = match named_block(alloc, body, place) {
+    let block = match named_block(body, place, cursor) {
         Ok(block) => block,
         Err(fault) => return Err(fault),
     };
@@ -135,7 +119,7 @@ fn judge_data(alloc: Global, body: &[u8], index: &BlockRef<'_>) -> Result<(), Ta
         let Some(key) = here.key() else {
             return Err(TableFault::BadIndex);
         };
-        match judge_block(alloc, body, before.key(), &key, place, &mut cursor) {
+        match judge_block(body, before.key(), &key, place, &mut cursor) {
             Ok(()) => {}
             Err(fault) => return Err(fault),
         }

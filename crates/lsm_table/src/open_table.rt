@@ -64,7 +64,7 @@ impl OpenTable {
         let mut here = Cursor::start(alloc);
         index.seek(&mut next_block, &key)?;
         while let Some(place) = index.next(&mut next_block)? {
-            let block = match named_block(alloc, body, place) {
+            let block = match named_block(body, place, &mut here) {
                 Ok(block) => block,
                 Err(fault) => return Err(fault),
             };
