@@ -58,7 +58,13 @@ pub(crate) struct RawEntry<'a> {
 impl<'a> RawEntry<'a> {
     /// The entry whose three numbers are read.
     #[tactic(auto, unfolding(crate::specs::Reading::piece_of))]
-    fn of(before: &[u8], shared: u32, unshared: u32, len: u32, rest: &'a [u8]) -> Option<RawEntry<'a>>
+    fn of(
+        before: &[u8],
+        shared: u32,
+        unshared: u32,
+        len: u32,
+        rest: &'a [u8],
+    ) -> Option<RawEntry<'a>>
         ensures reads { option_map (λ e. (e.shared, take e.shared before.now ++ e.own.now, e.value.now, e.after.now)) result ≡ option_map seen (piece_of before.now shared unshared len rest.now) }
         ensures within { IfSome result (λ e. e.shared ≤ length before.now) }
         ensures kept { IfSome result (λ e. IsKey (take e.shared before.now ++ e.own.now) (key_at (take e.shared before.now ++ e.own.now))) }

@@ -155,11 +155,7 @@ impl<'b, 'a> SharedKey<'b, 'a> {
 }
 
 /// Puts a key together in place of the one before it. An `Err` leaves that.
-pub(crate) fn put_together(
-    key: &mut Vec<u8>,
-    shared: usize,
-    own: &[u8],
-) -> Result<(), AllocError>
+pub(crate) fn put_together(key: &mut Vec<u8>, shared: usize, own: &[u8]) -> Result<(), AllocError>
     ensures ok { OnOk result (key.new.items ≡ take shared key.old.items ++ own.now) }
     ensures err { OnErr result (key.new.items ≡ key.old.items) }
 {

@@ -3,7 +3,7 @@
 ghost use Rattle.std.specs.Prelude.{◌<◌};
 
 use crate::{Block, BlockBuilder, BlockFault, BlockRef, BuildFault, Cursor, check_bytes};
-use lsm_codec::{KeyRef, Kind};
+use lsm_codec::{KeyRef, Kind, put_varint64};
 use std::alloc::Global;
 use std::test::Fail;
 
@@ -218,6 +218,116 @@ fn refuses_a_key_twice(rt: HostRuntime) -> Result<(), Fail> {
         1, 0, 0, 0,
     ];
     refuses(rt.alloc(), &twice, BlockFault::OutOfOrder(12))?;
+    Ok(())
+}
+
+/// Appends an entry without a value that shares so many bytes of its key.
+fn push_key_part(bytes: &mut Vec<u8>, shared: usize, own: &[u8]) -> Result<(), Fail> {
+    put_varint64(bytes, shared as u64)?;
+    put_varint64(bytes, own.len() as u64)?;
+    bytes.push(0)?;
+    bytes.extend_from_slice(own)?;
+    Ok(())
+}
+
+/// A block of two keys without values, the second of which shares so many bytes with the first.
+fn pair(alloc: Global, first: &[u8], second: &[u8], shared: usize) -> Result<Vec<u8>, Fail> {
+    let Some(own) = second.get(shared..) else {
+        return Err(Fail::new("the shared front"));
+    };
+    let mut bytes = Vec::new(alloc);
+    push_key_part(&mut bytes, 0, first)?;
+    push_key_part(&mut bytes, shared, own)?;
+    bytes.extend_from_slice(&[0, 0, 0, 0, 1, 0, 0, 0])?;
+    Ok(bytes)
+}
+
+fn judges_pair(
+    alloc: Global,
+    first: &[u8],
+    second: &[u8],
+    shared: usize,
+    ascends: bool,
+) -> Result<(), Fail> {
+    let want = if ascends {
+        Ok(())
+    } else {
+        Err(BlockFault::OutOfOrder(first.len() as u64 + 3))
+    };
+    if check_bytes(alloc, &pair(alloc, first, second, shared)?) == want {
+        Ok(())
+    } else {
+        Err(Fail::new("another answer"))
+    }
+}
+
+#[test]
+fn judges_keys_however_much_they_share(rt: HostRuntime) -> Result<(), Fail> {
+    // Two keys, how many bytes they have in common at their front, and whether they ascend.
+    let rows: [(&[u8], &[u8], usize, bool); 6] = [
+        // k@3 deleted and k@2.
+        (b"k\0\x03\0\0\0\0\0\0", b"k\x01\x02\0\0\0\0\0\0", 1, true),
+        // k@768 and k@512: the sequences share a byte too.
+        (b"k\x01\0\x03\0\0\0\0\0", b"k\x01\0\x02\0\0\0\0\0", 3, true),
+        (b"k\x01\0\x02\0\0\0\0\0", b"k\x01\0\x03\0\0\0\0\0", 3, false),
+        // One key twice.
+        (b"k\x01\x02\0\0\0\0\0\0", b"k\x01\x02\0\0\0\0\0\0", 9, false),
+        // "a"@1 and the user key 61 01 at 1: what they share goes beyond the first user key.
+        (
+            b"a\x01\x01\0\0\0\0\0\0",
+            b"a\x01\x01\x01\0\0\0\0\0\0",
+            3,
+            true,
+        ),
+        (
+            b"a\x01\x01\x01\0\0\0\0\0\0",
+            b"a\x01\x01\0\0\0\0\0\0",
+            3,
+            false,
+        ),
+    ];
+    for (first, second, common, ascends) in rows {
+        for shared in 0..=common {
+            judges_pair(rt.alloc(), first, second, shared, ascends)?;
+        }
+    }
+    Ok(())
+}
+
+#[test]
+fn stands_after_the_last_entry(rt: HostRuntime) -> Result<(), Fail> {
+    let mut cursor = Cursor::start(rt.alloc());
+    let bytes = THREE;
+    let block = BlockRef::check(&bytes, &mut cursor)?;
+    let last = cursor.key();
+    assert_eq!(rt; last.map(|key| (key.seq, key.kind)), Some((1, Kind::Value)));
+    assert_eq!(rt; last.map(|key| key.user), Some(b"k".as_slice()));
+    assert_eq!(rt; block.next(&mut cursor)?, None);
+    assert!(rt; BlockRef::check(&[0, 0, 0], &mut cursor).is_err());
+    assert!(rt; cursor.key().is_none());
+    Ok(())
+}
+
+#[test]
+fn seeks_among_shared_keys(rt: HostRuntime) -> Result<(), Fail> {
+    let block = Block::check(rt.alloc(), Vec::from_slice(rt.alloc(), &THREE)?)?;
+    // What follows the search for k at a sequence.
+    let rows: [(u64, Option<&[u8]>); 5] = [
+        (4, Some(b"")),
+        (3, Some(b"")),
+        (2, Some(b"2")),
+        (1, Some(b"1")),
+        (0, None),
+    ];
+    for (seq, want) in rows {
+        let key = KeyRef {
+            user: b"k",
+            seq,
+            kind: Kind::Value,
+        };
+        let mut cursor = block.seek(rt.alloc(), &key)?;
+        assert_eq!(rt; cursor.next(&block)?, want);
+    }
     Ok(())
 }
 
