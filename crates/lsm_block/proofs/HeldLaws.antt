@@ -11,7 +11,7 @@ use Rattle.lsm_block.specs.Block.{IsBlock, entry_of}
 use Rattle.lsm_block.specs.Gives.{Fails}
 use Rattle.lsm_block.specs.Reading.{key_at, block_at, block_of, parts_at, scan, first_fault, unless, entries_of}
 use Rattle.lsm_block.specs.Seeking.{readable, Parts, Steps}
-use Rattle.lsm_block.specs.Held.{Holds, text_and_entries, held, or_none, Kept, last_of, Given}
+use Rattle.lsm_block.specs.Held.{Holds, rest_of, text_and_entries, text_or_none, block_in, held, or_none, Kept, last_of, Given}
 use Rattle.lsm_block.proofs.KeyLaws.{kept_bytes, last-key}
 use Rattle.lsm_block.proofs.EntryLaws.{some_is}
 use Rattle.lsm_block.proofs.RestartLaws.{tail_again, length-spelled}
@@ -140,3 +140,22 @@ holds_found bytes text rs es b p =
 
 pub some_parts : (bytes : List ℕ) (es : List Entry) → IsBlock bytes es → None ≡ parts_at bytes → ⊥
 some_parts bytes es b e = let bad = e ∙ tail_again bytes b.text (0 ∷ b.restarts) (tail_of_block bytes es b) in absurd cc
+
+-- the text that was found is the front of the block
+front_is : (bytes text rs : List ℕ) (es : List Entry) → IsBlock bytes es → parts_at bytes ≡ Some (text, rs) → take (length text) bytes ≡ text
+front_is bytes text rs es b p =
+    let same = some_is (text, rs) (b.text, 0 ∷ b.restarts) (sym p ∙ tail_again bytes b.text (0 ∷ b.restarts) (tail_of_block bytes es b)) in
+    let is : text ≡ b.text = ap (λ (q : List ℕ × List ℕ). q.0) same in
+    ap (λ (t : List ℕ). take (length t) bytes) is ∙ ap (take (length b.text)) b.bytes_are ∙ take_at b.text (words_of b ++ count_of b) (length b.text) refl ∙ sym is
+
+pub found_block : (bytes text rs : List ℕ) (es : List Entry) → IsBlock bytes es → parts_at bytes ≡ Some (text, rs) → text_and_entries (take (length text) bytes) ≡ block_in bytes
+unfolding block_in
+found_block bytes text rs es b p =
+    ap text_and_entries (front_is bytes text rs es b p) ∙ ap (λ (o : Option (List ℕ × List ℕ)). text_and_entries (text_or_none o)) (sym p)
+
+-- from its front on
+pub front_of_block : (bytes : List ℕ) (es : List Entry) → IsBlock bytes es → rest_of (block_in bytes) (record { offset = 0; last = None }) ≡ es
+unfolding block_in
+front_of_block bytes es b =
+    ap (λ (o : Option (List ℕ × List ℕ)). rest_of (text_and_entries (text_or_none o)) (record { offset = 0; last = None })) (tail_again bytes b.text (0 ∷ b.restarts) (tail_of_block bytes es b))
+    ∙ reads_all es (length b.text) 0 [] b.text b.starts b.spelled (omega arith)

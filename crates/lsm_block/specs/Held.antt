@@ -4,7 +4,7 @@ use Rattle.lsm_codec.specs.Keys.{InternalKey, IsKey, key_bytes}
 use Rattle.lsm_codec.specs.Entries.{Entry, internal_key}
 use Rattle.lsm_block.specs.Block.{IsBlock, entry_of}
 use Rattle.lsm_block.specs.declared.fault.BlockFault.{BlockFault}
-use Rattle.lsm_block.specs.Reading.{is_internal, key_at, block_at}
+use Rattle.lsm_block.specs.Reading.{is_internal, key_at, parts_at, block_at}
 use Rattle.lsm_block.specs.Seeking.{readable}
 
 -- a block: its entries, and the text that spells them
@@ -32,6 +32,14 @@ first_of (e ∷ es) = Some e
 -- the text and the entries that it spells
 abbrev pub text_and_entries : List ℕ → HeldBlock
 text_and_entries text = record { text = text; entries = readable (length text) [] text }
+
+abbrev pub text_or_none : Option (List ℕ × List ℕ) → List ℕ
+text_or_none None = []
+text_or_none (Some parts) = parts.0
+
+-- the block that bytes are
+unfoldable pub block_in : List ℕ → HeldBlock
+block_in bytes = text_and_entries (text_or_none (parts_at bytes))
 
 -- the bytes are a block of the entries, whose text has this length
 pub record Holds (bytes : List ℕ) (text_len : ℕ) (entries : List Entry) : Type 0 where

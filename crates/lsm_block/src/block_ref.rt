@@ -8,7 +8,7 @@ ghost use Rattle.lsm_block.specs.Seeking.{not_below};
 ghost use Rattle.lsm_codec.specs.Entries.{Entry};
 ghost use Rattle.lsm_block.specs.Reading.{block_at};
 ghost use Rattle.lsm_block.specs.Gives.{Gives};
-ghost use Rattle.lsm_block.specs.Held.{Holds, rest_of, last_after, text_and_entries, held, Given};
+ghost use Rattle.lsm_block.specs.Held.{Holds, rest_of, last_after, text_and_entries, held, block_in, Given};
 
 use crate::check::parts;
 use crate::cursor::Cursor;
@@ -39,7 +39,8 @@ impl<'a> BlockRef<'a> {
     /// The block that bytes are which were checked before. Takes no memory, and reads but the number of restarts.
     pub fn of(bytes: &'a [u8]) -> BlockRef<'a>
         requires { IsBlock bytes.now (held bytes.now) }
-        ensures { result.entries ≡ held bytes.now }
+        ensures entries { result.entries ≡ held bytes.now }
+        ensures block { result ≡ block_in bytes.now }
     {
         let Some((text, _)) = parts(bytes) else {
             unreachable!()

@@ -46,6 +46,16 @@ impl Cursor {
         }
     }
 
+    /// Another cursor at the same place.
+    pub fn copy(&self, alloc: Global) -> Result<Cursor, AllocError>
+        ensures { IfOk result (λ c. c ≡ self.now) }
+    {
+        Ok(Cursor {
+            offset: self.offset,
+            before: Vec::from_slice(alloc, &self.before)?,
+        })
+    }
+
     /// Goes before the first entry.
     pub fn restart(&mut self)
         ensures { self.new ≡ record { offset = 0; last = None } }

@@ -1,5 +1,5 @@
 -- Going through a table that is held, data block by data block.
-use Rattle.std.proofs.Common.{◌≡◌, ℕ, List, [], ◌∷◌, ◌++◌, Option, Some, None, Ok, refl, sym, ap, ◌∙◌, subst, inl, inr, Less}
+use Rattle.std.proofs.Common.{◌≡◌, ℕ, List, [], ◌∷◌, ◌++◌, take, drop, Option, Some, None, Ok, refl, sym, ap, ◌∙◌, subst, inl, inr, Less}
 use Rattle.std.specs.List.{flat_map}
 use Rattle.std.specs.Ordering.{is_lt}
 use Rattle.lsm_codec.specs.Keys.{InternalKey, key_cmp}
@@ -11,13 +11,16 @@ use Rattle.lsm_block.specs.Seeking.{not_below}
 use Rattle.lsm_table.specs.declared.handle.Handle.{Handle}
 use Rattle.lsm_table.specs.Footer.{body_of}
 use Rattle.lsm_table.specs.Table.{DataBlock}
-use Rattle.lsm_table.specs.HeldTable.{HeldTable, Names, AreNamed, entries_in, entries_named, entries_or_none}
+use Rattle.lsm_table.specs.HeldTable.{HeldTable, Names, AreNamed, block_there, entries_in, entries_named, entries_or_none}
 use Rattle.lsm_table.specs.OpenTable.{opening_at}
-use Rattle.lsm_table.specs.TableEntries.{index_in, but_first, after, left_in, NextPlace}
+use Rattle.lsm_table.specs.TableEntries.{index_in, but_first, after, left_in, StandsIn, NextPlace}
 use Rattle.lsm_table.proofs.KeyOrder.{self_not}
 use Rattle.lsm_table.proofs.SearchLaws.{below-step, below-stop, below-nothing, either_bool, ascends_tail, ascends_after, after_at}
 use Rattle.lsm_table.proofs.HeldTableLaws.{names_part, names_all, named}
-use Rattle.lsm_table.proofs.OpenLaws.{opening_again, opened_names}
+use Rattle.lsm_block.proofs.HeldLaws.{front_of_block}
+use Rattle.lsm_block.specs.Held.{held}
+use Rattle.lsm_table.proofs.HeldBlockLaws.{is_there, held_there}
+use Rattle.lsm_table.proofs.OpenLaws.{opening_again, opened_names, opening_is, held_opened}
 use Rattle.lsm_table.proofs.GetLaws.{sought_first}
 
 -- ---- what comes after a key
@@ -67,11 +70,6 @@ place_is index at old new (Some place) a there g =
     let last : after new.last index.entries ≡ rest_of index new = ap (λ (x : Option InternalKey). after x index.entries) g.1 ∙ rest in
     (g.0, g.1, whole ∙ ap (λ (xs : List Entry). entry_of g.0 place ∷ xs) (sym last))
 
--- a cursor that stood before the first entry not below a key
-pub stepped : (index : HeldBlock) (key : InternalKey) (old new : Place) (o : Option (List ℕ)) → rest_of index old ≡ not_below key index.entries → Given index old new o → rest_of index new ≡ after (Some key) index.entries
-stepped index key old new None there g = g.1 ∙ ap but_first (sym g.0 ∙ there)
-stepped index key old new (Some value) there g = ap but_first (sym g.2 ∙ there)
-
 -- ---- in the table
 
 names_tail : (body : List ℕ) (index : List Entry) → AreNamed body index → AreNamed body (but_first index)
@@ -120,3 +118,38 @@ reached file body place index entries old new o h is e step some =
 pub none_reached : (file : List ℕ) (entries : List Entry) (old new : Option InternalKey) (o : Option (List ℕ)) → opening_at file ≡ Ok entries → NextPlace entries old new o → o ≡ None → after old (index_in file) ≡ []
 none_reached file entries old new o e step none =
     ap (after old) (index_is file entries e) ∙ subst (NextPlace entries old new) none step
+
+-- ---- a cursor in the index
+
+ascends_in : (file : List ℕ) (index : Handle) (entries : List Entry) → HeldTable file index → opening_at file ≡ Ok entries → Ascends entries
+ascends_in file index entries h e = subst Ascends (index_is file entries e) (held_index file index h).ascends
+
+-- a step of a cursor that stands in the index
+pub moves : (file : List ℕ) (index : Handle) (block : HeldBlock) (at new : Place) (o : Option (List ℕ)) → HeldTable file index → opening_at file ≡ Ok block.entries → block ≡ block_there (body_of file) index → StandsIn file index at → Given block at new o
+    → NextPlace block.entries at.last new.last o
+moves file index block at new o h e is stands g =
+    place_is block at.last at new o (ascends_in file index block.entries h e)
+    (ap (λ (b : HeldBlock). rest_of b at) is ∙ stands ∙ ap (after at.last) (index_is file block.entries e)) g
+
+still_after : (block : HeldBlock) (old new : Place) (place : List ℕ) → NextPlace block.entries old.last new.last (Some place) → Given block old new (Some place) → rest_of block old ≡ after old.last block.entries → rest_of block new ≡ after new.last block.entries
+still_after block old new place n g there =
+    let same : entry_of g.0 place ∷ rest_of block new ≡ entry_of n.0 place ∷ after new.last block.entries = sym g.2 ∙ there ∙ n.2 in
+    cc
+
+-- and it stands there again
+pub stands_on : (file : List ℕ) (index : Handle) (block : HeldBlock) (at new : Place) (o : Option (List ℕ)) (place : List ℕ) → HeldTable file index → opening_at file ≡ Ok block.entries → block ≡ block_there (body_of file) index → StandsIn file index at → Given block at new o → o ≡ Some place
+    → StandsIn file index new
+stands_on file index block at new o place h e is stands g some =
+    let given = subst (Given block at new) some g in
+    let there = ap (λ (b : HeldBlock). rest_of b at) is ∙ stands ∙ ap (after at.last) (index_is file block.entries e) in
+    let next = subst (NextPlace block.entries at.last new.last) some (moves file index block at new o h e is stands g) in
+    ap (λ (b : HeldBlock). rest_of b new) (sym is) ∙ still_after block at new place next given there ∙ ap (after new.last) (sym (index_is file block.entries e))
+
+-- before the first entry
+pub stands_first : (file : List ℕ) (index : Handle) → HeldTable file index → StandsIn file index (record { offset = 0; last = None })
+stands_first file index h =
+    let o = held_opened file index h in
+    let body = body_of file in
+    let bytes = take index.size (drop index.offset body) in
+    front_of_block bytes (held bytes) (is_there body index o.entries o.block)
+    ∙ held_there body index o.entries o.block ∙ sym (index_is file o.entries (opening_is file index o.entries o o.block))

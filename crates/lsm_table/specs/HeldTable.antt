@@ -1,10 +1,11 @@
 -- A table that was checked, and what is left of it for a reader.
-use Rattle.std.specs.Prelude.{◌≡◌, ℕ, List, [], ◌∷◌, ◌++◌, Option, Some, None, Result, Ok, Err}
+use Rattle.std.specs.Prelude.{◌≡◌, ℕ, List, [], ◌∷◌, ◌++◌, take, drop, Option, Some, None, Result, Ok, Err}
 use Rattle.std.specs.List.{flat_map}
 use Rattle.lsm_codec.specs.Keys.{InternalKey}
 use Rattle.lsm_codec.specs.Entries.{Entry}
 use Rattle.lsm_block.specs.Block.{Ascends, IsBlock, entry_of}
 use Rattle.lsm_block.specs.Reading.{block_at}
+use Rattle.lsm_block.specs.Held.{HeldBlock, block_in}
 use Rattle.lsm_table.specs.declared.table_fault.TableFault.{TableFault}
 use Rattle.lsm_table.specs.declared.table_fault.TableFault.TheVariants.{BadIndex}
 use Rattle.lsm_table.specs.declared.handle.Handle.{Handle}
@@ -48,6 +49,10 @@ pub record BlockAt (body : List ℕ) (handle : Handle) (entries : List Entry) : 
   pub contents : List ℕ
   pub held : Holds body handle contents
   pub block : IsBlock contents entries
+
+-- what stands there, read as a block
+abbrev pub block_there : List ℕ → Handle → HeldBlock
+block_there body handle = block_in (take handle.size (drop handle.offset body))
 
 abbrev pub IsSpelled : List ℕ → Type 0
 IsSpelled bytes = (handle : Handle) × IsHandle bytes handle

@@ -4,8 +4,10 @@ use Rattle.lsm_codec.specs.Keys.{InternalKey}
 use Rattle.lsm_codec.specs.Entries.{Entry}
 use Rattle.lsm_block.specs.Block.{entry_of}
 use Rattle.lsm_block.specs.Seeking.{not_below}
+use Rattle.lsm_block.specs.Held.{Place, rest_of}
+use Rattle.lsm_table.specs.declared.handle.Handle.{Handle}
 use Rattle.lsm_table.specs.Footer.{body_of}
-use Rattle.lsm_table.specs.HeldTable.{entries_or_none, left_of}
+use Rattle.lsm_table.specs.HeldTable.{block_there, entries_or_none, left_of}
 use Rattle.lsm_table.specs.OpenTable.{opening_at}
 
 -- the index entries of a table
@@ -24,6 +26,10 @@ after (Some key) es = but_first (not_below key es)
 -- what is left of a table when these entries are left of a data block, that of this index key
 abbrev pub left_in : List ℕ → List Entry → Option InternalKey → List Entry
 left_in file here last = left_of (body_of file) here (after last (index_in file))
+
+-- a cursor over the index block of a table stands after its last key
+abbrev pub StandsIn : List ℕ → Handle → Place → Type 0
+StandsIn file index at = rest_of (block_there (body_of file) index) at ≡ after at.last (index_in file)
 
 -- What comes after one index key: nothing, or the value of the next index entry, whose key is then the last.
 abbrev pub NextPlace : List Entry → Option InternalKey → Option InternalKey → Option (List ℕ) → Type 0

@@ -5,7 +5,7 @@ ghost use Rattle.lsm_codec.specs.Entries.{Entry};
 ghost use Rattle.lsm_table.specs.Table.{DataBlock};
 ghost use Rattle.std.specs.Prelude.{Ok};
 ghost use Rattle.lsm_table.specs.Footer.{body_of};
-ghost use Rattle.lsm_table.specs.HeldTable.{BlockAt};
+ghost use Rattle.lsm_table.specs.HeldTable.{BlockAt, block_there};
 ghost use Rattle.lsm_table.specs.OpenTable.{IsOpened, opening_at};
 
 use crate::footer::FOOTER;
@@ -15,7 +15,8 @@ use lsm_block::BlockRef;
 /// The block that stands there.
 pub(crate) fn block_at<'a>(body: &'a [u8], handle: Handle) -> BlockRef<'a>
     requires { (es : List Entry) × BlockAt body.now handle es }
-    ensures { (es : List Entry) → BlockAt body.now handle es → result.entries ≡ es }
+    ensures entries { (es : List Entry) → BlockAt body.now handle es → result.entries ≡ es }
+    ensures block { result ≡ block_there body.now handle }
 {
     let (_, rest) = body.split_at(handle.offset as usize);
     let (contents, _) = rest.split_at(handle.size as usize);
@@ -27,6 +28,7 @@ pub(crate) fn parts(file: &[u8], index: Handle) -> (&[u8], BlockRef<'_>)
     requires { IsOpened file.now index }
     ensures body { result.0.now ≡ body_of file.now }
     ensures index { opening_at file.now ≡ Ok result.1.entries }
+    ensures block { result.1 ≡ block_there (body_of file.now) index }
 {
     let (body, _) = file.split_at(file.len() - FOOTER);
     (body, block_at(body, index))

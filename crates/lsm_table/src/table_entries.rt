@@ -1,12 +1,12 @@
 //! Going through a table that is held.
 
-ghost use Rattle.std.specs.Prelude.{◌≡◌, List, ℕ, None, IfOk, IfErr, OnErr};
+ghost use Rattle.std.specs.Prelude.{◌≡◌, List, ℕ, None, IfOk, IfErr, IfSome, OnErr};
 ghost use Rattle.std.specs.Option.{option_map};
 ghost use Rattle.lsm_codec.specs.KeyRef.{key_of};
 ghost use Rattle.lsm_block.specs.Block.{Ascends};
 ghost use Rattle.lsm_table.specs.declared.table_fault.TableFault.TheVariants.{OutOfMemory};
 ghost use Rattle.lsm_table.specs.HeldTable.{HeldTable, Steps, entries_in};
-ghost use Rattle.lsm_table.specs.TableEntries.{NextPlace, NextBlock};
+ghost use Rattle.lsm_table.specs.TableEntries.{StandsIn, NextBlock};
 
 use crate::handle::Handle;
 use crate::held_block::{data_block, parts};
@@ -29,7 +29,7 @@ pub struct TableEntries {
     file: Vec<u8>,
     // Where the index block stands.
     index: Handle,
-    // Its key is the index key of the data block whose entries are given.
+    // In the index block, after the entry of the data block whose entries are given.
     at: Cursor,
     // What is left of that data block.
     ready: VecDeque<HeldEntry>,
@@ -38,31 +38,13 @@ pub struct TableEntries {
 
 impl Model for TableEntries {
     ghost use Rattle.lsm_table.specs.HeldTable.{HeldTable, Walk};
-    ghost use Rattle.lsm_table.specs.TableEntries.{left_in};
+    ghost use Rattle.lsm_table.specs.TableEntries.{left_in, StandsIn};
 
     ghost Value = { Walk };
 
     ghost view = { λ t. record { last = t.given; left = left_in t.file.items t.ready.items t.at.last } };
 
-    ghost invariant = { λ t. HeldTable t.file.items t.index };
-}
-
-/// Goes to the index entry that comes after a key, or to the first.
-fn place_after<'a>(
-    index: &BlockRef<'a>,
-    at: Option<KeyRef<'_>>,
-    cursor: &mut Cursor,
-) -> Result<Option<&'a [u8]>, AllocError>
-    requires { Ascends index.now.entries }
-    ensures { IfOk result (λ r. NextPlace index.now.entries (option_map key_of at.entry) cursor.new.last (option_map (λ v. v.now) r)) }
-{
-    let Some(key) = at else {
-        index.rewind(cursor);
-        return Ok(index.next(cursor)?);
-    };
-    index.seek(cursor, &key)?;
-    let _ = index.next(cursor)?;
-    Ok(index.next(cursor)?)
+    ghost invariant = { λ t. HeldTable t.file.items t.index × StandsIn t.file.items t.index t.at };
 }
 
 /// The entries of a block, copied.
@@ -88,12 +70,14 @@ fn block_after(
     index: Handle,
     at: &Cursor,
 ) -> Result<Option<(Cursor, VecDeque<HeldEntry>)>, AllocError>
-    requires { HeldTable file.now index }
-    ensures { IfOk result (λ r. NextBlock file.now at.now.last (option_map (λ x. (x.0.last, x.1.items)) r)) }
+    requires held { HeldTable file.now index }
+    requires stands { StandsIn file.now index at.now }
+    ensures next { IfOk result (λ r. NextBlock file.now at.now.last (option_map (λ x. (x.0.last, x.1.items)) r)) }
+    ensures stands { IfOk result (λ r. IfSome r (λ x. StandsIn file.now index x.0)) }
 {
     let (body, index) = parts(file, index);
-    let mut next = Cursor::start(alloc);
-    let Some(place) = place_after(&index, at.key(), &mut next)? else {
+    let mut next = at.copy(alloc)?;
+    let Some(place) = index.next(&mut next)? else {
         return Ok(None);
     };
     let entries = unpack(alloc, &data_block(body, place))?;

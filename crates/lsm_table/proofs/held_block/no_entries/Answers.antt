@@ -6,4 +6,4 @@ pub of-requires : goal.of-requires
 of-requires c = none_itself
 
 pub returns : goal.returns
-returns c = c.of.ensures ∙ none_held
+returns c = c.of.ensures.entries ∙ none_held

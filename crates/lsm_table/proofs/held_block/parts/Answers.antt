@@ -10,5 +10,5 @@ pub returns-clause-index : goal.returns-clause-index
 returns-clause-index c =
     let o = c.requires in
     let body : c.split_at.result.0.now ≡ body_of c.args.file.now = c.split_at.ensures.front in
-    let same = c.block_at.ensures o.entries (subst (λ (xs : List ℕ). BlockAt xs c.args.index o.entries) (sym body) o.block) in
+    let same = c.block_at.ensures.entries o.entries (subst (λ (xs : List ℕ). BlockAt xs c.args.index o.entries) (sym body) o.block) in
     subst (λ (es : List Entry). opening_at c.args.file.now ≡ Ok es) (sym same) (opening_is c.args.file.now c.args.index o.entries o o.block)
