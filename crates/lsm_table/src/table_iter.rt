@@ -1,9 +1,10 @@
 //! Going through a table.
 
-ghost use Rattle.std.specs.Prelude.{◌≡◌, [], IfOk, OnErr};
+ghost use Rattle.std.specs.Prelude.{◌≡◌, [], IfOk, IfErr, OnErr};
 ghost use Rattle.std.specs.Option.{option_map};
 ghost use Rattle.lsm_codec.specs.KeyRef.{key_of};
 ghost use Rattle.lsm_block.specs.Held.{rest_of};
+ghost use Rattle.lsm_table.specs.declared.table_fault.TableFault.TheVariants.{OutOfMemory};
 ghost use Rattle.lsm_table.specs.HeldTable.{AreNamed, Steps, left_of};
 
 use crate::held_block::{data_block, no_entries};
@@ -67,6 +68,7 @@ impl<'t> TableIter<'t> {
     pub fn next(&mut self) -> Result<Option<&'t [u8]>, TableFault>
         ensures given { IfOk result (λ r. Steps self.old self.new (option_map (λ v. v.now) r)) }
         ensures err { OnErr result (self.new.left ≡ self.old.left) }
+        ensures memory { IfErr result (λ e. e ≡ OutOfMemory) }
     {
         if let Some(value) = self.block.next(&mut self.here)? {
             return Ok(Some(value));
