@@ -1,6 +1,7 @@
 -- One walk over the entries of a block and its restart offsets side by side.
-use Rattle.std.specs.Prelude.{ℕ, zero, suc, ◌&&◌, Bool, true, false, nat_lt, nat_le, ◌==◌, if◌then◌else◌, List, [], ◌∷◌, Option, Some, None}
+use Rattle.std.specs.Prelude.{ℕ, zero, suc, ◌&&◌, Bool, true, false, nat_lt, nat_le, ◌==◌, if◌then◌else◌, List, [], ◌∷◌, ◌++◌, take, Option, Some, None}
 use Rattle.std.specs.List.{list_all}
+use Rattle.lsm_block.specs.declared.entry.RawEntry.{RawEntry}
 use Rattle.lsm_block.specs.declared.fault.BlockFault.{BlockFault}
 use Rattle.lsm_block.specs.declared.fault.BlockFault.TheVariants.{BadEntry}
 use Rattle.lsm_block.specs.Reading.{Piece, Scan, starts_of, rises, disorder, entry_fault, restart_fault}
@@ -8,6 +9,13 @@ use Rattle.lsm_block.specs.Reading.{Piece, Scan, starts_of, rises, disorder, ent
 -- what is seen of an entry that was read: how much of its key is shared, its key, its value, and what follows it
 abbrev pub seen : Piece × List ℕ → ℕ × List ℕ × List ℕ × List ℕ
 seen found = (found.0.shared, found.0.key, found.0.value, found.1)
+
+-- the key of an entry as the code has it, after the key before it, and what is seen of the entry
+abbrev pub raw_key : List ℕ → RawEntry → List ℕ
+raw_key before e = take e.shared before ++ e.own.now
+
+abbrev pub raw_seen : List ℕ → RawEntry → ℕ × List ℕ × List ℕ × List ℕ
+raw_seen before e = (e.shared, raw_key before e, e.value.now, e.after.now)
 
 -- The offset before the walk, and those that are left: the first is passed where it is 0. Where it is not, none follows it,
 -- since it does not rise above itself.

@@ -1,10 +1,10 @@
 //! The entries of a block, one at a time.
 
-ghost use Rattle.std.specs.Prelude.{◌≡◌, ◌≤◌, ◌++◌, [], ℕ, List, length, take, IfSome};
+ghost use Rattle.std.specs.Prelude.{◌≡◌, ◌≤◌, [], ℕ, List, length, IfSome};
 ghost use Rattle.std.specs.Option.{option_map};
 ghost use Rattle.lsm_block.specs.Reading.{number_at, numbers_at, piece_of, entry_at, key_at};
 ghost use Rattle.lsm_codec.specs.Keys.{IsKey};
-ghost use Rattle.lsm_block.specs.Walking.{seen};
+ghost use Rattle.lsm_block.specs.Walking.{seen, raw_key, raw_seen};
 
 use crate::key::is_internal_key;
 use crate::shared_key::SharedKey;
@@ -65,9 +65,9 @@ impl<'a> RawEntry<'a> {
         len: u32,
         rest: &'a [u8],
     ) -> Option<RawEntry<'a>>
-        ensures reads { option_map (λ e. (e.shared, take e.shared before.now ++ e.own.now, e.value.now, e.after.now)) result ≡ option_map seen (piece_of before.now shared unshared len rest.now) }
+        ensures reads { option_map (raw_seen before.now) result ≡ option_map seen (piece_of before.now shared unshared len rest.now) }
         ensures within { IfSome result (λ e. e.shared ≤ length before.now) }
-        ensures kept { IfSome result (λ e. IsKey (take e.shared before.now ++ e.own.now) (key_at (take e.shared before.now ++ e.own.now))) }
+        ensures kept { IfSome result (λ e. IsKey (raw_key before.now e) (key_at (raw_key before.now e))) }
     {
         if shared as usize > before.len() {
             return None;
@@ -91,9 +91,9 @@ impl<'a> RawEntry<'a> {
     /// The entry at the front of a text, after the key before it, if one can be read.
     #[tactic(auto, unfolding(crate::specs::Reading::entry_at))]
     pub(crate) fn read(before: &[u8], text: &'a [u8]) -> Option<RawEntry<'a>>
-        ensures reads { option_map (λ e. (e.shared, take e.shared before.now ++ e.own.now, e.value.now, e.after.now)) result ≡ option_map seen (entry_at before.now text.now) }
+        ensures reads { option_map (raw_seen before.now) result ≡ option_map seen (entry_at before.now text.now) }
         ensures within { IfSome result (λ e. e.shared ≤ length before.now) }
-        ensures kept { IfSome result (λ e. IsKey (take e.shared before.now ++ e.own.now) (key_at (take e.shared before.now ++ e.own.now))) }
+        ensures kept { IfSome result (λ e. IsKey (raw_key before.now e) (key_at (raw_key before.now e))) }
     {
         let (shared, unshared, len, rest) = numbers(text)?;
         RawEntry::of(before, shared, unshared, len, rest)
