@@ -50,7 +50,7 @@ unfolding not_below
 below-stop key e es h = ap (λ (b : Bool). drop_if b (not_below key es) (e ∷ es)) h
 
 -- an entry comes before the entry that follows it, and before each key after that
-before_far : (front : List Entry) (a e : Entry) (es : List Entry) (key : InternalKey) → Ascends (a ∷ (front ++ e ∷ es)) → key_cmp (internal_key e) key ≡ Less → key_cmp (internal_key a) key ≡ Less
+pub before_far : (front : List Entry) (a e : Entry) (es : List Entry) (key : InternalKey) → Ascends (a ∷ (front ++ e ∷ es)) → key_cmp (internal_key e) key ≡ Less → key_cmp (internal_key a) key ≡ Less
 before_far [] a e es key s h = key_trans (internal_key a) (internal_key e) key s.0 h
 before_far (b ∷ front) a e es key s h = key_trans (internal_key a) (internal_key b) key s.0 (before_far front b e es key s.1 h)
 

@@ -1,10 +1,11 @@
 -- Reading from a restart on gives what follows there.
-use Rattle.std.proofs.Common.{◌≡◌, ℕ, zero, suc, ◌+◌, ◌-◌, ◌*◌, ◌/◌, ◌<◌, ◌≤◌, true, List, [], ◌∷◌, ◌++◌, length, take, drop, get_or, Option, Some, None, refl, sym, ap, ◌∙◌, subst, arith, inl, inr}
+use Rattle.std.proofs.Common.{◌≡◌, ℕ, zero, suc, ◌+◌, ◌-◌, ◌*◌, ◌/◌, ◌<◌, ◌≤◌, Bool, true, false, List, [], ◌∷◌, ◌++◌, length, take, drop, get_or, Option, Some, None, refl, sym, ap, ◌∙◌, subst, arith, inl, inr}
 use Rattle.std.specs.Prelude.{◌⊎◌, Contains}
 use Rattle.std.specs.Option.{option_map}
 use Rattle.std.specs.List.{flat_map}
 use Rattle.std.specs.Ordering.{is_lt}
 use Rattle.std.specs.Int.{w32, to_le_bytes, from_le_bytes}
+use Rattle.std.proofs.lemmas.Bool.{cases_lt}
 use Rattle.std.proofs.lemmas.Nat.{from_le_bytes-to_le_bytes_4}
 use Rattle.std.proofs.lemmas.List.{take_at, drop_at, length-append, length-drop, drop-drop, drop_all}
 use Rattle.std.proofs.Math.Seq.{drop-append-add}
@@ -14,15 +15,15 @@ use Rattle.lsm_codec.specs.Entries.{Entry, internal_key}
 use Rattle.lsm_codec.proofs.Varints.{IsBytes}
 use Rattle.lsm_block.specs.Block.{entry_of, EntryText, Spells, Rises, start_at, Ascends, key_text}
 use Rattle.lsm_block.specs.Reading.{Piece, is_internal, numbers_at, entry_at, entry, key_at}
-use Rattle.lsm_block.specs.Seeking.{readable, read_on, not_below, word_of, Parts, StartsBelow}
+use Rattle.lsm_block.specs.Seeking.{readable, read_on, not_below, word_of, Parts, found_below, starts_below}
 use Rattle.lsm_block.specs.Walking.{seen}
 use Rattle.lsm_block.proofs.KeyLaws.{key_again}
 use Rattle.lsm_block.proofs.EntryLaws.{sharing, entry_again, entry_again_is, own-some, some_is, leaves, IsBytes-drop}
 use Rattle.lsm_block.proofs.RestartLaws.{Fit, length-spelled}
-use Rattle.lsm_block.proofs.ScanLaws.{either}
+use Rattle.lsm_block.proofs.ScanLaws.{either, is_less, less_is}
 use Rattle.lsm_block.proofs.BlockLaws.{read_internal}
 use Rattle.lsm_block.proofs.SeenLaws.{sees, seen_some, seen_none}
-use Rattle.lsm_block.proofs.OrderLaws.{below_front}
+use Rattle.lsm_block.proofs.OrderLaws.{below_front, before_far, ascends-tail}
 
 -- ---- reading
 
@@ -85,13 +86,14 @@ reads_all (e ∷ es) (suc count) offset before text starts s h =
 
 -- ---- from a restart on
 
--- the entries from an offset on, where the first of them shares nothing
-pub record Splits (whole : List ℕ) (o : ℕ) (es : List Entry) : Type 0 where
+-- the entries from an offset on, where the first of them shares nothing; the starts beyond it are starts of theirs
+pub record Splits (whole : List ℕ) (o : ℕ) (starts : List ℕ) (es : List Entry) : Type 0 where
   pub front : List Entry
   pub rest : List Entry
   pub later : List ℕ
   pub parts : es ≡ front ++ rest
   pub spelled : Spells o [] (drop o whole) later rest
+  pub onto : (x : ℕ) → o < x → Contains starts x → Contains later x
 
 here_or_later : (shared offset o : ℕ) (others : List ℕ) → Contains (start_at shared offset ++ others) o → ((shared ≡ 0) × (offset ≡ o)) ⊎ Contains others o
 here_or_later zero offset o others (zero, h, is) = inl (refl, is)
@@ -114,7 +116,16 @@ after_none before own e t = record {
   text_is = t.text_is;
 }
 
-splits : (es : List Entry) (offset o : ℕ) (before text starts whole : List ℕ) → Spells offset before text starts es → text ≡ drop offset whole → Contains starts o → Splits whole o es
+-- no start stands before the text
+starts_from : (es : List Entry) (offset o : ℕ) (before text starts : List ℕ) → Spells offset before text starts es → Contains starts o → offset ≤ o
+starts_from [] offset o before text starts s c = let d = subst (λ (xs : List ℕ). Contains xs o) s.1 c in absurd (omega (arith, d.1))
+starts_from (e ∷ es) offset o before text starts s c =
+    elim (here_or_later s.0 offset o s.3 (subst (λ (xs : List ℕ). Contains xs o) s.6 c)) [
+      | inl here ↦ omega (arith, here.1)
+      | inr later ↦ omega (arith, starts_from es (offset + length s.1) o (key_text e) s.2 s.3 s.7 later)
+    ]
+
+splits : (es : List Entry) (offset o : ℕ) (before text starts whole : List ℕ) → Spells offset before text starts es → text ≡ drop offset whole → Contains starts o → Splits whole o starts es
 splits [] offset o before text starts whole s is c = let d = subst (λ (xs : List ℕ). Contains xs o) s.1 c in absurd (omega (arith, d.1))
 splits (e ∷ es) offset o before text starts whole s is c =
     let own = s.1 in
@@ -124,12 +135,25 @@ splits (e ∷ es) offset o before text starts whole s is c =
           let t : EntryText [] e 0 own = after_none before own e (subst (λ (n : ℕ). EntryText before e n own) here.0 s.4) in
           let stands : Spells offset [] text (start_at 0 offset ++ s.3) (e ∷ es) = (0, own, rest, s.3, t, s.5, refl, s.7) in
           let placed = subst (λ (xs : List ℕ). Spells offset [] xs (start_at 0 offset ++ s.3) (e ∷ es)) is stands in
-          subst (λ (n : ℕ). Splits whole n (e ∷ es)) here.1 (record { front = []; rest = e ∷ es; later = start_at 0 offset ++ s.3; parts = refl; spelled = placed })
+          let same : starts ≡ start_at 0 offset ++ s.3 = s.6 ∙ ap (λ (n : ℕ). start_at n offset ++ s.3) here.0 in
+          subst (λ (n : ℕ). Splits whole n starts (e ∷ es)) here.1
+          (record { front = []; rest = e ∷ es; later = start_at 0 offset ++ s.3; parts = refl; spelled = placed; onto = λ x lt d. subst (λ (xs : List ℕ). Contains xs x) same d })
       | inr later ↦
           let next : rest ≡ drop (offset + length own) whole =
           sym (drop_at own rest (length own) refl) ∙ ap (drop (length own)) (sym s.5 ∙ is) ∙ drop-drop (length own) offset whole in
           let sp = splits es (offset + length own) o (key_text e) rest s.3 whole s.7 next later in
-          record { front = e ∷ sp.front; rest = sp.rest; later = sp.later; parts = ap (λ (xs : List Entry). e ∷ xs) sp.parts; spelled = sp.spelled }
+          let least = starts_from es (offset + length own) o (key_text e) rest s.3 s.7 later in
+          record {
+            front = e ∷ sp.front;
+            rest = sp.rest;
+            later = sp.later;
+            parts = ap (λ (xs : List Entry). e ∷ xs) sp.parts;
+            spelled = sp.spelled;
+            onto = λ x lt d. elim (here_or_later s.0 offset x s.3 (subst (λ (xs : List ℕ). Contains xs x) s.6 d)) [
+              | inl here ↦ absurd (omega (arith, here.1, lt, least))
+              | inr more ↦ sp.onto x lt more
+            ];
+          }
     ]
 
 restart_in : (starts : List ℕ) (b : ℕ) (rs : List ℕ) (i : ℕ) → Rises starts b rs → i < length rs → Contains starts (get_or rs i 0)
@@ -148,16 +172,19 @@ word_is (r ∷ rs) (suc i) f h =
     ∙ ap (λ (xs : List ℕ). from_le_bytes w32 (take 4 xs)) d
     ∙ word_is rs i f.1 (omega (arith, h))
 
-restart_of : (text offsets : List ℕ) (es : List Entry) (p : Parts text offsets es) (i : ℕ) → i < length (0 ∷ p.restarts) → Splits text (get_or (0 ∷ p.restarts) i 0) es
-restart_of text offsets es p zero h = record { front = []; rest = es; later = p.starts; parts = refl; spelled = p.spelled }
+restart_of : (text offsets : List ℕ) (es : List Entry) (p : Parts text offsets es) (i : ℕ) → i < length (0 ∷ p.restarts) → Splits text (get_or (0 ∷ p.restarts) i 0) p.starts es
+restart_of text offsets es p zero h = record { front = []; rest = es; later = p.starts; parts = refl; spelled = p.spelled; onto = λ x lt c. c }
 restart_of text offsets es p (suc i) h = splits es 0 (get_or p.restarts i 0) [] text p.starts text p.spelled refl (restart_in p.starts 0 p.restarts i p.rises (omega (arith, h)))
 
-pub restart_splits : (text offsets : List ℕ) (es : List Entry) → Parts text offsets es → (i : ℕ) → i < length offsets / 4 → Splits text (word_of offsets i) es
+few_restarts : (text offsets : List ℕ) (es : List Entry) (p : Parts text offsets es) (i : ℕ) → i < length offsets / 4 → i < length (0 ∷ p.restarts)
+few_restarts text offsets es p i h = omega (arith, ap (λ (xs : List ℕ). length xs) p.offsets_are ∙ length-spelled (0 ∷ p.restarts), h)
+
+restart_at : (text offsets : List ℕ) (es : List Entry) (p : Parts text offsets es) (i : ℕ) → i < length offsets / 4 → word_of offsets i ≡ get_or (0 ∷ p.restarts) i 0
+restart_at text offsets es p i h = ap (λ (xs : List ℕ). word_of xs i) p.offsets_are ∙ word_is (0 ∷ p.restarts) i (omega arith, p.fits) (few_restarts text offsets es p i h)
+
+pub restart_splits : (text offsets : List ℕ) (es : List Entry) (p : Parts text offsets es) (i : ℕ) → i < length offsets / 4 → Splits text (word_of offsets i) p.starts es
 restart_splits text offsets es p i h =
-    let len = ap (λ (xs : List ℕ). length xs) p.offsets_are ∙ length-spelled (0 ∷ p.restarts) in
-    let few : i < length (0 ∷ p.restarts) = omega (arith, len, h) in
-    let w : word_of offsets i ≡ get_or (0 ∷ p.restarts) i 0 = ap (λ (xs : List ℕ). word_of xs i) p.offsets_are ∙ word_is (0 ∷ p.restarts) i (omega arith, p.fits) few in
-    subst (λ (n : ℕ). Splits text n es) (sym w) (restart_of text offsets es p i few)
+    subst (λ (n : ℕ). Splits text n p.starts es) (sym (restart_at text offsets es p i h)) (restart_of text offsets es p i (few_restarts text offsets es p i h))
 
 -- From an entry below the key on, the search finds the same.
 below_there : (key : InternalKey) (text : List ℕ) (o : ℕ) (front rest es : List Entry) (later : List ℕ) (p : Piece) (after : List ℕ) → Ascends es → es ≡ front ++ rest → Spells o [] (drop o text) later rest
@@ -184,6 +211,98 @@ pub low_starts : (key : InternalKey) (text offsets : List ℕ) (es : List Entry)
 low_starts key text offsets es p =
     let w : word_of offsets 0 ≡ 0 = ap (λ (xs : List ℕ). word_of xs 0) p.offsets_are ∙ word_is (0 ∷ p.restarts) 0 (omega arith, p.fits) (omega arith) in
     ap (λ (n : ℕ). not_below key (readable (length text) [] (drop n text))) w ∙ ap (not_below key) (reads_all es (length text) 0 [] text p.starts p.spelled (omega arith))
+
+-- ---- restarts in their order
+
+rises_at : (starts : List ℕ) (b : ℕ) (rs : List ℕ) (i : ℕ) → Rises starts b rs → i < length rs → b < get_or rs i 0
+rises_at starts b [] i r h = absurd (omega arith)
+rises_at starts b (x ∷ rs) zero r h = r.0
+rises_at starts b (x ∷ rs) (suc i) r h = omega (arith, r.0, rises_at starts x rs i r.2 (omega (arith, h)))
+
+rises_up : (starts : List ℕ) (b : ℕ) (rs : List ℕ) (i j : ℕ) → Rises starts b rs → i < j → j < length (b ∷ rs) → get_or (b ∷ rs) i 0 < get_or (b ∷ rs) j 0
+rises_up starts b rs i zero r lt h = absurd (omega (arith, lt))
+rises_up starts b rs zero (suc j) r lt h = rises_at starts b rs j r (omega (arith, h))
+rises_up starts b [] (suc i) (suc j) r lt h = absurd (omega (arith, h))
+rises_up starts b (x ∷ rs) (suc i) (suc j) r lt h = rises_up starts x rs i j r.2 (omega (arith, lt)) (omega (arith, h))
+
+pub words_rise : (text offsets : List ℕ) (es : List Entry) → Parts text offsets es → (i j : ℕ) → i < j → j < length offsets / 4 → word_of offsets i < word_of offsets j
+words_rise text offsets es p i j lt h =
+    let a = restart_at text offsets es p i (omega (arith, lt, h)) in
+    let b = restart_at text offsets es p j h in
+    omega (arith, a, b, rises_up p.starts 0 p.restarts i j p.rises lt (few_restarts text offsets es p j h))
+
+-- the key at the front of a text that is spelled after no key
+none_below : (key : InternalKey) (o : ℕ) (text later : List ℕ) → Spells o [] text later [] → found_below key (entry_at [] text) ≡ false
+none_below key o text later s = ap (λ (t : List ℕ). found_below key (entry_at [] t)) s.0 ∙ ap (found_below key) (entry-empty [])
+
+head_below : (key : InternalKey) (o : ℕ) (text later : List ℕ) (x : Entry) (xs : List Entry) → Spells o [] text later (x ∷ xs) → found_below key (entry_at [] text) ≡ is_lt (key_cmp (internal_key x) key)
+head_below key o text later x xs s =
+    ap (found_below key) (ap (entry_at []) s.5 ∙ entry_again [] s.1 s.2 x s.0 s.4)
+    ∙ ap (λ (k : InternalKey). is_lt (key_cmp k key)) (key_again (internal_key x) s.4.seq_fits)
+
+-- where the key at the front of a later part is below a key, so is that of an earlier one
+parts_below : (key : InternalKey) (o n : ℕ) (early late starts later : List ℕ) (all front rest : List Entry) → Ascends all → all ≡ front ++ rest → Spells o [] early starts all → Spells n [] late later rest
+    → found_below key (entry_at [] late) ≡ true → found_below key (entry_at [] early) ≡ true
+parts_below key o n early late starts later all front [] a is s t h = let bad = sym (none_below key n late later t) ∙ h in absurd cc
+parts_below key o n early late starts later all [] (x ∷ xs) a is s t h =
+    head_below key o early starts x xs (subst (Spells o [] early starts) is s) ∙ sym (head_below key n late later x xs t) ∙ h
+parts_below key o n early late starts later all (f ∷ front) (x ∷ xs) a is s t h =
+    let below = is_less (key_cmp (internal_key x) key) (sym (head_below key n late later x xs t) ∙ h) in
+    head_below key o early starts f (front ++ x ∷ xs) (subst (Spells o [] early starts) is s)
+    ∙ less_is (key_cmp (internal_key f) key) (before_far front f x xs key (subst Ascends is a) below)
+
+ascends_rest : (front rest : List Entry) → Ascends (front ++ rest) → Ascends rest
+ascends_rest [] rest a = a
+ascends_rest (x ∷ front) rest a = ascends_rest front rest (ascends-tail x (front ++ rest) a)
+
+restart_there : (text offsets : List ℕ) (es : List Entry) (p : Parts text offsets es) (i j : ℕ) → i < j → j < length offsets / 4 → Contains p.starts (word_of offsets j)
+restart_there text offsets es p i zero lt h = absurd (omega (arith, lt))
+restart_there text offsets es p i (suc j) lt h =
+    subst (Contains p.starts) (sym (restart_at text offsets es p (suc j) h)) (restart_in p.starts 0 p.restarts j p.rises (omega (arith, few_restarts text offsets es p (suc j) h)))
+
+-- Where the key at a restart is below a key, so are those at all restarts before it.
+pub earlier_below : (key : InternalKey) (text offsets : List ℕ) (es : List Entry) → Parts text offsets es → (i j : ℕ) → i < j → j < length offsets / 4
+    → starts_below text (word_of offsets j) key ≡ true → starts_below text (word_of offsets i) key ≡ true
+earlier_below key text offsets es p i j lt h below =
+    let o = word_of offsets i in
+    let n = word_of offsets j in
+    let early = restart_splits text offsets es p i (omega (arith, lt, h)) in
+    let there = early.onto n (words_rise text offsets es p i j lt h) (restart_there text offsets es p i j lt h) in
+    let late = splits early.rest o n [] (drop o text) early.later text early.spelled refl there in
+    parts_below key o n (drop o text) (drop n text) early.later late.later early.rest late.front late.rest
+    (ascends_rest early.front early.rest (subst Ascends early.parts p.ascends)) late.parts early.spelled late.spelled below
+
+pub later_not_below : (key : InternalKey) (text offsets : List ℕ) (es : List Entry) → Parts text offsets es → (i j : ℕ) → i ≤ j → j < length offsets / 4
+    → starts_below text (word_of offsets i) key ≡ false → starts_below text (word_of offsets j) key ≡ false
+later_not_below key text offsets es p i j le h above =
+    elim (cases_lt i j) [
+      | inr ge ↦ let same : i ≡ j = omega (arith, le, ge) in ap (λ (n : ℕ). starts_below text (word_of offsets n) key) (sym same) ∙ above
+      | inl lt ↦ by_test (starts_below text (word_of offsets j) key) refl lt
+    ]
+  where
+    by_test : (b : Bool) → starts_below text (word_of offsets j) key ≡ b → i < j → starts_below text (word_of offsets j) key ≡ false
+    by_test false e lt = e
+    by_test true e lt = let bad = sym (earlier_below key text offsets es p i j lt h e) ∙ above in absurd cc
+
+-- what was read where a key is below
+pub below_read : (key : InternalKey) (text : List ℕ) (o : ℕ) → starts_below text o key ≡ true
+    → (p : Piece) × (after : List ℕ) × (entry_at [] (drop o text) ≡ Some (p, after)) × (is_lt (key_cmp (key_at p.key) key) ≡ true)
+below_read key text o h =
+    elim (either (entry_at [] (drop o text))) [
+      | inl none ↦ let bad = sym h ∙ ap (found_below key) none in absurd cc
+      | inr found ↦ (found.0.0, found.0.1, found.1, sym (ap (found_below key) found.1) ∙ h)
+    ]
+
+-- a restart that stands beyond another has a greater index
+pub restart_beyond : (text offsets : List ℕ) (es : List Entry) → Parts text offsets es → (i j : ℕ) → i < length offsets / 4 → word_of offsets i < word_of offsets j → i < j
+restart_beyond text offsets es p i j h lt =
+    elim (cases_lt i j) [
+      | inl less ↦ less
+      | inr ge ↦ elim (cases_lt j i) [
+        | inl less ↦ absurd (omega (arith, lt, words_rise text offsets es p j i less h))
+        | inr le ↦ let same : i ≡ j = omega (arith, ge, le) in absurd (omega (arith, lt, ap (word_of offsets) same))
+      ]
+    ]
 
 -- ---- one step of a scan
 
@@ -225,15 +344,21 @@ read_on_some text before offset shared key value after fits lt e =
 pub read_on_none : (text before : List ℕ) (offset : ℕ) → None ≡ option_map seen (entry_at before (drop offset text)) → readable (length text) before (drop offset text) ≡ []
 read_on_none text before offset e = read_none (length text) before (drop offset text) (seen_none (entry_at before (drop offset text)) e)
 
+abbrev pub found_key_below : InternalKey → Option (List ℕ) → Bool
+found_key_below key None = false
+found_key_below key (Some k) = is_lt (key_cmp (key_at k) key)
+
 first_some : (o : Option (Piece × List ℕ)) (k : List ℕ) → Some k ≡ option_map (λ f. f.0.key) o → (p : Piece) × (after : List ℕ) × (o ≡ Some (p, after)) × (p.key ≡ k)
 first_some None k e = absurd cc
 first_some (Some found) k e = (found.0, found.1, refl, some_is found.0.key k (sym e))
 
 -- the key at a restart
-pub starts_below : (text : List ℕ) (offset : ℕ) (k : List ℕ) (key : InternalKey) → Some k ≡ option_map (λ f. f.0.key) (entry_at [] (drop offset text)) → is_lt (key_cmp (key_at k) key) ≡ true → StartsBelow text offset key
-starts_below text offset k key e h =
-    let f = first_some (entry_at [] (drop offset text)) k e in
-    record { piece = f.0; after = f.1; read = f.2; below = subst (λ (x : List ℕ). is_lt (key_cmp (key_at x) key) ≡ true) (sym f.3) h }
+pub below_found : (key : InternalKey) (text : List ℕ) (offset : ℕ) (o : Option (List ℕ)) → o ≡ option_map (λ f. f.0.key) (entry_at [] (drop offset text)) → found_key_below key o ≡ starts_below text offset key
+below_found key text offset o e = ap (found_key_below key) e ∙ same (entry_at [] (drop offset text))
+  where
+    same : (r : Option (Piece × List ℕ)) → found_key_below key (option_map (λ f. f.0.key) r) ≡ found_below key r
+    same None = refl
+    same (Some found) = refl
 
 pub first_internal : (text : List ℕ) (offset : ℕ) (k : List ℕ) → Some k ≡ option_map (λ f. f.0.key) (entry_at [] (drop offset text)) → is_internal k ≡ true
 first_internal text offset k e =

@@ -40,12 +40,13 @@ pub record Parts (text offsets : List ℕ) (entries : List Entry) : Type 0 where
   pub fits : AllByRecursion (λ offset. offset < 2 ^ 32) restarts
   pub offsets_are : offsets ≡ flat_map (to_le_bytes w32) (0 ∷ restarts)
 
--- an entry can be read at this offset that follows no key, and its key is below this one
-pub record StartsBelow (text : List ℕ) (offset : ℕ) (key : InternalKey) : Type 0 where
-  pub piece : Piece
-  pub after : List ℕ
-  pub read : entry_at [] (drop offset text) ≡ Some (piece, after)
-  pub below : is_lt (key_cmp (key_at piece.key) key) ≡ true
+abbrev pub found_below : InternalKey → Option (Piece × List ℕ) → Bool
+found_below key None = false
+found_below key (Some found) = is_lt (key_cmp (key_at found.0.key) key)
+
+-- whether an entry can be read at this offset that follows no key, and its key is below this one
+abbrev pub starts_below : List ℕ → ℕ → InternalKey → Bool
+starts_below text offset key = found_below key (entry_at [] (drop offset text))
 
 -- What a step from an offset and the key before it to others reads: nothing where no entry is left, and else an entry of
 -- this value whose key is the next one's key before.

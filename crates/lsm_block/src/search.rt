@@ -1,10 +1,10 @@
 //! Going through the entries of a block, and the search for a key.
 
-ghost use Rattle.std.specs.Prelude.{◌≡◌, [], ◌*◌, ◌+◌, ◌/◌, ◌≤◌, ◌<◌, ℕ, List, length, drop, true, IfOk, OnErr};
+ghost use Rattle.std.specs.Prelude.{◌≡◌, [], ◌*◌, ◌+◌, ◌/◌, ◌≤◌, ◌<◌, ℕ, List, length, drop, false, IfOk, OnErr};
 ghost use Rattle.std.specs.Option.{option_map};
 ghost use Rattle.lsm_codec.specs.KeyRef.{key_of};
 ghost use Rattle.lsm_codec.specs.Entries.{Entry};
-ghost use Rattle.lsm_block.specs.Seeking.{readable, not_below, word_of, Parts, StartsBelow, Steps};
+ghost use Rattle.lsm_block.specs.Seeking.{readable, not_below, word_of, Parts, starts_below, Steps};
 ghost use Rattle.lsm_block.specs.Held.{Kept, last_of};
 
 use crate::entry::{RawEntry, first_key};
@@ -36,7 +36,7 @@ fn word_at(bytes: &[u8], i: usize) -> u32
 
 /// Whether the entry at a restart stands before the key.
 fn starts_below(text: &[u8], restart: usize, key: &KeyRef<'_>) -> bool
-    ensures { result ≡ true → StartsBelow text.now restart (key_of key.now) }
+    ensures { result ≡ starts_below text.now restart (key_of key.now) }
 {
     match first_key(rest_from(text, restart)) {
         Some(first) => is_below(first, key),
@@ -44,10 +44,12 @@ fn starts_below(text: &[u8], restart: usize, key: &KeyRef<'_>) -> bool
     }
 }
 
-/// The offset of a restart from which on the search finds the same as from the front: the last whose key is below this one.
+/// The offset of a restart from which on the search finds the same as from the front: the last whose key is below this one,
+/// or the first.
 pub(crate) fn find_restart(text: &[u8], offsets: &[u8], key: &KeyRef<'_>) -> usize
     requires { 4 ≤ length offsets.now }
-    ensures { (es : List Entry) → Parts text.now offsets.now es → not_below (key_of key.now) (readable (length text.now) [] (drop result text.now)) ≡ not_below (key_of key.now) es }
+    ensures same { (es : List Entry) → Parts text.now offsets.now es → not_below (key_of key.now) (readable (length text.now) [] (drop result text.now)) ≡ not_below (key_of key.now) es }
+    ensures last { (es : List Entry) → Parts text.now offsets.now es → (i : ℕ) → i < length offsets.now / 4 → result < word_of offsets.now i → starts_below text.now (word_of offsets.now i) (key_of key.now) ≡ false }
 {
     let mut low: usize = 0;
     let mut high: usize = offsets.len() / 4 - 1;
