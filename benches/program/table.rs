@@ -210,13 +210,21 @@ fn contents<'a>(tables: &Tables, file: &'a [u8], offset: u64, size: u64) -> Opti
     Some(contents)
 }
 
-/// Calls `take` with each key and value of a block, in order.
-fn scan(block: &[u8], mut take: impl FnMut(&[u8], &[u8]) -> Option<()>) -> Option<()> {
+/// How the user key of one key stands to that of the next, of which so many bytes are shared and these are its own.
+fn order(before: &[u8], shared: usize, own: &[u8]) -> Option<Ordering> {
+    if own.len() < 8 || shared + 8 > before.len() {
+        return Some(before.len().cmp(&(shared + own.len())));
+    }
+    Some(before.get(shared..before.len() - 8)?.cmp(&own[..own.len() - 8]))
+}
+
+/// Calls `take` with each key and value of a block, in order. The last key comes back.
+fn scan(block: &[u8], mut take: impl FnMut(&[u8], &[u8]) -> Option<()>) -> Option<Vec<u8>> {
     let (front, count) = block.split_at(block.len().checked_sub(4)?);
     let count = u32::from_le_bytes(count.try_into().ok()?) as usize;
     let (text, restarts) = front.split_at(front.len().checked_sub(4 * count)?);
     let mut next = restarts.chunks_exact(4).map(|b| u32::from_le_bytes([b[0], b[1], b[2], b[3]]) as usize).peekable();
-    let (mut key, mut last) = (Vec::new(), Vec::new());
+    let mut key = Vec::new();
     let mut at = 0;
     while at < text.len() {
         let start = at;
@@ -227,22 +235,25 @@ fn scan(block: &[u8], mut take: impl FnMut(&[u8], &[u8]) -> Option<()>) -> Optio
         at += unshared;
         let value = text.get(at..at.checked_add(length)?)?;
         at += length;
-        key.clear();
-        key.extend_from_slice(last.get(..shared)?);
+        if shared > key.len() {
+            return None;
+        }
+        let before = if start > 0 { Some((order(&key, shared, own)?, split(&key)?.1)) } else { None };
+        key.truncate(shared);
         key.extend_from_slice(own);
+        let packed = split(&key)?.1;
         if next.peek() == Some(&start) {
             if shared != 0 {
                 return None;
             }
             next.next();
         }
-        if start > 0 && compare(&last, &key)? != Ordering::Less {
+        if before.is_some_and(|(user, newer)| user.then(packed.cmp(&newer)) != Ordering::Less) {
             return None;
         }
         take(&key, value)?;
-        std::mem::swap(&mut key, &mut last);
     }
-    if text.is_empty() || next.next().is_none() { Some(()) } else { None }
+    if text.is_empty() || next.next().is_none() { Some(key) } else { None }
 }
 
 /// A checked table: its part before the footer, and its index block.
@@ -268,19 +279,15 @@ impl<'a> Table<'a> {
         scan(index, |key, handle| {
             let mut at = 0;
             let data = contents(&tables, body, get_varint(handle, &mut at)?, get_varint(handle, &mut at)?)?;
-            let mut ends: Option<Vec<u8>> = None;
-            scan(data, |own, _| {
-                match &mut ends {
-                    None if !bound.is_empty() && compare(&bound, own)? != Ordering::Less => return None,
-                    None => ends = Some(own.to_vec()),
-                    Some(last) => {
-                        last.clear();
-                        last.extend_from_slice(own);
-                    }
+            let mut first = true;
+            let last = scan(data, |own, _| {
+                if first && !bound.is_empty() && compare(&bound, own)? != Ordering::Less {
+                    return None;
                 }
+                first = false;
                 Some(())
             })?;
-            if compare(&ends?, key)? == Ordering::Greater {
+            if compare(&last, key)? == Ordering::Greater {
                 return None;
             }
             bound.clear();
@@ -298,7 +305,8 @@ impl<'a> Table<'a> {
 
     /// Calls `take` with each key and value, in order.
     pub fn each(&self, mut take: impl FnMut(&[u8], &[u8]) -> Option<()>) -> Option<()> {
-        scan(self.index, |_, handle| scan(self.data(handle)?, &mut take))
+        scan(self.index, |_, handle| scan(self.data(handle)?, &mut take).map(|_| ()))?;
+        Some(())
     }
 
     /// The value of the first entry at or after the internal key, where that is of its user key and is no deletion.
