@@ -10,6 +10,8 @@ mod builder;
 mod check;
 mod contents;
 mod directory;
+#[cfg(test)]
+mod expectation;
 mod file_names;
 mod file_receipt;
 mod file_shelf;
