@@ -8,3 +8,15 @@ use std::process::Abort;
 pub(crate) fn expect<R: Abort, T: PartialEq + Debug + Drop>(rt: &R, found: T, expected: T) {
     assert_eq!(rt; found, expected);
 }
+
+/// Ends the test where a call did not answer just these bytes.
+pub(crate) fn expect_bytes<R: Abort, E: PartialEq + Debug + Drop>(
+    rt: &R,
+    found: Result<Vec<u8>, E>,
+    expected: &[u8],
+) {
+    match found {
+        Ok(bytes) => expect(rt, bytes.as_slice(), expected),
+        Err(fault) => expect(rt, Err(fault), Ok(expected)),
+    }
+}
