@@ -1,10 +1,10 @@
 //! Reads of tables, foreign and altered ones among them, and of tables on a shelf.
 
 use crate::expectation::{expect, expect_bytes};
-use crate::shelf_tests::scratch;
+use crate::shelf_tests::scratch_shelf;
 use crate::tests::{judged, parts_of};
 use crate::{
-    BuildFault, FileShelf, Found, MemoryShelf, ReadFault, Shelf, Table, TableBuilder, TableEntries,
+    BuildFault, Found, MemoryShelf, OpenTable, ReadFault, Shelf, Table, TableBuilder, TableEntries,
     TableFault, TableOptions,
 };
 use lsm_codec::{Kind, crc_extend, crc32c, mask};
@@ -45,6 +45,33 @@ fn put_stored(file: &mut Vec<u8>, contents: &[u8], kind: u8) -> Result<[u8; 2], 
     Ok(place)
 }
 
+/// Appends a data block of this type with one entry of the user key "a", and its place to the index.
+fn put_data_block(
+    file: &mut Vec<u8>,
+    index: &mut Vec<u8>,
+    kind: u8,
+    entry: (u8, u8),
+    key: u8,
+) -> Result<(), AllocError> {
+    let (seq, value) = entry;
+    let mut block = Vec::new(*file.allocator());
+    put_entry(&mut block, seq, &[value])?;
+    block.extend_from_slice(&RESTARTS)?;
+    let place = put_stored(file, &block, kind)?;
+    put_entry(index, key, &place)
+}
+
+/// Appends an empty metaindex block, the index block and the footer.
+fn put_end(file: &mut Vec<u8>, index: &mut Vec<u8>) -> Result<(), AllocError> {
+    index.extend_from_slice(&RESTARTS)?;
+    let metaindex = put_stored(file, &RESTARTS, 0)?;
+    let place = put_stored(file, index, 0)?;
+    file.extend_from_slice(&metaindex)?;
+    file.extend_from_slice(&place)?;
+    file.extend_from_slice(&[0; 36])?;
+    file.extend_from_slice(&MAGIC)
+}
+
 /// A table of data blocks with one entry each: the sequences, the values of one byte, and the sequences of the index keys, all
 /// of the user key "a". The data blocks have this type.
 fn foreign(
@@ -57,19 +84,9 @@ fn foreign(
     let mut file = Vec::new(alloc);
     let mut index = Vec::new(alloc);
     for ((seq, value), key) in seqs.iter().zip(values).zip(keys) {
-        let mut block = Vec::new(alloc);
-        put_entry(&mut block, *seq, &[*value])?;
-        block.extend_from_slice(&RESTARTS)?;
-        let place = put_stored(&mut file, &block, kind)?;
-        put_entry(&mut index, *key, &place)?;
+        put_data_block(&mut file, &mut index, kind, (*seq, *value), *key)?;
     }
-    index.extend_from_slice(&RESTARTS)?;
-    let metaindex = put_stored(&mut file, &RESTARTS, 0)?;
-    let place = put_stored(&mut file, &index, 0)?;
-    file.extend_from_slice(&metaindex)?;
-    file.extend_from_slice(&place)?;
-    file.extend_from_slice(&[0; 36])?;
-    file.extend_from_slice(&MAGIC)?;
+    put_end(&mut file, &mut index)?;
     Ok(file)
 }
 
@@ -209,14 +226,25 @@ fn a_checked_table_hands_its_entries_over(rt: HostRuntime) -> Result<(), Fail> {
     Ok(())
 }
 
+/// Puts an image under a number and opens it.
+fn opened<S: Shelf, R: Wait>(
+    rt: &R,
+    alloc: Global,
+    shelf: &mut S,
+    number: u64,
+    image: &[u8],
+) -> Result<OpenTable, ReadFault> {
+    let receipt = shelf.put(rt, alloc, number, image)?;
+    Table::open(shelf, alloc, &receipt)
+}
+
 /// Reads the table of one entry on a shelf.
 fn reads_one_entry<S: Shelf, R: Wait + Abort>(
     rt: &R,
     alloc: Global,
     shelf: &mut S,
 ) -> Result<(), ReadFault> {
-    let receipt = shelf.put(rt, alloc, 2, &ONE)?;
-    let table = Table::open(shelf, alloc, &receipt)?;
+    let table = opened(rt, alloc, shelf, 2, &ONE)?;
     expect_nothing(rt, table.get(alloc, b"a", 0));
     expect_value(rt, table.get(alloc, b"a", 1), b"v");
     Ok(())
@@ -228,8 +256,8 @@ fn reads_two_blocks<S: Shelf, R: Wait + Abort>(
     alloc: Global,
     shelf: &mut S,
 ) -> Result<(), ReadFault> {
-    let receipt = shelf.put(rt, alloc, 1, &two_blocks(alloc)?)?;
-    let table = Table::open(shelf, alloc, &receipt)?;
+    let image = two_blocks(alloc)?;
+    let table = opened(rt, alloc, shelf, 1, &image)?;
     expect_nothing(rt, table.get(alloc, b"a", 2));
     expect_value(rt, table.get(alloc, b"a", 4), b"y");
     expect_value(rt, table.get(alloc, b"a", 5), b"x");
@@ -256,26 +284,27 @@ fn reads_of_a_table_in_memory(rt: HostRuntime) -> Result<(), Fail> {
 
 #[test]
 fn reads_of_a_table_in_a_folder(rt: HostRuntime) -> Result<(), Fail> {
-    let path = scratch(&rt, "reads")?;
-    let mut shelf = FileShelf::open(rt.clone()?, path.as_str())?;
+    let (path, mut shelf) = scratch_shelf(&rt, "reads")?;
     reads_on_a_shelf(&rt, rt.alloc(), &mut shelf)?;
     fs::remove_dir_all(&rt, path.as_str())?;
     Ok(())
 }
 
-/// What the opening of an image in memory says of it.
-fn opened<R: Wait>(rt: &R, alloc: Global, image: &[u8]) -> Result<(), ReadFault> {
+/// Opens an image in memory.
+fn opened_in_memory<R: Wait>(rt: &R, alloc: Global, image: &[u8]) -> Result<OpenTable, ReadFault> {
     let mut shelf = MemoryShelf::new(alloc)?;
-    let receipt = shelf.put(rt, alloc, 1, image)?;
-    let _ = Table::open(&mut shelf, alloc, &receipt)?;
-    Ok(())
+    opened(rt, alloc, &mut shelf, 1, image)
 }
 
 #[test]
 fn an_image_cut_by_a_byte_is_not_opened(rt: HostRuntime) {
     let (cut, _) = ONE.split_at(113);
     let fault = ReadFault::Table(TableFault::BadMagic);
-    expect(&rt, opened(&rt, rt.alloc(), cut), Err(fault));
+    expect(
+        &rt,
+        opened_in_memory(&rt, rt.alloc(), cut).err(),
+        Some(fault),
+    );
 }
 
 /// The faults of a read of "a" at 1 and of going through the table, where the image is opened in memory.
@@ -284,9 +313,7 @@ fn faults_when_read<R: Wait>(
     alloc: Global,
     image: &[u8],
 ) -> Result<(Option<TableFault>, Option<TableFault>), ReadFault> {
-    let mut shelf = MemoryShelf::new(alloc)?;
-    let receipt = shelf.put(rt, alloc, 1, image)?;
-    let table = Table::open(&mut shelf, alloc, &receipt)?;
+    let table = opened_in_memory(rt, alloc, image)?;
     let read = table.get(alloc, b"a", 1).err();
     Ok((read, table.into_entries(alloc).err()))
 }

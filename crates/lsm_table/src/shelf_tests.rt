@@ -23,13 +23,23 @@ use std::thread::Threads;
 use std::{env, fs, process, thread};
 
 /// A new folder of this test's own. `remove_dir_all` takes it away.
-pub(crate) fn scratch(rt: &HostRuntime, name: &str) -> Result<String, Fail> {
+fn scratch(rt: &HostRuntime, name: &str) -> Result<String, Fail> {
     let parent = env::temp_dir(rt)?;
     let parent = parent.to_str().ok_or("no path")?;
     let id = process::id(rt.process());
     let path = format!(in rt.alloc(); "{parent}/tiswenor-{id}-{name}")?;
     fs::create_dir(rt, path.as_str())?;
     Ok(path)
+}
+
+/// A shelf on such a folder, and the folder's path.
+pub(crate) fn scratch_shelf(
+    rt: &HostRuntime,
+    name: &str,
+) -> Result<(String, FileShelf<HostRuntime>), Fail> {
+    let path = scratch(rt, name)?;
+    let shelf = FileShelf::open(rt.clone()?, path.as_str())?;
+    Ok((path, shelf))
 }
 
 /// Ends the test where a shelf did not list just these numbers.
@@ -130,8 +140,7 @@ fn a_memory_shelf_goes_through_all_calls(rt: HostRuntime) -> Result<(), Fail> {
 
 #[test]
 fn a_file_shelf_goes_through_all_calls(rt: HostRuntime) -> Result<(), Fail> {
-    let path = scratch(&rt, "calls")?;
-    let mut shelf = FileShelf::open(rt.clone()?, path.as_str())?;
+    let (path, mut shelf) = scratch_shelf(&rt, "calls")?;
     goes_through_all_calls(&rt, rt.alloc(), &mut shelf)?;
     fs::remove_dir_all(&rt, path.as_str())?;
     Ok(())
@@ -157,8 +166,7 @@ fn a_removed_table_is_read_from_memory(rt: HostRuntime) -> Result<(), Fail> {
 
 #[test]
 fn a_removed_table_is_not_read_from_a_folder(rt: HostRuntime) -> Result<(), Fail> {
-    let path = scratch(&rt, "removed")?;
-    let mut shelf = FileShelf::open(rt.clone()?, path.as_str())?;
+    let (path, mut shelf) = scratch_shelf(&rt, "removed")?;
     let read = read_after_remove(&rt, rt.alloc(), &mut shelf);
     expect(&rt, read.err(), Some(ShelfFault::Missing));
     fs::remove_dir_all(&rt, path.as_str())?;
@@ -227,8 +235,7 @@ fn reads_other_currents<S: Shelf, R: Files + AllocGlobal + Wait + Abort>(
 
 #[test]
 fn a_current_of_another_form_is_missing(rt: HostRuntime) -> Result<(), Fail> {
-    let path = scratch(&rt, "current")?;
-    let mut shelf = FileShelf::open(rt.clone()?, path.as_str())?;
+    let (path, mut shelf) = scratch_shelf(&rt, "current")?;
     names_a_manifest(&rt, &mut shelf, path.as_str())?;
     reads_other_currents(&rt, &mut shelf, path.as_str())?;
     fs::remove_dir_all(&rt, path.as_str())?;
@@ -258,9 +265,8 @@ fn write_names<R: Files + AllocGlobal>(rt: &R, folder: &str) -> Result<(), Fail>
 
 #[test]
 fn other_names_are_no_tables(rt: HostRuntime) -> Result<(), Fail> {
-    let path = scratch(&rt, "names")?;
+    let (path, mut shelf) = scratch_shelf(&rt, "names")?;
     write_names(&rt, path.as_str())?;
-    let mut shelf = FileShelf::open(rt.clone()?, path.as_str())?;
     let numbers = shelf.list(&rt, rt.alloc());
     expect_numbers(&rt, numbers, &[8, 1_000_000, u64::MAX]);
     fs::remove_dir_all(&rt, path.as_str())?;
@@ -342,8 +348,7 @@ fn fault_of_opening(rt: HostRuntime, folder: &str) -> Option<ShelfFault> {
 
 #[test]
 fn a_device_that_fails_is_told(rt: HostRuntime) -> Result<(), Fail> {
-    let path = scratch(&rt, "device")?;
-    let mut shelf = FileShelf::open(rt.clone()?, path.as_str())?;
+    let (path, mut shelf) = scratch_shelf(&rt, "device")?;
     tells_failures(&rt, &mut shelf, path.as_str())?;
     let opened = fault_of_opening(rt.clone()?, path.as_str());
     expect(&rt, opened, Some(ShelfFault::Device));
@@ -385,22 +390,30 @@ fn puts_and_reads<S: Shelf, R: Wait>(
     Ok(true)
 }
 
+/// Two forks, each with the number from which on it is to put.
+fn two_forks<S: Shelf>(alloc: Global, shelf: &mut S) -> Result<Vec<(S, u8)>, ShelfFault> {
+    let mut forks = Vec::new(alloc);
+    forks.push((shelf.fork(alloc)?, 10u8))?;
+    forks.push((shelf.fork(alloc)?, 20u8))?;
+    Ok(forks)
+}
+
 /// Lets two threads put and read through forks, and lists what they put.
 fn two_threads_share<S: Shelf, R: Threads + Wait + Abort + Sync>(
     rt: &R,
     alloc: Global,
     shelf: &mut S,
 ) -> Result<(), Fail> {
-    let mut forks = Vec::new(alloc);
-    forks.push((shelf.fork(alloc)?, 10u8))?;
-    forks.push((shelf.fork(alloc)?, 20u8))?;
     let ends = thread::map_vec(
         rt,
-        forks,
+        two_forks(alloc, shelf)?,
         &|(fork, from)| { puts_and_reads(rt, alloc, fork, from) },
     )?;
     expect(rt, ends.as_slice(), [Ok(true), Ok(true)].as_slice());
-    expect(rt, shelf.list(rt, alloc)?.len(), 16);
+    let numbers = [
+        10, 11, 12, 13, 14, 15, 16, 17, 20, 21, 22, 23, 24, 25, 26, 27,
+    ];
+    expect_numbers(rt, shelf.list(rt, alloc), &numbers);
     Ok(())
 }
 
@@ -411,8 +424,7 @@ fn two_threads_share_a_shelf_in_memory(rt: HostRuntime) -> Result<(), Fail> {
 
 #[test]
 fn two_threads_share_a_folder(rt: HostRuntime) -> Result<(), Fail> {
-    let path = scratch(&rt, "threads")?;
-    let mut shelf = FileShelf::open(rt.clone()?, path.as_str())?;
+    let (path, mut shelf) = scratch_shelf(&rt, "threads")?;
     two_threads_share(&rt, rt.alloc(), &mut shelf)?;
     fs::remove_dir_all(&rt, path.as_str())?;
     Ok(())
