@@ -1,7 +1,7 @@
 //! Reads of tables, foreign and altered ones among them, and of tables on a shelf.
 
 use crate::expectation::{expect, expect_bytes};
-use crate::shelf_tests::scratch_shelf;
+use crate::shelf_tests::{Trial, tries_in_scratch};
 use crate::tests::{judged, parts_of};
 use crate::{
     BuildFault, Found, MemoryShelf, OpenTable, ReadFault, Shelf, Table, TableBuilder, TableEntries,
@@ -9,7 +9,6 @@ use crate::{
 };
 use lsm_codec::{Kind, crc_extend, crc32c, mask};
 use std::alloc::{AllocError, Global};
-use std::fs;
 use std::process::Abort;
 use std::sync::Wait;
 use std::test::Fail;
@@ -266,7 +265,7 @@ fn reads_two_blocks<S: Shelf, R: Wait + Abort>(
 }
 
 /// Reads both tables on a shelf.
-fn reads_on_a_shelf<S: Shelf, R: Wait + Abort>(
+pub(crate) fn reads_on_a_shelf<S: Shelf, R: Wait + Abort>(
     rt: &R,
     alloc: Global,
     shelf: &mut S,
@@ -284,10 +283,7 @@ fn reads_of_a_table_in_memory(rt: HostRuntime) -> Result<(), Fail> {
 
 #[test]
 fn reads_of_a_table_in_a_folder(rt: HostRuntime) -> Result<(), Fail> {
-    let (path, mut shelf) = scratch_shelf(&rt, "reads")?;
-    reads_on_a_shelf(&rt, rt.alloc(), &mut shelf)?;
-    fs::remove_dir_all(&rt, path.as_str())?;
-    Ok(())
+    tries_in_scratch(&rt, rt.clone()?, "reads", Trial::Reads)
 }
 
 /// Opens an image in memory.

@@ -6,6 +6,7 @@ use crate::expectation::{expect, expect_bytes};
 use crate::file_shelf::FileShelf;
 use crate::memory_shelf::MemoryShelf;
 use crate::naming::Naming;
+use crate::reading_tests::reads_on_a_shelf;
 use crate::registry::Registry;
 use crate::shelf::Shelf;
 use crate::shelf_fault::ShelfFault;
@@ -32,14 +33,68 @@ fn scratch(rt: &HostRuntime, name: &str) -> Result<String, Fail> {
     Ok(path)
 }
 
-/// A shelf on such a folder, and the folder's path.
-pub(crate) fn scratch_shelf(
-    rt: &HostRuntime,
+/// The path of a name in a folder.
+fn path_of<R: AllocGlobal>(rt: &R, folder: &str, name: &str) -> Result<String, Fail> {
+    let path = format!(in rt.alloc(); "{folder}/{name}")?;
+    Ok(path)
+}
+
+/// What a test does with a shelf on a folder.
+#[derive(Clone, Copy)]
+pub(crate) enum Trial {
+    AllCalls,
+    Removal,
+    Currents,
+    Names,
+    Failures,
+    Refusals,
+    Threads,
+    Reads,
+}
+
+/// Does it. All tests in folders come here, so that what makes a `FileShelf` a `Shelf` is proved once.
+fn tries<S: Shelf, R: Files + AllocGlobal + Threads + Wait + Abort + Sync>(
+    rt: &R,
+    shelf: &mut S,
+    folder: &str,
+    trial: Trial,
+) -> Result<(), Fail> {
+    let alloc = rt.alloc();
+    match trial {
+        Trial::AllCalls => goes_through_all_calls(rt, alloc, shelf)?,
+        Trial::Removal => misses_a_removed_table(rt, alloc, shelf),
+        Trial::Currents => reads_currents(rt, shelf, folder)?,
+        Trial::Names => lists_names(rt, shelf, folder)?,
+        Trial::Failures => tells_failures(rt, shelf, folder)?,
+        Trial::Refusals => takes_nothing(rt, alloc, shelf),
+        Trial::Threads => two_threads_share(rt, alloc, shelf)?,
+        Trial::Reads => reads_on_a_shelf(rt, alloc, shelf)?,
+    }
+    Ok(())
+}
+
+/// Tries a shelf on a folder that is there.
+fn tries_at<R: Files + AllocGlobal + Threads + Wait + Abort + Sync>(
+    rt: &R,
+    host: HostRuntime,
+    folder: &str,
+    trial: Trial,
+) -> Result<(), Fail> {
+    let mut shelf = FileShelf::open(host, folder)?;
+    tries(rt, &mut shelf, folder, trial)
+}
+
+/// Tries a shelf on a new folder, and takes the folder away.
+pub(crate) fn tries_in_scratch<R: Files + AllocGlobal + Threads + Wait + Abort + Sync>(
+    rt: &R,
+    host: HostRuntime,
     name: &str,
-) -> Result<(String, FileShelf<HostRuntime>), Fail> {
-    let path = scratch(rt, name)?;
-    let shelf = FileShelf::open(rt.clone()?, path.as_str())?;
-    Ok((path, shelf))
+    trial: Trial,
+) -> Result<(), Fail> {
+    let path = scratch(&host, name)?;
+    tries_at(rt, host, path.as_str(), trial)?;
+    fs::remove_dir_all(rt, path.as_str())?;
+    Ok(())
 }
 
 /// Ends the test where a shelf did not list just these numbers.
@@ -140,10 +195,7 @@ fn a_memory_shelf_goes_through_all_calls(rt: HostRuntime) -> Result<(), Fail> {
 
 #[test]
 fn a_file_shelf_goes_through_all_calls(rt: HostRuntime) -> Result<(), Fail> {
-    let (path, mut shelf) = scratch_shelf(&rt, "calls")?;
-    goes_through_all_calls(&rt, rt.alloc(), &mut shelf)?;
-    fs::remove_dir_all(&rt, path.as_str())?;
-    Ok(())
+    tries_in_scratch(&rt, rt.clone()?, "calls", Trial::AllCalls)
 }
 
 /// What a receipt reads after its table was removed.
@@ -164,13 +216,15 @@ fn a_removed_table_is_read_from_memory(rt: HostRuntime) -> Result<(), Fail> {
     Ok(())
 }
 
+/// Misses a table in a folder after it was removed.
+fn misses_a_removed_table<S: Shelf, R: Wait + Abort>(rt: &R, alloc: Global, shelf: &mut S) {
+    let read = read_after_remove(rt, alloc, shelf);
+    expect(rt, read.err(), Some(ShelfFault::Missing));
+}
+
 #[test]
 fn a_removed_table_is_not_read_from_a_folder(rt: HostRuntime) -> Result<(), Fail> {
-    let (path, mut shelf) = scratch_shelf(&rt, "removed")?;
-    let read = read_after_remove(&rt, rt.alloc(), &mut shelf);
-    expect(&rt, read.err(), Some(ShelfFault::Missing));
-    fs::remove_dir_all(&rt, path.as_str())?;
-    Ok(())
+    tries_in_scratch(&rt, rt.clone()?, "removed", Trial::Removal)
 }
 
 /// Writes a file of a folder.
@@ -180,7 +234,7 @@ fn write_file<R: Files + AllocGlobal>(
     name: &str,
     text: &str,
 ) -> Result<(), Fail> {
-    let path = format!(in rt.alloc(); "{folder}/{name}")?;
+    let path = path_of(rt, folder, name)?;
     fs::write(rt, path.as_str(), text)?;
     Ok(())
 }
@@ -203,7 +257,7 @@ fn names_a_manifest<S: Shelf, R: Files + AllocGlobal + Wait + Abort>(
     folder: &str,
 ) -> Result<(), Fail> {
     shelf.start_manifest(rt, rt.alloc(), 7, b"edit")?;
-    let current = format!(in rt.alloc(); "{folder}/CURRENT")?;
+    let current = path_of(rt, folder, "CURRENT")?;
     let text = fs::read_to_string(rt, current.as_str())?;
     expect(rt, text.as_str(), "MANIFEST-000007\n");
     Ok(())
@@ -233,13 +287,19 @@ fn reads_other_currents<S: Shelf, R: Files + AllocGlobal + Wait + Abort>(
     Ok(())
 }
 
+/// Starts a manifest, and reads it by other texts in `CURRENT`.
+fn reads_currents<S: Shelf, R: Files + AllocGlobal + Wait + Abort>(
+    rt: &R,
+    shelf: &mut S,
+    folder: &str,
+) -> Result<(), Fail> {
+    names_a_manifest(rt, shelf, folder)?;
+    reads_other_currents(rt, shelf, folder)
+}
+
 #[test]
 fn a_current_of_another_form_is_missing(rt: HostRuntime) -> Result<(), Fail> {
-    let (path, mut shelf) = scratch_shelf(&rt, "current")?;
-    names_a_manifest(&rt, &mut shelf, path.as_str())?;
-    reads_other_currents(&rt, &mut shelf, path.as_str())?;
-    fs::remove_dir_all(&rt, path.as_str())?;
-    Ok(())
+    tries_in_scratch(&rt, rt.clone()?, "current", Trial::Currents)
 }
 
 /// Writes files of other names into a folder, and three of tables.
@@ -263,14 +323,21 @@ fn write_names<R: Files + AllocGlobal>(rt: &R, folder: &str) -> Result<(), Fail>
     Ok(())
 }
 
+/// Lists a folder with files of other names.
+fn lists_names<S: Shelf, R: Files + AllocGlobal + Wait + Abort>(
+    rt: &R,
+    shelf: &mut S,
+    folder: &str,
+) -> Result<(), Fail> {
+    write_names(rt, folder)?;
+    let numbers = shelf.list(rt, rt.alloc());
+    expect_numbers(rt, numbers, &[8, 1_000_000, u64::MAX]);
+    Ok(())
+}
+
 #[test]
 fn other_names_are_no_tables(rt: HostRuntime) -> Result<(), Fail> {
-    let (path, mut shelf) = scratch_shelf(&rt, "names")?;
-    write_names(&rt, path.as_str())?;
-    let numbers = shelf.list(&rt, rt.alloc());
-    expect_numbers(&rt, numbers, &[8, 1_000_000, u64::MAX]);
-    fs::remove_dir_all(&rt, path.as_str())?;
-    Ok(())
+    tries_in_scratch(&rt, rt.clone()?, "names", Trial::Names)
 }
 
 /// Reads a table whose file became shorter.
@@ -292,7 +359,7 @@ fn tells_an_unnamed_manifest<S: Shelf, R: Files + AllocGlobal + Wait + Abort>(
     shelf: &mut S,
     folder: &str,
 ) -> Result<(), Fail> {
-    let temporary = format!(in rt.alloc(); "{folder}/000001.dbtmp")?;
+    let temporary = path_of(rt, folder, "000001.dbtmp")?;
     fs::create_dir(rt, temporary.as_str())?;
     let started = shelf.start_manifest(rt, rt.alloc(), 1, b"");
     expect(rt, started, Err(ShelfFault::Device));
@@ -308,7 +375,7 @@ fn tells_a_full_device<S: Shelf, R: Files + AllocGlobal + Wait + Abort>(
     shelf: &mut S,
     folder: &str,
 ) -> Result<(), Fail> {
-    let manifest = format!(in rt.alloc(); "{folder}/MANIFEST-000001")?;
+    let manifest = path_of(rt, folder, "MANIFEST-000001")?;
     fs::remove_file(rt, manifest.as_str())?;
     std::os::unix::fs::symlink(rt, "/dev/full", manifest.as_str())?;
     let appended = shelf.append_manifest(rt, b"edit");
@@ -348,8 +415,8 @@ fn fault_of_opening(rt: HostRuntime, folder: &str) -> Option<ShelfFault> {
 
 #[test]
 fn a_device_that_fails_is_told(rt: HostRuntime) -> Result<(), Fail> {
-    let (path, mut shelf) = scratch_shelf(&rt, "device")?;
-    tells_failures(&rt, &mut shelf, path.as_str())?;
+    let path = scratch(&rt, "device")?;
+    tries_at(&rt, rt.clone()?, path.as_str(), Trial::Failures)?;
     let opened = fault_of_opening(rt.clone()?, path.as_str());
     expect(&rt, opened, Some(ShelfFault::Device));
     Ok(())
@@ -367,9 +434,7 @@ fn takes_nothing<S: Shelf, R: Wait + Abort>(rt: &R, alloc: Global, shelf: &mut S
 
 #[test]
 fn a_read_only_folder_takes_nothing(rt: HostRuntime) -> Result<(), Fail> {
-    let mut shelf = FileShelf::open(rt.clone()?, "/proc")?;
-    takes_nothing(&rt, rt.alloc(), &mut shelf);
-    Ok(())
+    tries_at(&rt, rt.clone()?, "/proc", Trial::Refusals)
 }
 
 /// Puts and reads eight tables from the number on, and answers whether each read gave what was put.
@@ -424,10 +489,7 @@ fn two_threads_share_a_shelf_in_memory(rt: HostRuntime) -> Result<(), Fail> {
 
 #[test]
 fn two_threads_share_a_folder(rt: HostRuntime) -> Result<(), Fail> {
-    let (path, mut shelf) = scratch_shelf(&rt, "threads")?;
-    two_threads_share(&rt, rt.alloc(), &mut shelf)?;
-    fs::remove_dir_all(&rt, path.as_str())?;
-    Ok(())
+    tries_in_scratch(&rt, rt.clone()?, "threads", Trial::Threads)
 }
 
 #[test]
