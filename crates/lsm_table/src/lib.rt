@@ -49,6 +49,8 @@ mod table_record;
 mod table_ref;
 #[cfg(test)]
 mod tests;
+#[cfg(test)]
+mod trial;
 mod whole_image;
 
 pub use builder::TableBuilder;

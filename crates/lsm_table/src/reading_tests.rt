@@ -1,8 +1,8 @@
 //! Reads of tables, foreign and altered ones among them, and of tables on a shelf.
 
 use crate::expectation::{expect, expect_bytes};
-use crate::shelf_tests::{Trial, tries_in_scratch};
 use crate::tests::{judged, parts_of};
+use crate::trial::{Trial, tries_in_scratch};
 use crate::{
     BuildFault, Found, MemoryShelf, OpenTable, ReadFault, Shelf, Table, TableBuilder, TableEntries,
     TableFault, TableOptions,

@@ -6,13 +6,13 @@ use crate::expectation::{expect, expect_bytes};
 use crate::file_shelf::FileShelf;
 use crate::memory_shelf::MemoryShelf;
 use crate::naming::Naming;
-use crate::reading_tests::reads_on_a_shelf;
 use crate::registry::Registry;
 use crate::shelf::Shelf;
 use crate::shelf_fault::ShelfFault;
 use crate::slip::Slip;
 use crate::table_record::TableRecord;
 use crate::table_ref::TableRef;
+use crate::trial::{Trial, scratch, tries_at, tries_in_scratch};
 use lsm_codec::Bytes;
 use std::alloc::Global;
 use std::fs::Files;
@@ -21,80 +21,12 @@ use std::process::Abort;
 use std::sync::Wait;
 use std::test::Fail;
 use std::thread::Threads;
-use std::{env, fs, process, thread};
-
-/// A new folder of this test's own. `remove_dir_all` takes it away.
-fn scratch(rt: &HostRuntime, name: &str) -> Result<String, Fail> {
-    let parent = env::temp_dir(rt)?;
-    let parent = parent.to_str().ok_or("no path")?;
-    let id = process::id(rt.process());
-    let path = format!(in rt.alloc(); "{parent}/tiswenor-{id}-{name}")?;
-    fs::create_dir(rt, path.as_str())?;
-    Ok(path)
-}
+use std::{fs, thread};
 
 /// The path of a name in a folder.
 fn path_of<R: AllocGlobal>(rt: &R, folder: &str, name: &str) -> Result<String, Fail> {
     let path = format!(in rt.alloc(); "{folder}/{name}")?;
     Ok(path)
-}
-
-/// What a test does with a shelf on a folder.
-#[derive(Clone, Copy)]
-pub(crate) enum Trial {
-    AllCalls,
-    Removal,
-    Currents,
-    Names,
-    Failures,
-    Refusals,
-    Threads,
-    Reads,
-}
-
-/// Does it. All tests in folders come here, so that what makes a `FileShelf` a `Shelf` is proved once.
-fn tries<S: Shelf, R: Files + AllocGlobal + Threads + Wait + Abort + Sync>(
-    rt: &R,
-    shelf: &mut S,
-    folder: &str,
-    trial: Trial,
-) -> Result<(), Fail> {
-    let alloc = rt.alloc();
-    match trial {
-        Trial::AllCalls => goes_through_all_calls(rt, alloc, shelf)?,
-        Trial::Removal => misses_a_removed_table(rt, alloc, shelf),
-        Trial::Currents => reads_currents(rt, shelf, folder)?,
-        Trial::Names => lists_names(rt, shelf, folder)?,
-        Trial::Failures => tells_failures(rt, shelf, folder)?,
-        Trial::Refusals => takes_nothing(rt, alloc, shelf),
-        Trial::Threads => two_threads_share(rt, alloc, shelf)?,
-        Trial::Reads => reads_on_a_shelf(rt, alloc, shelf)?,
-    }
-    Ok(())
-}
-
-/// Tries a shelf on a folder that is there.
-fn tries_at<R: Files + AllocGlobal + Threads + Wait + Abort + Sync>(
-    rt: &R,
-    host: HostRuntime,
-    folder: &str,
-    trial: Trial,
-) -> Result<(), Fail> {
-    let mut shelf = FileShelf::open(host, folder)?;
-    tries(rt, &mut shelf, folder, trial)
-}
-
-/// Tries a shelf on a new folder, and takes the folder away.
-pub(crate) fn tries_in_scratch<R: Files + AllocGlobal + Threads + Wait + Abort + Sync>(
-    rt: &R,
-    host: HostRuntime,
-    name: &str,
-    trial: Trial,
-) -> Result<(), Fail> {
-    let path = scratch(&host, name)?;
-    tries_at(rt, host, path.as_str(), trial)?;
-    fs::remove_dir_all(rt, path.as_str())?;
-    Ok(())
 }
 
 /// Ends the test where a shelf did not list just these numbers.
@@ -171,7 +103,7 @@ fn forks_to_a_manifest<S: Shelf, R: Wait + Abort>(
     Ok(())
 }
 
-fn goes_through_all_calls<S: Shelf, R: Wait + Abort>(
+pub(crate) fn goes_through_all_calls<S: Shelf, R: Wait + Abort>(
     rt: &R,
     alloc: Global,
     shelf: &mut S,
@@ -217,7 +149,11 @@ fn a_removed_table_is_read_from_memory(rt: HostRuntime) -> Result<(), Fail> {
 }
 
 /// Misses a table in a folder after it was removed.
-fn misses_a_removed_table<S: Shelf, R: Wait + Abort>(rt: &R, alloc: Global, shelf: &mut S) {
+pub(crate) fn misses_a_removed_table<S: Shelf, R: Wait + Abort>(
+    rt: &R,
+    alloc: Global,
+    shelf: &mut S,
+) {
     let read = read_after_remove(rt, alloc, shelf);
     expect(rt, read.err(), Some(ShelfFault::Missing));
 }
@@ -288,7 +224,7 @@ fn reads_other_currents<S: Shelf, R: Files + AllocGlobal + Wait + Abort>(
 }
 
 /// Starts a manifest, and reads it by other texts in `CURRENT`.
-fn reads_currents<S: Shelf, R: Files + AllocGlobal + Wait + Abort>(
+pub(crate) fn reads_currents<S: Shelf, R: Files + AllocGlobal + Wait + Abort>(
     rt: &R,
     shelf: &mut S,
     folder: &str,
@@ -324,7 +260,7 @@ fn write_names<R: Files + AllocGlobal>(rt: &R, folder: &str) -> Result<(), Fail>
 }
 
 /// Lists a folder with files of other names.
-fn lists_names<S: Shelf, R: Files + AllocGlobal + Wait + Abort>(
+pub(crate) fn lists_names<S: Shelf, R: Files + AllocGlobal + Wait + Abort>(
     rt: &R,
     shelf: &mut S,
     folder: &str,
@@ -395,7 +331,7 @@ fn tells_a_lost_folder<S: Shelf, R: Wait + Abort>(rt: &R, alloc: Global, shelf: 
 }
 
 /// Goes through a device's failures one after another, and takes the folder away.
-fn tells_failures<S: Shelf, R: Files + AllocGlobal + Wait + Abort>(
+pub(crate) fn tells_failures<S: Shelf, R: Files + AllocGlobal + Wait + Abort>(
     rt: &R,
     shelf: &mut S,
     folder: &str,
@@ -423,7 +359,7 @@ fn a_device_that_fails_is_told(rt: HostRuntime) -> Result<(), Fail> {
 }
 
 /// Puts into a folder that takes nothing.
-fn takes_nothing<S: Shelf, R: Wait + Abort>(rt: &R, alloc: Global, shelf: &mut S) {
+pub(crate) fn takes_nothing<S: Shelf, R: Wait + Abort>(rt: &R, alloc: Global, shelf: &mut S) {
     let put = shelf.put(rt, alloc, 2, b"").err();
     expect(rt, put, Some(ShelfFault::Device));
     let started = shelf.start_manifest(rt, alloc, 1, b"");
@@ -464,7 +400,7 @@ fn two_forks<S: Shelf>(alloc: Global, shelf: &mut S) -> Result<Vec<(S, u8)>, She
 }
 
 /// Lets two threads put and read through forks, and lists what they put.
-fn two_threads_share<S: Shelf, R: Threads + Wait + Abort + Sync>(
+pub(crate) fn two_threads_share<S: Shelf, R: Threads + Wait + Abort + Sync>(
     rt: &R,
     alloc: Global,
     shelf: &mut S,
