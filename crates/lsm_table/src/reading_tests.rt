@@ -1,7 +1,7 @@
 //! Reads of tables, foreign and altered ones among them, and of tables on a shelf.
 
 use crate::expectation::{expect, expect_bytes};
-use crate::tests::{judged, parts_of};
+use crate::tests::{ONE_ENTRY, judged, parts_of};
 use crate::trial::{Trial, tries_in_scratch};
 use crate::{
     BuildFault, Found, MemoryShelf, OpenTable, ReadFault, Shelf, Table, TableBuilder, TableEntries,
@@ -17,15 +17,6 @@ use std::test::Fail;
 const RESTARTS: [u8; 8] = [0, 0, 0, 0, 1, 0, 0, 0];
 
 const MAGIC: [u8; 8] = [0x57, 0xfb, 0x80, 0x8b, 0x24, 0x75, 0x47, 0xdb];
-
-/// The table of "a" at sequence 1 with the value "v".
-const ONE: [u8; 114] = [
-    0, 9, 1, 0x61, 1, 1, 0, 0, 0, 0, 0, 0, 0x76, 0, 0, 0, 0, 1, 0, 0, 0, 0, 0x1a, 0x0a, 0xe3, 0x8e,
-    0, 0, 0, 0, 1, 0, 0, 0, 0, 0xc0, 0xf2, 0xa1, 0xb0, 0, 9, 2, 0x61, 1, 1, 0, 0, 0, 0, 0, 0, 0,
-    0x15, 0, 0, 0, 0, 1, 0, 0, 0, 0, 0x36, 0x49, 0x25, 0xbf, 0x1a, 0x08, 0x27, 0x16, 0, 0, 0, 0, 0,
-    0, 0, 0, 0, 0, 0, 0, 0, 0, 0, 0, 0, 0, 0, 0, 0, 0, 0, 0, 0, 0, 0, 0, 0, 0, 0, 0, 0, 0, 0, 0,
-    0x57, 0xfb, 0x80, 0x8b, 0x24, 0x75, 0x47, 0xdb,
-];
 
 /// Appends an entry of the user key "a" that shares nothing.
 fn put_entry(block: &mut Vec<u8>, seq: u8, value: &[u8]) -> Result<(), AllocError> {
@@ -131,7 +122,7 @@ fn judged_foreign(
 
 #[test]
 fn the_foreign_builder_makes_the_known_table(rt: HostRuntime) {
-    expect_bytes(&rt, foreign(rt.alloc(), 0, &[1], b"v", &[1]), &ONE);
+    expect_bytes(&rt, foreign(rt.alloc(), 0, &[1], b"v", &[1]), &ONE_ENTRY);
 }
 
 #[test]
@@ -157,7 +148,7 @@ fn names_the_fault_of_a_foreign_index(rt: HostRuntime) {
 #[test]
 fn gets_of_a_checked_table_of_one_entry(rt: HostRuntime) -> Result<(), Fail> {
     let alloc = rt.alloc();
-    let one = Table::check(alloc, Vec::from_slice(alloc, &ONE)?)?;
+    let one = Table::check(alloc, Vec::from_slice(alloc, &ONE_ENTRY)?)?;
     expect_nothing(&rt, one.get(alloc, b"a", 0));
     expect_value(&rt, one.get(alloc, b"a", 1), b"v");
     expect_nothing(&rt, one.get(alloc, b"b", 1));
@@ -243,7 +234,7 @@ fn reads_one_entry<S: Shelf, R: Wait + Abort>(
     alloc: Global,
     shelf: &mut S,
 ) -> Result<(), ReadFault> {
-    let table = opened(rt, alloc, shelf, 2, &ONE)?;
+    let table = opened(rt, alloc, shelf, 2, &ONE_ENTRY)?;
     expect_nothing(rt, table.get(alloc, b"a", 0));
     expect_value(rt, table.get(alloc, b"a", 1), b"v");
     Ok(())
@@ -294,7 +285,7 @@ fn opened_in_memory<R: Wait>(rt: &R, alloc: Global, image: &[u8]) -> Result<Open
 
 #[test]
 fn an_image_cut_by_a_byte_is_not_opened(rt: HostRuntime) {
-    let (cut, _) = ONE.split_at(113);
+    let (cut, _) = ONE_ENTRY.split_at(113);
     let fault = ReadFault::Table(TableFault::BadMagic);
     expect(
         &rt,
@@ -328,7 +319,7 @@ fn faults_of_foreign<R: Wait>(
 
 #[test]
 fn a_flipped_data_block_is_found_when_it_is_read(rt: HostRuntime) {
-    let mut flipped = ONE;
+    let mut flipped = ONE_ENTRY;
     flipped[12] ^= 1;
     let fault = Some(TableFault::BadChecksum(0));
     expect(

@@ -1,47 +1,36 @@
 //! Tables byte by byte: the builder's against LevelDB's layout, and foreign or altered ones.
 
-use crate::expectation::expect;
+use crate::expectation::{expect, expect_bytes};
 use crate::{BuildFault, Table, TableBuilder, TableFault, TableIter, TableOptions};
 use lsm_codec::{KeyRef, Kind};
-use std::alloc::{AllocError, Global};
+use std::alloc::Global;
 use std::process::Abort;
 use std::test::Fail;
 
-const DATA: [u8; 26] = [
+/// The table of "a" at sequence 1 with the value "v".
+pub(crate) const ONE_ENTRY: [u8; 114] = [
+    // the data block
     0, 9, 1, 0x61, 1, 1, 0, 0, 0, 0, 0, 0, 0x76, 0, 0, 0, 0, 1, 0, 0, 0, 0, 0x1a, 0x0a, 0xe3, 0x8e,
-];
-
-const EMPTY: [u8; 13] = [0, 0, 0, 0, 1, 0, 0, 0, 0, 0xc0, 0xf2, 0xa1, 0xb0];
-
-const INDEX: [u8; 27] = [
+    // the metaindex block
+    0, 0, 0, 0, 1, 0, 0, 0, 0, 0xc0, 0xf2, 0xa1, 0xb0,
+    // the index block
     0, 9, 2, 0x61, 1, 1, 0, 0, 0, 0, 0, 0, 0, 0x15, 0, 0, 0, 0, 1, 0, 0, 0, 0, 0x36, 0x49, 0x25,
     0xbf,
+    // the footer
+    0x1a, 0x08, 0x27, 0x16, 0, 0, 0, 0, 0, 0, 0, 0, 0, 0, 0, 0, 0, 0, 0, 0, 0, 0, 0, 0, 0, 0, 0, 0,
+    0, 0, 0, 0, 0, 0, 0, 0, 0, 0, 0, 0, 0x57, 0xfb, 0x80, 0x8b, 0x24, 0x75, 0x47, 0xdb,
 ];
 
-const MAGIC: [u8; 8] = [0x57, 0xfb, 0x80, 0x8b, 0x24, 0x75, 0x47, 0xdb];
-
-/// The table of "a" at sequence 1 with the value "v", 114 bytes.
-fn one_entry(alloc: Global) -> Result<Vec<u8>, AllocError> {
-    let mut file = Vec::new(alloc);
-    file.extend_from_slice(&DATA)?;
-    file.extend_from_slice(&EMPTY)?;
-    file.extend_from_slice(&INDEX)?;
-    file.extend_from_slice(&[0x1a, 0x08, 0x27, 0x16])?;
-    file.extend_from_slice(&[0; 36])?;
-    file.extend_from_slice(&MAGIC)?;
-    Ok(file)
-}
-
-/// The table without entries, 74 bytes.
-fn no_entry(alloc: Global) -> Result<Vec<u8>, AllocError> {
-    let mut file = Vec::new(alloc);
-    file.extend_from_slice(&EMPTY)?;
-    file.extend_from_slice(&EMPTY)?;
-    file.extend_from_slice(&[0, 8, 0x0d, 8])?;
-    file.extend_from_slice(&[0; 36])?;
-    file.extend_from_slice(&MAGIC)?;
-    Ok(file)
-}
+/// The table without entries.
+const NO_ENTRY: [u8; 74] = [
+    // the metaindex block
+    0, 0, 0, 0, 1, 0, 0, 0, 0, 0xc0, 0xf2, 0xa1, 0xb0,
+    // the index block
+    0, 0, 0, 0, 1, 0, 0, 0, 0, 0xc0, 0xf2, 0xa1, 0xb0,
+    // the footer
+    0, 8, 0x0d, 8, 0, 0, 0, 0, 0, 0, 0, 0, 0, 0, 0, 0, 0, 0, 0, 0, 0, 0, 0, 0, 0, 0, 0, 0, 0, 0, 0,
+    0, 0, 0, 0, 0, 0, 0, 0, 0, 0x57, 0xfb, 0x80, 0x8b, 0x24, 0x75, 0x47, 0xdb,
+];
 
 /// The table of "a" at sequence 1 with the value "v", as the builder makes it.
 fn built(alloc: Global) -> Result<Vec<u8>, BuildFault> {
@@ -51,19 +40,14 @@ fn built(alloc: Global) -> Result<Vec<u8>, BuildFault> {
 }
 
 #[test]
-fn builds_the_table_of_one_entry(rt: HostRuntime) -> Result<(), Fail> {
-    let expected = one_entry(rt.alloc())?;
-    let file = built(rt.alloc())?;
-    expect(&rt, file.as_slice(), expected.as_slice());
-    Ok(())
+fn builds_the_table_of_one_entry(rt: HostRuntime) {
+    expect_bytes(&rt, built(rt.alloc()), &ONE_ENTRY);
 }
 
 #[test]
-fn builds_the_table_without_entries(rt: HostRuntime) -> Result<(), Fail> {
-    let expected = no_entry(rt.alloc())?;
-    let file = TableBuilder::new(rt.alloc(), TableOptions::usual()).finish()?;
-    expect(&rt, file.as_slice(), expected.as_slice());
-    Ok(())
+fn builds_the_table_without_entries(rt: HostRuntime) {
+    let builder = TableBuilder::new(rt.alloc(), TableOptions::usual());
+    expect_bytes(&rt, builder.finish(), &NO_ENTRY);
 }
 
 /// The parts of a key, to be compared.
@@ -87,7 +71,7 @@ fn gives_one_entry<R: Abort>(rt: &R, entries: &mut TableIter<'_>) {
 
 #[test]
 fn reads_the_entry_back(rt: HostRuntime) -> Result<(), Fail> {
-    let table = Table::check(rt.alloc(), one_entry(rt.alloc())?)?;
+    let table = Table::check(rt.alloc(), Vec::from_slice(rt.alloc(), &ONE_ENTRY)?)?;
     gives_one_entry(&rt, &mut table.iter(rt.alloc()));
     Ok(())
 }
@@ -100,7 +84,7 @@ pub(crate) fn judged(alloc: Global, file: Vec<u8>) -> Result<(), TableFault> {
 
 /// What the check says of the first bytes of the table of one entry.
 fn judged_prefix(alloc: Global, len: usize) -> Result<(), TableFault> {
-    let mut file = one_entry(alloc)?;
+    let mut file = Vec::from_slice(alloc, &ONE_ENTRY)?;
     file.truncate(len);
     judged(alloc, file)
 }
@@ -125,7 +109,7 @@ fn names_the_fault_of_each_prefix(rt: HostRuntime) {
 
 /// What the check says of the table of one entry with a bit flipped in this byte.
 fn judged_flipped(alloc: Global, offset: usize) -> Result<(), TableFault> {
-    let mut file = one_entry(alloc)?;
+    let mut file = Vec::from_slice(alloc, &ONE_ENTRY)?;
     if offset < file.len() {
         file[offset] ^= 1;
     }
