@@ -9,14 +9,14 @@ pub(crate) fn expect<R: Abort, T: PartialEq + Debug + Drop>(rt: &R, found: T, ex
     assert_eq!(rt; found, expected);
 }
 
-/// Ends the test where a call did not answer just these bytes.
-pub(crate) fn expect_bytes<R: Abort, E: PartialEq + Debug + Drop>(
+/// Ends the test where a call did not answer just these items, one after another.
+pub(crate) fn expect_items<R: Abort, T: PartialEq + Debug + Drop, E: PartialEq + Debug + Drop>(
     rt: &R,
-    found: Result<Vec<u8>, E>,
-    expected: &[u8],
+    found: Result<Vec<T>, E>,
+    expected: &[T],
 ) {
     match found {
-        Ok(bytes) => expect(rt, bytes.as_slice(), expected),
+        Ok(items) => expect(rt, items.as_slice(), expected),
         Err(fault) => expect(rt, Err(fault), Ok(expected)),
     }
 }

@@ -1,6 +1,6 @@
 //! Reads of tables, foreign and altered ones among them, and of tables on a shelf.
 
-use crate::expectation::{expect, expect_bytes};
+use crate::expectation::{expect, expect_items};
 use crate::tests::{ONE_ENTRY, judged, parts_of};
 use crate::trial::{Trial, tries_in_scratch};
 use crate::{
@@ -122,7 +122,7 @@ fn judged_foreign(
 
 #[test]
 fn the_foreign_builder_makes_the_known_table(rt: HostRuntime) {
-    expect_bytes(&rt, foreign(rt.alloc(), 0, &[1], b"v", &[1]), &ONE_ENTRY);
+    expect_items(&rt, foreign(rt.alloc(), 0, &[1], b"v", &[1]), &ONE_ENTRY);
 }
 
 #[test]
@@ -194,13 +194,13 @@ fn value_after(entries: &mut TableEntries) -> Result<Vec<u8>, Option<TableFault>
 /// Goes through the table of `two_blocks`.
 fn gives_two_entries<R: Abort>(rt: &R, entries: &mut TableEntries) {
     expect(rt, parts_of(entries.key()), None);
-    expect_bytes(rt, value_after(entries), b"x");
+    expect_items(rt, value_after(entries), b"x");
     expect(
         rt,
         parts_of(entries.key()),
         Some((b"a".as_slice(), 5, Kind::Value)),
     );
-    expect_bytes(rt, value_after(entries), b"y");
+    expect_items(rt, value_after(entries), b"y");
     expect(
         rt,
         parts_of(entries.key()),

@@ -2,7 +2,7 @@
 
 ghost use Rattle.std.specs.Prelude.{◌≡◌};
 
-use crate::expectation::{expect, expect_bytes};
+use crate::expectation::{expect, expect_items};
 use crate::file_shelf::FileShelf;
 use crate::memory_shelf::MemoryShelf;
 use crate::naming::Naming;
@@ -29,14 +29,6 @@ fn path_of<R: AllocGlobal>(rt: &R, folder: &str, name: &str) -> Result<String, F
     Ok(path)
 }
 
-/// Ends the test where a shelf did not list just these numbers.
-fn expect_numbers<R: Abort>(rt: &R, found: Result<Vec<u64>, ShelfFault>, expected: &[u64]) {
-    match found {
-        Ok(numbers) => expect(rt, numbers.as_slice(), expected),
-        Err(fault) => expect(rt, Err(fault), Ok(expected)),
-    }
-}
-
 /// Puts, reads and lists a table.
 fn keeps_a_table<S: Shelf, R: Wait + Abort>(
     rt: &R,
@@ -45,10 +37,10 @@ fn keeps_a_table<S: Shelf, R: Wait + Abort>(
 ) -> Result<(), ShelfFault> {
     let receipt = shelf.put(rt, alloc, 2, b"a table")?;
     expect(rt, (receipt.number(), receipt.size()), (2, 7));
-    expect_bytes(rt, shelf.read_at(alloc, &receipt, 2, 3), b"tab");
+    expect_items(rt, shelf.read_at(alloc, &receipt, 2, 3), b"tab");
     let again = shelf.put(rt, alloc, 2, b"other").err();
     expect(rt, again, Some(ShelfFault::Taken(2)));
-    expect_numbers(rt, shelf.list(rt, alloc), &[2]);
+    expect_items(rt, shelf.list(rt, alloc), &[2]);
     expect(rt, shelf.failures(), (0, 1));
     Ok(())
 }
@@ -71,7 +63,7 @@ fn removes_a_table<S: Shelf, R: Wait + Abort>(rt: &R, alloc: Global, shelf: &mut
     let loaded = shelf.load(rt, alloc, 2).err();
     expect(rt, loaded, Some(ShelfFault::Missing));
     expect(rt, shelf.remove(rt, 2), Err(ShelfFault::Missing));
-    expect_numbers(rt, shelf.list(rt, alloc), &[]);
+    expect_items(rt, shelf.list(rt, alloc), &[]);
 }
 
 /// Asks for a manifest where there is none.
@@ -144,7 +136,7 @@ fn read_after_remove<S: Shelf, R: Wait>(
 #[test]
 fn a_removed_table_is_read_from_memory(rt: HostRuntime) -> Result<(), Fail> {
     let mut shelf = MemoryShelf::new(rt.alloc())?;
-    expect_bytes(&rt, read_after_remove(&rt, rt.alloc(), &mut shelf), b"kept");
+    expect_items(&rt, read_after_remove(&rt, rt.alloc(), &mut shelf), b"kept");
     Ok(())
 }
 
@@ -267,7 +259,7 @@ pub(crate) fn lists_names<S: Shelf, R: Files + AllocGlobal + Wait + Abort>(
 ) -> Result<(), Fail> {
     write_names(rt, folder)?;
     let numbers = shelf.list(rt, rt.alloc());
-    expect_numbers(rt, numbers, &[8, 1_000_000, u64::MAX]);
+    expect_items(rt, numbers, &[8, 1_000_000, u64::MAX]);
     Ok(())
 }
 
@@ -364,7 +356,7 @@ pub(crate) fn takes_nothing<S: Shelf, R: Wait + Abort>(rt: &R, alloc: Global, sh
     expect(rt, put, Some(ShelfFault::Device));
     let started = shelf.start_manifest(rt, alloc, 1, b"");
     expect(rt, started, Err(ShelfFault::Device));
-    expect_numbers(rt, shelf.list(rt, alloc), &[]);
+    expect_items(rt, shelf.list(rt, alloc), &[]);
     expect(rt, shelf.failures(), (2, 0));
 }
 
@@ -414,7 +406,7 @@ pub(crate) fn two_threads_share<S: Shelf, R: Threads + Wait + Abort + Sync>(
     let numbers = [
         10, 11, 12, 13, 14, 15, 16, 17, 20, 21, 22, 23, 24, 25, 26, 27,
     ];
-    expect_numbers(rt, shelf.list(rt, alloc), &numbers);
+    expect_items(rt, shelf.list(rt, alloc), &numbers);
     Ok(())
 }
 

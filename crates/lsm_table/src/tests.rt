@@ -1,6 +1,6 @@
 //! Tables byte by byte: the builder's against LevelDB's layout, and foreign or altered ones.
 
-use crate::expectation::{expect, expect_bytes};
+use crate::expectation::{expect, expect_items};
 use crate::{BuildFault, Table, TableBuilder, TableFault, TableIter, TableOptions};
 use lsm_codec::{KeyRef, Kind};
 use std::alloc::Global;
@@ -41,13 +41,13 @@ fn built(alloc: Global) -> Result<Vec<u8>, BuildFault> {
 
 #[test]
 fn builds_the_table_of_one_entry(rt: HostRuntime) {
-    expect_bytes(&rt, built(rt.alloc()), &ONE_ENTRY);
+    expect_items(&rt, built(rt.alloc()), &ONE_ENTRY);
 }
 
 #[test]
 fn builds_the_table_without_entries(rt: HostRuntime) {
     let builder = TableBuilder::new(rt.alloc(), TableOptions::usual());
-    expect_bytes(&rt, builder.finish(), &NO_ENTRY);
+    expect_items(&rt, builder.finish(), &NO_ENTRY);
 }
 
 /// The parts of a key, to be compared.
