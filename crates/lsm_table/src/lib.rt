@@ -10,6 +10,8 @@ mod builder;
 mod check;
 mod contents;
 mod directory;
+#[cfg(test)]
+mod expectation;
 mod file_names;
 mod file_receipt;
 mod file_shelf;
@@ -47,6 +49,8 @@ mod table_record;
 mod table_ref;
 #[cfg(test)]
 mod tests;
+#[cfg(test)]
+mod trial;
 mod whole_image;
 
 pub use builder::TableBuilder;

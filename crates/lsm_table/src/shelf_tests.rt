@@ -2,6 +2,7 @@
 
 ghost use Rattle.std.specs.Prelude.{◌≡◌};
 
+use crate::expectation::{expect, expect_items};
 use crate::file_shelf::FileShelf;
 use crate::memory_shelf::MemoryShelf;
 use crate::naming::Naming;
@@ -11,109 +12,114 @@ use crate::shelf_fault::ShelfFault;
 use crate::slip::Slip;
 use crate::table_record::TableRecord;
 use crate::table_ref::TableRef;
+use crate::trial::{Trial, scratch, tries_at, tries_in_scratch};
 use lsm_codec::Bytes;
 use std::alloc::Global;
+use std::fs::Files;
 use std::marker::Brand;
 use std::process::Abort;
 use std::sync::Wait;
 use std::test::Fail;
 use std::thread::Threads;
-use std::{env, fs, process, thread};
+use std::{fs, thread};
 
-/// A new folder of this test's own. `remove_dir_all` takes it away.
-pub(crate) fn scratch(rt: &HostRuntime, name: &str) -> Result<String, Fail> {
-    let parent = env::temp_dir(rt)?;
-    let parent = parent.to_str().ok_or("no path")?;
-    let id = process::id(rt.process());
-    let path = format!(in rt.alloc(); "{parent}/tiswenor-{id}-{name}")?;
-    fs::create_dir(rt, path.as_str())?;
+/// The path of a name in a folder.
+fn path_of<R: AllocGlobal>(rt: &R, folder: &str, name: &str) -> Result<String, Fail> {
+    let path = format!(in rt.alloc(); "{folder}/{name}")?;
     Ok(path)
 }
 
-/// Puts, reads, loads and lists a table.
+/// Puts, reads and lists a table.
 fn keeps_a_table<S: Shelf, R: Wait + Abort>(
     rt: &R,
     alloc: Global,
     shelf: &mut S,
-) -> Result<(), Fail> {
+) -> Result<(), ShelfFault> {
     let receipt = shelf.put(rt, alloc, 2, b"a table")?;
-    assert_eq!(rt; (receipt.number(), receipt.size()), (2, 7));
-    let part = shelf.read_at(alloc, &receipt, 2, 3)?;
-    assert_eq!(rt; part.as_slice(), b"tab".as_slice());
+    expect(rt, (receipt.number(), receipt.size()), (2, 7));
+    expect_items(rt, shelf.read_at(alloc, &receipt, 2, 3), b"tab");
+    let again = shelf.put(rt, alloc, 2, b"other").err();
+    expect(rt, again, Some(ShelfFault::Taken(2)));
+    expect_items(rt, shelf.list(rt, alloc), &[2]);
+    expect(rt, shelf.failures(), (0, 1));
+    Ok(())
+}
+
+/// Loads the table 2.
+fn loads_a_table<S: Shelf, R: Wait + Abort>(
+    rt: &R,
+    alloc: Global,
+    shelf: &mut S,
+) -> Result<(), ShelfFault> {
     let (loaded, bytes) = shelf.load(rt, alloc, 2)?;
-    assert_eq!(rt; bytes.as_slice(), b"a table".as_slice());
-    assert_eq!(rt; (loaded.number(), loaded.size()), (2, 7));
-    assert_eq!(rt;
-        shelf.put(rt, alloc, 2, b"other").err(),
-        Some(ShelfFault::Taken(2))
-    );
-    assert_eq!(rt; shelf.list(rt, alloc)?.as_slice(), [2u64].as_slice());
-    assert_eq!(rt; shelf.failures(), (0, 1));
+    expect(rt, bytes.as_slice(), b"a table".as_slice());
+    expect(rt, (loaded.number(), loaded.size()), (2, 7));
     Ok(())
 }
 
 /// Removes the table 2.
-fn removes_a_table<S: Shelf, R: Wait + Abort>(
-    rt: &R,
-    alloc: Global,
-    shelf: &mut S,
-) -> Result<(), Fail> {
-    shelf.remove(rt, 2)?;
-    assert_eq!(rt; shelf.load(rt, alloc, 2).err(), Some(ShelfFault::Missing));
-    assert_eq!(rt; shelf.remove(rt, 2), Err(ShelfFault::Missing));
-    assert_eq!(rt; shelf.list(rt, alloc)?.len(), 0);
-    Ok(())
+fn removes_a_table<S: Shelf, R: Wait + Abort>(rt: &R, alloc: Global, shelf: &mut S) {
+    expect(rt, shelf.remove(rt, 2), Ok(()));
+    let loaded = shelf.load(rt, alloc, 2).err();
+    expect(rt, loaded, Some(ShelfFault::Missing));
+    expect(rt, shelf.remove(rt, 2), Err(ShelfFault::Missing));
+    expect_items(rt, shelf.list(rt, alloc), &[]);
 }
 
-/// Starts and appends a manifest, and reads it through a fork.
-fn keeps_a_manifest<S: Shelf, R: Wait + Abort>(
+/// Asks for a manifest where there is none.
+fn misses_a_manifest<S: Shelf, R: Wait + Abort>(rt: &R, alloc: Global, shelf: &mut S) {
+    let appended = shelf.append_manifest(rt, b"c");
+    expect(rt, appended, Err(ShelfFault::Missing));
+    let read = shelf.read_manifest(rt, alloc).err();
+    expect(rt, read, Some(ShelfFault::Missing));
+}
+
+/// Starts and appends a manifest, and starts it again.
+fn keeps_a_manifest<S: Shelf, R: Wait + Abort>(rt: &R, alloc: Global, shelf: &mut S) {
+    expect(rt, shelf.start_manifest(rt, alloc, 1, b"ab"), Ok(()));
+    expect(rt, shelf.append_manifest(rt, b"cd"), Ok(()));
+    let again = shelf.start_manifest(rt, alloc, 1, b"x");
+    expect(rt, again, Err(ShelfFault::Taken(1)));
+}
+
+/// Reads the manifest through a fork.
+fn forks_to_a_manifest<S: Shelf, R: Wait + Abort>(
     rt: &R,
     alloc: Global,
     shelf: &mut S,
-) -> Result<(), Fail> {
-    assert_eq!(rt; shelf.append_manifest(rt, b"c"), Err(ShelfFault::Missing));
-    assert_eq!(rt;
-        shelf.read_manifest(rt, alloc).err(),
-        Some(ShelfFault::Missing)
-    );
-    shelf.start_manifest(rt, alloc, 1, b"ab")?;
-    shelf.append_manifest(rt, b"cd")?;
-    assert_eq!(rt;
-        shelf.start_manifest(rt, alloc, 1, b"x"),
-        Err(ShelfFault::Taken(1))
-    );
+) -> Result<(), ShelfFault> {
     let mut other = shelf.fork(alloc)?;
     let (number, bytes) = other.read_manifest(rt, alloc)?;
-    assert_eq!(rt; (number, bytes.as_slice()), (1, b"abcd".as_slice()));
-    assert_eq!(rt; other.failures(), (0, 0));
+    expect(rt, (number, bytes.as_slice()), (1, b"abcd".as_slice()));
+    expect(rt, other.failures(), (0, 0));
     Ok(())
 }
 
-fn goes_through_all_calls<S: Shelf, R: Wait + Abort>(
+pub(crate) fn goes_through_all_calls<S: Shelf, R: Wait + Abort>(
     rt: &R,
     alloc: Global,
     shelf: &mut S,
-) -> Result<(), Fail> {
+) -> Result<(), ShelfFault> {
     keeps_a_table(rt, alloc, shelf)?;
-    removes_a_table(rt, alloc, shelf)?;
-    keeps_a_manifest(rt, alloc, shelf)?;
-    assert_eq!(rt; shelf.failures(), (0, 6));
+    loads_a_table(rt, alloc, shelf)?;
+    removes_a_table(rt, alloc, shelf);
+    misses_a_manifest(rt, alloc, shelf);
+    keeps_a_manifest(rt, alloc, shelf);
+    forks_to_a_manifest(rt, alloc, shelf)?;
+    expect(rt, shelf.failures(), (0, 6));
     Ok(())
 }
 
 #[test]
 fn a_memory_shelf_goes_through_all_calls(rt: HostRuntime) -> Result<(), Fail> {
     let mut shelf = MemoryShelf::new(rt.alloc())?;
-    goes_through_all_calls(&rt, rt.alloc(), &mut shelf)
+    goes_through_all_calls(&rt, rt.alloc(), &mut shelf)?;
+    Ok(())
 }
 
 #[test]
 fn a_file_shelf_goes_through_all_calls(rt: HostRuntime) -> Result<(), Fail> {
-    let path = scratch(&rt, "calls")?;
-    let mut shelf = FileShelf::open(rt.clone()?, path.as_str())?;
-    goes_through_all_calls(&rt, rt.alloc(), &mut shelf)?;
-    fs::remove_dir_all(&rt, path.as_str())?;
-    Ok(())
+    tries_in_scratch(&rt, rt.clone()?, "calls", Trial::AllCalls)
 }
 
 /// What a receipt reads after its table was removed.
@@ -128,54 +134,104 @@ fn read_after_remove<S: Shelf, R: Wait>(
 }
 
 #[test]
-fn a_removed_table_is_read_from_memory_alone(rt: HostRuntime) -> Result<(), Fail> {
-    let mut memory = MemoryShelf::new(rt.alloc())?;
-    let bytes = read_after_remove(&rt, rt.alloc(), &mut memory)?;
-    assert_eq!(rt; bytes.as_slice(), b"kept".as_slice());
-
-    let path = scratch(&rt, "removed")?;
-    let mut files = FileShelf::open(rt.clone()?, path.as_str())?;
-    let fault = read_after_remove(&rt, rt.alloc(), &mut files).err();
-    assert_eq!(rt; fault, Some(ShelfFault::Missing));
-    fs::remove_dir_all(&rt, path.as_str())?;
+fn a_removed_table_is_read_from_memory(rt: HostRuntime) -> Result<(), Fail> {
+    let mut shelf = MemoryShelf::new(rt.alloc())?;
+    expect_items(&rt, read_after_remove(&rt, rt.alloc(), &mut shelf), b"kept");
     Ok(())
+}
+
+/// Misses a table in a folder after it was removed.
+pub(crate) fn misses_a_removed_table<S: Shelf, R: Wait + Abort>(
+    rt: &R,
+    alloc: Global,
+    shelf: &mut S,
+) {
+    let read = read_after_remove(rt, alloc, shelf);
+    expect(rt, read.err(), Some(ShelfFault::Missing));
+}
+
+#[test]
+fn a_removed_table_is_not_read_from_a_folder(rt: HostRuntime) -> Result<(), Fail> {
+    tries_in_scratch(&rt, rt.clone()?, "removed", Trial::Removal)
+}
+
+/// Writes a file of a folder.
+fn write_file<R: Files + AllocGlobal>(
+    rt: &R,
+    folder: &str,
+    name: &str,
+    text: &str,
+) -> Result<(), Fail> {
+    let path = path_of(rt, folder, name)?;
+    fs::write(rt, path.as_str(), text)?;
+    Ok(())
+}
+
+/// The fault of reading the manifest where `CURRENT` has this text.
+fn fault_where_current_is<S: Shelf, R: Files + AllocGlobal + Wait>(
+    rt: &R,
+    shelf: &mut S,
+    folder: &str,
+    text: &str,
+) -> Result<Option<ShelfFault>, Fail> {
+    write_file(rt, folder, "CURRENT", text)?;
+    Ok(shelf.read_manifest(rt, rt.alloc()).err())
+}
+
+/// Starts the manifest 7, and reads what `CURRENT` says then.
+fn names_a_manifest<S: Shelf, R: Files + AllocGlobal + Wait + Abort>(
+    rt: &R,
+    shelf: &mut S,
+    folder: &str,
+) -> Result<(), Fail> {
+    shelf.start_manifest(rt, rt.alloc(), 7, b"edit")?;
+    let current = path_of(rt, folder, "CURRENT")?;
+    let text = fs::read_to_string(rt, current.as_str())?;
+    expect(rt, text.as_str(), "MANIFEST-000007\n");
+    Ok(())
+}
+
+/// Reads the manifest 7 with other texts in `CURRENT`, and at last with its own.
+fn reads_other_currents<S: Shelf, R: Files + AllocGlobal + Wait + Abort>(
+    rt: &R,
+    shelf: &mut S,
+    folder: &str,
+) -> Result<(), Fail> {
+    let missing = Some(ShelfFault::Missing);
+    for (text, expected) in [
+        ("MANIFEST-000007", missing),
+        ("MANIFEST-0000007\n", missing),
+        ("MANIFEST-7\n", missing),
+        ("MANIFEST-000007\n\n", missing),
+        ("MANIFEST-000008\n", missing),
+        ("000007\n", missing),
+        ("", missing),
+        ("MANIFEST-000007\n", None),
+    ] {
+        let fault = fault_where_current_is(rt, shelf, folder, text)?;
+        expect(rt, (text, fault), (text, expected));
+    }
+    expect(rt, shelf.failures(), (0, 7));
+    Ok(())
+}
+
+/// Starts a manifest, and reads it by other texts in `CURRENT`.
+pub(crate) fn reads_currents<S: Shelf, R: Files + AllocGlobal + Wait + Abort>(
+    rt: &R,
+    shelf: &mut S,
+    folder: &str,
+) -> Result<(), Fail> {
+    names_a_manifest(rt, shelf, folder)?;
+    reads_other_currents(rt, shelf, folder)
 }
 
 #[test]
 fn a_current_of_another_form_is_missing(rt: HostRuntime) -> Result<(), Fail> {
-    let path = scratch(&rt, "current")?;
-    let folder = path.as_str();
-    let mut shelf = FileShelf::open(rt.clone()?, folder)?;
-    shelf.start_manifest(&rt, rt.alloc(), 7, b"edit")?;
-    let current = format!(in rt.alloc(); "{folder}/CURRENT")?;
-    let text = fs::read_to_string(&rt, current.as_str())?;
-    assert_eq!(rt; text.as_str(), "MANIFEST-000007\n");
-    for (text, is_found) in [
-        ("MANIFEST-000007", false),
-        ("MANIFEST-0000007\n", false),
-        ("MANIFEST-7\n", false),
-        ("MANIFEST-000007\n\n", false),
-        ("MANIFEST-000008\n", false),
-        ("000007\n", false),
-        ("", false),
-        ("MANIFEST-000007\n", true),
-    ] {
-        fs::write(&rt, current.as_str(), text)?;
-        let found = shelf.read_manifest(&rt, rt.alloc());
-        assert_eq!(rt; found.is_ok(), is_found, "at {text}");
-        if let Err(fault) = found {
-            assert_eq!(rt; fault, ShelfFault::Missing, "at {text}");
-        }
-    }
-    assert_eq!(rt; shelf.failures(), (0, 7));
-    fs::remove_dir_all(&rt, folder)?;
-    Ok(())
+    tries_in_scratch(&rt, rt.clone()?, "current", Trial::Currents)
 }
 
-#[test]
-fn other_names_are_no_tables(rt: HostRuntime) -> Result<(), Fail> {
-    let path = scratch(&rt, "names")?;
-    let folder = path.as_str();
+/// Writes files of other names into a folder, and three of tables.
+fn write_names<R: Files + AllocGlobal>(rt: &R, folder: &str) -> Result<(), Fail> {
     for name in [
         "0000007.ldb",
         "7.ldb",
@@ -190,74 +246,123 @@ fn other_names_are_no_tables(rt: HostRuntime) -> Result<(), Fail> {
         "1000000.ldb",
         "000008.ldb",
     ] {
-        let file = format!(in rt.alloc(); "{folder}/{name}")?;
-        fs::write(&rt, file.as_str(), name)?;
+        write_file(rt, folder, name, name)?;
     }
-    let mut shelf = FileShelf::open(rt.clone()?, folder)?;
-    let numbers = shelf.list(&rt, rt.alloc())?;
-    assert_eq!(rt; numbers.as_slice(), [8u64, 1_000_000, u64::MAX].as_slice());
-    fs::remove_dir_all(&rt, folder)?;
     Ok(())
+}
+
+/// Lists a folder with files of other names.
+pub(crate) fn lists_names<S: Shelf, R: Files + AllocGlobal + Wait + Abort>(
+    rt: &R,
+    shelf: &mut S,
+    folder: &str,
+) -> Result<(), Fail> {
+    write_names(rt, folder)?;
+    let numbers = shelf.list(rt, rt.alloc());
+    expect_items(rt, numbers, &[8, 1_000_000, u64::MAX]);
+    Ok(())
+}
+
+#[test]
+fn other_names_are_no_tables(rt: HostRuntime) -> Result<(), Fail> {
+    tries_in_scratch(&rt, rt.clone()?, "names", Trial::Names)
+}
+
+/// Reads a table whose file became shorter.
+fn tells_a_short_table<S: Shelf, R: Files + AllocGlobal + Wait + Abort>(
+    rt: &R,
+    shelf: &mut S,
+    folder: &str,
+) -> Result<(), Fail> {
+    let receipt = shelf.put(rt, rt.alloc(), 5, b"ten bytes.")?;
+    write_file(rt, folder, "000005.ldb", "short")?;
+    let read = shelf.read_at(rt.alloc(), &receipt, 0, 10);
+    expect(rt, read.err(), Some(ShelfFault::Device));
+    Ok(())
+}
+
+/// Starts a manifest that cannot be named, and then one that can: the first is not left behind.
+fn tells_an_unnamed_manifest<S: Shelf, R: Files + AllocGlobal + Wait + Abort>(
+    rt: &R,
+    shelf: &mut S,
+    folder: &str,
+) -> Result<(), Fail> {
+    let temporary = path_of(rt, folder, "000001.dbtmp")?;
+    fs::create_dir(rt, temporary.as_str())?;
+    let started = shelf.start_manifest(rt, rt.alloc(), 1, b"");
+    expect(rt, started, Err(ShelfFault::Device));
+    fs::remove_dir(rt, temporary.as_str())?;
+    let started = shelf.start_manifest(rt, rt.alloc(), 1, b"");
+    expect(rt, started, Ok(()));
+    Ok(())
+}
+
+/// Appends to a manifest on a device that is always full.
+fn tells_a_full_device<S: Shelf, R: Files + AllocGlobal + Wait + Abort>(
+    rt: &R,
+    shelf: &mut S,
+    folder: &str,
+) -> Result<(), Fail> {
+    let manifest = path_of(rt, folder, "MANIFEST-000001")?;
+    fs::remove_file(rt, manifest.as_str())?;
+    std::os::unix::fs::symlink(rt, "/dev/full", manifest.as_str())?;
+    let appended = shelf.append_manifest(rt, b"edit");
+    expect(rt, appended, Err(ShelfFault::Device));
+    Ok(())
+}
+
+/// Goes on with a folder that is gone.
+fn tells_a_lost_folder<S: Shelf, R: Wait + Abort>(rt: &R, alloc: Global, shelf: &mut S) {
+    let put = shelf.put(rt, alloc, 6, b"").err();
+    expect(rt, put, Some(ShelfFault::Device));
+    let listed = shelf.list(rt, alloc).err();
+    expect(rt, listed, Some(ShelfFault::Device));
+    let loaded = shelf.load(rt, alloc, 5).err();
+    expect(rt, loaded, Some(ShelfFault::Missing));
+    expect(rt, shelf.failures(), (5, 1));
+}
+
+/// Goes through a device's failures one after another, and takes the folder away.
+pub(crate) fn tells_failures<S: Shelf, R: Files + AllocGlobal + Wait + Abort>(
+    rt: &R,
+    shelf: &mut S,
+    folder: &str,
+) -> Result<(), Fail> {
+    tells_a_short_table(rt, shelf, folder)?;
+    tells_an_unnamed_manifest(rt, shelf, folder)?;
+    tells_a_full_device(rt, shelf, folder)?;
+    fs::remove_dir_all(rt, folder)?;
+    tells_a_lost_folder(rt, rt.alloc(), shelf);
+    Ok(())
+}
+
+/// The fault of opening a folder.
+fn fault_of_opening(rt: HostRuntime, folder: &str) -> Option<ShelfFault> {
+    FileShelf::open(rt, folder).err()
 }
 
 #[test]
 fn a_device_that_fails_is_told(rt: HostRuntime) -> Result<(), Fail> {
     let path = scratch(&rt, "device")?;
-    let folder = path.as_str();
-    let mut shelf = FileShelf::open(rt.clone()?, folder)?;
-    let receipt = shelf.put(&rt, rt.alloc(), 5, b"ten bytes.")?;
-    let table = format!(in rt.alloc(); "{folder}/000005.ldb")?;
-    fs::write(&rt, table.as_str(), "short")?;
-    let fault = shelf.read_at(rt.alloc(), &receipt, 0, 10).err();
-    assert_eq!(rt; fault, Some(ShelfFault::Device));
-
-    // A manifest that could not be named is not left behind.
-    let temporary = format!(in rt.alloc(); "{folder}/000001.dbtmp")?;
-    fs::create_dir(&rt, temporary.as_str())?;
-    let started = shelf.start_manifest(&rt, rt.alloc(), 1, b"");
-    assert_eq!(rt; started, Err(ShelfFault::Device));
-    fs::remove_dir(&rt, temporary.as_str())?;
-    shelf.start_manifest(&rt, rt.alloc(), 1, b"")?;
-
-    // A manifest on a device that is always full.
-    let manifest = format!(in rt.alloc(); "{folder}/MANIFEST-000001")?;
-    fs::remove_file(&rt, manifest.as_str())?;
-    std::os::unix::fs::symlink(&rt, "/dev/full", manifest.as_str())?;
-    assert_eq!(rt;
-        shelf.append_manifest(&rt, b"edit"),
-        Err(ShelfFault::Device)
-    );
-
-    fs::remove_dir_all(&rt, folder)?;
-    assert_eq!(rt;
-        shelf.put(&rt, rt.alloc(), 6, b"").err(),
-        Some(ShelfFault::Device)
-    );
-    assert_eq!(rt; shelf.list(&rt, rt.alloc()).err(), Some(ShelfFault::Device));
-    assert_eq!(rt;
-        shelf.load(&rt, rt.alloc(), 5).err(),
-        Some(ShelfFault::Missing)
-    );
-    assert_eq!(rt; shelf.failures(), (5, 1));
-    assert_eq!(rt;
-        FileShelf::open(rt.clone()?, folder).err(),
-        Some(ShelfFault::Device)
-    );
+    tries_at(&rt, rt.clone()?, path.as_str(), Trial::Failures)?;
+    let opened = fault_of_opening(rt.clone()?, path.as_str());
+    expect(&rt, opened, Some(ShelfFault::Device));
     Ok(())
+}
+
+/// Puts into a folder that takes nothing.
+pub(crate) fn takes_nothing<S: Shelf, R: Wait + Abort>(rt: &R, alloc: Global, shelf: &mut S) {
+    let put = shelf.put(rt, alloc, 2, b"").err();
+    expect(rt, put, Some(ShelfFault::Device));
+    let started = shelf.start_manifest(rt, alloc, 1, b"");
+    expect(rt, started, Err(ShelfFault::Device));
+    expect_items(rt, shelf.list(rt, alloc), &[]);
+    expect(rt, shelf.failures(), (2, 0));
 }
 
 #[test]
 fn a_read_only_folder_takes_nothing(rt: HostRuntime) -> Result<(), Fail> {
-    let mut shelf = FileShelf::open(rt.clone()?, "/proc")?;
-    assert_eq!(rt;
-        shelf.put(&rt, rt.alloc(), 2, b"").err(),
-        Some(ShelfFault::Device)
-    );
-    let started = shelf.start_manifest(&rt, rt.alloc(), 1, b"");
-    assert_eq!(rt; started, Err(ShelfFault::Device));
-    assert_eq!(rt; shelf.list(&rt, rt.alloc())?.len(), 0);
-    assert_eq!(rt; shelf.failures(), (2, 0));
-    Ok(())
+    tries_at(&rt, rt.clone()?, "/proc", Trial::Refusals)
 }
 
 /// Puts and reads eight tables from the number on, and answers whether each read gave what was put.
@@ -278,40 +383,49 @@ fn puts_and_reads<S: Shelf, R: Wait>(
     Ok(true)
 }
 
-/// Lets two threads put and read through forks, and lists what they put.
-fn two_threads_share<S: Shelf, R: Threads + Wait + Abort + Sync>(
-    rt: &R,
-    alloc: Global,
-    mut shelf: S,
-) -> Result<(), Fail> {
+/// Two forks, each with the number from which on it is to put.
+fn two_forks<S: Shelf>(alloc: Global, shelf: &mut S) -> Result<Vec<(S, u8)>, ShelfFault> {
     let mut forks = Vec::new(alloc);
     forks.push((shelf.fork(alloc)?, 10u8))?;
     forks.push((shelf.fork(alloc)?, 20u8))?;
+    Ok(forks)
+}
+
+/// Lets two threads put and read through forks, and lists what they put.
+pub(crate) fn two_threads_share<S: Shelf, R: Threads + Wait + Abort + Sync>(
+    rt: &R,
+    alloc: Global,
+    shelf: &mut S,
+) -> Result<(), Fail> {
     let ends = thread::map_vec(
         rt,
-        forks,
+        two_forks(alloc, shelf)?,
         &|(fork, from)| { puts_and_reads(rt, alloc, fork, from) },
     )?;
-    assert!(rt; ends.iter().all(|end| *end == Ok(true)));
-    assert_eq!(rt; shelf.list(rt, alloc)?.len(), 16);
+    expect(rt, ends.as_slice(), [Ok(true), Ok(true)].as_slice());
+    let numbers = [
+        10, 11, 12, 13, 14, 15, 16, 17, 20, 21, 22, 23, 24, 25, 26, 27,
+    ];
+    expect_items(rt, shelf.list(rt, alloc), &numbers);
     Ok(())
 }
 
 #[test]
-fn two_threads_share_a_shelf(rt: HostRuntime) -> Result<(), Fail> {
-    two_threads_share(&rt, rt.alloc(), MemoryShelf::new(rt.alloc())?)?;
-    let path = scratch(&rt, "threads")?;
-    let shelf = FileShelf::open(rt.clone()?, path.as_str())?;
-    two_threads_share(&rt, rt.alloc(), shelf)?;
-    fs::remove_dir_all(&rt, path.as_str())?;
-    Ok(())
+fn two_threads_share_a_shelf_in_memory(rt: HostRuntime) -> Result<(), Fail> {
+    two_threads_share(&rt, rt.alloc(), &mut MemoryShelf::new(rt.alloc())?)
+}
+
+#[test]
+fn two_threads_share_a_folder(rt: HostRuntime) -> Result<(), Fail> {
+    tries_in_scratch(&rt, rt.clone()?, "threads", Trial::Threads)
 }
 
 #[test]
 fn a_registry_gives_the_records_pushed(rt: HostRuntime) -> Result<(), Fail> {
     let registry = Registry::new(rt.alloc())?;
-    let shelf = MemoryShelf::new(rt.alloc())?;
-    keeps_records::<Brand, MemoryShelf, _>(&rt, rt.alloc(), &registry, shelf)
+    let mut shelf = MemoryShelf::new(rt.alloc())?;
+    keeps_records::<Brand, MemoryShelf, _>(&rt, rt.alloc(), &registry, &mut shelf)?;
+    Ok(())
 }
 
 /// Puts a table and pushes its record.
@@ -339,22 +453,48 @@ fn pushed<N: Naming, S: Shelf, R: Wait>(
         .map_err(|_| ShelfFault::OutOfMemory)
 }
 
+/// Compares the record of a reference with what `pushed` pushed under this number.
+fn expect_record<N: Naming, S: Shelf, R: Abort>(
+    rt: &R,
+    registry: &Registry<S::Receipt>,
+    table: &TableRef<N, S>,
+    number: u64,
+)
+    requires { registry.now ≡ N.registry }
+{
+    let row = registry.record(table);
+    expect(rt, (row.number(), row.size()), (number, 5));
+    expect(rt, row.smallest.as_slice(), b"first".as_slice());
+    expect(rt, row.largest.as_slice(), b"last".as_slice());
+}
+
+/// Tells references apart.
+fn tells_references_apart<N: Naming, S: Shelf, R: Abort>(
+    rt: &R,
+    registry: &Registry<S::Receipt>,
+    first: &TableRef<N, S>,
+    second: &TableRef<N, S>,
+)
+    requires { registry.now ≡ N.registry }
+{
+    expect(rt, registry.same(second, &second.again()), true);
+    expect(rt, registry.same(first, second), false);
+}
+
 fn keeps_records<N: Naming, S: Shelf, R: Wait + Abort>(
     rt: &R,
     alloc: Global,
     registry: &Registry<S::Receipt>,
-    mut shelf: S,
-) -> Result<(), Fail>
+    shelf: &mut S,
+) -> Result<(), ShelfFault>
     requires registry { registry.now ≡ N.registry }
-    requires shelf { (S.told shelf).place ≡ N.place }
+    requires shelf { (S.told shelf.old).place ≡ N.place }
 {
-    let first = pushed::<N, S, R>(rt, alloc, registry, &mut shelf, 2)?;
-    let second = pushed::<N, S, R>(rt, alloc, registry, &mut shelf, 3)?;
-    let row = registry.record(&second);
-    assert_eq!(rt; (row.number(), row.size()), (3, 5));
-    assert_eq!(rt; row.largest.as_slice(), b"last".as_slice());
-    assert!(rt; registry.same(&second, &second.again()));
-    assert!(rt; !registry.same(&first, &second));
+    let first = pushed::<N, S, R>(rt, alloc, registry, shelf, 2)?;
+    let second = pushed::<N, S, R>(rt, alloc, registry, shelf, 3)?;
+    expect_record::<N, S, R>(rt, registry, &first, 2);
+    expect_record::<N, S, R>(rt, registry, &second, 3);
+    tells_references_apart::<N, S, R>(rt, registry, &first, &second);
     Ok(())
 }
 
@@ -366,7 +506,6 @@ fn refusals_have_their_numbers_and_names(rt: HostRuntime) {
         (ShelfFault::Missing, 10, "Missing"),
         (ShelfFault::Taken(3), 11, "Taken"),
     ] {
-        assert_eq!(rt; fault.number(), number);
-        assert_eq!(rt; fault.name(), name);
+        expect(&rt, (fault.number(), fault.name()), (number, name));
     }
 }

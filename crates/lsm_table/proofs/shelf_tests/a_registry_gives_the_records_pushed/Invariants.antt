@@ -3,4 +3,4 @@ use Rattle.lsm_table.proofs.shelf_tests.a_registry_gives_the_records_pushed.Give
 
 -- the registry and the contents that were just made
 abbrev pub ghosts-keeps_records : goal.ghosts-keeps_records
-ghosts-keeps_records g a = record { registry = a.registry.now; place = (arc_value a.shelf.contents).images }
+ghosts-keeps_records g a = record { registry = a.registry.now; place = (arc_value a.shelf.now.contents).images }
