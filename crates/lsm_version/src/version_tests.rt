@@ -3,7 +3,8 @@
 ghost use Rattle.std.specs.Prelude.{◌≡◌, IfOk};
 ghost use Rattle.std.specs.Arc.{arc_value};
 
-use crate::Version;
+use crate::tests::{has_shown_all, shows};
+use crate::{Scan, Stream, Version};
 use lsm_codec::{Bytes, KeyRef, Kind, List, push_key};
 use lsm_manifest::{FileMeta, Shape};
 use lsm_table::{MemoryShelf, Naming, Registry, Shelf, TableBuilder, TableOptions, TableRef};
@@ -15,18 +16,18 @@ use std::test::Fail;
 
 /// An entry of a user key of one byte. Its value is one byte too, that of its sequence.
 #[derive(Clone, Copy, Debug)]
-struct Row {
-    user: u8,
-    seq: u8,
-    kind: Kind,
+pub(crate) struct Row {
+    pub(crate) user: u8,
+    pub(crate) seq: u8,
+    pub(crate) kind: Kind,
 }
 
 /// The entries of a table, ascending by internal key.
 #[derive(Debug, Drop)]
-struct Rows {
-    level: usize,
-    number: u64,
-    rows: Vec<Row>,
+pub(crate) struct Rows {
+    pub(crate) level: usize,
+    pub(crate) number: u64,
+    pub(crate) rows: Vec<Row>,
 }
 
 fn key_of(alloc: Global, row: &Row) -> Result<Bytes, Fail> {
@@ -98,8 +99,28 @@ fn put_level<S: Shelf, R: Wait>(
     Ok(List::of(files))
 }
 
+/// Puts the tables of all levels on the shelf.
+fn put_levels<S: Shelf, R: Wait>(
+    rt: &R,
+    alloc: Global,
+    shelf: &mut S,
+    tables: &[Rows],
+) -> Result<[List<FileMeta>; 7], Fail>
+    ensures { (S.told shelf.new).place ≡ (S.told shelf.old).place }
+{
+    Ok([
+        put_level(rt, alloc, shelf, tables, 0)?,
+        put_level(rt, alloc, shelf, tables, 1)?,
+        put_level(rt, alloc, shelf, tables, 2)?,
+        put_level(rt, alloc, shelf, tables, 3)?,
+        put_level(rt, alloc, shelf, tables, 4)?,
+        put_level(rt, alloc, shelf, tables, 5)?,
+        put_level(rt, alloc, shelf, tables, 6)?,
+    ])
+}
+
 /// The version of some tables, which are put on the shelf.
-fn version_of<N: Naming, S: Shelf, R: Wait>(
+pub(crate) fn version_of<N: Naming, S: Shelf, R: Wait>(
     rt: &R,
     alloc: Global,
     registry: Arc<Registry<S::Receipt>>,
@@ -110,15 +131,8 @@ fn version_of<N: Naming, S: Shelf, R: Wait>(
     requires shelf { (S.told shelf.old).place ≡ N.place }
     ensures { (S.told shelf.new).place ≡ N.place }
 {
-    let zero = put_level(rt, alloc, shelf, tables, 0)?;
-    let one = put_level(rt, alloc, shelf, tables, 1)?;
-    let two = put_level(rt, alloc, shelf, tables, 2)?;
-    let three = put_level(rt, alloc, shelf, tables, 3)?;
-    let four = put_level(rt, alloc, shelf, tables, 4)?;
-    let five = put_level(rt, alloc, shelf, tables, 5)?;
-    let six = put_level(rt, alloc, shelf, tables, 6)?;
     let shape = Shape {
-        levels: [zero, one, two, three, four, five, six],
+        levels: put_levels(rt, alloc, shelf, tables)?,
         pointers: [None, None, None, None, None, None, None],
         log: 0,
         prev_log: 0,
@@ -173,7 +187,65 @@ fn depths(alloc: Global) -> Result<Vec<Rows>, Fail> {
     Ok(tables)
 }
 
-fn reads_each_depth<N: Naming, S: Shelf, R: Wait + Abort>(
+/// What each sequence shows of the user key that lies at each depth.
+const AT_DEPTHS: &[(u8, Option<u8>)] = &[
+    (255, Some(80)),
+    (80, Some(80)),
+    (79, Some(70)),
+    (69, Some(60)),
+    (59, Some(50)),
+    (49, None),
+    (40, None),
+    (39, Some(30)),
+    (29, Some(20)),
+    (19, Some(10)),
+    (9, None),
+];
+
+/// A level, the ends of a range of user keys, and how many tables of the level the range meets.
+const OVERLAPPING: &[(usize, u8, u8, usize)] = &[
+    (0, b'a', b'z', 2),
+    (0, b'l', b'z', 0),
+    (3, b'k', b'k', 1),
+    (3, b'a', b'j', 0),
+    (3, b'z', b'a', 0),
+];
+
+/// Compares what each sequence shows of the user key that lies at each depth, and of one that lies nowhere.
+fn reads_each_depth<N: Naming, S: Shelf, R: Abort>(
+    rt: &R,
+    alloc: Global,
+    shelf: &mut S,
+    version: &Version<N, S>,
+) -> Result<(), Fail>
+    requires { (S.told shelf.old).place ≡ N.place }
+    ensures { (S.told shelf.new).place ≡ N.place }
+{
+    for &(seq, wanted) in AT_DEPTHS {
+        let found = answer_of(alloc, shelf, version, b'k', seq)?;
+        assert!(rt; found == wanted, "at {seq}");
+        let absent = answer_of(alloc, shelf, version, b'j', seq)?;
+        assert!(rt; absent.is_none(), "at {seq}");
+    }
+    Ok(())
+}
+
+/// Compares how many tables each range meets.
+fn counts_overlapping<N: Naming, S: Shelf, R: Abort>(
+    rt: &R,
+    alloc: Global,
+    version: &Version<N, S>,
+) -> Result<(), Fail> {
+    for &(level, from, to, count) in OVERLAPPING {
+        assert!(rt; level <= 6);
+        let found = version.overlapping(alloc, level, &[from], &[to])?;
+        assert!(rt; found.len() == count, "at level {level}");
+    }
+    Ok(())
+}
+
+/// Makes the version that has a key at each depth, and compares what it answers.
+fn compares_depths<N: Naming, S: Shelf, R: Wait + Abort>(
     rt: &R,
     alloc: Global,
     registry: Arc<Registry<S::Receipt>>,
@@ -184,34 +256,8 @@ fn reads_each_depth<N: Naming, S: Shelf, R: Wait + Abort>(
 {
     let tables = depths(alloc)?;
     let version: Version<N, S> = version_of(rt, alloc, registry, &mut shelf, &tables)?;
-    for (seq, wanted) in [
-        (255u8, Some(80u8)),
-        (80, Some(80)),
-        (79, Some(70)),
-        (69, Some(60)),
-        (59, Some(50)),
-        (49, None),
-        (40, None),
-        (39, Some(30)),
-        (29, Some(20)),
-        (19, Some(10)),
-        (9, None),
-    ] {
-        let found = answer_of(alloc, &mut shelf, &version, b'k', seq)?;
-        assert_eq!(rt; found, wanted, "at {seq}");
-        assert_eq!(rt; answer_of(alloc, &mut shelf, &version, b'j', seq)?, None);
-    }
-    for (level, from, to, count) in [
-        (0usize, b'a', b'z', 2usize),
-        (0, b'l', b'z', 0),
-        (3, b'k', b'k', 1),
-        (3, b'a', b'j', 0),
-        (3, b'z', b'a', 0),
-    ] {
-        let found = version.overlapping(alloc, level, &[from], &[to])?;
-        assert_eq!(rt; found.len(), count, "at level {level}");
-    }
-    Ok(())
+    reads_each_depth(rt, alloc, &mut shelf, &version)?;
+    counts_overlapping(rt, alloc, &version)
 }
 
 #[test]
@@ -219,7 +265,7 @@ fn a_read_goes_from_depth_to_depth(rt: HostRuntime) -> Result<(), Fail> {
     let alloc = rt.alloc();
     let registry = Arc::new(alloc, Registry::new(alloc)?)?;
     let shelf = MemoryShelf::new(alloc)?;
-    reads_each_depth::<Brand, MemoryShelf, _>(&rt, alloc, registry, shelf)
+    compares_depths::<Brand, MemoryShelf, _>(&rt, alloc, registry, shelf)
 }
 
 /// The next number of a fixed generator.
@@ -312,6 +358,55 @@ fn plain_answer(tables: &[Rows], user: u8, seq: u8) -> Option<u8> {
     }
 }
 
+/// Compares each read at a sequence with the plain answers.
+fn reads_plainly<N: Naming, S: Shelf, R: Abort>(
+    rt: &R,
+    alloc: Global,
+    shelf: &mut S,
+    version: &Version<N, S>,
+    tables: &[Rows],
+    seq: u8,
+) -> Result<(), Fail>
+    requires { (S.told shelf.old).place ≡ N.place }
+    ensures { (S.told shelf.new).place ≡ N.place }
+{
+    for user in b'a'..=b'h' {
+        let wanted = plain_answer(tables, user, seq);
+        let found = answer_of(alloc, shelf, version, user, seq)?;
+        assert!(rt; found == wanted, "of {user} at {seq}");
+    }
+    Ok(())
+}
+
+/// Whether a scan at a sequence shows just the plain answers.
+fn scans_plainly<S: Stream>(alloc: Global, scan: &mut Scan<S>, tables: &[Rows], seq: u8) -> bool {
+    for user in b'a'..=b'h' {
+        if let Some(value) = plain_answer(tables, user, seq) {
+            if !shows(alloc, scan, &[user], &[value]) {
+                return false;
+            }
+        }
+    }
+    has_shown_all(alloc, scan)
+}
+
+/// Whether the version's scan at a sequence shows just the plain answers.
+fn is_scanned_plainly<N: Naming, S: Shelf>(
+    alloc: Global,
+    shelf: &mut S,
+    version: &Version<N, S>,
+    tables: &[Rows],
+    seq: u8,
+) -> bool
+    requires { (S.told shelf.old).place ≡ N.place }
+    ensures { (S.told shelf.new).place ≡ N.place }
+{
+    match version.scan(shelf, alloc, seq as u64) {
+        Ok(mut scan) => scans_plainly(alloc, &mut scan, tables, seq),
+        Err(_) => false,
+    }
+}
+
 /// Compares each read at a sequence, and the scan there, with the plain answers.
 fn answers_plainly<N: Naming, S: Shelf, R: Wait + Abort>(
     rt: &R,
@@ -324,22 +419,11 @@ fn answers_plainly<N: Naming, S: Shelf, R: Wait + Abort>(
     requires { (S.told shelf.old).place ≡ N.place }
     ensures { (S.told shelf.new).place ≡ N.place }
 {
-    let mut scan = version.scan(shelf, alloc, seq as u64)?;
-    for user in b'a'..=b'h' {
-        let wanted = plain_answer(tables, user, seq);
-        let found = answer_of(alloc, shelf, version, user, seq)?;
-        assert_eq!(rt; found, wanted, "of {user} at {seq}");
-        if let Some(value) = wanted {
-            match scan.next(alloc)? {
-                None => assert!(rt; false, "the scan at {seq} ends before {user}"),
-                Some(pair) => {
-                    assert_eq!(rt; pair.user(), [user].as_slice(), "at {seq}");
-                    assert_eq!(rt; pair.value(), [value].as_slice(), "at {seq}");
-                }
-            }
-        }
-    }
-    assert!(rt; scan.next(alloc)?.is_none(), "the scan at {seq} goes on");
+    reads_plainly(rt, alloc, shelf, version, tables, seq)?;
+    assert!(rt;
+        is_scanned_plainly(alloc, shelf, version, tables, seq),
+        "the scan at {seq}"
+    );
     Ok(())
 }
 
