@@ -30,7 +30,7 @@ pub(crate) struct Rows {
     pub(crate) rows: Vec<Row>,
 }
 
-fn key_of(alloc: Global, row: &Row) -> Result<Bytes, Fail> {
+pub(crate) fn key_of(alloc: Global, row: &Row) -> Result<Bytes, Fail> {
     let mut key = Vec::new(alloc);
     push_key(&mut key, &[row.user], row.seq as u64, row.kind)?;
     Ok(Bytes::of(key))
@@ -143,7 +143,7 @@ pub(crate) fn version_of<N: Naming, S: Shelf, R: Wait>(
 }
 
 /// What a version answers, as one byte.
-fn answer_of<N: Naming, S: Shelf>(
+pub(crate) fn answer_of<N: Naming, S: Shelf>(
     alloc: Global,
     shelf: &mut S,
     version: &Version<N, S>,
