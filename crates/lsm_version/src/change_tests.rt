@@ -5,8 +5,7 @@ ghost use Rattle.std.specs.Arc.{arc_value};
 
 use crate::Version;
 use crate::doubted::Doubted;
-use crate::tests::shows_just;
-use crate::version_tests::{Row, Rows, answer_of, key_of, version_of};
+use crate::version_tests::{Row, Rows, is_scanned_as, key_of, new_registry, reads_as, version_of};
 use lsm_codec::Kind;
 use lsm_table::{MemoryShelf, Naming, Registry, Shelf, TableRef};
 use std::alloc::Global;
@@ -16,10 +15,10 @@ use std::sync::{Arc, Wait};
 use std::test::Fail;
 
 /// A table: its level, its number, and the user key, sequence and kind of each entry.
-type Described<'a> = (usize, u64, &'a [(u8, u8, Kind)]);
+type Table<'a> = (usize, u64, &'a [(u8, u8, Kind)]);
 
 /// The tables of the version before the change.
-const BEFORE: &[Described<'_>] = &[
+const BEFORE: &[Table<'_>] = &[
     (0, 7, &[(b'a', 7, Kind::Value)]),
     (0, 9, &[(b'k', 8, Kind::Value)]),
     (1, 5, &[(b'b', 5, Kind::Value), (b'k', 4, Kind::Value)]),
@@ -27,7 +26,7 @@ const BEFORE: &[Described<'_>] = &[
 ];
 
 /// The table that takes the place of numbers 9 and 5. It has newer entries too.
-const ADDED: &[Described<'_>] = &[(
+const ADDED: &[Table<'_>] = &[(
     2,
     12,
     &[
@@ -44,7 +43,7 @@ struct Answers {
     /// A user key, a sequence, and the value of the key there.
     reads: &'static [(u8, u8, Option<u8>)],
     /// A sequence, and the pairs of the scan there.
-    scans: &'static [(u8, &'static [(&'static [u8], &'static [u8])])],
+    scans: &'static [(u8, &'static [(u8, u8)])],
     /// The numbers of the tables of each level.
     levels: &'static [&'static [u64]],
     /// The compaction pointer of each level.
@@ -67,12 +66,9 @@ const OLD: Answers = Answers {
         (b'z', 255, Some(2)),
     ],
     scans: &[
-        (
-            255,
-            &[(b"a", &[7]), (b"b", &[5]), (b"k", &[8]), (b"z", &[2])],
-        ),
-        (7, &[(b"a", &[7]), (b"b", &[5]), (b"k", &[4]), (b"z", &[2])]),
-        (4, &[(b"k", &[4]), (b"z", &[2])]),
+        (255, &[(b'a', 7), (b'b', 5), (b'k', 8), (b'z', 2)]),
+        (7, &[(b'a', 7), (b'b', 5), (b'k', 4), (b'z', 2)]),
+        (4, &[(b'k', 4), (b'z', 2)]),
         (1, &[]),
     ],
     levels: &[&[7, 9], &[5], &[3], &[], &[], &[], &[]],
@@ -95,14 +91,11 @@ const NEW_READS: &[(u8, u8, Option<u8>)] = &[
     (b'z', 255, Some(2)),
 ];
 
-const NEW_SCANS: &[(u8, &[(&[u8], &[u8])])] = &[
-    (
-        255,
-        &[(b"a", &[7]), (b"b", &[5]), (b"m", &[11]), (b"z", &[2])],
-    ),
-    (9, &[(b"a", &[7]), (b"b", &[5]), (b"k", &[8]), (b"z", &[2])]),
-    (7, &[(b"a", &[7]), (b"b", &[5]), (b"z", &[2])]),
-    (4, &[(b"z", &[2])]),
+const NEW_SCANS: &[(u8, &[(u8, u8)])] = &[
+    (255, &[(b'a', 7), (b'b', 5), (b'm', 11), (b'z', 2)]),
+    (9, &[(b'a', 7), (b'b', 5), (b'k', 8), (b'z', 2)]),
+    (7, &[(b'a', 7), (b'b', 5), (b'z', 2)]),
+    (4, &[(b'z', 2)]),
     (1, &[]),
 ];
 
@@ -133,7 +126,7 @@ fn rows_of(alloc: Global, entries: &[(u8, u8, Kind)]) -> Result<Vec<Row>, Fail> 
     Ok(rows)
 }
 
-fn tables_of(alloc: Global, described: &[Described<'_>]) -> Result<Vec<Rows>, Fail> {
+fn tables_of(alloc: Global, described: &[Table<'_>]) -> Result<Vec<Rows>, Fail> {
     let mut tables = Vec::new(alloc);
     for &(level, number, entries) in described {
         let rows = rows_of(alloc, entries)?;
@@ -146,46 +139,12 @@ fn tables_of(alloc: Global, described: &[Described<'_>]) -> Result<Vec<Rows>, Fa
     Ok(tables)
 }
 
-fn reads_as<N: Naming, S: Shelf, R: Abort>(
-    rt: &R,
-    alloc: Global,
-    shelf: &mut S,
-    version: &Version<N, S>,
-    reads: &[(u8, u8, Option<u8>)],
-) -> Result<(), Fail>
-    requires { (S.told shelf.old).place ≡ N.place }
-    ensures { (S.told shelf.new).place ≡ N.place }
-{
-    for &(user, seq, wanted) in reads {
-        let found = answer_of(alloc, shelf, version, user, seq)?;
-        assert!(rt; found == wanted, "of {user} at {seq}");
-    }
-    Ok(())
-}
-
-/// Whether the version's scan at a sequence shows just these pairs.
-fn is_scanned_as<N: Naming, S: Shelf>(
-    alloc: Global,
-    shelf: &mut S,
-    version: &Version<N, S>,
-    seq: u8,
-    pairs: &[(&[u8], &[u8])],
-) -> bool
-    requires { (S.told shelf.old).place ≡ N.place }
-    ensures { (S.told shelf.new).place ≡ N.place }
-{
-    match version.scan(shelf, alloc, seq as u64) {
-        Ok(mut scan) => shows_just(alloc, &mut scan, pairs),
-        Err(_) => false,
-    }
-}
-
 fn scans_as<N: Naming, S: Shelf, R: Abort>(
     rt: &R,
     alloc: Global,
     shelf: &mut S,
     version: &Version<N, S>,
-    scans: &[(u8, &[(&[u8], &[u8])])],
+    scans: &[(u8, &[(u8, u8)])],
 )
     requires { (S.told shelf.old).place ≡ N.place }
     ensures { (S.told shelf.new).place ≡ N.place }
@@ -412,7 +371,7 @@ fn compares_changes<N: Naming, S: Shelf, R: Wait + Abort>(
 #[test]
 fn a_change_deletes_tables_and_adds_others(rt: HostRuntime) -> Result<(), Fail> {
     let alloc = rt.alloc();
-    let registry = Arc::new(alloc, Registry::new(alloc)?)?;
+    let registry = new_registry(alloc)?;
     let shelf = Doubted {
         shelf: MemoryShelf::new(alloc)?,
     };

@@ -3,8 +3,10 @@
 ghost use Rattle.std.specs.Prelude.{◌≡◌};
 ghost use Rattle.std.specs.Arc.{arc_value};
 
+use crate::described::{Described, shape_of};
+use crate::version_tests::new_registry;
 use crate::{CheckFault, Version};
-use lsm_codec::{Bytes, KeyRef, Kind, List, MAX_SEQ, push_key};
+use lsm_codec::{Bytes, KeyRef, Kind, MAX_SEQ, push_key};
 use lsm_manifest::{FileMeta, Shape};
 use lsm_table::{
     BuildFault, MemoryShelf, Naming, ReadFault, Registry, Shelf, ShelfFault, TableBuilder,
@@ -90,43 +92,20 @@ fn key_at(alloc: Global, row: Option<Row<'_>>) -> Result<Bytes, AllocError> {
     Ok(Bytes::of(bytes))
 }
 
-fn level_of(alloc: Global, files: &[File<'_>], level: usize) -> Result<List<FileMeta>, Fail> {
-    let mut metas = Vec::new(alloc);
-    for file in files {
-        if file.level == level {
-            let image = image_of(alloc, file)?;
-            metas.push(FileMeta {
-                number: file.number,
-                size: (image.len() as u64).saturating_add(file.more),
-                smallest: key_at(alloc, file.first)?,
-                largest: key_at(alloc, file.second.or(file.first))?,
-            })?;
-        }
+impl Described for File<'_> {
+    fn level(&self) -> usize {
+        self.level
     }
-    Ok(List::of(metas))
-}
 
-fn levels_of(alloc: Global, files: &[File<'_>]) -> Result<[List<FileMeta>; 7], Fail> {
-    Ok([
-        level_of(alloc, files, 0)?,
-        level_of(alloc, files, 1)?,
-        level_of(alloc, files, 2)?,
-        level_of(alloc, files, 3)?,
-        level_of(alloc, files, 4)?,
-        level_of(alloc, files, 5)?,
-        level_of(alloc, files, 6)?,
-    ])
-}
-
-fn shape_of(alloc: Global, files: &[File<'_>], last: u64) -> Result<Shape, Fail> {
-    Ok(Shape {
-        levels: levels_of(alloc, files)?,
-        pointers: [None, None, None, None, None, None, None],
-        log: 0,
-        prev_log: 0,
-        next: 10,
-        last,
-    })
+    fn meta(&self, alloc: Global) -> Result<FileMeta, Fail> {
+        let image = image_of(alloc, self)?;
+        Ok(FileMeta {
+            number: self.number,
+            size: (image.len() as u64).saturating_add(self.more),
+            smallest: key_at(alloc, self.first)?,
+            largest: key_at(alloc, self.second.or(self.first))?,
+        })
+    }
 }
 
 /// A shelf with the tables that are there.
@@ -171,7 +150,7 @@ fn expects<R: Wait + Abort>(
 ) -> Result<(), Fail> {
     let shape = shape_of(alloc, files, last)?;
     let shelf = shelf_of(rt, alloc, files)?;
-    let registry = Arc::new(alloc, Registry::new(alloc)?)?;
+    let registry = new_registry(alloc)?;
     let said = answer::<Brand, MemoryShelf, _>(rt, alloc, shelf, registry, &shape)?;
     assert!(rt; said.as_str() == wanted, "{said} for {wanted}");
     Ok(())
@@ -181,7 +160,7 @@ fn expects<R: Wait + Abort>(
 fn files_are_judged_by_their_tables(rt: HostRuntime) -> Result<(), Fail> {
     let alloc = rt.alloc();
     let one = one_entry(0, 2, (b"k", 1));
-    assert_eq!(rt; image_of(rt.alloc(), &one)?.len(), 114);
+    assert!(rt; image_of(alloc, &one)?.len() == 114);
     expects(&rt, alloc, &[], 0, "ok")?;
     expects(&rt, alloc, &[one], 1, "ok")?;
     expects(&rt, alloc, &[one], 0, "WrongRange 2")?;

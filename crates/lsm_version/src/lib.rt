@@ -17,6 +17,8 @@ mod check_tests;
 mod checked_table;
 mod deep_table;
 #[cfg(test)]
+mod described;
+#[cfg(test)]
 mod doubted;
 mod file_level;
 mod file_numbers;

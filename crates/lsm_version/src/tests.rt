@@ -329,28 +329,26 @@ fn key(user: &[u8], seq: u64) -> KeyRef<'_>
     }
 }
 
+fn range<'a>(first: &'a [u8], last: &'a [u8]) -> KeyRange<'a> {
+    KeyRange::new(key(first, 1), key(last, 1))
+}
+
 #[test]
-fn judges_levels(rt: HostRuntime) {
-    let overlap = [
-        KeyRange::new(key(b"a", 1), key(b"c", 1)),
-        KeyRange::new(key(b"b", 1), key(b"d", 1)),
-    ];
-    assert_eq!(rt; layout_of(&overlap), Layout::Overlap);
+fn judges_overlaps(rt: HostRuntime) {
+    let first_two = [range(b"a", b"c"), range(b"b", b"d")];
+    assert!(rt; layout_of(&first_two) == Layout::Overlap);
+    let last_two = [range(b"a", b"b"), range(b"c", b"e"), range(b"e", b"f")];
+    assert!(rt; layout_of(&last_two) == Layout::Overlap);
+}
+
+#[test]
+fn judges_levels_without_overlaps(rt: HostRuntime) {
     let shared = [
         KeyRange::new(key(b"k", 2), key(b"k", 2)),
         KeyRange::new(key(b"k", 1), key(b"k", 1)),
     ];
-    assert_eq!(rt; layout_of(&shared), Layout::Shared);
-    let last = [
-        KeyRange::new(key(b"a", 1), key(b"b", 1)),
-        KeyRange::new(key(b"c", 1), key(b"e", 1)),
-        KeyRange::new(key(b"e", 1), key(b"f", 1)),
-    ];
-    assert_eq!(rt; layout_of(&last), Layout::Overlap);
-    let apart = [
-        KeyRange::new(key(b"a", 1), key(b"b", 1)),
-        KeyRange::new(key(b"c", 1), key(b"e", 1)),
-    ];
-    assert_eq!(rt; layout_of(&apart), Layout::Apart);
-    assert_eq!(rt; layout_of(&[]), Layout::Apart);
+    assert!(rt; layout_of(&shared) == Layout::Shared);
+    let apart = [range(b"a", b"b"), range(b"c", b"e")];
+    assert!(rt; layout_of(&apart) == Layout::Apart);
+    assert!(rt; layout_of(&[]) == Layout::Apart);
 }
