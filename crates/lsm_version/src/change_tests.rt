@@ -52,6 +52,7 @@ struct Answers {
     last: u64,
 }
 
+/// What the version before the change answers.
 const OLD: Answers = Answers {
     reads: &[
         (b'a', 255, Some(7)),
@@ -76,7 +77,7 @@ const OLD: Answers = Answers {
     last: 255,
 };
 
-/// The reads of the version after the change, and after its new table moves.
+/// The reads of the version after the change, and of the one after its new table moved.
 const NEW_READS: &[(u8, u8, Option<u8>)] = &[
     (b'a', 255, Some(7)),
     (b'a', 6, None),
@@ -91,6 +92,7 @@ const NEW_READS: &[(u8, u8, Option<u8>)] = &[
     (b'z', 255, Some(2)),
 ];
 
+/// The scans of the version after the change, and of the one after its new table moved.
 const NEW_SCANS: &[(u8, &[(u8, u8)])] = &[
     (255, &[(b'a', 7), (b'b', 5), (b'm', 11), (b'z', 2)]),
     (9, &[(b'a', 7), (b'b', 5), (b'k', 8), (b'z', 2)]),
@@ -102,6 +104,7 @@ const NEW_SCANS: &[(u8, &[(u8, u8)])] = &[
 /// The internal key of "k" at 8: the sequence stands above the byte of the kind, little end first.
 const POINTER: &[u8] = &[b'k', 1, 8, 0, 0, 0, 0, 0, 0];
 
+/// What the version after the change answers.
 const NEW: Answers = Answers {
     reads: NEW_READS,
     scans: NEW_SCANS,
@@ -110,6 +113,7 @@ const NEW: Answers = Answers {
     last: 256,
 };
 
+/// What the version answers whose new table moved from level 2 to level 5.
 const MOVED: Answers = Answers {
     reads: NEW_READS,
     scans: NEW_SCANS,
@@ -139,6 +143,7 @@ fn tables_of(alloc: Global, described: &[Table<'_>]) -> Result<Vec<Rows>, Fail> 
     Ok(tables)
 }
 
+/// Compares the scans at sequences.
 fn scans_as<N: Naming, S: Shelf, R: Abort>(
     rt: &R,
     alloc: Global,
@@ -228,7 +233,7 @@ fn answers_as<N: Naming, S: Shelf, R: Abort>(
     reads_as(rt, alloc, shelf, version, wanted.reads)
 }
 
-/// The version without numbers 5 and 9, and with a table at level 2.
+/// The version without numbers 5 and 9, with a table at level 2, a pointer of level 1 and another last sequence.
 fn changed<N: Naming, S: Shelf>(
     alloc: Global,
     version: &Version<N, S>,

@@ -236,11 +236,7 @@ pub(crate) fn has_shown_all<S: Stream>(alloc: Global, scan: &mut Scan<S>) -> boo
 }
 
 /// Whether a scan shows just these pairs.
-pub(crate) fn shows_just<S: Stream>(
-    alloc: Global,
-    scan: &mut Scan<S>,
-    pairs: &[(&[u8], &[u8])],
-) -> bool {
+fn shows_just<S: Stream>(alloc: Global, scan: &mut Scan<S>, pairs: &[(&[u8], &[u8])]) -> bool {
     for &(user, value) in pairs {
         if !shows(alloc, scan, user, value) {
             return false;
@@ -258,7 +254,7 @@ fn scans(rt: HostRuntime) -> Result<(), Fail> {
     Ok(())
 }
 
-/// The entries of a shallower and of a deeper input, and the user key of which the deeper one has no older entry.
+/// The entries of a shallower and of a deeper input, and the user key of which a deeper entry is not older, if there is one.
 const AGES: &[(&[&[Row<'_>]], Option<&[u8]>)] = &[
     (
         &[

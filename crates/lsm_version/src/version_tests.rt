@@ -31,6 +31,7 @@ pub(crate) struct Rows {
     pub(crate) rows: Vec<Row>,
 }
 
+/// The internal key of an entry.
 pub(crate) fn key_of(alloc: Global, row: &Row) -> Result<Bytes, Fail> {
     let mut key = Vec::new(alloc);
     push_key(&mut key, &[row.user], row.seq as u64, row.kind)?;
@@ -109,7 +110,7 @@ pub(crate) fn version_of<N: Naming, S: Shelf, R: Wait>(
 }
 
 /// What a version answers, as one byte.
-pub(crate) fn answer_of<N: Naming, S: Shelf>(
+fn answer_of<N: Naming, S: Shelf>(
     alloc: Global,
     shelf: &mut S,
     version: &Version<N, S>,
