@@ -3,15 +3,16 @@
 ghost use Rattle.std.specs.Prelude.{◌≡◌};
 ghost use Rattle.std.specs.Arc.{arc_value};
 
+use crate::described::{Described, shape_of};
+use crate::version_tests::new_registry;
 use crate::{CheckFault, Version};
-use lsm_codec::{Bytes, KeyRef, Kind, List, MAX_SEQ, push_key};
+use lsm_codec::{Bytes, KeyRef, Kind, MAX_SEQ, push_key};
 use lsm_manifest::{FileMeta, Shape};
 use lsm_table::{
     BuildFault, MemoryShelf, Naming, ReadFault, Registry, Shelf, ShelfFault, TableBuilder,
     TableOptions,
 };
 use std::alloc::{AllocError, Global};
-use std::cmp::Ordering;
 use std::marker::Brand;
 use std::process::Abort;
 use std::sync::{Arc, Wait};
@@ -65,18 +66,21 @@ fn key_ref<'a>(row: Row<'a>) -> KeyRef<'a> {
     }
 }
 
-fn image_of(alloc: Global, file: &File<'_>) -> Result<Vec<u8>, BuildFault> {
-    let mut builder = TableBuilder::new(alloc, TableOptions::usual());
-    if let Some(row) = file.first {
-        let first = key_ref(row);
-        builder.add(first.user, first.seq, first.kind, b"1")?;
-        if let Some(row) = file.second {
-            let second = key_ref(row);
-            if first.compare(&second) == Ordering::Less {
-                builder.add(second.user, second.seq, second.kind, b"1")?;
-            }
+/// Adds a row, if there is one that comes after the last.
+fn add(builder: &mut TableBuilder, row: Option<Row<'_>>) -> Result<(), BuildFault> {
+    if let Some(row) = row {
+        let key = key_ref(row);
+        if builder.comes_last(&key) {
+            builder.add(key.user, key.seq, key.kind, b"1")?;
         }
     }
+    Ok(())
+}
+
+fn image_of(alloc: Global, file: &File<'_>) -> Result<Vec<u8>, BuildFault> {
+    let mut builder = TableBuilder::new(alloc, TableOptions::usual());
+    add(&mut builder, file.first)?;
+    add(&mut builder, file.second)?;
     builder.finish()
 }
 
@@ -88,40 +92,32 @@ fn key_at(alloc: Global, row: Option<Row<'_>>) -> Result<Bytes, AllocError> {
     Ok(Bytes::of(bytes))
 }
 
-fn level_of(alloc: Global, files: &[File<'_>], level: usize) -> Result<List<FileMeta>, Fail> {
-    let mut metas = Vec::new(alloc);
-    for file in files {
-        if file.level == level {
-            let image = image_of(alloc, file)?;
-            metas.push(FileMeta {
-                number: file.number,
-                size: (image.len() as u64).saturating_add(file.more),
-                smallest: key_at(alloc, file.first)?,
-                largest: key_at(alloc, file.second.or(file.first))?,
-            })?;
-        }
+impl Described for File<'_> {
+    fn level(&self) -> usize {
+        self.level
     }
-    Ok(List::of(metas))
+
+    fn meta(&self, alloc: Global) -> Result<FileMeta, Fail> {
+        let image = image_of(alloc, self)?;
+        Ok(FileMeta {
+            number: self.number,
+            size: (image.len() as u64).saturating_add(self.more),
+            smallest: key_at(alloc, self.first)?,
+            largest: key_at(alloc, self.second.or(self.first))?,
+        })
+    }
 }
 
-fn shape_of(alloc: Global, files: &[File<'_>], last: u64) -> Result<Shape, Fail> {
-    let level_0 = level_of(alloc, files, 0)?;
-    let level_1 = level_of(alloc, files, 1)?;
-    let level_2 = level_of(alloc, files, 2)?;
-    let level_3 = level_of(alloc, files, 3)?;
-    let level_4 = level_of(alloc, files, 4)?;
-    let level_5 = level_of(alloc, files, 5)?;
-    let level_6 = level_of(alloc, files, 6)?;
-    Ok(Shape {
-        levels: [
-            level_0, level_1, level_2, level_3, level_4, level_5, level_6,
-        ],
-        pointers: [None, None, None, None, None, None, None],
-        log: 0,
-        prev_log: 0,
-        next: 10,
-        last,
-    })
+/// A shelf with the tables that are there.
+fn shelf_of<R: Wait>(rt: &R, alloc: Global, files: &[File<'_>]) -> Result<MemoryShelf, Fail> {
+    let mut shelf = MemoryShelf::new(alloc)?;
+    for file in files {
+        if file.is_there {
+            let image = image_of(alloc, file)?;
+            let _ = shelf.put(rt, alloc, file.number, &image);
+        }
+    }
+    Ok(shelf)
 }
 
 /// What the check refuses, as a line says it.
@@ -131,13 +127,13 @@ fn answer<N: Naming, S: Shelf, R: Wait + Abort>(
     mut shelf: S,
     registry: Arc<Registry<S::Receipt>>,
     shape: &Shape,
-) -> Result<String, Fail>
+) -> Result<String, AllocError>
     requires registry { arc_value registry ≡ N.registry }
     requires shelf { (S.told shelf).place ≡ N.place }
 {
     match Version::<N, S>::check(&mut shelf, rt, alloc, shape, registry) {
         Ok(version) => {
-            assert_eq!(rt; version.last(), shape.last);
+            assert!(rt; version.last() == shape.last);
             Ok(format!(in alloc; "ok")?)
         }
         Err(fault) => Ok(format!(in alloc; "{fault}")?),
@@ -152,17 +148,11 @@ fn expects<R: Wait + Abort>(
     last: u64,
     wanted: &str,
 ) -> Result<(), Fail> {
-    let registry = Arc::new(alloc, Registry::new(alloc)?)?;
-    let mut shelf = MemoryShelf::new(alloc)?;
-    for file in files {
-        if file.is_there {
-            let image = image_of(alloc, file)?;
-            let _ = shelf.put(rt, alloc, file.number, &image);
-        }
-    }
     let shape = shape_of(alloc, files, last)?;
+    let shelf = shelf_of(rt, alloc, files)?;
+    let registry = new_registry(alloc)?;
     let said = answer::<Brand, MemoryShelf, _>(rt, alloc, shelf, registry, &shape)?;
-    assert_eq!(rt; said.as_str(), wanted);
+    assert!(rt; said.as_str() == wanted, "{said} for {wanted}");
     Ok(())
 }
 
@@ -170,40 +160,31 @@ fn expects<R: Wait + Abort>(
 fn files_are_judged_by_their_tables(rt: HostRuntime) -> Result<(), Fail> {
     let alloc = rt.alloc();
     let one = one_entry(0, 2, (b"k", 1));
-    assert_eq!(rt; image_of(rt.alloc(), &one)?.len(), 114);
+    assert!(rt; image_of(alloc, &one)?.len() == 114);
     expects(&rt, alloc, &[], 0, "ok")?;
     expects(&rt, alloc, &[one], 1, "ok")?;
     expects(&rt, alloc, &[one], 0, "WrongRange 2")?;
-    expects(&rt, alloc, &[File { more: 1, ..one }], 1, "WrongRange 2")?;
-    expects(
-        &rt,
-        alloc,
-        &[File {
-            level: 2,
-            number: 5,
-            first: None,
-            ..one
-        }],
-        1,
-        "WrongRange 5",
-    )?;
-    expects(
-        &rt,
-        alloc,
-        &[File {
-            is_there: false,
-            ..one
-        }],
-        1,
-        "Missing",
-    )?;
-    expects(
-        &rt,
-        alloc,
-        &[one, one_entry(1, 2, (b"m", 2))],
-        9,
-        "DoubleFile 2",
-    )
+    expects(&rt, alloc, &[File { more: 1, ..one }], 1, "WrongRange 2")
+}
+
+#[test]
+fn files_are_judged_by_what_is_there(rt: HostRuntime) -> Result<(), Fail> {
+    let alloc = rt.alloc();
+    let one = one_entry(0, 2, (b"k", 1));
+    let none = File {
+        level: 2,
+        number: 5,
+        first: None,
+        ..one
+    };
+    expects(&rt, alloc, &[none], 1, "WrongRange 5")?;
+    let missing = File {
+        is_there: false,
+        ..one
+    };
+    expects(&rt, alloc, &[missing], 1, "Missing")?;
+    let double = one_entry(1, 2, (b"m", 2));
+    expects(&rt, alloc, &[one, double], 9, "DoubleFile 2")
 }
 
 #[test]
@@ -248,23 +229,20 @@ fn ages_are_judged_by_depth(rt: HostRuntime) -> Result<(), Fail> {
     )
 }
 
+/// Whether a refusal has this number and name.
+fn is_numbered(fault: CheckFault, number: u8, name: &str) -> bool {
+    fault.number() == number && fault.name() == name
+}
+
 #[test]
 fn refusals_of_a_check_have_their_numbers(rt: HostRuntime) -> Result<(), Fail> {
+    let missing = CheckFault::Read(ReadFault::Shelf(ShelfFault::Missing));
+    assert!(rt; is_numbered(missing, 10, "Missing"));
+    assert!(rt; is_numbered(CheckFault::DoubleFile(2), 30, "DoubleFile"));
+    assert!(rt; is_numbered(CheckFault::Overlap(1), 31, "Overlap"));
+    assert!(rt; is_numbered(CheckFault::WrongRange(2), 32, "WrongRange"));
     let user = Bytes::of(Vec::from_slice(rt.alloc(), b"k")?);
-    for (fault, number, name) in [
-        (
-            CheckFault::Read(ReadFault::Shelf(ShelfFault::Missing)),
-            10,
-            "Missing",
-        ),
-        (CheckFault::DoubleFile(2), 30, "DoubleFile"),
-        (CheckFault::Overlap(1), 31, "Overlap"),
-        (CheckFault::WrongRange(2), 32, "WrongRange"),
-        (CheckFault::AgeOrder(user), 33, "AgeOrder"),
-        (CheckFault::SharedBoundary(1), 34, "SharedBoundary"),
-    ] {
-        assert_eq!(rt; fault.number(), number);
-        assert_eq!(rt; fault.name(), name);
-    }
+    assert!(rt; is_numbered(CheckFault::AgeOrder(user), 33, "AgeOrder"));
+    assert!(rt; is_numbered(CheckFault::SharedBoundary(1), 34, "SharedBoundary"));
     Ok(())
 }

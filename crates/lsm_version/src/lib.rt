@@ -8,12 +8,18 @@
 mod age_judgment;
 mod ages;
 mod change;
+#[cfg(test)]
+mod change_tests;
 mod check;
 mod check_fault;
 #[cfg(test)]
 mod check_tests;
 mod checked_table;
 mod deep_table;
+#[cfg(test)]
+mod described;
+#[cfg(test)]
+mod doubted;
 mod file_level;
 mod file_numbers;
 mod find;

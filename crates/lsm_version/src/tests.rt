@@ -46,39 +46,65 @@ fn merger_of(alloc: Global, inputs: &[&[Row<'_>]]) -> Result<Merger<ListStream>,
     Ok(merger)
 }
 
+/// Inputs that share internal keys, and one without entries.
+const MERGED: &[&[Row<'_>]] = &[
+    &[(b"a", 3, Kind::Value, b"0"), (b"b", 2, Kind::Value, b"0")],
+    &[(b"a", 4, Kind::Value, b"1"), (b"b", 2, Kind::Value, b"1")],
+    &[],
+    &[
+        (b"a", 3, Kind::Value, b"3"),
+        (b"ab", 9, Kind::Deletion, b""),
+    ],
+    &[(b"", 1, Kind::Value, b"4")],
+];
+
+/// The place, user key and sequence of each entry of their merge.
+const IN_ORDER: &[(u64, &[u8], u64)] = &[
+    (4, b"", 1),
+    (1, b"a", 4),
+    (0, b"a", 3),
+    (3, b"a", 3),
+    (3, b"ab", 9),
+    (0, b"b", 2),
+    (1, b"b", 2),
+];
+
+/// Whether the next entry of a merge is of this place, user key and sequence.
+fn comes_next<S: Stream>(merger: &mut Merger<S>, place: u64, user: &[u8], seq: u64) -> bool {
+    match merger.next_placed() {
+        Ok(Some(placed)) => {
+            let entry = placed.entry();
+            placed.place() == place && entry.user() == user && entry.seq() == seq
+        }
+        Ok(None) | Err(_) => false,
+    }
+}
+
+/// Whether no entry is left of a merge.
+fn is_through<S: Stream>(merger: &mut Merger<S>) -> bool {
+    match merger.next_placed() {
+        Ok(next) => next.is_none(),
+        Err(_) => false,
+    }
+}
+
 #[test]
 fn merges_in_order(rt: HostRuntime) -> Result<(), Fail> {
-    let value = Kind::Value;
-    let inputs: [&[Row<'_>]; 5] = [
-        &[(b"a", 3, value, b"0"), (b"b", 2, value, b"0")],
-        &[(b"a", 4, value, b"1"), (b"b", 2, value, b"1")],
-        &[],
-        &[(b"a", 3, value, b"3"), (b"ab", 9, Kind::Deletion, b"")],
-        &[(b"", 1, value, b"4")],
-    ];
-    let wanted: [(u64, &[u8], u64); 7] = [
-        (4, b"", 1),
-        (1, b"a", 4),
-        (0, b"a", 3),
-        (3, b"a", 3),
-        (3, b"ab", 9),
-        (0, b"b", 2),
-        (1, b"b", 2),
-    ];
-    let mut merger = merger_of(rt.alloc(), &inputs)?;
-    for (place, user, seq) in wanted {
-        match merger.next_placed()? {
-            None => assert!(rt; false, "ended before {seq}"),
-            Some(placed) => {
-                assert_eq!(rt; placed.place(), place);
-                assert_eq!(rt; placed.entry().user(), user);
-                assert_eq!(rt; placed.entry().seq(), seq);
-            }
-        }
+    let mut merger = merger_of(rt.alloc(), MERGED)?;
+    for &(place, user, seq) in IN_ORDER {
+        assert!(rt;
+            comes_next(&mut merger, place, user, seq),
+            "{seq} of {place}"
+        );
     }
-    assert!(rt; merger.next_placed()?.is_none());
+    assert!(rt; is_through(&mut merger));
+    Ok(())
+}
+
+#[test]
+fn merges_nothing(rt: HostRuntime) -> Result<(), Fail> {
     let mut none = merger_of(rt.alloc(), &[])?;
-    assert!(rt; none.next()?.is_none());
+    assert!(rt; ends(&mut none));
     Ok(())
 }
 
@@ -116,111 +142,175 @@ impl Stream for Stumbling {
     }
 }
 
-#[test]
-fn goes_on_after_a_fault(rt: HostRuntime) -> Result<(), Fail> {
-    let value = Kind::Value;
+/// Two sources, of which the first fails at its third call.
+fn two_sources(alloc: Global) -> Result<Vec<Input<Stumbling>>, Fail> {
     let first = Stumbling {
-        entries: stream_of(rt.alloc(), &[(b"a", 2, value, b""), (b"c", 1, value, b"")])?,
+        entries: stream_of(alloc, BEFORE_AND_AFTER)?,
         calls_before: 3,
     };
     let second = Stumbling {
-        entries: stream_of(rt.alloc(), &[(b"b", 1, value, b"")])?,
+        entries: stream_of(alloc, BETWEEN)?,
         calls_before: 0,
     };
-    let mut sources = Vec::new(rt.alloc());
-    for stream in [first, second] {
-        match Source::new(stream) {
-            Err(_) => assert!(rt; false, "a fault too early"),
-            Ok(source) => sources.push(Input::new(0, source))?,
-        }
+    let mut sources = Vec::new(alloc);
+    sources.push(Input::new(0, Source::new(first)?))?;
+    sources.push(Input::new(0, Source::new(second)?))?;
+    Ok(sources)
+}
+
+const BEFORE_AND_AFTER: &[Row<'_>] = &[(b"a", 2, Kind::Value, b""), (b"c", 1, Kind::Value, b"")];
+
+const BETWEEN: &[Row<'_>] = &[(b"b", 1, Kind::Value, b"")];
+
+/// Whether the next call of a stream gives an entry of this user key.
+fn gives<S: Stream>(stream: &mut S, user: &[u8]) -> bool {
+    match stream.next() {
+        Ok(Some(entry)) => entry.user() == user,
+        Ok(None) | Err(_) => false,
     }
-    let mut merger = match Merger::new(rt.alloc(), sources) {
-        Err(_) => return Ok(assert!(rt; false, "a fault too early")),
-        Ok(merger) => merger,
-    };
-    let wanted: [Option<&[u8]>; 5] = [Some(b"a"), None, Some(b"b"), Some(b"c"), None];
-    let mut faults = 0u32;
-    for want in wanted {
-        match merger.next() {
-            Err(_) => {
-                faults = faults.wrapping_add(1);
-                assert!(rt; want.is_none());
-            }
-            Ok(None) => assert!(rt; want.is_none()),
-            Ok(Some(entry)) => assert_eq!(rt; Some(entry.user()), want),
-        }
+}
+
+/// Whether the next call of a stream fails.
+fn fails<S: Stream>(stream: &mut S) -> bool {
+    match stream.next() {
+        Ok(_) => false,
+        Err(_) => true,
     }
-    assert_eq!(rt; faults, 1);
+}
+
+/// Whether the next call of a stream says that it has ended.
+fn ends<S: Stream>(stream: &mut S) -> bool {
+    match stream.next() {
+        Ok(next) => next.is_none(),
+        Err(_) => false,
+    }
+}
+
+#[test]
+fn goes_on_after_a_fault(rt: HostRuntime) -> Result<(), Fail> {
+    let mut merger = Merger::new(rt.alloc(), two_sources(rt.alloc())?)?;
+    assert!(rt; gives(&mut merger, b"a"));
+    assert!(rt; fails(&mut merger));
+    assert!(rt; gives(&mut merger, b"b"));
+    assert!(rt; gives(&mut merger, b"c"));
+    assert!(rt; ends(&mut merger));
     Ok(())
+}
+
+/// A user key with a newer and an older value, and one with a deletion above its values.
+const SCANNED: &[Row<'_>] = &[
+    (b"i", 2, Kind::Value, b"new"),
+    (b"i", 1, Kind::Value, b"old"),
+    (b"k", 3, Kind::Deletion, b""),
+    (b"k", 2, Kind::Value, b"2"),
+    (b"k", 1, Kind::Value, b"1"),
+];
+
+/// What a scan shows at each sequence.
+const SHOWN: &[(u64, &[(&[u8], &[u8])])] = &[
+    (0, &[]),
+    (1, &[(b"i", b"old"), (b"k", b"1")]),
+    (2, &[(b"i", b"new"), (b"k", b"2")]),
+    (3, &[(b"i", b"new")]),
+];
+
+/// Whether the next pair of a scan has this user key and value.
+pub(crate) fn shows<S: Stream>(
+    alloc: Global,
+    scan: &mut Scan<S>,
+    user: &[u8],
+    value: &[u8],
+) -> bool {
+    match scan.next(alloc) {
+        Ok(Some(pair)) => pair.user() == user && pair.value() == value,
+        Ok(None) | Err(_) => false,
+    }
+}
+
+/// Whether a scan has shown all.
+pub(crate) fn has_shown_all<S: Stream>(alloc: Global, scan: &mut Scan<S>) -> bool {
+    match scan.next(alloc) {
+        Ok(next) => next.is_none(),
+        Err(_) => false,
+    }
+}
+
+/// Whether a scan shows just these pairs.
+fn shows_just<S: Stream>(alloc: Global, scan: &mut Scan<S>, pairs: &[(&[u8], &[u8])]) -> bool {
+    for &(user, value) in pairs {
+        if !shows(alloc, scan, user, value) {
+            return false;
+        }
+    }
+    has_shown_all(alloc, scan)
 }
 
 #[test]
 fn scans(rt: HostRuntime) -> Result<(), Fail> {
-    let value = Kind::Value;
-    let rows: [Row<'_>; 5] = [
-        (b"i", 2, value, b"new"),
-        (b"i", 1, value, b"old"),
-        (b"k", 3, Kind::Deletion, b""),
-        (b"k", 2, value, b"2"),
-        (b"k", 1, value, b"1"),
-    ];
-    let wanted: [(u64, &[(&[u8], &[u8])]); 4] = [
-        (0, &[]),
-        (1, &[(b"i", b"old"), (b"k", b"1")]),
-        (2, &[(b"i", b"new"), (b"k", b"2")]),
-        (3, &[(b"i", b"new")]),
-    ];
-    for (seq, pairs) in wanted {
-        let mut scan = Scan::new(source_of(rt.alloc(), &rows)?, seq);
-        for &(user, value) in pairs {
-            match scan.next(rt.alloc())? {
-                None => assert!(rt; false, "ended at {seq}"),
-                Some(pair) => {
-                    assert_eq!(rt; pair.user(), user);
-                    assert_eq!(rt; pair.value(), value);
-                }
-            }
-        }
-        assert!(rt; scan.next(rt.alloc())?.is_none(), "at {seq}");
+    for &(seq, pairs) in SHOWN {
+        let mut scan = Scan::new(source_of(rt.alloc(), SCANNED)?, seq);
+        assert!(rt; shows_just(rt.alloc(), &mut scan, pairs), "at {seq}");
     }
     Ok(())
 }
 
+/// The entries of a shallower and of a deeper input, and the user key of which a deeper entry is not older, if there is one.
+const AGES: &[(&[&[Row<'_>]], Option<&[u8]>)] = &[
+    (
+        &[
+            &[(b"k", 1, Kind::Value, b"")],
+            &[(b"k", 5, Kind::Value, b"")],
+        ],
+        Some(b"k"),
+    ),
+    (
+        &[
+            &[(b"k", 5, Kind::Value, b"")],
+            &[(b"k", 1, Kind::Value, b"")],
+        ],
+        None,
+    ),
+    (
+        &[
+            &[(b"k", 5, Kind::Value, b"")],
+            &[(b"k", 5, Kind::Deletion, b"")],
+        ],
+        Some(b"k"),
+    ),
+    (
+        &[
+            &[
+                (b"a", 9, Kind::Value, b""),
+                (b"c", 2, Kind::Value, b""),
+                (b"d", 2, Kind::Value, b""),
+            ],
+            &[
+                (b"b", 9, Kind::Value, b""),
+                (b"c", 2, Kind::Value, b""),
+                (b"d", 7, Kind::Value, b""),
+            ],
+        ],
+        Some(b"c"),
+    ),
+];
+
+/// Whether the judgment of a merge names this user key, or none.
+fn is_judged<S: Stream>(alloc: Global, merger: &mut Merger<S>, wanted: Option<&[u8]>) -> bool {
+    match against_age(alloc, merger) {
+        Ok(None) => wanted.is_none(),
+        Ok(Some(user)) => wanted == Some(user.as_slice()),
+        Err(_) => false,
+    }
+}
+
 #[test]
 fn judges_ages(rt: HostRuntime) -> Result<(), Fail> {
-    let value = Kind::Value;
-    let rows: [(&[Row<'_>], &[Row<'_>], Option<&[u8]>); 4] = [
-        (
-            &[(b"k", 1, value, b"")],
-            &[(b"k", 5, value, b"")],
-            Some(b"k"),
-        ),
-        (&[(b"k", 5, value, b"")], &[(b"k", 1, value, b"")], None),
-        (
-            &[(b"k", 5, value, b"")],
-            &[(b"k", 5, Kind::Deletion, b"")],
-            Some(b"k"),
-        ),
-        (
-            &[
-                (b"a", 9, value, b""),
-                (b"c", 2, value, b""),
-                (b"d", 2, value, b""),
-            ],
-            &[
-                (b"b", 9, value, b""),
-                (b"c", 2, value, b""),
-                (b"d", 7, value, b""),
-            ],
-            Some(b"c"),
-        ),
-    ];
-    for (shallow, deep, want) in rows {
-        let mut merger = merger_of(rt.alloc(), &[shallow, deep])?;
-        match against_age(rt.alloc(), &mut merger)? {
-            None => assert!(rt; want.is_none()),
-            Some(user) => assert_eq!(rt; Some(user.as_slice()), want),
-        }
+    for &(inputs, wanted) in AGES {
+        let mut merger = merger_of(rt.alloc(), inputs)?;
+        assert!(rt;
+            is_judged(rt.alloc(), &mut merger, wanted),
+            "for {wanted:?}"
+        );
     }
     Ok(())
 }
@@ -235,28 +325,26 @@ fn key(user: &[u8], seq: u64) -> KeyRef<'_>
     }
 }
 
+fn range<'a>(first: &'a [u8], last: &'a [u8]) -> KeyRange<'a> {
+    KeyRange::new(key(first, 1), key(last, 1))
+}
+
 #[test]
-fn judges_levels(rt: HostRuntime) {
-    let overlap = [
-        KeyRange::new(key(b"a", 1), key(b"c", 1)),
-        KeyRange::new(key(b"b", 1), key(b"d", 1)),
-    ];
-    assert_eq!(rt; layout_of(&overlap), Layout::Overlap);
+fn judges_overlaps(rt: HostRuntime) {
+    let first_two = [range(b"a", b"c"), range(b"b", b"d")];
+    assert!(rt; layout_of(&first_two) == Layout::Overlap);
+    let last_two = [range(b"a", b"b"), range(b"c", b"e"), range(b"e", b"f")];
+    assert!(rt; layout_of(&last_two) == Layout::Overlap);
+}
+
+#[test]
+fn judges_levels_without_overlaps(rt: HostRuntime) {
     let shared = [
         KeyRange::new(key(b"k", 2), key(b"k", 2)),
         KeyRange::new(key(b"k", 1), key(b"k", 1)),
     ];
-    assert_eq!(rt; layout_of(&shared), Layout::Shared);
-    let last = [
-        KeyRange::new(key(b"a", 1), key(b"b", 1)),
-        KeyRange::new(key(b"c", 1), key(b"e", 1)),
-        KeyRange::new(key(b"e", 1), key(b"f", 1)),
-    ];
-    assert_eq!(rt; layout_of(&last), Layout::Overlap);
-    let apart = [
-        KeyRange::new(key(b"a", 1), key(b"b", 1)),
-        KeyRange::new(key(b"c", 1), key(b"e", 1)),
-    ];
-    assert_eq!(rt; layout_of(&apart), Layout::Apart);
-    assert_eq!(rt; layout_of(&[]), Layout::Apart);
+    assert!(rt; layout_of(&shared) == Layout::Shared);
+    let apart = [range(b"a", b"b"), range(b"c", b"e")];
+    assert!(rt; layout_of(&apart) == Layout::Apart);
+    assert!(rt; layout_of(&[]) == Layout::Apart);
 }

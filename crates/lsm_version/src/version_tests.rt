@@ -3,33 +3,36 @@
 ghost use Rattle.std.specs.Prelude.{◌≡◌, IfOk};
 ghost use Rattle.std.specs.Arc.{arc_value};
 
-use crate::Version;
-use lsm_codec::{Bytes, KeyRef, Kind, List, push_key};
-use lsm_manifest::{FileMeta, Shape};
-use lsm_table::{MemoryShelf, Naming, Registry, Shelf, TableBuilder, TableOptions, TableRef};
-use std::alloc::Global;
+use crate::described::{Described, shape_of};
+use crate::tests::{has_shown_all, shows};
+use crate::{Scan, Stream, Version};
+use lsm_codec::{Bytes, KeyRef, Kind, push_key};
+use lsm_manifest::FileMeta;
+use lsm_table::{MemoryShelf, Naming, Registry, Shelf, Slip, TableBuilder, TableOptions, TableRef};
+use std::alloc::{AllocError, Global};
 use std::marker::Brand;
 use std::process::Abort;
 use std::sync::{Arc, Wait};
 use std::test::Fail;
 
 /// An entry of a user key of one byte. Its value is one byte too, that of its sequence.
-#[derive(Clone, Copy, Debug)]
-struct Row {
-    user: u8,
-    seq: u8,
-    kind: Kind,
+#[derive(Clone, Copy)]
+pub(crate) struct Row {
+    pub(crate) user: u8,
+    pub(crate) seq: u8,
+    pub(crate) kind: Kind,
 }
 
 /// The entries of a table, ascending by internal key.
-#[derive(Debug, Drop)]
-struct Rows {
-    level: usize,
-    number: u64,
-    rows: Vec<Row>,
+#[derive(Drop)]
+pub(crate) struct Rows {
+    pub(crate) level: usize,
+    pub(crate) number: u64,
+    pub(crate) rows: Vec<Row>,
 }
 
-fn key_of(alloc: Global, row: &Row) -> Result<Bytes, Fail> {
+/// The internal key of an entry.
+pub(crate) fn key_of(alloc: Global, row: &Row) -> Result<Bytes, Fail> {
     let mut key = Vec::new(alloc);
     push_key(&mut key, &[row.user], row.seq as u64, row.kind)?;
     Ok(Bytes::of(key))
@@ -54,52 +57,43 @@ fn table_of(alloc: Global, rows: &[Row]) -> Result<Vec<u8>, Fail> {
     Ok(builder.finish()?)
 }
 
-/// Puts a table on the shelf.
-fn put<S: Shelf, R: Wait>(
-    rt: &R,
-    alloc: Global,
-    shelf: &mut S,
-    table: &Rows,
-) -> Result<FileMeta, Fail>
-    ensures { (S.told shelf.new).place ≡ (S.told shelf.old).place }
-{
-    let (Some(first), Some(last)) = (table.rows.first(), table.rows.last()) else {
-        return Err(Fail::new("a table has no rows"));
-    };
-    let smallest = key_of(alloc, first)?;
-    let largest = key_of(alloc, last)?;
-    let bytes = table_of(alloc, table.rows.as_slice())?;
-    shelf.put(rt, alloc, table.number, &bytes)?;
-    Ok(FileMeta {
-        number: table.number,
-        size: bytes.len() as u64,
-        smallest,
-        largest,
-    })
+impl Described for Rows {
+    fn level(&self) -> usize {
+        self.level
+    }
+
+    fn meta(&self, alloc: Global) -> Result<FileMeta, Fail> {
+        let (Some(first), Some(last)) = (self.rows.first(), self.rows.last()) else {
+            return Err(Fail::new("a table has no rows"));
+        };
+        let bytes = table_of(alloc, self.rows.as_slice())?;
+        Ok(FileMeta {
+            number: self.number,
+            size: bytes.len() as u64,
+            smallest: key_of(alloc, first)?,
+            largest: key_of(alloc, last)?,
+        })
+    }
 }
 
-/// Puts the tables of a level on the shelf.
-fn put_level<S: Shelf, R: Wait>(
+/// Puts tables on the shelf.
+fn put_all<S: Shelf, R: Wait>(
     rt: &R,
     alloc: Global,
     shelf: &mut S,
     tables: &[Rows],
-    level: usize,
-) -> Result<List<FileMeta>, Fail>
+) -> Result<(), Fail>
     ensures { (S.told shelf.new).place ≡ (S.told shelf.old).place }
 {
-    let mut files = Vec::new(alloc);
     for table in tables {
-        if table.level == level {
-            let file = put(rt, alloc, shelf, table)?;
-            files.push(file)?;
-        }
+        let bytes = table_of(alloc, table.rows.as_slice())?;
+        shelf.put(rt, alloc, table.number, &bytes)?;
     }
-    Ok(List::of(files))
+    Ok(())
 }
 
 /// The version of some tables, which are put on the shelf.
-fn version_of<N: Naming, S: Shelf, R: Wait>(
+pub(crate) fn version_of<N: Naming, S: Shelf, R: Wait>(
     rt: &R,
     alloc: Global,
     registry: Arc<Registry<S::Receipt>>,
@@ -110,21 +104,8 @@ fn version_of<N: Naming, S: Shelf, R: Wait>(
     requires shelf { (S.told shelf.old).place ≡ N.place }
     ensures { (S.told shelf.new).place ≡ N.place }
 {
-    let zero = put_level(rt, alloc, shelf, tables, 0)?;
-    let one = put_level(rt, alloc, shelf, tables, 1)?;
-    let two = put_level(rt, alloc, shelf, tables, 2)?;
-    let three = put_level(rt, alloc, shelf, tables, 3)?;
-    let four = put_level(rt, alloc, shelf, tables, 4)?;
-    let five = put_level(rt, alloc, shelf, tables, 5)?;
-    let six = put_level(rt, alloc, shelf, tables, 6)?;
-    let shape = Shape {
-        levels: [zero, one, two, three, four, five, six],
-        pointers: [None, None, None, None, None, None, None],
-        log: 0,
-        prev_log: 0,
-        next: 1_000,
-        last: 255,
-    };
+    put_all(rt, alloc, shelf, tables)?;
+    let shape = shape_of(alloc, tables, 255)?;
     Ok(Version::check(shelf, rt, alloc, &shape, registry)?)
 }
 
@@ -173,7 +154,75 @@ fn depths(alloc: Global) -> Result<Vec<Rows>, Fail> {
     Ok(tables)
 }
 
-fn reads_each_depth<N: Naming, S: Shelf, R: Wait + Abort>(
+/// What each sequence shows of the user key that lies at each depth, and of one that lies nowhere.
+const AT_DEPTHS: &[(u8, u8, Option<u8>)] = &[
+    (b'k', 255, Some(80)),
+    (b'k', 80, Some(80)),
+    (b'k', 79, Some(70)),
+    (b'k', 69, Some(60)),
+    (b'k', 59, Some(50)),
+    (b'k', 49, None),
+    (b'k', 40, None),
+    (b'k', 39, Some(30)),
+    (b'k', 29, Some(20)),
+    (b'k', 19, Some(10)),
+    (b'k', 9, None),
+    (b'j', 255, None),
+    (b'j', 80, None),
+    (b'j', 79, None),
+    (b'j', 69, None),
+    (b'j', 59, None),
+    (b'j', 49, None),
+    (b'j', 40, None),
+    (b'j', 39, None),
+    (b'j', 29, None),
+    (b'j', 19, None),
+    (b'j', 9, None),
+];
+
+/// A level, the ends of a range of user keys, and how many tables of the level the range meets.
+const OVERLAPPING: &[(usize, u8, u8, usize)] = &[
+    (0, b'a', b'z', 2),
+    (0, b'l', b'z', 0),
+    (3, b'k', b'k', 1),
+    (3, b'a', b'j', 0),
+    (3, b'z', b'a', 0),
+];
+
+/// Compares the values of user keys at sequences.
+pub(crate) fn reads_as<N: Naming, S: Shelf, R: Abort>(
+    rt: &R,
+    alloc: Global,
+    shelf: &mut S,
+    version: &Version<N, S>,
+    reads: &[(u8, u8, Option<u8>)],
+) -> Result<(), Fail>
+    requires { (S.told shelf.old).place ≡ N.place }
+    ensures { (S.told shelf.new).place ≡ N.place }
+{
+    for &(user, seq, wanted) in reads {
+        let found = answer_of(alloc, shelf, version, user, seq)?;
+        assert!(rt; found == wanted, "of {user} at {seq}");
+    }
+    Ok(())
+}
+
+/// Compares how many tables each range meets.
+fn counts_overlapping<N: Naming, S: Shelf, R: Abort>(
+    rt: &R,
+    alloc: Global,
+    version: &Version<N, S>,
+) -> Result<(), Fail> {
+    for &(level, from, to, count) in OVERLAPPING {
+        assert!(rt; level <= 6);
+        let found = version.overlapping(alloc, level, &[from], &[to])?;
+        assert!(rt; found.len() == count, "at level {level}");
+    }
+    Ok(())
+}
+
+/// Makes the version that has a key at each depth, and compares what it answers.
+fn compares_depths<N: Naming, S: Shelf, R: Wait + Abort>(
     rt: &R,
     alloc: Global,
     registry: Arc<Registry<S::Receipt>>,
@@ -184,42 +233,21 @@ fn reads_each_depth<N: Naming, S: Shelf, R: Wait + Abort>(
 {
     let tables = depths(alloc)?;
     let version: Version<N, S> = version_of(rt, alloc, registry, &mut shelf, &tables)?;
-    for (seq, wanted) in [
-        (255u8, Some(80u8)),
-        (80, Some(80)),
-        (79, Some(70)),
-        (69, Some(60)),
-        (59, Some(50)),
-        (49, None),
-        (40, None),
-        (39, Some(30)),
-        (29, Some(20)),
-        (19, Some(10)),
-        (9, None),
-    ] {
-        let found = answer_of(alloc, &mut shelf, &version, b'k', seq)?;
-        assert_eq!(rt; found, wanted, "at {seq}");
-        assert_eq!(rt; answer_of(alloc, &mut shelf, &version, b'j', seq)?, None);
-    }
-    for (level, from, to, count) in [
-        (0usize, b'a', b'z', 2usize),
-        (0, b'l', b'z', 0),
-        (3, b'k', b'k', 1),
-        (3, b'a', b'j', 0),
-        (3, b'z', b'a', 0),
-    ] {
-        let found = version.overlapping(alloc, level, &[from], &[to])?;
-        assert_eq!(rt; found.len(), count, "at level {level}");
-    }
-    Ok(())
+    reads_as(rt, alloc, &mut shelf, &version, AT_DEPTHS)?;
+    counts_overlapping(rt, alloc, &version)
+}
+
+/// A registry without tables.
+pub(crate) fn new_registry<C: Slip>(alloc: Global) -> Result<Arc<Registry<C>>, AllocError> {
+    Ok(Arc::new(alloc, Registry::new(alloc)?)?)
 }
 
 #[test]
 fn a_read_goes_from_depth_to_depth(rt: HostRuntime) -> Result<(), Fail> {
     let alloc = rt.alloc();
-    let registry = Arc::new(alloc, Registry::new(alloc)?)?;
+    let registry = new_registry(alloc)?;
     let shelf = MemoryShelf::new(alloc)?;
-    reads_each_depth::<Brand, MemoryShelf, _>(&rt, alloc, registry, shelf)
+    compares_depths::<Brand, MemoryShelf, _>(&rt, alloc, registry, shelf)
 }
 
 /// The next number of a fixed generator.
@@ -312,8 +340,8 @@ fn plain_answer(tables: &[Rows], user: u8, seq: u8) -> Option<u8> {
     }
 }
 
-/// Compares each read at a sequence, and the scan there, with the plain answers.
-fn answers_plainly<N: Naming, S: Shelf, R: Wait + Abort>(
+/// Compares each read at a sequence with the plain answers.
+fn reads_plainly<N: Naming, S: Shelf, R: Abort>(
     rt: &R,
     alloc: Global,
     shelf: &mut S,
@@ -324,22 +352,70 @@ fn answers_plainly<N: Naming, S: Shelf, R: Wait + Abort>(
     requires { (S.told shelf.old).place ≡ N.place }
     ensures { (S.told shelf.new).place ≡ N.place }
 {
-    let mut scan = version.scan(shelf, alloc, seq as u64)?;
     for user in b'a'..=b'h' {
         let wanted = plain_answer(tables, user, seq);
         let found = answer_of(alloc, shelf, version, user, seq)?;
-        assert_eq!(rt; found, wanted, "of {user} at {seq}");
-        if let Some(value) = wanted {
-            match scan.next(alloc)? {
-                None => assert!(rt; false, "the scan at {seq} ends before {user}"),
-                Some(pair) => {
-                    assert_eq!(rt; pair.user(), [user].as_slice(), "at {seq}");
-                    assert_eq!(rt; pair.value(), [value].as_slice(), "at {seq}");
-                }
-            }
+        assert!(rt; found == wanted, "of {user} at {seq}");
+    }
+    Ok(())
+}
+
+/// The user keys that have a plain answer at a sequence, with it.
+fn plain_pairs(alloc: Global, tables: &[Rows], seq: u8) -> Result<Vec<(u8, u8)>, AllocError> {
+    let mut pairs = Vec::new(alloc);
+    for user in b'a'..=b'h' {
+        if let Some(value) = plain_answer(tables, user, seq) {
+            pairs.push((user, value))?;
         }
     }
-    assert!(rt; scan.next(alloc)?.is_none(), "the scan at {seq} goes on");
+    Ok(pairs)
+}
+
+/// Whether a scan shows just these pairs.
+fn shows_each<S: Stream>(alloc: Global, scan: &mut Scan<S>, pairs: &[(u8, u8)]) -> bool {
+    for &(user, value) in pairs {
+        if !shows(alloc, scan, &[user], &[value]) {
+            return false;
+        }
+    }
+    has_shown_all(alloc, scan)
+}
+
+/// Whether the version's scan at a sequence shows just these pairs.
+pub(crate) fn is_scanned_as<N: Naming, S: Shelf>(
+    alloc: Global,
+    shelf: &mut S,
+    version: &Version<N, S>,
+    seq: u8,
+    pairs: &[(u8, u8)],
+) -> bool
+    requires { (S.told shelf.old).place ≡ N.place }
+    ensures { (S.told shelf.new).place ≡ N.place }
+{
+    match version.scan(shelf, alloc, seq as u64) {
+        Ok(mut scan) => shows_each(alloc, &mut scan, pairs),
+        Err(_) => false,
+    }
+}
+
+/// Compares each read at a sequence, and the scan there, with the plain answers.
+fn answers_plainly<N: Naming, S: Shelf, R: Abort>(
+    rt: &R,
+    alloc: Global,
+    shelf: &mut S,
+    version: &Version<N, S>,
+    tables: &[Rows],
+    seq: u8,
+) -> Result<(), Fail>
+    requires { (S.told shelf.old).place ≡ N.place }
+    ensures { (S.told shelf.new).place ≡ N.place }
+{
+    reads_plainly(rt, alloc, shelf, version, tables, seq)?;
+    let pairs = plain_pairs(alloc, tables, seq)?;
+    assert!(rt;
+        is_scanned_as(alloc, shelf, version, seq, &pairs),
+        "the scan at {seq}"
+    );
     Ok(())
 }
 
@@ -354,6 +430,23 @@ fn unchanged<N: Naming, S: Shelf>(
     Ok(version.change(alloc, deleted.as_slice(), added.as_slice(), None, last)?)
 }
 
+/// Compares what a version answers after a change of nothing.
+fn compares_unchanged<N: Naming, S: Shelf, R: Abort>(
+    rt: &R,
+    alloc: Global,
+    shelf: &mut S,
+    version: &Version<N, S>,
+    tables: &[Rows],
+) -> Result<(), Fail>
+    requires { (S.told shelf.old).place ≡ N.place }
+{
+    let same = unchanged(alloc, version)?;
+    answers_plainly(rt, alloc, shelf, &same, tables, 255)
+}
+
+/// The sequences at which versions are read.
+const SEQUENCES: &[u8] = &[0, 7, 20, 45, 60, 75, 90, 110, 130, 255];
+
 /// Makes the version of some tables, and reads it at several sequences.
 fn compares<N: Naming, S: Shelf, R: Wait + Abort>(
     rt: &R,
@@ -366,16 +459,15 @@ fn compares<N: Naming, S: Shelf, R: Wait + Abort>(
     requires shelf { (S.told shelf).place ≡ N.place }
 {
     let version: Version<N, S> = version_of(rt, alloc, registry, &mut shelf, tables)?;
-    for seq in [0u8, 7, 20, 45, 60, 75, 90, 110, 130, 255] {
+    for &seq in SEQUENCES {
         answers_plainly(rt, alloc, &mut shelf, &version, tables, seq)?;
     }
-    let same = unchanged(alloc, &version)?;
-    answers_plainly(rt, alloc, &mut shelf, &same, tables, 255)
+    compares_unchanged(rt, alloc, &mut shelf, &version, tables)
 }
 
 /// Compares one version on a shelf of its own.
 fn compares_one<R: Wait + Abort>(rt: &R, alloc: Global, tables: &[Rows]) -> Result<(), Fail> {
-    let registry = Arc::new(alloc, Registry::new(alloc)?)?;
+    let registry = new_registry(alloc)?;
     let shelf = MemoryShelf::new(alloc)?;
     compares::<Brand, MemoryShelf, _>(rt, alloc, registry, shelf, tables)
 }
