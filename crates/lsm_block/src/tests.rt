@@ -332,18 +332,33 @@ fn seeks_among_shared_keys(rt: HostRuntime) -> Result<(), Fail> {
 }
 
 #[test]
-fn numbers_of_refusals(rt: HostRuntime) {
-    let rows = [
-        (BlockFault::OutOfMemory, 1),
-        (BlockFault::BadRestarts, 6),
-        (BlockFault::BadEntry(3), 7),
-        (BlockFault::OutOfOrder(3), 8),
-    ];
-    for (fault, number) in rows {
-        assert_eq!(rt; fault.number(), number);
+fn names_refusals(rt: HostRuntime) -> Result<(), Fail> {
+    for (fault, number, name, text) in [
+        (BlockFault::OutOfMemory, 1, "OutOfMemory", "OutOfMemory"),
+        (BlockFault::BadRestarts, 6, "BadRestarts", "BadRestarts"),
+        (BlockFault::BadEntry(3), 7, "BadEntry", "BadEntry 3"),
+        (BlockFault::OutOfOrder(12), 8, "OutOfOrder", "OutOfOrder 12"),
+    ] {
+        assert_eq!(rt; fault.number(), number, "{name}");
+        assert_eq!(rt; fault.name(), name);
+        let shown = format!(in rt.alloc(); "{fault}")?;
+        assert_eq!(rt; shown.as_str(), text);
     }
-    assert_eq!(rt; BuildFault::OutOfMemory.number(), 1);
-    assert_eq!(rt; BuildFault::TooLarge.number(), 39);
+    Ok(())
+}
+
+#[test]
+fn names_refusals_of_a_builder(rt: HostRuntime) -> Result<(), Fail> {
+    for (fault, number, text) in [
+        (BuildFault::OutOfMemory, 1, "OutOfMemory"),
+        (BuildFault::TooLarge, 39, "TooLarge"),
+    ] {
+        assert_eq!(rt; fault.number(), number, "{text}");
+        assert_eq!(rt; fault.name(), text);
+        let shown = format!(in rt.alloc(); "{fault}")?;
+        assert_eq!(rt; shown.as_str(), text);
+    }
+    Ok(())
 }
 
 #[test]
