@@ -1,14 +1,16 @@
 //! A block whose bytes lie elsewhere.
 
-ghost use Rattle.std.specs.Prelude.{◌≡◌, ℕ, List, [], None, take, IfOk, OnOk, OnErr, Ok};
+ghost use Rattle.std.specs.Prelude.{◌≡◌, ◌≤◌, ℕ, List, [], None, length, take, IfOk, OnOk, OnErr, Ok};
 ghost use Rattle.std.specs.Option.{option_map};
+ghost use Rattle.lsm_block.specs.Fault.{is_memory};
 ghost use Rattle.lsm_codec.specs.KeyRef.{key_of};
 ghost use Rattle.lsm_block.specs.Block.{IsBlock};
 ghost use Rattle.lsm_block.specs.Seeking.{not_below};
 ghost use Rattle.lsm_codec.specs.Entries.{Entry};
 ghost use Rattle.lsm_block.specs.Reading.{block_at};
-ghost use Rattle.lsm_block.specs.Gives.{Gives};
+ghost use Rattle.lsm_codec.specs.Gives.{Gives};
 ghost use Rattle.lsm_block.specs.Held.{Holds, rest_of, last_after, text_and_entries, held, block_in, Given};
+ghost use Rattle.lsm_block.specs.Standing.{Stands, bytes_before};
 
 use crate::check::parts;
 use crate::cursor::Cursor;
@@ -52,8 +54,9 @@ impl<'a> BlockRef<'a> {
     /// the first entry.
     pub fn check(bytes: &'a [u8], cursor: &mut Cursor) -> Result<BlockRef<'a>, BlockFault>
         ensures found { IfOk result (λ b. IsBlock bytes.now b.entries) }
-        ensures only { (es : List Entry) → IsBlock bytes.now es → Gives (λ b. b.entries) result (Ok es) }
-        ensures exact { Gives (λ b. b.entries) result (block_at bytes.now) }
+        ensures only { (es : List Entry) → IsBlock bytes.now es → Gives is_memory (λ b. b.entries) result (Ok es) }
+        ensures exact { Gives is_memory (λ b. b.entries) result (block_at bytes.now) }
+        ensures block { IfOk result (λ b. b ≡ block_in bytes.now) }
         ensures last { IfOk result (λ b. cursor.new.last ≡ last_after None b.entries) }
         ensures rest { IfOk result (λ b. rest_of b cursor.new ≡ []) }
         ensures err { OnErr result (cursor.new ≡ record { offset = 0; last = None }) }
@@ -94,8 +97,21 @@ impl<'a> BlockRef<'a> {
     /// Goes to the next entry, and lends its value; `Cursor::key` then lends its key. An `Err` leaves the cursor.
     pub fn next(&self, cursor: &mut Cursor) -> Result<Option<&'a [u8]>, AllocError>
         ensures given { IfOk result (λ r. Given self.now cursor.old cursor.new (option_map (λ v. v.now) r)) }
+        // Where no entry is left it stays, and else the value ends where it stands.
+        ensures stands { IfOk result (λ r. Stands self.now.text cursor.old cursor.new (option_map (λ v. v.now) r)) }
         ensures err { OnErr result (cursor.new ≡ cursor.old) }
     {
         cursor.next_in(self.text)
+    }
+
+    /// The bytes of the text before an offset, so many.
+    pub(crate) fn bytes_before(&self, offset: usize, len: usize) -> &'a [u8]
+        requires within { len ≤ offset }
+        requires inside { offset ≤ length self.now.text }
+        ensures { result.now ≡ bytes_before self.now.text offset len }
+    {
+        let (_, tail) = self.text.split_at(offset - len);
+        let (bytes, _) = tail.split_at(len);
+        bytes
     }
 }

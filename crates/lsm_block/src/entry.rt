@@ -2,13 +2,12 @@
 
 ghost use Rattle.std.specs.Prelude.{◌≡◌, ◌≤◌, [], ℕ, List, length, IfSome};
 ghost use Rattle.std.specs.Option.{option_map};
-ghost use Rattle.lsm_block.specs.Reading.{number_at, numbers_at, piece_of, entry_at, key_at};
-ghost use Rattle.lsm_codec.specs.Keys.{IsKey};
+ghost use Rattle.lsm_block.specs.Reading.{number_at, numbers_at, piece_of, entry_at};
+ghost use Rattle.lsm_codec.specs.Keys.{IsKey, key_at};
 ghost use Rattle.lsm_block.specs.Walking.{seen, raw_key, raw_seen};
 
-use crate::key::is_internal_key;
 use crate::shared_key::SharedKey;
-use lsm_codec::get_varint32;
+use lsm_codec::{get_varint32, is_internal_key};
 
 /// A varint32 and what follows it.
 fn number(bytes: &[u8]) -> Option<(u32, &[u8])>

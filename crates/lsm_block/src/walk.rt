@@ -3,7 +3,8 @@
 ghost use Rattle.std.specs.Prelude.{◌≡◌, [], ◌∷◌, ◌/◌, ◌<◌, ◌≤◌, ℕ, List, length, drop, true, nat_le, None, Some, IfOk};
 ghost use Rattle.std.specs.List.{list_all};
 ghost use Rattle.std.specs.Option.{option_map};
-ghost use Rattle.lsm_block.specs.Reading.{words, is_internal, comes_after, if_not, entry_at, scan, entries_of, first_fault};
+ghost use Rattle.lsm_codec.specs.Keys.{is_internal};
+ghost use Rattle.lsm_block.specs.Reading.{words, comes_after, if_not, entry_at, scan, entries_of, first_fault};
 ghost use Rattle.lsm_block.specs.KeyParts.{joined};
 ghost use Rattle.lsm_block.specs.Held.{Kept, last_of, last_after};
 ghost use Rattle.lsm_block.specs.Walking.{begun, passed, if_none, fault_from, fault_at_stop, is_nothing, fault_at_end};
