@@ -15,8 +15,6 @@ mod kind;
 mod list;
 mod stride_tables;
 mod stridewise;
-#[cfg(test)]
-mod tests;
 mod varint;
 mod wordwise;
 
