@@ -64,8 +64,8 @@ abbrev pub last_after : Option InternalKey → List Entry → Option InternalKey
 last_after key [] = key
 last_after key (e ∷ es) = last_after (Some (internal_key e)) es
 
--- What a step hands out: nothing where no entry is left, and the last key stays; and else the value of the next entry,
--- whose key is then the last.
+-- What a step hands out: nothing where no entry is left, and the last key stays; and else the value
+-- of the next entry, whose key is then the last.
 abbrev pub Given : HeldBlock → Place → Place → Option (List ℕ) → Type 0
 Given block old new None = (rest_of block old ≡ []) × (rest_of block new ≡ []) × (new.last ≡ old.last)
 Given block old new (Some value) = (key : InternalKey) × (new.last ≡ Some key) × (rest_of block old ≡ entry_of key value ∷ rest_of block new)

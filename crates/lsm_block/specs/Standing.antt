@@ -33,7 +33,8 @@ abbrev pub with_key : Option InternalKey → List ℕ → List Entry → List En
 with_key None value rest = []
 with_key (Some key) value rest = entry_of key value ∷ rest
 
--- The entries from the one on at which a cursor stands, whose value has this length; none where it stands at no entry.
+-- The entries from the one on at which a cursor stands, whose value has this length; none where it
+-- stands at no entry.
 abbrev pub from_here : HeldBlock → Place → Option ℕ → List Entry
 from_here block place None = []
 from_here block place (Some len) = with_key place.last (bytes_before block.text place.offset len) (rest_of block place)
@@ -59,12 +60,14 @@ abbrev pub value_of_first : List Entry → List ℕ
 value_of_first [] = []
 value_of_first (e ∷ es) = e.value
 
--- What a step on answers: it moved to the entry behind the one at which it stood, or there was none, and it stays.
+-- What a step on answers: it moved to the entry behind the one at which it stood, or there was
+-- none, and it stays.
 abbrev pub IsMoved : Bool → List Entry → List Entry → Type 0
 IsMoved true old new = (but_first old ≡ new) × (IsSome (key_of_first new))
 IsMoved false old new = (but_first old ≡ []) × (new ≡ old)
 
--- A step to the next entry of a block, whose value has this length: the cursor then stands at it; or it stays.
+-- A step to the next entry of a block, whose value has this length: the cursor then stands at it;
+-- or it stays.
 abbrev pub StepsTo : HeldBlock → Place → Place → Option ℕ → Type 0
 StepsTo block old new None = (rest_of block old ≡ []) × (new ≡ old)
 StepsTo block old new (Some len) = (from_here block new (Some len) ≡ rest_of block old) × IsStanding block new (Some len)

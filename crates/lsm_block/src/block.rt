@@ -17,7 +17,8 @@ use lsm_codec::KeyRef;
 use std::alloc::{AllocError, Global};
 use std::marker::Model;
 
-/// A checked block, which holds its bytes. Contracts see it as its entries and the text that spells them.
+/// A checked block, which holds its bytes. Contracts see it as its entries and the text that spells
+/// them.
 #[derive(Debug, Drop)]
 pub struct Block {
     bytes: Vec<u8>,
@@ -36,8 +37,8 @@ impl Model for Block {
 }
 
 impl Block {
-    /// The block of these bytes. `BadRestarts`, `BadEntry` and `OutOfOrder` say what is wrong with them, in this order:
-    /// restart offsets are judged up to the first entry that cannot be read.
+    /// The block of these bytes. `BadRestarts`, `BadEntry` and `OutOfOrder` say what is wrong with
+    /// them, in this order: restart offsets are judged up to the first entry that cannot be read.
     pub fn check(alloc: Global, bytes: Vec<u8>) -> Result<Block, BlockFault>
         // What is read is the block's.
         ensures found { IfOk result (λ b. IsBlock bytes.items b.entries) }

@@ -19,7 +19,8 @@ use lsm_codec::KeyRef;
 use std::alloc::AllocError;
 use std::marker::Model;
 
-/// A checked block whose bytes lie elsewhere, as in the image of a table. Contracts see it as they see a `Block`.
+/// A checked block whose bytes lie elsewhere, as in the image of a table. Contracts see it as they
+/// see a `Block`.
 #[derive(Drop)]
 pub struct BlockRef<'a> {
     text: &'a [u8],
@@ -38,7 +39,8 @@ impl<'a> Model for BlockRef<'a> {
 }
 
 impl<'a> BlockRef<'a> {
-    /// The block that bytes are which were checked before. Takes no memory, and reads but the number of restarts.
+    /// The block that bytes are which were checked before. Takes no memory, and reads but the
+    /// number of restarts.
     pub fn of(bytes: &'a [u8]) -> BlockRef<'a>
         requires { IsBlock bytes.now (held bytes.now) }
         ensures entries { result.entries ≡ held bytes.now }
@@ -50,8 +52,8 @@ impl<'a> BlockRef<'a> {
         BlockRef::at(bytes, text.len())
     }
 
-    /// The block that bytes are, judged as `Block::check` does; the cursor goes after the last entry. An `Err` sets it before
-    /// the first entry.
+    /// The block that bytes are, judged as `Block::check` does; the cursor goes after the last
+    /// entry. An `Err` sets it before the first entry.
     pub fn check(bytes: &'a [u8], cursor: &mut Cursor) -> Result<BlockRef<'a>, BlockFault>
         ensures found { IfOk result (λ b. IsBlock bytes.now b.entries) }
         ensures only { (es : List Entry) → IsBlock bytes.now es → Gives is_memory (λ b. b.entries) result (Ok es) }
@@ -86,7 +88,8 @@ impl<'a> BlockRef<'a> {
         cursor.restart();
     }
 
-    /// Sets the cursor before the first entry that is not below the key. An `Err` sets it before the first entry.
+    /// Sets the cursor before the first entry that is not below the key. An `Err` sets it before
+    /// the first entry.
     pub fn seek(&self, cursor: &mut Cursor, key: &KeyRef<'_>) -> Result<(), AllocError>
         ensures found { OnOk result (rest_of self.now cursor.new ≡ not_below (key_of key.now) self.now.entries) }
         ensures err { OnErr result (cursor.new ≡ record { offset = 0; last = None }) }
@@ -94,7 +97,8 @@ impl<'a> BlockRef<'a> {
         cursor.seek_in(self.text, self.offsets, key)
     }
 
-    /// Goes to the next entry, and lends its value; `Cursor::key` then lends its key. An `Err` leaves the cursor.
+    /// Goes to the next entry, and lends its value; `Cursor::key` then lends its key. An `Err`
+    /// leaves the cursor.
     pub fn next(&self, cursor: &mut Cursor) -> Result<Option<&'a [u8]>, AllocError>
         ensures given { IfOk result (λ r. Given self.now cursor.old cursor.new (option_map (λ v. v.now) r)) }
         // Where no entry is left it stays, and else the value ends where it stands.

@@ -19,8 +19,8 @@ use lsm_codec::KeyRef;
 use std::alloc::{AllocError, Global};
 use std::marker::Model;
 
-/// A place in a block: the next entry's offset, and the key before it. Contracts see it so. One cursor with its memory
-/// may go through many blocks, one after another.
+/// A place in a block: the next entry's offset, and the key before it. Contracts see it so. One
+/// cursor with its memory may go through many blocks, one after another.
 #[derive(Debug, Drop)]
 pub struct Cursor {
     offset: usize,
@@ -78,7 +78,8 @@ impl Cursor {
         }
     }
 
-    /// Goes to the next entry of a block, and lends its value; `key` then lends its key. An `Err` leaves the cursor.
+    /// Goes to the next entry of a block, and lends its value; `key` then lends its key. An `Err`
+    /// leaves the cursor.
     pub fn next<'b>(&mut self, block: &'b Block) -> Result<Option<&'b [u8]>, AllocError>
         ensures given { IfOk result (λ r. Given block.now self.old self.new (option_map (λ v. v.now) r)) }
         // Where no entry is left it stays, and else the value ends where it stands.
@@ -98,8 +99,8 @@ impl Cursor {
         block.as_ref().bytes_before(self.offset, len)
     }
 
-    /// Judges bytes, and goes after their last entry; how long the text of the entries is comes back. An `Err` goes before
-    /// the first entry.
+    /// Judges bytes, and goes after their last entry; how long the text of the entries is comes
+    /// back. An `Err` goes before the first entry.
     pub(crate) fn judge(&mut self, bytes: &[u8]) -> Result<usize, BlockFault>
         ensures holds { IfOk result (λ n. Holds bytes.now n (text_and_entries (take n bytes.now)).entries) }
         ensures fault { IfErr result (λ f. Fails is_memory f (block_at bytes.now)) }
@@ -144,7 +145,8 @@ impl Cursor {
         }
     }
 
-    /// Goes to the next entry of a text of entries, and lends its value. An `Err` leaves the cursor.
+    /// Goes to the next entry of a text of entries, and lends its value. An `Err` leaves the
+    /// cursor.
     pub(crate) fn next_in<'b>(&mut self, text: &'b [u8]) -> Result<Option<&'b [u8]>, AllocError>
         ensures given { IfOk result (λ r. Given (text_and_entries text.now) self.old self.new (option_map (λ v. v.now) r)) }
         ensures stands { IfOk result (λ r. Stands text.now self.old self.new (option_map (λ v. v.now) r)) }

@@ -44,8 +44,8 @@ fn numbers(text: &[u8]) -> Option<(u32, u32, u32, &[u8])>
     long_numbers(text)
 }
 
-/// An entry as it lies in a text: how much of its key it shares with the key before it, the bytes of its key beyond that,
-/// its value, and what follows it.
+/// An entry as it lies in a text: how much of its key it shares with the key before it, the bytes
+/// of its key beyond that, its value, and what follows it.
 #[derive(Clone, Copy)]
 pub(crate) struct RawEntry<'a> {
     pub(crate) shared: u32,

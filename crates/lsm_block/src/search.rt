@@ -45,8 +45,8 @@ fn starts_below(text: &[u8], restart: usize, key: &KeyRef<'_>) -> bool
     }
 }
 
-/// The offset of a restart from which on the search finds the same as from the front: the last whose key is below this one,
-/// or the first.
+/// The offset of a restart from which on the search finds the same as from the front: the last
+/// whose key is below this one, or the first.
 pub(crate) fn find_restart(text: &[u8], offsets: &[u8], key: &KeyRef<'_>) -> usize
     requires { 4 ≤ length offsets.now }
     ensures restart { StartsSearch text.now offsets.now (key_of key.now) result }
@@ -66,7 +66,8 @@ pub(crate) fn find_restart(text: &[u8], offsets: &[u8], key: &KeyRef<'_>) -> usi
     word_at(offsets, low) as usize
 }
 
-/// Goes on from a restart to the first entry that is not below the key: its offset, and `before` is the key before it.
+/// Goes on from a restart to the first entry that is not below the key: its offset, and `before` is
+/// the key before it.
 pub(crate) fn scan_to(
     text: &[u8],
     start: usize,
@@ -93,8 +94,8 @@ pub(crate) fn scan_to(
     Ok(offset)
 }
 
-/// Reads the entry at an offset, whose key goes to `before`, and lends its value; the number is the next offset. An `Err`
-/// leaves `before`.
+/// Reads the entry at an offset, whose key goes to `before`, and lends its value; the number is the
+/// next offset. An `Err` leaves `before`.
 pub(crate) fn step<'b>(
     text: &'b [u8],
     offset: usize,

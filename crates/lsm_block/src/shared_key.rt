@@ -14,8 +14,9 @@ use std::alloc::AllocError;
 use std::cmp::Ordering;
 use std::marker::Model;
 
-/// A key that is judged before it is put together: the key before it, how much of that it shares, and its own bytes. So
-/// going through a block takes time by its bytes, however long the keys are that they spell.
+/// A key that is judged before it is put together: the key before it, how much of that it shares,
+/// and its own bytes. So going through a block takes time by its bytes, however long the keys are
+/// that they spell.
 #[derive(Drop)]
 pub(crate) struct SharedKey<'b, 'a> {
     before: &'b [u8],

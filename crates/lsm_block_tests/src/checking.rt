@@ -76,7 +76,8 @@ fn refuses_entries(rt: HostRuntime) -> Result<(), Fail> {
 
 #[test]
 fn judges_restarts_up_to_the_fault(rt: HostRuntime) -> Result<(), Fail> {
-    // Restarts 0, 50 and 5, and the second entry, at 12, cannot be read: 5 is judged, and does not rise.
+    // Restarts 0, 50 and 5, and the second entry, at 12, cannot be read: 5 is judged, and does not
+    // rise.
     let falls = [
         0, 9, 0, 0x61, 1, 1, 0, 0, 0, 0, 0, 0, 0x80, 0, 0, 0, 0, 50, 0, 0, 0, 5, 0, 0, 0, 3, 0, 0,
         0,

@@ -1,4 +1,5 @@
-//! Tests of `lsm_block` by its public names: blocks as LevelDB writes them, and blocks that it would refuse.
+//! Tests of `lsm_block` by its public names: blocks as LevelDB writes them, and blocks that it
+//! would refuse.
 #![tactic(auto)]
 
 #[cfg(test)]

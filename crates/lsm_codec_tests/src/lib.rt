@@ -1,4 +1,5 @@
-//! Tests of `lsm_codec` by its public names: values from outside, namely LevelDB's bytes and the check values of RFC 3720.
+//! Tests of `lsm_codec` by its public names: values from outside, namely LevelDB's bytes and the
+//! check values of RFC 3720.
 #![tactic(auto)]
 
 #[cfg(test)]
