@@ -56,8 +56,8 @@ impl<'a> KeyRef<'a> {
         Ok(KeyRef { user, seq, kind })
     }
 
-    /// The sequence and the kind in one number, `sequence * 256 + kind`: what the last eight bytes of
-    /// the key spell.
+    /// The sequence and the kind in one number, `sequence * 256 + kind`: what the last eight bytes
+    /// of the key spell.
     pub fn packed(&self) -> u64
         ensures { result ≡ packed (key_of self.now) }
     {
