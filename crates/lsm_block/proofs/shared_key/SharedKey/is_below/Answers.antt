@@ -1,7 +1,8 @@
 use Rattle.std.proofs.Common.{Less, Greater, sym, ◌∙◌}
+use Rattle.lsm_codec.proofs.CallerLemmas.{internal_long}
 use Rattle.lsm_codec.specs.KeyRef.{key_of}
 use Rattle.lsm_block.specs.KeyParts.{joined}
-use Rattle.lsm_block.proofs.KeyLaws.{internal_long, below_by, below_equal}
+use Rattle.lsm_block.proofs.KeyLaws.{below_by, below_equal}
 use Rattle.lsm_block.proofs.shared_key.SharedKey.is_below.Goals as goal
 
 pub compare_user-requires : goal.compare_user-requires
@@ -16,7 +17,7 @@ returns-in-Less c =
 
 pub returns-in-Equal : goal.returns-in-Equal
 returns-in-Equal c =
-    rw (c.tail.ensures, c.packed_of.ensures) (sym (below_equal (joined c.args.self.now) (key_of c.args.search.now) c.compare_user.ensures.bytes c.requires (sym c.compare_user.ensures.compares ∙ c.in-Equal.is)))
+    rw (c.tail.ensures, c.packed.ensures) (sym (below_equal (joined c.args.self.now) (key_of c.args.search.now) c.compare_user.ensures.bytes c.requires (sym c.compare_user.ensures.compares ∙ c.in-Equal.is)))
 
 pub returns-in-Greater : goal.returns-in-Greater
 returns-in-Greater c =
