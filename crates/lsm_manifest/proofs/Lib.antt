@@ -13,3 +13,4 @@ pub mod StandingLaws
 pub mod LevelLaws
 pub mod ReplayLaws
 pub mod FileOrderLaws
+pub mod TornLaws

@@ -29,5 +29,5 @@ pub use log::{Log, one_log, read_log};
 pub use log_fault::LogFault;
 pub use parts::{AddedFile, CompactPointer, DeletedFile};
 pub use replay_fault::ReplayFault;
-pub use shape::{Shape, replay};
-pub use writer::{LogWriter, prefixes};
+pub use shape::{Shape, one_more_edit, replay};
+pub use writer::{LogWriter, prefixes, torn_record};

@@ -1,8 +1,8 @@
 //! What a row of edits comes to.
 
-ghost use Rattle.std.specs.Prelude.{◌≡◌, ◌≤◌, ℕ, List, [], None, get_or, IfOk, IfErr};
+ghost use Rattle.std.specs.Prelude.{◌≡◌, ◌≤◌, ◌↔◌, ◌++◌, ◌∷◌, ℕ, List, [], None, get_or, IfOk, IfErr};
 ghost use Rattle.lsm_manifest.specs.EditFit.{Change};
-ghost use Rattle.lsm_manifest.specs.Replay.{Stands, AreInnocent, IsFault, last_pointer};
+ghost use Rattle.lsm_manifest.specs.Replay.{Placed, Stands, StandsIn, AreInnocent, IsFault, last_pointer};
 ghost use Rattle.lsm_manifest.specs.Standing.{file_at, Tracks};
 
 use crate::edit::Edit;
@@ -60,6 +60,11 @@ pub fn replay(alloc: Global, edits: &[Edit]) -> Result<Shape, ReplayFault>
         last,
     })
 }
+
+/// A law: what stands after one more edit.
+pub fn one_more_edit()
+    ensures { (es : List Change) (e : Change) (a : Placed) → Stands (es ++ e ∷ []) a ↔ StandsIn es e.deleted e.added a }
+{}
 
 /// The files that stand after the edits.
 fn stand<'a>(alloc: Global, edits: &'a [Edit]) -> Result<Standing<'a>, ReplayFault>
