@@ -14,3 +14,4 @@ pub mod LevelLaws
 pub mod ReplayLaws
 pub mod FileOrderLaws
 pub mod TornLaws
+pub mod ManifestLaws

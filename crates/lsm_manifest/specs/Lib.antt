@@ -20,3 +20,4 @@ pub mod HeldLevel
 pub mod Shape
 pub mod Numbers
 pub mod Level
+pub mod Manifest
