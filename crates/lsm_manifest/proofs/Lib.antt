@@ -15,3 +15,4 @@ pub mod ReplayLaws
 pub mod FileOrderLaws
 pub mod TornLaws
 pub mod ManifestLaws
+pub mod ShapeLaws

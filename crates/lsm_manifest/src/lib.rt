@@ -31,5 +31,5 @@ pub use log_fault::LogFault;
 pub use manifest::{first_edits, manifest_grows, one_manifest};
 pub use parts::{AddedFile, CompactPointer, DeletedFile};
 pub use replay_fault::ReplayFault;
-pub use shape::{Shape, one_more_edit, replay};
+pub use shape::{Shape, one_file_a_number, one_more_edit, one_shape, replay};
 pub use writer::{LogWriter, prefixes, torn_record, whole_log};
