@@ -16,3 +16,4 @@ pub mod FileOrderLaws
 pub mod TornLaws
 pub mod ManifestLaws
 pub mod ShapeLaws
+pub mod WholeEditLaws

@@ -90,7 +90,7 @@ one_file_a_number es all = one_each_on [] es all innocent_none (λ a b x. absurd
 
 -- ---- one list for one set, where it rises
 
-rises_to : (x : FileMeta) (xs : List FileMeta) → AllByRecursion (λ y. file_cmp x y ≡ Less) xs → (y : FileMeta) → Has xs y → file_cmp x y ≡ Less
+pub rises_to : (x : FileMeta) (xs : List FileMeta) → AllByRecursion (λ y. file_cmp x y ≡ Less) xs → (y : FileMeta) → Has xs y → file_cmp x y ≡ Less
 rises_to x [] all y h = absurd h
 rises_to x (z ∷ zs) all y (inl e) = ap (file_cmp x) (sym e) ∙ all.0
 rises_to x (z ∷ zs) all y (inr h) = rises_to x zs all.1 y h
@@ -100,7 +100,7 @@ never_both x y a b =
     let e : Less ≡ Greater = sym a ∙ (file_total.antisymm x y ∙ ap ordering_reverse b) in
     cc
 
-never_itself : (x y : FileMeta) → x ≡ y → file_cmp x y ≡ Less → ⊥
+pub never_itself : (x y : FileMeta) → x ≡ y → file_cmp x y ≡ Less → ⊥
 never_itself x y same a =
     let e : Less ≡ Equal = sym a ∙ (ap (file_cmp x) (sym same) ∙ tied_itself file_total x) in
     cc

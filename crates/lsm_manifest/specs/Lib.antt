@@ -21,3 +21,4 @@ pub mod Shape
 pub mod Numbers
 pub mod Level
 pub mod Manifest
+pub mod WholeEdit

@@ -21,6 +21,7 @@ mod parts;
 mod replay_fault;
 mod shape;
 mod standing;
+mod whole_edit;
 mod writer;
 
 pub use edit::{Edit, one_edit};
@@ -32,4 +33,5 @@ pub use manifest::{first_edits, manifest_grows, one_manifest};
 pub use parts::{AddedFile, CompactPointer, DeletedFile};
 pub use replay_fault::ReplayFault;
 pub use shape::{Shape, one_file_a_number, one_more_edit, one_shape, replay};
+pub use whole_edit::{replayed_shapes, whole_edit_replays};
 pub use writer::{LogWriter, prefixes, torn_record, whole_log};
