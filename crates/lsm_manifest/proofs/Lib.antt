@@ -17,3 +17,4 @@ pub mod TornLaws
 pub mod ManifestLaws
 pub mod ShapeLaws
 pub mod WholeEditLaws
+pub mod DeletedLaws

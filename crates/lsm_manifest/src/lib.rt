@@ -30,7 +30,7 @@ pub use file_meta::{FileMeta, compare_places, file_order};
 pub use log::{Log, one_log, read_log};
 pub use log_fault::LogFault;
 pub use manifest::{first_edits, manifest_grows, one_manifest};
-pub use parts::{AddedFile, CompactPointer, DeletedFile};
+pub use parts::{AddedFile, CompactPointer, DeletedFile, sort_deleted};
 pub use replay_fault::ReplayFault;
 pub use shape::{Shape, one_file_a_number, one_more_edit, one_shape, replay};
 pub use whole_edit::{replayed_shapes, whole_edit_replays};
