@@ -8,7 +8,7 @@ use crate::log_fault::LogFault;
 
 /// What stands at a place of a log.
 #[derive(Clone, Copy, Debug)]
-pub(crate) enum Found<'a> {
+pub(crate) enum LogPart<'a> {
     /// Nothing whole up to the end of the log.
     End,
     /// A part that is skipped, before this rest.
@@ -17,25 +17,25 @@ pub(crate) enum Found<'a> {
     Fragment(FragmentType, &'a [u8], &'a [u8]),
 }
 
-impl<'a> Found<'a> {
+impl<'a> LogPart<'a> {
     ghost use Rattle.lsm_manifest.specs.LogView.{Gives, found_of};
 
     /// What stands at this offset, where a record is begun or not, and the log goes on with the text.
     #[tactic(auto, unfolding(crate::specs::LogReading::found_at))]
-    pub(crate) fn at(offset: u64, begun: bool, text: &'a [u8]) -> Result<Found<'a>, LogFault>
+    pub(crate) fn at(offset: u64, begun: bool, text: &'a [u8]) -> Result<LogPart<'a>, LogFault>
         ensures shorter { IfOk result (λ f. IfSome (found_of f) (λ x. length x.2 ≤ length text.now)) }
         ensures reads { Gives found_of result (found_at offset begun text.now) }
     {
         if text.len() < 7 {
-            return Ok(Found::End);
+            return Ok(LogPart::End);
         }
         let left = room(offset);
         if left < 7 {
             let (_, rest) = text.split_at(left);
-            return Ok(Found::Skipped(rest));
+            return Ok(LogPart::Skipped(rest));
         }
         let size = u16::from_le_bytes([text[4], text[5]]) as usize;
-        Found::framed(offset, begun, text, size, text[6])
+        LogPart::framed(offset, begun, text, size, text[6])
     }
 
     /// The same, where a header of this length and type stands.
@@ -46,27 +46,27 @@ impl<'a> Found<'a> {
         text: &'a [u8],
         size: usize,
         kind: u8,
-    ) -> Result<Found<'a>, LogFault>
+    ) -> Result<LogPart<'a>, LogFault>
         requires { size < 65536 }
         ensures shorter { IfOk result (λ f. IfSome (found_of f) (λ x. length x.2 ≤ length text.now)) }
         ensures reads { Gives found_of result (framed_at offset begun text.now size kind) }
     {
         if kind == 0 && size == 0 {
-            return Found::filler(offset, begun, text);
+            return LogPart::filler(offset, begun, text);
         }
         let left = room(offset);
         if 7 + size <= left && 7 + size <= text.len() {
-            return Found::checked(offset, text, size, kind);
+            return LogPart::checked(offset, text, size, kind);
         }
         if text.len() <= left {
-            return Ok(Found::End);
+            return Ok(LogPart::End);
         }
         Err(LogFault::LogOrder(offset))
     }
 
     /// The same, where the type and the length are zeros.
     #[tactic(auto, unfolding(crate::specs::LogReading::filler_at))]
-    fn filler(offset: u64, begun: bool, text: &'a [u8]) -> Result<Found<'a>, LogFault>
+    fn filler(offset: u64, begun: bool, text: &'a [u8]) -> Result<LogPart<'a>, LogFault>
         ensures shorter { IfOk result (λ f. IfSome (found_of f) (λ x. length x.2 ≤ length text.now)) }
         ensures reads { Gives found_of result (filler_at offset begun text.now) }
     {
@@ -75,15 +75,15 @@ impl<'a> Found<'a> {
         }
         let left = room(offset);
         if text.len() <= left {
-            return Ok(Found::End);
+            return Ok(LogPart::End);
         }
         let (_, rest) = text.split_at(left);
-        Ok(Found::Skipped(rest))
+        Ok(LogPart::Skipped(rest))
     }
 
     /// The same, where the fragment lies within its block and the log.
     #[tactic(auto, unfolding(crate::specs::LogReading::checked_at))]
-    fn checked(offset: u64, text: &'a [u8], size: usize, kind: u8) -> Result<Found<'a>, LogFault>
+    fn checked(offset: u64, text: &'a [u8], size: usize, kind: u8) -> Result<LogPart<'a>, LogFault>
         requires { 7 + size ≤ length text.now }
         ensures shorter { IfOk result (λ f. IfSome (found_of f) (λ x. length x.2 ≤ length text.now)) }
         ensures reads { Gives found_of result (checked_at offset text.now size kind) }
@@ -95,7 +95,7 @@ impl<'a> Found<'a> {
             return Err(LogFault::LogChecksum(offset));
         }
         match FragmentType::of(kind) {
-            Some(kind) => Ok(Found::Fragment(kind, body, rest)),
+            Some(kind) => Ok(LogPart::Fragment(kind, body, rest)),
             None => Err(LogFault::LogType(offset)),
         }
     }

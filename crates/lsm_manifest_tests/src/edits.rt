@@ -1,19 +1,9 @@
-use super::*;
+//! Edits, read and written.
+
+use crate::samples::{FIRST_EDIT, MOVE};
+use lsm_manifest::{DeletedFile, Edit, EditFault, sort_deleted};
+use std::alloc::Global;
 use std::test::Fail;
-
-/// The edit of a new database.
-const FIRST_EDIT: [u8; 34] = [
-    0x01, 0x1a, 0x6c, 0x65, 0x76, 0x65, 0x6c, 0x64, 0x62, 0x2e, 0x42, 0x79, 0x74, 0x65, 0x77, 0x69,
-    0x73, 0x65, 0x43, 0x6f, 0x6d, 0x70, 0x61, 0x72, 0x61, 0x74, 0x6f, 0x72, 0x02, 0x00, 0x03, 0x02,
-    0x04, 0x00,
-];
-
-/// A move of file 5 from level 1 to level 2.
-const MOVE: [u8; 48] = [
-    0x02, 0x00, 0x09, 0x00, 0x03, 0x06, 0x04, 0x03, 0x05, 0x01, 0x09, 0x6b, 0x01, 0x01, 0x00, 0x00,
-    0x00, 0x00, 0x00, 0x00, 0x06, 0x01, 0x05, 0x07, 0x02, 0x05, 0x88, 0x01, 0x09, 0x6b, 0x00, 0x03,
-    0x00, 0x00, 0x00, 0x00, 0x00, 0x00, 0x09, 0x6b, 0x01, 0x01, 0x00, 0x00, 0x00, 0x00, 0x00, 0x00,
-];
 
 fn fault(alloc: Global, bytes: &[u8]) -> Option<EditFault> {
     match Edit::decode(alloc, bytes) {
@@ -105,10 +95,17 @@ fn names_the_first_fault(rt: HostRuntime) {
     for (bytes, want) in &cases {
         assert_eq!(rt; fault(rt.alloc(), bytes), Some(*want));
     }
-    assert_eq!(rt;
-        (EditFault::EditCut.number(), EditFault::EditCut.name()),
-        (24, "EditCut")
-    );
+}
+
+#[test]
+fn sorts_deletions_by_level_then_number(rt: HostRuntime) {
+    let mut deleted = [(2, 7), (1, 9), (2, 5), (0, 300), (1, 9)]
+        .map(|(level, number)| DeletedFile { level, number });
+    sort_deleted(deleted.as_mut_slice());
+    let want = [(0, 300), (1, 9), (1, 9), (2, 5), (2, 7)];
+    for (file, (level, number)) in deleted.iter().zip(&want) {
+        assert_eq!(rt; (file.level, file.number), (*level, *number));
+    }
 }
 
 #[test]

@@ -1,55 +1,10 @@
-use super::*;
-use crate::log::read_log;
-use crate::parts::{AddedFile, CompactPointer, DeletedFile};
-use crate::writer::LogWriter;
-use lsm_codec::{Kind, push_key, put_varint64};
+//! What rows of edits come to.
+
+use crate::samples::{FIRST_EDIT, MANIFEST, MOVE, adding, numbers, push_read};
+use lsm_codec::{Kind, List, push_key, put_varint64};
+use lsm_manifest::{DeletedFile, Edit, FileMeta, LogWriter, ReplayFault, Shape, read_log, replay};
+use std::alloc::{AllocError, Global};
 use std::test::Fail;
-
-/// The edit of a new database.
-const FIRST_EDIT: [u8; 34] = [
-    0x01, 0x1a, 0x6c, 0x65, 0x76, 0x65, 0x6c, 0x64, 0x62, 0x2e, 0x42, 0x79, 0x74, 0x65, 0x77, 0x69,
-    0x73, 0x65, 0x43, 0x6f, 0x6d, 0x70, 0x61, 0x72, 0x61, 0x74, 0x6f, 0x72, 0x02, 0x00, 0x03, 0x02,
-    0x04, 0x00,
-];
-
-/// A move of file 5 from level 1 to level 2.
-const MOVE: [u8; 48] = [
-    0x02, 0x00, 0x09, 0x00, 0x03, 0x06, 0x04, 0x03, 0x05, 0x01, 0x09, 0x6b, 0x01, 0x01, 0x00, 0x00,
-    0x00, 0x00, 0x00, 0x00, 0x06, 0x01, 0x05, 0x07, 0x02, 0x05, 0x88, 0x01, 0x09, 0x6b, 0x00, 0x03,
-    0x00, 0x00, 0x00, 0x00, 0x00, 0x00, 0x09, 0x6b, 0x01, 0x01, 0x00, 0x00, 0x00, 0x00, 0x00, 0x00,
-];
-
-fn key(alloc: Global, user: u8, seq: u16) -> Result<Bytes, AllocError> {
-    let mut bytes: Vec<u8> = Vec::new(alloc);
-    push_key(&mut bytes, &[user], seq as u64, Kind::Value)?;
-    Ok(Bytes::of(bytes))
-}
-
-/// An edit that adds a file of one key, and has no other field.
-fn adding(alloc: Global, level: u8, number: u64, user: u8, seq: u16) -> Result<Edit, AllocError> {
-    let mut added: Vec<AddedFile> = Vec::new(alloc);
-    let smallest = key(alloc, user, seq)?;
-    let largest = key(alloc, user, seq)?;
-    added.push(AddedFile {
-        level,
-        file: FileMeta {
-            number,
-            size: 114,
-            smallest,
-            largest,
-        },
-    })?;
-    Ok(Edit {
-        comparator: None,
-        log: None,
-        prev_log: None,
-        next: None,
-        last: None,
-        pointers: List::of(Vec::new(alloc)),
-        deleted: List::of(Vec::new(alloc)),
-        added: List::of(added),
-    })
-}
 
 /// The bytes of an edit that adds a file of one key at level 0 and deletes the file of the number above.
 fn put_edit(out: &mut Vec<u8>, number: u16, user: u8, seq: u16) -> Result<(), AllocError> {
@@ -61,28 +16,6 @@ fn put_edit(out: &mut Vec<u8>, number: u16, user: u8, seq: u16) -> Result<(), Al
     push_key(out, &[user], seq as u64, Kind::Value)?;
     out.push(9)?;
     push_key(out, &[user], seq as u64, Kind::Value)
-}
-
-/// An edit with these number fields alone.
-fn numbers(alloc: Global, log: Option<u64>, next: Option<u64>, last: Option<u64>) -> Edit {
-    Edit {
-        comparator: None,
-        log,
-        prev_log: None,
-        next,
-        last,
-        pointers: List::of(Vec::<CompactPointer>::new(alloc)),
-        deleted: List::of(Vec::<DeletedFile>::new(alloc)),
-        added: List::of(Vec::<AddedFile>::new(alloc)),
-    }
-}
-
-fn push_read(alloc: Global, edits: &mut Vec<Edit>, bytes: &[u8]) -> Result<(), Fail> {
-    let Ok(edit) = Edit::decode(alloc, bytes) else {
-        return Err("no edit".into());
-    };
-    edits.push(edit)?;
-    Ok(())
 }
 
 fn fault(alloc: Global, edits: &[Edit]) -> Option<ReplayFault> {
@@ -113,6 +46,39 @@ fn replays_the_first_edit(rt: HostRuntime) -> Result<(), Fail> {
     }
     assert_eq!(rt; (shape.log, shape.prev_log), (0, 0));
     assert_eq!(rt; (shape.next, shape.last), (2, 0));
+    Ok(())
+}
+
+/// What the edits of a manifest come to, if it can be read, with its rest.
+fn shape_of(alloc: Global, bytes: &[u8]) -> Result<(Shape, u64), Fail> {
+    let Ok(log) = read_log(alloc, bytes) else {
+        return Err("no log".into());
+    };
+    let mut edits: Vec<Edit> = Vec::new(alloc);
+    for record in log.records.as_slice() {
+        push_read(alloc, &mut edits, record.as_slice())?;
+    }
+    match replay(alloc, &edits) {
+        Ok(shape) => Ok((shape, log.rest)),
+        Err(_) => Err("no shape".into()),
+    }
+}
+
+#[test]
+fn replays_a_manifest(rt: HostRuntime) -> Result<(), Fail> {
+    let (shape, rest) = shape_of(rt.alloc(), MANIFEST.as_slice())?;
+    let [zero, _, _, _, _, _, _] = &shape.levels;
+    let [file] = zero.as_slice() else {
+        panic!(&rt; "not one file");
+    };
+    assert_eq!(rt; (file.number, file.size), (2, 114));
+    assert_eq!(rt; (shape.next, shape.last, rest), (3, 1, 0));
+
+    // Without its last byte it is the manifest before the second edit.
+    let (shape, rest) = shape_of(rt.alloc(), MANIFEST.get(..79).unwrap_or(&[]))?;
+    let [zero, _, _, _, _, _, _] = &shape.levels;
+    assert!(rt; zero.as_slice().is_empty());
+    assert_eq!(rt; (shape.next, shape.last, rest), (2, 0, 38));
     Ok(())
 }
 
@@ -217,13 +183,6 @@ fn refuses_rows_of_edits(rt: HostRuntime) -> Result<(), Fail> {
     assert_eq!(rt;
         fault(rt.alloc(), &other),
         Some(ReplayFault::OtherComparator)
-    );
-    assert_eq!(rt;
-        (
-            ReplayFault::DoubleFile(5).number(),
-            ReplayFault::DoubleFile(5).name()
-        ),
-        (30, "DoubleFile")
     );
     Ok(())
 }

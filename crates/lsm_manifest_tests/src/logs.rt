@@ -1,27 +1,12 @@
+//! Record logs, written and read.
+
 ghost use Rattle.std.specs.Prelude.{◌<◌, length};
 
-use super::*;
-use crate::log::read_log;
-use crate::log_fault::LogFault;
+use crate::samples::{FIRST_EDIT, MANIFEST, SECOND_EDIT};
 use lsm_codec::{crc_extend, crc32c, mask};
-use std::alloc::Global;
+use lsm_manifest::{Log, LogFault, LogWriter, read_log};
+use std::alloc::{AllocError, Global};
 use std::test::Fail;
-
-/// The edit of a new database.
-const FIRST_EDIT: [u8; 34] = [
-    0x01, 0x1a, 0x6c, 0x65, 0x76, 0x65, 0x6c, 0x64, 0x62, 0x2e, 0x42, 0x79, 0x74, 0x65, 0x77, 0x69,
-    0x73, 0x65, 0x43, 0x6f, 0x6d, 0x70, 0x61, 0x72, 0x61, 0x74, 0x6f, 0x72, 0x02, 0x00, 0x03, 0x02,
-    0x04, 0x00,
-];
-
-/// The header of its fragment.
-const FIRST_HEADER: [u8; 7] = [0x95, 0x7c, 0xb9, 0xc5, 0x22, 0x00, 0x01];
-
-/// The edit that an ingest of "k" = "1" appends.
-const SECOND_EDIT: [u8; 32] = [
-    0x02, 0x00, 0x09, 0x00, 0x03, 0x03, 0x04, 0x01, 0x07, 0x00, 0x02, 0x72, 0x09, 0x6b, 0x01, 0x01,
-    0x00, 0x00, 0x00, 0x00, 0x00, 0x00, 0x09, 0x6b, 0x01, 0x01, 0x00, 0x00, 0x00, 0x00, 0x00, 0x00,
-];
 
 /// LevelDB's record of the comparator alone.
 const COMPARATOR_RECORD: [u8; 35] = [
@@ -50,14 +35,6 @@ fn push_one(out: &mut Vec<u8>, byte: u8, body: &[u8]) -> Result<(), AllocError>
     Ok(())
 }
 
-/// A manifest of two edits, 80 bytes, by two writers.
-fn two_edits(alloc: Global) -> Result<Vec<u8>, AllocError> {
-    let mut out: Vec<u8> = Vec::new(alloc);
-    LogWriter::at(0).append(&mut out, FIRST_EDIT.as_slice())?;
-    LogWriter::at(out.len() as u64).append(&mut out, SECOND_EDIT.as_slice())?;
-    Ok(out)
-}
-
 /// How many records a log has, and its rest.
 fn counts(alloc: Global, bytes: &[u8]) -> Option<(usize, u64)> {
     match read_log(alloc, bytes) {
@@ -74,12 +51,11 @@ fn fault(alloc: Global, bytes: &[u8]) -> Option<LogFault> {
 }
 
 #[test]
-fn writes_the_first_manifest(rt: HostRuntime) -> Result<(), Fail> {
+fn writes_two_edits(rt: HostRuntime) -> Result<(), Fail> {
     let mut out: Vec<u8> = Vec::new(rt.alloc());
     LogWriter::at(0).append(&mut out, FIRST_EDIT.as_slice())?;
-    let mut want: Vec<u8> = Vec::from_slice(rt.alloc(), FIRST_HEADER.as_slice())?;
-    want.extend_from_slice(FIRST_EDIT.as_slice())?;
-    assert_eq!(rt; out.as_slice(), want.as_slice());
+    LogWriter::at(out.len() as u64).append(&mut out, SECOND_EDIT.as_slice())?;
+    assert_eq!(rt; out.as_slice(), MANIFEST.as_slice());
     Ok(())
 }
 
@@ -97,9 +73,7 @@ fn reads_a_record_of_leveldb(rt: HostRuntime) -> Result<(), Fail> {
 }
 
 #[test]
-fn reads_every_front_of_two_edits(rt: HostRuntime) -> Result<(), Fail> {
-    let bytes = two_edits(rt.alloc())?;
-    assert_eq!(rt; bytes.len(), 80);
+fn reads_every_front_of_two_edits(rt: HostRuntime) {
     for n in 0..81_usize {
         let want = if n < 41 {
             (0, n as u64)
@@ -108,38 +82,68 @@ fn reads_every_front_of_two_edits(rt: HostRuntime) -> Result<(), Fail> {
         } else {
             (2, 0)
         };
-        let front = bytes.get(..n).unwrap_or(&[]);
+        let front = MANIFEST.get(..n).unwrap_or(&[]);
         assert_eq!(rt; counts(rt.alloc(), front), Some(want), "{n} bytes");
     }
-    Ok(())
 }
 
 #[test]
 fn drops_zeros_at_the_end(rt: HostRuntime) -> Result<(), Fail> {
-    let mut bytes = two_edits(rt.alloc())?;
+    let mut bytes = Vec::from_slice(rt.alloc(), MANIFEST.as_slice())?;
     bytes.truncate(41);
     bytes.extend_from_slice([0; 20].as_slice())?;
     assert_eq!(rt; counts(rt.alloc(), &bytes), Some((1, 20)));
     Ok(())
 }
 
+/// Whether the records are the first of the two edits.
+fn are_first(log: &Log) -> bool {
+    match log.records.as_slice() {
+        [] => true,
+        [one] => one.as_slice() == FIRST_EDIT.as_slice(),
+        [one, two] => {
+            one.as_slice() == FIRST_EDIT.as_slice() && two.as_slice() == SECOND_EDIT.as_slice()
+        }
+        _ => false,
+    }
+}
+
+/// What is read of the manifest with one bit flipped is a checksum's fault, at a record's offset, or the first of its records.
+fn is_told_or_front(alloc: Global, bytes: &[u8]) -> bool {
+    match read_log(alloc, bytes) {
+        Ok(log) => are_first(&log) && log.records.as_slice().len() < 2,
+        Err(fault) => fault == LogFault::LogChecksum(0) || fault == LogFault::LogChecksum(41),
+    }
+}
+
 #[test]
-fn names_a_flipped_bit(rt: HostRuntime) -> Result<(), Fail> {
-    let mut bytes = two_edits(rt.alloc())?;
-    assert_eq!(rt; bytes.len(), 80);
+fn tells_every_flipped_bit(rt: HostRuntime) -> Result<(), Fail> {
+    let mut bytes = Vec::from_slice(rt.alloc(), MANIFEST.as_slice())?;
+    for place in 0..80_usize {
+        for bit in [1, 2, 4, 8, 16, 32, 64, 128] {
+            let Some(byte) = bytes.get_mut(place) else {
+                panic!(&rt; "no byte {place}");
+            };
+            *byte ^= bit;
+            assert!(rt; is_told_or_front(rt.alloc(), &bytes), "bit {bit} of byte {place}");
+            let Some(byte) = bytes.get_mut(place) else {
+                panic!(&rt; "no byte {place}");
+            };
+            *byte ^= bit;
+        }
+    }
+    assert_eq!(rt; counts(rt.alloc(), &bytes), Some((2, 0)));
+    Ok(())
+}
+
+#[test]
+fn names_a_flipped_bit(rt: HostRuntime) {
+    let mut bytes = MANIFEST;
     bytes[10] ^= 1;
-    assert_eq!(rt; fault(rt.alloc(), &bytes), Some(LogFault::LogChecksum(0)));
+    assert_eq!(rt; fault(rt.alloc(), bytes.as_slice()), Some(LogFault::LogChecksum(0)));
     bytes[10] ^= 1;
     bytes[79] ^= 1;
-    assert_eq!(rt; fault(rt.alloc(), &bytes), Some(LogFault::LogChecksum(41)));
-    assert_eq!(rt;
-        (
-            LogFault::LogChecksum(41).number(),
-            LogFault::LogChecksum(41).name()
-        ),
-        (19, "LogChecksum")
-    );
-    Ok(())
+    assert_eq!(rt; fault(rt.alloc(), bytes.as_slice()), Some(LogFault::LogChecksum(41)));
 }
 
 #[test]

@@ -1,13 +1,12 @@
 //! Reading the fields of an edit.
 
 ghost use Rattle.std.specs.Prelude.{◌≡◌, ◌+◌, ◌-◌, ◌<◌, ◌≤◌, ℕ, List, length, Ok, Err};
-ghost use Rattle.lsm_manifest.specs.Edit.{is_internal};
 ghost use Rattle.lsm_manifest.specs.EditReading.{short_number_at, number_at, level_at, bytes_at, key_at, pointer_at, deleted_at, keys_at, size_keys_at, file_at, added_at, body_at, field_at};
 
 use crate::edit_fault::EditFault;
 use crate::file_meta::FileMeta;
 use crate::parts::{AddedFile, CompactPointer, DeletedFile};
-use lsm_codec::{Bytes, get_varint32, get_varint64};
+use lsm_codec::{Bytes, get_varint32, get_varint64, is_internal_key};
 use std::alloc::Global;
 
 /// A field of an edit.
@@ -127,14 +126,6 @@ fn bytes(text: &[u8]) -> Result<(&[u8], &[u8]), EditFault>
     }
     let (front, rest) = rest.split_at(size as usize);
     Ok((front, rest))
-}
-
-/// Whether bytes are an internal key: eight at the end, the lowest of them a kind.
-#[tactic(auto, unfolding(crate::specs::Edit::is_internal))]
-fn is_internal_key(key: &[u8]) -> bool
-    ensures { result ≡ is_internal key.now }
-{
-    key.len() >= 8 && key[key.len() - 8] <= 1
 }
 
 #[tactic(auto, unfolding(crate::specs::EditReading::key_at))]

@@ -1,7 +1,7 @@
 use Rattle.std.proofs.Common.{sym, ap, ◌∙◌}
 use Rattle.std.specs.Option.{option_or}
 use Rattle.lsm_manifest.proofs.LastLaws.{last_by-next, last_by-none}
-use Rattle.lsm_manifest.proofs.numbers.Numbers.of.Goals as goal
+use Rattle.lsm_manifest.proofs.last_values.LastValues.of.Goals as goal
 
 pub loop-edit-init : goal.loop-edit-init
 loop-edit-init c = record { log = sym (last_by-none _); prev_log = sym (last_by-none _); next = sym (last_by-none _); last = sym (last_by-none _) }

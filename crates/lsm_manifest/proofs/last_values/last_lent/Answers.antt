@@ -1,6 +1,6 @@
 use Rattle.std.proofs.Common.{sym, ◌∙◌}
 use Rattle.lsm_manifest.proofs.LastLaws.{last_by-none, last_pointer-next}
-use Rattle.lsm_manifest.proofs.numbers.last_lent.Goals as goal
+use Rattle.lsm_manifest.proofs.last_values.last_lent.Goals as goal
 
 pub loop-edit-init : goal.loop-edit-init
 loop-edit-init c = sym (last_by-none _)

@@ -1,7 +1,7 @@
 use Rattle.std.proofs.Common.{true, false, sym, ◌∙◌}
 use Rattle.std.proofs.lemmas.Bool.{eq-eqb, ne_eqb}
 use Rattle.lsm_manifest.proofs.LastLaws.{pointer_in-next, pointer_in-none}
-use Rattle.lsm_manifest.proofs.numbers.pointer_of.Goals as goal
+use Rattle.lsm_manifest.proofs.last_values.pointer_of.Goals as goal
 
 pub loop-pointer-init : goal.loop-pointer-init
 loop-pointer-init c = sym (pointer_in-none c.args.level)

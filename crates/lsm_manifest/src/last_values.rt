@@ -11,27 +11,27 @@ use std::alloc::{AllocError, Global};
 
 /// The last value of each number field, if some edit has it.
 #[derive(Clone, Copy, Debug)]
-pub(crate) struct Numbers {
+pub(crate) struct LastValues {
     pub(crate) log: Option<u64>,
     pub(crate) prev_log: Option<u64>,
     pub(crate) next: Option<u64>,
     pub(crate) last: Option<u64>,
 }
 
-impl Numbers {
-    ghost use Rattle.lsm_manifest.specs.Numbers.{AreLast};
+impl LastValues {
+    ghost use Rattle.lsm_manifest.specs.LastValues.{AreLast};
 
-    pub(crate) fn of(edits: &[Edit]) -> Numbers
+    pub(crate) fn of(edits: &[Edit]) -> LastValues
         ensures { AreLast edits.now result }
     {
-        let mut numbers = Numbers {
+        let mut numbers = LastValues {
             log: None,
             prev_log: None,
             next: None,
             last: None,
         };
         for edit in edits {
-            numbers = Numbers {
+            numbers = LastValues {
                 log: edit.log.or(numbers.log),
                 prev_log: edit.prev_log.or(numbers.prev_log),
                 next: edit.next.or(numbers.next),
@@ -79,7 +79,7 @@ pub(crate) fn last_key(
     ensures { IfOk result (λ key. key ≡ last_pointer level edits.now) }
 {
     match last_lent(edits, level) {
-        Some(key) => Ok(Some(Bytes::of(Vec::from_slice(alloc, key.as_slice())?))),
+        Some(key) => Ok(Some(key.try_copy(alloc)?)),
         None => Ok(None),
     }
 }
