@@ -22,7 +22,7 @@ use Rattle.lsm_manifest.specs.HeldLevel.{HoldsLevel}
 use Rattle.lsm_manifest.specs.Last.{last_by}
 use Rattle.lsm_manifest.specs.EditFit.{FitsKey, FitsPointer, FitsAdded, IsFit}
 use Rattle.lsm_manifest.specs.Manifest.{AreEdits, IsManifest}
-use Rattle.lsm_manifest.specs.Replay.{Stands, StandsIn, IsTaken, AreNew, AreInnocent, IsInnocent, pointer_in, last_pointer}
+use Rattle.lsm_manifest.specs.Replay.{Stands, StandsIn, IsTaken, AreNew, AreApart, AreFresh, AreInnocent, IsInnocent, pointer_in, last_pointer}
 use Rattle.lsm_manifest.specs.Shape.{IsShape, IsReplayed}
 use Rattle.lsm_manifest.specs.WholeEdit.{pointers_from, placed_at, files_from, whole_edit, FitsShape}
 use Rattle.lsm_manifest.proofs.EditFits.{edit_fits}
@@ -62,26 +62,21 @@ at_files level (fs ∷ later) (suc i) file h =
 
 -- ---- no two of them have one number
 
--- each has a number that no later one has
-abbrev Apart : List AddedFile → Type 0
-Apart [] = Unit {0}
-Apart (a ∷ later) = ((b : AddedFile) → Has later b → a.file.number ≡ b.file.number → ⊥) × Apart later
-
-apart_new : (ds : List DeletedFile) (xs : List AddedFile) → Apart xs → AreNew [] ds xs
-apart_new ds xs apart front one back is (b, same, inl s) = absurd s.0
-apart_new ds xs apart front one back is (b, same, inr h) = go front (subst Apart is apart) h
+pub fresh_new : (es : List Edit) (ds : List DeletedFile) (xs : List AddedFile) → AreApart xs → AreFresh es ds xs → AreNew es ds xs
+fresh_new es ds xs apart fresh front one back is (b, same, inl s) = fresh b one s.0 s.1 (subst (λ (ys : List AddedFile). Has ys one) (sym is) (has_right front (one ∷ back) one (inl refl))) same
+fresh_new es ds xs apart fresh front one back is (b, same, inr h) = go front (subst AreApart is apart) h
   where
-    go : (front : List AddedFile) → Apart (front ++ one ∷ back) → Has front b → ⊥
+    go : (front : List AddedFile) → AreApart (front ++ one ∷ back) → Has front b → ⊥
     go [] a k = k
     go (f ∷ fs) a (inl e) = a.0 one (has_right fs (one ∷ back) one (inl refl)) (ap (λ (x : AddedFile). x.file.number) e ∙ same)
     go (f ∷ fs) a (inr k) = go fs a.1 k
 
-apart_append : (xs ys : List AddedFile) → Apart xs → Apart ys → ((a b : AddedFile) → Has xs a → Has ys b → a.file.number ≡ b.file.number → ⊥) → Apart (xs ++ ys)
+apart_append : (xs ys : List AddedFile) → AreApart xs → AreApart ys → ((a b : AddedFile) → Has xs a → Has ys b → a.file.number ≡ b.file.number → ⊥) → AreApart (xs ++ ys)
 apart_append [] ys p q never = q
 apart_append (x ∷ xs) ys p q never =
     (λ b h same. elim (has_cases xs ys b h) [ inl k ↦ p.0 b k same | inr k ↦ never x b (inl refl) k same ], apart_append xs ys p.1 q (λ a b h k. never a b (inr h) k))
 
-apart_level : (level : ℕ) (files : List FileMeta) → IsStrictlySortedBy file_cmp files → ((f g : FileMeta) → Has files f → Has files g → f.number ≡ g.number → f ≡ g) → Apart (map (placed_at level) files)
+apart_level : (level : ℕ) (files : List FileMeta) → IsStrictlySortedBy file_cmp files → ((f g : FileMeta) → Has files f → Has files g → f.number ≡ g.number → f ≡ g) → AreApart (map (placed_at level) files)
 apart_level level [] up one = tt
 apart_level level (f ∷ fs) up one =
     (λ b h same.
@@ -94,7 +89,7 @@ record OwnNumbers (levels : List (List FileMeta)) : Type 0 where
   ordered : (i : ℕ) → i < length levels → IsStrictlySortedBy file_cmp (get_or levels i [])
   numbers : (i j : ℕ) (f g : FileMeta) → i < length levels → j < length levels → Has (get_or levels i []) f → Has (get_or levels j []) g → f.number ≡ g.number → (i ≡ j) × (f ≡ g)
 
-apart_files : (level : ℕ) (levels : List (List FileMeta)) → OwnNumbers levels → Apart (files_from level levels)
+apart_files : (level : ℕ) (levels : List (List FileMeta)) → OwnNumbers levels → AreApart (files_from level levels)
 apart_files level [] own = tt
 apart_files level (fs ∷ later) own =
     let here = apart_level level fs (own.ordered 0 (omega arith)) (λ f g h k same. (own.numbers 0 0 f g (omega arith) (omega arith) h k same).1) in
@@ -161,7 +156,7 @@ stands_alone e a (inl h) = h.0
 stands_alone e a (inr h) = absurd h
 
 pub whole_innocent : (s : Shape) → IsShape s → AreInnocent (whole_edit s ∷ [])
-whole_innocent s is = innocent_push [] (whole_edit s) innocent_none record { comparator = λ other. other refl; added = apart_new [] (files_from 0 s.levels) (apart_files 0 s.levels (own_numbers s is)) }
+whole_innocent s is = innocent_push [] (whole_edit s) innocent_none record { comparator = λ other. other refl; added = fresh_new [] [] (files_from 0 s.levels) (apart_files 0 s.levels (own_numbers s is)) (λ a b st. absurd st) }
 
 added_to : (s : Shape) → IsShape s → (level : ℕ) (file : FileMeta) → Has (files_from 0 s.levels) (placed_at level file) → Has (get_or s.levels level []) file
 added_to s is level file h =

@@ -46,6 +46,15 @@ IsTaken es ds xs number = (b : AddedFile) × (b.file.number ≡ number) × Stand
 abbrev pub AreNew : List Edit → List DeletedFile → List AddedFile → Type 0
 AreNew es ds xs = (front : List AddedFile) (one : AddedFile) (back : List AddedFile) → xs ≡ front ++ one ∷ back → IsTaken es ds front one.file.number → ⊥
 
+-- Each of these files has a number that no later one has.
+abbrev pub AreApart : List AddedFile → Type 0
+AreApart [] = Unit {0}
+AreApart (a ∷ later) = ((b : AddedFile) → Has later b → a.file.number ≡ b.file.number → ⊥) × AreApart later
+
+-- No file that stands after the edits and these deletions has the number of one of these files.
+abbrev pub AreFresh : List Edit → List DeletedFile → List AddedFile → Type 0
+AreFresh es ds xs = (a b : AddedFile) → Stands es a → (Has ds (deletion_of a) → ⊥) → Has xs b → a.file.number ≡ b.file.number → ⊥
+
 -- The first addition whose number is taken when it comes has this number.
 pub record AddsTaken (es : List Edit) (ds : List DeletedFile) (xs : List AddedFile) (number : ℕ) : Type 0 where
   pub front : List AddedFile

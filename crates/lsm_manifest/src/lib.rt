@@ -38,6 +38,6 @@ pub use log_fault::LogFault;
 pub use manifest::{first_edits, manifest_grows, one_manifest};
 pub use parts::{AddedFile, CompactPointer, DeletedFile, sort_deleted};
 pub use replay_fault::ReplayFault;
-pub use shape::{Shape, one_file_a_number, one_more_edit, one_shape, replay};
+pub use shape::{Shape, fresh_additions, one_file_a_number, one_more_edit, one_shape, replay};
 pub use whole_edit::{replayed_shapes, whole_edit_replays};
 pub use writer::{LogWriter, prefixes, torn_record, whole_log};

@@ -3,7 +3,7 @@
 ghost use Rattle.std.specs.Prelude.{◌≡◌, ◌≤◌, ◌↔◌, ◌++◌, ◌∷◌, ℕ, List, [], None, get_or, IfOk, IfErr};
 ghost use Rattle.std.specs.Option.{option_or};
 ghost use Rattle.lsm_manifest.specs.EditFit.{Change};
-ghost use Rattle.lsm_manifest.specs.Replay.{Placed, Stands, StandsIn, IsInnocent, AreInnocent, IsFault, last_log, last_prev_log, last_next, last_sequence, last_pointer, pointer_in};
+ghost use Rattle.lsm_manifest.specs.Replay.{Deletion, Placed, AreNew, AreApart, AreFresh, Stands, StandsIn, IsInnocent, AreInnocent, IsFault, last_log, last_prev_log, last_next, last_sequence, last_pointer, pointer_in};
 ghost use Rattle.lsm_manifest.specs.Standing.{file_at, Tracks};
 
 use crate::edit::Edit;
@@ -80,6 +80,11 @@ pub fn one_shape()
 /// A law: where no edit has a fault, no two files that stand have one number.
 pub fn one_file_a_number()
     ensures { (es : List Change) → AreInnocent es → (a b : Placed) → Stands es a → Stands es b → a.file.number ≡ b.file.number → a ≡ b }
+{}
+
+/// A law: additions have new numbers where no two of them have one, and none of the files that stand when they come has one.
+pub fn fresh_additions()
+    ensures { (es : List Change) (ds : List Deletion) (xs : List Placed) → AreApart xs → AreFresh es ds xs → AreNew es ds xs }
 {}
 
 /// A law: what stands after one edit more, when it has no fault, and the last values then.
