@@ -18,4 +18,5 @@ pub mod ManifestLaws
 pub mod ShapeLaws
 pub mod WholeEditLaws
 pub mod DeletedLaws
+pub mod WholeEditLoops
 pub mod CallerLemmas

@@ -1,4 +1,5 @@
--- What a version edit is: fields, each a tag and its parts, in any order (LevelDB's `db/version_edit.cc`), and what they come to.
+-- What a version edit is: fields, each a tag and its parts, in any order (LevelDB's
+-- `db/version_edit.cc`), and what they come to.
 use Rattle.std.specs.Prelude.{Option, Some, None, ◌≡◌, ℕ, ◌≤◌, true, List, [], ◌∷◌, ◌++◌, length}
 use Rattle.std.specs.List.{filter_map}
 use Rattle.lsm_codec.specs.Keys.{is_internal}
@@ -9,7 +10,8 @@ use Rattle.lsm_manifest.specs.declared.parts.DeletedFile.{DeletedFile}
 use Rattle.lsm_manifest.specs.declared.parts.AddedFile.{AddedFile}
 use Rattle.lsm_manifest.specs.declared.edit.Edit.{Edit}
 
--- A field. A level, a number, a size and two keys are right-nested pairs, in the order of the bytes.
+-- A field. A level, a number, a size and two keys are right-nested pairs, in the order of the
+-- bytes.
 pub data Field : Type 0 where
   Comparator : List ℕ → Field
   Log : ℕ → Field
@@ -128,8 +130,8 @@ edit_of fs = record {
   added = all_values added_of fs;
 }
 
--- The bytes are a row of fields; the edit has the last value of the comparator and of each number field, and all pointers,
--- deletions and additions.
+-- The bytes are a row of fields; the edit has the last value of the comparator and of each number
+-- field, and all pointers, deletions and additions.
 pub record IsEdit (bytes : List ℕ) (edit : Edit) : Type 0 where
   pub fields : List Field
   pub spelled : AreFields fields bytes

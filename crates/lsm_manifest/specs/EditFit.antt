@@ -1,4 +1,5 @@
--- What holds of each edit that is read, and what a writer asks of one (levels and internal keys of LevelDB's `db/version_edit.cc`).
+-- What holds of each edit that is read, and what a writer asks of one (levels and internal keys of
+-- LevelDB's `db/version_edit.cc`).
 use Rattle.std.specs.Prelude.{◌≡◌, ℕ, ◌^◌, ◌<◌, ◌≤◌, true, List, length, IfSome}
 use Rattle.std.specs.List.{All}
 use Rattle.lsm_codec.specs.Keys.{is_internal}

@@ -1,4 +1,5 @@
--- The order of files in a level (LevelDB's `doc/impl.md`): by smallest internal key, then by number.
+-- The order of files in a level (LevelDB's `doc/impl.md`): by smallest internal key, then by
+-- number.
 use Rattle.std.specs.Prelude.{ℕ, List}
 use Rattle.std.specs.Ordering.{nat_cmp, ordering_then}
 use Rattle.std.specs.Cmp.Lexicographic.{slice_cmp}

@@ -1,4 +1,5 @@
--- What a manifest is (LevelDB's `doc/impl.md`, `db/version_set.cc`): a record log whose records are version edits.
+-- What a manifest is (LevelDB's `doc/impl.md`, `db/version_set.cc`): a record log whose records are
+-- version edits.
 use Rattle.std.specs.Prelude.{ℕ, List, [], ◌∷◌, take}
 use Rattle.lsm_manifest.specs.declared.edit.Edit.{Edit}
 use Rattle.lsm_manifest.specs.Log.{IsLog}

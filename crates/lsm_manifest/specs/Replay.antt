@@ -1,5 +1,5 @@
--- What a row of edits comes to (LevelDB's `doc/impl.md`, `db/version_set.cc`): the files that some edit adds and no later edit
--- deletes, with the last value of each number field and pointer.
+-- What a row of edits comes to (LevelDB's `doc/impl.md`, `db/version_set.cc`): the files that some
+-- edit adds and no later edit deletes, with the last value of each number field and pointer.
 use Rattle.std.specs.Prelude.{◌≡◌, ℕ, ◌⊎◌, List, [], ◌∷◌, ◌++◌, Option, Some, None, IsSomeAnd, codes, ◌==◌, if◌then◌else◌}
 use Rattle.lsm_codec.specs.Lists.{Has}
 use Rattle.lsm_manifest.specs.Last.{last_by}
@@ -34,7 +34,8 @@ Stands (e ∷ es) a = (Has e.added a × Spare es a) ⊎ Stands es a
 
 -- ---- edits at fault
 
--- Within one edit deletions come before additions: what stands after the edits, these deletions and these additions.
+-- Within one edit deletions come before additions: what stands after the edits, these deletions and
+-- these additions.
 abbrev pub StandsIn : List Edit → List DeletedFile → List AddedFile → AddedFile → Type 0
 StandsIn es ds xs a = (Stands es a × (Has ds (deletion_of a) → ⊥)) ⊎ Has xs a
 

@@ -16,15 +16,16 @@ use Rattle.lsm_manifest.specs.Replay.{Stands, AreInnocent, IsFirstFault, last_lo
 abbrev pub Form : Type 0
 Form = Shape
 
--- Seven levels and as many pointers, each level in its order, and no two files with one number: what holds of every shape that
--- edits come to, whatever the edits.
+-- Seven levels and as many pointers, each level in its order, and no two files with one number:
+-- what holds of every shape that edits come to, whatever the edits.
 pub record IsShape (shape : Shape) : Type 0 where
   pub seven : length shape.levels ≡ 7
   pub seven_pointers : length shape.pointers ≡ 7
   pub ordered : (level : ℕ) → level ≤ 6 → IsStrictlySortedBy file_cmp (get_or shape.levels level [])
   pub numbers : (level other : ℕ) (f g : FileMeta) → level ≤ 6 → other ≤ 6 → Has (get_or shape.levels level []) f → Has (get_or shape.levels other []) g → f.number ≡ g.number → (level ≡ other) × (f ≡ g)
 
--- The shape is what the edits come to, and none of them has a fault; no two files that stand have one number.
+-- The shape is what the edits come to, and none of them has a fault; no two files that stand have
+-- one number.
 pub record IsReplayed (edits : List Edit) (shape : Shape) : Type 0 where
   pub innocent : AreInnocent edits
   pub seven : length shape.levels ≡ 7
@@ -37,8 +38,8 @@ pub record IsReplayed (edits : List Edit) (shape : Shape) : Type 0 where
   pub next : last_next edits ≡ Some shape.next
   pub last : last_sequence edits ≡ Some shape.last
 
--- Why a replay refuses the edits: the first fault of an edit; where there is none, a number field that no edit has, the next
--- file number before the log number before the last sequence.
+-- Why a replay refuses the edits: the first fault of an edit; where there is none, a number field
+-- that no edit has, the next file number before the log number before the last sequence.
 abbrev pub IsRefused : List Edit → ReplayFault → Type 0
 IsRefused edits OutOfMemory = Unit {0}
 IsRefused edits OtherComparator = IsFirstFault edits OtherComparator

@@ -1,5 +1,5 @@
--- The one edit that spells a shape (as LevelDB's `VersionSet::WriteSnapshot` begins a new manifest; that the numbers stand in
--- the same edit is this project's rule).
+-- The one edit that spells a shape (as LevelDB's `VersionSet::WriteSnapshot` begins a new manifest;
+-- that the numbers stand in the same edit is this project's rule).
 use Rattle.std.specs.Prelude.{ℕ, suc, ◌≤◌, List, [], ◌∷◌, ◌++◌, map, Option, Some, None, IfSome, get_or, codes}
 use Rattle.lsm_codec.specs.Lists.{Has}
 use Rattle.lsm_manifest.specs.declared.file_meta.FileMeta.{FileMeta}

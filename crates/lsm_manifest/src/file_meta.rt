@@ -18,8 +18,8 @@ pub struct FileMeta {
 impl FileMeta {
     ghost use Rattle.lsm_manifest.specs.FileOrder.{file_cmp};
 
-    /// The order of files in a level: by smallest internal key (user keys ascending bytewise, of one user key the newest
-    /// first), then by number.
+    /// The order of files in a level: by smallest internal key (user keys ascending bytewise, of
+    /// one user key the newest first), then by number.
     pub fn compare(&self, other: &FileMeta) -> Ordering
         ensures { result ≡ file_cmp self.now other.now }
     {
@@ -48,7 +48,8 @@ ghost use Rattle.std.specs.Ordering.{nat_cmp};
 ghost use Rattle.lsm_codec.specs.Keys.{InternalKey, IsKey, key_cmp, then_by};
 ghost use Rattle.lsm_manifest.specs.FileOrder.{file_cmp, place_cmp, TableFile};
 
-/// The order of two files in a level, by their smallest internal keys and their numbers: what `FileMeta::compare` goes by.
+/// The order of two files in a level, by their smallest internal keys and their numbers: what
+/// `FileMeta::compare` goes by.
 pub fn compare_places(
     smallest: &[u8],
     number: u64,

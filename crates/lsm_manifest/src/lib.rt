@@ -1,8 +1,9 @@
 //! The manifest: LevelDB's record log, the version edits in it, and what the edits come to.
 //!
-//! Stands on `lsm_codec` (and `thiserror` for its faults). Its contract: a manifest's bytes spell edits, both ways, a front of
-//! them spells the first of the edits, and edits give one shape. Bytes are read by `log`, their records by `edit`, the edits by
-//! `shape`; `writer` writes a log, `edit` the records in it, and `manifest` and `whole_edit` have the laws of what is written.
+//! Stands on `lsm_codec` (and `thiserror` for its faults). Its contract: a manifest's bytes spell
+//! edits, both ways, a front of them spells the first of the edits, and edits give one shape. Bytes
+//! are read by `log`, their records by `edit`, the edits by `shape`; `writer` writes a log, `edit`
+//! the records in it, and `manifest` and `whole_edit` have the laws of what is written.
 #![tactic(auto)]
 
 // The record log.

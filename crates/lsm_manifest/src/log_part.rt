@@ -20,7 +20,8 @@ pub(crate) enum LogPart<'a> {
 impl<'a> LogPart<'a> {
     ghost use Rattle.lsm_manifest.specs.LogView.{Gives, found_of};
 
-    /// What stands at this offset, where a record is begun or not, and the log goes on with the text.
+    /// What stands at this offset, where a record is begun or not, and the log goes on with the
+    /// text.
     #[tactic(auto, unfolding(crate::specs::LogReading::found_at))]
     pub(crate) fn at(offset: u64, begun: bool, text: &'a [u8]) -> Result<LogPart<'a>, LogFault>
         ensures shorter { IfOk result (λ f. IfSome (found_of f) (λ x. length x.2 ≤ length text.now)) }

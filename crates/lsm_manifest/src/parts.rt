@@ -8,7 +8,8 @@ use crate::file_meta::FileMeta;
 use lsm_codec::Bytes;
 use std::cmp::Ordering;
 
-/// Where the next compaction of a level begins: beyond this internal key (tag 5 of LevelDB's `db/version_edit.cc`).
+/// Where the next compaction of a level begins: beyond this internal key (tag 5 of LevelDB's
+/// `db/version_edit.cc`).
 #[derive(Debug, Drop)]
 pub struct CompactPointer {
     pub level: u8,

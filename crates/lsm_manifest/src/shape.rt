@@ -14,8 +14,9 @@ use crate::standing::Standing;
 use lsm_codec::{Bytes, List};
 use std::alloc::{AllocError, Global};
 
-/// The files of the seven levels, each level by smallest internal key, then number; the compaction pointers of the levels, each
-/// an internal key; the numbers of the write-ahead log and of the one before it, the next file number, and the last sequence.
+/// The files of the seven levels, each level by smallest internal key, then number; the compaction
+/// pointers of the levels, each an internal key; the numbers of the write-ahead log and of the one
+/// before it, the next file number, and the last sequence.
 #[derive(Debug, Drop)]
 pub struct Shape {
     pub levels: [List<FileMeta>; 7],
@@ -29,9 +30,10 @@ pub struct Shape {
 ghost use Rattle.lsm_manifest.specs.HeldLevel.{HoldsLevel};
 ghost use Rattle.lsm_manifest.specs.Shape.{Form, IsReplayed, IsRefused};
 
-/// The files that some edit adds and no later edit deletes, of levels 0 to 6, with the last value of each number field and
-/// pointer; the previous log number is 0 where no edit has it. `OtherComparator` and `DoubleFile` are those of the first edit
-/// that has one of them (the comparator is judged first); then come `NoNextFile`, `NoLogNumber` and `NoLastSequence`.
+/// The files that some edit adds and no later edit deletes, of levels 0 to 6, with the last value
+/// of each number field and pointer; the previous log number is 0 where no edit has it.
+/// `OtherComparator` and `DoubleFile` are those of the first edit that has one of them (the
+/// comparator is judged first); then come `NoNextFile`, `NoLogNumber` and `NoLastSequence`.
 pub fn replay(alloc: Global, edits: &[Edit]) -> Result<Shape, ReplayFault>
     // The shape is what the edits come to, and none of them has a fault.
     ensures found { IfOk result (λ shape. IsReplayed edits.now shape) }
@@ -82,7 +84,8 @@ pub fn one_file_a_number()
     ensures { (es : List Change) → AreInnocent es → (a b : Placed) → Stands es a → Stands es b → a.file.number ≡ b.file.number → a ≡ b }
 {}
 
-/// A law: additions have new numbers where no two of them have one, and none of the files that stand when they come has one.
+/// A law: additions have new numbers where no two of them have one, and none of the files that
+/// stand when they come has one.
 pub fn fresh_additions()
     ensures { (es : List Change) (ds : List Deletion) (xs : List Placed) → AreApart xs → AreFresh es ds xs → AreNew es ds xs }
 {}

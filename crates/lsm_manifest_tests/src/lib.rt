@@ -1,5 +1,5 @@
-//! Tests of `lsm_manifest` by its public names: logs, edits and manifests as LevelDB writes them, and
-//! such as are refused.
+//! Tests of `lsm_manifest` by its public names: logs, edits and manifests as LevelDB writes them,
+//! and such as are refused.
 #![tactic(auto)]
 
 #[cfg(test)]

@@ -108,7 +108,8 @@ fn are_first(log: &Log) -> bool {
     }
 }
 
-/// What is read of the manifest with one bit flipped is a checksum's fault, at a record's offset, or the first of its records.
+/// What is read of the manifest with one bit flipped is a checksum's fault, at a record's offset,
+/// or the first of its records.
 fn is_told_or_front(alloc: Global, bytes: &[u8]) -> bool {
     match read_log(alloc, bytes) {
         Ok(log) => are_first(&log) && log.records.as_slice().len() < 2,

@@ -6,7 +6,8 @@ use lsm_manifest::{DeletedFile, Edit, FileMeta, LogWriter, ReplayFault, Shape, r
 use std::alloc::{AllocError, Global};
 use std::test::Fail;
 
-/// The bytes of an edit that adds a file of one key at level 0 and deletes the file of the number above.
+/// The bytes of an edit that adds a file of one key at level 0 and deletes the file of the number
+/// above.
 fn put_edit(out: &mut Vec<u8>, number: u16, user: u8, seq: u16) -> Result<(), AllocError> {
     out.extend_from_slice([6, 0].as_slice())?;
     put_varint64(out, number as u64 + 1)?;
@@ -83,6 +84,33 @@ fn replays_a_manifest(rt: HostRuntime) -> Result<(), Fail> {
 }
 
 #[test]
+fn spells_a_shape_by_one_edit(rt: HostRuntime) -> Result<(), Fail> {
+    let mut edits: Vec<Edit> = Vec::new(rt.alloc());
+    push_read(rt.alloc(), &mut edits, FIRST_EDIT.as_slice())?;
+    edits.push(adding(rt.alloc(), 1, 5, 0x6b, 3)?)?;
+    push_read(rt.alloc(), &mut edits, MOVE.as_slice())?;
+    let Ok(shape) = replay(rt.alloc(), &edits) else {
+        panic!(&rt; "no shape");
+    };
+    let mut whole: Vec<Edit> = Vec::new(rt.alloc());
+    whole.push(Edit::whole(rt.alloc(), &shape)?)?;
+    let Ok(again) = replay(rt.alloc(), &whole) else {
+        panic!(&rt; "no shape of one edit");
+    };
+    assert_eq!(rt; (again.log, again.prev_log, again.next, again.last), (0, 0, 6, 3));
+    let [_, _, two, _, _, _, _] = &again.levels;
+    assert_eq!(rt; four_numbers(two.as_slice()), [5, 0, 0, 0]);
+    let [_, Some(pointer), _, _, _, _, _] = &again.pointers else {
+        panic!(&rt; "no pointer");
+    };
+    assert_eq!(rt;
+        pointer.as_slice(),
+        [0x6b, 1, 1, 0, 0, 0, 0, 0, 0].as_slice()
+    );
+    Ok(())
+}
+
+#[test]
 fn moves_a_file(rt: HostRuntime) -> Result<(), Fail> {
     let mut edits: Vec<Edit> = Vec::new(rt.alloc());
     push_read(rt.alloc(), &mut edits, FIRST_EDIT.as_slice())?;
@@ -128,7 +156,8 @@ fn deletes_before_it_adds(rt: HostRuntime) -> Result<(), Fail> {
     let mut edits: Vec<Edit> = Vec::new(rt.alloc());
     edits.push(numbers(rt.alloc(), Some(0), Some(9), Some(7)))?;
     edits.push(adding(rt.alloc(), 3, 5, 0x61, 1)?)?;
-    // A deletion at another level, of a file that is not there, and of the file that the same edit adds again.
+    // A deletion at another level, of a file that is not there, and of the file that the same edit
+    // adds again.
     push_read(
         rt.alloc(),
         &mut edits,
