@@ -1,8 +1,7 @@
 -- What the bytes of a manifest spell: one list of edits, one edit more, the first of them.
-use Rattle.std.proofs.Common.{◌≡◌, ℕ, zero, suc, ◌+◌, ◌%◌, ◌<◌, List, [], ◌∷◌, ◌++◌, length, take, refl, sym, ap, ◌∙◌, subst, arith}
+use Rattle.std.proofs.Common.{◌≡◌, ℕ, zero, suc, ◌+◌, ◌%◌, ◌<◌, List, [], ◌∷◌, ◌++◌, length, take, refl, ap, subst}
 use Rattle.lsm_manifest.specs.declared.edit.Edit.{Edit}
-use Rattle.lsm_manifest.specs.Log.{IsLog}
-use Rattle.lsm_manifest.specs.LogWriting.{record_text, Written, SpellsPrefix}
+use Rattle.lsm_manifest.specs.LogWriting.{record_text, Written}
 use Rattle.lsm_manifest.specs.Edit.{IsEdit}
 use Rattle.lsm_manifest.specs.Manifest.{AreEdits, IsManifest, SpellsFirst}
 use Rattle.lsm_manifest.proofs.RecordLaws.{one_log}

@@ -1,11 +1,9 @@
 -- Edits come to one shape at most, and no two files that stand have one number.
-use Rattle.std.proofs.Common.{◌≡◌, ℕ, ◌+◌, ◌<◌, ◌≤◌, ◌⊎◌, ◌↔◌, List, [], ◌∷◌, ◌++◌, length, get_or, Option, Some, None, Result, Ok, Err, refl, sym, ap, ◌∙◌, subst, append_assoc, append-nil, arith, inl, inr}
+use Rattle.std.proofs.Common.{◌≡◌, ℕ, ◌≤◌, ◌⊎◌, List, [], ◌∷◌, ◌++◌, Option, Some, None, Result, Ok, Err, refl, sym, ap, ◌∙◌, subst, append_assoc, append-nil, arith, inl, inr}
 use Rattle.std.specs.Prelude.{IfOk, IfErr}
 use Rattle.std.specs.List.{AllByRecursion}
 use Rattle.std.specs.List.Sorted.{IsStrictlySortedBy}
-use Rattle.std.specs.Option.{option_or, unwrap_or}
 use Rattle.std.specs.Ordering.{ordering_reverse}
-use Rattle.std.specs.declared.cmp.Ordering.{Ordering}
 use Rattle.std.specs.declared.cmp.Ordering.TheVariants.{Less, Equal, Greater}
 use Rattle.std.proofs.lemmas.Cmp.{tied_itself}
 use Rattle.std.proofs.lemmas.List.{ext_get_or}
@@ -20,7 +18,7 @@ use Rattle.lsm_manifest.specs.declared.replay_fault.ReplayFault.{ReplayFault}
 use Rattle.lsm_manifest.specs.declared.replay_fault.ReplayFault.TheVariants.{OutOfMemory, NoNextFile, NoLogNumber, NoLastSequence, OtherComparator, DoubleFile}
 use Rattle.lsm_manifest.specs.FileOrder.{file_cmp}
 use Rattle.lsm_manifest.specs.HeldLevel.{HoldsLevel}
-use Rattle.lsm_manifest.specs.Replay.{deletion_of, Stands, StandsIn, IsTaken, AreNew, AddsTaken, IsInnocent, AreInnocent, IsFirstFault}
+use Rattle.lsm_manifest.specs.Replay.{Stands, StandsIn, IsTaken, AreNew, AddsTaken, IsInnocent, AreInnocent}
 use Rattle.lsm_manifest.specs.Shape.{IsReplayed, IsRefused}
 use Rattle.lsm_manifest.proofs.LevelLaws.{file_total}
 use Rattle.lsm_manifest.proofs.StandingLaws.{stands_snoc}

@@ -1,7 +1,7 @@
 -- A record cut before its end, whole records and nothing more, and going on after them.
-use Rattle.std.proofs.Common.{◌≡◌, ℕ, ◌+◌, ◌%◌, ◌<◌, false, List, [], ◌∷◌, ◌++◌, length, take, refl, sym, ap, ◌∙◌, subst, append-nil, arith, inl}
-use Rattle.std.proofs.lemmas.List.{length-append, length-take-le}
-use Rattle.lsm_manifest.specs.Log.{Row, IsLast, IsRecord, IsEnd, HoldsNone, AreRecords, IsLog, LogFrom}
+use Rattle.std.proofs.Common.{◌≡◌, ℕ, ◌+◌, ◌%◌, ◌<◌, false, List, [], ◌∷◌, ◌++◌, length, take, refl, sym, ◌∙◌, subst, append-nil, arith, inl}
+use Rattle.std.proofs.lemmas.List.{length-take-le}
+use Rattle.lsm_manifest.specs.Log.{AreRecords, IsLog}
 use Rattle.lsm_manifest.specs.LogWriting.{record_text, Written}
 use Rattle.lsm_manifest.proofs.WriterLaws.{record_is}
 use Rattle.lsm_manifest.proofs.PrefixLaws.{cut_row}

@@ -1,13 +1,12 @@
 -- The one edit that spells a shape, and what fits of a shape that edits come to.
-use Rattle.std.proofs.Common.{◌≡◌, ℕ, zero, suc, ◌+◌, ◌-◌, ◌<◌, ◌≤◌, ◌^◌, ◌⊎◌, ◌↔◌, Bool, true, false, cond, eqb, List, [], ◌∷◌, ◌++◌, length, get_or, map, Option, Some, None, refl, sym, ap, ◌∙◌, subst, arith, inl, inr}
+use Rattle.std.proofs.Common.{◌≡◌, ℕ, zero, suc, ◌+◌, ◌<◌, ◌≤◌, ◌^◌, Bool, true, false, cond, eqb, List, [], ◌∷◌, ◌++◌, length, get_or, map, Option, Some, None, refl, sym, ap, ◌∙◌, subst, arith, inl, inr}
 use Rattle.std.specs.Prelude.{IfSome, codes}
-use Rattle.std.specs.List.{All, AllByRecursion}
+use Rattle.std.specs.List.{All}
 use Rattle.std.specs.List.Sorted.{IsStrictlySortedBy}
 use Rattle.std.specs.Option.{option_or, unwrap_or}
-use Rattle.std.specs.declared.cmp.Ordering.TheVariants.{Less, Equal, Greater}
-use Rattle.std.proofs.lemmas.Bool.{eqb-true, eq-eqb, ne_eqb}
+use Rattle.std.proofs.lemmas.Bool.{eq-eqb, ne_eqb}
 use Rattle.std.proofs.lemmas.List.{get_or_past}
-use Rattle.std.proofs.lemmas.List.Elements.{All-nil, All-cons, All-append, All-map}
+use Rattle.std.proofs.lemmas.List.Elements.{All-nil, All-cons}
 use Rattle.std.proofs.lemmas.Map.Keys.{sorted_head, sorted_tail}
 use Rattle.lsm_codec.specs.Lists.{Has}
 use Rattle.lsm_codec.proofs.CallerLemmas.{all_at, has_left, has_right, has_cases}
@@ -18,15 +17,14 @@ use Rattle.lsm_manifest.specs.declared.parts.AddedFile.{AddedFile}
 use Rattle.lsm_manifest.specs.declared.edit.Edit.{Edit}
 use Rattle.lsm_manifest.specs.declared.shape.Shape.{Shape}
 use Rattle.lsm_manifest.specs.FileOrder.{file_cmp}
-use Rattle.lsm_manifest.specs.HeldLevel.{HoldsLevel}
 use Rattle.lsm_manifest.specs.Last.{last_by}
 use Rattle.lsm_manifest.specs.EditFit.{FitsKey, FitsPointer, FitsAdded, IsFit}
 use Rattle.lsm_manifest.specs.Manifest.{AreEdits, IsManifest}
-use Rattle.lsm_manifest.specs.Replay.{Stands, StandsIn, IsTaken, AreNew, AreApart, AreFresh, AreInnocent, IsInnocent, pointer_in, last_pointer}
+use Rattle.lsm_manifest.specs.Replay.{Stands, AreNew, AreApart, AreFresh, AreInnocent, pointer_in}
 use Rattle.lsm_manifest.specs.Shape.{IsShape, IsReplayed}
 use Rattle.lsm_manifest.specs.WholeEdit.{pointers_from, placed_at, files_from, whole_edit, FitsShape}
 use Rattle.lsm_manifest.proofs.EditFits.{edit_fits}
-use Rattle.lsm_manifest.proofs.LastLaws.{last_by-push, pointer_in-none}
+use Rattle.lsm_manifest.proofs.LastLaws.{pointer_in-none}
 use Rattle.lsm_manifest.proofs.ReplayLaws.{innocent_none, innocent_push}
 use Rattle.lsm_manifest.proofs.ShapeLaws.{rises_to, never_itself, one_file_a_number}
 
@@ -78,11 +76,12 @@ apart_append (x ∷ xs) ys p q never =
 
 apart_level : (level : ℕ) (files : List FileMeta) → IsStrictlySortedBy file_cmp files → ((f g : FileMeta) → Has files f → Has files g → f.number ≡ g.number → f ≡ g) → AreApart (map (placed_at level) files)
 apart_level level [] up one = tt
-apart_level level (f ∷ fs) up one =
-    (λ b h same.
+apart_level level (f ∷ fs) up one = (
+  λ b h same.
       let r = map_has level fs b h in
       never_itself f b.file (one f b.file (inl refl) (inr r.1) same) (rises_to f fs (sorted_head file_cmp f fs up) b.file r.1),
-      apart_level level fs (sorted_tail file_cmp f fs up) (λ x y h k. one x y (inr h) (inr k)))
+  apart_level level fs (sorted_tail file_cmp f fs up) (λ x y h k. one x y (inr h) (inr k)),
+)
 
 -- no number twice among the levels, counted from the first of them
 record OwnNumbers (levels : List (List FileMeta)) : Type 0 where
@@ -95,10 +94,10 @@ apart_files level (fs ∷ later) own =
     let here = apart_level level fs (own.ordered 0 (omega arith)) (λ f g h k same. (own.numbers 0 0 f g (omega arith) (omega arith) h k same).1) in
     let after = apart_files (suc level) later record { ordered = λ i lt. own.ordered (suc i) (omega (arith, lt)); numbers = λ i j f g a b h k same. let r = own.numbers (suc i) (suc j) f g (omega (arith, a)) (omega (arith, b)) h k same in (omega (arith, r.0), r.1) } in
     apart_append (map (placed_at level) fs) (files_from (suc level) later) here after (λ a b h k same.
-      let x = map_has level fs a h in
-      let y = files_at (suc level) later b k in
-      let r = own.numbers 0 (suc y.0) a.file b.file (omega arith) (omega (arith, y.1)) x.1 y.3 same in
-      absurd (omega (arith, r.0)))
+    let x = map_has level fs a h in
+    let y = files_at (suc level) later b k in
+    let r = own.numbers 0 (suc y.0) a.file b.file (omega arith) (omega (arith, y.1)) x.1 y.3 same in
+    absurd (omega (arith, r.0)))
 
 own_numbers : (s : Shape) → IsShape s → OwnNumbers s.levels
 own_numbers s is = record {
@@ -182,9 +181,9 @@ whole_replays s is =
         ordered = is.ordered level le;
       };
       pointers = λ level le.
-        let e : 0 + level ≡ level = omega arith in
-        let own : pointer_in level (pointers_from 0 s.pointers) ≡ get_or s.pointers level None = subst (λ (n : ℕ). pointer_in n (pointers_from 0 s.pointers) ≡ get_or s.pointers level None) e (pointers_at level 0 s.pointers) in
-        sym (last_alone (λ (x : Edit). pointer_in level x.pointers) (whole_edit s) ∙ own);
+          let e : 0 + level ≡ level = omega arith in
+          let own : pointer_in level (pointers_from 0 s.pointers) ≡ get_or s.pointers level None = subst (λ (n : ℕ). pointer_in n (pointers_from 0 s.pointers) ≡ get_or s.pointers level None) e (pointers_at level 0 s.pointers) in
+          sym (last_alone (λ (x : Edit). pointer_in level x.pointers) (whole_edit s) ∙ own);
       log = last_alone (λ (x : Edit). x.log) (whole_edit s);
       prev_log = ap (λ (o : Option ℕ). unwrap_or o 0) (last_alone (λ (x : Edit). x.prev_log) (whole_edit s));
       next = last_alone (λ (x : Edit). x.next) (whole_edit s);
@@ -212,10 +211,10 @@ whole_fits s is fit = record {
   pointers = pointers_fit 0 s.pointers (omega (arith, is.seven_pointers)) (λ i lt. fit.pointers i (omega (arith, lt, is.seven_pointers)));
   deleted = All-nil _;
   added = has_all FitsAdded (files_from 0 s.levels) (λ a h.
-    let r = files_at 0 s.levels a h in
-    let low : r.0 ≤ 6 = omega (arith, r.1, is.seven) in
-    let keys = fit.files r.0 a.file low r.3 in
-    (omega (arith, r.2, low), keys.0, keys.1));
+      let r = files_at 0 s.levels a h in
+      let low : r.0 ≤ 6 = omega (arith, r.1, is.seven) in
+      let keys = fit.files r.0 a.file low r.3 in
+      (omega (arith, r.2, low), keys.0, keys.1));
 }
 
 -- ---- the shape that edits come to
@@ -226,8 +225,8 @@ replayed_shape es s r = record {
   seven_pointers = r.seven_pointers;
   ordered = λ level le. (r.levels level le).ordered;
   numbers = λ level other f g le lo h k same.
-    let e : placed_at level f ≡ placed_at other g = r.numbers (placed_at level f) (placed_at other g) (((r.levels level le).files f).0 h) (((r.levels other lo).files g).0 k) same in
-    (ap (λ (x : AddedFile). x.level) e, ap (λ (x : AddedFile). x.file) e);
+      let e : placed_at level f ≡ placed_at other g = r.numbers (placed_at level f) (placed_at other g) (((r.levels level le).files f).0 h) (((r.levels other lo).files g).0 k) same in
+      (ap (λ (x : AddedFile). x.level) e, ap (λ (x : AddedFile). x.file) e);
 }
 
 stands_added : (es : List Edit) (a : AddedFile) → Stands es a → (e : Edit) × Has es e × Has e.added a
@@ -255,11 +254,11 @@ pointer_fits level ps all = last_by_fits (own_key level) FitsKey ps (λ p h. by 
 pub replayed_fits : (es : List Edit) (s : Shape) → All IsFit es → IsReplayed es s → FitsShape s
 replayed_fits es s all r = record {
   files = λ level file le h.
-    let st = stands_added es (placed_at level file) (((r.levels level le).files file).0 h) in
-    let fits = all_at FitsAdded st.0.added (placed_at level file) (all_at IsFit es st.0 all st.1).added st.2 in
-    (fits.1, fits.2);
+      let st = stands_added es (placed_at level file) (((r.levels level le).files file).0 h) in
+      let fits = all_at FitsAdded st.0.added (placed_at level file) (all_at IsFit es st.0 all st.1).added st.2 in
+      (fits.1, fits.2);
   pointers = λ level le.
-    subst (λ (o : Option (List ℕ)). IfSome o FitsKey) (sym (r.pointers level le)) (last_by_fits (λ (e : Edit). pointer_in level e.pointers) FitsKey es (λ e h. pointer_fits level e.pointers (all_at IsFit es e all h).pointers));
+      subst (λ (o : Option (List ℕ)). IfSome o FitsKey) (sym (r.pointers level le)) (last_by_fits (λ (e : Edit). pointer_in level e.pointers) FitsKey es (λ e h. pointer_fits level e.pointers (all_at IsFit es e all h).pointers));
 }
 
 edits_fit : (rs : List (List ℕ)) (es : List Edit) → AreEdits rs es → All IsFit es

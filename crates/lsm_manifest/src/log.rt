@@ -5,8 +5,8 @@ ghost use Rattle.std.specs.Option.{option_map};
 ghost use Rattle.lsm_manifest.specs.Log.{IsLog};
 ghost use Rattle.lsm_manifest.specs.LogReading.{record_at, log_at};
 
-use crate::log_part::LogPart;
 use crate::log_fault::LogFault;
+use crate::log_part::LogPart;
 use lsm_codec::{Bytes, List};
 use std::alloc::Global;
 

@@ -10,8 +10,8 @@ pub returns-clause-ordered : goal.returns-clause-ordered
 returns-clause-ordered c k d low lt =
     let ds = c.sort_unstable_by.new.self in
     let sorted = c.sort_unstable_by.ensures.sorted deleted_lt deleted_ranks (answers_always _ _ _ (λ f a r g h.
-      let answered : is_lt r ≡ is_lt (deleted_cmp a.0.now a.1.0.now) = search rules in
-      answered ∙ same_lt a.0.now a.1.0.now)) in
+    let answered : is_lt r ≡ is_lt (deleted_cmp a.0.now a.1.0.now) = search rules in
+    answered ∙ same_lt a.0.now a.1.0.now)) in
     same_lt (get_or ds (k + 1) d) (get_or ds k d) ∙ sorted k d low lt
 
 pub returns-clause-elements : goal.returns-clause-elements

@@ -20,4 +20,3 @@ returns-clause-found c =
       next = sym numbers.next ∙ c.in-Some.is;
       last = sym numbers.last ∙ c.in-Some-last.is;
     }
-
