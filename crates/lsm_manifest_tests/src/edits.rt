@@ -99,8 +99,10 @@ fn names_the_first_fault(rt: HostRuntime) {
 
 #[test]
 fn sorts_deletions_by_level_then_number(rt: HostRuntime) {
-    let mut deleted = [(2, 7), (1, 9), (2, 5), (0, 300), (1, 9)]
-        .map(|(level, number)| DeletedFile { level, number });
+    let mut deleted = [(2, 7), (1, 9), (2, 5), (0, 300), (1, 9)].map(|(level, number)| DeletedFile {
+        level,
+        number,
+    });
     sort_deleted(deleted.as_mut_slice());
     let want = [(0, 300), (1, 9), (1, 9), (2, 5), (2, 7)];
     for (file, (level, number)) in deleted.iter().zip(&want) {

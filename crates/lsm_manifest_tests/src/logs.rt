@@ -126,7 +126,10 @@ fn tells_every_flipped_bit(rt: HostRuntime) -> Result<(), Fail> {
                 panic!(&rt; "no byte {place}");
             };
             *byte ^= bit;
-            assert!(rt; is_told_or_front(rt.alloc(), &bytes), "bit {bit} of byte {place}");
+            assert!(rt;
+                is_told_or_front(rt.alloc(), &bytes),
+                "bit {bit} of byte {place}"
+            );
             let Some(byte) = bytes.get_mut(place) else {
                 panic!(&rt; "no byte {place}");
             };
@@ -141,10 +144,16 @@ fn tells_every_flipped_bit(rt: HostRuntime) -> Result<(), Fail> {
 fn names_a_flipped_bit(rt: HostRuntime) {
     let mut bytes = MANIFEST;
     bytes[10] ^= 1;
-    assert_eq!(rt; fault(rt.alloc(), bytes.as_slice()), Some(LogFault::LogChecksum(0)));
+    assert_eq!(rt;
+        fault(rt.alloc(), bytes.as_slice()),
+        Some(LogFault::LogChecksum(0))
+    );
     bytes[10] ^= 1;
     bytes[79] ^= 1;
-    assert_eq!(rt; fault(rt.alloc(), bytes.as_slice()), Some(LogFault::LogChecksum(41)));
+    assert_eq!(rt;
+        fault(rt.alloc(), bytes.as_slice()),
+        Some(LogFault::LogChecksum(41))
+    );
 }
 
 #[test]

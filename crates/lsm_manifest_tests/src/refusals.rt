@@ -7,7 +7,12 @@ use std::test::Fail;
 fn names_refusals_of_a_log(rt: HostRuntime) -> Result<(), Fail> {
     for (fault, number, name, text) in [
         (LogFault::OutOfMemory, 1, "OutOfMemory", "OutOfMemory"),
-        (LogFault::LogChecksum(41), 19, "LogChecksum", "LogChecksum 41"),
+        (
+            LogFault::LogChecksum(41),
+            19,
+            "LogChecksum",
+            "LogChecksum 41",
+        ),
         (LogFault::LogOrder(8), 20, "LogOrder", "LogOrder 8"),
         (LogFault::LogType(0), 21, "LogType", "LogType 0"),
     ] {
@@ -42,8 +47,18 @@ fn names_refusals_of_a_replay(rt: HostRuntime) -> Result<(), Fail> {
         (ReplayFault::OutOfMemory, 1, "OutOfMemory", "OutOfMemory"),
         (ReplayFault::NoNextFile, 26, "NoNextFile", "NoNextFile"),
         (ReplayFault::NoLogNumber, 27, "NoLogNumber", "NoLogNumber"),
-        (ReplayFault::NoLastSequence, 28, "NoLastSequence", "NoLastSequence"),
-        (ReplayFault::OtherComparator, 29, "OtherComparator", "OtherComparator"),
+        (
+            ReplayFault::NoLastSequence,
+            28,
+            "NoLastSequence",
+            "NoLastSequence",
+        ),
+        (
+            ReplayFault::OtherComparator,
+            29,
+            "OtherComparator",
+            "OtherComparator",
+        ),
         (ReplayFault::DoubleFile(5), 30, "DoubleFile", "DoubleFile 5"),
     ] {
         assert_eq!(rt; fault.number(), number, "{name}");

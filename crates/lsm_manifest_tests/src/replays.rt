@@ -97,7 +97,10 @@ fn spells_a_shape_by_one_edit(rt: HostRuntime) -> Result<(), Fail> {
     let Ok(again) = replay(rt.alloc(), &whole) else {
         panic!(&rt; "no shape of one edit");
     };
-    assert_eq!(rt; (again.log, again.prev_log, again.next, again.last), (0, 0, 6, 3));
+    assert_eq!(rt;
+        (again.log, again.prev_log, again.next, again.last),
+        (0, 0, 6, 3)
+    );
     let [_, _, two, _, _, _, _] = &again.levels;
     assert_eq!(rt; four_numbers(two.as_slice()), [5, 0, 0, 0]);
     let [_, Some(pointer), _, _, _, _, _] = &again.pointers else {
