@@ -1,4 +1,5 @@
--- The bytes that are written for an edit: its fields in the order in which LevelDB's `db/version_edit.cc` writes them.
+-- The bytes that are written for an edit: its fields in the order in which LevelDB's
+-- `db/version_edit.cc` writes them.
 use Rattle.std.specs.Prelude.{◌≡◌, ℕ, ◌^◌, ◌<◌, ◌≤◌, List, [], ◌∷◌, ◌++◌, length, map, Option, Some, None}
 use Rattle.std.specs.Ordering.{nat_cmp}
 use Rattle.std.specs.declared.cmp.Ordering.{Ordering}

@@ -1,6 +1,6 @@
--- What a record log is (LevelDB's `doc/log_format.md`): blocks of 32,768 bytes, fragments that lie within a block, records of
--- fragments, and a rest that holds no whole record. That zeros in a header's place are skipped outside a record is this
--- project's rule.
+-- What a record log is (LevelDB's `doc/log_format.md`): blocks of 32,768 bytes, fragments that lie
+-- within a block, records of fragments, and a rest that holds no whole record. That zeros in a
+-- header's place are skipped outside a record is this project's rule.
 use Rattle.std.specs.Prelude.{◌≡◌, ℕ, zero, suc, ◌+◌, ◌-◌, ◌%◌, ◌<◌, ◌≤◌, ◌⊎◌, Bool, true, false, ◌&&◌, ◌||◌, ◌==◌, List, [], ◌∷◌, ◌++◌, length, get_or}
 use Rattle.std.specs.Int.{w16, w32, to_le_bytes, from_le_bytes}
 use Rattle.lsm_codec.specs.Crc.{crc_of}
@@ -25,8 +25,8 @@ size_of text = from_le_bytes w16 (get_or text 4 0 ∷ get_or text 5 0 ∷ [])
 abbrev pub kind_of : List ℕ → ℕ
 kind_of text = get_or text 6 0
 
--- Kinds: 1 a whole record, 2 its first part, 3 one in the middle, 4 its last. A record may begin where none is begun,
--- or where the begun one has no data yet; it goes on only where one is begun.
+-- Kinds: 1 a whole record, 2 its first part, 3 one in the middle, 4 its last. A record may begin
+-- where none is begun, or where the begun one has no data yet; it goes on only where one is begun.
 unfoldable pub may_follow : Bool → List ℕ → ℕ → Bool
 may_follow begun before kind = ((kind == 1 || kind == 2) && length before == 0) || ((kind == 3 || kind == 4) && begun)
 
@@ -39,7 +39,8 @@ pub record IsPiece (offset : ℕ) (begun : Bool) (before : List ℕ) (kind : ℕ
   pub fits : 7 + length body ≤ left offset
   pub follows : may_follow begun before kind ≡ true
 
--- Zeros where a fragment's kind and length would stand, outside a record: the rest of the block is skipped.
+-- Zeros where a fragment's kind and length would stand, outside a record: the rest of the block is
+-- skipped.
 pub record IsFiller (begun : Bool) (own : List ℕ) : Type 0 where
   pub outside : begun ≡ false
   pub long : 7 ≤ length own
@@ -94,7 +95,8 @@ abbrev pub AreRecords : ℕ → List ℕ → List (List ℕ) → Type 0
 AreRecords offset text [] = text ≡ []
 AreRecords offset text (r ∷ rs) = (own later : List ℕ) × (text ≡ own ++ later) × IsRecord offset own r × AreRecords (offset + length own) later rs
 
--- The file ends here: fewer bytes than a header has, or in this block and within a fragment or skipped zeros.
+-- The file ends here: fewer bytes than a header has, or in this block and within a fragment or
+-- skipped zeros.
 abbrev pub IsEnd : ℕ → Bool → List ℕ → List ℕ → Type 0
 IsEnd offset begun before text = (length text < 7) ⊎ ((length text ≤ left offset) × ((length text < 7 + size_of text) ⊎ IsFiller begun text))
 

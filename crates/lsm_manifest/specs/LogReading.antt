@@ -1,11 +1,13 @@
--- Reading a log from left to right, with the first fault and its offset (this project's rule; LevelDB's reader drops what is at fault).
+-- Reading a log from left to right, with the first fault and its offset (this project's rule;
+-- LevelDB's reader drops what is at fault).
 use Rattle.std.specs.Prelude.{ℕ, zero, suc, ◌+◌, ◌-◌, ◌&&◌, ◌||◌, Bool, true, false, nat_lt, nat_le, ◌==◌, if◌then◌else◌, List, [], ◌∷◌, ◌++◌, length, take, drop, Option, Some, None, Result, Ok, Err}
 use Rattle.std.specs.Str.{bytes_eq}
 use Rattle.lsm_manifest.specs.declared.log_fault.LogFault.{LogFault}
 use Rattle.lsm_manifest.specs.declared.log_fault.LogFault.TheVariants.{LogChecksum, LogOrder, LogType}
 use Rattle.lsm_manifest.specs.Log.{left, sum_bytes, size_of, kind_of, may_follow, ends}
 
--- What stands at a place: nothing whole (None), or kind, data and what follows. Kind 0 is a part that is skipped.
+-- What stands at a place: nothing whole (None), or kind, data and what follows. Kind 0 is a part
+-- that is skipped.
 abbrev pub Found : Type 0
 Found = Option (ℕ × List ℕ × List ℕ)
 

@@ -1,5 +1,5 @@
--- What a row of edits comes to (LevelDB's `doc/impl.md`, `db/version_set.cc`): the files that some edit adds and no later edit
--- deletes, with the last value of each number field and pointer.
+-- What a row of edits comes to (LevelDB's `doc/impl.md`, `db/version_set.cc`): the files that some
+-- edit adds and no later edit deletes, with the last value of each number field and pointer.
 use Rattle.std.specs.Prelude.{◌≡◌, ℕ, ◌⊎◌, List, [], ◌∷◌, ◌++◌, Option, Some, None, IsSomeAnd, codes, ◌==◌, if◌then◌else◌}
 use Rattle.lsm_codec.specs.Lists.{Has}
 use Rattle.lsm_manifest.specs.Last.{last_by}
@@ -13,6 +13,10 @@ use Rattle.lsm_manifest.specs.declared.replay_fault.ReplayFault.TheVariants.{Out
 -- a deletion, under a name that no type of src/ has
 abbrev pub Deletion : Type 0
 Deletion = DeletedFile
+
+-- a file at a level, under a name that no type of src/ has
+abbrev pub Placed : Type 0
+Placed = AddedFile
 
 -- what deletes a file
 abbrev pub deletion_of : AddedFile → DeletedFile
@@ -30,7 +34,8 @@ Stands (e ∷ es) a = (Has e.added a × Spare es a) ⊎ Stands es a
 
 -- ---- edits at fault
 
--- Within one edit deletions come before additions: what stands after the edits, these deletions and these additions.
+-- Within one edit deletions come before additions: what stands after the edits, these deletions and
+-- these additions.
 abbrev pub StandsIn : List Edit → List DeletedFile → List AddedFile → AddedFile → Type 0
 StandsIn es ds xs a = (Stands es a × (Has ds (deletion_of a) → ⊥)) ⊎ Has xs a
 
@@ -41,6 +46,15 @@ IsTaken es ds xs number = (b : AddedFile) × (b.file.number ≡ number) × Stand
 -- Each addition has a number that is not taken when it comes.
 abbrev pub AreNew : List Edit → List DeletedFile → List AddedFile → Type 0
 AreNew es ds xs = (front : List AddedFile) (one : AddedFile) (back : List AddedFile) → xs ≡ front ++ one ∷ back → IsTaken es ds front one.file.number → ⊥
+
+-- Each of these files has a number that no later one has.
+abbrev pub AreApart : List AddedFile → Type 0
+AreApart [] = Unit {0}
+AreApart (a ∷ later) = ((b : AddedFile) → Has later b → a.file.number ≡ b.file.number → ⊥) × AreApart later
+
+-- No file that stands after the edits and these deletions has the number of one of these files.
+abbrev pub AreFresh : List Edit → List DeletedFile → List AddedFile → Type 0
+AreFresh es ds xs = (a b : AddedFile) → Stands es a → (Has ds (deletion_of a) → ⊥) → Has xs b → a.file.number ≡ b.file.number → ⊥
 
 -- The first addition whose number is taken when it comes has this number.
 pub record AddsTaken (es : List Edit) (ds : List DeletedFile) (xs : List AddedFile) (number : ℕ) : Type 0 where

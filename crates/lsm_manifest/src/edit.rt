@@ -5,12 +5,13 @@ ghost use Rattle.std.specs.Prelude.{◌≡◌, ◌++◌, ℕ, List, IfOk, Ok, On
 use crate::draft::Draft;
 use crate::edit_fault::EditFault;
 use crate::edit_writer::push_edit;
-use crate::field::Field;
+use crate::field_reader::Field;
 use crate::parts::{AddedFile, CompactPointer, DeletedFile};
 use lsm_codec::{Bytes, List};
 use std::alloc::{AllocError, Global};
 
-/// A change of the levels, as one record of the manifest spells it. A field that the edit lacks is `None`, or an empty list.
+/// A change of the levels, as one record of the manifest spells it. A field that the edit lacks is
+/// `None`, or an empty list.
 #[derive(Debug, Drop)]
 pub struct Edit {
     /// The name of the comparator of user keys.
@@ -35,8 +36,9 @@ ghost use Rattle.lsm_manifest.specs.EditFit.{Change, IsFit};
 ghost use Rattle.lsm_manifest.specs.EditWriting.{AreInOrder, edit_text};
 
 impl Edit {
-    /// Reads an edit: its fields in any order; of several values of one number field or of the comparator the last. The first
-    /// fault from the front is named: `UnknownTag`, `BadLevel`, `EditCut` or `BadEditKey`.
+    /// Reads an edit: its fields in any order; of several values of one number field or of the
+    /// comparator the last. The first fault from the front is named: `UnknownTag`, `BadLevel`,
+    /// `EditCut` or `BadEditKey`.
     pub fn decode(alloc: Global, bytes: &[u8]) -> Result<Edit, EditFault>
         // What is read is spelled so.
         ensures found { IfOk result (λ edit. IsEdit bytes.now edit) }
@@ -53,8 +55,9 @@ impl Edit {
         read(alloc, bytes)
     }
 
-    /// Appends the bytes of the edit: comparator, log number, previous log number, next file number, last sequence, pointers,
-    /// deletions, additions. A caller has the deletions by level, then number, as LevelDB writes them.
+    /// Appends the bytes of the edit: comparator, log number, previous log number, next file
+    /// number, last sequence, pointers, deletions, additions. A caller has the deletions by level,
+    /// then number, as LevelDB writes them.
     #[tactic(auto, unfolding(crate::specs::EditWriting::edit_text), using(crate::proofs::EditWriterLaws::edit_written))]
     pub fn encode(&self, out: &mut Vec<u8>) -> Result<(), AllocError>
         requires fit { IsFit self.now }
@@ -98,6 +101,3 @@ fn read(alloc: Global, text: &[u8]) -> Result<Edit, EditFault>
 pub fn one_edit()
     ensures { (bytes : List ℕ) (e f : Change) → IsEdit bytes e → IsEdit bytes f → e ≡ f }
 {}
-
-#[cfg(test)]
-mod tests;

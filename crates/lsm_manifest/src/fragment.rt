@@ -6,7 +6,8 @@ ghost use Rattle.lsm_manifest.specs.Log.{left, sum_bytes, may_follow, ends};
 
 use lsm_codec::{crc_extend, crc32c, mask};
 
-/// The type of a fragment (LevelDB's `doc/log_format.md`): a whole record, or its first, a middle or its last part.
+/// The type of a fragment (LevelDB's `doc/log_format.md`): a whole record, or its first, a middle
+/// or its last part.
 #[derive(Clone, Copy, Debug, PartialEq, Eq)]
 pub(crate) enum FragmentType {
     Full,
@@ -42,7 +43,8 @@ impl FragmentType {
         }
     }
 
-    /// Whether a fragment of this type may stand where a record is begun, or not, and has this data so far.
+    /// Whether a fragment of this type may stand where a record is begun, or not, and has this data
+    /// so far.
     #[tactic(auto, unfolding(crate::specs::Log::may_follow))]
     pub(crate) fn may_follow(self, begun: bool, before: &[u8]) -> bool
         ensures { result ≡ may_follow begun before.now (type_byte self) }

@@ -5,8 +5,8 @@ ghost use Rattle.std.specs.Option.{option_map};
 ghost use Rattle.lsm_manifest.specs.Log.{IsLog};
 ghost use Rattle.lsm_manifest.specs.LogReading.{record_at, log_at};
 
-use crate::found::Found;
 use crate::log_fault::LogFault;
+use crate::log_part::LogPart;
 use lsm_codec::{Bytes, List};
 use std::alloc::Global;
 
@@ -34,13 +34,13 @@ fn next_record<'a>(
     let mut rest = text;
     for _ in 0..text.len() {
         let offset = (total - rest.len()) as u64;
-        let (kind, body, after) = match Found::at(offset, begun, rest)? {
-            Found::End => return Ok(None),
-            Found::Skipped(after) => {
+        let (kind, body, after) = match LogPart::at(offset, begun, rest)? {
+            LogPart::End => return Ok(None),
+            LogPart::Skipped(after) => {
                 rest = after;
                 continue;
             }
-            Found::Fragment(kind, body, after) => (kind, body, after),
+            LogPart::Fragment(kind, body, after) => (kind, body, after),
         };
         if !kind.may_follow(begun, &whole) {
             return Err(LogFault::LogOrder(offset));
@@ -76,8 +76,9 @@ fn read(alloc: Global, bytes: &[u8]) -> Result<Log, LogFault>
     })
 }
 
-/// The records of a log, and how many bytes at its end hold no whole record: a torn record and zeros to the end are dropped
-/// without a fault. `LogChecksum`, `LogOrder` and `LogType` name the offset of the first fragment at fault, in bytes.
+/// The records of a log, and how many bytes at its end hold no whole record: a torn record and
+/// zeros to the end are dropped without a fault. `LogChecksum`, `LogOrder` and `LogType` name the
+/// offset of the first fragment at fault, in bytes.
 pub fn read_log(alloc: Global, bytes: &[u8]) -> Result<Log, LogFault>
     // What is read is the log's.
     ensures found { IfOk result (λ log. IsLog bytes.now log.records log.rest) }

@@ -7,7 +7,8 @@ ghost use Rattle.lsm_manifest.specs.declared.log_fault.LogFault.TheVariants.{Out
 use std::alloc::{AllocError, AllocFailed};
 use thiserror::Error;
 
-/// Why a log could not be read. A fault names the offset of its fragment, in bytes from the start of the log.
+/// Why a log could not be read. A fault names the offset of its fragment, in bytes from the start
+/// of the log.
 #[derive(Clone, Copy, Debug, Drop, Error, PartialEq, Eq)]
 pub enum LogFault {
     /// A growth was refused.

@@ -1,20 +1,22 @@
 //! What a row of edits comes to.
 
-ghost use Rattle.std.specs.Prelude.{◌≡◌, ◌≤◌, ℕ, List, [], None, get_or, IfOk, IfErr};
+ghost use Rattle.std.specs.Prelude.{◌≡◌, ◌≤◌, ◌↔◌, ◌++◌, ◌∷◌, ℕ, List, [], None, get_or, IfOk, IfErr};
+ghost use Rattle.std.specs.Option.{option_or};
 ghost use Rattle.lsm_manifest.specs.EditFit.{Change};
-ghost use Rattle.lsm_manifest.specs.Replay.{Stands, AreInnocent, IsFault, last_pointer};
+ghost use Rattle.lsm_manifest.specs.Replay.{Deletion, Placed, AreNew, AreApart, AreFresh, Stands, StandsIn, IsInnocent, AreInnocent, IsFault, last_log, last_prev_log, last_next, last_sequence, last_pointer, pointer_in};
 ghost use Rattle.lsm_manifest.specs.Standing.{file_at, Tracks};
 
 use crate::edit::Edit;
 use crate::file_meta::FileMeta;
-use crate::numbers::{Numbers, last_key};
+use crate::last_values::{LastValues, last_key};
 use crate::replay_fault::ReplayFault;
 use crate::standing::Standing;
 use lsm_codec::{Bytes, List};
 use std::alloc::{AllocError, Global};
 
-/// The files of the seven levels, each level by smallest internal key, then number; the compaction pointers of the levels, each
-/// an internal key; the numbers of the write-ahead log and of the one before it, the next file number, and the last sequence.
+/// The files of the seven levels, each level by smallest internal key, then number; the compaction
+/// pointers of the levels, each an internal key; the numbers of the write-ahead log and of the one
+/// before it, the next file number, and the last sequence.
 #[derive(Debug, Drop)]
 pub struct Shape {
     pub levels: [List<FileMeta>; 7],
@@ -26,20 +28,31 @@ pub struct Shape {
 }
 
 ghost use Rattle.lsm_manifest.specs.HeldLevel.{HoldsLevel};
-ghost use Rattle.lsm_manifest.specs.Shape.{IsReplayed, IsRefused};
+ghost use Rattle.lsm_manifest.specs.Shape.{Form, IsReplayed, IsRefused};
 
-/// The files that some edit adds and no later edit deletes, of levels 0 to 6, with the last value of each number field and
-/// pointer; the previous log number is 0 where no edit has it. `OtherComparator` and `DoubleFile` are those of the first edit
-/// that has one of them (the comparator is judged first); then come `NoNextFile`, `NoLogNumber` and `NoLastSequence`.
+/// The files that some edit adds and no later edit deletes, of levels 0 to 6, with the last value
+/// of each number field and pointer; the previous log number is 0 where no edit has it.
+/// `OtherComparator` and `DoubleFile` are those of the first edit that has one of them (the
+/// comparator is judged first); then come `NoNextFile`, `NoLogNumber` and `NoLastSequence`.
 pub fn replay(alloc: Global, edits: &[Edit]) -> Result<Shape, ReplayFault>
     // The shape is what the edits come to, and none of them has a fault.
     ensures found { IfOk result (λ shape. IsReplayed edits.now shape) }
 
+    // The shape that the edits come to is returned, unless memory runs out.
+    ensures only { (shape : Form) → IsReplayed edits.now shape → IfOk result (λ s. s ≡ shape) × IfErr result (λ fault. fault ≡ ReplayFault.OutOfMemory) }
+
     // Which fault it is.
     ensures refused { IfErr result (λ fault. IsRefused edits.now fault) }
 {
+    come_to(alloc, edits)
+}
+
+fn come_to(alloc: Global, edits: &[Edit]) -> Result<Shape, ReplayFault>
+    ensures found { IfOk result (λ shape. IsReplayed edits.now shape) }
+    ensures refused { IfErr result (λ fault. IsRefused edits.now fault) }
+{
     let standing = stand(alloc, edits)?;
-    let numbers = Numbers::of(edits);
+    let numbers = LastValues::of(edits);
     let Some(next) = numbers.next else {
         return Err(ReplayFault::NoNextFile);
     };
@@ -60,6 +73,33 @@ pub fn replay(alloc: Global, edits: &[Edit]) -> Result<Shape, ReplayFault>
         last,
     })
 }
+
+/// A law: edits come to one shape at most.
+pub fn one_shape()
+    ensures { (es : List Change) (s t : Form) → IsReplayed es s → IsReplayed es t → s ≡ t }
+{}
+
+/// A law: where no edit has a fault, no two files that stand have one number.
+pub fn one_file_a_number()
+    ensures { (es : List Change) → AreInnocent es → (a b : Placed) → Stands es a → Stands es b → a.file.number ≡ b.file.number → a ≡ b }
+{}
+
+/// A law: additions have new numbers where no two of them have one, and none of the files that
+/// stand when they come has one.
+pub fn fresh_additions()
+    ensures { (es : List Change) (ds : List Deletion) (xs : List Placed) → AreApart xs → AreFresh es ds xs → AreNew es ds xs }
+{}
+
+/// A law: what stands after one edit more, when it has no fault, and the last values then.
+pub fn one_more_edit()
+    ensures innocent { (es : List Change) (e : Change) → AreInnocent (es ++ e ∷ []) ↔ (AreInnocent es × IsInnocent es e) }
+    ensures log { (es : List Change) (e : Change) → last_log (es ++ e ∷ []) ≡ option_or e.log (last_log es) }
+    ensures prev_log { (es : List Change) (e : Change) → last_prev_log (es ++ e ∷ []) ≡ option_or e.prev_log (last_prev_log es) }
+    ensures next { (es : List Change) (e : Change) → last_next (es ++ e ∷ []) ≡ option_or e.next (last_next es) }
+    ensures last { (es : List Change) (e : Change) → last_sequence (es ++ e ∷ []) ≡ option_or e.last (last_sequence es) }
+    ensures pointer { (level : ℕ) (es : List Change) (e : Change) → last_pointer level (es ++ e ∷ []) ≡ option_or (pointer_in level e.pointers) (last_pointer level es) }
+    ensures stands { (es : List Change) (e : Change) (a : Placed) → Stands (es ++ e ∷ []) a ↔ StandsIn es e.deleted e.added a }
+{}
 
 /// The files that stand after the edits.
 fn stand<'a>(alloc: Global, edits: &'a [Edit]) -> Result<Standing<'a>, ReplayFault>
@@ -102,6 +142,3 @@ fn pointers(alloc: Global, edits: &[Edit]) -> Result<[Option<Bytes>; 7], AllocEr
         pointer_0, pointer_1, pointer_2, pointer_3, pointer_4, pointer_5, pointer_6,
     ])
 }
-
-#[cfg(test)]
-mod tests;
