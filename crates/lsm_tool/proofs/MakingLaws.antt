@@ -84,13 +84,13 @@ explained_err name text (Err e) f h k = subst (λ (x : Fault). Explains name tex
 
 -- ---- a block that would be too large
 
-pub add_explained : (text : List ℕ) (es : List Entry) (e : Entry) (before : Option Entry) (rest : Result (List Entry) ℕ) (fault : BuildFault)
-    → IsAt text es before rest → (fault ≡ TooLarge → PassesLimit usual es e) → Explains MakeTable text (of_build fault)
-add_explained text es e before rest NoMemory at large = tt
-add_explained text es e before rest TooLarge at large = (es, (rest, at.whole), inl (e, large refl))
+pub add_explained : (text : List ℕ) (es : List Entry) (e : Entry) (before : Option Entry) (rest later : Result (List Entry) ℕ) (fault : BuildFault)
+    → IsAt text es before rest → rest ≡ in_front e later → (fault ≡ TooLarge → PassesLimit usual es e) → Explains MakeTable text (of_build fault)
+add_explained text es e before rest later NoMemory at r large = tt
+add_explained text es e before rest later TooLarge at r large = inl (es, e, (later, at.whole ∙ ap (joined es) r ∙ joined-front es e later), large refl)
 
 pub finish_explained : (text : List ℕ) (es : List Entry) (before : Option Entry) (rest : Result (List Entry) ℕ) (fault : BuildFault)
     → IsAt text es before rest → (fault ≡ TooLarge → 2 ^ 32 ≤ length (index_block usual.restart_interval (groups_by usual es)))
     → Explains MakeTable text (of_build fault)
 finish_explained text es before rest NoMemory at large = tt
-finish_explained text es before rest TooLarge at large = (es, (rest, at.whole), inr (large refl))
+finish_explained text es before rest TooLarge at large = inr (es, (rest, at.whole), large refl)

@@ -1,5 +1,5 @@
 -- What the commands answer, and what their faults say.
-use Rattle.std.specs.Prelude.{◌≡◌, ℕ, ◌^◌, ◌<◌, ◌≤◌, ◌⊎◌, ⊤, List, [], ◌∷◌, length, take, get_or, Err, Option, IfSome}
+use Rattle.std.specs.Prelude.{◌≡◌, ◌≢◌, ℕ, ◌^◌, ◌<◌, ◌≤◌, ◌⊎◌, ⊤, List, [], ◌∷◌, ◌++◌, length, take, get_or, codes, Err, Option, IfSome}
 use Rattle.std.specs.Io.KnownBytes.{Appends, Keeps}
 use Rattle.lsm_codec.specs.Entries.{Entry}
 use Rattle.lsm_manifest.specs.declared.edit_fault.EditFault.{EditFault}
@@ -53,10 +53,11 @@ pub record HasBadEdit (input : List ℕ) (fault : EditFault) : Type 0 where
   pub good : AreEdits (take place records) edits
   pub bad : edit_at (get_or records place []) ≡ Err fault
 
--- The input begins with entries of which a block would pass 2 ^ 32 - 1 bytes: a data block with one more, or the index block.
+-- The input begins with entries with the last of which a block would pass 2 ^ 32 - 1 bytes, or with entries whose index block would.
 abbrev pub IsTooLarge : List ℕ → Type 0
-IsTooLarge input = (entries : List Entry) × BeginsWith input entries
-    × (((e : Entry) × PassesLimit usual entries e) ⊎ (2 ^ 32 ≤ length (index_block usual.restart_interval (groups_by usual entries))))
+IsTooLarge input =
+    ((entries : List Entry) × (e : Entry) × BeginsWith input (entries ++ e ∷ []) × PassesLimit usual entries e)
+    ⊎ ((entries : List Entry) × BeginsWith input entries × (2 ^ 32 ≤ length (index_block usual.restart_interval (groups_by usual entries))))
 
 -- What a fault says of the input. A failed read or write, and want of memory, say nothing of it.
 abbrev pub Explains : CommandName → List ℕ → Fault → Type 0
@@ -81,6 +82,16 @@ Explains Dump input (Table fault) = table_at input ≡ Err fault
 
 -- ---- command lines
 
+-- the one word that asks for a command
+abbrev pub word_of : CommandName → List ℕ
+word_of MakeTable = codes "mktable"
+word_of Dump = codes "dump"
+word_of Manifest = codes "manifest"
+
+-- the words are just that one
+abbrev pub Asks : CommandName → List (List ℕ) → Type 0
+Asks name words = words ≡ word_of name ∷ []
+
 -- What stands on standard output after a command line was followed without a fault, and the exit status.
 abbrev pub IsFollowed : CommandLine → Option (List ℕ) → Option (List ℕ) → Option (List ℕ) → ℕ → Type 0
 IsFollowed (Run name) input old new status = (status ≡ 0) × IfSome input (λ text. (output : List ℕ) × Answers name text output × Appends old new output)
@@ -92,3 +103,7 @@ abbrev pub IsExplained : CommandLine → Option (List ℕ) → Fault → Type 0
 IsExplained (Run name) input fault = IfSome input (λ text. Explains name text fault)
 IsExplained (Help text) input fault = fault ≡ Write
 IsExplained (Bad text) input fault = ⊥
+
+-- Where the status is not 0 it is 1: some fault explains the input, and unless it is a failed write nothing was written.
+abbrev pub IsRefusal : CommandName → Option (List ℕ) → Option (List ℕ) → Option (List ℕ) → ℕ → Type 0
+IsRefusal name input old new status = (status ≡ 0) ⊎ ((status ≡ 1) × ((fault : Fault) × IsExplained (Run name) input fault × (fault ≢ Write → Keeps old new)))

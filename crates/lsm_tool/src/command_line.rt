@@ -1,5 +1,8 @@
 //! The command line.
 
+ghost use Rattle.std.specs.Prelude.{◌≡◌, IfOk, Some, map};
+ghost use Rattle.lsm_tool.specs.Commands.{word_of, Asks};
+
 use clap::Command;
 use clap::error::ErrorKind;
 use std::alloc::{AllocError, Global};
@@ -82,8 +85,43 @@ fn text_of(alloc: Global, error: &clap::Error) -> Result<Vec<u8>, AllocError> {
     }
 }
 
+// The command of this name.
+fn named(word: &str) -> Option<CommandName>
+    ensures { (name : CommandName) → word.now ≡ word_of name → result ≡ Some name }
+{
+    if word == "mktable" {
+        return Some(CommandName::MakeTable);
+    }
+    if word == "dump" {
+        return Some(CommandName::Dump);
+    }
+    if word == "manifest" {
+        return Some(CommandName::Manifest);
+    }
+    None
+}
+
+// The command that one word alone asks for.
+fn asked<S: AsStr>(words: &[S]) -> Option<CommandName>
+    ensures { (name : CommandName) → Asks name (map S.text words.now) → result ≡ Some name }
+{
+    match words {
+        [word] => named(word.as_str()),
+        _ => None,
+    }
+}
+
 /// What the words after the program's name ask for.
-pub(crate) fn parse<S: AsStr>(alloc: Global, words: &[S]) -> Result<CommandLine, AllocError> {
+pub(crate) fn parse<S: AsStr>(alloc: Global, words: &[S]) -> Result<CommandLine, AllocError>
+    ensures { (name : CommandName) → Asks name (map S.text words.now) → IfOk result (λ line. line ≡ CommandLine.Run name) }
+{
+    if let Some(name) = asked(words) {
+        return Ok(CommandLine::Run(name));
+    }
+    by_clap(alloc, words)
+}
+
+fn by_clap<S: AsStr>(alloc: Global, words: &[S]) -> Result<CommandLine, AllocError> {
     match command(alloc)?.try_get_matches_from(words) {
         Ok(matches) => match matches.subcommand_name() {
             Some("mktable") => Ok(CommandLine::Run(CommandName::MakeTable)),

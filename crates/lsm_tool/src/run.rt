@@ -1,12 +1,12 @@
 //! One run of the program.
 
-ghost use Rattle.std.specs.Prelude.{◌≡◌, ◌≢◌, ◌≤◌, ◌⊎◌, IfOk, IfErr};
+ghost use Rattle.std.specs.Prelude.{◌≡◌, ◌≢◌, ◌≤◌, ◌⊎◌, IfOk, IfErr, map};
 ghost use Rattle.std.specs.Io.KnownBytes.{Keeps};
 ghost use Rattle.std.specs.IoError.{error_kind};
-ghost use Rattle.lsm_tool.specs.Commands.{IsExplained, IsFollowed};
+ghost use Rattle.lsm_tool.specs.Commands.{Asks, IsExplained, IsFollowed, IsRefusal};
 ghost use Rattle.lsm_tool.specs.declared.fault.Fault.TheVariants.{Write as WriteFault};
 
-use crate::command_line::{CommandLine, parse};
+use crate::command_line::{CommandLine, CommandName, parse};
 use crate::commands::perform;
 use crate::fault::Fault;
 use crate::streams::write_output;
@@ -50,6 +50,8 @@ fn obey<S: AsStr, R: Read, O: Write, E: Write>(
     out: &mut O,
     err: &mut E,
 ) -> Result<u8, Fault>
+    ensures done { (name : CommandName) → Asks name (map S.text words.now) → IfOk result (λ status. IsFollowed (CommandLine.Run name) (R.remaining input.old) (O.contents out.old) (O.contents out.new) status) }
+    ensures explained { (name : CommandName) → Asks name (map S.text words.now) → IfErr result (λ e. IsExplained (CommandLine.Run name) (R.remaining input.old) e) }
     ensures status { IfOk result (λ status. (status ≡ 0) ⊎ ((status ≡ 2) × Keeps (O.contents out.old) (O.contents out.new))) }
     ensures kept { IfErr result (λ e. e ≢ WriteFault → Keeps (O.contents out.old) (O.contents out.new)) }
 {
@@ -69,6 +71,8 @@ pub(crate) fn run<S: AsStr, R: Read, O: Write, E: Write>(
     out: &mut O,
     err: &mut E,
 ) -> u8
+    ensures done { (name : CommandName) → Asks name (map S.text words.now) → result ≡ 0 → IsFollowed (CommandLine.Run name) (R.remaining input.old) (O.contents out.old) (O.contents out.new) 0 }
+    ensures refused { (name : CommandName) → Asks name (map S.text words.now) → IsRefusal name (R.remaining input.old) (O.contents out.old) (O.contents out.new) result }
     ensures status { result ≤ 2 }
     ensures kept { result ≡ 2 → Keeps (O.contents out.old) (O.contents out.new) }
 {

@@ -42,9 +42,10 @@ returns-clause-made c =
 
 pub returns-in_err-add-clause-explained : goal.returns-in_err-add-clause-explained
 returns-in_err-add-clause-explained c =
-    let large = rw c.lines.invariant.options at c.in_err-add.ensures.large in
-    let said = add_explained c.args.list.now c.lines.builder.entries _ (before_of c.lines.reader) (rest_of c.lines.reader) c.in_err-add.field-0.0
-    c.lines.invariant.reading (λ e. large (ap (λ (x : BuildFault). Err x) e)) in
+    let next = rw c.if-branch.true at c.in_ok-next.ensures.ok in
+    let large = rw (c.deref.ensures.value, c.deref-in-lines.ensures.value, c.lines.invariant.options) at c.in_err-add.ensures.large in
+    let said = add_explained c.args.list.now c.lines.builder.entries (entry_of c.next.new.self.entry) (before_of c.lines.reader) (rest_of c.lines.reader) (rest_of c.next.new.self) c.in_err-add.field-0.0
+    c.lines.invariant.reading next.0 (λ e. large (ap (λ (x : BuildFault). Err x) e)) in
     explained_err MakeTable c.args.list.now c.from_residual-in_err-add.result (of_build c.in_err-add.field-0.0) c.from_residual-in_err-add.ensures.1 said
 
 pub returns-in_err-finish-clause-explained : goal.returns-in_err-finish-clause-explained
