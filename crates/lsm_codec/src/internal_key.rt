@@ -1,8 +1,8 @@
 //! Internal keys: a user key, then eight bytes, the fixed64 of `sequence * 256 + kind`
 //! (the internal keys of LevelDB's `db/dbformat.h`).
 
-ghost use Rattle.std.specs.Prelude.{◌≡◌, ℕ, ◌-◌, ◌^◌, ◌<◌, ◌≤◌, ◌↔◌, ◌⊎◌, ◌++◌, List, length, slice_index, IfOk, IfErr, IsOk, OnOk, OnErr, MatchResult, Ok, Err};
-ghost use Rattle.lsm_codec.specs.Keys.{InternalKey, IsKey, IsBadKind, key_bytes, key_cmp};
+ghost use Rattle.std.specs.Prelude.{◌≡◌, ℕ, ◌-◌, ◌^◌, ◌<◌, ◌≤◌, ◌↔◌, ◌⊎◌, ◌++◌, List, length, slice_index, true, IfOk, IfErr, IsOk, OnOk, OnErr, MatchResult, Ok, Err};
+ghost use Rattle.lsm_codec.specs.Keys.{InternalKey, IsKey, IsBadKind, packed, key_bytes, key_cmp, is_internal, user_part, packed_part};
 
 use crate::fault::CodecFault;
 use crate::kind::Kind;
@@ -90,4 +90,33 @@ pub fn push_key(out: &mut Vec<u8>, user: &[u8], seq: u64, kind: Kind) -> Result<
             Err(error)
         }
     }
+}
+
+/// Whether bytes are an internal key: eight at least, and the kind, the eighth from the end, is 0 or 1.
+#[tactic(auto, unfolding(crate::specs::Keys::is_internal))]
+pub fn is_internal_key(bytes: &[u8]) -> bool
+    ensures value { result ≡ is_internal bytes.now }
+    // So it is just where some key is spelled by these bytes.
+    ensures spelled { result ≡ true ↔ ((key : InternalKey) × IsKey bytes.now key) }
+{
+    bytes.len() >= 8 && bytes[bytes.len() - 8] <= 1
+}
+
+/// The user key of an internal key, and the number of its last eight bytes, `sequence * 256 + kind`. Fewer than eight
+/// bytes are all a user key, and the number is then 0.
+#[tactic(auto, unfolding(crate::specs::Keys::user_part, crate::specs::Keys::packed_part))]
+pub fn key_parts(bytes: &[u8]) -> (&[u8], u64)
+    ensures user { result.0.now ≡ user_part bytes.now }
+    ensures packed { result.1 ≡ packed_part bytes.now }
+    // Of the bytes of a key these are that key's.
+    ensures key { (key : InternalKey) → IsKey bytes.now key → (result.0.now ≡ key.user) × (result.1 ≡ packed key) }
+{
+    if bytes.len() < 8 {
+        return (bytes, 0);
+    }
+    let (user, tail) = bytes.split_at(bytes.len() - 8);
+    let packed = u64::from_le_bytes([
+        tail[0], tail[1], tail[2], tail[3], tail[4], tail[5], tail[6], tail[7],
+    ]);
+    (user, packed)
 }

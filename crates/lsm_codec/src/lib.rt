@@ -23,7 +23,7 @@ mod wordwise;
 pub use bytes::Bytes;
 pub use checksum::{crc_extend, crc32c, mask, unmask};
 pub use fault::CodecFault;
-pub use internal_key::{KeyRef, MAX_SEQ, push_key};
+pub use internal_key::{KeyRef, MAX_SEQ, is_internal_key, key_parts, push_key};
 pub use kind::Kind;
 pub use list::List;
 pub use varint::{get_varint32, get_varint64, put_varint32, put_varint64};
