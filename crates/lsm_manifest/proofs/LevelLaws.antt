@@ -61,12 +61,12 @@ copies_end level held all rest is e = sym (append-nil held) ∙ ap (λ (zs : Lis
 
 -- ---- elements by place
 
-contains_has : {X : Type 0} (xs : List X) (x : X) → Contains xs x → Has xs x
+pub contains_has : {X : Type 0} (xs : List X) (x : X) → Contains xs x → Has xs x
 contains_has [] x (k, lt, e) = absurd (omega arith)
 contains_has (y ∷ ys) x (zero, lt, e) = inl e
 contains_has (y ∷ ys) x (suc k, lt, e) = inr (contains_has ys x (k, omega arith, e))
 
-has_contains : {X : Type 0} (xs : List X) (x : X) → Has xs x → Contains xs x
+pub has_contains : {X : Type 0} (xs : List X) (x : X) → Has xs x → Contains xs x
 has_contains [] x h = absurd h
 has_contains (y ∷ ys) x (inl e) = (0, omega arith, e)
 has_contains (y ∷ ys) x (inr h) = let r = has_contains ys x h in (suc r.0, let lt = r.1 in omega arith, r.2)

@@ -13,3 +13,8 @@ pub mod StandingLaws
 pub mod LevelLaws
 pub mod ReplayLaws
 pub mod FileOrderLaws
+pub mod TornLaws
+pub mod ManifestLaws
+pub mod ShapeLaws
+pub mod WholeEditLaws
+pub mod DeletedLaws

@@ -16,7 +16,7 @@ no_parts (d ∷ ds) e later is = cc
 pub innocent_none : AreInnocent []
 innocent_none earlier e later is = absurd (no_parts earlier e later is)
 
-innocent_push : (es : List Edit) (e : Edit) → AreInnocent es → IsInnocent es e → AreInnocent (es ++ e ∷ [])
+pub innocent_push : (es : List Edit) (e : Edit) → AreInnocent es → IsInnocent es e → AreInnocent (es ++ e ∷ [])
 innocent_push es e all one earlier x later is = elim (snoc_parts es e earlier x later is) [
   | inl p ↦ subst (λ (ds : List Edit). IsInnocent ds x) p.0 (subst (IsInnocent es) p.1 one)
   | inr p ↦ all earlier x p.0 p.1

@@ -20,3 +20,5 @@ pub mod HeldLevel
 pub mod Shape
 pub mod Numbers
 pub mod Level
+pub mod Manifest
+pub mod WholeEdit

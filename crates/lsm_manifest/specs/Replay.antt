@@ -14,6 +14,10 @@ use Rattle.lsm_manifest.specs.declared.replay_fault.ReplayFault.TheVariants.{Out
 abbrev pub Deletion : Type 0
 Deletion = DeletedFile
 
+-- a file at a level, under a name that no type of src/ has
+abbrev pub Placed : Type 0
+Placed = AddedFile
+
 -- what deletes a file
 abbrev pub deletion_of : AddedFile → DeletedFile
 deletion_of a = record { level = a.level; number = a.file.number }

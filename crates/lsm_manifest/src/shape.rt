@@ -1,8 +1,9 @@
 //! What a row of edits comes to.
 
-ghost use Rattle.std.specs.Prelude.{◌≡◌, ◌≤◌, ℕ, List, [], None, get_or, IfOk, IfErr};
+ghost use Rattle.std.specs.Prelude.{◌≡◌, ◌≤◌, ◌↔◌, ◌++◌, ◌∷◌, ℕ, List, [], None, get_or, IfOk, IfErr};
+ghost use Rattle.std.specs.Option.{option_or};
 ghost use Rattle.lsm_manifest.specs.EditFit.{Change};
-ghost use Rattle.lsm_manifest.specs.Replay.{Stands, AreInnocent, IsFault, last_pointer};
+ghost use Rattle.lsm_manifest.specs.Replay.{Placed, Stands, StandsIn, IsInnocent, AreInnocent, IsFault, last_log, last_prev_log, last_next, last_sequence, last_pointer, pointer_in};
 ghost use Rattle.lsm_manifest.specs.Standing.{file_at, Tracks};
 
 use crate::edit::Edit;
@@ -26,7 +27,7 @@ pub struct Shape {
 }
 
 ghost use Rattle.lsm_manifest.specs.HeldLevel.{HoldsLevel};
-ghost use Rattle.lsm_manifest.specs.Shape.{IsReplayed, IsRefused};
+ghost use Rattle.lsm_manifest.specs.Shape.{Form, IsReplayed, IsRefused};
 
 /// The files that some edit adds and no later edit deletes, of levels 0 to 6, with the last value of each number field and
 /// pointer; the previous log number is 0 where no edit has it. `OtherComparator` and `DoubleFile` are those of the first edit
@@ -35,7 +36,17 @@ pub fn replay(alloc: Global, edits: &[Edit]) -> Result<Shape, ReplayFault>
     // The shape is what the edits come to, and none of them has a fault.
     ensures found { IfOk result (λ shape. IsReplayed edits.now shape) }
 
+    // The shape that the edits come to is returned, unless memory runs out.
+    ensures only { (shape : Form) → IsReplayed edits.now shape → IfOk result (λ s. s ≡ shape) × IfErr result (λ fault. fault ≡ ReplayFault.OutOfMemory) }
+
     // Which fault it is.
+    ensures refused { IfErr result (λ fault. IsRefused edits.now fault) }
+{
+    come_to(alloc, edits)
+}
+
+fn come_to(alloc: Global, edits: &[Edit]) -> Result<Shape, ReplayFault>
+    ensures found { IfOk result (λ shape. IsReplayed edits.now shape) }
     ensures refused { IfErr result (λ fault. IsRefused edits.now fault) }
 {
     let standing = stand(alloc, edits)?;
@@ -60,6 +71,27 @@ pub fn replay(alloc: Global, edits: &[Edit]) -> Result<Shape, ReplayFault>
         last,
     })
 }
+
+/// A law: edits come to one shape at most.
+pub fn one_shape()
+    ensures { (es : List Change) (s t : Form) → IsReplayed es s → IsReplayed es t → s ≡ t }
+{}
+
+/// A law: where no edit has a fault, no two files that stand have one number.
+pub fn one_file_a_number()
+    ensures { (es : List Change) → AreInnocent es → (a b : Placed) → Stands es a → Stands es b → a.file.number ≡ b.file.number → a ≡ b }
+{}
+
+/// A law: what stands after one edit more, when it has no fault, and the last values then.
+pub fn one_more_edit()
+    ensures innocent { (es : List Change) (e : Change) → AreInnocent (es ++ e ∷ []) ↔ (AreInnocent es × IsInnocent es e) }
+    ensures log { (es : List Change) (e : Change) → last_log (es ++ e ∷ []) ≡ option_or e.log (last_log es) }
+    ensures prev_log { (es : List Change) (e : Change) → last_prev_log (es ++ e ∷ []) ≡ option_or e.prev_log (last_prev_log es) }
+    ensures next { (es : List Change) (e : Change) → last_next (es ++ e ∷ []) ≡ option_or e.next (last_next es) }
+    ensures last { (es : List Change) (e : Change) → last_sequence (es ++ e ∷ []) ≡ option_or e.last (last_sequence es) }
+    ensures pointer { (level : ℕ) (es : List Change) (e : Change) → last_pointer level (es ++ e ∷ []) ≡ option_or (pointer_in level e.pointers) (last_pointer level es) }
+    ensures stands { (es : List Change) (e : Change) (a : Placed) → Stands (es ++ e ∷ []) a ↔ StandsIn es e.deleted e.added a }
+{}
 
 /// The files that stand after the edits.
 fn stand<'a>(alloc: Global, edits: &'a [Edit]) -> Result<Standing<'a>, ReplayFault>

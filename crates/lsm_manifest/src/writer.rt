@@ -1,7 +1,7 @@
 //! Writing a record log (LevelDB's `doc/log_format.md`).
 
-ghost use Rattle.std.specs.Prelude.{◌≡◌, [], ◌∷◌, ◌++◌, ◌+◌, ◌-◌, ◌%◌, ◌<◌, ◌≤◌, ℕ, List, length, take, drop, OnOk, OnErr, vec_len};
-ghost use Rattle.lsm_manifest.specs.Log.{left, sum_bytes, fragment, AreRecords};
+ghost use Rattle.std.specs.Prelude.{◌≡◌, [], ◌∷◌, ◌++◌, ◌+◌, ◌-◌, ◌%◌, ◌<◌, ◌≤◌, ◌↔◌, ℕ, List, length, take, drop, OnOk, OnErr, vec_len};
+ghost use Rattle.lsm_manifest.specs.Log.{left, sum_bytes, fragment, AreRecords, IsLog};
 ghost use Rattle.lsm_manifest.specs.LogView.{type_byte};
 ghost use Rattle.lsm_manifest.specs.LogWriting.{pieces, begun_text, record_text, Written, SpellsPrefix};
 
@@ -121,6 +121,19 @@ impl LogWriter {
         }
     }
 }
+
+/// A law: what a writer wrote of one more record, cut before its end, is the log of the records before it, and the rest is
+/// just what was written; whole, it is the log of all, and nothing is left.
+pub fn torn_record()
+    ensures torn { (bytes : List ℕ) (records : List (List ℕ)) (place : ℕ) (whole : List ℕ) → Written bytes records place → (m : ℕ) → m < length (record_text place whole) → IsLog (bytes ++ take m (record_text place whole)) records m }
+    ensures done { (bytes : List ℕ) (records : List (List ℕ)) (place : ℕ) → Written bytes records place → IsLog bytes records 0 }
+    ensures again { (bytes : List ℕ) (records : List (List ℕ)) → IsLog bytes records 0 → Written bytes records (length bytes % 32768) }
+{}
+
+/// A law: whole records, one after another, are a log that nothing follows, and such a log is nothing else.
+pub fn whole_log()
+    ensures { (bytes : List ℕ) (records : List (List ℕ)) → AreRecords 0 bytes records ↔ IsLog bytes records 0 }
+{}
 
 /// A law: the first bytes of a text of whole records, however many, spell a prefix of the records and a rest.
 pub fn prefixes()
