@@ -5,7 +5,7 @@ use Rattle.lsm_codec.specs.Entries.{Entry}
 use Rattle.lsm_manifest.specs.declared.edit_fault.EditFault.{EditFault}
 use Rattle.lsm_manifest.specs.Log.{IsLog}
 use Rattle.lsm_manifest.specs.LogReading.{log_at}
-use Rattle.lsm_manifest.specs.Edit.{IsEdit}
+use Rattle.lsm_manifest.specs.Manifest.{AreEdits, IsManifest}
 use Rattle.lsm_manifest.specs.EditReading.{edit_at}
 use Rattle.lsm_manifest.specs.EditFit.{Change}
 use Rattle.lsm_commands.specs.ManifestPrinting.{manifest_text}
@@ -23,13 +23,6 @@ use Rattle.lsm_commands.specs.EntryReading.{BeginsWith}
 use Rattle.lsm_commands.specs.EntryList.{IsEntryList, IsFirstBadLine}
 use Rattle.lsm_commands.specs.EntryPrinting.{entry_list}
 
--- record by record
-abbrev pub AreEdits : List (List ℕ) → List Change → Type 0
-AreEdits [] [] = ⊤
-AreEdits [] (e ∷ es) = ⊥
-AreEdits (r ∷ rs) [] = ⊥
-AreEdits (r ∷ rs) (e ∷ es) = IsEdit r e × AreEdits rs es
-
 -- The options of the tables that `mktable` makes.
 abbrev pub usual : TableOptions
 usual = record { block_size = 4096; restart_interval = 16 }
@@ -38,9 +31,7 @@ usual = record { block_size = 4096; restart_interval = 16 }
 abbrev pub Answers : CommandName → List ℕ → List ℕ → Type 0
 Answers MakeTable input output = (entries : List Entry) × IsEntryList input entries × IsTable output entries × (output ≡ table_bytes usual entries)
 Answers Dump input output = (entries : List Entry) × IsTable input entries × (output ≡ entry_list entries)
-Answers Manifest input output =
-    (records : List (List ℕ)) × (rest : ℕ) × (edits : List Change)
-    × IsLog input records rest × AreEdits records edits × (output ≡ manifest_text edits rest)
+Answers Manifest input output = (edits : List Change) × (rest : ℕ) × IsManifest input edits rest × (output ≡ manifest_text edits rest)
 
 -- The input is a log, and of its records the one at this place is the first that is no edit.
 pub record HasBadEdit (input : List ℕ) (fault : EditFault) : Type 0 where

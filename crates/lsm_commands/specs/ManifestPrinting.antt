@@ -7,7 +7,7 @@ use Rattle.lsm_manifest.specs.declared.parts.DeletedFile.{DeletedFile}
 use Rattle.lsm_manifest.specs.declared.parts.AddedFile.{AddedFile}
 use Rattle.lsm_manifest.specs.declared.file_meta.FileMeta.{FileMeta}
 use Rattle.lsm_manifest.specs.EditFit.{Change}
-use Rattle.lsm_manifest.specs.FileOrder.{user_part, packed_part}
+use Rattle.lsm_codec.specs.Keys.{user_part, packed_part}
 use Rattle.lsm_commands.specs.EntryPrinting.{bytes_word}
 
 -- an internal key: `KEY@SEQ+` for a value, `KEY@SEQ-` for a deletion

@@ -34,7 +34,8 @@ const MAKE_TABLE: &str =
     "Reads a list of entries on standard input and writes them as one LevelDB table on standard output.
 
 A line is `KEY SEQ put VALUE` or `KEY SEQ del`: KEY and VALUE in hex, `.` for no bytes, SEQ a decimal number up to
-72057594037927935. Lines ascend by key; of one key the greatest SEQ comes first. A line that is none is `bad line I`.";
+72057594037927935. Lines ascend by key; of one key the greatest SEQ comes first. The first line of another form, or out of order, is
+reported as `bad line I`.";
 
 const MAKE_TABLE_EXAMPLE: &str = "Example: printf '61 1 put 76\\n' | lsm mktable > a.ldb";
 
@@ -48,7 +49,7 @@ const DUMP_EXAMPLE: &str = "Example: lsm dump < a.ldb";
 const MANIFEST: &str =
     "Reads a LevelDB manifest on standard input and prints its edits on standard output: for each `edit I` and then
 its fields, with keys as `KEY@SEQ+` for a value and `KEY@SEQ-` for a deletion. The last line, `rest B`, counts the bytes at the
-end that hold no whole record. The edits are not replayed.
+end that hold no whole record: above 0 the last record was cut off, or the bytes are no manifest. The edits are not replayed.
 
 Other bytes are refused by number and name, as in `refused 19 LogChecksum 0`.";
 

@@ -2,29 +2,12 @@
 
 ghost use Rattle.std.specs.Prelude.{◌≡◌, ◌++◌, OnOk, List, ℕ, codes};
 ghost use Rattle.std.specs.List.{flat_map};
-ghost use Rattle.lsm_manifest.specs.FileOrder.{user_part, packed_part};
 ghost use Rattle.lsm_commands.specs.ManifestPrinting.{key_word, number_line, name_line, comparator_line, field_line, pointer_line, deleted_line, file_words, added_line, number_lines, list_lines, edit_lines};
 
 use crate::spelling::{push_bytes, push_decimal};
-use lsm_codec::Bytes;
+use lsm_codec::{Bytes, key_parts};
 use lsm_manifest::{AddedFile, CompactPointer, DeletedFile, Edit, FileMeta};
 use std::alloc::AllocError;
-
-/// The user key of an internal key, and the number that its last eight bytes spell.
-#[tactic(auto, unfolding(lsm_manifest::specs::FileOrder::user_part, lsm_manifest::specs::FileOrder::packed_part))]
-fn key_parts(key: &[u8]) -> (&[u8], u64)
-    ensures user { result.0.now ≡ user_part key.now }
-    ensures packed { result.1 ≡ packed_part key.now }
-{
-    if key.len() < 8 {
-        return (key, 0);
-    }
-    let (user, tail) = key.split_at(key.len() - 8);
-    let packed = u64::from_le_bytes([
-        tail[0], tail[1], tail[2], tail[3], tail[4], tail[5], tail[6], tail[7],
-    ]);
-    (user, packed)
-}
 
 /// Appends an internal key.
 #[tactic(auto, unfolding(crate::specs::ManifestPrinting::key_word))]

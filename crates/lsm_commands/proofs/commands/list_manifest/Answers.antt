@@ -39,4 +39,4 @@ returns-clause-listed c =
     let logged = subst (λ (rs : List (List ℕ)). IsLog c.args.manifest.now rs c.in_ok-log.log.rest) (sym c.as_slice-records.ensures) c.in_ok-log.ensures.found in
     let all = printed_all records c.records.i c.in_ok-log.log.rest c.records.text.items c.push_number.new.out.items (search rules)
     c.records.invariant c.in_ok-push_number.ensures in
-    (records, c.in_ok-log.log.rest, all.0, logged, all.1, all.2)
+    (all.0, c.in_ok-log.log.rest, record { records = records; log = logged; spelled = all.1 }, all.2)
