@@ -69,6 +69,11 @@ pub record SomeState (start : Start) : Type 0 where
 abbrev pub EachStartHasAState : Type 0
 EachStartHasAState = (start : Start) → 0 < start.slots → start.slots ≤ 64 → start.id < 2 ^ 28 → SomeState start
 
+-- in some such state a view holds a slot whose version is no longer current
+abbrev pub APinOutlivesItsVersion : Type 0
+APinOutlivesItsVersion = (start : Start) × (s : SomeState start) × (y id slot : ℕ) × (v : View)
+    × (slice_get s.state.views y ≡ Some v) × (v.live ≡ true) × (v.held ≡ Some (id, slot)) × (slot ≢ s.view.slot)
+
 -- so a law is no empty promise: what can't be is none
 abbrev pub NoLawIsAbsurd : Type 0
 NoLawIsAbsurd = IsLaw (λ words views p. ⊥) → ⊥

@@ -1,7 +1,7 @@
 //! The laws of a board. Each holds between any two steps, whatever threads pin, unpin, publish, look, learn, cut, join or
 //! check in whatever order: of every state of the words and the views that the rule allows.
 
-ghost use Rattle.lsm_pins.specs.Laws.{IsLaw, BoardLaw, HeldIsNotFree, MissedIsHeld, EachStartHasAState, NoLawIsAbsurd};
+ghost use Rattle.lsm_pins.specs.Laws.{IsLaw, BoardLaw, HeldIsNotFree, MissedIsHeld, EachStartHasAState, APinOutlivesItsVersion, NoLawIsAbsurd};
 
 /// The head has the publisher's slot and id, and that slot is in use; the pins of each slot are those that were given back and those that views
 /// hold; no view has seen a greater id than the publisher's; views that saw one id saw one slot for it.
@@ -22,6 +22,11 @@ pub fn missed_is_held()
 /// The rule is not empty: of each board that can be made it allows a state.
 pub fn each_start_has_a_state()
     ensures { EachStartHasAState }
+{}
+
+/// In some state that it allows a view holds a version that is no longer current.
+pub fn a_pin_outlives_its_version()
+    ensures { APinOutlivesItsVersion }
 {}
 
 /// What can't be is no law.

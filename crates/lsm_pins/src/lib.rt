@@ -19,7 +19,8 @@ mod view;
 
 pub use board::Board;
 pub use laws::{
-    board_law, each_start_has_a_state, held_is_not_free, missed_is_held, no_law_is_absurd,
+    a_pin_outlives_its_version, board_law, each_start_has_a_state, held_is_not_free,
+    missed_is_held, no_law_is_absurd,
 };
 pub use pin_fault::PinFault;
 pub use pinner::Pinner;
