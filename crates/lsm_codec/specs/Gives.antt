@@ -5,7 +5,8 @@ abbrev pub FailsUnless : {Y E : Type 0} → Bool → E → Result Y E → Type 0
 FailsUnless true fault read = Unit {0}
 FailsUnless false fault read = read ≡ Err fault
 
--- The fault is the one that reading gives, or memory ran out. The test tells which fault of the reader's says the latter.
+-- The fault is the one that reading gives, or memory ran out. The test tells which fault of the
+-- reader's says the latter.
 abbrev pub Fails : {Y E : Type 0} → (E → Bool) → E → Result Y E → Type 0
 Fails is_memory fault read = FailsUnless (is_memory fault) fault read
 

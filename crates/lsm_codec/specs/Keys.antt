@@ -81,7 +81,8 @@ kind_at (suc n) = Value
 unfoldable pub key_at : List ℕ → InternalKey
 key_at bytes = record { user = user_of bytes; seq = tail_of bytes / 256; kind = kind_at (tail_of bytes % 256) }
 
--- What stands before the last eight bytes, and the number that these spell. Fewer than eight bytes are all a user key.
+-- What stands before the last eight bytes, and the number that these spell. Fewer than eight bytes
+-- are all a user key.
 unfoldable pub user_part : List ℕ → List ℕ
 user_part bytes = if nat_lt (length bytes) 8 then bytes else user_of bytes
 

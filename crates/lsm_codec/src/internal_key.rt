@@ -9,8 +9,8 @@ use crate::kind::Kind;
 use std::alloc::AllocError;
 use std::cmp::Ordering;
 
-/// The greatest sequence, 2^56 - 1: a sequence and a kind share 64 bits (`kMaxSequenceNumber` of LevelDB's
-/// `db/dbformat.h`).
+/// The greatest sequence, 2^56 - 1: a sequence and a kind share 64 bits (`kMaxSequenceNumber` of
+/// LevelDB's `db/dbformat.h`).
 pub const MAX_SEQ: u64 = 72_057_594_037_927_935;
 
 /// An internal key, whose user key lies in other bytes.
@@ -31,8 +31,8 @@ impl<'a> KeyRef<'a> {
     /// The parts of an internal key.
     ///
     /// # Errors
-    /// `ShortKey` where there are fewer than 8 bytes. `BadKind` with the kind's byte, the eighth from the end, where
-    /// that is above 1.
+    /// `ShortKey` where there are fewer than 8 bytes. `BadKind` with the kind's byte, the eighth
+    /// from the end, where that is above 1.
     pub fn split(bytes: &'a [u8]) -> Result<KeyRef<'a>, CodecFault>
         ensures found { IfOk result (λ k. IsKey bytes.now (key_of k)) }
         ensures only { (key : InternalKey) → IsKey bytes.now key → IfOk result (λ k. key_of k ≡ key) × IsOk result }
@@ -56,8 +56,8 @@ impl<'a> KeyRef<'a> {
         Ok(KeyRef { user, seq, kind })
     }
 
-    /// The order of internal keys: user keys ascending bytewise, a proper prefix first, and of one user key the
-    /// greater `sequence * 256 + kind` first, so that the newest write comes first.
+    /// The order of internal keys: user keys ascending bytewise, a proper prefix first, and of one
+    /// user key the greater `sequence * 256 + kind` first, so that the newest write comes first.
     pub fn compare(&self, other: &KeyRef<'_>) -> Ordering
         ensures { result ≡ key_cmp (key_of self.now) (key_of other.now) }
     {
@@ -71,7 +71,8 @@ impl<'a> KeyRef<'a> {
     }
 }
 
-/// Appends the bytes of an internal key: the user key, and eight bytes of the sequence and the kind.
+/// Appends the bytes of an internal key: the user key, and eight bytes of the sequence and the
+/// kind.
 ///
 /// # Errors
 /// `AllocError` where a growth of `out` was refused: its contents are then as before.
@@ -92,7 +93,8 @@ pub fn push_key(out: &mut Vec<u8>, user: &[u8], seq: u64, kind: Kind) -> Result<
     }
 }
 
-/// Whether bytes are an internal key: eight at least, and the kind, the eighth from the end, is 0 or 1.
+/// Whether bytes are an internal key: eight at least, and the kind, the eighth from the end, is 0
+/// or 1.
 #[tactic(auto, unfolding(crate::specs::Keys::is_internal))]
 pub fn is_internal_key(bytes: &[u8]) -> bool
     ensures value { result ≡ is_internal bytes.now }
@@ -102,8 +104,8 @@ pub fn is_internal_key(bytes: &[u8]) -> bool
     bytes.len() >= 8 && bytes[bytes.len() - 8] <= 1
 }
 
-/// The user key of an internal key, and the number of its last eight bytes, `sequence * 256 + kind`. Fewer than eight
-/// bytes are all a user key, and the number is then 0.
+/// The user key of an internal key, and the number of its last eight bytes, `sequence * 256 +
+/// kind`. Fewer than eight bytes are all a user key, and the number is then 0.
 #[tactic(auto, unfolding(crate::specs::Keys::user_part, crate::specs::Keys::packed_part))]
 pub fn key_parts(bytes: &[u8]) -> (&[u8], u64)
     ensures user { result.0.now ≡ user_part bytes.now }

@@ -4,11 +4,12 @@ use Rattle.std.proofs.lemmas.Bool.{le-leb, leb-true, eqb-true}
 use Rattle.std.proofs.lemmas.List.{take_at, drop_at, take-append-drop, length-append, length-take-le}
 use Rattle.lsm_codec.specs.declared.fault.CodecFault.{CodecFault}
 use Rattle.lsm_codec.specs.Varint.{AreGroups, IsVarint32, varint32_at, varint64_at}
-use Rattle.lsm_codec.proofs.Varints.{varint_takes, varint_again, IsBytes}
+use Rattle.lsm_codec.proofs.CallerLemmas.{varint_takes, varint_again, IsBytes}
+use Rattle.lsm_codec.specs.Keys.{is_internal}
 use Rattle.lsm_manifest.specs.declared.edit_fault.EditFault.{EditFault}
 use Rattle.lsm_manifest.specs.declared.edit_fault.EditFault.TheVariants.{UnknownTag, BadLevel, EditCut, BadEditKey}
 use Rattle.lsm_manifest.specs.declared.edit.Edit.{Edit}
-use Rattle.lsm_manifest.specs.Edit.{Field, Comparator, Log, Prev, Next, Last, Pointer, Deleted, Added, is_internal, Both, NumberText, LevelText, BytesText, KeyText, tag_of, BodyText, FieldText, AreFields, edit_of, IsEdit}
+use Rattle.lsm_manifest.specs.Edit.{Field, Comparator, Log, Prev, Next, Last, Pointer, Deleted, Added, Both, NumberText, LevelText, BytesText, KeyText, tag_of, BodyText, FieldText, AreFields, edit_of, IsEdit}
 use Rattle.lsm_manifest.specs.EditReading.{Read, ◌>>=◌, or_cut, short_number_at, number_at, level_at, bytes_at, key_at, both_at, as_field, pointer_at, deleted_at, keys_at, size_keys_at, file_at, added_at, body_at, field_at, fields_at, with_edit, edit_at}
 use Rattle.lsm_manifest.proofs.RecordLaws.{IsBytes-after}
 

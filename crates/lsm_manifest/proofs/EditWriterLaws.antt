@@ -3,7 +3,7 @@ use Rattle.std.proofs.Common.{◌≡◌, ℕ, ◌+◌, ◌-◌, ◌^◌, ◌<◌
 use Rattle.std.specs.Prelude.{OnOk}
 use Rattle.std.proofs.lemmas.List.{append-nil, get_or_default, map_push, take_at, take_more, take_all, take-append-drop}
 use Rattle.lsm_codec.specs.Varint.{IsVarint32, varint32, varint64}
-use Rattle.lsm_codec.proofs.Varints.{is_shortest}
+use Rattle.lsm_codec.proofs.CallerLemmas.{is_shortest}
 use Rattle.lsm_manifest.specs.declared.parts.CompactPointer.{CompactPointer}
 use Rattle.lsm_manifest.specs.declared.parts.DeletedFile.{DeletedFile}
 use Rattle.lsm_manifest.specs.declared.parts.AddedFile.{AddedFile}

@@ -1,6 +1,5 @@
 -- The files of one level, in order.
 use Rattle.std.proofs.Common.{◌≡◌, ℕ, zero, suc, ◌+◌, ◌<◌, Bool, true, false, cond, eqb, List, [], ◌∷◌, ◌++◌, length, get_or, map, Option, Some, None, Bor, refl, sym, ap, ◌∙◌, subst, append_assoc, arith, inl, inr}
-use Rattle.std.specs.Prelude.{Contains}
 use Rattle.std.specs.List.{cons_option, AllByRecursion, IsDistinct}
 use Rattle.std.specs.List.Sorted.{IsSorted, IsPermutation, IsStrictlySortedBy}
 use Rattle.std.specs.Map.{keys_of, values_of}
@@ -18,12 +17,14 @@ use Rattle.std.proofs.lemmas.List.Sorted.{ranks_by, IsPermutation-sym, Contains-
 use Rattle.std.proofs.lemmas.Map.Keys.{sorted_head, sorted_tail, IsDistinct-IsPermutation, apart_from_distinct, sorted_from_all_adjacent}
 use Rattle.std.proofs.lemmas.Map.Lookups.{exact_unsigned}
 use Rattle.std.proofs.lemmas.Map.Views.{btree_map_get_iff}
+use Rattle.lsm_codec.specs.Keys.{user_part, packed_part}
 use Rattle.lsm_codec.specs.Lists.{Has}
+use Rattle.lsm_codec.proofs.CallerLemmas.{contains_from, contains_says}
 use Rattle.lsm_manifest.specs.declared.file_meta.FileMeta.{FileMeta}
 use Rattle.lsm_manifest.specs.declared.parts.AddedFile.{AddedFile}
 use Rattle.lsm_manifest.specs.declared.edit.Edit.{Edit}
 use Rattle.lsm_manifest.specs.declared.standing.Standing.{Standing}
-use Rattle.lsm_manifest.specs.FileOrder.{user_part, packed_part, file_cmp}
+use Rattle.lsm_manifest.specs.FileOrder.{file_cmp}
 use Rattle.lsm_manifest.specs.Level.{level_of, all_of, same_number, HaveOwnNumbers}
 use Rattle.lsm_manifest.specs.Replay.{Stands}
 use Rattle.lsm_manifest.specs.HeldLevel.{HoldsLevel}
@@ -58,18 +59,6 @@ copies_take level held new all rest later x file is here copy grown e =
 pub copies_end : (level : ℕ) (held all : List FileMeta) (rest : List (Bor AddedFile)) → rest ≡ [] → held ++ level_of level (shown rest) ≡ all → held ≡ all
 unfolding level_of
 copies_end level held all rest is e = sym (append-nil held) ∙ ap (λ (zs : List (Bor AddedFile)). held ++ level_of level (shown zs)) (sym is) ∙ e
-
--- ---- elements by place
-
-pub contains_has : {X : Type 0} (xs : List X) (x : X) → Contains xs x → Has xs x
-contains_has [] x (k, lt, e) = absurd (omega arith)
-contains_has (y ∷ ys) x (zero, lt, e) = inl e
-contains_has (y ∷ ys) x (suc k, lt, e) = inr (contains_has ys x (k, omega arith, e))
-
-pub has_contains : {X : Type 0} (xs : List X) (x : X) → Has xs x → Contains xs x
-has_contains [] x h = absurd h
-has_contains (y ∷ ys) x (inl e) = (0, omega arith, e)
-has_contains (y ∷ ys) x (inr h) = let r = has_contains ys x h in (suc r.0, let lt = r.1 in omega arith, r.2)
 
 -- ---- which files a level has
 
@@ -121,7 +110,7 @@ lent_at (Some x) a e = (x, refl, cc)
 pub found_at : (es : List Edit) (s : Standing) → Tracks (Stands es) (file_at s) → tree.IsOrdered nat_cmp s.files → (number : ℕ) (lent : Bor AddedFile) → Has s.files.entries (number, lent)
     → (lent.now.file.number ≡ number) × Stands es lent.now
 found_at es s t up number lent h =
-    let got = (btree_map_get_iff nat_cmp_total exact_unsigned s.files up number lent).1 (has_contains s.files.entries (number, lent) h) in
+    let got = (btree_map_get_iff nat_cmp_total exact_unsigned s.files up number lent).1 (contains_from s.files.entries (number, lent) h) in
     t.found number lent.now (ap (option_map (λ (x : Bor AddedFile). x.now)) got)
 
 pub level_stands : (es : List Edit) (s : Standing) → Tracks (Stands es) (file_at s) → tree.IsOrdered nat_cmp s.files → (level : ℕ) (file : FileMeta) → Has (level_of level (all_of s)) file → Stands es (record { level = level; file = file })
@@ -133,7 +122,7 @@ pub stands_level : (es : List Edit) (s : Standing) → Tracks (Stands es) (file_
 stands_level es s t up level file st =
     let a : AddedFile = record { level = level; file = file } in
     let l = lent_at (tree.get nat_cmp s.files file.number) a (t.all a st) in
-    let there : Has s.files.entries (file.number, l.0) = contains_has s.files.entries (file.number, l.0) ((btree_map_get_iff nat_cmp_total exact_unsigned s.files up file.number l.0).0 l.1) in
+    let there : Has s.files.entries (file.number, l.0) = contains_says s.files.entries (file.number, l.0) ((btree_map_get_iff nat_cmp_total exact_unsigned s.files up file.number l.0).0 l.1) in
     let here : l.0.now.level ≡ level = ap (λ (x : AddedFile). x.level) l.2 in
     subst (Has (level_of level (all_of s))) (ap (λ (x : AddedFile). x.file) l.2) (gives_level level s.files.entries file.number l.0 there here)
 
@@ -223,8 +212,8 @@ level_held es s level xs ys t up is moved sorted =
     let own : HaveOwnNumbers xs = subst HaveOwnNumbers (sym is) (own_numbers level s.files.entries (λ m x h. (found_at es s t up m x h).0) up) in
     record {
       files = λ file. (
-        λ h. level_stands es s t up level file (subst (λ (zs : List FileMeta). Has zs file) is (contains_has xs file (Contains-permutation ys xs file (IsPermutation-sym xs ys moved) (has_contains ys file h)))),
-        λ st. contains_has ys file (Contains-permutation xs ys file moved (has_contains xs file (subst (λ (zs : List FileMeta). Has zs file) (sym is) (stands_level es s t up level file st)))),
+        λ h. level_stands es s t up level file (subst (λ (zs : List FileMeta). Has zs file) is (contains_says xs file (Contains-permutation ys xs file (IsPermutation-sym xs ys moved) (contains_from ys file h)))),
+        λ st. contains_says ys file (Contains-permutation xs ys file moved (contains_from xs file (subst (λ (zs : List FileMeta). Has zs file) (sym is) (stands_level es s t up level file st)))),
       );
       ordered = strict ys sorted (IsDistinct-IsPermutation same_number flips xs ys moved own);
     }

@@ -18,3 +18,4 @@ pub mod ManifestLaws
 pub mod ShapeLaws
 pub mod WholeEditLaws
 pub mod DeletedLaws
+pub mod CallerLemmas

@@ -2,7 +2,7 @@
 use Rattle.std.proofs.Common.{◌≡◌, ℕ, zero, suc, ◌+◌, ◌-◌, ◌<◌, ◌≤◌, ◌⊎◌, Bool, true, false, cond, List, [], ◌∷◌, ◌++◌, length, get_or, drop, Some, None, Result, Ok, Err, refl, sym, ap, ◌∙◌, subst, append_assoc, arith, inl, inr}
 use Rattle.std.proofs.lemmas.Bool.{cases_lt, eq-eqb, ne_eqb}
 use Rattle.std.proofs.lemmas.List.{drop_at, length-append, get_or-drop, append-nil}
-use Rattle.lsm_codec.proofs.Varints.{IsBytes}
+use Rattle.lsm_codec.proofs.CallerLemmas.{IsBytes}
 use Rattle.lsm_manifest.specs.declared.log_fault.LogFault.{LogFault}
 use Rattle.lsm_manifest.specs.declared.log_fault.LogFault.TheVariants.{LogOrder}
 use Rattle.lsm_manifest.specs.Log.{fragment, may_follow, ends, IsPiece, IsFiller, IsEnd, Skips, Adds, Part, Row, IsLast, IsRecord, HoldsNone, LogFrom, IsLog}

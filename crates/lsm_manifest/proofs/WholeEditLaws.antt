@@ -10,7 +10,7 @@ use Rattle.std.proofs.lemmas.List.{get_or_past}
 use Rattle.std.proofs.lemmas.List.Elements.{All-nil, All-cons, All-append, All-map}
 use Rattle.std.proofs.lemmas.Map.Keys.{sorted_head, sorted_tail}
 use Rattle.lsm_codec.specs.Lists.{Has}
-use Rattle.lsm_codec.proofs.Lists.{all_at, has_left, has_right, has_cases}
+use Rattle.lsm_codec.proofs.CallerLemmas.{all_at, has_left, has_right, has_cases}
 use Rattle.lsm_manifest.specs.declared.file_meta.FileMeta.{FileMeta}
 use Rattle.lsm_manifest.specs.declared.parts.CompactPointer.{CompactPointer}
 use Rattle.lsm_manifest.specs.declared.parts.DeletedFile.{DeletedFile}

@@ -1,6 +1,7 @@
 -- What a version edit is: fields, each a tag and its parts, in any order (LevelDB's `db/version_edit.cc`), and what they come to.
-use Rattle.std.specs.Prelude.{Option, Some, None, ◌≡◌, ℕ, ◌-◌, ◌≤◌, ◌&&◌, Bool, true, nat_le, List, [], ◌∷◌, ◌++◌, length, get_or}
+use Rattle.std.specs.Prelude.{Option, Some, None, ◌≡◌, ℕ, ◌≤◌, true, List, [], ◌∷◌, ◌++◌, length}
 use Rattle.std.specs.List.{filter_map}
+use Rattle.lsm_codec.specs.Keys.{is_internal}
 use Rattle.lsm_codec.specs.Varint.{IsVarint32, IsVarint64}
 use Rattle.lsm_manifest.specs.Last.{last_by}
 use Rattle.lsm_manifest.specs.declared.parts.CompactPointer.{CompactPointer}
@@ -18,10 +19,6 @@ pub data Field : Type 0 where
   Pointer : ℕ × List ℕ → Field
   Deleted : ℕ × ℕ → Field
   Added : ℕ × (ℕ × (ℕ × (List ℕ × List ℕ))) → Field
-
--- eight bytes at the end, the lowest of them a kind
-unfoldable pub is_internal : List ℕ → Bool
-is_internal key = nat_le 8 (length key) && nat_le (get_or key (length key - 8) 0) 1
 
 -- two parts, one after the other
 pub record Both {A B : Type 0} (T : A → List ℕ → Type 0) (U : B → List ℕ → Type 0) (x : A × B) (own : List ℕ) : Type 0 where

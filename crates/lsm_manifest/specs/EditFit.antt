@@ -1,11 +1,11 @@
 -- What holds of each edit that is read, and what a writer asks of one (levels and internal keys of LevelDB's `db/version_edit.cc`).
 use Rattle.std.specs.Prelude.{◌≡◌, ℕ, ◌^◌, ◌<◌, ◌≤◌, true, List, length, IfSome}
 use Rattle.std.specs.List.{All}
+use Rattle.lsm_codec.specs.Keys.{is_internal}
 use Rattle.lsm_manifest.specs.declared.parts.CompactPointer.{CompactPointer}
 use Rattle.lsm_manifest.specs.declared.parts.DeletedFile.{DeletedFile}
 use Rattle.lsm_manifest.specs.declared.parts.AddedFile.{AddedFile}
 use Rattle.lsm_manifest.specs.declared.edit.Edit.{Edit}
-use Rattle.lsm_manifest.specs.Edit.{is_internal}
 
 -- an edit, under a name that no type of src/ has
 abbrev pub Change : Type 0

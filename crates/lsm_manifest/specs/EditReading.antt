@@ -1,11 +1,12 @@
 -- Reading an edit from left to right, with the first fault (this project's rule).
 use Rattle.std.specs.Prelude.{ℕ, zero, suc, nat_le, ◌==◌, if◌then◌else◌, List, [], ◌∷◌, length, take, drop, Result, Ok, Err}
 use Rattle.lsm_codec.specs.declared.fault.CodecFault.{CodecFault}
+use Rattle.lsm_codec.specs.Keys.{is_internal}
 use Rattle.lsm_codec.specs.Varint.{varint32_at, varint64_at}
 use Rattle.lsm_manifest.specs.declared.edit_fault.EditFault.{EditFault}
 use Rattle.lsm_manifest.specs.declared.edit_fault.EditFault.TheVariants.{UnknownTag, BadLevel, EditCut, BadEditKey}
 use Rattle.lsm_manifest.specs.declared.edit.Edit.{Edit}
-use Rattle.lsm_manifest.specs.Edit.{Field, Comparator, Log, Prev, Next, Last, Pointer, Deleted, Added, is_internal, edit_of}
+use Rattle.lsm_manifest.specs.Edit.{Field, Comparator, Log, Prev, Next, Last, Pointer, Deleted, Added, edit_of}
 
 -- what is at the front, and what follows it
 abbrev pub Read : Type 0 → Type 0

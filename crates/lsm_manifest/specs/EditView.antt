@@ -1,23 +1,27 @@
 -- What the readers of an edit return, as reading on lists gives it.
-use Rattle.std.specs.Prelude.{◌≡◌, ℕ, List, Result, Ok, Err}
+use Rattle.std.specs.Prelude.{ℕ, Bool, true, false, List, Result}
+use Rattle.lsm_codec.specs.Gives as answer
 use Rattle.lsm_manifest.specs.declared.edit_fault.EditFault.{EditFault}
 use Rattle.lsm_manifest.specs.declared.edit_fault.EditFault.TheVariants.{OutOfMemory, UnknownTag, BadLevel, EditCut, BadEditKey}
 use Rattle.lsm_manifest.specs.declared.parts.AddedFile.{AddedFile}
-use Rattle.lsm_manifest.specs.declared.field.Field.{Field as Held}
-use Rattle.lsm_manifest.specs.declared.field.Field.TheVariants as held
+use Rattle.lsm_manifest.specs.declared.field_reader.Field.{Field as Held}
+use Rattle.lsm_manifest.specs.declared.field_reader.Field.TheVariants as held
 use Rattle.lsm_manifest.specs.Edit.{Field, Comparator, Log, Prev, Next, Last, Pointer, Deleted, Added}
 
--- What was returned is what reading gives, unless memory ran out.
-abbrev pub Fails : {Y : Type 0} → EditFault → Result Y EditFault → Type 0
-Fails OutOfMemory read = Unit {0}
-Fails (UnknownTag tag) read = read ≡ Err (UnknownTag tag)
-Fails (BadLevel level) read = read ≡ Err (BadLevel level)
-Fails EditCut read = read ≡ Err EditCut
-Fails BadEditKey read = read ≡ Err BadEditKey
+abbrev pub is_memory : EditFault → Bool
+is_memory OutOfMemory = true
+is_memory (UnknownTag tag) = false
+is_memory (BadLevel level) = false
+is_memory EditCut = false
+is_memory BadEditKey = false
 
+-- The fault is the one that reading gives, unless memory ran out.
+abbrev pub Fails : {Y : Type 0} → EditFault → Result Y EditFault → Type 0
+Fails fault read = answer.Fails is_memory fault read
+
+-- What was returned is what reading gives, unless memory ran out.
 abbrev pub Gives : {X Y : Type 0} → (X → Y) → Result X EditFault → Result Y EditFault → Type 0
-Gives see (Ok x) read = read ≡ Ok (see x)
-Gives see (Err e) read = Fails e read
+Gives see result read = answer.Gives is_memory see result read
 
 -- a file that is added, in the order of its bytes
 abbrev pub added_parts : AddedFile → ℕ × (ℕ × (ℕ × (List ℕ × List ℕ)))

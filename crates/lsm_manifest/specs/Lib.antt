@@ -18,7 +18,7 @@ pub mod Standing
 pub mod FileOrder
 pub mod HeldLevel
 pub mod Shape
-pub mod Numbers
+pub mod LastValues
 pub mod Level
 pub mod Manifest
 pub mod WholeEdit

@@ -1,24 +1,28 @@
 -- What the readers of a log return, as reading on lists gives it.
-use Rattle.std.specs.Prelude.{◌≡◌, ℕ, List, [], Some, None, Result, Ok, Err}
+use Rattle.std.specs.Prelude.{ℕ, Bool, true, false, List, [], Some, None, Result}
+use Rattle.lsm_codec.specs.Gives as answer
 use Rattle.lsm_manifest.specs.declared.log_fault.LogFault.{LogFault}
 use Rattle.lsm_manifest.specs.declared.log_fault.LogFault.TheVariants.{OutOfMemory, LogChecksum, LogOrder, LogType}
 use Rattle.lsm_manifest.specs.declared.fragment.FragmentType.{FragmentType}
 use Rattle.lsm_manifest.specs.declared.fragment.FragmentType.TheVariants.{Full, First, Middle, Last}
-use Rattle.lsm_manifest.specs.declared.found.Found.{Found as Held}
-use Rattle.lsm_manifest.specs.declared.found.Found.TheVariants as held
+use Rattle.lsm_manifest.specs.declared.log_part.LogPart.{LogPart as Held}
+use Rattle.lsm_manifest.specs.declared.log_part.LogPart.TheVariants as held
 use Rattle.lsm_manifest.specs.declared.log.Log.{Log}
 use Rattle.lsm_manifest.specs.LogReading.{Found}
 
--- What was returned is what reading gives, unless memory ran out.
-abbrev pub Fails : {Y : Type 0} → LogFault → Result Y LogFault → Type 0
-Fails OutOfMemory read = Unit {0}
-Fails (LogChecksum offset) read = read ≡ Err (LogChecksum offset)
-Fails (LogOrder offset) read = read ≡ Err (LogOrder offset)
-Fails (LogType offset) read = read ≡ Err (LogType offset)
+abbrev pub is_memory : LogFault → Bool
+is_memory OutOfMemory = true
+is_memory (LogChecksum offset) = false
+is_memory (LogOrder offset) = false
+is_memory (LogType offset) = false
 
+-- The fault is the one that reading gives, unless memory ran out.
+abbrev pub Fails : {Y : Type 0} → LogFault → Result Y LogFault → Type 0
+Fails fault read = answer.Fails is_memory fault read
+
+-- What was returned is what reading gives, unless memory ran out.
 abbrev pub Gives : {X Y : Type 0} → (X → Y) → Result X LogFault → Result Y LogFault → Type 0
-Gives see (Ok x) read = read ≡ Ok (see x)
-Gives see (Err e) read = Fails e read
+Gives see result read = answer.Gives is_memory see result read
 
 -- the byte of a fragment's type
 abbrev pub type_byte : FragmentType → ℕ

@@ -3,7 +3,7 @@
 ghost use Rattle.std.specs.Prelude.{◌≡◌, [], OnOk};
 
 use crate::edit::Edit;
-use crate::field::Field;
+use crate::field_reader::Field;
 use crate::parts::{AddedFile, CompactPointer, DeletedFile};
 use lsm_codec::{Bytes, List};
 use std::alloc::{AllocError, Global};

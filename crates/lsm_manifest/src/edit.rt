@@ -5,7 +5,7 @@ ghost use Rattle.std.specs.Prelude.{◌≡◌, ◌++◌, ℕ, List, IfOk, Ok, On
 use crate::draft::Draft;
 use crate::edit_fault::EditFault;
 use crate::edit_writer::push_edit;
-use crate::field::Field;
+use crate::field_reader::Field;
 use crate::parts::{AddedFile, CompactPointer, DeletedFile};
 use lsm_codec::{Bytes, List};
 use std::alloc::{AllocError, Global};
@@ -98,6 +98,3 @@ fn read(alloc: Global, text: &[u8]) -> Result<Edit, EditFault>
 pub fn one_edit()
     ensures { (bytes : List ℕ) (e f : Change) → IsEdit bytes e → IsEdit bytes f → e ≡ f }
 {}
-
-#[cfg(test)]
-mod tests;

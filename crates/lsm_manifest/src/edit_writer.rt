@@ -8,7 +8,7 @@ ghost use Rattle.lsm_manifest.specs.EditWriting.{FitsField, optional, pointer_fi
 ghost use Rattle.lsm_manifest.specs.LentView.{lent_field};
 
 use crate::edit::Edit;
-use crate::lent::LentField;
+use crate::field_writer::LentField;
 use crate::parts::{AddedFile, CompactPointer, DeletedFile};
 use lsm_codec::Bytes;
 use std::alloc::AllocError;

@@ -1,9 +1,8 @@
 //! A table file as the manifest names it.
 
 ghost use Rattle.std.specs.Prelude.{◌≡◌, IfOk};
-ghost use Rattle.lsm_manifest.specs.FileOrder.{user_part, packed_part};
 
-use lsm_codec::Bytes;
+use lsm_codec::{Bytes, key_parts};
 use std::alloc::{AllocError, Global};
 use std::cmp::Ordering;
 
@@ -36,13 +35,11 @@ impl FileMeta {
     pub fn try_copy(&self, alloc: Global) -> Result<FileMeta, AllocError>
         ensures { IfOk result (λ file. file ≡ self.now) }
     {
-        let smallest = Vec::from_slice(alloc, self.smallest.as_slice())?;
-        let largest = Vec::from_slice(alloc, self.largest.as_slice())?;
         Ok(FileMeta {
             number: self.number,
             size: self.size,
-            smallest: Bytes::of(smallest),
-            largest: Bytes::of(largest),
+            smallest: self.smallest.try_copy(alloc)?,
+            largest: self.largest.try_copy(alloc)?,
         })
     }
 }
@@ -50,22 +47,6 @@ impl FileMeta {
 ghost use Rattle.std.specs.Ordering.{nat_cmp};
 ghost use Rattle.lsm_codec.specs.Keys.{InternalKey, IsKey, key_cmp, then_by};
 ghost use Rattle.lsm_manifest.specs.FileOrder.{file_cmp, place_cmp, TableFile};
-
-/// The parts of an internal key: the user key, and the number of its last eight bytes.
-#[tactic(auto, unfolding(crate::specs::FileOrder::user_part, crate::specs::FileOrder::packed_part))]
-fn parts(key: &[u8]) -> (&[u8], u64)
-    ensures user { result.0.now ≡ user_part key.now }
-    ensures packed { result.1 ≡ packed_part key.now }
-{
-    if key.len() < 8 {
-        return (key, 0);
-    }
-    let (user, tail) = key.split_at(key.len() - 8);
-    let packed = u64::from_le_bytes([
-        tail[0], tail[1], tail[2], tail[3], tail[4], tail[5], tail[6], tail[7],
-    ]);
-    (user, packed)
-}
 
 /// The order of two files in a level, by their smallest internal keys and their numbers: what `FileMeta::compare` goes by.
 pub fn compare_places(
@@ -76,8 +57,8 @@ pub fn compare_places(
 ) -> Ordering
     ensures { result ≡ place_cmp smallest.now number other_smallest.now other_number }
 {
-    let (user, packed) = parts(smallest);
-    let (other_user, other_packed) = parts(other_smallest);
+    let (user, packed) = key_parts(smallest);
+    let (other_user, other_packed) = key_parts(other_smallest);
     user.cmp(other_user)
         .then(other_packed.cmp(&packed))
         .then(number.cmp(&other_number))

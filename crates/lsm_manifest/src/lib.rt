@@ -1,28 +1,34 @@
 //! The manifest: LevelDB's record log, the version edits in it, and what the edits come to.
 //!
 //! Stands on `lsm_codec` (and `thiserror` for its faults). Its contract: a manifest's bytes spell edits, both ways, a front of
-//! them spells the first of the edits, and edits give one shape.
+//! them spells the first of the edits, and edits give one shape. Bytes are read by `log`, their records by `edit`, the edits by
+//! `shape`; `writer` writes a log, `edit` the records in it, and `manifest` and `whole_edit` have the laws of what is written.
 #![tactic(auto)]
 
+// The record log.
+mod fragment;
+mod log;
+mod log_fault;
+mod log_part;
+mod writer;
+
+// The edits in its records.
 mod draft;
 mod edit;
 mod edit_fault;
 mod edit_writer;
-mod field;
+mod field_reader;
+mod field_writer;
 mod file_meta;
-mod found;
-mod fragment;
-mod lent;
-mod log;
-mod log_fault;
 mod manifest;
-mod numbers;
 mod parts;
+
+// What edits come to.
+mod last_values;
 mod replay_fault;
 mod shape;
 mod standing;
 mod whole_edit;
-mod writer;
 
 pub use edit::{Edit, one_edit};
 pub use edit_fault::EditFault;

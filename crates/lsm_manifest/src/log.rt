@@ -5,7 +5,7 @@ ghost use Rattle.std.specs.Option.{option_map};
 ghost use Rattle.lsm_manifest.specs.Log.{IsLog};
 ghost use Rattle.lsm_manifest.specs.LogReading.{record_at, log_at};
 
-use crate::found::Found;
+use crate::log_part::LogPart;
 use crate::log_fault::LogFault;
 use lsm_codec::{Bytes, List};
 use std::alloc::Global;
@@ -34,13 +34,13 @@ fn next_record<'a>(
     let mut rest = text;
     for _ in 0..text.len() {
         let offset = (total - rest.len()) as u64;
-        let (kind, body, after) = match Found::at(offset, begun, rest)? {
-            Found::End => return Ok(None),
-            Found::Skipped(after) => {
+        let (kind, body, after) = match LogPart::at(offset, begun, rest)? {
+            LogPart::End => return Ok(None),
+            LogPart::Skipped(after) => {
                 rest = after;
                 continue;
             }
-            Found::Fragment(kind, body, after) => (kind, body, after),
+            LogPart::Fragment(kind, body, after) => (kind, body, after),
         };
         if !kind.may_follow(begun, &whole) {
             return Err(LogFault::LogOrder(offset));

@@ -8,7 +8,7 @@ ghost use Rattle.lsm_manifest.specs.Standing.{file_at, Tracks};
 
 use crate::edit::Edit;
 use crate::file_meta::FileMeta;
-use crate::numbers::{Numbers, last_key};
+use crate::last_values::{LastValues, last_key};
 use crate::replay_fault::ReplayFault;
 use crate::standing::Standing;
 use lsm_codec::{Bytes, List};
@@ -50,7 +50,7 @@ fn come_to(alloc: Global, edits: &[Edit]) -> Result<Shape, ReplayFault>
     ensures refused { IfErr result (λ fault. IsRefused edits.now fault) }
 {
     let standing = stand(alloc, edits)?;
-    let numbers = Numbers::of(edits);
+    let numbers = LastValues::of(edits);
     let Some(next) = numbers.next else {
         return Err(ReplayFault::NoNextFile);
     };
@@ -134,6 +134,3 @@ fn pointers(alloc: Global, edits: &[Edit]) -> Result<[Option<Bytes>; 7], AllocEr
         pointer_0, pointer_1, pointer_2, pointer_3, pointer_4, pointer_5, pointer_6,
     ])
 }
-
-#[cfg(test)]
-mod tests;

@@ -139,6 +139,3 @@ pub fn whole_log()
 pub fn prefixes()
     ensures { (bytes : List ℕ) (records : List (List ℕ)) → AreRecords 0 bytes records → (n : ℕ) → SpellsPrefix (take n bytes) records }
 {}
-
-#[cfg(test)]
-mod tests;

@@ -3,7 +3,7 @@ use Rattle.std.specs.Ordering.{is_lt}
 use Rattle.std.proofs.lemmas.List.Sorted.{answers_always, IsPermutation-sym, Contains-permutation}
 use Rattle.lsm_manifest.specs.EditWriting.{deleted_cmp}
 use Rattle.lsm_manifest.proofs.DeletedLaws.{deleted_lt, deleted_ranks, same_lt}
-use Rattle.lsm_manifest.proofs.LevelLaws.{contains_has, has_contains}
+use Rattle.lsm_codec.proofs.CallerLemmas.{contains_from, contains_says}
 use Rattle.lsm_manifest.proofs.parts.sort_deleted.Goals as goal
 
 pub returns-clause-ordered : goal.returns-clause-ordered
@@ -16,6 +16,6 @@ returns-clause-ordered c k d low lt =
 
 pub returns-clause-elements : goal.returns-clause-elements
 returns-clause-elements c d = (
-  λ h. contains_has _ d (Contains-permutation _ _ d (IsPermutation-sym _ _ c.sort_unstable_by.ensures.permutation) (has_contains _ d h)),
-  λ h. contains_has _ d (Contains-permutation _ _ d c.sort_unstable_by.ensures.permutation (has_contains _ d h)),
+  λ h. contains_says _ d (Contains-permutation _ _ d (IsPermutation-sym _ _ c.sort_unstable_by.ensures.permutation) (contains_from _ d h)),
+  λ h. contains_says _ d (Contains-permutation _ _ d c.sort_unstable_by.ensures.permutation (contains_from _ d h)),
 )

@@ -1,6 +1,6 @@
 use Rattle.std.proofs.Common.{ℕ, List, Result, Ok, Err, arith, subst}
 use Rattle.std.specs.Prelude.{IfOk}
-use Rattle.lsm_codec.proofs.Varints.{IsBytes}
+use Rattle.lsm_codec.proofs.CallerLemmas.{IsBytes}
 use Rattle.lsm_manifest.specs.declared.edit_fault.EditFault.{EditFault}
 use Rattle.lsm_manifest.specs.declared.edit.Edit.{Edit}
 use Rattle.lsm_manifest.specs.Edit.{IsEdit}
