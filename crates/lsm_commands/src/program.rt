@@ -52,11 +52,13 @@ fn tell<E: Write>(err: &mut E, fault: &Fault) -> io::Result<()>
     err.flush()
 }
 
-/// Runs the program on the words after its name, and answers its exit status: 0 where it is done, 1 where it is refused, 2 for
-/// a bad command line. A fault is one line on `err`; then nothing is written to `out`, but for a write fault.
+/// Runs the program on the words after its name, and answers its exit status: 0 where it is done, 1
+/// where it is refused, 2 for a bad command line. A fault is one line on `err`; then nothing is
+/// written to `out`, but for a write fault.
 ///
-/// `bad line I` names the first bad line of a list, `refused N Name ..` a refusal by its published number and name. A read
-/// that fails, or that gives more than 64 MiB, is `read fault`, a write that fails `write fault`.
+/// `bad line I` names the first bad line of a list, `refused N Name ..` a refusal by its published
+/// number and name (docs/FORMATS.md). A read that fails, or that gives more than 64 MiB, is
+/// `read fault`, a write that fails `write fault`.
 pub fn run<S: AsStr, R: Read, O: Write, E: Write>(
     alloc: Global,
     words: &[S],

@@ -1,5 +1,5 @@
-//! Tests of `lsm_commands` by its public names: runs of each command on bytes from outside, and what standard output, standard
-//! error and the exit status then are.
+//! Tests of `lsm_commands` by its public names: runs of each command on bytes from outside, and what
+//! standard output, standard error and the exit status then are.
 #![tactic(auto)]
 
 #[cfg(test)]

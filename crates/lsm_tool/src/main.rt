@@ -1,6 +1,7 @@
 //! The program `lsm`: makes LevelDB's files, and shows what is in them.
 //!
-//! Stands on `lsm_commands`, which does all that it does; here stand the words, standard input and output, and the exit status.
+//! Stands on `lsm_commands`, which does all that it does. Here stand the words, standard input and
+//! output, and the exit status.
 #![tactic(auto)]
 
 use lsm_commands::{refuse_words, run};
