@@ -1,5 +1,5 @@
 -- The laws follow from the rule.
-use Rattle.std.proofs.Common.{◌≡◌, ◌≢◌, ℕ, suc, ◌+◌, ◌<◌, Option, Some, None, List, [], ◌∷◌, cond, eqb, eq-eqb, ne_eqb, get_or, refl, sym, ap, ◌∙◌, subst, arith}
+use Rattle.std.proofs.Common.{◌≡◌, ◌≢◌, ℕ, suc, ◌+◌, ◌*◌, ◌^◌, ◌<◌, take, replicate, Option, Some, None, List, [], ◌∷◌, cond, eqb, eq-eqb, ne_eqb, get_or, refl, sym, ap, ◌∙◌, subst, arith}
 use Rattle.std.proofs.lemmas.List.Sums.{sum_by-cons}
 use Rattle.std.specs.Prelude.{slice_get, sum_by}
 use mathlib.Core.Logic.{dite}
@@ -8,9 +8,11 @@ use Rattle.lsm_pins.specs.declared.view.View.{View}
 use Rattle.lsm_pins.specs.declared.slot_record.SlotRecord.{SlotRecord}
 use Rattle.lsm_pins.specs.Head.{head_of, count_in}
 use Rattle.lsm_pins.specs.SlotRecord.{IsInUse}
-use Rattle.lsm_pins.specs.View.{held_at, pin_at}
+use Rattle.lsm_pins.specs.View.{first_view, held_at, pin_at}
+use Rattle.lsm_pins.specs.declared.rule.Start.{Start}
+use Rattle.lsm_pins.proofs.SeatSteps.{opens}
 use Rattle.lsm_pins.specs.Rule.{BoardState, IsKept, current_pins, current_slot}
-use Rattle.lsm_pins.specs.Laws.{BoardLaw, HeldIsNotFree, IsPublisher, MissedIsHeld}
+use Rattle.lsm_pins.specs.Laws.{BoardLaw, EachStartHasAState, HeldIsNotFree, IsPublisher, MissedIsHeld, NoLawIsAbsurd}
 use Rattle.lsm_pins.proofs.PinSteps.{head_count}
 use Rattle.lsm_pins.proofs.SlotLemmas.{in_use-has_id}
 use Rattle.lsm_pins.proofs.ViewLemmas.{free_apart}
@@ -60,6 +62,10 @@ module _ (words : List ℕ) (views : List View) (kept : IsKept words views) (p :
   pub law : BoardLaw words views p
   law = record {
     head = kept.1.head ∙ (λ i. head_of (slot_is i) (sym mine.1 i) (sym count_is i));
+    in_use =
+        let a : IsInUse b.records p.slot b.id = subst (λ s. IsInUse b.records s b.id) slot_is kept.1.current_is in
+        let d : IsInUse b.records p.slot p.id = subst (λ i. IsInUse b.records p.slot i) (sym mine.1) a in
+        in_use-has_id p.records p.slot p.id (subst (λ rs. IsInUse rs p.slot p.id) (sym mine.3) d);
     current = λ r e.
         let was = kept.1.balance p.slot r (in_board p.slot r e) in
         let on : cond (eqb p.slot (current_slot b)) (current_pins b views) 0 ≡ current_pins b views = ap (λ c. cond c (current_pins b views) 0) (eq-eqb p.slot (current_slot b) (sym slot_is)) in
@@ -80,4 +86,22 @@ module _ (words : List ℕ) (views : List View) (kept : IsKept words views) (p :
   not_free y i s v e l pin = in_use-has_id p.records s i (subst (λ rs. IsInUse rs s i) (sym mine.3) ((kept.1.fits y v e l).holds i s pin).1)
 
   pub missed : MissedIsHeld words views p
-  missed s r e other odd = let all = retired s r e other in some_holder s views (omega arith)
+  missed s r e other odd =
+      let all = retired s r e other in
+      let found = some_holder s views (omega arith) in
+      (found.0, found.1, found.2, found.3, (kept.1.small found.0 found.2 found.3).holder found.1 s found.4, found.4)
+
+-- the state of a board just made
+pub some_state : EachStartHasAState
+some_state start some few ids = record {
+  state = record { words = take (start.slots + 1) (start.id * 2 ^ 30 ∷ replicate 64 0); homes = []; views = first_view start ∷ [] };
+  kept = opens start.slots start.id some few ids;
+  view = first_view start;
+  publisher = record { seat = 0; at = refl; live = refl; publishes = refl };
+}
+
+pub not_absurd : NoLawIsAbsurd
+not_absurd law =
+    let start : Start = record { slots = 3; id = 0 } in
+    let s = some_state start (omega arith) (omega arith) (omega arith) in
+    law start s.state s.kept s.view s.publisher

@@ -6,3 +6,4 @@ mod PinSteps
 mod PublishSteps
 mod SeatSteps
 mod LawLemmas
+mod HeldState

@@ -63,7 +63,7 @@ module _ (b : BoardState) (words : List ℕ) (views : List View) (by : ℕ) (v :
     after = set views by w
 
     few_w : IsBounded b.id w
-    few_w = let a = cond_le (eqb v.id b.id) v.count in record { few = omega arith; seen = omega arith }
+    few_w = let a = cond_le (eqb v.id b.id) v.count in record { few = omega arith; seen = omega arith; holder = λ i s e. live }
 
     few_after : Few b.id after
     few_after = few_set views by w b.id h.small few_w
@@ -197,7 +197,7 @@ module _ (b : BoardState) (words : List ℕ) (views : List View) (by : ℕ) (v :
       balance = balance_left;
       bounded = h.bounded;
       free = λ s r e f. let was = h.free s r e f in let holds = held_left s in omega arith;
-      small = few_set views by u b.id h.small (record { few = (h.small by v at).few; seen = (h.small by v at).seen });
+      small = few_set views by u b.id h.small (record { few = (h.small by v at).few; seen = (h.small by v at).seen; holder = λ i s e. live });
       fits = fits_set views by u b (λ j x _ e l. h.fits j x e l) (λ _. let f = h.fits by v at live in record {
         slots = f.slots;
         seen_slot = f.seen_slot;
@@ -240,7 +240,7 @@ module _ (b : BoardState) (words : List ℕ) (views : List View) (by : ℕ) (v :
           omega arith;
       bounded = h.bounded;
       free = λ s r e f. held_seen s ∙ h.free s r e f;
-      small = few_set views by z b.id h.small (let a = cond_le (eqb v.id b.id) v.count in let f = (h.small by v at).few in record { few = omega arith; seen = omega arith });
+      small = few_set views by z b.id h.small (let a = cond_le (eqb v.id b.id) v.count in let f = (h.small by v at).few in record { few = omega arith; seen = omega arith; holder = λ i s e. live });
       fits = fits_set views by z b (λ j x _ e l. h.fits j x e l) (λ _. let f = h.fits by v at live in record {
         slots = f.slots;
         seen_slot = refl;

@@ -55,7 +55,7 @@ module _ (b : BoardState) (words : List ℕ) (views : List View) (by : ℕ) (v :
           omega arith;
       bounded = h.bounded;
       free = λ s r e f. sum_same (held_at s) views by v missed_view at refl ∙ h.free s r e f;
-      small = few_set views by missed_view b.id h.small (record { few = (h.small by v at).few; seen = (h.small by v at).seen });
+      small = few_set views by missed_view b.id h.small (record { few = (h.small by v at).few; seen = (h.small by v at).seen; holder = λ i s e. live });
       fits = fits_set views by missed_view b (λ j u _ e l. h.fits j u e l) (λ _. record {
         slots = mine.slots;
         seen_slot = mine.seen_slot;
@@ -128,7 +128,7 @@ module _ (b : BoardState) (words : List ℕ) (views : List View) (by : ℕ) (v :
           (λ (z : (s ≡ t) × (record r { id = None } ≡ q)). ap (λ k. sum_by (held_at k) views) z.0 ∙ unheld)
           (λ (z : (s ≢ t) × (slice_get b.records s ≡ Some q)). h.free s q z.1 f)
           (at_set b.records t s (record r { id = None }) q e);
-      small = few_set views by w b.id h.small (record { few = (h.small by v at).few; seen = (h.small by v at).seen });
+      small = few_set views by w b.id h.small (record { few = (h.small by v at).few; seen = (h.small by v at).seen; holder = λ i s e. live });
       fits = fits_set views by w now
           (λ j u other e l. let f = h.fits j u e l in record {
             slots = f.slots ∙ sym (length-set b.records t (record r { id = None }));
@@ -286,7 +286,7 @@ module _ (b : BoardState) (words : List ℕ) (views : List View) (by : ℕ) (v :
           (λ f. absurd (none-some _ (sym f)))
           (λ f. absurd (none-some _ (sym f)))
           (λ s q _ _ e f. held_then s ∙ h.free s q e f);
-      small = few_set views by p (b.id + 1) (λ j u e. let m = h.small j u e in let seen = m.seen in record { few = m.few; seen = omega arith }) (record { few = (h.small by v at).few; seen = omega arith });
+      small = few_set views by p (b.id + 1) (λ j u e. let m = h.small j u e in let seen = m.seen in record { few = m.few; seen = omega arith; holder = m.holder }) (record { few = (h.small by v at).few; seen = omega arith; holder = λ i s e. live });
       fits = fits_set views by p next
           (λ j u other e l. let f = h.fits j u e l in let seen = (h.small j u e).seen in let noted = f.noted in let told = f.told in record {
             slots = f.slots ∙ sym same_length;

@@ -83,7 +83,7 @@ module _ (b : BoardState) (words : List ℕ) (views : List View) (by : ℕ) (v :
         omega arith;
     bounded = h.bounded;
     free = λ s r e f. held_cut s ∙ h.free s r e f;
-    small = let m = h.small by v at in let seen = m.seen in few_snoc first_half right b.id (few_set views by left b.id h.small (record { few = few_left; seen = seen })) (record { few = omega arith; seen = seen });
+    small = let m = h.small by v at in let seen = m.seen in few_snoc first_half right b.id (few_set views by left b.id h.small (record { few = few_left; seen = seen; holder = λ i s e. live })) (record { few = omega arith; seen = seen; holder = λ i s e. live });
     fits = fits_snoc first_half right b fits_left (λ j _. record {
       slots = mine.slots;
       seen_slot = mine.seen_slot;
@@ -141,7 +141,7 @@ module _ (b : BoardState) (words : List ℕ) (views : List View) (by : ℕ) (v :
         omega arith;
     bounded = h.bounded;
     free = λ s r e f. held_joined s ∙ h.free s r e f;
-    small = few_set joined other spent_view b.id (few_set views by w b.id h.small small_w) (record { few = omega arith; seen = omega arith });
+    small = few_set joined other spent_view b.id (few_set views by w b.id h.small small_w) (record { few = omega arith; seen = omega arith; holder = λ i s e. absurd (cc) });
     fits = fits_set joined other spent_view b (λ j u _ e l. fits_set views by w b (λ i y _ e' m. h.fits i y e' m) (λ _. fit_w) j u e l) (λ l. absurd (true≢false (sym l)));
     known = tied_set joined other spent_view (tied_set views by w h.known (λ j u _ e l _. ties j u e l) (λ _. self)) (λ j u _ e l m. absurd (true≢false (sym m))) (λ m. absurd (true≢false (sym m)));
   }
@@ -174,7 +174,7 @@ takes_note k id v other c live copy s kept table_at apart table_there =
     let f = h.fits id v at live in
     let m = h.small id v at in (
       b,
-      joined_kept b s.words s.views id v h at live other c w apart there copy.live copy.count copy.parts copy.held (λ _. refl) (λ _. refl) refl (record { few = m.few; seen = m.seen })
+      joined_kept b s.words s.views id v h at live other c w apart there copy.live copy.count copy.parts copy.held (λ _. refl) (λ _. refl) refl (record { few = m.few; seen = m.seen; holder = λ i s e. live })
           (record {
             slots = f.slots;
             seen_slot = f.seen_slot;
@@ -200,7 +200,7 @@ takes_told k id v other c live reads copy s kept table_at apart table_there =
     let g = h.fits other c there copy.live in
     let m = h.small id v at in (
       b,
-      joined_kept b s.words s.views id v h at live other c w apart there copy.live copy.count copy.parts copy.held (λ _. refl) (λ _. refl) refl (record { few = m.few; seen = m.seen })
+      joined_kept b s.words s.views id v h at live other c w apart there copy.live copy.count copy.parts copy.held (λ _. refl) (λ _. refl) refl (record { few = m.few; seen = m.seen; holder = λ i s e. live })
           (record {
             slots = f.slots;
             seen_slot = f.seen_slot;
@@ -282,7 +282,7 @@ module _ (slots id : ℕ) (some_slot : 0 < slots) (few : slots ≤ 64) (ids : id
       balance = λ s r e. let t = first_totals slots id s r e in let z = zeros s in let p = no_pins in let c = cond_le (eqb s 0) (current_pins b (v ∷ [])) in omega arith;
       bounded = λ s r e. let t = first_totals slots id s r e in omega arith;
       free = λ s r e f. refl;
-      small = only (λ _ u. IsBounded id u) (record { few = omega arith; seen = omega arith });
+      small = only (λ _ u. IsBounded id u) (record { few = omega arith; seen = omega arith; holder = λ i s e. refl });
       fits = only (λ by u. u.live ≡ true → Fits b by u) (λ _. first_fits);
       known = λ x y c u ex ey lc lu. only (λ _ d. KnowsPin c d) (record { names = λ i s e le. absurd (cc) }) y u ey;
     },

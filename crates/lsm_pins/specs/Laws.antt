@@ -1,5 +1,5 @@
 -- The law of a board, in words of its slots, pins and views. This project's rule.
-use Rattle.std.specs.Prelude.{◌≡◌, ◌≢◌, ℕ, suc, ◌+◌, ◌≤◌, true, Some, None, List, sum_by, slice_get, slice_index}
+use Rattle.std.specs.Prelude.{◌≡◌, ◌≢◌, ℕ, suc, ◌+◌, ◌^◌, ◌<◌, ◌≤◌, true, Some, None, List, sum_by, slice_get, slice_index}
 use Rattle.atomic_table.specs.Table.{State}
 use Rattle.lsm_pins.specs.declared.view.View.{View}
 use Rattle.lsm_pins.specs.declared.rule.Start.{Start}
@@ -34,6 +34,8 @@ IsLaw P = (start : Start) (s : State (Unit {0}) View) → BoardHolds start s →
 -- the words of a board, the views of its seats and, among them, the publisher's
 pub record BoardLaw (words : List ℕ) (views : List View) (p : View) : Type 0 where
   pub head : slice_index words 0 ≡ head_of p.slot p.id (head_count words)
+  -- the current slot has the publisher's id, so it is not free
+  pub in_use : HasId p p.slot p.id
   -- the current slot: its pins before and after it became current are those given back and those held
   pub current : (r : SlotRecord) → slice_get p.records p.slot ≡ Some r → r.total + head_count words ≡ given_back words p.slot + holders views p.slot
   -- a retired slot: all its pins are given back or held
@@ -54,4 +56,24 @@ HeldIsNotFree words views p = (y id slot : ℕ) (v : View) → slice_get views y
 -- a slot that is not current and of which not all pins are given back is held by a view, so a look that answers false of it is right
 abbrev pub MissedIsHeld : List ℕ → List View → View → Type 0
 MissedIsHeld words views p = (s : ℕ) (r : SlotRecord) → slice_get p.records s ≡ Some r → s ≢ p.slot → given_back words s ≢ r.total
-    → (y id : ℕ) × (v : View) × (slice_get views y ≡ Some v) × (v.held ≡ Some (id, s))
+    → (y id : ℕ) × (v : View) × (slice_get views y ≡ Some v) × (v.live ≡ true) × (v.held ≡ Some (id, s))
+
+-- a state that the rule allows, with a publisher's view in it
+pub record SomeState (start : Start) : Type 0 where
+  pub state : State (Unit {0}) View
+  pub kept : BoardHolds start state
+  pub view : View
+  pub publisher : IsPublisher state.views view
+
+-- the rule allows a state of each board that can be made
+abbrev pub EachStartHasAState : Type 0
+EachStartHasAState = (start : Start) → 0 < start.slots → start.slots ≤ 64 → start.id < 2 ^ 28 → SomeState start
+
+-- in some such state a view holds a slot whose version is no longer current
+abbrev pub APinOutlivesItsVersion : Type 0
+APinOutlivesItsVersion = (start : Start) × (s : SomeState start) × (y id slot : ℕ) × (v : View)
+    × (slice_get s.state.views y ≡ Some v) × (v.live ≡ true) × (v.held ≡ Some (id, slot)) × (slot ≢ s.view.slot)
+
+-- so a law is no empty promise: what can't be is none
+abbrev pub NoLawIsAbsurd : Type 0
+NoLawIsAbsurd = IsLaw (λ words views p. ⊥) → ⊥

@@ -22,10 +22,11 @@ current_slot b = b.slot_of b.id
 abbrev pub current_pins : BoardState → List View → ℕ
 current_pins b views = sum_by (pins_of b.id) views
 
--- of every view, a spent one too: at most 2^24 pins for each part, and no id above the current one
+-- of every view, a spent one too: at most 2^24 pins for each part, no id above the current one, and a pin only where it is not spent
 pub record IsBounded (id : ℕ) (v : View) : Type 0 where
   pub few : v.count ≤ 2 ^ 24 * v.parts
   pub seen : v.id ≤ id
+  pub holder : (id slot : ℕ) → v.held ≡ Some (id, slot) → v.live ≡ true
 
 -- what a view that is not spent says is so
 pub record Fits (b : BoardState) (by : ℕ) (v : View) : Type 0 where

@@ -136,13 +136,3 @@ pub record IsCopy (c : View) : Type 0 where
   pub count : c.count ≡ 0
   pub parts : c.parts ≡ 0
   pub held : c.held ≡ None
-
--- What a call leaves as it was
-
--- the publisher's view but for its note
-abbrev pub SameBoard : View → View → Type 0
-SameBoard v w = w ≡ record v { note_id = w.note_id; note_slot = w.note_slot }
-
--- a reader's view but for what it was told
-abbrev pub SamePins : View → View → Type 0
-SamePins v w = w ≡ record v { told_id = w.told_id; records = w.records }

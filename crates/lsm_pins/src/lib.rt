@@ -18,7 +18,10 @@ mod steps;
 mod view;
 
 pub use board::Board;
-pub use laws::{board_law, held_is_not_free, missed_is_held};
+pub use laws::{
+    a_pin_outlives_its_version, board_law, each_start_has_a_state, held_is_not_free,
+    missed_is_held, no_law_is_absurd,
+};
 pub use pin_fault::PinFault;
 pub use pinner::Pinner;
 pub use publish_fault::PublishFault;
@@ -26,6 +29,3 @@ pub use publisher::Publisher;
 pub use rule::{BoardRule, Start, Words};
 pub use slot_record::SlotRecord;
 pub use view::View;
-
-#[cfg(test)]
-mod tests;

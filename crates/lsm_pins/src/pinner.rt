@@ -4,7 +4,7 @@ ghost use Rattle.std.specs.Prelude.{◌≡◌, ℕ, ◌+◌, ◌^◌, ◌<◌, �
 ghost use Rattle.std.specs.Arc.{arc_value};
 ghost use Rattle.lsm_pins.specs.Pinner.{IsPinnersView};
 ghost use Rattle.lsm_pins.specs.Rule.{KnowsPin};
-ghost use Rattle.lsm_pins.specs.View.{IsCopy, SameBoard, SamePins, copied_view, learnt_view, pinned_view, slot_ids, told_view, unpinned_view};
+ghost use Rattle.lsm_pins.specs.View.{IsCopy, copied_view, learnt_view, noted_view, pinned_view, slot_ids, told_view, unpinned_view};
 
 use crate::head::Head;
 use crate::pin_fault::PinFault;
@@ -88,8 +88,8 @@ impl Pinner {
         requires { self.old.board ≡ publisher.old.board }
         ensures boards { (self.new.board ≡ self.old.board) × (publisher.new.board ≡ publisher.old.board) }
         ensures current { (result.0 ≡ publisher.old.knows.id) × (result.1 ≡ publisher.old.knows.slot) }
-        ensures learnt { SamePins (learnt_view self.old.knows result.0 result.1) self.new.knows }
-        ensures publisher { SameBoard publisher.old.knows publisher.new.knows }
+        ensures learnt { self.new.knows ≡ learnt_view (told_view self.old.knows publisher.old.knows) result.0 result.1 }
+        ensures publisher { publisher.new.knows ≡ noted_view publisher.old.knows self.new.knows }
         ensures slots { slot_ids publisher.new.knows ≡ slot_ids publisher.old.knows }
     {
         let told = publisher.copy();

@@ -1,9 +1,9 @@
 //! The publisher's end of a board.
 
-ghost use Rattle.std.specs.Prelude.{◌≡◌, ◌≢◌, ℕ, ◌+◌, ◌-◌, ◌^◌, ◌<◌, ◌≤◌, ◌↔◌, [], None, Some, length, slice_set, if◌then◌else◌, IfOk, IfSome, OnErr, IsErr, IsTrue};
+ghost use Rattle.std.specs.Prelude.{◌≡◌, ◌≢◌, ℕ, ◌+◌, ◌-◌, ◌^◌, ◌<◌, ◌≤◌, ◌↔◌, [], None, Some, length, slice_set, if◌then◌else◌, is_some, IfOk, IfSome, OnErr, IsErr, IsTrue};
 ghost use Rattle.std.specs.Arc.{arc_value};
 ghost use Rattle.lsm_pins.specs.Publisher.{IsPublishersView};
-ghost use Rattle.lsm_pins.specs.View.{HasId, IsCopy, IsFree, SameBoard, SamePins, copied_view, is_unheld, looked_view, noted_view, published_view, slot_ids};
+ghost use Rattle.lsm_pins.specs.View.{HasId, IsCopy, IsFree, copied_view, is_unheld, looked_view, noted_view, published_view, slot_ids, told_view};
 
 use crate::head::Head;
 use crate::pinner::Pinner;
@@ -119,9 +119,9 @@ impl Publisher {
         ensures boards { (self.new.board ≡ self.old.board) × (pinner.new.board ≡ pinner.old.board) }
         ensures held { result ≡ pinner.old.knows.held }
         ensures in_use { IfSome result (λ r. HasId self.new.knows r.1 r.0) }
-        ensures publisher { SameBoard self.old.knows self.new.knows }
+        ensures publisher { self.new.knows ≡ (if is_some result then noted_view self.old.knows pinner.old.knows else self.old.knows) }
         ensures slots { slot_ids self.new.knows ≡ slot_ids self.old.knows }
-        ensures pinner { SamePins pinner.old.knows pinner.new.knows }
+        ensures pinner { pinner.new.knows ≡ (if is_some result then told_view pinner.old.knows self.old.knows else pinner.old.knows) }
     {
         let Some((id, slot)) = pinner.held else {
             return None;

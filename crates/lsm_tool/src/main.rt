@@ -1,23 +1,10 @@
 //! The program `lsm`: makes LevelDB's files, and shows what is in them.
 //!
-//! Stands on the crates of the files, on `clap` for the command line and on `hex` for the words. Its contract: what a command
-//! writes on standard output for what it reads on standard input, in `commands`.
+//! Stands on `lsm_commands`, which does all that it does. Here stand the words, standard input and
+//! output, and the exit status.
 #![tactic(auto)]
 
-mod command_line;
-mod commands;
-mod edit_spelling;
-mod entry_buffer;
-mod entry_reader;
-mod fault;
-mod laws;
-mod run;
-mod spelling;
-mod streams;
-#[cfg(test)]
-mod tests;
-mod words;
-
+use lsm_commands::{refuse_words, run};
 use std::alloc::Global;
 use std::env::{self, Env};
 use std::io;
@@ -32,14 +19,14 @@ fn words_of(rt: &(impl Env + AllocGlobal)) -> io::Result<Vec<String>> {
 fn main(rt: HostRuntime) -> ExitCode {
     let mut err = rt.stderr();
     let status = match words_of(&rt) {
-        Ok(words) => run::run(
+        Ok(words) => run(
             rt.alloc(),
             words.as_slice().get(1..).unwrap_or(&[]),
             &mut rt.stdin(),
             &mut rt.stdout(),
             &mut err,
         ),
-        Err(error) => run::refuse_words(&error, &mut err),
+        Err(error) => refuse_words(&error, &mut err),
     };
     ExitCode::from(status)
 }

@@ -1,0 +1,11 @@
+pub mod PartLaws
+pub mod WordLaws
+pub mod SequenceLaws
+pub mod LineLaws
+pub mod ListLaws
+pub mod PrintLaws
+pub mod StreamLaws
+pub mod MakingLaws
+pub mod ManifestLaws
+pub mod LineLists
+mod LineCases

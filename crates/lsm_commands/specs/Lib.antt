@@ -1,0 +1,9 @@
+pub mod EntryList
+pub mod EntryReading
+pub mod EntryPrinting
+pub mod EntryView
+pub mod ReaderView
+pub mod Fault
+pub mod FaultText
+pub mod Commands
+pub mod ManifestPrinting

@@ -1,0 +1,20 @@
+//! Laws of text lists, as contracts of functions that do nothing.
+
+ghost use Rattle.std.specs.Prelude.{◌≡◌, ℕ, List, All, ◌⊎◌};
+ghost use Rattle.lsm_codec.specs.Entries.{Entry};
+ghost use Rattle.lsm_block.specs.Block.{Ascends};
+ghost use Rattle.lsm_commands.specs.EntryList.{IsEntryList, IsFirstBadLine};
+ghost use Rattle.lsm_commands.specs.EntryPrinting.{IsListable, entry_list};
+
+/// A text is a list of entries, or has a first bad line; it is at most one list, and not both; its first bad line is one line.
+pub fn one_list()
+    ensures either { (text : List ℕ) → ((es : List Entry) × IsEntryList text es) ⊎ ((i : ℕ) × IsFirstBadLine text i) }
+    ensures list { (text : List ℕ) (es fs : List Entry) → IsEntryList text es → IsEntryList text fs → es ≡ fs }
+    ensures both { (text : List ℕ) (es : List Entry) (i : ℕ) → IsEntryList text es → IsFirstBadLine text i → ⊥ }
+    ensures line { (text : List ℕ) (i j : ℕ) → IsFirstBadLine text i → IsFirstBadLine text j → i ≡ j }
+{}
+
+/// What is printed for entries that stand in order is a list of just those, where lines can spell them.
+pub fn printed_list()
+    ensures { (es : List Entry) → All IsListable es → Ascends es → IsEntryList (entry_list es) es }
+{}

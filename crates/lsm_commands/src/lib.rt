@@ -1,0 +1,32 @@
+//! The commands of the program `lsm`: what each writes on standard output for what it reads on
+//! standard input.
+//!
+//! Stands on the crates of the files, on `clap` for the command line and on `hex` for the words of
+//! bytes. Its contract: `run` answers what the command that the words ask for answers, or names a
+//! fault that explains the input.
+#![tactic(auto)]
+
+// A run: what its words ask for, and what is done for them.
+mod command_line;
+mod commands;
+mod program;
+mod streams;
+
+// The lists of entries that are read.
+mod entry_buffer;
+mod entry_reader;
+mod words;
+
+// What is printed.
+mod edit_spelling;
+mod fault;
+mod refusal;
+mod spelling;
+
+// What holds of lists.
+mod laws;
+
+pub use command_line::{CommandLine, CommandName};
+pub use fault::Fault;
+pub use laws::{one_list, printed_list};
+pub use program::{refuse_words, run};

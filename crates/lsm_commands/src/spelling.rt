@@ -1,0 +1,71 @@
+//! What the program prints of bytes, numbers and entries.
+
+ghost use Rattle.std.specs.Prelude.{◌≡◌, ◌+◌, ◌++◌, OnOk, decimal};
+ghost use Rattle.lsm_commands.specs.EntryPrinting.{bytes_word, action_text, entry_line};
+
+use lsm_codec::{KeyRef, Kind};
+use std::alloc::AllocError;
+
+/// Appends the word for some bytes: lower-case hex, or `.` for no bytes.
+pub(crate) fn push_bytes(out: &mut Vec<u8>, bytes: &[u8]) -> Result<(), AllocError>
+    ensures { OnOk result (out.new.items ≡ out.old.items ++ bytes_word bytes.now) }
+{
+    if bytes.is_empty() {
+        out.push(b'.')?;
+        return Ok(());
+    }
+    let start = out.len();
+    let end = bytes
+        .len()
+        .checked_mul(2)
+        .and_then(|len| len.checked_add(start));
+    out.resize(end.ok_or(AllocError)?, 0)?;
+    let _ = hex::encode_to_slice(bytes, &mut out[start..]);
+    Ok(())
+}
+
+/// Appends a number in decimal digits.
+#[tactic(auto, using(std::proofs::lemmas::Fmt::decimal_digit, std::proofs::lemmas::Fmt::decimal_step))]
+pub(crate) fn push_decimal(out: &mut Vec<u8>, n: u64) -> Result<(), AllocError>
+    ensures { OnOk result (out.new.items ≡ out.old.items ++ decimal n) }
+{
+    if n < 10 {
+        out.push(b'0' + n as u8)?;
+        return Ok(());
+    }
+    push_decimal(out, n / 10)?;
+    out.push(b'0' + (n % 10) as u8)?;
+    Ok(())
+}
+
+fn push_action(out: &mut Vec<u8>, kind: Kind, value: &[u8]) -> Result<(), AllocError>
+    ensures { OnOk result (out.new.items ≡ out.old.items ++ action_text kind value.now) }
+{
+    match kind {
+        Kind::Deletion => out.extend_from_slice(b"del"),
+        Kind::Value => {
+            out.extend_from_slice(b"put ")?;
+            push_bytes(out, value)
+        }
+    }
+}
+
+/// Appends the line of an entry.
+#[tactic(auto, unfolding(crate::specs::EntryPrinting::entry_line))]
+pub(crate) fn push_entry(
+    out: &mut Vec<u8>,
+    user: &[u8],
+    seq: u64,
+    kind: Kind,
+    value: &[u8],
+) -> Result<(), AllocError>
+    ensures { OnOk result (out.new.items ≡ out.old.items ++ entry_line record { user = user.now; seq = seq; kind = kind; value = value.now }) }
+{
+    push_bytes(out, user)?;
+    out.push(b' ')?;
+    push_decimal(out, seq)?;
+    out.push(b' ')?;
+    push_action(out, kind, value)?;
+    out.push(b'\n')?;
+    Ok(())
+}

@@ -1,0 +1,71 @@
+//! The words of a line.
+
+ghost use Rattle.std.specs.Prelude.{◌≡◌, ℕ, ◌<◌, ◌^◌, List, length, IfOk, IfSome};
+ghost use Rattle.std.specs.Option.{option_map};
+ghost use Rattle.lsm_commands.specs.EntryReading.{parts_at, digits_at, sequence_at, bytes_at, Reads};
+
+use lsm_codec::MAX_SEQ;
+use std::alloc::AllocError;
+
+/// What stands before the first separator, and what stands after it.
+pub(crate) fn parts<'a>(separator: u8, text: &'a [u8]) -> Option<(&'a [u8], &'a [u8])>
+    ensures { option_map (λ p. (p.0.now, p.1.now)) result ≡ parts_at separator text.now }
+{
+    for i in 0..text.len() {
+        if text[i] == separator {
+            return Some((&text[..i], &text[i + 1..]));
+        }
+    }
+    None
+}
+
+#[tactic(auto, unfolding(crate::specs::EntryReading::digits_at))]
+fn digits(n: u64, word: &[u8]) -> Option<u64>
+    requires { n < 2 ^ 56 }
+    ensures reads { result ≡ digits_at n word.now }
+    ensures fits { IfSome result (λ seq. seq < 2 ^ 56) }
+{
+    match word {
+        [] => Some(n),
+        [byte, rest @ ..] => {
+            if !(b'0'..=b'9').contains(byte) {
+                return None;
+            }
+            let n = n * 10 + (byte - b'0') as u64;
+            if n > MAX_SEQ {
+                return None;
+            }
+            digits(n, rest)
+        }
+    }
+}
+
+/// The sequence that a word spells.
+#[tactic(auto, unfolding(crate::specs::EntryReading::sequence_at))]
+pub(crate) fn sequence(word: &[u8]) -> Option<u64>
+    ensures reads { result ≡ sequence_at word.now }
+    ensures fits { IfSome result (λ seq. seq < 2 ^ 56) }
+{
+    if word.is_empty() || word.len() > 20 {
+        return None;
+    }
+    digits(0, word)
+}
+
+/// Takes the bytes that a word spells. `false` where it spells none, or more than `most`; what `out` then holds is not
+/// specified.
+#[tactic(auto, unfolding(crate::specs::EntryReading::bytes_at))]
+pub(crate) fn read_bytes(out: &mut Vec<u8>, most: usize, word: &[u8]) -> Result<bool, AllocError>
+    ensures { IfOk result (λ found. Reads found out.new.items (bytes_at most word.now)) }
+{
+    if word == b".".as_slice() {
+        out.clear();
+        return Ok(true);
+    }
+    let len = word.len() / 2;
+    if len == 0 || len > most {
+        return Ok(false);
+    }
+    out.resize(len, 0)?;
+    Ok(hex::decode_to_slice(word, out.as_mut_slice()).is_ok())
+}

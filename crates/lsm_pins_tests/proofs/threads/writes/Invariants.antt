@@ -1,0 +1,9 @@
+use Rattle.std.proofs.Common.{◌≡◌, length}
+use Rattle.lsm_pins.specs.View.{slot_ids}
+use Rattle.lsm_pins_tests.proofs.threads.writes.Given as goal
+
+abbrev pub invariant-slots : goal.invariant-slots
+invariant-slots l = length (slot_ids l.publisher.knows) ≡ 4
+
+abbrev pub invariant-rounds : goal.invariant-rounds
+invariant-rounds l = length (slot_ids l.publisher.knows) ≡ 4
