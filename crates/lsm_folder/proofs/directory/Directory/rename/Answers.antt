@@ -1,6 +1,5 @@
-use Rattle.std.proofs.Common.{◌≡◌, ℕ, List, Some, None, string_bytes, sym, ap, ◌∙◌, cond}
+use Rattle.std.proofs.Common.{None, string_bytes, sym, ap, ◌∙◌, cond}
 use Rattle.std.specs.BTreeMap.{get_by_text}
-use Rattle.std.specs.Map.{update}
 use Rattle.std.specs.Str.{bytes_eq}
 use Rattle.std.proofs.lemmas.Map.Text.{btree_map_updates_text}
 use Rattle.lsm_folder.proofs.directory.Directory.rename.Goals as goal
