@@ -222,17 +222,12 @@ fn stops_with_its_forks<R: Wait + Abort>(rt: &R, alloc: Global) -> Result<(), Fo
     let mut fork = folder.fork()?;
     folder.stops_after(1, false);
     expect_bytes(rt, bytes_of(rt, &mut fork, "log"), Ok(b"old"));
-    expect_bytes(
-        rt,
-        bytes_of(rt, &mut folder, "log"),
-        Err(FolderFault::Failed),
-    );
-    expect_bytes(rt, bytes_of(rt, &mut fork, "log"), Err(FolderFault::Failed));
-    expect_bytes(
-        rt,
-        folder.read_part(alloc, "log", &mark, 0, 0),
-        Err(FolderFault::Failed),
-    );
+    let read = folder.read_part(alloc, "log", &mark, 0, 0);
+    expect_bytes(rt, read, Err(FolderFault::Failed));
+    let loaded = bytes_of(rt, &mut folder, "log");
+    expect_bytes(rt, loaded, Err(FolderFault::Failed));
+    let loaded = bytes_of(rt, &mut fork, "log");
+    expect_bytes(rt, loaded, Err(FolderFault::Failed));
     expect(rt, folder.sync_folder(rt), Err(FolderFault::Failed));
     Ok(())
 }

@@ -47,7 +47,7 @@ fn takes<C: FolderCalls, R: Wait>(
         Step::Remove(name) => folder.remove(rt, name).map(|_| Vec::new(alloc)),
         Step::Length(name) => {
             let length = folder.length(rt, name)?;
-            Ok(Vec::from_slice(alloc, &[length as u8])?)
+            Ok(Vec::from_slice(alloc, &[(length % 256) as u8])?)
         }
         Step::Load(name) => folder.load(rt, alloc, name).map(|loaded| loaded.1),
     }
