@@ -1,0 +1,6 @@
+pub mod Calls
+pub mod Directory
+pub mod FolderFault
+pub mod MemoryFolder
+pub mod Place
+pub mod SystemFolder
