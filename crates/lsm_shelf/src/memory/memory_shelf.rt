@@ -1,12 +1,14 @@
 //! Tables and a manifest in memory.
 
-ghost use Rattle.std.specs.Prelude.{◌≡◌, ◌↔◌, ◌+◌, ◌<◌, ◌≤◌, ◌^◌, ◌++◌, length, take, drop, IfOk, IfErr, IsErrOf, OnOk, OnErr};
+ghost use Rattle.std.specs.Prelude.{◌≡◌, ◌↔◌, ◌+◌, ◌<◌, ◌≤◌, ◌^◌, length, take, drop, IfOk, IfErr, IsErrOf, OnOk, OnErr, IsTrue};
 ghost use Rattle.std.specs.List.Sorted.{IsStrictlyIncreasing};
-ghost use Rattle.lsm_shelf.specs.Told.{Becomes, Counted, NotDevice, NotNamed, NotTaken, TakenIs, fresh, finding, removing, sending};
+ghost use Rattle.boxcar.specs.Table.{Shows};
+ghost use Rattle.lsm_shelf.specs.Told.{Becomes, Counted, CountedBy, NotDevice, NotNamed, NotTaken, TakenIs, fresh, putting, removing, listing, sending, appending, finding};
 
-use crate::account::{Account, tag_of_both, tag_of_bytes, tag_of_number};
-use crate::contents::Contents;
-use crate::memory_receipt::MemoryReceipt;
+use crate::account::{Account, tag_of_both, tag_of_bytes, tag_of_number, tag_of_numbers};
+use crate::memory::contents::Contents;
+use crate::memory::image::Image;
+use crate::memory::memory_receipt::MemoryReceipt;
 use crate::shelf::Shelf;
 use crate::shelf_fault::ShelfFault;
 use std::alloc::{AllocError, Global};
@@ -17,6 +19,22 @@ use std::sync::{Arc, Wait};
 pub struct MemoryShelf {
     pub(crate) contents: Arc<Contents>,
     pub(crate) account: Account,
+}
+
+/// A part of an image. The directory is not asked, so an image that was removed is there all the same.
+fn part(
+    images: &boxcar::Vec<Image>,
+    alloc: Global,
+    receipt: &MemoryReceipt,
+    offset: usize,
+    len: usize,
+) -> Result<Vec<u8>, AllocError>
+    requires here { Shows images.now receipt.now.token }
+    requires inside { offset + len ≤ length receipt.now.token.value.bytes.items }
+    ensures { IfOk result (λ v. v.items ≡ take len (drop offset receipt.now.token.value.bytes.items)) }
+{
+    let image = images.value(&receipt.token);
+    Vec::from_slice(alloc, &image.bytes[offset..offset + len])
 }
 
 impl MemoryShelf {
@@ -52,12 +70,17 @@ impl Shelf for MemoryShelf {
         image: &[u8],
     ) -> Result<MemoryReceipt, ShelfFault>
         ensures receipt { IfOk result (λ r. (memory_number r ≡ number) × (memory_image r ≡ image.now) × IsOfMemory (memory_told self.old).place r) }
-        ensures told { Becomes (memory_told self.old) (memory_told self.new) }
+        ensures ok { OnOk result (Becomes (putting number (memory_told self.old)) (memory_told self.new)) }
+        ensures err { OnErr result (Becomes (memory_told self.old) (memory_told self.new)) }
         ensures cause { IfErr result (λ e. TakenIs number e × Counted e (memory_told self.old) (memory_told self.new)) }
+        ensures counts { CountedBy result (memory_told self.old) (memory_told self.new) }
         ensures device { IsErrOf result ShelfFault.Device ↔ (2 ^ 30 < length image.now) }
     {
-        let outcome = self.contents.put(rt, alloc, number, image);
-        self.account.count(outcome)
+        let Contents { images, directory } = &*self.contents;
+        let outcome = directory.lock(rt).put(rt, alloc, images, number, image);
+        let receipt = self.account.count(outcome)?;
+        self.account.puts = tag_of_both(&tag_of_number(receipt.number), &self.account.puts);
+        Ok(receipt)
     }
 
     fn read_at(
@@ -72,9 +95,10 @@ impl Shelf for MemoryShelf {
         ensures bytes { IfOk result (λ v. v.items ≡ take len (drop offset (memory_image receipt.now))) }
         ensures told { Becomes (memory_told self.old) (memory_told self.new) }
         ensures cause { IfErr result (λ e. NotTaken e × Counted e (memory_told self.old) (memory_told self.new)) }
+        ensures counts { CountedBy result (memory_told self.old) (memory_told self.new) }
         ensures memory { IfErr result (λ e. e ≡ ShelfFault.OutOfMemory) }
     {
-        Ok(self.contents.part(alloc, receipt, offset as usize, len)?)
+        Ok(part(&self.contents.images, alloc, receipt, offset as usize, len)?)
     }
 
     fn load<R: Wait>(
@@ -86,29 +110,36 @@ impl Shelf for MemoryShelf {
         ensures receipt { IfOk result (λ r. (memory_number r.0 ≡ number) × (memory_image r.0 ≡ r.1.items) × IsOfMemory (memory_told self.old).place r.0) }
         ensures told { Becomes (memory_told self.old) (memory_told self.new) }
         ensures cause { IfErr result (λ e. NotTaken e × Counted e (memory_told self.old) (memory_told self.new)) }
+        ensures counts { CountedBy result (memory_told self.old) (memory_told self.new) }
         ensures device { IfErr result NotDevice }
     {
-        let outcome = self.contents.load(rt, alloc, number);
+        let Contents { images, directory } = &*self.contents;
+        let outcome = directory.lock(rt).load(alloc, images, number);
         self.account.count(outcome)
     }
 
     fn remove<R: Wait>(&mut self, rt: &R, number: u64) -> Result<(), ShelfFault>
         ensures told { Becomes (removing number (memory_told self.old)) (memory_told self.new) }
         ensures cause { IfErr result (λ e. NotTaken e × Counted e (memory_told self.old) (memory_told self.new)) }
-        ensures device { IfErr result NotDevice }
+        ensures counts { CountedBy result (memory_told self.old) (memory_told self.new) }
+        ensures missing { IfErr result (λ e. e ≡ ShelfFault.Missing) }
     {
-        let (asked, outcome) = self.contents.remove(rt, number);
+        let (asked, outcome) = self.contents.directory.lock(rt).remove(number);
         self.account.gone = tag_of_both(&asked, &self.account.gone);
         self.account.count(outcome)
     }
 
     fn list<R: Wait>(&mut self, rt: &R, alloc: Global) -> Result<Vec<u64>, ShelfFault>
         ensures ascending { IfOk result (λ v. IsStrictlyIncreasing v.items) }
-        ensures told { Becomes (memory_told self.old) (memory_told self.new) }
+        ensures ok { IfOk result (λ v. Becomes (listing v.items (memory_told self.old)) (memory_told self.new)) }
+        ensures err { OnErr result (Becomes (memory_told self.old) (memory_told self.new)) }
         ensures cause { IfErr result (λ e. NotNamed e × Counted e (memory_told self.old) (memory_told self.new)) }
+        ensures counts { CountedBy result (memory_told self.old) (memory_told self.new) }
         ensures memory { IfErr result (λ e. e ≡ ShelfFault.OutOfMemory) }
     {
-        Ok(self.contents.list(rt, alloc)?)
+        let numbers = self.contents.directory.lock(rt).list(alloc)?;
+        self.account.listed = tag_of_both(&tag_of_number(0), &tag_of_numbers(numbers.as_slice()));
+        Ok(numbers)
     }
 
     fn read_manifest<R: Wait>(
@@ -119,12 +150,14 @@ impl Shelf for MemoryShelf {
         ensures ok { IfOk result (λ r. Becomes (finding r.0 r.1.items (memory_told self.old)) (memory_told self.new)) }
         ensures err { OnErr result (Becomes (memory_told self.old) (memory_told self.new)) }
         ensures cause { IfErr result (λ e. NotTaken e × Counted e (memory_told self.old) (memory_told self.new)) }
+        ensures counts { CountedBy result (memory_told self.old) (memory_told self.new) }
         ensures device { IfErr result NotDevice }
     {
-        let outcome = self.contents.read_manifest(rt, alloc);
+        let outcome = self.contents.directory.lock(rt).read(alloc);
         let (number, bytes) = self.account.count(outcome)?;
+        self.account.manifest = tag_of_number(number);
         self.account.sent = tag_of_bytes(bytes.as_slice());
-        self.account.found = tag_of_both(&tag_of_number(number), &self.account.sent);
+        self.account.found = tag_of_both(&self.account.manifest, &self.account.sent);
         Ok((number, bytes))
     }
 
@@ -135,23 +168,26 @@ impl Shelf for MemoryShelf {
         number: u64,
         bytes: &[u8],
     ) -> Result<(), ShelfFault>
-        ensures ok { OnOk result (Becomes (sending bytes.now (memory_told self.old)) (memory_told self.new)) }
+        ensures ok { OnOk result (Becomes (sending number bytes.now (memory_told self.old)) (memory_told self.new)) }
         ensures err { OnErr result (Becomes (memory_told self.old) (memory_told self.new)) }
         ensures cause { IfErr result (λ e. TakenIs number e × Counted e (memory_told self.old) (memory_told self.new)) }
+        ensures counts { CountedBy result (memory_told self.old) (memory_told self.new) }
         ensures device { IfErr result NotDevice }
     {
-        let outcome = self.contents.start_manifest(rt, alloc, number, bytes);
+        let outcome = self.contents.directory.lock(rt).start(alloc, number, bytes);
         self.account.sent = self.account.count(outcome)?;
+        self.account.manifest = tag_of_number(number);
         Ok(())
     }
 
     fn append_manifest<R: Wait>(&mut self, rt: &R, bytes: &[u8]) -> Result<(), ShelfFault>
-        ensures ok { OnOk result (Becomes (sending ((memory_told self.old).sent ++ bytes.now) (memory_told self.old)) (memory_told self.new)) }
+        ensures ok { OnOk result (Becomes (appending bytes.now (memory_told self.old)) (memory_told self.new)) }
         ensures err { OnErr result (Becomes (memory_told self.old) (memory_told self.new)) }
         ensures cause { IfErr result (λ e. NotTaken e × Counted e (memory_told self.old) (memory_told self.new)) }
+        ensures counts { CountedBy result (memory_told self.old) (memory_told self.new) }
         ensures device { IfErr result NotDevice }
     {
-        let outcome = self.contents.append_manifest(rt, bytes);
+        let outcome = self.contents.directory.lock(rt).append(bytes);
         let appended = self.account.count(outcome)?;
         self.account.sent = tag_of_both(&self.account.sent, &appended);
         Ok(())
@@ -161,12 +197,34 @@ impl Shelf for MemoryShelf {
         ensures fork { IfOk result (λ s. memory_told s ≡ fresh (memory_told self.old).place) }
         ensures told { Becomes (memory_told self.old) (memory_told self.new) }
         ensures cause { IfErr result (λ e. NotNamed e × Counted e (memory_told self.old) (memory_told self.new)) }
+        ensures counts { CountedBy result (memory_told self.old) (memory_told self.new) }
         ensures memory { IfErr result (λ e. e ≡ ShelfFault.OutOfMemory) }
     {
         Ok(MemoryShelf {
             contents: Arc::try_clone(&self.contents)?,
             account: Account::new(),
         })
+    }
+
+    fn same(&self, a: &MemoryReceipt, b: &MemoryReceipt) -> bool
+        requires here { IsOfMemory (memory_told self.now).place a.now × IsOfMemory (memory_told self.now).place b.now }
+        ensures copy { a.now ≡ b.now → IsTrue result }
+        ensures one { IsTrue result → (memory_number a.now ≡ memory_number b.now) × (memory_image a.now ≡ memory_image b.now) }
+    {
+        if a.token.index() == b.token.index() {
+            self.contents.images.agrees(&a.token, &b.token);
+            true
+        } else {
+            false
+        }
+    }
+
+    fn copy_receipt(&self, receipt: &MemoryReceipt) -> MemoryReceipt {
+        MemoryReceipt {
+            number: receipt.number,
+            size: receipt.size,
+            token: receipt.token.again(),
+        }
     }
 
     fn failures(&self) -> (u64, u64) {
