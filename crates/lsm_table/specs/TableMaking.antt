@@ -67,5 +67,7 @@ pub record HasRoom (options : TableOptions) (offset : ℕ) (taken index : Buildi
   pub block : length (block_bytes taken.interval (taken.entries ++ e ∷ [])) < 2 ^ 32
   pub index_block : options.block_size ≤ length (block_bytes taken.interval (taken.entries ++ e ∷ [])) → length (index_with offset taken index e) < 2 ^ 32
 
-abbrev pub LacksRoom : ℕ → Building → Building → Entry → Type 0
-LacksRoom offset taken index e = (2 ^ 32 ≤ length (block_bytes taken.interval (taken.entries ++ e ∷ []))) ⊎ (2 ^ 32 ≤ length (index_with offset taken index e))
+abbrev pub LacksRoom : TableOptions → ℕ → Building → Building → Entry → Type 0
+LacksRoom options offset taken index e =
+    (2 ^ 32 ≤ length (block_bytes taken.interval (taken.entries ++ e ∷ [])))
+    ⊎ ((options.block_size ≤ length (block_bytes taken.interval (taken.entries ++ e ∷ []))) × (2 ^ 32 ≤ length (index_with offset taken index e)))

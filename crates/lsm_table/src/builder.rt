@@ -74,7 +74,7 @@ fn has_room(
     place: &mut Vec<u8>,
 ) -> Result<bool, AllocError>
     ensures yes { IfOk result (λ r. r ≡ true → HasRoom options offset taken.now index.now (entry_of (key_of key.now) value.now)) }
-    ensures no { IfOk result (λ r. r ≡ false → LacksRoom offset taken.now index.now (entry_of (key_of key.now) value.now)) }
+    ensures no { IfOk result (λ r. r ≡ false → LacksRoom options offset taken.now index.now (entry_of (key_of key.now) value.now)) }
 {
     let size = taken.size_with(key, value);
     if size > u32::MAX as u64 {
@@ -216,14 +216,15 @@ impl TableBuilder {
         }
     }
 
-    /// Adds an entry after the others. `TooLarge` where its data block, or the index block, would pass 2^32 - 1 bytes.
-    /// An `Err` leaves the builder as it was.
+    /// Adds an entry after the others. `TooLarge` just where its data block would pass 2^32 - 1 bytes, or where the entry
+    /// fills it and the index block would. An `Err` leaves the builder as it was.
     pub fn add(&mut self, user: &[u8], seq: u64, kind: Kind, value: &[u8]) -> Result<(), BuildFault>
         requires seq { seq ≤ MAX_SEQ }
         requires ascends { Ascends (self.old.entries ++ record { user = user.now; seq = seq; kind = kind; value = value.now } ∷ []) }
         ensures ok { OnOk result (self.new ≡ record { options = self.old.options; entries = self.old.entries ++ record { user = user.now; seq = seq; kind = kind; value = value.now } ∷ [] }) }
         ensures err { OnErr result (self.new ≡ self.old) }
         ensures large { result ≡ Err TooLarge → PassesLimit self.old.options self.old.entries (record { user = user.now; seq = seq; kind = kind; value = value.now }) }
+        ensures fits { OnOk result (PassesLimit self.old.options self.old.entries (record { user = user.now; seq = seq; kind = kind; value = value.now }) → ⊥) }
     {
         let key = KeyRef { user, seq, kind };
         settle(

@@ -6,8 +6,6 @@
 
 mod builder;
 mod check;
-#[cfg(test)]
-mod expectation;
 mod footer;
 mod found;
 mod handle;
@@ -17,12 +15,8 @@ mod held_key;
 mod naming;
 mod open_table;
 mod read_fault;
-#[cfg(test)]
-mod reading_tests;
 mod registry;
 mod search;
-#[cfg(test)]
-mod shelf_tests;
 mod stored_block;
 mod table;
 mod table_entries;
@@ -31,10 +25,6 @@ mod table_iter;
 mod table_options;
 mod table_record;
 mod table_ref;
-#[cfg(test)]
-mod tests;
-#[cfg(test)]
-mod trial;
 mod whole_image;
 
 pub use builder::TableBuilder;

@@ -3,10 +3,9 @@
 ghost use Rattle.std.specs.Prelude.{◌≡◌, ◌↔◌, IfOk, IfErr, IsTrue};
 
 use crate::naming::Naming;
-use lsm_shelf::Shelf;
-use lsm_shelf::Slip;
 use crate::table_record::TableRecord;
 use crate::table_ref::TableRef;
+use lsm_shelf::{Shelf, Slip};
 use std::alloc::{AllocError, Global};
 use std::marker::{Model, PhantomData};
 use std::sync::Wait;

@@ -18,12 +18,12 @@ use crate::held_block::{data_block, parts};
 use crate::open_table::OpenTable;
 use crate::read_fault::ReadFault;
 use crate::search::{Search, key_for, search_block};
-use lsm_shelf::Shelf;
 use crate::table_entries::TableEntries;
 use crate::table_fault::TableFault;
 use crate::table_iter::TableIter;
 use crate::whole_image::read_image;
 use lsm_block::{BlockRef, Cursor};
+use lsm_shelf::Shelf;
 use std::alloc::Global;
 use std::marker::Model;
 

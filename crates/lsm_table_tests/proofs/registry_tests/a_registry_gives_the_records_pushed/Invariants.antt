@@ -1,5 +1,5 @@
 use Rattle.std.specs.Arc.{arc_value}
-use Rattle.lsm_table.proofs.shelf_tests.a_registry_gives_the_records_pushed.Given as goal
+use Rattle.lsm_table_tests.proofs.registry_tests.a_registry_gives_the_records_pushed.Given as goal
 
 -- the registry and the contents that were just made
 abbrev pub ghosts-keeps_records : goal.ghosts-keeps_records

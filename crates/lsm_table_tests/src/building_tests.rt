@@ -1,8 +1,8 @@
 //! Tables byte by byte: the builder's against LevelDB's layout, and foreign or altered ones.
 
 use crate::expectation::{expect, expect_items};
-use crate::{BuildFault, Table, TableBuilder, TableFault, TableIter, TableOptions};
 use lsm_codec::{KeyRef, Kind};
+use lsm_table::{BuildFault, Table, TableBuilder, TableFault, TableIter, TableOptions};
 use std::alloc::Global;
 use std::process::Abort;
 use std::test::Fail;

@@ -1,14 +1,15 @@
 //! Reads of tables, foreign and altered ones among them, and of tables on a shelf.
 
+use crate::building_tests::{ONE_ENTRY, judged, parts_of};
 use crate::expectation::{expect, expect_items};
-use crate::tests::{ONE_ENTRY, judged, parts_of};
-use crate::trial::{Trial, tries_in_scratch};
-use crate::{
-    BuildFault, Found, MemoryShelf, OpenTable, ReadFault, Shelf, Table, TableBuilder, TableEntries,
-    TableFault, TableOptions,
-};
+use crate::scratch::scratch;
 use lsm_codec::{Kind, crc_extend, crc32c, mask};
+use lsm_table::{
+    BuildFault, FileShelf, Found, MemoryShelf, OpenTable, ReadFault, Shelf, Table, TableBuilder,
+    TableEntries, TableFault, TableOptions,
+};
 use std::alloc::{AllocError, Global};
+use std::fs;
 use std::process::Abort;
 use std::sync::Wait;
 use std::test::Fail;
@@ -256,7 +257,7 @@ fn reads_two_blocks<S: Shelf, R: Wait + Abort>(
 }
 
 /// Reads both tables on a shelf.
-pub(crate) fn reads_on_a_shelf<S: Shelf, R: Wait + Abort>(
+fn reads_on_a_shelf<S: Shelf, R: Wait + Abort>(
     rt: &R,
     alloc: Global,
     shelf: &mut S,
@@ -274,7 +275,11 @@ fn reads_of_a_table_in_memory(rt: HostRuntime) -> Result<(), Fail> {
 
 #[test]
 fn reads_of_a_table_in_a_folder(rt: HostRuntime) -> Result<(), Fail> {
-    tries_in_scratch(&rt, rt.clone()?, "reads", Trial::Reads)
+    let path = scratch(&rt, "reads")?;
+    let mut shelf = FileShelf::open(rt.clone()?, path.as_str())?;
+    reads_on_a_shelf(&rt, rt.alloc(), &mut shelf)?;
+    fs::remove_dir_all(&rt, path.as_str())?;
+    Ok(())
 }
 
 /// Opens an image in memory.
@@ -349,13 +354,4 @@ fn a_bad_data_block_is_found_when_it_is_read(rt: HostRuntime) {
         faults_of_foreign(&rt, rt.alloc(), 0, 2),
         Ok((None, fault)),
     );
-}
-
-#[test]
-fn faults_of_reads_have_names(rt: HostRuntime) -> Result<(), Fail> {
-    let fault = ReadFault::Table(TableFault::BadChecksum(3));
-    expect(&rt, (fault.number(), fault.name()), (15, "BadChecksum"));
-    let text = format!(in rt.alloc(); "{fault}")?;
-    expect(&rt, text.as_str(), "BadChecksum 3");
-    Ok(())
 }
