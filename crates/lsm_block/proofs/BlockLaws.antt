@@ -4,13 +4,12 @@ use Rattle.std.specs.Prelude.{◌&&◌}
 use Rattle.std.specs.List.{flat_map, AllByRecursion}
 use Rattle.std.specs.Int.{w32, w64, to_le_bytes}
 use Rattle.std.proofs.lemmas.Bool.{eqb-true, and_parts}
-use Rattle.lsm_codec.specs.Keys.{packed}
+use Rattle.lsm_codec.specs.Keys.{packed, is_internal}
 use Rattle.lsm_codec.specs.Entries.{Entry, internal_key}
-use Rattle.lsm_codec.proofs.Varints.{IsBytes}
+use Rattle.lsm_codec.proofs.CallerLemmas.{IsBytes, internal_long}
 use Rattle.lsm_block.specs.declared.fault.BlockFault.{BlockFault}
 use Rattle.lsm_block.specs.Block.{EntryText, Spells, IsBlock, Rises, Ascends, key_text}
-use Rattle.lsm_block.specs.Reading.{Piece, shared_key, is_internal, numbers_at, piece_of, entry_at, Scan, scan, entries_of, starts_of, restarts_fit, rises, disorder, entry_fault, restart_fault, first_fault, unless, judged, block_of, parts_at, block_at}
-use Rattle.lsm_block.proofs.KeyLaws.{internal_long}
+use Rattle.lsm_block.specs.Reading.{Piece, shared_key, numbers_at, piece_of, entry_at, Scan, scan, entries_of, starts_of, restarts_fit, rises, disorder, entry_fault, restart_fault, first_fault, unless, judged, block_of, parts_at, block_at}
 use Rattle.lsm_block.proofs.EntryLaws.{guard_some, IsBytes-front, IsBytes-after, IsBytes-take, IsBytes-append, no_bytes, bind_some}
 use Rattle.lsm_block.proofs.ScanLaws.{scan-some, scan-none, scan_again, scan_takes, HaveKeys, ascends, ordered, either}
 use Rattle.lsm_block.proofs.RestartLaws.{Tail, Fit, tail_takes, tail_again, rises_takes, rises_again}

@@ -9,7 +9,7 @@ use Rattle.std.proofs.lemmas.List.{length-append, append-nil, take-append-drop, 
 use Rattle.lsm_codec.specs.Varint.{varint32}
 use Rattle.lsm_codec.specs.Keys.{InternalKey, key_bytes}
 use Rattle.lsm_codec.specs.Entries.{Entry, internal_key, entry_cmp}
-use Rattle.lsm_codec.proofs.Varints.{is_shortest}
+use Rattle.lsm_codec.proofs.CallerLemmas.{is_shortest}
 use Rattle.lsm_block.specs.Block.{EntryText, IsBlock, Spells, Ascends, Rises, start_at, key_text}
 use Rattle.lsm_block.specs.Building.{one_more, common, is_restart, is_later_restart, Built, FitsEntry, own_len, grown_len, after_last, parts_text, shared_if, shared_at, sharing_text, entries_text, offset_if, later_restarts, with_restarts, block_bytes, last_text, last_key, entries_in}
 use Rattle.lsm_block.specs.Held.{Kept, bytes_of}

@@ -7,10 +7,10 @@ use Rattle.std.proofs.lemmas.List.{take_all, take_at, drop_at, take-append-drop,
 use Rattle.lsm_codec.specs.declared.fault.CodecFault.{CodecFault}
 use Rattle.lsm_codec.specs.Varint.{AreGroups, IsVarint32, varint_at, varint32_at}
 use Rattle.lsm_codec.specs.Entries.{Entry, internal_key}
-use Rattle.lsm_codec.proofs.Varints.{Front, varint_takes, varint_again, IsBytes}
+use Rattle.lsm_codec.proofs.CallerLemmas.{Front, varint_takes, varint_again, IsBytes, key_again, internal_again, internal_takes}
 use Rattle.lsm_block.specs.Block.{EntryText, key_text}
-use Rattle.lsm_block.specs.Reading.{Piece, ◌>>=◌, found_of, number_at, numbers_at, shared_key, is_internal, piece_of, entry_at, entry}
-use Rattle.lsm_block.proofs.KeyLaws.{key_again, internal_again, internal_takes}
+use Rattle.lsm_block.specs.Reading.{Piece, ◌>>=◌, found_of, number_at, numbers_at, shared_key, piece_of, entry_at, entry}
+use Rattle.lsm_codec.specs.Keys.{is_internal}
 
 -- ---- what is spelled is read
 

@@ -3,14 +3,17 @@ use Rattle.std.proofs.Common.{◌≡◌, ℕ, ◌+◌, ◌-◌, ◌≤◌, List,
 use Rattle.std.specs.List.{flat_map}
 use Rattle.std.specs.Int.{w32, to_le_bytes}
 use Rattle.std.proofs.lemmas.List.{take_at, drop_at, length-append}
+use Rattle.lsm_codec.specs.Keys.{key_at}
+use Rattle.lsm_block.specs.Fault.{is_memory}
 use Rattle.lsm_codec.specs.Entries.{Entry}
-use Rattle.lsm_codec.proofs.Varints.{IsBytes}
+use Rattle.lsm_codec.proofs.CallerLemmas.{IsBytes}
 use Rattle.lsm_block.specs.declared.fault.BlockFault.{BlockFault}
 use Rattle.lsm_block.specs.declared.fault.BlockFault.TheVariants.{OutOfMemory, BadRestarts, BadEntry, OutOfOrder}
 use Rattle.lsm_block.specs.Block.{IsBlock, entry_of}
-use Rattle.lsm_block.specs.Gives.{Fails}
-use Rattle.lsm_block.specs.Reading.{key_at, block_at, block_of, parts_at, scan, first_fault, unless, entries_of}
+use Rattle.lsm_codec.specs.Gives.{Fails}
+use Rattle.lsm_block.specs.Reading.{block_at, block_of, parts_at, scan, first_fault, unless, entries_of}
 use Rattle.lsm_block.specs.Seeking.{readable, Parts, Steps}
+use Rattle.lsm_block.specs.Standing.{StepStands}
 use Rattle.lsm_block.specs.Held.{Holds, rest_of, text_and_entries, text_or_none, block_in, held, or_none, Kept, last_of, Given}
 use Rattle.lsm_block.proofs.KeyLaws.{kept_bytes, last-key}
 use Rattle.lsm_block.proofs.EntryLaws.{some_is}
@@ -62,7 +65,7 @@ holds_parts bytes n es h =
 
 -- ---- what a check says
 
-pub fails_is : {Y : Type 0} (f : BlockFault) (read : Result Y BlockFault) → read ≡ Err f → Fails f read
+pub fails_is : {Y : Type 0} (f : BlockFault) (read : Result Y BlockFault) → read ≡ Err f → Fails is_memory f read
 fails_is OutOfMemory read e = tt
 fails_is BadRestarts read e = e
 fails_is (BadEntry o) read e = e
@@ -113,21 +116,21 @@ unfolding held
 held_is bytes es e = ap or_none e
 
 -- a fault of what is a block
-pub still_fails : (f : BlockFault) (bytes : List ℕ) (es : List Entry) → IsBlock bytes es → Fails f (block_at bytes) → Fails f (is_ok es)
-still_fails f bytes es b h = subst (λ (read : Result (List Entry) BlockFault). Fails f read) (block_again bytes es b) h
+pub still_fails : (f : BlockFault) (bytes : List ℕ) (es : List Entry) → IsBlock bytes es → Fails is_memory f (block_at bytes) → Fails is_memory f (is_ok es)
+still_fails f bytes es b h = subst (λ (read : Result (List Entry) BlockFault). Fails is_memory f read) (block_again bytes es b) h
 
 -- the same entries, where a block is held
 pub same_entries : (bytes : List ℕ) (n : ℕ) (es fs : List Entry) → Holds bytes n es → IsBlock bytes fs → is_ok fs ≡ is_ok es
 same_entries bytes n es fs h b = ap (λ (xs : List Entry). is_ok xs) (one_block bytes fs es b h.block)
 
 -- what a step of the code is, as contracts see it
-pub given_steps : (text before before' : List ℕ) (offset offset' : ℕ) (r : Option (List ℕ)) → Kept (last_of before) before → Kept (last_of before') before' → Steps text offset before offset' before' r
+pub given_steps : (text before before' : List ℕ) (offset offset' : ℕ) (r : Option (List ℕ)) → Kept (last_of before) before → Kept (last_of before') before' → Steps text offset before offset' before' r → StepStands text offset before offset' before' r
     → Given (text_and_entries text) (record { offset = offset; last = last_of before }) (record { offset = offset'; last = last_of before' }) r
-given_steps text before before' offset offset' None k k' s =
+given_steps text before before' offset offset' None k k' s t =
     let old = ap (λ (b : List ℕ). readable (length text) b (drop offset text)) (kept_bytes (last_of before) before k) in
     let new = ap (λ (b : List ℕ). readable (length text) b (drop offset' text)) (kept_bytes (last_of before') before' k') in
-    (sym old ∙ s.0, sym new ∙ s.1)
-given_steps text before before' offset offset' (Some value) k k' s =
+    (sym old ∙ s.0, sym new ∙ s.1, ap last_of t.1)
+given_steps text before before' offset offset' (Some value) k k' s t =
     let old = ap (λ (b : List ℕ). readable (length text) b (drop offset text)) (kept_bytes (last_of before) before k) in
     let new = ap (λ (b : List ℕ). readable (length text) b (drop offset' text)) (kept_bytes (last_of before') before' k') in
     (key_at before', last-key before' s.0, sym old ∙ s.1 ∙ ap (λ (es : List Entry). entry_of (key_at before') value ∷ es) new)
@@ -152,6 +155,12 @@ pub found_block : (bytes text rs : List ℕ) (es : List Entry) → IsBlock bytes
 unfolding block_in
 found_block bytes text rs es b p =
     ap text_and_entries (front_is bytes text rs es b p) ∙ ap (λ (o : Option (List ℕ × List ℕ)). text_and_entries (text_or_none o)) (sym p)
+
+-- a block that is held is that of its bytes
+pub held_block : (bytes : List ℕ) (n : ℕ) (es : List Entry) → Holds bytes n es → text_and_entries (take n bytes) ≡ block_in bytes
+held_block bytes n es h =
+    ap (λ (m : ℕ). text_and_entries (take m bytes)) h.text_len_is
+    ∙ found_block bytes h.block.text (0 ∷ h.block.restarts) es h.block (tail_again bytes h.block.text (0 ∷ h.block.restarts) (tail_of_block bytes es h.block))
 
 -- from its front on
 pub front_of_block : (bytes : List ℕ) (es : List Entry) → IsBlock bytes es → rest_of (block_in bytes) (record { offset = 0; last = None }) ≡ es

@@ -7,11 +7,10 @@ use Rattle.std.proofs.lemmas.Bool.{cases_lt}
 use Rattle.std.proofs.lemmas.Cmp.{nat_cmp_total, tied_itself}
 use Rattle.std.proofs.lemmas.List.{take-append-le, take-append-drop, length-append, length-take-le}
 use Rattle.std.proofs.Math.Seq.{take-append-add}
-use Rattle.lsm_codec.specs.Keys.{then_by, key_cmp}
-use Rattle.lsm_codec.proofs.KeyOrder.{slice_cmp-same}
-use Rattle.lsm_codec.proofs.Varints.{IsBytes}
+use Rattle.lsm_codec.specs.Keys.{then_by, key_cmp, is_internal, user_of, tail_of, key_at}
+use Rattle.lsm_codec.proofs.CallerLemmas.{slice_cmp-same, IsBytes}
 use Rattle.lsm_block.specs.KeyParts.{KeyParts, AreParts, joined}
-use Rattle.lsm_block.specs.Reading.{is_internal, user_of, tail_of, key_at, comes_after}
+use Rattle.lsm_block.specs.Reading.{comes_after}
 use Rattle.lsm_block.proofs.EntryLaws.{IsBytes-take, IsBytes-append}
 use Rattle.lsm_block.proofs.KeyLaws.{order_less, order_equal}
 

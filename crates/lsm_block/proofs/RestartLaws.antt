@@ -6,7 +6,7 @@ use Rattle.std.specs.Int.{w32, to_le_bytes, from_le_bytes}
 use Rattle.std.proofs.lemmas.Bool.{cases_lt, le-leb, leb-true, lt-leb, lt-ltb, ltb-true, eqb-true, eq-eqb, and_parts}
 use Rattle.std.proofs.lemmas.Nat.{le_bytes_4, from_le_bytes-to_le_bytes_4}
 use Rattle.std.proofs.lemmas.List.{take_at, drop_at, take-append-drop, length-append, length-drop, length-take-le}
-use Rattle.lsm_codec.proofs.Varints.{IsBytes}
+use Rattle.lsm_codec.proofs.CallerLemmas.{IsBytes}
 use Rattle.lsm_block.specs.Block.{Rises}
 use Rattle.lsm_block.specs.Reading.{words, parts_at, rises}
 use Rattle.lsm_block.proofs.EntryLaws.{guard_some, IsBytes-take, IsBytes-drop}

@@ -10,14 +10,13 @@ use Rattle.std.proofs.lemmas.Nat.{from_le_bytes-to_le_bytes_4}
 use Rattle.std.proofs.lemmas.List.{take_at, drop_at, length-append, length-drop, drop-drop, drop_all}
 use Rattle.std.proofs.Math.Seq.{drop-append-add}
 use Rattle.lsm_codec.specs.Varint.{varint_at}
-use Rattle.lsm_codec.specs.Keys.{InternalKey, key_cmp}
+use Rattle.lsm_codec.specs.Keys.{InternalKey, key_cmp, is_internal, key_at}
 use Rattle.lsm_codec.specs.Entries.{Entry, internal_key}
-use Rattle.lsm_codec.proofs.Varints.{IsBytes}
+use Rattle.lsm_codec.proofs.CallerLemmas.{IsBytes, key_again}
 use Rattle.lsm_block.specs.Block.{entry_of, EntryText, Spells, Rises, start_at, Ascends, key_text}
-use Rattle.lsm_block.specs.Reading.{Piece, is_internal, numbers_at, entry_at, entry, key_at}
+use Rattle.lsm_block.specs.Reading.{Piece, numbers_at, entry_at, entry}
 use Rattle.lsm_block.specs.Seeking.{readable, read_on, not_below, word_of, Parts, found_below, starts_below}
 use Rattle.lsm_block.specs.Walking.{seen}
-use Rattle.lsm_block.proofs.KeyLaws.{key_again}
 use Rattle.lsm_block.proofs.EntryLaws.{sharing, entry_again, entry_again_is, own-some, some_is, leaves, IsBytes-drop}
 use Rattle.lsm_block.proofs.RestartLaws.{Fit, length-spelled}
 use Rattle.lsm_block.proofs.ScanLaws.{either, is_less, less_is}

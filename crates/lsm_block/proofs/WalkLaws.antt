@@ -3,11 +3,11 @@ use Rattle.std.proofs.Common.{◌≡◌, ℕ, zero, suc, ◌-◌, ◌<◌, ◌�
 use Rattle.std.specs.Prelude.{◌&&◌, ◌||◌}
 use Rattle.std.specs.List.{list_any, list_all}
 use Rattle.std.proofs.lemmas.Bool.{and_parts, cases_lt, ne_eqb, eq-eqb, eqb-true, lt-ltb, le-ltb, ltb-true, ltb-false, lt-leb, le-leb}
-use Rattle.lsm_codec.proofs.Varints.{IsBytes}
+use Rattle.lsm_codec.proofs.CallerLemmas.{IsBytes}
 use Rattle.lsm_block.specs.declared.fault.BlockFault.TheVariants.{BadRestarts, BadEntry}
 use Rattle.lsm_block.specs.Block.{start_at}
-use Rattle.lsm_block.specs.Reading.{Piece, Scan, nothing, entry_at, scan, starts_of, is_judged, if_judged, may_follow, rises, restarts_fit, if_not, is_internal, key_at, comes_after, disorder, entries_of, entry_fault, restart_fault, first_fault}
-use Rattle.lsm_codec.specs.Keys.{InternalKey}
+use Rattle.lsm_block.specs.Reading.{Piece, Scan, nothing, entry_at, scan, starts_of, is_judged, if_judged, may_follow, rises, restarts_fit, if_not, comes_after, disorder, entries_of, entry_fault, restart_fault, first_fault}
+use Rattle.lsm_codec.specs.Keys.{InternalKey, is_internal, key_at}
 use Rattle.lsm_block.specs.Held.{last_of, last_after}
 use Rattle.lsm_block.specs.Walking.{begun, passed, if_none, fault_from, fault_at_stop, is_nothing, fault_at_end}
 use Rattle.lsm_block.proofs.EntryLaws.{some_is, leaves}

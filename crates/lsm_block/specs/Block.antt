@@ -16,8 +16,9 @@ entry_of key value = record { user = key.user; seq = key.seq; kind = key.kind; v
 abbrev pub key_text : Entry → List ℕ
 key_text e = key_bytes (internal_key e)
 
--- The text of an entry that shares so many bytes of its key with the key before it: how many these are, how many
--- bytes its key has beyond them and how many its value, each as a varint32, then these bytes of the key, and the value.
+-- The text of an entry that shares so many bytes of its key with the key before it: how many these
+-- are, how many bytes its key has beyond them and how many its value, each as a varint32, then
+-- these bytes of the key, and the value.
 pub record EntryText (before : List ℕ) (entry : Entry) (shared : ℕ) (text : List ℕ) : Type 0 where
   pub shared_text : List ℕ
   pub unshared_text : List ℕ
@@ -36,8 +37,8 @@ abbrev pub start_at : ℕ → ℕ → List ℕ
 start_at zero offset = offset ∷ []
 start_at (suc shared) offset = []
 
--- The text from the offset on spells the entries one after another, the first of them after the key before, and these
--- are the starts of those that share nothing.
+-- The text from the offset on spells the entries one after another, the first of them after the key
+-- before, and these are the starts of those that share nothing.
 abbrev pub Spells : ℕ → List ℕ → List ℕ → List ℕ → List Entry → Type 0
 Spells offset before text starts [] = (text ≡ []) × (starts ≡ [])
 Spells offset before text starts (entry ∷ entries) =
@@ -55,8 +56,8 @@ abbrev pub Rises : List ℕ → ℕ → List ℕ → Type 0
 Rises starts before [] = Unit {0}
 Rises starts before (offset ∷ offsets) = (before < offset) × Contains starts offset × Rises starts offset offsets
 
--- The bytes are a block of the entries. The restarts are those after the first, whose offset is 0; each stands as a
--- fixed32, and their number after them as a fixed32 too.
+-- The bytes are a block of the entries. The restarts are those after the first, whose offset is 0;
+-- each stands as a fixed32, and their number after them as a fixed32 too.
 pub record IsBlock (bytes : List ℕ) (entries : List Entry) : Type 0 where
   pub text : List ℕ
   pub starts : List ℕ

@@ -1,5 +1,5 @@
--- The bytes of a block that the writer makes of entries: what each shares with the key before it, and where the restarts
--- are (LevelDB's `table/block_builder.cc`).
+-- The bytes of a block that the writer makes of entries: what each shares with the key before it,
+-- and where the restarts are (LevelDB's `table/block_builder.cc`).
 use Rattle.std.specs.Prelude.{◌≡◌, ℕ, suc, ◌+◌, ◌%◌, ◌^◌, ◌<◌, ◌&&◌, Bool, true, false, nat_lt, ◌==◌, List, [], ◌∷◌, ◌++◌, length, drop, Option, Some, None}
 use Rattle.std.specs.List.{flat_map, AllByRecursion}
 use Rattle.std.specs.Ordering.{is_lt}
@@ -28,7 +28,8 @@ abbrev pub shared_if : Bool → ℕ → ℕ
 shared_if true n = 0
 shared_if false n = n
 
--- What the entry of this index shares with the key before it: nothing at a restart, and else the longest common prefix.
+-- What the entry of this index shares with the key before it: nothing at a restart, and else the
+-- longest common prefix.
 abbrev pub shared_at : ℕ → ℕ → List ℕ → List ℕ → ℕ
 shared_at interval index before key = shared_if (is_restart interval index) (common before key)
 
@@ -109,7 +110,8 @@ after_last (Some last) key = is_lt (key_cmp last key)
 unfoldable pub entries_in : List ℕ → List Entry
 entries_in text = readable (length text) [] text
 
--- What a builder keeps of its entries: their text, the bytes of the restarts after the first, and the last key.
+-- What a builder keeps of its entries: their text, the bytes of the restarts after the first, and
+-- the last key.
 pub record Built (interval : ℕ) (entries : List Entry) (text offsets last : List ℕ) (count : ℕ) : Type 0 where
   pub some : 0 < interval
   pub fit : AllByRecursion FitsEntry entries

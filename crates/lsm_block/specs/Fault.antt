@@ -1,5 +1,5 @@
 -- The published numbers and names of refusals.
-use Rattle.std.specs.Prelude.{ℕ, List, codes}
+use Rattle.std.specs.Prelude.{ℕ, Bool, true, false, List, codes}
 use Rattle.lsm_block.specs.declared.fault.BlockFault.{BlockFault}
 use Rattle.lsm_block.specs.declared.fault.BlockFault.TheVariants.{OutOfMemory, BadRestarts, BadEntry, OutOfOrder}
 
@@ -14,3 +14,8 @@ name_of OutOfMemory = codes "OutOfMemory"
 name_of BadRestarts = codes "BadRestarts"
 name_of (BadEntry offset) = codes "BadEntry"
 name_of (OutOfOrder offset) = codes "OutOfOrder"
+
+-- whether it says that memory ran out
+abbrev pub is_memory : BlockFault → Bool
+is_memory OutOfMemory = true
+is_memory _ = false

@@ -1,10 +1,10 @@
 -- A block that is held, and a place in it.
 use Rattle.std.specs.Prelude.{◌≡◌, ℕ, Bool, true, false, List, [], ◌∷◌, length, drop, Option, Some, None, Result, Ok, Err}
-use Rattle.lsm_codec.specs.Keys.{InternalKey, IsKey, key_bytes}
+use Rattle.lsm_codec.specs.Keys.{InternalKey, IsKey, key_bytes, is_internal, key_at}
 use Rattle.lsm_codec.specs.Entries.{Entry, internal_key}
 use Rattle.lsm_block.specs.Block.{IsBlock, entry_of}
 use Rattle.lsm_block.specs.declared.fault.BlockFault.{BlockFault}
-use Rattle.lsm_block.specs.Reading.{is_internal, key_at, parts_at, block_at}
+use Rattle.lsm_block.specs.Reading.{parts_at, block_at}
 use Rattle.lsm_block.specs.Seeking.{readable}
 
 -- a block: its entries, and the text that spells them
@@ -64,9 +64,10 @@ abbrev pub last_after : Option InternalKey → List Entry → Option InternalKey
 last_after key [] = key
 last_after key (e ∷ es) = last_after (Some (internal_key e)) es
 
--- What a step hands out: nothing where no entry is left, and else the value of the next entry, whose key is then the last.
+-- What a step hands out: nothing where no entry is left, and the last key stays; and else the value
+-- of the next entry, whose key is then the last.
 abbrev pub Given : HeldBlock → Place → Place → Option (List ℕ) → Type 0
-Given block old new None = (rest_of block old ≡ []) × (rest_of block new ≡ [])
+Given block old new None = (rest_of block old ≡ []) × (rest_of block new ≡ []) × (new.last ≡ old.last)
 Given block old new (Some value) = (key : InternalKey) × (new.last ≡ Some key) × (rest_of block old ≡ entry_of key value ∷ rest_of block new)
 
 abbrev pub or_none : Result (List Entry) BlockFault → List Entry

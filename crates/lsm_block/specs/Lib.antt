@@ -3,8 +3,8 @@ pub mod BuildFault
 pub mod Block
 pub mod Reading
 pub mod Walking
-pub mod Gives
 pub mod Seeking
 pub mod KeyParts
 pub mod Held
+pub mod Standing
 pub mod Building

@@ -1,38 +1,15 @@
 -- Reading a block from left to right: its entries, or the first fault.
-use Rattle.std.specs.Prelude.{ℕ, zero, suc, ◌+◌, ◌-◌, ◌*◌, ◌/◌, ◌%◌, ◌&&◌, Bool, true, false, nat_lt, nat_le, ◌==◌, if◌then◌else◌, List, [], ◌∷◌, ◌++◌, length, map, take, drop, slice_index, Option, Some, None, Result, Ok, Err}
+use Rattle.std.specs.Prelude.{ℕ, zero, suc, ◌+◌, ◌-◌, ◌*◌, ◌&&◌, Bool, true, false, nat_lt, nat_le, ◌==◌, if◌then◌else◌, List, [], ◌∷◌, ◌++◌, length, map, take, drop, Option, Some, None, Result, Ok, Err}
 use Rattle.std.specs.List.{list_any}
 use Rattle.std.specs.Ordering.{is_lt}
-use Rattle.std.specs.Int.{w32, w64, from_le_bytes}
+use Rattle.std.specs.Int.{w32, from_le_bytes}
 use Rattle.lsm_codec.specs.declared.fault.CodecFault.{CodecFault}
-use Rattle.lsm_codec.specs.declared.kind.Kind.{Kind}
-use Rattle.lsm_codec.specs.declared.kind.Kind.TheVariants.{Deletion, Value}
 use Rattle.lsm_codec.specs.Varint.{varint32_at}
-use Rattle.lsm_codec.specs.Keys.{InternalKey, key_cmp}
+use Rattle.lsm_codec.specs.Keys.{key_cmp, is_internal, key_at}
 use Rattle.lsm_codec.specs.Entries.{Entry}
 use Rattle.lsm_block.specs.declared.fault.BlockFault.{BlockFault}
 use Rattle.lsm_block.specs.declared.fault.BlockFault.TheVariants.{BadRestarts, BadEntry, OutOfOrder}
 use Rattle.lsm_block.specs.Block.{entry_of, start_at}
-
--- ---- keys
-
--- eight bytes at least, and the kind is 0 or 1
-unfoldable pub is_internal : List ℕ → Bool
-is_internal key = nat_le 8 (length key) && nat_le (slice_index key (length key - 8)) 1
-
-abbrev pub user_of : List ℕ → List ℕ
-user_of key = take (length key - 8) key
-
--- the last eight bytes: sequence * 256 + kind
-abbrev pub tail_of : List ℕ → ℕ
-tail_of key = from_le_bytes w64 (drop (length key - 8) key)
-
-abbrev pub kind_at : ℕ → Kind
-kind_at zero = Deletion
-kind_at (suc n) = Value
-
--- the internal key that the bytes are
-unfoldable pub key_at : List ℕ → InternalKey
-key_at key = record { user = user_of key; seq = tail_of key / 256; kind = kind_at (tail_of key % 256) }
 
 -- Whether a key comes after the key before it. Where no key was before, there are no bytes of one.
 unfoldable pub comes_after : List ℕ → List ℕ → Bool

@@ -1,18 +1,19 @@
 -- Reading a block from a place on, and the first entry not below a key.
-use Rattle.std.specs.Prelude.{◌≡◌, ℕ, zero, suc, ◌*◌, ◌^◌, ◌<◌, Bool, true, false, List, [], ◌∷◌, length, take, drop, Option, Some, None}
+use Rattle.std.specs.Prelude.{◌≡◌, ℕ, zero, suc, ◌*◌, ◌/◌, ◌^◌, ◌<◌, ◌⊎◌, Bool, true, false, List, [], ◌∷◌, length, take, drop, Option, Some, None}
 use Rattle.std.specs.List.{flat_map, AllByRecursion}
 use Rattle.std.specs.Ordering.{is_lt}
 use Rattle.std.specs.Int.{w32, to_le_bytes, from_le_bytes}
-use Rattle.lsm_codec.specs.Keys.{InternalKey, key_cmp}
+use Rattle.lsm_codec.specs.Keys.{InternalKey, key_cmp, is_internal, key_at}
 use Rattle.lsm_codec.specs.Entries.{Entry, internal_key}
 use Rattle.lsm_block.specs.Block.{entry_of, Spells, Ascends, Rises}
-use Rattle.lsm_block.specs.Reading.{Piece, is_internal, key_at, entry_at, entry}
+use Rattle.lsm_block.specs.Reading.{Piece, entry_at, entry}
 
 abbrev pub read_on : (List ℕ → List ℕ → List Entry) → Option (Piece × List ℕ) → List Entry
 read_on later None = []
 read_on later (Some found) = entry found.0 ∷ later found.0.key found.1
 
--- the entries that can be read from the front of a text on, after the key before it; the count is no less than they are
+-- the entries that can be read from the front of a text on, after the key before it; the count is
+-- no less than they are
 unfoldable pub readable : ℕ → List ℕ → List ℕ → List Entry
 readable zero before text = []
 readable (suc count) before text = read_on (readable count) (entry_at before text)
@@ -48,8 +49,16 @@ found_below key (Some found) = is_lt (key_cmp (key_at found.0.key) key)
 abbrev pub starts_below : List ℕ → ℕ → InternalKey → Bool
 starts_below text offset key = found_below key (entry_at [] (drop offset text))
 
--- What a step from an offset and the key before it to others reads: nothing where no entry is left, and else an entry of
--- this value whose key is the next one's key before.
+-- From here on a search may read: the offset is a restart's, and the entry there stands before the
+-- key, unless the restart is the first.
+pub record StartsSearch (text offsets : List ℕ) (key : InternalKey) (offset : ℕ) : Type 0 where
+  pub index : ℕ
+  pub within : index < length offsets / 4
+  pub is : word_of offsets index ≡ offset
+  pub below : (index ≡ 0) ⊎ (starts_below text offset key ≡ true)
+
+-- What a step from an offset and the key before it to others reads: nothing where no entry is left,
+-- and else an entry of this value whose key is the next one's key before.
 abbrev pub Steps : List ℕ → ℕ → List ℕ → ℕ → List ℕ → Option (List ℕ) → Type 0
 Steps text offset before offset' before' None = (readable (length text) before (drop offset text) ≡ []) × (readable (length text) before' (drop offset' text) ≡ [])
 Steps text offset before offset' before' (Some value) =

@@ -6,7 +6,8 @@ use Rattle.lsm_block.specs.declared.fault.BlockFault.{BlockFault}
 use Rattle.lsm_block.specs.declared.fault.BlockFault.TheVariants.{BadEntry}
 use Rattle.lsm_block.specs.Reading.{Piece, Scan, starts_of, rises, disorder, entry_fault, restart_fault}
 
--- what is seen of an entry that was read: how much of its key is shared, its key, its value, and what follows it
+-- what is seen of an entry that was read: how much of its key is shared, its key, its value, and
+-- what follows it
 abbrev pub seen : Piece × List ℕ → ℕ × List ℕ × List ℕ × List ℕ
 seen found = (found.0.shared, found.0.key, found.0.value, found.1)
 
@@ -17,15 +18,16 @@ raw_key before e = take e.shared before ++ e.own.now
 abbrev pub raw_seen : List ℕ → RawEntry → ℕ × List ℕ × List ℕ × List ℕ
 raw_seen before e = (e.shared, raw_key before e, e.value.now, e.after.now)
 
--- The offset before the walk, and those that are left: the first is passed where it is 0. Where it is not, none follows it,
--- since it does not rise above itself.
+-- The offset before the walk, and those that are left: the first is passed where it is 0. Where it
+-- is not, none follows it, since it does not rise above itself.
 abbrev pub begun : List ℕ → ℕ × List ℕ
 begun [] = (0, [])
 begun (zero ∷ offsets) = (0, offsets)
 begun (suc offset ∷ offsets) = (suc offset, suc offset ∷ offsets)
 
--- The restart offsets that are left, and the last one before them, when an entry that stands here was read. An offset
--- that is not beyond the entry has to be its own: it shares nothing then, and the offset rises.
+-- The restart offsets that are left, and the last one before them, when an entry that stands here
+-- was read. An offset that is not beyond the entry has to be its own: it shares nothing then, and
+-- the offset rises.
 unfoldable pub passed : ℕ → List ℕ → ℕ → ℕ → Option (ℕ × List ℕ)
 passed before [] start shared = Some (before, [])
 passed before (offset ∷ offsets) start shared =
@@ -36,8 +38,8 @@ abbrev pub if_none : Option ℕ → Option ℕ → Option ℕ
 if_none None later = later
 if_none (Some offset) later = Some offset
 
--- The first fault of what is left: where an entry before it was out of order, the last restart offset that was passed
--- and those that are left, the key before, and what is read from here on.
+-- The first fault of what is left: where an entry before it was out of order, the last restart
+-- offset that was passed and those that are left, the key before, and what is read from here on.
 abbrev pub fault_from : Option ℕ → ℕ → List ℕ → List ℕ → Scan → Option BlockFault
 fault_from out before offsets key later =
     restart_fault (rises later.stop (starts_of later.placed) before offsets) (entry_fault later.stop (if_none out (disorder key later.placed)))

@@ -1,13 +1,14 @@
 //! A block that was checked.
 
 ghost use Rattle.std.specs.Prelude.{◌≡◌, ℕ, List, IfOk, Ok};
+ghost use Rattle.lsm_block.specs.Fault.{is_memory};
 ghost use Rattle.lsm_codec.specs.KeyRef.{key_of};
 ghost use Rattle.lsm_codec.specs.Entries.{Entry};
 ghost use Rattle.lsm_block.specs.Block.{IsBlock};
 ghost use Rattle.lsm_block.specs.Reading.{block_at};
-ghost use Rattle.lsm_block.specs.Gives.{Gives};
+ghost use Rattle.lsm_codec.specs.Gives.{Gives};
 ghost use Rattle.lsm_block.specs.Seeking.{not_below};
-ghost use Rattle.lsm_block.specs.Held.{rest_of};
+ghost use Rattle.lsm_block.specs.Held.{block_in, rest_of};
 
 use crate::block_ref::BlockRef;
 use crate::cursor::Cursor;
@@ -16,7 +17,8 @@ use lsm_codec::KeyRef;
 use std::alloc::{AllocError, Global};
 use std::marker::Model;
 
-/// A checked block, which holds its bytes. Contracts see it as its entries and the text that spells them.
+/// A checked block, which holds its bytes. Contracts see it as its entries and the text that spells
+/// them.
 #[derive(Debug, Drop)]
 pub struct Block {
     bytes: Vec<u8>,
@@ -35,15 +37,17 @@ impl Model for Block {
 }
 
 impl Block {
-    /// The block of these bytes. `BadRestarts`, `BadEntry` and `OutOfOrder` say what is wrong with them, in this order:
-    /// restart offsets are judged up to the first entry that cannot be read.
+    /// The block of these bytes. `BadRestarts`, `BadEntry` and `OutOfOrder` say what is wrong with
+    /// them, in this order: restart offsets are judged up to the first entry that cannot be read.
     pub fn check(alloc: Global, bytes: Vec<u8>) -> Result<Block, BlockFault>
         // What is read is the block's.
         ensures found { IfOk result (λ b. IsBlock bytes.items b.entries) }
         // What is a block is read, unless memory runs out.
-        ensures only { (es : List Entry) → IsBlock bytes.items es → Gives (λ b. b.entries) result (Ok es) }
+        ensures only { (es : List Entry) → IsBlock bytes.items es → Gives is_memory (λ b. b.entries) result (Ok es) }
         // Which fault it is.
-        ensures exact { Gives (λ b. b.entries) result (block_at bytes.items) }
+        ensures exact { Gives is_memory (λ b. b.entries) result (block_at bytes.items) }
+        // It is the block of just these bytes.
+        ensures block { IfOk result (λ b. b ≡ block_in bytes.items) }
     {
         let mut cursor = Cursor::start(alloc);
         match cursor.judge(&bytes) {

@@ -1,14 +1,16 @@
 //! A block whose bytes lie elsewhere.
 
-ghost use Rattle.std.specs.Prelude.{◌≡◌, ℕ, List, [], None, take, IfOk, OnOk, OnErr, Ok};
+ghost use Rattle.std.specs.Prelude.{◌≡◌, ◌≤◌, ℕ, List, [], None, length, take, IfOk, OnOk, OnErr, Ok};
 ghost use Rattle.std.specs.Option.{option_map};
+ghost use Rattle.lsm_block.specs.Fault.{is_memory};
 ghost use Rattle.lsm_codec.specs.KeyRef.{key_of};
 ghost use Rattle.lsm_block.specs.Block.{IsBlock};
 ghost use Rattle.lsm_block.specs.Seeking.{not_below};
 ghost use Rattle.lsm_codec.specs.Entries.{Entry};
 ghost use Rattle.lsm_block.specs.Reading.{block_at};
-ghost use Rattle.lsm_block.specs.Gives.{Gives};
+ghost use Rattle.lsm_codec.specs.Gives.{Gives};
 ghost use Rattle.lsm_block.specs.Held.{Holds, rest_of, last_after, text_and_entries, held, block_in, Given};
+ghost use Rattle.lsm_block.specs.Standing.{Stands, bytes_before};
 
 use crate::check::parts;
 use crate::cursor::Cursor;
@@ -17,7 +19,8 @@ use lsm_codec::KeyRef;
 use std::alloc::AllocError;
 use std::marker::Model;
 
-/// A checked block whose bytes lie elsewhere, as in the image of a table. Contracts see it as they see a `Block`.
+/// A checked block whose bytes lie elsewhere, as in the image of a table. Contracts see it as they
+/// see a `Block`.
 #[derive(Drop)]
 pub struct BlockRef<'a> {
     text: &'a [u8],
@@ -36,7 +39,8 @@ impl<'a> Model for BlockRef<'a> {
 }
 
 impl<'a> BlockRef<'a> {
-    /// The block that bytes are which were checked before. Takes no memory, and reads but the number of restarts.
+    /// The block that bytes are which were checked before. Takes no memory, and reads but the
+    /// number of restarts.
     pub fn of(bytes: &'a [u8]) -> BlockRef<'a>
         requires { IsBlock bytes.now (held bytes.now) }
         ensures entries { result.entries ≡ held bytes.now }
@@ -48,12 +52,13 @@ impl<'a> BlockRef<'a> {
         BlockRef::at(bytes, text.len())
     }
 
-    /// The block that bytes are, judged as `Block::check` does; the cursor goes after the last entry. An `Err` sets it before
-    /// the first entry.
+    /// The block that bytes are, judged as `Block::check` does; the cursor goes after the last
+    /// entry. An `Err` sets it before the first entry.
     pub fn check(bytes: &'a [u8], cursor: &mut Cursor) -> Result<BlockRef<'a>, BlockFault>
         ensures found { IfOk result (λ b. IsBlock bytes.now b.entries) }
-        ensures only { (es : List Entry) → IsBlock bytes.now es → Gives (λ b. b.entries) result (Ok es) }
-        ensures exact { Gives (λ b. b.entries) result (block_at bytes.now) }
+        ensures only { (es : List Entry) → IsBlock bytes.now es → Gives is_memory (λ b. b.entries) result (Ok es) }
+        ensures exact { Gives is_memory (λ b. b.entries) result (block_at bytes.now) }
+        ensures block { IfOk result (λ b. b ≡ block_in bytes.now) }
         ensures last { IfOk result (λ b. cursor.new.last ≡ last_after None b.entries) }
         ensures rest { IfOk result (λ b. rest_of b cursor.new ≡ []) }
         ensures err { OnErr result (cursor.new ≡ record { offset = 0; last = None }) }
@@ -83,7 +88,8 @@ impl<'a> BlockRef<'a> {
         cursor.restart();
     }
 
-    /// Sets the cursor before the first entry that is not below the key. An `Err` sets it before the first entry.
+    /// Sets the cursor before the first entry that is not below the key. An `Err` sets it before
+    /// the first entry.
     pub fn seek(&self, cursor: &mut Cursor, key: &KeyRef<'_>) -> Result<(), AllocError>
         ensures found { OnOk result (rest_of self.now cursor.new ≡ not_below (key_of key.now) self.now.entries) }
         ensures err { OnErr result (cursor.new ≡ record { offset = 0; last = None }) }
@@ -91,11 +97,25 @@ impl<'a> BlockRef<'a> {
         cursor.seek_in(self.text, self.offsets, key)
     }
 
-    /// Goes to the next entry, and lends its value; `Cursor::key` then lends its key. An `Err` leaves the cursor.
+    /// Goes to the next entry, and lends its value; `Cursor::key` then lends its key. An `Err`
+    /// leaves the cursor.
     pub fn next(&self, cursor: &mut Cursor) -> Result<Option<&'a [u8]>, AllocError>
         ensures given { IfOk result (λ r. Given self.now cursor.old cursor.new (option_map (λ v. v.now) r)) }
+        // Where no entry is left it stays, and else the value ends where it stands.
+        ensures stands { IfOk result (λ r. Stands self.now.text cursor.old cursor.new (option_map (λ v. v.now) r)) }
         ensures err { OnErr result (cursor.new ≡ cursor.old) }
     {
         cursor.next_in(self.text)
+    }
+
+    /// The bytes of the text before an offset, so many.
+    pub(crate) fn bytes_before(&self, offset: usize, len: usize) -> &'a [u8]
+        requires within { len ≤ offset }
+        requires inside { offset ≤ length self.now.text }
+        ensures { result.now ≡ bytes_before self.now.text offset len }
+    {
+        let (_, tail) = self.text.split_at(offset - len);
+        let (bytes, _) = tail.split_at(len);
+        bytes
     }
 }

@@ -40,8 +40,8 @@ impl Model for BlockBuilder {
 }
 
 impl BlockBuilder {
-    /// A builder without entries, which sets a restart at every interval-th entry. LevelDB's interval is 16, and 1 for index
-    /// blocks.
+    /// A builder without entries, which sets a restart at every interval-th entry. LevelDB's
+    /// interval is 16, and 1 for index blocks.
     pub fn new(alloc: Global, interval: u32) -> BlockBuilder
         requires { 0 < interval }
         ensures { result ≡ record { interval = interval; entries = [] } }
@@ -63,8 +63,9 @@ impl BlockBuilder {
         self.text.len() + self.offsets.len() + 8
     }
 
-    /// How many bytes the block would have with this entry too: exact below 2^32, and 2^32 at least where it would have as
-    /// many or more. So `add` answers `TooLarge` just where this is above 2^32 - 1.
+    /// How many bytes the block would have with this entry too: exact below 2^32, and 2^32 at least
+    /// where it would have as many or more. So `add` answers `TooLarge` just where this is above
+    /// 2^32 - 1.
     pub fn size_with(&self, key: &KeyRef<'_>, value: &[u8]) -> u64
         ensures exact { length (block_bytes self.now.interval (self.now.entries ++ entry_of (key_of key.now) value.now ∷ [])) < 2 ^ 32 → result ≡ length (block_bytes self.now.interval (self.now.entries ++ entry_of (key_of key.now) value.now ∷ [])) }
         ensures over { 2 ^ 32 ≤ length (block_bytes self.now.interval (self.now.entries ++ entry_of (key_of key.now) value.now ∷ [])) → 2 ^ 32 ≤ result }
@@ -104,8 +105,8 @@ impl BlockBuilder {
         }
     }
 
-    /// Adds an entry after the others. `TooLarge` where the block would pass 2^32 - 1 bytes. An `Err` leaves the builder as
-    /// it was.
+    /// Adds an entry after the others. `TooLarge` where the block would pass 2^32 - 1 bytes. An
+    /// `Err` leaves the builder as it was.
     pub fn add(&mut self, key: &KeyRef<'_>, value: &[u8]) -> Result<(), BuildFault>
         requires ascends { Ascends (self.old.entries ++ entry_of (key_of key.now) value.now ∷ []) }
         ensures ok { OnOk result (self.new ≡ record { interval = self.old.interval; entries = self.old.entries ++ entry_of (key_of key.now) value.now ∷ [] }) }

@@ -2,10 +2,11 @@
 
 ghost use Rattle.std.specs.Prelude.{◌≡◌, ◌/◌, ◌≤◌, ℕ, List, [], None, length, take, IfOk, IfErr, IfSome, OnOk, Ok};
 ghost use Rattle.std.specs.Option.{option_map};
+ghost use Rattle.lsm_block.specs.Fault.{is_memory};
 ghost use Rattle.lsm_codec.specs.Entries.{Entry};
 ghost use Rattle.lsm_block.specs.Block.{IsBlock};
 ghost use Rattle.lsm_block.specs.Reading.{words, parts_at, block_at};
-ghost use Rattle.lsm_block.specs.Gives.{Gives, Fails};
+ghost use Rattle.lsm_codec.specs.Gives.{Gives, Fails};
 ghost use Rattle.lsm_block.specs.Held.{Holds, Kept, last_of, last_after, text_and_entries, held};
 
 use crate::cursor::Cursor;
@@ -35,7 +36,7 @@ pub(crate) fn parts(bytes: &[u8]) -> Option<(&[u8], &[u8])>
 pub(crate) fn check_text(bytes: &[u8], key: &mut Vec<u8>) -> Result<usize, BlockFault>
     requires { key.old.items ≡ [] }
     ensures holds { IfOk result (λ n. Holds bytes.now n (text_and_entries (take n bytes.now)).entries) }
-    ensures fault { IfErr result (λ f. Fails f (block_at bytes.now)) }
+    ensures fault { IfErr result (λ f. Fails is_memory f (block_at bytes.now)) }
     ensures last { IfOk result (λ n. last_of key.new.items ≡ last_after None (text_and_entries (take n bytes.now)).entries) }
     ensures kept { Kept (last_of key.new.items) key.new.items }
 {
@@ -51,8 +52,8 @@ pub(crate) fn check_text(bytes: &[u8], key: &mut Vec<u8>) -> Result<usize, Block
 /// Whether bytes that lie elsewhere are a block: `Block::check` without taking them.
 pub fn check_bytes(alloc: Global, bytes: &[u8]) -> Result<(), BlockFault>
     ensures found { OnOk result (IsBlock bytes.now (held bytes.now)) }
-    ensures only { (es : List Entry) → IsBlock bytes.now es → Gives (λ _. es) result (Ok es) }
-    ensures exact { Gives (λ _. held bytes.now) result (block_at bytes.now) }
+    ensures only { (es : List Entry) → IsBlock bytes.now es → Gives is_memory (λ _. es) result (Ok es) }
+    ensures exact { Gives is_memory (λ _. held bytes.now) result (block_at bytes.now) }
 {
     let mut cursor = Cursor::start(alloc);
     match cursor.judge(bytes) {

@@ -2,12 +2,14 @@
 
 ghost use Rattle.std.specs.Prelude.{◌≡◌, ◌≤◌, ℕ, List, None, length, take, IfOk, IfErr, OnOk, OnErr};
 ghost use Rattle.std.specs.Option.{option_map};
+ghost use Rattle.lsm_block.specs.Fault.{is_memory};
 ghost use Rattle.lsm_codec.specs.KeyRef.{key_of};
 ghost use Rattle.lsm_codec.specs.Entries.{Entry};
 ghost use Rattle.lsm_block.specs.Seeking.{not_below, Parts};
 ghost use Rattle.lsm_block.specs.Reading.{block_at};
-ghost use Rattle.lsm_block.specs.Gives.{Fails};
+ghost use Rattle.lsm_codec.specs.Gives.{Fails};
 ghost use Rattle.lsm_block.specs.Held.{rest_of, text_and_entries, last_after, Holds, Given};
+ghost use Rattle.lsm_block.specs.Standing.{Stands, bytes_before};
 
 use crate::block::Block;
 use crate::check::check_text;
@@ -17,8 +19,8 @@ use lsm_codec::KeyRef;
 use std::alloc::{AllocError, Global};
 use std::marker::Model;
 
-/// A place in a block: the next entry's offset, and the key before it. Contracts see it so. One cursor with its memory
-/// may go through many blocks, one after another.
+/// A place in a block: the next entry's offset, and the key before it. Contracts see it so. One
+/// cursor with its memory may go through many blocks, one after another.
 #[derive(Debug, Drop)]
 pub struct Cursor {
     offset: usize,
@@ -64,7 +66,9 @@ impl Cursor {
         self.before.clear();
     }
 
-    /// The key of the entry that was given last, if one was.
+    /// The key of the entry that was read last, if one was. After `next` that is the entry given
+    /// last, and it stays so where no entry is left. After a search it is the key of an entry that
+    /// the search passed, or there is none: no clause says which.
     pub fn key(&self) -> Option<KeyRef<'_>>
         ensures { option_map key_of result ≡ self.now.last }
     {
@@ -74,19 +78,32 @@ impl Cursor {
         }
     }
 
-    /// Goes to the next entry of a block, and lends its value; `key` then lends its key. An `Err` leaves the cursor.
+    /// Goes to the next entry of a block, and lends its value; `key` then lends its key. An `Err`
+    /// leaves the cursor.
     pub fn next<'b>(&mut self, block: &'b Block) -> Result<Option<&'b [u8]>, AllocError>
         ensures given { IfOk result (λ r. Given block.now self.old self.new (option_map (λ v. v.now) r)) }
+        // Where no entry is left it stays, and else the value ends where it stands.
+        ensures stands { IfOk result (λ r. Stands block.now.text self.old self.new (option_map (λ v. v.now) r)) }
         ensures err { OnErr result (self.new ≡ self.old) }
     {
         block.as_ref().next(self)
     }
 
-    /// Judges bytes, and goes after their last entry; how long the text of the entries is comes back. An `Err` goes before
-    /// the first entry.
+    /// The bytes of a block before the next entry, so many: the value of the entry that was given
+    /// last, where that is its length.
+    pub(crate) fn bytes_before<'b>(&self, block: &'b Block, len: usize) -> &'b [u8]
+        requires within { len ≤ self.now.offset }
+        requires inside { self.now.offset ≤ length block.now.text }
+        ensures { result.now ≡ bytes_before block.now.text self.now.offset len }
+    {
+        block.as_ref().bytes_before(self.offset, len)
+    }
+
+    /// Judges bytes, and goes after their last entry; how long the text of the entries is comes
+    /// back. An `Err` goes before the first entry.
     pub(crate) fn judge(&mut self, bytes: &[u8]) -> Result<usize, BlockFault>
         ensures holds { IfOk result (λ n. Holds bytes.now n (text_and_entries (take n bytes.now)).entries) }
-        ensures fault { IfErr result (λ f. Fails f (block_at bytes.now)) }
+        ensures fault { IfErr result (λ f. Fails is_memory f (block_at bytes.now)) }
         ensures last { IfOk result (λ n. self.new ≡ record { offset = n; last = last_after None (text_and_entries (take n bytes.now)).entries }) }
         ensures err { OnErr result (self.new ≡ record { offset = 0; last = None }) }
     {
@@ -128,9 +145,11 @@ impl Cursor {
         }
     }
 
-    /// Goes to the next entry of a text of entries, and lends its value. An `Err` leaves the cursor.
+    /// Goes to the next entry of a text of entries, and lends its value. An `Err` leaves the
+    /// cursor.
     pub(crate) fn next_in<'b>(&mut self, text: &'b [u8]) -> Result<Option<&'b [u8]>, AllocError>
         ensures given { IfOk result (λ r. Given (text_and_entries text.now) self.old self.new (option_map (λ v. v.now) r)) }
+        ensures stands { IfOk result (λ r. Stands text.now self.old self.new (option_map (λ v. v.now) r)) }
         ensures err { OnErr result (self.new ≡ self.old) }
     {
         let (value, offset) = step(text, self.offset, &mut self.before)?;

@@ -2,13 +2,12 @@
 
 ghost use Rattle.std.specs.Prelude.{◌≡◌, ◌≤◌, [], ℕ, List, length, IfSome};
 ghost use Rattle.std.specs.Option.{option_map};
-ghost use Rattle.lsm_block.specs.Reading.{number_at, numbers_at, piece_of, entry_at, key_at};
-ghost use Rattle.lsm_codec.specs.Keys.{IsKey};
+ghost use Rattle.lsm_block.specs.Reading.{number_at, numbers_at, piece_of, entry_at};
+ghost use Rattle.lsm_codec.specs.Keys.{IsKey, key_at};
 ghost use Rattle.lsm_block.specs.Walking.{seen, raw_key, raw_seen};
 
-use crate::key::is_internal_key;
 use crate::shared_key::SharedKey;
-use lsm_codec::get_varint32;
+use lsm_codec::{get_varint32, is_internal_key};
 
 /// A varint32 and what follows it.
 fn number(bytes: &[u8]) -> Option<(u32, &[u8])>
@@ -45,8 +44,8 @@ fn numbers(text: &[u8]) -> Option<(u32, u32, u32, &[u8])>
     long_numbers(text)
 }
 
-/// An entry as it lies in a text: how much of its key it shares with the key before it, the bytes of its key beyond that,
-/// its value, and what follows it.
+/// An entry as it lies in a text: how much of its key it shares with the key before it, the bytes
+/// of its key beyond that, its value, and what follows it.
 #[derive(Clone, Copy)]
 pub(crate) struct RawEntry<'a> {
     pub(crate) shared: u32,

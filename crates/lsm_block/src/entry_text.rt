@@ -66,7 +66,8 @@ fn varint_len(n: u64) -> u64
     1 + varint_len(n / 128)
 }
 
-/// How many bytes a block has with an entry more, by the lengths of its parts: exact below 2^32, and 2^32 at least elsewhere.
+/// How many bytes a block has with an entry more, by the lengths of its parts: exact below 2^32,
+/// and 2^32 at least elsewhere.
 pub(crate) fn grown_size(
     text: usize,
     offsets: usize,
@@ -113,7 +114,8 @@ fn push_parts(
     Ok(())
 }
 
-/// Appends an entry's text, and its offset where that is a restart. An `Err` leaves the contents as they were.
+/// Appends an entry's text, and its offset where that is a restart. An `Err` leaves the contents as
+/// they were.
 pub(crate) fn push_entry(
     text: &mut Vec<u8>,
     offsets: &mut Vec<u8>,

@@ -12,12 +12,13 @@ pub enum BlockFault {
     /// A growth was refused.
     #[error("OutOfMemory")]
     OutOfMemory,
-    /// Fewer than four bytes, a number of restarts that is 0 or does not fit, or restart offsets that do not begin at 0,
-    /// do not rise strictly, or do not each name the start of an entry that shares nothing.
+    /// Fewer than four bytes, a number of restarts that is 0 or does not fit, or restart offsets
+    /// that do not begin at 0, do not rise strictly, or do not each name the start of an entry that
+    /// shares nothing.
     #[error("BadRestarts")]
     BadRestarts,
-    /// An entry's numbers or bytes run out or are too big, it shares more than the key before it has, or its key is no
-    /// internal key.
+    /// An entry's numbers or bytes run out or are too big, it shares more than the key before it
+    /// has, or its key is no internal key.
     #[error("BadEntry {0}")]
     BadEntry(u64),
     /// A key is not greater than the one before it.

@@ -2,20 +2,11 @@
 
 ghost use Rattle.std.specs.Prelude.{◌≡◌, ◌≤◌, ℕ, List, length, true};
 ghost use Rattle.std.specs.Ordering.{is_lt};
-ghost use Rattle.lsm_codec.specs.Keys.{packed, key_cmp};
+ghost use Rattle.lsm_codec.specs.Keys.{packed, key_cmp, is_internal, tail_of, key_at};
 ghost use Rattle.lsm_codec.specs.KeyRef.{key_of};
-ghost use Rattle.lsm_block.specs.Reading.{is_internal, tail_of, key_at};
 
 use lsm_codec::KeyRef;
 use std::cmp::Ordering;
-
-/// Whether bytes are an internal key: eight at least, and the kind is 0 or 1.
-#[tactic(auto, unfolding(crate::specs::Reading::is_internal))]
-pub(crate) fn is_internal_key(key: &[u8]) -> bool
-    ensures { result ≡ is_internal key.now }
-{
-    key.len() >= 8 && key[key.len() - 8] <= 1
-}
 
 /// The sequence and the kind of a key in one number.
 pub(crate) fn packed_of(key: &KeyRef<'_>) -> u64

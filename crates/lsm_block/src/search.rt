@@ -4,8 +4,9 @@ ghost use Rattle.std.specs.Prelude.{◌≡◌, [], ◌*◌, ◌+◌, ◌/◌, �
 ghost use Rattle.std.specs.Option.{option_map};
 ghost use Rattle.lsm_codec.specs.KeyRef.{key_of};
 ghost use Rattle.lsm_codec.specs.Entries.{Entry};
-ghost use Rattle.lsm_block.specs.Seeking.{readable, not_below, word_of, Parts, starts_below, Steps};
+ghost use Rattle.lsm_block.specs.Seeking.{readable, not_below, word_of, Parts, starts_below, StartsSearch, Steps};
 ghost use Rattle.lsm_block.specs.Held.{Kept, last_of};
+ghost use Rattle.lsm_block.specs.Standing.{StepStands};
 
 use crate::entry::{RawEntry, first_key};
 use crate::key::is_below;
@@ -44,10 +45,11 @@ fn starts_below(text: &[u8], restart: usize, key: &KeyRef<'_>) -> bool
     }
 }
 
-/// The offset of a restart from which on the search finds the same as from the front: the last whose key is below this one,
-/// or the first.
+/// The offset of a restart from which on the search finds the same as from the front: the last
+/// whose key is below this one, or the first.
 pub(crate) fn find_restart(text: &[u8], offsets: &[u8], key: &KeyRef<'_>) -> usize
     requires { 4 ≤ length offsets.now }
+    ensures restart { StartsSearch text.now offsets.now (key_of key.now) result }
     ensures same { (es : List Entry) → Parts text.now offsets.now es → not_below (key_of key.now) (readable (length text.now) [] (drop result text.now)) ≡ not_below (key_of key.now) es }
     ensures last { (es : List Entry) → Parts text.now offsets.now es → (i : ℕ) → i < length offsets.now / 4 → result < word_of offsets.now i → starts_below text.now (word_of offsets.now i) (key_of key.now) ≡ false }
 {
@@ -64,7 +66,8 @@ pub(crate) fn find_restart(text: &[u8], offsets: &[u8], key: &KeyRef<'_>) -> usi
     word_at(offsets, low) as usize
 }
 
-/// Goes on from a restart to the first entry that is not below the key: its offset, and `before` is the key before it.
+/// Goes on from a restart to the first entry that is not below the key: its offset, and `before` is
+/// the key before it.
 pub(crate) fn scan_to(
     text: &[u8],
     start: usize,
@@ -91,8 +94,8 @@ pub(crate) fn scan_to(
     Ok(offset)
 }
 
-/// Reads the entry at an offset, whose key goes to `before`, and lends its value; the number is the next offset. An `Err`
-/// leaves `before`.
+/// Reads the entry at an offset, whose key goes to `before`, and lends its value; the number is the
+/// next offset. An `Err` leaves `before`.
 pub(crate) fn step<'b>(
     text: &'b [u8],
     offset: usize,
@@ -100,6 +103,7 @@ pub(crate) fn step<'b>(
 ) -> Result<(Option<&'b [u8]>, usize), AllocError>
     requires { Kept (last_of before.old.items) before.old.items }
     ensures steps { IfOk result (λ r. Steps text.now offset before.old.items r.1 before.new.items (option_map (λ v. v.now) r.0)) }
+    ensures stands { IfOk result (λ r. StepStands text.now offset before.old.items r.1 before.new.items (option_map (λ v. v.now) r.0)) }
     ensures kept { Kept (last_of before.new.items) before.new.items }
     ensures err { OnErr result (before.new.items ≡ before.old.items) }
 {

@@ -3,10 +3,10 @@
 ghost use Rattle.std.specs.Prelude.{◌≡◌, ◌++◌, ◌+◌, ◌<◌, ◌≤◌, ℕ, List, length, take, slice_index, true, OnOk, OnErr};
 ghost use Rattle.std.specs.Ordering.{nat_cmp, is_lt};
 ghost use Rattle.std.specs.Cmp.Lexicographic.{slice_cmp};
-ghost use Rattle.lsm_codec.specs.Keys.{key_cmp};
+ghost use Rattle.lsm_codec.specs.Keys.{key_cmp, is_internal, user_of, tail_of, key_at};
 ghost use Rattle.lsm_codec.specs.KeyRef.{key_of};
 ghost use Rattle.lsm_block.specs.KeyParts.{joined};
-ghost use Rattle.lsm_block.specs.Reading.{is_internal, user_of, tail_of, key_at, comes_after};
+ghost use Rattle.lsm_block.specs.Reading.{comes_after};
 
 use crate::key::{packed_of, tail};
 use lsm_codec::KeyRef;
@@ -14,8 +14,9 @@ use std::alloc::AllocError;
 use std::cmp::Ordering;
 use std::marker::Model;
 
-/// A key that is judged before it is put together: the key before it, how much of that it shares, and its own bytes. So
-/// going through a block takes time by its bytes, however long the keys are that they spell.
+/// A key that is judged before it is put together: the key before it, how much of that it shares,
+/// and its own bytes. So going through a block takes time by its bytes, however long the keys are
+/// that they spell.
 #[derive(Drop)]
 pub(crate) struct SharedKey<'b, 'a> {
     before: &'b [u8],
@@ -64,7 +65,7 @@ impl<'b, 'a> SharedKey<'b, 'a> {
     }
 
     /// Whether it is an internal key: eight bytes at least, and the kind is 0 or 1.
-    #[tactic(auto, unfolding(crate::specs::Reading::is_internal))]
+    #[tactic(auto, unfolding(lsm_codec::specs::Keys::is_internal))]
     pub(crate) fn is_internal(&self) -> bool
         ensures { result ≡ is_internal (joined self.now) }
     {

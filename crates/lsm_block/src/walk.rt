@@ -3,7 +3,8 @@
 ghost use Rattle.std.specs.Prelude.{◌≡◌, [], ◌∷◌, ◌/◌, ◌<◌, ◌≤◌, ℕ, List, length, drop, true, nat_le, None, Some, IfOk};
 ghost use Rattle.std.specs.List.{list_all};
 ghost use Rattle.std.specs.Option.{option_map};
-ghost use Rattle.lsm_block.specs.Reading.{words, is_internal, comes_after, if_not, entry_at, scan, entries_of, first_fault};
+ghost use Rattle.lsm_codec.specs.Keys.{is_internal};
+ghost use Rattle.lsm_block.specs.Reading.{words, comes_after, if_not, entry_at, scan, entries_of, first_fault};
 ghost use Rattle.lsm_block.specs.KeyParts.{joined};
 ghost use Rattle.lsm_block.specs.Held.{Kept, last_of, last_after};
 ghost use Rattle.lsm_block.specs.Walking.{begun, passed, if_none, fault_from, fault_at_stop, is_nothing, fault_at_end};
@@ -35,7 +36,8 @@ fn begin(offsets: &[u8]) -> (u32, &[u8])
     }
 }
 
-/// The last offset that is passed, and those that are left, when an entry that starts here was read.
+/// The last offset that is passed, and those that are left, when an entry that starts here was
+/// read.
 #[tactic(auto, unfolding(crate::specs::Walking::passed))]
 fn pass(before: u32, offsets: &[u8], start: u64, shared: u32) -> Option<(u32, &[u8])>
     ensures { option_map (λ r. (r.0, words (length r.1.now / 4) r.1.now)) result ≡ passed before (words (length offsets.now / 4) offsets.now) start shared }
@@ -54,7 +56,8 @@ fn pass(before: u32, offsets: &[u8], start: u64, shared: u32) -> Option<(u32, &[
     None
 }
 
-/// Where the first entry stands that is out of order, the one of this key that starts here included.
+/// Where the first entry stands that is out of order, the one of this key that starts here
+/// included.
 fn note(out: Option<u64>, key: &SharedKey<'_, '_>, start: u64) -> Option<u64>
     requires before { 0 < length key.now.before → is_internal key.now.before ≡ true }
     requires key { is_internal (joined key.now) ≡ true }
@@ -95,8 +98,8 @@ fn fault_at_last(out: Option<u64>, offsets: &[u8]) -> Option<BlockFault>
     }
 }
 
-/// The first fault of a block, by the text of its entries and its restart offsets. Where there is none, `key` is the last
-/// key.
+/// The first fault of a block, by the text of its entries and its restart offsets. Where there is
+/// none, `key` is the last key.
 pub(crate) fn find_fault(
     text: &[u8],
     offsets: &[u8],

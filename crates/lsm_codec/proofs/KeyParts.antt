@@ -5,13 +5,13 @@ use Rattle.std.proofs.lemmas.Nat.{le_bytes_8}
 use Rattle.lsm_codec.specs.declared.kind.Kind.{Kind}
 use Rattle.lsm_codec.specs.Keys.{IsKey, kind_number}
 
-abbrev eight : List ℕ → List ℕ
+abbrev pub eight : List ℕ → List ℕ
 eight t = get_or t 0 0 ∷ get_or t 1 0 ∷ get_or t 2 0 ∷ get_or t 3 0 ∷ get_or t 4 0 ∷ get_or t 5 0 ∷ get_or t 6 0 ∷ get_or t 7 0 ∷ []
 
 low_byte : (t : List ℕ) (n : ℕ) → ((i : ℕ) → get_or t i 0 < 256) → n ≡ from_le_bytes w64 (eight t) → n % 256 ≡ get_or t 0 0
 low_byte t n fits e = omega (arith, fits 0)
 
-eight_is : (t : List ℕ) → length t ≡ 8 → eight t ≡ t
+pub eight_is : (t : List ℕ) → length t ≡ 8 → eight t ≡ t
 eight_is (a ∷ b ∷ c ∷ d ∷ e ∷ f ∷ g ∷ h ∷ []) len = refl
 eight_is t len = absurd (omega arith)
 

@@ -5,9 +5,11 @@ pub mod Newest
 pub mod KeyParts
 pub mod KeyOrder
 pub mod KeyBytes
+pub mod InternalKeys
 pub mod Shifts
 pub mod TableFacts
 pub mod Blocks
 pub mod SkipFacts
 pub mod WordLaws
 pub mod Masks
+pub mod CallerLemmas

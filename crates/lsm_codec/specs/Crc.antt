@@ -1,4 +1,5 @@
--- CRC-32C: the division of a message by Castagnoli's polynomial, one bit per step (LevelDB's `util/crc32c.h`, RFC 3720).
+-- CRC-32C: the division of a message by Castagnoli's polynomial, one bit per step (LevelDB's
+-- `util/crc32c.h`, RFC 3720).
 use Rattle.std.specs.Prelude.{ℕ, zero, suc, ◌+◌, ◌-◌, ◌*◌, ◌/◌, ◌%◌, ◌^◌, bit_xor, List, [], ◌∷◌}
 use Rattle.std.specs.List.{flat_map}
 

@@ -1,4 +1,5 @@
--- Entries, their order, and what a set of entries answers to a read (LevelDB's `doc/impl.md` and `db/dbformat.h`).
+-- Entries, their order, and what a set of entries answers to a read (LevelDB's `doc/impl.md` and
+-- `db/dbformat.h`).
 use Rattle.std.specs.Prelude.{ℕ, Bool, cond, List, [], ◌∷◌, Option, Some, None, nat_lt, nat_le, ◌&&◌}
 use Rattle.std.specs.Str.{bytes_eq}
 use Rattle.std.specs.declared.cmp.Ordering.{Ordering}

@@ -1,4 +1,5 @@
 pub mod Fault
+pub mod Gives
 pub mod Lists
 pub mod Varint
 pub mod Keys

@@ -46,13 +46,13 @@ pub record IsOver (most max : ℕ) (bytes : List ℕ) : Type 0 where
   pub groups : AreGroups (take len bytes)
   pub over : max < value_of (take len bytes)
 
--- A number that is spelled too long, or is too big. To refuse the second is this project's rule: LevelDB drops the bits
--- in excess, and never writes them.
+-- A number that is spelled too long, or is too big. To refuse the second is this project's rule:
+-- LevelDB drops the bits in excess, and never writes them.
 abbrev pub IsTooBig : ℕ → ℕ → List ℕ → Type 0
 IsTooBig most max bytes = IsEndless most bytes ⊎ IsOver most max bytes
 
--- What a reader of a number answers: Ok exactly where a front of the bytes spells one, with it and its length, and each
--- refusal exactly where it is due.
+-- What a reader of a number answers: Ok exactly where a front of the bytes spells one, with it and
+-- its length, and each refusal exactly where it is due.
 pub record GetsVarint (most max : ℕ) (bytes : List ℕ) (result : Result (ℕ × ℕ) CodecFault) : Type 0 where
   pub found : IfOk result (λ r. (r.1 ≤ length bytes) × IsVarint most max (take r.1 bytes) r.0)
   pub only : (len n : ℕ) → len ≤ length bytes → IsVarint most max (take len bytes) n → result ≡ Ok (n, len)

@@ -1,7 +1,8 @@
 //! Bytes that contracts see as a list of numbers.
 
-ghost use Rattle.std.specs.Prelude.{◌≡◌, List, ℕ};
+ghost use Rattle.std.specs.Prelude.{◌≡◌, List, ℕ, IfOk};
 
+use std::alloc::{AllocError, Global};
 use std::marker::Model;
 
 /// A string of bytes, in memory of its own.
@@ -29,6 +30,18 @@ impl Bytes {
         ensures { result.now ≡ self.now }
     {
         &self.items
+    }
+
+    /// A copy of the bytes, in memory of its own.
+    ///
+    /// # Errors
+    /// `AllocError` where the memory was refused.
+    pub fn try_copy(&self, alloc: Global) -> Result<Bytes, AllocError>
+        ensures { IfOk result (λ b. b ≡ self.now) }
+    {
+        Ok(Bytes {
+            items: Vec::from_slice(alloc, &self.items)?,
+        })
     }
 
     /// Hands the vector back.

@@ -1,5 +1,5 @@
-//! The register of the checksum moved on by one byte a step, over one table. Ends what the wider steps leave, and is
-//! what tests compare them with.
+//! The register of the checksum moved on by one byte a step, over one table. Ends what the wider
+//! steps leave, and is what tests compare them with.
 
 ghost use Rattle.std.specs.Prelude.{◌≡◌, [], ◌∷◌, ◌++◌, ◌<◌, ◌^◌, ℕ, List};
 ghost use Rattle.lsm_codec.specs.Crc.{register_after, crc_of, crc_after};

@@ -6,16 +6,17 @@ ghost use Rattle.lsm_codec.specs.Mask.{masked, unmasked};
 
 use crate::stridewise::absorb_strides;
 
-/// The CRC-32C of the bytes: Castagnoli's polynomial 0x82F63B78, reflected, start 0xFFFFFFFF, final inversion
-/// (LevelDB's `util/crc32c.h`, RFC 3720). Takes time in proportion to the length, 32 bytes a step.
+/// The CRC-32C of the bytes: Castagnoli's polynomial 0x82F63B78, reflected, start 0xFFFFFFFF, final
+/// inversion (LevelDB's `util/crc32c.h`, RFC 3720). Takes time in proportion to the length, 32
+/// bytes a step.
 pub fn crc32c(bytes: &[u8]) -> u32
     ensures { result ≡ crc_of bytes.now }
 {
     !absorb_strides(!0, bytes)
 }
 
-/// The CRC-32C of a text whose front has the checksum so far, and which goes on with the bytes (`Extend` of LevelDB's
-/// `util/crc32c.h`).
+/// The CRC-32C of a text whose front has the checksum so far, and which goes on with the bytes
+/// (`Extend` of LevelDB's `util/crc32c.h`).
 pub fn crc_extend(checksum: u32, bytes: &[u8]) -> u32
     ensures value { result ≡ crc_after checksum bytes.now }
     ensures joins { (front : List ℕ) → checksum ≡ crc_of front → result ≡ crc_of (front ++ bytes.now) }
@@ -23,8 +24,9 @@ pub fn crc_extend(checksum: u32, bytes: &[u8]) -> u32
     !absorb_strides(!checksum, bytes)
 }
 
-/// A checksum as files store it: turned right by 15 bits, and a constant added modulo 2^32 (`Mask` of LevelDB's
-/// `util/crc32c.h`, since the checksum of bytes that hold their own checksum says little).
+/// A checksum as files store it: turned right by 15 bits, and a constant added modulo 2^32 (`Mask`
+/// of LevelDB's `util/crc32c.h`, since the checksum of bytes that hold their own checksum says
+/// little).
 pub fn mask(checksum: u32) -> u32
     ensures value { result ≡ masked checksum }
     ensures back { unmasked result ≡ checksum }

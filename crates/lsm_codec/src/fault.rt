@@ -11,7 +11,8 @@ pub enum CodecFault {
     /// The input ends within a number.
     #[error("Cut")]
     Cut,
-    /// A number is spelled in more bytes than its form allows, or is above the greatest of its form.
+    /// A number is spelled in more bytes than its form allows, or is above the greatest of its
+    /// form.
     #[error("TooBig")]
     TooBig,
     /// An internal key has fewer than eight bytes.
@@ -35,7 +36,8 @@ impl CodecFault {
         }
     }
 
-    /// The name under which the program reports the refusal. The fields are not in it; `Display` adds them.
+    /// The name under which the program reports the refusal. The fields are not in it; `Display`
+    /// adds them.
     pub fn name(&self) -> &'static str
         ensures { result.now ≡ name_of self.now }
     {

@@ -1,8 +1,13 @@
-//! Numbers, keys and checksums as LevelDB's files spell them: varints, internal keys, CRC-32C and its mask. Its `specs` state
-//! the one record `Entry` of all crates above, its order, and what a set of entries answers to a read.
-//! Stands on `std`, and on `thiserror` for its fault. Data flows from `varint` and `internal_key` to the formats above;
-//! `checksum` goes by `stridewise`, then `wordwise`, then `bytewise`, over `stride_tables` and `byte_tables`.
-//! Its contract: bytes and numbers, keys, checksums by the grammar, both ways, and each refusal exactly where it is due.
+//! Numbers, keys and checksums as LevelDB's files spell them: varints, internal keys, CRC-32C and
+//! its mask. Its `specs` state the one record `Entry` of all crates above, its order, what a set of
+//! entries answers to a read, and what a reader answers that may run out of memory.
+//!
+//! Stands on `std`, and on `thiserror` for its fault. Data flows from `varint` and `internal_key` to
+//! the formats above; `checksum` goes by `stridewise`, then `wordwise`, then `bytewise`, over
+//! `stride_tables` and `byte_tables`.
+//!
+//! Its contract: bytes and numbers, keys, checksums by the grammar, both ways, and each refusal
+//! exactly where it is due.
 #![tactic(auto)]
 
 mod byte_tables;
@@ -15,15 +20,13 @@ mod kind;
 mod list;
 mod stride_tables;
 mod stridewise;
-#[cfg(test)]
-mod tests;
 mod varint;
 mod wordwise;
 
 pub use bytes::Bytes;
 pub use checksum::{crc_extend, crc32c, mask, unmask};
 pub use fault::CodecFault;
-pub use internal_key::{KeyRef, MAX_SEQ, push_key};
+pub use internal_key::{KeyRef, MAX_SEQ, is_internal_key, key_parts, push_key};
 pub use kind::Kind;
 pub use list::List;
 pub use varint::{get_varint32, get_varint64, put_varint32, put_varint64};

@@ -1,7 +1,8 @@
 //! A list that contracts see as a list.
 
-ghost use Rattle.std.specs.Prelude.{◌≡◌, List};
+ghost use Rattle.std.specs.Prelude.{◌≡◌, List, IfOk};
 
+use std::alloc::{AllocError, Global};
 use std::marker::Model;
 
 /// A list, in memory of its own.
@@ -29,6 +30,20 @@ impl<T> List<T> {
         ensures { result.now ≡ self.now }
     {
         &self.items
+    }
+
+    /// A copy of the elements, in memory of its own.
+    ///
+    /// # Errors
+    /// `AllocError` where the memory was refused.
+    pub fn try_copy(&self, alloc: Global) -> Result<List<T>, AllocError>
+    where
+        T: Copy,
+        ensures { IfOk result (λ b. b ≡ self.now) }
+    {
+        Ok(List {
+            items: Vec::from_slice(alloc, &self.items)?,
+        })
     }
 
     /// Hands the vector back.

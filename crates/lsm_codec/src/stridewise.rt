@@ -1,5 +1,5 @@
-//! The register of the checksum moved on by a stride of 32 bytes a step: four words of 64 bits side by side, so that no
-//! word waits for the one before it.
+//! The register of the checksum moved on by a stride of 32 bytes a step: four words of 64 bits side
+//! by side, so that no word waits for the one before it.
 
 ghost use Rattle.std.specs.Prelude.{◌≡◌, [], ◌∷◌, ◌++◌, ◌<◌, ◌≤◌, ◌^◌, ℕ, List, length, bit_xor};
 ghost use Rattle.lsm_codec.specs.Crc.{register_after, crc_of, crc_after};

@@ -1,5 +1,5 @@
-//! Numbers in groups of seven bits, the lowest group first, the high bit set on each byte but the last
-//! (varint32 and varint64 of LevelDB's `util/coding.h`).
+//! Numbers in groups of seven bits, the lowest group first, the high bit set on each byte but the
+//! last (varint32 and varint64 of LevelDB's `util/coding.h`).
 
 ghost use Rattle.std.specs.Prelude.{◌≡◌, ℕ, ◌+◌, ◌-◌, ◌^◌, ◌<◌, ◌≤◌, ◌↔◌, ◌⊎◌, ◌++◌, List, length, take, drop, IfOk, IfErr, OnOk, OnErr, MatchResult, Ok, Err, vec_len};
 ghost use Rattle.lsm_codec.specs.Varint.{IsVarint32, IsVarint64, IsCut, GetsVarint, Reads, IsShortest, varint_at, varint32_at, varint64_at, shortest, varint32, varint64};
@@ -7,7 +7,8 @@ ghost use Rattle.lsm_codec.specs.Varint.{IsVarint32, IsVarint64, IsCut, GetsVari
 use crate::fault::CodecFault;
 use std::alloc::AllocError;
 
-/// Reads a number of at most so many groups and at most `max`: its value, and how many bytes spell it.
+/// Reads a number of at most so many groups and at most `max`: its value, and how many bytes spell
+/// it.
 #[tactic(auto, unfolding(crate::specs::Varint::varint_at))]
 fn varint(bytes: &[u8], most: u32, max: u64) -> Result<(u64, usize), CodecFault>
     requires { 127 ≤ max }
@@ -39,9 +40,9 @@ fn varint(bytes: &[u8], most: u32, max: u64) -> Result<(u64, usize), CodecFault>
 /// Padded spellings are read, as `80 00` for 0, and what follows the number is not looked at.
 ///
 /// # Errors
-/// `Cut` where the bytes end within the number: there are fewer than 5, and each has its high bit set.
-/// `TooBig` where the fifth byte still has its high bit, or the value is above 2^32 - 1. (LevelDB's reader drops the
-/// bits above that, and its writer never makes them.)
+/// `Cut` where the bytes end within the number: there are fewer than 5, and each has its high bit
+/// set. `TooBig` where the fifth byte still has its high bit, or the value is above 2^32 - 1.
+/// (LevelDB's reader drops the bits above that, and its writer never makes them.)
 pub fn get_varint32(bytes: &[u8]) -> Result<(u32, usize), CodecFault>
     ensures gets { GetsVarint 5 (2 ^ 32 - 1) bytes.now result }
     ensures reads { Reads bytes.now result (varint32_at bytes.now) }
@@ -57,8 +58,8 @@ pub fn get_varint32(bytes: &[u8]) -> Result<(u32, usize), CodecFault>
 /// Padded spellings are read, and what follows the number is not looked at.
 ///
 /// # Errors
-/// `Cut` where the bytes end within the number: there are fewer than 10, and each has its high bit set.
-/// `TooBig` where the tenth byte still has its high bit, or the value is above 2^64 - 1.
+/// `Cut` where the bytes end within the number: there are fewer than 10, and each has its high bit
+/// set. `TooBig` where the tenth byte still has its high bit, or the value is above 2^64 - 1.
 pub fn get_varint64(bytes: &[u8]) -> Result<(u64, usize), CodecFault>
     ensures gets { GetsVarint 10 (2 ^ 64 - 1) bytes.now result }
     ensures reads { Reads bytes.now result (varint64_at bytes.now) }

@@ -1,6 +1,6 @@
 use Rattle.std.proofs.Common.{◌≡◌, ℕ, List, Some, ap, sym, ◌∙◌, arith}
 use Rattle.std.proofs.lemmas.Bool.Decides.{nat_tests}
-use Rattle.lsm_block.specs.Reading.{is_internal}
+use Rattle.lsm_codec.specs.Keys.{is_internal}
 use Rattle.lsm_block.proofs.EntryLaws.{first_unread, first_shares, first_short, first_other, first_read}
 use Rattle.lsm_block.proofs.entry.first_key.Goals as goal
 
@@ -20,12 +20,12 @@ pub returns-then-not-is_internal_key : goal.returns-then-not-is_internal_key
 returns-then-not-is_internal_key c =
     let none : c.in-Some.shared ≡ 0 = grind (arith, nat_tests) in
     let read = rw (c.in-Some.is, none) at c.numbers.ensures.reads in
-    let other = ap is_internal (sym c.split_at.ensures.front) ∙ sym c.is_internal_key.ensures ∙ c.if-not-is_internal_key.true in
+    let other = ap is_internal (sym c.split_at.ensures.front) ∙ sym c.is_internal_key.ensures.value ∙ c.if-not-is_internal_key.true in
     sym (first_other c.args.text.now c.in-Some.unshared c.in-Some.len c.in-Some.rest.now (sym read) (omega (arith, c.if-rest-unshared.false)) other)
 
 pub returns : goal.returns
 returns c =
     let none : c.in-Some.shared ≡ 0 = grind (arith, nat_tests) in
     let read = rw (c.in-Some.is, none) at c.numbers.ensures.reads in
-    let internal = ap is_internal (sym c.split_at.ensures.front) ∙ sym c.is_internal_key.ensures ∙ c.if-not-is_internal_key.false in
+    let internal = ap is_internal (sym c.split_at.ensures.front) ∙ sym c.is_internal_key.ensures.value ∙ c.if-not-is_internal_key.false in
     ap (λ (k : List ℕ). Some k) c.split_at.ensures.front ∙ sym (first_read c.args.text.now c.in-Some.unshared c.in-Some.len c.in-Some.rest.now (sym read) (omega (arith, c.if-rest-unshared.false)) internal)

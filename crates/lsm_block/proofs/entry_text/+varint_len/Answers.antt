@@ -1,5 +1,5 @@
 use Rattle.std.proofs.Common.{ℕ, ◌-◌, List, length, ap, sym, arith}
-use Rattle.lsm_codec.proofs.Varints.{shortest-last, shortest-more}
+use Rattle.lsm_codec.proofs.CallerLemmas.{shortest-last, shortest-more}
 use Rattle.lsm_block.proofs.entry_text.+varint_len.Goals as goal
 
 pub returns-then-n-lt128-clause-len : goal.returns-then-n-lt128-clause-len

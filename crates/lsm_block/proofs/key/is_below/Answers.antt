@@ -1,9 +1,10 @@
 use Rattle.std.proofs.Common.{◌≡◌, Less, Equal, Greater, sym, ◌∙◌, arith}
 use Rattle.std.specs.Ordering.{nat_cmp}
 use Rattle.std.specs.Cmp.Lexicographic.{slice_cmp}
+use Rattle.lsm_codec.proofs.CallerLemmas.{internal_long}
 use Rattle.lsm_codec.specs.KeyRef.{key_of}
-use Rattle.lsm_block.specs.Reading.{user_of}
-use Rattle.lsm_block.proofs.KeyLaws.{internal_long, below_by, below_equal}
+use Rattle.lsm_codec.specs.Keys.{user_of}
+use Rattle.lsm_block.proofs.KeyLaws.{below_by, below_equal}
 use Rattle.lsm_block.proofs.key.is_below.Goals as goal
 
 pub overflow_sub-key : goal.overflow_sub-key

@@ -1,7 +1,7 @@
 use Rattle.std.proofs.Common.{ℕ, List, length, drop, sym, ap, ◌∙◌, subst, arith}
 use Rattle.lsm_codec.specs.KeyRef.{key_of}
 use Rattle.lsm_block.specs.Block.{entry_of}
-use Rattle.lsm_block.specs.Reading.{key_at}
+use Rattle.lsm_codec.specs.Keys.{key_at}
 use Rattle.lsm_block.specs.Seeking.{readable, not_below}
 use Rattle.lsm_block.specs.Held.{Kept, last_of}
 use Rattle.lsm_block.proofs.KeyLaws.{none_kept, kept_as}

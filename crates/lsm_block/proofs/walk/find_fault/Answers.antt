@@ -1,10 +1,12 @@
 use Rattle.std.proofs.Common.{◌≡◌, ◌<◌, ◌/◌, ℕ, List, [], None, true, length, sym, ap, ◌∙◌, subst, arith}
 use Rattle.std.proofs.lemmas.Bool.Decides.{nat_tests}
-use Rattle.lsm_block.specs.Reading.{words, is_internal, entries_of, scan}
+use Rattle.lsm_codec.proofs.CallerLemmas.{internal_of}
+use Rattle.lsm_codec.specs.Keys.{is_internal}
+use Rattle.lsm_block.specs.Reading.{words, entries_of, scan}
 use Rattle.lsm_block.specs.Walking.{fault_from}
 use Rattle.lsm_block.specs.Held.{Kept, last_of, last_after}
 use Rattle.lsm_block.proofs.EntryLaws.{leaves}
-use Rattle.lsm_block.proofs.KeyLaws.{none_kept, no_last, kept_as, kept_internal, internal_of}
+use Rattle.lsm_block.proofs.KeyLaws.{none_kept, no_last, kept_as, kept_internal}
 use Rattle.lsm_block.proofs.RestartLaws.{length-words}
 use Rattle.lsm_block.proofs.SeenLaws.{seen_some, seen_none}
 use Rattle.lsm_block.proofs.WalkLaws.{walk_begins, walk_moves, walk_bad, walk_stop, walk_end, last_moves, last_ends}

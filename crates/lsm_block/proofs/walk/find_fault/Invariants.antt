@@ -1,5 +1,5 @@
 use Rattle.std.proofs.Common.{◌≡◌, [], ◌/◌, ◌≤◌, None, length}
-use Rattle.lsm_codec.proofs.Varints.{IsBytes}
+use Rattle.lsm_codec.proofs.CallerLemmas.{IsBytes}
 use Rattle.lsm_block.specs.Reading.{words, scan, entries_of, first_fault}
 use Rattle.lsm_block.specs.Walking.{fault_from}
 use Rattle.lsm_block.specs.Held.{Kept, last_of, last_after}

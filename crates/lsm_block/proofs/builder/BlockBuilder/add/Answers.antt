@@ -1,11 +1,12 @@
 -- What a builder has after an entry more.
 use Rattle.std.proofs.Common.{◌≡◌, ℕ, ◌+◌, ◌^◌, ◌<◌, ◌≤◌, List, [], ◌∷◌, ◌++◌, length, drop, sym, ap, ◌∙◌, subst, arith, inl, inr}
 use Rattle.std.proofs.lemmas.Bool.{cases_lt}
+use Rattle.lsm_codec.proofs.CallerLemmas.{length-key_bytes}
 use Rattle.lsm_codec.specs.KeyRef.{key_of}
 use Rattle.lsm_codec.specs.Entries.{Entry}
 use Rattle.lsm_block.specs.Block.{Ascends, entry_of, key_text}
 use Rattle.lsm_block.specs.Building.{Building, Built, block_bytes, entries_in, shared_at}
-use Rattle.lsm_block.proofs.KeyLaws.{length-key, length-unshared}
+use Rattle.lsm_block.proofs.KeyLaws.{length-unshared}
 use Rattle.lsm_block.proofs.BuildLaws.{shares_at, share_small, few, length-with, grows, length-built, built_itself, entries_of-built}
 use Rattle.lsm_block.proofs.builder.BlockBuilder.add.Goals as goal
 
@@ -14,7 +15,7 @@ overflow_sub-unshared c =
     let s = c.self.inside in
     let e = entry_of (key_of c.args.key.now) c.args.value.now in
     let shares = rw (← c.deref.ensures.value, ← c.shared_with-shared.ensures) at ((shares_at s.interval s.count s.last.items (key_text e)).in_key) in
-    omega (arith, shares, length-key (key_of c.args.key.now))
+    omega (arith, shares, length-key_bytes (key_of c.args.key.now))
 
 pub grown_size-size-requires-clause-shared : goal.grown_size-size-requires-clause-shared
 grown_size-size-requires-clause-shared c =

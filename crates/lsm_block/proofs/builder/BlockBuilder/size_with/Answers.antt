@@ -1,8 +1,9 @@
 use Rattle.std.proofs.Common.{◌≡◌, ℕ, ◌^◌, ◌<◌, ◌≤◌, List, [], ◌∷◌, ◌++◌, length, ap, ◌∙◌, subst, arith}
+use Rattle.lsm_codec.proofs.CallerLemmas.{length-key_bytes}
 use Rattle.lsm_codec.specs.KeyRef.{key_of}
 use Rattle.lsm_block.specs.Block.{entry_of, key_text}
 use Rattle.lsm_block.specs.Building.{Building, block_bytes, entries_in, shared_at}
-use Rattle.lsm_block.proofs.KeyLaws.{length-key, length-unshared}
+use Rattle.lsm_block.proofs.KeyLaws.{length-unshared}
 use Rattle.lsm_block.proofs.BuildLaws.{shares_at, share_small, length-with}
 use Rattle.lsm_block.proofs.builder.BlockBuilder.size_with.Goals as goal
 
@@ -11,7 +12,7 @@ overflow_sub-unshared c =
     let s = c.self.inside in
     let e = entry_of (key_of c.args.key.now) c.args.value.now in
     let shares = rw (← c.deref.ensures.value, ← c.shared_with-shared.ensures) at ((shares_at s.interval s.count s.last.items (key_text e)).in_key) in
-    omega (arith, shares, length-key (key_of c.args.key.now))
+    omega (arith, shares, length-key_bytes (key_of c.args.key.now))
 
 pub grown_size-requires-clause-shared : goal.grown_size-requires-clause-shared
 grown_size-requires-clause-shared c =

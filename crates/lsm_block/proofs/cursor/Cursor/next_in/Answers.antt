@@ -10,4 +10,4 @@ returns-clause-given c =
     let value : Option (List ℕ) = option_map (λ (v : Bor (List ℕ)). v.now) c.in_ok-value.value in
     let new : Place = record { offset = c.in_ok-value.offset; last = last_of c.step.new.before.items } in
     subst (λ (old : Place). Given (text_and_entries c.args.text.now) old new value) c.self.view_is
-    (given_steps c.args.text.now s.before.items c.step.new.before.items s.offset c.in_ok-value.offset value c.self.invariant c.in_ok-value.ensures.kept c.in_ok-value.ensures.steps)
+    (given_steps c.args.text.now s.before.items c.step.new.before.items s.offset c.in_ok-value.offset value c.self.invariant c.in_ok-value.ensures.kept c.in_ok-value.ensures.steps c.in_ok-value.ensures.stands)

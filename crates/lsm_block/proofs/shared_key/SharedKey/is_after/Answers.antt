@@ -1,8 +1,8 @@
 use Rattle.std.proofs.Common.{◌<◌, Less, Greater, length, sym, ◌∙◌, ap, subst, arith}
 use Rattle.std.proofs.lemmas.Bool.Decides.{nat_tests}
 use Rattle.lsm_block.specs.KeyParts.{KeyParts, AreParts, joined}
-use Rattle.lsm_block.specs.Reading.{tail_of}
-use Rattle.lsm_block.proofs.KeyLaws.{internal_long}
+use Rattle.lsm_codec.specs.Keys.{tail_of}
+use Rattle.lsm_codec.proofs.CallerLemmas.{internal_long}
 use Rattle.lsm_block.proofs.JoinLaws.{after_by, after_equal}
 use Rattle.lsm_block.proofs.shared_key.SharedKey.is_after.Goals as goal
 

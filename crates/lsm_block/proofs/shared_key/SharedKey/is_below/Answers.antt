@@ -1,7 +1,8 @@
 use Rattle.std.proofs.Common.{Less, Greater, sym, ◌∙◌}
+use Rattle.lsm_codec.proofs.CallerLemmas.{internal_long}
 use Rattle.lsm_codec.specs.KeyRef.{key_of}
 use Rattle.lsm_block.specs.KeyParts.{joined}
-use Rattle.lsm_block.proofs.KeyLaws.{internal_long, below_by, below_equal}
+use Rattle.lsm_block.proofs.KeyLaws.{below_by, below_equal}
 use Rattle.lsm_block.proofs.shared_key.SharedKey.is_below.Goals as goal
 
 pub compare_user-requires : goal.compare_user-requires
