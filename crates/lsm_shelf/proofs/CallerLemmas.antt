@@ -6,14 +6,17 @@ use Rattle.lsm_shelf.specs.declared.shelf_fault.ShelfFault.TheVariants as why
 
 -- no call
 pub becomes_same : (t : Told) → Becomes t t
-becomes_same t = record { place = refl; faults = omega arith; misses = omega arith; gone = refl; sent = refl; found = refl }
+becomes_same t = record { place = refl; faults = omega arith; misses = omega arith; puts = refl; gone = refl; listed = refl; manifest = refl; sent = refl; found = refl }
 
 pub becomes_then : (a b c : Told) → Becomes a b → Becomes b c → Becomes a c
 becomes_then a b c p q = record {
   place = q.place ∙ p.place;
   faults = (let x = p.faults in let y = q.faults in omega arith);
   misses = (let x = p.misses in let y = q.misses in omega arith);
+  puts = q.puts ∙ p.puts;
   gone = q.gone ∙ p.gone;
+  listed = q.listed ∙ p.listed;
+  manifest = q.manifest ∙ p.manifest;
   sent = q.sent ∙ p.sent;
   found = q.found ∙ p.found;
 }

@@ -5,13 +5,33 @@ use Rattle.lsm_shelf.specs.declared.shelf_fault.ShelfFault.{ShelfFault}
 use Rattle.lsm_shelf.specs.declared.shelf_fault.ShelfFault.TheVariants.{OutOfMemory, Device, Missing, Taken}
 use Rattle.lsm_shelf.specs.Told.{Told, Place, next_count}
 
+-- a number, or nothing
+abbrev pub number_in : List ℕ → Option ℕ
+number_in [] = None
+number_in (number ∷ rest) = Some number
+
+-- what follows a number, or nothing
+abbrev pub list_in : List ℕ → Option (List ℕ)
+list_in [] = None
+list_in (mark ∷ numbers) = Some numbers
+
 -- a number in front of bytes, or nothing
 abbrev pub found_in : List ℕ → Option (ℕ × List ℕ)
 found_in [] = None
 found_in (number ∷ bytes) = Some (number, bytes)
 
 abbrev pub told_in : Place → Account → Told
-told_in p a = record { place = p; faults = a.faults; misses = a.misses; gone = a.gone.numbers; sent = a.sent.numbers; found = found_in a.found.numbers }
+told_in p a = record {
+  place = p;
+  faults = a.faults;
+  misses = a.misses;
+  puts = a.puts.numbers;
+  gone = a.gone.numbers;
+  listed = list_in a.listed.numbers;
+  manifest = number_in a.manifest.numbers;
+  sent = a.sent.numbers;
+  found = found_in a.found.numbers;
+}
 
 -- the counts after this answer
 abbrev pub counted_by : {T : Type 0} → Result T ShelfFault → Account → Account

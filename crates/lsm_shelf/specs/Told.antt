@@ -1,12 +1,14 @@
 -- What contracts see of a shelf's value, and what a call leaves of it (this project's rule).
-use Rattle.std.specs.Prelude.{◌≡◌, ℕ, ◌+◌, ◌-◌, ◌^◌, ◌≤◌, min, List, [], ◌∷◌, Option, None, Some}
+use Rattle.std.specs.Prelude.{◌≡◌, ℕ, ◌+◌, ◌-◌, ◌^◌, ◌≤◌, min, List, [], ◌∷◌, ◌++◌, Option, None, Some, Result, Ok, Err}
 use Rattle.boxcar.specs.Table.{Shelves}
 use Rattle.lsm_shelf.specs.declared.shelf_fault.ShelfFault.{ShelfFault}
 use Rattle.lsm_shelf.specs.declared.shelf_fault.ShelfFault.TheVariants.{OutOfMemory, Device, Missing, Taken}
 
--- which contents these are: the vector of the images in memory, or a folder's path
-abbrev pub Place : Type 0
-Place = Shelves
+-- Which contents these are. In memory: the vector of the images. In a folder: its path, and the vector of the marks that were
+-- handed out since it was opened. Forks share it
+pub data Place : Type 0 where
+  in_memory : (images : Shelves) → Place
+  at_path : (path : List ℕ) (marks : Shelves) → Place
 
 -- a shelf's value, as its calls told it
 pub record Told : Type 0 where
@@ -16,46 +18,83 @@ pub record Told : Type 0 where
   pub faults : ℕ
   -- how often it answered that something is missing or taken
   pub misses : ℕ
+  -- the numbers that it put, the last first
+  pub puts : List ℕ
   -- the numbers that it was asked to remove, the last first
   pub gone : List ℕ
-  -- the manifest that it started or read, with what was appended since
+  -- the numbers that it last listed
+  pub listed : Option (List ℕ)
+  -- the number of the manifest that it last started or read
+  pub manifest : Option ℕ
+  -- that manifest's bytes, with what was appended since
   pub sent : List ℕ
   -- number and bytes of the manifest that it last read
   pub found : Option (ℕ × List ℕ)
 
 -- a value to which nothing was told yet
 abbrev pub fresh : Place → Told
-fresh p = record { place = p; faults = 0; misses = 0; gone = []; sent = []; found = None }
+fresh p = record { place = p; faults = 0; misses = 0; puts = []; gone = []; listed = None; manifest = None; sent = []; found = None }
 
 -- the second is the first, but for counts, which do not fall
 pub record Becomes (old new : Told) : Type 0 where
   pub place : new.place ≡ old.place
   pub faults : old.faults ≤ new.faults
   pub misses : old.misses ≤ new.misses
+  pub puts : new.puts ≡ old.puts
   pub gone : new.gone ≡ old.gone
+  pub listed : new.listed ≡ old.listed
+  pub manifest : new.manifest ≡ old.manifest
   pub sent : new.sent ≡ old.sent
   pub found : new.found ≡ old.found
+
+-- it put a table of this number
+abbrev pub putting : ℕ → Told → Told
+putting number t = record t { puts = number ∷ t.puts }
 
 -- it was asked to remove this number
 abbrev pub removing : ℕ → Told → Told
 removing number t = record t { gone = number ∷ t.gone }
 
--- the manifest has these bytes now
-abbrev pub sending : List ℕ → Told → Told
-sending bytes t = record t { sent = bytes }
+-- it listed these numbers
+abbrev pub listing : List ℕ → Told → Told
+listing numbers t = record t { listed = Some numbers }
 
--- the manifest was read, and has this number and these bytes
+-- it started the manifest of this number, with these bytes
+abbrev pub sending : ℕ → List ℕ → Told → Told
+sending number bytes t = record t { manifest = Some number; sent = bytes }
+
+-- it put these bytes behind those of the manifest
+abbrev pub appending : List ℕ → Told → Told
+appending bytes t = record t { sent = t.sent ++ bytes }
+
+-- it read the manifest, which has this number and these bytes
 abbrev pub finding : ℕ → List ℕ → Told → Told
-finding number bytes t = record t { sent = bytes; found = Some (number, bytes) }
+finding number bytes t = record t { manifest = Some number; sent = bytes; found = Some (number, bytes) }
+
+-- What a removal leaves: where memory was refused, nothing was asked yet
+abbrev pub removed_by : {T : Type 0} → Result T ShelfFault → ℕ → Told → Told
+removed_by (Ok v) number t = removing number t
+removed_by (Err OutOfMemory) number t = t
+removed_by (Err Device) number t = removing number t
+removed_by (Err Missing) number t = removing number t
+removed_by (Err (Taken n)) number t = removing number t
 
 -- one more, and a count at its last value stays there
 abbrev pub next_count : ℕ → ℕ
 next_count n = min (n + 1) (2 ^ 64 - 1)
 
+-- a refusal of the shelf is counted once, and nothing else is
+abbrev pub CountedBy : {T : Type 0} → Result T ShelfFault → Told → Told → Type 0
+CountedBy (Ok v) old new = (new.faults ≡ old.faults) × (new.misses ≡ old.misses)
+CountedBy (Err OutOfMemory) old new = (new.faults ≡ old.faults) × (new.misses ≡ old.misses)
+CountedBy (Err Device) old new = (new.faults ≡ next_count old.faults) × (new.misses ≡ old.misses)
+CountedBy (Err Missing) old new = (new.faults ≡ old.faults) × (new.misses ≡ next_count old.misses)
+CountedBy (Err (Taken n)) old new = (new.faults ≡ old.faults) × (new.misses ≡ next_count old.misses)
+
 abbrev pub Rose : ℕ → ℕ → Type 0
 Rose old new = next_count old ≤ new
 
--- a refusal of the shelf comes only with a count that rose
+-- a refusal of the shelf, in this call or a later one, comes only with a count that rose
 abbrev pub Counted : ShelfFault → Told → Told → Type 0
 Counted OutOfMemory old new = Unit {0}
 Counted Device old new = Rose old.faults new.faults

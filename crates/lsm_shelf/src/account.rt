@@ -2,7 +2,7 @@
 
 ghost use Rattle.std.specs.Prelude.{◌≡◌, ◌≤◌, ◌∷◌, ◌++◌, [], IfErr};
 ghost use Rattle.lsm_shelf.specs.Account.{counted_by, told_in};
-ghost use Rattle.lsm_shelf.specs.Told.{Place, Counted};
+ghost use Rattle.lsm_shelf.specs.Told.{Place, Counted, CountedBy};
 
 use crate::shelf_fault::ShelfFault;
 use boxcar::tag::{Names, Tag};
@@ -12,7 +12,10 @@ use boxcar::tag::{Names, Tag};
 pub(crate) struct Account {
     pub(crate) faults: u64,
     pub(crate) misses: u64,
+    pub(crate) puts: Tag,
     pub(crate) gone: Tag,
+    pub(crate) listed: Tag,
+    pub(crate) manifest: Tag,
     pub(crate) sent: Tag,
     pub(crate) found: Tag,
 }
@@ -29,6 +32,12 @@ struct Whole;
 
 impl<'a> Names<&'a [u8]> for Whole {
     ghost numbers = { λ b. b.now };
+}
+
+struct Numbers;
+
+impl<'a> Names<&'a [u64]> for Numbers {
+    ghost numbers = { λ n. n.now };
 }
 
 /// A list and what follows it.
@@ -58,6 +67,26 @@ pub(crate) fn tag_of_bytes(bytes: &[u8]) -> Tag
     Tag::of::<&[u8], Whole>(&bytes)
 }
 
+/// The list of these numbers.
+pub(crate) fn tag_of_numbers(numbers: &[u64]) -> Tag
+    ensures { result.numbers ≡ numbers.now }
+{
+    Tag::of::<&[u64], Numbers>(&numbers)
+}
+
+struct Same;
+
+impl Names<Tag> for Same {
+    ghost numbers = { λ t. t.numbers };
+}
+
+/// The same list once more.
+pub(crate) fn again(tag: &Tag) -> Tag
+    ensures { result.numbers ≡ tag.now.numbers }
+{
+    Tag::of::<Tag, Same>(tag)
+}
+
 /// One list after another.
 pub(crate) fn tag_of_both(front: &Tag, back: &Tag) -> Tag
     ensures { result.numbers ≡ front.now.numbers ++ back.now.numbers }
@@ -70,14 +99,20 @@ impl Account {
     pub(crate) fn new() -> Account
         ensures faults { result.faults ≡ 0 }
         ensures misses { result.misses ≡ 0 }
+        ensures puts { result.puts.numbers ≡ [] }
         ensures gone { result.gone.numbers ≡ [] }
+        ensures listed { result.listed.numbers ≡ [] }
+        ensures manifest { result.manifest.numbers ≡ [] }
         ensures sent { result.sent.numbers ≡ [] }
         ensures found { result.found.numbers ≡ [] }
     {
         Account {
             faults: 0,
             misses: 0,
+            puts: Tag::empty(),
             gone: Tag::empty(),
+            listed: Tag::empty(),
+            manifest: Tag::empty(),
             sent: Tag::empty(),
             found: Tag::empty(),
         }
@@ -89,9 +124,13 @@ impl Account {
         ensures counted { self.new ≡ counted_by outcome self.old }
         ensures faults { self.old.faults ≤ self.new.faults }
         ensures misses { self.old.misses ≤ self.new.misses }
+        ensures puts { self.new.puts ≡ self.old.puts }
         ensures gone { self.new.gone ≡ self.old.gone }
+        ensures listed { self.new.listed ≡ self.old.listed }
+        ensures manifest { self.new.manifest ≡ self.old.manifest }
         ensures sent { self.new.sent ≡ self.old.sent }
         ensures found { self.new.found ≡ self.old.found }
+        ensures counts { (p : Place) → CountedBy result (told_in p self.old) (told_in p self.new) }
         ensures cause { IfErr result (λ e. (p : Place) → Counted e (told_in p self.old) (told_in p self.new)) }
     {
         match &outcome {

@@ -51,7 +51,7 @@ impl Contents {
         }
         let bytes = Vec::from_slice(alloc, image)?;
         let size = bytes.len() as u64;
-        let Ok(token) = self.images.push_shown(rt, Image::of(bytes)) else {
+        let Ok(token) = self.images.push_shown(rt, Image::of(number, bytes)) else {
             return Err(ShelfFault::OutOfMemory);
         };
         directory.add(number, &token)?;
@@ -97,6 +97,9 @@ impl Contents {
             return Err(ShelfFault::Missing);
         };
         let image = self.images.value(&token);
+        if image.number != number {
+            return Err(ShelfFault::Missing);
+        }
         let size = image.bytes.len() as u64;
         let bytes = Vec::from_slice(alloc, image.bytes.as_slice())?;
         let receipt = MemoryReceipt {
@@ -110,8 +113,7 @@ impl Contents {
     /// Takes a table off the list. Answers the number that it took off too.
     pub(crate) fn remove<R: Wait>(&self, rt: &R, number: u64) -> (Tag, Result<(), ShelfFault>)
         ensures asked { result.0.numbers ≡ number ∷ [] }
-        ensures err { IfErr result.1 NotTaken }
-        ensures device { IfErr result.1 NotDevice }
+        ensures err { IfErr result.1 (λ e. e ≡ ShelfFault.Missing) }
     {
         let (asked, was) = self.directory.lock(rt).remove(number);
         if was {

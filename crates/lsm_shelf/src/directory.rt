@@ -1,9 +1,8 @@
 //! The directory of a `MemoryShelf`.
 
-ghost use Rattle.std.specs.Prelude.{◌≡◌, ◌≢◌, ℕ, ◌∷◌, ◌++◌, [], Some, None, IfOk, IfErr, IfSome, OnOk, OnErr, IsErrOf, ◌↔◌, IsTrue, IsSome, true};
+ghost use Rattle.std.specs.Prelude.{◌≡◌, ◌≢◌, ℕ, ◌∷◌, ◌++◌, [], Some, None, IfOk, IfErr, IfSome, OnOk, OnErr, IsErrOf, ◌↔◌, IsTrue, IsSome, IsSomeAnd};
 ghost use Rattle.std.specs.Ordering.{nat_cmp};
 ghost use Rattle.std.specs.BTreeMap.{get, keys};
-ghost use Rattle.std.specs.BTreeSet.{contains};
 ghost use Rattle.std.specs.List.Sorted.{IsStrictlyIncreasing};
 ghost use Rattle.lsm_shelf.specs.Directory.{manifest_of};
 ghost use Rattle.lsm_shelf.specs.Told.{NotDevice, NotTaken, TakenIs};
@@ -14,7 +13,7 @@ use crate::shelf_fault::ShelfFault;
 use boxcar::Pushed;
 use boxcar::tag::Tag;
 use std::alloc::{AllocError, Global};
-use std::collections::{BTreeMap, BTreeSet};
+use std::collections::BTreeMap;
 
 /// A manifest with its number.
 #[derive(Drop)]
@@ -23,12 +22,10 @@ pub(crate) struct Manifest {
     pub(crate) bytes: Vec<u8>,
 }
 
-/// The tables that are listed, each with the index of its image; the numbers of all manifests that were started; and the
-/// manifest that was started last.
+/// The tables that are listed, each with the index of its image, and the manifest that was started last.
 #[derive(Drop)]
 pub(crate) struct Directory {
     pub(crate) tables: BTreeMap<u64, usize>,
-    pub(crate) started: BTreeSet<u64>,
     pub(crate) manifest: Option<Manifest>,
 }
 
@@ -39,7 +36,6 @@ impl Directory {
     {
         Directory {
             tables: BTreeMap::new(alloc),
-            started: BTreeSet::new(alloc),
             manifest: None,
         }
     }
@@ -102,22 +98,19 @@ impl Directory {
         bytes: &[u8],
     ) -> Result<Tag, ShelfFault>
         ensures ok { IfOk result (λ t. (t.numbers ≡ bytes.now) × (manifest_of self.new ≡ Some (number, bytes.now))) }
-        ensures taken { IsErrOf result (ShelfFault.Taken number) ↔ (contains nat_cmp self.old.started number ≡ true) }
+        ensures taken { IsErrOf result (ShelfFault.Taken number) ↔ IsSomeAnd (manifest_of self.old) (λ m. m.0 ≡ number) }
         ensures cause { IfErr result (TakenIs number) }
         ensures device { IfErr result NotDevice }
         ensures err { OnErr result (manifest_of self.new ≡ manifest_of self.old) }
         ensures tables { self.new.tables ≡ self.old.tables }
     {
-        if self.started.contains(&number) {
+        if let Some(named) = &self.manifest && named.number == number {
             return Err(ShelfFault::Taken(number));
         }
-        let copy = Vec::from_slice(alloc, bytes)?;
-        self.started.insert(number)?;
-        self.manifest = Some(Manifest {
-            number,
-            bytes: copy,
-        });
-        Ok(tag_of_bytes(bytes))
+        let sent = tag_of_bytes(bytes);
+        let bytes = Vec::from_slice(alloc, bytes)?;
+        self.manifest = Some(Manifest { number, bytes });
+        Ok(sent)
     }
 
     /// Puts bytes behind those of the manifest. Answers the bytes that it put there.

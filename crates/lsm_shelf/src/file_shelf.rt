@@ -7,7 +7,7 @@ ghost use Rattle.lsm_shelf.specs.FileNames.{path_in, table_name};
 ghost use Rattle.lsm_shelf.specs.Honesty.{ReadAnswered};
 ghost use Rattle.lsm_shelf.specs.FileShelf.{IsOfFolder, file_told, folder_place};
 
-use crate::account::{Account, tag_of_both, tag_of_bytes, tag_of_number};
+use crate::account::{Account, again, tag_of_both, tag_of_bytes, tag_of_number, tag_of_numbers};
 use crate::file_names::{
     current_path, manifest_in, manifest_path, table_path, temporary_path, text_of_current,
 };
@@ -20,7 +20,6 @@ use crate::shelf::Shelf;
 use crate::shelf_fault::ShelfFault;
 use boxcar::tag::Tag;
 use std::alloc::Global;
-use std::fs;
 use std::fs::Files;
 use std::sync::Wait;
 
@@ -128,7 +127,7 @@ impl<R: Files + AllocGlobal + Clone + Drop> FileShelf<R> {
         let synced = removed.map_err(|e| missing(e)).and_then(|_| folder::sync_folder(
             &self.rt,
             self.path.as_str(),
-        ).map_err(|e| device(e)));
+        ).map_err(|_| ShelfFault::Device));
         (number_asked(self.path.as_str(), number, &asked), synced)
     }
 
@@ -170,6 +169,17 @@ impl<R: Files + AllocGlobal + Clone + Drop> FileShelf<R> {
         folder::sync_folder(&self.rt, folder).map_err(|e| device(e))
     }
 
+    /// Whether `CURRENT` names this manifest. A `CURRENT` that is not there or not well-formed names none.
+    fn names(&self, alloc: Global, number: u64) -> Result<bool, ShelfFault>
+        ensures { IfErr result NotNamed }
+    {
+        match self.current(alloc) {
+            Ok(named) => Ok(named == number),
+            Err(ShelfFault::Missing) => Ok(false),
+            Err(fault) => Err(fault),
+        }
+    }
+
     /// Starts a manifest. Answers the bytes that it has then.
     fn try_start(&self, alloc: Global, number: u64, bytes: &[u8]) -> Result<Tag, ShelfFault>
         ensures ok { IfOk result (λ t. t.numbers ≡ bytes.now) }
@@ -178,22 +188,13 @@ impl<R: Files + AllocGlobal + Clone + Drop> FileShelf<R> {
         if bytes.len() > MAX_IMAGE {
             return Err(ShelfFault::Device);
         }
+        if self.names(alloc, number)? {
+            return Err(ShelfFault::Taken(number));
+        }
         let path = manifest_path(alloc, self.path.as_str(), number)?;
-        folder::write_new(&self.rt, path.as_str(), bytes).map_err(|e| taken(e, number))?;
-        let named = self.name_manifest(alloc, number);
-        if named.is_err() && self.names_another(alloc, number) {
-            let _ = fs::remove_file(&self.rt, path.as_str());
-        }
-        named?;
+        folder::write_over(&self.rt, path.as_str(), bytes).map_err(|e| device(e))?;
+        self.name_manifest(alloc, number)?;
         Ok(tag_of_bytes(bytes))
-    }
-
-    /// Whether `CURRENT` surely does not name this manifest, so that it may be removed.
-    fn names_another(&self, alloc: Global, number: u64) -> bool {
-        match self.current(alloc) {
-            Ok(named) => named != number,
-            Err(fault) => fault == ShelfFault::Missing,
-        }
     }
 
     /// Appends to the manifest. Answers the bytes that it appended.
@@ -227,7 +228,9 @@ impl<R: Files + AllocGlobal + Clone + Drop + Send + Sync> Shelf for FileShelf<R>
         image: &[u8],
     ) -> Result<FileReceipt, ShelfFault> {
         let outcome = self.try_put(number, image);
-        self.account.count(outcome)
+        let receipt = self.account.count(outcome)?;
+        self.account.puts = tag_of_both(&tag_of_number(receipt.number), &self.account.puts);
+        Ok(receipt)
     }
 
     fn read_at(
@@ -253,13 +256,17 @@ impl<R: Files + AllocGlobal + Clone + Drop + Send + Sync> Shelf for FileShelf<R>
 
     fn remove<W: Wait>(&mut self, _rt: &W, number: u64) -> Result<(), ShelfFault> {
         let (asked, outcome) = self.try_remove(number);
-        self.account.gone = tag_of_both(&asked, &self.account.gone);
+        if outcome != Err(ShelfFault::OutOfMemory) {
+            self.account.gone = tag_of_both(&asked, &self.account.gone);
+        }
         self.account.count(outcome)
     }
 
     fn list<W: Wait>(&mut self, _rt: &W, alloc: Global) -> Result<Vec<u64>, ShelfFault> {
         let outcome = tables_in(&self.rt, alloc, self.path.as_str());
-        self.account.count(outcome)
+        let numbers = self.account.count(outcome)?;
+        self.account.listed = tag_of_both(&tag_of_number(0), &tag_of_numbers(numbers.as_slice()));
+        Ok(numbers)
     }
 
     fn read_manifest<W: Wait>(
@@ -269,8 +276,9 @@ impl<R: Files + AllocGlobal + Clone + Drop + Send + Sync> Shelf for FileShelf<R>
     ) -> Result<(u64, Vec<u8>), ShelfFault> {
         let outcome = self.try_read_manifest(alloc);
         let (number, bytes) = self.account.count(outcome)?;
+        self.account.manifest = tag_of_number(number);
         self.account.sent = tag_of_bytes(bytes.as_slice());
-        self.account.found = tag_of_both(&tag_of_number(number), &self.account.sent);
+        self.account.found = tag_of_both(&self.account.manifest, &self.account.sent);
         Ok((number, bytes))
     }
 
@@ -283,6 +291,7 @@ impl<R: Files + AllocGlobal + Clone + Drop + Send + Sync> Shelf for FileShelf<R>
     ) -> Result<(), ShelfFault> {
         let outcome = self.try_start(alloc, number, bytes);
         self.account.sent = self.account.count(outcome)?;
+        self.account.manifest = tag_of_number(number);
         Ok(())
     }
 
@@ -299,6 +308,19 @@ impl<R: Files + AllocGlobal + Clone + Drop + Send + Sync> Shelf for FileShelf<R>
             path: self.path.clone()?,
             account: Account::new(),
         })
+    }
+
+    fn same(&self, a: &FileReceipt, b: &FileReceipt) -> bool {
+        a.number == b.number && a.size == b.size
+    }
+
+    fn copy_receipt(&self, receipt: &FileReceipt) -> FileReceipt {
+        FileReceipt {
+            number: receipt.number,
+            size: receipt.size,
+            folder: again(&receipt.folder),
+            image: again(&receipt.image),
+        }
     }
 
     fn failures(&self) -> (u64, u64) {

@@ -81,6 +81,13 @@ pub(crate) fn append<R: Files>(rt: &R, path: &str, bytes: &[u8]) -> io::Result<T
     Ok(tag_of_bytes(bytes))
 }
 
+/// Makes a file with these bytes in place of what is there, on the device when it answers Ok.
+pub(crate) fn write_over<R: Files>(rt: &R, path: &str, bytes: &[u8]) -> io::Result<()> {
+    let mut file = fs::create(rt, path)?;
+    file.write_all(bytes)?;
+    file.sync_all()
+}
+
 /// Puts a file with these bytes at `path`, in place of what is there, by way of `temporary`.
 pub(crate) fn replace<R: Files>(
     rt: &R,
@@ -88,9 +95,7 @@ pub(crate) fn replace<R: Files>(
     path: &str,
     bytes: &[u8],
 ) -> io::Result<()> {
-    let mut file = fs::create(rt, temporary)?;
-    file.write_all(bytes)?;
-    file.sync_all()?;
+    write_over(rt, temporary, bytes)?;
     fs::rename(rt, temporary, path)
 }
 

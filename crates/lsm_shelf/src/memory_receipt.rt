@@ -13,6 +13,7 @@ pub struct MemoryReceipt {
     pub(crate) number: u64,
     pub(crate) size: u64,
     pub(crate) token: Pushed<Image>,
+    ghost named: { number ≡ token.value.number },
     ghost sized: { size ≡ length token.value.bytes.items },
     ghost limit: { size ≤ 2 ^ 30 },
 }

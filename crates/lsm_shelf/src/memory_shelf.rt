@@ -1,10 +1,10 @@
 //! Tables and a manifest in memory.
 
-ghost use Rattle.std.specs.Prelude.{◌≡◌, ◌↔◌, ◌+◌, ◌<◌, ◌≤◌, ◌^◌, ◌++◌, length, take, drop, IfOk, IfErr, IsErrOf, OnOk, OnErr};
+ghost use Rattle.std.specs.Prelude.{◌≡◌, ◌↔◌, ◌+◌, ◌<◌, ◌≤◌, ◌^◌, length, take, drop, IfOk, IfErr, IsErrOf, OnOk, OnErr, IsTrue};
 ghost use Rattle.std.specs.List.Sorted.{IsStrictlyIncreasing};
-ghost use Rattle.lsm_shelf.specs.Told.{Becomes, Counted, NotDevice, NotNamed, NotTaken, TakenIs, fresh, finding, removing, sending};
+ghost use Rattle.lsm_shelf.specs.Told.{Becomes, Counted, CountedBy, NotDevice, NotNamed, NotTaken, TakenIs, fresh, putting, removing, listing, sending, appending, finding};
 
-use crate::account::{Account, tag_of_both, tag_of_bytes, tag_of_number};
+use crate::account::{Account, tag_of_both, tag_of_bytes, tag_of_number, tag_of_numbers};
 use crate::contents::Contents;
 use crate::memory_receipt::MemoryReceipt;
 use crate::shelf::Shelf;
@@ -52,12 +52,16 @@ impl Shelf for MemoryShelf {
         image: &[u8],
     ) -> Result<MemoryReceipt, ShelfFault>
         ensures receipt { IfOk result (λ r. (memory_number r ≡ number) × (memory_image r ≡ image.now) × IsOfMemory (memory_told self.old).place r) }
-        ensures told { Becomes (memory_told self.old) (memory_told self.new) }
+        ensures ok { OnOk result (Becomes (putting number (memory_told self.old)) (memory_told self.new)) }
+        ensures err { OnErr result (Becomes (memory_told self.old) (memory_told self.new)) }
         ensures cause { IfErr result (λ e. TakenIs number e × Counted e (memory_told self.old) (memory_told self.new)) }
+        ensures counts { CountedBy result (memory_told self.old) (memory_told self.new) }
         ensures device { IsErrOf result ShelfFault.Device ↔ (2 ^ 30 < length image.now) }
     {
         let outcome = self.contents.put(rt, alloc, number, image);
-        self.account.count(outcome)
+        let receipt = self.account.count(outcome)?;
+        self.account.puts = tag_of_both(&tag_of_number(receipt.number), &self.account.puts);
+        Ok(receipt)
     }
 
     fn read_at(
@@ -72,6 +76,7 @@ impl Shelf for MemoryShelf {
         ensures bytes { IfOk result (λ v. v.items ≡ take len (drop offset (memory_image receipt.now))) }
         ensures told { Becomes (memory_told self.old) (memory_told self.new) }
         ensures cause { IfErr result (λ e. NotTaken e × Counted e (memory_told self.old) (memory_told self.new)) }
+        ensures counts { CountedBy result (memory_told self.old) (memory_told self.new) }
         ensures memory { IfErr result (λ e. e ≡ ShelfFault.OutOfMemory) }
     {
         Ok(self.contents.part(alloc, receipt, offset as usize, len)?)
@@ -86,6 +91,7 @@ impl Shelf for MemoryShelf {
         ensures receipt { IfOk result (λ r. (memory_number r.0 ≡ number) × (memory_image r.0 ≡ r.1.items) × IsOfMemory (memory_told self.old).place r.0) }
         ensures told { Becomes (memory_told self.old) (memory_told self.new) }
         ensures cause { IfErr result (λ e. NotTaken e × Counted e (memory_told self.old) (memory_told self.new)) }
+        ensures counts { CountedBy result (memory_told self.old) (memory_told self.new) }
         ensures device { IfErr result NotDevice }
     {
         let outcome = self.contents.load(rt, alloc, number);
@@ -95,7 +101,8 @@ impl Shelf for MemoryShelf {
     fn remove<R: Wait>(&mut self, rt: &R, number: u64) -> Result<(), ShelfFault>
         ensures told { Becomes (removing number (memory_told self.old)) (memory_told self.new) }
         ensures cause { IfErr result (λ e. NotTaken e × Counted e (memory_told self.old) (memory_told self.new)) }
-        ensures device { IfErr result NotDevice }
+        ensures counts { CountedBy result (memory_told self.old) (memory_told self.new) }
+        ensures missing { IfErr result (λ e. e ≡ ShelfFault.Missing) }
     {
         let (asked, outcome) = self.contents.remove(rt, number);
         self.account.gone = tag_of_both(&asked, &self.account.gone);
@@ -104,11 +111,15 @@ impl Shelf for MemoryShelf {
 
     fn list<R: Wait>(&mut self, rt: &R, alloc: Global) -> Result<Vec<u64>, ShelfFault>
         ensures ascending { IfOk result (λ v. IsStrictlyIncreasing v.items) }
-        ensures told { Becomes (memory_told self.old) (memory_told self.new) }
+        ensures ok { IfOk result (λ v. Becomes (listing v.items (memory_told self.old)) (memory_told self.new)) }
+        ensures err { OnErr result (Becomes (memory_told self.old) (memory_told self.new)) }
         ensures cause { IfErr result (λ e. NotNamed e × Counted e (memory_told self.old) (memory_told self.new)) }
+        ensures counts { CountedBy result (memory_told self.old) (memory_told self.new) }
         ensures memory { IfErr result (λ e. e ≡ ShelfFault.OutOfMemory) }
     {
-        Ok(self.contents.list(rt, alloc)?)
+        let numbers = self.contents.list(rt, alloc)?;
+        self.account.listed = tag_of_both(&tag_of_number(0), &tag_of_numbers(numbers.as_slice()));
+        Ok(numbers)
     }
 
     fn read_manifest<R: Wait>(
@@ -119,12 +130,14 @@ impl Shelf for MemoryShelf {
         ensures ok { IfOk result (λ r. Becomes (finding r.0 r.1.items (memory_told self.old)) (memory_told self.new)) }
         ensures err { OnErr result (Becomes (memory_told self.old) (memory_told self.new)) }
         ensures cause { IfErr result (λ e. NotTaken e × Counted e (memory_told self.old) (memory_told self.new)) }
+        ensures counts { CountedBy result (memory_told self.old) (memory_told self.new) }
         ensures device { IfErr result NotDevice }
     {
         let outcome = self.contents.read_manifest(rt, alloc);
         let (number, bytes) = self.account.count(outcome)?;
+        self.account.manifest = tag_of_number(number);
         self.account.sent = tag_of_bytes(bytes.as_slice());
-        self.account.found = tag_of_both(&tag_of_number(number), &self.account.sent);
+        self.account.found = tag_of_both(&self.account.manifest, &self.account.sent);
         Ok((number, bytes))
     }
 
@@ -135,20 +148,23 @@ impl Shelf for MemoryShelf {
         number: u64,
         bytes: &[u8],
     ) -> Result<(), ShelfFault>
-        ensures ok { OnOk result (Becomes (sending bytes.now (memory_told self.old)) (memory_told self.new)) }
+        ensures ok { OnOk result (Becomes (sending number bytes.now (memory_told self.old)) (memory_told self.new)) }
         ensures err { OnErr result (Becomes (memory_told self.old) (memory_told self.new)) }
         ensures cause { IfErr result (λ e. TakenIs number e × Counted e (memory_told self.old) (memory_told self.new)) }
+        ensures counts { CountedBy result (memory_told self.old) (memory_told self.new) }
         ensures device { IfErr result NotDevice }
     {
         let outcome = self.contents.start_manifest(rt, alloc, number, bytes);
         self.account.sent = self.account.count(outcome)?;
+        self.account.manifest = tag_of_number(number);
         Ok(())
     }
 
     fn append_manifest<R: Wait>(&mut self, rt: &R, bytes: &[u8]) -> Result<(), ShelfFault>
-        ensures ok { OnOk result (Becomes (sending ((memory_told self.old).sent ++ bytes.now) (memory_told self.old)) (memory_told self.new)) }
+        ensures ok { OnOk result (Becomes (appending bytes.now (memory_told self.old)) (memory_told self.new)) }
         ensures err { OnErr result (Becomes (memory_told self.old) (memory_told self.new)) }
         ensures cause { IfErr result (λ e. NotTaken e × Counted e (memory_told self.old) (memory_told self.new)) }
+        ensures counts { CountedBy result (memory_told self.old) (memory_told self.new) }
         ensures device { IfErr result NotDevice }
     {
         let outcome = self.contents.append_manifest(rt, bytes);
@@ -161,12 +177,34 @@ impl Shelf for MemoryShelf {
         ensures fork { IfOk result (λ s. memory_told s ≡ fresh (memory_told self.old).place) }
         ensures told { Becomes (memory_told self.old) (memory_told self.new) }
         ensures cause { IfErr result (λ e. NotNamed e × Counted e (memory_told self.old) (memory_told self.new)) }
+        ensures counts { CountedBy result (memory_told self.old) (memory_told self.new) }
         ensures memory { IfErr result (λ e. e ≡ ShelfFault.OutOfMemory) }
     {
         Ok(MemoryShelf {
             contents: Arc::try_clone(&self.contents)?,
             account: Account::new(),
         })
+    }
+
+    fn same(&self, a: &MemoryReceipt, b: &MemoryReceipt) -> bool
+        requires here { IsOfMemory (memory_told self.now).place a.now × IsOfMemory (memory_told self.now).place b.now }
+        ensures copy { a.now ≡ b.now → IsTrue result }
+        ensures one { IsTrue result → (memory_number a.now ≡ memory_number b.now) × (memory_image a.now ≡ memory_image b.now) }
+    {
+        if a.token.index() == b.token.index() {
+            self.contents.images.agrees(&a.token, &b.token);
+            true
+        } else {
+            false
+        }
+    }
+
+    fn copy_receipt(&self, receipt: &MemoryReceipt) -> MemoryReceipt {
+        MemoryReceipt {
+            number: receipt.number,
+            size: receipt.size,
+            token: receipt.token.again(),
+        }
     }
 
     fn failures(&self) -> (u64, u64) {

@@ -1,0 +1,6 @@
+use denote.RattleType.{RattleType}
+use denote.Param.Send.{IsSend, IsSync}
+use Rattle.lsm_folder.specs.contracts.log.Log.{the_row}
+
+pub send : IsSend the_row
+send = record { owned = λ d vs. ((λ vss. (tt, ((λ uss. (tt, tt)), tt))), tt); leaving = λ k f vs. tt }

@@ -1,0 +1,8 @@
+use denote.RattleType.{RattleType}
+use denote.Param.Send.{IsSend, IsSync}
+use denote.Param.Send.{part_keyless}
+use Rattle.lsm_folder.specs.contracts.log.Log.{the_row}
+use Rattle.lsm_folder.proofs.log.Log.TheSendSync.Send.{send}
+
+pub sync : IsSync the_row
+sync = record { shared = λ d b o κ q. part_keyless the_row send q d b o }

@@ -1,0 +1,85 @@
+-- The calls on a folder with their answers, and when the answers are true (this project's rule).
+use Rattle.std.specs.Prelude.{◌≡◌, ℕ, Bool, true, false, List, [], ◌∷◌, take, drop, Option, None, Some}
+use Rattle.std.specs.Coded.{Unit-prop}
+use denote.Struct.Props as logic
+
+-- A call with its answer. Files are named by their names in the folder. A call that only changes the folder answers whether
+-- it was Ok; one that reads answers what it read, or nothing where it was refused
+pub data Call : Type 0 where
+  -- opens the folder
+  opened : Call
+  -- makes a file of this name, which is not there, with these bytes
+  made : (name bytes : List ℕ) → Bool → Call
+  -- puts these bytes into the file of this name, made anew or emptied
+  wrote : (name bytes : List ℕ) → Bool → Call
+  -- puts these bytes behind those of the file
+  appended : (name bytes : List ℕ) → Bool → Call
+  -- makes the file's bytes durable
+  synced : (name : List ℕ) → Bool → Call
+  -- makes the folder's names durable
+  folder_synced : Bool → Call
+  -- gives the first name's file the second name
+  renamed : (from to : List ℕ) → Bool → Call
+  -- takes the name, and the file with it, out of the folder
+  removed : (name : List ℕ) → Bool → Call
+  -- how many bytes the file has
+  measured : (name : List ℕ) → Option ℕ → Call
+  -- reads a part of the file of this name, which was made with `image`, or read whole and had it
+  read : (name image : List ℕ) (offset len : ℕ) → Option (List ℕ) → Call
+  -- reads the file of this name whole
+  loaded : (name : List ℕ) → Option (List ℕ) → Call
+  -- the names of the folder's files
+  listed : Option (List (List ℕ)) → Call
+
+-- an answer is a part of the image
+abbrev pub IsPart : List ℕ → ℕ → ℕ → Option (List ℕ) → Type 0
+IsPart image offset len None = Unit {0}
+IsPart image offset len (Some bytes) = bytes ≡ take len (drop offset image)
+
+-- The answer of the call is true. Of a part that was read this says that it is the part of the image: the caller knows
+-- the image, for which the mark stands, so it can be wrong. Of what was loaded, listed or measured it says nothing: forks and
+-- other programs may change the folder between two calls, so there is no text with which a caller could compare the answer;
+-- what was loaded is the image of the new mark, and later reads are compared with that. A refusal is always true: it promises
+-- nothing
+abbrev pub IsTrueCall : Call → Type 0
+IsTrueCall opened = Unit {0}
+IsTrueCall (made name bytes ok) = Unit {0}
+IsTrueCall (wrote name bytes ok) = Unit {0}
+IsTrueCall (appended name bytes ok) = Unit {0}
+IsTrueCall (synced name ok) = Unit {0}
+IsTrueCall (folder_synced ok) = Unit {0}
+IsTrueCall (renamed from to ok) = Unit {0}
+IsTrueCall (removed name ok) = Unit {0}
+IsTrueCall (measured name answer) = Unit {0}
+IsTrueCall (read name image offset len answer) = IsPart image offset len answer
+IsTrueCall (loaded name answer) = Unit {0}
+IsTrueCall (listed answer) = Unit {0}
+
+-- the last call of the list, which stands first, was answered with the truth
+abbrev pub LastIsTrue : List Call → Type 0
+LastIsTrue [] = Unit {0}
+LastIsTrue (c ∷ cs) = IsTrueCall c
+
+-- Folders of a type are honest: whatever such a folder was asked, its last answer is true
+pub record AreHonest {C : Type 0} (calls : C → List Call) : Type 0 where
+  pub last : (c : C) → LastIsTrue (calls c)
+
+-- an answer is true in one way
+pub IsPart-prop : (image : List ℕ) (offset len : ℕ) (answer : Option (List ℕ)) → IsProp (IsPart image offset len answer)
+IsPart-prop image offset len None = Unit-prop
+IsPart-prop image offset len (Some bytes) = Prim.hlevel logic.props
+
+pub LastIsTrue-prop : (cs : List Call) → IsProp (LastIsTrue cs)
+LastIsTrue-prop [] = Unit-prop
+LastIsTrue-prop (opened ∷ cs) = Unit-prop
+LastIsTrue-prop (made name bytes ok ∷ cs) = Unit-prop
+LastIsTrue-prop (wrote name bytes ok ∷ cs) = Unit-prop
+LastIsTrue-prop (appended name bytes ok ∷ cs) = Unit-prop
+LastIsTrue-prop (synced name ok ∷ cs) = Unit-prop
+LastIsTrue-prop (folder_synced ok ∷ cs) = Unit-prop
+LastIsTrue-prop (renamed from to ok ∷ cs) = Unit-prop
+LastIsTrue-prop (removed name ok ∷ cs) = Unit-prop
+LastIsTrue-prop (measured name answer ∷ cs) = Unit-prop
+LastIsTrue-prop (read name image offset len answer ∷ cs) = IsPart-prop image offset len answer
+LastIsTrue-prop (loaded name answer ∷ cs) = Unit-prop
+LastIsTrue-prop (listed answer ∷ cs) = Unit-prop

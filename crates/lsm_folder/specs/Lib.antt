@@ -1,0 +1,5 @@
+pub mod Calls
+pub mod FolderFault
+pub mod MemoryFolder
+pub mod Place
+pub mod SystemFolder

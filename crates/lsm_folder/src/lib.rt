@@ -1,0 +1,32 @@
+//! The calls on one folder that a LevelDB-like store makes, as a trait: each call is noted with its answer in a list that only
+//! contracts read.
+//!
+//! Stands on `boxcar` for vectors whose values stay where they are, on `atomic_table` for one proof by hand, and on `thiserror`.
+//! Its contract: a value's list of calls grows by exactly the call that was made. Two folders: the system's, and one in memory
+//! for which it is proved that each read answers the bytes that were written.
+#![tactic(auto)]
+
+mod folder_calls;
+mod folder_fault;
+mod image;
+mod log;
+mod mark;
+mod memory_calls;
+mod memory_files;
+mod memory_folder;
+mod memory_mark;
+mod system_calls;
+mod system_fault;
+mod system_files;
+mod system_folder;
+mod system_mark;
+mod tags;
+
+pub use folder_calls::FolderCalls;
+pub use folder_fault::FolderFault;
+pub use mark::Mark;
+pub use memory_calls::memory_is_honest;
+pub use memory_folder::MemoryFolder;
+pub use memory_mark::MemoryMark;
+pub use system_folder::SystemFolder;
+pub use system_mark::SystemMark;

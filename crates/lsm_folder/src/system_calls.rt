@@ -1,0 +1,270 @@
+//! The calls on a folder of the system. Each makes one, and notes it with its answer.
+
+ghost use Rattle.std.specs.Prelude.{◌≡◌, ◌≤◌, ◌^◌, ◌∷◌, [], length, IfOk, IfErr};
+ghost use Rattle.std.specs.Arc.{arc_value};
+ghost use Rattle.boxcar.specs.Table.{Shows};
+ghost use Rattle.lsm_folder.specs.Calls.{opened};
+ghost use Rattle.lsm_folder.specs.FolderFault.{NotMissing, NotExists, NotNamed};
+ghost use Rattle.lsm_folder.specs.Place.{IsAtPath};
+ghost use Rattle.lsm_folder.specs.SystemFolder.{system_calls, system_place, system_mark_name, system_mark_image};
+
+use crate::folder_calls::FolderCalls;
+use crate::folder_fault::FolderFault;
+use crate::log::{Appended, FolderSynced, Log, Made, Removed, Renamed, Synced, Wrote};
+use crate::system_fault::{exists, failed, missing};
+use crate::system_files;
+use crate::system_folder::SystemFolder;
+use crate::system_mark::{Facts, SystemMark};
+use crate::tags::tag_of;
+use boxcar::tag::{Names, Tag};
+use std::alloc::Global;
+use std::fs::Files;
+use std::sync::{Arc, Wait};
+
+/// The image of a mark, for contracts alone.
+pub(crate) struct OfMark;
+
+impl Names<SystemMark> for OfMark {
+    ghost use Rattle.lsm_folder.specs.SystemFolder.{system_mark_image};
+
+    ghost numbers = { system_mark_image };
+}
+
+fn image_of(mark: &SystemMark) -> Tag
+    ensures { result.numbers ≡ system_mark_image mark.now }
+{
+    Tag::of::<SystemMark, OfMark>(mark)
+}
+
+/// A mark of a file of this name and these bytes.
+fn marked<W: Wait>(
+    rt: &W,
+    marks: &boxcar::Vec<Facts>,
+    name: &str,
+    bytes: &[u8],
+) -> Result<SystemMark, FolderFault>
+    ensures name { IfOk result (λ m. system_mark_name m ≡ name.now) }
+    ensures image { IfOk result (λ m. system_mark_image m ≡ bytes.now) }
+    ensures here { IfOk result (λ m. Shows marks.now m.token) }
+    ensures err { IfErr result (λ e. e ≡ FolderFault.OutOfMemory) }
+{
+    let facts = Facts {
+        name: tag_of(name.as_bytes()),
+        image: tag_of(bytes),
+    };
+    match marks.push_shown(rt, facts) {
+        Ok(token) => Ok(SystemMark {
+            token,
+        }),
+        Err(_) => Err(FolderFault::OutOfMemory),
+    }
+}
+
+impl<R: Files + AllocGlobal + Clone + Drop> SystemFolder<R> {
+    /// The folder of this path. `Failed` where it is no folder that can be opened.
+    pub fn open(rt: R, path: &str) -> Result<SystemFolder<R>, FolderFault>
+        ensures calls { IfOk result (λ f. system_calls f ≡ opened ∷ []) }
+        ensures place { IfOk result (λ f. IsAtPath path.now (system_place f)) }
+        ensures err { IfErr result NotNamed }
+    {
+        let _opened = rt.open_dir(path).map_err(|e| failed(e))?;
+        let alloc = rt.alloc();
+        Ok(SystemFolder {
+            path: String::from_str(alloc, path)?,
+            marks: Arc::new(alloc, boxcar::Vec::new(alloc)?)?,
+            rt,
+            log: Log::opened(),
+        })
+    }
+
+    /// Makes a file. What its mark needs is taken before.
+    fn try_make<W: Wait>(&self, rt: &W, name: &str, bytes: &[u8]) -> Result<SystemMark, FolderFault>
+        ensures name { IfOk result (λ m. system_mark_name m ≡ name.now) }
+        ensures image { IfOk result (λ m. system_mark_image m ≡ bytes.now) }
+        ensures here { IfOk result (λ m. Shows (arc_value self.now.marks) m.token) }
+        ensures err { IfErr result NotMissing }
+    {
+        let mark = marked(rt, &self.marks, name, bytes)?;
+        match system_files::make(&self.rt, self.path.as_str(), name, bytes) {
+            Ok(()) => Ok(mark),
+            Err(error) => Err(exists(error)),
+        }
+    }
+
+    fn try_load<W: Wait>(
+        &self,
+        rt: &W,
+        alloc: Global,
+        name: &str,
+    ) -> Result<(SystemMark, Vec<u8>), FolderFault>
+        ensures name { IfOk result (λ r. system_mark_name r.0 ≡ name.now) }
+        ensures image { IfOk result (λ r. system_mark_image r.0 ≡ r.1.items) }
+        ensures here { IfOk result (λ r. Shows (arc_value self.now.marks) r.0.token) }
+        ensures limit { IfOk result (λ r. length r.1.items ≤ 2 ^ 30) }
+        ensures err { IfErr result NotExists }
+    {
+        match system_files::load(&self.rt, alloc, self.path.as_str(), name) {
+            Ok(bytes) => {
+                let mark = marked(rt, &self.marks, name, bytes.as_slice())?;
+                Ok((mark, bytes))
+            }
+            Err(error) => Err(missing(error)),
+        }
+    }
+}
+
+impl<R: Files + AllocGlobal + Clone + Drop> FolderCalls for SystemFolder<R> {
+    ghost use Rattle.lsm_folder.specs.SystemFolder.{system_calls, system_place, IsOfSystem};
+
+    type Mark = SystemMark;
+
+    ghost calls = { system_calls };
+
+    ghost place = { system_place };
+
+    ghost is_of = { IsOfSystem };
+
+    fn alloc(&self) -> Global {
+        self.rt.alloc()
+    }
+
+    fn make<W: Wait>(
+        &mut self,
+        rt: &W,
+        name: &str,
+        bytes: &[u8],
+    ) -> Result<SystemMark, FolderFault> {
+        let answer = self.try_make(rt, name, bytes);
+        self.log = self.log.with::<Made>(name.as_bytes(), bytes, answer.is_ok());
+        answer
+    }
+
+    fn write<W: Wait>(&mut self, _rt: &W, name: &str, bytes: &[u8]) -> Result<(), FolderFault> {
+        let answer = system_files::write(&self.rt, self.path.as_str(), name, bytes);
+        self.log = self.log.with::<Wrote>(name.as_bytes(), bytes, answer.is_ok());
+        answer.map_err(|e| failed(e))
+    }
+
+    fn append<W: Wait>(&mut self, _rt: &W, name: &str, bytes: &[u8]) -> Result<(), FolderFault> {
+        let answer = system_files::append(&self.rt, self.path.as_str(), name, bytes);
+        self.log = self.log.with::<Appended>(name.as_bytes(), bytes, answer.is_ok());
+        answer.map_err(|e| missing(e))
+    }
+
+    fn sync<W: Wait>(&mut self, _rt: &W, name: &str) -> Result<(), FolderFault> {
+        let answer = system_files::sync(&self.rt, self.path.as_str(), name);
+        self.log = self.log.with::<Synced>(name.as_bytes(), &[], answer.is_ok());
+        answer.map_err(|e| missing(e))
+    }
+
+    fn sync_folder<W: Wait>(&mut self, _rt: &W) -> Result<(), FolderFault> {
+        let answer = system_files::sync_folder(&self.rt, self.path.as_str());
+        self.log = self.log.with::<FolderSynced>(&[], &[], answer.is_ok());
+        answer.map_err(|e| failed(e))
+    }
+
+    fn rename<W: Wait>(&mut self, _rt: &W, from: &str, to: &str) -> Result<(), FolderFault> {
+        let answer = system_files::rename(&self.rt, self.path.as_str(), from, to);
+        self.log = self.log.with::<Renamed>(from.as_bytes(), to.as_bytes(), answer.is_ok());
+        answer.map_err(|e| missing(e))
+    }
+
+    fn remove<W: Wait>(&mut self, _rt: &W, name: &str) -> Result<(), FolderFault> {
+        let answer = system_files::remove(&self.rt, self.path.as_str(), name);
+        self.log = self.log.with::<Removed>(name.as_bytes(), &[], answer.is_ok());
+        answer.map_err(|e| missing(e))
+    }
+
+    fn length<W: Wait>(&mut self, _rt: &W, name: &str) -> Result<u64, FolderFault> {
+        match system_files::length(&self.rt, self.path.as_str(), name) {
+            Ok(length) => {
+                self.log = self.log.with_length(name.as_bytes(), length);
+                Ok(length)
+            }
+            Err(error) => {
+                self.log = self.log.with_failed_length(name.as_bytes());
+                Err(missing(error))
+            }
+        }
+    }
+
+    fn read_part(
+        &mut self,
+        alloc: Global,
+        name: &str,
+        mark: &SystemMark,
+        offset: u64,
+        len: usize,
+    ) -> Result<Vec<u8>, FolderFault> {
+        let image = image_of(mark);
+        match system_files::read_part(&self.rt, alloc, self.path.as_str(), name, offset, len) {
+            Ok(bytes) => {
+                self.log = self.log.with_read(name.as_bytes(), &image, offset, len, bytes.as_slice());
+                Ok(bytes)
+            }
+            Err(error) => {
+                self.log = self.log.with_failed_read(name.as_bytes(), &image, offset, len);
+                Err(missing(error))
+            }
+        }
+    }
+
+    fn load<W: Wait>(
+        &mut self,
+        rt: &W,
+        alloc: Global,
+        name: &str,
+    ) -> Result<(SystemMark, Vec<u8>), FolderFault> {
+        match self.try_load(rt, alloc, name) {
+            Ok((mark, bytes)) => {
+                self.log = self.log.with_load(name.as_bytes(), bytes.as_slice());
+                Ok((mark, bytes))
+            }
+            Err(fault) => {
+                self.log = self.log.with_failed_load(name.as_bytes());
+                Err(fault)
+            }
+        }
+    }
+
+    fn list<W: Wait>(&mut self, _rt: &W, alloc: Global) -> Result<Vec<String>, FolderFault> {
+        match system_files::list(&self.rt, alloc, self.path.as_str()) {
+            Ok(names) => {
+                self.log = self.log.with_list(names.as_slice());
+                Ok(names)
+            }
+            Err(error) => {
+                self.log = self.log.with_failed_list();
+                Err(failed(error))
+            }
+        }
+    }
+
+    fn fork(&self) -> Result<SystemFolder<R>, FolderFault> {
+        Ok(SystemFolder {
+            rt: self.rt.clone()?,
+            path: self.path.clone()?,
+            marks: Arc::try_clone(&self.marks)?,
+            log: Log::empty(),
+        })
+    }
+
+    fn same(&self, a: &SystemMark, b: &SystemMark) -> bool {
+        let same = a.token.index() == b.token.index();
+        if same {
+            self.marks.agrees(&a.token, &b.token);
+        }
+        same
+    }
+}
+
+fn crosses_threads<T: Send + Sync>(_: &T) {}
+
+/// A folder of the system and its marks may go to another thread, and be shared by threads.
+fn is_sent<R: Files + AllocGlobal + Clone + Drop + Send + Sync>(
+    folder: &SystemFolder<R>,
+    mark: &SystemMark,
+) {
+    crosses_threads(folder);
+    crosses_threads(mark);
+}
