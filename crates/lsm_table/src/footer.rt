@@ -5,7 +5,7 @@ use crate::table_fault::TableFault;
 use std::alloc::{AllocError, Global};
 
 /// A footer has 48 bytes: 40 for the two places, 8 for the magic number.
-pub(crate) const FOOTER: usize = 48;
+pub const FOOTER: usize = 48;
 
 const PLACES: usize = 40;
 
@@ -35,7 +35,7 @@ impl Footer {
 
     /// Reads the footer of a file: its length, its magic number and both places, in this order.
     #[tactic(auto, unfolding(crate::specs::Footer::footer_at))]
-    pub(crate) fn of(file: &[u8]) -> Result<Footer, TableFault>
+    pub fn of(file: &[u8]) -> Result<Footer, TableFault>
         ensures reads { Gives (λ x. x) result (footer_at file.now) }
         ensures long { IfOk result (λ _. FOOTER ≤ length file.now) }
     {

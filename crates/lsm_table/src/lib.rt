@@ -28,13 +28,17 @@ mod table_ref;
 mod whole_image;
 
 pub use builder::TableBuilder;
+pub use footer::{FOOTER, Footer};
 pub use found::Found;
+pub use handle::Handle;
 pub use lsm_block::BuildFault;
 pub use lsm_shelf::{FileReceipt, FileShelf, MemoryReceipt, MemoryShelf, Shelf, ShelfFault, Slip};
 pub use naming::Naming;
 pub use open_table::OpenTable;
 pub use read_fault::ReadFault;
 pub use registry::Registry;
+pub use search::{found_in_entry, key_for};
+pub use stored_block::{TRAILER, unseal};
 pub use table::{Table, entries_are, one_table};
 pub use table_entries::TableEntries;
 pub use table_fault::TableFault;

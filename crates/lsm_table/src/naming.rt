@@ -1,6 +1,7 @@
 //! A name for one registry and one shelf's contents.
 
 ghost use Rattle.std.specs.Prelude.{[]};
+ghost use Rattle.lsm_shelf.specs.Told.{in_memory};
 
 use std::marker::Brand;
 
@@ -20,5 +21,5 @@ pub trait Naming: Send + Sync {
 impl Naming for Brand {
     ghost registry = { record { tag = []; buckets = [] } };
 
-    ghost place = { record { tag = []; buckets = [] } };
+    ghost place = { in_memory record { tag = []; buckets = [] } };
 }

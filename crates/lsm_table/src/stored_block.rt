@@ -14,7 +14,7 @@ use lsm_codec::{crc_extend, crc32c, mask};
 use std::alloc::AllocError;
 
 /// A type byte and a checksum follow the contents of a block.
-pub(crate) const TRAILER: usize = 5;
+pub const TRAILER: usize = 5;
 
 /// The checksum of a text as files store it.
 #[tactic(auto, unfolding(crate::specs::StoredBlock::seal))]
@@ -26,7 +26,7 @@ fn seal_of(checksum: u32) -> [u8; 4]
 
 /// The contents of a stored block, whose type and checksum follow them. The offset is that of the block in its file.
 #[tactic(auto, unfolding(crate::specs::StoredBlock::unsealed))]
-fn unseal(offset: u64, size: usize, text: &[u8]) -> Result<&[u8], TableFault>
+pub fn unseal(offset: u64, size: usize, text: &[u8]) -> Result<&[u8], TableFault>
     requires { length text.now ≡ size + TRAILER }
     ensures { Gives (λ x. x.now) result (unsealed offset size text.now) }
 {
