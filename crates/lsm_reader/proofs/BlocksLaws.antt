@@ -1,6 +1,5 @@
 -- Reading parts of an image.
-use Rattle.std.proofs.Common.{◌≡◌, ℕ, zero, suc, ◌+◌, ◌-◌, ◌<◌, ◌≤◌, Bool, true, false, leb, List, [], ◌∷◌, ◌++◌, length, take, drop, Result, Ok, Err, refl, sym, ap, ◌∙◌, subst, arith}
-use Rattle.std.specs.Prelude.{nat_le}
+use Rattle.std.proofs.Common.{◌≡◌, ℕ, zero, suc, ◌+◌, ◌-◌, ◌<◌, ◌≤◌, Bool, true, false, leb, List, [], ◌∷◌, length, take, drop, Result, Ok, Err, refl, sym, ap, ◌∙◌, subst, arith}
 use Rattle.std.specs.Str.{bytes_eq}
 use Rattle.std.proofs.lemmas.Bool.{le-leb, leb-true}
 use Rattle.std.proofs.lemmas.List.{drop-take, take_all, length-drop, length-take-le}
@@ -9,8 +8,8 @@ use Rattle.lsm_block.specs.Reading.{block_at}
 use Rattle.lsm_table.specs.declared.table_fault.TableFault.{TableFault}
 use Rattle.lsm_table.specs.declared.table_fault.TableFault.TheVariants.{ShortFile, BadHandle, BadChecksum}
 use Rattle.lsm_table.specs.declared.handle.Handle.{Handle}
-use Rattle.lsm_table.specs.Reading.{◌>>=◌, guarded, Fails, Gives}
-use Rattle.lsm_table.specs.StoredBlock.{seal, kind_fault, unsealed, contents_at}
+use Rattle.lsm_table.specs.Reading.{◌>>=◌, guarded, Fails}
+use Rattle.lsm_table.specs.StoredBlock.{seal, unsealed, contents_at}
 use Rattle.lsm_table.specs.Footer.{footer_of, body_of}
 use Rattle.lsm_table.specs.TableReading.{block_or}
 use Rattle.lsm_table.proofs.CallerLemmas.{guard_ok, ok_is, done}

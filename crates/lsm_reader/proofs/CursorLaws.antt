@@ -1,5 +1,5 @@
 -- Going on in a table that is read block by block.
-use Rattle.std.proofs.Common.{◌≡◌, ℕ, ◌-◌, ◌^◌, min, Bool, true, false, List, [], ◌∷◌, ◌++◌, Option, Some, None, Result, Ok, Err, refl, sym, ap, ◌∙◌, subst}
+use Rattle.std.proofs.Common.{◌≡◌, ℕ, ◌-◌, ◌^◌, min, true, false, List, [], ◌∷◌, ◌++◌, Option, Some, None, Result, Err, refl, sym, ap, ◌∙◌, subst}
 use Rattle.std.specs.List.{flat_map}
 use Rattle.lsm_codec.specs.Entries.{Entry, internal_key, newest}
 use Rattle.lsm_block.specs.Standing.{is_end, but_first, key_of_first, value_of_first}
@@ -10,9 +10,9 @@ use Rattle.lsm_table.specs.Reading.{Fails}
 use Rattle.lsm_table.specs.ReadFault.{IsMemoryOrShelf}
 use Rattle.lsm_table.specs.Footer.{body_of}
 use Rattle.lsm_table.specs.Table.{DataBlock, IsTable}
-use Rattle.lsm_table.specs.HeldTable.{entries_named, left_of, Names, AreNamed}
+use Rattle.lsm_table.specs.HeldTable.{entries_named, Names, AreNamed}
 use Rattle.lsm_table.specs.OpenTable.{opening_at, block_named}
-use Rattle.lsm_table.proofs.CallerLemmas.{below-nothing, sought_first, below_append, below_skip, found_at, names_part, names_all, names_none, named, opening_again, named_again, named_there, memory_only}
+use Rattle.lsm_table.proofs.CallerLemmas.{below-nothing, below_append, below_skip, found_at, names_part, names_all, names_none, named, opening_again, named_again, memory_only}
 use Rattle.lsm_reader.specs.Blocks.{Reads, Rest, left_at, IsSought, IsAtEntry}
 use Rattle.lsm_codec.specs.Keys.{UserKey, InternalKey}
 use Rattle.lsm_block.specs.Seeking.{not_below}

@@ -1,20 +1,19 @@
 -- Opening a table by its parts.
-use Rattle.std.proofs.Common.{◌≡◌, ℕ, ◌+◌, ◌-◌, ◌<◌, ◌≤◌, ◌⊎◌, Bool, true, false, leb, eqb, List, [], ◌∷◌, length, take, drop, Result, Ok, Err, refl, sym, ap, ◌∙◌, subst, inl, inr, arith}
-use Rattle.std.specs.Str.{bytes_eq}
+use Rattle.std.proofs.Common.{◌≡◌, ℕ, ◌-◌, ◌<◌, ◌≤◌, Bool, true, false, leb, eqb, List, length, drop, Result, Ok, Err, refl, sym, ap, ◌∙◌, subst, inl, inr, arith}
 use Rattle.std.proofs.lemmas.Bool.{le-leb, leb-true, leb-false, lt-leb}
 use Rattle.std.proofs.lemmas.List.{length-drop}
 use Rattle.lsm_codec.specs.Entries.{Entry}
 use Rattle.lsm_block.specs.Reading.{block_at}
 use Rattle.lsm_table.specs.declared.table_fault.TableFault.{TableFault}
-use Rattle.lsm_table.specs.declared.table_fault.TableFault.TheVariants.{ShortFile, BadMagic, BadIndex}
+use Rattle.lsm_table.specs.declared.table_fault.TableFault.TheVariants.{ShortFile, BadIndex}
 use Rattle.lsm_table.specs.declared.read_fault.ReadFault.{ReadFault}
 use Rattle.lsm_table.specs.declared.read_fault.ReadFault.TheVariants.{Shelf, Table}
 use Rattle.lsm_table.specs.declared.handle.Handle.{Handle}
 use Rattle.lsm_table.specs.declared.footer.Footer.{Footer}
-use Rattle.lsm_table.specs.Reading.{◌>>=◌, guarded, is_memory, FailsUnless, Fails}
+use Rattle.lsm_table.specs.Reading.{◌>>=◌, is_memory, FailsUnless, Fails}
 use Rattle.lsm_table.specs.Handle.{handle_at}
 use Rattle.lsm_table.specs.StoredBlock.{contents_at}
-use Rattle.lsm_table.specs.Footer.{magic, places_at, footer_of, body_of, footer_at}
+use Rattle.lsm_table.specs.Footer.{footer_of, body_of, footer_at}
 use Rattle.lsm_table.specs.TableReading.{block_or}
 use Rattle.lsm_table.specs.OpenTable.{opening_at, block_named}
 use Rattle.lsm_table.proofs.CallerLemmas.{either_bool}

@@ -26,7 +26,8 @@ abbrev pub IsNamedFrom : List ℕ → List Entry → Option Rest → Type 0
 IsNamedFrom image index None = AreNamed (body_of image) index
 IsNamedFrom image index (Some rest) = AreNamed (body_of image) rest.index
 
--- What a step answers: it stands at the entry that was the first left; or none was left, and it stands at none.
+-- What a step answers: it stands at the entry that was the first left; or none was left, and it
+-- stands at none.
 abbrev pub StepsOn : Bool → Reading → Reading → Type 0
 StepsOn true old new = (e : Entry) × (new.entry ≡ Some e) × (old.left ≡ e ∷ new.left)
 StepsOn false old new = (new.entry ≡ None) × (old.left ≡ []) × (new.left ≡ [])

@@ -42,7 +42,8 @@ fn footer_from(bytes: Vec<u8>) -> Result<[u8; 48], TableFault>
     Ok(footer)
 }
 
-/// Whether a block with its trailer lies in the part of an image before its footer, where the image has this size.
+/// Whether a block with its trailer lies in the part of an image before its footer, where the image
+/// has this size.
 fn is_inside(handle: Handle, size: u64) -> bool
     ensures { result ≡ nat_le (handle.offset + handle.size + 5) (size - 48) }
 {

@@ -23,8 +23,8 @@ use std::alloc::Global;
 use std::marker::{Model, PhantomData};
 use std::sync::Arc;
 
-/// A table whose footer and index block were read and judged; its data blocks are read and judged as they are needed. It holds
-/// its receipt and its index block; contracts see it as its image.
+/// A table whose footer and index block were read and judged; its data blocks are read and judged
+/// as they are needed. It holds its receipt and its index block; contracts see it as its image.
 #[derive(Drop)]
 pub struct OpenTable<N: Naming, S: Shelf> {
     receipt: S::Receipt,
@@ -46,7 +46,8 @@ impl<N: Naming, S: Shelf> Model for OpenTable<N, S> {
 }
 
 impl<N: Naming, S: Shelf> OpenTable<N, S> {
-    /// Opens the table of a receipt: reads its footer, and then its index block. The fault is the first one of both.
+    /// Opens the table of a receipt: reads its footer, and then its index block. The fault is the
+    /// first one of both.
     pub fn open_by<B: Blocks<S>>(
         blocks: &mut B,
         alloc: Global,
@@ -89,8 +90,9 @@ impl<N: Naming, S: Shelf> OpenTable<N, S> {
         OpenTable::open_by(&mut direct, alloc, receipt)
     }
 
-    /// What a read of the user key finds at the sequence: the newest entry with a sequence at most `seq`. It reads the data
-    /// blocks that may have it, one after another, and judges each; the fault is that of the first that is none.
+    /// What a read of the user key finds at the sequence: the newest entry with a sequence at most
+    /// `seq`. It reads the data blocks that may have it, one after another, and judges each; the
+    /// fault is that of the first that is none.
     pub fn get_by<B: Blocks<S>>(
         &self,
         blocks: &mut B,
@@ -130,7 +132,8 @@ impl<N: Naming, S: Shelf> OpenTable<N, S> {
         self.get_by(&mut direct, alloc, user, seq)
     }
 
-    /// Before the first entry of the table, which over an honest shelf has to be one. Reads nothing yet.
+    /// Before the first entry of the table, which over an honest shelf has to be one. Reads nothing
+    /// yet.
     pub fn iter(self) -> TableReader<N, S>
         requires table { S.honest → (es : List Entry) × IsTable self es }
         ensures entry { result.entry ≡ None }

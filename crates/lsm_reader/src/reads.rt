@@ -50,8 +50,9 @@ pub(crate) fn get_from<S: Shelf, B: Blocks<S>>(
     }
 }
 
-/// What a read of the user key finds at the sequence in the table of a receipt: the newest entry with a sequence at most `seq`. It
-/// reads the footer, the index block, and the data blocks that may have it, each judged.
+/// What a read of the user key finds at the sequence in the table of a receipt: the newest entry
+/// with a sequence at most `seq`. It reads the footer, the index block, and the data blocks that
+/// may have it, each judged.
 pub fn get_by<S: Shelf, B: Blocks<S>>(
     blocks: &mut B,
     alloc: Global,

@@ -26,8 +26,9 @@ use std::alloc::Global;
 use std::marker::Model;
 use std::sync::Arc;
 
-/// A place at an entry of a table, of which it holds the index block and one data block. Contracts see it as what is left of
-/// that data block, the entry at which it stands first, and the index entries of the data blocks after it.
+/// A place at an entry of a table, of which it holds the index block and one data block. Contracts
+/// see it as what is left of that data block, the entry at which it stands first, and the index
+/// entries of the data blocks after it.
 #[derive(Drop)]
 pub struct TableCursor {
     // At the entry of the data block that comes next.
@@ -46,7 +47,8 @@ impl Model for TableCursor {
     ghost invariant = { λ c. IsAtEntry (or_none c.here) c.index };
 }
 
-/// Goes to the first entry of the data block that an index entry names. A data block without entries is `BadIndex`.
+/// Goes to the first entry of the data block that an index entry names. A data block without
+/// entries is `BadIndex`.
 fn enter_by<S: Shelf, B: Blocks<S>>(
     blocks: &mut B,
     alloc: Global,
@@ -132,7 +134,8 @@ impl TableCursor {
         })
     }
 
-    /// At the first entry of a table that is not below the key, where this is the table's index block.
+    /// At the first entry of a table that is not below the key, where this is the table's index
+    /// block.
     pub fn seek_by<S: Shelf, B: Blocks<S>>(
         blocks: &mut B,
         alloc: Global,

@@ -22,8 +22,8 @@ use std::alloc::Global;
 use std::marker::{Model, PhantomData};
 use std::sync::Arc;
 
-/// Goes through an open table, of which it holds the index block and one data block. Contracts see it as the entry at which
-/// it stands, if it stands at one, and the entries that are left after it.
+/// Goes through an open table, of which it holds the index block and one data block. Contracts see
+/// it as the entry at which it stands, if it stands at one, and the entries that are left after it.
 #[derive(Drop)]
 pub struct TableReader<N: Naming, S: Shelf> {
     receipt: S::Receipt,
@@ -81,8 +81,8 @@ impl<N: Naming, S: Shelf> TableReader<N, S> {
         }
     }
 
-    /// Goes to the next entry, whose key and value `key` and `value` then lend. Where none is left it stands at none, and
-    /// the answer is false. An `Err` leaves it.
+    /// Goes to the next entry, whose key and value `key` and `value` then lend. Where none is left
+    /// it stands at none, and the answer is false. An `Err` leaves it.
     pub fn next_by<B: Blocks<S>>(
         &mut self,
         blocks: &mut B,

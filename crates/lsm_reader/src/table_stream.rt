@@ -17,8 +17,8 @@ use lsm_table::{Naming, ReadFault, Shelf};
 use std::alloc::Global;
 use std::marker::{Model, PhantomData};
 
-/// A table that is read block by block, with the receipt by which it is read. Contracts see it as the entries that are left,
-/// the one at which it stands first.
+/// A table that is read block by block, with the receipt by which it is read. Contracts see it as
+/// the entries that are left, the one at which it stands first.
 #[derive(Drop)]
 pub struct TableStream<N: Naming, S: Shelf> {
     receipt: S::Receipt,

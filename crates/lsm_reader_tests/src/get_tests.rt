@@ -25,11 +25,7 @@ fn expect_v<R: Abort>(rt: &R, found: Result<Option<Found>, ReadFault>) {
 }
 
 /// Ends the test where a read was not refused so.
-fn expect_fault<R: Abort>(
-    rt: &R,
-    found: Result<Option<Found>, ReadFault>,
-    expected: TableFault,
-) {
+fn expect_fault<R: Abort>(rt: &R, found: Result<Option<Found>, ReadFault>, expected: TableFault) {
     expect(rt, found.err(), Some(ReadFault::Table(expected)));
 }
 

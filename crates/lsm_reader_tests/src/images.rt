@@ -1,6 +1,10 @@
 //! Images of tables, byte by byte (LevelDB's `doc/table_format.md`).
 
-use lsm_codec::Kind;
+ghost use Rattle.std.specs.Prelude.{List, IfOk};
+ghost use Rattle.lsm_codec.specs.Entries.{Entry};
+ghost use Rattle.lsm_table.specs.Table.{IsTable};
+
+use lsm_codec::{KeyRef, Kind};
 use lsm_table::{BuildFault, TableBuilder, TableOptions};
 use std::alloc::{AllocError, Global};
 
@@ -34,7 +38,8 @@ pub(crate) fn flipped(alloc: Global, offset: usize) -> Result<Vec<u8>, AllocErro
     Ok(image)
 }
 
-/// It with 40 bytes put in behind the data block, and a footer that names where the blocks stand then: 154 bytes.
+/// It with 40 bytes put in behind the data block, and a footer that names where the blocks stand
+/// then: 154 bytes.
 pub(crate) fn with_a_gap(alloc: Global, filler: u8) -> Result<Vec<u8>, AllocError> {
     let (data, rest) = ONE_ENTRY.split_at(26);
     let (blocks, footer) = rest.split_at(40);
@@ -52,24 +57,32 @@ pub(crate) fn key_of(number: u32) -> [u8; 4] {
     number.to_be_bytes()
 }
 
-/// A table of so many entries at sequence 1, each in a data block of its own.
-pub(crate) fn many_blocks(alloc: Global, count: u32) -> Result<Vec<u8>, BuildFault> {
+/// Adds an entry at sequence 1 with a value of 64 bytes, where it stands after the last one.
+fn add_number(builder: &mut TableBuilder, number: u32) -> Result<(), BuildFault> {
+    let user = key_of(number);
+    let key = KeyRef {
+        user: &user,
+        seq: 1,
+        kind: Kind::Value,
+    };
+    if builder.comes_last(&key) {
+        builder.add(&user, 1, Kind::Value, &[7; 64])?;
+    }
+    Ok(())
+}
+
+/// A table of so many entries, each in a data block of its own.
+pub(crate) fn many_blocks(alloc: Global, count: u32) -> Result<Vec<u8>, BuildFault>
+    ensures table { IfOk result (λ v. (es : List Entry) × IsTable v.items es) }
+{
     let options = TableOptions {
         block_size: 64,
         restart_interval: 16,
     };
     let mut builder = TableBuilder::new(alloc, options);
-    let value = [7u8; 64];
     for number in 0..count {
-        let user = key_of(number);
-        let key = lsm_codec::KeyRef {
-            user: &user,
-            seq: 1,
-            kind: Kind::Value,
-        };
-        if builder.comes_last(&key) {
-            builder.add(&user, 1, Kind::Value, &value)?;
-        }
+        add_number(&mut builder, number)?;
     }
-    builder.finish()
+    let image = builder.finish()?;
+    Ok(image)
 }

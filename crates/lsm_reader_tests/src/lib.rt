@@ -1,5 +1,6 @@
-//! Tests of `lsm_reader` by its public calls: a small table, altered ones, and one of many data blocks, each read block by
-//! block. A crate of its own, so that the readers are proved without their tests.
+//! Tests of `lsm_reader` by its public calls: a small table, altered ones, and one of many data
+//! blocks, each read block by block. A crate of its own, so that the readers are proved without
+//! their tests.
 #![tactic(auto)]
 
 #[cfg(test)]

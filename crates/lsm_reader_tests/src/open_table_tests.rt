@@ -1,12 +1,14 @@
 //! Open tables, and going through them.
 
-ghost use Rattle.std.specs.Prelude.{◌≡◌};
+ghost use Rattle.std.specs.Prelude.{◌≡◌, List, IfOk};
+ghost use Rattle.lsm_codec.specs.Entries.{Entry};
+ghost use Rattle.lsm_table.specs.Table.{IsTable};
 
 use crate::block_tests::parts_of;
 use crate::expectation::expect;
 use crate::images::{ONE_ENTRY, key_of, many_blocks};
 use lsm_codec::Kind;
-use lsm_reader::{OpenTable, TableReader};
+use lsm_reader::OpenTable;
 use lsm_table::{Found, MemoryShelf, Naming, ReadFault, Shelf};
 use std::alloc::Global;
 use std::marker::Brand;
@@ -23,6 +25,7 @@ fn opened<N: Naming, S: Shelf, R: Wait>(
 ) -> Result<OpenTable<N, S>, ReadFault>
     requires shelf { (S.told shelf.old).place ≡ N.place }
     ensures shelf { (S.told shelf.new).place ≡ N.place }
+    ensures image { IfOk result (λ t. t ≡ image.now) }
 {
     let receipt = shelf.put(rt, alloc, 1, image)?;
     OpenTable::open(shelf, alloc, &receipt)
@@ -50,5 +53,38 @@ fn reads_one_entry<N: Naming, S: Shelf, R: Wait + Abort>(
 fn reads_of_an_open_table(rt: HostRuntime) -> Result<(), Fail> {
     let mut shelf = MemoryShelf::new(rt.alloc())?;
     reads_one_entry::<Brand, MemoryShelf, _>(&rt, rt.alloc(), &mut shelf)?;
+    Ok(())
+}
+
+/// Puts the image of a table, and goes through it: how many entries it has, where their keys are
+/// those of `many_blocks`.
+fn counts_entries<N: Naming, S: Shelf, R: Wait + Abort>(
+    rt: &R,
+    alloc: Global,
+    shelf: &mut S,
+    image: &[u8],
+) -> Result<u32, ReadFault>
+    requires shelf { (S.told shelf.old).place ≡ N.place }
+    requires table { (es : List Entry) × IsTable image.now es }
+{
+    let table = opened::<N, S, R>(rt, alloc, shelf, image)?;
+    let mut entries = table.iter();
+    for number in 0..2_000u32 {
+        if !entries.next(shelf, alloc)? {
+            return Ok(number);
+        }
+        let user = key_of(number);
+        let key = (user.as_slice(), 1, Kind::Value);
+        expect(rt, parts_of(entries.key()), Some(key));
+    }
+    Ok(2_000)
+}
+
+#[test]
+fn goes_through_a_thousand_blocks(rt: HostRuntime) -> Result<(), Fail> {
+    let image = many_blocks(rt.alloc(), 1_000)?;
+    let mut shelf = MemoryShelf::new(rt.alloc())?;
+    let counted = counts_entries::<Brand, MemoryShelf, _>(&rt, rt.alloc(), &mut shelf, &image)?;
+    expect(&rt, counted, 1_000);
     Ok(())
 }

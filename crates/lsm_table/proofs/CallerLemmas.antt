@@ -1,4 +1,5 @@
--- What a caller's proof cites: of tables and what they name, of a search, of what opening reads, of a shelf's calls.
+-- What a caller's proof cites: of tables and what they name, of a search, of what opening reads, of
+-- a shelf's calls.
 pub use Rattle.lsm_table.proofs.ReadingLaws.{done, ok_is, guard_ok}
 pub use Rattle.lsm_table.proofs.KeyOrder.{key_cmp_total}
 pub use Rattle.lsm_table.proofs.IndexLaws.{data_ascends}

@@ -34,7 +34,8 @@ AreFilled ((e ∷ es) ∷ groups) = AreFilled groups
 abbrev pub AreBlocks : ℕ → List (List Entry) → Type 0
 AreBlocks interval groups = AllByRecursion (λ group. IsBlock (block_bytes interval group) group) groups
 
--- A block that is full counts as closed, although it is moved to the others only when the next entry comes.
+-- A block that is full counts as closed, although it is moved to the others only when the next
+-- entry comes.
 abbrev pub closed_when : Bool → List (List Entry) → List Entry → Grouped
 closed_when true groups taken = record { closed = groups ++ taken ∷ []; taken = [] }
 closed_when false groups taken = record { closed = groups; taken = taken }

@@ -12,7 +12,8 @@ const PLACES: usize = 40;
 /// The fixed64 0xdb4775248b80fb57.
 const MAGIC: [u8; 8] = [0x57, 0xfb, 0x80, 0x8b, 0x24, 0x75, 0x47, 0xdb];
 
-/// The places of the metaindex block and of the index block (LevelDB's `doc/table_format.md`, "footer").
+/// The places of the metaindex block and of the index block (LevelDB's `doc/table_format.md`,
+/// "footer").
 #[derive(Clone, Copy, Debug, PartialEq, Eq)]
 pub struct Footer {
     pub metaindex: Handle,

@@ -1,7 +1,8 @@
 //! Sorted tables as LevelDB's `doc/table_format.md` spells them, and the registry of table records.
 //!
-//! Stands on `lsm_block` for the blocks of a table, on `lsm_shelf` for where its image lies, and on `boxcar` for lists that
-//! threads share. Its contract: a table is its list of entries; a record of the registry stands for the image that was put.
+//! Stands on `lsm_block` for the blocks of a table, on `lsm_shelf` for where its image lies, and on
+//! `boxcar` for lists that threads share. Its contract: a table is its list of entries; a record of
+//! the registry stands for the image that was put.
 #![tactic(auto)]
 
 mod builder;

@@ -5,8 +5,9 @@ ghost use Rattle.lsm_shelf.specs.Told.{in_memory};
 
 use std::marker::Brand;
 
-/// Stands for one registry and one shelf's contents, which forks share. It has no calls: a program picks it once both are
-/// made, and what is generic in it is of that registry and of those contents.
+/// Stands for one registry and one shelf's contents, which forks share. It has no calls: a program
+/// picks it once both are made, and what is generic in it is of that registry and of those
+/// contents.
 pub trait Naming: Send + Sync {
     ghost use Rattle.boxcar.specs.Table.{Shelves};
     ghost use Rattle.lsm_shelf.specs.Told.{Place};

@@ -10,7 +10,8 @@ use std::alloc::{AllocError, Global};
 use std::marker::{Model, PhantomData};
 use std::sync::Wait;
 
-/// The records of tables. Records are only added, by any thread, and each stays for the registry's life.
+/// The records of tables. Records are only added, by any thread, and each stays for the registry's
+/// life.
 #[derive(Drop)]
 pub struct Registry<C: Slip> {
     records: boxcar::Vec<TableRecord<C>>,

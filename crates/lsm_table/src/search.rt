@@ -50,7 +50,8 @@ pub fn found_in_entry(
     }
 }
 
-/// Searches a data block for the first entry at or after the key. Leaves the cursor where it may be.
+/// Searches a data block for the first entry at or after the key. Leaves the cursor where it may
+/// be.
 pub(crate) fn search_block(
     alloc: Global,
     block: &BlockRef<'_>,

@@ -24,7 +24,8 @@ fn seal_of(checksum: u32) -> [u8; 4]
     mask(checksum).to_le_bytes()
 }
 
-/// The contents of a stored block, whose type and checksum follow them. The offset is that of the block in its file.
+/// The contents of a stored block, whose type and checksum follow them. The offset is that of the
+/// block in its file.
 #[tactic(auto, unfolding(crate::specs::StoredBlock::unsealed))]
 pub fn unseal(offset: u64, size: usize, text: &[u8]) -> Result<&[u8], TableFault>
     requires { length text.now ≡ size + TRAILER }
@@ -59,7 +60,8 @@ pub(crate) fn contents_of(body: &[u8], handle: Handle) -> Result<&[u8], TableFau
     unseal(handle.offset, handle.size as usize, text)
 }
 
-/// Appends the trailer of the contents that stand from the start on. An `Err` leaves `out` as it was.
+/// Appends the trailer of the contents that stand from the start on. An `Err` leaves `out` as it
+/// was.
 #[tactic(auto, unfolding(crate::specs::StoredBlock::seal))]
 fn put_trailer(out: &mut Vec<u8>, start: usize) -> Result<(), AllocError>
     requires { start ≤ vec_len out.old }

@@ -8,8 +8,8 @@ use boxcar::Pushed;
 use lsm_shelf::Shelf;
 use std::marker::{Model, PhantomData};
 
-/// An index of the registry of the name `N`, with what shows the record there. Contracts see it as that record, with the
-/// image for which the record's receipt stands.
+/// An index of the registry of the name `N`, with what shows the record there. Contracts see it as
+/// that record, with the image for which the record's receipt stands.
 #[derive(Drop)]
 pub struct TableRef<N: Naming, S: Shelf> {
     pub(crate) token: Pushed<TableRecord<S::Receipt>>,

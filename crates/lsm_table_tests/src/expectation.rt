@@ -3,8 +3,8 @@
 use std::fmt::Debug;
 use std::process::Abort;
 
-/// Ends the test where what was found is not what was expected, and tells both. One proof of this serves every comparison,
-/// where each `assert_eq!` of a test is proved by itself.
+/// Ends the test where what was found is not what was expected, and tells both. One proof of this
+/// serves every comparison, where each `assert_eq!` of a test is proved by itself.
 pub(crate) fn expect<R: Abort, T: PartialEq + Debug + Drop>(rt: &R, found: T, expected: T) {
     assert_eq!(rt; found, expected);
 }

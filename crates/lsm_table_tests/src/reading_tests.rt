@@ -26,7 +26,8 @@ fn put_entry(block: &mut Vec<u8>, seq: u8, value: &[u8]) -> Result<(), AllocErro
     block.extend_from_slice(value)
 }
 
-/// Appends a block of this type with a right checksum. Answers its place, where that fits two bytes.
+/// Appends a block of this type with a right checksum. Answers its place, where that fits two
+/// bytes.
 fn put_stored(file: &mut Vec<u8>, contents: &[u8], kind: u8) -> Result<[u8; 2], AllocError> {
     let place = [(file.len() % 128) as u8, (contents.len() % 128) as u8];
     file.extend_from_slice(contents)?;
@@ -36,7 +37,8 @@ fn put_stored(file: &mut Vec<u8>, contents: &[u8], kind: u8) -> Result<[u8; 2], 
     Ok(place)
 }
 
-/// Appends a data block of this type with one entry of the user key "a", and its place to the index.
+/// Appends a data block of this type with one entry of the user key "a", and its place to the
+/// index.
 fn put_data_block(
     file: &mut Vec<u8>,
     index: &mut Vec<u8>,
@@ -63,8 +65,8 @@ fn put_end(file: &mut Vec<u8>, index: &mut Vec<u8>) -> Result<(), AllocError> {
     file.extend_from_slice(&MAGIC)
 }
 
-/// A table of data blocks with one entry each: the sequences, the values of one byte, and the sequences of the index keys, all
-/// of the user key "a". The data blocks have this type.
+/// A table of data blocks with one entry each: the sequences, the values of one byte, and the
+/// sequences of the index keys, all of the user key "a". The data blocks have this type.
 fn foreign(
     alloc: Global,
     kind: u8,
@@ -299,7 +301,8 @@ fn an_image_cut_by_a_byte_is_not_opened(rt: HostRuntime) {
     );
 }
 
-/// The faults of a read of "a" at 1 and of going through the table, where the image is opened in memory.
+/// The faults of a read of "a" at 1 and of going through the table, where the image is opened in
+/// memory.
 fn faults_when_read<R: Wait>(
     rt: &R,
     alloc: Global,
@@ -310,8 +313,8 @@ fn faults_when_read<R: Wait>(
     Ok((read, table.into_entries(alloc).err()))
 }
 
-/// Those faults of the table of "a" at 1 with the value "v", whose data block has this type, under an index key of this
-/// sequence.
+/// Those faults of the table of "a" at 1 with the value "v", whose data block has this type, under
+/// an index key of this sequence.
 fn faults_of_foreign<R: Wait>(
     rt: &R,
     alloc: Global,

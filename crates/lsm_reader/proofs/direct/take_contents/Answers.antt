@@ -1,5 +1,4 @@
-use Rattle.std.proofs.Common.{◌≡◌, ℕ, List, take, Ok, sym, ap, ◌∙◌, subst, arith}
-use Rattle.lsm_table.specs.StoredBlock.{unsealed}
+use Rattle.std.proofs.Common.{◌≡◌, ℕ, List, take, Ok, sym, ap, ◌∙◌, arith}
 use Rattle.lsm_reader.proofs.BlocksLaws.{unsealed_is}
 use Rattle.lsm_reader.proofs.direct.take_contents.Goals as goal
 

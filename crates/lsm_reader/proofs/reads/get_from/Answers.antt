@@ -1,10 +1,6 @@
-use Rattle.std.proofs.Common.{◌≡◌, ℕ, List, sym, ap, ◌∙◌, subst}
-use Rattle.std.specs.Arc.{arc_value}
-use Rattle.lsm_codec.specs.Entries.{Entry}
+use Rattle.std.proofs.Common.{sym, subst}
 use Rattle.lsm_codec.specs.KeyRef.{key_of}
-use Rattle.lsm_block.specs.Held.{HeldBlock}
 use Rattle.lsm_table.specs.Footer.{body_of}
-use Rattle.lsm_table.specs.declared.found.Found.{Found}
 use Rattle.lsm_table.specs.Found.{seen}
 use Rattle.lsm_reader.specs.Blocks.{Rest, IsAtEntry}
 use Rattle.lsm_reader.proofs.CursorLaws.{none_found, some_found}

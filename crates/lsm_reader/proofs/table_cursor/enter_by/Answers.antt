@@ -1,4 +1,4 @@
-use Rattle.std.proofs.Common.{Global, ◌≡◌, ◌∷◌, ℕ, List, sym, ap, ◌∙◌}
+use Rattle.std.proofs.Common.{Global, ◌∷◌, sym, ◌∙◌}
 use Rattle.std.specs.Arc.{arc_value}
 use Rattle.lsm_block.specs.Held.{HeldBlock}
 use Rattle.lsm_table.specs.Footer.{body_of}

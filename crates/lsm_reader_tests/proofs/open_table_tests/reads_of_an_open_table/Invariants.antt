@@ -1,3 +1,4 @@
+use Rattle.std.proofs.Common.{[]}
 use Rattle.std.specs.Arc.{arc_value}
 use Rattle.lsm_shelf.specs.Told.{in_memory}
 use Rattle.lsm_reader_tests.proofs.open_table_tests.reads_of_an_open_table.Given as goal

@@ -1,4 +1,4 @@
-use Rattle.std.proofs.Common.{◌≡◌, ℕ, List, Ok, true, sym, ap, ◌∙◌, arith}
+use Rattle.std.proofs.Common.{sym, ◌∙◌}
 use Rattle.lsm_reader.proofs.BlocksLaws.{outside, tested, there_is, there_fails}
 use Rattle.lsm_reader.proofs.direct.DirectBlocks.block.Goals as goal
 

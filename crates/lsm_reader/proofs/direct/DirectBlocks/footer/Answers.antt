@@ -1,5 +1,5 @@
-use Rattle.std.proofs.Common.{◌≡◌, ◌≤◌, ℕ, List, Ok, sym, ap, ◌∙◌, arith}
-use Rattle.lsm_reader.proofs.BlocksLaws.{last_short, last_long, read_last, last_long_enough, footer_is}
+use Rattle.std.proofs.Common.{◌≤◌, arith}
+use Rattle.lsm_reader.proofs.BlocksLaws.{last_short, last_long_enough, footer_is}
 use Rattle.lsm_reader.proofs.direct.DirectBlocks.footer.Goals as goal
 
 pub returns-then-size-clause-exact : goal.returns-then-size-clause-exact

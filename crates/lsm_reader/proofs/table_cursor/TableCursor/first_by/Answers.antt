@@ -1,6 +1,5 @@
-use Rattle.std.proofs.Common.{◌≡◌, ◌∷◌, ℕ, List, false, sym, ap, ◌∙◌, subst}
+use Rattle.std.proofs.Common.{◌∷◌, ℕ, List, sym, ◌∙◌, subst}
 use Rattle.lsm_codec.specs.Entries.{Entry}
-use Rattle.lsm_block.specs.Standing.{is_end}
 use Rattle.lsm_table.specs.Footer.{body_of}
 use Rattle.lsm_table.specs.HeldTable.{Names}
 use Rattle.lsm_table.specs.Table.{DataBlock}

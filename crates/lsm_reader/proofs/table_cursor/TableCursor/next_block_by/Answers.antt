@@ -1,10 +1,10 @@
-use Rattle.std.proofs.Common.{◌≡◌, ◌∷◌, ℕ, List, false, refl, sym, ap, ◌∙◌, subst}
+use Rattle.std.proofs.Common.{◌≡◌, ◌∷◌, ℕ, List, false, sym, ap, ◌∙◌, subst}
 use Rattle.lsm_codec.specs.Entries.{Entry}
-use Rattle.lsm_block.specs.Standing.{is_end, value_of_first}
+use Rattle.lsm_block.specs.Standing.{is_end}
 use Rattle.lsm_table.specs.Footer.{body_of}
 use Rattle.lsm_table.specs.HeldTable.{AreNamed}
 use Rattle.lsm_table.specs.Table.{DataBlock}
-use Rattle.lsm_reader.specs.Blocks.{Rest, or_none}
+use Rattle.lsm_reader.specs.Blocks.{Rest}
 use Rattle.lsm_reader.proofs.CursorLaws.{next_named, entered}
 use Rattle.lsm_reader.proofs.table_cursor.TableCursor.next_block_by.Goals as goal
 

@@ -1,4 +1,4 @@
-use Rattle.std.proofs.Common.{Global, ◌≡◌, ℕ, List}
+use Rattle.std.proofs.Common.{Global}
 use Rattle.std.specs.Arc.{arc_value}
 use Rattle.lsm_block.specs.Held.{HeldBlock}
 use Rattle.lsm_table.proofs.CallerLemmas.{opened_names}
