@@ -1,7 +1,7 @@
 -- What a file was judged to be.
 use Rattle.std.proofs.Common.{◌≡◌, ℕ, Bool, true, false, List, Result, Ok, Err, refl, sym, ap, ◌∙◌, subst}
 use Rattle.lsm_codec.specs.Entries.{Entry}
-use Rattle.lsm_codec.proofs.Varints.{IsBytes}
+use Rattle.lsm_codec.proofs.CallerLemmas.{IsBytes}
 use Rattle.lsm_table.specs.declared.table_fault.TableFault.{TableFault}
 use Rattle.lsm_table.specs.declared.handle.Handle.{Handle}
 use Rattle.lsm_table.specs.declared.footer.Footer.{Footer}

@@ -4,7 +4,7 @@ use Rattle.lsm_codec.specs.Keys.{InternalKey}
 use Rattle.lsm_codec.specs.Entries.{Entry, internal_key}
 use Rattle.lsm_block.specs.Block.{IsBlock, entry_of}
 use Rattle.lsm_block.specs.Building.{block_bytes, last_key, Building}
-use Rattle.lsm_block.proofs.BuildLaws.{block_built}
+use Rattle.lsm_block.proofs.CallerLemmas.{block_built}
 use Rattle.lsm_table.specs.Handle.{handle_text}
 use Rattle.lsm_table.specs.StoredBlock.{stored}
 use Rattle.lsm_table.specs.Table.{last_of}

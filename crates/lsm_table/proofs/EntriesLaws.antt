@@ -17,7 +17,7 @@ use Rattle.lsm_table.specs.TableEntries.{index_in, but_first, after, left_in, St
 use Rattle.lsm_table.proofs.KeyOrder.{self_not}
 use Rattle.lsm_table.proofs.SearchLaws.{below-step, below-stop, below-nothing, either_bool, ascends_tail, ascends_after, after_at}
 use Rattle.lsm_table.proofs.HeldTableLaws.{names_part, names_all, named}
-use Rattle.lsm_block.proofs.HeldLaws.{front_of_block}
+use Rattle.lsm_block.proofs.CallerLemmas.{front_of_block}
 use Rattle.lsm_block.specs.Held.{held}
 use Rattle.lsm_table.proofs.HeldBlockLaws.{is_there, held_there}
 use Rattle.lsm_table.proofs.OpenLaws.{opening_again, opened_names, opening_is, held_opened}

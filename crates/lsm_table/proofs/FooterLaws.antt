@@ -3,8 +3,8 @@ use Rattle.std.proofs.Common.{◌≡◌, ℕ, ◌+◌, ◌-◌, ◌≤◌, true,
 use Rattle.std.specs.Str.{bytes_eq}
 use Rattle.std.proofs.lemmas.Bool.{le-leb, leb-true}
 use Rattle.std.proofs.lemmas.List.{take_at, drop_at, take-append-drop, length-append, length-drop, length-take-le, length-replicate, take_all}
-use Rattle.lsm_codec.proofs.Varints.{IsBytes}
-use Rattle.lsm_block.proofs.EntryLaws.{IsBytes-after, IsBytes-take, IsBytes-drop}
+use Rattle.lsm_codec.proofs.CallerLemmas.{IsBytes}
+use Rattle.lsm_block.proofs.CallerLemmas.{IsBytes-after, IsBytes-take, IsBytes-drop}
 use Rattle.lsm_table.specs.declared.table_fault.TableFault.TheVariants.{ShortFile, BadMagic, BadHandle}
 use Rattle.lsm_table.specs.declared.handle.Handle.{Handle}
 use Rattle.lsm_table.specs.declared.footer.Footer.{Footer}

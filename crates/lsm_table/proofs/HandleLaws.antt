@@ -2,8 +2,8 @@
 use Rattle.std.proofs.Common.{◌≡◌, ℕ, ◌-◌, ◌^◌, ◌<◌, ◌≤◌, List, ◌++◌, length, Ok, refl, sym, ap, ◌∙◌, subst, append_assoc, arith}
 use Rattle.std.proofs.lemmas.List.{length-append}
 use Rattle.lsm_codec.specs.Varint.{varint64, varint64_at}
-use Rattle.lsm_codec.proofs.Varints.{varint_takes, varint_again, is_shortest, IsBytes}
-use Rattle.lsm_block.proofs.EntryLaws.{IsBytes-after}
+use Rattle.lsm_codec.proofs.CallerLemmas.{varint_takes, varint_again, is_shortest, IsBytes}
+use Rattle.lsm_block.proofs.CallerLemmas.{IsBytes-after}
 use Rattle.lsm_table.specs.declared.table_fault.TableFault.{TableFault}
 use Rattle.lsm_table.specs.declared.handle.Handle.{Handle}
 use Rattle.lsm_table.specs.Reading.{number_or}

@@ -2,13 +2,13 @@
 use Rattle.std.proofs.Common.{◌≡◌, ℕ, ◌-◌, ◌^◌, ◌≤◌, List, [], ◌∷◌, length, take, drop, Result, Ok, refl, sym, ap, ◌∙◌, subst, arith}
 use Rattle.lsm_codec.specs.declared.fault.CodecFault.{CodecFault}
 use Rattle.lsm_codec.specs.Varint.{varint64_at}
-use Rattle.lsm_codec.proofs.Varints.{done_is, varint_again}
+use Rattle.lsm_codec.proofs.CallerLemmas.{done_is, varint_again}
 use Rattle.std.proofs.lemmas.List.{append-nil}
 use Rattle.lsm_codec.specs.Entries.{Entry}
 use Rattle.lsm_block.specs.Block.{IsBlock}
 use Rattle.lsm_block.specs.Building.{block_bytes, entries_text, later_restarts}
 use Rattle.lsm_block.specs.Held.{held}
-use Rattle.lsm_block.proofs.BuildLaws.{block_built}
+use Rattle.lsm_block.proofs.CallerLemmas.{block_built}
 use Rattle.lsm_table.specs.declared.handle.Handle.{Handle}
 use Rattle.lsm_table.specs.Handle.{IsHandle}
 use Rattle.lsm_table.specs.Table.{DataBlock}

@@ -14,7 +14,8 @@ abbrev pub go_if : Bool → List Entry → List Entry → List Entry
 go_if true later here = later
 go_if false later here = here
 
--- The first data block whose index key is not below the key, from its first entry not below the key on, and then all further ones.
+-- The first data block whose index key is not below the key, from its first entry not below the key
+-- on, and then all further ones.
 unfoldable pub from_index : InternalKey → List Entry → List (List Entry) → List Entry
 from_index key [] groups = []
 from_index key (i ∷ index) [] = []

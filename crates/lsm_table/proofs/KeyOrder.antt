@@ -24,7 +24,8 @@ reverse_le Greater Less e h = absurd cc
 reverse_le Greater Equal e h = absurd cc
 reverse_le Greater Greater e h = absurd cc
 
--- of two keys, if the first does not stand before the second, the second does not stand after the first
+-- of two keys, if the first does not stand before the second, the second does not stand after the
+-- first
 pub not_less : (a b : InternalKey) → is_lt (key_cmp a b) ≡ false → is_le (key_cmp b a) ≡ true
 not_less a b h = reverse_le (key_cmp b a) (key_cmp a b) (key_cmp_total.antisymm b a) h
 

@@ -1,4 +1,5 @@
--- The last entry of a table that is being built stands in the open data block, or else the index has its key.
+-- The last entry of a table that is being built stands in the open data block, or else the index
+-- has its key.
 use Rattle.std.proofs.Common.{◌≡◌, ℕ, ◌+◌, List, [], ◌∷◌, ◌++◌, length, Some, None, refl, sym, ap, ◌∙◌}
 use Rattle.std.proofs.lemmas.List.{append-nil}
 use Rattle.lsm_codec.specs.Keys.{InternalKey}

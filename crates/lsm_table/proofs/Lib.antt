@@ -25,3 +25,4 @@ pub mod CheckLaws
 pub mod HeldBlockLaws
 pub mod IterLaws
 pub mod LastLaws
+pub mod CallerLemmas

@@ -6,7 +6,7 @@ use Rattle.std.proofs.lemmas.List.{append-nil}
 use Rattle.lsm_codec.specs.Keys.{InternalKey}
 use Rattle.lsm_codec.specs.Entries.{Entry}
 use Rattle.lsm_block.specs.Reading.{block_at}
-use Rattle.lsm_block.proofs.BlockLaws.{block_again}
+use Rattle.lsm_block.proofs.CallerLemmas.{block_again}
 use Rattle.lsm_table.specs.declared.table_fault.TableFault.{TableFault}
 use Rattle.lsm_table.specs.declared.table_fault.TableFault.TheVariants.{OutOfMemory, BadRestarts, BadEntry, OutOfOrder, ShortFile, BadMagic, BadHandle, BadChecksum, Compressed, BadBlockType, BadIndex}
 use Rattle.lsm_table.specs.declared.read_fault.ReadFault.{ReadFault}

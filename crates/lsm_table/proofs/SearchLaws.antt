@@ -10,8 +10,8 @@ use Rattle.std.proofs.lemmas.Cmp.{nat_list_cmp_total, ranked}
 use Rattle.lsm_codec.specs.Keys.{UserKey, UserLe, user_le, InternalKey, packed, key_cmp, then_by}
 use Rattle.lsm_codec.specs.Entries.{Entry, internal_key, entry_cmp, stamp, is_allowed, first_of_two, newest}
 use Rattle.lsm_codec.specs.Lists.{Has}
-use Rattle.lsm_codec.proofs.Keys.{key_from_test, test_from_key, user_le_antisym}
-use Rattle.lsm_codec.proofs.Newest.{IsAllowed, allowed_says, allowed_from, kind_number_le, Finds, newest_finds}
+use Rattle.lsm_codec.proofs.CallerLemmas.{key_from_test, test_from_key, user_le_antisym}
+use Rattle.lsm_codec.proofs.CallerLemmas.{IsAllowed, allowed_says, allowed_from, kind_number_le, Finds, newest_finds}
 use Rattle.lsm_block.specs.Block.{Ascends}
 use Rattle.lsm_block.specs.Seeking.{not_below, drop_if}
 use Rattle.lsm_table.specs.Searching.{read_key, of_user}
@@ -181,7 +181,8 @@ at_stop k s e es after from false t =
     let differs : e.user ≡ k → ⊥ = λ same. absurd (cc (t, test_from_key e.user k same)) in
     none_allowed k s (e ∷ es) (other_user k s e t, none_later k s e es from differs after)
 
--- Ascending entries: the newest is the first at or after the key that a read looks from, if it is the user's.
+-- Ascending entries: the newest is the first at or after the key that a read looks from, if it is
+-- the user's.
 pub newest_at : (k : UserKey) (s : ℕ) (es : List Entry) → Ascends es → newest k s es ≡ of_user k (not_below (read_key k s) es)
 newest_at k s [] a = ap (of_user k) (sym (below-nothing (read_key k s)))
 newest_at k s (e ∷ es) a = by_test (newest_at k s es (ascends_tail e es a)) (is_lt (key_cmp (internal_key e) (read_key k s))) refl

@@ -1,7 +1,7 @@
 -- One entry more, and the end.
 use Rattle.std.proofs.Common.{◌≡◌, ℕ, ◌^◌, ◌<◌, ◌≤◌, Bool, true, false, List, [], ◌∷◌, ◌++◌, length, Result, Ok, Err, refl, sym, ap, ◌∙◌, subst, append_assoc, inl, inr, arith}
 use Rattle.std.specs.Prelude.{OnOk, OnErr}
-use Rattle.std.proofs.lemmas.Bool.{leb-true}
+use Rattle.std.proofs.lemmas.Bool.{leb-true, le-leb}
 use Rattle.lsm_codec.specs.Entries.{Entry, internal_key}
 use Rattle.lsm_block.specs.Block.{IsBlock, Ascends, entry_of}
 use Rattle.lsm_block.specs.Building.{block_bytes, Building}
@@ -10,7 +10,7 @@ use Rattle.lsm_block.specs.declared.build_fault.BuildFault.TheVariants.{TooLarge
 use Rattle.lsm_table.specs.declared.table_options.TableOptions.{TableOptions}
 use Rattle.lsm_table.specs.Handle.{handle_text}
 use Rattle.lsm_table.specs.Table.{IsTable, concat}
-use Rattle.lsm_table.specs.TableBuilding.{Grouped, is_full, grouped, last_group, groups_of, data_text, place, index_of, index_block, file_of, file_of_groups, groups_by, table_bytes, PassesLimit}
+use Rattle.lsm_table.specs.TableBuilding.{taken_with, Grouped, is_full, grouped, last_group, groups_of, data_text, place, index_of, index_block, file_of, file_of_groups, groups_by, table_bytes, PassesLimit}
 use Rattle.lsm_table.specs.TableMaking.{entries_made, closed_when, Made, index_with, HasRoom, LacksRoom}
 use Rattle.lsm_table.proofs.BuildingLaws.{ascends_rest, grouped-push, one_more}
 use Rattle.lsm_table.proofs.MakingLaws.{building, made_parts, made_index, made_more, made_groups, groups_when, made_table, made_bytes, data_text-append}
@@ -55,7 +55,7 @@ groups_more options entries front taken index e m open_still =
     ∙ groups_when options m.in_range m.groups (taken.entries ++ e ∷ []) (is_full options (taken.entries ++ e ∷ [])) refl
 
 pub passes : (options : TableOptions) (entries : List Entry) (front : List ℕ) (taken index : Building) (offset : ℕ) (e : Entry) → Made options entries front taken index → is_full options taken.entries ≡ false → offset ≡ length front
-    → LacksRoom offset taken index e → PassesLimit options entries e
+    → LacksRoom options offset taken index e → PassesLimit options entries e
 passes options entries front taken index offset e m open_still at lacks =
     let interval = options.restart_interval in
     let open_now : (grouped options [] entries).taken ≡ taken.entries = ap (λ (g : Grouped). g.taken) (m.falls ∙ ap (λ (x : Bool). closed_when x m.groups taken.entries) open_still) in
@@ -64,9 +64,35 @@ passes options entries front taken index offset e m open_still at lacks =
           let here = subst (λ (n : ℕ). 2 ^ 32 ≤ length (block_bytes n (taken.entries ++ e ∷ []))) m.taken_by block in
           inl (subst (λ (xs : List Entry). 2 ^ 32 ≤ length (block_bytes interval (xs ++ e ∷ []))) (sym open_now) here)
       | inr long ↦
-          let there = subst (λ (xs : List ℕ). 2 ^ 32 ≤ length xs) (sym (index_more options entries front taken index offset e m at)) long in
+          let size : length (block_bytes taken.interval (taken.entries ++ e ∷ [])) ≡ length (block_bytes interval (taken.entries ++ e ∷ [])) = ap (λ (n : ℕ). length (block_bytes n (taken.entries ++ e ∷ []))) m.taken_by in
+          let full : is_full options (taken.entries ++ e ∷ []) ≡ true = le-leb _ _ (omega (arith, size, long.0)) in
+          let there = subst (λ (xs : List ℕ). 2 ^ 32 ≤ length xs) (sym (index_more options entries front taken index offset e m at)) long.1 in
           let whole = subst (λ (xs : List Entry). 2 ^ 32 ≤ length (block_bytes 1 xs)) (sym (made_index options entries front taken index m (last_group (taken.entries ++ e ∷ [])))) there in
-          inr (subst (λ (gs : List (List Entry)). 2 ^ 32 ≤ length (index_block interval gs)) (sym (groups_more options entries front taken index e m open_still)) whole)
+          inr (
+            subst (λ (xs : List Entry). is_full options (xs ++ e ∷ []) ≡ true) (sym open_now) full,
+            subst (λ (gs : List (List Entry)). 2 ^ 32 ≤ length (index_block interval gs)) (sym (groups_more options entries front taken index e m open_still)) whole,
+          )
+    ]
+
+-- an entry for which there is room passes no limit
+pub passes_not : (options : TableOptions) (entries : List Entry) (front : List ℕ) (taken index : Building) (offset : ℕ) (e : Entry) → Made options entries front taken index → is_full options taken.entries ≡ false → offset ≡ length front
+    → HasRoom options offset taken index e → PassesLimit options entries e → ⊥
+passes_not options entries front taken index offset e m open_still at r passed =
+    let interval = options.restart_interval in
+    let open_now : (grouped options [] entries).taken ≡ taken.entries = ap (λ (g : Grouped). g.taken) (m.falls ∙ ap (λ (x : Bool). closed_when x m.groups taken.entries) open_still) in
+    let size : length (block_bytes taken.interval (taken.entries ++ e ∷ [])) ≡ length (block_bytes interval (taken.entries ++ e ∷ [])) = ap (λ (n : ℕ). length (block_bytes n (taken.entries ++ e ∷ []))) m.taken_by in
+    elim passed [
+      | inl block ↦
+          let here = subst (λ (xs : List Entry). 2 ^ 32 ≤ length (block_bytes interval (xs ++ e ∷ []))) open_now block in
+          omega (arith, here, size, r.block)
+      | inr long ↦
+          let full = subst (λ (xs : List Entry). is_full options (xs ++ e ∷ []) ≡ true) open_now long.0 in
+          let reached : options.block_size ≤ length (block_bytes interval (taken.entries ++ e ∷ [])) = leb-true _ _ full in
+          let fits = r.index_block (omega (arith, size, reached)) in
+          let whole = subst (λ (gs : List (List Entry)). 2 ^ 32 ≤ length (index_block interval gs)) (groups_more options entries front taken index e m open_still) long.1 in
+          let there = subst (λ (xs : List Entry). 2 ^ 32 ≤ length (block_bytes 1 xs)) (made_index options entries front taken index m (last_group (taken.entries ++ e ∷ []))) whole in
+          let here = subst (λ (xs : List ℕ). 2 ^ 32 ≤ length xs) (index_more options entries front taken index offset e m at) there in
+          omega (arith, here, fits)
     ]
 
 -- ---- the end

@@ -1,10 +1,10 @@
 -- What is read as a table is one, and what is one is read.
 use Rattle.std.proofs.Common.{◌≡◌, ℕ, ◌-◌, List, length, None, Ok, sym, ap, ◌∙◌}
 use Rattle.lsm_codec.specs.Entries.{Entry}
-use Rattle.lsm_codec.proofs.Varints.{IsBytes}
+use Rattle.lsm_codec.proofs.CallerLemmas.{IsBytes}
 use Rattle.lsm_block.specs.Reading.{block_at}
-use Rattle.lsm_block.proofs.EntryLaws.{IsBytes-take}
-use Rattle.lsm_block.proofs.BlockLaws.{block_takes, block_again}
+use Rattle.lsm_block.proofs.CallerLemmas.{IsBytes-take}
+use Rattle.lsm_block.proofs.CallerLemmas.{block_takes, block_again}
 use Rattle.lsm_table.specs.StoredBlock.{contents_at}
 use Rattle.lsm_table.specs.Footer.{footer_of, body_of, footer_at}
 use Rattle.lsm_table.specs.Table.{concat, IsTable}

@@ -5,7 +5,8 @@ use Rattle.lsm_table.specs.declared.table_fault.TableFault.{TableFault}
 use Rattle.lsm_table.specs.declared.handle.Handle.{Handle}
 use Rattle.lsm_table.specs.Reading.{◌>>=◌, number_or}
 
--- The bytes spell the place: varint64 offset, varint64 size. The size is that of the contents, the trailer not counted.
+-- The bytes spell the place: varint64 offset, varint64 size. The size is that of the contents, the
+-- trailer not counted.
 pub record IsHandle (bytes : List ℕ) (handle : Handle) : Type 0 where
   pub offset_text : List ℕ
   pub size_text : List ℕ

@@ -1,5 +1,5 @@
 -- A table that was checked, and what is left of it for a reader.
-use Rattle.std.specs.Prelude.{◌≡◌, ℕ, List, [], ◌∷◌, ◌++◌, take, drop, Option, Some, None, Result, Ok, Err}
+use Rattle.std.specs.Prelude.{◌≡◌, ◌⊎◌, ℕ, List, [], ◌∷◌, ◌++◌, take, drop, Option, Some, None, Result, Ok, Err}
 use Rattle.std.specs.List.{flat_map}
 use Rattle.lsm_codec.specs.Keys.{InternalKey}
 use Rattle.lsm_codec.specs.Entries.{Entry}
@@ -32,7 +32,8 @@ pub record HeldTable (file : List ℕ) (index : Handle) : Type 0 where
 unfoldable pub entries_named : List ℕ → Entry → List Entry
 entries_named body i = entries_or_none (handle_at BadIndex i.value >>= λ handle. contents_at body handle.0 >>= λ contents. block_or (block_at contents))
 
--- What is left of a table: the rest of a data block, and the data blocks that these index entries name.
+-- What is left of a table: the rest of a data block, and the data blocks that these index entries
+-- name.
 abbrev pub left_of : List ℕ → List Entry → List Entry → List Entry
 left_of body here index = here ++ flat_map (entries_named body) index
 
@@ -71,7 +72,13 @@ pub record Walk : Type 0 where
 abbrev pub AreNamed : List ℕ → List Entry → Type 0
 AreNamed body index = (entries : List Entry) × Names body index entries
 
--- What a step hands out: nothing where no entry is left, and else the value of the next entry, whose key is then the last.
+-- What a refused step leaves: all entries that were left, and the last key or none.
+pub record Refused (old new : Walk) : Type 0 where
+  pub left : new.left ≡ old.left
+  pub last : (new.last ≡ old.last) ⊎ (new.last ≡ None)
+
+-- What a step hands out: nothing where no entry is left, and then the last key stays; else the
+-- value of the next entry, whose key is then the last.
 abbrev pub Steps : Walk → Walk → Option (List ℕ) → Type 0
-Steps old new None = (old.left ≡ []) × (new.left ≡ [])
+Steps old new None = (old.left ≡ []) × (new.left ≡ []) × (new.last ≡ old.last)
 Steps old new (Some value) = (key : InternalKey) × (new.last ≡ Some key) × (old.left ≡ entry_of key value ∷ new.left)

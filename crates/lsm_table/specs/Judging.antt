@@ -11,8 +11,9 @@ abbrev pub comes_after : Option InternalKey → InternalKey → Bool
 comes_after None key = true
 comes_after (Some bound) key = is_lt (key_cmp bound key)
 
--- What two cursors over an index tell while its data blocks are judged: one stands at the entry that comes next, the other
--- is one entry behind when its key is asked for, and else at the same place.
+-- What two cursors over an index tell while its data blocks are judged: one stands at the entry
+-- that comes next, the other is one entry behind when its key is asked for, and else at the same
+-- place.
 pub record Judged (body : List ℕ) (index : HeldBlock) (before here : Place) : Type 0 where
   pub left : settled (data_at body before.last (rest_of index here)) ≡ settled (data_at body None index.entries)
   pub same : rest_of index before ≡ rest_of index here

@@ -1,5 +1,5 @@
--- A table whose footer and index block were judged, and whose data blocks are judged when they are read (this project's
--- rule).
+-- A table whose footer and index block were judged, and whose data blocks are judged when they are
+-- read (this project's rule).
 use Rattle.std.specs.Prelude.{◌≡◌, ℕ, ◌==◌, List, length, Result, Ok, Err}
 use Rattle.lsm_codec.specs.Entries.{Entry}
 use Rattle.lsm_block.specs.Reading.{block_at}
@@ -31,13 +31,15 @@ pub record IsOpened (file : List ℕ) (index : Handle) : Type 0 where
   pub index_is : footer.index ≡ index
   pub block : BlockAt (body_of file) index entries
 
--- What opening answered is what reading the footer and the index block gives, unless the shelf refused or memory ran out.
+-- What opening answered is what reading the footer and the index block gives, unless the shelf
+-- refused or memory ran out.
 abbrev pub Opens : {X : Type 0} → Result X ReadFault → Result (List Entry) TableFault → Type 0
 Opens (Ok t) read = settled read ≡ Ok tt
 Opens (Err (Shelf fault)) read = Unit {0}
 Opens (Err (Table fault)) read = Fails fault read
 
--- the entries of the block that the value of an index entry names, or the first fault of its place and the block
+-- the entries of the block that the value of an index entry names, or the first fault of its place
+-- and the block
 unfoldable pub block_named : List ℕ → List ℕ → Result (List Entry) TableFault
 block_named body value = do
   handle ← handle_at BadIndex value

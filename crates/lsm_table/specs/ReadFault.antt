@@ -1,4 +1,5 @@
--- The refusals of a read of a table on a shelf: their numbers and names, and how a shelf counts them (this project's rule).
+-- The refusals of a read of a table on a shelf: their numbers and names, and how a shelf counts
+-- them (this project's rule).
 use Rattle.std.specs.Prelude.{ℕ, List}
 use Rattle.lsm_table.specs.declared.table_fault.TableFault.{TableFault}
 use Rattle.lsm_table.specs.declared.table_fault.TableFault.TheVariants.{OutOfMemory}

@@ -1,5 +1,5 @@
--- Searching a table for the newest entry that a read may see: it is the first at or after the user key, the read's sequence
--- and the greatest kind (LevelDB's `db/dbformat.h`, the key for a lookup).
+-- Searching a table for the newest entry that a read may see: it is the first at or after the user
+-- key, the read's sequence and the greatest kind (LevelDB's `db/dbformat.h`, the key for a lookup).
 use Rattle.std.specs.Prelude.{◌≡◌, ℕ, cond, List, [], ◌∷◌, Option, Some, None}
 use Rattle.std.specs.Str.{bytes_eq}
 use Rattle.lsm_codec.specs.declared.kind.Kind.TheVariants.{Value}

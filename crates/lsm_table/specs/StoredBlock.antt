@@ -1,5 +1,5 @@
--- A block as it stands in a table's file (LevelDB's `doc/table_format.md`: the contents, a type byte, and the masked CRC-32C
--- of both).
+-- A block as it stands in a table's file (LevelDB's `doc/table_format.md`: the contents, a type
+-- byte, and the masked CRC-32C of both).
 use Rattle.std.specs.Prelude.{◌≡◌, ℕ, ◌+◌, ◌==◌, nat_le, if◌then◌else◌, List, [], ◌∷◌, ◌++◌, length, take, drop, slice_index, Result, Ok}
 use Rattle.std.specs.Str.{bytes_eq}
 use Rattle.std.specs.Int.{w32, to_le_bytes}
@@ -14,7 +14,8 @@ use Rattle.lsm_table.specs.Reading.{guarded}
 unfoldable pub seal : List ℕ → List ℕ
 seal text = to_le_bytes w32 (masked (crc_of text))
 
--- what follows the contents of a block that is not compressed: type 0, and the checksum of the contents and that type
+-- what follows the contents of a block that is not compressed: type 0, and the checksum of the
+-- contents and that type
 abbrev pub trailer : List ℕ → List ℕ
 trailer contents = 0 ∷ seal (contents ++ 0 ∷ [])
 

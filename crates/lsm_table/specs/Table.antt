@@ -1,4 +1,5 @@
--- What a table is: data blocks, a metaindex block, an index block and a footer (LevelDB's `doc/table_format.md`).
+-- What a table is: data blocks, a metaindex block, an index block and a footer (LevelDB's
+-- `doc/table_format.md`).
 use Rattle.std.specs.Prelude.{◌≡◌, ℕ, true, List, [], ◌∷◌, ◌++◌, Option, Some, None}
 use Rattle.std.specs.List.{flat_map}
 use Rattle.std.specs.Ordering.{is_le}
@@ -29,8 +30,9 @@ abbrev pub last_of : Entry → List Entry → Entry
 last_of e [] = e
 last_of e (f ∷ fs) = last_of f fs
 
--- The index names one data block after the other, each with an entry. Its keys part them: each is at least the last key of
--- its data block, and less than the first key of the next. The data blocks may stand anywhere in the file.
+-- The index names one data block after the other, each with an entry. Its keys part them: each is
+-- at least the last key of its data block, and less than the first key of the next. The data blocks
+-- may stand anywhere in the file.
 abbrev pub DataBlocks : List ℕ → Option InternalKey → List Entry → List (List Entry) → Type 0
 DataBlocks body bound [] [] = Unit {0}
 DataBlocks body bound [] (group ∷ groups) = ⊥
@@ -42,7 +44,8 @@ DataBlocks body bound (i ∷ index) ((e ∷ es) ∷ groups) =
 abbrev pub concat : List (List Entry) → List Entry
 concat groups = flat_map (λ group. group) groups
 
--- The bytes are a table of the entries. The metaindex is not followed, so that a table with a filter block is one too.
+-- The bytes are a table of the entries. The metaindex is not followed, so that a table with a
+-- filter block is one too.
 pub record IsTable (bytes : List ℕ) (entries : List Entry) : Type 0 where
   pub body : List ℕ
   pub footer_text : List ℕ

@@ -1,6 +1,7 @@
--- The bytes of a table that the builder makes of entries: which data blocks it closes, their index, and the whole file
--- (LevelDB's `table/table_builder.cc`, without compression, filter and shortened separators).
-use Rattle.std.specs.Prelude.{ℕ, ◌+◌, ◌^◌, ◌≤◌, ◌⊎◌, Bool, true, false, nat_le, List, [], ◌∷◌, ◌++◌, length}
+-- The bytes of a table that the builder makes of entries: which data blocks it closes, their index,
+-- and the whole file (LevelDB's `table/table_builder.cc`, without compression, filter and shortened
+-- separators).
+use Rattle.std.specs.Prelude.{◌≡◌, ℕ, ◌+◌, ◌^◌, ◌≤◌, ◌⊎◌, Bool, true, false, nat_le, List, [], ◌∷◌, ◌++◌, length}
 use Rattle.lsm_codec.specs.Entries.{Entry, internal_key}
 use Rattle.lsm_block.specs.Block.{entry_of}
 use Rattle.lsm_block.specs.Building.{block_bytes}
@@ -27,7 +28,8 @@ abbrev pub close_if : Bool → (List Entry → Grouped) → List Entry → Group
 close_if true later taken = closed_first taken (later [])
 close_if false later taken = later taken
 
--- How the entries fall into data blocks, where these were taken before them: one is closed as soon as it is full.
+-- How the entries fall into data blocks, where these were taken before them: one is closed as soon
+-- as it is full.
 unfoldable pub grouped : TableOptions → List Entry → List Entry → Grouped
 grouped options taken [] = record { closed = []; taken = taken }
 grouped options taken (e ∷ es) = close_if (is_full options (taken ++ e ∷ [])) (λ rest. grouped options rest es) (taken ++ e ∷ [])
@@ -85,8 +87,13 @@ table_bytes options es = file_of_groups options.restart_interval (groups_by opti
 abbrev pub written_bytes : TableOptions → List Entry → List ℕ
 written_bytes options es = data_text options.restart_interval (grouped options [] es).closed
 
--- With one entry more the data block with it, or the index block, would pass 2^32 - 1 bytes.
+-- the open data block with one entry more
+abbrev pub taken_with : TableOptions → List Entry → Entry → List Entry
+taken_with options es e = (grouped options [] es).taken ++ e ∷ []
+
+-- With one entry more the data block with it would pass 2^32 - 1 bytes, or this entry fills it, and
+-- the index block would.
 abbrev pub PassesLimit : TableOptions → List Entry → Entry → Type 0
 PassesLimit options es e =
-    (2 ^ 32 ≤ length (block_bytes options.restart_interval ((grouped options [] es).taken ++ e ∷ [])))
-    ⊎ (2 ^ 32 ≤ length (index_block options.restart_interval (groups_by options (es ++ e ∷ []))))
+    (2 ^ 32 ≤ length (block_bytes options.restart_interval (taken_with options es e)))
+    ⊎ ((is_full options (taken_with options es e) ≡ true) × (2 ^ 32 ≤ length (index_block options.restart_interval (groups_by options (es ++ e ∷ [])))))

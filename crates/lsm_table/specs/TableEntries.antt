@@ -31,12 +31,14 @@ left_in file here last = left_of (body_of file) here (after last (index_in file)
 abbrev pub StandsIn : List ℕ → Handle → Place → Type 0
 StandsIn file index at = rest_of (block_there (body_of file) index) at ≡ after at.last (index_in file)
 
--- What comes after one index key: nothing, or the value of the next index entry, whose key is then the last.
+-- What comes after one index key: nothing, or the value of the next index entry, whose key is then
+-- the last.
 abbrev pub NextPlace : List Entry → Option InternalKey → Option InternalKey → Option (List ℕ) → Type 0
 NextPlace index old new None = after old index ≡ []
 NextPlace index old new (Some place) = (key : InternalKey) × (new ≡ Some key) × (after old index ≡ entry_of key place ∷ after new index)
 
--- What comes after the data block of one index key: nothing, or the entries of the next one, of which there is one at least.
+-- What comes after the data block of one index key: nothing, or the entries of the next one, of
+-- which there is one at least.
 abbrev pub NextBlock : List ℕ → Option InternalKey → Option (Option InternalKey × List Entry) → Type 0
 NextBlock file old None = after old (index_in file) ≡ []
 NextBlock file old (Some next) = (first : Entry) × (others : List Entry) × (next.1 ≡ first ∷ others) × (left_in file [] old ≡ left_in file next.1 next.0)

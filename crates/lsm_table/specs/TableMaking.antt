@@ -34,7 +34,8 @@ AreFilled ((e ∷ es) ∷ groups) = AreFilled groups
 abbrev pub AreBlocks : ℕ → List (List Entry) → Type 0
 AreBlocks interval groups = AllByRecursion (λ group. IsBlock (block_bytes interval group) group) groups
 
--- A block that is full counts as closed, although it is moved to the others only when the next entry comes.
+-- A block that is full counts as closed, although it is moved to the others only when the next
+-- entry comes.
 abbrev pub closed_when : Bool → List (List Entry) → List Entry → Grouped
 closed_when true groups taken = record { closed = groups ++ taken ∷ []; taken = [] }
 closed_when false groups taken = record { closed = groups; taken = taken }
@@ -67,5 +68,7 @@ pub record HasRoom (options : TableOptions) (offset : ℕ) (taken index : Buildi
   pub block : length (block_bytes taken.interval (taken.entries ++ e ∷ [])) < 2 ^ 32
   pub index_block : options.block_size ≤ length (block_bytes taken.interval (taken.entries ++ e ∷ [])) → length (index_with offset taken index e) < 2 ^ 32
 
-abbrev pub LacksRoom : ℕ → Building → Building → Entry → Type 0
-LacksRoom offset taken index e = (2 ^ 32 ≤ length (block_bytes taken.interval (taken.entries ++ e ∷ []))) ⊎ (2 ^ 32 ≤ length (index_with offset taken index e))
+abbrev pub LacksRoom : TableOptions → ℕ → Building → Building → Entry → Type 0
+LacksRoom options offset taken index e =
+    (2 ^ 32 ≤ length (block_bytes taken.interval (taken.entries ++ e ∷ [])))
+    ⊎ ((options.block_size ≤ length (block_bytes taken.interval (taken.entries ++ e ∷ []))) × (2 ^ 32 ≤ length (index_with offset taken index e)))

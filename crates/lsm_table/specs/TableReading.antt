@@ -1,5 +1,5 @@
--- Reading a table: its footer, its index block, and then for each index entry its value, its data block and its keys; the entries,
--- or the first fault in this order.
+-- Reading a table: its footer, its index block, and then for each index entry its value, its data
+-- block and its keys; the entries, or the first fault in this order.
 use Rattle.std.specs.Prelude.{ℕ, ◌==◌, ◌&&◌, Bool, true, false, List, [], ◌∷◌, length, Option, Some, None, Result, Ok, Err}
 use Rattle.std.specs.Ordering.{is_lt, is_le}
 use Rattle.lsm_codec.specs.Keys.{InternalKey, key_cmp}

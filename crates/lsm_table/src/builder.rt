@@ -29,8 +29,8 @@ pub struct TableBuilder {
     options: TableOptions,
     // The closed data blocks with their trailers, as they will stand in the file.
     front: Vec<u8>,
-    // The open data block. A full one is moved to the closed ones only when the next entry comes: then an entry either
-    // stands in the open block, or nothing has changed.
+    // The open data block. A full one is moved to the closed ones only when the next entry comes:
+    // then an entry either stands in the open block, or nothing has changed.
     taken: BlockBuilder,
     index: BlockBuilder,
     // Memory for the place of a block.
@@ -48,7 +48,8 @@ impl Model for TableBuilder {
     ghost invariant = { λ b. Made b.options (entries_made b.front.items b.index.entries b.taken.entries) b.front.items b.taken b.index };
 }
 
-/// Whether the index block stays below 2^32 bytes with the entry of a data block that ends with this key.
+/// Whether the index block stays below 2^32 bytes with the entry of a data block that ends with
+/// this key.
 fn has_index_room(
     index: &BlockBuilder,
     key: &KeyRef<'_>,
@@ -63,7 +64,8 @@ fn has_index_room(
     Ok(index.size_with(key, place) <= u32::MAX as u64)
 }
 
-/// Whether an entry more passes no limit: that of the open block, and that of the index block where the entry fills it.
+/// Whether an entry more passes no limit: that of the open block, and that of the index block where
+/// the entry fills it.
 fn has_room(
     options: TableOptions,
     offset: u64,
@@ -74,7 +76,7 @@ fn has_room(
     place: &mut Vec<u8>,
 ) -> Result<bool, AllocError>
     ensures yes { IfOk result (λ r. r ≡ true → HasRoom options offset taken.now index.now (entry_of (key_of key.now) value.now)) }
-    ensures no { IfOk result (λ r. r ≡ false → LacksRoom offset taken.now index.now (entry_of (key_of key.now) value.now)) }
+    ensures no { IfOk result (λ r. r ≡ false → LacksRoom options offset taken.now index.now (entry_of (key_of key.now) value.now)) }
 {
     let size = taken.size_with(key, value);
     if size > u32::MAX as u64 {
@@ -153,7 +155,8 @@ fn settle(
     }
 }
 
-/// The file that begins with the data blocks: an empty metaindex block, the index block and the footer follow them.
+/// The file that begins with the data blocks: an empty metaindex block, the index block and the
+/// footer follow them.
 fn end(alloc: Global, front: Vec<u8>, index: &BlockBuilder) -> Result<Vec<u8>, AllocError>
     ensures bytes { IfOk result (λ v. v.items ≡ file_of front.items (block_bytes 1 []) (block_bytes index.now.interval index.now.entries)) }
     ensures block { OnOk result (IsBlock (block_bytes index.now.interval index.now.entries) index.now.entries) }
@@ -216,14 +219,16 @@ impl TableBuilder {
         }
     }
 
-    /// Adds an entry after the others. `TooLarge` where its data block, or the index block, would pass 2^32 - 1 bytes.
-    /// An `Err` leaves the builder as it was.
+    /// Adds an entry after the others. `TooLarge` just where its data block would pass 2^32 - 1
+    /// bytes, or where the entry fills it and the index block would. An `Err` leaves the builder as
+    /// it was.
     pub fn add(&mut self, user: &[u8], seq: u64, kind: Kind, value: &[u8]) -> Result<(), BuildFault>
         requires seq { seq ≤ MAX_SEQ }
         requires ascends { Ascends (self.old.entries ++ record { user = user.now; seq = seq; kind = kind; value = value.now } ∷ []) }
         ensures ok { OnOk result (self.new ≡ record { options = self.old.options; entries = self.old.entries ++ record { user = user.now; seq = seq; kind = kind; value = value.now } ∷ [] }) }
         ensures err { OnErr result (self.new ≡ self.old) }
         ensures large { result ≡ Err TooLarge → PassesLimit self.old.options self.old.entries (record { user = user.now; seq = seq; kind = kind; value = value.now }) }
+        ensures fits { OnOk result (PassesLimit self.old.options self.old.entries (record { user = user.now; seq = seq; kind = kind; value = value.now }) → ⊥) }
     {
         let key = KeyRef { user, seq, kind };
         settle(

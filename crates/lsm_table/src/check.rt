@@ -31,8 +31,8 @@ fn follows(bound: Option<KeyRef<'_>>, key: &KeyRef<'_>) -> bool
     }
 }
 
-/// Whether a block has an entry, and its entries lie between the index key before and its own. The cursor stands after the
-/// last entry; where it is left does not matter.
+/// Whether a block has an entry, and its entries lie between the index key before and its own. The
+/// cursor stands after the last entry; where it is left does not matter.
 fn is_placed(
     block: &BlockRef<'_>,
     bound: Option<KeyRef<'_>>,
@@ -58,7 +58,8 @@ fn is_placed(
     Ok(follows(bound, &first))
 }
 
-/// The block that the value of an index entry names, whatever the file holds. Leaves the cursor after its last entry.
+/// The block that the value of an index entry names, whatever the file holds. Leaves the cursor
+/// after its last entry.
 #[tactic(auto, unfolding(crate::specs::OpenTable::block_named))]
 pub(crate) fn named_block<'a>(
     body: &'a [u8],
@@ -128,7 +129,8 @@ fn judge_data(alloc: Global, body: &[u8], index: &BlockRef<'_>) -> Result<(), Ta
     Ok(())
 }
 
-/// Judges the footer and the index block of a file. What comes back is the place of the index block.
+/// Judges the footer and the index block of a file. What comes back is the place of the index
+/// block.
 #[tactic(auto, unfolding(crate::specs::OpenTable::opening_at))]
 pub(crate) fn judge_opening(alloc: Global, file: &[u8]) -> Result<Handle, TableFault>
     ensures whole { Gives (λ _. tt) result (settled (opening_at file.now)) }
@@ -162,7 +164,8 @@ pub(crate) fn judge_rest(alloc: Global, file: &[u8], index: Handle) -> Result<()
     }
 }
 
-/// Judges a file: its footer, its index block, and its data blocks. What comes back is the place of the index block.
+/// Judges a file: its footer, its index block, and its data blocks. What comes back is the place of
+/// the index block.
 pub(crate) fn judge(alloc: Global, file: &[u8]) -> Result<Handle, TableFault>
     ensures held { IfOk result (λ index. HeldTable file.now index) }
     ensures exact { Gives (λ _. entries_in file.now) result (table_at file.now) }

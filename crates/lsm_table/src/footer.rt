@@ -5,14 +5,15 @@ use crate::table_fault::TableFault;
 use std::alloc::{AllocError, Global};
 
 /// A footer has 48 bytes: 40 for the two places, 8 for the magic number.
-pub(crate) const FOOTER: usize = 48;
+pub const FOOTER: usize = 48;
 
 const PLACES: usize = 40;
 
 /// The fixed64 0xdb4775248b80fb57.
 const MAGIC: [u8; 8] = [0x57, 0xfb, 0x80, 0x8b, 0x24, 0x75, 0x47, 0xdb];
 
-/// The places of the metaindex block and of the index block (LevelDB's `doc/table_format.md`, "footer").
+/// The places of the metaindex block and of the index block (LevelDB's `doc/table_format.md`,
+/// "footer").
 #[derive(Clone, Copy, Debug, PartialEq, Eq)]
 pub struct Footer {
     pub metaindex: Handle,
@@ -35,7 +36,7 @@ impl Footer {
 
     /// Reads the footer of a file: its length, its magic number and both places, in this order.
     #[tactic(auto, unfolding(crate::specs::Footer::footer_at))]
-    pub(crate) fn of(file: &[u8]) -> Result<Footer, TableFault>
+    pub fn of(file: &[u8]) -> Result<Footer, TableFault>
         ensures reads { Gives (λ x. x) result (footer_at file.now) }
         ensures long { IfOk result (λ _. FOOTER ≤ length file.now) }
     {

@@ -37,7 +37,7 @@ impl Handle {
 
     /// Reads the place at the front, and what follows it; this fault where there is none.
     #[tactic(auto, unfolding(crate::specs::Handle::handle_at))]
-    pub(crate) fn get(fault: TableFault, bytes: &[u8]) -> Result<(Handle, &[u8]), TableFault>
+    pub fn get(fault: TableFault, bytes: &[u8]) -> Result<(Handle, &[u8]), TableFault>
         ensures { Gives (λ x. (x.0, x.1.now)) result (handle_at fault bytes.now) }
     {
         let Ok((offset, used)) = get_varint64(bytes) else {

@@ -1,11 +1,13 @@
 //! A name for one registry and one shelf's contents.
 
 ghost use Rattle.std.specs.Prelude.{[]};
+ghost use Rattle.lsm_shelf.specs.Told.{in_memory};
 
 use std::marker::Brand;
 
-/// Stands for one registry and one shelf's contents, which forks share. It has no calls: a program picks it once both are
-/// made, and what is generic in it is of that registry and of those contents.
+/// Stands for one registry and one shelf's contents, which forks share. It has no calls: a program
+/// picks it once both are made, and what is generic in it is of that registry and of those
+/// contents.
 pub trait Naming: Send + Sync {
     ghost use Rattle.boxcar.specs.Table.{Shelves};
     ghost use Rattle.lsm_shelf.specs.Told.{Place};
@@ -20,5 +22,5 @@ pub trait Naming: Send + Sync {
 impl Naming for Brand {
     ghost registry = { record { tag = []; buckets = [] } };
 
-    ghost place = { record { tag = []; buckets = [] } };
+    ghost place = { in_memory record { tag = []; buckets = [] } };
 }

@@ -20,8 +20,8 @@ use lsm_block::Cursor;
 use std::alloc::Global;
 use std::marker::Model;
 
-/// A table whose footer and index block were judged, and whose data blocks are judged when they are read. It holds its
-/// file; contracts see it as the file's bytes.
+/// A table whose footer and index block were judged, and whose data blocks are judged when they are
+/// read. It holds its file; contracts see it as the file's bytes.
 #[derive(Debug, Drop)]
 pub struct OpenTable {
     file: Vec<u8>,
@@ -52,9 +52,9 @@ impl OpenTable {
         }
     }
 
-    /// What a read of the user key finds at the sequence: the newest entry with a sequence at most `seq`. Judges each data
-    /// block that it looks at (its place, the checksum, the type, and the block's own rules), and answers the fault of the
-    /// first that is none.
+    /// What a read of the user key finds at the sequence: the newest entry with a sequence at most
+    /// `seq`. Judges each data block that it looks at (its place, the checksum, the type, and the
+    /// block's own rules), and answers the fault of the first that is none.
     pub fn get(&self, alloc: Global, user: &[u8], seq: u64) -> Result<Option<Found>, TableFault>
         ensures { (es : List Entry) → IsTable self.now es → Gives seen result (Ok (found_in (newest user.now seq es))) }
     {
@@ -76,8 +76,8 @@ impl OpenTable {
         Ok(None)
     }
 
-    /// Judges all data blocks, and hands the table over to a reader, before the first entry. What is wrong is named by the
-    /// first fault in the order of `Table::check`.
+    /// Judges all data blocks, and hands the table over to a reader, before the first entry. What
+    /// is wrong is named by the first fault in the order of `Table::check`.
     pub fn into_entries(self, alloc: Global) -> Result<TableEntries, TableFault>
         // What is read is the table's.
         ensures found { IfOk result (λ w. IsTable self w.left) }

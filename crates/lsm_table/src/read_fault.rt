@@ -3,8 +3,8 @@
 ghost use Rattle.std.specs.Prelude.{◌≡◌};
 ghost use Rattle.lsm_table.specs.ReadFault.{number_of, name_of};
 
-use lsm_shelf::ShelfFault;
 use crate::table_fault::TableFault;
+use lsm_shelf::ShelfFault;
 use std::alloc::{AllocError, AllocFailed};
 use thiserror::Error;
 

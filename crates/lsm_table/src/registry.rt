@@ -3,15 +3,15 @@
 ghost use Rattle.std.specs.Prelude.{◌≡◌, ◌↔◌, IfOk, IfErr, IsTrue};
 
 use crate::naming::Naming;
-use lsm_shelf::Shelf;
-use lsm_shelf::Slip;
 use crate::table_record::TableRecord;
 use crate::table_ref::TableRef;
+use lsm_shelf::{Shelf, Slip};
 use std::alloc::{AllocError, Global};
 use std::marker::{Model, PhantomData};
 use std::sync::Wait;
 
-/// The records of tables. Records are only added, by any thread, and each stays for the registry's life.
+/// The records of tables. Records are only added, by any thread, and each stays for the registry's
+/// life.
 #[derive(Drop)]
 pub struct Registry<C: Slip> {
     records: boxcar::Vec<TableRecord<C>>,

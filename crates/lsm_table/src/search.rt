@@ -22,7 +22,7 @@ pub(crate) enum Search {
 }
 
 /// The key from which on a read looks. A sequence above `MAX_SEQ` reads as that one.
-pub(crate) fn key_for(user: &[u8], seq: u64) -> KeyRef<'_>
+pub fn key_for(user: &[u8], seq: u64) -> KeyRef<'_>
     ensures { key_of result ≡ read_key user.now (min seq MAX_SEQ) }
 {
     KeyRef {
@@ -32,8 +32,8 @@ pub(crate) fn key_for(user: &[u8], seq: u64) -> KeyRef<'_>
     }
 }
 
-/// What an entry says of a user.
-fn said(
+/// What an entry says of a user key: its value or deletion, or nothing where it is another user's.
+pub fn found_in_entry(
     alloc: Global,
     key: &KeyRef<'_>,
     value: &[u8],
@@ -50,7 +50,8 @@ fn said(
     }
 }
 
-/// Searches a data block for the first entry at or after the key. Leaves the cursor where it may be.
+/// Searches a data block for the first entry at or after the key. Leaves the cursor where it may
+/// be.
 pub(crate) fn search_block(
     alloc: Global,
     block: &BlockRef<'_>,
@@ -66,5 +67,5 @@ pub(crate) fn search_block(
     let Some(found) = cursor.key() else {
         return Ok(Search::GoesOn);
     };
-    Ok(Search::Ended(said(alloc, &found, value, key.user)?))
+    Ok(Search::Ended(found_in_entry(alloc, &found, value, key.user)?))
 }

@@ -14,7 +14,7 @@ use lsm_codec::{crc_extend, crc32c, mask};
 use std::alloc::AllocError;
 
 /// A type byte and a checksum follow the contents of a block.
-pub(crate) const TRAILER: usize = 5;
+pub const TRAILER: usize = 5;
 
 /// The checksum of a text as files store it.
 #[tactic(auto, unfolding(crate::specs::StoredBlock::seal))]
@@ -24,9 +24,10 @@ fn seal_of(checksum: u32) -> [u8; 4]
     mask(checksum).to_le_bytes()
 }
 
-/// The contents of a stored block, whose type and checksum follow them. The offset is that of the block in its file.
+/// The contents of a stored block, whose type and checksum follow them. The offset is that of the
+/// block in its file.
 #[tactic(auto, unfolding(crate::specs::StoredBlock::unsealed))]
-fn unseal(offset: u64, size: usize, text: &[u8]) -> Result<&[u8], TableFault>
+pub fn unseal(offset: u64, size: usize, text: &[u8]) -> Result<&[u8], TableFault>
     requires { length text.now ≡ size + TRAILER }
     ensures { Gives (λ x. x.now) result (unsealed offset size text.now) }
 {
@@ -59,7 +60,8 @@ pub(crate) fn contents_of(body: &[u8], handle: Handle) -> Result<&[u8], TableFau
     unseal(handle.offset, handle.size as usize, text)
 }
 
-/// Appends the trailer of the contents that stand from the start on. An `Err` leaves `out` as it was.
+/// Appends the trailer of the contents that stand from the start on. An `Err` leaves `out` as it
+/// was.
 #[tactic(auto, unfolding(crate::specs::StoredBlock::seal))]
 fn put_trailer(out: &mut Vec<u8>, start: usize) -> Result<(), AllocError>
     requires { start ≤ vec_len out.old }

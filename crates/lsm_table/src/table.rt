@@ -18,12 +18,12 @@ use crate::held_block::{data_block, parts};
 use crate::open_table::OpenTable;
 use crate::read_fault::ReadFault;
 use crate::search::{Search, key_for, search_block};
-use lsm_shelf::Shelf;
 use crate::table_entries::TableEntries;
 use crate::table_fault::TableFault;
 use crate::table_iter::TableIter;
 use crate::whole_image::read_image;
 use lsm_block::{BlockRef, Cursor};
+use lsm_shelf::Shelf;
 use std::alloc::Global;
 use std::marker::Model;
 
@@ -48,9 +48,9 @@ impl Model for Table {
 }
 
 impl Table {
-    /// The table of a file. What is wrong with it is named by the first fault in this order: the footer (length, magic
-    /// number, places), the index block, and then for each index entry its value, its data block (place, checksum, type, the
-    /// block's own rules) and its keys.
+    /// The table of a file. What is wrong with it is named by the first fault in this order: the
+    /// footer (length, magic number, places), the index block, and then for each index entry its
+    /// value, its data block (place, checksum, type, the block's own rules) and its keys.
     pub fn check(alloc: Global, file: Vec<u8>) -> Result<Table, TableFault>
         // What is read is the table's.
         ensures found { IfOk result (λ t. IsTable file.items t) }
@@ -65,10 +65,11 @@ impl Table {
         }
     }
 
-    /// Opens the table of a receipt by one read of the whole image: its footer and its index block are judged now, and its
-    /// data blocks when they are read.
+    /// Opens the table of a receipt by one read of the whole image: its footer and its index block
+    /// are judged now, and its data blocks when they are read.
     ///
-    /// `Shelf` where the shelf refused, and `Table` with the first fault of the footer and the index block.
+    /// `Shelf` where the shelf refused, and `Table` with the first fault of the footer and the
+    /// index block.
     pub fn open<S: Shelf>(
         shelf: &mut S,
         alloc: Global,
@@ -98,8 +99,8 @@ impl Table {
         parts(&self.file, self.index)
     }
 
-    /// What a read of the user key finds at the sequence: the newest entry with a sequence at most `seq`. The one fault is
-    /// `OutOfMemory`.
+    /// What a read of the user key finds at the sequence: the newest entry with a sequence at most
+    /// `seq`. The one fault is `OutOfMemory`.
     pub fn get(&self, alloc: Global, user: &[u8], seq: u64) -> Result<Option<Found>, TableFault>
         ensures { Gives seen result (Ok (found_in (newest user.now seq self.now))) }
     {

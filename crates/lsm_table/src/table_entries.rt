@@ -19,10 +19,11 @@ use std::alloc::{AllocError, Global};
 use std::collections::VecDeque;
 use std::marker::Model;
 
-/// A place in a checked table, which it holds. Contracts see it as they see a `TableIter`: the entries that are left, and
-/// the key of the one given last.
+/// A place in a checked table, which it holds. Contracts see it as they see a `TableIter`: the
+/// entries that are left, and the key of the one given last.
 ///
-/// It copies one data block at a time, so that nothing can fail between an entry's key and its value.
+/// It copies one data block at a time, so that nothing can fail between an entry's key and its
+/// value.
 #[derive(Drop)]
 pub struct TableEntries {
     alloc: Global,
@@ -63,7 +64,8 @@ fn unpack(alloc: Global, block: &BlockRef<'_>) -> Result<VecDeque<HeldEntry>, Al
     Ok(entries)
 }
 
-/// The data block that comes after that of an index key, or the first: its entries, and a cursor at its index entry.
+/// The data block that comes after that of an index key, or the first: its entries, and a cursor at
+/// its index entry.
 fn block_after(
     alloc: Global,
     file: &[u8],
@@ -111,8 +113,8 @@ impl TableEntries {
         }
     }
 
-    /// Goes to the next entry, and gives its value; `key` then lends its key. The one fault is `OutOfMemory`, and leaves the
-    /// entries that are left and the last key as they were.
+    /// Goes to the next entry, and gives its value; `key` then lends its key. The one fault is
+    /// `OutOfMemory`, and leaves the entries that are left and the last key as they were.
     pub fn next(&mut self) -> Result<Option<Vec<u8>>, TableFault>
         ensures given { IfOk result (λ r. Steps self.old self.new (option_map (λ v. v.items) r)) }
         ensures err { OnErr result (self.new ≡ self.old) }

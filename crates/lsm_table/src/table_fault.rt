@@ -8,8 +8,8 @@ use lsm_block::BlockFault;
 use std::alloc::{AllocError, AllocFailed};
 use thiserror::Error;
 
-/// Why a table could not be read. The offset of `BadChecksum` counts bytes from the start of the file, those of `BadEntry`
-/// and `OutOfOrder` from the start of their block.
+/// Why a table could not be read. The offset of `BadChecksum` counts bytes from the start of the
+/// file, those of `BadEntry` and `OutOfOrder` from the start of their block.
 #[derive(Clone, Copy, Debug, Drop, Error, PartialEq, Eq)]
 pub enum TableFault {
     /// A growth of memory was refused.
@@ -42,7 +42,8 @@ pub enum TableFault {
     /// A block has a type above 2.
     #[error("BadBlockType {0}")]
     BadBlockType(u8),
-    /// The value of an index entry is not one place, a data block has no entry, or its keys do not lie between the index keys.
+    /// The value of an index entry is not one place, a data block has no entry, or its keys do not
+    /// lie between the index keys.
     #[error("BadIndex")]
     BadIndex,
 }

@@ -5,7 +5,7 @@ ghost use Rattle.std.specs.Option.{option_map};
 ghost use Rattle.lsm_codec.specs.KeyRef.{key_of};
 ghost use Rattle.lsm_block.specs.Held.{rest_of};
 ghost use Rattle.lsm_table.specs.declared.table_fault.TableFault.TheVariants.{OutOfMemory};
-ghost use Rattle.lsm_table.specs.HeldTable.{AreNamed, Steps, left_of};
+ghost use Rattle.lsm_table.specs.HeldTable.{AreNamed, Refused, Steps, left_of};
 
 use crate::held_block::{data_block, no_entries};
 use crate::table_fault::TableFault;
@@ -14,7 +14,8 @@ use lsm_codec::KeyRef;
 use std::alloc::Global;
 use std::marker::Model;
 
-/// A place in a checked table. Contracts see it as the entries that are left, and the key of the one given last.
+/// A place in a checked table. Contracts see it as the entries that are left, and the key of the
+/// one given last.
 #[derive(Drop)]
 pub struct TableIter<'t> {
     body: &'t [u8],
@@ -63,11 +64,12 @@ impl<'t> TableIter<'t> {
         self.here.key()
     }
 
-    /// Goes to the next entry, and lends its value for as long as the table is lent; `key` then lends its key. The one fault
-    /// is `OutOfMemory`, and leaves the entries that are left.
+    /// Goes to the next entry, and lends its value for as long as the table is lent; `key` then
+    /// lends its key. Where no entry is left, that key stays. The one fault is `OutOfMemory`: the
+    /// entries that are left stay, and `key` lends the last key still, or none.
     pub fn next(&mut self) -> Result<Option<&'t [u8]>, TableFault>
         ensures given { IfOk result (λ r. Steps self.old self.new (option_map (λ v. v.now) r)) }
-        ensures err { OnErr result (self.new.left ≡ self.old.left) }
+        ensures err { OnErr result (Refused self.old self.new) }
         ensures memory { IfErr result (λ e. e ≡ OutOfMemory) }
     {
         if let Some(value) = self.block.next(&mut self.here)? {

@@ -1,12 +1,14 @@
 //! The sizes that a table is written with.
 
-/// When the builder closes a data block, and how often a block has a restart (`block_size` and `block_restart_interval`
-/// of LevelDB's `include/leveldb/options.h`).
+/// When the builder closes a data block, and how often a block has a restart (`block_size` and
+/// `block_restart_interval` of LevelDB's `include/leveldb/options.h`).
 #[derive(Clone, Copy, Debug, PartialEq, Eq)]
 pub struct TableOptions {
-    /// A data block is closed when its size estimate, after an entry is added, reaches this many bytes: 64 to 1,048,576.
+    /// A data block is closed when its size estimate, after an entry is added, reaches this many
+    /// bytes: 64 to 1,048,576.
     pub block_size: usize,
-    /// A data block has a restart at every so many entries: 1 to 128. Index blocks have one at each entry.
+    /// A data block has a restart at every so many entries: 1 to 128. Index blocks have one at each
+    /// entry.
     pub restart_interval: u32,
 }
 

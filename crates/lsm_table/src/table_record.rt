@@ -2,11 +2,11 @@
 
 ghost use Rattle.std.specs.Prelude.{◌≡◌, length};
 
-use lsm_shelf::Slip;
 use lsm_codec::Bytes;
+use lsm_shelf::Slip;
 
-/// What is known of a table that lies on a shelf: its first and last internal key and the receipt of its image, which has
-/// the table's number and its size.
+/// What is known of a table that lies on a shelf: its first and last internal key and the receipt
+/// of its image, which has the table's number and its size.
 #[derive(Drop)]
 pub struct TableRecord<C: Slip> {
     /// The first internal key of the table.

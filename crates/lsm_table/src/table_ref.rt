@@ -3,13 +3,13 @@
 ghost use Rattle.std.specs.Prelude.{◌≡◌};
 
 use crate::naming::Naming;
-use lsm_shelf::Shelf;
 use crate::table_record::TableRecord;
 use boxcar::Pushed;
+use lsm_shelf::Shelf;
 use std::marker::{Model, PhantomData};
 
-/// An index of the registry of the name `N`, with what shows the record there. Contracts see it as that record, with the
-/// image for which the record's receipt stands.
+/// An index of the registry of the name `N`, with what shows the record there. Contracts see it as
+/// that record, with the image for which the record's receipt stands.
 #[derive(Drop)]
 pub struct TableRef<N: Naming, S: Shelf> {
     pub(crate) token: Pushed<TableRecord<S::Receipt>>,

@@ -3,9 +3,7 @@
 ghost use Rattle.std.specs.Prelude.{◌≡◌, IfOk, IfErr};
 ghost use Rattle.lsm_shelf.specs.Told.{Becomes, Counted, NotTaken};
 
-use lsm_shelf::Shelf;
-use lsm_shelf::ShelfFault;
-use lsm_shelf::Slip;
+use lsm_shelf::{Shelf, ShelfFault, Slip};
 use std::alloc::Global;
 
 /// The whole image for which the receipt stands.

@@ -6,7 +6,7 @@ use Rattle.lsm_table.specs.TableBuilding.{PassesLimit}
 use Rattle.lsm_table.specs.TableMaking.{Making, entries_made, Made}
 use Rattle.lsm_table.proofs.MakingLaws.{building}
 use Rattle.lsm_table.proofs.SettleLaws.{making, made_itself, made_seen}
-use Rattle.lsm_table.proofs.StepLaws.{taken_ascends, adding, passes, on_err, on_ok_by, on_err_by, either_made}
+use Rattle.lsm_table.proofs.StepLaws.{taken_ascends, adding, passes, passes_not, on_err, on_ok_by, on_err_by, either_made}
 use Rattle.lsm_table.proofs.builder.TableBuilder.add.Goals as goal
 
 pub invariant_of-self-in_err-has_room : goal.invariant_of-self-in_err-has_room
@@ -80,3 +80,13 @@ returns-clause-err c =
     let index = c.settle.new.index in
     on_err_by c.add.result (c.add.new.self ≡ c.settle.new.taken) _ c.add.ensures.err
     (λ is. made_seen i.options es front c.add.new.self index (subst (λ (b : Building). Made i.options es front b index) (sym is) (c.in_ok-settle.ensures.ok es c.self.invariant)) ∙ c.self.view_is)
+
+pub returns-clause-fits : goal.returns-clause-fits
+returns-clause-fits c =
+    let i = c.self.inside in
+    let es = entries_made i.front.items i.index.entries i.taken.entries in
+    let e : Entry = record { user = c.args.user.now; seq = c.args.seq; kind = c.args.kind; value = c.args.value.now } in
+    on_ok_by c.add.result (c.add.new.self ≡ building c.settle.new.taken.interval (c.settle.new.taken.entries ++ e ∷ [])) _ c.add.ensures.ok
+    (λ is. subst (λ (x : Making). PassesLimit x.options x.entries e → ⊥) c.self.view_is
+    (passes_not i.options es c.settle.new.front.items c.settle.new.taken c.settle.new.index c.len-offset.result e (c.in_ok-settle.ensures.ok es c.self.invariant) c.in_ok-settle.ensures.not_full (omega (arith, c.len-offset.ensures))
+    (c.in_ok-has_room.ensures.yes c.if-not-branch.false)))

@@ -4,7 +4,7 @@ use Rattle.lsm_codec.specs.Keys.{InternalKey}
 use Rattle.lsm_codec.specs.KeyRef.{key_of}
 use Rattle.lsm_block.specs.Block.{entry_of}
 use Rattle.lsm_block.specs.Building.{after_last, last_key}
-use Rattle.lsm_block.proofs.BuildLaws.{ascends-push}
+use Rattle.lsm_block.proofs.CallerLemmas.{ascends-push}
 use Rattle.lsm_table.proofs.builder.TableBuilder.comes_last.Goals as goal
 
 pub returns-in-Some-clause-ascends : goal.returns-in-Some-clause-ascends

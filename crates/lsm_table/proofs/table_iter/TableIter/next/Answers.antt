@@ -1,5 +1,6 @@
-use Rattle.std.proofs.Common.{◌≡◌, Some, None, refl, ap}
+use Rattle.std.proofs.Common.{◌≡◌, Some, None, refl, ap, ◌∙◌, inr}
 use Rattle.std.specs.Option.{option_map}
+use Rattle.lsm_block.specs.Held.{Place}
 use Rattle.lsm_table.specs.HeldTable.{Walk}
 use Rattle.lsm_table.proofs.IterLaws.{on_err_any, entered, stays, steps_in}
 use Rattle.lsm_table.proofs.table_iter.TableIter.next.Goals as goal
@@ -16,8 +17,10 @@ returns-in_err-next-clause-err c =
     let none : option_map (λ v. v.now) c.in_ok-value.field-0 ≡ None = rw c.in_default.is refl in
     let is : option_map (λ v. v.now) c.in_ok-place.field-0 ≡ Some c.in-Some-2.place.now = rw c.in-Some-2.is refl in
     let e = entered i.body.now i.index c.data_block-self-inside.result i.next_block c.next-2.new.cursor _ c.in-Some-2.place.now c.self.invariant c.in_ok-place.ensures.given is c.data_block-self-inside.ensures in
-    on_err_any c.from_residual-in_err-next.result _ (stays i.body.now i.block i.index c.data_block-self-inside.result i.here c.next.new.cursor i.next_block c.next-2.new.cursor c.rewind.new.cursor c.next-3.new.cursor _ c.args.self.now
-    c.in_ok-value.ensures.given none (ap (λ (w : Walk). w.left) c.self.view_is) e c.rewind.ensures.rest c.in_err-next.ensures.err)
+    let left = stays i.body.now i.block i.index c.data_block-self-inside.result i.here c.next.new.cursor i.next_block c.next-2.new.cursor c.rewind.new.cursor c.next-3.new.cursor _ c.args.self.now
+    c.in_ok-value.ensures.given none (ap (λ (w : Walk). w.left) c.self.view_is) e c.rewind.ensures.rest c.in_err-next.ensures.err in
+    let last : c.next-3.new.cursor.last ≡ None = ap (λ (p : Place). p.last) (c.in_err-next.ensures.err ∙ c.rewind.ensures.front) in
+    on_err_any c.from_residual-in_err-next.result _ (record { left = left; last = inr last })
 
 pub invariant_of-self-2 : goal.invariant_of-self-2
 invariant_of-self-2 c =

@@ -1,0 +1,5 @@
+pub mod BlocksLaws
+pub mod OpeningLaws
+pub mod CursorLaws
+pub mod GettingLaws
+pub mod StepLaws

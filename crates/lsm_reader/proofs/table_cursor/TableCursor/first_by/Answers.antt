@@ -1,0 +1,27 @@
+use Rattle.std.proofs.Common.{◌∷◌, ℕ, List, sym, ◌∙◌, subst}
+use Rattle.lsm_codec.specs.Entries.{Entry}
+use Rattle.lsm_table.specs.Footer.{body_of}
+use Rattle.lsm_table.specs.HeldTable.{Names}
+use Rattle.lsm_table.specs.Table.{DataBlock}
+use Rattle.lsm_reader.proofs.CursorLaws.{next_named, first_none, first_some}
+use Rattle.lsm_reader.proofs.table_cursor.TableCursor.first_by.Goals as goal
+
+pub returns-then-is_at_end-clause-found : goal.returns-then-is_at_end-clause-found
+returns-then-is_at_end-clause-found g c honest es n =
+    let image = g.S.Receipt.Slip.image c.args.receipt.now in
+    first_none image c.in_ok-places.places es (sym c.is_at_end.ensures ∙ c.if-is_at_end.true) (subst (λ (xs : List Entry). Names (body_of image) xs es) (sym c.in_ok-places.ensures) n)
+
+pub returns-in-Err-clause-sound : goal.returns-in-Err-clause-sound
+returns-in-Err-clause-sound g c honest es n =
+    let image = g.S.Receipt.Slip.image c.args.receipt.now in
+    let names = subst (λ (xs : List Entry). Names (body_of image) xs es) (sym c.in_ok-places.ensures) n in
+    let next = next_named image c.in_ok-places.places (sym c.is_at_end.ensures ∙ c.if-is_at_end.false) (es, names) in
+    c.in-Err.ensures.sound honest next.first next.others (subst (λ (p : List ℕ). DataBlock (body_of image) p (next.first ∷ next.others)) (sym c.value.ensures) next.block)
+
+pub returns-clause-found : goal.returns-clause-found
+returns-clause-found g c honest es n =
+    let image = g.S.Receipt.Slip.image c.args.receipt.now in
+    let names = subst (λ (xs : List Entry). Names (body_of image) xs es) (sym c.in_ok-places.ensures) n in
+    let next = next_named image c.in_ok-places.places (sym c.is_at_end.ensures ∙ c.if-is_at_end.false) (es, names) in
+    let block = subst (λ (p : List ℕ). DataBlock (body_of image) p (next.first ∷ next.others)) (sym c.value.ensures) next.block in
+    first_some image c.in_ok-places.places c.pass.new.self c.in-Ok.entries es next names (c.in-Ok.ensures.found honest next.first next.others block) c.in_ok-pass.ensures.ok

@@ -1,0 +1,28 @@
+use Rattle.std.proofs.Common.{◌≡◌, ◌∷◌, ℕ, List, false, sym, ap, ◌∙◌, subst}
+use Rattle.lsm_codec.specs.Entries.{Entry}
+use Rattle.lsm_block.specs.Standing.{is_end}
+use Rattle.lsm_table.specs.Footer.{body_of}
+use Rattle.lsm_table.specs.HeldTable.{AreNamed}
+use Rattle.lsm_table.specs.Table.{DataBlock}
+use Rattle.lsm_reader.specs.Blocks.{Rest}
+use Rattle.lsm_reader.proofs.CursorLaws.{next_named, entered}
+use Rattle.lsm_reader.proofs.table_cursor.TableCursor.next_block_by.Goals as goal
+
+pub returns-in-Err-clause-sound : goal.returns-in-Err-clause-sound
+returns-in-Err-clause-sound g c honest nm =
+    let image = g.S.Receipt.Slip.image c.args.receipt.now in
+    let index = c.self.inside.index in
+    let same : index ≡ c.args.self.now.index = ap (λ (r : Rest). r.index) c.self.view_is in
+    let some : is_end index ≡ false = sym c.is_at_end.ensures ∙ c.if-is_at_end.false in
+    let n = next_named image index some (subst (λ (xs : List Entry). AreNamed (body_of image) xs) (sym same) nm) in
+    c.in-Err.ensures.sound honest n.first n.others (subst (λ (p : List ℕ). DataBlock (body_of image) p (n.first ∷ n.others)) (sym c.value.ensures) n.block)
+
+pub returns-clause-entered : goal.returns-clause-entered
+returns-clause-entered g c honest nm =
+    let image = g.S.Receipt.Slip.image c.args.receipt.now in
+    let index = c.self.inside.index in
+    let same : index ≡ c.args.self.now.index = ap (λ (r : Rest). r.index) c.self.view_is in
+    let some : is_end index ≡ false = sym c.is_at_end.ensures ∙ c.if-is_at_end.false in
+    let n = next_named image index some (subst (λ (xs : List Entry). AreNamed (body_of image) xs) (sym same) nm) in
+    let block = subst (λ (p : List ℕ). DataBlock (body_of image) p (n.first ∷ n.others)) (sym c.value.ensures) n.block in
+    rw (sym same) (entered image index c.pass.new.self c.in-Ok.entries n (c.in-Ok.ensures.found honest n.first n.others block) c.in_ok-pass.ensures.ok)

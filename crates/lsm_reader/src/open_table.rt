@@ -1,0 +1,145 @@
+//! A table that was opened.
+
+ghost use Rattle.std.specs.Prelude.{◌≡◌, ℕ, List, None, IfOk, IfErr};
+ghost use Rattle.std.specs.Arc.{arc_value};
+ghost use Rattle.lsm_codec.specs.Entries.{Entry, newest};
+ghost use Rattle.lsm_block.specs.Held.{HeldBlock};
+ghost use Rattle.lsm_shelf.specs.Told.{Becomes};
+ghost use Rattle.lsm_table.specs.Found.{seen, found_in};
+ghost use Rattle.lsm_table.specs.OpenTable.{Opens, opening_at};
+ghost use Rattle.lsm_table.specs.ReadFault.{ReadCounted, IsMemoryOrShelf};
+ghost use Rattle.lsm_table.specs.Table.{IsTable};
+ghost use Rattle.lsm_reader.specs.Blocks.{Reads};
+ghost use Rattle.lsm_reader.specs.Getting.{got};
+
+use crate::blocks::Blocks;
+use crate::direct::Direct;
+use crate::opening::index_by;
+use crate::reads::get_from;
+use crate::table_reader::TableReader;
+use lsm_block::Block;
+use lsm_table::{Found, Naming, ReadFault, Shelf};
+use std::alloc::Global;
+use std::marker::{Model, PhantomData};
+use std::sync::Arc;
+
+/// A table whose footer and index block were read and judged; its data blocks are read and judged
+/// as they are needed. It holds its receipt and its index block; contracts see it as its image.
+#[derive(Drop)]
+pub struct OpenTable<N: Naming, S: Shelf> {
+    receipt: S::Receipt,
+    index: Arc<Block>,
+    of: PhantomData<N>,
+}
+
+impl<N: Naming, S: Shelf> Model for OpenTable<N, S> {
+    ghost use Rattle.std.specs.Prelude.{◌≡◌, ℕ, List, Ok};
+    ghost use Rattle.std.specs.Arc.{arc_value};
+    ghost use Rattle.lsm_block.specs.Held.{HeldBlock};
+    ghost use Rattle.lsm_table.specs.OpenTable.{opening_at};
+
+    ghost Value = { List ℕ };
+
+    ghost view = { λ t. S.Receipt.image t.receipt };
+
+    ghost invariant = { λ t. S.is_of N.place t.receipt × (S.honest → opening_at (S.Receipt.image t.receipt) ≡ Ok (arc_value {X = HeldBlock} t.index).entries) };
+}
+
+impl<N: Naming, S: Shelf> OpenTable<N, S> {
+    /// Opens the table of a receipt: reads its footer, and then its index block. The fault is the
+    /// first one of both.
+    pub fn open_by<B: Blocks<S>>(
+        blocks: &mut B,
+        alloc: Global,
+        receipt: &S::Receipt,
+    ) -> Result<OpenTable<N, S>, ReadFault>
+        requires here { (B.told blocks.old).place ≡ N.place }
+        requires named { S.is_of N.place receipt.now }
+        ensures image { IfOk result (λ t. t ≡ S.Receipt.image receipt.now) }
+        // Which fault it is.
+        ensures exact { S.honest → Opens result (opening_at (S.Receipt.image receipt.now)) }
+        ensures told { Becomes (B.told blocks.old) (B.told blocks.new) }
+        ensures loan { B.loan blocks.new ≡ B.loan blocks.old }
+        ensures cause { IfErr result (λ e. ReadCounted e (B.told blocks.old) (B.told blocks.new)) }
+    {
+        let index = match index_by(blocks, alloc, receipt) {
+            Ok(index) => index,
+            Err(fault) => return Err(fault),
+        };
+        Ok(OpenTable {
+            receipt: blocks.copy_receipt(receipt),
+            index,
+            of: PhantomData,
+        })
+    }
+
+    /// The same by the shelf itself: two reads.
+    pub fn open(
+        shelf: &mut S,
+        alloc: Global,
+        receipt: &S::Receipt,
+    ) -> Result<OpenTable<N, S>, ReadFault>
+        requires here { (S.told shelf.old).place ≡ N.place }
+        requires named { S.is_of N.place receipt.now }
+        ensures image { IfOk result (λ t. t ≡ S.Receipt.image receipt.now) }
+        ensures exact { S.honest → Opens result (opening_at (S.Receipt.image receipt.now)) }
+        ensures told { Becomes (S.told shelf.old) (S.told shelf.new) }
+        ensures cause { IfErr result (λ e. ReadCounted e (S.told shelf.old) (S.told shelf.new)) }
+    {
+        let mut direct = Direct::new(shelf);
+        OpenTable::open_by(&mut direct, alloc, receipt)
+    }
+
+    /// What a read of the user key finds at the sequence: the newest entry with a sequence at most
+    /// `seq`. It reads the data blocks that may have it, one after another, and judges each; the
+    /// fault is that of the first that is none.
+    pub fn get_by<B: Blocks<S>>(
+        &self,
+        blocks: &mut B,
+        alloc: Global,
+        user: &[u8],
+        seq: u64,
+    ) -> Result<Option<Found>, ReadFault>
+        requires here { (B.told blocks.old).place ≡ N.place }
+        // Whatever the image is.
+        ensures exact { S.honest → Reads seen result (got self.now user.now seq) }
+        ensures found { S.honest → (es : List Entry) → IsTable self.now es → IfOk result (λ f. seen f ≡ found_in (newest user.now seq es)) }
+        ensures sound { S.honest → (es : List Entry) → IsTable self.now es → IfErr result IsMemoryOrShelf }
+        ensures told { Becomes (B.told blocks.old) (B.told blocks.new) }
+        ensures loan { B.loan blocks.new ≡ B.loan blocks.old }
+        ensures cause { IfErr result (λ e. ReadCounted e (B.told blocks.old) (B.told blocks.new)) }
+    {
+        let index = Arc::try_clone(&self.index)?;
+        get_from(blocks, alloc, &self.receipt, index, user, seq)
+    }
+
+    /// The same by the shelf itself: at most two reads where the image is a table.
+    pub fn get(
+        &self,
+        shelf: &mut S,
+        alloc: Global,
+        user: &[u8],
+        seq: u64,
+    ) -> Result<Option<Found>, ReadFault>
+        requires here { (S.told shelf.old).place ≡ N.place }
+        ensures exact { S.honest → Reads seen result (got self.now user.now seq) }
+        ensures found { S.honest → (es : List Entry) → IsTable self.now es → IfOk result (λ f. seen f ≡ found_in (newest user.now seq es)) }
+        ensures sound { S.honest → (es : List Entry) → IsTable self.now es → IfErr result IsMemoryOrShelf }
+        ensures told { Becomes (S.told shelf.old) (S.told shelf.new) }
+        ensures cause { IfErr result (λ e. ReadCounted e (S.told shelf.old) (S.told shelf.new)) }
+    {
+        let mut direct = Direct::new(shelf);
+        self.get_by(&mut direct, alloc, user, seq)
+    }
+
+    /// Before the first entry of the table, which over an honest shelf has to be one. Reads nothing
+    /// yet.
+    pub fn iter(self) -> TableReader<N, S>
+        requires table { S.honest → (es : List Entry) × IsTable self es }
+        ensures entry { result.entry ≡ None }
+        ensures left { S.honest → (es : List Entry) → IsTable self es → result.left ≡ es }
+    {
+        let OpenTable { receipt, index, .. } = self;
+        TableReader::over(receipt, index)
+    }
+}

@@ -1,0 +1,257 @@
+//! A place in a table that is read block by block.
+
+ghost use Rattle.std.specs.Prelude.{◌≡◌, [], ◌∷◌, ℕ, List, false, Ok, IfOk, IfErr, IfSome, OnOk, OnErr};
+ghost use Rattle.std.specs.Option.{option_map, IsSome};
+ghost use Rattle.std.specs.Arc.{arc_value};
+ghost use Rattle.lsm_codec.specs.Entries.{Entry};
+ghost use Rattle.lsm_codec.specs.KeyRef.{key_of};
+ghost use Rattle.lsm_block.specs.Held.{HeldBlock};
+ghost use Rattle.lsm_block.specs.Seeking.{not_below};
+ghost use Rattle.lsm_block.specs.Standing.{IsMoved, but_first, is_end, key_of_first, value_of_first};
+ghost use Rattle.lsm_reader.specs.Blocks.{Reads, left_at, or_none, IsSought, IsAtEntry};
+ghost use Rattle.lsm_reader.specs.Getting.{first_named, sought_there};
+ghost use Rattle.lsm_table.specs.Footer.{body_of};
+ghost use Rattle.lsm_table.specs.HeldTable.{AreNamed, Names};
+ghost use Rattle.lsm_table.specs.ReadFault.{ReadCounted, IsMemoryOrShelf};
+ghost use Rattle.lsm_table.specs.Searching.{Sought};
+ghost use Rattle.lsm_table.specs.Table.{DataBlock};
+ghost use Rattle.lsm_shelf.specs.Told.{Becomes};
+
+use crate::blocks::Blocks;
+use crate::opening::data_block_by;
+use lsm_block::{Block, BlockIter};
+use lsm_codec::KeyRef;
+use lsm_table::{ReadFault, Shelf, TableFault};
+use std::alloc::Global;
+use std::marker::Model;
+use std::sync::Arc;
+
+/// A place at an entry of a table, of which it holds the index block and one data block. Contracts
+/// see it as what is left of that data block, the entry at which it stands first, and the index
+/// entries of the data blocks after it.
+#[derive(Drop)]
+pub struct TableCursor {
+    // At the entry of the data block that comes next.
+    index: BlockIter,
+    // At the entry, if there is one.
+    here: Option<BlockIter>,
+}
+
+impl Model for TableCursor {
+    ghost use Rattle.lsm_reader.specs.Blocks.{Rest, or_none, IsAtEntry};
+
+    ghost Value = { Rest };
+
+    ghost view = { λ c. record { here = or_none c.here; index = c.index } };
+
+    ghost invariant = { λ c. IsAtEntry (or_none c.here) c.index };
+}
+
+/// Goes to the first entry of the data block that an index entry names. A data block without
+/// entries is `BadIndex`.
+fn enter_by<S: Shelf, B: Blocks<S>>(
+    blocks: &mut B,
+    alloc: Global,
+    receipt: &S::Receipt,
+    place: &[u8],
+) -> Result<BlockIter, ReadFault>
+    requires here { S.is_of (B.told blocks.old).place receipt.now }
+    ensures some { IfOk result (λ i. IsSome (key_of_first i)) }
+    ensures found { S.honest → (e : Entry) (es : List Entry) → DataBlock (body_of (S.Receipt.image receipt.now)) place.now (e ∷ es) → IfOk result (λ i. i ≡ e ∷ es) }
+    ensures sound { S.honest → (e : Entry) (es : List Entry) → DataBlock (body_of (S.Receipt.image receipt.now)) place.now (e ∷ es) → IfErr result IsMemoryOrShelf }
+    ensures told { Becomes (B.told blocks.old) (B.told blocks.new) }
+    ensures loan { B.loan blocks.new ≡ B.loan blocks.old }
+    ensures cause { IfErr result (λ e. ReadCounted e (B.told blocks.old) (B.told blocks.new)) }
+{
+    let block = match data_block_by(blocks, alloc, receipt, place) {
+        Ok(block) => block,
+        Err(fault) => return Err(fault),
+    };
+    let entries = BlockIter::first(alloc, block)?;
+    if entries.is_at_end() {
+        return Err(ReadFault::Table(TableFault::BadIndex));
+    }
+    Ok(entries)
+}
+
+/// Seeks in the data block of the index entry at which the index stands, and passes that.
+fn seek_next_by<S: Shelf, B: Blocks<S>>(
+    blocks: &mut B,
+    alloc: Global,
+    receipt: &S::Receipt,
+    index: &mut BlockIter,
+    key: &KeyRef<'_>,
+) -> Result<BlockIter, ReadFault>
+    requires here { S.is_of (B.told blocks.old).place receipt.now }
+    requires some { is_end index.old ≡ false }
+    ensures found { S.honest → (es : List Entry) → Sought (key_of key.now) (body_of (S.Receipt.image receipt.now)) index.old es → IfOk result (λ i. IsSought (key_of key.now) (S.Receipt.image receipt.now) i index.new es) }
+    ensures sound { S.honest → (es : List Entry) → Sought (key_of key.now) (body_of (S.Receipt.image receipt.now)) index.old es → IfErr result IsMemoryOrShelf }
+    ensures exact { S.honest → Reads (λ i. i) result (sought_there (key_of key.now) (body_of (S.Receipt.image receipt.now)) index.old) }
+    ensures passed { OnOk result (index.new ≡ but_first index.old) }
+    ensures told { Becomes (B.told blocks.old) (B.told blocks.new) }
+    ensures loan { B.loan blocks.new ≡ B.loan blocks.old }
+    ensures cause { IfErr result (λ e. ReadCounted e (B.told blocks.old) (B.told blocks.new)) }
+{
+    let block = match data_block_by(blocks, alloc, receipt, index.value()) {
+        Ok(block) => block,
+        Err(fault) => return Err(fault),
+    };
+    let entries = BlockIter::seek(alloc, block, key)?;
+    index.pass()?;
+    Ok(entries)
+}
+
+impl TableCursor {
+    /// At the first entry of a table, where this is the table's index block.
+    pub fn first_by<S: Shelf, B: Blocks<S>>(
+        blocks: &mut B,
+        alloc: Global,
+        receipt: &S::Receipt,
+        index: Arc<Block>,
+    ) -> Result<TableCursor, ReadFault>
+        requires here { S.is_of (B.told blocks.old).place receipt.now }
+        ensures found { S.honest → (es : List Entry) → Names (body_of (S.Receipt.image receipt.now)) (arc_value {X = HeldBlock} index).entries es → IfOk result (λ c. AreNamed (body_of (S.Receipt.image receipt.now)) c.index × (left_at (S.Receipt.image receipt.now) c ≡ es)) }
+        ensures sound { S.honest → (es : List Entry) → Names (body_of (S.Receipt.image receipt.now)) (arc_value {X = HeldBlock} index).entries es → IfErr result IsMemoryOrShelf }
+        ensures told { Becomes (B.told blocks.old) (B.told blocks.new) }
+        ensures loan { B.loan blocks.new ≡ B.loan blocks.old }
+        ensures cause { IfErr result (λ e. ReadCounted e (B.told blocks.old) (B.told blocks.new)) }
+    {
+        let mut places = BlockIter::first(alloc, index)?;
+        if places.is_at_end() {
+            return Ok(TableCursor {
+                index: places,
+                here: None,
+            });
+        }
+        let entries = match enter_by(blocks, alloc, receipt, places.value()) {
+            Ok(entries) => entries,
+            Err(fault) => return Err(fault),
+        };
+        places.pass()?;
+        Ok(TableCursor {
+            index: places,
+            here: Some(entries),
+        })
+    }
+
+    /// At the first entry of a table that is not below the key, where this is the table's index
+    /// block.
+    pub fn seek_by<S: Shelf, B: Blocks<S>>(
+        blocks: &mut B,
+        alloc: Global,
+        receipt: &S::Receipt,
+        index: Arc<Block>,
+        key: &KeyRef<'_>,
+    ) -> Result<TableCursor, ReadFault>
+        requires here { S.is_of (B.told blocks.old).place receipt.now }
+        ensures found { S.honest → (es : List Entry) → Names (body_of (S.Receipt.image receipt.now)) (arc_value {X = HeldBlock} index).entries es → IfOk result (λ c. AreNamed (body_of (S.Receipt.image receipt.now)) c.index × (left_at (S.Receipt.image receipt.now) c ≡ not_below (key_of key.now) es)) }
+        // Whatever the image is.
+        ensures exact { S.honest → Reads (λ c. c.here) result (first_named (key_of key.now) (body_of (S.Receipt.image receipt.now)) (not_below (key_of key.now) (arc_value {X = HeldBlock} index).entries)) }
+        ensures sound { S.honest → (es : List Entry) → Names (body_of (S.Receipt.image receipt.now)) (arc_value {X = HeldBlock} index).entries es → IfErr result IsMemoryOrShelf }
+        ensures told { Becomes (B.told blocks.old) (B.told blocks.new) }
+        ensures loan { B.loan blocks.new ≡ B.loan blocks.old }
+        ensures cause { IfErr result (λ e. ReadCounted e (B.told blocks.old) (B.told blocks.new)) }
+    {
+        let mut places = BlockIter::seek(alloc, index, key)?;
+        while !places.is_at_end() {
+            let entries = match seek_next_by(blocks, alloc, receipt, &mut places, key) {
+                Ok(entries) => entries,
+                Err(fault) => return Err(fault),
+            };
+            if !entries.is_at_end() {
+                return Ok(TableCursor {
+                    index: places,
+                    here: Some(entries),
+                });
+            }
+        }
+        Ok(TableCursor {
+            index: places,
+            here: None,
+        })
+    }
+
+    /// The key of the entry at which it stands, if it stands at one.
+    pub fn key(&self) -> Option<KeyRef<'_>>
+        ensures key { option_map key_of result ≡ key_of_first self.now.here }
+        // Where it stands at no entry, nothing is left.
+        ensures stands { IsAtEntry self.now.here self.now.index }
+    {
+        match &self.here {
+            None => None,
+            Some(entries) => entries.key(),
+        }
+    }
+
+    /// Whether it stands at no entry. Then none is left.
+    pub fn is_at_end(&self) -> bool
+        ensures { (image : List ℕ) → result ≡ is_end (left_at image self.now) }
+    {
+        match &self.here {
+            None => true,
+            Some(entries) => entries.is_at_end(),
+        }
+    }
+
+    /// The value of the entry at which it stands; no bytes where it stands at none.
+    pub fn value(&self) -> &[u8]
+        ensures value { result.now ≡ value_of_first self.now.here }
+        ensures stands { IsAtEntry self.now.here self.now.index }
+    {
+        match &self.here {
+            None => &[],
+            Some(entries) => entries.value(),
+        }
+    }
+
+    /// Goes on to the next data block, or to the end. An `Err` leaves it.
+    fn next_block_by<S: Shelf, B: Blocks<S>>(
+        &mut self,
+        blocks: &mut B,
+        alloc: Global,
+        receipt: &S::Receipt,
+    ) -> Result<(), ReadFault>
+        requires here { S.is_of (B.told blocks.old).place receipt.now }
+        ensures entered { S.honest → AreNamed (body_of (S.Receipt.image receipt.now)) self.old.index → OnOk result (AreNamed (body_of (S.Receipt.image receipt.now)) self.new.index × (left_at (S.Receipt.image receipt.now) self.new ≡ left_at (S.Receipt.image receipt.now) record { here = []; index = self.old.index })) }
+        ensures sound { S.honest → AreNamed (body_of (S.Receipt.image receipt.now)) self.old.index → IfErr result IsMemoryOrShelf }
+        ensures err { OnErr result (self.new ≡ self.old) }
+        ensures told { Becomes (B.told blocks.old) (B.told blocks.new) }
+        ensures loan { B.loan blocks.new ≡ B.loan blocks.old }
+        ensures cause { IfErr result (λ e. ReadCounted e (B.told blocks.old) (B.told blocks.new)) }
+    {
+        if self.index.is_at_end() {
+            self.here = None;
+            return Ok(());
+        }
+        let entries = match enter_by(blocks, alloc, receipt, self.index.value()) {
+            Ok(entries) => entries,
+            Err(fault) => return Err(fault),
+        };
+        self.index.pass()?;
+        self.here = Some(entries);
+        Ok(())
+    }
+
+    /// Goes on to the next entry, or to the end. An `Err` leaves it.
+    pub fn advance_by<S: Shelf, B: Blocks<S>>(
+        &mut self,
+        blocks: &mut B,
+        alloc: Global,
+        receipt: &S::Receipt,
+    ) -> Result<(), ReadFault>
+        requires here { S.is_of (B.told blocks.old).place receipt.now }
+        ensures steps { S.honest → AreNamed (body_of (S.Receipt.image receipt.now)) self.old.index → OnOk result (AreNamed (body_of (S.Receipt.image receipt.now)) self.new.index × (left_at (S.Receipt.image receipt.now) self.new ≡ but_first (left_at (S.Receipt.image receipt.now) self.old))) }
+        ensures sound { S.honest → AreNamed (body_of (S.Receipt.image receipt.now)) self.old.index → IfErr result IsMemoryOrShelf }
+        ensures err { OnErr result (self.new ≡ self.old) }
+        ensures told { Becomes (B.told blocks.old) (B.told blocks.new) }
+        ensures loan { B.loan blocks.new ≡ B.loan blocks.old }
+        ensures cause { IfErr result (λ e. ReadCounted e (B.told blocks.old) (B.told blocks.new)) }
+    {
+        if let Some(entries) = &mut self.here {
+            if entries.advance()? {
+                return Ok(());
+            }
+        }
+        self.next_block_by(blocks, alloc, receipt)
+    }
+}

@@ -1,6 +1,0 @@
-use Rattle.std.specs.Arc.{arc_value}
-use Rattle.lsm_table.proofs.shelf_tests.a_registry_gives_the_records_pushed.Given as goal
-
--- the registry and the contents that were just made
-abbrev pub ghosts-keeps_records : goal.ghosts-keeps_records
-ghosts-keeps_records g a = record { registry = a.registry.now; place = (arc_value a.shelf.now.contents).images }

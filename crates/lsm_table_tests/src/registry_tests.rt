@@ -1,0 +1,90 @@
+//! The registry, as it runs.
+
+ghost use Rattle.std.specs.Prelude.{◌≡◌};
+
+use crate::expectation::expect;
+use lsm_codec::Bytes;
+use lsm_table::{MemoryShelf, Naming, Registry, Shelf, ShelfFault, TableRecord, TableRef};
+use std::alloc::Global;
+use std::marker::Brand;
+use std::process::Abort;
+use std::sync::Wait;
+use std::test::Fail;
+
+#[test]
+fn a_registry_gives_the_records_pushed(rt: HostRuntime) -> Result<(), Fail> {
+    let registry = Registry::new(rt.alloc())?;
+    let mut shelf = MemoryShelf::new(rt.alloc())?;
+    keeps_records::<Brand, MemoryShelf, _>(&rt, rt.alloc(), &registry, &mut shelf)?;
+    Ok(())
+}
+
+/// Puts a table and pushes its record.
+fn pushed<N: Naming, S: Shelf, R: Wait>(
+    rt: &R,
+    alloc: Global,
+    registry: &Registry<S::Receipt>,
+    shelf: &mut S,
+    number: u64,
+) -> Result<TableRef<N, S>, ShelfFault>
+    requires registry { registry.now ≡ N.registry }
+    requires shelf { (S.told shelf.old).place ≡ N.place }
+    ensures shelf { (S.told shelf.new).place ≡ N.place }
+{
+    let smallest = Bytes::of(Vec::from_slice(alloc, b"first")?);
+    let largest = Bytes::of(Vec::from_slice(alloc, b"last")?);
+    let receipt = shelf.put(rt, alloc, number, b"image")?;
+    let row = TableRecord {
+        smallest,
+        largest,
+        receipt,
+    };
+    registry
+        .push::<N, S, R>(rt, row)
+        .map_err(|_| ShelfFault::OutOfMemory)
+}
+
+/// Compares the record of a reference with what `pushed` pushed under this number.
+fn expect_record<N: Naming, S: Shelf, R: Abort>(
+    rt: &R,
+    registry: &Registry<S::Receipt>,
+    table: &TableRef<N, S>,
+    number: u64,
+)
+    requires { registry.now ≡ N.registry }
+{
+    let row = registry.record(table);
+    expect(rt, (row.number(), row.size()), (number, 5));
+    expect(rt, row.smallest.as_slice(), b"first".as_slice());
+    expect(rt, row.largest.as_slice(), b"last".as_slice());
+}
+
+/// Tells references apart.
+fn tells_references_apart<N: Naming, S: Shelf, R: Abort>(
+    rt: &R,
+    registry: &Registry<S::Receipt>,
+    first: &TableRef<N, S>,
+    second: &TableRef<N, S>,
+)
+    requires { registry.now ≡ N.registry }
+{
+    expect(rt, registry.same(second, &second.again()), true);
+    expect(rt, registry.same(first, second), false);
+}
+
+fn keeps_records<N: Naming, S: Shelf, R: Wait + Abort>(
+    rt: &R,
+    alloc: Global,
+    registry: &Registry<S::Receipt>,
+    shelf: &mut S,
+) -> Result<(), ShelfFault>
+    requires registry { registry.now ≡ N.registry }
+    requires shelf { (S.told shelf.old).place ≡ N.place }
+{
+    let first = pushed::<N, S, R>(rt, alloc, registry, shelf, 2)?;
+    let second = pushed::<N, S, R>(rt, alloc, registry, shelf, 3)?;
+    expect_record::<N, S, R>(rt, registry, &first, 2);
+    expect_record::<N, S, R>(rt, registry, &second, 3);
+    tells_references_apart::<N, S, R>(rt, registry, &first, &second);
+    Ok(())
+}
