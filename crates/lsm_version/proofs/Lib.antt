@@ -7,6 +7,7 @@ pub mod Splits
 pub mod Depths
 pub mod Moves
 pub mod Plans
+pub mod Witness
 pub mod Streams
 pub mod Cuts
 pub mod Merging

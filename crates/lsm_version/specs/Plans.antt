@@ -38,10 +38,11 @@ pub record IsClosed (v : List File) (Start : File → Type 0) (plan : Plan) : Ty
   pub lower_all : (F : File) → IsLinked v (suc plan.level) (λ G. Meets G from to) F → Has plan.lower F
   pub hull : Spans (plan.upper ++ plan.lower) plan.low plan.high
 
--- the job is the plan's, and its ranges are those of the files two or more levels below
+-- the job is the plan's, and its ranges are just those of the files two or more levels below
 pub record IsJobOf (v : List File) (plan : Plan) (job : Job) : Type 0 where
   pub level : job.level ≡ plan.level
   pub inputs : job.inputs ≡ plan.upper ++ plan.lower
   pub low : job.low ≡ plan.low
   pub high : job.high ≡ plan.high
   pub ranges : (F : File) → Has v F → suc (suc plan.level) ≤ F.level → Has job.ranges (F.low, F.high)
+  pub ranges_from : (r : UserKey × UserKey) → Has job.ranges r → (F : File) × Has v F × (suc (suc plan.level) ≤ F.level) × ((F.low, F.high) ≡ r)

@@ -116,3 +116,11 @@ pub fn reads_go_by_depth()
     ensures apart { GoesByDepth Apart }
     ensures in_order { GoesByDepth InOrder }
 {}
+
+/// The premises of the laws above can be met: here is a lawful version with a closed plan, its open job, outputs that hold what the
+/// job keeps, and the version after their install; and the version after an ingest.
+pub fn premises_are_met()
+    ensures install { (v : List File) × (starts : List File) × (plan : Plan) × (job : Job) × (outs : List File) × (w : List File) × IsLawful Apart v
+        × IsClosed v (Has starts) plan × IsJobOf v plan job × IsOpenIn v job × AreOutputs v job (kept_entries (all_entries job.inputs) job.floor job.ranges) outs × Changed v job outs w }
+    ensures ingest { (v : List File) × (last : ℕ) × (file : File) × (w : List File) × IsLawful Apart v × ((F : File) (e : Entry) → Has v F → Has F.entries e → e.seq ≤ last) × Gains v last file w }
+{}
