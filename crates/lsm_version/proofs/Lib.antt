@@ -21,6 +21,8 @@ pub mod Spans
 pub mod CheckedFiles
 pub mod Placing
 pub mod Changing
+pub mod FileOrder
+pub mod Pushing
 pub mod Numbers
 pub mod LevelReads
 pub mod LevelRanges

@@ -186,11 +186,15 @@ ghost use Rattle.lsm_table.specs.Table.{IsTable};
 ghost use Rattle.lsm_version.specs.Files.{Apart, Fits, IsLawful};
 ghost use Rattle.lsm_version.specs.Versions.{IsWhole, file_of};
 
-/// A law: a record whose keys are the first and the last of a table's entries stands for that table, and its file's range is that of its entries.
+/// A law: a record whose keys are the first and the last of a table's entries stands for that table.
 pub fn tables_are_whole()
-    ensures whole { (t : Table) (e : Entry) (rest : List Entry) (front : List Entry) (l : Entry) → IsTable t.image (e ∷ rest) → e ∷ rest ≡ front ++ l ∷ []
+    ensures { (t : Table) (e : Entry) (rest : List Entry) (front : List Entry) (l : Entry) → IsTable t.image (e ∷ rest) → e ∷ rest ≡ front ++ l ∷ []
         → IsKey t.smallest (internal_key e) → IsKey t.largest (internal_key l) → IsWhole t }
-    ensures fits { (n : ℕ) (t : Table) → IsWhole t → Fits (file_of n t) }
+{}
+
+/// A law: the range of the file of a record that stands for a table is that of the table's entries.
+pub fn whole_tables_fit()
+    ensures { (n : ℕ) (t : Table) → IsWhole t → Fits (file_of n t) }
 {}
 
 /// A law: a changed version is sound where its files are lawful and below its last sequence, and what is added is whole.

@@ -52,7 +52,8 @@ mod version_tests;
 mod walk;
 
 pub use ages::against_age;
-pub use change::changed_files;
+pub use change::{changed_files, changed_is_sound, changed_tables, tables_are_whole, whole_tables_fit};
+pub use check::shapes_in_order;
 pub use check_fault::CheckFault;
 pub use input::Input;
 pub use key_range::{KeyRange, Layout, layout_of};

@@ -9,7 +9,6 @@ use Rattle.lsm_version.specs.Ranges.{Range}
 use Rattle.lsm_version.specs.Checking.{IsRangeOf}
 use Rattle.lsm_version.specs.Versions.{IsWhole}
 use Rattle.lsm_version.proofs.Spans.{table_ascends}
-use Rattle.lsm_version.proofs.Judged.{table_fits}
 use Rattle.lsm_version.proofs.change.tables_are_whole.Goals as goal
 
 is_whole : (t : Table) (e : Entry) (rest front : List Entry) (l : Entry) → IsTable t.image (e ∷ rest) → e ∷ rest ≡ front ++ l ∷ [] → IsKey t.smallest (internal_key e) → IsKey t.largest (internal_key l) → IsWhole t
@@ -24,8 +23,5 @@ is_whole t e rest front l table parts first last =
           (record { ascending = table_ascends t.image (e ∷ rest) table; first = (e, rest, refl, refl); last = (front, l, parts, refl) });
     }
 
-pub returns-clause-whole : goal.returns-clause-whole
-returns-clause-whole c t e rest front l table parts first last = is_whole t e rest front l table parts first last
-
-pub returns-clause-fits : goal.returns-clause-fits
-returns-clause-fits c n t w = table_fits n t w
+pub returns : goal.returns
+returns c t e rest front l table parts first last = is_whole t e rest front l table parts first last
