@@ -6,7 +6,7 @@ use Rattle.std.specs.List.Sorted.{IsStrictlySortedBy}
 use Rattle.lsm_codec.specs.Entries.{Entry}
 use Rattle.lsm_table.specs.Registry.{Table}
 use Rattle.lsm_manifest.specs.FileOrder.{TableFile, file_cmp}
-use Rattle.lsm_version.specs.Files.{File}
+use Rattle.lsm_levels.specs.Files.{File}
 use Rattle.lsm_version.specs.Versions.{file_of}
 use Rattle.lsm_version.specs.Changes.{placed_all}
 use Rattle.lsm_version.specs.CheckedFiles.{IsFileOf}

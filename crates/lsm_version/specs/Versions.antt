@@ -9,9 +9,9 @@ use Rattle.lsm_table.specs.Registry.{Table}
 use Rattle.lsm_table.specs.Table.{IsTable}
 use Rattle.lsm_table.specs.HeldTable.{entries_in}
 use Rattle.lsm_manifest.specs.FileOrder.{place_cmp}
-use Rattle.lsm_version.specs.Files.{File, Apart, IsLawful}
-use Rattle.lsm_version.specs.Ranges.{Range}
-use Rattle.lsm_version.specs.Checking.{IsRangeOf}
+use Rattle.lsm_levels.specs.Files.{File, Apart, IsLawful}
+use Rattle.lsm_levels.specs.Ranges.{Range}
+use Rattle.lsm_levels.specs.Checking.{IsRangeOf}
 
 -- the tables of each level, in the level's order; the compaction pointer of each level, an internal key; the last sequence
 pub record Levels : Type 0 where

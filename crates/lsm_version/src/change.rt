@@ -6,8 +6,8 @@ ghost use Rattle.std.specs.List.Sorted.{IsSortedBy};
 ghost use Rattle.lsm_version.specs.Changes.{changed, coming, is_kept, level_after, levels_after, placed_all, with_pointer};
 ghost use Rattle.lsm_version.specs.Versions.{AreInOrder, IsSound, stands_before};
 
+use crate::copies::copies_of;
 use crate::ordered_level::insert;
-use crate::owned_entry::copy_of;
 use crate::version::Version;
 use lsm_codec::Bytes;
 use lsm_table::{Naming, Registry, Shelf, TableRef};
@@ -108,23 +108,6 @@ fn with_pointer(
     Ok(copies)
 }
 
-pub(crate) fn copies_of(
-    alloc: Global,
-    pointers: &[Option<Bytes>],
-) -> Result<Vec<Option<Bytes>>, AllocError>
-    ensures { IfOk result (λ v. v.items ≡ pointers.now) }
-{
-    let mut copies = Vec::new(alloc);
-    for pointer in pointers {
-        let copy = match pointer {
-            None => None,
-            Some(key) => Some(copy_of(alloc, key.as_slice())?),
-        };
-        copies.push(copy)?;
-    }
-    Ok(copies)
-}
-
 impl<N: Naming, S: Shelf> Version<N, S> {
     /// The version without the tables of the deleted numbers and with the added ones, each at its level, 0 to 6, and in its place there;
     /// the pointer of a level, 0 to 6, is replaced by an internal key, and the last sequence by another one. `AllocError` where a growth
@@ -164,7 +147,7 @@ impl<N: Naming, S: Shelf> Version<N, S> {
 ghost use Rattle.std.specs.Prelude.{ℕ, ◌⊎◌, ◌↔◌, List, Option, [], ◌∷◌, ◌++◌};
 ghost use Rattle.lsm_codec.specs.Lists.{Has};
 ghost use Rattle.lsm_table.specs.Registry.{Table};
-ghost use Rattle.lsm_version.specs.Files.{File};
+ghost use Rattle.lsm_levels.specs.Files.{File};
 ghost use Rattle.lsm_version.specs.Changes.{added_files};
 ghost use Rattle.lsm_version.specs.Versions.{Levels, files, level_in};
 
@@ -183,7 +166,7 @@ pub fn changed_tables()
 ghost use Rattle.lsm_codec.specs.Entries.{Entry, internal_key};
 ghost use Rattle.lsm_codec.specs.Keys.{IsKey};
 ghost use Rattle.lsm_table.specs.Table.{IsTable};
-ghost use Rattle.lsm_version.specs.Files.{Apart, Fits, IsLawful};
+ghost use Rattle.lsm_levels.specs.Files.{Apart, Fits, IsLawful};
 ghost use Rattle.lsm_version.specs.Versions.{IsWhole, file_of};
 
 /// A law: a record whose keys are the first and the last of a table's entries stands for that table.
@@ -203,4 +186,9 @@ pub fn changed_is_sound()
         → ((n : ℕ) (t : Table) → Has added (n, t) → IsWhole t) → IsLawful Apart (files (changed deleted added pointer last v))
         → ((F : File) (e : Entry) → Has (files (changed deleted added pointer last v)) F → Has F.entries e → e.seq ≤ last)
         → IsSound (changed deleted added pointer last v) }
+{}
+
+/// A law: a sound version without some of its tables is sound.
+pub fn deletions_are_sound()
+    ensures { (deleted : List ℕ) (pointer : Option (ℕ × List ℕ)) (last : ℕ) (v : Levels) → IsSound v → v.last ≤ last → IsSound (changed deleted [] pointer last v) }
 {}

@@ -7,8 +7,8 @@ ghost use Rattle.lsm_version.specs.CheckRefusal.{AreTablesOf, IsRefusal};
 ghost use Rattle.lsm_version.specs.Versions.{IsSound};
 
 use crate::age_judgment::judge_ages;
-use crate::change::copies_of;
 use crate::check_fault::CheckFault;
+use crate::copies::copies_of;
 use crate::file_numbers::judge_numbers;
 use crate::layouts::judge_layouts;
 use crate::loading::load_levels;

@@ -5,8 +5,8 @@ use Rattle.lsm_table.specs.Registry.{Table}
 use Rattle.lsm_table.specs.Table.{IsTable}
 use Rattle.lsm_table.specs.HeldTable.{entries_in}
 use Rattle.lsm_table.proofs.HeldTableLaws.{table_held, table_itself}
-use Rattle.lsm_version.specs.Ranges.{Range}
-use Rattle.lsm_version.specs.Checking.{IsRangeOf}
+use Rattle.lsm_levels.specs.Ranges.{Range}
+use Rattle.lsm_levels.specs.Checking.{IsRangeOf}
 use Rattle.lsm_version.specs.Versions.{IsWhole}
 use Rattle.lsm_version.proofs.Spans.{table_ascends}
 use Rattle.lsm_version.proofs.change.tables_are_whole.Goals as goal
