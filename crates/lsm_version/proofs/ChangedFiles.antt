@@ -1,5 +1,5 @@
 -- The files of a changed version.
-use Rattle.std.proofs.Common.{◌≡◌, ℕ, suc, ◌+◌, ◌<◌, ◌≤◌, length, map, List, [], ◌∷◌, Bool, true, false, not, refl, ap, sym, subst, ◌∙◌, inl, inr, arith}
+use Rattle.std.proofs.Common.{◌≡◌, ℕ, zero, suc, ◌+◌, ◌<◌, ◌≤◌, length, map, List, [], ◌∷◌, Bool, true, false, not, refl, ap, sym, subst, ◌∙◌, inl, inr, arith}
 use Rattle.std.specs.Prelude.{◌⊎◌, ◌==◌, Option}
 use Rattle.std.specs.List.{filter, list_any, All}
 use Rattle.std.proofs.lemmas.Bool.{cases_lt}
@@ -7,8 +7,8 @@ use Rattle.std.proofs.lemmas.Bool.{eq-eqb, eqb-true}
 use Rattle.lsm_codec.specs.Lists.{Has}
 use Rattle.lsm_codec.proofs.Lists.{has_left, has_right, has_cases, has_filter, filter_has, any_at, any_says, all_at}
 use Rattle.lsm_table.specs.Registry.{Table}
-use Rattle.lsm_version.specs.Files.{File}
-use Rattle.lsm_version.specs.Versions.{Levels, file_of, files_of, files_from, files, stands_before}
+use Rattle.lsm_levels.specs.Files.{File}
+use Rattle.lsm_version.specs.Versions.{Levels, level_in, file_of, files_of, files_from, files, stands_before}
 use Rattle.lsm_version.specs.Changes.{is_kept, placed_in, placed_all, coming, level_after, levels_after, changed, added_files}
 
 pub files_has : (n : ℕ) (us : List Table) (F : File) → Has (files_of n us) F → (t : Table) × Has us t × (file_of n t ≡ F)
@@ -195,3 +195,53 @@ has_changed deleted added pointer last v F seven low h = elim h [
   | inr k ↦ (let a = files_added added F k in subst (λ (G : File). Has (files_from 0 (levels_after deleted added 0 v.tables)) G) a.2
       (added_after deleted added 0 v.tables a.0 a.1 (omega arith) (let six = all_at (λ (b : ℕ × Table). b.0 ≤ 6) added a.0 low a.1 in omega arith)))
 ]
+
+-- ---- table by table
+
+abbrev IsThere : List ℕ → List (ℕ × Table) → ℕ → List Table → Table → Type 0
+IsThere deleted added n ts t = (Has ts t × (Has deleted t.number → ⊥)) ⊎ Has added (n, t)
+
+elsewhere : (deleted : List ℕ) (added : List (ℕ × Table)) (m n : ℕ) (ts : List Table) (t : Table) → m ≡ n → IsThere deleted added m ts t → IsThere deleted added n ts t
+elsewhere deleted added m n ts t same h = subst (λ (k : ℕ). IsThere deleted added k ts t) same h
+
+table_from : (deleted : List ℕ) (added : List (ℕ × Table)) (n : ℕ) (ts : List Table) (t : Table) → Has (level_after deleted added n ts) t → IsThere deleted added n ts t
+unfolding level_after
+table_from deleted added n ts t h = elim (all_has (coming n added) (filter (is_kept deleted) ts) t h) [
+  | inl a ↦ inr (let s = coming_has n added t a in subst (λ (m : ℕ). Has added (m, t)) s.2 (subst (λ (u : Table). Has added (s.0.0, u)) s.3 s.1))
+  | inr b ↦ inl (let s = filter_has (is_kept deleted) ts t b in (s.0, λ d. kept_says deleted t s.1 d))
+]
+
+table_in : (deleted : List ℕ) (added : List (ℕ × Table)) (n : ℕ) (ts : List Table) (t : Table) → IsThere deleted added n ts t → Has (level_after deleted added n ts) t
+unfolding level_after
+table_in deleted added n ts t h = has_all (coming n added) (filter (is_kept deleted) ts) t (elim h as (λ _. Has (coming n added) t ⊎ Has (filter (is_kept deleted) ts) t) [
+  | inl s ↦ inr (has_filter (is_kept deleted) ts t s.0 (kept_from deleted t s.1))
+  | inr a ↦ inl (has_coming n added (n, t) a refl)
+])
+
+tables_from : (deleted : List ℕ) (added : List (ℕ × Table)) (m n : ℕ) (levels : List (List Table)) (t : Table) → Has (level_in (levels_after deleted added m levels) n) t
+    → IsThere deleted added (m + n) (level_in levels n) t
+tables_from deleted added m n [] t h = absurd h
+tables_from deleted added m zero (ts ∷ levels) t h = elsewhere deleted added m (m + 0) ts t (omega arith) (table_from deleted added m ts t h)
+tables_from deleted added m (suc n) (ts ∷ levels) t h =
+    elsewhere deleted added (suc m + n) (m + suc n) (level_in levels n) t (omega arith) (tables_from deleted added (suc m) n levels t h)
+
+tables_in : (deleted : List ℕ) (added : List (ℕ × Table)) (m n : ℕ) (levels : List (List Table)) (t : Table) → n < length levels → IsThere deleted added (m + n) (level_in levels n) t
+    → Has (level_in (levels_after deleted added m levels) n) t
+tables_in deleted added m n [] t lt h = absurd (omega arith)
+tables_in deleted added m zero (ts ∷ levels) t lt h = table_in deleted added m ts t (elsewhere deleted added (m + 0) m ts t (omega arith) h)
+tables_in deleted added m (suc n) (ts ∷ levels) t lt h =
+    tables_in deleted added (suc m) n levels t (omega arith) (elsewhere deleted added (m + suc n) (suc m + n) (level_in levels n) t (omega arith) h)
+
+pub changed_from : (deleted : List ℕ) (added : List (ℕ × Table)) (pointer : Option (ℕ × List ℕ)) (last : ℕ) (v : Levels) (n : ℕ) (t : Table)
+    → Has (level_in (changed deleted added pointer last v).tables n) t → (Has (level_in v.tables n) t × (Has deleted t.number → ⊥)) ⊎ Has added (n, t)
+unfolding changed
+changed_from deleted added pointer last v n t h = elsewhere deleted added (0 + n) n (level_in v.tables n) t (omega arith) (tables_from deleted added 0 n v.tables t h)
+
+pub changed_in : (deleted : List ℕ) (added : List (ℕ × Table)) (pointer : Option (ℕ × List ℕ)) (last : ℕ) (v : Levels) (n : ℕ) (t : Table) → n < length v.tables
+    → (Has (level_in v.tables n) t × (Has deleted t.number → ⊥)) ⊎ Has added (n, t) → Has (level_in (changed deleted added pointer last v).tables n) t
+unfolding changed
+changed_in deleted added pointer last v n t lt h = tables_in deleted added 0 n v.tables t lt (elsewhere deleted added n (0 + n) (level_in v.tables n) t (omega arith) h)
+
+pub changed_last : (deleted : List ℕ) (added : List (ℕ × Table)) (pointer : Option (ℕ × List ℕ)) (last : ℕ) (v : Levels) (n : ℕ) → n ≤ last → n ≤ (changed deleted added pointer last v).last
+unfolding changed
+changed_last deleted added pointer last v n h = h

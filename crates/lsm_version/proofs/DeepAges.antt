@@ -6,9 +6,9 @@ use Rattle.lsm_codec.specs.Entries.{Entry}
 use Rattle.lsm_version.specs.DeepAges.{bare_placed}
 use Rattle.lsm_version.specs.HeldStream.{bare, bare_all}
 use Rattle.lsm_version.specs.Loading.{Deep}
-use Rattle.lsm_version.specs.Merging.{Placed, placed_at, goes_first, IsSorted, IsOrdered, AreOrdered}
-use Rattle.lsm_version.specs.Streams.{IsAscending}
-use Rattle.lsm_version.proofs.Merged.{ascending_sorted, sorted_ordered}
+use Rattle.lsm_levels.specs.Merging.{Placed, placed_at, goes_first, IsSorted, IsOrdered, AreOrdered}
+use Rattle.lsm_levels.specs.Streams.{IsAscending}
+use Rattle.lsm_levels.proofs.CallerLemmas.{ascending_sorted, sorted_ordered}
 
 bare_first : (x y : Entry) → goes_first x y ≡ true → goes_first (bare x) (bare y) ≡ true
 unfolding goes_first

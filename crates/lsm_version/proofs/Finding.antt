@@ -22,14 +22,14 @@ use Rattle.lsm_table.specs.declared.table_fault.TableFault.TheVariants as why
 use Rattle.lsm_table.specs.declared.read_fault.ReadFault.{ReadFault}
 use Rattle.lsm_table.specs.declared.read_fault.ReadFault.TheVariants.{Shelf, Table as AtTable}
 use Rattle.lsm_table.proofs.OpenLaws.{opening_again}
-use Rattle.lsm_version.specs.Files.{File, Apart, IsLawful, all_entries, Shallower}
+use Rattle.lsm_levels.specs.Files.{File, Apart, IsLawful, all_entries, Shallower}
 use Rattle.lsm_version.specs.Versions.{file_of, files_of, files_from, user_of}
 use Rattle.lsm_version.specs.Reads.{IsSoundLevel, AreSound, IsRising, IsFirstReaching, is_below, is_candidate, covers, begins_by, reaches, IsYoungest, HasNoCandidate}
-use Rattle.lsm_version.proofs.Order.{true_or_not}
-use Rattle.lsm_version.proofs.Drops.{newest_is}
-use Rattle.lsm_version.proofs.Installs.{all_has, has_all, one_each}
-use Rattle.lsm_version.proofs.Splits.{apart_split}
-use Rattle.lsm_version.proofs.Depths.{depth_newest}
+use Rattle.lsm_levels.proofs.CallerLemmas.{true_or_not}
+use Rattle.lsm_levels.proofs.CallerLemmas.{newest_is}
+use Rattle.lsm_levels.proofs.CallerLemmas.{all_has, has_all, one_each}
+use Rattle.lsm_levels.proofs.CallerLemmas.{apart_split}
+use Rattle.lsm_levels.proofs.CallerLemmas.{depth_newest}
 use Rattle.lsm_version.proofs.ChangedFiles.{files_has, has_files}
 use Rattle.lsm_version.proofs.Rising.{covers_same}
 

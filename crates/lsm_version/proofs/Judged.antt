@@ -10,25 +10,25 @@ use Rattle.lsm_codec.proofs.Lists.{has_left, has_right, has_cases, has_flat, fla
 use Rattle.lsm_table.specs.Registry.{Table}
 use Rattle.lsm_table.specs.HeldTable.{entries_in}
 use Rattle.lsm_manifest.specs.FileOrder.{TableFile}
-use Rattle.lsm_version.specs.Ages.{IsAgeOrder, IsAgainstAge, IsLeastAgainstAge}
+use Rattle.lsm_levels.specs.Ages.{IsAgeOrder, IsAgainstAge, IsLeastAgainstAge}
 use Rattle.lsm_version.specs.CheckedFiles.{IsFileOf}
-use Rattle.lsm_version.specs.Checking.{Listed}
+use Rattle.lsm_levels.specs.Checking.{Listed}
 use Rattle.lsm_version.specs.CheckRefusal.{IsAgainst, IsLeastAgainst}
 use Rattle.lsm_version.specs.DeepAges.{bare_placed}
 use Rattle.lsm_version.specs.FileNumbers.{file_numbers, numbers_of, times, AreDistinct}
-use Rattle.lsm_version.specs.Files.{File, Apart, Fits, Shallower}
+use Rattle.lsm_levels.specs.Files.{File, Apart, Fits, Shallower}
 use Rattle.lsm_version.specs.HeldStream.{bare, bare_all}
 use Rattle.lsm_version.specs.LevelLayouts.{AreWhole, AreLevelsWhole, AreRangesOf, LieApart}
 use Rattle.lsm_version.specs.Loading.{Deep, newer_count, depth_at, depth_of, deep_of, deep_all, deep_from, AreFilesOf, AreLevelsOf, placed_levels}
-use Rattle.lsm_version.specs.Merging.{Placed, placed_at, merge_all}
-use Rattle.lsm_version.specs.Ranges.{Range, EachPair, ShareUsers}
+use Rattle.lsm_levels.specs.Merging.{Placed, placed_at, merge_all}
+use Rattle.lsm_levels.specs.Ranges.{Range, EachPair, ShareUsers}
 use Rattle.lsm_version.specs.Versions.{IsSound, IsWhole, file_of, files_of, files_from, level_in, user_of}
-use Rattle.lsm_version.proofs.Checked.{file_fits}
+use Rattle.lsm_levels.proofs.CallerLemmas.{file_fits}
 use Rattle.lsm_version.proofs.ChangedFiles.{files_has, has_files, all_has, has_all}
 use Rattle.lsm_version.proofs.DeepAges.{bare_from, has_bare}
 use Rattle.lsm_version.proofs.LevelRanges.{whole_at, whole_in}
 use Rattle.lsm_version.proofs.LevelReads.{same_length}
-use Rattle.lsm_version.proofs.Merging.{merged_from, merged_has}
+use Rattle.lsm_levels.proofs.CallerLemmas.{merged_from, merged_has}
 use Rattle.lsm_version.proofs.Rising.{user_of-key}
 
 -- ---- a file of a level, and the table of which it is

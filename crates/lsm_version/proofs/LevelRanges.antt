@@ -13,15 +13,15 @@ use Rattle.lsm_table.specs.Registry.{Table}
 use Rattle.lsm_table.specs.HeldTable.{entries_in}
 use Rattle.lsm_manifest.specs.FileOrder.{TableFile}
 use Rattle.lsm_manifest.proofs.FileOrderLaws.{order_is}
-use Rattle.lsm_version.specs.Files.{Before}
-use Rattle.lsm_version.specs.Streams.{IsAscending}
-use Rattle.lsm_version.specs.Checking.{IsRangeOf}
-use Rattle.lsm_version.specs.Ranges.{Range, KeyLe, key_le, EachPair, IsLevel, IsLaidOut}
+use Rattle.lsm_levels.specs.Files.{Before}
+use Rattle.lsm_levels.specs.Streams.{IsAscending}
+use Rattle.lsm_levels.specs.Checking.{IsRangeOf}
+use Rattle.lsm_levels.specs.Ranges.{Range, KeyLe, key_le, EachPair, IsLevel, IsLaidOut}
 use Rattle.lsm_version.specs.Versions.{IsWhole, stands_before, level_in, AreInOrder}
 use Rattle.lsm_version.specs.LevelLayouts.{AreWhole, AreLevelsWhole, AreRangesOf, LieAs, MeetNowhere, first_shared, IsLayoutRefusal, IsSharedSoFar, AreLaidSoFar}
 use Rattle.lsm_version.specs.declared.check_fault.CheckFault.TheVariants.{SharedBoundary}
-use Rattle.lsm_version.specs.declared.key_range.Layout.{Layout}
-use Rattle.lsm_version.specs.declared.key_range.Layout.TheVariants.{Overlap, Shared, Apart}
+use Rattle.lsm_levels.specs.declared.key_range.Layout.{Layout}
+use Rattle.lsm_levels.specs.declared.key_range.Layout.TheVariants.{Overlap, Shared, Apart}
 use Rattle.lsm_version.proofs.Placing.{EachAfter, each_after}
 
 -- ---- one more table

@@ -10,7 +10,7 @@ use Rattle.lsm_table.specs.Registry.{Table}
 use Rattle.lsm_version.specs.Versions.{Levels, IsSound, AreInOrder, level_in, user_of}
 use Rattle.lsm_version.specs.Reads.{AreSound, IsRising, IsFirstReaching, begins_by, reaches}
 use Rattle.lsm_version.specs.Overlap.{lies_over, meets}
-use Rattle.lsm_version.proofs.Order.{true_or_not}
+use Rattle.lsm_levels.proofs.CallerLemmas.{true_or_not}
 use Rattle.lsm_version.proofs.Rising.{level_rises}
 use Rattle.lsm_version.proofs.Finding.{and_false_left, and_false_right, sound_level, sound_rest}
 

@@ -5,14 +5,14 @@ use Rattle.lsm_table.specs.Registry.{Table}
 use Rattle.lsm_manifest.specs.declared.shape.Shape.{Shape}
 use Rattle.lsm_version.specs.declared.check_fault.CheckFault.{CheckFault}
 use Rattle.lsm_version.specs.declared.check_fault.CheckFault.TheVariants.{Read, DoubleFile, Overlap, WrongRange, AgeOrder, SharedBoundary}
-use Rattle.lsm_version.specs.Ages.{IsLeastAgainstAge}
+use Rattle.lsm_levels.specs.Ages.{IsLeastAgainstAge}
 use Rattle.lsm_version.specs.CheckRefusal.{AreTablesOf, IsLeastAgainst, IsNumberRefusal, IsRefusal}
 use Rattle.lsm_version.specs.FileNumbers.{AreDistinct, numbers_of}
 use Rattle.lsm_version.specs.FileRefusal.{IsFilesRefusal}
 use Rattle.lsm_version.specs.DeepAges.{IsAgeRefusal}
 use Rattle.lsm_version.specs.LevelLayouts.{IsLayoutRefusal, LieApart}
 use Rattle.lsm_version.specs.Loading.{all_files}
-use Rattle.lsm_version.specs.Merging.{Placed}
+use Rattle.lsm_levels.specs.Merging.{Placed}
 use Rattle.lsm_version.specs.Versions.{files_from}
 
 pub layout_refused : (Stored : ℕ → List ℕ → Type 0) (shape : Shape) (tables : List (List Table)) (fault : CheckFault) → AreTablesOf Stored shape tables → IsLayoutRefusal tables fault → IsRefusal Stored shape fault

@@ -13,12 +13,12 @@ use Rattle.lsm_codec.proofs.KeyOrder.{key_cmp-swapped}
 use Rattle.lsm_table.specs.Registry.{Table}
 use Rattle.lsm_manifest.specs.FileOrder.{TableFile}
 use Rattle.lsm_manifest.proofs.FileOrderLaws.{order_is}
-use Rattle.lsm_version.specs.Files.{File, Apart, Fits, IsLawful}
-use Rattle.lsm_version.specs.Ranges.{KeyLe, key_le}
+use Rattle.lsm_levels.specs.Files.{File, Apart, Fits, IsLawful}
+use Rattle.lsm_levels.specs.Ranges.{KeyLe, key_le}
 use Rattle.lsm_version.specs.Versions.{IsWhole, file_of, files_of, stands_before, user_of}
 use Rattle.lsm_version.specs.Reads.{IsSoundLevel, IsRising, begins_by, reaches, covers}
-use Rattle.lsm_version.proofs.Order.{true_or_not}
-use Rattle.lsm_version.proofs.Ranges.{key_le_user}
+use Rattle.lsm_levels.proofs.CallerLemmas.{true_or_not}
+use Rattle.lsm_levels.proofs.CallerLemmas.{key_le_user}
 use Rattle.lsm_version.proofs.Placing.{places_rank}
 use Rattle.lsm_version.proofs.ChangedFiles.{has_files}
 

@@ -7,19 +7,19 @@ use Rattle.lsm_codec.specs.Keys.{UserKey}
 use Rattle.lsm_codec.specs.Entries.{Entry, newest, value_in, answer}
 use Rattle.lsm_table.specs.Registry.{Table}
 use Rattle.lsm_table.specs.HeldTable.{entries_in}
-use Rattle.lsm_version.specs.Files.{File, Apart, IsLawful, OneEach, all_entries}
-use Rattle.lsm_version.specs.Merging.{Placed, placed_at, entries_of, merge_all, AreOrdered}
-use Rattle.lsm_version.specs.Scanning.{IsScan, pairs_of}
+use Rattle.lsm_levels.specs.Files.{File, Apart, IsLawful, OneEach, all_entries}
+use Rattle.lsm_levels.specs.Merging.{Placed, placed_at, entries_of, merge_all, AreOrdered}
+use Rattle.lsm_levels.specs.Scanning.{IsScan, pairs_of}
 use Rattle.lsm_version.specs.Sources.{source_of, sources_of, AreWhole, EachWhole}
 use Rattle.lsm_version.specs.Versions.{IsWhole, file_of, files_of, files_from, level_in}
 use Rattle.lsm_version.proofs.ChangedFiles.{files_has, has_files}
-use Rattle.lsm_version.proofs.Drops.{newest_is, one_each_part}
+use Rattle.lsm_levels.proofs.CallerLemmas.{newest_is, one_each_part}
 use Rattle.lsm_version.proofs.Finding.{newest_none, none_allowed, is_newest}
-use Rattle.lsm_version.proofs.Installs.{all_has, has_all, one_each}
-use Rattle.lsm_version.proofs.Merged.{placed_entry, entry_placed, merged_sorted, sorted_ordered, ascending_sorted}
-use Rattle.lsm_version.proofs.Merging.{merged_from, merged_has}
-use Rattle.lsm_version.proofs.Scanning.{scan_is}
-use Rattle.lsm_version.proofs.Splits.{apart_split}
+use Rattle.lsm_levels.proofs.CallerLemmas.{all_has, has_all, one_each}
+use Rattle.lsm_levels.proofs.CallerLemmas.{placed_entry, entry_placed, merged_sorted, sorted_ordered, ascending_sorted}
+use Rattle.lsm_levels.proofs.CallerLemmas.{merged_from, merged_has}
+use Rattle.lsm_levels.proofs.CallerLemmas.{scan_is}
+use Rattle.lsm_levels.proofs.CallerLemmas.{apart_split}
 
 -- ---- sources as they are opened
 

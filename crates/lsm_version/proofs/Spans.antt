@@ -11,7 +11,7 @@ use Rattle.lsm_block.specs.Block.{Ascends}
 use Rattle.lsm_table.specs.Table.{IsTable}
 use Rattle.lsm_table.proofs.KeyOrder.{key_cmp_total}
 use Rattle.lsm_table.proofs.IndexLaws.{data_ascends}
-use Rattle.lsm_version.specs.Streams.{IsAscending}
+use Rattle.lsm_levels.specs.Streams.{IsAscending}
 use Rattle.lsm_version.specs.CheckedFiles.{IsSpanned, starts_with, ends_with}
 
 -- ---- a table's entries ascend

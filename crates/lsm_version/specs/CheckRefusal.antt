@@ -7,7 +7,7 @@ use Rattle.lsm_table.specs.Registry.{Table}
 use Rattle.lsm_manifest.specs.declared.shape.Shape.{Shape}
 use Rattle.lsm_version.specs.declared.check_fault.CheckFault.{CheckFault}
 use Rattle.lsm_version.specs.declared.check_fault.CheckFault.TheVariants.{Read, DoubleFile, Overlap, WrongRange, AgeOrder, SharedBoundary}
-use Rattle.lsm_version.specs.Files.{File, Shallower}
+use Rattle.lsm_levels.specs.Files.{File, Shallower}
 use Rattle.lsm_version.specs.FileNumbers.{AreDistinct, IsLeastTwice, numbers_of}
 use Rattle.lsm_version.specs.FileRefusal.{IsWant, IsFilesRefusal}
 use Rattle.lsm_version.specs.LevelLayouts.{IsLayoutRefusal, LieApart}

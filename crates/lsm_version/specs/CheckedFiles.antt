@@ -8,8 +8,8 @@ use Rattle.lsm_table.specs.Registry.{Table}
 use Rattle.lsm_table.specs.Table.{IsTable}
 use Rattle.lsm_table.specs.HeldTable.{entries_in}
 use Rattle.lsm_manifest.specs.FileOrder.{TableFile}
-use Rattle.lsm_version.specs.Ranges.{Range}
-use Rattle.lsm_version.specs.Checking.{IsRangeOf}
+use Rattle.lsm_levels.specs.Ranges.{Range}
+use Rattle.lsm_levels.specs.Checking.{IsRangeOf}
 
 -- The entries begin and end at these internal keys, and none is above the last sequence.
 pub record IsSpanned (last : ℕ) (smallest largest : List ℕ) (entries : List Entry) : Type 0 where

@@ -2,11 +2,11 @@
 use Rattle.std.specs.Prelude.{List, [], ◌∷◌}
 use Rattle.lsm_version.specs.declared.check_fault.CheckFault.{CheckFault}
 use Rattle.lsm_version.specs.declared.check_fault.CheckFault.TheVariants.{Read, DoubleFile, Overlap, WrongRange, AgeOrder, SharedBoundary}
-use Rattle.lsm_version.specs.Ages.{IsLeastAgainstAge}
+use Rattle.lsm_levels.specs.Ages.{IsLeastAgainstAge}
 use Rattle.lsm_version.specs.FileRefusal.{IsWant}
 use Rattle.lsm_version.specs.HeldStream.{bare_all}
 use Rattle.lsm_version.specs.Loading.{Deep}
-use Rattle.lsm_version.specs.Merging.{Placed, placed_at}
+use Rattle.lsm_levels.specs.Merging.{Placed, placed_at}
 
 -- the keys of tables, each with its table's depth
 abbrev pub bare_placed : List Deep → List (List Placed)

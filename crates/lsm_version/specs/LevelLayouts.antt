@@ -2,10 +2,10 @@
 use Rattle.std.specs.Prelude.{◌⊎◌, ℕ, ◌<◌, ◌≤◌, List, [], ◌∷◌, Option, Some, None}
 use Rattle.lsm_codec.specs.Keys.{IsKey}
 use Rattle.lsm_table.specs.Registry.{Table}
-use Rattle.lsm_version.specs.Ranges.{Range, IsLaidOut}
+use Rattle.lsm_levels.specs.Ranges.{Range, IsLaidOut}
 use Rattle.lsm_version.specs.Versions.{IsWhole, level_in}
-use Rattle.lsm_version.specs.declared.key_range.Layout.{Layout}
-use Rattle.lsm_version.specs.declared.key_range.Layout.TheVariants as layout
+use Rattle.lsm_levels.specs.declared.key_range.Layout.{Layout}
+use Rattle.lsm_levels.specs.declared.key_range.Layout.TheVariants as layout
 use Rattle.lsm_version.specs.declared.check_fault.CheckFault.{CheckFault}
 use Rattle.lsm_version.specs.declared.check_fault.CheckFault.TheVariants.{Read, DoubleFile, Overlap, WrongRange, AgeOrder, SharedBoundary}
 use Rattle.lsm_version.specs.FileRefusal.{IsWant}

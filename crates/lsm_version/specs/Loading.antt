@@ -2,10 +2,11 @@
 -- its own, the greatest number first, and the levels from 1 on follow).
 use Rattle.std.specs.Prelude.{◌≡◌, ℕ, zero, suc, ◌+◌, List, [], ◌∷◌, ◌++◌, length, nat_lt}
 use Rattle.std.specs.List.{count_by}
+use Rattle.std.specs.List.Sorted.{IsStrictlySortedBy}
 use Rattle.lsm_codec.specs.Entries.{Entry}
 use Rattle.lsm_table.specs.Registry.{Table}
-use Rattle.lsm_manifest.specs.FileOrder.{TableFile}
-use Rattle.lsm_version.specs.Files.{File}
+use Rattle.lsm_manifest.specs.FileOrder.{TableFile, file_cmp}
+use Rattle.lsm_levels.specs.Files.{File}
 use Rattle.lsm_version.specs.Versions.{file_of}
 use Rattle.lsm_version.specs.Changes.{placed_all}
 use Rattle.lsm_version.specs.CheckedFiles.{IsFileOf}
@@ -20,6 +21,11 @@ pub record FileLevel : Type 0 where
 abbrev pub all_files : List (List TableFile) → List TableFile
 all_files [] = []
 all_files (files ∷ levels) = files ++ all_files levels
+
+-- the files of each level by smallest internal key, then by number, each once
+abbrev pub AreInFileOrder : List (List TableFile) → Type 0
+AreInFileOrder [] = Unit {0}
+AreInFileOrder (files ∷ levels) = IsStrictlySortedBy file_cmp files × AreInFileOrder levels
 
 -- ---- depths
 

@@ -3,7 +3,7 @@ use Rattle.std.specs.Prelude.{List, [], ◌∷◌, ◌++◌, map}
 use Rattle.lsm_codec.specs.Lists.{Has}
 use Rattle.lsm_table.specs.Registry.{Table}
 use Rattle.lsm_table.specs.HeldTable.{entries_in}
-use Rattle.lsm_version.specs.Merging.{Placed, placed_at}
+use Rattle.lsm_levels.specs.Merging.{Placed, placed_at}
 use Rattle.lsm_version.specs.Versions.{IsWhole}
 
 -- the entries of a table, all in one place

@@ -1,5 +1,5 @@
 -- Versions, as contracts see them: which tables stand at which level (LevelDB's `doc/impl.md`, "Levels").
-use Rattle.std.specs.Prelude.{ℕ, zero, suc, ◌-◌, ◌≤◌, List, [], ◌∷◌, ◌++◌, length, take, Option, Bool}
+use Rattle.std.specs.Prelude.{ℕ, zero, suc, ◌-◌, ◌≤◌, List, [], ◌∷◌, ◌++◌, length, map, take, Option, None, Bool}
 use Rattle.std.specs.List.Sorted.{IsSortedBy}
 use Rattle.std.specs.Ordering.{is_lt}
 use Rattle.lsm_codec.specs.Lists.{Has}
@@ -9,9 +9,9 @@ use Rattle.lsm_table.specs.Registry.{Table}
 use Rattle.lsm_table.specs.Table.{IsTable}
 use Rattle.lsm_table.specs.HeldTable.{entries_in}
 use Rattle.lsm_manifest.specs.FileOrder.{place_cmp}
-use Rattle.lsm_version.specs.Files.{File, Apart, IsLawful}
-use Rattle.lsm_version.specs.Ranges.{Range}
-use Rattle.lsm_version.specs.Checking.{IsRangeOf}
+use Rattle.lsm_levels.specs.Files.{File, Apart, IsLawful}
+use Rattle.lsm_levels.specs.Ranges.{Range}
+use Rattle.lsm_levels.specs.Checking.{IsRangeOf}
 
 -- the tables of each level, in the level's order; the compaction pointer of each level, an internal key; the last sequence
 pub record Levels : Type 0 where
@@ -47,6 +47,18 @@ files_from level (ts ∷ levels) = files_of level ts ++ files_from (suc level) l
 -- all files of a version
 abbrev pub files : Levels → List File
 files v = files_from 0 v.tables
+
+-- the numbers of all files, level by level
+abbrev pub numbers_in : Levels → List ℕ
+numbers_in v = map (λ F. F.number) (files v)
+
+-- no tables at any of the seven levels, no pointer, and no sequence yet
+abbrev pub no_levels : Levels
+no_levels = record {
+  tables = [] ∷ [] ∷ [] ∷ [] ∷ [] ∷ [] ∷ [] ∷ [];
+  pointers = None ∷ None ∷ None ∷ None ∷ None ∷ None ∷ None ∷ [];
+  last = 0;
+}
 
 -- ---- what holds of a version
 

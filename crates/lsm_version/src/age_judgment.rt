@@ -1,17 +1,14 @@
 //! Whether the tables of all depths keep the age order.
 
 ghost use Rattle.std.specs.Prelude.{◌≡◌, IfErr, IfOk, OnOk};
-ghost use Rattle.lsm_version.specs.Ages.{IsAgeOrder};
+ghost use Rattle.lsm_levels.specs.Ages.{IsAgeOrder};
 ghost use Rattle.lsm_version.specs.DeepAges.{IsAgeRefusal, bare_placed};
-ghost use Rattle.lsm_version.specs.Merging.{AreOrdered, merge_all};
+ghost use Rattle.lsm_levels.specs.Merging.{AreOrdered, merge_all};
 
-use crate::ages::against_age;
 use crate::check_fault::CheckFault;
 use crate::deep_table::DeepTable;
 use crate::held_stream::HeldStream;
-use crate::input::Input;
-use crate::merger::Merger;
-use crate::source::Source;
+use lsm_merger::{Input, Merger, Source, against_age};
 use std::alloc::{AllocError, Global};
 
 /// The keys of tables at their depths, as the sources of a merge.

@@ -6,8 +6,8 @@ ghost use Rattle.std.specs.List.Sorted.{IsSortedBy};
 ghost use Rattle.lsm_version.specs.Changes.{changed, coming, is_kept, level_after, levels_after, placed_all, with_pointer};
 ghost use Rattle.lsm_version.specs.Versions.{AreInOrder, IsSound, stands_before};
 
+use crate::copies::copies_of;
 use crate::ordered_level::insert;
-use crate::owned_entry::copy_of;
 use crate::version::Version;
 use lsm_codec::Bytes;
 use lsm_table::{Naming, Registry, Shelf, TableRef};
@@ -108,23 +108,6 @@ fn with_pointer(
     Ok(copies)
 }
 
-pub(crate) fn copies_of(
-    alloc: Global,
-    pointers: &[Option<Bytes>],
-) -> Result<Vec<Option<Bytes>>, AllocError>
-    ensures { IfOk result (λ v. v.items ≡ pointers.now) }
-{
-    let mut copies = Vec::new(alloc);
-    for pointer in pointers {
-        let copy = match pointer {
-            None => None,
-            Some(key) => Some(copy_of(alloc, key.as_slice())?),
-        };
-        copies.push(copy)?;
-    }
-    Ok(copies)
-}
-
 impl<N: Naming, S: Shelf> Version<N, S> {
     /// The version without the tables of the deleted numbers and with the added ones, each at its level, 0 to 6, and in its place there;
     /// the pointer of a level, 0 to 6, is replaced by an internal key, and the last sequence by another one. `AllocError` where a growth
@@ -161,15 +144,51 @@ impl<N: Naming, S: Shelf> Version<N, S> {
     }
 }
 
-ghost use Rattle.std.specs.Prelude.{ℕ, ◌⊎◌, ◌↔◌, List, Option};
+ghost use Rattle.std.specs.Prelude.{ℕ, ◌⊎◌, ◌↔◌, List, Option, [], ◌∷◌, ◌++◌};
 ghost use Rattle.lsm_codec.specs.Lists.{Has};
 ghost use Rattle.lsm_table.specs.Registry.{Table};
-ghost use Rattle.lsm_version.specs.Files.{File};
+ghost use Rattle.lsm_levels.specs.Files.{File};
 ghost use Rattle.lsm_version.specs.Changes.{added_files};
-ghost use Rattle.lsm_version.specs.Versions.{Levels, files};
+ghost use Rattle.lsm_version.specs.Versions.{Levels, files, level_in};
 
 /// A law: a file is of the changed version exactly where it is of an added table, or of the version before and its number not deleted.
 pub fn changed_files()
     ensures { (deleted : List ℕ) (added : List (ℕ × Table)) (pointer : Option (ℕ × List ℕ)) (last : ℕ) (v : Levels) (F : File) → length v.tables ≡ 7 → All (λ a. a.0 ≤ 6) added
         → (Has (files (changed deleted added pointer last v)) F ↔ ((Has (files v) F × (Has deleted F.number → ⊥)) ⊎ Has (added_files added) F)) }
+{}
+
+/// A law: a table stands at a level of the changed version exactly where it was added there, or stood there and its number is not deleted.
+pub fn changed_tables()
+    ensures { (deleted : List ℕ) (added : List (ℕ × Table)) (pointer : Option (ℕ × List ℕ)) (last : ℕ) (v : Levels) (n : ℕ) (t : Table) → n < length v.tables
+        → (Has (level_in (changed deleted added pointer last v).tables n) t ↔ ((Has (level_in v.tables n) t × (Has deleted t.number → ⊥)) ⊎ Has added (n, t))) }
+{}
+
+ghost use Rattle.lsm_codec.specs.Entries.{Entry, internal_key};
+ghost use Rattle.lsm_codec.specs.Keys.{IsKey};
+ghost use Rattle.lsm_table.specs.Table.{IsTable};
+ghost use Rattle.lsm_levels.specs.Files.{Apart, Fits, IsLawful};
+ghost use Rattle.lsm_version.specs.Versions.{IsWhole, file_of};
+
+/// A law: a record whose keys are the first and the last of a table's entries stands for that table.
+pub fn tables_are_whole()
+    ensures { (t : Table) (e : Entry) (rest : List Entry) (front : List Entry) (l : Entry) → IsTable t.image (e ∷ rest) → e ∷ rest ≡ front ++ l ∷ []
+        → IsKey t.smallest (internal_key e) → IsKey t.largest (internal_key l) → IsWhole t }
+{}
+
+/// A law: the range of the file of a record that stands for a table is that of the table's entries.
+pub fn whole_tables_fit()
+    ensures { (n : ℕ) (t : Table) → IsWhole t → Fits (file_of n t) }
+{}
+
+/// A law: a changed version is sound where its files are lawful and below its last sequence, and what is added is whole.
+pub fn changed_is_sound()
+    ensures { (deleted : List ℕ) (added : List (ℕ × Table)) (pointer : Option (ℕ × List ℕ)) (last : ℕ) (v : Levels) → IsSound v
+        → ((n : ℕ) (t : Table) → Has added (n, t) → IsWhole t) → IsLawful Apart (files (changed deleted added pointer last v))
+        → ((F : File) (e : Entry) → Has (files (changed deleted added pointer last v)) F → Has F.entries e → e.seq ≤ last)
+        → IsSound (changed deleted added pointer last v) }
+{}
+
+/// A law: a sound version without some of its tables is sound.
+pub fn deletions_are_sound()
+    ensures { (deleted : List ℕ) (pointer : Option (ℕ × List ℕ)) (last : ℕ) (v : Levels) → IsSound v → v.last ≤ last → IsSound (changed deleted [] pointer last v) }
 {}

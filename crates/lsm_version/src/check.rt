@@ -7,8 +7,8 @@ ghost use Rattle.lsm_version.specs.CheckRefusal.{AreTablesOf, IsRefusal};
 ghost use Rattle.lsm_version.specs.Versions.{IsSound};
 
 use crate::age_judgment::judge_ages;
-use crate::change::copies_of;
 use crate::check_fault::CheckFault;
+use crate::copies::copies_of;
 use crate::file_numbers::judge_numbers;
 use crate::layouts::judge_layouts;
 use crate::loading::load_levels;
@@ -45,9 +45,10 @@ fn check_levels<N: Naming, S: Shelf, R: Wait>(
 impl<N: Naming, S: Shelf> Version<N, S> {
     ghost use Rattle.std.specs.Arc.{arc_value};
     ghost use Rattle.lsm_version.specs.CheckRefusal.{IsOfShape, IsRefusal};
+    ghost use Rattle.lsm_version.specs.FileNumbers.{AreDistinct, numbers_of};
     ghost use Rattle.lsm_version.specs.Versions.{IsSound};
 
-    /// The version of a shape: reads every table of it from the shelf, and judges them. The version is sound whatever the shelf gave,
+    /// The version of a shape: reads every table of it from the shelf, and judges them. No two of its files have one number. The version is sound whatever the shelf gave,
     /// as long as the shelf's later reads are honest.
     ///
     /// `DoubleFile` with the least number that two files have; then the files by level, and in a level in the order of the shape: the
@@ -67,6 +68,7 @@ impl<N: Naming, S: Shelf> Version<N, S> {
         requires here { (S.told shelf.old).place ≡ N.place }
         requires named { arc_value registry ≡ N.registry }
         ensures shape { IfOk result (λ v. IsOfShape shape.now v) }
+        ensures numbers { IfOk result (λ _. AreDistinct (numbers_of shape.now.levels)) }
         ensures sound { IfOk result (λ v. IsSound v) }
         ensures refused { IfErr result (λ e. IsRefusal (λ number image. (r : S.Receipt) × S.is_of N.place r × (S.Receipt.number r ≡ number) × (S.Receipt.image r ≡ image)) shape.now e) }
         ensures told { Becomes (S.told shelf.old) (S.told shelf.new) }
@@ -82,3 +84,14 @@ impl<N: Naming, S: Shelf> Version<N, S> {
         })
     }
 }
+
+ghost use Rattle.lsm_manifest.specs.declared.shape.Shape.{Shape};
+ghost use Rattle.lsm_version.specs.CheckRefusal.{IsOfShape};
+ghost use Rattle.lsm_version.specs.Loading.{AreInFileOrder, AreLevelsOf};
+ghost use Rattle.lsm_version.specs.Versions.{Levels};
+
+/// A law: where the files of each level of a shape stand in the level's order, as those of a replay do, a version of the shape has
+/// a table for each of them in just that order.
+pub fn shapes_in_order()
+    ensures { (shape : Shape) (v : Levels) → IsOfShape shape v → AreInFileOrder shape.levels → AreLevelsOf shape.last shape.levels v.tables }
+{}

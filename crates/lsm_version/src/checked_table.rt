@@ -6,10 +6,10 @@ ghost use Rattle.lsm_table.specs.Told.{Becomes};
 ghost use Rattle.lsm_version.specs.CheckFault.{CheckCounted};
 ghost use Rattle.lsm_version.specs.CheckedFiles.{IsFileOf, IsImageOf, IsSpanned};
 ghost use Rattle.lsm_version.specs.FileRefusal.{IsFileRefusal};
-ghost use Rattle.lsm_version.specs.Streams.{IsAscending};
+ghost use Rattle.lsm_levels.specs.Streams.{IsAscending};
 
 use crate::check_fault::CheckFault;
-use crate::owned_entry::copy_of;
+use crate::copies::copy_of;
 use crate::span::is_spanned;
 use lsm_manifest::FileMeta;
 use lsm_table::{Naming, Registry, Shelf, Table, TableRecord, TableRef};

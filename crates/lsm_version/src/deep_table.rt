@@ -1,7 +1,7 @@
 //! A table at a depth.
 
 ghost use Rattle.std.specs.Prelude.{◌≡◌};
-ghost use Rattle.lsm_version.specs.Streams.{IsAscending};
+ghost use Rattle.lsm_levels.specs.Streams.{IsAscending};
 
 use lsm_table::Table;
 use std::marker::Model;
@@ -15,7 +15,7 @@ pub(crate) struct DeepTable {
 
 impl Model for DeepTable {
     ghost use Rattle.lsm_version.specs.Loading.{Deep};
-    ghost use Rattle.lsm_version.specs.Streams.{IsAscending};
+    ghost use Rattle.lsm_levels.specs.Streams.{IsAscending};
 
     ghost Value = { Deep };
 

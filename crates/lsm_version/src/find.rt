@@ -6,7 +6,7 @@ ghost use Rattle.lsm_table.specs.Found.{found_in, seen};
 ghost use Rattle.lsm_table.specs.HeldTable.{entries_in};
 ghost use Rattle.lsm_table.specs.ReadFault.{IsMemoryOrShelf, ReadCounted};
 ghost use Rattle.lsm_table.specs.Told.{Becomes};
-ghost use Rattle.lsm_version.specs.Files.{all_entries};
+ghost use Rattle.lsm_levels.specs.Files.{all_entries};
 ghost use Rattle.lsm_version.specs.Reads.{AreSound, IsSoundLevel};
 ghost use Rattle.lsm_version.specs.Versions.{IsWhole, files_from, files_of};
 

@@ -3,9 +3,8 @@
 ghost use Rattle.std.specs.Prelude.{◌≡◌};
 ghost use Rattle.lsm_version.specs.HeldStream.{bare_all};
 
-use crate::owned_entry::OwnedEntry;
-use crate::stream::Stream;
 use crate::walk::step;
+use lsm_merger::{OwnedEntry, Stream};
 use lsm_table::TableIter;
 use std::alloc::{AllocError, Global};
 use std::marker::Model;

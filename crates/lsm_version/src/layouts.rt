@@ -7,8 +7,8 @@ ghost use Rattle.lsm_version.specs.LevelLayouts.{AreLevelsWhole, AreWhole, IsLay
 ghost use Rattle.lsm_version.specs.Versions.{AreInOrder, stands_before};
 
 use crate::check_fault::CheckFault;
-use crate::key_range::{KeyRange, Layout, layout_of};
 use lsm_codec::KeyRef;
+use lsm_levels::{KeyRange, Layout, layout_of};
 use lsm_table::{Naming, Registry, Shelf, TableRef};
 use std::alloc::{AllocError, Global};
 

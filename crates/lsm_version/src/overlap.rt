@@ -6,9 +6,9 @@ ghost use Rattle.lsm_version.specs.Overlap.{lies_over, meets};
 ghost use Rattle.lsm_version.specs.Reads.{IsRising};
 ghost use Rattle.lsm_version.specs.Versions.{level_in};
 
-use crate::key_range::is_at_most;
 use crate::user_range::{begins_by, first_reaching, reaches};
 use crate::version::Version;
+use lsm_levels::is_at_most;
 use lsm_table::{Naming, Registry, Shelf, TableRef};
 use std::alloc::{AllocError, Global};
 

@@ -3,7 +3,7 @@
 ghost use Rattle.std.specs.Prelude.{◌≡◌, ◌↔◌, false, IfOk, IsTrue};
 ghost use Rattle.lsm_codec.specs.KeyRef.{key_of};
 ghost use Rattle.lsm_version.specs.CheckedFiles.{IsSpanned, ends_with, starts_with};
-ghost use Rattle.lsm_version.specs.Streams.{IsAscending};
+ghost use Rattle.lsm_levels.specs.Streams.{IsAscending};
 
 use crate::walk::step;
 use lsm_codec::KeyRef;

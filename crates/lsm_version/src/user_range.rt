@@ -4,7 +4,7 @@ ghost use Rattle.std.specs.Prelude.{◌≡◌, ◌≤◌, MatchOption, IsTrue, n
 ghost use Rattle.lsm_version.specs.Reads.{HasNoCandidate, IsFirstReaching, IsRising, IsYoungest, begins_by, covers, is_below, is_candidate, reaches};
 ghost use Rattle.lsm_version.specs.Versions.{user_of};
 
-use crate::key_range::is_at_most;
+use lsm_levels::is_at_most;
 use lsm_table::{Naming, Registry, Shelf, TableRef};
 
 /// The user key in the bytes of an internal key.

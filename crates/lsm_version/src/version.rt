@@ -1,11 +1,13 @@
 //! Which tables stand at which level.
 
-ghost use Rattle.std.specs.Prelude.{◌≡◌, ◌≤◌, length, get_or, None};
+ghost use Rattle.std.specs.Prelude.{◌≡◌, ◌≤◌, ◌++◌, ℕ, List, length, map, get_or, None, IfOk, OnErr, OnOk};
 ghost use Rattle.std.specs.Option.{option_map};
-ghost use Rattle.lsm_version.specs.Versions.{IsSound, level_in};
+ghost use Rattle.std.specs.Arc.{arc_value};
+ghost use Rattle.lsm_version.specs.Versions.{IsSound, files_from, level_in, no_levels, numbers_in};
 
 use lsm_codec::Bytes;
 use lsm_table::{Naming, Registry, Shelf, TableRef};
+use std::alloc::{AllocError, Global};
 use std::marker::Model;
 use std::sync::Arc;
 
@@ -31,6 +33,38 @@ impl<N: Naming, S: Shelf> Model for Version<N, S> {
     ghost invariant = { λ v. (arc_value v.registry ≡ N.registry) × (length v.levels.items ≡ 7) × (length v.pointers.items ≡ 7)
         × AreInOrder (map (λ l. l.items) v.levels.items)
         × (S.honest → IsSound record { tables = map (λ l. l.items) v.levels.items; pointers = v.pointers.items; last = v.last }) };
+}
+
+/// Appends the numbers of the tables of a level; where a growth was refused, of those before it.
+fn push_level<N: Naming, S: Shelf>(
+    registry: &Registry<S::Receipt>,
+    level: &[TableRef<N, S>],
+    numbers: &mut Vec<u64>,
+) -> Result<(), AllocError>
+    requires { registry.now ≡ N.registry }
+    ensures ok { OnOk result (numbers.new.items ≡ numbers.old.items ++ map (λ t. t.number) level.now) }
+    ensures front { (more : List ℕ) × (numbers.new.items ≡ numbers.old.items ++ more) }
+{
+    for table in level {
+        numbers.push(registry.record(table).number())?;
+    }
+    Ok(())
+}
+
+/// The same for the tables of all levels.
+fn push_levels<N: Naming, S: Shelf>(
+    registry: &Registry<S::Receipt>,
+    levels: &[Vec<TableRef<N, S>>],
+    numbers: &mut Vec<u64>,
+) -> Result<(), AllocError>
+    requires { registry.now ≡ N.registry }
+    ensures ok { OnOk result (numbers.new.items ≡ numbers.old.items ++ map (λ F. F.number) (files_from 0 (map (λ l. l.items) levels.now))) }
+    ensures front { (more : List ℕ) × (numbers.new.items ≡ numbers.old.items ++ more) }
+{
+    for level in levels {
+        push_level(registry, level.as_slice(), numbers)?;
+    }
+    Ok(())
 }
 
 impl<N: Naming, S: Shelf> Version<N, S> {
@@ -64,5 +98,47 @@ impl<N: Naming, S: Shelf> Version<N, S> {
             None => None,
             Some(key) => Some(key.as_slice()),
         }
+    }
+
+    /// A version without tables and pointers, whose last sequence is 0. `AllocError` where a growth was refused.
+    pub fn empty(
+        alloc: Global,
+        registry: Arc<Registry<S::Receipt>>,
+    ) -> Result<Version<N, S>, AllocError>
+        requires { arc_value registry ≡ N.registry }
+        ensures { IfOk result (λ v. v ≡ no_levels) }
+    {
+        let levels = [
+            Vec::new(alloc),
+            Vec::new(alloc),
+            Vec::new(alloc),
+            Vec::new(alloc),
+            Vec::new(alloc),
+            Vec::new(alloc),
+            Vec::new(alloc),
+        ];
+        let pointers = [None, None, None, None, None, None, None];
+        let levels = Vec::from_array(alloc, levels)?;
+        let pointers = Vec::from_array(alloc, pointers)?;
+        Ok(Version {
+            registry,
+            levels,
+            pointers,
+            last: 0,
+        })
+    }
+
+    /// Appends the numbers of all files, level by level, in the order of each level. Where a growth was refused the numbers are as
+    /// before.
+    pub fn push_numbers(&self, numbers: &mut Vec<u64>) -> Result<(), AllocError>
+        ensures ok { OnOk result (numbers.new.items ≡ numbers.old.items ++ numbers_in self.now) }
+        ensures err { OnErr result (numbers.new.items ≡ numbers.old.items) }
+    {
+        let before = numbers.len();
+        let pushed = push_levels(&self.registry, self.levels.as_slice(), numbers);
+        if pushed.is_err() {
+            numbers.truncate(before);
+        }
+        pushed
     }
 }

@@ -3,17 +3,13 @@
 ghost use Rattle.std.specs.Prelude.{◌≡◌, ◌++◌, map, OnOk, IfOk, IfErr};
 ghost use Rattle.lsm_table.specs.ReadFault.{IsMemoryOrShelf, ReadCounted};
 ghost use Rattle.lsm_table.specs.Told.{Becomes};
-ghost use Rattle.lsm_version.specs.Files.{all_entries};
-ghost use Rattle.lsm_version.specs.Scanning.{IsScan};
+ghost use Rattle.lsm_levels.specs.Files.{all_entries};
+ghost use Rattle.lsm_levels.specs.Scanning.{IsScan};
 ghost use Rattle.lsm_version.specs.Sources.{AreWhole, EachWhole, source_of, sources_of};
 ghost use Rattle.lsm_version.specs.Versions.{IsWhole, files};
 
-use crate::input::Input;
-use crate::merger::Merger;
-use crate::scan::Scan;
-use crate::source::Source;
-use crate::table_stream::TableStream;
 use crate::version::Version;
+use lsm_merger::{Input, Merger, Scan, Source, TableStream};
 use lsm_table::{Naming, ReadFault, Registry, Shelf, Table, TableRef};
 use std::alloc::Global;
 

@@ -1,7 +1,7 @@
 use Rattle.std.proofs.Common.{List, sym, ◌∙◌, ap, subst}
-use Rattle.lsm_version.specs.Ages.{IsAgeOrder, IsLeastAgainstAge}
-use Rattle.lsm_version.specs.Merging.{Placed, IsOrdered, merge_all}
-use Rattle.lsm_version.proofs.Merging.{merged_ordered}
+use Rattle.lsm_levels.specs.Ages.{IsAgeOrder, IsLeastAgainstAge}
+use Rattle.lsm_levels.specs.Merging.{Placed, IsOrdered, merge_all}
+use Rattle.lsm_levels.proofs.CallerLemmas.{merged_ordered}
 use Rattle.lsm_version.proofs.age_judgment.judge_ages.Goals as goal
 
 pub returns-in-None-clause-ok : goal.returns-in-None-clause-ok

@@ -1,7 +1,7 @@
 use Rattle.std.proofs.Common.{◌≡◌, ℕ, List, [], ◌∷◌, ◌++◌, sym, ◌∙◌, ap, subst}
 use Rattle.lsm_version.specs.HeldStream.{bare_all}
 use Rattle.lsm_version.specs.Loading.{Deep}
-use Rattle.lsm_version.specs.Merging.{Placed, AreOrdered, placed_at}
+use Rattle.lsm_levels.specs.Merging.{Placed, AreOrdered, placed_at}
 use Rattle.lsm_version.proofs.DeepAges.{placed_more, ordered_more}
 use Rattle.lsm_version.proofs.age_judgment.sources_of.Goals as goal
 

@@ -1,6 +1,6 @@
 use Rattle.std.proofs.Common.{◌≡◌, take}
 use Rattle.lsm_version.specs.DeepAges.{bare_placed}
-use Rattle.lsm_version.specs.Merging.{AreOrdered}
+use Rattle.lsm_levels.specs.Merging.{AreOrdered}
 use Rattle.lsm_version.proofs.age_judgment.sources_of.Given as goal
 
 abbrev pub invariant-loop-table : goal.invariant-loop-table

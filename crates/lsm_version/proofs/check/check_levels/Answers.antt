@@ -2,12 +2,12 @@ use Rattle.std.proofs.Common.{◌≡◌, rules, List, ℕ, [], get_or, length, m
 use Rattle.std.proofs.lemmas.List.{length-map}
 use Rattle.std.proofs.lemmas.Result.{err_from_is_err_and}
 use Rattle.lsm_table.specs.Registry.{Table}
-use Rattle.lsm_version.specs.Ages.{IsAgeOrder}
+use Rattle.lsm_levels.specs.Ages.{IsAgeOrder}
 use Rattle.lsm_version.specs.CheckRefusal.{AreTablesOf, IsLeastAgainst}
 use Rattle.lsm_version.specs.DeepAges.{IsAgeRefusal, bare_placed}
 use Rattle.lsm_version.specs.LevelLayouts.{AreLevelsWhole, IsLayoutRefusal, LieApart}
 use Rattle.lsm_version.specs.Loading.{Deep, placed_levels}
-use Rattle.lsm_version.specs.Merging.{merge_all}
+use Rattle.lsm_levels.specs.Merging.{merge_all}
 use Rattle.lsm_version.specs.Versions.{files_from}
 use Rattle.lsm_version.proofs.LevelReads.{same_length}
 use Rattle.lsm_version.proofs.Judged.{length-placed, placed_whole, sound_version, sound_tables, least_against, merged}

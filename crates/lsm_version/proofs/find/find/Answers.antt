@@ -4,7 +4,7 @@ use Rattle.lsm_codec.specs.Entries.{newest}
 use Rattle.lsm_table.specs.Registry.{Table}
 use Rattle.lsm_table.specs.Found.{found_in, seen, value_of}
 use Rattle.lsm_table.proofs.Telling.{becomes_then}
-use Rattle.lsm_version.specs.Files.{all_entries}
+use Rattle.lsm_levels.specs.Files.{all_entries}
 use Rattle.lsm_version.specs.Versions.{files_from, files_of}
 use Rattle.lsm_version.specs.Reads.{AreSound, IsSoundLevel}
 use Rattle.lsm_version.proofs.Changing.{level_at}

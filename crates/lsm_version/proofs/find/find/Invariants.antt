@@ -1,7 +1,7 @@
 use Rattle.std.proofs.Common.{◌≡◌, drop, map}
 use Rattle.lsm_codec.specs.Entries.{newest}
 use Rattle.lsm_table.specs.Told.{Becomes}
-use Rattle.lsm_version.specs.Files.{all_entries}
+use Rattle.lsm_levels.specs.Files.{all_entries}
 use Rattle.lsm_version.specs.Versions.{files_from}
 use Rattle.lsm_version.specs.Reads.{AreSound}
 use Rattle.lsm_version.proofs.find.find.Given as goal

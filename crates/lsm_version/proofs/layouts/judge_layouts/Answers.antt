@@ -3,8 +3,8 @@ use Rattle.std.specs.List.Sorted.{IsSortedBy}
 use Rattle.lsm_table.specs.Registry.{Table}
 use Rattle.lsm_version.specs.Versions.{stands_before, level_in}
 use Rattle.lsm_version.specs.LevelLayouts.{AreLaidSoFar, LieAs}
-use Rattle.lsm_version.specs.declared.key_range.Layout.{Layout}
-use Rattle.lsm_version.specs.declared.key_range.Layout.TheVariants.{Overlap}
+use Rattle.lsm_levels.specs.declared.key_range.Layout.{Layout}
+use Rattle.lsm_levels.specs.declared.key_range.Layout.TheVariants.{Overlap}
 use Rattle.lsm_version.proofs.LevelRanges.{level_in-map, order_in, layouts_more, shared_least}
 use Rattle.lsm_version.proofs.layouts.judge_layouts.Goals as goal
 

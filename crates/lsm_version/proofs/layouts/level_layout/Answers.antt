@@ -1,6 +1,6 @@
 use Rattle.std.proofs.Common.{◌+◌, ℕ, List, take, sym, ◌∙◌, subst}
 use Rattle.lsm_codec.specs.Keys.{IsKey}
-use Rattle.lsm_version.specs.Ranges.{Range, IsLevel, IsLaidOut}
+use Rattle.lsm_levels.specs.Ranges.{Range, IsLevel, IsLaidOut}
 use Rattle.lsm_version.specs.Versions.{IsWhole}
 use Rattle.lsm_version.specs.LevelLayouts.{AreRangesOf}
 use Rattle.lsm_version.proofs.LevelReads.{has_at}

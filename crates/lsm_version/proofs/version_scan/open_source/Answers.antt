@@ -2,7 +2,7 @@ use Rattle.std.proofs.Common.{◌≡◌, ◌∙◌, ap, sym, subst, List, ℕ}
 use Rattle.std.proofs.lemmas.Result.{err_from_is_err_and}
 use Rattle.lsm_table.specs.Table.{IsTable}
 use Rattle.lsm_table.specs.HeldTable.{entries_in}
-use Rattle.lsm_version.specs.Merging.{placed_at}
+use Rattle.lsm_levels.specs.Merging.{placed_at}
 use Rattle.lsm_version.proofs.Finding.{open_memory, get_memory}
 use Rattle.lsm_version.proofs.version_scan.open_source.Goals as goal
 

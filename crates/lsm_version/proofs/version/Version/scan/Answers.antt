@@ -1,8 +1,8 @@
 use Rattle.std.proofs.Common.{◌∙◌, ap, sym, subst, map, None}
 use Rattle.std.proofs.lemmas.Result.{err_from_is_err_and}
-use Rattle.lsm_version.specs.Files.{all_entries}
-use Rattle.lsm_version.specs.Merging.{entries_of, merge_all}
-use Rattle.lsm_version.specs.Scanning.{IsScan, pairs_of}
+use Rattle.lsm_levels.specs.Files.{all_entries}
+use Rattle.lsm_levels.specs.Merging.{entries_of, merge_all}
+use Rattle.lsm_levels.specs.Scanning.{IsScan, pairs_of}
 use Rattle.lsm_version.specs.Sources.{EachWhole, sources_of}
 use Rattle.lsm_version.specs.Versions.{Levels, files}
 use Rattle.lsm_version.proofs.ScanLaws.{each_whole, scan_of}

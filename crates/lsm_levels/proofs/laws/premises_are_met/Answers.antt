@@ -1,0 +1,8 @@
+use Rattle.lsm_levels.proofs.Witness.{an_install, an_ingest}
+use Rattle.lsm_levels.proofs.laws.premises_are_met.Goals as goal
+
+pub returns-clause-install : goal.returns-clause-install
+returns-clause-install c = an_install
+
+pub returns-clause-ingest : goal.returns-clause-ingest
+returns-clause-ingest c = an_ingest

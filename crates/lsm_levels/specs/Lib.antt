@@ -1,0 +1,10 @@
+pub mod Files
+pub mod Kept
+pub mod Jobs
+pub mod Plans
+pub mod Streams
+pub mod Merging
+pub mod Ranges
+pub mod Ages
+pub mod Scanning
+pub mod Checking

@@ -1,0 +1,43 @@
+-- Numbers of tables that are appended level by level.
+use Rattle.std.proofs.Common.{◌≡◌, ℕ, suc, ◌+◌, ◌<◌, ◌≤◌, length, get_or, take, drop, map, List, [], ◌∷◌, ◌++◌, refl, ap, sym, ◌∙◌, append_assoc, append-nil, add-one, arith}
+use Rattle.std.proofs.lemmas.List.{map-append, length-map, drop_all, take_all, take-append-le}
+use Rattle.lsm_table.specs.Registry.{Table}
+use Rattle.lsm_levels.specs.Files.{File}
+use Rattle.lsm_version.specs.Versions.{files_of, files_from}
+use Rattle.lsm_version.proofs.Changing.{level_at}
+
+-- the numbers of the files of the levels from this one on
+abbrev pub numbers_from : ℕ → List (List Table) → List ℕ
+numbers_from n levels = map (λ F. F.number) (files_from n levels)
+
+level_numbers : (n : ℕ) (ts : List Table) → map (λ F. F.number) (files_of n ts) ≡ map (λ t. t.number) ts
+level_numbers n [] = refl
+level_numbers n (t ∷ ts) = ap (λ (ns : List ℕ). t.number ∷ ns) (level_numbers n ts)
+
+from_level : (n : ℕ) (ts : List Table) (rest : List (List Table)) → numbers_from n (ts ∷ rest) ≡ map (λ t. t.number) ts ++ numbers_from (suc n) rest
+from_level n ts rest = map-append (λ (F : File). F.number) (files_of n ts) (files_from (suc n) rest) ∙ ap (λ (ns : List ℕ). ns ++ numbers_from (suc n) rest) (level_numbers n ts)
+
+-- a level more was appended
+pub numbers_more : {X : Type 0} (f : X → List Table) (xs : List X) (i : ℕ) (x : X) (old new whole : List ℕ) → i < length xs → x ≡ get_or xs i x → new ≡ old ++ map (λ t. t.number) (f x)
+    → old ++ numbers_from i (drop i (map f xs)) ≡ whole → new ++ numbers_from (i + 1) (drop (i + 1) (map f xs)) ≡ whole
+numbers_more f xs i x old new whole lt is made before =
+    let rest = drop (i + 1) (map f xs) in
+    ap (λ (ns : List ℕ). ns ++ numbers_from (i + 1) rest) made
+    ∙ append_assoc old (map (λ t. t.number) (f x)) (numbers_from (i + 1) rest)
+    ∙ ap (λ (n : ℕ). old ++ (map (λ t. t.number) (f x) ++ numbers_from n rest)) (add-one i)
+    ∙ ap (λ (ns : List ℕ). old ++ ns) (sym (from_level i (f x) rest))
+    ∙ ap (λ (ls : List (List Table)). old ++ numbers_from i ls) (sym (level_at f xs i x lt is))
+    ∙ before
+
+pub numbers_done : {X : Type 0} (f : X → List Table) (xs : List X) (i : ℕ) (new whole : List ℕ) → length xs ≤ i → new ++ numbers_from i (drop i (map f xs)) ≡ whole → new ≡ whole
+numbers_done f xs i new whole past before =
+    let over : length (map f xs) ≤ i = rw (length-map xs f) past in
+    sym (append-nil new) ∙ ap (λ (ls : List (List Table)). new ++ numbers_from i ls) (sym (drop_all i (map f xs) over)) ∙ before
+
+-- ---- what was there stays in front
+
+pub front_more : (a old new : List ℕ) → ((more : List ℕ) × (old ≡ a ++ more)) → ((more : List ℕ) × (new ≡ old ++ more)) → (more : List ℕ) × (new ≡ a ++ more)
+front_more a old new f g = (f.0 ++ g.0, g.1 ∙ ap (λ (ns : List ℕ). ns ++ g.0) f.1 ∙ append_assoc a f.0 g.0)
+
+pub cut_back : (a new : List ℕ) (n : ℕ) → n ≡ length a → ((more : List ℕ) × (new ≡ a ++ more)) → take n new ≡ a
+cut_back a new n e f = ap (λ (ns : List ℕ). take n ns) f.1 ∙ take-append-le n a f.0 (omega arith) ∙ take_all n a (omega arith)

@@ -1,7 +1,0 @@
-use Rattle.lsm_version.specs.Files.{Apart, InOrder}
-use Rattle.lsm_version.proofs.Depths.{goes_by_depth}
-use Rattle.lsm_version.proofs.Splits.{apart_split, in_order_split}
-use Rattle.lsm_version.proofs.laws.reads_go_by_depth.Goals as goal
-
-pub returns : goal.returns
-returns c = record { apart = goes_by_depth Apart apart_split; in_order = goes_by_depth InOrder in_order_split }

@@ -1,5 +1,0 @@
-use Rattle.std.proofs.Common.{◌≡◌}
-use Rattle.lsm_version.proofs.version_tests.compares.Given as goal
-
-abbrev pub invariant-loop-seq : goal.invariant-loop-seq
-invariant-loop-seq g l = (g.S.Shelf.told l.shelf).place ≡ g.N.Naming.place

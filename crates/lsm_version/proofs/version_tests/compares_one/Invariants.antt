@@ -1,6 +1,0 @@
-use Rattle.std.specs.Arc.{arc_value}
-use Rattle.lsm_version.proofs.version_tests.compares_one.Given as goal
-
--- the registry and the contents that were just made
-abbrev pub ghosts-compares : goal.ghosts-compares
-ghosts-compares g a = record { registry = arc_value a.registry; place = (arc_value a.shelf.contents).images }

@@ -1,5 +1,0 @@
-use Rattle.std.proofs.Common.{◌≡◌}
-use Rattle.lsm_version.proofs.version_tests.reads_plainly.Given as goal
-
-abbrev pub invariant-loop-user : goal.invariant-loop-user
-invariant-loop-user g l = (g.S.Shelf.told l.shelf).place ≡ g.N.Naming.place

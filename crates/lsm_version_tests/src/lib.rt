@@ -1,0 +1,17 @@
+//! Tests of `lsm_version` by its public names, over a shelf in memory.
+#![tactic(auto)]
+
+#[cfg(test)]
+mod changing;
+#[cfg(test)]
+mod checking;
+#[cfg(test)]
+mod described;
+#[cfg(test)]
+mod doubted;
+#[cfg(test)]
+mod layouts;
+#[cfg(test)]
+mod reading;
+#[cfg(test)]
+mod shown;
