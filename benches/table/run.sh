@@ -8,13 +8,9 @@ top=$(cd "$here/../.." && pwd)
 scratch=$(mktemp -d)
 trap 'rm -rf "$scratch"' EXIT
 
+source "$top/benches/copy_crates.sh"
+copy_crates lsm_table "$scratch"
 mkdir -p "$scratch/crates/bench_table/src"
-for crate in lsm_codec lsm_block lsm_table; do
-    cp -a "$top/crates/$crate" "$scratch/crates/$crate"
-    rm -rf "$scratch/crates/$crate/must-fail"
-    grep "^$crate" "$top/crates.txt" >> "$scratch/crates.txt"
-done
-cp "$top/HANDLES" "$scratch/HANDLES"
 cp "$here/table.rattle" "$scratch/crates/bench_table/src/main.rt"
 echo 'bench_table: lsm_table lsm_block lsm_codec' >> "$scratch/crates.txt"
 (cd "$scratch/crates/bench_table" && rt run > "$scratch/first" 2> "$scratch/log") || { cat "$scratch/log" >&2; exit 1; }

@@ -10,20 +10,17 @@ trap 'rm -rf "$scratch" "$shared"' EXIT
 
 bench="$scratch/crates/bench_version"
 mkdir -p "$bench/src" "$bench/proofs/main" "$bench/proofs/measured"
-for crate in lsm_codec lsm_block lsm_table lsm_manifest lsm_version; do
-    cp -a "$top/crates/$crate" "$scratch/crates/$crate"
-    rm -rf "$scratch/crates/$crate/must-fail"
-    grep "^$crate" "$top/crates.txt" >> "$scratch/crates.txt"
-done
-cp "$top/HANDLES" "$scratch/HANDLES"
+source "$top/benches/copy_crates.sh"
+copy_crates lsm_version "$scratch"
 cp "$here/version.rattle" "$bench/src/main.rt"
 cat > "$bench/proofs/main/Invariants.antt" <<'END'
 use Rattle.std.specs.Arc.{arc_value}
+use Rattle.lsm_shelf.specs.MemoryShelf.{memory_told}
 use Rattle.bench_version.proofs.main.Given as goal
 
 -- the registry and the contents that were just made
 abbrev pub ghosts-measured : goal.ghosts-measured
-ghosts-measured g a = record { registry = arc_value a.registry; place = (arc_value a.shelf.contents).images }
+ghosts-measured g a = record { registry = arc_value a.registry; place = (memory_told a.shelf).place }
 END
 cat > "$bench/proofs/measured/Invariants.antt" <<'END'
 use Rattle.std.proofs.Common.{◌≡◌}
@@ -33,7 +30,7 @@ use Rattle.bench_version.proofs.measured.Given as goal
 abbrev pub invariant-loop-i : goal.invariant-loop-i
 invariant-loop-i g l = (g.S.Shelf.told l.shelf).place ≡ g.N.Naming.place
 END
-echo 'bench_version: lsm_version lsm_table lsm_block lsm_manifest lsm_codec boxcar' >> "$scratch/crates.txt"
+echo 'bench_version: lsm_version lsm_table lsm_shelf lsm_block lsm_manifest lsm_codec boxcar' >> "$scratch/crates.txt"
 (cd "$bench" && rt run > "$scratch/first" 2> "$scratch/log") || { cat "$scratch/log" >&2; exit 1; }
 if g++ -O2 -o "$scratch/leveldb" "$here/leveldb.cc" -lleveldb 2> "$scratch/log"; then leveldb=yes; else leveldb=no; fi
 

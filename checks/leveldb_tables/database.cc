@@ -1,6 +1,7 @@
-// Makes a directory by the real LevelDB, uncompressed: some thousand keys, some written over, some deleted, compacted to tables.
+// Makes a directory by the real LevelDB, uncompressed or by Snappy: some thousand keys, some written over, some
+// deleted, compacted to tables.
 //
-//   database DIR KEYS
+//   database DIR KEYS [compressed]
 #include <cstdio>
 #include <cstdlib>
 #include <string>
@@ -10,10 +11,10 @@
 #include "leveldb/options.h"
 
 int main(int count, char** words) {
-  if (count != 3) return 2;
+  if (count != 3 && count != 4) return 2;
   leveldb::Options options;
   options.create_if_missing = true;
-  options.compression = leveldb::kNoCompression;
+  options.compression = count == 4 ? leveldb::kSnappyCompression : leveldb::kNoCompression;
   options.filter_policy = leveldb::NewBloomFilterPolicy(10);
   options.write_buffer_size = 64 << 10;
   leveldb::DB* db;

@@ -1,7 +1,8 @@
 #!/usr/bin/env bash
-# Compares `lsm` with the real LevelDB (Debian's libleveldb-dev): tables made of one list byte by byte, each other's tables read, and the
-# tables (with filter blocks and shortened separators) and the manifest of a directory that LevelDB made.
-# Prints one line for each comparison, and times for a list of a million entries.
+# Compares `lsm` with the real LevelDB (Debian's libleveldb-dev): tables made of one list byte by byte, each other's
+# tables read, the tables (with filter blocks and shortened separators) and the manifest of a directory that LevelDB
+# made, and the tables of one that it compressed, which are refused as such. Stops at the first difference. Prints one
+# line for each comparison, and times for a list of a million entries.
 set -euo pipefail
 here=$(cd "$(dirname "$0")" && pwd)
 top=$(cd "$here/../.." && pwd)
@@ -43,6 +44,18 @@ done
 echo "LevelDB's directory: $(ls "$work"/db/*.ldb | wc -l) tables, $entries entries, read as LevelDB reads them"
 "$lsm" manifest < "$work"/db/MANIFEST-* > "$work/manifest"
 echo "its manifest: $(grep -c '^edit' "$work/manifest") edits, $(tail -1 "$work/manifest")"
+
+"$work/database" "$work/compressed" 100000 compressed
+for file in "$work"/compressed/*.ldb; do
+  status=0
+  "$lsm" dump < "$file" > "$work/ours" 2> "$work/refused" || status=$?
+  if [[ $status != 1 || -s $work/ours || $(cat "$work/refused") != "refused 16 Compressed 1" ]]; then
+    echo "$(basename "$file"), compressed: status $status, says: $(head -c 200 "$work/refused")" >&2
+    exit 1
+  fi
+done
+"$lsm" manifest < "$work"/compressed/MANIFEST-* > "$work/manifest"
+echo "a directory with compression: $(ls "$work"/compressed/*.ldb | wc -l) tables, each refused 16 Compressed 1; its manifest is read"
 
 list 1000000 16 > "$work/list"
 TIMEFORMAT='%U user %S sys %R real'

@@ -1,0 +1,63 @@
+//! A program that uses tables, as short as one can be: it builds a table of three entries in memory, checks it and reads keys,
+//! then puts it on a shelf and reads it from there.
+//!
+//! Stands on `lsm_table`. Its contract: what it reads is what the three entries say.
+#![tactic(auto)]
+
+ghost use Rattle.std.specs.Prelude.{◌≡◌, Some, None, IfOk, codes};
+ghost use Rattle.lsm_table.specs.Table.{IsTable};
+ghost use Rattle.lsm_table.specs.Found.{seen};
+ghost use Rattle.example_table.specs.Fruit.{fruit};
+
+use lsm_codec::Kind;
+use lsm_table::{
+    BuildFault, Found, MemoryShelf, Shelf, Table, TableBuilder, TableFault, TableOptions,
+};
+use std::alloc::Global;
+use std::io::Print;
+
+/// The table of the three entries.
+fn fruit_table(alloc: Global) -> Result<Vec<u8>, BuildFault>
+    ensures { IfOk result (λ file. IsTable file.items fruit) }
+{
+    let mut table = TableBuilder::new(alloc, TableOptions::usual());
+    table.add(b"apple", 3, Kind::Value, b"red")?;
+    table.add(b"apple", 1, Kind::Value, b"green")?;
+    table.add(b"cherry", 2, Kind::Deletion, b"")?;
+    table.finish()
+}
+
+/// What was found of "apple" as of sequence 2: the entry at 1, and not the newer one at 3.
+fn older_apple(alloc: Global, table: &Table) -> Result<Option<Found>, TableFault>
+    requires { table.now ≡ fruit }
+    ensures { IfOk result (λ found. seen found ≡ Some (Some (codes "green"))) }
+{
+    table.get(alloc, b"apple", 2)
+}
+
+fn show(rt: &impl Print, read: &str, found: &Option<Found>) -> anyhow::Result<()> {
+    match found {
+        Some(Found::Value(value)) => println!(rt; "{read}: {}", str::from_utf8(value)?)?,
+        Some(Found::Deleted) => println!(rt; "{read}: deleted")?,
+        None => println!(rt; "{read}: no entry")?,
+    }
+    Ok(())
+}
+
+fn main(rt: HostRuntime) -> anyhow::Result<()> {
+    let alloc = rt.alloc();
+    let file = fruit_table(alloc)?;
+    println!(rt; "a table of {} bytes", file.len())?;
+    let mut shelf = MemoryShelf::new(alloc)?;
+    let receipt = shelf.put(&rt, alloc, 7, &file)?;
+    let table = Table::check(alloc, file)?;
+    show(&rt, "apple at 2", &older_apple(alloc, &table)?)?;
+    show(&rt, "cherry at 9", &table.get(alloc, b"cherry", 9)?)?;
+    show(&rt, "plum at 9", &table.get(alloc, b"plum", 9)?)?;
+    let opened = Table::open(&mut shelf, alloc, &receipt)?;
+    show(
+        &rt,
+        "apple at 9, from the shelf",
+        &opened.get(alloc, b"apple", 9)?,
+    )
+}
