@@ -1,6 +1,6 @@
 -- When two receipts are one.
 use mathlib.Core.HLevel.{is_prop→PathP}
-use Rattle.std.proofs.Common.{◌≡◌, ℕ, ◌≤◌, ◌^◌, length}
+use Rattle.std.proofs.Common.{◌≡◌, ◌≤◌, ◌^◌, length}
 use denote.Struct.Props as logic
 use Rattle.lsm_folder.specs.declared.mark.Mark.{Ghosts}
 use Rattle.lsm_shelf.specs.FileNames.{table_name}

@@ -1,9 +1,9 @@
 -- Numbers of tables among names.
-use Rattle.std.proofs.Common.{◌≡◌, ℕ, ◌<◌, ◌+◌, ◌^◌, length, take, map, get_or, List, [], ◌∷◌, ◌++◌, refl, sym, ap, ◌∙◌, arith, zero, suc, ⊎_elim}
-use Rattle.std.specs.Prelude.{◌≢◌, ◌↔◌, Option, Some, None}
+use Rattle.std.proofs.Common.{◌≡◌, ℕ, ◌<◌, ◌+◌, length, take, map, get_or, List, [], ◌∷◌, ◌++◌, sym, ap, ◌∙◌, arith, zero, suc, ⊎_elim}
+use Rattle.std.specs.Prelude.{◌↔◌, Some, None}
 use Rattle.std.specs.List.{Contains}
 use Rattle.std.proofs.lemmas.List.{map_push, take_more}
-use Rattle.std.proofs.lemmas.List.Elements.{Contains-append_left, Contains-append_right, Contains-append_cases, Contains-push}
+use Rattle.std.proofs.lemmas.List.Elements.{Contains-append_left, Contains-append_cases, Contains-push}
 use Rattle.lsm_shelf.specs.FileNames.{table_name, IsNumberOf}
 use Rattle.lsm_shelf.specs.Plans.{AreTablesOf}
 

@@ -1,5 +1,5 @@
 -- A shelf on a folder, as contracts see it (this project's rule).
-use Rattle.std.specs.Prelude.{List, ℕ}
+use Rattle.std.specs.Prelude.{ℕ}
 use Rattle.lsm_folder.specs.declared.mark.Mark.{Ghosts}
 use Rattle.lsm_shelf.specs.declared.file.file_shelf.FileShelf.{FileShelf}
 use Rattle.lsm_shelf.specs.declared.file.file_receipt.FileReceipt.{FileReceipt}

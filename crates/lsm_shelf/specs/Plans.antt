@@ -1,7 +1,7 @@
 -- What a shelf asks of its folder, and in which order (LevelDB's `doc/impl.md`: tables, manifest, `CURRENT`).
-use Rattle.std.specs.Prelude.{◌≡◌, ◌≢◌, ◌⊎◌, ◌↔◌, ℕ, ◌+◌, ◌<◌, ◌≤◌, ◌^◌, Bool, true, false, List, [], ◌∷◌, codes, length, Option, None, Some}
+use Rattle.std.specs.Prelude.{◌≡◌, ◌≢◌, ◌⊎◌, ◌↔◌, ℕ, ◌<◌, ◌^◌, Bool, true, false, List, [], ◌∷◌, codes, Option, None, Some}
 use Rattle.std.specs.List.{Contains}
-use Rattle.lsm_folder.specs.Calls.{Call, made, wrote, appended, synced, folder_synced, renamed, removed, measured, loaded, listed}
+use Rattle.lsm_folder.specs.Calls.{Call, made, wrote, appended, synced, folder_synced, renamed, removed, measured, loaded}
 use Rattle.lsm_shelf.specs.FileNames.{table_name, manifest_name, temporary_name, current_text}
 
 -- a call that is still to be answered

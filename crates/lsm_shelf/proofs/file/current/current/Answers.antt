@@ -1,4 +1,4 @@
-use Rattle.std.proofs.Common.{Some, sym, rules}
+use Rattle.std.proofs.Common.{sym}
 use Rattle.lsm_shelf.proofs.file.current.current.Goals as goal
 
 pub returns-in-Ok-clause-ok : goal.returns-in-Ok-clause-ok

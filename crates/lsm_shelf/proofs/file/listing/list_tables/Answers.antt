@@ -1,4 +1,4 @@
-use Rattle.std.proofs.Common.{map, Some, rules}
+use Rattle.std.proofs.Common.{map}
 use Rattle.std.specs.Prelude.{string_bytes}
 use Rattle.lsm_shelf.proofs.file.listing.list_tables.Goals as goal
 

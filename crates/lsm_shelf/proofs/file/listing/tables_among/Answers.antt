@@ -1,6 +1,6 @@
-use Rattle.std.proofs.Common.{rules, map, take}
+use Rattle.std.proofs.Common.{map, take}
 use Rattle.std.specs.Prelude.{string_bytes}
-use Rattle.lsm_shelf.proofs.Tables.{tables_none, tables_next}
+use Rattle.lsm_shelf.proofs.Tables.{tables_next}
 use Rattle.lsm_shelf.proofs.file.listing.tables_among.Goals as goal
 
 -- one name more
