@@ -15,3 +15,5 @@ mod layouts;
 mod reading;
 #[cfg(test)]
 mod shown;
+#[cfg(test)]
+mod wide_levels;
