@@ -12,6 +12,8 @@ mod doubted;
 #[cfg(test)]
 mod layouts;
 #[cfg(test)]
+mod numbers;
+#[cfg(test)]
 mod reading;
 #[cfg(test)]
 mod shown;
