@@ -24,7 +24,4 @@ pub mod JudgeLaws
 pub mod CheckLaws
 pub mod HeldBlockLaws
 pub mod IterLaws
-pub mod Ascending
-pub mod Padding
-pub mod Honest
 pub mod LastLaws

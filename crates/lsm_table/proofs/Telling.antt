@@ -1,42 +1,10 @@
--- Calls of a shelf one after another.
-use Rattle.std.proofs.Common.{◌≡◌, refl, ◌∙◌, arith}
-use Rattle.lsm_table.specs.Told.{Told, Becomes, Counted}
+-- Calls of a shelf one after another, among them those that read a table.
+use Rattle.lsm_shelf.specs.Told.{Told, Becomes}
+use Rattle.lsm_shelf.proofs.CallerLemmas.{counted_later, counted_before}
+pub use Rattle.lsm_shelf.proofs.CallerLemmas.{becomes_same, becomes_then, place_then, counted_later, counted_before}
 use Rattle.lsm_table.specs.ReadFault.{ReadCounted}
-use Rattle.lsm_table.specs.declared.shelf_fault.ShelfFault.{ShelfFault}
-use Rattle.lsm_table.specs.declared.shelf_fault.ShelfFault.TheVariants as why
 use Rattle.lsm_table.specs.declared.read_fault.ReadFault.{ReadFault}
 use Rattle.lsm_table.specs.declared.read_fault.ReadFault.TheVariants as read
-
--- no call
-pub becomes_same : (t : Told) → Becomes t t
-becomes_same t = record { place = refl; faults = omega arith; misses = omega arith; gone = refl; sent = refl; found = refl }
-
-pub becomes_then : (a b c : Told) → Becomes a b → Becomes b c → Becomes a c
-becomes_then a b c p q = record {
-  place = q.place ∙ p.place;
-  faults = (let x = p.faults in let y = q.faults in omega arith);
-  misses = (let x = p.misses in let y = q.misses in omega arith);
-  gone = q.gone ∙ p.gone;
-  sent = q.sent ∙ p.sent;
-  found = q.found ∙ p.found;
-}
-
-pub place_then : (a b : Told) → Becomes a b → b.place ≡ a.place
-place_then a b p = p.place
-
--- a refusal after other calls
-pub counted_later : (e : ShelfFault) (a b c : Told) → Becomes a b → Counted e b c → Counted e a c
-counted_later why.OutOfMemory a b c p q = tt
-counted_later why.Device a b c p q = let x = p.faults in omega arith
-counted_later why.Missing a b c p q = let x = p.misses in omega arith
-counted_later (why.Taken n) a b c p q = let x = p.misses in omega arith
-
--- a refusal before other calls
-pub counted_before : (e : ShelfFault) (a b c : Told) → Counted e a b → Becomes b c → Counted e a c
-counted_before why.OutOfMemory a b c p q = tt
-counted_before why.Device a b c p q = let x = q.faults in omega arith
-counted_before why.Missing a b c p q = let x = q.misses in omega arith
-counted_before (why.Taken n) a b c p q = let x = q.misses in omega arith
 
 pub read_counted_later : (e : ReadFault) (a b c : Told) → Becomes a b → ReadCounted e b c → ReadCounted e a c
 read_counted_later (read.Shelf fault) a b c p q = (q.0, counted_later fault a b c p q.1)

@@ -1,3 +1,9 @@
+pub use Rattle.lsm_shelf.specs.ShelfFault
+pub use Rattle.lsm_shelf.specs.Told
+pub use Rattle.lsm_shelf.specs.MemoryShelf
+pub use Rattle.lsm_shelf.specs.FileNames
+pub use Rattle.lsm_shelf.specs.Honesty
+pub use Rattle.lsm_shelf.specs.FileShelf
 pub mod Options
 pub mod Fault
 pub mod Reading
@@ -10,14 +16,6 @@ pub mod TableBuilding
 pub mod TableMaking
 pub mod Judging
 pub mod HeldTable
-pub mod ShelfFault
-pub mod Told
-pub mod Account
-pub mod Directory
-pub mod MemoryShelf
-pub mod FileNames
-pub mod Honesty
-pub mod FileShelf
 pub mod Registry
 pub mod ReadFault
 pub mod Found

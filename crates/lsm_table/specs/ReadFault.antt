@@ -5,8 +5,8 @@ use Rattle.lsm_table.specs.declared.table_fault.TableFault.TheVariants.{OutOfMem
 use Rattle.lsm_table.specs.declared.read_fault.ReadFault.{ReadFault}
 use Rattle.lsm_table.specs.declared.read_fault.ReadFault.TheVariants.{Shelf, Table}
 use Rattle.lsm_table.specs.Fault as table
-use Rattle.lsm_table.specs.ShelfFault as shelf
-use Rattle.lsm_table.specs.Told.{Told, Counted, NotTaken}
+use Rattle.lsm_shelf.specs.ShelfFault as shelf
+use Rattle.lsm_shelf.specs.Told.{Told, Counted, NotTaken}
 
 abbrev pub number_of : ReadFault → ℕ
 number_of (Shelf fault) = shelf.number_of fault

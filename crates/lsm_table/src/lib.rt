@@ -1,32 +1,19 @@
-//! Sorted tables as LevelDB's `doc/table_format.md` spells them, the shelves on which tables and the manifest lie, and the
-//! registry of table records.
+//! Sorted tables as LevelDB's `doc/table_format.md` spells them, and the registry of table records.
 //!
-//! Stands on `lsm_block` for the blocks of a table, and on `boxcar` for lists that threads share. Its contract: a table is
-//! its list of entries; a record of the registry stands for the image that was put.
+//! Stands on `lsm_block` for the blocks of a table, on `lsm_shelf` for where its image lies, and on `boxcar` for lists that
+//! threads share. Its contract: a table is its list of entries; a record of the registry stands for the image that was put.
 #![tactic(auto)]
 
-mod account;
 mod builder;
 mod check;
-mod contents;
-mod directory;
 #[cfg(test)]
 mod expectation;
-mod file_names;
-mod file_receipt;
-mod file_shelf;
-mod folder;
 mod footer;
 mod found;
 mod handle;
 mod held_block;
 mod held_entry;
 mod held_key;
-mod image;
-mod io_fault;
-mod listing;
-mod memory_receipt;
-mod memory_shelf;
 mod naming;
 mod open_table;
 mod read_fault;
@@ -34,11 +21,8 @@ mod read_fault;
 mod reading_tests;
 mod registry;
 mod search;
-mod shelf;
-mod shelf_fault;
 #[cfg(test)]
 mod shelf_tests;
-mod slip;
 mod stored_block;
 mod table;
 mod table_entries;
@@ -54,19 +38,13 @@ mod trial;
 mod whole_image;
 
 pub use builder::TableBuilder;
-pub use file_receipt::FileReceipt;
-pub use file_shelf::FileShelf;
 pub use found::Found;
 pub use lsm_block::BuildFault;
-pub use memory_receipt::MemoryReceipt;
-pub use memory_shelf::MemoryShelf;
+pub use lsm_shelf::{FileReceipt, FileShelf, MemoryReceipt, MemoryShelf, Shelf, ShelfFault, Slip};
 pub use naming::Naming;
 pub use open_table::OpenTable;
 pub use read_fault::ReadFault;
 pub use registry::Registry;
-pub use shelf::Shelf;
-pub use shelf_fault::ShelfFault;
-pub use slip::Slip;
 pub use table::{Table, entries_are, one_table};
 pub use table_entries::TableEntries;
 pub use table_fault::TableFault;

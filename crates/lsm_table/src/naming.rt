@@ -8,7 +8,7 @@ use std::marker::Brand;
 /// made, and what is generic in it is of that registry and of those contents.
 pub trait Naming: Send + Sync {
     ghost use Rattle.boxcar.specs.Table.{Shelves};
-    ghost use Rattle.lsm_table.specs.Told.{Place};
+    ghost use Rattle.lsm_shelf.specs.Told.{Place};
 
     /// The registry: the vector of its records.
     ghost registry: { Shelves };

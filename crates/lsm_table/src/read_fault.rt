@@ -3,7 +3,7 @@
 ghost use Rattle.std.specs.Prelude.{◌≡◌};
 ghost use Rattle.lsm_table.specs.ReadFault.{number_of, name_of};
 
-use crate::shelf_fault::ShelfFault;
+use lsm_shelf::ShelfFault;
 use crate::table_fault::TableFault;
 use std::alloc::{AllocError, AllocFailed};
 use thiserror::Error;

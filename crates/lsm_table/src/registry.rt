@@ -3,8 +3,8 @@
 ghost use Rattle.std.specs.Prelude.{◌≡◌, ◌↔◌, IfOk, IfErr, IsTrue};
 
 use crate::naming::Naming;
-use crate::shelf::Shelf;
-use crate::slip::Slip;
+use lsm_shelf::Shelf;
+use lsm_shelf::Slip;
 use crate::table_record::TableRecord;
 use crate::table_ref::TableRef;
 use std::alloc::{AllocError, Global};

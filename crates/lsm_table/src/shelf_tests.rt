@@ -3,13 +3,13 @@
 ghost use Rattle.std.specs.Prelude.{◌≡◌};
 
 use crate::expectation::{expect, expect_items};
-use crate::file_shelf::FileShelf;
-use crate::memory_shelf::MemoryShelf;
+use lsm_shelf::FileShelf;
+use lsm_shelf::MemoryShelf;
 use crate::naming::Naming;
 use crate::registry::Registry;
-use crate::shelf::Shelf;
-use crate::shelf_fault::ShelfFault;
-use crate::slip::Slip;
+use lsm_shelf::Shelf;
+use lsm_shelf::ShelfFault;
+use lsm_shelf::Slip;
 use crate::table_record::TableRecord;
 use crate::table_ref::TableRef;
 use crate::trial::{Trial, scratch, tries_at, tries_in_scratch};

@@ -9,7 +9,7 @@ ghost use Rattle.lsm_table.specs.HeldTable.{HeldTable, entries_in, Names};
 ghost use Rattle.lsm_table.specs.Found.{seen, found_in};
 ghost use Rattle.lsm_table.specs.OpenTable.{Opens, opening_at};
 ghost use Rattle.lsm_table.specs.ReadFault.{ReadCounted};
-ghost use Rattle.lsm_table.specs.Told.{Becomes};
+ghost use Rattle.lsm_shelf.specs.Told.{Becomes};
 
 use crate::check::judge;
 use crate::found::Found;
@@ -18,7 +18,7 @@ use crate::held_block::{data_block, parts};
 use crate::open_table::OpenTable;
 use crate::read_fault::ReadFault;
 use crate::search::{Search, key_for, search_block};
-use crate::shelf::Shelf;
+use lsm_shelf::Shelf;
 use crate::table_entries::TableEntries;
 use crate::table_fault::TableFault;
 use crate::table_iter::TableIter;

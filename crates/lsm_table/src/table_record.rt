@@ -2,7 +2,7 @@
 
 ghost use Rattle.std.specs.Prelude.{◌≡◌, length};
 
-use crate::slip::Slip;
+use lsm_shelf::Slip;
 use lsm_codec::Bytes;
 
 /// What is known of a table that lies on a shelf: its first and last internal key and the receipt of its image, which has

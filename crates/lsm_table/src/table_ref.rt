@@ -3,7 +3,7 @@
 ghost use Rattle.std.specs.Prelude.{◌≡◌};
 
 use crate::naming::Naming;
-use crate::shelf::Shelf;
+use lsm_shelf::Shelf;
 use crate::table_record::TableRecord;
 use boxcar::Pushed;
 use std::marker::{Model, PhantomData};

@@ -1,8 +1,8 @@
 //! What tests do in folders of their own.
 
-use crate::file_shelf::FileShelf;
+use lsm_shelf::FileShelf;
 use crate::reading_tests::reads_on_a_shelf;
-use crate::shelf::Shelf;
+use lsm_shelf::Shelf;
 use crate::shelf_tests::{
     goes_through_all_calls, lists_names, misses_a_removed_table, reads_currents, takes_nothing,
     tells_failures, two_threads_share,

@@ -1,11 +1,11 @@
 //! A whole image by one read.
 
 ghost use Rattle.std.specs.Prelude.{◌≡◌, IfOk, IfErr};
-ghost use Rattle.lsm_table.specs.Told.{Becomes, Counted, NotTaken};
+ghost use Rattle.lsm_shelf.specs.Told.{Becomes, Counted, NotTaken};
 
-use crate::shelf::Shelf;
-use crate::shelf_fault::ShelfFault;
-use crate::slip::Slip;
+use lsm_shelf::Shelf;
+use lsm_shelf::ShelfFault;
+use lsm_shelf::Slip;
 use std::alloc::Global;
 
 /// The whole image for which the receipt stands.

@@ -1,0 +1,4 @@
+pub mod CallerLemmas
+mod Padding
+mod Honest
+mod Ascending

@@ -1,0 +1,12 @@
+-- The directory of a shelf in memory (this project's rule).
+use Rattle.std.specs.Prelude.{ℕ, List, Option, None, Some}
+use Rattle.lsm_shelf.specs.declared.directory.Directory.{Directory}
+use Rattle.lsm_shelf.specs.declared.directory.Manifest.{Manifest}
+
+abbrev pub parts_of : Option Manifest → Option (ℕ × List ℕ)
+parts_of None = None
+parts_of (Some m) = Some (m.number, m.bytes.items)
+
+-- number and bytes of the manifest, if one was started
+abbrev pub manifest_of : Directory → Option (ℕ × List ℕ)
+manifest_of d = parts_of d.manifest

@@ -1,0 +1,106 @@
+//! What a shelf's value was told, kept without memory.
+
+ghost use Rattle.std.specs.Prelude.{◌≡◌, ◌≤◌, ◌∷◌, ◌++◌, [], IfErr};
+ghost use Rattle.lsm_shelf.specs.Account.{counted_by, told_in};
+ghost use Rattle.lsm_shelf.specs.Told.{Place, Counted};
+
+use crate::shelf_fault::ShelfFault;
+use boxcar::tag::{Names, Tag};
+
+/// What a shelf's value was told: two counts that exist when the program runs, and lists that only contracts read.
+#[derive(Drop)]
+pub(crate) struct Account {
+    pub(crate) faults: u64,
+    pub(crate) misses: u64,
+    pub(crate) gone: Tag,
+    pub(crate) sent: Tag,
+    pub(crate) found: Tag,
+}
+
+/// One number.
+struct Lone;
+
+impl Names<u64> for Lone {
+    ghost numbers = { λ n. n ∷ [] };
+}
+
+/// The bytes of a slice.
+struct Whole;
+
+impl<'a> Names<&'a [u8]> for Whole {
+    ghost numbers = { λ b. b.now };
+}
+
+/// A list and what follows it.
+#[derive(Drop)]
+struct Pair<'a> {
+    front: &'a Tag,
+    back: &'a Tag,
+}
+
+struct Joined;
+
+impl<'a> Names<Pair<'a>> for Joined {
+    ghost numbers = { λ p. p.front.now.numbers ++ p.back.now.numbers };
+}
+
+/// The list of one number.
+pub(crate) fn tag_of_number(number: u64) -> Tag
+    ensures { result.numbers ≡ number ∷ [] }
+{
+    Tag::of::<u64, Lone>(&number)
+}
+
+/// The list of these bytes.
+pub(crate) fn tag_of_bytes(bytes: &[u8]) -> Tag
+    ensures { result.numbers ≡ bytes.now }
+{
+    Tag::of::<&[u8], Whole>(&bytes)
+}
+
+/// One list after another.
+pub(crate) fn tag_of_both(front: &Tag, back: &Tag) -> Tag
+    ensures { result.numbers ≡ front.now.numbers ++ back.now.numbers }
+{
+    Tag::of::<Pair, Joined>(&Pair { front, back })
+}
+
+impl Account {
+    /// A value to which nothing was told yet.
+    pub(crate) fn new() -> Account
+        ensures faults { result.faults ≡ 0 }
+        ensures misses { result.misses ≡ 0 }
+        ensures gone { result.gone.numbers ≡ [] }
+        ensures sent { result.sent.numbers ≡ [] }
+        ensures found { result.found.numbers ≡ [] }
+    {
+        Account {
+            faults: 0,
+            misses: 0,
+            gone: Tag::empty(),
+            sent: Tag::empty(),
+            found: Tag::empty(),
+        }
+    }
+
+    /// Counts a refusal, once. A count stays at its last value.
+    pub(crate) fn count<T: Drop>(&mut self, outcome: Result<T, ShelfFault>) -> Result<T, ShelfFault>
+        ensures same { result ≡ outcome }
+        ensures counted { self.new ≡ counted_by outcome self.old }
+        ensures faults { self.old.faults ≤ self.new.faults }
+        ensures misses { self.old.misses ≤ self.new.misses }
+        ensures gone { self.new.gone ≡ self.old.gone }
+        ensures sent { self.new.sent ≡ self.old.sent }
+        ensures found { self.new.found ≡ self.old.found }
+        ensures cause { IfErr result (λ e. (p : Place) → Counted e (told_in p self.old) (told_in p self.new)) }
+    {
+        match &outcome {
+            Err(ShelfFault::Device) => self.faults = self.faults.saturating_add(1),
+            Err(ShelfFault::Missing | ShelfFault::Taken(_)) => {
+                self.misses = self.misses.saturating_add(1);
+            }
+            _ => {}
+        }
+        outcome
+    }
+}

@@ -1,0 +1,122 @@
+//! Where tables and the manifest lie.
+
+ghost use Rattle.std.specs.Prelude.{◌≡◌, ◌+◌, ◌≤◌, ◌++◌, length, take, drop, IfOk, IfErr, OnOk, OnErr};
+ghost use Rattle.std.specs.List.Sorted.{IsStrictlyIncreasing};
+
+use crate::shelf_fault::ShelfFault;
+use crate::slip::Slip;
+use std::alloc::Global;
+use std::sync::Wait;
+
+/// A place for tables and one manifest, as LevelDB's `doc/impl.md` describes a database's folder.
+///
+/// One value has one user; `fork` makes another value on the same contents. Contracts see a value as what its calls
+/// told it (`Told`): each call says what it leaves of that (`told`), and that a refusal other than `OutOfMemory` came
+/// with a count that rose (`cause`).
+pub trait Shelf: Drop + Send + Sync {
+    ghost use Rattle.lsm_shelf.specs.Told.{Place, Told, Becomes, Counted, NotTaken, NotNamed, TakenIs, removing, sending, finding, fresh};
+
+    /// What stands for an image that was put or loaded.
+    type Receipt: Slip;
+
+    /// The premise under which reads give the bytes of the image put. One for the type, so the same for all its values.
+    ghost honest: { Type 0 };
+
+    /// What the value's calls told it.
+    ghost told: { Self → Told };
+
+    /// The receipt is of these contents.
+    ghost is_of: { Place → Self.Receipt → Type 0 };
+
+    /// Puts an image under a number, on the device before it answers Ok.
+    ///
+    /// `Taken` where a table of this number is there. `Device` where the image has more than 1 GiB or the device fails;
+    /// the number may then be listed or not.
+    fn put<R: Wait>(
+        &mut self,
+        rt: &R,
+        alloc: Global,
+        number: u64,
+        image: &[u8],
+    ) -> Result<Self::Receipt, ShelfFault>
+        ensures receipt { IfOk result (λ r. (Self.Receipt.number r ≡ number) × (Self.Receipt.image r ≡ image.now) × is_of (told self.old).place r) }
+        ensures told { Becomes (told self.old) (told self.new) }
+        ensures cause { IfErr result (λ e. TakenIs number e × Counted e (told self.old) (told self.new)) };
+
+    /// Reads `len` bytes at `offset` of the image for which the receipt stands.
+    fn read_at(
+        &mut self,
+        alloc: Global,
+        receipt: &Self::Receipt,
+        offset: u64,
+        len: usize,
+    ) -> Result<Vec<u8>, ShelfFault>
+        requires here { is_of (told self.old).place receipt.now }
+        requires inside { offset + len ≤ length (Self.Receipt.image receipt.now) }
+        ensures bytes { honest → IfOk result (λ v. v.items ≡ take len (drop offset (Self.Receipt.image receipt.now))) }
+        ensures told { Becomes (told self.old) (told self.new) }
+        ensures cause { IfErr result (λ e. NotTaken e × Counted e (told self.old) (told self.new)) };
+
+    /// Reads a whole image by its number; the receipt stands for the bytes that were read. `Missing` where no table has
+    /// this number, `Device` where it has more than 1 GiB or the device fails.
+    fn load<R: Wait>(
+        &mut self,
+        rt: &R,
+        alloc: Global,
+        number: u64,
+    ) -> Result<(Self::Receipt, Vec<u8>), ShelfFault>
+        ensures receipt { IfOk result (λ r. (Self.Receipt.number r.0 ≡ number) × (Self.Receipt.image r.0 ≡ r.1.items) × is_of (told self.old).place r.0) }
+        ensures told { Becomes (told self.old) (told self.new) }
+        ensures cause { IfErr result (λ e. NotTaken e × Counted e (told self.old) (told self.new)) };
+
+    /// Removes the table of a number. `Missing` where there is none; after `Device` it may be gone or not.
+    fn remove<R: Wait>(&mut self, rt: &R, number: u64) -> Result<(), ShelfFault>
+        ensures told { Becomes (removing number (told self.old)) (told self.new) }
+        ensures cause { IfErr result (λ e. NotTaken e × Counted e (told self.old) (told self.new)) };
+
+    /// The numbers of the tables that are there, ascending.
+    fn list<R: Wait>(&mut self, rt: &R, alloc: Global) -> Result<Vec<u64>, ShelfFault>
+        ensures ascending { IfOk result (λ v. IsStrictlyIncreasing v.items) }
+        ensures told { Becomes (told self.old) (told self.new) }
+        ensures cause { IfErr result (λ e. NotNamed e × Counted e (told self.old) (told self.new)) };
+
+    /// Number and bytes of the manifest. `Missing` where there is none.
+    fn read_manifest<R: Wait>(
+        &mut self,
+        rt: &R,
+        alloc: Global,
+    ) -> Result<(u64, Vec<u8>), ShelfFault>
+        ensures ok { IfOk result (λ r. Becomes (finding r.0 r.1.items (told self.old)) (told self.new)) }
+        ensures err { OnErr result (Becomes (told self.old) (told self.new)) }
+        ensures cause { IfErr result (λ e. NotTaken e × Counted e (told self.old) (told self.new)) };
+
+    /// Writes a new manifest and makes it the directory's. `Taken` where a manifest of this number is there; after
+    /// `Device` the directory names the old manifest or the new one whole.
+    fn start_manifest<R: Wait>(
+        &mut self,
+        rt: &R,
+        alloc: Global,
+        number: u64,
+        bytes: &[u8],
+    ) -> Result<(), ShelfFault>
+        ensures ok { OnOk result (Becomes (sending bytes.now (told self.old)) (told self.new)) }
+        ensures err { OnErr result (Becomes (told self.old) (told self.new)) }
+        ensures cause { IfErr result (λ e. TakenIs number e × Counted e (told self.old) (told self.new)) };
+
+    /// Appends to the manifest that the directory names, on the device before it answers Ok. `Missing` where there is
+    /// none; after `Device` the manifest is the old bytes and a prefix of the new ones.
+    fn append_manifest<R: Wait>(&mut self, rt: &R, bytes: &[u8]) -> Result<(), ShelfFault>
+        ensures ok { OnOk result (Becomes (sending ((told self.old).sent ++ bytes.now) (told self.old)) (told self.new)) }
+        ensures err { OnErr result (Becomes (told self.old) (told self.new)) }
+        ensures cause { IfErr result (λ e. NotTaken e × Counted e (told self.old) (told self.new)) };
+
+    /// Another value on the same contents, to which nothing was told yet.
+    fn fork(&mut self, alloc: Global) -> Result<Self, ShelfFault>
+        ensures fork { IfOk result (λ s. told s ≡ fresh (told self.old).place) }
+        ensures told { Becomes (told self.old) (told self.new) }
+        ensures cause { IfErr result (λ e. NotNamed e × Counted e (told self.old) (told self.new)) };
+
+    /// How often this value answered `Device`, and how often `Missing` or `Taken`. A count at 2^64-1 stays there.
+    fn failures(&self) -> (u64, u64)
+        ensures { result ≡ ((told self.now).faults, (told self.now).misses) };
+}
