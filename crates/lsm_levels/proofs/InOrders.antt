@@ -1,5 +1,5 @@
 -- Entries of two ranges that have no internal key in common: all of one stand before all of the other.
-use Rattle.std.proofs.Common.{◌≡◌, ◌≤◌, arith, Bool, true, false, List, [], ◌∷◌, ◌++◌, refl, sym, ◌∙◌, ap, subst, inl, inr}
+use Rattle.std.proofs.Common.{◌≡◌, ◌≤◌, arith, true, false, List, [], ◌∷◌, ◌++◌, refl, sym, ◌∙◌, ap, subst, inl, inr}
 use Rattle.std.specs.Prelude.{◌⊎◌}
 use Rattle.std.proofs.lemmas.Bool.{cases_Bool}
 use Rattle.lsm_codec.specs.Entries.{Entry, internal_key, stamp}
@@ -10,7 +10,7 @@ use Rattle.lsm_levels.specs.Files.{Before}
 use Rattle.lsm_levels.specs.Merging.{goes_first}
 use Rattle.lsm_levels.specs.Ranges.{Range, KeyLe, key_le, MeetInKeys}
 use Rattle.lsm_levels.specs.Streams.{IsAscending}
-use Rattle.lsm_levels.proofs.Order.{first_from, first_trans, not_first_says, before_first, before_not_first, true_or_not}
+use Rattle.lsm_levels.proofs.Order.{first_from, first_trans, not_first_says, before_first, true_or_not}
 
 pub first_is_le : (x y : Entry) → goes_first x y ≡ key_le (internal_key x) (internal_key y)
 unfolding goes_first key_le

@@ -191,8 +191,11 @@ ends_level ts rest p i k is inside past j d low lt = absurd (omega (arith, ap le
 pub ends_behind : (ts rest : List Table) (p i : ℕ) (x : Table) (k : UserKey) → IsRising ts → rest ≡ drop p ts → i < length rest → x ≡ get_or rest i x → begins_by x k ≡ false
     → (j : ℕ) (d : Table) → i ≤ j → p + j < length ts → begins_by (get_or ts (p + j) d) k ≡ false
 ends_behind ts rest p i x k rising is lt at late j d low inside = true_or_not (begins_by (get_or ts (p + j) d) k) (λ b.
-    absurd (cc (user_le_trans (user_of x.smallest) (user_of (get_or ts (p + j) d).smallest) k
-    (subst (λ (t : Table). UserLe (user_of t.smallest) (user_of (get_or ts (p + j) d).smallest)) there (rising.lows (p + i) (p + j) d (omega arith) inside)) b, late)))
+    absurd (cc (
+      user_le_trans (user_of x.smallest) (user_of (get_or ts (p + j) d).smallest) k
+          (subst (λ (t : Table). UserLe (user_of t.smallest) (user_of (get_or ts (p + j) d).smallest)) there (rising.lows (p + i) (p + j) d (omega arith) inside)) b,
+      late,
+    )))
   where
     there : get_or ts (p + i) d ≡ x
     there = sym (at_rest ts rest p i d is) ∙ get_or_default rest i d x lt ∙ sym at

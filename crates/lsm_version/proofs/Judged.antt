@@ -445,9 +445,9 @@ meet_nowhere ts (inr l) = (l.0, l.1, each_clear l.0 l.2)
 clear_in_order : (m n : ℕ) (t u : Table) → IsWhole t → IsWhole u → Clear t u → InOrder (file_of m t) (file_of n u)
 clear_in_order m n t u wt wu c = entries_in_order (entries_in t.image) (entries_in u.image) wt.range wu.range wt.entries wu.entries (λ k. c.none (
   subst (λ (a : InternalKey). KeyLe a c.s.largest) (IsKey-unique t.smallest wt.range.smallest c.r.smallest wt.smallest c.small)
-  (subst (λ (b : InternalKey). KeyLe wt.range.smallest b) (IsKey-unique u.largest wu.range.largest c.s.largest wu.largest c.other_large) k.0),
+      (subst (λ (b : InternalKey). KeyLe wt.range.smallest b) (IsKey-unique u.largest wu.range.largest c.s.largest wu.largest c.other_large) k.0),
   subst (λ (a : InternalKey). KeyLe a c.r.largest) (IsKey-unique u.smallest wu.range.smallest c.s.smallest wu.smallest c.other_small)
-  (subst (λ (b : InternalKey). KeyLe wu.range.smallest b) (IsKey-unique t.largest wt.range.largest c.r.largest wt.largest c.large) k.1),
+      (subst (λ (b : InternalKey). KeyLe wu.range.smallest b) (IsKey-unique t.largest wt.range.largest c.r.largest wt.largest c.large) k.1),
 ))
 
 other_way : (F G : File) → InOrder F G → InOrder G F

@@ -1,4 +1,4 @@
-use Rattle.std.proofs.Common.{ℕ, ◌≤◌}
+use Rattle.std.proofs.Common.{ℕ}
 use Rattle.lsm_table.specs.Told.{Becomes}
 use Rattle.lsm_version.specs.Reads.{IsSoundLevel}
 use Rattle.lsm_version.proofs.Finding.{NoneBelow}

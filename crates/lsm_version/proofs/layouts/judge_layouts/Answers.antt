@@ -1,4 +1,4 @@
-use Rattle.std.proofs.Common.{◌≡◌, ◌+◌, ◌≤◌, ◌<◌, ℕ, List, map, arith, sym, ◌∙◌, subst}
+use Rattle.std.proofs.Common.{◌≡◌, List, map, arith, sym, ◌∙◌, subst}
 use Rattle.std.specs.List.Sorted.{IsSortedBy}
 use Rattle.lsm_table.specs.Registry.{Table}
 use Rattle.lsm_version.specs.Versions.{stands_before, level_in}
