@@ -14,5 +14,6 @@ mod Merging
 mod Merged
 mod Ranges
 mod Scanning
+mod InOrders
 mod Checked
 pub mod CallerLemmas

@@ -1,13 +1,12 @@
 -- A version, a job and its install, and an ingest, so small that all is in sight.
-use Rattle.std.proofs.Common.{◌≡◌, ℕ, zero, suc, ◌-◌, ◌<◌, ◌≤◌, false, List, [], ◌∷◌, ◌++◌, refl, sym, ◌∙◌, ap, subst, inl, inr, arith}
-use Rattle.std.specs.Prelude.{◌⊎◌}
+use Rattle.std.proofs.Common.{◌≡◌, ℕ, suc, ◌-◌, ◌≤◌, false, List, [], ◌∷◌, refl, sym, ◌∙◌, ap, subst, inl, inr, arith}
 use Rattle.lsm_codec.specs.declared.kind.Kind.TheVariants.{Value}
 use Rattle.lsm_codec.specs.Lists.{Has}
 use Rattle.lsm_codec.specs.Keys.{UserKey, UserLe}
 use Rattle.lsm_codec.specs.Entries.{Entry}
 use Rattle.lsm_codec.proofs.Keys.{user_le_refl}
-use Rattle.lsm_levels.specs.Files.{File, Apart, Meets, Fits, IsLawful, Shallower, all_entries}
-use Rattle.lsm_levels.specs.Jobs.{Job, AreOutputs, Changed, Gains, Holds, IsOpenIn, is_input}
+use Rattle.lsm_levels.specs.Files.{File, Apart, Meets, Fits, IsLawful, all_entries}
+use Rattle.lsm_levels.specs.Jobs.{Job, AreOutputs, Changed, Gains, IsOpenIn, is_input}
 use Rattle.lsm_levels.specs.Kept.{kept_entries}
 use Rattle.lsm_levels.specs.Plans.{IsLinked, starting, meeting, Plan, IsClosed, IsJobOf, Spans}
 use Rattle.lsm_levels.proofs.Plans.{plan_opens}

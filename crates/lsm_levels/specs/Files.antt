@@ -39,6 +39,11 @@ IsAhead F G = (x y : Entry) → Has F.entries x → Has G.entries y → Before x
 abbrev pub InOrder : File → File → Type 0
 InOrder F G = IsAhead F G ⊎ IsAhead G F
 
+-- How the files of a level from 1 on lie in the versions of this project: in order of internal keys, so that a user key may go on
+-- in the next file (LevelDB's `doc/impl.md`, "Levels").
+abbrev pub Lie : File → File → Type 0
+Lie = InOrder
+
 -- no two entries have one user key and one stamp
 abbrev pub OneEach : List Entry → Type 0
 OneEach es = (x y : Entry) → Has es x → Has es y → x.user ≡ y.user → stamp x ≡ stamp y → x ≡ y

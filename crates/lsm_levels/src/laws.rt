@@ -11,6 +11,7 @@ ghost use Rattle.lsm_levels.specs.Jobs.{AreOutputs, Changed, Conflicts, Gains, H
 ghost use Rattle.lsm_levels.specs.Kept.{kept_entries};
 ghost use Rattle.lsm_levels.specs.Merging.{AreOrdered, IsOrdered, IsSorted, Placed, entries_of, is_alike, merge_all, placed_at};
 ghost use Rattle.lsm_levels.specs.Plans.{IsClosed, IsJobOf, Plan};
+ghost use Rattle.lsm_levels.specs.Ranges.{MeetInKeys, ShareUsers};
 ghost use Rattle.lsm_levels.specs.Scanning.{IsScan, pairs_of};
 ghost use Rattle.lsm_levels.specs.Streams.{IsAscending, IsCut, IsMerge, streamed};
 
@@ -105,9 +106,12 @@ pub fn scans_show_answers()
     ensures { (s : ℕ) (es : List Entry) → IsSorted es → IsScan s es (pairs_of s None es) }
 {}
 
-/// What is judged of tables one by one, level by level, and along the merge of all their entries makes a lawful version.
+/// What is judged of tables one by one, level by level, and along the merge of all their entries makes a lawful version: one whose
+/// files lie apart where no two ranges of a level share a user key, and one whose files lie in order where none share an internal
+/// key.
 pub fn judged_versions_are_lawful()
-    ensures { (levels : List (List Listed)) (depth : File → ℕ) (placed : List Placed) → IsJudged levels depth placed → IsLawful Apart (files_from 0 levels) }
+    ensures apart { (levels : List (List Listed)) (depth : File → ℕ) (placed : List Placed) → IsJudged ShareUsers levels depth placed → IsLawful Apart (files_from 0 levels) }
+    ensures in_order { (levels : List (List Listed)) (depth : File → ℕ) (placed : List Placed) → IsJudged MeetInKeys levels depth placed → IsLawful InOrder (files_from 0 levels) }
 {}
 
 /// A read goes by depths: the newest entry of a file is the newest of the version where no file of a lesser depth has an entry that the

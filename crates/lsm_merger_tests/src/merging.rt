@@ -210,12 +210,7 @@ const SHOWN: &[(u64, &[(&[u8], &[u8])])] = &[
 ];
 
 /// Whether the next pair of a scan has this user key and value.
-fn shows<S: Stream>(
-    alloc: Global,
-    scan: &mut Scan<S>,
-    user: &[u8],
-    value: &[u8],
-) -> bool {
+fn shows<S: Stream>(alloc: Global, scan: &mut Scan<S>, user: &[u8], value: &[u8]) -> bool {
     match scan.next(alloc) {
         Ok(Some(pair)) => pair.user() == user && pair.value() == value,
         Ok(None) | Err(_) => false,

@@ -1,9 +1,9 @@
 -- What is found in tables that are looked at one after another.
-use Rattle.std.proofs.Common.{◌≡◌, ℕ, suc, ◌^◌, ◌<◌, ◌≤◌, Bool, true, false, List, [], ◌∷◌, ◌++◌, length, get_or, Option, Some, None, refl, sym, ◌∙◌, ap, subst, inl, inr, arith, Ok, Err}
+use Rattle.std.proofs.Common.{◌≡◌, ℕ, suc, ◌+◌, ◌-◌, ◌^◌, ◌<◌, ◌≤◌, Bool, true, false, List, [], ◌∷◌, ◌++◌, length, get_or, drop, Option, Some, None, refl, sym, ◌∙◌, ap, subst, inl, inr, arith, Ok, Err}
 use Rattle.std.specs.Prelude.{◌⊎◌, ◌&&◌}
 use Rattle.std.specs.List.{Contains}
-use Rattle.std.proofs.lemmas.Bool.{and_from, ltb-false, cases_lt, cases_Bool}
-use Rattle.std.proofs.lemmas.List.{append_assoc, get_or_default}
+use Rattle.std.proofs.lemmas.Bool.{and_from, and_parts, ltb-false, cases_lt, cases_Bool}
+use Rattle.std.proofs.lemmas.List.{append_assoc, get_or_default, get_or-drop, length-drop}
 use Rattle.lsm_codec.specs.Lists.{Has}
 use Rattle.lsm_codec.proofs.Lists.{has_left, has_right, has_cases, contains_from}
 use Rattle.lsm_codec.specs.Keys.{UserKey, UserLe}
@@ -22,16 +22,12 @@ use Rattle.lsm_table.specs.declared.table_fault.TableFault.TheVariants as why
 use Rattle.lsm_table.specs.declared.read_fault.ReadFault.{ReadFault}
 use Rattle.lsm_table.specs.declared.read_fault.ReadFault.TheVariants.{Shelf, Table as AtTable}
 use Rattle.lsm_table.proofs.OpenLaws.{opening_again}
-use Rattle.lsm_levels.specs.Files.{File, Apart, IsLawful, all_entries, Shallower}
+use Rattle.lsm_levels.specs.Files.{File, Lie, IsLawful, all_entries, Shallower}
 use Rattle.lsm_version.specs.Versions.{file_of, files_of, files_from, user_of}
 use Rattle.lsm_version.specs.Reads.{IsSoundLevel, AreSound, IsRising, IsFirstReaching, is_below, is_candidate, covers, begins_by, reaches, IsYoungest, HasNoCandidate}
-use Rattle.lsm_levels.proofs.CallerLemmas.{true_or_not}
-use Rattle.lsm_levels.proofs.CallerLemmas.{newest_is}
-use Rattle.lsm_levels.proofs.CallerLemmas.{all_has, has_all, one_each}
-use Rattle.lsm_levels.proofs.CallerLemmas.{apart_split}
-use Rattle.lsm_levels.proofs.CallerLemmas.{depth_newest}
+use Rattle.lsm_levels.proofs.CallerLemmas.{all_has, before_says, depth_newest, has_all, in_order_split, newest_is, one_each, true_or_not}
 use Rattle.lsm_version.proofs.ChangedFiles.{files_has, has_files}
-use Rattle.lsm_version.proofs.Rising.{covers_same}
+use Rattle.lsm_version.proofs.Rising.{ahead_or_same, has_at}
 
 -- no entry of the table is for the read
 abbrev pub HasNone : UserKey → ℕ → Table → Type 0
@@ -87,44 +83,9 @@ allowed_covers n ts u k s y l hu hy a =
 
 -- ---- a level from 1 on
 
--- what is allowed at the level is of the table whose range has the key
-of_covering : (n : ℕ) (ts : List Table) (t u : Table) (k : UserKey) (s : ℕ) (y : Entry) → 1 ≤ n → IsSoundLevel n ts → Has ts t → covers t k ≡ true → Has ts u → Has (entries_in u.image) y
-    → IsAllowed k s y → Has (entries_in t.image) y
-of_covering n ts t u k s y pos l ht ct hu hy a =
-    let same = covers_same n ts t u k pos l ht hu ct (allowed_covers n ts u k s y l hu hy a) in
-    subst (λ (F : File). Has F.entries y) (sym same) hy
-
 no_shallower : (n : ℕ) (F G : File) → 1 ≤ n → F.level ≡ n → G.level ≡ n → Shallower G F → ⊥
 no_shallower n F G pos a b (inl lt) = absurd (omega arith)
 no_shallower n F G pos a b (inr o) = (let e = o.0 in absurd (omega arith))
-
-pub range_found : (n : ℕ) (ts : List Table) (t : Table) (k : UserKey) (s : ℕ) → 1 ≤ n → IsSoundLevel n ts → Has ts t → covers t k ≡ true
-    → newest k s (entries_in t.image) ≡ newest k s (all_entries (files_of n ts))
-range_found n ts t k s pos l ht ct = sym (go (newest k s (entries_in t.image)) refl)
-  where
-    level_of : (G : File) → Has (files_of n ts) G → G.level ≡ n
-    level_of G h = (let r = files_has n ts G h in ap (λ (F : File). F.level) (sym r.2))
-
-    within : (G : File) (y : Entry) → Has (files_of n ts) G → Has G.entries y → IsAllowed k s y → Has (entries_in t.image) y
-    within G y h hy a = (let r = files_has n ts G h in of_covering n ts t r.0 k s y pos l ht ct r.1 (subst (λ (F : File). Has F.entries y) (sym r.2) hy) a)
-
-    go : (o : Option Entry) → newest k s (entries_in t.image) ≡ o → newest k s (all_entries (files_of n ts)) ≡ o
-    go None e = newest_none k s (all_entries (files_of n ts)) (λ y h. true_or_not (is_allowed k s y) (λ a.
-        (let r = all_has (files_of n ts) y h in absurd (cc (none_allowed k s (entries_in t.image) e y (within r.0 y r.1 r.2 (allowed_says k s y a)), a)))))
-    go (Some e) is = (let new = is_newest k s (entries_in t.image) e is in
-        depth_newest Apart apart_split (files_of n ts) (file_of n t) k s e l.lawful (has_files n ts t ht) new
-        (λ G y h sh hy a. no_shallower n (file_of n t) G pos refl (level_of G h) sh)
-        (λ G y h same one hy a. new.most y (within G y h hy a) a))
-
-pub range_missed : (n : ℕ) (ts : List Table) (k : UserKey) (s : ℕ) → IsSoundLevel n ts → ((u : Table) → Has ts u → covers u k ≡ false) → newest k s (all_entries (files_of n ts)) ≡ None
-range_missed n ts k s l none = newest_none k s (all_entries (files_of n ts)) (λ y h. true_or_not (is_allowed k s y) (λ a.
-    (let r = all_has (files_of n ts) y h in
-    let q = files_has n ts r.0 r.1 in
-    absurd (cc (none q.0 q.1, allowed_covers n ts q.0 k s y l q.1 (subst (λ (F : File). Has F.entries y) (sym q.2) r.2) (allowed_says k s y a))))))
-
--- the table that the search gives has the key in its range, where it begins by it
-pub reached_covers : (ts : List Table) (p : ℕ) (x : Table) (k : UserKey) → IsFirstReaching k ts p → p < length ts → x ≡ get_or ts p x → begins_by x k ≡ true → covers x k ≡ true
-reached_covers ts p x k f lt is b = and_from (begins_by x k) (reaches x k) b (ap (λ (y : Table). reaches y k) is ∙ f.after p x (omega arith) lt)
 
 pub and_false_left : (a b : Bool) → a ≡ false → (a && b) ≡ false
 and_false_left a b h = rw h refl
@@ -133,27 +94,111 @@ pub and_false_right : (a b : Bool) → b ≡ false → (a && b) ≡ false
 and_false_right true b h = h
 and_false_right false b h = refl
 
-pub misses_past : (ts : List Table) (p : ℕ) (k : UserKey) → IsFirstReaching k ts p → length ts ≤ p → (u : Table) → Has ts u → covers u k ≡ false
-misses_past ts p k f past u h =
-    let c = contains_from ts u h in
-    and_false_right (begins_by u k) (reaches u k) (ap (λ (y : Table). reaches y k) (sym c.2) ∙ f.before c.0 u (let lt = c.1 in omega arith))
+-- none of the first i tables from the p-th on has an entry for the read
+abbrev pub NoneBelow : UserKey → ℕ → List Table → ℕ → Type 0
+NoneBelow k s rest i = (j : ℕ) (d : Table) → j < i → HasNone k s (get_or rest j d)
 
-pub misses_before : (ts : List Table) (p : ℕ) (x : Table) (k : UserKey) → IsRising ts → IsFirstReaching k ts p → p < length ts → x ≡ get_or ts p x → begins_by x k ≡ false
-    → (u : Table) → Has ts u → covers u k ≡ false
-misses_before ts p x k r f inside is late u h = go (contains_from ts u h)
+-- one table more was looked at
+pub none_more : (k : UserKey) (s : ℕ) (rest : List Table) (i : ℕ) (x : Table) → i < length rest → x ≡ get_or rest i x → newest k s (entries_in x.image) ≡ None → NoneBelow k s rest i → NoneBelow k s rest (i + 1)
+none_more k s rest i x lt is none before j d low = elim (cases_lt j i) [
+  | inl less ↦ before j d less
+  | inr more ↦ (let same : j ≡ i = omega arith in
+      let at : x ≡ get_or rest j d = is ∙ sym (get_or_default rest i d x lt) ∙ ap (λ (n : ℕ). get_or rest n d) (sym same) in
+      subst (HasNone k s) at (none_allowed k s (entries_in x.image) none))
+]
+
+-- the place of a table in the level, and in the part from p on
+at_rest : (ts rest : List Table) (p i : ℕ) (d : Table) → rest ≡ drop p ts → get_or rest i d ≡ get_or ts (p + i) d
+at_rest ts rest p i d is = ap (λ (us : List Table). get_or us i d) is ∙ get_or-drop p ts i d
+
+pub has_rest : (ts rest : List Table) (p i : ℕ) (x : Table) → rest ≡ drop p ts → p ≤ length ts → i < length rest → x ≡ get_or rest i x → Has ts x
+has_rest ts rest p i x is inside lt at =
+    let long : length rest ≡ length ts - p = ap length is ∙ length-drop p ts in
+    subst (Has ts) (sym (at_rest ts rest p i x is) ∙ sym at) (has_at ts (p + i) x (omega arith))
+
+-- a table with an entry for the read reaches the key, and begins by it
+allowed_parts : (n : ℕ) (ts : List Table) (u : Table) (k : UserKey) (s : ℕ) (y : Entry) → IsSoundLevel n ts → Has ts u → Has (entries_in u.image) y → IsAllowed k s y → (begins_by u k ≡ true) × (reaches u k ≡ true)
+allowed_parts n ts u k s y l hu hy a = and_parts (begins_by u k) (reaches u k) (allowed_covers n ts u k s y l hu hy a)
+
+-- what is found in the first table that has an entry for the read is the newest of the level: what comes later stands behind it
+pub range_found : (n : ℕ) (ts rest : List Table) (p i : ℕ) (x : Table) (k : UserKey) (s : ℕ) (e : Entry) → 1 ≤ n → IsSoundLevel n ts → rest ≡ drop p ts → p ≤ length ts → IsFirstReaching k ts p → i < length rest
+    → x ≡ get_or rest i x → NoneBelow k s rest i → newest k s (entries_in x.image) ≡ Some e → newest k s (all_entries (files_of n ts)) ≡ Some e
+range_found n ts rest p i x k s e pos l is inside f lt at none here =
+    depth_newest Lie in_order_split (files_of n ts) (file_of n x) k s e l.lawful (has_files n ts x hx) new
+    (λ G y h sh hy a. no_shallower n (file_of n x) G pos refl (level_of G h) sh)
+    (λ G y h same one hy a. beside G y (files_has n ts G h) hy a)
   where
-    same : get_or ts p u ≡ x
-    same = get_or_default ts p u x inside ∙ sym is
+    new : IsNewest (entries_in x.image) k s e
+    new = is_newest k s (entries_in x.image) e here
 
-    go : Contains ts u → covers u k ≡ false
-    go c = elim (cases_lt c.0 p) [
-      | inl early ↦ and_false_right (begins_by u k) (reaches u k) (ap (λ (y : Table). reaches y k) (sym c.2) ∙ f.before c.0 u early)
-      | inr on ↦ and_false_left (begins_by u k) (reaches u k) (true_or_not (begins_by u k) (λ b.
-          (let low = r.lows p c.0 u on c.1 in
-          let there : UserLe (user_of x.smallest) (user_of u.smallest) = subst (λ (y : Table). UserLe (user_of x.smallest) (user_of y.smallest)) c.2
-          (subst (λ (y : Table). UserLe (user_of y.smallest) (user_of (get_or ts c.0 u).smallest)) same low) in
-          absurd (cc (user_le_trans (user_of x.smallest) (user_of u.smallest) k there b, late)))))
+    level_of : (G : File) → Has (files_of n ts) G → G.level ≡ n
+    level_of G h = (let r = files_has n ts G h in ap (λ (F : File). F.level) (sym r.2))
+
+    there : get_or ts (p + i) x ≡ x
+    there = sym (at_rest ts rest p i x is) ∙ sym at
+
+    hx : Has ts x
+    hx = has_rest ts rest p i x is inside lt at
+
+    older : (j : ℕ) (u : Table) (y : Entry) → p + i ≤ j → j < length ts → get_or ts j u ≡ u → Has (entries_in u.image) y → IsAllowed k s y → stamp y ≤ stamp e
+    older j u y low high is_u hy a =
+        let first : get_or ts (p + i) u ≡ x = get_or_default ts (p + i) u x (omega arith) ∙ there in
+        elim (ahead_or_same n ts pos l (p + i) j u low high) [
+          | inl same ↦ new.most y (subst (λ (F : File). Has F.entries y) (sym (ap (λ (t : Table). file_of n t) (sym first) ∙ same ∙ ap (λ (t : Table). file_of n t) is_u)) hy) a
+          | inr ahead ↦ (let bef = ahead e y (subst (λ (t : Table). Has (entries_in t.image) e) (sym first) new.here) (subst (λ (t : Table). Has (entries_in t.image) y) (sym is_u) hy) in
+              elim (before_says e y bef) [ inl q ↦ absurd (q.1 (new.allowed.key ∙ sym a.key)) | inr q ↦ (let less = q.1 in omega arith) ])
+        ]
+
+    beside : (G : File) (y : Entry) → ((u : Table) × Has ts u × (file_of n u ≡ G)) → Has G.entries y → IsAllowed k s y → stamp y ≤ stamp e
+    beside G y r hy a = place r.0 (subst (λ (F : File). Has F.entries y) (sym r.2) hy) (contains_from ts r.0 r.1) r.1
+      where
+        place : (u : Table) → Has (entries_in u.image) y → Contains ts u → Has ts u → stamp y ≤ stamp e
+        place u hu c h = elim (cases_lt c.0 p) [
+          | inl early ↦ absurd (cc (ap (λ (t : Table). reaches t k) c.2 ∙ (allowed_parts n ts u k s y l h hu a).1, f.before c.0 u early))
+          | inr on ↦ elim (cases_lt c.0 (p + i)) [
+            | inl before ↦ (let q : p + (c.0 - p) ≡ c.0 = omega arith in
+                let same : get_or rest (c.0 - p) u ≡ u = at_rest ts rest p (c.0 - p) u is ∙ ap (λ (m : ℕ). get_or ts m u) q ∙ c.2 in
+                absurd (cc (allowed_from k s y a, subst (HasNone k s) same (none (c.0 - p) u (omega arith)) y hu)))
+            | inr from ↦ older c.0 u y from c.1 c.2 hu a
+          ]
+        ]
+
+-- where the search has ended, nothing is there for the read
+pub range_missed : (n : ℕ) (ts rest : List Table) (p i : ℕ) (k : UserKey) (s : ℕ) → IsSoundLevel n ts → rest ≡ drop p ts → IsFirstReaching k ts p → NoneBelow k s rest i
+    → ((j : ℕ) (d : Table) → i ≤ j → p + j < length ts → begins_by (get_or ts (p + j) d) k ≡ false) → newest k s (all_entries (files_of n ts)) ≡ None
+range_missed n ts rest p i k s l is f none late = newest_none k s (all_entries (files_of n ts)) (λ y h. true_or_not (is_allowed k s y) (λ a.
+    (let r = all_has (files_of n ts) y h in
+    let q = files_has n ts r.0 r.1 in
+    place y (allowed_says k s y a) q.0 (subst (λ (F : File). Has F.entries y) (sym q.2) r.2) (contains_from ts q.0 q.1) q.1)))
+  where
+    place : (y : Entry) → IsAllowed k s y → (u : Table) → Has (entries_in u.image) y → Contains ts u → Has ts u → ⊥
+    place y a u hu c h = elim (cases_lt c.0 p) [
+      | inl early ↦ absurd (cc (ap (λ (t : Table). reaches t k) c.2 ∙ (allowed_parts n ts u k s y l h hu a).1, f.before c.0 u early))
+      | inr on ↦ (let q : p + (c.0 - p) ≡ c.0 = omega arith in
+          elim (cases_lt (c.0 - p) i) [
+            | inl before ↦ (let same : get_or rest (c.0 - p) u ≡ u = at_rest ts rest p (c.0 - p) u is ∙ ap (λ (m : ℕ). get_or ts m u) q ∙ c.2 in
+                absurd (cc (allowed_from k s y a, subst (HasNone k s) same (none (c.0 - p) u before) y hu)))
+            | inr past ↦ (let lt = c.1 in
+                absurd (cc (ap (λ (t : Table). begins_by t k) (ap (λ (m : ℕ). get_or ts m u) q ∙ c.2) ∙ (allowed_parts n ts u k s y l h hu a).0, late (c.0 - p) u past (omega arith))))
+          ])
     ]
+
+-- the level has no further table
+pub ends_level : (ts rest : List Table) (p i : ℕ) (k : UserKey) → rest ≡ drop p ts → p ≤ length ts → length rest ≤ i → (j : ℕ) (d : Table) → i ≤ j → p + j < length ts → begins_by (get_or ts (p + j) d) k ≡ false
+ends_level ts rest p i k is inside past j d low lt = absurd (omega (arith, ap length is, length-drop p ts))
+
+-- a table begins behind the key, and so do those after it
+pub ends_behind : (ts rest : List Table) (p i : ℕ) (x : Table) (k : UserKey) → IsRising ts → rest ≡ drop p ts → i < length rest → x ≡ get_or rest i x → begins_by x k ≡ false
+    → (j : ℕ) (d : Table) → i ≤ j → p + j < length ts → begins_by (get_or ts (p + j) d) k ≡ false
+ends_behind ts rest p i x k rising is lt at late j d low inside = true_or_not (begins_by (get_or ts (p + j) d) k) (λ b.
+    absurd (cc (
+      user_le_trans (user_of x.smallest) (user_of (get_or ts (p + j) d).smallest) k
+          (subst (λ (t : Table). UserLe (user_of t.smallest) (user_of (get_or ts (p + j) d).smallest)) there (rising.lows (p + i) (p + j) d (omega arith) inside)) b,
+      late,
+    )))
+  where
+    there : get_or ts (p + i) d ≡ x
+    there = sym (at_rest ts rest p i d is) ∙ get_or_default rest i d x lt ∙ sym at
 
 -- ---- level 0
 
@@ -171,7 +216,7 @@ candidate_of ts u k s bound y l looked hu hy a = and_from (is_below bound u.numb
 pub number_found : (ts : List Table) (t : Table) (k : UserKey) (s : ℕ) (bound : Option ℕ) (e : Entry) → IsSoundLevel 0 ts → Looked k s bound ts → IsYoungest k bound ts t
     → newest k s (entries_in t.image) ≡ Some e → newest k s (all_entries (files_of 0 ts)) ≡ Some e
 number_found ts t k s bound e l looked young is =
-    depth_newest Apart apart_split (files_of 0 ts) (file_of 0 t) k s e l.lawful (has_files 0 ts t young.here) (is_newest k s (entries_in t.image) e is)
+    depth_newest Lie in_order_split (files_of 0 ts) (file_of 0 t) k s e l.lawful (has_files 0 ts t young.here) (is_newest k s (entries_in t.image) e is)
     (λ G y h sh hy a. above G y (files_has 0 ts G h) sh hy a)
     (λ G y h same one hy a. absurd (omega arith))
   where
@@ -198,7 +243,7 @@ numbers_done ts k s bound l looked none = newest_none k s (all_entries (files_of
 
 -- ---- levels one after another
 
-pub lawful_part : (v w : List File) → ((F : File) → Has w F → Has v F) → IsLawful Apart v → IsLawful Apart w
+pub lawful_part : (v w : List File) → ((F : File) → Has w F → Has v F) → IsLawful Lie v → IsLawful Lie w
 lawful_part v w part l = record {
   fits = λ F h. l.fits F (part F h);
   numbers = λ F G h g. l.numbers F G (part F h) (part G g);
@@ -232,7 +277,7 @@ level_from_files n (ts ∷ levels) F h = elim (has_cases (files_of n ts) (files_
 
 pub level_hit : (k : UserKey) (s n : ℕ) (ts : List Table) (rest : List (List Table)) (e : Entry) → AreSound n (ts ∷ rest) → newest k s (all_entries (files_of n ts)) ≡ Some e
     → newest k s (all_entries (files_from n (ts ∷ rest))) ≡ Some e
-level_hit k s n ts rest e a is = newest_is (all_entries (files_from n (ts ∷ rest))) k s e (one_each Apart apart_split (files_from n (ts ∷ rest)) a.lawful) record {
+level_hit k s n ts rest e a is = newest_is (all_entries (files_from n (ts ∷ rest))) k s e (one_each Lie in_order_split (files_from n (ts ∷ rest)) a.lawful) record {
   here = has_all (files_from n (ts ∷ rest)) own.0 e (has_left (files_of n ts) (files_from (suc n) rest) own.0 own.1) own.2;
   allowed = new.allowed;
   most = λ y h b. (let r = all_has (files_from n (ts ∷ rest)) y h in most y b r.0 r.2 (has_cases (files_of n ts) (files_from (suc n) rest) r.0 r.1));

@@ -4,9 +4,10 @@ use Rattle.std.specs.Prelude.{◌⊎◌, nat_lt}
 use Rattle.std.proofs.lemmas.Bool.{eq-eqb, ltb-true, ltb-false, cases_lt, cases_eq}
 use Rattle.std.proofs.lemmas.List.Sums.{sum_by-cons, count_by-le-length}
 use Rattle.lsm_codec.specs.Lists.{Has}
-use Rattle.lsm_codec.specs.Keys.{UserKey, UserLe, IsKey}
+use Rattle.lsm_codec.specs.Keys.{UserKey, InternalKey, IsKey}
 use Rattle.lsm_codec.specs.Entries.{Entry}
 use Rattle.lsm_codec.proofs.Lists.{has_left, has_right, has_cases, has_flat, flat_has}
+use Rattle.lsm_codec.proofs.KeyBytes.{IsKey-unique}
 use Rattle.lsm_table.specs.Registry.{Table}
 use Rattle.lsm_table.specs.HeldTable.{entries_in}
 use Rattle.lsm_manifest.specs.FileOrder.{TableFile}
@@ -16,14 +17,14 @@ use Rattle.lsm_levels.specs.Checking.{Listed}
 use Rattle.lsm_version.specs.CheckRefusal.{IsAgainst, IsLeastAgainst}
 use Rattle.lsm_version.specs.DeepAges.{bare_placed}
 use Rattle.lsm_version.specs.FileNumbers.{file_numbers, numbers_of, times, AreDistinct}
-use Rattle.lsm_levels.specs.Files.{File, Apart, Fits, Shallower}
+use Rattle.lsm_levels.specs.Files.{File, InOrder, Lie, Fits, Shallower}
 use Rattle.lsm_version.specs.HeldStream.{bare, bare_all}
-use Rattle.lsm_version.specs.LevelLayouts.{AreWhole, AreLevelsWhole, AreRangesOf, LieApart}
+use Rattle.lsm_version.specs.LevelLayouts.{AreWhole, AreLevelsWhole, AreRangesOf, LieInOrder, MeetNowhere}
 use Rattle.lsm_version.specs.Loading.{Deep, newer_count, depth_at, depth_of, deep_of, deep_all, deep_from, AreFilesOf, AreLevelsOf, placed_levels}
 use Rattle.lsm_levels.specs.Merging.{Placed, placed_at, merge_all}
-use Rattle.lsm_levels.specs.Ranges.{Range, EachPair, ShareUsers}
+use Rattle.lsm_levels.specs.Ranges.{Range, EachPair, KeyLe, MeetInKeys, ShareUsers}
 use Rattle.lsm_version.specs.Versions.{IsSound, IsWhole, file_of, files_of, files_from, level_in, user_of}
-use Rattle.lsm_levels.proofs.CallerLemmas.{file_fits}
+use Rattle.lsm_levels.proofs.CallerLemmas.{file_fits, entries_in_order, key_le_user}
 use Rattle.lsm_version.proofs.ChangedFiles.{files_has, has_files, all_has, has_all}
 use Rattle.lsm_version.proofs.DeepAges.{bare_from, has_bare}
 use Rattle.lsm_version.proofs.LevelRanges.{whole_at, whole_in}
@@ -401,7 +402,7 @@ least_against last shape read k a l = record {
   least = λ other h. l.least other (against_from last shape read other a h);
 }
 
--- ---- files of a level apart
+-- ---- files of a level in order
 
 range_in : (ts : List Table) (rs : List Range) → AreRangesOf ts rs → (t : Table) → Has ts t → (r : Range) × Has rs r × IsKey t.smallest r.smallest × IsKey t.largest r.largest
 range_in [] rs a t h = absurd h
@@ -409,24 +410,49 @@ range_in (u ∷ ts) [] a t h = absurd a
 range_in (u ∷ ts) (r ∷ rs) a t (inl e) = (r, inl refl, subst (λ (x : Table). IsKey x.smallest r.smallest) e a.0, subst (λ (x : Table). IsKey x.largest r.largest) e a.1)
 range_in (u ∷ ts) (r ∷ rs) a t (inr h) = (let s = range_in ts rs a.2 t h in (s.0, inr s.1, s.2, s.3))
 
-abbrev AreApart : Table → Table → Type 0
-AreApart t u = UserLe (user_of t.smallest) (user_of u.largest) × UserLe (user_of u.smallest) (user_of t.largest) → ⊥
+-- the tables' ranges have no internal key in common
+record Clear (t u : Table) : Type 0 where
+  r : Range
+  s : Range
+  small : IsKey t.smallest r.smallest
+  large : IsKey t.largest r.largest
+  other_small : IsKey u.smallest s.smallest
+  other_large : IsKey u.largest s.largest
+  none : MeetInKeys r s → ⊥
 
-keys_apart : (t u : Table) (r s : Range) → IsKey t.smallest r.smallest → IsKey t.largest r.largest → IsKey u.smallest s.smallest → IsKey u.largest s.largest → (ShareUsers r s → ⊥) → AreApart t u
-keys_apart t u r s a b c d no_share m = no_share (
-  subst (λ (k : UserKey). UserLe k s.largest.user) (user_of-key t.smallest r.smallest a) (subst (λ (k : UserKey). UserLe (user_of t.smallest) k) (user_of-key u.largest s.largest d) m.0),
-  subst (λ (k : UserKey). UserLe k r.largest.user) (user_of-key u.smallest s.smallest c) (subst (λ (k : UserKey). UserLe (user_of u.smallest) k) (user_of-key t.largest r.largest b) m.1),
-)
+clear_keys : (t u : Table) (r s : Range) → IsKey t.smallest r.smallest → IsKey t.largest r.largest → IsKey u.smallest s.smallest → IsKey u.largest s.largest → (MeetInKeys r s → ⊥) → Clear t u
+clear_keys t u r s a b c d none = record { r = r; s = s; small = a; large = b; other_small = c; other_large = d; none = none }
 
-pair_apart : (ts : List Table) (rs : List Range) → AreRangesOf ts rs → EachPair (λ a b. ShareUsers a b → ⊥) rs → (t u : Table) → Has ts t → Has ts u → (t ≡ u) ⊎ (AreApart t u ⊎ AreApart u t)
-pair_apart [] rs a p t u ht hu = absurd ht
-pair_apart (x ∷ ts) [] a p t u ht hu = absurd a
-pair_apart (x ∷ ts) (r ∷ rs) a p t u (inl e) (inl f) = inl (sym e ∙ f)
-pair_apart (x ∷ ts) (r ∷ rs) a p t u (inl e) (inr h) =
-    let s = range_in ts rs a.2 u h in inr (inl (subst (λ (y : Table). AreApart y u) e (keys_apart x u r s.0 a.0 a.1 s.2 s.3 (p.0 s.0 s.1))))
-pair_apart (x ∷ ts) (r ∷ rs) a p t u (inr h) (inl f) =
-    let s = range_in ts rs a.2 t h in inr (inr (subst (λ (y : Table). AreApart y t) f (keys_apart x t r s.0 a.0 a.1 s.2 s.3 (p.0 s.0 s.1))))
-pair_apart (x ∷ ts) (r ∷ rs) a p t u (inr h) (inr k) = pair_apart ts rs a.2 p.1 t u h k
+pair_clear : (ts : List Table) (rs : List Range) → AreRangesOf ts rs → EachPair (λ a b. MeetInKeys a b → ⊥) rs → (t u : Table) → Has ts t → Has ts u → (t ≡ u) ⊎ (Clear t u ⊎ Clear u t)
+pair_clear [] rs a p t u ht hu = absurd ht
+pair_clear (x ∷ ts) [] a p t u ht hu = absurd a
+pair_clear (x ∷ ts) (r ∷ rs) a p t u (inl e) (inl f) = inl (sym e ∙ f)
+pair_clear (x ∷ ts) (r ∷ rs) a p t u (inl e) (inr h) =
+    let s = range_in ts rs a.2 u h in inr (inl (subst (λ (y : Table). Clear y u) e (clear_keys x u r s.0 a.0 a.1 s.2 s.3 (p.0 s.0 s.1))))
+pair_clear (x ∷ ts) (r ∷ rs) a p t u (inr h) (inl f) =
+    let s = range_in ts rs a.2 t h in inr (inr (subst (λ (y : Table). Clear y t) f (clear_keys x t r s.0 a.0 a.1 s.2 s.3 (p.0 s.0 s.1))))
+pair_clear (x ∷ ts) (r ∷ rs) a p t u (inr h) (inr k) = pair_clear ts rs a.2 p.1 t u h k
+
+each_clear : (rs : List Range) → EachPair (λ a b. ShareUsers a b → ⊥) rs → EachPair (λ a b. MeetInKeys a b → ⊥) rs
+each_clear [] p = tt
+each_clear (a ∷ rs) p = (λ b h m. p.0 b h (key_le_user a.smallest b.largest m.0, key_le_user b.smallest a.largest m.1), each_clear rs p.1)
+
+meet_nowhere : (ts : List Table) → MeetNowhere ts → (rs : List Range) × AreRangesOf ts rs × EachPair (λ a b. MeetInKeys a b → ⊥) rs
+meet_nowhere ts (inl l) = (l.0, l.1, l.2.0)
+meet_nowhere ts (inr l) = (l.0, l.1, each_clear l.0 l.2)
+
+-- whole tables whose ranges are clear of one another are files in order
+clear_in_order : (m n : ℕ) (t u : Table) → IsWhole t → IsWhole u → Clear t u → InOrder (file_of m t) (file_of n u)
+clear_in_order m n t u wt wu c = entries_in_order (entries_in t.image) (entries_in u.image) wt.range wu.range wt.entries wu.entries (λ k. c.none (
+  subst (λ (a : InternalKey). KeyLe a c.s.largest) (IsKey-unique t.smallest wt.range.smallest c.r.smallest wt.smallest c.small)
+      (subst (λ (b : InternalKey). KeyLe wt.range.smallest b) (IsKey-unique u.largest wu.range.largest c.s.largest wu.largest c.other_large) k.0),
+  subst (λ (a : InternalKey). KeyLe a c.r.largest) (IsKey-unique u.smallest wu.range.smallest c.s.smallest wu.smallest c.other_small)
+      (subst (λ (b : InternalKey). KeyLe wu.range.smallest b) (IsKey-unique t.largest wt.range.largest c.r.largest wt.largest c.large) k.1),
+))
+
+other_way : (F G : File) → InOrder F G → InOrder G F
+other_way F G (inl a) = inr a
+other_way F G (inr a) = inl a
 
 -- ---- the law of the version
 
@@ -450,28 +476,30 @@ pub length-placed : (read : List (List Table)) → length (placed_levels read) �
 length-placed [] = refl
 length-placed (ts ∷ read) = ap suc (length-placed read)
 
-apart_files : (levels : List (List Table)) → length levels ≡ 7 → LieApart levels → (F G : File) → Has (files_from 0 levels) F → Has (files_from 0 levels) G
-    → F.level ≡ G.level → 1 ≤ F.level → (F.number ≡ G.number → ⊥) → Apart F G
-apart_files levels seven apart F G hF hG same pos ne =
+ordered_files : (levels : List (List Table)) → length levels ≡ 7 → LieInOrder levels → ((n : ℕ) (t : Table) → Has (level_in levels n) t → IsWhole t) → (F G : File) → Has (files_from 0 levels) F → Has (files_from 0 levels) G
+    → F.level ≡ G.level → 1 ≤ F.level → (F.number ≡ G.number → ⊥) → Lie F G
+ordered_files levels seven order whole F G hF hG same pos ne =
     let f = file_in 0 levels F hF in
     let g = file_in 0 levels G hG in
     let lf : f.0 ≡ F.level = (let e = ap (λ (D : File). D.level) f.3 in omega arith) in
     let lg : g.0 ≡ f.0 = (let e = ap (λ (D : File). D.level) g.3 in omega arith) in
     let there : Has (level_in levels f.0) g.1 = subst (λ (n : ℕ). Has (level_in levels n) g.1) lg g.2 in
     let most : f.0 ≤ 6 = (let lt = inside levels f.0 f.1 f.2 in omega arith) in
-    let lies = apart f.0 (omega arith) most in
-    subst (λ (D : File). Apart D G) f.3 (subst (λ (D : File). Apart (file_of (0 + f.0) f.1) D) g.3 (
-    elim (pair_apart (level_in levels f.0) lies.0 lies.1 lies.2 f.1 g.1 f.2 there) [
+    let lies = meet_nowhere (level_in levels f.0) (order f.0 (omega arith) most) in
+    let wf = whole f.0 f.1 f.2 in
+    let wg = whole g.0 g.1 g.2 in
+    subst (λ (D : File). InOrder D G) f.3 (subst (λ (D : File). InOrder (file_of (0 + f.0) f.1) D) g.3 (
+    elim (pair_clear (level_in levels f.0) lies.0 lies.1 lies.2 f.1 g.1 f.2 there) [
       | inl e ↦ absurd (ne (ap (λ (D : File). D.number) (sym f.3) ∙ ap (λ (t : Table). t.number) e ∙ ap (λ (D : File). D.number) g.3))
       | inr o ↦ elim o [
-        | inl p ↦ p
-        | inr p ↦ (λ m. p (m.1, m.0))
+        | inl c ↦ clear_in_order (0 + f.0) (0 + g.0) f.1 g.1 wf wg c
+        | inr c ↦ other_way (file_of (0 + g.0) g.1) (file_of (0 + f.0) f.1) (clear_in_order (0 + g.0) (0 + f.0) g.1 f.1 wg wf c)
       ]
     ]
     ))
 
 pub sound_version : (last : ℕ) (shape : List (List TableFile)) (read : List (List Table)) (pointers : List (Option (List ℕ))) → length shape ≡ 7 → AreLevelsOf last shape read
-    → AreDistinct (numbers_of shape) → LieApart (placed_levels read) → IsAgeOrder (merged (get_or shape 0 []) read)
+    → AreDistinct (numbers_of shape) → LieInOrder (placed_levels read) → IsAgeOrder (merged (get_or shape 0 []) read)
     → IsSound (record { tables = placed_levels read; pointers = pointers; last = last })
 sound_version last shape read pointers seven a d apart ages =
     let levels : List (List Table) = placed_levels read in
@@ -481,7 +509,7 @@ sound_version last shape read pointers seven a d apart ages =
       lawful = record {
         fits = λ F h. (let r = file_in 0 levels F h in subst Fits r.3 (table_fits (0 + r.0) r.1 (whole r.0 r.1 r.2)));
         numbers = λ F G hF hG e. one_number last shape read a d F G (files_read read F hF) (files_read read G hG) e;
-        split = apart_files levels long apart;
+        split = ordered_files levels long apart whole;
         depth = λ F G x y hF hG s kx ky same. newer_above last shape read a ages F G x y (files_read read F hF) (files_read read G hG) s kx ky same;
       };
       tables = whole;

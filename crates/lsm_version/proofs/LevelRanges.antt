@@ -1,5 +1,5 @@
 -- The ranges of a level's tables.
-use Rattle.std.proofs.Common.{◌≡◌, ℕ, zero, suc, ◌+◌, ◌<◌, ◌≤◌, true, false, List, [], ◌∷◌, ◌++◌, Ordering, Less, Equal, Greater, length, get_or, take, map, Option, Some, None, refl, sym, ◌∙◌, ap, subst, inl, inr, arith}
+use Rattle.std.proofs.Common.{◌≡◌, ℕ, zero, suc, ◌+◌, ◌<◌, ◌≤◌, true, false, List, [], ◌∷◌, ◌++◌, Ordering, Less, Equal, Greater, length, get_or, take, map, refl, sym, ◌∙◌, ap, subst, inl, inr, arith}
 use Rattle.std.specs.Ordering.{nat_cmp, is_lt, is_le, ordering_reverse}
 use Rattle.std.proofs.lemmas.List.{take_more, take_all}
 use Rattle.std.proofs.lemmas.Bool.{cases_eq}
@@ -18,8 +18,7 @@ use Rattle.lsm_levels.specs.Streams.{IsAscending}
 use Rattle.lsm_levels.specs.Checking.{IsRangeOf}
 use Rattle.lsm_levels.specs.Ranges.{Range, KeyLe, key_le, EachPair, IsLevel, IsLaidOut}
 use Rattle.lsm_version.specs.Versions.{IsWhole, stands_before, level_in, AreInOrder}
-use Rattle.lsm_version.specs.LevelLayouts.{AreWhole, AreLevelsWhole, AreRangesOf, LieAs, MeetNowhere, first_shared, IsLayoutRefusal, IsSharedSoFar, AreLaidSoFar}
-use Rattle.lsm_version.specs.declared.check_fault.CheckFault.TheVariants.{SharedBoundary}
+use Rattle.lsm_version.specs.LevelLayouts.{AreWhole, AreLevelsWhole, AreRangesOf, LieAs, MeetNowhere}
 use Rattle.lsm_levels.specs.declared.key_range.Layout.{Layout}
 use Rattle.lsm_levels.specs.declared.key_range.Layout.TheVariants.{Overlap, Shared, Apart}
 use Rattle.lsm_version.proofs.Placing.{EachAfter, each_after}
@@ -78,7 +77,7 @@ place_of : Table → TableFile
 place_of t = record { number = t.number; size = 0; smallest = t.smallest; largest = t.largest }
 
 -- a table that does not stand before another one begins no earlier
-begins_later : (t u : Table) (k l : InternalKey) → IsKey t.smallest k → IsKey u.smallest l → stands_before u t ≡ false → KeyLe k l
+pub begins_later : (t u : Table) (k l : InternalKey) → IsKey t.smallest k → IsKey u.smallest l → stands_before u t ≡ false → KeyLe k l
 unfolding stands_before key_le place_of
 begins_later t u k l kt ku late =
     ap is_le (key_cmp-swapped k l) ∙ not_less (key_cmp l k) (nat_cmp u.number t.number) (ap is_lt (sym (order_is (place_of u) (place_of t) l k ku kt)) ∙ late)
@@ -141,22 +140,6 @@ meets_nowhere ts Apart l ne = inr l
 below_next : (P : ℕ → Type 0) (end : ℕ) → ((n : ℕ) → 1 ≤ n → n < end → P n) → P end → (n : ℕ) → 1 ≤ n → n < end + 1 → P n
 below_next P end below here n low lt = elim (cases_eq n end) [ inl e ↦ subst P (sym e) here | inr ne ↦ below n low (omega arith) ]
 
-pub layouts_more : (levels : List (List Table)) (end : ℕ) (layout : Layout) (shared : Option ℕ) → 1 ≤ end → AreLaidSoFar levels end shared → LieAs (level_in levels end) layout → (layout ≡ Overlap → ⊥)
-    → AreLaidSoFar levels (end + 1) (first_shared shared layout end)
-layouts_more levels end layout shared low s here ne = record {
-  meets = below_next (λ n. MeetNowhere (level_in levels n)) end s.meets (meets_nowhere (level_in levels end) layout here ne);
-  shared = go shared layout s.shared here ne;
-}
-  where
-    go : (shared : Option ℕ) (layout : Layout) → IsSharedSoFar levels end shared → LieAs (level_in levels end) layout → (layout ≡ Overlap → ⊥) → IsSharedSoFar levels (end + 1) (first_shared shared layout end)
-    go None Overlap t h ne = absurd (ne refl)
-    go None Shared t h ne = (low, omega arith, h, t)
-    go None Apart t h ne = below_next (λ n. LieAs (level_in levels n) Apart) end t h
-    go (Some m) Overlap t h ne = absurd (ne refl)
-    go (Some m) Shared t h ne = (t.0, (let lt = t.1 in omega arith), t.2, t.3)
-    go (Some m) Apart t h ne = (t.0, (let lt = t.1 in omega arith), t.2, t.3)
-
-pub shared_least : (levels : List (List Table)) (end : ℕ) (found : Option ℕ) (m : ℕ) → 7 ≤ end → end ≤ 7 → AreLaidSoFar levels end found → found ≡ Some m → IsLayoutRefusal levels (SharedBoundary m)
-shared_least levels end found m all most a is =
-    let s : IsSharedSoFar levels end (Some m) = subst (IsSharedSoFar levels end) is a.shared in
-    (s.0, (let lt = s.1 in omega arith), s.2, s.3, λ n low le. a.meets n low (omega arith))
+pub layouts_more : (levels : List (List Table)) (end : ℕ) (layout : Layout) → ((n : ℕ) → 1 ≤ n → n < end → MeetNowhere (level_in levels n)) → LieAs (level_in levels end) layout → (layout ≡ Overlap → ⊥)
+    → (n : ℕ) → 1 ≤ n → n < end + 1 → MeetNowhere (level_in levels n)
+layouts_more levels end layout before here ne = below_next (λ n. MeetNowhere (level_in levels n)) end before (meets_nowhere (level_in levels end) layout here ne)

@@ -1,24 +1,21 @@
--- The tables of a level from 1 on rise, and their ranges of user keys have no key in common.
+-- The tables of a level from 1 on rise: what stands later in the level stands later in internal keys.
 use Rattle.std.proofs.Common.{◌≡◌, ℕ, zero, suc, ◌+◌, ◌<◌, ◌≤◌, true, false, List, [], ◌∷◌, length, get_or, refl, sym, ◌∙◌, ap, subst, inl, inr, arith}
-use Rattle.std.proofs.Common.{Ordering, Less, Equal, Greater}
-use Rattle.std.specs.Ordering.{nat_cmp, is_lt, is_le, ordering_reverse}
-use Rattle.std.proofs.lemmas.Bool.{and_parts, cases_eq}
+use Rattle.std.specs.Prelude.{◌⊎◌}
+use Rattle.std.proofs.lemmas.Bool.{cases_eq}
 use Rattle.std.proofs.lemmas.List.{get_or_default}
 use Rattle.std.proofs.lemmas.List.Sorted.{sorted_far}
+use Rattle.lsm_codec.specs.Entries.{Entry, internal_key}
 use Rattle.lsm_codec.specs.Lists.{Has}
-use Rattle.lsm_codec.specs.Keys.{UserKey, UserLe, InternalKey, IsKey, key_cmp, then_by}
-use Rattle.lsm_codec.proofs.Keys.{user_le_trans, user_le_total, user_le_refl}
+use Rattle.lsm_codec.specs.Keys.{UserKey, UserLe, InternalKey, IsKey}
+use Rattle.lsm_codec.proofs.Keys.{user_le_trans, user_le_refl}
 use Rattle.lsm_codec.proofs.KeyBytes.{take-key_bytes}
-use Rattle.lsm_codec.proofs.KeyOrder.{key_cmp-swapped}
 use Rattle.lsm_table.specs.Registry.{Table}
-use Rattle.lsm_manifest.specs.FileOrder.{TableFile}
-use Rattle.lsm_manifest.proofs.FileOrderLaws.{order_is}
-use Rattle.lsm_levels.specs.Files.{File, Apart, Fits, IsLawful}
-use Rattle.lsm_levels.specs.Ranges.{KeyLe, key_le}
+use Rattle.lsm_levels.specs.Files.{File, Fits, IsAhead}
+use Rattle.lsm_levels.specs.Ranges.{KeyLe}
+use Rattle.lsm_levels.proofs.CallerLemmas.{before_not_first, before_says, first_is_le, key_le_user, true_or_not}
 use Rattle.lsm_version.specs.Versions.{IsWhole, file_of, files_of, stands_before, user_of}
-use Rattle.lsm_version.specs.Reads.{IsSoundLevel, IsRising, begins_by, reaches, covers}
-use Rattle.lsm_levels.proofs.CallerLemmas.{true_or_not}
-use Rattle.lsm_levels.proofs.CallerLemmas.{key_le_user}
+use Rattle.lsm_version.specs.Reads.{IsSoundLevel, IsRising, reaches}
+use Rattle.lsm_version.proofs.LevelRanges.{begins_later}
 use Rattle.lsm_version.proofs.Placing.{places_rank}
 use Rattle.lsm_version.proofs.ChangedFiles.{has_files}
 
@@ -32,61 +29,61 @@ has_at (t ∷ ts) (suc i) d lt = inr (has_at ts i d (omega arith))
 
 -- ---- the order of a level
 
-not_less : (o p : Ordering) → is_lt (then_by o p) ≡ false → is_le (ordering_reverse o) ≡ true
-not_less Less p h = absurd (cc h)
-not_less Equal p h = refl
-not_less Greater p h = refl
-
-place_of : Table → TableFile
-place_of t = record { number = t.number; size = 0; smallest = t.smallest; largest = t.largest }
-
 -- a table that does not stand before another one begins no earlier
-pub begins_later : (t u : Table) → IsWhole t → IsWhole u → stands_before u t ≡ false → UserLe (user_of t.smallest) (user_of u.smallest)
-unfolding stands_before key_le place_of
-begins_later t u wt wu late =
+pub begins_no_earlier : (t u : Table) → IsWhole t → IsWhole u → stands_before u t ≡ false → UserLe (user_of t.smallest) (user_of u.smallest)
+begins_no_earlier t u wt wu late =
     let k = wt.range.smallest in
     let l = wu.range.smallest in
-    let order = order_is (place_of u) (place_of t) l k wu.smallest wt.smallest in
-    let le : KeyLe k l = ap is_le (key_cmp-swapped k l) ∙ not_less (key_cmp l k) (nat_cmp u.number t.number) (ap is_lt (sym order) ∙ late) in
     subst (λ (a : UserKey). UserLe a (user_of u.smallest)) (sym (user_of-key t.smallest k wt.smallest))
-    (subst (λ (b : UserKey). UserLe k.user b) (sym (user_of-key u.smallest l wu.smallest)) (key_le_user k l le))
+    (subst (λ (b : UserKey). UserLe k.user b) (sym (user_of-key u.smallest l wu.smallest)) (key_le_user k l (begins_later t u k l wt.smallest wu.smallest late)))
 
--- a file's range is no empty one
-pub low_high : (F : File) → Fits F → UserLe F.low F.high
-low_high F f = subst (λ (k : UserKey). UserLe k F.high) f.first.2 (f.below f.first.0 f.first.1)
+-- no table stands ahead of one that it does not stand before in the level
+not_behind : (m n : ℕ) (t u : Table) → IsWhole t → IsWhole u → stands_before u t ≡ false → IsAhead (file_of m u) (file_of n t) → ⊥
+not_behind m n t u wt wu late ahead =
+    let f = wt.entries.first in
+    let g = wu.entries.first in
+    let le : KeyLe (internal_key f.0) (internal_key g.0) =
+    subst (λ (k : InternalKey). KeyLe k (internal_key g.0)) (sym f.3) (subst (λ (k : InternalKey). KeyLe wt.range.smallest k) (sym g.3) (begins_later t u wt.range.smallest wu.range.smallest wt.smallest wu.smallest late)) in
+    let bef = ahead g.0 f.0 (subst (λ (es : List Entry). Has es g.0) (sym g.2) (inl refl)) (subst (λ (es : List Entry). Has es f.0) (sym f.2) (inl refl)) in
+    absurd (cc (first_is_le f.0 g.0 ∙ le, before_not_first g.0 f.0 bef))
 
--- of two files of a level, the one that begins later ends no earlier
-ends_later : (n : ℕ) (v : List File) (F G : File) → 1 ≤ n → IsLawful Apart v → Has v F → Has v G → F.level ≡ n → G.level ≡ n → UserLe F.low G.low → UserLe F.high G.high
-ends_later n v F G pos l hF hG at bt low = elim (cases_eq F.number G.number) [
-  | inl same ↦ subst (λ (H : File). UserLe F.high H.high) (l.numbers F G hF hG same) (user_le_refl F.high)
-  | inr other ↦ elim (user_le_total F.high G.high) [
-    | inl le ↦ le
-    | inr ge ↦ (let ends = low_high G (l.fits G hG) in
-        absurd (l.split F G hF hG (at ∙ sym bt) (omega arith) other (user_le_trans F.low G.low G.high low ends, user_le_trans G.low G.high F.high ends ge)))
+-- of two tables of a level from 1 on the earlier one stands ahead in internal keys, or both are one file
+pub ahead_or_same : (n : ℕ) (ts : List Table) → 1 ≤ n → IsSoundLevel n ts → (i j : ℕ) (d : Table) → i ≤ j → j < length ts
+    → (file_of n (get_or ts i d) ≡ file_of n (get_or ts j d)) ⊎ IsAhead (file_of n (get_or ts i d)) (file_of n (get_or ts j d))
+ahead_or_same n ts pos s i j d le lt = elim (cases_eq (get_or ts i d).number (get_or ts j d).number) [
+  | inl same ↦ inl (s.lawful.numbers (file_of n (get_or ts i d)) (file_of n (get_or ts j d)) hi hj same)
+  | inr other ↦ elim (s.lawful.split (file_of n (get_or ts i d)) (file_of n (get_or ts j d)) hi hj refl pos other) [
+    | inl ahead ↦ inr ahead
+    | inr back ↦ absurd (not_behind n n (get_or ts i d) (get_or ts j d) (s.whole (get_or ts i d) (has_at ts i d (omega arith))) (s.whole (get_or ts j d) (has_at ts j d lt))
+        (sorted_far stands_before places_rank ts s.order i j d le lt) back)
   ]
 ]
+  where
+    hi : Has (files_of n ts) (file_of n (get_or ts i d))
+    hi = has_files n ts (get_or ts i d) (has_at ts i d (omega arith))
+
+    hj : Has (files_of n ts) (file_of n (get_or ts j d))
+    hj = has_files n ts (get_or ts j d) (has_at ts j d lt)
+
+-- a file ahead of another one ends no later
+ends_no_later : (F G : File) → Fits F → Fits G → IsAhead F G → UserLe F.high G.high
+ends_no_later F G f g ahead =
+    subst (λ (k : UserKey). UserLe k G.high) f.last.2 (subst (λ (k : UserKey). UserLe f.last.0.user k) g.last.2
+    (elim (before_says f.last.0 g.last.0 (ahead f.last.0 g.last.0 f.last.1 g.last.1)) [
+      | inl k ↦ k.0
+      | inr s ↦ subst (UserLe f.last.0.user) s.0 (user_le_refl f.last.0.user)
+    ]))
 
 pub level_rises : (n : ℕ) (ts : List Table) → 1 ≤ n → IsSoundLevel n ts → IsRising ts
 level_rises n ts pos s = record {
-  lows = λ i j d le lt. lows i j d le lt;
-  highs = λ i j d le lt. ends_later n (files_of n ts) (file_of n (get_or ts i d)) (file_of n (get_or ts j d)) pos s.lawful
-      (has_files n ts (get_or ts i d) (has_at ts i d (omega arith))) (has_files n ts (get_or ts j d) (has_at ts j d lt)) refl refl (lows i j d le lt);
+  lows = λ i j d le lt. begins_no_earlier (get_or ts i d) (get_or ts j d) (s.whole (get_or ts i d) (has_at ts i d (omega arith))) (s.whole (get_or ts j d) (has_at ts j d lt))
+      (sorted_far stands_before places_rank ts s.order i j d le lt);
+  highs = λ i j d le lt. elim (ahead_or_same n ts pos s i j d le lt) [
+    | inl same ↦ subst (λ (H : File). UserLe (file_of n (get_or ts i d)).high H.high) same (user_le_refl (file_of n (get_or ts i d)).high)
+    | inr ahead ↦ ends_no_later (file_of n (get_or ts i d)) (file_of n (get_or ts j d)) (s.lawful.fits (file_of n (get_or ts i d)) (has_files n ts (get_or ts i d) (has_at ts i d (omega arith))))
+        (s.lawful.fits (file_of n (get_or ts j d)) (has_files n ts (get_or ts j d) (has_at ts j d lt))) ahead
+  ];
 }
-  where
-    lows : (i j : ℕ) (d : Table) → i ≤ j → j < length ts → UserLe (user_of (get_or ts i d).smallest) (user_of (get_or ts j d).smallest)
-    lows i j d le lt = begins_later (get_or ts i d) (get_or ts j d) (s.whole (get_or ts i d) (has_at ts i d (omega arith))) (s.whole (get_or ts j d) (has_at ts j d lt))
-        (sorted_far stands_before places_rank ts s.order i j d le lt)
-
--- two tables of a level whose ranges have one key are one file
-pub covers_same : (n : ℕ) (ts : List Table) (t u : Table) (k : UserKey) → 1 ≤ n → IsSoundLevel n ts → Has ts t → Has ts u → covers t k ≡ true → covers u k ≡ true
-    → file_of n t ≡ file_of n u
-covers_same n ts t u k pos s ht hu ct cu = elim (cases_eq t.number u.number) [
-  | inl same ↦ s.lawful.numbers (file_of n t) (file_of n u) (has_files n ts t ht) (has_files n ts u hu) same
-  | inr other ↦ (let a = and_parts (begins_by t k) (reaches t k) ct in
-      let b = and_parts (begins_by u k) (reaches u k) cu in
-      absurd (s.lawful.split (file_of n t) (file_of n u) (has_files n ts t ht) (has_files n ts u hu) refl pos other
-      (user_le_trans (user_of t.smallest) k (user_of u.largest) a.0 b.1, user_le_trans (user_of u.smallest) k (user_of t.largest) b.0 a.1)))
-]
 
 -- ---- the search for the first table that reaches a key
 

@@ -7,7 +7,7 @@ use Rattle.lsm_codec.specs.Keys.{UserKey}
 use Rattle.lsm_codec.specs.Entries.{Entry, newest, value_in, answer}
 use Rattle.lsm_table.specs.Registry.{Table}
 use Rattle.lsm_table.specs.HeldTable.{entries_in}
-use Rattle.lsm_levels.specs.Files.{File, Apart, IsLawful, OneEach, all_entries}
+use Rattle.lsm_levels.specs.Files.{File, Lie, IsLawful, OneEach, all_entries}
 use Rattle.lsm_levels.specs.Merging.{Placed, placed_at, entries_of, merge_all, AreOrdered}
 use Rattle.lsm_levels.specs.Scanning.{IsScan, pairs_of}
 use Rattle.lsm_version.specs.Sources.{source_of, sources_of, AreWhole, EachWhole}
@@ -19,7 +19,7 @@ use Rattle.lsm_levels.proofs.CallerLemmas.{all_has, has_all, one_each}
 use Rattle.lsm_levels.proofs.CallerLemmas.{placed_entry, entry_placed, merged_sorted, sorted_ordered, ascending_sorted}
 use Rattle.lsm_levels.proofs.CallerLemmas.{merged_from, merged_has}
 use Rattle.lsm_levels.proofs.CallerLemmas.{scan_is}
-use Rattle.lsm_levels.proofs.CallerLemmas.{apart_split}
+use Rattle.lsm_levels.proofs.CallerLemmas.{in_order_split}
 
 -- ---- sources as they are opened
 
@@ -120,7 +120,7 @@ newest_same k s es fs one to from = go (newest k s fs) refl
     go (Some e) is = (let n = is_newest k s fs e is in
         newest_is es k s e (one_each_part fs es to one) record { here = from e n.here; allowed = n.allowed; most = λ y h a. n.most y (to y h) a } ∙ sym is)
 
-pub scan_of : (levels : List (List Table)) (s : ℕ) → IsLawful Apart (files_from 0 levels) → EachWhole levels
+pub scan_of : (levels : List (List Table)) (s : ℕ) → IsLawful Lie (files_from 0 levels) → EachWhole levels
     → IsScan s (all_entries (files_from 0 levels)) (pairs_of s None (entries_of (merge_all (sources_of levels))))
 scan_of levels s lawful w = record {
   right = λ k v h. sym (same k) ∙ scan.right k v h;
@@ -133,4 +133,4 @@ scan_of levels s lawful w = record {
 
     same : (k : UserKey) → answer (entries_of (merge_all (sources_of levels))) k s ≡ answer (all_entries (files_from 0 levels)) k s
     same k = ap value_in (newest_same k s (entries_of (merge_all (sources_of levels))) (all_entries (files_from 0 levels))
-        (one_each Apart apart_split (files_from 0 levels) lawful) (λ e h. shown_from levels e h) (λ e h. has_shown levels e h))
+        (one_each Lie in_order_split (files_from 0 levels) lawful) (λ e h. shown_from levels e h) (λ e h. has_shown levels e h))

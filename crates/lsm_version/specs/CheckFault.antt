@@ -5,7 +5,7 @@ use Rattle.lsm_table.specs.declared.table_fault.TableFault.TheVariants.{OutOfMem
 use Rattle.lsm_table.specs.ReadFault as read
 use Rattle.lsm_table.specs.Told.{Told}
 use Rattle.lsm_version.specs.declared.check_fault.CheckFault.{CheckFault}
-use Rattle.lsm_version.specs.declared.check_fault.CheckFault.TheVariants.{Read, DoubleFile, Overlap, WrongRange, AgeOrder, SharedBoundary}
+use Rattle.lsm_version.specs.declared.check_fault.CheckFault.TheVariants.{Read, DoubleFile, Overlap, WrongRange, AgeOrder}
 
 abbrev pub number_of : CheckFault → ℕ
 number_of (Read fault) = read.number_of fault
@@ -13,7 +13,6 @@ number_of (DoubleFile number) = 30
 number_of (Overlap level) = 31
 number_of (WrongRange number) = 32
 number_of (AgeOrder user) = 33
-number_of (SharedBoundary level) = 34
 
 abbrev pub name_of : CheckFault → List ℕ
 name_of (Read fault) = read.name_of fault
@@ -21,7 +20,6 @@ name_of (DoubleFile number) = codes "DoubleFile"
 name_of (Overlap level) = codes "Overlap"
 name_of (WrongRange number) = codes "WrongRange"
 name_of (AgeOrder user) = codes "AgeOrder"
-name_of (SharedBoundary level) = codes "SharedBoundary"
 
 abbrev pub out_of_memory : CheckFault
 out_of_memory = Read (Table OutOfMemory)
@@ -33,4 +31,3 @@ CheckCounted (DoubleFile number) old new = Unit {0}
 CheckCounted (Overlap level) old new = Unit {0}
 CheckCounted (WrongRange number) old new = Unit {0}
 CheckCounted (AgeOrder user) old new = Unit {0}
-CheckCounted (SharedBoundary level) old new = Unit {0}

@@ -6,11 +6,11 @@ use Rattle.lsm_codec.specs.Entries.{Entry}
 use Rattle.lsm_table.specs.Registry.{Table}
 use Rattle.lsm_manifest.specs.declared.shape.Shape.{Shape}
 use Rattle.lsm_version.specs.declared.check_fault.CheckFault.{CheckFault}
-use Rattle.lsm_version.specs.declared.check_fault.CheckFault.TheVariants.{Read, DoubleFile, Overlap, WrongRange, AgeOrder, SharedBoundary}
+use Rattle.lsm_version.specs.declared.check_fault.CheckFault.TheVariants.{Read, DoubleFile, Overlap, WrongRange, AgeOrder}
 use Rattle.lsm_levels.specs.Files.{File, Shallower}
 use Rattle.lsm_version.specs.FileNumbers.{AreDistinct, IsLeastTwice, numbers_of}
 use Rattle.lsm_version.specs.FileRefusal.{IsWant, IsFilesRefusal}
-use Rattle.lsm_version.specs.LevelLayouts.{IsLayoutRefusal, LieApart}
+use Rattle.lsm_version.specs.LevelLayouts.{IsLayoutRefusal, LieInOrder}
 use Rattle.lsm_version.specs.Loading.{AreLevelsOf, AreLevelsStored, all_files, placed_levels}
 use Rattle.lsm_version.specs.Versions.{Levels, AreInOrder, files_from}
 
@@ -49,7 +49,6 @@ IsNumberRefusal numbers (DoubleFile number) = IsLeastTwice numbers number
 IsNumberRefusal numbers (Overlap level) = ⊥
 IsNumberRefusal numbers (WrongRange number) = ⊥
 IsNumberRefusal numbers (AgeOrder user) = ⊥
-IsNumberRefusal numbers (SharedBoundary level) = ⊥
 
 -- `Stored` says which images the shelf holds under which numbers. Memory ran out; or two files have one number; or a file is refused;
 -- or the tables of all files were read, and a level from 1 on is refused; or no level is, and the age order is.
@@ -58,5 +57,4 @@ IsRefusal Stored shape (DoubleFile number) = IsLeastTwice (numbers_of shape.leve
 IsRefusal Stored shape (Read fault) = IsWant fault ⊎ (AreDistinct (numbers_of shape.levels) × IsFilesRefusal Stored shape.last (all_files shape.levels) (Read fault))
 IsRefusal Stored shape (WrongRange number) = AreDistinct (numbers_of shape.levels) × IsFilesRefusal Stored shape.last (all_files shape.levels) (WrongRange number)
 IsRefusal Stored shape (Overlap level) = (tables : List (List Table)) × AreTablesOf Stored shape tables × IsLayoutRefusal tables (Overlap level)
-IsRefusal Stored shape (SharedBoundary level) = (tables : List (List Table)) × AreTablesOf Stored shape tables × IsLayoutRefusal tables (SharedBoundary level)
-IsRefusal Stored shape (AgeOrder user) = (tables : List (List Table)) × AreTablesOf Stored shape tables × LieApart tables × IsLeastAgainst (files_from 0 tables) user
+IsRefusal Stored shape (AgeOrder user) = (tables : List (List Table)) × AreTablesOf Stored shape tables × LieInOrder tables × IsLeastAgainst (files_from 0 tables) user

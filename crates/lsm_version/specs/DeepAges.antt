@@ -1,7 +1,7 @@
 -- The age order of tables at their depths.
 use Rattle.std.specs.Prelude.{List, [], ◌∷◌}
 use Rattle.lsm_version.specs.declared.check_fault.CheckFault.{CheckFault}
-use Rattle.lsm_version.specs.declared.check_fault.CheckFault.TheVariants.{Read, DoubleFile, Overlap, WrongRange, AgeOrder, SharedBoundary}
+use Rattle.lsm_version.specs.declared.check_fault.CheckFault.TheVariants.{Read, DoubleFile, Overlap, WrongRange, AgeOrder}
 use Rattle.lsm_levels.specs.Ages.{IsLeastAgainstAge}
 use Rattle.lsm_version.specs.FileRefusal.{IsWant}
 use Rattle.lsm_version.specs.HeldStream.{bare_all}
@@ -20,4 +20,3 @@ IsAgeRefusal placed (AgeOrder user) = IsLeastAgainstAge placed user
 IsAgeRefusal placed (DoubleFile number) = ⊥
 IsAgeRefusal placed (Overlap level) = ⊥
 IsAgeRefusal placed (WrongRange number) = ⊥
-IsAgeRefusal placed (SharedBoundary level) = ⊥

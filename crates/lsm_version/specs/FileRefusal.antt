@@ -10,7 +10,7 @@ use Rattle.lsm_table.specs.TableReading.{table_at}
 use Rattle.lsm_table.specs.HeldTable.{entries_in}
 use Rattle.lsm_manifest.specs.FileOrder.{TableFile}
 use Rattle.lsm_version.specs.declared.check_fault.CheckFault.{CheckFault}
-use Rattle.lsm_version.specs.declared.check_fault.CheckFault.TheVariants.{Read, DoubleFile, Overlap, WrongRange, AgeOrder, SharedBoundary}
+use Rattle.lsm_version.specs.declared.check_fault.CheckFault.TheVariants.{Read, DoubleFile, Overlap, WrongRange, AgeOrder}
 use Rattle.lsm_version.specs.CheckedFiles.{IsImageOf}
 
 -- `Stored` says which images the shelf holds under the file's number. The shelf refused, or memory ran out; or a stored image is
@@ -22,7 +22,6 @@ IsFileRefusal Stored last file (WrongRange number) =
     (number ≡ file.number) × ((image : List ℕ) × Stored image × IsTable image (entries_in image) × (IsImageOf last file image → ⊥))
 IsFileRefusal Stored last file (DoubleFile number) = ⊥
 IsFileRefusal Stored last file (Overlap level) = ⊥
-IsFileRefusal Stored last file (SharedBoundary level) = ⊥
 IsFileRefusal Stored last file (AgeOrder user) = ⊥
 
 -- memory ran out over the bytes of a table
@@ -36,7 +35,6 @@ IsMemoryRefusal (Read fault) = IsWant fault
 IsMemoryRefusal (WrongRange number) = ⊥
 IsMemoryRefusal (DoubleFile number) = ⊥
 IsMemoryRefusal (Overlap level) = ⊥
-IsMemoryRefusal (SharedBoundary level) = ⊥
 IsMemoryRefusal (AgeOrder user) = ⊥
 
 -- memory ran out, or one of the files is refused

@@ -1,5 +1,5 @@
 -- How the tables of a level lie by their smallest and largest internal keys (LevelDB's `doc/impl.md`, "Levels").
-use Rattle.std.specs.Prelude.{◌⊎◌, ℕ, ◌<◌, ◌≤◌, List, [], ◌∷◌, Option, Some, None}
+use Rattle.std.specs.Prelude.{◌⊎◌, ℕ, ◌<◌, ◌≤◌, List, [], ◌∷◌}
 use Rattle.lsm_codec.specs.Keys.{IsKey}
 use Rattle.lsm_table.specs.Registry.{Table}
 use Rattle.lsm_levels.specs.Ranges.{Range, IsLaidOut}
@@ -7,7 +7,7 @@ use Rattle.lsm_version.specs.Versions.{IsWhole, level_in}
 use Rattle.lsm_levels.specs.declared.key_range.Layout.{Layout}
 use Rattle.lsm_levels.specs.declared.key_range.Layout.TheVariants as layout
 use Rattle.lsm_version.specs.declared.check_fault.CheckFault.{CheckFault}
-use Rattle.lsm_version.specs.declared.check_fault.CheckFault.TheVariants.{Read, DoubleFile, Overlap, WrongRange, AgeOrder, SharedBoundary}
+use Rattle.lsm_version.specs.declared.check_fault.CheckFault.TheVariants.{Read, DoubleFile, Overlap, WrongRange, AgeOrder}
 use Rattle.lsm_version.specs.FileRefusal.{IsWant}
 
 -- each record stands for a table
@@ -34,35 +34,14 @@ LieAs ts layout = (ranges : List Range) × AreRangesOf ts ranges × IsLaidOut ra
 abbrev pub MeetNowhere : List Table → Type 0
 MeetNowhere ts = LieAs ts layout.Shared ⊎ LieAs ts layout.Apart
 
--- Of the levels from 1 on: the least one with two tables that meet in internal keys; where there is none, the least one with two
--- tables that share a user key.
+-- The least level from 1 on with two tables that meet in internal keys.
 abbrev pub IsLayoutRefusal : List (List Table) → CheckFault → Type 0
 IsLayoutRefusal levels (Read fault) = IsWant fault
 IsLayoutRefusal levels (Overlap level) = (1 ≤ level) × (level ≤ 6) × LieAs (level_in levels level) layout.Overlap × ((n : ℕ) → 1 ≤ n → n < level → MeetNowhere (level_in levels n))
-IsLayoutRefusal levels (SharedBoundary level) =
-    (1 ≤ level) × (level ≤ 6) × LieAs (level_in levels level) layout.Shared × ((n : ℕ) → 1 ≤ n → n < level → LieAs (level_in levels n) layout.Apart)
-    × ((n : ℕ) → 1 ≤ n → n ≤ 6 → MeetNowhere (level_in levels n))
 IsLayoutRefusal levels (DoubleFile number) = ⊥
 IsLayoutRefusal levels (WrongRange number) = ⊥
 IsLayoutRefusal levels (AgeOrder user) = ⊥
 
--- the files of each level from 1 on share no user key
-abbrev pub LieApart : List (List Table) → Type 0
-LieApart levels = (n : ℕ) → 1 ≤ n → n ≤ 6 → LieAs (level_in levels n) layout.Apart
-
--- ---- as the code goes on: the least level with a shared user key, if one was met
-
-abbrev pub first_shared : Option ℕ → Layout → ℕ → Option ℕ
-first_shared None layout.Overlap n = None
-first_shared None layout.Shared n = Some n
-first_shared None layout.Apart n = None
-first_shared (Some m) l n = Some m
-
--- of the levels from 1 on up to this one
-abbrev pub IsSharedSoFar : List (List Table) → ℕ → Option ℕ → Type 0
-IsSharedSoFar levels end None = (n : ℕ) → 1 ≤ n → n < end → LieAs (level_in levels n) layout.Apart
-IsSharedSoFar levels end (Some m) = (1 ≤ m) × (m < end) × LieAs (level_in levels m) layout.Shared × ((n : ℕ) → 1 ≤ n → n < m → LieAs (level_in levels n) layout.Apart)
-
-pub record AreLaidSoFar (levels : List (List Table)) (end : ℕ) (found : Option ℕ) : Type 0 where
-  pub meets : (n : ℕ) → 1 ≤ n → n < end → MeetNowhere (level_in levels n)
-  pub shared : IsSharedSoFar levels end found
+-- no two tables of a level from 1 on meet in internal keys
+abbrev pub LieInOrder : List (List Table) → Type 0
+LieInOrder levels = (n : ℕ) → 1 ≤ n → n ≤ 6 → MeetNowhere (level_in levels n)

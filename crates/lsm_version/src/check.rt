@@ -54,8 +54,7 @@ impl<N: Naming, S: Shelf> Version<N, S> {
     /// `DoubleFile` with the least number that two files have; then the files by level, and in a level in the order of the shape: the
     /// shelf's refusals, those of a table, and `WrongRange` where a table has another size, another first or last internal key than
     /// the shape says, no entries, or an entry above the last sequence; then `Overlap` with the least level from 1 on in which two
-    /// files meet in internal keys; then `SharedBoundary` with the least level in which two files share a user key; then `AgeOrder`
-    /// with the least user key of which a deeper entry has no lesser sequence than a shallower one (that a key's entries are newer the
+    /// files meet in internal keys (a user key may go on in the next file of a level); then `AgeOrder` with the least user key of which a deeper entry has no lesser sequence than a shallower one (that a key's entries are newer the
     /// shallower they lie is what LevelDB's `doc/impl.md` builds on; that a database which breaks it is refused is this project's
     /// rule).
     pub fn check<R: Wait>(

@@ -28,9 +28,6 @@ pub enum CheckFault {
     /// Of this user key a deeper entry has no lesser sequence than a shallower one.
     #[error("AgeOrder {}", KeyWord::of(.0))]
     AgeOrder(Bytes),
-    /// Two files of this level, 1 to 6, share a user key, and none meet in internal keys.
-    #[error("SharedBoundary {0}")]
-    SharedBoundary(u8),
 }
 
 impl CheckFault {
@@ -44,7 +41,6 @@ impl CheckFault {
             CheckFault::Overlap(_) => 31,
             CheckFault::WrongRange(_) => 32,
             CheckFault::AgeOrder(_) => 33,
-            CheckFault::SharedBoundary(_) => 34,
         }
     }
 
@@ -58,7 +54,6 @@ impl CheckFault {
             CheckFault::Overlap(_) => "Overlap",
             CheckFault::WrongRange(_) => "WrongRange",
             CheckFault::AgeOrder(_) => "AgeOrder",
-            CheckFault::SharedBoundary(_) => "SharedBoundary",
         }
     }
 }

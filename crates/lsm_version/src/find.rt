@@ -60,7 +60,8 @@ fn find_by_number<N: Naming, S: Shelf>(
     Ok(None)
 }
 
-/// What a read finds at a level from 1 on: at most one table's range has the user key.
+/// What a read finds at a level from 1 on: in the first table whose range has the user key and that has an entry for it. A user key
+/// may go on in the next table, whose entries of it are older.
 fn find_by_range<N: Naming, S: Shelf>(
     shelf: &mut S,
     alloc: Global,
@@ -77,10 +78,13 @@ fn find_by_range<N: Naming, S: Shelf>(
     ensures cause { IfErr result (λ e. ReadCounted e (S.told shelf.old) (S.told shelf.new)) }
 {
     let first = first_reaching(registry, level, user);
-    if first < level.len() {
-        let table = &level[first];
-        if begins_by(registry, table, user) {
-            return find_in_table(shelf, alloc, registry, table, user, seq);
+    let rest = &level[first..];
+    for table in rest {
+        if !begins_by(registry, table, user) {
+            return Ok(None);
+        }
+        if let Some(entry) = find_in_table(shelf, alloc, registry, table, user, seq)? {
+            return Ok(Some(entry));
         }
     }
     Ok(None)

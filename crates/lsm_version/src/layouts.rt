@@ -3,7 +3,7 @@
 ghost use Rattle.std.specs.Prelude.{◌≡◌, IfErr, IfOk, OnOk, length, map};
 ghost use Rattle.std.specs.List.Sorted.{IsSortedBy};
 ghost use Rattle.lsm_codec.specs.Keys.{InternalKey, IsKey};
-ghost use Rattle.lsm_version.specs.LevelLayouts.{AreLevelsWhole, AreWhole, IsLayoutRefusal, LieApart, LieAs, first_shared};
+ghost use Rattle.lsm_version.specs.LevelLayouts.{AreLevelsWhole, AreWhole, IsLayoutRefusal, LieAs, LieInOrder};
 ghost use Rattle.lsm_version.specs.Versions.{AreInOrder, stands_before};
 
 use crate::check_fault::CheckFault;
@@ -48,18 +48,7 @@ fn level_layout<N: Naming, S: Shelf>(
     Ok(layout_of(&ranges))
 }
 
-/// The least level with a shared user key, after a level of this number.
-fn first_shared(shared: Option<u8>, layout: Layout, number: u8) -> Option<u8>
-    ensures { result ≡ first_shared shared layout number }
-{
-    match (shared, layout) {
-        (None, Layout::Shared) => Some(number),
-        (known, _) => known,
-    }
-}
-
-/// Refuses the least level from 1 on with two tables that meet in internal keys, and where there is none the least one with two
-/// tables that share a user key.
+/// Refuses the least level from 1 on with two tables that meet in internal keys. A user key may go on in the next table.
 pub(crate) fn judge_layouts<N: Naming, S: Shelf>(
     alloc: Global,
     registry: &Registry<S::Receipt>,
@@ -69,19 +58,15 @@ pub(crate) fn judge_layouts<N: Naming, S: Shelf>(
     requires seven { length levels.now ≡ 7 }
     requires whole { AreLevelsWhole (map (λ l. l.items) levels.now) }
     requires order { AreInOrder (map (λ l. l.items) levels.now) }
-    ensures ok { OnOk result (LieApart (map (λ l. l.items) levels.now)) }
+    ensures ok { OnOk result (LieInOrder (map (λ l. l.items) levels.now)) }
     ensures refused { IfErr result (λ e. IsLayoutRefusal (map (λ l. l.items) levels.now) e) }
 {
-    let mut shared: Option<u8> = None;
     for number in 1..7u8 {
         let level = levels[number as usize].as_slice();
         match level_layout(alloc, registry, level)? {
             Layout::Overlap => return Err(CheckFault::Overlap(number)),
-            layout => shared = first_shared(shared, layout, number),
+            _ => {}
         }
     }
-    match shared {
-        None => Ok(()),
-        Some(number) => Err(CheckFault::SharedBoundary(number)),
-    }
+    Ok(())
 }

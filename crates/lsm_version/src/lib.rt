@@ -1,8 +1,8 @@
-//! Levels of files and what they answer: versions over tables on a shelf, their law, reads, what a merge of files keeps and what
-//! its install changes.
+//! Versions: which tables stand at which level, and what they answer. Reads, scans, the judgment of a shape, and changes.
 //!
-//! Stands on `lsm_table` for tables, shelves and the registry, and on `lsm_manifest` for the shape of a version. Its contract: a
-//! lawful version answers as its union of entries, and a merge is its sources in order.
+//! Stands on `lsm_levels` for the laws of plain files and on `lsm_merger` for merges, both of which it lends, on `lsm_table` for
+//! tables, shelves and the registry, and on `lsm_manifest` for the shape of a version. Its contract: a sound version answers as its
+//! union of entries.
 #![tactic(auto)]
 
 mod age_judgment;
@@ -28,13 +28,15 @@ mod version;
 mod version_scan;
 mod walk;
 
-pub use change::{changed_files, changed_is_sound, changed_tables, deletions_are_sound, tables_are_whole, whole_tables_fit};
+pub use change::{
+    changed_files, changed_is_sound, changed_tables, deletions_are_sound, tables_are_whole,
+    whole_tables_fit,
+};
 pub use check::shapes_in_order;
 pub use check_fault::CheckFault;
-pub use version::Version;
-
 pub use lsm_levels::{KeyRange, Layout, laws, layout_of};
 pub use lsm_merger::{
     Input, ListStream, Merger, OwnedEntry, Pair, Placed, Scan, Source, Stream, TableStream,
     against_age,
 };
+pub use version::Version;

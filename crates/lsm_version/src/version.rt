@@ -12,7 +12,7 @@ use std::marker::Model;
 use std::sync::Arc;
 
 /// The tables of the seven levels, the compaction pointers, and the last sequence. Over an honest shelf it is sound: the levels
-/// are sorted, files of a level from 1 on lie apart, and a key's entries are newer the shallower they lie.
+/// are sorted, files of a level from 1 on lie in order of internal keys, and a key's entries are newer the shallower they lie.
 #[derive(Drop)]
 pub struct Version<N: Naming, S: Shelf> {
     pub(crate) registry: Arc<Registry<S::Receipt>>,

@@ -15,7 +15,7 @@ use std::sync::{Arc, Wait};
 use std::test::Fail;
 
 /// A table: its level, its number, and the user key, sequence and kind of each entry.
-type Table<'a> = (usize, u64, &'a [(u8, u8, Kind)]);
+pub(crate) type Table<'a> = (usize, u64, &'a [(u8, u8, Kind)]);
 
 /// The tables of the version before the change.
 const BEFORE: &[Table<'_>] = &[
@@ -130,7 +130,7 @@ fn rows_of(alloc: Global, entries: &[(u8, u8, Kind)]) -> Result<Vec<Row>, Fail> 
     Ok(rows)
 }
 
-fn tables_of(alloc: Global, described: &[Table<'_>]) -> Result<Vec<Rows>, Fail> {
+pub(crate) fn tables_of(alloc: Global, described: &[Table<'_>]) -> Result<Vec<Rows>, Fail> {
     let mut tables = Vec::new(alloc);
     for &(level, number, entries) in described {
         let rows = rows_of(alloc, entries)?;

@@ -195,7 +195,7 @@ fn levels_are_judged_for_overlaps_first(rt: HostRuntime) -> Result<(), Fail> {
     expects(&rt, alloc, &[first, second], 9, "Overlap 1")?;
     let newer = one_entry(1, 2, (b"k", 2));
     let older = one_entry(1, 3, (b"k", 1));
-    expects(&rt, alloc, &[newer, older], 9, "SharedBoundary 1")?;
+    expects(&rt, alloc, &[newer, older], 9, "ok")?;
     let third = two_entries(3, 4, (b"a", 1), (b"c", 2));
     let fourth = two_entries(3, 5, (b"b", 3), (b"d", 4));
     expects(&rt, alloc, &[newer, older, third, fourth], 9, "Overlap 3")
@@ -243,6 +243,5 @@ fn refusals_of_a_check_have_their_numbers(rt: HostRuntime) -> Result<(), Fail> {
     assert!(rt; is_numbered(CheckFault::WrongRange(2), 32, "WrongRange"));
     let user = Bytes::of(Vec::from_slice(rt.alloc(), b"k")?);
     assert!(rt; is_numbered(CheckFault::AgeOrder(user), 33, "AgeOrder"));
-    assert!(rt; is_numbered(CheckFault::SharedBoundary(1), 34, "SharedBoundary"));
     Ok(())
 }

@@ -12,6 +12,10 @@ mod doubted;
 #[cfg(test)]
 mod layouts;
 #[cfg(test)]
+mod numbers;
+#[cfg(test)]
 mod reading;
 #[cfg(test)]
 mod shown;
+#[cfg(test)]
+mod wide_levels;

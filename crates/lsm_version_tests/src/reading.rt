@@ -127,7 +127,7 @@ fn answer_of<N: Naming, S: Shelf>(
 }
 
 /// One table of a key at each depth, the newest at the shallowest.
-fn depths(alloc: Global) -> Result<Vec<Rows>, Fail> {
+pub(crate) fn depths(alloc: Global) -> Result<Vec<Rows>, Fail> {
     let mut tables = Vec::new(alloc);
     for (level, number, seq, kind) in [
         (0usize, 9u64, 80u8, Kind::Value),

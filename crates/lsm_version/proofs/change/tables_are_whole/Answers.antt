@@ -3,8 +3,7 @@ use Rattle.lsm_codec.specs.Keys.{IsKey}
 use Rattle.lsm_codec.specs.Entries.{Entry, internal_key}
 use Rattle.lsm_table.specs.Registry.{Table}
 use Rattle.lsm_table.specs.Table.{IsTable}
-use Rattle.lsm_table.specs.HeldTable.{entries_in}
-use Rattle.lsm_table.proofs.HeldTableLaws.{table_held, table_itself}
+use Rattle.lsm_table.proofs.HeldTableLaws.{table_held}
 use Rattle.lsm_levels.specs.Ranges.{Range}
 use Rattle.lsm_levels.specs.Checking.{IsRangeOf}
 use Rattle.lsm_version.specs.Versions.{IsWhole}
@@ -16,7 +15,7 @@ is_whole t e rest front l table parts first last =
     let r : Range = record { smallest = internal_key e; largest = internal_key l } in
     record {
       range = r;
-      table = table_itself t.image (e ∷ rest) table;
+      table = subst (λ (es : List Entry). IsTable t.image es) (sym (table_held t.image (e ∷ rest) table)) table;
       smallest = first;
       largest = last;
       entries = subst (λ (es : List Entry). IsRangeOf es r) (sym (table_held t.image (e ∷ rest) table))

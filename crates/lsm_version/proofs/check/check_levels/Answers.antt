@@ -5,7 +5,7 @@ use Rattle.lsm_table.specs.Registry.{Table}
 use Rattle.lsm_levels.specs.Ages.{IsAgeOrder}
 use Rattle.lsm_version.specs.CheckRefusal.{AreTablesOf, IsLeastAgainst}
 use Rattle.lsm_version.specs.DeepAges.{IsAgeRefusal, bare_placed}
-use Rattle.lsm_version.specs.LevelLayouts.{AreLevelsWhole, IsLayoutRefusal, LieApart}
+use Rattle.lsm_version.specs.LevelLayouts.{AreLevelsWhole, IsLayoutRefusal, LieInOrder}
 use Rattle.lsm_version.specs.Loading.{Deep, placed_levels}
 use Rattle.lsm_levels.specs.Merging.{merge_all}
 use Rattle.lsm_version.specs.Versions.{files_from}
@@ -52,7 +52,7 @@ returns-in_err-judge_ages-clause-refused g c =
     let fault = c.in_err-judge_ages.field-0.0 in
     let tables : List (List Table) = map (λ l. l.items) c.in_ok-levels.levels.items in
     let are : AreTablesOf Stored c.args.shape.now tables = record { numbers = c.in_ok-judge_numbers.ensures.ok; read = r.read; files = r.files; stored = r.stored; placed = r.placed; order = c.in_ok-levels.ensures.order } in
-    let apart : LieApart tables = subst LieApart (ap (map (λ l. l.items)) c.deref.ensures.value) c.in_ok-judge_layouts.ensures.ok in
+    let apart : LieInOrder tables = subst LieInOrder (ap (map (λ l. l.items)) c.deref.ensures.value) c.in_ok-judge_layouts.ensures.ok in
     let refused : IsAgeRefusal (merged (get_or c.args.shape.now.levels 0 []) r.read) fault =
     subst (λ (ds : List Deep). IsAgeRefusal (merge_all (bare_placed ds)) fault) (c.deref-2.ensures.value ∙ r.depths) c.in_err-judge_ages.ensures.refused in
     let p = err_from_is_err_and c.from_residual-in_err-judge_ages.result c.from_residual-in_err-judge_ages.ensures.1 in
@@ -77,6 +77,6 @@ returns-clause-sound g c pointers =
     let levels = c.args.shape.now.levels in
     let tables : List (List Table) = map (λ l. l.items) c.in_ok-levels.levels.items in
     let shape : length levels ≡ 7 = search rules in
-    let apart : LieApart (placed_levels r.read) = subst LieApart (ap (map (λ l. l.items)) c.deref.ensures.value ∙ r.placed) c.in_ok-judge_layouts.ensures.ok in
+    let apart : LieInOrder (placed_levels r.read) = subst LieInOrder (ap (map (λ l. l.items)) c.deref.ensures.value ∙ r.placed) c.in_ok-judge_layouts.ensures.ok in
     let ages : IsAgeOrder (merged (get_or levels 0 []) r.read) = subst (λ (ds : List Deep). IsAgeOrder (merge_all (bare_placed ds))) (c.deref-2.ensures.value ∙ r.depths) c.in_ok-judge_ages.ensures.ok in
     sound_tables last tables (placed_levels r.read) pointers r.placed (sound_version last levels r.read pointers shape r.files c.in_ok-judge_numbers.ensures.ok apart ages)

@@ -1,4 +1,4 @@
-use Rattle.std.proofs.Common.{◌∙◌, ◌++◌, ap, map, ℕ, List}
+use Rattle.std.proofs.Common.{◌∙◌, ◌++◌, ap, map, List}
 use Rattle.lsm_table.specs.Registry.{Table}
 use Rattle.lsm_version.proofs.Pushing.{numbers_more, front_more}
 use Rattle.lsm_version.proofs.version.push_levels.Goals as goal
