@@ -8,7 +8,6 @@ ghost use Rattle.lsm_codec.specs.Keys.{key_bytes};
 ghost use Rattle.lsm_codec.specs.KeyRef.{key_of};
 ghost use Rattle.lsm_block.specs.Building.{common, offset_if, parts_text, grown_len, is_restart, is_later_restart, shared_at};
 
-use crate::key::packed_of;
 use lsm_codec::{KeyRef, put_varint32};
 use std::alloc::AllocError;
 
@@ -32,7 +31,7 @@ fn common_key(before: &[u8], key: &KeyRef<'_>) -> usize
         return user;
     }
     let (_, rest) = before.split_at(user);
-    user + common_prefix(rest, &packed_of(key).to_le_bytes())
+    user + common_prefix(rest, &key.packed().to_le_bytes())
 }
 
 /// How much of its key the entry of this index shares.

@@ -2,18 +2,11 @@
 
 ghost use Rattle.std.specs.Prelude.{◌≡◌, ◌≤◌, ℕ, List, length, true};
 ghost use Rattle.std.specs.Ordering.{is_lt};
-ghost use Rattle.lsm_codec.specs.Keys.{packed, key_cmp, is_internal, tail_of, key_at};
+ghost use Rattle.lsm_codec.specs.Keys.{key_cmp, is_internal, tail_of, key_at};
 ghost use Rattle.lsm_codec.specs.KeyRef.{key_of};
 
 use lsm_codec::KeyRef;
 use std::cmp::Ordering;
-
-/// The sequence and the kind of a key in one number.
-pub(crate) fn packed_of(key: &KeyRef<'_>) -> u64
-    ensures { result ≡ packed (key_of key.now) }
-{
-    key.seq * 256 + key.kind as u64
-}
 
 /// The last eight bytes of an internal key as a number.
 pub(crate) fn tail(key: &[u8]) -> u64
@@ -34,7 +27,7 @@ pub(crate) fn is_below(key: &[u8], search: &KeyRef<'_>) -> bool
     let (user, _) = key.split_at(key.len() - 8);
     match user.cmp(search.user) {
         Ordering::Less => true,
-        Ordering::Equal => packed_of(search) < tail(key),
+        Ordering::Equal => search.packed() < tail(key),
         Ordering::Greater => false,
     }
 }

@@ -8,7 +8,7 @@ ghost use Rattle.lsm_codec.specs.KeyRef.{key_of};
 ghost use Rattle.lsm_block.specs.KeyParts.{joined};
 ghost use Rattle.lsm_block.specs.Reading.{comes_after};
 
-use crate::key::{packed_of, tail};
+use crate::key::tail;
 use lsm_codec::KeyRef;
 use std::alloc::AllocError;
 use std::cmp::Ordering;
@@ -149,7 +149,7 @@ impl<'b, 'a> SharedKey<'b, 'a> {
     {
         match self.compare_user(search.user) {
             Ordering::Less => true,
-            Ordering::Equal => packed_of(search) < self.tail(),
+            Ordering::Equal => search.packed() < self.tail(),
             Ordering::Greater => false,
         }
     }

@@ -56,6 +56,14 @@ impl<'a> KeyRef<'a> {
         Ok(KeyRef { user, seq, kind })
     }
 
+    /// The sequence and the kind in one number, `sequence * 256 + kind`: what the last eight bytes
+    /// of the key spell.
+    pub fn packed(&self) -> u64
+        ensures { result ≡ packed (key_of self.now) }
+    {
+        self.seq * 256 + self.kind as u64
+    }
+
     /// The order of internal keys: user keys ascending bytewise, a proper prefix first, and of one
     /// user key the greater `sequence * 256 + kind` first, so that the newest write comes first.
     pub fn compare(&self, other: &KeyRef<'_>) -> Ordering
@@ -64,9 +72,7 @@ impl<'a> KeyRef<'a> {
         match self.user.cmp(other.user) {
             Ordering::Less => Ordering::Less,
             Ordering::Greater => Ordering::Greater,
-            Ordering::Equal => (other.seq * 256 + other.kind as u64).cmp(
-                &(self.seq * 256 + self.kind as u64),
-            ),
+            Ordering::Equal => other.packed().cmp(&self.packed()),
         }
     }
 }

@@ -2,8 +2,8 @@
 //! its mask. Its `specs` state the one record `Entry` of all crates above, its order, what a set of
 //! entries answers to a read, and what a reader answers that may run out of memory.
 //!
-//! Stands on `std`, and on `thiserror` for its fault. Data flows from `varint` and `internal_key` to
-//! the formats above; `checksum` goes by `stridewise`, then `wordwise`, then `bytewise`, over
+//! Stands on `std`, and on `thiserror` for its fault. Data flows from `varint` and `internal_key`
+//! to the formats above; `checksum` goes by `stridewise`, then `wordwise`, then `bytewise`, over
 //! `stride_tables` and `byte_tables`.
 //!
 //! Its contract: bytes and numbers, keys, checksums by the grammar, both ways, and each refusal

@@ -28,5 +28,5 @@ returns c =
     let tail = to_le_bytes w64 (packed (key_of c.args.key.now)) in
     let all = common-all c.args.before.now user tail (omega (arith, c.common_prefix-user.ensures)) in
     let whole : c.common_prefix-user.result ≡ length user = omega (arith, c.common_prefix-user.ensures, (common-fits c.args.before.now user).1) in
-    let rest : c.common_prefix.result ≡ common (drop (length user) c.args.before.now) tail = rw (c.split_at.ensures.back, whole, c.to_le_bytes.ensures, c.packed_of.ensures) at c.common_prefix.ensures in
+    let rest : c.common_prefix.result ≡ common (drop (length user) c.args.before.now) tail = rw (c.split_at.ensures.back, whole, c.to_le_bytes.ensures, c.packed.ensures) at c.common_prefix.ensures in
     omega (arith, all, whole, rest)

@@ -21,7 +21,7 @@ returns-in-Less c =
 pub returns-in-Equal : goal.returns-in-Equal
 returns-in-Equal c =
     let found : slice_cmp nat_cmp (user_of c.args.key.now) c.args.search.now.user.now ≡ Equal = rw c.split_at.ensures.front at (sym c.cmp.ensures ∙ c.in-Equal.is) in
-    rw (c.tail.ensures, c.packed_of.ensures) (sym (below_equal c.args.key.now (key_of c.args.search.now) (λ i. omega (arith, c.type_inv.key i)) c.requires found))
+    rw (c.tail.ensures, c.packed.ensures) (sym (below_equal c.args.key.now (key_of c.args.search.now) (λ i. omega (arith, c.type_inv.key i)) c.requires found))
 
 pub returns-in-Greater : goal.returns-in-Greater
 returns-in-Greater c =

@@ -17,7 +17,7 @@ returns-in-Less c =
 
 pub returns-in-Equal : goal.returns-in-Equal
 returns-in-Equal c =
-    rw (c.tail.ensures, c.packed_of.ensures) (sym (below_equal (joined c.args.self.now) (key_of c.args.search.now) c.compare_user.ensures.bytes c.requires (sym c.compare_user.ensures.compares ∙ c.in-Equal.is)))
+    rw (c.tail.ensures, c.packed.ensures) (sym (below_equal (joined c.args.self.now) (key_of c.args.search.now) c.compare_user.ensures.bytes c.requires (sym c.compare_user.ensures.compares ∙ c.in-Equal.is)))
 
 pub returns-in-Greater : goal.returns-in-Greater
 returns-in-Greater c =
