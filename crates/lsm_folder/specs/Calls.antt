@@ -1,5 +1,5 @@
 -- The calls on a folder with their answers, and when the answers are true (this project's rule).
-use Rattle.std.specs.Prelude.{◌≡◌, ℕ, Bool, true, false, List, [], ◌∷◌, take, drop, Option, None, Some}
+use Rattle.std.specs.Prelude.{◌≡◌, ℕ, Bool, List, [], ◌∷◌, take, drop, Option, None, Some}
 use Rattle.std.specs.Coded.{Unit-prop}
 use denote.Struct.Props as logic
 

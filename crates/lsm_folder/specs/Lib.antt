@@ -1,4 +1,5 @@
 pub mod Calls
+pub mod Directory
 pub mod FolderFault
 pub mod MemoryFolder
 pub mod Place

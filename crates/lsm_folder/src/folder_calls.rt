@@ -34,12 +34,7 @@ pub trait FolderCalls: Drop {
 
     /// Makes a file that was not there, with these bytes. `Exists` where a file has the name. After `Failed` the file may be
     /// there with a part of the bytes.
-    fn make<R: Wait>(
-        &mut self,
-        rt: &R,
-        name: &str,
-        bytes: &[u8],
-    ) -> Result<Self::Mark, FolderFault>
+    fn make<R: Wait>(&mut self, rt: &R, name: &str, bytes: &[u8]) -> Result<Self::Mark, FolderFault>
         ensures noted { calls self.new ≡ made name.now bytes.now (is_ok result) ∷ calls self.old }
         ensures place { place self.new ≡ place self.old }
         ensures mark { IfOk result (λ m. (Self.Mark.name m ≡ name.now) × (Self.Mark.image m ≡ bytes.now) × is_of (place self.old) m) }

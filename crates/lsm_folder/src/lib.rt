@@ -6,6 +6,8 @@
 //! for which it is proved that each read answers the bytes that were written.
 #![tactic(auto)]
 
+mod directory;
+mod file;
 mod folder_calls;
 mod folder_fault;
 mod image;
@@ -15,6 +17,7 @@ mod memory_calls;
 mod memory_files;
 mod memory_folder;
 mod memory_mark;
+mod stops;
 mod system_calls;
 mod system_fault;
 mod system_files;

@@ -244,13 +244,7 @@ impl Log {
     }
 
     /// A read more, which failed.
-    pub(crate) fn with_failed_read(
-        &self,
-        name: &[u8],
-        image: &Tag,
-        offset: u64,
-        len: usize,
-    ) -> Log
+    pub(crate) fn with_failed_read(&self, name: &[u8], image: &Tag, offset: u64, len: usize) -> Log
         ensures { result.calls ≡ read name.now image.now.numbers offset len None ∷ self.now.calls }
     {
         Log::of::<Reading, ReadFailed>(&Reading {
@@ -314,10 +308,7 @@ impl Log {
     pub(crate) fn with_list(&self, names: &[String]) -> Log
         ensures { result.calls ≡ listed (Some (map string_bytes names.now)) ∷ self.now.calls }
     {
-        Log::of::<Listing, ListOk>(&Listing {
-            older: self,
-            names,
-        })
+        Log::of::<Listing, ListOk>(&Listing { older: self, names })
     }
 
     /// A list more, which failed.

@@ -1,6 +1,7 @@
 //! The calls on a folder in memory.
 
-ghost use Rattle.std.specs.Prelude.{◌≡◌, ◌+◌, ◌≤◌, ◌∷◌, [], List, Some, None, length, take, drop, is_ok, IfOk, MatchResult};
+ghost use Rattle.std.specs.Prelude.{◌≡◌, ◌+◌, ◌≤◌, ◌∷◌, [], List, Some, None, length, take, drop, is_ok, IfOk, IfErr, MatchResult};
+ghost use Rattle.lsm_folder.specs.FolderFault.{NotNamed};
 ghost use Rattle.lsm_folder.specs.MemoryFolder.{memory_calls, memory_mark_image};
 ghost use Rattle.lsm_folder.specs.Calls.{AreHonest};
 
@@ -46,6 +47,34 @@ impl MemoryFolder {
             log: Log::empty(),
         })
     }
+
+    /// Lets so many more calls through, counted over all forks, cuts the next, and fails each after it with `Failed`. The call
+    /// that is cut answers `Failed` too, and has taken effect or not.
+    pub fn stops_after(&self, calls: u64, takes_effect: bool) {
+        self.files.stops.after(calls, takes_effect);
+    }
+
+    /// The folder as it is found after a crash at this moment, as a folder of its own that does not stop.
+    ///
+    /// A file has the bytes that a sync made durable, and the first `keep` of those that were written behind them. The names are
+    /// those of the last sync of the folder, or, where `names_stay`, those of this moment: a disk may do either. Refused only
+    /// by `OutOfMemory`.
+    pub fn reopen<R: Wait>(
+        &self,
+        rt: &R,
+        keep: usize,
+        names_stay: bool,
+    ) -> Result<MemoryFolder, FolderFault>
+        ensures calls { IfOk result (λ f. memory_calls f ≡ []) }
+        ensures err { IfErr result NotNamed }
+    {
+        let files = self.files.after_crash(rt, self.alloc, keep, names_stay)?;
+        Ok(MemoryFolder {
+            alloc: self.alloc,
+            files: Arc::new(self.alloc, files)?,
+            log: Log::empty(),
+        })
+    }
 }
 
 impl FolderCalls for MemoryFolder {
@@ -70,7 +99,9 @@ impl FolderCalls for MemoryFolder {
         bytes: &[u8],
     ) -> Result<MemoryMark, FolderFault> {
         let answer = self.files.make(rt, self.alloc, name, bytes);
-        self.log = self.log.with::<Made>(name.as_bytes(), bytes, answer.is_ok());
+        self.log = self
+            .log
+            .with::<Made>(name.as_bytes(), bytes, answer.is_ok());
         let token = answer?;
         Ok(MemoryMark {
             name: tag_of(name.as_bytes()),
@@ -80,36 +111,47 @@ impl FolderCalls for MemoryFolder {
 
     fn write<R: Wait>(&mut self, rt: &R, name: &str, bytes: &[u8]) -> Result<(), FolderFault> {
         let answer = self.files.write(rt, self.alloc, name, bytes);
-        self.log = self.log.with::<Wrote>(name.as_bytes(), bytes, answer.is_ok());
+        self.log = self
+            .log
+            .with::<Wrote>(name.as_bytes(), bytes, answer.is_ok());
         answer
     }
 
     fn append<R: Wait>(&mut self, rt: &R, name: &str, bytes: &[u8]) -> Result<(), FolderFault> {
         let answer = self.files.append(rt, self.alloc, name, bytes);
-        self.log = self.log.with::<Appended>(name.as_bytes(), bytes, answer.is_ok());
+        self.log = self
+            .log
+            .with::<Appended>(name.as_bytes(), bytes, answer.is_ok());
         answer
     }
 
     fn sync<R: Wait>(&mut self, rt: &R, name: &str) -> Result<(), FolderFault> {
         let answer = self.files.sync(rt, name);
-        self.log = self.log.with::<Synced>(name.as_bytes(), &[], answer.is_ok());
+        self.log = self
+            .log
+            .with::<Synced>(name.as_bytes(), &[], answer.is_ok());
         answer
     }
 
-    fn sync_folder<R: Wait>(&mut self, _rt: &R) -> Result<(), FolderFault> {
-        self.log = self.log.with::<FolderSynced>(&[], &[], true);
-        Ok(())
+    fn sync_folder<R: Wait>(&mut self, rt: &R) -> Result<(), FolderFault> {
+        let answer = self.files.sync_folder(rt);
+        self.log = self.log.with::<FolderSynced>(&[], &[], answer.is_ok());
+        answer
     }
 
     fn rename<R: Wait>(&mut self, rt: &R, from: &str, to: &str) -> Result<(), FolderFault> {
         let answer = self.files.rename(rt, self.alloc, from, to);
-        self.log = self.log.with::<Renamed>(from.as_bytes(), to.as_bytes(), answer.is_ok());
+        self.log = self
+            .log
+            .with::<Renamed>(from.as_bytes(), to.as_bytes(), answer.is_ok());
         answer
     }
 
     fn remove<R: Wait>(&mut self, rt: &R, name: &str) -> Result<(), FolderFault> {
         let answer = self.files.remove(rt, name);
-        self.log = self.log.with::<Removed>(name.as_bytes(), &[], answer.is_ok());
+        self.log = self
+            .log
+            .with::<Removed>(name.as_bytes(), &[], answer.is_ok());
         answer
     }
 
@@ -137,11 +179,15 @@ impl FolderCalls for MemoryFolder {
         let image = image_of(mark);
         match self.files.part(alloc, &mark.token, offset, len) {
             Ok(bytes) => {
-                self.log = self.log.with_read(name.as_bytes(), &image, offset, len, bytes.as_slice());
+                self.log = self
+                    .log
+                    .with_read(name.as_bytes(), &image, offset, len, bytes.as_slice());
                 Ok(bytes)
             }
             Err(fault) => {
-                self.log = self.log.with_failed_read(name.as_bytes(), &image, offset, len);
+                self.log = self
+                    .log
+                    .with_failed_read(name.as_bytes(), &image, offset, len);
                 Err(fault)
             }
         }

@@ -1,70 +1,95 @@
 //! The files of a folder in memory.
 
-ghost use Rattle.std.specs.Prelude.{◌≡◌, ◌+◌, ◌≤◌, ◌^◌, length, take, drop, IfOk, IfErr};
+ghost use Rattle.std.specs.Prelude.{◌≡◌, ◌+◌, ◌≤◌, ◌^◌, ◌++◌, length, take, drop, IfOk, IfErr};
 ghost use Rattle.boxcar.specs.Table.{Shows};
 ghost use Rattle.lsm_folder.specs.FolderFault.{NotMissing, NotExists, NotNamed};
 
+use crate::directory::Directory;
 use crate::folder_fault::FolderFault;
 use crate::image::Image;
+use crate::stops::Stops;
 use boxcar::Pushed;
 use std::alloc::{AllocError, Global};
-use std::sync::{Mutex, Wait};
+use std::sync::atomic::{AtomicBool, Ordering};
+use std::sync::{Arc, Mutex, Wait};
 
 /// The most bytes that a file may have to be read whole: 1 GiB.
-pub(crate) const MAX_LOAD: usize = 1 << 30;
+const MAX_LOAD: usize = 1 << 30;
 
-/// A name, and the index of the bytes of its file.
-#[derive(Drop)]
-struct Entry {
-    name: String,
-    index: usize,
-}
-
-/// What forks share: bytes, to which bytes are only added, and the names under their lock.
+/// What forks share: images, to which images are only added; the files and their names, under a lock; and at which call the
+/// folder stops.
 #[derive(Drop)]
 pub(crate) struct MemoryFiles {
     pub(crate) images: boxcar::Vec<Image>,
-    names: Mutex<Vec<Entry>>,
-}
-
-fn index_of(names: &Vec<Entry>, name: &str) -> Option<usize> {
-    names
-        .iter()
-        .find(|entry| entry.name.as_str() == name)
-        .map(|entry| entry.index)
-}
-
-/// Gives a name to bytes.
-fn set(names: &mut Vec<Entry>, alloc: Global, name: &str, index: usize) -> Result<(), AllocError> {
-    let name = String::from_str(alloc, name)?;
-    names.retain(|entry| entry.name.as_str() != name.as_str());
-    names.push(Entry {
-        name,
-        index,
-    })?;
-    Ok(())
+    pub(crate) directory: Mutex<Directory>,
+    pub(crate) stops: Stops,
 }
 
 impl MemoryFiles {
+    /// No files.
     pub(crate) fn new(alloc: Global) -> Result<MemoryFiles, AllocError> {
         Ok(MemoryFiles {
             images: boxcar::Vec::new(alloc)?,
-            names: Mutex::new(Vec::new(alloc)),
+            directory: Mutex::new(Directory::new(alloc)),
+            stops: Stops::never(),
         })
     }
 
-    fn add<R: Wait>(&self, rt: &R, bytes: Vec<u8>) -> Result<Pushed<Image>, FolderFault>
+    fn push<R: Wait>(
+        &self,
+        rt: &R,
+        bytes: Vec<u8>,
+        gone: Arc<AtomicBool>,
+    ) -> Result<Pushed<Image>, FolderFault>
         ensures ok { IfOk result (λ t. (t.value.bytes ≡ bytes) × Shows self.now.images t) }
         ensures err { IfErr result (λ e. e ≡ FolderFault.OutOfMemory) }
     {
-        match self.images.push_shown(
-            rt,
-            Image {
-                bytes,
-            },
-        ) {
+        match self.images.push_shown(rt, Image { bytes, gone }) {
             Ok(token) => Ok(token),
             Err(_) => Err(FolderFault::OutOfMemory),
+        }
+    }
+
+    /// The image of a file that is there.
+    pub(crate) fn image<R: Wait>(
+        &self,
+        rt: &R,
+        alloc: Global,
+        bytes: &[u8],
+    ) -> Result<Pushed<Image>, FolderFault>
+        ensures ok { IfOk result (λ t. (t.value.bytes.items ≡ bytes.now) × Shows self.now.images t) }
+        ensures err { IfErr result (λ e. e ≡ FolderFault.OutOfMemory) }
+    {
+        let bytes = Vec::from_slice(alloc, bytes)?;
+        let gone = Arc::new(alloc, AtomicBool::new(false))?;
+        self.push(rt, bytes, gone)
+    }
+
+    /// What shows the image of a file.
+    pub(crate) fn shown(
+        &self,
+        directory: &Directory,
+        number: usize,
+    ) -> Result<Pushed<Image>, FolderFault>
+        ensures ok { IfOk result (λ t. Shows self.now.images t) }
+        ensures err { IfErr result NotExists }
+    {
+        let Some(file) = directory.files.get(number) else {
+            return Err(FolderFault::Missing);
+        };
+        match self.images.witness(file.token.index()) {
+            Some(token) => Ok(token),
+            None => Err(FolderFault::Missing),
+        }
+    }
+
+    /// Marks the file of this name as gone, if there is one.
+    fn lose(&self, directory: &Directory, name: &str) {
+        let Some(number) = directory.find(name) else {
+            return;
+        };
+        if let Ok(token) = self.shown(directory, number) {
+            self.images.value(&token).gone.store(true, Ordering::SeqCst);
         }
     }
 
@@ -78,12 +103,14 @@ impl MemoryFiles {
         ensures ok { IfOk result (λ t. (t.value.bytes.items ≡ bytes.now) × Shows self.now.images t) }
         ensures err { IfErr result NotMissing }
     {
-        let mut names = self.names.lock(rt);
-        if index_of(&names, name).is_some() {
+        let turn = self.stops.begin()?;
+        let mut directory = self.directory.lock(rt);
+        if directory.find(name).is_some() {
             return Err(FolderFault::Exists);
         }
-        let token = self.add(rt, Vec::from_slice(alloc, bytes)?)?;
-        set(&mut names, alloc, name, token.index())?;
+        let token = self.image(rt, alloc, bytes)?;
+        directory.add(String::from_str(alloc, name)?, token.again(), 0)?;
+        turn.end()?;
         Ok(token)
     }
 
@@ -96,10 +123,17 @@ impl MemoryFiles {
     ) -> Result<(), FolderFault>
         ensures { IfErr result NotNamed }
     {
-        let mut names = self.names.lock(rt);
-        let token = self.add(rt, Vec::from_slice(alloc, bytes)?)?;
-        set(&mut names, alloc, name, token.index())?;
-        Ok(())
+        let turn = self.stops.begin()?;
+        let mut directory = self.directory.lock(rt);
+        let token = self.image(rt, alloc, bytes)?;
+        match directory.find(name) {
+            None => directory.add(String::from_str(alloc, name)?, token, 0)?,
+            Some(number) => {
+                self.lose(&directory, name);
+                directory.replace(number, token, 0);
+            }
+        }
+        turn.end()
     }
 
     pub(crate) fn append<R: Wait>(
@@ -111,36 +145,53 @@ impl MemoryFiles {
     ) -> Result<(), FolderFault>
         ensures { IfErr result NotExists }
     {
-        let mut names = self.names.lock(rt);
-        let token = self.shown(&names, name)?;
-        let mut all = Vec::from_slice(alloc, self.images.value(&token).bytes.as_slice())?;
-        all.extend_from_slice(bytes)?;
-        let token = self.add(rt, all)?;
-        set(&mut names, alloc, name, token.index())?;
-        Ok(())
+        let turn = self.stops.begin()?;
+        let mut directory = self.directory.lock(rt);
+        let number = directory.find(name).ok_or(FolderFault::Missing)?;
+        let durable = directory.durable_of(number);
+        let token = self.shown(&directory, number)?;
+        let token = self.longer(rt, alloc, &token, bytes)?;
+        directory.replace(number, token, durable);
+        turn.end()
     }
 
-    fn shown(&self, names: &Vec<Entry>, name: &str) -> Result<Pushed<Image>, FolderFault>
-        ensures ok { IfOk result (λ t. Shows self.now.images t) }
-        ensures err { IfErr result NotExists }
+    /// An image with these bytes behind those of another, for the same file.
+    fn longer<R: Wait>(
+        &self,
+        rt: &R,
+        alloc: Global,
+        token: &Pushed<Image>,
+        bytes: &[u8],
+    ) -> Result<Pushed<Image>, FolderFault>
+        requires { Shows self.now.images token.now }
+        ensures ok { IfOk result (λ t. (t.value.bytes.items ≡ token.now.value.bytes.items ++ bytes.now) × Shows self.now.images t) }
+        ensures err { IfErr result (λ e. e ≡ FolderFault.OutOfMemory) }
     {
-        let Some(index) = index_of(names, name) else {
-            return Err(FolderFault::Missing);
-        };
-        match self.images.witness(index) {
-            Some(token) => Ok(token),
-            None => Err(FolderFault::Missing),
-        }
+        let image = self.images.value(token);
+        let mut all = Vec::from_slice(alloc, image.bytes.as_slice())?;
+        all.extend_from_slice(bytes)?;
+        let gone = Arc::try_clone(&image.gone)?;
+        self.push(rt, all, gone)
     }
 
     pub(crate) fn sync<R: Wait>(&self, rt: &R, name: &str) -> Result<(), FolderFault>
         ensures { IfErr result NotExists }
     {
-        let names = self.names.lock(rt);
-        match index_of(&names, name) {
-            Some(_) => Ok(()),
-            None => Err(FolderFault::Missing),
-        }
+        let turn = self.stops.begin()?;
+        let mut directory = self.directory.lock(rt);
+        let number = directory.find(name).ok_or(FolderFault::Missing)?;
+        let token = self.shown(&directory, number)?;
+        let len = self.images.value(&token).bytes.len();
+        directory.replace(number, token, len);
+        turn.end()
+    }
+
+    pub(crate) fn sync_folder<R: Wait>(&self, rt: &R) -> Result<(), FolderFault>
+        ensures { IfErr result NotNamed }
+    {
+        let turn = self.stops.begin()?;
+        self.directory.lock(rt).keep_names()?;
+        turn.end()
     }
 
     pub(crate) fn rename<R: Wait>(
@@ -152,34 +203,44 @@ impl MemoryFiles {
     ) -> Result<(), FolderFault>
         ensures { IfErr result NotExists }
     {
-        let mut names = self.names.lock(rt);
-        let Some(index) = index_of(&names, from) else {
+        let turn = self.stops.begin()?;
+        let mut directory = self.directory.lock(rt);
+        let Some(number) = directory.find(from) else {
             return Err(FolderFault::Missing);
         };
-        set(&mut names, alloc, to, index)?;
-        names.retain(|entry| entry.name.as_str() != from);
-        Ok(())
+        if from != to {
+            let to_name = String::from_str(alloc, to)?;
+            self.lose(&directory, to);
+            directory.rename(from, to_name, number)?;
+        }
+        turn.end()
     }
 
     pub(crate) fn remove<R: Wait>(&self, rt: &R, name: &str) -> Result<(), FolderFault>
         ensures { IfErr result NotExists }
     {
-        let mut names = self.names.lock(rt);
-        if index_of(&names, name).is_none() {
+        let turn = self.stops.begin()?;
+        let mut directory = self.directory.lock(rt);
+        if directory.find(name).is_none() {
             return Err(FolderFault::Missing);
         }
-        names.retain(|entry| entry.name.as_str() != name);
-        Ok(())
+        self.lose(&directory, name);
+        directory.remove(name);
+        turn.end()
     }
 
     pub(crate) fn length<R: Wait>(&self, rt: &R, name: &str) -> Result<u64, FolderFault>
         ensures { IfErr result NotExists }
     {
-        let names = self.names.lock(rt);
-        let token = self.shown(&names, name)?;
+        let turn = self.stops.begin()?;
+        let directory = self.directory.lock(rt);
+        let number = directory.find(name).ok_or(FolderFault::Missing)?;
+        let token = self.shown(&directory, number)?;
+        turn.end()?;
         Ok(self.images.value(&token).bytes.len() as u64)
     }
 
+    /// A part of a file of which a mark was given. No lock is taken: a flag beside the bytes says that the file is gone.
     pub(crate) fn part(
         &self,
         alloc: Global,
@@ -192,7 +253,12 @@ impl MemoryFiles {
         ensures ok { IfOk result (λ v. v.items ≡ take len (drop offset token.now.value.bytes.items)) }
         ensures err { IfErr result NotExists }
     {
+        let turn = self.stops.begin()?;
         let image = self.images.value(token);
+        if image.gone.load(Ordering::SeqCst) {
+            return Err(FolderFault::Missing);
+        }
+        turn.end()?;
         let offset = offset as usize;
         Ok(Vec::from_slice(alloc, &image.bytes[offset..offset + len])?)
     }
@@ -207,28 +273,71 @@ impl MemoryFiles {
         ensures limit { IfOk result (λ r. length r.1.items ≤ 2 ^ 30) }
         ensures err { IfErr result NotExists }
     {
-        let names = self.names.lock(rt);
-        let token = self.shown(&names, name)?;
+        let turn = self.stops.begin()?;
+        let directory = self.directory.lock(rt);
+        let number = directory.find(name).ok_or(FolderFault::Missing)?;
+        let token = self.shown(&directory, number)?;
         let image = self.images.value(&token);
         if image.bytes.len() > MAX_LOAD {
             return Err(FolderFault::Failed);
         }
         let bytes = Vec::from_slice(alloc, image.bytes.as_slice())?;
+        turn.end()?;
         Ok((token, bytes))
     }
 
-    pub(crate) fn list<R: Wait>(
+    pub(crate) fn list<R: Wait>(&self, rt: &R, alloc: Global) -> Result<Vec<String>, FolderFault>
+        ensures { IfErr result NotNamed }
+    {
+        let turn = self.stops.begin()?;
+        let names = self.directory.lock(rt).listed(alloc)?;
+        turn.end()?;
+        Ok(names)
+    }
+
+    /// Leaves a file to another folder: its durable bytes, and `keep` of those behind them.
+    fn leave<R: Wait>(
         &self,
         rt: &R,
         alloc: Global,
-    ) -> Result<Vec<String>, FolderFault>
+        directory: &Directory,
+        name: &str,
+        number: usize,
+        keep: usize,
+        left: &MemoryFiles,
+    ) -> Result<(), FolderFault>
         ensures { IfErr result NotNamed }
     {
-        let names = self.names.lock(rt);
-        let mut listed = Vec::new(alloc);
-        for entry in names.iter() {
-            listed.push(String::from_str(alloc, entry.name.as_str())?)?;
+        let Ok(token) = self.shown(directory, number) else {
+            return Ok(());
+        };
+        let bytes = self.images.value(&token).bytes.as_slice();
+        let len = directory
+            .durable_of(number)
+            .saturating_add(keep)
+            .min(bytes.len());
+        let token = left.image(rt, alloc, &bytes[..len])?;
+        let name = String::from_str(alloc, name)?;
+        left.directory.lock(rt).add(name, token, len)?;
+        Ok(())
+    }
+
+    /// What a crash leaves.
+    pub(crate) fn after_crash<R: Wait>(
+        &self,
+        rt: &R,
+        alloc: Global,
+        keep: usize,
+        names_stay: bool,
+    ) -> Result<MemoryFiles, FolderFault>
+        ensures { IfErr result NotNamed }
+    {
+        let left = MemoryFiles::new(alloc)?;
+        let directory = self.directory.lock(rt);
+        for (name, number) in directory.names_after(names_stay).iter() {
+            self.leave(rt, alloc, &directory, name.as_str(), *number, keep, &left)?;
         }
-        Ok(listed)
+        left.directory.lock(rt).keep_names()?;
+        Ok(left)
     }
 }

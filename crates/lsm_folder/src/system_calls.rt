@@ -53,9 +53,7 @@ fn marked<W: Wait>(
         image: tag_of(bytes),
     };
     match marks.push_shown(rt, facts) {
-        Ok(token) => Ok(SystemMark {
-            token,
-        }),
+        Ok(token) => Ok(SystemMark { token }),
         Err(_) => Err(FolderFault::OutOfMemory),
     }
 }
@@ -135,25 +133,33 @@ impl<R: Files + AllocGlobal + Clone + Drop> FolderCalls for SystemFolder<R> {
         bytes: &[u8],
     ) -> Result<SystemMark, FolderFault> {
         let answer = self.try_make(rt, name, bytes);
-        self.log = self.log.with::<Made>(name.as_bytes(), bytes, answer.is_ok());
+        self.log = self
+            .log
+            .with::<Made>(name.as_bytes(), bytes, answer.is_ok());
         answer
     }
 
     fn write<W: Wait>(&mut self, _rt: &W, name: &str, bytes: &[u8]) -> Result<(), FolderFault> {
         let answer = system_files::write(&self.rt, self.path.as_str(), name, bytes);
-        self.log = self.log.with::<Wrote>(name.as_bytes(), bytes, answer.is_ok());
+        self.log = self
+            .log
+            .with::<Wrote>(name.as_bytes(), bytes, answer.is_ok());
         answer.map_err(|e| failed(e))
     }
 
     fn append<W: Wait>(&mut self, _rt: &W, name: &str, bytes: &[u8]) -> Result<(), FolderFault> {
         let answer = system_files::append(&self.rt, self.path.as_str(), name, bytes);
-        self.log = self.log.with::<Appended>(name.as_bytes(), bytes, answer.is_ok());
+        self.log = self
+            .log
+            .with::<Appended>(name.as_bytes(), bytes, answer.is_ok());
         answer.map_err(|e| missing(e))
     }
 
     fn sync<W: Wait>(&mut self, _rt: &W, name: &str) -> Result<(), FolderFault> {
         let answer = system_files::sync(&self.rt, self.path.as_str(), name);
-        self.log = self.log.with::<Synced>(name.as_bytes(), &[], answer.is_ok());
+        self.log = self
+            .log
+            .with::<Synced>(name.as_bytes(), &[], answer.is_ok());
         answer.map_err(|e| missing(e))
     }
 
@@ -165,13 +171,17 @@ impl<R: Files + AllocGlobal + Clone + Drop> FolderCalls for SystemFolder<R> {
 
     fn rename<W: Wait>(&mut self, _rt: &W, from: &str, to: &str) -> Result<(), FolderFault> {
         let answer = system_files::rename(&self.rt, self.path.as_str(), from, to);
-        self.log = self.log.with::<Renamed>(from.as_bytes(), to.as_bytes(), answer.is_ok());
+        self.log = self
+            .log
+            .with::<Renamed>(from.as_bytes(), to.as_bytes(), answer.is_ok());
         answer.map_err(|e| missing(e))
     }
 
     fn remove<W: Wait>(&mut self, _rt: &W, name: &str) -> Result<(), FolderFault> {
         let answer = system_files::remove(&self.rt, self.path.as_str(), name);
-        self.log = self.log.with::<Removed>(name.as_bytes(), &[], answer.is_ok());
+        self.log = self
+            .log
+            .with::<Removed>(name.as_bytes(), &[], answer.is_ok());
         answer.map_err(|e| missing(e))
     }
 
@@ -199,11 +209,15 @@ impl<R: Files + AllocGlobal + Clone + Drop> FolderCalls for SystemFolder<R> {
         let image = image_of(mark);
         match system_files::read_part(&self.rt, alloc, self.path.as_str(), name, offset, len) {
             Ok(bytes) => {
-                self.log = self.log.with_read(name.as_bytes(), &image, offset, len, bytes.as_slice());
+                self.log = self
+                    .log
+                    .with_read(name.as_bytes(), &image, offset, len, bytes.as_slice());
                 Ok(bytes)
             }
             Err(error) => {
-                self.log = self.log.with_failed_read(name.as_bytes(), &image, offset, len);
+                self.log = self
+                    .log
+                    .with_failed_read(name.as_bytes(), &image, offset, len);
                 Err(missing(error))
             }
         }

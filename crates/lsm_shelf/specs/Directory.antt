@@ -1,7 +1,7 @@
 -- The directory of a shelf in memory (this project's rule).
 use Rattle.std.specs.Prelude.{ℕ, List, Option, None, Some}
-use Rattle.lsm_shelf.specs.declared.directory.Directory.{Directory}
-use Rattle.lsm_shelf.specs.declared.directory.Manifest.{Manifest}
+use Rattle.lsm_shelf.specs.declared.memory.directory.Directory.{Directory}
+use Rattle.lsm_shelf.specs.declared.memory.directory.Manifest.{Manifest}
 
 abbrev pub parts_of : Option Manifest → Option (ℕ × List ℕ)
 parts_of None = None

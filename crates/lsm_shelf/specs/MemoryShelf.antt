@@ -2,8 +2,8 @@
 use Rattle.std.specs.Prelude.{ℕ, List}
 use Rattle.std.specs.Arc.{arc_value}
 use Rattle.boxcar.specs.Table.{Shows}
-use Rattle.lsm_shelf.specs.declared.memory_shelf.MemoryShelf.{MemoryShelf}
-use Rattle.lsm_shelf.specs.declared.memory_receipt.MemoryReceipt.{MemoryReceipt}
+use Rattle.lsm_shelf.specs.declared.memory.memory_shelf.MemoryShelf.{MemoryShelf}
+use Rattle.lsm_shelf.specs.declared.memory.memory_receipt.MemoryReceipt.{MemoryReceipt}
 use Rattle.lsm_shelf.specs.Told.{Told, Place, in_memory, at_path}
 use Rattle.lsm_shelf.specs.Account.{told_in}
 

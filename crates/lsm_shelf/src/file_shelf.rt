@@ -13,7 +13,7 @@ use crate::file_names::{
 };
 use crate::file_receipt::FileReceipt;
 use crate::folder;
-use crate::image::MAX_IMAGE;
+use crate::slip::MAX_IMAGE;
 use crate::io_fault::{device, missing, taken};
 use crate::listing::tables_in;
 use crate::shelf::Shelf;

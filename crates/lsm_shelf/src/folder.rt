@@ -4,7 +4,7 @@ ghost use Rattle.std.specs.Prelude.{◌≡◌, ◌+◌, ◌≤◌, ◌^◌, leng
 ghost use Rattle.lsm_shelf.specs.Honesty.{OnFile, ReadAnswered};
 
 use crate::account::tag_of_bytes;
-use crate::image::MAX_IMAGE;
+use crate::slip::MAX_IMAGE;
 use boxcar::tag::Tag;
 use std::alloc::Global;
 use std::fs::{File, Files, OpenFile, OpenOptions};

@@ -5,25 +5,20 @@
 #![tactic(auto)]
 
 mod account;
-mod contents;
-mod directory;
 mod file_names;
 mod file_receipt;
 mod file_shelf;
 mod folder;
-mod image;
 mod io_fault;
 mod listing;
-mod memory_receipt;
-mod memory_shelf;
+mod memory;
 mod shelf;
 mod shelf_fault;
 mod slip;
 
 pub use file_receipt::FileReceipt;
 pub use file_shelf::FileShelf;
-pub use memory_receipt::MemoryReceipt;
-pub use memory_shelf::MemoryShelf;
+pub use memory::{MemoryReceipt, MemoryShelf};
 pub use shelf::Shelf;
 pub use shelf_fault::ShelfFault;
 pub use slip::Slip;

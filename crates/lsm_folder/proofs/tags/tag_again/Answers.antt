@@ -1,4 +1,3 @@
-use Rattle.std.proofs.Common.{◌≡◌}
 use Rattle.lsm_folder.proofs.tags.tag_again.Goals as goal
 
 pub returns : goal.returns

@@ -1,5 +1,4 @@
-use denote.RattleType.{RattleType}
-use denote.Param.Send.{IsSend, IsSync}
+use denote.Param.Send.{IsSend}
 use Rattle.lsm_folder.specs.contracts.log.Log.{the_row}
 
 pub send : IsSend the_row

@@ -1,5 +1,4 @@
-use denote.RattleType.{RattleType}
-use denote.Param.Send.{IsSend, IsSync}
+use denote.Param.Send.{IsSync}
 use denote.Param.Send.{part_keyless}
 use Rattle.lsm_folder.specs.contracts.log.Log.{the_row}
 use Rattle.lsm_folder.proofs.log.Log.TheSendSync.Send.{send}

@@ -2,9 +2,6 @@
 
 ghost use Rattle.std.specs.Prelude.{◌≡◌, ◌≤◌, ◌^◌, length};
 
-/// The most bytes that an image may have: 1 GiB.
-pub(crate) const MAX_IMAGE: usize = 1 << 30;
-
 /// The bytes of a table.
 #[derive(Drop)]
 pub struct Image {

@@ -2,7 +2,7 @@ use Rattle.std.proofs.Common.{rules}
 use Rattle.std.specs.BTreeMap.{keys}
 use Rattle.std.proofs.lemmas.Map.Keys.{IsStrictlyIncreasing-from_sorted}
 use Rattle.lsm_shelf.proofs.Ascending.{ascending_as}
-use Rattle.lsm_shelf.proofs.directory.Directory.numbers.Goals as goal
+use Rattle.lsm_shelf.proofs.memory.directory.Directory.list.Goals as goal
 
 -- the keys of a map are in order
 pub returns-clause-ascending : goal.returns-clause-ascending

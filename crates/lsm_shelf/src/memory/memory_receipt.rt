@@ -2,7 +2,7 @@
 
 ghost use Rattle.std.specs.Prelude.{◌≡◌, ◌≤◌, ◌^◌, length};
 
-use crate::image::Image;
+use crate::memory::image::Image;
 use crate::slip::Slip;
 use boxcar::Pushed;
 

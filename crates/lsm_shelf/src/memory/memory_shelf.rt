@@ -2,11 +2,13 @@
 
 ghost use Rattle.std.specs.Prelude.{◌≡◌, ◌↔◌, ◌+◌, ◌<◌, ◌≤◌, ◌^◌, length, take, drop, IfOk, IfErr, IsErrOf, OnOk, OnErr, IsTrue};
 ghost use Rattle.std.specs.List.Sorted.{IsStrictlyIncreasing};
+ghost use Rattle.boxcar.specs.Table.{Shows};
 ghost use Rattle.lsm_shelf.specs.Told.{Becomes, Counted, CountedBy, NotDevice, NotNamed, NotTaken, TakenIs, fresh, putting, removing, listing, sending, appending, finding};
 
 use crate::account::{Account, tag_of_both, tag_of_bytes, tag_of_number, tag_of_numbers};
-use crate::contents::Contents;
-use crate::memory_receipt::MemoryReceipt;
+use crate::memory::contents::Contents;
+use crate::memory::image::Image;
+use crate::memory::memory_receipt::MemoryReceipt;
 use crate::shelf::Shelf;
 use crate::shelf_fault::ShelfFault;
 use std::alloc::{AllocError, Global};
@@ -17,6 +19,22 @@ use std::sync::{Arc, Wait};
 pub struct MemoryShelf {
     pub(crate) contents: Arc<Contents>,
     pub(crate) account: Account,
+}
+
+/// A part of an image. The directory is not asked, so an image that was removed is there all the same.
+fn part(
+    images: &boxcar::Vec<Image>,
+    alloc: Global,
+    receipt: &MemoryReceipt,
+    offset: usize,
+    len: usize,
+) -> Result<Vec<u8>, AllocError>
+    requires here { Shows images.now receipt.now.token }
+    requires inside { offset + len ≤ length receipt.now.token.value.bytes.items }
+    ensures { IfOk result (λ v. v.items ≡ take len (drop offset receipt.now.token.value.bytes.items)) }
+{
+    let image = images.value(&receipt.token);
+    Vec::from_slice(alloc, &image.bytes[offset..offset + len])
 }
 
 impl MemoryShelf {
@@ -58,7 +76,8 @@ impl Shelf for MemoryShelf {
         ensures counts { CountedBy result (memory_told self.old) (memory_told self.new) }
         ensures device { IsErrOf result ShelfFault.Device ↔ (2 ^ 30 < length image.now) }
     {
-        let outcome = self.contents.put(rt, alloc, number, image);
+        let Contents { images, directory } = &*self.contents;
+        let outcome = directory.lock(rt).put(rt, alloc, images, number, image);
         let receipt = self.account.count(outcome)?;
         self.account.puts = tag_of_both(&tag_of_number(receipt.number), &self.account.puts);
         Ok(receipt)
@@ -79,7 +98,7 @@ impl Shelf for MemoryShelf {
         ensures counts { CountedBy result (memory_told self.old) (memory_told self.new) }
         ensures memory { IfErr result (λ e. e ≡ ShelfFault.OutOfMemory) }
     {
-        Ok(self.contents.part(alloc, receipt, offset as usize, len)?)
+        Ok(part(&self.contents.images, alloc, receipt, offset as usize, len)?)
     }
 
     fn load<R: Wait>(
@@ -94,7 +113,8 @@ impl Shelf for MemoryShelf {
         ensures counts { CountedBy result (memory_told self.old) (memory_told self.new) }
         ensures device { IfErr result NotDevice }
     {
-        let outcome = self.contents.load(rt, alloc, number);
+        let Contents { images, directory } = &*self.contents;
+        let outcome = directory.lock(rt).load(alloc, images, number);
         self.account.count(outcome)
     }
 
@@ -104,7 +124,7 @@ impl Shelf for MemoryShelf {
         ensures counts { CountedBy result (memory_told self.old) (memory_told self.new) }
         ensures missing { IfErr result (λ e. e ≡ ShelfFault.Missing) }
     {
-        let (asked, outcome) = self.contents.remove(rt, number);
+        let (asked, outcome) = self.contents.directory.lock(rt).remove(number);
         self.account.gone = tag_of_both(&asked, &self.account.gone);
         self.account.count(outcome)
     }
@@ -117,7 +137,7 @@ impl Shelf for MemoryShelf {
         ensures counts { CountedBy result (memory_told self.old) (memory_told self.new) }
         ensures memory { IfErr result (λ e. e ≡ ShelfFault.OutOfMemory) }
     {
-        let numbers = self.contents.list(rt, alloc)?;
+        let numbers = self.contents.directory.lock(rt).list(alloc)?;
         self.account.listed = tag_of_both(&tag_of_number(0), &tag_of_numbers(numbers.as_slice()));
         Ok(numbers)
     }
@@ -133,7 +153,7 @@ impl Shelf for MemoryShelf {
         ensures counts { CountedBy result (memory_told self.old) (memory_told self.new) }
         ensures device { IfErr result NotDevice }
     {
-        let outcome = self.contents.read_manifest(rt, alloc);
+        let outcome = self.contents.directory.lock(rt).read(alloc);
         let (number, bytes) = self.account.count(outcome)?;
         self.account.manifest = tag_of_number(number);
         self.account.sent = tag_of_bytes(bytes.as_slice());
@@ -154,7 +174,7 @@ impl Shelf for MemoryShelf {
         ensures counts { CountedBy result (memory_told self.old) (memory_told self.new) }
         ensures device { IfErr result NotDevice }
     {
-        let outcome = self.contents.start_manifest(rt, alloc, number, bytes);
+        let outcome = self.contents.directory.lock(rt).start(alloc, number, bytes);
         self.account.sent = self.account.count(outcome)?;
         self.account.manifest = tag_of_number(number);
         Ok(())
@@ -167,7 +187,7 @@ impl Shelf for MemoryShelf {
         ensures counts { CountedBy result (memory_told self.old) (memory_told self.new) }
         ensures device { IfErr result NotDevice }
     {
-        let outcome = self.contents.append_manifest(rt, bytes);
+        let outcome = self.contents.directory.lock(rt).append(bytes);
         let appended = self.account.count(outcome)?;
         self.account.sent = tag_of_both(&self.account.sent, &appended);
         Ok(())
