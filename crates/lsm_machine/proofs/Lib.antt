@@ -1,0 +1,4 @@
+pub mod LiveLists
+pub mod PlainSteps
+pub mod Installing
+pub mod Runs
