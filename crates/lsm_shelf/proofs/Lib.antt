@@ -1,4 +1,5 @@
 pub mod CallerLemmas
 mod Padding
-mod Honest
 mod Ascending
+mod Tables
+mod Receipts

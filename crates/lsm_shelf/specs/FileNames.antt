@@ -1,5 +1,5 @@
 -- The names of a database's files (LevelDB's `doc/impl.md`: sorted tables, manifest, current).
-use Rattle.std.specs.Prelude.{ℕ, ◌-◌, List, [], ◌∷◌, ◌++◌, length, replicate, codes, decimal}
+use Rattle.std.specs.Prelude.{◌≡◌, ℕ, ◌-◌, ◌<◌, ◌^◌, List, [], ◌∷◌, ◌++◌, length, replicate, codes, decimal, Option, Some}
 
 -- a number in decimal, with zeros in front to at least six digits
 abbrev pub padded : ℕ → List ℕ
@@ -18,6 +18,6 @@ temporary_name n = padded n ++ codes ".dbtmp"
 abbrev pub current_text : ℕ → List ℕ
 current_text n = manifest_name n ++ 10 ∷ []
 
--- the path of a file of the folder
-abbrev pub path_in : List ℕ → List ℕ → List ℕ
-path_in folder name = folder ++ 47 ∷ name
+-- the number, or none, of which the text is the spelling
+abbrev pub IsNumberOf : (spell : ℕ → List ℕ) (text : List ℕ) → Option ℕ → Type 0
+IsNumberOf spell text o = (n : ℕ) → (o ≡ Some n → text ≡ spell n) × (n < 2 ^ 64 → text ≡ spell n → o ≡ Some n)

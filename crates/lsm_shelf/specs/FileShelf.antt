@@ -1,18 +1,22 @@
 -- A shelf on a folder, as contracts see it (this project's rule).
-use Rattle.std.specs.Prelude.{◌≡◌, ℕ, List, [], string_bytes}
-use Rattle.lsm_shelf.specs.declared.file_receipt.FileReceipt.{FileReceipt}
-use Rattle.lsm_shelf.specs.declared.file_shelf.FileShelf.{FileShelf}
+use Rattle.std.specs.Prelude.{ℕ}
+use Rattle.lsm_folder.specs.declared.mark.Mark.{Ghosts}
+use Rattle.lsm_shelf.specs.declared.file.file_shelf.FileShelf.{FileShelf}
+use Rattle.lsm_shelf.specs.declared.file.file_receipt.FileReceipt.{FileReceipt}
 use Rattle.lsm_shelf.specs.Account.{told_in}
-use Rattle.lsm_shelf.specs.Told.{Place, Told, in_memory, at_path}
+use Rattle.lsm_shelf.specs.Told.{Place, Told}
 
--- a folder's contents are named by its path
-abbrev pub folder_place : List ℕ → Place
-folder_place path = at_path path record { tag = []; buckets = [] }
+-- the folder on which it lies
+abbrev pub folder_of : {C M : Type 0} → FileShelf C M → C
+folder_of s = s.folder
 
-abbrev pub file_told : {R F D : Type 0} → FileShelf R F D → Told
-file_told s = told_in (folder_place (string_bytes s.path)) s.account
+-- what its calls told it, where such a folder is named by `place`
+abbrev pub file_told : {C M : Type 0} → (C → Place) → FileShelf C M → Told
+file_told place s = told_in (place s.folder) s.account
 
--- the receipt is of a table in that folder
-abbrev pub IsOfFolder : Place → FileReceipt → Type 0
-IsOfFolder (in_memory images) r = ⊥
-IsOfFolder (at_path path marks) r = path ≡ r.folder.numbers
+abbrev pub file_number : {M : Type 0} {g : Ghosts M} → FileReceipt M g → ℕ
+file_number r = r.number
+
+-- the mark of the table's file
+abbrev pub mark_of : {M : Type 0} {g : Ghosts M} → FileReceipt M g → M
+mark_of r = r.mark

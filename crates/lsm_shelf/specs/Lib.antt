@@ -4,5 +4,6 @@ pub mod Account
 pub mod Directory
 pub mod MemoryShelf
 pub mod FileNames
-pub mod Honesty
+pub mod FolderFault
+pub mod Plans
 pub mod FileShelf

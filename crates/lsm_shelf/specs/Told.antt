@@ -1,14 +1,8 @@
 -- What contracts see of a shelf's value, and what a call leaves of it (this project's rule).
 use Rattle.std.specs.Prelude.{◌≡◌, ℕ, ◌+◌, ◌-◌, ◌^◌, ◌≤◌, min, List, [], ◌∷◌, ◌++◌, Option, None, Some, Result, Ok, Err}
-use Rattle.boxcar.specs.Table.{Shelves}
+pub use Rattle.lsm_folder.specs.Place.{Place, in_memory, at_path}
 use Rattle.lsm_shelf.specs.declared.shelf_fault.ShelfFault.{ShelfFault}
 use Rattle.lsm_shelf.specs.declared.shelf_fault.ShelfFault.TheVariants.{OutOfMemory, Device, Missing, Taken}
-
--- Which contents these are. In memory: the vector of the images. In a folder: its path, and the vector of the marks that were
--- handed out since it was opened. Forks share it
-pub data Place : Type 0 where
-  in_memory : (images : Shelves) → Place
-  at_path : (path : List ℕ) (marks : Shelves) → Place
 
 -- a shelf's value, as its calls told it
 pub record Told : Type 0 where

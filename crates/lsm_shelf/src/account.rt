@@ -74,19 +74,6 @@ pub(crate) fn tag_of_numbers(numbers: &[u64]) -> Tag
     Tag::of::<&[u64], Numbers>(&numbers)
 }
 
-struct Same;
-
-impl Names<Tag> for Same {
-    ghost numbers = { λ t. t.numbers };
-}
-
-/// The same list once more.
-pub(crate) fn again(tag: &Tag) -> Tag
-    ensures { result.numbers ≡ tag.now.numbers }
-{
-    Tag::of::<Tag, Same>(tag)
-}
-
 /// One list after another.
 pub(crate) fn tag_of_both(front: &Tag, back: &Tag) -> Tag
     ensures { result.numbers ≡ front.now.numbers ++ back.now.numbers }

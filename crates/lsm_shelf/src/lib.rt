@@ -1,23 +1,22 @@
 //! Where the tables and the manifest of a database lie, as LevelDB's `doc/impl.md` describes its folder.
 //!
-//! Stands on `boxcar` for images that threads share. Its contract: a receipt stands for the image that was put, and
-//! contracts see of a shelf what its calls told it.
+//! Stands on `lsm_folder` for the calls on a folder, and on `boxcar` for images that threads share. Its contract: a receipt stands
+//! for the image that was put, and contracts see of a shelf what its calls told it.
 #![tactic(auto)]
 
 mod account;
-mod file_names;
-mod file_receipt;
-mod file_shelf;
-mod folder;
-mod io_fault;
-mod listing;
+mod count_shelf;
+mod file;
+mod fuse;
+mod fuse_shelf;
 mod memory;
 mod shelf;
 mod shelf_fault;
 mod slip;
 
-pub use file_receipt::FileReceipt;
-pub use file_shelf::FileShelf;
+pub use count_shelf::CountShelf;
+pub use file::{FileReceipt, FileShelf, SystemShelf};
+pub use fuse_shelf::FuseShelf;
 pub use memory::{MemoryReceipt, MemoryShelf};
 pub use shelf::Shelf;
 pub use shelf_fault::ShelfFault;

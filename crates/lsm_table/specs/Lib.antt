@@ -2,7 +2,6 @@ pub use Rattle.lsm_shelf.specs.ShelfFault
 pub use Rattle.lsm_shelf.specs.Told
 pub use Rattle.lsm_shelf.specs.MemoryShelf
 pub use Rattle.lsm_shelf.specs.FileNames
-pub use Rattle.lsm_shelf.specs.Honesty
 pub use Rattle.lsm_shelf.specs.FileShelf
 pub mod Options
 pub mod Fault

@@ -33,7 +33,10 @@ pub use footer::{FOOTER, Footer};
 pub use found::Found;
 pub use handle::Handle;
 pub use lsm_block::BuildFault;
-pub use lsm_shelf::{FileReceipt, FileShelf, MemoryReceipt, MemoryShelf, Shelf, ShelfFault, Slip};
+pub use lsm_shelf::{
+    CountShelf, FileReceipt, FileShelf, FuseShelf, MemoryReceipt, MemoryShelf, Shelf, ShelfFault,
+    Slip, SystemShelf,
+};
 pub use naming::Naming;
 pub use open_table::OpenTable;
 pub use read_fault::ReadFault;

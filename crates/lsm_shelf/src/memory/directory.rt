@@ -87,7 +87,11 @@ impl Directory {
             return Err(ShelfFault::OutOfMemory);
         };
         self.add(number, &token)?;
-        Ok(MemoryReceipt { number, size, token })
+        Ok(MemoryReceipt {
+            number,
+            size,
+            token,
+        })
     }
 
     /// What is listed under the number. An image that was put under another one is none, nor is an index without an image.
@@ -122,7 +126,11 @@ impl Directory {
         let image = images.value(&token);
         let size = image.bytes.len() as u64;
         let bytes = Vec::from_slice(alloc, image.bytes.as_slice())?;
-        let receipt = MemoryReceipt { number, size, token };
+        let receipt = MemoryReceipt {
+            number,
+            size,
+            token,
+        };
         Ok((receipt, bytes))
     }
 
@@ -136,7 +144,10 @@ impl Directory {
         ensures cause { IfErr result.1 (λ e. e ≡ ShelfFault.Missing) }
     {
         let was = self.tables.remove(&number);
-        (tag_of_number(number), was.map(|_| ()).ok_or(ShelfFault::Missing))
+        (
+            tag_of_number(number),
+            was.map(|_| ()).ok_or(ShelfFault::Missing),
+        )
     }
 
     /// The numbers that are listed, ascending.
@@ -174,7 +185,9 @@ impl Directory {
         ensures err { OnErr result (self.new ≡ self.old) }
         ensures tables { self.new.tables ≡ self.old.tables }
     {
-        if let Some(named) = &self.manifest && named.number == number {
+        if let Some(named) = &self.manifest
+            && named.number == number
+        {
             return Err(ShelfFault::Taken(number));
         }
         let sent = tag_of_bytes(bytes);

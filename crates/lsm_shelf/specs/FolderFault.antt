@@ -1,0 +1,27 @@
+-- What a refusal of a folder means to a shelf (this project's rule).
+use Rattle.std.specs.Prelude.{ℕ}
+use Rattle.lsm_folder.specs.declared.folder_fault.FolderFault.{FolderFault}
+use Rattle.lsm_folder.specs.declared.folder_fault.FolderFault.TheVariants as folder
+use Rattle.lsm_shelf.specs.declared.shelf_fault.ShelfFault.{ShelfFault}
+use Rattle.lsm_shelf.specs.declared.shelf_fault.ShelfFault.TheVariants.{OutOfMemory, Device, Missing, Taken}
+
+-- of a call that needs no name
+abbrev pub device_of : FolderFault → ShelfFault
+device_of folder.OutOfMemory = OutOfMemory
+device_of folder.Failed = Device
+device_of folder.Missing = Device
+device_of folder.Exists = Device
+
+-- of a call on a file that must be there
+abbrev pub missing_of : FolderFault → ShelfFault
+missing_of folder.OutOfMemory = OutOfMemory
+missing_of folder.Failed = Device
+missing_of folder.Missing = Missing
+missing_of folder.Exists = Device
+
+-- of a call that makes the file of this number
+abbrev pub taken_of : ℕ → FolderFault → ShelfFault
+taken_of number folder.OutOfMemory = OutOfMemory
+taken_of number folder.Failed = Device
+taken_of number folder.Missing = Device
+taken_of number folder.Exists = Taken number

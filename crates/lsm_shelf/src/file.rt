@@ -1,0 +1,15 @@
+//! The shelf on a folder.
+
+mod append;
+mod as_shelf;
+mod current;
+mod fault;
+mod file_names;
+mod file_receipt;
+mod file_shelf;
+mod listing;
+mod start;
+mod tables;
+
+pub use file_receipt::FileReceipt;
+pub use file_shelf::{FileShelf, SystemShelf};

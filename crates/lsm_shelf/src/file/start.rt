@@ -1,0 +1,72 @@
+//! How a manifest is started in a folder.
+
+ghost use Rattle.std.specs.Prelude.{◌≡◌, ◌≢◌, ◌⊎◌, ◌↔◌, ℕ, List, Option, Some, IfErr, OnOk, OnErr, IsErrOf};
+ghost use Rattle.lsm_shelf.specs.FileNames.{current_text, manifest_name};
+ghost use Rattle.lsm_shelf.specs.Plans.{done, Stopped, StartedFrom, StartStopped, start_plan, current_read};
+ghost use Rattle.lsm_shelf.specs.Told.{NotNamed, TakenIs};
+
+use crate::file::current::names_manifest;
+use crate::file::fault::device;
+use crate::file::file_names::{manifest_file, temporary_file, text_of_current};
+use crate::shelf_fault::ShelfFault;
+use crate::slip::MAX_IMAGE;
+use lsm_folder::{FolderCalls, FolderFault};
+use std::alloc::Global;
+use std::sync::Wait;
+
+/// Writes a manifest over what has its name, and makes `CURRENT` name it. The last sync stands apart.
+fn write_manifest<C: FolderCalls, W: Wait>(
+    folder: &mut C,
+    rt: &W,
+    alloc: Global,
+    number: u64,
+    bytes: &[u8],
+) -> Result<(), ShelfFault>
+    ensures ok { OnOk result (C.calls folder.new ≡ done (start_plan number bytes.now) (C.calls folder.old)) }
+    ensures err { OnErr result (Stopped (start_plan number bytes.now) (C.calls folder.old) (C.calls folder.new)) }
+    ensures place { C.place folder.new ≡ C.place folder.old }
+    ensures fault { IfErr result NotNamed }
+{
+    let manifest = manifest_file(alloc, number)?;
+    let temporary = temporary_file(alloc, number)?;
+    let text = text_of_current(alloc, number)?;
+    folder
+        .write(rt, manifest.as_str(), bytes)
+        .map_err(|e| device(e))?;
+    folder.sync(rt, manifest.as_str()).map_err(|e| device(e))?;
+    folder.sync_folder(rt).map_err(|e| device(e))?;
+    folder
+        .write(rt, temporary.as_str(), text.as_bytes())
+        .map_err(|e| device(e))?;
+    folder.sync(rt, temporary.as_str()).map_err(|e| device(e))?;
+    folder
+        .rename(rt, temporary.as_str(), "CURRENT")
+        .map_err(|e| device(e))?;
+    match folder.sync_folder(rt) {
+        Ok(()) => Ok(()),
+        Err(_) => Err(ShelfFault::Device),
+    }
+}
+
+/// Starts a manifest, where `CURRENT` does not name one of this number.
+pub(crate) fn start_manifest<C: FolderCalls, W: Wait>(
+    folder: &mut C,
+    rt: &W,
+    alloc: Global,
+    number: u64,
+    bytes: &[u8],
+) -> Result<(), ShelfFault>
+    ensures ok { OnOk result (StartedFrom number bytes.now (C.calls folder.old) (C.calls folder.new)) }
+    ensures err { OnErr result (StartStopped number bytes.now (C.calls folder.old) (C.calls folder.new)) }
+    ensures taken { IsErrOf result (ShelfFault.Taken number) → C.calls folder.new ≡ current_read (Some (current_text number)) (C.calls folder.old) }
+    ensures place { C.place folder.new ≡ C.place folder.old }
+    ensures fault { IfErr result (TakenIs number) }
+{
+    if bytes.len() > MAX_IMAGE {
+        return Err(ShelfFault::Device);
+    }
+    if names_manifest(folder, rt, alloc, number)? {
+        return Err(ShelfFault::Taken(number));
+    }
+    write_manifest(folder, rt, alloc, number, bytes)
+}
