@@ -6,6 +6,8 @@
 #[cfg(test)]
 mod block_tests;
 #[cfg(test)]
+mod count_tests;
+#[cfg(test)]
 mod expectation;
 #[cfg(test)]
 mod get_tests;

@@ -34,8 +34,8 @@ pub use found::Found;
 pub use handle::Handle;
 pub use lsm_block::BuildFault;
 pub use lsm_shelf::{
-    CountShelf, FileReceipt, FileShelf, FuseShelf, MemoryReceipt, MemoryShelf, Shelf, ShelfFault, Slip,
-    SystemShelf,
+    CountShelf, FileReceipt, FileShelf, FuseShelf, MemoryReceipt, MemoryShelf, Shelf, ShelfFault,
+    Slip, SystemShelf,
 };
 pub use naming::Naming;
 pub use open_table::OpenTable;
