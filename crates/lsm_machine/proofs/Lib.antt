@@ -2,3 +2,4 @@ pub mod LiveLists
 pub mod PlainSteps
 pub mod Installing
 pub mod Runs
+pub mod Created

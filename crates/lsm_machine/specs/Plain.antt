@@ -123,3 +123,9 @@ Spends s t = (n : ℕ) × (s.next ≤ n) × (t ≡ record s { next = n })
 -- a sequence at which reads are still promised
 abbrev pub IsReadable : Plain → ℕ → Type 0
 IsReadable s q = (q ≡ s.last) ⊎ ((p : ℕ × ℕ) × Has s.snapshots p × (p.1 ≡ q))
+
+-- ---- a store that was just created
+
+-- no files, no snapshots and no jobs; the manifest has the number 1, so 2 is the next
+abbrev pub created : Plain
+created = record { files = []; last = 0; next = 2; next_id = 1; next_ticket = 1; snapshots = []; live = [] }
