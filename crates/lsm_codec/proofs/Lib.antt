@@ -1,15 +1,15 @@
-pub mod Lists
-pub mod Varints
-pub mod Keys
-pub mod Newest
-pub mod KeyParts
-pub mod KeyOrder
-pub mod KeyBytes
-pub mod InternalKeys
-pub mod Shifts
-pub mod TableFacts
-pub mod Blocks
-pub mod SkipFacts
-pub mod WordLaws
-pub mod Masks
+mod Lists
+mod Varints
+mod Keys
+mod Newest
+mod KeyParts
+mod KeyOrder
+mod KeyBytes
+mod InternalKeys
+mod Shifts
+mod TableFacts
+mod Blocks
+mod SkipFacts
+mod WordLaws
+mod Masks
 pub mod CallerLemmas

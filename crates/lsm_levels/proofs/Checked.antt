@@ -3,7 +3,7 @@ use Rattle.std.proofs.Common.{◌≡◌, zero, suc, ℕ, ◌+◌, ◌≤◌, Lis
 use Rattle.std.specs.Prelude.{◌⊎◌}
 use Rattle.lsm_codec.specs.Keys.{InternalKey}
 use Rattle.lsm_codec.specs.Lists.{Has}
-use Rattle.lsm_codec.proofs.Lists.{has_cases}
+use Rattle.lsm_codec.proofs.CallerLemmas.{has_cases}
 use Rattle.lsm_levels.specs.Checking.{Listed, IsRangeOf, ranges_of, file_at, files_at, files_from, level_in, IsJudged}
 use Rattle.lsm_levels.specs.Files.{File, Apart, InOrder, Fits, IsLawful}
 use Rattle.lsm_levels.specs.Merging.{Placed}

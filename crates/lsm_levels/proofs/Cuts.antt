@@ -5,8 +5,7 @@ use Rattle.std.specs.List.{filter}
 use Rattle.lsm_codec.specs.Entries.{Entry}
 use Rattle.lsm_codec.specs.Keys.{UserKey, UserLe}
 use Rattle.lsm_codec.specs.Lists.{Has}
-use Rattle.lsm_codec.proofs.Keys.{user_le_trans, user_le_antisym, user_le_refl}
-use Rattle.lsm_codec.proofs.Lists.{has_right, has_cases, filter_has}
+use Rattle.lsm_codec.proofs.CallerLemmas.{user_le_trans, user_le_antisym, user_le_refl, has_right, has_cases, filter_has}
 use Rattle.lsm_levels.specs.Files.{File, all_entries, Apart, OneEach, Fits, Before, InOrder}
 use Rattle.lsm_levels.specs.Jobs.{Holds}
 use Rattle.lsm_levels.specs.Kept.{is_hidden, is_void, kept_entries}

@@ -4,7 +4,7 @@ use Rattle.std.proofs.lemmas.Bool.{cases_lt, cases_order}
 use Rattle.lsm_codec.specs.Entries.{Entry, stamp, newest}
 use Rattle.lsm_codec.specs.Keys.{UserKey}
 use Rattle.lsm_codec.specs.Lists.{Has}
-use Rattle.lsm_codec.proofs.Newest.{IsAllowed, IsNewest, Finds, newest_finds, allowed_from, stamp_lt}
+use Rattle.lsm_codec.proofs.CallerLemmas.{IsAllowed, IsNewest, Finds, newest_finds, allowed_from, stamp_lt}
 use Rattle.lsm_levels.specs.Files.{File, all_entries, Shallower, IsLawful, IsSplit, GoesByDepth}
 use Rattle.lsm_levels.proofs.Drops.{newest_is}
 use Rattle.lsm_levels.proofs.Installs.{all_has, has_all, one_each}

@@ -6,7 +6,7 @@ use Rattle.lsm_codec.specs.declared.kind.Kind.TheVariants.{Deletion}
 use Rattle.lsm_codec.specs.Entries.{Entry, stamp, newest, value_in, answer, shown}
 use Rattle.lsm_codec.specs.Keys.{UserKey}
 use Rattle.lsm_codec.specs.Lists.{Has}
-use Rattle.lsm_codec.proofs.Newest.{IsAllowed, IsNewest, Finds, newest_finds, seq_le}
+use Rattle.lsm_codec.proofs.CallerLemmas.{IsAllowed, IsNewest, Finds, newest_finds, seq_le}
 use Rattle.lsm_levels.specs.Files.{OneEach}
 use Rattle.lsm_levels.specs.Kept.{IsHidden}
 

@@ -5,9 +5,7 @@ use Rattle.std.proofs.lemmas.Bool.{eqb-true, eq-eqb, cases_Bool, cases_order, ca
 use Rattle.lsm_codec.specs.Entries.{Entry, stamp, answer}
 use Rattle.lsm_codec.specs.Keys.{UserKey, UserLe}
 use Rattle.lsm_codec.specs.Lists.{Has}
-use Rattle.lsm_codec.proofs.Keys.{user_le_trans}
-use Rattle.lsm_codec.proofs.Lists.{any_at, any_says, has_flat, flat_has}
-use Rattle.lsm_codec.proofs.Newest.{stamp_lt}
+use Rattle.lsm_codec.proofs.CallerLemmas.{user_le_trans, any_at, any_says, has_flat, flat_has, stamp_lt}
 use Rattle.lsm_levels.specs.Files.{File, all_entries, Meets, OneEach, Fits, Shallower, IsLawful, IsSplit}
 use Rattle.lsm_levels.specs.Jobs.{Job, is_input, Conflicts, IsOpenIn, AreOutputs, Changed}
 use Rattle.lsm_levels.specs.Kept.{covers, kept_entries}

@@ -8,9 +8,7 @@ use Rattle.lsm_codec.specs.declared.kind.Kind.TheVariants.{Deletion, Value}
 use Rattle.lsm_codec.specs.Entries.{Entry, stamp}
 use Rattle.lsm_codec.specs.Keys.{UserKey}
 use Rattle.lsm_codec.specs.Lists.{Has}
-use Rattle.lsm_codec.proofs.Keys.{key_from_test, test_from_key}
-use Rattle.lsm_codec.proofs.Lists.{any_at, any_says, has_filter, filter_has}
-use Rattle.lsm_codec.proofs.Newest.{kind_number_le, same_kind}
+use Rattle.lsm_codec.proofs.CallerLemmas.{key_from_test, test_from_key, any_at, any_says, has_filter, filter_has, kind_number_le, same_kind}
 use Rattle.lsm_levels.specs.Kept.{is_hidden, is_void, covers, kept_entries, is_deletion, IsHidden, IsVoid}
 use Rattle.lsm_levels.proofs.Drops.{IsGone, Drops}
 

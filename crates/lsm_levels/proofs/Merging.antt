@@ -5,7 +5,7 @@ use Rattle.std.proofs.lemmas.Bool.{and_parts}
 use Rattle.std.specs.List.{flat_map, filter}
 use Rattle.lsm_codec.specs.Entries.{Entry}
 use Rattle.lsm_codec.specs.Lists.{Has}
-use Rattle.lsm_codec.proofs.Lists.{has_left, has_right, has_cases}
+use Rattle.lsm_codec.proofs.CallerLemmas.{has_left, has_right, has_cases}
 use Rattle.lsm_levels.specs.Merging.{Placed, AreOrdered, is_alike, goes_first, IsOrdered, onto, merge, merge_all, leads}
 use Rattle.lsm_levels.proofs.Order.{first_trans, first_total, true_or_not}
 

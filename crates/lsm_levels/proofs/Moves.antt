@@ -4,7 +4,7 @@ use Rattle.std.proofs.lemmas.Bool.{both_ways, cases_Bool}
 use Rattle.lsm_codec.specs.Entries.{Entry, answer}
 use Rattle.lsm_codec.specs.Keys.{UserKey}
 use Rattle.lsm_codec.specs.Lists.{Has}
-use Rattle.lsm_codec.proofs.Lists.{has_left}
+use Rattle.lsm_codec.proofs.CallerLemmas.{has_left}
 use Rattle.lsm_levels.specs.Files.{File, all_entries, Fits, IsLawful, IsSplit}
 use Rattle.lsm_levels.specs.Jobs.{Job, is_input, IsOpenIn, AreOutputs, Changed, at_level, IsMove}
 use Rattle.lsm_levels.proofs.Drops.{Drops, drops_answer}

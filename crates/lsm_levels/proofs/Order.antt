@@ -7,7 +7,7 @@ use Rattle.std.specs.Ordering.{nat_cmp, is_le, is_eq, MatchOrdering}
 use Rattle.std.proofs.lemmas.Map.Text.{is_eq-slice_cmp}
 use Rattle.lsm_codec.specs.Entries.{Entry, stamp}
 use Rattle.lsm_codec.specs.Keys.{UserKey, UserLe, user_le, then_by}
-use Rattle.lsm_codec.proofs.Keys.{key_from_test, test_from_key, user_le_trans, user_le_total, user_le_antisym, user_le_refl}
+use Rattle.lsm_codec.proofs.CallerLemmas.{key_from_test, test_from_key, user_le_trans, user_le_total, user_le_antisym, user_le_refl}
 use Rattle.lsm_levels.specs.Files.{Before}
 use Rattle.lsm_levels.specs.Merging.{goes_first}
 

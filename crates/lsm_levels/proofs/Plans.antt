@@ -5,8 +5,7 @@ use Rattle.std.proofs.lemmas.Bool.{both_ways, and_from}
 use Rattle.lsm_codec.specs.Entries.{Entry}
 use Rattle.lsm_codec.specs.Keys.{UserKey, UserLe, user_le}
 use Rattle.lsm_codec.specs.Lists.{Has}
-use Rattle.lsm_codec.proofs.Keys.{user_le_trans, user_le_total}
-use Rattle.lsm_codec.proofs.Lists.{any_at, has_left, has_right, has_cases}
+use Rattle.lsm_codec.proofs.CallerLemmas.{user_le_trans, user_le_total, any_at, has_left, has_right, has_cases}
 use Rattle.lsm_levels.specs.Files.{File, Meets, Fits, IsLawful}
 use Rattle.lsm_levels.specs.Jobs.{Job, is_input, IsOpenIn}
 use Rattle.lsm_levels.specs.Kept.{covers}

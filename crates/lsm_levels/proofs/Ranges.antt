@@ -4,7 +4,7 @@ use Rattle.std.specs.Prelude.{◌⊎◌}
 use Rattle.lsm_codec.specs.Lists.{Has}
 use Rattle.lsm_codec.specs.Keys.{InternalKey, UserLe, user_le}
 use Rattle.lsm_codec.specs.Entries.{Entry}
-use Rattle.lsm_codec.proofs.Keys.{user_le_trans, user_le_total, user_le_refl}
+use Rattle.lsm_codec.proofs.CallerLemmas.{user_le_trans, user_le_total, user_le_refl}
 use Rattle.lsm_levels.specs.Merging.{goes_first}
 use Rattle.lsm_levels.specs.Ranges.{Range, KeyLe, key_le, MeetInKeys, ShareUsers, EachPair, SomePair, IsLevel, IsLaidOut, next_layout, worse, layout_along}
 use Rattle.lsm_levels.specs.declared.key_range.Layout.{Layout}

@@ -8,8 +8,7 @@ use Rattle.lsm_codec.specs.declared.kind.Kind.TheVariants.{Deletion, Value}
 use Rattle.lsm_codec.specs.Entries.{Entry, stamp, is_allowed, first_of_two, newest, value_in, shown, answer}
 use Rattle.lsm_codec.specs.Keys.{UserKey, UserLe}
 use Rattle.lsm_codec.specs.Lists.{Has}
-use Rattle.lsm_codec.proofs.Keys.{key_from_test, test_from_key, user_le_antisym, user_le_refl}
-use Rattle.lsm_codec.proofs.Newest.{Finds, newest_finds}
+use Rattle.lsm_codec.proofs.CallerLemmas.{key_from_test, test_from_key, user_le_antisym, user_le_refl, Finds, newest_finds}
 use Rattle.lsm_levels.specs.Merging.{goes_first, IsSorted}
 use Rattle.lsm_levels.specs.Scanning.{Pair, put_pair, is_answered, is_passed, pairs_of, UsersAscend, IsScan}
 use Rattle.lsm_levels.proofs.Order.{first_says}

@@ -3,7 +3,7 @@ use Rattle.std.proofs.Common.{◌≡◌, sym, subst, inl, inr, arith}
 use Rattle.lsm_codec.specs.Entries.{Entry}
 use Rattle.lsm_codec.specs.Keys.{UserKey, UserLe}
 use Rattle.lsm_codec.specs.Lists.{Has}
-use Rattle.lsm_codec.proofs.Keys.{user_le_trans, user_le_total}
+use Rattle.lsm_codec.proofs.CallerLemmas.{user_le_trans, user_le_total}
 use Rattle.lsm_levels.specs.Files.{File, Meets, Apart, Fits, IsAhead, InOrder, IsSplit}
 use Rattle.lsm_levels.proofs.Order.{before_says, before_from}
 use Rattle.lsm_levels.proofs.Installs.{meets_at}

@@ -7,9 +7,7 @@ use Rattle.std.proofs.lemmas.Bool.{and_parts, and_from, leb-true, le-leb}
 use Rattle.lsm_codec.specs.Entries.{Entry, stamp}
 use Rattle.lsm_codec.specs.Keys.{UserKey, UserLe}
 use Rattle.lsm_codec.specs.Lists.{Has}
-use Rattle.lsm_codec.proofs.Keys.{key_from_test, test_from_key, user_le_antisym, user_le_refl}
-use Rattle.lsm_codec.proofs.Lists.{has_left, has_right, has_cases}
-use Rattle.lsm_codec.proofs.Newest.{seq_le}
+use Rattle.lsm_codec.proofs.CallerLemmas.{key_from_test, test_from_key, user_le_antisym, user_le_refl, has_left, has_right, has_cases, seq_le}
 use Rattle.lsm_levels.specs.Files.{Before}
 use Rattle.lsm_levels.specs.Kept.{is_hidden, is_void, kept_entries, IsHidden}
 use Rattle.lsm_levels.specs.Streams.{IsAscending, is_shadowed, streamed}

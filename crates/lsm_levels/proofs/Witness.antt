@@ -4,7 +4,7 @@ use Rattle.lsm_codec.specs.declared.kind.Kind.TheVariants.{Value}
 use Rattle.lsm_codec.specs.Lists.{Has}
 use Rattle.lsm_codec.specs.Keys.{UserKey, UserLe}
 use Rattle.lsm_codec.specs.Entries.{Entry}
-use Rattle.lsm_codec.proofs.Keys.{user_le_refl}
+use Rattle.lsm_codec.proofs.CallerLemmas.{user_le_refl}
 use Rattle.lsm_levels.specs.Files.{File, Apart, Meets, Fits, IsLawful, all_entries}
 use Rattle.lsm_levels.specs.Jobs.{Job, AreOutputs, Changed, Gains, IsOpenIn, is_input}
 use Rattle.lsm_levels.specs.Kept.{kept_entries}

@@ -7,10 +7,7 @@ use Rattle.lsm_codec.specs.Entries.{Entry, answer}
 use Rattle.lsm_levels.specs.Files.{File, all_entries, IsSplit}
 use Rattle.lsm_levels.specs.Kept.{kept_entries}
 use Rattle.lsm_levels.specs.Jobs.{is_input, AreOutputs, Changed, FloorHolds, IsMove, IsOpenIn}
-use Rattle.lsm_levels.proofs.CallerLemmas.{kept_says}
-use Rattle.lsm_levels.proofs.CallerLemmas.{finished_holds, rising_numbers}
-use Rattle.lsm_levels.proofs.CallerLemmas.{all_has, has_all, input_says, input_from, install_answers, install_lawful, install_keeps_open}
-use Rattle.lsm_levels.proofs.CallerLemmas.{move_outputs, move_answers}
+use Rattle.lsm_levels.proofs.CallerLemmas.{kept_says, finished_holds, rising_numbers, all_has, has_all, input_says, input_from, install_answers, install_lawful, install_keeps_open, move_outputs, move_answers}
 use Rattle.lsm_machine.specs.Plain.{Live, Plain, Installs, IsBooked, IsReadable, IsResult, without_job}
 use Rattle.lsm_machine.specs.Law.{Books, Meaning, Law}
 use Rattle.lsm_machine.proofs.LiveLists.{left_job}

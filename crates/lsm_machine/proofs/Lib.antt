@@ -1,5 +1,5 @@
-pub mod LiveLists
-pub mod PlainSteps
-pub mod Installing
-pub mod Runs
-pub mod Created
+mod LiveLists
+mod PlainSteps
+mod Installing
+mod Runs
+mod Created

@@ -5,9 +5,7 @@ use Rattle.lsm_codec.specs.Entries.{Entry}
 use Rattle.lsm_levels.specs.Files.{File}
 use Rattle.lsm_levels.specs.Jobs.{Job, Conflicts, FloorHolds, Gains, IsOpenIn}
 use Rattle.lsm_levels.specs.Plans.{Plan}
-use Rattle.lsm_levels.proofs.CallerLemmas.{all_has, has_all}
-use Rattle.lsm_levels.proofs.CallerLemmas.{ingest_lawful, ingest_keeps_open}
-use Rattle.lsm_levels.proofs.CallerLemmas.{plan_opens}
+use Rattle.lsm_levels.proofs.CallerLemmas.{all_has, has_all, ingest_lawful, ingest_keeps_open, plan_opens}
 use Rattle.lsm_machine.specs.Plain.{Live, Plain, Ingests, TakesSnapshot, Releases, Reserves, Cancels, Draws, Spends, floor_of, without_job, booking, drawing}
 use Rattle.lsm_machine.specs.Law.{AreRising, Books, Meaning}
 use Rattle.lsm_machine.proofs.LiveLists.{left_job, left_snapshot, one_more, was_before, booked_is, booked_of, rising_less, rising_more}

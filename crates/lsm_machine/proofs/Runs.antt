@@ -3,14 +3,11 @@ use Rattle.std.proofs.Common.{◌≡◌, ℕ, suc, ◌≤◌, ◌<◌, List, [],
 use Rattle.lsm_codec.specs.Keys.{UserKey}
 use Rattle.lsm_codec.specs.Lists.{Has}
 use Rattle.lsm_codec.specs.Entries.{Entry, newest, value_in, answer}
-use Rattle.lsm_codec.proofs.CallerLemmas.{has_left, has_right, has_cases}
-use Rattle.lsm_codec.proofs.CallerLemmas.{IsAllowed, Finds, newest_finds, stamp_lt}
+use Rattle.lsm_codec.proofs.CallerLemmas.{has_left, has_right, has_cases, IsAllowed, Finds, newest_finds, stamp_lt}
 use Rattle.lsm_levels.specs.Files.{File, all_entries, IsSplit, OneEach}
 use Rattle.lsm_levels.specs.Jobs.{Job}
 use Rattle.lsm_levels.specs.Plans.{Plan}
-use Rattle.lsm_levels.proofs.CallerLemmas.{drops_answer, newest_is}
-use Rattle.lsm_levels.proofs.CallerLemmas.{all_has, has_all, one_each}
-use Rattle.lsm_levels.proofs.CallerLemmas.{linked_in}
+use Rattle.lsm_levels.proofs.CallerLemmas.{drops_answer, newest_is, all_has, has_all, one_each, linked_in}
 use Rattle.lsm_machine.specs.Plain.{Ingests, IsReadable, Plain, Reserves}
 use Rattle.lsm_machine.specs.Law.{Law, Meaning}
 use Rattle.lsm_machine.specs.Runs.{Event, Ingest, Snapshot, Release, Reserve, Cancel, Draw, Install, Spend, Nothing, ReadsAs, Run, Step, ingested}

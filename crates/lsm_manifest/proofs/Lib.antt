@@ -1,22 +1,22 @@
-pub mod FragmentLaws
-pub mod RecordLaws
-pub mod LogLoop
-pub mod PrefixLaws
-pub mod WriterLaws
-pub mod EditLaws
-pub mod LastLaws
-pub mod EditFold
-pub mod EditFits
-pub mod EditLoop
-pub mod EditWriterLaws
-pub mod StandingLaws
-pub mod LevelLaws
-pub mod ReplayLaws
-pub mod FileOrderLaws
-pub mod TornLaws
-pub mod ManifestLaws
-pub mod ShapeLaws
-pub mod WholeEditLaws
-pub mod DeletedLaws
-pub mod WholeEditLoops
+mod FragmentLaws
+mod RecordLaws
+mod LogLoop
+mod PrefixLaws
+mod WriterLaws
+mod EditLaws
+mod LastLaws
+mod EditFold
+mod EditFits
+mod EditLoop
+mod EditWriterLaws
+mod StandingLaws
+mod LevelLaws
+mod ReplayLaws
+mod FileOrderLaws
+mod TornLaws
+mod ManifestLaws
+mod ShapeLaws
+mod WholeEditLaws
+mod DeletedLaws
+mod WholeEditLoops
 pub mod CallerLemmas

@@ -6,8 +6,7 @@ use Rattle.std.proofs.lemmas.Bool.{and_parts, leb-true, leb-false, ltb-true, ltb
 use Rattle.lsm_codec.specs.Entries.{Entry}
 use Rattle.lsm_codec.specs.Keys.{UserKey, UserLe}
 use Rattle.lsm_codec.specs.Lists.{Has}
-use Rattle.lsm_codec.proofs.Keys.{key_from_test, test_from_key, user_le_total, user_le_antisym, user_le_refl}
-use Rattle.lsm_codec.proofs.Newest.{seq_le}
+use Rattle.lsm_codec.proofs.CallerLemmas.{key_from_test, test_from_key, user_le_total, user_le_antisym, user_le_refl, seq_le}
 use Rattle.lsm_levels.specs.Ages.{is_aged, may_follow, against_age, IsAgeOrder, IsAgainstAge, IsLeastAgainstAge}
 use Rattle.lsm_levels.specs.Merging.{Placed, IsOrdered, goes_first}
 use Rattle.lsm_levels.proofs.CallerLemmas.{first_says}

@@ -11,8 +11,7 @@ use Rattle.lsm_codec.specs.Entries.{Entry, internal_key, entry_cmp}
 use Rattle.lsm_codec.proofs.CallerLemmas.{IsBytes}
 use Rattle.lsm_block.specs.Block.{IsBlock, Spells, key_text}
 use Rattle.lsm_block.specs.Reading.{block_at}
-use Rattle.lsm_block.proofs.CallerLemmas.{IsBytes-after, IsBytes-front}
-use Rattle.lsm_block.proofs.CallerLemmas.{block_takes, block_again}
+use Rattle.lsm_block.proofs.CallerLemmas.{IsBytes-after, IsBytes-front, block_takes, block_again}
 use Rattle.lsm_table.specs.declared.table_fault.TableFault.TheVariants.{BadIndex}
 use Rattle.lsm_table.specs.declared.handle.Handle.{Handle}
 use Rattle.lsm_table.specs.Reading.{guarded}

@@ -6,8 +6,7 @@ use Rattle.lsm_codec.specs.Keys.{InternalKey}
 use Rattle.lsm_codec.specs.Entries.{Entry, internal_key}
 use Rattle.lsm_block.specs.Block.{IsBlock}
 use Rattle.lsm_block.specs.Held.{held}
-use Rattle.lsm_block.proofs.CallerLemmas.{block_again}
-use Rattle.lsm_block.proofs.CallerLemmas.{held_is}
+use Rattle.lsm_block.proofs.CallerLemmas.{block_again, held_is}
 use Rattle.lsm_table.specs.declared.table_fault.TableFault.TheVariants.{BadIndex}
 use Rattle.lsm_table.specs.declared.handle.Handle.{Handle}
 use Rattle.lsm_table.specs.Handle.{handle_at}

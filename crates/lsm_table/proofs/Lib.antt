@@ -1,28 +1,28 @@
-pub mod ByteLists
-pub mod ReadingLaws
-pub mod HandleLaws
-pub mod StoredBlockLaws
-pub mod FooterLaws
-pub mod DataLaws
-pub mod TableLaws
-pub mod KeyOrder
-pub mod SearchLaws
-pub mod IndexLaws
-pub mod BuildingLaws
-pub mod MakingLaws
-pub mod HeldTableLaws
-pub mod Telling
-pub mod FoundLaws
-pub mod OpenLaws
-pub mod GetLaws
-pub mod EntriesLaws
-pub mod CloseLaws
-pub mod SettleLaws
-pub mod StepLaws
-pub mod EndLaws
-pub mod JudgeLaws
-pub mod CheckLaws
-pub mod HeldBlockLaws
-pub mod IterLaws
-pub mod LastLaws
+mod ByteLists
+mod ReadingLaws
+mod HandleLaws
+mod StoredBlockLaws
+mod FooterLaws
+mod DataLaws
+mod TableLaws
+mod KeyOrder
+mod SearchLaws
+mod IndexLaws
+mod BuildingLaws
+mod MakingLaws
+mod HeldTableLaws
+mod Telling
+mod FoundLaws
+mod OpenLaws
+mod GetLaws
+mod EntriesLaws
+mod CloseLaws
+mod SettleLaws
+mod StepLaws
+mod EndLaws
+mod JudgeLaws
+mod CheckLaws
+mod HeldBlockLaws
+mod IterLaws
+mod LastLaws
 pub mod CallerLemmas

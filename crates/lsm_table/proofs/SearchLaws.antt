@@ -10,8 +10,7 @@ use Rattle.std.proofs.lemmas.Cmp.{nat_list_cmp_total, ranked}
 use Rattle.lsm_codec.specs.Keys.{UserKey, UserLe, user_le, InternalKey, packed, key_cmp, then_by}
 use Rattle.lsm_codec.specs.Entries.{Entry, internal_key, entry_cmp, stamp, is_allowed, first_of_two, newest}
 use Rattle.lsm_codec.specs.Lists.{Has}
-use Rattle.lsm_codec.proofs.CallerLemmas.{key_from_test, test_from_key, user_le_antisym}
-use Rattle.lsm_codec.proofs.CallerLemmas.{IsAllowed, allowed_says, allowed_from, kind_number_le, Finds, newest_finds}
+use Rattle.lsm_codec.proofs.CallerLemmas.{key_from_test, test_from_key, user_le_antisym, IsAllowed, allowed_says, allowed_from, kind_number_le, Finds, newest_finds}
 use Rattle.lsm_block.specs.Block.{Ascends}
 use Rattle.lsm_block.specs.Seeking.{not_below, drop_if}
 use Rattle.lsm_table.specs.Searching.{read_key, of_user}

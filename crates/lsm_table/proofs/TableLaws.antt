@@ -3,8 +3,7 @@ use Rattle.std.proofs.Common.{◌≡◌, ℕ, ◌-◌, List, length, None, Ok, s
 use Rattle.lsm_codec.specs.Entries.{Entry}
 use Rattle.lsm_codec.proofs.CallerLemmas.{IsBytes}
 use Rattle.lsm_block.specs.Reading.{block_at}
-use Rattle.lsm_block.proofs.CallerLemmas.{IsBytes-take}
-use Rattle.lsm_block.proofs.CallerLemmas.{block_takes, block_again}
+use Rattle.lsm_block.proofs.CallerLemmas.{IsBytes-take, block_takes, block_again}
 use Rattle.lsm_table.specs.StoredBlock.{contents_at}
 use Rattle.lsm_table.specs.Footer.{footer_of, body_of, footer_at}
 use Rattle.lsm_table.specs.Table.{concat, IsTable}

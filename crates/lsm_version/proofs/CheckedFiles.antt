@@ -3,7 +3,7 @@ use Rattle.std.proofs.Common.{◌≡◌, ℕ, Bool, true, false, List, length, s
 use Rattle.lsm_codec.specs.Entries.{Entry}
 use Rattle.lsm_table.specs.Table.{IsTable}
 use Rattle.lsm_table.specs.HeldTable.{entries_in}
-use Rattle.lsm_table.proofs.HeldTableLaws.{table_held}
+use Rattle.lsm_table.proofs.CallerLemmas.{table_held}
 use Rattle.lsm_manifest.specs.FileOrder.{TableFile}
 use Rattle.lsm_version.specs.CheckedFiles.{IsSpanned, IsImageOf}
 

@@ -5,11 +5,9 @@ use Rattle.std.specs.List.{Contains}
 use Rattle.std.proofs.lemmas.Bool.{and_from, and_parts, ltb-false, cases_lt, cases_Bool}
 use Rattle.std.proofs.lemmas.List.{append_assoc, get_or_default, get_or-drop, length-drop}
 use Rattle.lsm_codec.specs.Lists.{Has}
-use Rattle.lsm_codec.proofs.Lists.{has_left, has_right, has_cases, contains_from}
+use Rattle.lsm_codec.proofs.CallerLemmas.{has_left, has_right, has_cases, contains_from, user_le_trans, IsAllowed, IsNewest, Finds, newest_finds, allowed_says, allowed_from, stamp_lt}
 use Rattle.lsm_codec.specs.Keys.{UserKey, UserLe}
-use Rattle.lsm_codec.proofs.Keys.{user_le_trans}
 use Rattle.lsm_codec.specs.Entries.{Entry, stamp, newest, is_allowed}
-use Rattle.lsm_codec.proofs.Newest.{IsAllowed, IsNewest, Finds, newest_finds, allowed_says, allowed_from, stamp_lt}
 use Rattle.lsm_table.specs.Registry.{Table}
 use Rattle.lsm_table.specs.Table.{IsTable}
 use Rattle.lsm_table.specs.HeldTable.{entries_in}
@@ -21,7 +19,7 @@ use Rattle.lsm_table.specs.declared.table_fault.TableFault.{TableFault}
 use Rattle.lsm_table.specs.declared.table_fault.TableFault.TheVariants as why
 use Rattle.lsm_table.specs.declared.read_fault.ReadFault.{ReadFault}
 use Rattle.lsm_table.specs.declared.read_fault.ReadFault.TheVariants.{Shelf, Table as AtTable}
-use Rattle.lsm_table.proofs.OpenLaws.{opening_again}
+use Rattle.lsm_table.proofs.CallerLemmas.{opening_again}
 use Rattle.lsm_levels.specs.Files.{File, Lie, IsLawful, all_entries, Shallower}
 use Rattle.lsm_version.specs.Versions.{file_of, files_of, files_from, user_of}
 use Rattle.lsm_version.specs.Reads.{IsSoundLevel, AreSound, IsRising, IsFirstReaching, is_below, is_candidate, covers, begins_by, reaches, IsYoungest, HasNoCandidate}

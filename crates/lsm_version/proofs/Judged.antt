@@ -6,8 +6,7 @@ use Rattle.std.proofs.lemmas.List.Sums.{sum_by-cons, count_by-le-length}
 use Rattle.lsm_codec.specs.Lists.{Has}
 use Rattle.lsm_codec.specs.Keys.{UserKey, InternalKey, IsKey}
 use Rattle.lsm_codec.specs.Entries.{Entry}
-use Rattle.lsm_codec.proofs.Lists.{has_left, has_right, has_cases, has_flat, flat_has}
-use Rattle.lsm_codec.proofs.KeyBytes.{IsKey-unique}
+use Rattle.lsm_codec.proofs.CallerLemmas.{has_left, has_right, has_cases, has_flat, flat_has, IsKey-unique}
 use Rattle.lsm_table.specs.Registry.{Table}
 use Rattle.lsm_table.specs.HeldTable.{entries_in}
 use Rattle.lsm_manifest.specs.FileOrder.{TableFile}
@@ -24,12 +23,11 @@ use Rattle.lsm_version.specs.Loading.{Deep, newer_count, depth_at, depth_of, dee
 use Rattle.lsm_levels.specs.Merging.{Placed, placed_at, merge_all}
 use Rattle.lsm_levels.specs.Ranges.{Range, EachPair, KeyLe, MeetInKeys, ShareUsers}
 use Rattle.lsm_version.specs.Versions.{IsSound, IsWhole, file_of, files_of, files_from, level_in, user_of}
-use Rattle.lsm_levels.proofs.CallerLemmas.{file_fits, entries_in_order, key_le_user}
+use Rattle.lsm_levels.proofs.CallerLemmas.{file_fits, entries_in_order, key_le_user, merged_from, merged_has}
 use Rattle.lsm_version.proofs.ChangedFiles.{files_has, has_files, all_has, has_all}
 use Rattle.lsm_version.proofs.DeepAges.{bare_from, has_bare}
 use Rattle.lsm_version.proofs.LevelRanges.{whole_at, whole_in}
 use Rattle.lsm_version.proofs.LevelReads.{same_length}
-use Rattle.lsm_levels.proofs.CallerLemmas.{merged_from, merged_has}
 use Rattle.lsm_version.proofs.Rising.{user_of-key}
 
 -- ---- a file of a level, and the table of which it is

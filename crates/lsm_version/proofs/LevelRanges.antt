@@ -7,12 +7,11 @@ use Rattle.std.specs.List.Sorted.{IsSortedBy}
 use Rattle.lsm_codec.specs.Lists.{Has}
 use Rattle.lsm_codec.specs.Keys.{InternalKey, IsKey, key_cmp, then_by}
 use Rattle.lsm_codec.specs.Entries.{Entry, internal_key}
-use Rattle.lsm_codec.proofs.KeyBytes.{IsKey-unique}
-use Rattle.lsm_codec.proofs.KeyOrder.{key_cmp-swapped, key_cmp-same}
+use Rattle.lsm_codec.proofs.CallerLemmas.{IsKey-unique, key_cmp-swapped, key_cmp-same}
 use Rattle.lsm_table.specs.Registry.{Table}
 use Rattle.lsm_table.specs.HeldTable.{entries_in}
 use Rattle.lsm_manifest.specs.FileOrder.{TableFile}
-use Rattle.lsm_manifest.proofs.FileOrderLaws.{order_is}
+use Rattle.lsm_manifest.proofs.CallerLemmas.{order_is}
 use Rattle.lsm_levels.specs.Files.{Before}
 use Rattle.lsm_levels.specs.Streams.{IsAscending}
 use Rattle.lsm_levels.specs.Checking.{IsRangeOf}

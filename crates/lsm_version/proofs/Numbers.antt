@@ -6,7 +6,7 @@ use Rattle.std.proofs.lemmas.Bool.{eqb-true, eqb-false}
 use Rattle.std.proofs.lemmas.List.Sums.{sum_by-cons}
 use Rattle.std.proofs.lemmas.List.Sorted.{sum_by-IsPermutation, IsNonDecreasingBy-from_sort}
 use Rattle.lsm_codec.specs.Lists.{Has}
-use Rattle.lsm_codec.proofs.Lists.{contains_from}
+use Rattle.lsm_codec.proofs.CallerLemmas.{contains_from}
 use Rattle.lsm_version.specs.FileNumbers.{times, AreDistinct, IsLeastTwice, first_twice}
 
 -- each number is at most each later one

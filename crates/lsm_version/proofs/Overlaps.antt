@@ -5,7 +5,7 @@ use Rattle.std.specs.List.{filter}
 use Rattle.std.proofs.lemmas.Bool.{and_from, cases_lt}
 use Rattle.std.proofs.lemmas.List.{get_or_default, get_or-drop, take_more, length-drop}
 use Rattle.lsm_codec.specs.Keys.{UserKey, UserLe, user_le}
-use Rattle.lsm_codec.proofs.Keys.{user_le_trans}
+use Rattle.lsm_codec.proofs.CallerLemmas.{user_le_trans}
 use Rattle.lsm_table.specs.Registry.{Table}
 use Rattle.lsm_version.specs.Versions.{Levels, IsSound, AreInOrder, level_in, user_of}
 use Rattle.lsm_version.specs.Reads.{AreSound, IsRising, IsFirstReaching, begins_by, reaches}

@@ -8,7 +8,7 @@ use Rattle.std.proofs.lemmas.Cmp.{on_total, then_total, back_total, nat_cmp_tota
 use Rattle.std.proofs.lemmas.List.MinMax.{ranks_by}
 use Rattle.std.proofs.lemmas.List.Sorted.{sorted_far}
 use Rattle.lsm_codec.specs.Lists.{Has}
-use Rattle.lsm_codec.proofs.Lists.{has_cases, filter_has, contains_from}
+use Rattle.lsm_codec.proofs.CallerLemmas.{has_cases, filter_has, contains_from}
 use Rattle.lsm_table.specs.Registry.{Table}
 use Rattle.lsm_manifest.specs.FileOrder.{user_part, packed_part}
 use Rattle.lsm_version.specs.Versions.{stands_before}

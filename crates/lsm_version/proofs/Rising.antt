@@ -7,8 +7,7 @@ use Rattle.std.proofs.lemmas.List.Sorted.{sorted_far}
 use Rattle.lsm_codec.specs.Entries.{Entry, internal_key}
 use Rattle.lsm_codec.specs.Lists.{Has}
 use Rattle.lsm_codec.specs.Keys.{UserKey, UserLe, InternalKey, IsKey}
-use Rattle.lsm_codec.proofs.Keys.{user_le_trans, user_le_refl}
-use Rattle.lsm_codec.proofs.KeyBytes.{take-key_bytes}
+use Rattle.lsm_codec.proofs.CallerLemmas.{user_le_trans, user_le_refl, take-key_bytes}
 use Rattle.lsm_table.specs.Registry.{Table}
 use Rattle.lsm_levels.specs.Files.{File, Fits, IsAhead}
 use Rattle.lsm_levels.specs.Ranges.{KeyLe}

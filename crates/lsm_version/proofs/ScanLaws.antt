@@ -2,7 +2,7 @@
 use Rattle.std.proofs.Common.{◌≡◌, ℕ, suc, ◌+◌, ◌<◌, List, [], ◌∷◌, ◌++◌, length, get_or, take, drop, map, Option, Some, None, refl, sym, ◌∙◌, ap, subst, inl, inr, append_assoc}
 use Rattle.std.proofs.lemmas.List.{map-append, take_more}
 use Rattle.lsm_codec.specs.Lists.{Has}
-use Rattle.lsm_codec.proofs.Lists.{has_left, has_right, has_cases, has_flat, flat_has}
+use Rattle.lsm_codec.proofs.CallerLemmas.{has_left, has_right, has_cases, has_flat, flat_has}
 use Rattle.lsm_codec.specs.Keys.{UserKey}
 use Rattle.lsm_codec.specs.Entries.{Entry, newest, value_in, answer}
 use Rattle.lsm_table.specs.Registry.{Table}
@@ -13,13 +13,8 @@ use Rattle.lsm_levels.specs.Scanning.{IsScan, pairs_of}
 use Rattle.lsm_version.specs.Sources.{source_of, sources_of, AreWhole, EachWhole}
 use Rattle.lsm_version.specs.Versions.{IsWhole, file_of, files_of, files_from, level_in}
 use Rattle.lsm_version.proofs.ChangedFiles.{files_has, has_files}
-use Rattle.lsm_levels.proofs.CallerLemmas.{newest_is, one_each_part}
+use Rattle.lsm_levels.proofs.CallerLemmas.{newest_is, one_each_part, all_has, has_all, one_each, placed_entry, entry_placed, merged_sorted, sorted_ordered, ascending_sorted, merged_from, merged_has, scan_is, in_order_split}
 use Rattle.lsm_version.proofs.Finding.{newest_none, none_allowed, is_newest}
-use Rattle.lsm_levels.proofs.CallerLemmas.{all_has, has_all, one_each}
-use Rattle.lsm_levels.proofs.CallerLemmas.{placed_entry, entry_placed, merged_sorted, sorted_ordered, ascending_sorted}
-use Rattle.lsm_levels.proofs.CallerLemmas.{merged_from, merged_has}
-use Rattle.lsm_levels.proofs.CallerLemmas.{scan_is}
-use Rattle.lsm_levels.proofs.CallerLemmas.{in_order_split}
 
 -- ---- sources as they are opened
 

@@ -6,11 +6,10 @@ use Rattle.std.proofs.lemmas.Bool.{and_parts, and_from, leb-true, le-leb}
 use Rattle.lsm_codec.specs.Lists.{Has}
 use Rattle.lsm_codec.specs.Keys.{InternalKey, IsKey, key_cmp}
 use Rattle.lsm_codec.specs.Entries.{Entry, internal_key, entry_cmp}
-use Rattle.lsm_codec.proofs.KeyOrder.{key_cmp-Equal, key_cmp-same}
+use Rattle.lsm_codec.proofs.CallerLemmas.{key_cmp-Equal, key_cmp-same}
 use Rattle.lsm_block.specs.Block.{Ascends}
 use Rattle.lsm_table.specs.Table.{IsTable}
-use Rattle.lsm_table.proofs.KeyOrder.{key_cmp_total}
-use Rattle.lsm_table.proofs.IndexLaws.{data_ascends}
+use Rattle.lsm_table.proofs.CallerLemmas.{key_cmp_total, data_ascends}
 use Rattle.lsm_levels.specs.Streams.{IsAscending}
 use Rattle.lsm_version.specs.CheckedFiles.{IsSpanned, starts_with, ends_with}
 

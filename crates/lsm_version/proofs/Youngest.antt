@@ -4,7 +4,7 @@ use Rattle.std.specs.Prelude.{◌⊎◌, MatchOption, nat_lt, IsTrue}
 use Rattle.std.proofs.lemmas.Bool.{ltb-true, ltb-false}
 use Rattle.std.proofs.lemmas.List.{take_more}
 use Rattle.lsm_codec.specs.Lists.{Has}
-use Rattle.lsm_codec.proofs.Lists.{has_cases, has_left, has_right}
+use Rattle.lsm_codec.proofs.CallerLemmas.{has_cases, has_left, has_right}
 use Rattle.lsm_codec.specs.Keys.{UserKey}
 use Rattle.lsm_table.specs.Registry.{Table}
 use Rattle.lsm_version.specs.Reads.{is_candidate, IsYoungest, HasNoCandidate}

@@ -3,7 +3,7 @@ use Rattle.lsm_codec.specs.Keys.{IsKey}
 use Rattle.lsm_codec.specs.Entries.{Entry, internal_key}
 use Rattle.lsm_table.specs.Registry.{Table}
 use Rattle.lsm_table.specs.Table.{IsTable}
-use Rattle.lsm_table.proofs.HeldTableLaws.{table_held}
+use Rattle.lsm_table.proofs.CallerLemmas.{table_held}
 use Rattle.lsm_levels.specs.Ranges.{Range}
 use Rattle.lsm_levels.specs.Checking.{IsRangeOf}
 use Rattle.lsm_version.specs.Versions.{IsWhole}

@@ -3,7 +3,7 @@ use Rattle.std.proofs.lemmas.Result.{err_from_is_err_and}
 use Rattle.lsm_codec.specs.Entries.{newest}
 use Rattle.lsm_table.specs.Registry.{Table}
 use Rattle.lsm_table.specs.Found.{found_in, seen, value_of}
-use Rattle.lsm_table.proofs.Telling.{becomes_then}
+use Rattle.lsm_table.proofs.CallerLemmas.{becomes_then}
 use Rattle.lsm_levels.specs.Files.{all_entries}
 use Rattle.lsm_version.specs.Versions.{files_from, files_of}
 use Rattle.lsm_version.specs.Reads.{AreSound, IsSoundLevel}

@@ -2,7 +2,7 @@ use Rattle.std.proofs.Common.{◌∙◌, sym, ap, subst, ℕ, Some}
 use Rattle.lsm_codec.specs.Entries.{newest}
 use Rattle.lsm_table.specs.Found.{found_in, seen, value_of}
 use Rattle.lsm_table.specs.HeldTable.{entries_in}
-use Rattle.lsm_table.proofs.Telling.{becomes_then}
+use Rattle.lsm_table.proofs.CallerLemmas.{becomes_then}
 use Rattle.lsm_version.proofs.Finding.{Looked, number_found, number_missed, numbers_done, found_some, found_none}
 use Rattle.lsm_version.proofs.find.find_by_number.Goals as goal
 

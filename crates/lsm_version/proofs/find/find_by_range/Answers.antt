@@ -4,7 +4,7 @@ use Rattle.std.proofs.lemmas.Result.{err_from_is_err_and}
 use Rattle.lsm_codec.specs.Entries.{newest}
 use Rattle.lsm_table.specs.Found.{found_in, seen, value_of}
 use Rattle.lsm_table.specs.HeldTable.{entries_in}
-use Rattle.lsm_table.proofs.Telling.{becomes_then}
+use Rattle.lsm_table.proofs.CallerLemmas.{becomes_then}
 use Rattle.lsm_version.proofs.Rising.{level_rises}
 use Rattle.lsm_version.proofs.Finding.{range_found, range_missed, none_more, has_rest, ends_level, ends_behind, found_some, found_none}
 use Rattle.lsm_version.proofs.find.find_by_range.Goals as goal

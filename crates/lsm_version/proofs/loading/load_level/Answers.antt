@@ -3,7 +3,7 @@ use Rattle.std.proofs.lemmas.Result.{err_from_is_err_and}
 use Rattle.lsm_table.specs.HeldTable.{entries_in}
 use Rattle.lsm_manifest.specs.FileOrder.{TableFile}
 use Rattle.lsm_table.specs.Registry.{Table}
-use Rattle.lsm_table.proofs.Telling.{becomes_same, becomes_then}
+use Rattle.lsm_table.proofs.CallerLemmas.{becomes_same, becomes_then}
 use Rattle.lsm_version.specs.Loading.{Deep, IsLevelRead}
 use Rattle.lsm_version.proofs.LevelReads.{front_of, level_start, level_more, refused_at}
 use Rattle.lsm_version.proofs.loading.load_level.Goals as goal

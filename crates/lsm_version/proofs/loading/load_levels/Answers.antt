@@ -3,7 +3,7 @@ use Rattle.std.proofs.lemmas.List.{map-append, get_or_default}
 use Rattle.std.proofs.lemmas.Result.{err_from_is_err_and}
 use Rattle.lsm_manifest.specs.FileOrder.{TableFile}
 use Rattle.lsm_table.specs.Registry.{Table}
-use Rattle.lsm_table.proofs.Telling.{becomes_then}
+use Rattle.lsm_table.proofs.CallerLemmas.{becomes_then}
 use Rattle.lsm_version.specs.Loading.{AreRead, Deep, FileLevel, IsLevelRead}
 use Rattle.lsm_version.specs.FileRefusal.{IsFilesRefusal}
 use Rattle.lsm_version.specs.Versions.{AreInOrder}

@@ -1,7 +1,7 @@
 use Rattle.std.proofs.Common.{◌∙◌, ◌+◌, ◌++◌, List, ap, sym, subst, map, drop}
 use Rattle.std.proofs.lemmas.Result.{err_from_is_err_and}
 use Rattle.lsm_table.specs.Registry.{Table}
-use Rattle.lsm_table.proofs.Telling.{becomes_then}
+use Rattle.lsm_table.proofs.CallerLemmas.{becomes_then}
 use Rattle.lsm_version.specs.Sources.{AreWhole, EachWhole, source_of}
 use Rattle.lsm_version.proofs.Changing.{level_at}
 use Rattle.lsm_version.proofs.ScanLaws.{level_opened}
