@@ -1,4 +1,4 @@
-use Rattle.std.proofs.Common.{◌≡◌, ◌≢◌, ◌∙◌, map, ℕ, List, Option, Some, None, Result, Ok, Err, inr, refl, sym, subst}
+use Rattle.std.proofs.Common.{◌≡◌, ◌≢◌, ◌∙◌, map, ℕ, List, Option, Some, None, Result, Err, inr, refl, sym, subst}
 use Rattle.std.specs.Prelude.{IfErr, IfSome}
 use Rattle.std.specs.Io.KnownBytes.{Keeps}
 use Rattle.std.proofs.KnownBytes.{Keeps-refl}
@@ -34,11 +34,14 @@ memory Manifest (Some text) = tt
 
 refused : (name : CommandName) (line : CommandLine) (input old new : Option (List ℕ)) (r : Result ℕ Fault) (fault : Fault) → r ≡ Err fault → line ≡ Run name
     → IfErr r (λ e. IsExplained line input e) → IfErr r (λ e. e ≢ Write → Keeps old new) → IsRefusal name input old new 1
-refused name line input old new r fault is same explained kept = inr (refl, (
-  fault,
-  subst (λ (l : CommandLine). IsExplained l input fault) same (subst (λ (x : Result ℕ Fault). IfErr x (λ e. IsExplained line input e)) is explained),
-  subst (λ (x : Result ℕ Fault). IfErr x (λ e. e ≢ Write → Keeps old new)) is kept,
-))
+refused name line input old new r fault is same explained kept = inr (
+  refl,
+  (
+    fault,
+    subst (λ (l : CommandLine). IsExplained l input fault) same (subst (λ (x : Result ℕ Fault). IfErr x (λ e. IsExplained line input e)) is explained),
+    subst (λ (x : Result ℕ Fault). IfErr x (λ e. e ≢ Write → Keeps old new)) is kept,
+  ),
+)
 
 pub returns-in-Err-done-clause-refused : goal.returns-in-Err-done-clause-refused
 returns-in-Err-done-clause-refused g c = λ (name : CommandName) (asks : Asks name (map g.S.AsStr.text c.args.words.now)).
