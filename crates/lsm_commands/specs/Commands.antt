@@ -50,10 +50,11 @@ IsTooLarge input =
     ((entries : List Entry) × (e : Entry) × BeginsWith input (entries ++ e ∷ []) × PassesLimit usual entries e)
     ⊎ ((entries : List Entry) × BeginsWith input entries × (2 ^ 32 ≤ length (index_block usual.restart_interval (groups_by usual entries))))
 
--- What a fault says of the input. A failed read or write, and want of memory, say nothing of it.
+-- What a fault says of the input. A failed read, and want of memory, say nothing of it; a write fails only where there was an
+-- answer to write.
 abbrev pub Explains : CommandName → List ℕ → Fault → Type 0
 Explains name input Read = ⊤
-Explains name input Write = ⊤
+Explains name input Write = (output : List ℕ) × Answers name input output
 Explains name input OutOfMemory = ⊤
 Explains MakeTable input (BadLine i) = IsFirstBadLine input i
 Explains MakeTable input (Table fault) = ⊥

@@ -125,6 +125,8 @@ state = record {
   kept = (b, kept);
   view = publisher;
   publisher = record { seat = 0; at = refl; live = refl; publishes = refl };
+  slots_are = refl;
+  begun = omega arith;
 }
 
 pub outlives : APinOutlivesItsVersion

@@ -1,13 +1,14 @@
 -- The laws follow from the rule.
-use Rattle.std.proofs.Common.{◌≡◌, ◌≢◌, ℕ, suc, ◌+◌, ◌*◌, ◌^◌, ◌<◌, take, replicate, Option, Some, None, List, [], ◌∷◌, cond, eqb, eq-eqb, ne_eqb, get_or, refl, sym, ap, ◌∙◌, subst, arith}
+use Rattle.std.proofs.Common.{◌≡◌, ◌≢◌, ℕ, suc, ◌+◌, ◌-◌, ◌*◌, ◌^◌, ◌<◌, take, replicate, Option, Some, None, List, [], ◌∷◌, cond, eqb, eq-eqb, ne_eqb, get_or, refl, sym, ap, ◌∙◌, subst, arith}
 use Rattle.std.proofs.lemmas.List.Sums.{sum_by-cons}
+use Rattle.std.proofs.lemmas.List.{length-replicate}
 use Rattle.std.specs.Prelude.{slice_get, sum_by}
 use mathlib.Core.Logic.{dite}
 use native.Mathlib.Decide.{ℕ_discrete}
 use Rattle.lsm_pins.specs.declared.view.View.{View}
 use Rattle.lsm_pins.specs.declared.slot_record.SlotRecord.{SlotRecord}
 use Rattle.lsm_pins.specs.Head.{head_of, count_in}
-use Rattle.lsm_pins.specs.SlotRecord.{IsInUse}
+use Rattle.lsm_pins.specs.SlotRecord.{IsInUse, unused}
 use Rattle.lsm_pins.specs.View.{first_view, held_at, pin_at}
 use Rattle.lsm_pins.specs.declared.rule.Start.{Start}
 use Rattle.lsm_pins.proofs.SeatSteps.{opens}
@@ -93,15 +94,17 @@ module _ (words : List ℕ) (views : List View) (kept : IsKept words views) (p :
 
 -- the state of a board just made
 pub some_state : EachStartHasAState
-some_state start some few ids = record {
+some_state start some few ids = (record {
   state = record { words = take (start.slots + 1) (start.id * 2 ^ 30 ∷ replicate 64 0); homes = []; views = first_view start ∷ [] };
   kept = opens start.slots start.id some few ids;
   view = first_view start;
   publisher = record { seat = 0; at = refl; live = refl; publishes = refl };
-}
+  slots_are = let e = length-replicate (start.slots - 1) unused in omega arith;
+  begun = omega arith;
+}, refl)
 
 pub not_absurd : NoLawIsAbsurd
 not_absurd law =
     let start : Start = record { slots = 3; id = 0 } in
-    let s = some_state start (omega arith) (omega arith) (omega arith) in
+    let s = (some_state start (omega arith) (omega arith) (omega arith)).0 in
     law start s.state s.kept s.view s.publisher

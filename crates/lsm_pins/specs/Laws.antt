@@ -5,7 +5,7 @@ use Rattle.lsm_pins.specs.declared.view.View.{View}
 use Rattle.lsm_pins.specs.declared.rule.Start.{Start}
 use Rattle.lsm_pins.specs.declared.slot_record.SlotRecord.{SlotRecord}
 use Rattle.lsm_pins.specs.Head.{head_of, count_in}
-use Rattle.lsm_pins.specs.View.{HasId, held_at}
+use Rattle.lsm_pins.specs.View.{HasId, first_view, held_at}
 use Rattle.lsm_pins.specs.Rule.{KnowsPin, BoardHolds}
 
 -- how many pins of the slot were given back
@@ -58,16 +58,18 @@ abbrev pub MissedIsHeld : List ℕ → List View → View → Type 0
 MissedIsHeld words views p = (s : ℕ) (r : SlotRecord) → slice_get p.records s ≡ Some r → s ≢ p.slot → given_back words s ≢ r.total
     → (y id : ℕ) × (v : View) × (slice_get views y ≡ Some v) × (v.live ≡ true) × (v.held ≡ Some (id, s))
 
--- a state that the rule allows, with a publisher's view in it
+-- a state that the rule allows, with a publisher's view in it, of a board of so many slots that began no later
 pub record SomeState (start : Start) : Type 0 where
   pub state : State (Unit {0}) View
   pub kept : BoardHolds start state
   pub view : View
   pub publisher : IsPublisher state.views view
+  pub slots_are : view.slots ≡ start.slots
+  pub begun : start.id ≤ view.id
 
--- the rule allows a state of each board that can be made
+-- the rule allows a state of each board that can be made: the one with which it begins
 abbrev pub EachStartHasAState : Type 0
-EachStartHasAState = (start : Start) → 0 < start.slots → start.slots ≤ 64 → start.id < 2 ^ 28 → SomeState start
+EachStartHasAState = (start : Start) → 0 < start.slots → start.slots ≤ 64 → start.id < 2 ^ 28 → (s : SomeState start) × (s.view ≡ first_view start)
 
 -- in some such state a view holds a slot whose version is no longer current
 abbrev pub APinOutlivesItsVersion : Type 0
