@@ -42,6 +42,16 @@ abbrev pub PutStopped : (number : ℕ) (image : List ℕ) (old new : List Call) 
 PutStopped number image old new = (new ≡ old) ⊎ ((new ≡ made (table_name number) image false ∷ old)
     ⊎ Undone (durable_plan (table_name number)) (removed (table_name number)) (made (table_name number) image true ∷ old) new)
 
+-- a front of the plan was Ok, the next call was refused, and then this call was made, and was Ok
+abbrev pub TakenBack : List Step → Step → (old new : List Call) → Type 0
+TakenBack [] undo old new = ⊥
+TakenBack (s ∷ ss) undo old new = (new ≡ undo true ∷ s false ∷ old) ⊎ TakenBack ss undo (s true ∷ old) new
+
+-- A table was not put, and the call left no file of it: nothing was asked; or no file was made; or the one that was made was removed
+abbrev pub PutForgotten : (number : ℕ) (image : List ℕ) (old new : List Call) → Type 0
+PutForgotten number image old new = (new ≡ old) ⊎ ((new ≡ made (table_name number) image false ∷ old)
+    ⊎ TakenBack (durable_plan (table_name number)) (removed (table_name number)) (made (table_name number) image true ∷ old) new)
+
 -- a table is removed, and then the folder's names are made durable
 abbrev pub remove_plan : (number : ℕ) → List Step
 remove_plan number = removed (table_name number) ∷ folder_synced ∷ []
@@ -94,6 +104,18 @@ manifest_read number bytes calls = loaded (manifest_name number) (Some bytes) �
 abbrev pub ReadStopped : (old new : List Call) → Type 0
 ReadStopped old new = ((answer : Option (List ℕ)) × (new ≡ current_read answer old))
     ⊎ ((n : ℕ) × (answer : Option (List ℕ)) × (new ≡ loaded (manifest_name n) answer ∷ current_read (Some (current_text n)) old))
+
+-- the manifest that `CURRENT` named was asked to be read, and that was refused
+abbrev pub ManifestUnread : (old new : List Call) → Type 0
+ManifestUnread old new = (n : ℕ) × (new ≡ loaded (manifest_name n) None ∷ current_read (Some (current_text n)) old)
+
+-- There is no manifest: `CURRENT` was not read, or names none; or the manifest that it names was not read
+abbrev pub MissingManifest : (old new : List Call) → Type 0
+MissingManifest old new = ((answer : Option (List ℕ)) × NamesNone answer × (new ≡ current_read answer old)) ⊎ ManifestUnread old new
+
+-- the folder refused to read `CURRENT`, or the manifest that it names
+abbrev pub UnreadManifest : (old new : List Call) → Type 0
+UnreadManifest old new = (new ≡ current_read None old) ⊎ ManifestUnread old new
 
 -- No manifest was measured: `CURRENT` was read alone, or the manifest that it names was asked for its length too
 abbrev pub MeasureStopped : (old new : List Call) → Type 0
