@@ -5,7 +5,7 @@ ghost use Rattle.std.specs.List.Sorted.{IsStrictlyIncreasing};
 ghost use Rattle.lsm_folder.specs.Calls.{AreHonest, LastIsTrue, made, read, loaded, listed, removed};
 ghost use Rattle.lsm_shelf.specs.FileNames.{table_name, current_text};
 ghost use Rattle.lsm_shelf.specs.FileShelf.{folder_of, file_told, file_number, mark_of};
-ghost use Rattle.lsm_shelf.specs.Plans.{done, Stopped, Refused, PutStopped, PutForgotten, MissingManifest, UnreadManifest, AreTablesOf, StartedFrom, StartStopped, ReadStopped, AppendStopped, put_plan, remove_plan, append_plan, current_read, manifest_read, manifest_measured};
+ghost use Rattle.lsm_shelf.specs.Plans.{done, Stopped, Refused, PutStopped, PutForgotten, MissingManifest, UnreadManifest, MissingToAppend, Unappended, Unnamed, AreTablesOf, StartedFrom, StartStopped, ReadStopped, AppendStopped, put_plan, remove_plan, append_plan, current_read, manifest_read, manifest_measured};
 ghost use Rattle.lsm_shelf.specs.Told.{Becomes, Counted, CountedBy, NotTaken, NotNamed, TakenIs, putting, removed_by, listing, sending, appending, finding, fresh};
 
 use crate::account::{Account, tag_of_both, tag_of_bytes, tag_of_number, tag_of_numbers};
@@ -121,6 +121,7 @@ where
     fn list<W: Wait>(&mut self, rt: &W, alloc: Global) -> Result<Vec<u64>, ShelfFault>
         ensures ascending { IfOk result (λ v. IsStrictlyIncreasing v.items) }
         ensures calls { IfOk result (λ v. (names : List (List ℕ)) × (C.calls (folder_of self.new) ≡ listed (Some names) ∷ C.calls (folder_of self.old)) × AreTablesOf names v.items) }
+        ensures device { IsErrOf result ShelfFault.Device → C.calls (folder_of self.new) ≡ listed None ∷ C.calls (folder_of self.old) }
         ensures stopped { OnErr result ((answer : Option (List (List ℕ))) × (C.calls (folder_of self.new) ≡ listed answer ∷ C.calls (folder_of self.old))) }
         ensures ok { IfOk result (λ v. Becomes (listing v.items (file_told C.place self.old)) (file_told C.place self.new)) }
         ensures err { OnErr result (Becomes (file_told C.place self.old) (file_told C.place self.new)) }
@@ -164,6 +165,7 @@ where
     ) -> Result<(), ShelfFault>
         ensures calls { OnOk result (StartedFrom number bytes.now (C.calls (folder_of self.old)) (C.calls (folder_of self.new))) }
         ensures stopped { OnErr result (StartStopped number bytes.now (C.calls (folder_of self.old)) (C.calls (folder_of self.new))) }
+        ensures memory { IsErrOf result ShelfFault.OutOfMemory → Unnamed number bytes.now (C.calls (folder_of self.old)) (C.calls (folder_of self.new)) }
         ensures large { 2 ^ 30 < length bytes.now → IsErrOf result ShelfFault.Device × (C.calls (folder_of self.new) ≡ C.calls (folder_of self.old)) }
         ensures taken { IsErrOf result (ShelfFault.Taken number) → C.calls (folder_of self.new) ≡ current_read (Some (current_text number)) (C.calls (folder_of self.old)) }
         ensures ok { OnOk result (Becomes (sending number bytes.now (file_told C.place self.old)) (file_told C.place self.new)) }
@@ -181,6 +183,8 @@ where
     fn append_manifest<W: Wait>(&mut self, rt: &W, bytes: &[u8]) -> Result<(), ShelfFault>
         ensures calls { OnOk result ((n : ℕ) × (len : ℕ) × (len + length bytes.now ≤ 2 ^ 30) × (C.calls (folder_of self.new) ≡ done (append_plan n bytes.now) (manifest_measured n len (C.calls (folder_of self.old))))) }
         ensures stopped { OnErr result (AppendStopped bytes.now (C.calls (folder_of self.old)) (C.calls (folder_of self.new))) }
+        ensures missing { IsErrOf result ShelfFault.Missing → MissingToAppend bytes.now (C.calls (folder_of self.old)) (C.calls (folder_of self.new)) }
+        ensures memory { IsErrOf result ShelfFault.OutOfMemory → Unappended bytes.now (C.calls (folder_of self.old)) (C.calls (folder_of self.new)) }
         ensures ok { OnOk result (Becomes (appending bytes.now (file_told C.place self.old)) (file_told C.place self.new)) }
         ensures err { OnErr result (Becomes (file_told C.place self.old) (file_told C.place self.new)) }
         ensures cause { IfErr result (λ e. NotTaken e × Counted e (file_told C.place self.old) (file_told C.place self.new)) }
