@@ -101,6 +101,11 @@ Unnamed number bytes old new = (new ≡ old)
     ⊎ (((answer : Option (List ℕ)) × (new ≡ current_read answer old))
     ⊎ ((answer : Option (List ℕ)) × (answer ≢ Some (current_text number)) × Stopped (unnamed_plan number bytes) (current_read answer old) new))
 
+-- the folder refused to read `CURRENT`; or `CURRENT` did not name this manifest, and a front of the plan was made
+abbrev pub StartRefused : (number : ℕ) (bytes : List ℕ) (old new : List Call) → Type 0
+StartRefused number bytes old new = (new ≡ current_read None old)
+    ⊎ ((answer : Option (List ℕ)) × (answer ≢ Some (current_text number)) × Stopped (start_plan number bytes) (current_read answer old) new)
+
 -- bytes are put behind those of the manifest, and made durable
 abbrev pub append_plan : (number : ℕ) (bytes : List ℕ) → List Step
 append_plan number bytes = appended (manifest_name number) bytes ∷ synced (manifest_name number) ∷ []

@@ -5,7 +5,7 @@ ghost use Rattle.std.specs.List.Sorted.{IsStrictlyIncreasing};
 ghost use Rattle.lsm_folder.specs.Calls.{AreHonest, LastIsTrue, made, read, loaded, listed, removed};
 ghost use Rattle.lsm_shelf.specs.FileNames.{table_name, current_text};
 ghost use Rattle.lsm_shelf.specs.FileShelf.{folder_of, file_told, file_number, mark_of};
-ghost use Rattle.lsm_shelf.specs.Plans.{done, Stopped, Refused, PutStopped, PutForgotten, MissingManifest, UnreadManifest, MissingToAppend, Unappended, Unnamed, AreTablesOf, StartedFrom, StartStopped, ReadStopped, AppendStopped, put_plan, remove_plan, append_plan, current_read, manifest_read, manifest_measured};
+ghost use Rattle.lsm_shelf.specs.Plans.{done, Stopped, Refused, PutStopped, PutForgotten, MissingManifest, UnreadManifest, MissingToAppend, Unappended, Unnamed, AreTablesOf, StartedFrom, StartRefused, StartStopped, ReadStopped, AppendStopped, put_plan, remove_plan, append_plan, current_read, manifest_read, manifest_measured};
 ghost use Rattle.lsm_shelf.specs.Told.{Becomes, Counted, CountedBy, NotTaken, NotNamed, TakenIs, putting, removed_by, listing, sending, appending, finding, fresh};
 
 use crate::account::{Account, tag_of_both, tag_of_bytes, tag_of_number, tag_of_numbers};
@@ -167,6 +167,7 @@ where
         ensures stopped { OnErr result (StartStopped number bytes.now (C.calls (folder_of self.old)) (C.calls (folder_of self.new))) }
         ensures memory { IsErrOf result ShelfFault.OutOfMemory → Unnamed number bytes.now (C.calls (folder_of self.old)) (C.calls (folder_of self.new)) }
         ensures large { 2 ^ 30 < length bytes.now → IsErrOf result ShelfFault.Device × (C.calls (folder_of self.new) ≡ C.calls (folder_of self.old)) }
+        ensures device { IsErrOf result ShelfFault.Device → length bytes.now ≤ 2 ^ 30 → StartRefused number bytes.now (C.calls (folder_of self.old)) (C.calls (folder_of self.new)) }
         ensures taken { IsErrOf result (ShelfFault.Taken number) → C.calls (folder_of self.new) ≡ current_read (Some (current_text number)) (C.calls (folder_of self.old)) }
         ensures ok { OnOk result (Becomes (sending number bytes.now (file_told C.place self.old)) (file_told C.place self.new)) }
         ensures err { OnErr result (Becomes (file_told C.place self.old) (file_told C.place self.new)) }

@@ -71,6 +71,7 @@ pub(crate) fn names_manifest<C: FolderCalls, W: Wait>(
     number: u64,
 ) -> Result<bool, ShelfFault>
     ensures calls { (answer : Option (List ℕ)) × (C.calls folder.new ≡ current_read answer (C.calls folder.old)) × IfOk result (λ b. IsTrue b ↔ (answer ≡ Some (current_text number))) }
+    ensures device { IsErrOf result ShelfFault.Device → C.calls folder.new ≡ current_read None (C.calls folder.old) }
     ensures place { C.place folder.new ≡ C.place folder.old }
     ensures fault { IfErr result NotNamed }
 {
