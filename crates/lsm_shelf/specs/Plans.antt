@@ -42,6 +42,16 @@ abbrev pub PutStopped : (number : ℕ) (image : List ℕ) (old new : List Call) 
 PutStopped number image old new = (new ≡ old) ⊎ ((new ≡ made (table_name number) image false ∷ old)
     ⊎ Undone (durable_plan (table_name number)) (removed (table_name number)) (made (table_name number) image true ∷ old) new)
 
+-- a front of the plan was Ok, the next call was refused, and then this call was made, and was Ok
+abbrev pub TakenBack : List Step → Step → (old new : List Call) → Type 0
+TakenBack [] undo old new = ⊥
+TakenBack (s ∷ ss) undo old new = (new ≡ undo true ∷ s false ∷ old) ⊎ TakenBack ss undo (s true ∷ old) new
+
+-- A table was not put, and the call left no file of it: nothing was asked; or no file was made; or the one that was made was removed
+abbrev pub PutForgotten : (number : ℕ) (image : List ℕ) (old new : List Call) → Type 0
+PutForgotten number image old new = (new ≡ old) ⊎ ((new ≡ made (table_name number) image false ∷ old)
+    ⊎ TakenBack (durable_plan (table_name number)) (removed (table_name number)) (made (table_name number) image true ∷ old) new)
+
 -- a table is removed, and then the folder's names are made durable
 abbrev pub remove_plan : (number : ℕ) → List Step
 remove_plan number = removed (table_name number) ∷ folder_synced ∷ []
@@ -78,6 +88,24 @@ StartStopped number bytes old new = (new ≡ old)
     ⊎ (((answer : Option (List ℕ)) × (new ≡ current_read answer old))
     ⊎ ((answer : Option (List ℕ)) × (answer ≢ Some (current_text number)) × Stopped (start_plan number bytes) (current_read answer old) new))
 
+-- the plan up to the call that gives `CURRENT` its new text
+abbrev pub unnamed_plan : (number : ℕ) (bytes : List ℕ) → List Step
+unnamed_plan number bytes = wrote (manifest_name number) bytes ∷ synced (manifest_name number) ∷ folder_synced
+    ∷ wrote (temporary_name number) (current_text number) ∷ synced (temporary_name number)
+    ∷ renamed (temporary_name number) (codes "CURRENT") ∷ []
+
+-- No manifest was started, and `CURRENT` was not renamed: nothing was asked; or `CURRENT` was read alone; or a front of the plan was
+-- made, which stopped before `CURRENT` had its new text
+abbrev pub Unnamed : (number : ℕ) (bytes : List ℕ) (old new : List Call) → Type 0
+Unnamed number bytes old new = (new ≡ old)
+    ⊎ (((answer : Option (List ℕ)) × (new ≡ current_read answer old))
+    ⊎ ((answer : Option (List ℕ)) × (answer ≢ Some (current_text number)) × Stopped (unnamed_plan number bytes) (current_read answer old) new))
+
+-- the folder refused to read `CURRENT`; or `CURRENT` did not name this manifest, and a front of the plan was made
+abbrev pub StartRefused : (number : ℕ) (bytes : List ℕ) (old new : List Call) → Type 0
+StartRefused number bytes old new = (new ≡ current_read None old)
+    ⊎ ((answer : Option (List ℕ)) × (answer ≢ Some (current_text number)) × Stopped (start_plan number bytes) (current_read answer old) new)
+
 -- bytes are put behind those of the manifest, and made durable
 abbrev pub append_plan : (number : ℕ) (bytes : List ℕ) → List Step
 append_plan number bytes = appended (manifest_name number) bytes ∷ synced (manifest_name number) ∷ []
@@ -95,10 +123,40 @@ abbrev pub ReadStopped : (old new : List Call) → Type 0
 ReadStopped old new = ((answer : Option (List ℕ)) × (new ≡ current_read answer old))
     ⊎ ((n : ℕ) × (answer : Option (List ℕ)) × (new ≡ loaded (manifest_name n) answer ∷ current_read (Some (current_text n)) old))
 
+-- the manifest that `CURRENT` named was asked to be read, and that was refused
+abbrev pub ManifestUnread : (old new : List Call) → Type 0
+ManifestUnread old new = (n : ℕ) × (new ≡ loaded (manifest_name n) None ∷ current_read (Some (current_text n)) old)
+
+-- There is no manifest: `CURRENT` was not read, or names none; or the manifest that it names was not read
+abbrev pub MissingManifest : (old new : List Call) → Type 0
+MissingManifest old new = ((answer : Option (List ℕ)) × NamesNone answer × (new ≡ current_read answer old)) ⊎ ManifestUnread old new
+
+-- the folder refused to read `CURRENT`, or the manifest that it names
+abbrev pub UnreadManifest : (old new : List Call) → Type 0
+UnreadManifest old new = (new ≡ current_read None old) ⊎ ManifestUnread old new
+
 -- No manifest was measured: `CURRENT` was read alone, or the manifest that it names was asked for its length too
 abbrev pub MeasureStopped : (old new : List Call) → Type 0
 MeasureStopped old new = ((answer : Option (List ℕ)) × (new ≡ current_read answer old))
     ⊎ ((n : ℕ) × (new ≡ measured (manifest_name n) None ∷ current_read (Some (current_text n)) old))
+
+-- the folder was asked to append, and refused
+abbrev pub AppendRefused : (bytes : List ℕ) (old new : List Call) → Type 0
+AppendRefused bytes old new = (n : ℕ) × (len : ℕ) × (new ≡ appended (manifest_name n) bytes false ∷ manifest_measured n len old)
+
+-- There is no manifest to measure: `CURRENT` was not read, or names none; or the manifest that it names was not measured
+abbrev pub MissingToMeasure : (old new : List Call) → Type 0
+MissingToMeasure old new = ((answer : Option (List ℕ)) × NamesNone answer × (new ≡ current_read answer old))
+    ⊎ ((n : ℕ) × (new ≡ measured (manifest_name n) None ∷ current_read (Some (current_text n)) old))
+
+-- there is no manifest to measure, or the folder refused to append to it
+abbrev pub MissingToAppend : (bytes : List ℕ) (old new : List Call) → Type 0
+MissingToAppend bytes old new = MissingToMeasure old new ⊎ AppendRefused bytes old new
+
+-- No append was Ok: no manifest was measured; or one was, and nothing more was asked; or the folder refused to append
+abbrev pub Unappended : (bytes : List ℕ) (old new : List Call) → Type 0
+Unappended bytes old new = MeasureStopped old new
+    ⊎ (((n : ℕ) × (len : ℕ) × (new ≡ manifest_measured n len old)) ⊎ AppendRefused bytes old new)
 
 -- Nothing was appended, or a front of the plan was: no manifest was measured, or one was and its plan was begun
 abbrev pub AppendStopped : (bytes : List ℕ) (old new : List Call) → Type 0

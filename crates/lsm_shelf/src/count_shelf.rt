@@ -1,6 +1,6 @@
 //! A shelf that counts its reads, for tests.
 
-ghost use Rattle.std.specs.Prelude.{◌≡◌};
+ghost use Rattle.std.specs.Prelude.{◌≡◌, IfOk};
 
 use crate::shelf::Shelf;
 use crate::shelf_fault::ShelfFault;
@@ -18,7 +18,9 @@ pub struct CountShelf<S: Shelf> {
 
 impl<S: Shelf> CountShelf<S> {
     /// Counts the reads of this shelf from now on.
-    pub fn new(alloc: Global, inner: S) -> Result<CountShelf<S>, AllocError> {
+    pub fn new(alloc: Global, inner: S) -> Result<CountShelf<S>, AllocError>
+        ensures told { IfOk result (λ s. S.told s.inner ≡ S.told inner) }
+    {
         Ok(CountShelf {
             reads: Arc::new(alloc, AtomicU64::new(0))?,
             inner,

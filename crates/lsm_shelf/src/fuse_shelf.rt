@@ -2,6 +2,7 @@
 
 ghost use Rattle.std.specs.Prelude.{◌≡◌};
 ghost use Rattle.lsm_shelf.specs.Account.{told_in};
+ghost use Rattle.lsm_shelf.specs.Told.{fresh};
 
 use crate::account::{Account, tag_of_both, tag_of_bytes, tag_of_number, tag_of_numbers};
 use crate::fuse::Fuse;
@@ -27,7 +28,9 @@ impl<S: Shelf> FuseShelf<S> {
     /// After `passes` calls that may answer `Device` the next one fails, and with `stays` every later one too. With `does` a put, a
     /// removal or a start that fails takes effect all the same. An append that fails keeps its first `keep` bytes. Where the inner
     /// shelf refuses what is to take effect, the answer is that refusal.
-    pub fn new(inner: S, passes: u64, stays: bool, does: bool, keep: usize) -> FuseShelf<S> {
+    pub fn new(inner: S, passes: u64, stays: bool, does: bool, keep: usize) -> FuseShelf<S>
+        ensures told { told_in (S.told result.inner).place result.account ≡ record (fresh (S.told inner).place) { faults = (S.told inner).faults; misses = (S.told inner).misses } }
+    {
         let mut account = Account::new();
         (account.faults, account.misses) = inner.failures();
         FuseShelf {

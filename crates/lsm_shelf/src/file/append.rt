@@ -1,9 +1,9 @@
 //! How bytes are appended to the manifest of a folder.
 
-ghost use Rattle.std.specs.Prelude.{◌≡◌, ◌⊎◌, ◌↔◌, ℕ, ◌+◌, ◌≤◌, ◌^◌, ◌∷◌, Some, None, length, IfOk, IfErr, OnOk, OnErr, IsTrue};
-ghost use Rattle.lsm_folder.specs.Calls.{measured};
+ghost use Rattle.std.specs.Prelude.{◌≡◌, ◌⊎◌, ◌↔◌, false, ℕ, ◌+◌, ◌≤◌, ◌^◌, ◌∷◌, Some, None, length, IfOk, IfErr, OnOk, OnErr, IsErrOf, IsTrue};
+ghost use Rattle.lsm_folder.specs.Calls.{appended, measured};
 ghost use Rattle.lsm_shelf.specs.FileNames.{manifest_name, current_text};
-ghost use Rattle.lsm_shelf.specs.Plans.{done, Stopped, MeasureStopped, AppendStopped, append_plan, current_read, manifest_measured};
+ghost use Rattle.lsm_shelf.specs.Plans.{done, Stopped, MeasureStopped, AppendStopped, MissingToMeasure, MissingToAppend, Unappended, append_plan, current_read, manifest_measured};
 ghost use Rattle.lsm_shelf.specs.Told.{NotTaken};
 
 use crate::file::current::current;
@@ -28,6 +28,7 @@ fn measure_manifest<C: FolderCalls, W: Wait>(
 ) -> Result<(u64, u64), ShelfFault>
     ensures ok { IfOk result (λ r. C.calls folder.new ≡ manifest_measured r.0 r.1 (C.calls folder.old)) }
     ensures err { OnErr result (MeasureStopped (C.calls folder.old) (C.calls folder.new)) }
+    ensures missing { IsErrOf result ShelfFault.Missing → MissingToMeasure (C.calls folder.old) (C.calls folder.new) }
     ensures place { C.place folder.new ≡ C.place folder.old }
     ensures fault { IfErr result NotTaken }
 {
@@ -47,6 +48,8 @@ fn write_behind<C: FolderCalls, W: Wait>(
 ) -> Result<(), ShelfFault>
     ensures ok { OnOk result (C.calls folder.new ≡ done (append_plan number bytes.now) (C.calls folder.old)) }
     ensures err { OnErr result (Stopped (append_plan number bytes.now) (C.calls folder.old) (C.calls folder.new)) }
+    ensures missing { IsErrOf result ShelfFault.Missing → C.calls folder.new ≡ appended (manifest_name number) bytes.now false ∷ C.calls folder.old }
+    ensures memory { IsErrOf result ShelfFault.OutOfMemory → (C.calls folder.new ≡ C.calls folder.old) ⊎ (C.calls folder.new ≡ appended (manifest_name number) bytes.now false ∷ C.calls folder.old) }
     ensures place { C.place folder.new ≡ C.place folder.old }
     ensures fault { IfErr result NotTaken }
 {
@@ -69,6 +72,8 @@ pub(crate) fn append_manifest<C: FolderCalls, W: Wait>(
     ensures ok { IfOk result (λ r. C.calls folder.new ≡ done (append_plan r.0 bytes.now) (manifest_measured r.0 r.1 (C.calls folder.old))) }
     ensures limit { IfOk result (λ r. r.1 + length bytes.now ≤ 2 ^ 30) }
     ensures err { OnErr result (AppendStopped bytes.now (C.calls folder.old) (C.calls folder.new)) }
+    ensures missing { IsErrOf result ShelfFault.Missing → MissingToAppend bytes.now (C.calls folder.old) (C.calls folder.new) }
+    ensures memory { IsErrOf result ShelfFault.OutOfMemory → Unappended bytes.now (C.calls folder.old) (C.calls folder.new) }
     ensures place { C.place folder.new ≡ C.place folder.old }
     ensures fault { IfErr result NotTaken }
 {

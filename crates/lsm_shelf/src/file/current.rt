@@ -3,8 +3,8 @@
 ghost use Rattle.std.specs.Prelude.{◌≡◌, ◌⊎◌, ◌↔◌, ℕ, ◌<◌, ◌^◌, ◌∷◌, List, Option, Some, None, codes, IfOk, IfErr, IsTrue, OnErr, IsErrOf};
 ghost use Rattle.lsm_folder.specs.Calls.{loaded};
 ghost use Rattle.lsm_shelf.specs.FileNames.{current_text, manifest_name};
-ghost use Rattle.lsm_shelf.specs.Plans.{NamesNone, ReadStopped, current_read, manifest_read};
-ghost use Rattle.lsm_shelf.specs.Told.{NotNamed, NotTaken};
+ghost use Rattle.lsm_shelf.specs.Plans.{NamesNone, MissingManifest, UnreadManifest, ReadStopped, current_read, manifest_read};
+ghost use Rattle.lsm_shelf.specs.Told.{NotDevice, NotNamed, NotTaken};
 
 use crate::file::fault::missing;
 use crate::file::file_names::{manifest_file, manifest_in};
@@ -34,6 +34,7 @@ fn named_by(alloc: Global, text: &Vec<u8>) -> Result<u64, ShelfFault>
     ensures only { IfOk result (λ n. (m : ℕ) → m < 2 ^ 64 → text.now.items ≡ current_text m → n ≡ m) }
     ensures none { IsErrOf result ShelfFault.Missing → NamesNone (Some text.now.items) }
     ensures fault { IfErr result NotTaken }
+    ensures device { IfErr result NotDevice }
 {
     match manifest_in(alloc, text.as_slice()) {
         Ok(Some(number)) => Ok(number),
@@ -51,6 +52,7 @@ pub(crate) fn current<C: FolderCalls, W: Wait>(
     ensures ok { IfOk result (λ n. C.calls folder.new ≡ current_read (Some (current_text n)) (C.calls folder.old)) }
     ensures only { IfOk result (λ n. (m : ℕ) → m < 2 ^ 64 → current_text n ≡ current_text m → n ≡ m) }
     ensures err { OnErr result ((answer : Option (List ℕ)) × (C.calls folder.new ≡ current_read answer (C.calls folder.old)) × (IsErrOf result ShelfFault.Missing → NamesNone answer)) }
+    ensures device { IsErrOf result ShelfFault.Device → C.calls folder.new ≡ current_read None (C.calls folder.old) }
     ensures place { C.place folder.new ≡ C.place folder.old }
     ensures fault { IfErr result NotTaken }
 {
@@ -69,6 +71,7 @@ pub(crate) fn names_manifest<C: FolderCalls, W: Wait>(
     number: u64,
 ) -> Result<bool, ShelfFault>
     ensures calls { (answer : Option (List ℕ)) × (C.calls folder.new ≡ current_read answer (C.calls folder.old)) × IfOk result (λ b. IsTrue b ↔ (answer ≡ Some (current_text number))) }
+    ensures device { IsErrOf result ShelfFault.Device → C.calls folder.new ≡ current_read None (C.calls folder.old) }
     ensures place { C.place folder.new ≡ C.place folder.old }
     ensures fault { IfErr result NotNamed }
 {
@@ -88,6 +91,8 @@ pub(crate) fn read_manifest<C: FolderCalls, W: Wait>(
 ) -> Result<(u64, Vec<u8>), ShelfFault>
     ensures ok { IfOk result (λ r. C.calls folder.new ≡ manifest_read r.0 r.1.items (C.calls folder.old)) }
     ensures err { OnErr result (ReadStopped (C.calls folder.old) (C.calls folder.new)) }
+    ensures missing { IsErrOf result ShelfFault.Missing → MissingManifest (C.calls folder.old) (C.calls folder.new) }
+    ensures device { IsErrOf result ShelfFault.Device → UnreadManifest (C.calls folder.old) (C.calls folder.new) }
     ensures place { C.place folder.new ≡ C.place folder.old }
     ensures fault { IfErr result NotTaken }
 {

@@ -1,6 +1,6 @@
 //! The tables of a folder.
 
-ghost use Rattle.std.specs.Prelude.{◌≡◌, ◌↔◌, ℕ, ◌<◌, ◌^◌, ◌∷◌, List, [], ◌++◌, Option, Some, None, map, string_bytes, IfOk, IfErr, OnOk, OnErr};
+ghost use Rattle.std.specs.Prelude.{◌≡◌, ◌↔◌, ℕ, ◌<◌, ◌^◌, ◌∷◌, List, [], ◌++◌, Option, Some, None, map, string_bytes, IfOk, IfErr, OnOk, OnErr, IsErrOf};
 ghost use Rattle.std.specs.List.{Contains};
 ghost use Rattle.std.specs.List.Sorted.{IsStrictlyIncreasing};
 ghost use Rattle.lsm_folder.specs.Calls.{listed};
@@ -81,6 +81,7 @@ pub(crate) fn list_tables<C: FolderCalls, W: Wait>(
 ) -> Result<Vec<u64>, ShelfFault>
     ensures ascending { IfOk result (λ v. IsStrictlyIncreasing v.items) }
     ensures ok { IfOk result (λ v. (names : List (List ℕ)) × (C.calls folder.new ≡ listed (Some names) ∷ C.calls folder.old) × AreTablesOf names v.items) }
+    ensures device { IsErrOf result ShelfFault.Device → C.calls folder.new ≡ listed None ∷ C.calls folder.old }
     ensures err { OnErr result ((answer : Option (List (List ℕ))) × (C.calls folder.new ≡ listed answer ∷ C.calls folder.old)) }
     ensures place { C.place folder.new ≡ C.place folder.old }
     ensures fault { IfErr result NotNamed }

@@ -1,8 +1,8 @@
 //! How a manifest is started in a folder.
 
-ghost use Rattle.std.specs.Prelude.{◌≡◌, ◌≢◌, ◌⊎◌, ◌↔◌, ℕ, List, Option, Some, IfErr, OnOk, OnErr, IsErrOf};
+ghost use Rattle.std.specs.Prelude.{◌≡◌, ◌≢◌, ◌⊎◌, ◌↔◌, ◌<◌, ◌≤◌, ◌^◌, length, ℕ, List, Option, Some, IfErr, OnOk, OnErr, IsErrOf};
 ghost use Rattle.lsm_shelf.specs.FileNames.{current_text, manifest_name};
-ghost use Rattle.lsm_shelf.specs.Plans.{done, Stopped, StartedFrom, StartStopped, start_plan, current_read};
+ghost use Rattle.lsm_shelf.specs.Plans.{done, Stopped, StartedFrom, StartRefused, StartStopped, Unnamed, start_plan, unnamed_plan, current_read};
 ghost use Rattle.lsm_shelf.specs.Told.{NotNamed, TakenIs};
 
 use crate::file::current::names_manifest;
@@ -24,6 +24,7 @@ fn write_manifest<C: FolderCalls, W: Wait>(
 ) -> Result<(), ShelfFault>
     ensures ok { OnOk result (C.calls folder.new ≡ done (start_plan number bytes.now) (C.calls folder.old)) }
     ensures err { OnErr result (Stopped (start_plan number bytes.now) (C.calls folder.old) (C.calls folder.new)) }
+    ensures memory { IsErrOf result ShelfFault.OutOfMemory → Stopped (unnamed_plan number bytes.now) (C.calls folder.old) (C.calls folder.new) }
     ensures place { C.place folder.new ≡ C.place folder.old }
     ensures fault { IfErr result NotNamed }
 {
@@ -58,6 +59,9 @@ pub(crate) fn start_manifest<C: FolderCalls, W: Wait>(
 ) -> Result<(), ShelfFault>
     ensures ok { OnOk result (StartedFrom number bytes.now (C.calls folder.old) (C.calls folder.new)) }
     ensures err { OnErr result (StartStopped number bytes.now (C.calls folder.old) (C.calls folder.new)) }
+    ensures memory { IsErrOf result ShelfFault.OutOfMemory → Unnamed number bytes.now (C.calls folder.old) (C.calls folder.new) }
+    ensures large { 2 ^ 30 < length bytes.now → IsErrOf result ShelfFault.Device × (C.calls folder.new ≡ C.calls folder.old) }
+    ensures device { IsErrOf result ShelfFault.Device → length bytes.now ≤ 2 ^ 30 → StartRefused number bytes.now (C.calls folder.old) (C.calls folder.new) }
     ensures taken { IsErrOf result (ShelfFault.Taken number) → C.calls folder.new ≡ current_read (Some (current_text number)) (C.calls folder.old) }
     ensures place { C.place folder.new ≡ C.place folder.old }
     ensures fault { IfErr result (TakenIs number) }

@@ -1,9 +1,9 @@
 //! What a shelf asks of its folder for its tables.
 
-ghost use Rattle.std.specs.Prelude.{◌≡◌, ◌⊎◌, ◌+◌, ◌≤◌, ◌^◌, ◌∷◌, true, false, Some, None, length, take, drop, IfOk, IfErr, OnOk, OnErr, IsErrOf};
+ghost use Rattle.std.specs.Prelude.{◌≡◌, ◌⊎◌, ◌+◌, ◌<◌, ◌≤◌, ◌^◌, ◌∷◌, true, false, Some, None, length, take, drop, IfOk, IfErr, OnOk, OnErr, IsErrOf};
 ghost use Rattle.lsm_folder.specs.Calls.{AreHonest, LastIsTrue, read, loaded, removed, made};
 ghost use Rattle.lsm_shelf.specs.FileNames.{table_name};
-ghost use Rattle.lsm_shelf.specs.Plans.{done, Stopped, Refused, PutStopped, durable_plan, put_plan, remove_plan};
+ghost use Rattle.lsm_shelf.specs.Plans.{done, Stopped, Refused, PutStopped, PutForgotten, durable_plan, put_plan, remove_plan};
 ghost use Rattle.lsm_shelf.specs.Told.{NotNamed, NotTaken, TakenIs};
 
 use crate::file::fault::{device, missing, taken};
@@ -39,6 +39,7 @@ fn undo<C: FolderCalls, W: Wait>(
 ) -> ShelfFault
     ensures calls { (C.calls folder.new ≡ removed name.now true ∷ C.calls folder.old) ⊎ (C.calls folder.new ≡ removed name.now false ∷ C.calls folder.old) }
     ensures place { C.place folder.new ≡ C.place folder.old }
+    ensures memory { result ≡ ShelfFault.OutOfMemory → C.calls folder.new ≡ removed name.now true ∷ C.calls folder.old }
     ensures fault { NotNamed result }
 {
     match folder.remove(rt, name) {
@@ -60,6 +61,9 @@ pub(crate) fn put_table<C: FolderCalls, W: Wait>(
     ensures here { IfOk result (λ r. C.is_of (C.place folder.old) r.mark) }
     ensures ok { OnOk result (C.calls folder.new ≡ done (put_plan number image.now) (C.calls folder.old)) }
     ensures err { OnErr result (PutStopped number image.now (C.calls folder.old) (C.calls folder.new)) }
+    ensures taken { IsErrOf result (ShelfFault.Taken number) → C.calls folder.new ≡ made (table_name number) image.now false ∷ C.calls folder.old }
+    ensures large { 2 ^ 30 < length image.now → IsErrOf result ShelfFault.Device × (C.calls folder.new ≡ C.calls folder.old) }
+    ensures memory { IsErrOf result ShelfFault.OutOfMemory → PutForgotten number image.now (C.calls folder.old) (C.calls folder.new) }
     ensures place { C.place folder.new ≡ C.place folder.old }
     ensures fault { IfErr result (TakenIs number) }
 {
@@ -94,6 +98,8 @@ pub(crate) fn read_table<C: FolderCalls>(
     ensures answered { LastIsTrue (C.calls folder.new) → IfOk result (λ v. v.items ≡ take len (drop offset (C.Mark.image receipt.now.mark))) }
     ensures ok { IfOk result (λ v. C.calls folder.new ≡ read (table_name receipt.now.number) (C.Mark.image receipt.now.mark) offset len (Some v.items) ∷ C.calls folder.old) }
     ensures err { OnErr result ((C.calls folder.new ≡ C.calls folder.old) ⊎ (C.calls folder.new ≡ read (table_name receipt.now.number) (C.Mark.image receipt.now.mark) offset len None ∷ C.calls folder.old)) }
+    ensures missing { IsErrOf result ShelfFault.Missing → C.calls folder.new ≡ read (table_name receipt.now.number) (C.Mark.image receipt.now.mark) offset len None ∷ C.calls folder.old }
+    ensures device { IsErrOf result ShelfFault.Device → C.calls folder.new ≡ read (table_name receipt.now.number) (C.Mark.image receipt.now.mark) offset len None ∷ C.calls folder.old }
     ensures place { C.place folder.new ≡ C.place folder.old }
     ensures fault { IfErr result NotTaken }
 {
@@ -114,6 +120,8 @@ pub(crate) fn load_table<C: FolderCalls, W: Wait>(
     ensures here { IfOk result (λ r. C.is_of (C.place folder.old) r.0.mark) }
     ensures ok { IfOk result (λ r. C.calls folder.new ≡ loaded (table_name number) (Some r.1.items) ∷ C.calls folder.old) }
     ensures err { OnErr result ((C.calls folder.new ≡ C.calls folder.old) ⊎ (C.calls folder.new ≡ loaded (table_name number) None ∷ C.calls folder.old)) }
+    ensures missing { IsErrOf result ShelfFault.Missing → C.calls folder.new ≡ loaded (table_name number) None ∷ C.calls folder.old }
+    ensures device { IsErrOf result ShelfFault.Device → C.calls folder.new ≡ loaded (table_name number) None ∷ C.calls folder.old }
     ensures place { C.place folder.new ≡ C.place folder.old }
     ensures fault { IfErr result NotTaken }
 {
@@ -137,6 +145,8 @@ pub(crate) fn remove_table<C: FolderCalls, W: Wait>(
 ) -> Result<(), ShelfFault>
     ensures ok { OnOk result (C.calls folder.new ≡ done (remove_plan number) (C.calls folder.old)) }
     ensures err { OnErr result (Stopped (remove_plan number) (C.calls folder.old) (C.calls folder.new)) }
+    ensures missing { IsErrOf result ShelfFault.Missing → C.calls folder.new ≡ removed (table_name number) false ∷ C.calls folder.old }
+    ensures device { IsErrOf result ShelfFault.Device → Refused (remove_plan number) (C.calls folder.old) (C.calls folder.new) }
     ensures memory { IsErrOf result ShelfFault.OutOfMemory → (C.calls folder.new ≡ C.calls folder.old) ⊎ (C.calls folder.new ≡ removed (table_name number) false ∷ C.calls folder.old) }
     ensures place { C.place folder.new ≡ C.place folder.old }
     ensures fault { IfErr result NotTaken }
