@@ -164,7 +164,13 @@ refused_in Stored last shape n files shallow fault tables deep lt at read (inr (
     let behind = all_files (drop (n + 1) shape) in
     let whole : all_files shape ≡ before ++ (files ++ behind) = ap all_files (around shape n files lt at) ∙ all_append (take n shape) (files ∷ drop (n + 1) shape) in
     let parted : before ++ (files ++ behind) ≡ (before ++ front) ++ file ∷ (back ++ behind) =
-        ap (λ (fs : List TableFile). before ++ (fs ++ behind)) is ∙ ap (λ (fs : List TableFile). before ++ fs) (append_assoc front (file ∷ back) behind)
-        ∙ sym (append_assoc before front (file ∷ (back ++ behind))) in
-    inr (before ++ front, file, back ++ behind, whole ∙ parted,
-        good_append Stored last before front (good_levels Stored last (take n shape) read.read read.files read.stored) good, r)
+    ap (λ (fs : List TableFile). before ++ (fs ++ behind)) is ∙ ap (λ (fs : List TableFile). before ++ fs) (append_assoc front (file ∷ back) behind)
+    ∙ sym (append_assoc before front (file ∷ (back ++ behind))) in
+    inr (
+      before ++ front,
+      file,
+      back ++ behind,
+      whole ∙ parted,
+      good_append Stored last before front (good_levels Stored last (take n shape) read.read read.files read.stored) good,
+      r,
+    )

@@ -45,4 +45,4 @@ IsGood Stored last file = (image : List ℕ) × Stored file.number image × IsIm
 abbrev pub IsFilesRefusal : (ℕ → List ℕ → Type 0) → ℕ → List TableFile → CheckFault → Type 0
 IsFilesRefusal Stored last files fault = IsMemoryRefusal fault
     ⊎ ((front : List TableFile) × (file : TableFile) × (back : List TableFile) × (files ≡ front ++ file ∷ back)
-        × ((f : TableFile) → Has front f → IsGood Stored last f) × IsFileRefusal (Stored file.number) last file fault)
+    × ((f : TableFile) → Has front f → IsGood Stored last f) × IsFileRefusal (Stored file.number) last file fault)
