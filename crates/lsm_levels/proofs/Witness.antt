@@ -5,7 +5,7 @@ use Rattle.lsm_codec.specs.Lists.{Has}
 use Rattle.lsm_codec.specs.Keys.{UserKey, UserLe}
 use Rattle.lsm_codec.specs.Entries.{Entry}
 use Rattle.lsm_codec.proofs.CallerLemmas.{user_le_refl}
-use Rattle.lsm_levels.specs.Files.{File, Apart, Meets, Fits, IsLawful, all_entries}
+use Rattle.lsm_levels.specs.Files.{File, Apart, Before, InOrder, IsAhead, Meets, Fits, IsLawful, Shallower, all_entries}
 use Rattle.lsm_levels.specs.Jobs.{Job, AreOutputs, Changed, Gains, IsOpenIn, is_input}
 use Rattle.lsm_levels.specs.Kept.{kept_entries}
 use Rattle.lsm_levels.specs.Plans.{IsLinked, starting, meeting, Plan, IsClosed, IsJobOf, Spans}
@@ -237,3 +237,59 @@ an_install = (three, row 0 ∷ [], plan, job, outs, after, lawful, closed, of_pl
 
 pub an_ingest : (v : List File) × (last : ℕ) × (file : File) × (w : List File) × IsLawful Apart v × ((F : File) (e : Entry) → Has v F → Has F.entries e → e.seq ≤ last) × Gains v last file w
 an_ingest = (three, 3, file 0 4 4, file 0 4 4 ∷ three, lawful, reached, gains)
+
+-- ---- two files of level 1, of which the second goes on with the user key of the first
+
+abbrev two : List File
+two = file 1 1 2 ∷ file 1 2 1 ∷ []
+
+two_level : (F : File) → Has two F → F.level ≡ 1
+two_level F (inl e) = sym (ap (λ (D : File). D.level) e)
+two_level F (inr (inl e)) = sym (ap (λ (D : File). D.level) e)
+two_level F (inr (inr h)) = absurd h
+
+two_fits : (F : File) → Has two F → Fits F
+two_fits F (inl e) = subst Fits e (fits 1 1 2)
+two_fits F (inr (inl e)) = subst Fits e (fits 1 2 1)
+two_fits F (inr (inr h)) = absurd h
+
+two_numbers : (F G : File) → Has two F → Has two G → F.number ≡ G.number → F ≡ G
+two_numbers F G (inl p) (inl q) n = sym p ∙ q
+two_numbers F G (inl p) (inr (inl q)) n = absurd (omega (arith, ap (λ (D : File). D.number) p, ap (λ (D : File). D.number) q, n))
+two_numbers F G (inr (inl p)) (inl q) n = absurd (omega (arith, ap (λ (D : File). D.number) p, ap (λ (D : File). D.number) q, n))
+two_numbers F G (inr (inl p)) (inr (inl q)) n = sym p ∙ q
+two_numbers F G (inr (inr h)) k n = absurd h
+two_numbers F G (inl p) (inr (inr h)) n = absurd h
+two_numbers F G (inr (inl p)) (inr (inr h)) n = absurd h
+
+newer_first : (x y : Entry) → Has (entry 2 ∷ []) x → Has (entry 1 ∷ []) y → Before x y
+newer_first x y (inl a) (inl b) = subst (λ (z : Entry). Before z y) a (subst (λ (z : Entry). Before (entry 2) z) b refl)
+newer_first x y (inl a) (inr h) = absurd h
+newer_first x y (inr h) k = absurd h
+
+first_ahead : (F G : File) → file 1 1 2 ≡ F → file 1 2 1 ≡ G → IsAhead F G
+first_ahead F G p q x y hx hy = newer_first x y (subst (λ (D : File). Has D.entries x) (sym p) hx) (subst (λ (D : File). Has D.entries y) (sym q) hy)
+
+two_split : (F G : File) → Has two F → Has two G → (F.number ≡ G.number → ⊥) → InOrder F G
+two_split F G (inl p) (inl q) ne = absurd (ne (ap (λ (D : File). D.number) (sym p ∙ q)))
+two_split F G (inl p) (inr (inl q)) ne = inl (first_ahead F G p q)
+two_split F G (inr (inl p)) (inl q) ne = inr (first_ahead G F q p)
+two_split F G (inr (inl p)) (inr (inl q)) ne = absurd (ne (ap (λ (D : File). D.number) (sym p ∙ q)))
+two_split F G (inr (inr h)) k ne = absurd h
+two_split F G (inl p) (inr (inr h)) ne = absurd h
+two_split F G (inr (inl p)) (inr (inr h)) ne = absurd h
+
+none_shallower : (F G : File) → Has two F → Has two G → Shallower F G → ⊥
+none_shallower F G hF hG (inl less) = omega (arith, less, two_level F hF, two_level G hG)
+none_shallower F G hF hG (inr s) = omega (arith, s.0, two_level F hF)
+
+two_lawful : IsLawful InOrder two
+two_lawful = record {
+  fits = two_fits;
+  numbers = two_numbers;
+  split = λ F G hF hG same pos ne. two_split F G hF hG ne;
+  depth = λ F G x y hF hG s hx hy same. absurd (none_shallower F G hF hG s);
+}
+
+pub a_wide_level : (v : List File) × (F : File) × (G : File) × IsLawful InOrder v × Has v F × Has v G × (F.number ≡ G.number → ⊥) × (F.level ≡ G.level) × (1 ≤ F.level) × (F.high ≡ G.low)
+a_wide_level = (two, file 1 1 2, file 1 2 1, two_lawful, inl refl, inr (inl refl), (λ n. omega (arith, n)), refl, omega arith, refl)

@@ -122,9 +122,11 @@ pub fn reads_go_by_depth()
 {}
 
 /// The premises of the laws above can be met: here is a lawful version with a closed plan, its open job, outputs that hold what the
-/// job keeps, and the version after their install; and the version after an ingest.
+/// job keeps, and the version after their install; the version after an ingest; and a lawful version with a user key that goes on in
+/// the next file of its level.
 pub fn premises_are_met()
     ensures install { (v : List File) × (starts : List File) × (plan : Plan) × (job : Job) × (outs : List File) × (w : List File) × IsLawful Apart v
         × IsClosed v (Has starts) plan × IsJobOf v plan job × IsOpenIn v job × AreOutputs v job (kept_entries (all_entries job.inputs) job.floor job.ranges) outs × Changed v job outs w }
     ensures ingest { (v : List File) × (last : ℕ) × (file : File) × (w : List File) × IsLawful Apart v × ((F : File) (e : Entry) → Has v F → Has F.entries e → e.seq ≤ last) × Gains v last file w }
+    ensures wide { (v : List File) × (F : File) × (G : File) × IsLawful InOrder v × Has v F × Has v G × (F.number ≡ G.number → ⊥) × (F.level ≡ G.level) × (1 ≤ F.level) × (F.high ≡ G.low) }
 {}

@@ -28,7 +28,7 @@ impl<S: Stream> Model for Source<S> {
 }
 
 impl<S: Stream> Source<S> {
-    /// Takes the first entry in hand.
+    /// Takes the first entry in hand. After a fault the stream is given up.
     pub fn new(stream: S) -> Result<Source<S>, S::Fault>
         ensures { IfOk result (λ s. s ≡ S.left stream) }
     {

@@ -1,9 +1,9 @@
 -- The files of a shape, as they are read one after another.
-use Rattle.std.proofs.Common.{◌≡◌, ℕ, suc, ◌+◌, ◌<◌, List, [], ◌∷◌, ◌++◌, length, get_or, take, refl, sym, ◌∙◌, ap, subst, inl, inr, append_assoc, append-nil, arith}
+use Rattle.std.proofs.Common.{◌≡◌, ℕ, suc, ◌+◌, ◌<◌, List, [], ◌∷◌, ◌++◌, length, get_or, take, drop, refl, sym, ◌∙◌, ap, subst, inl, inr, append_assoc, append-nil, arith}
 use Rattle.std.specs.List.Sorted.{IsSortedBy}
-use Rattle.std.proofs.lemmas.List.{take_more, length-take}
+use Rattle.std.proofs.lemmas.List.{take_more, length-take, take-append-drop}
 use Rattle.lsm_codec.specs.Lists.{Has}
-use Rattle.lsm_codec.proofs.CallerLemmas.{contains_says, has_left, has_right}
+use Rattle.lsm_codec.proofs.CallerLemmas.{contains_says, has_cases}
 use Rattle.lsm_table.specs.Registry.{Table}
 use Rattle.lsm_table.specs.HeldTable.{entries_in}
 use Rattle.lsm_manifest.specs.FileOrder.{TableFile}
@@ -11,7 +11,7 @@ use Rattle.lsm_version.specs.Changes.{placed_in, placed_all}
 use Rattle.lsm_version.specs.CheckedFiles.{IsFileOf}
 use Rattle.lsm_version.specs.Versions.{file_of, stands_before, AreInOrder}
 use Rattle.lsm_version.specs.Loading.{FileLevel, Deep, depth_at, deep_of, deep_all, deep_from, AreFilesOf, AreStored, AreLevelsOf, AreLevelsStored, placed_levels, IsLevelRead, AreRead, all_files}
-use Rattle.lsm_version.specs.FileRefusal.{IsFileRefusal, IsFilesRefusal}
+use Rattle.lsm_version.specs.FileRefusal.{IsFileRefusal, IsFilesRefusal, IsGood}
 use Rattle.lsm_version.specs.declared.check_fault.CheckFault.{CheckFault}
 
 pub has_at : {X : Type 0} (xs : List X) (i : ℕ) (x : X) → i < length xs → x ≡ get_or xs i x → Has xs x
@@ -58,9 +58,24 @@ level_more Stored last level i file t d tables tables' deep lt at is stored deep
 
 -- ---- a refusal of one of the files
 
-pub refused_at : (Stored : ℕ → List ℕ → Type 0) (last : ℕ) (files : List TableFile) (i : ℕ) (file : TableFile) (fault : CheckFault) → i < length files → file ≡ get_or files i file
-    → IsFileRefusal (Stored file.number) last file fault → IsFilesRefusal Stored last files fault
-refused_at Stored last files i file fault lt at r = inr (file, has_at files i file lt at, r)
+good_all : (Stored : ℕ → List ℕ → Type 0) (last : ℕ) (files : List TableFile) (ts : List Table) → AreFilesOf last files ts → AreStored Stored ts
+    → (f : TableFile) → Has files f → IsGood Stored last f
+good_all Stored last [] ts a s f h = absurd h
+good_all Stored last (g ∷ files) [] a s f h = absurd a
+good_all Stored last (g ∷ files) (t ∷ ts) a s f (inl e) =
+    subst (IsGood Stored last) e (t.image, subst (λ (n : ℕ). Stored n t.image) a.0.number s.0, a.0.image)
+good_all Stored last (g ∷ files) (t ∷ ts) a s f (inr h) = good_all Stored last files ts a.1 s.1 f h
+
+around : {X : Type 0} (xs : List X) (i : ℕ) (x : X) → i < length xs → x ≡ get_or xs i x → xs ≡ take i xs ++ x ∷ drop (i + 1) xs
+around xs i x lt at =
+    sym (take-append-drop (i + 1) xs) ∙ ap (λ front. front ++ drop (i + 1) xs) (take_more xs i x lt)
+    ∙ append_assoc (take i xs) (get_or xs i x ∷ []) (drop (i + 1) xs) ∙ ap (λ y. take i xs ++ y ∷ drop (i + 1) xs) (sym at)
+
+pub refused_at : (Stored : ℕ → List ℕ → Type 0) (last : ℕ) (level : FileLevel) (i : ℕ) (file : TableFile) (fault : CheckFault) (tables : List Table) (deep : List Deep)
+    → i < length level.files → file ≡ get_or level.files i file → IsLevelRead Stored last (front_of level i) tables deep
+    → IsFileRefusal (Stored file.number) last file fault → IsFilesRefusal Stored last level.files fault
+refused_at Stored last level i file fault tables deep lt at read r =
+    inr (take i level.files, file, drop (i + 1) level.files, around level.files i file lt at, good_all Stored last (take i level.files) read.read read.files read.stored, r)
 
 -- ---- one more level
 
@@ -120,12 +135,42 @@ pub order_push : (levels : List (List Table)) (ts : List Table) → AreInOrder l
 order_push [] ts a s = (s, tt)
 order_push (us ∷ levels) ts a s = (a.0, order_push levels ts a.1 s)
 
-in_all : (shape : List (List TableFile)) (files : List TableFile) (file : TableFile) → Has shape files → Has files file → Has (all_files shape) file
-in_all [] files file h k = absurd h
-in_all (fs ∷ shape) files file (inl e) k = has_left fs (all_files shape) file (subst (λ (l : List TableFile). Has l file) (sym e) k)
-in_all (fs ∷ shape) files file (inr h) k = has_right fs (all_files shape) file (in_all shape files file h k)
+all_append : (shape more : List (List TableFile)) → all_files (shape ++ more) ≡ all_files shape ++ all_files more
+all_append [] more = refl
+all_append (files ∷ shape) more = ap (λ (fs : List TableFile). files ++ fs) (all_append shape more) ∙ sym (append_assoc files (all_files shape) (all_files more))
 
-pub refused_in : (Stored : ℕ → List ℕ → Type 0) (last : ℕ) (shape : List (List TableFile)) (n : ℕ) (files : List TableFile) (fault : CheckFault) → n < length shape → files ≡ get_or shape n files
+good_levels : (Stored : ℕ → List ℕ → Type 0) (last : ℕ) (shape : List (List TableFile)) (levels : List (List Table)) → AreLevelsOf last shape levels → AreLevelsStored Stored levels
+    → (f : TableFile) → Has (all_files shape) f → IsGood Stored last f
+good_levels Stored last [] levels a s f h = absurd h
+good_levels Stored last (files ∷ shape) [] a s f h = absurd a
+good_levels Stored last (files ∷ shape) (ts ∷ levels) a s f h = elim (has_cases files (all_files shape) f h) [
+  | inl here ↦ good_all Stored last files ts a.0 s.0 f here
+  | inr there ↦ good_levels Stored last shape levels a.1 s.1 f there
+]
+
+good_append : (Stored : ℕ → List ℕ → Type 0) (last : ℕ) (front more : List TableFile) → ((f : TableFile) → Has front f → IsGood Stored last f)
+    → ((f : TableFile) → Has more f → IsGood Stored last f) → (f : TableFile) → Has (front ++ more) f → IsGood Stored last f
+good_append Stored last front more good others f h = elim (has_cases front more f h) [
+  | inl here ↦ good f here
+  | inr there ↦ others f there
+]
+
+pub refused_in : (Stored : ℕ → List ℕ → Type 0) (last : ℕ) (shape : List (List TableFile)) (n : ℕ) (files shallow : List TableFile) (fault : CheckFault) (tables : List (List Table)) (deep : List Deep)
+    → n < length shape → files ≡ get_or shape n files → AreRead Stored last (take n shape) shallow tables deep
     → IsFilesRefusal Stored last files fault → IsFilesRefusal Stored last (all_files shape) fault
-refused_in Stored last shape n files fault lt at (inl want) = inl want
-refused_in Stored last shape n files fault lt at (inr r) = inr (r.0, in_all shape files r.0 (has_at shape n files lt at) r.1, r.2)
+refused_in Stored last shape n files shallow fault tables deep lt at read (inl want) = inl want
+refused_in Stored last shape n files shallow fault tables deep lt at read (inr (front, file, back, is, good, r)) =
+    let before = all_files (take n shape) in
+    let behind = all_files (drop (n + 1) shape) in
+    let whole : all_files shape ≡ before ++ (files ++ behind) = ap all_files (around shape n files lt at) ∙ all_append (take n shape) (files ∷ drop (n + 1) shape) in
+    let parted : before ++ (files ++ behind) ≡ (before ++ front) ++ file ∷ (back ++ behind) =
+    ap (λ (fs : List TableFile). before ++ (fs ++ behind)) is ∙ ap (λ (fs : List TableFile). before ++ fs) (append_assoc front (file ∷ back) behind)
+    ∙ sym (append_assoc before front (file ∷ (back ++ behind))) in
+    inr (
+      before ++ front,
+      file,
+      back ++ behind,
+      whole ∙ parted,
+      good_append Stored last before front (good_levels Stored last (take n shape) read.read read.files read.stored) good,
+      r,
+    )

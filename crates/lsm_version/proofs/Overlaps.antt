@@ -3,9 +3,10 @@ use Rattle.std.proofs.Common.{◌≡◌, ℕ, zero, suc, ◌+◌, ◌-◌, ◌<�
 use Rattle.std.specs.Prelude.{◌&&◌}
 use Rattle.std.specs.List.{filter}
 use Rattle.std.proofs.lemmas.Bool.{and_from, cases_lt}
-use Rattle.std.proofs.lemmas.List.{get_or_default, get_or-drop, take_more, length-drop}
+use Rattle.std.proofs.lemmas.List.{get_or_default, get_or-drop, take_more, length-drop, take-append-drop}
 use Rattle.lsm_codec.specs.Keys.{UserKey, UserLe, user_le}
-use Rattle.lsm_codec.proofs.CallerLemmas.{user_le_trans}
+use Rattle.lsm_codec.specs.Lists.{Has}
+use Rattle.lsm_codec.proofs.CallerLemmas.{has_left, has_right, user_le_trans}
 use Rattle.lsm_table.specs.Registry.{Table}
 use Rattle.lsm_version.specs.Versions.{Levels, IsSound, AreInOrder, level_in, user_of}
 use Rattle.lsm_version.specs.Reads.{AreSound, IsRising, IsFirstReaching, begins_by, reaches}
@@ -105,3 +106,15 @@ begin_more rest i x to inside is here before k d lt = elim (cases_lt k i) [
 pub run_more : (rest over over' : List Table) (i : ℕ) (x y : Table) → i < length rest → x ≡ get_or rest i x → y ≡ x → over' ≡ over ++ y ∷ [] → over ≡ take i rest → over' ≡ take (i + 1) rest
 run_more rest over over' i x y inside is same made before =
     made ∙ ap (λ z. over ++ z ∷ []) (same ∙ is) ∙ ap (λ o. o ++ get_or rest i x ∷ []) before ∙ sym (take_more rest i x inside)
+
+-- ---- the tables of a run are the level's
+
+taken_of : (ts : List Table) (n : ℕ) (t : Table) → Has (take n ts) t → Has ts t
+taken_of ts n t h = subst (λ (us : List Table). Has us t) (take-append-drop n ts) (has_left (take n ts) (drop n ts) t h)
+
+dropped_of : (ts : List Table) (n : ℕ) (t : Table) → Has (drop n ts) t → Has ts t
+dropped_of ts n t h = subst (λ (us : List Table). Has us t) (take-append-drop n ts) (has_right (take n ts) (drop n ts) t h)
+
+pub run_of : (ts rest over : List Table) (p m : ℕ) → rest ≡ drop p ts → over ≡ take m rest → (t : Table) → Has over t → Has ts t
+run_of ts rest over p m is made t h =
+    dropped_of ts p t (subst (λ (us : List Table). Has us t) is (taken_of rest m t (subst (λ (us : List Table). Has us t) made h)))

@@ -41,9 +41,9 @@ pub files_refused : (Stored : ℕ → List ℕ → Type 0) (shape : Shape) (faul
     → IsRefusal Stored shape fault
 files_refused Stored shape (Read fault) d r = inr (d, r)
 files_refused Stored shape (DoubleFile number) d (inl w) = absurd w
-files_refused Stored shape (DoubleFile number) d (inr s) = absurd s.2
+files_refused Stored shape (DoubleFile number) d (inr (front, file, back, is, good, r)) = absurd r
 files_refused Stored shape (Overlap level) d (inl w) = absurd w
-files_refused Stored shape (Overlap level) d (inr s) = absurd s.2
+files_refused Stored shape (Overlap level) d (inr (front, file, back, is, good, r)) = absurd r
 files_refused Stored shape (WrongRange number) d r = (d, r)
 files_refused Stored shape (AgeOrder user) d (inl w) = absurd w
-files_refused Stored shape (AgeOrder user) d (inr s) = absurd s.2
+files_refused Stored shape (AgeOrder user) d (inr (front, file, back, is, good, r)) = absurd r

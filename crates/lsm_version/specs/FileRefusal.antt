@@ -1,5 +1,5 @@
 -- Why a check refuses a file of a shape (this project's rule).
-use Rattle.std.specs.Prelude.{◌≡◌, ◌⊎◌, ℕ, false, List, Err}
+use Rattle.std.specs.Prelude.{◌≡◌, ◌⊎◌, ℕ, false, List, ◌∷◌, ◌++◌, Err}
 use Rattle.lsm_codec.specs.Lists.{Has}
 use Rattle.lsm_table.specs.declared.read_fault.ReadFault.TheVariants.{Shelf, Table}
 use Rattle.lsm_table.specs.ReadFault.{IsMemory}
@@ -37,6 +37,12 @@ IsMemoryRefusal (DoubleFile number) = ⊥
 IsMemoryRefusal (Overlap level) = ⊥
 IsMemoryRefusal (AgeOrder user) = ⊥
 
--- memory ran out, or one of the files is refused
+-- the shelf holds the file's table
+abbrev pub IsGood : (ℕ → List ℕ → Type 0) → ℕ → TableFile → Type 0
+IsGood Stored last file = (image : List ℕ) × Stored file.number image × IsImageOf last file image
+
+-- memory ran out, or one of the files is refused, and each one before it is good
 abbrev pub IsFilesRefusal : (ℕ → List ℕ → Type 0) → ℕ → List TableFile → CheckFault → Type 0
-IsFilesRefusal Stored last files fault = IsMemoryRefusal fault ⊎ ((file : TableFile) × Has files file × IsFileRefusal (Stored file.number) last file fault)
+IsFilesRefusal Stored last files fault = IsMemoryRefusal fault
+    ⊎ ((front : List TableFile) × (file : TableFile) × (back : List TableFile) × (files ≡ front ++ file ∷ back)
+    × ((f : TableFile) → Has front f → IsGood Stored last f) × IsFileRefusal (Stored file.number) last file fault)

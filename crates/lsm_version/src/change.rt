@@ -113,7 +113,8 @@ impl<N: Naming, S: Shelf> Version<N, S> {
     /// the pointer of a level, 0 to 6, is replaced by an internal key, and the last sequence by another one. `AllocError` where a growth
     /// was refused.
     ///
-    /// Deletions come before additions: a table that moves to another level is deleted and added under one number.
+    /// Deletions come before additions: a table that moves to another level is deleted and added under one number. After a refusal
+    /// the version is as before, and the pointer's bytes are given up.
     pub fn change(
         &self,
         alloc: Global,

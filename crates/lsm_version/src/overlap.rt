@@ -2,6 +2,8 @@
 
 ghost use Rattle.std.specs.Prelude.{◌≡◌, ◌≤◌, IfOk};
 ghost use Rattle.std.specs.List.{filter};
+ghost use Rattle.lsm_codec.specs.Lists.{Has};
+ghost use Rattle.lsm_table.specs.Registry.{Table};
 ghost use Rattle.lsm_version.specs.Overlap.{lies_over, meets};
 ghost use Rattle.lsm_version.specs.Reads.{IsRising};
 ghost use Rattle.lsm_version.specs.Versions.{level_in};
@@ -41,7 +43,8 @@ fn run_over<N: Naming, S: Shelf>(
     to: &[u8],
 ) -> Result<Vec<TableRef<N, S>>, AllocError>
     requires { registry.now ≡ N.registry }
-    ensures { IsRising level.now → IfOk result (λ v. v.items ≡ filter (lies_over from.now to.now) level.now) }
+    ensures tables { IsRising level.now → IfOk result (λ v. v.items ≡ filter (lies_over from.now to.now) level.now) }
+    ensures of_level { IfOk result (λ v. (t : Table) → Has v.items t → Has level.now t) }
 {
     let first = first_reaching(registry, level, from);
     let rest = &level[first..];
@@ -68,6 +71,8 @@ impl<N: Naming, S: Shelf> Version<N, S> {
         requires { level ≤ 6 }
         ensures level_zero { level ≡ 0 → IfOk result (λ v. v.items ≡ filter (meets from.now to.now) (level_in self.now.tables level)) }
         ensures tables { S.honest → IfOk result (λ v. v.items ≡ filter (meets from.now to.now) (level_in self.now.tables level)) }
+        // Whatever the shelf is.
+        ensures of_level { IfOk result (λ v. (t : Table) → Has v.items t → Has (level_in self.now.tables level) t) }
     {
         if !is_at_most(from, to) {
             return Ok(Vec::new(alloc));

@@ -30,7 +30,7 @@ returns-in_err-table-clause-refused g c =
     let at : file ≡ get_or level.files i file = subst (λ (fs : List TableFile). file ≡ get_or fs i file) c.files-files.ensures c.file-item.is in
     let lt : i < length level.files = subst (λ (fs : List TableFile). i < length fs) c.files-files.ensures c.loop-file-test.true in
     let p = err_from_is_err_and c.from_residual.result c.from_residual.ensures.1 in
-    rw (p.1, p.2) (refused_at Stored c.args.last level.files i file c.in_err-table.field-0.0 lt at c.in_err-table.ensures.refused)
+    rw (p.1, p.2) (refused_at Stored c.args.last level i file c.in_err-table.field-0.0 c.loop-file.tables.items c.loop-file.invariant.read.0 lt at c.loop-file.invariant.read.2 c.in_err-table.ensures.refused)
 
 pub loop-file-preserved : goal.loop-file-preserved
 loop-file-preserved g c =

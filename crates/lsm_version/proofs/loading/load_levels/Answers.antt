@@ -18,7 +18,7 @@ returns-in_err-here-clause-refused g c =
     let fault = c.in_err-here.field-0.0 in
     let same : c.new-files.result.files ≡ files = ap (λ (l : FileLevel). l.files) c.new-files.ensures ∙ c.as_slice.ensures in
     let p = err_from_is_err_and c.from_residual.result c.from_residual.ensures.1 in
-    rw (p.1, p.2) (refused_in Stored c.args.shape.now.last levels c.loop-number.number files fault c.loop-number-test.true c.index-levels-number.is
+    rw (p.1, p.2) (refused_in Stored c.args.shape.now.last levels c.loop-number.number files (get_or levels 0 []) fault (map (λ l. l.items) c.loop-number.tables.items) c.loop-number.deep.items c.loop-number-test.true c.index-levels-number.is c.loop-number.invariant.read
     (subst (λ (fs : List TableFile). IsFilesRefusal Stored c.args.shape.now.last fs fault) same c.in_err-here.ensures.refused))
 
 pub loop-number-preserved : goal.loop-number-preserved

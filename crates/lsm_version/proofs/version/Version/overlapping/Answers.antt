@@ -2,6 +2,8 @@ use Rattle.std.proofs.Common.{◌≡◌, ◌∙◌, List, length, ap, sym, subst
 use Rattle.std.specs.List.{filter}
 use Rattle.std.proofs.lemmas.List.{length-map}
 use Rattle.lsm_table.specs.Registry.{Table}
+use Rattle.lsm_codec.specs.Lists.{Has}
+use Rattle.lsm_codec.proofs.CallerLemmas.{filter_has}
 use Rattle.lsm_version.specs.Overlap.{lies_over}
 use Rattle.lsm_version.specs.Reads.{IsRising}
 use Rattle.std.proofs.lemmas.Result.{IfOk-weaker}
@@ -24,4 +26,17 @@ returns-else-level-eq0-clause-tables g c = λ h.
     let rises = version_rises v n (subst IsSound c.self.view_is (c.self.invariant.4 h)) order (omega (arith, c.if-level-eq0.false)) (omega arith) in
     IfOk-weaker c.run_over.result _ _
     (λ w e. e ∙ ap (filter (lies_over c.args.from.now c.args.to.now)) c.level-tables.ensures ∙ meets_over c.args.from.now c.args.to.now (level_in v.tables n) (sym c.is_at_most.ensures ∙ c.if-not-is_at_most.false))
-    (c.run_over.ensures (subst (λ (ts : List Table). IsRising ts) (sym c.level-tables.ensures) rises))
+    (c.run_over.ensures.tables (subst (λ (ts : List Table). IsRising ts) (sym c.level-tables.ensures) rises))
+
+pub returns-then-not-is_at_most-clause-of_level : goal.returns-then-not-is_at_most-clause-of_level
+returns-then-not-is_at_most-clause-of_level g c = λ t h. absurd (subst (λ (us : List Table). Has us t) c.new.ensures.items h)
+
+pub returns-then-level-eq0-clause-of_level : goal.returns-then-level-eq0-clause-of_level
+returns-then-level-eq0-clause-of_level g c =
+    IfOk-weaker c.each_over.result _ _
+    (λ w e t h. subst (λ (us : List Table). Has us t) c.level-tables.ensures (filter_has (lies_over c.args.from.now c.args.to.now) c.level-tables.result.now t (subst (λ (us : List Table). Has us t) e h)).0)
+    c.each_over.ensures
+
+pub returns-else-level-eq0-clause-of_level : goal.returns-else-level-eq0-clause-of_level
+returns-else-level-eq0-clause-of_level g c =
+    IfOk-weaker c.run_over.result _ _ (λ w f t h. subst (λ (us : List Table). Has us t) c.level-tables.ensures (f t h)) c.run_over.ensures.of_level
