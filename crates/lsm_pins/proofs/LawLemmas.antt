@@ -94,14 +94,17 @@ module _ (words : List ℕ) (views : List View) (kept : IsKept words views) (p :
 
 -- the state of a board just made
 pub some_state : EachStartHasAState
-some_state start some few ids = (record {
-  state = record { words = take (start.slots + 1) (start.id * 2 ^ 30 ∷ replicate 64 0); homes = []; views = first_view start ∷ [] };
-  kept = opens start.slots start.id some few ids;
-  view = first_view start;
-  publisher = record { seat = 0; at = refl; live = refl; publishes = refl };
-  slots_are = let e = length-replicate (start.slots - 1) unused in omega arith;
-  begun = omega arith;
-}, refl)
+some_state start some few ids = (
+  record {
+    state = record { words = take (start.slots + 1) (start.id * 2 ^ 30 ∷ replicate 64 0); homes = []; views = first_view start ∷ [] };
+    kept = opens start.slots start.id some few ids;
+    view = first_view start;
+    publisher = record { seat = 0; at = refl; live = refl; publishes = refl };
+    slots_are = let e = length-replicate (start.slots - 1) unused in omega arith;
+    begun = omega arith;
+  },
+  refl,
+)
 
 pub not_absurd : NoLawIsAbsurd
 not_absurd law =
