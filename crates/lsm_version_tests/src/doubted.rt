@@ -85,6 +85,14 @@ impl<S: Shelf> Shelf for Doubted<S> {
         })
     }
 
+    fn same(&self, a: &S::Receipt, b: &S::Receipt) -> bool {
+        self.shelf.same(a, b)
+    }
+
+    fn copy_receipt(&self, receipt: &S::Receipt) -> S::Receipt {
+        self.shelf.copy_receipt(receipt)
+    }
+
     fn failures(&self) -> (u64, u64) {
         self.shelf.failures()
     }

@@ -14,6 +14,8 @@ mod layouts;
 #[cfg(test)]
 mod numbers;
 #[cfg(test)]
+mod read_counts;
+#[cfg(test)]
 mod reading;
 #[cfg(test)]
 mod shown;

@@ -110,7 +110,7 @@ pub(crate) fn version_of<N: Naming, S: Shelf, R: Wait>(
 }
 
 /// What a version answers, as one byte.
-fn answer_of<N: Naming, S: Shelf>(
+pub(crate) fn answer_of<N: Naming, S: Shelf>(
     alloc: Global,
     shelf: &mut S,
     version: &Version<N, S>,

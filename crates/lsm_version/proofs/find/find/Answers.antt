@@ -47,6 +47,7 @@ loop-number-preserved g c =
     let at = level_at (λ l. l.items) c.args.levels.now n c.index-levels-number.result c.loop-number-test.true c.index-levels-number.is in
     record {
       told = becomes_then _ _ _ c.loop-number.invariant.told c.find_at_level.ensures.told;
+      loan = c.find_at_level.ensures.loan ∙ c.loop-number.invariant.loan;
       sound = λ h a. subst (λ (m : ℕ). AreSound m rest) (sym (add-one n)) (sound_rest n ts rest (subst (AreSound n) at (c.loop-number.invariant.sound h a)));
       same = λ h a. (let sound = subst (AreSound n) at (c.loop-number.invariant.sound h a) in
           let tells = ap seen (sym c.in_default.is) ∙ c.in_ok-found.ensures.found h (subst (λ (us : List Table). IsSoundLevel n us) (sym c.as_slice.ensures.value) (sound_level n ts rest sound))

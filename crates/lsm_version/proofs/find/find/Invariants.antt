@@ -8,7 +8,8 @@ use Rattle.lsm_version.proofs.find.find.Given as goal
 
 abbrev pub invariant-loop-number : goal.invariant-loop-number
 invariant-loop-number g l = record {
-  told : Becomes (g.S.Shelf.told l.fn.shelf) (g.S.Shelf.told l.shelf);
+  told : Becomes (g.B.Blocks.told l.fn.blocks) (g.B.Blocks.told l.blocks);
+  loan : g.B.Blocks.loan l.blocks ≡ g.B.Blocks.loan l.fn.blocks;
   sound : g.S.Shelf.honest → AreSound 0 (map (λ v. v.items) l.levels) → AreSound l.number (drop l.number (map (λ v. v.items) l.levels));
   same : g.S.Shelf.honest → AreSound 0 (map (λ v. v.items) l.levels) → newest l.user l.seq (all_entries (files_from l.number (drop l.number (map (λ v. v.items) l.levels)))) ≡ newest l.user l.seq (all_entries (files_from 0 (map (λ v. v.items) l.levels)));
 }

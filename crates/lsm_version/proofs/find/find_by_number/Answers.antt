@@ -22,6 +22,7 @@ loop-table-preserved g c =
     let t = c.in-Some.table.now in
     record {
       told = becomes_then _ _ _ c.loop-table.invariant.told c.find_in_table.ensures.told;
+      loan = c.find_in_table.ensures.loan ∙ c.loop-table.invariant.loan;
       looked = λ h l. subst (λ (n : ℕ). Looked k s (Some n) c.args.level.now) (sym (c.number.ensures ∙ c.record.ensures.number))
           (number_missed c.args.level.now t k s c.loop-table.bound l (c.loop-table.invariant.looked h l) c.in-Some.ensures
           (found_none (newest k s (entries_in t.image)) (ap seen (sym c.in_default-2.is) ∙ c.in_ok-found.ensures.found h (l.whole t c.in-Some.ensures.here))));

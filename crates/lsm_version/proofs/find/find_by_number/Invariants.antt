@@ -8,7 +8,8 @@ use Rattle.lsm_version.proofs.find.find_by_number.Given as goal
 
 abbrev pub invariant-loop-table : goal.invariant-loop-table
 invariant-loop-table g l = record {
-  told : Becomes (g.S.Shelf.told l.fn.shelf) (g.S.Shelf.told l.shelf);
+  told : Becomes (g.B.Blocks.told l.fn.blocks) (g.B.Blocks.told l.blocks);
+  loan : g.B.Blocks.loan l.blocks ≡ g.B.Blocks.loan l.fn.blocks;
   looked : g.S.Shelf.honest → IsSoundLevel 0 l.level → (t : Table) → Has l.level t → is_below l.bound t.number ≡ false → HasNone l.user l.seq t;
 }
 

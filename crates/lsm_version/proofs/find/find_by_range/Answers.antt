@@ -55,6 +55,7 @@ loop-table-preserved g c =
     let x = c.table-item.result in
     record {
       told = becomes_then _ _ _ c.loop-table.invariant.told c.find_in_table.ensures.told;
+      loan = c.find_in_table.ensures.loan ∙ c.loop-table.invariant.loan;
       none = λ n h l.
           let here = has_rest ts rest p i x (take_rest ts p) c.first_reaching-first.ensures.inside c.loop-table-test.true c.table-item.is in
           none_more k s rest i x c.loop-table-test.true c.table-item.is

@@ -1,19 +1,14 @@
-use Rattle.std.proofs.Common.{◌∙◌, sym, subst, List, ℕ}
-use Rattle.std.proofs.lemmas.Result.{err_from_is_err_and}
+use Rattle.std.proofs.Common.{sym, subst, List, ℕ}
 use Rattle.lsm_table.specs.Table.{IsTable}
 use Rattle.lsm_table.specs.HeldTable.{entries_in}
-use Rattle.lsm_version.proofs.Finding.{open_memory, get_memory}
 use Rattle.lsm_version.proofs.find.find_in_table.Goals as goal
 
-pub returns-in_err-table-clause-sound : goal.returns-in_err-table-clause-sound
-returns-in_err-table-clause-sound g c = λ h w.
+pub returns-clause-found : goal.returns-clause-found
+returns-clause-found g c = λ h w.
     let es = entries_in c.args.table.now.image in
-    let p = err_from_is_err_and c.from_residual.result c.from_residual.ensures.1 in
-    rw (p.1, p.2) (open_memory _ es c.in_err-table.field-0.0 (subst (λ (bytes : List ℕ). IsTable bytes es) (sym c.record.ensures.image) w.table) (c.in_err-table.ensures.exact h))
+    c.get_by.ensures.found h es (subst (λ (bytes : List ℕ). IsTable bytes es) (sym c.record.ensures.image) w.table)
 
-pub returns-in_err-get-clause-sound : goal.returns-in_err-get-clause-sound
-returns-in_err-get-clause-sound g c = λ h w.
+pub returns-clause-sound : goal.returns-clause-sound
+returns-clause-sound g c = λ h w.
     let es = entries_in c.args.table.now.image in
-    let whole = subst (λ (bytes : List ℕ). IsTable bytes es) (sym (c.in_ok-table.ensures.image h ∙ c.record.ensures.image)) w.table in
-    let p = err_from_is_err_and c.from_residual-in_err-get.result c.from_residual-in_err-get.ensures.1 in
-    rw (p.1, p.2) (get_memory c.in_err-get.field-0.0 _ (c.in_err-get.ensures es whole))
+    c.get_by.ensures.sound h es (subst (λ (bytes : List ℕ). IsTable bytes es) (sym c.record.ensures.image) w.table)
