@@ -1,7 +1,7 @@
 //! A program that uses tables, as short as one can be: it builds a table of three entries in memory, checks it and reads keys,
 //! then puts it on a shelf and reads it from there.
 //!
-//! Stands on `lsm_table`. Its contract: what it reads is what the three entries say.
+//! Stands on `lsm_table` and `lsm_reader`. Its contract: what it reads is what the three entries say.
 #![tactic(auto)]
 
 ghost use Rattle.std.specs.Prelude.{◌≡◌, Some, None, IfOk, codes};
@@ -10,6 +10,7 @@ ghost use Rattle.lsm_table.specs.Found.{seen};
 ghost use Rattle.example_table.specs.Fruit.{fruit};
 
 use lsm_codec::Kind;
+use lsm_reader::get;
 use lsm_table::{
     BuildFault, Found, MemoryShelf, Shelf, Table, TableBuilder, TableFault, TableOptions,
 };
@@ -54,10 +55,6 @@ fn main(rt: HostRuntime) -> anyhow::Result<()> {
     show(&rt, "apple at 2", &older_apple(alloc, &table)?)?;
     show(&rt, "cherry at 9", &table.get(alloc, b"cherry", 9)?)?;
     show(&rt, "plum at 9", &table.get(alloc, b"plum", 9)?)?;
-    let opened = Table::open(&mut shelf, alloc, &receipt)?;
-    show(
-        &rt,
-        "apple at 9, from the shelf",
-        &opened.get(alloc, b"apple", 9)?,
-    )
+    let found = get(&mut shelf, alloc, &receipt, b"apple", 9)?;
+    show(&rt, "apple at 9, from the shelf", &found)
 }

@@ -116,7 +116,7 @@ fn read_all<N: Naming, S: Shelf, R: Wait + Print>(
     show(rt, alloc, &version, &mut shelf, "cherry", 4)?;
     show(rt, alloc, &version, &mut shelf, "cherry", 3)?;
     let mut scan = version.scan(&mut shelf, alloc, 4)?;
-    while let Some(pair) = scan.next(alloc)? {
+    while let Some(pair) = scan.next(&mut shelf, alloc)? {
         println!(rt;
             "scan: {} {}",
             str::from_utf8(pair.user())?,

@@ -1,9 +1,9 @@
 //! What a shelf asks of a folder.
 
-ghost use Rattle.std.specs.Prelude.{◌≡◌, ℕ, ◌+◌, ◌≤◌, ◌^◌, List, [], ◌∷◌, Some, None, length, map, is_ok, IfOk, IfErr, IsTrue, MatchResult, string_bytes};
+ghost use Rattle.std.specs.Prelude.{◌≡◌, ℕ, ◌+◌, ◌≤◌, ◌^◌, List, [], ◌∷◌, Ok, Err, length, map, IfOk, IfErr, IsTrue, MatchResult, string_bytes};
 ghost use Rattle.lsm_folder.specs.Place.{Place};
 ghost use Rattle.lsm_folder.specs.FolderFault.{NotMissing, NotExists, NotNamed};
-ghost use Rattle.lsm_folder.specs.Calls.{Call, made, wrote, appended, synced, folder_synced, renamed, removed, measured, read, loaded, listed};
+ghost use Rattle.lsm_folder.specs.Calls.{Call, answer_of, made, wrote, appended, synced, folder_synced, renamed, removed, measured, read, loaded, listed};
 
 use crate::folder_fault::FolderFault;
 use crate::mark::Mark;
@@ -12,10 +12,10 @@ use std::sync::Wait;
 
 /// The calls on one folder. Files are named by their names in it.
 ///
-/// Each method that takes `&mut self` makes one call and notes it with its answer (`noted`): exactly one, also where memory
-/// was refused before the call acted. `OutOfMemory` can come from each of them; `fault` says which others can. Nothing is said
-/// of what a read answers: that is `AreHonest`, a premise on the type. One value has one user; `fork` makes another on the
-/// same folder.
+/// Each method that takes `&mut self` makes one call and notes it with its answer, the fault where it was refused (`noted`):
+/// exactly one, also where memory was refused before the call acted. `OutOfMemory` can come from each of them; `fault` says
+/// which others can. Nothing is said of what a read answers: that is `AreHonest`, a premise on the type. One value has one user;
+/// `fork` makes another on the same folder.
 pub trait FolderCalls: Drop {
     /// What stands for a file that was made or read whole.
     type Mark: Mark;
@@ -35,52 +35,52 @@ pub trait FolderCalls: Drop {
     /// Makes a file that was not there, with these bytes. `Exists` where a file has the name. After `Failed` the file may be
     /// there with a part of the bytes.
     fn make<R: Wait>(&mut self, rt: &R, name: &str, bytes: &[u8]) -> Result<Self::Mark, FolderFault>
-        ensures noted { calls self.new ≡ made name.now bytes.now (is_ok result) ∷ calls self.old }
+        ensures noted { calls self.new ≡ made name.now bytes.now (answer_of result) ∷ calls self.old }
         ensures place { place self.new ≡ place self.old }
         ensures mark { IfOk result (λ m. (Self.Mark.name m ≡ name.now) × (Self.Mark.image m ≡ bytes.now) × is_of (place self.old) m) }
         ensures fault { IfErr result NotMissing };
 
     /// Makes or empties a file, and puts these bytes into it. After a refusal it may be there with a part of them.
     fn write<R: Wait>(&mut self, rt: &R, name: &str, bytes: &[u8]) -> Result<(), FolderFault>
-        ensures noted { calls self.new ≡ wrote name.now bytes.now (is_ok result) ∷ calls self.old }
+        ensures noted { calls self.new ≡ wrote name.now bytes.now result ∷ calls self.old }
         ensures place { place self.new ≡ place self.old }
         ensures fault { IfErr result NotNamed };
 
     /// Puts these bytes behind those of a file. `Missing` where there is none. After `Failed` a front of them may be there.
     fn append<R: Wait>(&mut self, rt: &R, name: &str, bytes: &[u8]) -> Result<(), FolderFault>
-        ensures noted { calls self.new ≡ appended name.now bytes.now (is_ok result) ∷ calls self.old }
+        ensures noted { calls self.new ≡ appended name.now bytes.now result ∷ calls self.old }
         ensures place { place self.new ≡ place self.old }
         ensures fault { IfErr result NotExists };
 
     /// Makes a file's bytes durable. `Missing` where there is none.
     fn sync<R: Wait>(&mut self, rt: &R, name: &str) -> Result<(), FolderFault>
-        ensures noted { calls self.new ≡ synced name.now (is_ok result) ∷ calls self.old }
+        ensures noted { calls self.new ≡ synced name.now result ∷ calls self.old }
         ensures place { place self.new ≡ place self.old }
         ensures fault { IfErr result NotExists };
 
     /// Makes the folder's names durable.
     fn sync_folder<R: Wait>(&mut self, rt: &R) -> Result<(), FolderFault>
-        ensures noted { calls self.new ≡ folder_synced (is_ok result) ∷ calls self.old }
+        ensures noted { calls self.new ≡ folder_synced result ∷ calls self.old }
         ensures place { place self.new ≡ place self.old }
         ensures fault { IfErr result NotNamed };
 
     /// Gives the file of the first name the second, in place of the file that has it. `Missing` where no file has the first.
     fn rename<R: Wait>(&mut self, rt: &R, from: &str, to: &str) -> Result<(), FolderFault>
-        ensures noted { calls self.new ≡ renamed from.now to.now (is_ok result) ∷ calls self.old }
+        ensures noted { calls self.new ≡ renamed from.now to.now result ∷ calls self.old }
         ensures place { place self.new ≡ place self.old }
         ensures fault { IfErr result NotExists };
 
     /// Takes a file out of the folder. `Missing` where there is none.
     fn remove<R: Wait>(&mut self, rt: &R, name: &str) -> Result<(), FolderFault>
-        ensures noted { calls self.new ≡ removed name.now (is_ok result) ∷ calls self.old }
+        ensures noted { calls self.new ≡ removed name.now result ∷ calls self.old }
         ensures place { place self.new ≡ place self.old }
         ensures fault { IfErr result NotExists };
 
     /// How many bytes a file has. `Missing` where there is none.
     fn length<R: Wait>(&mut self, rt: &R, name: &str) -> Result<u64, FolderFault>
         ensures noted { MatchResult result
-            (λ n. calls self.new ≡ measured name.now (Some n) ∷ calls self.old)
-            (λ _. calls self.new ≡ measured name.now None ∷ calls self.old) }
+            (λ n. calls self.new ≡ measured name.now (Ok n) ∷ calls self.old)
+            (λ e. calls self.new ≡ measured name.now (Err e) ∷ calls self.old) }
         ensures place { place self.new ≡ place self.old }
         ensures fault { IfErr result NotExists };
 
@@ -97,8 +97,8 @@ pub trait FolderCalls: Drop {
         requires named { Self.Mark.name mark.now ≡ name.now }
         requires inside { offset + len ≤ length (Self.Mark.image mark.now) }
         ensures noted { MatchResult result
-            (λ v. calls self.new ≡ read name.now (Self.Mark.image mark.now) offset len (Some v.items) ∷ calls self.old)
-            (λ _. calls self.new ≡ read name.now (Self.Mark.image mark.now) offset len None ∷ calls self.old) }
+            (λ v. calls self.new ≡ read name.now (Self.Mark.image mark.now) offset len (Ok v.items) ∷ calls self.old)
+            (λ e. calls self.new ≡ read name.now (Self.Mark.image mark.now) offset len (Err e) ∷ calls self.old) }
         ensures place { place self.new ≡ place self.old }
         ensures fault { IfErr result NotExists };
 
@@ -110,8 +110,8 @@ pub trait FolderCalls: Drop {
         name: &str,
     ) -> Result<(Self::Mark, Vec<u8>), FolderFault>
         ensures noted { MatchResult result
-            (λ r. calls self.new ≡ loaded name.now (Some r.1.items) ∷ calls self.old)
-            (λ _. calls self.new ≡ loaded name.now None ∷ calls self.old) }
+            (λ r. calls self.new ≡ loaded name.now (Ok r.1.items) ∷ calls self.old)
+            (λ e. calls self.new ≡ loaded name.now (Err e) ∷ calls self.old) }
         ensures place { place self.new ≡ place self.old }
         ensures mark { IfOk result (λ r. (Self.Mark.name r.0 ≡ name.now) × (Self.Mark.image r.0 ≡ r.1.items) × is_of (place self.old) r.0) }
         ensures limit { IfOk result (λ r. length r.1.items ≤ 2 ^ 30) }
@@ -120,8 +120,8 @@ pub trait FolderCalls: Drop {
     /// The names of the folder's files, in no order. A name that is no text is left out.
     fn list<R: Wait>(&mut self, rt: &R, alloc: Global) -> Result<Vec<String>, FolderFault>
         ensures noted { MatchResult result
-            (λ v. calls self.new ≡ listed (Some (map string_bytes v.items)) ∷ calls self.old)
-            (λ _. calls self.new ≡ listed None ∷ calls self.old) }
+            (λ v. calls self.new ≡ listed (Ok (map string_bytes v.items)) ∷ calls self.old)
+            (λ e. calls self.new ≡ listed (Err e) ∷ calls self.old) }
         ensures place { place self.new ≡ place self.old }
         ensures fault { IfErr result NotNamed };
 

@@ -1,9 +1,10 @@
 //! A list of calls that only contracts read.
 
-ghost use Rattle.std.specs.Prelude.{◌≡◌, ℕ, Bool, Some, None, List, [], ◌∷◌, map, string_bytes};
+ghost use Rattle.std.specs.Prelude.{◌≡◌, ℕ, Ok, Err, List, [], ◌∷◌, map, string_bytes};
 ghost use Rattle.std.specs.Borrow.{ftrue};
-ghost use Rattle.lsm_folder.specs.Calls.{Call, opened, made, wrote, appended, synced, folder_synced, renamed, removed, measured, read, loaded, listed};
+ghost use Rattle.lsm_folder.specs.Calls.{Call, Answer, answer_of, opened, made, wrote, appended, synced, folder_synced, renamed, removed, measured, read, loaded, listed};
 
+use crate::folder_fault::FolderFault;
 use boxcar::tag::Tag;
 use std::marker::{Model, PhantomData};
 
@@ -57,51 +58,51 @@ impl Tells<()> for Opened {
     ghost calls = { λ _. opened ∷ [] };
 }
 
-/// A call of at most two texts, which answers whether it was Ok.
+/// A call of at most two texts, which answers that it was Ok, or why it was refused.
 pub(crate) trait Kind {
-    ghost call: { List ℕ → List ℕ → Bool → Call };
+    ghost call: { List ℕ → List ℕ → Answer → Call };
 }
 
 pub(crate) struct Made;
 
 impl Kind for Made {
-    ghost call = { λ name bytes ok. made name bytes ok };
+    ghost call = { λ name bytes answer. made name bytes answer };
 }
 
 pub(crate) struct Wrote;
 
 impl Kind for Wrote {
-    ghost call = { λ name bytes ok. wrote name bytes ok };
+    ghost call = { λ name bytes answer. wrote name bytes answer };
 }
 
 pub(crate) struct Appended;
 
 impl Kind for Appended {
-    ghost call = { λ name bytes ok. appended name bytes ok };
+    ghost call = { λ name bytes answer. appended name bytes answer };
 }
 
 pub(crate) struct Synced;
 
 impl Kind for Synced {
-    ghost call = { λ name _ ok. synced name ok };
+    ghost call = { λ name _ answer. synced name answer };
 }
 
 pub(crate) struct FolderSynced;
 
 impl Kind for FolderSynced {
-    ghost call = { λ _ _ ok. folder_synced ok };
+    ghost call = { λ _ _ answer. folder_synced answer };
 }
 
 pub(crate) struct Renamed;
 
 impl Kind for Renamed {
-    ghost call = { λ from to ok. renamed from to ok };
+    ghost call = { λ from to answer. renamed from to answer };
 }
 
 pub(crate) struct Removed;
 
 impl Kind for Removed {
-    ghost call = { λ name _ ok. removed name ok };
+    ghost call = { λ name _ answer. removed name answer };
 }
 
 /// A call that was made, with the calls before it.
@@ -110,7 +111,7 @@ struct Asked<'a> {
     older: &'a Log,
     name: &'a [u8],
     bytes: &'a [u8],
-    ok: bool,
+    answer: &'a Result<(), FolderFault>,
 }
 
 struct Last<K: Kind> {
@@ -118,25 +119,35 @@ struct Last<K: Kind> {
 }
 
 impl<'a, K: Kind> Tells<Asked<'a>> for Last<K> {
-    ghost calls = { λ a. K.Kind.call a.name.now a.bytes.now a.ok ∷ a.older.now.calls };
+    ghost calls = { λ a. K.Kind.call a.name.now a.bytes.now a.answer.now ∷ a.older.now.calls };
+}
+
+/// A call that was refused, with the calls before it.
+#[derive(Drop)]
+struct Refusal<'a> {
+    older: &'a Log,
+    name: &'a [u8],
+    fault: FolderFault,
+}
+
+/// A file that was read whole, with the calls before it.
+#[derive(Drop)]
+struct Loading<'a> {
+    older: &'a Log,
+    name: &'a [u8],
+    bytes: &'a [u8],
 }
 
 struct LoadOk;
 
-impl<'a> Tells<Asked<'a>> for LoadOk {
-    ghost calls = { λ a. loaded a.name.now (Some a.bytes.now) ∷ a.older.now.calls };
+impl<'a> Tells<Loading<'a>> for LoadOk {
+    ghost calls = { λ a. loaded a.name.now (Ok a.bytes.now) ∷ a.older.now.calls };
 }
 
 struct LoadFailed;
 
-impl<'a> Tells<Asked<'a>> for LoadFailed {
-    ghost calls = { λ a. loaded a.name.now None ∷ a.older.now.calls };
-}
-
-struct MeasureFailed;
-
-impl<'a> Tells<Asked<'a>> for MeasureFailed {
-    ghost calls = { λ a. measured a.name.now None ∷ a.older.now.calls };
+impl<'a> Tells<Refusal<'a>> for LoadFailed {
+    ghost calls = { λ a. loaded a.name.now (Err a.fault) ∷ a.older.now.calls };
 }
 
 /// A file's length, with the calls before it.
@@ -150,7 +161,13 @@ struct Measuring<'a> {
 struct MeasureOk;
 
 impl<'a> Tells<Measuring<'a>> for MeasureOk {
-    ghost calls = { λ a. measured a.name.now (Some a.length) ∷ a.older.now.calls };
+    ghost calls = { λ a. measured a.name.now (Ok a.length) ∷ a.older.now.calls };
+}
+
+struct MeasureFailed;
+
+impl<'a> Tells<Refusal<'a>> for MeasureFailed {
+    ghost calls = { λ a. measured a.name.now (Err a.fault) ∷ a.older.now.calls };
 }
 
 /// Names that were listed, with the calls before it.
@@ -163,16 +180,16 @@ struct Listing<'a> {
 struct ListOk;
 
 impl<'a> Tells<Listing<'a>> for ListOk {
-    ghost calls = { λ a. listed (Some (map string_bytes a.names.now)) ∷ a.older.now.calls };
+    ghost calls = { λ a. listed (Ok (map string_bytes a.names.now)) ∷ a.older.now.calls };
 }
 
 struct ListFailed;
 
-impl<'a> Tells<Listing<'a>> for ListFailed {
-    ghost calls = { λ a. listed None ∷ a.older.now.calls };
+impl<'a> Tells<Refusal<'a>> for ListFailed {
+    ghost calls = { λ a. listed (Err a.fault) ∷ a.older.now.calls };
 }
 
-/// A read, with the calls before it.
+/// What was to be read, with the calls before it.
 #[derive(Drop)]
 struct Reading<'a> {
     older: &'a Log,
@@ -180,19 +197,42 @@ struct Reading<'a> {
     image: &'a Tag,
     offset: u64,
     len: usize,
+}
+
+/// A read that answered these bytes.
+#[derive(Drop)]
+struct ReadGiven<'a> {
+    reading: Reading<'a>,
     bytes: &'a [u8],
 }
 
 struct ReadOk;
 
-impl<'a> Tells<Reading<'a>> for ReadOk {
-    ghost calls = { λ a. read a.name.now a.image.now.numbers a.offset a.len (Some a.bytes.now) ∷ a.older.now.calls };
+impl<'a> Tells<ReadGiven<'a>> for ReadOk {
+    ghost calls = { λ a. read a.reading.name.now a.reading.image.now.numbers a.reading.offset a.reading.len (Ok a.bytes.now) ∷ a.reading.older.now.calls };
+}
+
+/// A read that was refused.
+#[derive(Drop)]
+struct ReadRefused<'a> {
+    reading: Reading<'a>,
+    fault: FolderFault,
 }
 
 struct ReadFailed;
 
-impl<'a> Tells<Reading<'a>> for ReadFailed {
-    ghost calls = { λ a. read a.name.now a.image.now.numbers a.offset a.len None ∷ a.older.now.calls };
+impl<'a> Tells<ReadRefused<'a>> for ReadFailed {
+    ghost calls = { λ a. read a.reading.name.now a.reading.image.now.numbers a.reading.offset a.reading.len (Err a.fault) ∷ a.reading.older.now.calls };
+}
+
+/// The answer of a call without what it gave.
+pub(crate) fn answered<T>(answer: &Result<T, FolderFault>) -> Result<(), FolderFault>
+    ensures { result ≡ answer_of answer.now }
+{
+    match answer {
+        Ok(_) => Ok(()),
+        Err(fault) => Err(*fault),
+    }
 }
 
 impl Log {
@@ -211,14 +251,19 @@ impl Log {
     }
 
     /// One call more.
-    pub(crate) fn with<K: Kind>(&self, name: &[u8], bytes: &[u8], ok: bool) -> Log
-        ensures { result.calls ≡ K.Kind.call name.now bytes.now ok ∷ self.now.calls }
+    pub(crate) fn with<K: Kind>(
+        &self,
+        name: &[u8],
+        bytes: &[u8],
+        answer: &Result<(), FolderFault>,
+    ) -> Log
+        ensures { result.calls ≡ K.Kind.call name.now bytes.now answer.now ∷ self.now.calls }
     {
         Log::of::<Asked, Last<K>>(&Asked {
             older: self,
             name,
             bytes,
-            ok,
+            answer,
         })
     }
 
@@ -231,59 +276,64 @@ impl Log {
         len: usize,
         bytes: &[u8],
     ) -> Log
-        ensures { result.calls ≡ read name.now image.now.numbers offset len (Some bytes.now) ∷ self.now.calls }
+        ensures { result.calls ≡ read name.now image.now.numbers offset len (Ok bytes.now) ∷ self.now.calls }
     {
-        Log::of::<Reading, ReadOk>(&Reading {
+        let reading = Reading {
             older: self,
             name,
             image,
             offset,
             len,
-            bytes,
-        })
+        };
+        Log::of::<ReadGiven, ReadOk>(&ReadGiven { reading, bytes })
     }
 
-    /// A read more, which failed.
-    pub(crate) fn with_failed_read(&self, name: &[u8], image: &Tag, offset: u64, len: usize) -> Log
-        ensures { result.calls ≡ read name.now image.now.numbers offset len None ∷ self.now.calls }
+    /// A read more, which was refused.
+    pub(crate) fn with_failed_read(
+        &self,
+        name: &[u8],
+        image: &Tag,
+        offset: u64,
+        len: usize,
+        fault: FolderFault,
+    ) -> Log
+        ensures { result.calls ≡ read name.now image.now.numbers offset len (Err fault) ∷ self.now.calls }
     {
-        Log::of::<Reading, ReadFailed>(&Reading {
+        let reading = Reading {
             older: self,
             name,
             image,
             offset,
             len,
-            bytes: &[],
-        })
+        };
+        Log::of::<ReadRefused, ReadFailed>(&ReadRefused { reading, fault })
     }
 
     /// A file more that was read whole.
     pub(crate) fn with_load(&self, name: &[u8], bytes: &[u8]) -> Log
-        ensures { result.calls ≡ loaded name.now (Some bytes.now) ∷ self.now.calls }
+        ensures { result.calls ≡ loaded name.now (Ok bytes.now) ∷ self.now.calls }
     {
-        Log::of::<Asked, LoadOk>(&Asked {
+        Log::of::<Loading, LoadOk>(&Loading {
             older: self,
             name,
             bytes,
-            ok: true,
         })
     }
 
-    /// A load more, which failed.
-    pub(crate) fn with_failed_load(&self, name: &[u8]) -> Log
-        ensures { result.calls ≡ loaded name.now None ∷ self.now.calls }
+    /// A load more, which was refused.
+    pub(crate) fn with_failed_load(&self, name: &[u8], fault: FolderFault) -> Log
+        ensures { result.calls ≡ loaded name.now (Err fault) ∷ self.now.calls }
     {
-        Log::of::<Asked, LoadFailed>(&Asked {
+        Log::of::<Refusal, LoadFailed>(&Refusal {
             older: self,
             name,
-            bytes: &[],
-            ok: false,
+            fault,
         })
     }
 
     /// A file more whose length was asked.
     pub(crate) fn with_length(&self, name: &[u8], length: u64) -> Log
-        ensures { result.calls ≡ measured name.now (Some length) ∷ self.now.calls }
+        ensures { result.calls ≡ measured name.now (Ok length) ∷ self.now.calls }
     {
         Log::of::<Measuring, MeasureOk>(&Measuring {
             older: self,
@@ -292,32 +342,32 @@ impl Log {
         })
     }
 
-    /// A length more, which failed.
-    pub(crate) fn with_failed_length(&self, name: &[u8]) -> Log
-        ensures { result.calls ≡ measured name.now None ∷ self.now.calls }
+    /// A length more, which was refused.
+    pub(crate) fn with_failed_length(&self, name: &[u8], fault: FolderFault) -> Log
+        ensures { result.calls ≡ measured name.now (Err fault) ∷ self.now.calls }
     {
-        Log::of::<Asked, MeasureFailed>(&Asked {
+        Log::of::<Refusal, MeasureFailed>(&Refusal {
             older: self,
             name,
-            bytes: &[],
-            ok: false,
+            fault,
         })
     }
 
     /// A list more, which answered these names.
     pub(crate) fn with_list(&self, names: &[String]) -> Log
-        ensures { result.calls ≡ listed (Some (map string_bytes names.now)) ∷ self.now.calls }
+        ensures { result.calls ≡ listed (Ok (map string_bytes names.now)) ∷ self.now.calls }
     {
         Log::of::<Listing, ListOk>(&Listing { older: self, names })
     }
 
-    /// A list more, which failed.
-    pub(crate) fn with_failed_list(&self) -> Log
-        ensures { result.calls ≡ listed None ∷ self.now.calls }
+    /// A list more, which was refused.
+    pub(crate) fn with_failed_list(&self, fault: FolderFault) -> Log
+        ensures { result.calls ≡ listed (Err fault) ∷ self.now.calls }
     {
-        Log::of::<Listing, ListFailed>(&Listing {
+        Log::of::<Refusal, ListFailed>(&Refusal {
             older: self,
-            names: &[],
+            name: &[],
+            fault,
         })
     }
 }

@@ -1,13 +1,13 @@
 //! The calls on a folder in memory.
 
-ghost use Rattle.std.specs.Prelude.{◌≡◌, ◌+◌, ◌≤◌, ◌∷◌, [], List, Some, None, length, take, drop, is_ok, IfOk, IfErr, MatchResult};
+ghost use Rattle.std.specs.Prelude.{◌≡◌, ◌+◌, ◌≤◌, ◌∷◌, [], List, Some, None, length, take, drop, IfOk, IfErr, MatchResult};
 ghost use Rattle.lsm_folder.specs.FolderFault.{NotNamed};
 ghost use Rattle.lsm_folder.specs.MemoryFolder.{memory_calls, memory_mark_image};
 ghost use Rattle.lsm_folder.specs.Calls.{AreHonest};
 
 use crate::folder_calls::FolderCalls;
 use crate::folder_fault::FolderFault;
-use crate::log::{Appended, FolderSynced, Log, Made, Removed, Renamed, Synced, Wrote};
+use crate::log::{Appended, FolderSynced, Log, Made, Removed, Renamed, Synced, Wrote, answered};
 use crate::memory_files::MemoryFiles;
 use crate::memory_folder::MemoryFolder;
 use crate::memory_mark::MemoryMark;
@@ -101,7 +101,7 @@ impl FolderCalls for MemoryFolder {
         let answer = self.files.make(rt, self.alloc, name, bytes);
         self.log = self
             .log
-            .with::<Made>(name.as_bytes(), bytes, answer.is_ok());
+            .with::<Made>(name.as_bytes(), bytes, &answered(&answer));
         let token = answer?;
         Ok(MemoryMark {
             name: tag_of(name.as_bytes()),
@@ -111,31 +111,25 @@ impl FolderCalls for MemoryFolder {
 
     fn write<R: Wait>(&mut self, rt: &R, name: &str, bytes: &[u8]) -> Result<(), FolderFault> {
         let answer = self.files.write(rt, self.alloc, name, bytes);
-        self.log = self
-            .log
-            .with::<Wrote>(name.as_bytes(), bytes, answer.is_ok());
+        self.log = self.log.with::<Wrote>(name.as_bytes(), bytes, &answer);
         answer
     }
 
     fn append<R: Wait>(&mut self, rt: &R, name: &str, bytes: &[u8]) -> Result<(), FolderFault> {
         let answer = self.files.append(rt, self.alloc, name, bytes);
-        self.log = self
-            .log
-            .with::<Appended>(name.as_bytes(), bytes, answer.is_ok());
+        self.log = self.log.with::<Appended>(name.as_bytes(), bytes, &answer);
         answer
     }
 
     fn sync<R: Wait>(&mut self, rt: &R, name: &str) -> Result<(), FolderFault> {
         let answer = self.files.sync(rt, name);
-        self.log = self
-            .log
-            .with::<Synced>(name.as_bytes(), &[], answer.is_ok());
+        self.log = self.log.with::<Synced>(name.as_bytes(), &[], &answer);
         answer
     }
 
     fn sync_folder<R: Wait>(&mut self, rt: &R) -> Result<(), FolderFault> {
         let answer = self.files.sync_folder(rt);
-        self.log = self.log.with::<FolderSynced>(&[], &[], answer.is_ok());
+        self.log = self.log.with::<FolderSynced>(&[], &[], &answer);
         answer
     }
 
@@ -143,15 +137,13 @@ impl FolderCalls for MemoryFolder {
         let answer = self.files.rename(rt, self.alloc, from, to);
         self.log = self
             .log
-            .with::<Renamed>(from.as_bytes(), to.as_bytes(), answer.is_ok());
+            .with::<Renamed>(from.as_bytes(), to.as_bytes(), &answer);
         answer
     }
 
     fn remove<R: Wait>(&mut self, rt: &R, name: &str) -> Result<(), FolderFault> {
         let answer = self.files.remove(rt, name);
-        self.log = self
-            .log
-            .with::<Removed>(name.as_bytes(), &[], answer.is_ok());
+        self.log = self.log.with::<Removed>(name.as_bytes(), &[], &answer);
         answer
     }
 
@@ -162,7 +154,7 @@ impl FolderCalls for MemoryFolder {
                 Ok(length)
             }
             Err(fault) => {
-                self.log = self.log.with_failed_length(name.as_bytes());
+                self.log = self.log.with_failed_length(name.as_bytes(), fault);
                 Err(fault)
             }
         }
@@ -187,7 +179,7 @@ impl FolderCalls for MemoryFolder {
             Err(fault) => {
                 self.log = self
                     .log
-                    .with_failed_read(name.as_bytes(), &image, offset, len);
+                    .with_failed_read(name.as_bytes(), &image, offset, len, fault);
                 Err(fault)
             }
         }
@@ -209,7 +201,7 @@ impl FolderCalls for MemoryFolder {
                 Ok((mark, bytes))
             }
             Err(fault) => {
-                self.log = self.log.with_failed_load(name.as_bytes());
+                self.log = self.log.with_failed_load(name.as_bytes(), fault);
                 Err(fault)
             }
         }
@@ -222,7 +214,7 @@ impl FolderCalls for MemoryFolder {
                 Ok(names)
             }
             Err(fault) => {
-                self.log = self.log.with_failed_list();
+                self.log = self.log.with_failed_list(fault);
                 Err(fault)
             }
         }

@@ -10,7 +10,7 @@ ghost use Rattle.lsm_folder.specs.SystemFolder.{system_calls, system_place, syst
 
 use crate::folder_calls::FolderCalls;
 use crate::folder_fault::FolderFault;
-use crate::log::{Appended, FolderSynced, Log, Made, Removed, Renamed, Synced, Wrote};
+use crate::log::{Appended, FolderSynced, Log, Made, Removed, Renamed, Synced, Wrote, answered};
 use crate::system_fault::{exists, failed, missing};
 use crate::system_files;
 use crate::system_folder::SystemFolder;
@@ -135,54 +135,52 @@ impl<R: Files + AllocGlobal + Clone + Drop> FolderCalls for SystemFolder<R> {
         let answer = self.try_make(rt, name, bytes);
         self.log = self
             .log
-            .with::<Made>(name.as_bytes(), bytes, answer.is_ok());
+            .with::<Made>(name.as_bytes(), bytes, &answered(&answer));
         answer
     }
 
     fn write<W: Wait>(&mut self, _rt: &W, name: &str, bytes: &[u8]) -> Result<(), FolderFault> {
-        let answer = system_files::write(&self.rt, self.path.as_str(), name, bytes);
-        self.log = self
-            .log
-            .with::<Wrote>(name.as_bytes(), bytes, answer.is_ok());
-        answer.map_err(|e| failed(e))
+        let outcome = system_files::write(&self.rt, self.path.as_str(), name, bytes);
+        let answer = outcome.map_err(|e| failed(e));
+        self.log = self.log.with::<Wrote>(name.as_bytes(), bytes, &answer);
+        answer
     }
 
     fn append<W: Wait>(&mut self, _rt: &W, name: &str, bytes: &[u8]) -> Result<(), FolderFault> {
-        let answer = system_files::append(&self.rt, self.path.as_str(), name, bytes);
-        self.log = self
-            .log
-            .with::<Appended>(name.as_bytes(), bytes, answer.is_ok());
-        answer.map_err(|e| missing(e))
+        let outcome = system_files::append(&self.rt, self.path.as_str(), name, bytes);
+        let answer = outcome.map_err(|e| missing(e));
+        self.log = self.log.with::<Appended>(name.as_bytes(), bytes, &answer);
+        answer
     }
 
     fn sync<W: Wait>(&mut self, _rt: &W, name: &str) -> Result<(), FolderFault> {
-        let answer = system_files::sync(&self.rt, self.path.as_str(), name);
-        self.log = self
-            .log
-            .with::<Synced>(name.as_bytes(), &[], answer.is_ok());
-        answer.map_err(|e| missing(e))
+        let outcome = system_files::sync(&self.rt, self.path.as_str(), name);
+        let answer = outcome.map_err(|e| missing(e));
+        self.log = self.log.with::<Synced>(name.as_bytes(), &[], &answer);
+        answer
     }
 
     fn sync_folder<W: Wait>(&mut self, _rt: &W) -> Result<(), FolderFault> {
-        let answer = system_files::sync_folder(&self.rt, self.path.as_str());
-        self.log = self.log.with::<FolderSynced>(&[], &[], answer.is_ok());
-        answer.map_err(|e| failed(e))
+        let outcome = system_files::sync_folder(&self.rt, self.path.as_str());
+        let answer = outcome.map_err(|e| failed(e));
+        self.log = self.log.with::<FolderSynced>(&[], &[], &answer);
+        answer
     }
 
     fn rename<W: Wait>(&mut self, _rt: &W, from: &str, to: &str) -> Result<(), FolderFault> {
-        let answer = system_files::rename(&self.rt, self.path.as_str(), from, to);
+        let outcome = system_files::rename(&self.rt, self.path.as_str(), from, to);
+        let answer = outcome.map_err(|e| missing(e));
         self.log = self
             .log
-            .with::<Renamed>(from.as_bytes(), to.as_bytes(), answer.is_ok());
-        answer.map_err(|e| missing(e))
+            .with::<Renamed>(from.as_bytes(), to.as_bytes(), &answer);
+        answer
     }
 
     fn remove<W: Wait>(&mut self, _rt: &W, name: &str) -> Result<(), FolderFault> {
-        let answer = system_files::remove(&self.rt, self.path.as_str(), name);
-        self.log = self
-            .log
-            .with::<Removed>(name.as_bytes(), &[], answer.is_ok());
-        answer.map_err(|e| missing(e))
+        let outcome = system_files::remove(&self.rt, self.path.as_str(), name);
+        let answer = outcome.map_err(|e| missing(e));
+        self.log = self.log.with::<Removed>(name.as_bytes(), &[], &answer);
+        answer
     }
 
     fn length<W: Wait>(&mut self, _rt: &W, name: &str) -> Result<u64, FolderFault> {
@@ -192,8 +190,9 @@ impl<R: Files + AllocGlobal + Clone + Drop> FolderCalls for SystemFolder<R> {
                 Ok(length)
             }
             Err(error) => {
-                self.log = self.log.with_failed_length(name.as_bytes());
-                Err(missing(error))
+                let fault = missing(error);
+                self.log = self.log.with_failed_length(name.as_bytes(), fault);
+                Err(fault)
             }
         }
     }
@@ -215,10 +214,11 @@ impl<R: Files + AllocGlobal + Clone + Drop> FolderCalls for SystemFolder<R> {
                 Ok(bytes)
             }
             Err(error) => {
+                let fault = missing(error);
                 self.log = self
                     .log
-                    .with_failed_read(name.as_bytes(), &image, offset, len);
-                Err(missing(error))
+                    .with_failed_read(name.as_bytes(), &image, offset, len, fault);
+                Err(fault)
             }
         }
     }
@@ -235,7 +235,7 @@ impl<R: Files + AllocGlobal + Clone + Drop> FolderCalls for SystemFolder<R> {
                 Ok((mark, bytes))
             }
             Err(fault) => {
-                self.log = self.log.with_failed_load(name.as_bytes());
+                self.log = self.log.with_failed_load(name.as_bytes(), fault);
                 Err(fault)
             }
         }
@@ -248,8 +248,9 @@ impl<R: Files + AllocGlobal + Clone + Drop> FolderCalls for SystemFolder<R> {
                 Ok(names)
             }
             Err(error) => {
-                self.log = self.log.with_failed_list();
-                Err(failed(error))
+                let fault = failed(error);
+                self.log = self.log.with_failed_list(fault);
+                Err(fault)
             }
         }
     }

@@ -3,3 +3,4 @@ mod PlainSteps
 mod Installing
 mod Runs
 mod Created
+pub mod CallerLemmas

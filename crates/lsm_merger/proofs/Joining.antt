@@ -37,13 +37,3 @@ merge_joins (suc n) (x ∷ xs) (y ∷ ys) (z ∷ zs) le = go (goes_first x.1 y.1
 
 pub merge-merge : (xs ys zs : List Placed) → merge (merge xs ys) zs ≡ merge xs (merge ys zs)
 merge-merge xs ys zs = merge_joins (length xs + length ys + length zs) xs ys zs (omega arith)
-
-pub merge_all-append : (ls : List (List Placed)) (l : List Placed) → merge_all (ls ++ l ∷ []) ≡ merge (merge_all ls) l
-merge_all-append [] l = merge_empty l
-merge_all-append (m ∷ ls) l = ap (λ (r : List Placed). merge m r) (merge_all-append ls l) ∙ sym (merge-merge m (merge_all ls) l)
-
--- the last lists as one, and before them others as one
-pub joined : (old mid new : List (List Placed)) (first second both : List Placed) → merge_all old ≡ merge (merge_all mid) second
-    → merge_all mid ≡ merge (merge_all new) first → both ≡ merge first second → merge_all old ≡ merge (merge_all new) both
-joined old mid new first second both e f g =
-    e ∙ ap (λ (l : List Placed). merge l second) f ∙ merge-merge (merge_all new) first second ∙ ap (λ (l : List Placed). merge (merge_all new) l) (sym g)

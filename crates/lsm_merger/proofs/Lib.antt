@@ -1,2 +1,6 @@
+mod RunLaws
+mod TreeLaws
+mod ShownLaws
+mod FollowedLaws
 mod Joining
 mod AgeLaws

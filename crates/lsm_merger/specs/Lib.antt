@@ -1,5 +1,8 @@
-pub mod TableStream
+pub mod Heads
+pub mod Runs
 pub mod Tree
+pub mod Shown
+pub mod Followed
 pub use Rattle.lsm_levels.specs.Ages
 pub use Rattle.lsm_levels.specs.Merging
 pub use Rattle.lsm_levels.specs.Scanning

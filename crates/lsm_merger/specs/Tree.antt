@@ -1,24 +1,47 @@
--- A tree of merges: what is left of it, and that its forks have their first entries in hand.
-use Rattle.std.specs.Prelude.{List, [], Option, Some, None}
-use Rattle.lsm_levels.specs.Merging.{Placed, at_head, merge, IsEmptyBehind}
+-- A tree of merges: what is left of it, and that its forks know which of their two trees leads.
+use Rattle.std.specs.Prelude.{◌≡◌, Bool, false, List, [], ◌∷◌, ◌++◌, Option, Some, None}
+use Rattle.lsm_levels.specs.Merging.{merge, leads}
+use Rattle.lsm_merger.specs.Runs.{Left}
 use Rattle.lsm_merger.specs.declared.tree.Tree.{Tree}
 use Rattle.lsm_merger.specs.declared.tree.Tree.TheVariants.{Leaf, Fork'}
 
--- what is left of a tree; `Fork'` has each box in two parts, of which one is the tree
-abbrev pub left_of : Tree (List Placed) Placed → List Placed
-left_of (Leaf source) = source
-left_of (Fork' head p l q r) = at_head head (merge (left_of l) (left_of r))
+-- what is left of two, the first one's entry first where both may go
+abbrev pub both : Left → Left → Left
+both a b = record { placed = merge a.placed b.placed; files = a.files ++ b.files }
 
--- each fork has its first entry in hand
-abbrev pub IsReady : Tree (List Placed) Placed → Type 0
+abbrev pub none_left : Left
+none_left = record { placed = []; files = [] }
+
+-- what is left of several sources, an earlier one's entry first where both may go
+abbrev pub all_left : List Left → Left
+all_left [] = none_left
+all_left (l ∷ ls) = both l (all_left ls)
+
+-- what is left of a tree; `Fork'` has each box in two parts, of which one is the tree
+abbrev pub left_of : Tree Left → Left
+left_of (Leaf source) = source
+left_of (Fork' led p l q r) = both (left_of l) (left_of r)
+
+-- each fork knows which of its two trees leads
+abbrev pub IsReady : Tree Left → Type 0
 IsReady (Leaf source) = Unit {0}
-IsReady (Fork' head p l q r) = IsEmptyBehind head (merge (left_of l) (left_of r)) × IsReady l × IsReady r
+IsReady (Fork' led p l q r) = (led ≡ leads (left_of l).placed (left_of r).placed) × IsReady l × IsReady r
+
+-- the two trees of a fork are ready
+abbrev pub AreReady : Tree Left → Type 0
+AreReady (Leaf source) = Unit {0}
+AreReady (Fork' led p l q r) = IsReady l × IsReady r
+
+-- the first of the two trees of a fork leads
+abbrev pub leads_in : Tree Left → Bool
+leads_in (Leaf source) = false
+leads_in (Fork' led p l q r) = leads (left_of l).placed (left_of r).placed
 
 -- the same where there may be no tree
-abbrev pub left_of_any : Option (Tree (List Placed) Placed) → List Placed
-left_of_any None = []
+abbrev pub left_of_any : Option (Tree Left) → Left
+left_of_any None = none_left
 left_of_any (Some tree) = left_of tree
 
-abbrev pub IsReadyIfAny : Option (Tree (List Placed) Placed) → Type 0
+abbrev pub IsReadyIfAny : Option (Tree Left) → Type 0
 IsReadyIfAny None = Unit {0}
 IsReadyIfAny (Some tree) = IsReady tree

@@ -1,26 +1,25 @@
-//! The merge of sorted sources: entries in order, each with its source's place, and what a scan shows of them.
+//! The merge of sorted tables: entries in order, each with its source's place, and what a scan
+//! shows of them.
 //!
-//! Stands on `lsm_levels` for what a merge is, and on `lsm_table` for the entries of a table. Its contract: a merge is its sources
-//! in order, and after a fault what is left is as before.
+//! Stands on `lsm_levels` for what a merge is, and on `lsm_reader` for tables that are read block
+//! by block. Data flows from `run` (the tables of a level, one after another) through `tree` and
+//! `merger` to `scan` and `ages`. Its contract: a merge is its sources in order, and after a fault
+//! what is left is as before.
 #![tactic(auto)]
 
 mod ages;
-mod input;
+mod answered;
+mod file_fault;
+mod followed;
 mod merger;
-mod owned_entry;
-mod placed;
+mod pair;
+mod run;
 mod scan;
-mod source;
-mod stream;
-mod table_stream;
 mod tree;
 
 pub use ages::against_age;
-pub use input::Input;
+pub use file_fault::FileFault;
 pub use merger::Merger;
-pub use owned_entry::OwnedEntry;
-pub use placed::Placed;
-pub use scan::{Pair, Scan};
-pub use source::Source;
-pub use stream::{ListStream, Stream};
-pub use table_stream::TableStream;
+pub use pair::Pair;
+pub use run::Run;
+pub use scan::Scan;

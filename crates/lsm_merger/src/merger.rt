@@ -1,72 +1,132 @@
 //! The merge of several sources.
 
-ghost use Rattle.std.specs.Prelude.{◌≡◌, IfOk, OnErr, MatchOption, [], ◌∷◌};
-ghost use Rattle.lsm_levels.specs.Merging.{entries_of, merge_all};
+ghost use Rattle.std.specs.Prelude.{◌≡◌, false, map, IfOk, IfErr, OnOk, OnErr};
+ghost use Rattle.std.specs.Option.{option_map};
+ghost use Rattle.std.specs.List.{flat_map};
+ghost use Rattle.lsm_codec.specs.KeyRef.{key_of};
+ghost use Rattle.lsm_table.specs.ReadFault.{ReadCounted, IsMemoryOrShelf};
+ghost use Rattle.lsm_table.specs.Told.{Becomes};
+ghost use Rattle.lsm_levels.specs.Merging.{merge_all};
+ghost use Rattle.lsm_merger.specs.Heads.{after_first, first_of, key_in, no_more, place_in, value_in};
+ghost use Rattle.lsm_merger.specs.Runs.{IsOfFirst, ReadsNoOther};
 
-use crate::input::Input;
-use crate::owned_entry::OwnedEntry;
-use crate::placed::Placed;
-use crate::stream::Stream;
-use crate::tree::{Tree, next, of_last};
-use std::alloc::Global;
+use crate::file_fault::FileFault;
+use crate::run::Run;
+use crate::tree::{Tree, advance_by, head, of_last};
+use lsm_codec::KeyRef;
+use lsm_reader::Blocks;
+use lsm_table::{Naming, Shelf};
+use std::alloc::{AllocError, Global};
 use std::marker::Model;
 
-/// The entries of several sources in order; those of one user key, sequence and kind in the order of the sources.
-/// Contracts see what is left: the merge of what is left of each source.
+/// The entries of several runs in order; those of one user key, sequence and kind in the order of
+/// the runs. It stands at the first that is left, and lends it.
 ///
-/// A step compares as many entries as the logarithm of the number of sources; each source is read some entries ahead.
+/// Contracts see what is left: the merge of what is left of each run, each entry with its run's
+/// place, and the files that are not yet read to their ends.
 #[derive(Drop)]
-pub struct Merger<S: Stream> {
-    tree: Option<Tree<Input<S>, Placed>>,
+pub struct Merger<N: Naming, S: Shelf> {
+    tree: Option<Tree<Run<N, S>>>,
 }
 
-impl<S: Stream> Model for Merger<S> {
-    ghost use Rattle.std.specs.Prelude.{List};
-    ghost use Rattle.lsm_levels.specs.Merging.{Placed};
+impl<N: Naming, S: Shelf> Model for Merger<N, S> {
+    ghost use Rattle.lsm_merger.specs.Runs.{Left};
     ghost use Rattle.lsm_merger.specs.Tree.{IsReadyIfAny, left_of_any};
 
-    ghost Value = { List Placed };
+    ghost Value = { Left };
 
     ghost view = { λ m. left_of_any m.tree };
 
     ghost invariant = { λ m. IsReadyIfAny m.tree };
 }
 
-impl<S: Stream> Merger<S> {
-    /// What is left is the merge of what is left of the sources. After a fault the sources are given up.
-    pub fn new(alloc: Global, sources: Vec<Input<S>>) -> Result<Merger<S>, S::Fault>
-        ensures { IfOk result (λ m. m ≡ merge_all sources.items) }
+impl<N: Naming, S: Shelf> Merger<N, S> {
+    /// What is left is the merge of what is left of the runs.
+    pub fn new(alloc: Global, runs: Vec<Run<N, S>>) -> Result<Merger<N, S>, AllocError>
+        ensures placed { IfOk result (λ m. m.placed ≡ merge_all (map (λ r. r.placed) runs.items)) }
+        ensures files { IfOk result (λ m. m.files ≡ flat_map (λ r. r.files) runs.items) }
     {
-        let mut sources = sources;
-        let count = sources.len();
+        let mut runs = runs;
+        let count = runs.len();
         if count == 0 {
             return Ok(Merger { tree: None });
         }
-        let tree = of_last(alloc, &mut sources, count)?;
+        let tree = of_last(alloc, &mut runs, count)?;
         Ok(Merger { tree: Some(tree) })
     }
 
-    /// The next entry with its source's place, or none at the end. After a fault what is left is as before.
-    pub fn next_placed(&mut self) -> Result<Option<Placed>, S::Fault>
-        ensures ok { IfOk result (λ r. MatchOption r ((self.old ≡ []) × (self.new ≡ [])) (λ p. self.old ≡ p ∷ self.new)) }
-        ensures err { OnErr result (self.new ≡ self.old) }
+    /// The key of the entry at which it stands, if it stands at one.
+    pub fn key(&self) -> Option<KeyRef<'_>>
+        ensures { option_map key_of result ≡ key_in (first_of self.now.placed) }
     {
-        match &mut self.tree {
-            None => Ok(None),
-            Some(tree) => next(tree),
+        match &self.tree {
+            None => None,
+            Some(tree) => head(tree).key(),
         }
     }
-}
 
-impl<S: Stream> Stream for Merger<S> {
-    type Fault = S::Fault;
+    /// The value of the entry at which it stands; no bytes where it stands at none.
+    pub fn value(&self) -> &[u8]
+        ensures { result.now ≡ value_in (first_of self.now.placed) }
+    {
+        match &self.tree {
+            None => &[],
+            Some(tree) => head(tree).value(),
+        }
+    }
 
-    ghost left = { λ m. entries_of m };
+    /// The place of the run from which the entry comes at which it stands; 0 where it stands at
+    /// none.
+    pub fn place(&self) -> u64
+        ensures { result ≡ place_in (first_of self.now.placed) }
+    {
+        match &self.tree {
+            None => 0,
+            Some(tree) => head(tree).place(),
+        }
+    }
 
-    fn next(&mut self) -> Result<Option<OwnedEntry>, S::Fault> {
-        match self.next_placed()? {
-            None => Ok(None),
-            Some(placed) => Ok(Some(placed.into_entry())),
+    /// The number of the file in which the entry stands at which it stands; 0 where no run was
+    /// given.
+    pub fn number(&self) -> u64
+        ensures { no_more self.now.placed ≡ false → IsOfFirst self.now result }
+    {
+        match &self.tree {
+            None => 0,
+            Some(tree) => head(tree).number(),
+        }
+    }
+
+    /// Whether it stands at no entry. Then none is left.
+    pub fn is_at_end(&self) -> bool
+        ensures { result ≡ no_more self.now.placed }
+    {
+        match &self.tree {
+            None => true,
+            Some(tree) => head(tree).is_at_end(),
+        }
+    }
+
+    /// Goes on to the next entry, or to the end. An `Err` leaves it, and names a file of the run
+    /// from which the entry comes at which it stands.
+    pub fn advance_by<B: Blocks<S>>(
+        &mut self,
+        blocks: &mut B,
+        alloc: Global,
+    ) -> Result<(), FileFault>
+        requires here { (B.told blocks.old).place ≡ N.place }
+        ensures ok { S.honest → OnOk result (self.new.placed ≡ after_first self.old.placed) }
+        ensures files { OnOk result (ReadsNoOther self.old self.new) }
+        ensures sound { S.honest → IfErr result (λ e. IsMemoryOrShelf e.fault) }
+        ensures err { OnErr result (self.new ≡ self.old) }
+        ensures number { IfErr result (λ e. IsOfFirst self.old e.number) }
+        ensures told { Becomes (B.told blocks.old) (B.told blocks.new) }
+        ensures loan { B.loan blocks.new ≡ B.loan blocks.old }
+        ensures cause { IfErr result (λ e. ReadCounted e.fault (B.told blocks.old) (B.told blocks.new)) }
+    {
+        match &mut self.tree {
+            None => Ok(()),
+            Some(tree) => advance_by(tree, blocks, alloc),
         }
     }
 }

@@ -1,120 +1,160 @@
-//! A tree of merges, each of two: a step costs one comparison a fork on the way to one source.
+//! A tree of merges, each of two, whose heads are lent: a step costs one comparison a fork on the
+//! way to one source, and copies no key and no value.
 
-ghost use Rattle.std.specs.Prelude.{◌≡◌, ◌+◌, ◌<◌, ◌≤◌, IfOk, OnOk, OnErr, MatchOption, [], ◌∷◌, length};
-ghost use Rattle.lsm_levels.specs.Merging.{IsPlacedHead, leads, merge, merge_all};
-ghost use Rattle.lsm_merger.specs.Tree.{left_of, IsReady};
+ghost use Rattle.std.specs.Prelude.{◌≡◌, ℕ, ◌+◌, ◌<◌, ◌≤◌, [], length, IfOk, IfErr, OnOk, OnErr};
+ghost use Rattle.std.specs.Option.{option_map};
+ghost use Rattle.lsm_codec.specs.KeyRef.{key_of};
+ghost use Rattle.lsm_codec.specs.Lists.{Has};
+ghost use Rattle.lsm_table.specs.ReadFault.{ReadCounted, IsMemoryOrShelf};
+ghost use Rattle.lsm_table.specs.Told.{Becomes};
+ghost use Rattle.lsm_levels.specs.Merging.{leads};
+ghost use Rattle.lsm_merger.specs.Heads.{after_first, first_of, leads_by};
+ghost use Rattle.lsm_merger.specs.Runs.{IsOfFirst, ReadsNoOther};
+ghost use Rattle.lsm_merger.specs.Tree.{all_left, both, left_of, leads_in, IsReady, AreReady};
 
-use crate::input::Input;
-use crate::owned_entry::OwnedEntry;
-use crate::placed::Placed;
-use crate::stream::Stream;
+use crate::file_fault::FileFault;
+use crate::run::Run;
+use lsm_codec::KeyRef;
+use lsm_reader::Blocks;
+use lsm_table::{Naming, Shelf};
 use std::alloc::{AllocError, Global};
-use std::mem;
 
-/// A source, or the merge of two trees with its first entry in hand.
+/// A source, or the merge of two trees, with whether the first of them leads.
 #[derive(Drop)]
-pub(crate) enum Tree<X, E> {
+pub(crate) enum Tree<X> {
     Leaf(X),
-    Fork(Option<E>, Box<Tree<X, E>>, Box<Tree<X, E>>),
+    Fork(bool, Box<Tree<X>>, Box<Tree<X>>),
 }
 
-/// The first entry, if there is one.
-fn head<S: Stream>(tree: &Tree<Input<S>, Placed>) -> Option<&OwnedEntry>
+/// The source that has the first entry, or no entry where none has: it goes down by the flags,
+/// without a comparison.
+#[tactic(auto, using(crate::proofs::TreeLaws::in_first, crate::proofs::TreeLaws::in_second))]
+pub(crate) fn head<N: Naming, S: Shelf>(tree: &Tree<Run<N, S>>) -> &Run<N, S>
     requires { IsReady tree.now }
-    ensures { MatchOption result (left_of tree.now ≡ []) (λ e. IsPlacedHead e.now (left_of tree.now)) }
+    ensures first { first_of result.now.placed ≡ first_of (left_of tree.now).placed }
+    ensures files { (f : ℕ × ℕ) → Has result.now.files f → Has (left_of tree.now).files f }
 {
     match tree {
-        Tree::Leaf(source) => source.head(),
-        Tree::Fork(head, _, _) => head.as_ref().map(Placed::entry),
+        Tree::Leaf(source) => source,
+        Tree::Fork(led, first, second) => { if *led { head(first) } else { head(second) } }
+    }
+}
+
+/// Whether a key stands before the other one, or is it; where there is no other one it does.
+fn is_first(own: Option<KeyRef<'_>>, other: Option<KeyRef<'_>>) -> bool
+    ensures { result ≡ leads_by (option_map key_of own.entry) (option_map key_of other.entry) }
+{
+    match (own, other) {
+        (None, _) => false,
+        (Some(_own), None) => true,
+        (Some(own), Some(other)) => own.compare(&other).is_le(),
     }
 }
 
 /// Whether the first tree has an entry, and it may be handed out before the second's.
-fn is_led<S: Stream>(first: &Tree<Input<S>, Placed>, second: &Tree<Input<S>, Placed>) -> bool
+#[tactic(auto, using(crate::proofs::TreeLaws::leads_keys))]
+fn is_led<N: Naming, S: Shelf>(first: &Tree<Run<N, S>>, second: &Tree<Run<N, S>>) -> bool
     requires first { IsReady first.now }
     requires second { IsReady second.now }
-    ensures { result ≡ leads (left_of first.now) (left_of second.now) }
+    ensures { result ≡ leads (left_of first.now).placed (left_of second.now).placed }
 {
-    match (head(first), head(second)) {
-        (None, _) => false,
-        (Some(_own), None) => true,
-        (Some(own), Some(others)) => own.goes_first(others),
+    is_first(head(first).key(), head(second).key())
+}
+
+/// Whether the first of a fork's two trees leads.
+fn which<N: Naming, S: Shelf>(tree: &Tree<Run<N, S>>) -> bool
+    requires { AreReady tree.now }
+    ensures { result ≡ leads_in tree.now }
+{
+    match tree {
+        Tree::Leaf(_source) => false,
+        Tree::Fork(_led, first, second) => is_led(first, second),
     }
 }
 
-/// The first entry, or none at the end. After a fault what is left is as before.
-pub(crate) fn next<S: Stream>(tree: &mut Tree<Input<S>, Placed>) -> Result<Option<Placed>, S::Fault>
-    requires { IsReady tree.old }
+/// Writes down anew which of its two trees leads.
+fn settle<N: Naming, S: Shelf>(tree: &mut Tree<Run<N, S>>)
+    requires { AreReady tree.old }
     ensures ready { IsReady tree.new }
-    ensures ok { IfOk result (λ r. MatchOption r ((left_of tree.old ≡ []) × (left_of tree.new ≡ [])) (λ e. left_of tree.old ≡ e ∷ left_of tree.new)) }
+    ensures left { left_of tree.new ≡ left_of tree.old }
+{
+    let now = which(&*tree);
+    if let Tree::Fork(led, _first, _second) = tree {
+        *led = now;
+    }
+}
+
+/// Goes on to the next entry. An `Err` leaves what is left.
+#[tactic(auto, using(crate::proofs::TreeLaws::fault_first, crate::proofs::TreeLaws::fault_second, crate::proofs::TreeLaws::none_other_first, crate::proofs::TreeLaws::none_other_second, crate::proofs::TreeLaws::step_left, crate::proofs::TreeLaws::step_right))]
+pub(crate) fn advance_by<N: Naming, S: Shelf, B: Blocks<S>>(
+    tree: &mut Tree<Run<N, S>>,
+    blocks: &mut B,
+    alloc: Global,
+) -> Result<(), FileFault>
+    requires ready { IsReady tree.old }
+    requires here { (B.told blocks.old).place ≡ N.place }
+    ensures ready { IsReady tree.new }
+    ensures ok { S.honest → OnOk result ((left_of tree.new).placed ≡ after_first (left_of tree.old).placed) }
+    ensures files { OnOk result (ReadsNoOther (left_of tree.old) (left_of tree.new)) }
+    ensures sound { S.honest → IfErr result (λ e. IsMemoryOrShelf e.fault) }
     ensures err { OnErr result (left_of tree.new ≡ left_of tree.old) }
+    ensures number { IfErr result (λ e. IsOfFirst (left_of tree.old) e.number) }
+    ensures told { Becomes (B.told blocks.old) (B.told blocks.new) }
+    ensures loan { B.loan blocks.new ≡ B.loan blocks.old }
+    ensures cause { IfErr result (λ e. ReadCounted e.fault (B.told blocks.old) (B.told blocks.new)) }
 {
     match tree {
-        Tree::Leaf(source) => source.next(),
-        Tree::Fork(head, first, second) => {
-            if head.is_none() {
-                return Ok(None);
+        Tree::Leaf(source) => source.advance_by(blocks, alloc),
+        Tree::Fork(led, first, second) => {
+            if *led {
+                match advance_by(first, blocks, alloc) {
+                    Ok(()) => {}
+                    Err(fault) => return Err(fault),
+                }
+                settle(tree);
+                return Ok(());
             }
-            let following = if is_led(&*first, &*second) {
-                next(first)?
-            } else {
-                next(second)?
-            };
-            Ok(mem::replace(head, following))
+            match advance_by(second, blocks, alloc) {
+                Ok(()) => {}
+                Err(fault) => return Err(fault),
+            }
+            settle(tree);
+            Ok(())
         }
     }
 }
 
-/// The first entry of the merge of two trees, or none at the end.
-fn next_of_two<S: Stream>(
-    first: &mut Tree<Input<S>, Placed>,
-    second: &mut Tree<Input<S>, Placed>,
-) -> Result<Option<Placed>, S::Fault>
-    requires first { IsReady first.old }
-    requires second { IsReady second.old }
-    ensures first_ready { IsReady first.new }
-    ensures second_ready { IsReady second.new }
-    ensures ok { IfOk result (λ r. MatchOption r ((merge (left_of first.old) (left_of second.old) ≡ []) × (merge (left_of first.new) (left_of second.new) ≡ [])) (λ e. merge (left_of first.old) (left_of second.old) ≡ e ∷ merge (left_of first.new) (left_of second.new))) }
-    ensures err { OnErr result (merge (left_of first.new) (left_of second.new) ≡ merge (left_of first.old) (left_of second.old)) }
-{
-    if is_led(&*first, &*second) {
-        next(first)
-    } else {
-        next(second)
-    }
-}
-
-fn boxed<S: Stream>(
+fn boxed<N: Naming, S: Shelf>(
     alloc: Global,
-    tree: Tree<Input<S>, Placed>,
-) -> Result<Box<Tree<Input<S>, Placed>>, AllocError>
+    tree: Tree<Run<N, S>>,
+) -> Result<Box<Tree<Run<N, S>>>, AllocError>
     ensures { IfOk result (λ b. b.value ≡ tree) }
 {
     Ok(Box::new(alloc, tree)?)
 }
 
 /// The merge of two trees.
-fn fork<S: Stream>(
+fn fork<N: Naming, S: Shelf>(
     alloc: Global,
-    first: Tree<Input<S>, Placed>,
-    second: Tree<Input<S>, Placed>,
-) -> Result<Tree<Input<S>, Placed>, S::Fault>
+    first: Tree<Run<N, S>>,
+    second: Tree<Run<N, S>>,
+) -> Result<Tree<Run<N, S>>, AllocError>
     requires first { IsReady first }
     requires second { IsReady second }
     ensures ready { IfOk result IsReady }
-    ensures left { IfOk result (λ t. left_of t ≡ merge (left_of first) (left_of second)) }
+    ensures left { IfOk result (λ t. left_of t ≡ both (left_of first) (left_of second)) }
 {
-    let mut first = boxed(alloc, first)?;
-    let mut second = boxed(alloc, second)?;
-    let head = next_of_two(&mut *first, &mut *second)?;
-    Ok(Tree::Fork(head, first, second))
+    let led = is_led(&first, &second);
+    let first = boxed(alloc, first)?;
+    let second = boxed(alloc, second)?;
+    Ok(Tree::Fork(led, first, second))
 }
 
 /// The last source, which is taken out.
-fn last<S: Stream>(sources: &mut Vec<Input<S>>) -> Tree<Input<S>, Placed>
+fn last<N: Naming, S: Shelf>(sources: &mut Vec<Run<N, S>>) -> Tree<Run<N, S>>
     requires { 0 < length sources.old.items }
     ensures ready { IsReady result }
-    ensures left { merge_all sources.old.items ≡ merge (merge_all sources.new.items) (left_of result) }
+    ensures left { all_left sources.old.items ≡ both (all_left sources.new.items) (left_of result) }
     ensures rest { length sources.new.items + 1 ≡ length sources.old.items }
 {
     match sources.pop() {
@@ -124,15 +164,15 @@ fn last<S: Stream>(sources: &mut Vec<Input<S>>) -> Tree<Input<S>, Placed>
 }
 
 /// The merge of the last sources, so many, which are taken out.
-pub(crate) fn of_last<S: Stream>(
+pub(crate) fn of_last<N: Naming, S: Shelf>(
     alloc: Global,
-    sources: &mut Vec<Input<S>>,
+    sources: &mut Vec<Run<N, S>>,
     count: usize,
-) -> Result<Tree<Input<S>, Placed>, S::Fault>
+) -> Result<Tree<Run<N, S>>, AllocError>
     requires some { 0 < count }
     requires inside { count ≤ length sources.old.items }
     ensures ready { IfOk result IsReady }
-    ensures left { IfOk result (λ t. merge_all sources.old.items ≡ merge (merge_all sources.new.items) (left_of t)) }
+    ensures left { IfOk result (λ t. all_left sources.old.items ≡ both (all_left sources.new.items) (left_of t)) }
     ensures rest { OnOk result (length sources.new.items + count ≡ length sources.old.items) }
 {
     if count > 1 {

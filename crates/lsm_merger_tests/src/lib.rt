@@ -1,5 +1,7 @@
-//! Tests of `lsm_merger` by its public names.
+//! Tests of `lsm_merger` by its public names: small tables on a shelf, merged, scanned and judged.
 #![tactic(auto)]
 
+#[cfg(test)]
+mod images;
 #[cfg(test)]
 mod merging;

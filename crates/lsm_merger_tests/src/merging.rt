@@ -1,204 +1,197 @@
 //! Merges, scans and judgments of age over lists whose answers were worked out by hand.
 
-use lsm_codec::{Kind, MAX_SEQ};
-use lsm_merger::{Input, ListStream, Merger, OwnedEntry, Scan, Source, Stream, against_age};
-use std::alloc::{AllocError, Global};
+ghost use Rattle.std.specs.Prelude.{◌≡◌};
+
+use crate::images::{Row, image_of};
+use lsm_codec::Kind;
+use lsm_merger::{FileFault, Merger, Run, Scan, against_age};
+use lsm_reader::{Blocks, Direct};
+use lsm_table::{FuseShelf, MemoryShelf, Naming, ReadFault, Shelf};
+use std::alloc::Global;
 use std::collections::VecDeque;
-use std::marker::Model;
+use std::marker::Brand;
+use std::process::Abort;
+use std::sync::Wait;
 use std::test::Fail;
 
-type Row<'a> = (&'a [u8], u64, Kind, &'a [u8]);
-
-fn bytes_of(alloc: Global, bytes: &[u8]) -> Result<Vec<u8>, Fail> {
-    let mut copy = Vec::new(alloc);
-    copy.extend_from_slice(bytes)?;
-    Ok(copy)
-}
-
-fn stream_of(alloc: Global, rows: &[Row<'_>]) -> Result<ListStream, Fail> {
-    let mut entries = VecDeque::new(alloc);
-    for &(user, seq, kind, value) in rows {
-        let user = bytes_of(alloc, user)?;
-        let value = bytes_of(alloc, value)?;
-        entries.push_back(OwnedEntry::new(user, seq.min(MAX_SEQ), kind, value))?;
+/// Puts a table and a second one under the next number, and opens both as a run with this place.
+fn run_of<N: Naming, S: Shelf, R: Wait>(
+    rt: &R,
+    alloc: Global,
+    shelf: &mut S,
+    place: u64,
+    first: &[Row<'_>],
+    second: Option<&[Row<'_>]>,
+) -> Result<Run<N, S>, Fail>
+    requires { (S.told shelf.old).place ≡ N.place }
+    ensures { (S.told shelf.new).place ≡ N.place }
+{
+    let image = image_of(alloc, first)?;
+    let receipt = shelf.put(rt, alloc, place.wrapping_mul(10), &image)?;
+    let mut later = VecDeque::new(alloc);
+    if let Some(second) = second {
+        let image = image_of(alloc, second)?;
+        later.push_back(shelf.put(rt, alloc, place.wrapping_mul(10).wrapping_add(1), &image)?)?;
     }
-    Ok(ListStream::new(entries))
+    let mut direct = Direct::new(shelf);
+    let run = Run::open_by(&mut direct, alloc, place, receipt, later)?;
+    Ok(run)
 }
 
-fn source_of(alloc: Global, rows: &[Row<'_>]) -> Result<Source<ListStream>, Fail> {
-    let source = Source::new(stream_of(alloc, rows)?)?;
-    Ok(source)
-}
+/// One or two tables.
+type Tables<'a> = (&'a [Row<'a>], Option<&'a [Row<'a>]>);
 
-fn merger_of(alloc: Global, inputs: &[&[Row<'_>]]) -> Result<Merger<ListStream>, Fail> {
-    let mut sources = Vec::new(alloc);
-    let mut place = 0u64;
-    for rows in inputs {
-        sources.push(Input::new(place, source_of(alloc, rows)?))?;
+/// The merge of runs of these tables, whose places go up from 1.
+fn merger_of<N: Naming, S: Shelf, R: Wait>(
+    rt: &R,
+    alloc: Global,
+    shelf: &mut S,
+    inputs: &[Tables<'_>],
+) -> Result<Merger<N, S>, Fail>
+    requires { (S.told shelf.old).place ≡ N.place }
+    ensures { (S.told shelf.new).place ≡ N.place }
+{
+    let mut runs = Vec::new(alloc);
+    let mut place = 1u64;
+    for &(first, second) in inputs {
+        runs.push(run_of(rt, alloc, shelf, place, first, second)?)?;
         place = place.wrapping_add(1);
     }
-    let merger = Merger::new(alloc, sources)?;
+    let merger = Merger::new(alloc, runs)?;
     Ok(merger)
 }
 
-/// Inputs that share internal keys, and one without entries.
-const MERGED: &[&[Row<'_>]] = &[
-    &[(b"a", 3, Kind::Value, b"0"), (b"b", 2, Kind::Value, b"0")],
-    &[(b"a", 4, Kind::Value, b"1"), (b"b", 2, Kind::Value, b"1")],
-    &[],
-    &[
-        (b"a", 3, Kind::Value, b"3"),
-        (b"ab", 9, Kind::Deletion, b""),
-    ],
-    &[(b"", 1, Kind::Value, b"4")],
+/// Runs that share internal keys; one of them goes on in a second table.
+const MERGED: &[Tables<'_>] = &[
+    (
+        &[(b"a", 3, Kind::Value, b"1"), (b"b", 2, Kind::Value, b"1")],
+        None,
+    ),
+    (
+        &[(b"a", 4, Kind::Value, b"2")],
+        Some(&[(b"b", 2, Kind::Value, b"2")]),
+    ),
+    (
+        &[
+            (b"a", 3, Kind::Value, b"3"),
+            (b"ab", 9, Kind::Deletion, b""),
+        ],
+        None,
+    ),
+    (&[(b"", 1, Kind::Value, b"4")], None),
 ];
 
-/// The place, user key and sequence of each entry of their merge.
-const IN_ORDER: &[(u64, &[u8], u64)] = &[
-    (4, b"", 1),
-    (1, b"a", 4),
-    (0, b"a", 3),
-    (3, b"a", 3),
-    (3, b"ab", 9),
-    (0, b"b", 2),
-    (1, b"b", 2),
+/// The place, file, user key and sequence of each entry of their merge.
+const IN_ORDER: &[(u64, u64, &[u8], u64)] = &[
+    (4, 40, b"", 1),
+    (2, 20, b"a", 4),
+    (1, 10, b"a", 3),
+    (3, 30, b"a", 3),
+    (3, 30, b"ab", 9),
+    (1, 10, b"b", 2),
+    (2, 21, b"b", 2),
 ];
 
-/// Whether the next entry of a merge is of this place, user key and sequence.
-fn comes_next<S: Stream>(merger: &mut Merger<S>, place: u64, user: &[u8], seq: u64) -> bool {
-    match merger.next_placed() {
-        Ok(Some(placed)) => {
-            let entry = placed.entry();
-            placed.place() == place && entry.user() == user && entry.seq() == seq
+/// Whether a merge stands at an entry of this place, file, user key and sequence.
+fn stands_at<N: Naming, S: Shelf>(
+    merger: &Merger<N, S>,
+    place: u64,
+    file: u64,
+    user: &[u8],
+    seq: u64,
+) -> bool {
+    match merger.key() {
+        None => false,
+        Some(key) => {
+            merger.place() == place && merger.number() == file && key.user == user && key.seq == seq
         }
-        Ok(None) | Err(_) => false,
     }
 }
 
-/// Whether no entry is left of a merge.
-fn is_through<S: Stream>(merger: &mut Merger<S>) -> bool {
-    match merger.next_placed() {
-        Ok(next) => next.is_none(),
-        Err(_) => false,
+/// Goes on, by a second call where the first one fails. Whether it failed.
+fn goes_on<N: Naming, S: Shelf, B: Blocks<S>>(
+    merger: &mut Merger<N, S>,
+    blocks: &mut B,
+    alloc: Global,
+) -> Result<bool, FileFault>
+    requires { (B.told blocks.old).place ≡ N.place }
+    ensures { (B.told blocks.new).place ≡ N.place }
+{
+    match merger.advance_by(blocks, alloc) {
+        Ok(()) => Ok(false),
+        Err(_fault) => {
+            merger.advance_by(blocks, alloc)?;
+            Ok(true)
+        }
     }
+}
+
+/// Goes through a merge, of which the entries are to be those of `IN_ORDER`: how many calls failed,
+/// or none where another entry comes.
+fn goes_in_order<N: Naming, S: Shelf, B: Blocks<S>>(
+    merger: &mut Merger<N, S>,
+    blocks: &mut B,
+    alloc: Global,
+) -> Result<Option<u64>, FileFault>
+    requires { (B.told blocks.old).place ≡ N.place }
+{
+    let mut failed = 0u64;
+    for &(place, file, user, seq) in IN_ORDER {
+        if !stands_at(&*merger, place, file, user, seq) {
+            return Ok(None);
+        }
+        if goes_on(merger, blocks, alloc)? {
+            failed = failed.wrapping_add(1);
+        }
+    }
+    if !merger.is_at_end() || merger.key().is_some() {
+        return Ok(None);
+    }
+    Ok(Some(failed))
+}
+
+/// Goes through the merge of `MERGED`.
+fn merges<N: Naming, S: Shelf, R: Wait>(
+    rt: &R,
+    alloc: Global,
+    shelf: &mut S,
+) -> Result<Option<u64>, Fail>
+    requires { (S.told shelf.old).place ≡ N.place }
+{
+    let mut merger = merger_of::<N, S, R>(rt, alloc, shelf, MERGED)?;
+    let mut direct = Direct::new(shelf);
+    Ok(goes_in_order(&mut merger, &mut direct, alloc)?)
 }
 
 #[test]
 fn merges_in_order(rt: HostRuntime) -> Result<(), Fail> {
-    let mut merger = merger_of(rt.alloc(), MERGED)?;
-    for &(place, user, seq) in IN_ORDER {
-        assert!(rt;
-            comes_next(&mut merger, place, user, seq),
-            "{seq} of {place}"
-        );
-    }
-    assert!(rt; is_through(&mut merger));
+    let mut shelf = MemoryShelf::new(rt.alloc())?;
+    let failed = merges::<Brand, MemoryShelf, _>(&rt, rt.alloc(), &mut shelf)?;
+    assert!(rt; failed == Some(0));
     Ok(())
-}
-
-#[test]
-fn merges_nothing(rt: HostRuntime) -> Result<(), Fail> {
-    let mut none = merger_of(rt.alloc(), &[])?;
-    assert!(rt; ends(&mut none));
-    Ok(())
-}
-
-#[derive(Debug, Drop)]
-enum Broken {
-    Memory,
-    Device,
-}
-
-impl From<AllocError> for Broken {
-    fn from(_error: AllocError) -> Broken {
-        Broken::Memory
-    }
-}
-
-// A stream that fails at one of its calls, and goes on after it.
-#[derive(Drop)]
-struct Stumbling {
-    entries: ListStream,
-    calls_before: u64,
-}
-
-impl Stream for Stumbling {
-    type Fault = Broken;
-
-    ghost left = { λ s. s.entries };
-
-    fn next(&mut self) -> Result<Option<OwnedEntry>, Broken> {
-        if self.calls_before == 1 {
-            self.calls_before = 0;
-            return Err(Broken::Device);
-        }
-        self.calls_before = self.calls_before.saturating_sub(1);
-        Ok(self.entries.next()?)
-    }
-}
-
-/// Two sources, of which the first fails at its third call.
-fn two_sources(alloc: Global) -> Result<Vec<Input<Stumbling>>, Fail> {
-    let first = Stumbling {
-        entries: stream_of(alloc, BEFORE_AND_AFTER)?,
-        calls_before: 3,
-    };
-    let second = Stumbling {
-        entries: stream_of(alloc, BETWEEN)?,
-        calls_before: 0,
-    };
-    let mut sources = Vec::new(alloc);
-    sources.push(Input::new(0, Source::new(first)?))?;
-    sources.push(Input::new(0, Source::new(second)?))?;
-    Ok(sources)
-}
-
-const BEFORE_AND_AFTER: &[Row<'_>] = &[(b"a", 2, Kind::Value, b""), (b"c", 1, Kind::Value, b"")];
-
-const BETWEEN: &[Row<'_>] = &[(b"b", 1, Kind::Value, b"")];
-
-/// Whether the next call of a stream gives an entry of this user key.
-fn gives<S: Stream>(stream: &mut S, user: &[u8]) -> bool {
-    match stream.next() {
-        Ok(Some(entry)) => entry.user() == user,
-        Ok(None) | Err(_) => false,
-    }
-}
-
-/// Whether the next call of a stream fails.
-fn fails<S: Stream>(stream: &mut S) -> bool {
-    match stream.next() {
-        Ok(_) => false,
-        Err(_) => true,
-    }
-}
-
-/// Whether the next call of a stream says that it has ended.
-fn ends<S: Stream>(stream: &mut S) -> bool {
-    match stream.next() {
-        Ok(next) => next.is_none(),
-        Err(_) => false,
-    }
 }
 
 #[test]
 fn goes_on_after_a_fault(rt: HostRuntime) -> Result<(), Fail> {
-    let mut merger = Merger::new(rt.alloc(), two_sources(rt.alloc())?)?;
-    assert!(rt; gives(&mut merger, b"a"));
-    assert!(rt; fails(&mut merger));
-    assert!(rt; gives(&mut merger, b"b"));
-    assert!(rt; gives(&mut merger, b"c"));
-    assert!(rt; ends(&mut merger));
+    // The puts and the reads that open the runs are 17 calls; the merge reads three times more.
+    for passes in 17..20u64 {
+        let mut shelf = FuseShelf::new(MemoryShelf::new(rt.alloc())?, passes, false, false, 0);
+        let failed = merges::<Brand, FuseShelf<MemoryShelf>, _>(&rt, rt.alloc(), &mut shelf)?;
+        assert!(rt; failed == Some(1), "where call {passes} fails");
+    }
     Ok(())
 }
 
 /// A user key with a newer and an older value, and one with a deletion above its values.
-const SCANNED: &[Row<'_>] = &[
-    (b"i", 2, Kind::Value, b"new"),
-    (b"i", 1, Kind::Value, b"old"),
-    (b"k", 3, Kind::Deletion, b""),
-    (b"k", 2, Kind::Value, b"2"),
-    (b"k", 1, Kind::Value, b"1"),
+const SCANNED: &[Tables<'_>] = &[
+    (
+        &[(b"i", 2, Kind::Value, b"new"), (b"k", 2, Kind::Value, b"2")],
+        None,
+    ),
+    (
+        &[(b"i", 1, Kind::Value, b"old")],
+        Some(&[(b"k", 3, Kind::Deletion, b""), (b"k", 1, Kind::Value, b"1")]),
+    ),
 ];
 
 /// What a scan shows at each sequence.
@@ -209,98 +202,144 @@ const SHOWN: &[(u64, &[(&[u8], &[u8])])] = &[
     (3, &[(b"i", b"new")]),
 ];
 
-/// Whether the next pair of a scan has this user key and value.
-fn shows<S: Stream>(alloc: Global, scan: &mut Scan<S>, user: &[u8], value: &[u8]) -> bool {
-    match scan.next(alloc) {
-        Ok(Some(pair)) => pair.user() == user && pair.value() == value,
-        Ok(None) | Err(_) => false,
+/// Whether a scan hands out this pair next, and lends it then.
+fn shows_next<N: Naming, S: Shelf, B: Blocks<S>>(
+    scan: &mut Scan<N, S>,
+    blocks: &mut B,
+    alloc: Global,
+    user: &[u8],
+    value: &[u8],
+) -> Result<bool, ReadFault>
+    requires { (B.told blocks.old).place ≡ N.place }
+    ensures { (B.told blocks.new).place ≡ N.place }
+{
+    match scan.next_by(blocks, alloc)? {
+        None => Ok(false),
+        Some(pair) => {
+            let handed = pair.user() == user && pair.value() == value;
+            Ok(handed && scan.user() == user && scan.value() == value)
+        }
     }
 }
 
-/// Whether a scan has shown all.
-fn has_shown_all<S: Stream>(alloc: Global, scan: &mut Scan<S>) -> bool {
-    match scan.next(alloc) {
-        Ok(next) => next.is_none(),
-        Err(_) => false,
-    }
+/// Whether a scan shows no pair more, and stands at none then.
+fn has_shown_all<N: Naming, S: Shelf, B: Blocks<S>>(
+    scan: &mut Scan<N, S>,
+    blocks: &mut B,
+    alloc: Global,
+) -> Result<bool, ReadFault>
+    requires { (B.told blocks.old).place ≡ N.place }
+{
+    let more = scan.step_by(blocks, alloc)?;
+    Ok(!more && scan.user().is_empty() && scan.value().is_empty())
 }
 
 /// Whether a scan shows just these pairs.
-fn shows_just<S: Stream>(alloc: Global, scan: &mut Scan<S>, pairs: &[(&[u8], &[u8])]) -> bool {
+fn shows_just<N: Naming, S: Shelf, B: Blocks<S>>(
+    scan: &mut Scan<N, S>,
+    blocks: &mut B,
+    alloc: Global,
+    pairs: &[(&[u8], &[u8])],
+) -> Result<bool, ReadFault>
+    requires { (B.told blocks.old).place ≡ N.place }
+{
     for &(user, value) in pairs {
-        if !shows(alloc, scan, user, value) {
-            return false;
+        if !shows_next(scan, blocks, alloc, user, value)? {
+            return Ok(false);
         }
     }
-    has_shown_all(alloc, scan)
+    has_shown_all(scan, blocks, alloc)
+}
+
+/// Whether a scan of `SCANNED` at a sequence shows just these pairs.
+fn shows<N: Naming, S: Shelf, R: Wait>(
+    rt: &R,
+    alloc: Global,
+    shelf: &mut S,
+    seq: u64,
+    pairs: &[(&[u8], &[u8])],
+) -> Result<bool, Fail>
+    requires { (S.told shelf.old).place ≡ N.place }
+{
+    let merger = merger_of::<N, S, R>(rt, alloc, shelf, SCANNED)?;
+    let mut scan = Scan::new(alloc, merger, seq);
+    let mut direct = Direct::new(shelf);
+    Ok(shows_just(&mut scan, &mut direct, alloc, pairs)?)
 }
 
 #[test]
 fn scans(rt: HostRuntime) -> Result<(), Fail> {
     for &(seq, pairs) in SHOWN {
-        let mut scan = Scan::new(source_of(rt.alloc(), SCANNED)?, seq);
-        assert!(rt; shows_just(rt.alloc(), &mut scan, pairs), "at {seq}");
+        let mut shelf = MemoryShelf::new(rt.alloc())?;
+        let shown = shows::<Brand, MemoryShelf, _>(&rt, rt.alloc(), &mut shelf, seq, pairs)?;
+        assert!(rt; shown, "at {seq}");
     }
     Ok(())
 }
 
-/// The entries of a shallower and of a deeper input, and the user key of which a deeper entry is not older, if there is one.
-const AGES: &[(&[&[Row<'_>]], Option<&[u8]>)] = &[
+/// The entries of a shallower and of a deeper run, and the user key of which a deeper entry is not
+/// older, if there is one.
+const AGES: &[(&[Tables<'_>], Option<&[u8]>)] = &[
     (
         &[
-            &[(b"k", 1, Kind::Value, b"")],
-            &[(b"k", 5, Kind::Value, b"")],
+            (&[(b"k", 1, Kind::Value, b"")], None),
+            (&[(b"k", 5, Kind::Value, b"")], None),
         ],
         Some(b"k"),
     ),
     (
         &[
-            &[(b"k", 5, Kind::Value, b"")],
-            &[(b"k", 1, Kind::Value, b"")],
+            (&[(b"k", 5, Kind::Value, b"")], None),
+            (&[(b"k", 1, Kind::Value, b"")], None),
         ],
         None,
     ),
     (
         &[
-            &[(b"k", 5, Kind::Value, b"")],
-            &[(b"k", 5, Kind::Deletion, b"")],
+            (&[(b"k", 5, Kind::Value, b"")], None),
+            (&[(b"k", 5, Kind::Deletion, b"")], None),
         ],
         Some(b"k"),
     ),
     (
         &[
-            &[
-                (b"a", 9, Kind::Value, b""),
-                (b"c", 2, Kind::Value, b""),
-                (b"d", 2, Kind::Value, b""),
-            ],
-            &[
-                (b"b", 9, Kind::Value, b""),
-                (b"c", 2, Kind::Value, b""),
-                (b"d", 7, Kind::Value, b""),
-            ],
+            (
+                &[(b"a", 9, Kind::Value, b""), (b"c", 2, Kind::Value, b"")],
+                Some(&[(b"d", 2, Kind::Value, b"")]),
+            ),
+            (
+                &[(b"b", 9, Kind::Value, b""), (b"c", 2, Kind::Value, b"")],
+                Some(&[(b"d", 7, Kind::Value, b"")]),
+            ),
         ],
         Some(b"c"),
     ),
 ];
 
-/// Whether the judgment of a merge names this user key, or none.
-fn is_judged<S: Stream>(alloc: Global, merger: &mut Merger<S>, wanted: Option<&[u8]>) -> bool {
-    match against_age(alloc, merger) {
-        Ok(None) => wanted.is_none(),
-        Ok(Some(user)) => wanted == Some(user.as_slice()),
-        Err(_) => false,
+/// Judges the ages of the merge of these runs.
+fn judges<N: Naming, S: Shelf, R: Wait + Abort>(
+    rt: &R,
+    alloc: Global,
+    shelf: &mut S,
+    inputs: &[Tables<'_>],
+    wanted: Option<&[u8]>,
+) -> Result<(), Fail>
+    requires { (S.told shelf.old).place ≡ N.place }
+{
+    let mut merger = merger_of::<N, S, R>(rt, alloc, shelf, inputs)?;
+    let mut direct = Direct::new(shelf);
+    match against_age(&mut direct, alloc, &mut merger)? {
+        None => assert!(rt; wanted.is_none(), "for {wanted:?}"),
+        Some(user) => assert!(rt; wanted == Some(user.as_slice()), "for {wanted:?}"),
     }
+    Ok(())
 }
 
 #[test]
 fn judges_ages(rt: HostRuntime) -> Result<(), Fail> {
     for &(inputs, wanted) in AGES {
-        let mut merger = merger_of(rt.alloc(), inputs)?;
-        assert!(rt;
-            is_judged(rt.alloc(), &mut merger, wanted),
-            "for {wanted:?}"
-        );
+        let mut shelf = MemoryShelf::new(rt.alloc())?;
+        judges::<Brand, MemoryShelf, _>(&rt, rt.alloc(), &mut shelf, inputs, wanted)?;
     }
     Ok(())
 }

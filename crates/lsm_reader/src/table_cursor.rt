@@ -1,6 +1,6 @@
 //! A place in a table that is read block by block.
 
-ghost use Rattle.std.specs.Prelude.{◌≡◌, [], ◌∷◌, ℕ, List, false, Ok, IfOk, IfErr, IfSome, OnOk, OnErr};
+ghost use Rattle.std.specs.Prelude.{◌≡◌, [], ◌∷◌, ℕ, List, false, Ok, IfOk, IfErr, IfSome, MatchBool, OnOk, OnErr};
 ghost use Rattle.std.specs.Option.{option_map, IsSome};
 ghost use Rattle.std.specs.Arc.{arc_value};
 ghost use Rattle.lsm_codec.specs.Entries.{Entry};
@@ -212,6 +212,8 @@ impl TableCursor {
         receipt: &S::Receipt,
     ) -> Result<(), ReadFault>
         requires here { S.is_of (B.told blocks.old).place receipt.now }
+        // It stands at an entry, unless no data block was left.
+        ensures some { OnOk result (is_end self.old.index ≡ false → IsSome (key_of_first self.new.here)) }
         ensures entered { S.honest → AreNamed (body_of (S.Receipt.image receipt.now)) self.old.index → OnOk result (AreNamed (body_of (S.Receipt.image receipt.now)) self.new.index × (left_at (S.Receipt.image receipt.now) self.new ≡ left_at (S.Receipt.image receipt.now) record { here = []; index = self.old.index })) }
         ensures sound { S.honest → AreNamed (body_of (S.Receipt.image receipt.now)) self.old.index → IfErr result IsMemoryOrShelf }
         ensures err { OnErr result (self.new ≡ self.old) }
@@ -253,5 +255,37 @@ impl TableCursor {
             }
         }
         self.next_block_by(blocks, alloc, receipt)
+    }
+
+    /// Goes on to the next entry. Where none is left it stays, and the answer is false. An `Err`
+    /// leaves it.
+    pub fn step_by<S: Shelf, B: Blocks<S>>(
+        &mut self,
+        blocks: &mut B,
+        alloc: Global,
+        receipt: &S::Receipt,
+    ) -> Result<bool, ReadFault>
+        requires here { S.is_of (B.told blocks.old).place receipt.now }
+        ensures moved { S.honest → AreNamed (body_of (S.Receipt.image receipt.now)) self.old.index → IfOk result (λ m. AreNamed (body_of (S.Receipt.image receipt.now)) self.new.index × IsMoved m (left_at (S.Receipt.image receipt.now) self.old) (left_at (S.Receipt.image receipt.now) self.new)) }
+        // Whatever the image is.
+        ensures stands { IfOk result (λ m. MatchBool m (IsSome (key_of_first self.new.here)) (self.new ≡ self.old)) }
+        ensures sound { S.honest → AreNamed (body_of (S.Receipt.image receipt.now)) self.old.index → IfErr result IsMemoryOrShelf }
+        ensures err { OnErr result (self.new ≡ self.old) }
+        ensures told { Becomes (B.told blocks.old) (B.told blocks.new) }
+        ensures loan { B.loan blocks.new ≡ B.loan blocks.old }
+        ensures cause { IfErr result (λ e. ReadCounted e (B.told blocks.old) (B.told blocks.new)) }
+    {
+        if let Some(entries) = &mut self.here {
+            if entries.advance()? {
+                return Ok(true);
+            }
+        }
+        if self.index.is_at_end() {
+            return Ok(false);
+        }
+        match self.next_block_by(blocks, alloc, receipt) {
+            Ok(()) => Ok(true),
+            Err(fault) => Err(fault),
+        }
     }
 }

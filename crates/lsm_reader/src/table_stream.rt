@@ -1,9 +1,9 @@
 //! A table as a source of a merge.
 
-ghost use Rattle.std.specs.Prelude.{◌≡◌, [], ℕ, List, IfOk, IfErr, OnOk, OnErr};
+ghost use Rattle.std.specs.Prelude.{◌≡◌, [], ℕ, List, false, IfOk, IfErr, MatchBool, OnOk, OnErr};
 ghost use Rattle.std.specs.Option.{option_map};
 ghost use Rattle.lsm_codec.specs.KeyRef.{key_of};
-ghost use Rattle.lsm_block.specs.Standing.{but_first, is_end, key_of_first, value_of_first};
+ghost use Rattle.lsm_block.specs.Standing.{IsMoved, but_first, is_end, key_of_first, value_of_first};
 ghost use Rattle.lsm_codec.specs.Entries.{Entry};
 ghost use Rattle.lsm_table.specs.Table.{IsTable};
 ghost use Rattle.lsm_table.specs.ReadFault.{ReadCounted, IsMemoryOrShelf};
@@ -107,5 +107,25 @@ impl<N: Naming, S: Shelf> TableStream<N, S> {
         ensures cause { IfErr result (λ e. ReadCounted e (B.told blocks.old) (B.told blocks.new)) }
     {
         self.cursor.advance_by(blocks, alloc, &self.receipt)
+    }
+
+    /// Goes on to the next entry. Where none is left it stays, and the answer is false. An `Err`
+    /// leaves it.
+    pub fn step_by<B: Blocks<S>>(
+        &mut self,
+        blocks: &mut B,
+        alloc: Global,
+    ) -> Result<bool, ReadFault>
+        requires here { (B.told blocks.old).place ≡ N.place }
+        ensures moved { S.honest → IfOk result (λ m. IsMoved m self.old self.new) }
+        // Whatever the image is.
+        ensures stands { IfOk result (λ m. MatchBool m (is_end self.new ≡ false) (self.new ≡ self.old)) }
+        ensures sound { S.honest → IfErr result IsMemoryOrShelf }
+        ensures err { OnErr result (self.new ≡ self.old) }
+        ensures told { Becomes (B.told blocks.old) (B.told blocks.new) }
+        ensures loan { B.loan blocks.new ≡ B.loan blocks.old }
+        ensures cause { IfErr result (λ e. ReadCounted e (B.told blocks.old) (B.told blocks.new)) }
+    {
+        self.cursor.step_by(blocks, alloc, &self.receipt)
     }
 }

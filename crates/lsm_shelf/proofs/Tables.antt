@@ -18,9 +18,6 @@ some_is m n p = cc
 pub none_is : (n : ℕ) → None ≡ Some n → ⊥
 none_is n p = cc
 
-pub some_text : (a b : List ℕ) → Some a ≡ Some b → a ≡ b
-some_text a b p = cc
-
 -- no name, no table
 pub tables_none : AreTablesOf [] []
 tables_none = record { each = λ n small. ((λ c. let x = c.1 in absurd (omega arith)), (λ c. let x = c.1 in absurd (omega arith))) }

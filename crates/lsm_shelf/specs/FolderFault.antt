@@ -1,5 +1,6 @@
 -- What a refusal of a folder means to a shelf (this project's rule).
-use Rattle.std.specs.Prelude.{ℕ}
+use Rattle.std.specs.Prelude.{ℕ, Ok, Err}
+use Rattle.lsm_folder.specs.Calls.{Answer}
 use Rattle.lsm_folder.specs.declared.folder_fault.FolderFault.{FolderFault}
 use Rattle.lsm_folder.specs.declared.folder_fault.FolderFault.TheVariants as folder
 use Rattle.lsm_shelf.specs.declared.shelf_fault.ShelfFault.{ShelfFault}
@@ -25,3 +26,9 @@ taken_of number folder.OutOfMemory = OutOfMemory
 taken_of number folder.Failed = Device
 taken_of number folder.Missing = Device
 taken_of number folder.Exists = Taken number
+
+-- Of a call that was to make a file durable, which was then asked to be removed with this answer: where it could not be removed
+-- either, that is the device
+abbrev pub undone_of : Answer → FolderFault → ShelfFault
+undone_of (Ok v) fault = device_of fault
+undone_of (Err other) fault = Device

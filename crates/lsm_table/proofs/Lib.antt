@@ -15,7 +15,6 @@ mod Telling
 mod FoundLaws
 mod OpenLaws
 mod GetLaws
-mod EntriesLaws
 mod CloseLaws
 mod SettleLaws
 mod StepLaws

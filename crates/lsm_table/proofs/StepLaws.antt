@@ -10,7 +10,7 @@ use Rattle.lsm_block.specs.declared.build_fault.BuildFault.TheVariants.{TooLarge
 use Rattle.lsm_table.specs.declared.table_options.TableOptions.{TableOptions}
 use Rattle.lsm_table.specs.Handle.{handle_text}
 use Rattle.lsm_table.specs.Table.{IsTable, concat}
-use Rattle.lsm_table.specs.TableBuilding.{taken_with, Grouped, is_full, grouped, last_group, groups_of, data_text, place, index_of, index_block, file_of, file_of_groups, groups_by, table_bytes, PassesLimit}
+use Rattle.lsm_table.specs.TableBuilding.{Grouped, is_full, grouped, last_group, groups_of, data_text, place, index_of, index_block, file_of, file_of_groups, groups_by, table_bytes, PassesLimit}
 use Rattle.lsm_table.specs.TableMaking.{entries_made, closed_when, Made, index_with, HasRoom, LacksRoom}
 use Rattle.lsm_table.proofs.BuildingLaws.{ascends_rest, grouped-push, one_more}
 use Rattle.lsm_table.proofs.MakingLaws.{building, made_parts, made_index, made_more, made_groups, groups_when, made_table, made_bytes, data_text-append}

@@ -21,4 +21,3 @@ pub mod ReadFault
 pub mod Found
 pub mod OpenTable
 pub mod Searching
-pub mod TableEntries

@@ -61,7 +61,7 @@ fn is_placed(
 /// The block that the value of an index entry names, whatever the file holds. Leaves the cursor
 /// after its last entry.
 #[tactic(auto, unfolding(crate::specs::OpenTable::block_named))]
-pub(crate) fn named_block<'a>(
+fn named_block<'a>(
     body: &'a [u8],
     place: &[u8],
     cursor: &mut Cursor,
@@ -132,7 +132,7 @@ fn judge_data(alloc: Global, body: &[u8], index: &BlockRef<'_>) -> Result<(), Ta
 /// Judges the footer and the index block of a file. What comes back is the place of the index
 /// block.
 #[tactic(auto, unfolding(crate::specs::OpenTable::opening_at))]
-pub(crate) fn judge_opening(alloc: Global, file: &[u8]) -> Result<Handle, TableFault>
+fn judge_opening(alloc: Global, file: &[u8]) -> Result<Handle, TableFault>
     ensures whole { Gives (λ _. tt) result (settled (opening_at file.now)) }
     ensures opened { IfOk result (λ index. IsOpened file.now index) }
 {
@@ -152,7 +152,7 @@ pub(crate) fn judge_opening(alloc: Global, file: &[u8]) -> Result<Handle, TableF
 }
 
 /// Judges the data blocks of a file whose footer and index block were judged.
-pub(crate) fn judge_rest(alloc: Global, file: &[u8], index: Handle) -> Result<(), TableFault>
+fn judge_rest(alloc: Global, file: &[u8], index: Handle) -> Result<(), TableFault>
     requires { IsOpened file.now index }
     ensures held { OnOk result (HeldTable file.now index) }
     ensures exact { Gives (λ _. entries_in file.now) result (table_at file.now) }

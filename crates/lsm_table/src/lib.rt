@@ -11,22 +11,17 @@ mod footer;
 mod found;
 mod handle;
 mod held_block;
-mod held_entry;
-mod held_key;
 mod naming;
-mod open_table;
 mod read_fault;
 mod registry;
 mod search;
 mod stored_block;
 mod table;
-mod table_entries;
 mod table_fault;
 mod table_iter;
 mod table_options;
 mod table_record;
 mod table_ref;
-mod whole_image;
 
 pub use builder::TableBuilder;
 pub use footer::{FOOTER, Footer};
@@ -38,13 +33,11 @@ pub use lsm_shelf::{
     Slip, SystemShelf,
 };
 pub use naming::Naming;
-pub use open_table::OpenTable;
 pub use read_fault::ReadFault;
 pub use registry::Registry;
 pub use search::{found_in_entry, key_for};
 pub use stored_block::{TRAILER, unseal};
 pub use table::{Table, entries_are, one_table};
-pub use table_entries::TableEntries;
 pub use table_fault::TableFault;
 pub use table_iter::TableIter;
 pub use table_options::TableOptions;

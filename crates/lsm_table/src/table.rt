@@ -1,29 +1,21 @@
 //! A table that was checked.
 
-ghost use Rattle.std.specs.Prelude.{◌≡◌, List, ℕ, None, IfOk, IfErr, Ok};
+ghost use Rattle.std.specs.Prelude.{◌≡◌, List, ℕ, IfOk, Ok};
 ghost use Rattle.lsm_codec.specs.Entries.{Entry, newest};
 ghost use Rattle.lsm_table.specs.Reading.{Gives};
 ghost use Rattle.lsm_table.specs.Table.{IsTable};
 ghost use Rattle.lsm_table.specs.TableReading.{table_at};
 ghost use Rattle.lsm_table.specs.HeldTable.{HeldTable, entries_in, Names};
 ghost use Rattle.lsm_table.specs.Found.{seen, found_in};
-ghost use Rattle.lsm_table.specs.OpenTable.{Opens, opening_at};
-ghost use Rattle.lsm_table.specs.ReadFault.{ReadCounted};
-ghost use Rattle.lsm_shelf.specs.Told.{Becomes};
 
 use crate::check::judge;
 use crate::found::Found;
 use crate::handle::Handle;
 use crate::held_block::{data_block, parts};
-use crate::open_table::OpenTable;
-use crate::read_fault::ReadFault;
 use crate::search::{Search, key_for, search_block};
-use crate::table_entries::TableEntries;
 use crate::table_fault::TableFault;
 use crate::table_iter::TableIter;
-use crate::whole_image::read_image;
 use lsm_block::{BlockRef, Cursor};
-use lsm_shelf::Shelf;
 use std::alloc::Global;
 use std::marker::Model;
 
@@ -65,33 +57,6 @@ impl Table {
         }
     }
 
-    /// Opens the table of a receipt by one read of the whole image: its footer and its index block
-    /// are judged now, and its data blocks when they are read.
-    ///
-    /// `Shelf` where the shelf refused, and `Table` with the first fault of the footer and the
-    /// index block.
-    pub fn open<S: Shelf>(
-        shelf: &mut S,
-        alloc: Global,
-        receipt: &S::Receipt,
-    ) -> Result<OpenTable, ReadFault>
-        requires here { S.is_of (S.told shelf.old).place receipt.now }
-        ensures image { S.honest → IfOk result (λ t. t ≡ S.Receipt.image receipt.now) }
-        // Which fault it is.
-        ensures exact { S.honest → Opens result (opening_at (S.Receipt.image receipt.now)) }
-        ensures told { Becomes (S.told shelf.old) (S.told shelf.new) }
-        ensures cause { IfErr result (λ e. ReadCounted e (S.told shelf.old) (S.told shelf.new)) }
-    {
-        let file = match read_image(alloc, shelf, receipt) {
-            Ok(file) => file,
-            Err(fault) => return Err(ReadFault::Shelf(fault)),
-        };
-        match OpenTable::judge(alloc, file) {
-            Ok(table) => Ok(table),
-            Err(fault) => Err(ReadFault::Table(fault)),
-        }
-    }
-
     /// The part before the footer, and the index block.
     fn parts(&self) -> (&[u8], BlockRef<'_>)
         ensures { Names result.0.now result.1.entries self.now }
@@ -124,15 +89,6 @@ impl Table {
     {
         let (body, index) = self.parts();
         TableIter::over(alloc, body, index)
-    }
-
-    /// Hands the table over to a reader, before the first entry. Takes no memory.
-    pub fn into_entries(self, alloc: Global) -> TableEntries
-        ensures left { result.left ≡ self }
-        ensures last { result.last ≡ None }
-    {
-        let Table { file, index } = self;
-        TableEntries::over(alloc, file, index)
     }
 }
 

@@ -1,7 +1,6 @@
 //! Tests of `lsm_table` by its public calls: tables byte by byte, foreign and altered ones among
-//! them, tables on shelves, and the registry. A crate of its own, so that the tables are proved
-//! without their tests. Each test stands in the module of what it tests; `expectation` compares,
-//! and `scratch` makes folders.
+//! them, and the registry. A crate of its own, so that the tables are proved without their tests.
+//! Each test stands in the module of what it tests; `expectation` compares.
 #![tactic(auto)]
 
 #[cfg(test)]
@@ -14,5 +13,3 @@ mod reading_tests;
 mod refusal_tests;
 #[cfg(test)]
 mod registry_tests;
-#[cfg(test)]
-mod scratch;

@@ -1,5 +1,5 @@
 -- One file of a shape: whether its table is the file's.
-use Rattle.std.proofs.Common.{◌≡◌, ℕ, Bool, true, false, List, length, sym, ◌∙◌, subst}
+use Rattle.std.proofs.Common.{◌≡◌, ℕ, List, length, sym, ◌∙◌, subst}
 use Rattle.lsm_codec.specs.Entries.{Entry}
 use Rattle.lsm_table.specs.Table.{IsTable}
 use Rattle.lsm_table.specs.HeldTable.{entries_in}
@@ -13,18 +13,14 @@ held_as image es t = sym (table_held image es t)
 pub is_table : (image : List ℕ) (es : List Entry) → IsTable image es → IsTable image (entries_in image)
 is_table image es t = subst (IsTable image) (held_as image es t) t
 
-pub image_says : (last : ℕ) (file : TableFile) (image : List ℕ) (es : List Entry) (size : ℕ) (r : Bool) → IsTable image es → size ≡ length image
-    → (r ≡ true → (size ≡ file.size) × IsSpanned last file.smallest file.largest es) → r ≡ true → IsImageOf last file image
-image_says last file image es size r t long says holds =
-    let judged : (size ≡ file.size) × IsSpanned last file.smallest file.largest es = says holds in
-    record {
-      table = is_table image es t;
-      size = sym long ∙ judged.0;
-      spanned = subst (IsSpanned last file.smallest file.largest) (held_as image es t) judged.1;
-    }
+pub image_says : (last : ℕ) (file : TableFile) (image : List ℕ) (es : List Entry) (size : ℕ) → IsTable image es → size ≡ length image
+    → size ≡ file.size → IsSpanned last file.smallest file.largest es → IsImageOf last file image
+image_says last file image es size t long same spanned = record {
+  table = is_table image es t;
+  size = sym long ∙ same;
+  spanned = subst (IsSpanned last file.smallest file.largest) (held_as image es t) spanned;
+}
 
-pub image_not : (last : ℕ) (file : TableFile) (image : List ℕ) (es : List Entry) (size : ℕ) (r : Bool) → IsTable image es → size ≡ length image
-    → ((size ≡ file.size) × IsSpanned last file.smallest file.largest es → r ≡ true) → r ≡ false → IsImageOf last file image → ⊥
-image_not last file image es size r t long from fails i =
-    let holds : r ≡ true = from (long ∙ i.size, subst (IsSpanned last file.smallest file.largest) (sym (held_as image es t)) i.spanned) in
-    absurd (cc (holds, fails))
+pub image_not : (last : ℕ) (file : TableFile) (image : List ℕ) (es : List Entry) (size : ℕ) → IsTable image es → size ≡ length image
+    → ((size ≡ file.size) × IsSpanned last file.smallest file.largest es → ⊥) → IsImageOf last file image → ⊥
+image_not last file image es size t long fails i = fails (long ∙ i.size, subst (IsSpanned last file.smallest file.largest) (sym (held_as image es t)) i.spanned)

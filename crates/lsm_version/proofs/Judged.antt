@@ -10,25 +10,22 @@ use Rattle.lsm_codec.proofs.CallerLemmas.{has_left, has_right, has_cases, has_fl
 use Rattle.lsm_table.specs.Registry.{Table}
 use Rattle.lsm_table.specs.HeldTable.{entries_in}
 use Rattle.lsm_manifest.specs.FileOrder.{TableFile}
-use Rattle.lsm_levels.specs.Ages.{IsAgeOrder, IsAgainstAge, IsLeastAgainstAge}
 use Rattle.lsm_version.specs.CheckedFiles.{IsFileOf}
 use Rattle.lsm_levels.specs.Checking.{Listed}
-use Rattle.lsm_version.specs.CheckRefusal.{IsAgainst, IsLeastAgainst}
-use Rattle.lsm_version.specs.DeepAges.{bare_placed}
 use Rattle.lsm_version.specs.FileNumbers.{file_numbers, numbers_of, times, AreDistinct}
 use Rattle.lsm_levels.specs.Files.{File, InOrder, Lie, Fits, Shallower}
-use Rattle.lsm_version.specs.HeldStream.{bare, bare_all}
 use Rattle.lsm_version.specs.LevelLayouts.{AreWhole, AreLevelsWhole, AreRangesOf, LieInOrder, MeetNowhere}
-use Rattle.lsm_version.specs.Loading.{Deep, newer_count, depth_at, depth_of, deep_of, deep_all, deep_from, AreFilesOf, AreLevelsOf, placed_levels}
-use Rattle.lsm_levels.specs.Merging.{Placed, placed_at, merge_all}
+use Rattle.lsm_version.specs.Settled.{DeeperRise, KeepsAge}
+use Rattle.lsm_version.specs.Runs.{AreMergeable}
+use Rattle.lsm_version.specs.Reads.{IsSoundLevel}
+use Rattle.lsm_version.specs.Loading.{AreFilesOf, AreLevelsOf, placed_levels}
 use Rattle.lsm_levels.specs.Ranges.{Range, EachPair, KeyLe, MeetInKeys, ShareUsers}
-use Rattle.lsm_version.specs.Versions.{IsSound, IsWhole, file_of, files_of, files_from, level_in, user_of}
-use Rattle.lsm_levels.proofs.CallerLemmas.{file_fits, entries_in_order, key_le_user, merged_from, merged_has}
+use Rattle.lsm_version.specs.Versions.{AreInOrder, IsSound, IsWhole, file_of, files_of, files_from, level_in, user_of}
+use Rattle.lsm_levels.proofs.CallerLemmas.{file_fits, entries_in_order, key_le_user}
 use Rattle.lsm_version.proofs.ChangedFiles.{files_has, has_files, all_has, has_all}
-use Rattle.lsm_version.proofs.DeepAges.{bare_from, has_bare}
-use Rattle.lsm_version.proofs.LevelRanges.{whole_at, whole_in}
+use Rattle.lsm_version.proofs.LevelRanges.{order_in, whole_at, whole_in}
 use Rattle.lsm_version.proofs.LevelReads.{same_length}
-use Rattle.lsm_version.proofs.Rising.{user_of-key}
+use Rattle.lsm_version.proofs.Rising.{level_rises, user_of-key}
 
 -- ---- a file of a level, and the table of which it is
 
@@ -178,228 +175,6 @@ pub one_number : (last : ℕ) (shape : List (List TableFile)) (read : List (List
     → (F G : File) → Has (files_from 0 read) F → Has (files_from 0 read) G → F.number ≡ G.number → F ≡ G
 one_number last shape read a d = one_file (files_from 0 read) (subst AreDistinct (sym (all_numbers last 0 shape read a)) d)
 
--- ---- depths
-
-more_than : (n m : ℕ) (fs : List TableFile) → n ≤ m → newer_count fs m ≤ newer_count fs n
-more_than n m [] le = omega arith
-more_than n m (f ∷ fs) le =
-    let x = count_more n f fs in let y = count_more m f fs in let rest = more_than n m fs le in
-    let one = go (nat_lt m f.number) (nat_lt n f.number) refl refl in omega arith
-  where
-    go : (a b : Bool) → nat_lt m f.number ≡ a → nat_lt n f.number ≡ b → cond a 1 0 ≤ cond b 1 0
-    go false b e g = omega arith
-    go true true e g = omega arith
-    go true false e g = (let lt = ltb-true m f.number e in let ge = ltb-false n f.number g in absurd (omega arith))
-
-    count_more : (k : ℕ) (f : TableFile) (fs : List TableFile) → newer_count (f ∷ fs) k ≡ cond (nat_lt k f.number) 1 0 + newer_count fs k
-    count_more k f fs = sum_by-cons (λ g. cond (nat_lt k g.number) 1 0) f fs
-
-count_one : (k : ℕ) (f : TableFile) (fs : List TableFile) → newer_count (f ∷ fs) k ≡ cond (nat_lt k f.number) 1 0 + newer_count fs k
-count_one k f fs = sum_by-cons (λ g. cond (nat_lt k g.number) 1 0) f fs
-
--- the greatest number first: a file of a lesser number lies deeper
-fewer_than : (n m : ℕ) (fs : List TableFile) (f : TableFile) → Has fs f → f.number ≡ m → n < m → newer_count fs m < newer_count fs n
-fewer_than n m [] f h e lt = absurd h
-fewer_than n m (g ∷ fs) f (inl s) e lt =
-    let same : g.number ≡ m = ap (λ (x : TableFile). x.number) s ∙ e in
-    let x = count_one n g fs in let y = count_one m g fs in let rest = more_than n m fs (omega arith) in
-    let one = go (nat_lt m g.number) (nat_lt n g.number) refl refl same in omega arith
-  where
-    go : (a b : Bool) → nat_lt m g.number ≡ a → nat_lt n g.number ≡ b → g.number ≡ m → cond a 1 0 < cond b 1 0
-    go false true p q same = omega arith
-    go false false p q same = (let ge = ltb-false n g.number q in absurd (omega arith))
-    go true b p q same = (let gt = ltb-true m g.number p in absurd (omega arith))
-fewer_than n m (g ∷ fs) f (inr h) e lt =
-    let x = count_one n g fs in let y = count_one m g fs in let rest = fewer_than n m fs f h e lt in
-    let one = go (nat_lt m g.number) (nat_lt n g.number) refl refl in omega arith
-  where
-    go : (a b : Bool) → nat_lt m g.number ≡ a → nat_lt n g.number ≡ b → cond a 1 0 ≤ cond b 1 0
-    go false b p q = omega arith
-    go true true p q = omega arith
-    go true false p q = (let gt = ltb-true m g.number p in let ge = ltb-false n g.number q in absurd (omega arith))
-
--- a file of level 0 stands among these
-abbrev IsAmong : List TableFile → File → Type 0
-IsAmong shallow F = F.level ≡ 0 → (f : TableFile) × Has shallow f × (f.number ≡ F.number)
-
-depth_zero : (shallow : List TableFile) (level number : ℕ) → level ≡ 0 → depth_at shallow level number ≡ newer_count shallow number
-depth_zero shallow zero number e = refl
-depth_zero shallow (suc level) number e = absurd (omega arith)
-
-depth_more : (shallow : List TableFile) (level number : ℕ) → 1 ≤ level → depth_at shallow level number ≡ length shallow + level
-depth_more shallow zero number pos = absurd (omega arith)
-depth_more shallow (suc level) number pos = refl
-
-few : (shallow : List TableFile) (number : ℕ) → newer_count shallow number ≤ length shallow
-few shallow number = count_by-le-length (λ f. nat_lt number f.number) shallow
-
-shallower_less : (shallow : List TableFile) (F G : File) → IsAmong shallow F → Shallower F G → depth_of shallow F < depth_of shallow G
-shallower_less shallow F G among (inr s) =
-    let f = among s.0 in
-    let x = depth_zero shallow F.level F.number s.0 in let y = depth_zero shallow G.level G.number s.1 in
-    let lt = fewer_than G.number F.number shallow f.0 f.1 f.2 s.2 in omega arith
-shallower_less shallow F G among (inl lt) =
-    let y = depth_more shallow G.level G.number (omega arith) in
-    elim (cases_eq F.level 0) [
-      | inl z ↦ (let x = depth_zero shallow F.level F.number z in let most = few shallow F.number in omega arith)
-      | inr p ↦ (let x = depth_more shallow F.level F.number (omega arith) in omega arith)
-    ]
-
-less_shallower : (shallow : List TableFile) (F G : File) → depth_of shallow F < depth_of shallow G → Shallower F G
-less_shallower shallow F G lt =
-    elim (cases_eq F.level 0) [
-      | inl z ↦ elim (cases_eq G.level 0) [
-        | inl w ↦ elim (cases_lt G.number F.number) [
-          | inl n ↦ inr (z, w, n)
-          | inr n ↦ (let x = depth_zero shallow F.level F.number z in let y = depth_zero shallow G.level G.number w in let le = more_than F.number G.number shallow n in absurd (omega arith))
-        ]
-        | inr q ↦ inl (omega arith)
-      ]
-      | inr p ↦ elim (cases_eq G.level 0) [
-        | inl w ↦ (let x = depth_more shallow F.level F.number (omega arith) in let y = depth_zero shallow G.level G.number w in let most = few shallow G.number in absurd (omega arith))
-        | inr q ↦ (let x = depth_more shallow F.level F.number (omega arith) in let y = depth_more shallow G.level G.number (omega arith) in inl (omega arith))
-      ]
-    ]
-
-pub read_among : (last : ℕ) (shape : List (List TableFile)) (read : List (List Table)) → AreLevelsOf last shape read → (F : File) → Has (files_from 0 read) F → IsAmong (get_or shape 0 []) F
-read_among last shape read a F h = λ z.
-    let r = file_in 0 read F h in
-    let level : r.0 ≡ 0 = (let e = ap (λ (X : File). X.level) r.3 in omega arith) in
-    let f = level_for last shape read a 0 r.1 (subst (λ (n : ℕ). Has (level_in read n) r.1) level r.2) in
-    (f.0, f.1, sym f.2.number ∙ ap (λ (X : File). X.number) r.3)
-
--- ---- entries at their depths
-
-deep_level : (shallow : List TableFile) (m : ℕ) (ts : List Table) (F : File) → Has (files_of m ts) F → Has (deep_all shallow m ts) (deep_of shallow F)
-deep_level shallow m [] F h = absurd h
-deep_level shallow m (t ∷ ts) F (inl e) = inl (ap (deep_of shallow) e)
-deep_level shallow m (t ∷ ts) F (inr h) = inr (deep_level shallow m ts F h)
-
-level_deep : (shallow : List TableFile) (m : ℕ) (ts : List Table) (d : Deep) → Has (deep_all shallow m ts) d → (F : File) × Has (files_of m ts) F × (deep_of shallow F ≡ d)
-level_deep shallow m [] d h = absurd h
-level_deep shallow m (t ∷ ts) d (inl e) = (file_of m t, inl refl, e)
-level_deep shallow m (t ∷ ts) d (inr h) = (let r = level_deep shallow m ts d h in (r.0, inr r.1, r.2))
-
-has_deep : (shallow : List TableFile) (m : ℕ) (read : List (List Table)) (F : File) → Has (files_from m read) F → Has (deep_from shallow m read) (deep_of shallow F)
-has_deep shallow m [] F h = absurd h
-has_deep shallow m (ts ∷ read) F h = elim (has_cases (files_of m ts) (files_from (suc m) read) F h) [
-  | inl a ↦ has_left (deep_all shallow m ts) (deep_from shallow (suc m) read) (deep_of shallow F) (deep_level shallow m ts F a)
-  | inr b ↦ has_right (deep_all shallow m ts) (deep_from shallow (suc m) read) (deep_of shallow F) (has_deep shallow (suc m) read F b)
-]
-
-deep_has : (shallow : List TableFile) (m : ℕ) (read : List (List Table)) (d : Deep) → Has (deep_from shallow m read) d → (F : File) × Has (files_from m read) F × (deep_of shallow F ≡ d)
-deep_has shallow m [] d h = absurd h
-deep_has shallow m (ts ∷ read) d h = elim (has_cases (deep_all shallow m ts) (deep_from shallow (suc m) read) d h) [
-  | inl a ↦ (let r = level_deep shallow m ts d a in (r.0, has_left (files_of m ts) (files_from (suc m) read) r.0 r.1, r.2))
-  | inr b ↦ (let r = deep_has shallow (suc m) read d b in (r.0, has_right (files_of m ts) (files_from (suc m) read) r.0 r.1, r.2))
-]
-
-at_place : (place : ℕ) (es : List Entry) (e : Entry) → Has es e → Has (placed_at place es) (place, e)
-at_place place [] e h = absurd h
-at_place place (x ∷ es) e (inl s) = inl (ap (λ (y : Entry). let p : Placed = (place, y) in p) s)
-at_place place (x ∷ es) e (inr h) = inr (at_place place es e h)
-
-place_at : (place : ℕ) (es : List Entry) (p : Placed) → Has (placed_at place es) p → (e : Entry) × Has es e × (let q : Placed = (place, e) in q ≡ p)
-place_at place [] p h = absurd h
-place_at place (x ∷ es) p (inl s) = (x, inl refl, s)
-place_at place (x ∷ es) p (inr h) = (let r = place_at place es p h in (r.0, inr r.1, r.2))
-
-has_list : (ds : List Deep) (d : Deep) → Has ds d → Has (bare_placed ds) (placed_at d.0 (bare_all d.1))
-has_list [] d h = absurd h
-has_list (x ∷ ds) d (inl e) = inl (ap (λ (y : Deep). placed_at y.0 (bare_all y.1)) e)
-has_list (x ∷ ds) d (inr h) = inr (has_list ds d h)
-
-list_has : (ds : List Deep) (l : List Placed) → Has (bare_placed ds) l → (d : Deep) × Has ds d × (placed_at d.0 (bare_all d.1) ≡ l)
-list_has [] l h = absurd h
-list_has (x ∷ ds) l (inl e) = (x, inl refl, e)
-list_has (x ∷ ds) l (inr h) = (let r = list_has ds l h in (r.0, inr r.1, r.2))
-
-merged_entry : (ds : List Deep) (d : Deep) (e : Entry) → Has ds d → Has d.1 e → Has (merge_all (bare_placed ds)) (d.0, bare e)
-merged_entry ds d e h k =
-    merged_has (bare_placed ds) (d.0, bare e) (has_flat (λ l. l) (bare_placed ds) (placed_at d.0 (bare_all d.1)) (d.0, bare e) (has_list ds d h) (at_place d.0 (bare_all d.1) (bare e) (has_bare d.1 e k)))
-
--- an entry of the merge is one of a file, without its value, at the file's depth
-record IsOfFile (shallow : List TableFile) (read : List (List Table)) (p : Placed) : Type 0 where
-  file : File
-  entry : Entry
-  here : Has (files_from 0 read) file
-  has : Has file.entries entry
-  depth : depth_of shallow file ≡ p.0
-  same : bare entry ≡ p.1
-
-entry_of_file : (shallow : List TableFile) (read : List (List Table)) (p : Placed) → Has (merge_all (bare_placed (deep_from shallow 0 read))) p → IsOfFile shallow read p
-entry_of_file shallow read p h =
-    let ds = deep_from shallow 0 read in
-    let r = flat_has (λ l. l) (bare_placed ds) p (merged_from (bare_placed ds) p h) in
-    let d = list_has ds r.0 r.1 in
-    let f = deep_has shallow 0 read d.0 d.1 in
-    let e = place_at (d.0).0 (bare_all (d.0).1) p (subst (λ (l : List Placed). Has l p) (sym d.2) r.2) in
-    let b = bare_from (d.0).1 e.0 e.1 in
-    record {
-      file = f.0;
-      entry = b.0;
-      here = f.1;
-      has = subst (λ (es : List Entry). Has es b.0) (sym (ap (λ (x : Deep). x.1) f.2)) b.1;
-      depth = ap (λ (x : Deep). x.0) f.2 ∙ ap (λ (x : Placed). x.0) e.2;
-      same = b.2 ∙ ap (λ (x : Placed). x.1) e.2;
-    }
-
--- ---- the age order
-
-abbrev pub merged : List TableFile → List (List Table) → List Placed
-merged shallow read = merge_all (bare_placed (deep_from shallow 0 read))
-
-pub newer_above : (last : ℕ) (shape : List (List TableFile)) (read : List (List Table)) → AreLevelsOf last shape read → IsAgeOrder (merged (get_or shape 0 []) read)
-    → (F G : File) (x y : Entry) → Has (files_from 0 read) F → Has (files_from 0 read) G → Shallower F G → Has F.entries x → Has G.entries y → x.user ≡ y.user → y.seq < x.seq
-newer_above last shape read a ages F G x y hF hG s kx ky same =
-    let shallow = get_or shape 0 [] in
-    let ds = deep_from shallow 0 read in
-    ages (depth_of shallow F, bare x) (depth_of shallow G, bare y) (merged_entry ds (deep_of shallow F) x (has_deep shallow 0 read F hF) kx)
-    (merged_entry ds (deep_of shallow G) y (has_deep shallow 0 read G hG) ky) same (shallower_less shallow F G (read_among last shape read a F hF) s)
-
-against_from : (last : ℕ) (shape : List (List TableFile)) (read : List (List Table)) (k : UserKey) → AreLevelsOf last shape read → IsAgainst (files_from 0 (placed_levels read)) k → IsAgainstAge (merged (get_or shape 0 []) read) k
-against_from last shape read k a (F, G, x, y, hF, hG, s, kx, ky, ux, uy, le) =
-    let shallow = get_or shape 0 [] in
-    let ds = deep_from shallow 0 read in
-    let rF = files_read read F hF in
-    let rG = files_read read G hG in (
-      (depth_of shallow F, bare x),
-      (depth_of shallow G, bare y),
-      merged_entry ds (deep_of shallow F) x (has_deep shallow 0 read F rF) kx,
-      merged_entry ds (deep_of shallow G) y (has_deep shallow 0 read G rG) ky,
-      ux,
-      uy,
-      shallower_less shallow F G (read_among last shape read a F rF) s,
-      le,
-    )
-
-against_says : (shallow : List TableFile) (read : List (List Table)) (k : UserKey) → IsAgainstAge (merged shallow read) k → IsAgainst (files_from 0 (placed_levels read)) k
-against_says shallow read k (p, q, hp, hq, up, uq, lt, le) =
-    let f = entry_of_file shallow read p hp in
-    let g = entry_of_file shallow read q hq in
-    let ef = ap (λ (e : Entry). e.seq) f.same in
-    let eg = ap (λ (e : Entry). e.seq) g.same in (
-      f.file,
-      g.file,
-      f.entry,
-      g.entry,
-      read_files read f.file f.here,
-      read_files read g.file g.here,
-      less_shallower shallow f.file g.file (let df = f.depth in let dg = g.depth in omega arith),
-      f.has,
-      g.has,
-      ap (λ (e : Entry). e.user) f.same ∙ up,
-      ap (λ (e : Entry). e.user) g.same ∙ uq,
-      omega arith,
-    )
-
-pub least_against : (last : ℕ) (shape : List (List TableFile)) (read : List (List Table)) (k : UserKey) → AreLevelsOf last shape read → IsLeastAgainstAge (merged (get_or shape 0 []) read) k
-    → IsLeastAgainst (files_from 0 (placed_levels read)) k
-least_against last shape read k a l = record {
-  here = against_says (get_or shape 0 []) read k l.here;
-  least = λ other h. l.least other (against_from last shape read other a h);
-}
-
 -- ---- files of a level in order
 
 range_in : (ts : List Table) (rs : List Range) → AreRangesOf ts rs → (t : Table) → Has ts t → (r : Range) × Has rs r × IsKey t.smallest r.smallest × IsKey t.largest r.largest
@@ -496,19 +271,40 @@ ordered_files levels seven order whole F G hF hG same pos ne =
     ]
     ))
 
+pub placed_tables : (last : ℕ) (shape : List (List TableFile)) (read : List (List Table)) → AreLevelsOf last shape read → (n : ℕ) (t : Table) → Has (level_in (placed_levels read) n) t → IsWhole t
+placed_tables last shape read a n t h = whole_at (level_in (placed_levels read) n) t (whole_in (placed_levels read) n (placed_whole last shape read a)) h
+
+pub files_fit : (last : ℕ) (shape : List (List TableFile)) (read : List (List Table)) → AreLevelsOf last shape read → (F : File) → Has (files_from 0 (placed_levels read)) F → Fits F
+files_fit last shape read a F h = let r = file_in 0 (placed_levels read) F h in subst Fits r.3 (table_fits (0 + r.0) r.1 (placed_tables last shape read a r.0 r.1 r.2))
+
+pub of_level : (levels : List (List Table)) (n : ℕ) (X : File) → Has (files_of n (level_in levels n)) X → Has (files_from 0 levels) X
+of_level levels n X h =
+    let r = files_has n (level_in levels n) X h in
+    let here : 0 + n ≡ n = omega arith in
+    subst (Has (files_from 0 levels)) (ap (λ (m : ℕ). file_of m r.0) here ∙ r.2) (in_files 0 levels n r.0 r.1)
+
+-- no file of a level from 1 on lies shallower than another one of it
+pub one_depth : (n : ℕ) (ts : List Table) (F G : File) → 1 ≤ n → Has (files_of n ts) F → Has (files_of n ts) G → Shallower F G → ⊥
+one_depth n ts F G pos hF hG s =
+    let f = files_has n ts F hF in
+    let g = files_has n ts G hG in
+    let lf : n ≡ F.level = ap (λ (X : File). X.level) f.2 in
+    let lg : n ≡ G.level = ap (λ (X : File). X.level) g.2 in
+    elim s [ inl lt ↦ omega arith | inr (z, w, lt) ↦ omega arith ]
+
 pub sound_version : (last : ℕ) (shape : List (List TableFile)) (read : List (List Table)) (pointers : List (Option (List ℕ))) → length shape ≡ 7 → AreLevelsOf last shape read
-    → AreDistinct (numbers_of shape) → LieInOrder (placed_levels read) → IsAgeOrder (merged (get_or shape 0 []) read)
+    → AreDistinct (numbers_of shape) → LieInOrder (placed_levels read) → KeepsAge (files_from 0 (placed_levels read))
     → IsSound (record { tables = placed_levels read; pointers = pointers; last = last })
 sound_version last shape read pointers seven a d apart ages =
     let levels : List (List Table) = placed_levels read in
     let long : length levels ≡ 7 = length-placed read ∙ same_length last shape read a ∙ seven in
-    let whole : (n : ℕ) (t : Table) → Has (level_in levels n) t → IsWhole t = λ n t h. whole_at (level_in levels n) t (whole_in levels n (placed_whole last shape read a)) h in
+    let whole : (n : ℕ) (t : Table) → Has (level_in levels n) t → IsWhole t = placed_tables last shape read a in
     record {
       lawful = record {
-        fits = λ F h. (let r = file_in 0 levels F h in subst Fits r.3 (table_fits (0 + r.0) r.1 (whole r.0 r.1 r.2)));
+        fits = files_fit last shape read a;
         numbers = λ F G hF hG e. one_number last shape read a d F G (files_read read F hF) (files_read read G hG) e;
         split = ordered_files levels long apart whole;
-        depth = λ F G x y hF hG s kx ky same. newer_above last shape read a ages F G x y (files_read read F hF) (files_read read G hG) s kx ky same;
+        depth = ages;
       };
       tables = whole;
       reached = λ F e hF he.
@@ -517,8 +313,43 @@ sound_version last shape read pointers seven a d apart ages =
           f.2.image.spanned.reached e (subst (λ (X : File). Has X.entries e) (sym r.3) he);
     }
 
+-- a level from 1 on of the version, before anything is known of ages
+pub judged_level : (last : ℕ) (shape : List (List TableFile)) (read : List (List Table)) → length shape ≡ 7 → AreLevelsOf last shape read → AreDistinct (numbers_of shape) → LieInOrder (placed_levels read)
+    → AreInOrder (placed_levels read) → (n : ℕ) → 1 ≤ n → IsSoundLevel n (level_in (placed_levels read) n)
+judged_level last shape read seven a d apart order n pos =
+    let levels : List (List Table) = placed_levels read in
+    let long : length levels ≡ 7 = length-placed read ∙ same_length last shape read a ∙ seven in
+    record {
+      lawful = record {
+        fits = λ F h. files_fit last shape read a F (of_level levels n F h);
+        numbers = λ F G hF hG e. one_number last shape read a d F G (files_read read F (of_level levels n F hF)) (files_read read G (of_level levels n G hG)) e;
+        split = λ F G hF hG. ordered_files levels long apart (placed_tables last shape read a) F G (of_level levels n F hF) (of_level levels n G hG);
+        depth = λ F G x y hF hG s. absurd (one_depth n (level_in levels n) F G pos hF hG s);
+      };
+      whole = placed_tables last shape read a n;
+      order = order_in levels n order;
+    }
+
 -- ---- a version of other tables that are equal to these
 
 pub sound_tables : (last : ℕ) (tables levels : List (List Table)) (pointers : List (Option (List ℕ))) → tables ≡ levels
     → IsSound (record { tables = levels; pointers = pointers; last = last }) → IsSound (record { tables = tables; pointers = pointers; last = last })
 sound_tables last tables levels pointers e s = subst (λ (ts : List (List Table)). IsSound (record { tables = ts; pointers = pointers; last = last })) (sym e) s
+
+-- ---- the same of the tables of a check, which are equal to those that were read
+
+pub judged_mergeable : (last : ℕ) (shape : List (List TableFile)) (read tables : List (List Table)) → length shape ≡ 7 → AreLevelsOf last shape read → AreDistinct (numbers_of shape)
+    → LieInOrder (placed_levels read) → tables ≡ placed_levels read → AreInOrder tables → AreMergeable tables
+judged_mergeable last shape read tables seven a d apart is order = subst AreMergeable (sym is) (record {
+  whole = placed_tables last shape read a;
+  deeper = judged_level last shape read seven a d apart (subst AreInOrder is order);
+})
+
+pub judged_rise : (last : ℕ) (shape : List (List TableFile)) (read tables : List (List Table)) → length shape ≡ 7 → AreLevelsOf last shape read → AreDistinct (numbers_of shape)
+    → LieInOrder (placed_levels read) → tables ≡ placed_levels read → AreInOrder tables → DeeperRise (placed_levels read)
+judged_rise last shape read tables seven a d apart is order n pos =
+    level_rises n (level_in (placed_levels read) n) pos (judged_level last shape read seven a d apart (subst AreInOrder is order) n pos)
+
+pub placed_fit : (last : ℕ) (shape : List (List TableFile)) (read tables : List (List Table)) → AreLevelsOf last shape read → tables ≡ placed_levels read
+    → (F : File) → Has (files_from 0 tables) F → Fits F
+placed_fit last shape read tables a is F h = files_fit last shape read a F (subst (λ (ls : List (List Table)). Has (files_from 0 ls) F) is h)

@@ -1,5 +1,6 @@
 -- The files of a shape, as they are read one after another.
-use Rattle.std.proofs.Common.{◌≡◌, ℕ, suc, ◌+◌, ◌<◌, List, [], ◌∷◌, ◌++◌, length, get_or, take, drop, refl, sym, ◌∙◌, ap, subst, inl, inr, append_assoc, append-nil, arith}
+use Rattle.std.proofs.Common.{◌≡◌, ℕ, zero, suc, ◌+◌, ◌<◌, List, [], ◌∷◌, ◌++◌, length, get_or, take, drop, refl, sym, ◌∙◌, ap, subst, inl, inr, append_assoc, append-nil, arith}
+use Rattle.std.specs.List.{insert}
 use Rattle.std.specs.List.Sorted.{IsSortedBy}
 use Rattle.std.proofs.lemmas.List.{take_more, length-take, take-append-drop}
 use Rattle.lsm_codec.specs.Lists.{Has}
@@ -9,10 +10,12 @@ use Rattle.lsm_table.specs.HeldTable.{entries_in}
 use Rattle.lsm_manifest.specs.FileOrder.{TableFile}
 use Rattle.lsm_version.specs.Changes.{placed_in, placed_all}
 use Rattle.lsm_version.specs.CheckedFiles.{IsFileOf}
-use Rattle.lsm_version.specs.Versions.{file_of, stands_before, AreInOrder}
-use Rattle.lsm_version.specs.Loading.{FileLevel, Deep, depth_at, deep_of, deep_all, deep_from, AreFilesOf, AreStored, AreLevelsOf, AreLevelsStored, placed_levels, IsLevelRead, AreRead, all_files}
+use Rattle.lsm_version.specs.Versions.{stands_before, AreInOrder}
+use Rattle.lsm_version.specs.Settled.{AreSequencesOf, AreSequences, AreLevelSequences}
+use Rattle.lsm_version.specs.declared.check.sequences.Sequences.{Sequences}
+use Rattle.lsm_version.specs.Loading.{AreFilesOf, AreStored, AreLevelsOf, AreLevelsStored, placed_levels, IsLevelRead, AreRead, all_files}
 use Rattle.lsm_version.specs.FileRefusal.{IsFileRefusal, IsFilesRefusal, IsGood}
-use Rattle.lsm_version.specs.declared.check_fault.CheckFault.{CheckFault}
+use Rattle.lsm_version.specs.declared.check.check_fault.CheckFault.{CheckFault}
 
 pub has_at : {X : Type 0} (xs : List X) (i : ℕ) (x : X) → i < length xs → x ≡ get_or xs i x → Has xs x
 has_at xs i x lt e = contains_says xs x (i, lt, sym e)
@@ -33,28 +36,54 @@ stored_push : (Stored : ℕ → List ℕ → Type 0) (ts : List Table) (t : Tabl
 stored_push Stored [] t a s = (s, tt)
 stored_push Stored (u ∷ ts) t a s = (a.0, stored_push Stored ts t a.1 s)
 
-deep_push : (shallow : List TableFile) (level : ℕ) (ts : List Table) (t : Table) → deep_all shallow level (ts ++ t ∷ []) ≡ deep_all shallow level ts ++ deep_of shallow (file_of level t) ∷ []
-deep_push shallow level [] t = refl
-deep_push shallow level (u ∷ ts) t = ap (λ (ds : List Deep). deep_of shallow (file_of level u) ∷ ds) (deep_push shallow level ts t)
+pub level_start : (Stored : ℕ → List ℕ → Type 0) (last : ℕ) (files : List TableFile) → IsLevelRead Stored last (take 0 files) [] []
+level_start Stored last files = record { read = []; are = tt; stored = tt; placed = refl; sequences = tt }
 
-abbrev pub front_of : FileLevel → ℕ → FileLevel
-front_of level i = record level { files = take i level.files }
-
-pub level_start : (Stored : ℕ → List ℕ → Type 0) (last : ℕ) (level : FileLevel) → IsLevelRead Stored last (front_of level 0) [] []
-level_start Stored last level = record { read = []; files = tt; stored = tt; placed = refl; depths = refl }
-
-pub level_more : (Stored : ℕ → List ℕ → Type 0) (last : ℕ) (level : FileLevel) (i : ℕ) (file : TableFile) (t : Table) (d : Deep) (tables tables' : List Table) (deep : List Deep)
-    → i < length level.files → file ≡ get_or level.files i file → IsFileOf last file t → Stored t.number t.image → d ≡ (depth_at level.shallow level.number file.number, entries_in t.image)
-    → tables' ≡ placed_in t tables → IsLevelRead Stored last (front_of level i) tables deep → IsLevelRead Stored last (front_of level (i + 1)) tables' (deep ++ d ∷ [])
-level_more Stored last level i file t d tables tables' deep lt at is stored deep_is placed r = record {
+pub level_more : (Stored : ℕ → List ℕ → Type 0) (last : ℕ) (files : List TableFile) (i : ℕ) (file : TableFile) (t : Table) (tables tables' : List Table) (spans spans' : List Sequences)
+    → i < length files → file ≡ get_or files i file → IsFileOf last file t → Stored t.number t.image → tables' ≡ placed_in t tables → AreSequences tables' spans'
+    → IsLevelRead Stored last (take i files) tables spans → IsLevelRead Stored last (take (i + 1) files) tables' spans'
+level_more Stored last files i file t tables tables' spans spans' lt at is stored placed beside r = record {
   read = r.read ++ t ∷ [];
-  files = subst (λ fs. AreFilesOf last fs (r.read ++ t ∷ [])) (ap (λ f. take i level.files ++ f ∷ []) at ∙ sym (take_more level.files i file lt)) (files_push last (take i level.files) r.read file t r.files is);
+  are = subst (λ fs. AreFilesOf last fs (r.read ++ t ∷ [])) (ap (λ f. take i files ++ f ∷ []) at ∙ sym (take_more files i file lt)) (files_push last (take i files) r.read file t r.are is);
   stored = stored_push Stored r.read t r.stored stored;
   placed = placed ∙ ap (placed_in t) r.placed ∙ sym (placed_push r.read [] t);
-  depths = ap (λ ds. ds ++ d ∷ []) r.depths
-      ∙ ap (λ x. deep_all level.shallow level.number r.read ++ x ∷ []) (deep_is ∙ ap (λ n. (depth_at level.shallow level.number n, entries_in t.image)) (sym is.number))
-      ∙ sym (deep_push level.shallow level.number r.read t);
+  sequences = beside;
 }
+
+-- ---- sequences beside tables
+
+split_beside : (n : ℕ) (ts : List Table) (ss : List Sequences) → AreSequences ts ss → AreSequences (take n ts) (take n ss) × AreSequences (drop n ts) (drop n ss)
+split_beside zero ts ss a = (tt, a)
+split_beside (suc n) [] [] a = (tt, tt)
+split_beside (suc n) [] (s ∷ ss) a = absurd a
+split_beside (suc n) (t ∷ ts) [] a = absurd a
+split_beside (suc n) (t ∷ ts) (s ∷ ss) a = (let r = split_beside n ts ss a.1 in ((a.0, r.0), r.1))
+
+joined_beside : (ts us : List Table) (ss rs : List Sequences) → AreSequences ts ss → AreSequences us rs → AreSequences (ts ++ us) (ss ++ rs)
+joined_beside [] us [] rs a b = b
+joined_beside [] us (s ∷ ss) rs a b = absurd a
+joined_beside (t ∷ ts) us [] rs a b = absurd a
+joined_beside (t ∷ ts) us (s ∷ ss) rs a b = (a.0, joined_beside ts us ss rs a.1 b)
+
+-- a table and its sequences put into one place
+pub inserted_beside : (n : ℕ) (ts : List Table) (ss : List Sequences) (t : Table) (s : Sequences) → AreSequences ts ss → AreSequencesOf (entries_in t.image) s
+    → AreSequences (insert ts n t) (insert ss n s)
+inserted_beside n ts ss t s a own =
+    let r = split_beside n ts ss a in
+    joined_beside (take n ts) (t ∷ drop n ts) (take n ss) (s ∷ drop n ss) r.0 (own, r.1)
+
+pub length_beside : (ts : List Table) (ss : List Sequences) → AreSequences ts ss → length ss ≡ length ts
+length_beside [] [] a = refl
+length_beside [] (s ∷ ss) a = absurd a
+length_beside (t ∷ ts) [] a = absurd a
+length_beside (t ∷ ts) (s ∷ ss) a = ap suc (length_beside ts ss a.1)
+
+pub levels_beside_push : (levels : List (List Table)) (spans : List (List Sequences)) (ts : List Table) (ss : List Sequences) → AreLevelSequences levels spans → AreSequences ts ss
+    → AreLevelSequences (levels ++ ts ∷ []) (spans ++ ss ∷ [])
+levels_beside_push [] [] ts ss a b = (b, tt)
+levels_beside_push [] (rs ∷ spans) ts ss a b = absurd a
+levels_beside_push (us ∷ levels) [] ts ss a b = absurd a
+levels_beside_push (us ∷ levels) (rs ∷ spans) ts ss a b = (a.0, levels_beside_push levels spans ts ss a.1 b)
 
 -- ---- a refusal of one of the files
 
@@ -71,11 +100,11 @@ around xs i x lt at =
     sym (take-append-drop (i + 1) xs) ∙ ap (λ front. front ++ drop (i + 1) xs) (take_more xs i x lt)
     ∙ append_assoc (take i xs) (get_or xs i x ∷ []) (drop (i + 1) xs) ∙ ap (λ y. take i xs ++ y ∷ drop (i + 1) xs) (sym at)
 
-pub refused_at : (Stored : ℕ → List ℕ → Type 0) (last : ℕ) (level : FileLevel) (i : ℕ) (file : TableFile) (fault : CheckFault) (tables : List Table) (deep : List Deep)
-    → i < length level.files → file ≡ get_or level.files i file → IsLevelRead Stored last (front_of level i) tables deep
-    → IsFileRefusal (Stored file.number) last file fault → IsFilesRefusal Stored last level.files fault
-refused_at Stored last level i file fault tables deep lt at read r =
-    inr (take i level.files, file, drop (i + 1) level.files, around level.files i file lt at, good_all Stored last (take i level.files) read.read read.files read.stored, r)
+pub refused_at : (Stored : ℕ → List ℕ → Type 0) (last : ℕ) (files : List TableFile) (i : ℕ) (file : TableFile) (fault : CheckFault) (tables : List Table) (spans : List Sequences)
+    → i < length files → file ≡ get_or files i file → IsLevelRead Stored last (take i files) tables spans
+    → IsFileRefusal (Stored file.number) last file fault → IsFilesRefusal Stored last files fault
+refused_at Stored last files i file fault tables spans lt at read r =
+    inr (take i files, file, drop (i + 1) files, around files i file lt at, good_all Stored last (take i files) read.read read.are read.stored, r)
 
 -- ---- one more level
 
@@ -94,42 +123,23 @@ placed_levels_push : (levels : List (List Table)) (ts : List Table) → placed_l
 placed_levels_push [] ts = refl
 placed_levels_push (us ∷ levels) ts = ap (λ (ls : List (List Table)). placed_all us [] ∷ ls) (placed_levels_push levels ts)
 
-deep_from_push : (shallow : List TableFile) (level : ℕ) (levels : List (List Table)) (ts : List Table)
-    → deep_from shallow level (levels ++ ts ∷ []) ≡ deep_from shallow level levels ++ deep_all shallow (level + length levels) ts
-deep_from_push shallow level [] ts =
-    let here : level ≡ level + 0 = omega arith in
-    append-nil (deep_all shallow level ts) ∙ ap (λ (n : ℕ). deep_all shallow n ts) here
-deep_from_push shallow level (us ∷ levels) ts =
-    let there : suc level + length levels ≡ level + suc (length levels) = omega arith in
-    ap (λ (ds : List Deep). deep_all shallow level us ++ ds) (deep_from_push shallow (suc level) levels ts)
-    ∙ sym (append_assoc (deep_all shallow level us) (deep_from shallow (suc level) levels) (deep_all shallow (suc level + length levels) ts))
-    ∙ ap (λ (n : ℕ). (deep_all shallow level us ++ deep_from shallow (suc level) levels) ++ deep_all shallow n ts) there
-
 pub same_length : (last : ℕ) (shape : List (List TableFile)) (levels : List (List Table)) → AreLevelsOf last shape levels → length levels ≡ length shape
 same_length last [] [] a = refl
 same_length last [] (ts ∷ levels) a = absurd a
 same_length last (fs ∷ shape) [] a = absurd a
 same_length last (fs ∷ shape) (ts ∷ levels) a = ap suc (same_length last shape levels a.1)
 
-pub levels_start : (Stored : ℕ → List ℕ → Type 0) (last : ℕ) (shallow : List TableFile) → AreRead Stored last [] shallow [] []
-levels_start Stored last shallow = record { read = []; files = tt; stored = tt; placed = refl; depths = refl }
-
-pub levels_more : (Stored : ℕ → List ℕ → Type 0) (last : ℕ) (shape : List (List TableFile)) (shallow : List TableFile) (n : ℕ) (files : List TableFile)
-    (tables : List (List Table)) (ts : List Table) (deep more : List Deep) → n < length shape → files ≡ get_or shape n files
-    → IsLevelRead Stored last (record { number = n; files = files; shallow = shallow }) ts more
-    → AreRead Stored last (take n shape) shallow tables deep → AreRead Stored last (take (n + 1) shape) shallow (tables ++ ts ∷ []) (deep ++ more)
-levels_more Stored last shape shallow n files tables ts deep more lt at level r =
-    let long : length r.read ≡ n = (let l = same_length last (take n shape) r.read r.files in let t = length-take n shape in omega arith) in
-    let place : n ≡ 0 + length r.read = omega arith in
-    let at_level : deep_all shallow n level.read ≡ deep_all shallow (0 + length r.read) level.read = ap (λ (m : ℕ). deep_all shallow m level.read) place in
-    record {
-      read = r.read ++ level.read ∷ [];
-      files = subst (λ fs. AreLevelsOf last fs (r.read ++ level.read ∷ [])) (ap (λ (f : List TableFile). take n shape ++ f ∷ []) at ∙ sym (take_more shape n files lt))
-          (levels_push last (take n shape) r.read files level.read r.files level.files);
-      stored = levels_stored_push Stored r.read level.read r.stored level.stored;
-      placed = ap (λ (ls : List (List Table)). ls ++ ts ∷ []) r.placed ∙ ap (λ (us : List Table). placed_levels r.read ++ us ∷ []) level.placed ∙ sym (placed_levels_push r.read level.read);
-      depths = ap (λ (ds : List Deep). ds ++ more) r.depths ∙ ap (λ (ds : List Deep). deep_from shallow 0 r.read ++ ds) (level.depths ∙ at_level) ∙ sym (deep_from_push shallow 0 r.read level.read);
-    }
+pub levels_more : (Stored : ℕ → List ℕ → Type 0) (last : ℕ) (shape : List (List TableFile)) (n : ℕ) (files : List TableFile)
+    (tables : List (List Table)) (ts : List Table) (spans : List (List Sequences)) (ss : List Sequences) → n < length shape → files ≡ get_or shape n files
+    → IsLevelRead Stored last files ts ss → AreRead Stored last (take n shape) tables spans → AreRead Stored last (take (n + 1) shape) (tables ++ ts ∷ []) (spans ++ ss ∷ [])
+levels_more Stored last shape n files tables ts spans ss lt at level r = record {
+  read = r.read ++ level.read ∷ [];
+  are = subst (λ fs. AreLevelsOf last fs (r.read ++ level.read ∷ [])) (ap (λ (f : List TableFile). take n shape ++ f ∷ []) at ∙ sym (take_more shape n files lt))
+      (levels_push last (take n shape) r.read files level.read r.are level.are);
+  stored = levels_stored_push Stored r.read level.read r.stored level.stored;
+  placed = ap (λ (ls : List (List Table)). ls ++ ts ∷ []) r.placed ∙ ap (λ (us : List Table). placed_levels r.read ++ us ∷ []) level.placed ∙ sym (placed_levels_push r.read level.read);
+  sequences = levels_beside_push tables spans ts ss r.sequences level.sequences;
+}
 
 pub order_push : (levels : List (List Table)) (ts : List Table) → AreInOrder levels → IsSortedBy stands_before ts → AreInOrder (levels ++ ts ∷ [])
 order_push [] ts a s = (s, tt)
@@ -155,11 +165,11 @@ good_append Stored last front more good others f h = elim (has_cases front more 
   | inr there ↦ others f there
 ]
 
-pub refused_in : (Stored : ℕ → List ℕ → Type 0) (last : ℕ) (shape : List (List TableFile)) (n : ℕ) (files shallow : List TableFile) (fault : CheckFault) (tables : List (List Table)) (deep : List Deep)
-    → n < length shape → files ≡ get_or shape n files → AreRead Stored last (take n shape) shallow tables deep
+pub refused_in : (Stored : ℕ → List ℕ → Type 0) (last : ℕ) (shape : List (List TableFile)) (n : ℕ) (files : List TableFile) (fault : CheckFault) (tables : List (List Table)) (spans : List (List Sequences))
+    → n < length shape → files ≡ get_or shape n files → AreRead Stored last (take n shape) tables spans
     → IsFilesRefusal Stored last files fault → IsFilesRefusal Stored last (all_files shape) fault
-refused_in Stored last shape n files shallow fault tables deep lt at read (inl want) = inl want
-refused_in Stored last shape n files shallow fault tables deep lt at read (inr (front, file, back, is, good, r)) =
+refused_in Stored last shape n files fault tables spans lt at read (inl want) = inl want
+refused_in Stored last shape n files fault tables spans lt at read (inr (front, file, back, is, good, r)) =
     let before = all_files (take n shape) in
     let behind = all_files (drop (n + 1) shape) in
     let whole : all_files shape ≡ before ++ (files ++ behind) = ap all_files (around shape n files lt at) ∙ all_append (take n shape) (files ∷ drop (n + 1) shape) in
@@ -171,6 +181,6 @@ refused_in Stored last shape n files shallow fault tables deep lt at read (inr (
       file,
       back ++ behind,
       whole ∙ parted,
-      good_append Stored last before front (good_levels Stored last (take n shape) read.read read.files read.stored) good,
+      good_append Stored last before front (good_levels Stored last (take n shape) read.read read.are read.stored) good,
       r,
     )

@@ -7,7 +7,6 @@ pub mod Pushing
 pub mod Numbers
 pub mod LevelReads
 pub mod LevelRanges
-pub mod DeepAges
 pub mod ChangedFiles
 pub mod Rising
 pub mod Youngest
@@ -15,5 +14,10 @@ pub mod Finding
 pub mod Overlaps
 pub mod ScanLaws
 pub mod Judged
+pub mod Depths
+pub mod Unsettled
+pub mod Runs
+pub mod Ages
+pub mod Opening
 pub mod Refused
 pub mod Deletions

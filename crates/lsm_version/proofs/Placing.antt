@@ -90,7 +90,7 @@ pub placed_at : (t : Table) (us : List Table) (n : ℕ) → take n us ≡ filter
 unfolding placed_in
 placed_at t us n before behind = ap (λ fs. fs ++ t ∷ drop n us) before ∙ ap (λ bs. filter (λ u. not (stands_before t u)) us ++ t ∷ bs) behind
 
-each_filter : (p : Table → Bool) (us : List Table) → EachAfter us → EachAfter (filter p us)
+pub each_filter : (p : Table → Bool) (us : List Table) → EachAfter us → EachAfter (filter p us)
 each_filter p [] a = tt
 each_filter p (u ∷ us) a = go (p u) (each_filter p us a.1)
   where

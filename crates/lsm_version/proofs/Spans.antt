@@ -1,17 +1,19 @@
 -- Judging where a table begins and ends says where its entries do.
-use Rattle.std.proofs.Common.{◌≡◌, ℕ, ◌≤◌, Bool, true, false, List, [], ◌∷◌, ◌++◌, Ordering, Less, Equal, Greater, refl, sym, ap, ◌∙◌, subst, inl, inr}
-use Rattle.std.specs.Prelude.{◌⊎◌, nat_le}
+use Rattle.std.proofs.Common.{◌≡◌, ℕ, ◌≤◌, Bool, true, false, List, [], ◌∷◌, ◌++◌, append-nil, append_assoc, Option, Some, None, cond, arith, Ordering, Less, Equal, Greater, refl, sym, ap, ◌∙◌, subst, inl, inr}
+use Rattle.std.specs.Prelude.{◌⊎◌, ◌&&◌, nat_le, min, max, MatchOption}
 use Rattle.std.specs.Ordering.{is_eq}
-use Rattle.std.proofs.lemmas.Bool.{and_parts, and_from, leb-true, le-leb}
+use Rattle.std.proofs.lemmas.Bool.{and_parts, and_from, cases_lt, leb-true, le-leb}
 use Rattle.lsm_codec.specs.Lists.{Has}
+use Rattle.lsm_version.specs.declared.check.sequences.Sequences.{Sequences}
+use Rattle.lsm_version.specs.Settled.{AreSequencesOf}
 use Rattle.lsm_codec.specs.Keys.{InternalKey, IsKey, key_cmp}
 use Rattle.lsm_codec.specs.Entries.{Entry, internal_key, entry_cmp}
-use Rattle.lsm_codec.proofs.CallerLemmas.{key_cmp-Equal, key_cmp-same}
+use Rattle.lsm_codec.proofs.CallerLemmas.{has_cases, has_left, has_right, key_cmp-Equal, key_cmp-same}
 use Rattle.lsm_block.specs.Block.{Ascends}
 use Rattle.lsm_table.specs.Table.{IsTable}
 use Rattle.lsm_table.proofs.CallerLemmas.{key_cmp_total, data_ascends}
 use Rattle.lsm_levels.specs.Streams.{IsAscending}
-use Rattle.lsm_version.specs.CheckedFiles.{IsSpanned, starts_with, ends_with}
+use Rattle.lsm_version.specs.CheckedFiles.{IsSpanned, starts_with, ends_with, spread, walked, walked_all}
 
 -- ---- a table's entries ascend
 
@@ -110,17 +112,107 @@ spanned_begins last smallest largest es s = begins_from s.range.smallest es s.sp
 pub spanned_ends : (last : ℕ) (smallest largest : List ℕ) (es : List Entry) (s : IsSpanned last smallest largest es) → ends_with last s.range.largest false es ≡ true
 spanned_ends last smallest largest es s = ends_from last s.range.largest false es s.reached s.spans.last
 
-pub spanned_whole : (last : ℕ) (smallest largest : List ℕ) (es : List Entry) (first end : InternalKey) (r : Bool) → IsKey smallest first → IsKey largest end
-    → ((key : InternalKey) → IsKey smallest key → first ≡ key) → ((key : InternalKey) → IsKey largest key → end ≡ key) → IsAscending es
-    → starts_with first es ≡ true → r ≡ ends_with last end false es → (r ≡ true → IsSpanned last smallest largest es) × (IsSpanned last smallest largest es → r ≡ true)
-spanned_whole last smallest largest es first end r ks kl same_first same_end up b e = (
-  λ t. spanned_says last smallest largest es first end ks kl up b (sym e ∙ t),
-  λ s. e ∙ subst (λ (k : InternalKey). ends_with last k false es ≡ true) (sym (same_end s.range.largest s.end)) (spanned_ends last smallest largest es s),
-)
+-- ---- the sequences of a walk
 
-pub spanned_not : (last : ℕ) (smallest largest : List ℕ) (es : List Entry) (first : InternalKey) (r : Bool) → ((key : InternalKey) → IsKey smallest key → first ≡ key)
-    → r ≡ starts_with first es → r ≡ false → (r ≡ true → IsSpanned last smallest largest es) × (IsSpanned last smallest largest es → r ≡ true)
-spanned_not last smallest largest es first r same_first e f = (
-  λ t. absurd (cc (f, t)),
-  λ s. e ∙ subst (λ (k : InternalKey). starts_with k es ≡ true) (sym (same_first s.range.smallest s.first)) (spanned_begins last smallest largest es s),
-)
+record_more : (front : List Entry) (s : Sequences) (e : Entry) → AreSequencesOf front s → AreSequencesOf (front ++ e ∷ []) (spread s e.seq)
+record_more front s e a = record {
+  above = λ x h. elim (has_cases front (e ∷ []) x h) [
+    | inl k ↦ (let le = a.above x k in omega arith)
+    | inr k ↦ elim k [ inl same ↦ (let at : e.seq ≡ x.seq = ap (λ (y : Entry). y.seq) same in omega arith) | inr none ↦ absurd none ]
+  ];
+  below = λ x h. elim (has_cases front (e ∷ []) x h) [
+    | inl k ↦ (let le = a.below x k in omega arith)
+    | inr k ↦ elim k [ inl same ↦ (let at : e.seq ≡ x.seq = ap (λ (y : Entry). y.seq) same in omega arith) | inr none ↦ absurd none ]
+  ];
+  least = elim (cases_lt e.seq s.least) [
+    | inl lt ↦ (e, has_right front (e ∷ []) e (inl refl), omega arith)
+    | inr ge ↦ (let l = a.least in let is = l.2 in (l.0, has_left front (e ∷ []) l.0 l.1, omega arith))
+  ];
+  greatest = elim (cases_lt s.greatest e.seq) [
+    | inl lt ↦ (e, has_right front (e ∷ []) e (inl refl), omega arith)
+    | inr ge ↦ (let l = a.greatest in let is = l.2 in (l.0, has_left front (e ∷ []) l.0 l.1, omega arith))
+  ];
+}
+
+sequences_of_one : (e : Entry) → AreSequencesOf (e ∷ []) (record { least = e.seq; greatest = e.seq })
+sequences_of_one e = record {
+  above = λ x h. elim h [ inl same ↦ (let at : e.seq ≡ x.seq = ap (λ (y : Entry). y.seq) same in omega arith) | inr none ↦ absurd none ];
+  below = λ x h. elim h [ inl same ↦ (let at : e.seq ≡ x.seq = ap (λ (y : Entry). y.seq) same in omega arith) | inr none ↦ absurd none ];
+  least = (e, inl refl, refl);
+  greatest = (e, inl refl, refl);
+}
+
+-- what a walk that came to the end says
+record Walked (last : ℕ) (key : InternalKey) (ends : Bool) (front es : List Entry) (r : Sequences) : Type 0 where
+  test : ends_with last key ends es ≡ true
+  sequences : AreSequencesOf (front ++ es) r
+
+walked_says : (last : ℕ) (key : InternalKey) (ends : Bool) (s : Sequences) (front es : List Entry) (r : Sequences) → AreSequencesOf front s → walked last key ends s es ≡ Some r → Walked last key ends front es r
+walked_says last key ends s front [] r a w = go ends w
+  where
+    go : (b : Bool) → cond b (Some s) None ≡ Some r → Walked last key b front [] r
+    go true e = record { test = refl; sequences = subst (λ (l : List Entry). AreSequencesOf l r) (sym (append-nil front)) (subst (AreSequencesOf front) (cc e) a) }
+    go false e = absurd (cc e)
+walked_says last key ends s front (e ∷ es) r a w =
+    go (nat_le e.seq last) refl w (walked_says last key (is_eq (key_cmp (internal_key e) key)) (spread s e.seq) (front ++ e ∷ []) es r (record_more front s e a))
+  where
+    go : (b : Bool) → nat_le e.seq last ≡ b → cond b (walked last key (is_eq (key_cmp (internal_key e) key)) (spread s e.seq) es) None ≡ Some r
+        → (walked last key (is_eq (key_cmp (internal_key e) key)) (spread s e.seq) es ≡ Some r → Walked last key (is_eq (key_cmp (internal_key e) key)) (front ++ e ∷ []) es r)
+        → Walked last key ends front (e ∷ es) r
+    go true le h more =
+        let rest = more h in
+        record { test = and_from (nat_le e.seq last) (ends_with last key (is_eq (key_cmp (internal_key e) key)) es) le rest.test; sequences = subst (λ (l : List Entry). AreSequencesOf l r) (append_assoc front (e ∷ []) es) rest.sequences }
+    go false le h more = absurd (cc h)
+
+walked_none : (last : ℕ) (key : InternalKey) (ends : Bool) (s : Sequences) (es : List Entry) → walked last key ends s es ≡ None → ends_with last key ends es ≡ false
+walked_none last key ends s [] w = go ends w
+  where
+    go : (b : Bool) → cond b (Some s) None ≡ None → b ≡ false
+    go true e = absurd (cc e)
+    go false e = refl
+walked_none last key ends s (e ∷ es) w = go (nat_le e.seq last) w (walked_none last key (is_eq (key_cmp (internal_key e) key)) (spread s e.seq) es)
+  where
+    go : (b : Bool) → cond b (walked last key (is_eq (key_cmp (internal_key e) key)) (spread s e.seq) es) None ≡ None
+        → (walked last key (is_eq (key_cmp (internal_key e) key)) (spread s e.seq) es ≡ None → ends_with last key (is_eq (key_cmp (internal_key e) key)) es ≡ false)
+        → (b && ends_with last key (is_eq (key_cmp (internal_key e) key)) es) ≡ false
+    go true h more = more h
+    go false h more = refl
+
+-- what the whole walk says
+abbrev pub IsWalk : ℕ → List ℕ → List ℕ → List Entry → Option Sequences → Type 0
+IsWalk last smallest largest es r = MatchOption r (IsSpanned last smallest largest es → ⊥) (λ s. IsSpanned last smallest largest es × AreSequencesOf es s)
+
+pub walk_says : (last : ℕ) (smallest largest : List ℕ) (es : List Entry) (first end : InternalKey) (r : Option Sequences) → IsKey smallest first → IsKey largest end
+    → ((key : InternalKey) → IsKey smallest key → first ≡ key) → ((key : InternalKey) → IsKey largest key → end ≡ key) → IsAscending es
+    → r ≡ walked_all last first end es → IsWalk last smallest largest es r
+walk_says last smallest largest es first end r ks kl same_first same_end up is = subst (IsWalk last smallest largest es) (sym is) (go es up)
+  where
+    not_spanned : (es : List Entry) → ((starts_with first es && ends_with last end false es) ≡ true → ⊥) → IsSpanned last smallest largest es → ⊥
+    not_spanned es fails s = fails (and_from (starts_with first es) (ends_with last end false es)
+        (subst (λ (k : InternalKey). starts_with k es ≡ true) (sym (same_first s.range.smallest s.first)) (spanned_begins last smallest largest es s))
+        (subst (λ (k : InternalKey). ends_with last k false es ≡ true) (sym (same_end s.range.largest s.end)) (spanned_ends last smallest largest es s)))
+
+    go : (es : List Entry) → IsAscending es → IsWalk last smallest largest es (walked_all last first end es)
+    go [] up = not_spanned [] (λ h. absurd (cc h))
+    go (e ∷ es) up = begin (is_eq (key_cmp (internal_key e) first)) (nat_le e.seq last) refl refl
+      where
+        on : Bool
+        on = is_eq (key_cmp (internal_key e) end)
+
+        one : Sequences
+        one = record { least = e.seq; greatest = e.seq }
+
+        finish : (o : Option Sequences) → walked last end on one es ≡ o → is_eq (key_cmp (internal_key e) first) ≡ true → nat_le e.seq last ≡ true → IsWalk last smallest largest (e ∷ es) o
+        finish None w b l = not_spanned (e ∷ es) (λ h. (let ends = walked_none last end on one es w in let parts = and_parts (starts_with first (e ∷ es)) (ends_with last end false (e ∷ es)) h in
+            let rest = and_parts (nat_le e.seq last) (ends_with last end on es) parts.1 in absurd (cc (ends, rest.1))))
+        finish (Some s) w b l =
+            let r = walked_says last end on one (e ∷ []) es s (sequences_of_one e) w in (
+              spanned_says last smallest largest (e ∷ es) first end ks kl up b (and_from (nat_le e.seq last) (ends_with last end on es) l r.test),
+              r.sequences,
+            )
+
+        begin : (b l : Bool) → is_eq (key_cmp (internal_key e) first) ≡ b → nat_le e.seq last ≡ l → IsWalk last smallest largest (e ∷ es) (cond (b && l) (walked last end on one es) None)
+        begin true true eb el = finish (walked last end on one es) refl eb el
+        begin true false eb el = not_spanned (e ∷ es) (λ h. (let parts = and_parts (starts_with first (e ∷ es)) (ends_with last end false (e ∷ es)) h in
+            let rest = and_parts (nat_le e.seq last) (ends_with last end on es) parts.1 in absurd (cc (el, rest.0))))
+        begin false l eb el = not_spanned (e ∷ es) (λ h. (let parts = and_parts (starts_with first (e ∷ es)) (ends_with last end false (e ∷ es)) h in absurd (cc (eb, parts.0))))

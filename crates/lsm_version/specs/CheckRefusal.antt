@@ -4,14 +4,17 @@ use Rattle.lsm_codec.specs.Lists.{Has}
 use Rattle.lsm_codec.specs.Keys.{UserKey, UserLe}
 use Rattle.lsm_codec.specs.Entries.{Entry}
 use Rattle.lsm_table.specs.Registry.{Table}
+use Rattle.lsm_table.specs.ReadFault.{IsMemoryOrShelf}
+use Rattle.lsm_table.specs.declared.read_fault.ReadFault.{ReadFault}
 use Rattle.lsm_manifest.specs.declared.shape.Shape.{Shape}
-use Rattle.lsm_version.specs.declared.check_fault.CheckFault.{CheckFault}
-use Rattle.lsm_version.specs.declared.check_fault.CheckFault.TheVariants.{Read, DoubleFile, Overlap, WrongRange, AgeOrder}
+use Rattle.lsm_version.specs.declared.check.check_fault.CheckFault.{CheckFault}
+use Rattle.lsm_version.specs.declared.check.check_fault.CheckFault.TheVariants.{Read, DoubleFile, Overlap, WrongRange, AgeOrder}
 use Rattle.lsm_levels.specs.Files.{File, Shallower}
 use Rattle.lsm_version.specs.FileNumbers.{AreDistinct, IsLeastTwice, numbers_of}
 use Rattle.lsm_version.specs.FileRefusal.{IsWant, IsFilesRefusal}
 use Rattle.lsm_version.specs.LevelLayouts.{IsLayoutRefusal, LieInOrder}
 use Rattle.lsm_version.specs.Loading.{AreLevelsOf, AreLevelsStored, all_files, placed_levels}
+use Rattle.lsm_version.specs.Settled.{IsSettled}
 use Rattle.lsm_version.specs.Versions.{Levels, AreInOrder, files_from}
 
 -- The version has a table for each file of the shape, the shape's pointers and its last sequence. The tables of a level were put
@@ -44,17 +47,32 @@ pub record IsLeastAgainst (v : List File) (k : UserKey) : Type 0 where
 
 -- the refusals of the numbers of files
 abbrev pub IsNumberRefusal : List ℕ → CheckFault → Type 0
-IsNumberRefusal numbers (Read fault) = IsWant fault
+IsNumberRefusal numbers (Read file fault) = IsWant fault
 IsNumberRefusal numbers (DoubleFile number) = IsLeastTwice numbers number
 IsNumberRefusal numbers (Overlap level) = ⊥
 IsNumberRefusal numbers (WrongRange number) = ⊥
 IsNumberRefusal numbers (AgeOrder user) = ⊥
 
--- `Stored` says which images the shelf holds under which numbers. Memory ran out; or two files have one number; or a file is refused;
--- or the tables of all files were read, and a level from 1 on is refused; or no level is, and the age order is.
-abbrev pub IsRefusal : (ℕ → List ℕ → Type 0) → Shape → CheckFault → Type 0
-IsRefusal Stored shape (DoubleFile number) = IsLeastTwice (numbers_of shape.levels) number
-IsRefusal Stored shape (Read fault) = IsWant fault ⊎ (AreDistinct (numbers_of shape.levels) × IsFilesRefusal Stored shape.last (all_files shape.levels) (Read fault))
-IsRefusal Stored shape (WrongRange number) = AreDistinct (numbers_of shape.levels) × IsFilesRefusal Stored shape.last (all_files shape.levels) (WrongRange number)
-IsRefusal Stored shape (Overlap level) = (tables : List (List Table)) × AreTablesOf Stored shape tables × IsLayoutRefusal tables (Overlap level)
-IsRefusal Stored shape (AgeOrder user) = (tables : List (List Table)) × AreTablesOf Stored shape tables × LieInOrder tables × IsLeastAgainst (files_from 0 tables) user
+-- Of files of which ranges and sequences alone don't settle the age order, tables are read a second time. Over an honest shelf that is
+-- refused by the shelf or for want of memory alone, or for the least user key against age.
+abbrev pub IsAgeRefusal : Type 0 → List File → CheckFault → Type 0
+IsAgeRefusal Honest v (Read file fault) = IsWant fault ⊎ ((IsSettled v → ⊥) × (Honest → IsMemoryOrShelf fault))
+IsAgeRefusal Honest v (AgeOrder user) = (IsSettled v → ⊥) × (Honest → IsLeastAgainst v user)
+IsAgeRefusal Honest v (DoubleFile number) = ⊥
+IsAgeRefusal Honest v (Overlap level) = ⊥
+IsAgeRefusal Honest v (WrongRange number) = ⊥
+
+-- The tables of all files were read, no level from 1 on is refused, and the age order is.
+abbrev pub IsAgainRefusal : (ℕ → List ℕ → Type 0) → Type 0 → Shape → CheckFault → Type 0
+IsAgainRefusal Stored Honest shape fault = (tables : List (List Table)) × AreTablesOf Stored shape tables × LieInOrder tables × IsAgeRefusal Honest (files_from 0 tables) fault
+
+-- `Stored` says which images the shelf holds under which numbers, `Honest` that its later reads give these. Memory ran out; or two
+-- files have one number; or a file is refused; or the tables of all files were read, and a level from 1 on is refused; or no level
+-- is, ranges and sequences alone don't settle the age order, and a second look at the tables is refused, or finds a key against age.
+abbrev pub IsRefusal : (ℕ → List ℕ → Type 0) → Type 0 → Shape → CheckFault → Type 0
+IsRefusal Stored Honest shape (DoubleFile number) = IsLeastTwice (numbers_of shape.levels) number
+IsRefusal Stored Honest shape (Read file fault) =
+    IsWant fault ⊎ ((AreDistinct (numbers_of shape.levels) × IsFilesRefusal Stored shape.last (all_files shape.levels) (Read file fault)) ⊎ IsAgainRefusal Stored Honest shape (Read file fault))
+IsRefusal Stored Honest shape (WrongRange number) = AreDistinct (numbers_of shape.levels) × IsFilesRefusal Stored shape.last (all_files shape.levels) (WrongRange number)
+IsRefusal Stored Honest shape (Overlap level) = (tables : List (List Table)) × AreTablesOf Stored shape tables × IsLayoutRefusal tables (Overlap level)
+IsRefusal Stored Honest shape (AgeOrder user) = IsAgainRefusal Stored Honest shape (AgeOrder user)

@@ -1,5 +1,5 @@
 -- What a check reads of the files of a shape, and how it judges one of them (this project's rule; the shape is that of the manifest).
-use Rattle.std.specs.Prelude.{◌≡◌, ℕ, ◌≤◌, Bool, false, ◌&&◌, List, [], ◌∷◌, length, nat_le}
+use Rattle.std.specs.Prelude.{◌≡◌, ℕ, ◌≤◌, min, max, Bool, false, ◌&&◌, cond, List, [], ◌∷◌, Option, Some, None, length, nat_le}
 use Rattle.std.specs.Ordering.{is_eq}
 use Rattle.lsm_codec.specs.Lists.{Has}
 use Rattle.lsm_codec.specs.Keys.{InternalKey, IsKey, key_cmp}
@@ -10,6 +10,7 @@ use Rattle.lsm_table.specs.HeldTable.{entries_in}
 use Rattle.lsm_manifest.specs.FileOrder.{TableFile}
 use Rattle.lsm_levels.specs.Ranges.{Range}
 use Rattle.lsm_levels.specs.Checking.{IsRangeOf}
+use Rattle.lsm_version.specs.declared.check.sequences.Sequences.{Sequences}
 
 -- The entries begin and end at these internal keys, and none is above the last sequence.
 pub record IsSpanned (last : ℕ) (smallest largest : List ℕ) (entries : List Entry) : Type 0 where
@@ -43,3 +44,18 @@ starts_with key (e ∷ es) = is_eq (key_cmp (internal_key e) key)
 abbrev pub ends_with : ℕ → InternalKey → Bool → List Entry → Bool
 ends_with last key ends [] = ends
 ends_with last key ends (e ∷ es) = nat_le e.seq last && ends_with last key (is_eq (key_cmp (internal_key e) key)) es
+
+-- the least and the greatest sequence with one more
+abbrev pub spread : Sequences → ℕ → Sequences
+spread s seq = record { least = min s.least seq; greatest = max s.greatest seq }
+
+-- The same walk with the sequences of the entries before: none where the test fails.
+abbrev pub walked : ℕ → InternalKey → Bool → Sequences → List Entry → Option Sequences
+walked last key ends s [] = cond ends (Some s) None
+walked last key ends s (e ∷ es) = cond (nat_le e.seq last) (walked last key (is_eq (key_cmp (internal_key e) key)) (spread s e.seq) es) None
+
+-- and from the first entry on, which has to have the first key
+abbrev pub walked_all : ℕ → InternalKey → InternalKey → List Entry → Option Sequences
+walked_all last first end [] = None
+walked_all last first end (e ∷ es) =
+    cond (is_eq (key_cmp (internal_key e) first) && nat_le e.seq last) (walked last end (is_eq (key_cmp (internal_key e) end)) (record { least = e.seq; greatest = e.seq }) es) None

@@ -1,5 +1,5 @@
 -- Why a check refuses a file of a shape (this project's rule).
-use Rattle.std.specs.Prelude.{◌≡◌, ◌⊎◌, ℕ, false, List, ◌∷◌, ◌++◌, Err}
+use Rattle.std.specs.Prelude.{◌≡◌, ◌⊎◌, ℕ, false, List, ◌∷◌, ◌++◌, Some, Err}
 use Rattle.lsm_codec.specs.Lists.{Has}
 use Rattle.lsm_table.specs.declared.read_fault.ReadFault.TheVariants.{Shelf, Table}
 use Rattle.lsm_table.specs.ReadFault.{IsMemory}
@@ -9,15 +9,16 @@ use Rattle.lsm_table.specs.Table.{IsTable}
 use Rattle.lsm_table.specs.TableReading.{table_at}
 use Rattle.lsm_table.specs.HeldTable.{entries_in}
 use Rattle.lsm_manifest.specs.FileOrder.{TableFile}
-use Rattle.lsm_version.specs.declared.check_fault.CheckFault.{CheckFault}
-use Rattle.lsm_version.specs.declared.check_fault.CheckFault.TheVariants.{Read, DoubleFile, Overlap, WrongRange, AgeOrder}
+use Rattle.lsm_version.specs.declared.check.check_fault.CheckFault.{CheckFault}
+use Rattle.lsm_version.specs.declared.check.check_fault.CheckFault.TheVariants.{Read, DoubleFile, Overlap, WrongRange, AgeOrder}
 use Rattle.lsm_version.specs.CheckedFiles.{IsImageOf}
 
 -- `Stored` says which images the shelf holds under the file's number. The shelf refused, or memory ran out; or a stored image is
--- no table; or it is a table, and not the file's.
+-- no table; or it is a table, and not the file's. Each refusal but want of memory names the file's number.
 abbrev pub IsFileRefusal : (List ℕ → Type 0) → ℕ → TableFile → CheckFault → Type 0
-IsFileRefusal Stored last file (Read (Shelf fault)) = Unit {0}
-IsFileRefusal Stored last file (Read (Table fault)) = is_memory fault ≡ false → (image : List ℕ) × Stored image × (table_at image ≡ Err fault)
+IsFileRefusal Stored last file (Read number (Shelf fault)) = number ≡ Some file.number
+IsFileRefusal Stored last file (Read number (Table fault)) =
+    is_memory fault ≡ false → (number ≡ Some file.number) × ((image : List ℕ) × Stored image × (table_at image ≡ Err fault))
 IsFileRefusal Stored last file (WrongRange number) =
     (number ≡ file.number) × ((image : List ℕ) × Stored image × IsTable image (entries_in image) × (IsImageOf last file image → ⊥))
 IsFileRefusal Stored last file (DoubleFile number) = ⊥
@@ -31,7 +32,7 @@ IsWant (Table fault) = IsMemory fault
 
 -- memory ran out
 abbrev pub IsMemoryRefusal : CheckFault → Type 0
-IsMemoryRefusal (Read fault) = IsWant fault
+IsMemoryRefusal (Read number fault) = IsWant fault
 IsMemoryRefusal (WrongRange number) = ⊥
 IsMemoryRefusal (DoubleFile number) = ⊥
 IsMemoryRefusal (Overlap level) = ⊥

@@ -6,8 +6,8 @@ use Rattle.lsm_levels.specs.Ranges.{Range, IsLaidOut}
 use Rattle.lsm_version.specs.Versions.{IsWhole, level_in}
 use Rattle.lsm_levels.specs.declared.key_range.Layout.{Layout}
 use Rattle.lsm_levels.specs.declared.key_range.Layout.TheVariants as layout
-use Rattle.lsm_version.specs.declared.check_fault.CheckFault.{CheckFault}
-use Rattle.lsm_version.specs.declared.check_fault.CheckFault.TheVariants.{Read, DoubleFile, Overlap, WrongRange, AgeOrder}
+use Rattle.lsm_version.specs.declared.check.check_fault.CheckFault.{CheckFault}
+use Rattle.lsm_version.specs.declared.check.check_fault.CheckFault.TheVariants.{Read, DoubleFile, Overlap, WrongRange, AgeOrder}
 use Rattle.lsm_version.specs.FileRefusal.{IsWant}
 
 -- each record stands for a table
@@ -36,7 +36,7 @@ MeetNowhere ts = LieAs ts layout.Shared ⊎ LieAs ts layout.Apart
 
 -- The least level from 1 on with two tables that meet in internal keys.
 abbrev pub IsLayoutRefusal : List (List Table) → CheckFault → Type 0
-IsLayoutRefusal levels (Read fault) = IsWant fault
+IsLayoutRefusal levels (Read number fault) = IsWant fault
 IsLayoutRefusal levels (Overlap level) = (1 ≤ level) × (level ≤ 6) × LieAs (level_in levels level) layout.Overlap × ((n : ℕ) → 1 ≤ n → n < level → MeetNowhere (level_in levels n))
 IsLayoutRefusal levels (DoubleFile number) = ⊥
 IsLayoutRefusal levels (WrongRange number) = ⊥

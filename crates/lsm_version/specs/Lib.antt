@@ -1,6 +1,5 @@
 pub mod Versions
 pub mod CheckFault
-pub mod HeldStream
 pub mod CheckedFiles
 pub mod FileRefusal
 pub mod Changes
@@ -8,10 +7,11 @@ pub mod FileNumbers
 pub mod CheckRefusal
 pub mod Loading
 pub mod LevelLayouts
-pub mod DeepAges
+pub mod Settled
+pub mod Depths
+pub mod Runs
 pub mod Reads
 pub mod Overlap
-pub mod Sources
 pub use Rattle.lsm_levels.specs.Files
 pub use Rattle.lsm_levels.specs.Kept
 pub use Rattle.lsm_levels.specs.Jobs

@@ -1,21 +1,12 @@
--- The files of a shape as they are read, level by level, each at its depth (LevelDB's `doc/impl.md`; each file of level 0 is a depth of
--- its own, the greatest number first, and the levels from 1 on follow).
-use Rattle.std.specs.Prelude.{◌≡◌, ℕ, zero, suc, ◌+◌, List, [], ◌∷◌, ◌++◌, length, nat_lt}
-use Rattle.std.specs.List.{count_by}
+-- The files of a shape as they are read, level by level (this project's rule).
+use Rattle.std.specs.Prelude.{◌≡◌, ℕ, List, [], ◌∷◌, ◌++◌}
 use Rattle.std.specs.List.Sorted.{IsStrictlySortedBy}
-use Rattle.lsm_codec.specs.Entries.{Entry}
 use Rattle.lsm_table.specs.Registry.{Table}
 use Rattle.lsm_manifest.specs.FileOrder.{TableFile, file_cmp}
-use Rattle.lsm_levels.specs.Files.{File}
-use Rattle.lsm_version.specs.Versions.{file_of}
 use Rattle.lsm_version.specs.Changes.{placed_all}
 use Rattle.lsm_version.specs.CheckedFiles.{IsFileOf}
-
--- the files of a level, with those of level 0
-pub record FileLevel : Type 0 where
-  pub number : ℕ
-  pub files : List TableFile
-  pub shallow : List TableFile
+use Rattle.lsm_version.specs.Settled.{AreSequences, AreLevelSequences}
+use Rattle.lsm_version.specs.declared.check.sequences.Sequences.{Sequences}
 
 -- the files of all levels
 abbrev pub all_files : List (List TableFile) → List TableFile
@@ -26,37 +17,6 @@ all_files (files ∷ levels) = files ++ all_files levels
 abbrev pub AreInFileOrder : List (List TableFile) → Type 0
 AreInFileOrder [] = Unit {0}
 AreInFileOrder (files ∷ levels) = IsStrictlySortedBy file_cmp files × AreInFileOrder levels
-
--- ---- depths
-
--- how many files have a greater number
-abbrev pub newer_count : List TableFile → ℕ → ℕ
-newer_count files number = count_by (λ file. nat_lt number file.number) files
-
--- the depth of a file of this level and number, where these are the files of level 0
-abbrev pub depth_at : List TableFile → ℕ → ℕ → ℕ
-depth_at shallow zero number = newer_count shallow number
-depth_at shallow (suc level) number = length shallow + suc level
-
-abbrev pub depth_of : List TableFile → File → ℕ
-depth_of shallow F = depth_at shallow F.level F.number
-
--- entries at a depth
-abbrev pub Deep : Type 0
-Deep = ℕ × List Entry
-
-abbrev pub deep_of : List TableFile → File → Deep
-deep_of shallow F = (depth_of shallow F, F.entries)
-
--- the entries of a level's tables at their depths
-abbrev pub deep_all : List TableFile → ℕ → List Table → List Deep
-deep_all shallow level [] = []
-deep_all shallow level (t ∷ ts) = deep_of shallow (file_of level t) ∷ deep_all shallow level ts
-
--- those of the levels from this one on
-abbrev pub deep_from : List TableFile → ℕ → List (List Table) → List Deep
-deep_from shallow level [] = []
-deep_from shallow level (ts ∷ levels) = deep_all shallow level ts ++ deep_from shallow (suc level) levels
 
 -- ---- tables for files
 
@@ -88,18 +48,18 @@ abbrev pub placed_levels : List (List Table) → List (List Table)
 placed_levels [] = []
 placed_levels (ts ∷ levels) = placed_all ts [] ∷ placed_levels levels
 
--- The tables of a level were read for its files, one after another, put into place, and are at hand with their depths.
-pub record IsLevelRead (Stored : ℕ → List ℕ → Type 0) (last : ℕ) (level : FileLevel) (tables : List Table) (deep : List Deep) : Type 0 where
+-- The tables of a level were read for its files, one after another, put into place, and their sequences stand beside them.
+pub record IsLevelRead (Stored : ℕ → List ℕ → Type 0) (last : ℕ) (files : List TableFile) (tables : List Table) (spans : List Sequences) : Type 0 where
   pub read : List Table
-  pub files : AreFilesOf last level.files read
+  pub are : AreFilesOf last files read
   pub stored : AreStored Stored read
   pub placed : tables ≡ placed_all read []
-  pub depths : deep ≡ deep_all level.shallow level.number read
+  pub sequences : AreSequences tables spans
 
--- the same of all levels, of which the first files are those of level 0
-pub record AreRead (Stored : ℕ → List ℕ → Type 0) (last : ℕ) (shape : List (List TableFile)) (shallow : List TableFile) (tables : List (List Table)) (deep : List Deep) : Type 0 where
+-- the same of all levels
+pub record AreRead (Stored : ℕ → List ℕ → Type 0) (last : ℕ) (shape : List (List TableFile)) (tables : List (List Table)) (spans : List (List Sequences)) : Type 0 where
   pub read : List (List Table)
-  pub files : AreLevelsOf last shape read
+  pub are : AreLevelsOf last shape read
   pub stored : AreLevelsStored Stored read
   pub placed : tables ≡ placed_levels read
-  pub depths : deep ≡ deep_from shallow 0 read
+  pub sequences : AreLevelSequences tables spans

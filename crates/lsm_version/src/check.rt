@@ -1,18 +1,31 @@
-//! The version of a shape.
+//! The version of a shape: its tables are read and judged.
 
 ghost use Rattle.std.specs.Prelude.{◌≡◌, IfErr, IfOk, List, Option, length, map, ℕ};
 ghost use Rattle.lsm_table.specs.Told.{Becomes};
 ghost use Rattle.lsm_version.specs.CheckFault.{CheckCounted};
 ghost use Rattle.lsm_version.specs.CheckRefusal.{AreTablesOf, IsRefusal};
-ghost use Rattle.lsm_version.specs.Versions.{IsSound};
+ghost use Rattle.lsm_version.specs.Settled.{KeepsAge};
+ghost use Rattle.lsm_version.specs.Versions.{IsSound, files_from};
 
-use crate::age_judgment::judge_ages;
-use crate::check_fault::CheckFault;
+mod ages;
+mod check_fault;
+mod checked_table;
+mod file_numbers;
+mod key_word;
+mod layouts;
+mod loading;
+mod sequences;
+mod span;
+mod unsettled;
+
+use crate::check::ages::judge_ages;
+use crate::check::file_numbers::judge_numbers;
+use crate::check::layouts::judge_layouts;
+use crate::check::loading::load_levels;
+use crate::check::unsettled::unsettled_files;
 use crate::copies::copies_of;
-use crate::file_numbers::judge_numbers;
-use crate::layouts::judge_layouts;
-use crate::loading::load_levels;
 use crate::version::Version;
+pub use check_fault::CheckFault;
 use lsm_manifest::Shape;
 use lsm_table::{Naming, Registry, Shelf, TableRef};
 use std::alloc::Global;
@@ -30,15 +43,17 @@ fn check_levels<N: Naming, S: Shelf, R: Wait>(
     requires named { registry.now ≡ N.registry }
     ensures tables { IfOk result (λ v. AreTablesOf (λ number image. (r : S.Receipt) × S.is_of N.place r × (S.Receipt.number r ≡ number) × (S.Receipt.image r ≡ image)) shape.now (map (λ l. l.items) v.items)) }
     ensures seven { IfOk result (λ v. length v.items ≡ 7) }
-    ensures sound { IfOk result (λ v. (pointers : List (Option (List ℕ))) → IsSound record { tables = map (λ l. l.items) v.items; pointers = pointers; last = shape.now.last }) }
-    ensures refused { IfErr result (λ e. IsRefusal (λ number image. (r : S.Receipt) × S.is_of N.place r × (S.Receipt.number r ≡ number) × (S.Receipt.image r ≡ image)) shape.now e) }
+    ensures judged { IfOk result (λ v. (pointers : List (Option (List ℕ))) → KeepsAge (files_from 0 (map (λ l. l.items) v.items)) → IsSound record { tables = map (λ l. l.items) v.items; pointers = pointers; last = shape.now.last }) }
+    ensures ages { S.honest → IfOk result (λ v. KeepsAge (files_from 0 (map (λ l. l.items) v.items))) }
+    ensures refused { IfErr result (λ e. IsRefusal (λ number image. (r : S.Receipt) × S.is_of N.place r × (S.Receipt.number r ≡ number) × (S.Receipt.image r ≡ image)) S.honest shape.now e) }
     ensures told { Becomes (S.told shelf.old) (S.told shelf.new) }
     ensures cause { IfErr result (λ e. CheckCounted e (S.told shelf.old) (S.told shelf.new)) }
 {
     judge_numbers(alloc, &shape.levels)?;
-    let (levels, deep) = load_levels(shelf, rt, alloc, registry, shape)?;
+    let (levels, sequences) = load_levels(shelf, rt, alloc, registry, shape)?;
     judge_layouts(alloc, registry, &levels)?;
-    judge_ages(alloc, &deep)?;
+    let unsettled = unsettled_files(alloc, registry, &levels, &sequences)?;
+    judge_ages(shelf, alloc, registry, &levels, &unsettled)?;
     Ok(levels)
 }
 
@@ -46,17 +61,25 @@ impl<N: Naming, S: Shelf> Version<N, S> {
     ghost use Rattle.std.specs.Arc.{arc_value};
     ghost use Rattle.lsm_version.specs.CheckRefusal.{IsOfShape, IsRefusal};
     ghost use Rattle.lsm_version.specs.FileNumbers.{AreDistinct, numbers_of};
-    ghost use Rattle.lsm_version.specs.Versions.{IsSound};
+    ghost use Rattle.lsm_version.specs.Settled.{IsSettled, KeepsAge};
+    ghost use Rattle.lsm_version.specs.Versions.{IsSound, files};
 
-    /// The version of a shape: reads every table of it from the shelf, and judges them. No two of its files have one number. The version is sound whatever the shelf gave,
-    /// as long as the shelf's later reads are honest.
+    /// The version of a shape: reads every table of it from the shelf, one image at a time, and judges them. No two of its files have
+    /// one number. Whatever the shelf gives later, the version is sound but for the age order; and sound where the ranges and the
+    /// sequences of its files alone settle that (`IsSettled`): then no table is read again. Else the tables of the files that are not
+    /// settled are read a second time, block by block, and the version is sound as long as the shelf gives the same bytes again, as an
+    /// honest one does.
     ///
     /// `DoubleFile` with the least number that two files have; then the files by level, and in a level in the order of the shape: the
-    /// shelf's refusals, those of a table, and `WrongRange` where a table has another size, another first or last internal key than
-    /// the shape says, no entries, or an entry above the last sequence; then `Overlap` with the least level from 1 on in which two
-    /// files meet in internal keys (a user key may go on in the next file of a level); then `AgeOrder` with the least user key of which a deeper entry has no lesser sequence than a shallower one (that a key's entries are newer the
-    /// shallower they lie is what LevelDB's `doc/impl.md` builds on; that a database which breaks it is refused is this project's
-    /// rule).
+    /// shelf's refusals and those of a table, with the file's number, and `WrongRange` where a table has another size, another first
+    /// or last internal key than the shape says, no entries, or an entry above the last sequence; then `Overlap` with the least level
+    /// from 1 on in which two files meet in internal keys (a user key may go on in the next file of a level); then, where a second
+    /// look is needed, `AgeOrder` with the least user key of which a deeper entry has no lesser sequence than a shallower one (that a
+    /// key's entries are newer the shallower they lie is what LevelDB's `doc/impl.md` builds on; that a database which breaks it is
+    /// refused is this project's rule).
+    ///
+    /// Time: one walk through each table; for each file a search in each deeper level, and a look at the files there that its range
+    /// meets; of level 0 each file is looked at with each other one.
     pub fn check<R: Wait>(
         shelf: &mut S,
         rt: &R,
@@ -68,8 +91,11 @@ impl<N: Naming, S: Shelf> Version<N, S> {
         requires named { arc_value registry ≡ N.registry }
         ensures shape { IfOk result (λ v. IsOfShape shape.now v) }
         ensures numbers { IfOk result (λ _. AreDistinct (numbers_of shape.now.levels)) }
-        ensures sound { IfOk result (λ v. IsSound v) }
-        ensures refused { IfErr result (λ e. IsRefusal (λ number image. (r : S.Receipt) × S.is_of N.place r × (S.Receipt.number r ≡ number) × (S.Receipt.image r ≡ image)) shape.now e) }
+        ensures sound { S.honest → IfOk result (λ v. IsSound v) }
+        // Whatever the shelf is.
+        ensures settled { IfOk result (λ v. IsSettled (files v) → IsSound v) }
+        ensures judged { IfOk result (λ v. KeepsAge (files v) → IsSound v) }
+        ensures refused { IfErr result (λ e. IsRefusal (λ number image. (r : S.Receipt) × S.is_of N.place r × (S.Receipt.number r ≡ number) × (S.Receipt.image r ≡ image)) S.honest shape.now e) }
         ensures told { Becomes (S.told shelf.old) (S.told shelf.new) }
         ensures cause { IfErr result (λ e. CheckCounted e (S.told shelf.old) (S.told shelf.new)) }
     {

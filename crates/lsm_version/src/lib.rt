@@ -1,43 +1,16 @@
-//! Versions: which tables stand at which level, and what they answer. Reads, scans, the judgment of a shape, and changes.
-//!
-//! Stands on `lsm_levels` for the laws of plain files and on `lsm_merger` for merges, both of which it lends, on `lsm_reader` for
-//! reads of tables block by block, on `lsm_table` for tables, shelves and the registry, and on `lsm_manifest` for the shape of a
-//! version. Its contract: a sound version answers as its union of entries.
-#![tactic(auto)]
-
-mod age_judgment;
 mod change;
 mod check;
-mod check_fault;
-mod checked_table;
 mod copies;
-mod deep_table;
-mod file_level;
-mod file_numbers;
-mod find;
-mod get;
-mod held_stream;
-mod key_word;
-mod layouts;
-mod loading;
 mod ordered_level;
-mod overlap;
-mod span;
-mod user_range;
+mod read;
 mod version;
-mod version_scan;
-mod walk;
 
 pub use change::{
     changed_files, changed_is_sound, changed_tables, deletions_are_sound, tables_are_whole,
     whole_tables_fit,
 };
-pub use check::shapes_in_order;
-pub use check_fault::CheckFault;
+pub use check::{CheckFault, shapes_in_order};
 pub use lsm_levels::{KeyRange, Layout, laws, layout_of};
-pub use lsm_merger::{
-    Input, ListStream, Merger, OwnedEntry, Pair, Placed, Scan, Source, Stream, TableStream,
-    against_age,
-};
+pub use lsm_merger::{FileFault, Merger, Pair, Run, Scan, against_age};
 pub use lsm_reader::{Blocks, Direct, OpenTable};
 pub use version::Version;

@@ -4,12 +4,13 @@ ghost use Rattle.std.specs.Prelude.{◌≡◌};
 ghost use Rattle.std.specs.Arc.{arc_value};
 
 use crate::described::{Described, shape_of};
+use crate::read_counts::Counted;
 use crate::reading::new_registry;
 use lsm_codec::{Bytes, KeyRef, Kind, MAX_SEQ, push_key};
 use lsm_manifest::{FileMeta, Shape};
 use lsm_table::{
-    BuildFault, MemoryShelf, Naming, ReadFault, Registry, Shelf, ShelfFault, TableBuilder,
-    TableOptions,
+    BuildFault, CountShelf, MemoryShelf, Naming, ReadFault, Registry, Shelf, ShelfFault,
+    TableBuilder, TableOptions,
 };
 use lsm_version::{CheckFault, Version};
 use std::alloc::{AllocError, Global};
@@ -136,6 +137,9 @@ fn answer<N: Naming, S: Shelf, R: Wait + Abort>(
             assert!(rt; version.last() == shape.last);
             Ok(format!(in alloc; "ok")?)
         }
+        Err(CheckFault::Read(Some(number), fault)) => {
+            Ok(format!(in alloc; "of {number}: {fault}")?)
+        }
         Err(fault) => Ok(format!(in alloc; "{fault}")?),
     }
 }
@@ -182,7 +186,9 @@ fn files_are_judged_by_what_is_there(rt: HostRuntime) -> Result<(), Fail> {
         is_there: false,
         ..one
     };
-    expects(&rt, alloc, &[missing], 1, "Missing")?;
+    expects(&rt, alloc, &[missing], 1, "of 2: Missing")?;
+    let before = one_entry(0, 1, (b"k", 1));
+    expects(&rt, alloc, &[before, missing], 1, "of 2: Missing")?;
     let double = one_entry(1, 2, (b"m", 2));
     expects(&rt, alloc, &[one, double], 9, "DoubleFile 2")
 }
@@ -229,6 +235,52 @@ fn ages_are_judged_by_depth(rt: HostRuntime) -> Result<(), Fail> {
     )
 }
 
+/// How often a check reads blocks.
+fn reads_of<N: Naming, S: Shelf + Counted, R: Wait>(
+    rt: &R,
+    alloc: Global,
+    mut shelf: S,
+    registry: Arc<Registry<S::Receipt>>,
+    shape: &Shape,
+) -> Result<u64, Fail>
+    requires registry { arc_value registry ≡ N.registry }
+    requires shelf { (S.told shelf).place ≡ N.place }
+{
+    let _version = Version::<N, S>::check(&mut shelf, rt, alloc, shape, registry)?;
+    Ok(shelf.counted())
+}
+
+/// The same of the tables on a shelf of their own.
+fn reads_in_memory<R: Wait>(rt: &R, alloc: Global, files: &[File<'_>]) -> Result<u64, Fail> {
+    let shape = shape_of(alloc, files, 9)?;
+    let shelf = CountShelf::new(alloc, shelf_of(rt, alloc, files)?)?;
+    let registry = new_registry(alloc)?;
+    reads_of::<Brand, CountShelf<MemoryShelf>, _>(rt, alloc, shelf, registry, &shape)
+}
+
+#[test]
+fn tables_are_read_again_only_where_ages_are_open(rt: HostRuntime) -> Result<(), Fail> {
+    let alloc = rt.alloc();
+    let newer = two_entries(0, 2, (b"a", 5), (b"c", 4));
+    // Its sequences are all lesser.
+    assert!(rt; reads_in_memory(&rt, alloc, &[newer, one_entry(1, 3, (b"b", 3))])? == 0);
+    // Its range meets no other one.
+    assert!(rt; reads_in_memory(&rt, alloc, &[newer, one_entry(1, 3, (b"d", 9))])? == 0);
+    // A file of the same level has no other depth.
+    assert!(rt;
+        reads_in_memory(
+            &rt,
+            alloc,
+            &[one_entry(1, 2, (b"k", 5)), one_entry(1, 3, (b"k", 3))]
+        )? == 0
+    );
+    // Of each of two tables that are looked at again: footer, index block and data block. A third is settled.
+    let between = one_entry(1, 3, (b"b", 9));
+    let deepest = one_entry(2, 4, (b"b", 1));
+    assert!(rt; reads_in_memory(&rt, alloc, &[newer, between, deepest])? == 6);
+    Ok(())
+}
+
 /// Whether a refusal has this number and name.
 fn is_numbered(fault: CheckFault, number: u8, name: &str) -> bool {
     fault.number() == number && fault.name() == name
@@ -236,7 +288,7 @@ fn is_numbered(fault: CheckFault, number: u8, name: &str) -> bool {
 
 #[test]
 fn refusals_of_a_check_have_their_numbers(rt: HostRuntime) -> Result<(), Fail> {
-    let missing = CheckFault::Read(ReadFault::Shelf(ShelfFault::Missing));
+    let missing = CheckFault::Read(Some(2), ReadFault::Shelf(ShelfFault::Missing));
     assert!(rt; is_numbered(missing, 10, "Missing"));
     assert!(rt; is_numbered(CheckFault::DoubleFile(2), 30, "DoubleFile"));
     assert!(rt; is_numbered(CheckFault::Overlap(1), 31, "Overlap"));

@@ -71,7 +71,7 @@ const OF_ALL: &[Read] = &[
 ];
 
 /// A shelf that tells how often it was read.
-trait Counted {
+pub(crate) trait Counted {
     fn counted(&self) -> u64;
 }
 
@@ -186,6 +186,8 @@ fn counts_reads<N: Naming, S: Shelf + Counted, R: Wait + Abort>(
     put_all(rt, alloc, &mut shelf, tables)?;
     let shape = shape_of(alloc, tables, 255)?;
     let version: Version<N, S> = Version::check(&mut shelf, rt, alloc, &shape, registry)?;
+    // What is deeper has lesser sequences alone, so no table is read a second time.
+    assert!(rt; shelf.counted() == 0);
     reads_so_often(rt, alloc, &mut shelf, &version, reads)
 }
 

@@ -8,7 +8,7 @@ use crate::shown::{has_shown_all, shows};
 use lsm_codec::{Bytes, KeyRef, Kind, push_key};
 use lsm_manifest::FileMeta;
 use lsm_table::{MemoryShelf, Naming, Registry, Shelf, Slip, TableBuilder, TableOptions, TableRef};
-use lsm_version::{Scan, Stream, Version, deletions_are_sound};
+use lsm_version::{Scan, Version, deletions_are_sound};
 use std::alloc::{AllocError, Global};
 use std::marker::Brand;
 use std::process::Abort;
@@ -372,13 +372,21 @@ fn plain_pairs(alloc: Global, tables: &[Rows], seq: u8) -> Result<Vec<(u8, u8)>,
 }
 
 /// Whether a scan shows just these pairs.
-fn shows_each<S: Stream>(alloc: Global, scan: &mut Scan<S>, pairs: &[(u8, u8)]) -> bool {
+fn shows_each<N: Naming, S: Shelf>(
+    alloc: Global,
+    shelf: &mut S,
+    scan: &mut Scan<N, S>,
+    pairs: &[(u8, u8)],
+) -> bool
+    requires { (S.told shelf.old).place ≡ N.place }
+    ensures { (S.told shelf.new).place ≡ N.place }
+{
     for &(user, value) in pairs {
-        if !shows(alloc, scan, &[user], &[value]) {
+        if !shows(alloc, shelf, scan, &[user], &[value]) {
             return false;
         }
     }
-    has_shown_all(alloc, scan)
+    has_shown_all(alloc, shelf, scan)
 }
 
 /// Whether the version's scan at a sequence shows just these pairs.
@@ -393,7 +401,7 @@ pub(crate) fn is_scanned_as<N: Naming, S: Shelf>(
     ensures { (S.told shelf.new).place ≡ N.place }
 {
     match version.scan(shelf, alloc, seq as u64) {
-        Ok(mut scan) => shows_each(alloc, &mut scan, pairs),
+        Ok(mut scan) => shows_each(alloc, shelf, &mut scan, pairs),
         Err(_) => false,
     }
 }

@@ -1,9 +1,7 @@
 //! How bytes are appended to the manifest of a folder.
 
-ghost use Rattle.std.specs.Prelude.{◌≡◌, ◌⊎◌, ◌↔◌, false, ℕ, ◌+◌, ◌≤◌, ◌^◌, ◌∷◌, Some, None, length, IfOk, IfErr, OnOk, OnErr, IsErrOf, IsTrue};
-ghost use Rattle.lsm_folder.specs.Calls.{appended, measured};
-ghost use Rattle.lsm_shelf.specs.FileNames.{manifest_name, current_text};
-ghost use Rattle.lsm_shelf.specs.Plans.{done, Stopped, MeasureStopped, AppendStopped, MissingToMeasure, MissingToAppend, Unappended, append_plan, current_read, manifest_measured};
+ghost use Rattle.std.specs.Prelude.{◌≡◌, ◌+◌, ◌<◌, ◌≤◌, ◌^◌, length, IfOk, IfErr, OnOk, MatchBool};
+ghost use Rattle.lsm_shelf.specs.Plans.{done, MeasureStopped, BehindStopped, AppendStopped, append_plan, manifest_measured};
 ghost use Rattle.lsm_shelf.specs.Told.{NotTaken};
 
 use crate::file::current::current;
@@ -16,7 +14,7 @@ use std::sync::Wait;
 
 /// Whether a file of this length stays within 1 GiB with so many bytes more.
 fn has_room(len: u64, more: usize) -> bool
-    ensures { IsTrue result ↔ (len + more ≤ 2 ^ 30) }
+    ensures { MatchBool result (len + more ≤ 2 ^ 30) (2 ^ 30 < len + more) }
 {
     more <= MAX_IMAGE && len <= (MAX_IMAGE - more) as u64
 }
@@ -27,16 +25,17 @@ fn measure_manifest<C: FolderCalls, W: Wait>(
     rt: &W,
 ) -> Result<(u64, u64), ShelfFault>
     ensures ok { IfOk result (λ r. C.calls folder.new ≡ manifest_measured r.0 r.1 (C.calls folder.old)) }
-    ensures err { OnErr result (MeasureStopped (C.calls folder.old) (C.calls folder.new)) }
-    ensures missing { IsErrOf result ShelfFault.Missing → MissingToMeasure (C.calls folder.old) (C.calls folder.new) }
+    ensures err { IfErr result (λ e. MeasureStopped e (C.calls folder.old) (C.calls folder.new)) }
     ensures place { C.place folder.new ≡ C.place folder.old }
     ensures fault { IfErr result NotTaken }
 {
     let alloc = folder.alloc();
     let number = current(folder, rt, alloc)?;
     let name = manifest_file(alloc, number)?;
-    let len = folder.length(rt, name.as_str()).map_err(|e| missing(e))?;
-    Ok((number, len))
+    match folder.length(rt, name.as_str()) {
+        Ok(len) => Ok((number, len)),
+        Err(fault) => Err(missing(fault)),
+    }
 }
 
 /// Puts bytes behind those of a manifest's file. A sync that is refused is the device, also for want of memory: the bytes are there.
@@ -47,9 +46,7 @@ fn write_behind<C: FolderCalls, W: Wait>(
     bytes: &[u8],
 ) -> Result<(), ShelfFault>
     ensures ok { OnOk result (C.calls folder.new ≡ done (append_plan number bytes.now) (C.calls folder.old)) }
-    ensures err { OnErr result (Stopped (append_plan number bytes.now) (C.calls folder.old) (C.calls folder.new)) }
-    ensures missing { IsErrOf result ShelfFault.Missing → C.calls folder.new ≡ appended (manifest_name number) bytes.now false ∷ C.calls folder.old }
-    ensures memory { IsErrOf result ShelfFault.OutOfMemory → (C.calls folder.new ≡ C.calls folder.old) ⊎ (C.calls folder.new ≡ appended (manifest_name number) bytes.now false ∷ C.calls folder.old) }
+    ensures err { IfErr result (λ e. BehindStopped number bytes.now e (C.calls folder.old) (C.calls folder.new)) }
     ensures place { C.place folder.new ≡ C.place folder.old }
     ensures fault { IfErr result NotTaken }
 {
@@ -71,9 +68,7 @@ pub(crate) fn append_manifest<C: FolderCalls, W: Wait>(
 ) -> Result<(u64, u64), ShelfFault>
     ensures ok { IfOk result (λ r. C.calls folder.new ≡ done (append_plan r.0 bytes.now) (manifest_measured r.0 r.1 (C.calls folder.old))) }
     ensures limit { IfOk result (λ r. r.1 + length bytes.now ≤ 2 ^ 30) }
-    ensures err { OnErr result (AppendStopped bytes.now (C.calls folder.old) (C.calls folder.new)) }
-    ensures missing { IsErrOf result ShelfFault.Missing → MissingToAppend bytes.now (C.calls folder.old) (C.calls folder.new) }
-    ensures memory { IsErrOf result ShelfFault.OutOfMemory → Unappended bytes.now (C.calls folder.old) (C.calls folder.new) }
+    ensures err { IfErr result (λ e. AppendStopped bytes.now e (C.calls folder.old) (C.calls folder.new)) }
     ensures place { C.place folder.new ≡ C.place folder.old }
     ensures fault { IfErr result NotTaken }
 {

@@ -1,11 +1,11 @@
 //! A `FileShelf` as a `Shelf`.
 
-ghost use Rattle.std.specs.Prelude.{◌≡◌, ◌⊎◌, ◌<◌, ◌+◌, ◌≤◌, ◌^◌, ◌∷◌, false, ℕ, List, Option, Some, None, length, take, drop, IfOk, IfErr, OnOk, OnErr, IsTrue, IsErrOf};
+ghost use Rattle.std.specs.Prelude.{◌≡◌, ◌<◌, ◌+◌, ◌≤◌, ◌^◌, ◌∷◌, ℕ, List, Ok, length, take, drop, IfOk, IfErr, OnOk, OnErr, IsTrue, IsErrOf};
 ghost use Rattle.std.specs.List.Sorted.{IsStrictlyIncreasing};
-ghost use Rattle.lsm_folder.specs.Calls.{AreHonest, LastIsTrue, made, read, loaded, listed, removed};
-ghost use Rattle.lsm_shelf.specs.FileNames.{table_name, current_text};
+ghost use Rattle.lsm_folder.specs.Calls.{AreHonest, LastIsTrue, read, loaded, listed};
+ghost use Rattle.lsm_shelf.specs.FileNames.{table_name};
 ghost use Rattle.lsm_shelf.specs.FileShelf.{folder_of, file_told, file_number, mark_of};
-ghost use Rattle.lsm_shelf.specs.Plans.{done, Stopped, Refused, PutStopped, PutForgotten, MissingManifest, UnreadManifest, MissingToAppend, Unappended, Unnamed, AreTablesOf, StartedFrom, StartRefused, StartStopped, ReadStopped, AppendStopped, put_plan, remove_plan, append_plan, current_read, manifest_read, manifest_measured};
+ghost use Rattle.lsm_shelf.specs.Plans.{done, PutStopped, PartUnread, TableUnread, RemoveStopped, AreTablesOf, ListStopped, ReadStopped, StartedFrom, StartStopped, AppendStopped, put_plan, remove_plan, append_plan, manifest_read, manifest_measured};
 ghost use Rattle.lsm_shelf.specs.Told.{Becomes, Counted, CountedBy, NotTaken, NotNamed, TakenIs, putting, removed_by, listing, sending, appending, finding, fresh};
 
 use crate::account::{Account, tag_of_both, tag_of_bytes, tag_of_number, tag_of_numbers};
@@ -44,10 +44,8 @@ where
     ) -> Result<FileReceipt<C::Mark>, ShelfFault>
         ensures receipt { IfOk result (λ r. (file_number r ≡ number) × (C.Mark.image (mark_of r) ≡ image.now) × C.is_of (file_told C.place self.old).place (mark_of r)) }
         ensures calls { OnOk result (C.calls (folder_of self.new) ≡ done (put_plan number image.now) (C.calls (folder_of self.old))) }
-        ensures stopped { OnErr result (PutStopped number image.now (C.calls (folder_of self.old)) (C.calls (folder_of self.new))) }
-        ensures taken { IsErrOf result (ShelfFault.Taken number) → C.calls (folder_of self.new) ≡ made (table_name number) image.now false ∷ C.calls (folder_of self.old) }
+        ensures stopped { IfErr result (λ e. PutStopped number image.now e (C.calls (folder_of self.old)) (C.calls (folder_of self.new))) }
         ensures large { 2 ^ 30 < length image.now → IsErrOf result ShelfFault.Device × (C.calls (folder_of self.new) ≡ C.calls (folder_of self.old)) }
-        ensures memory { IsErrOf result ShelfFault.OutOfMemory → PutForgotten number image.now (C.calls (folder_of self.old)) (C.calls (folder_of self.new)) }
         ensures ok { OnOk result (Becomes (putting number (file_told C.place self.old)) (file_told C.place self.new)) }
         ensures err { OnErr result (Becomes (file_told C.place self.old) (file_told C.place self.new)) }
         ensures cause { IfErr result (λ e. TakenIs number e × Counted e (file_told C.place self.old) (file_told C.place self.new)) }
@@ -70,10 +68,8 @@ where
         requires inside { offset + len ≤ length (C.Mark.image (mark_of receipt.now)) }
         ensures bytes { AreHonest C.calls → IfOk result (λ v. v.items ≡ take len (drop offset (C.Mark.image (mark_of receipt.now)))) }
         ensures answered { LastIsTrue (C.calls (folder_of self.new)) → IfOk result (λ v. v.items ≡ take len (drop offset (C.Mark.image (mark_of receipt.now)))) }
-        ensures calls { IfOk result (λ v. C.calls (folder_of self.new) ≡ read (table_name (file_number receipt.now)) (C.Mark.image (mark_of receipt.now)) offset len (Some v.items) ∷ C.calls (folder_of self.old)) }
-        ensures stopped { OnErr result ((C.calls (folder_of self.new) ≡ C.calls (folder_of self.old)) ⊎ (C.calls (folder_of self.new) ≡ read (table_name (file_number receipt.now)) (C.Mark.image (mark_of receipt.now)) offset len None ∷ C.calls (folder_of self.old))) }
-        ensures missing { IsErrOf result ShelfFault.Missing → C.calls (folder_of self.new) ≡ read (table_name (file_number receipt.now)) (C.Mark.image (mark_of receipt.now)) offset len None ∷ C.calls (folder_of self.old) }
-        ensures device { IsErrOf result ShelfFault.Device → C.calls (folder_of self.new) ≡ read (table_name (file_number receipt.now)) (C.Mark.image (mark_of receipt.now)) offset len None ∷ C.calls (folder_of self.old) }
+        ensures calls { IfOk result (λ v. C.calls (folder_of self.new) ≡ read (table_name (file_number receipt.now)) (C.Mark.image (mark_of receipt.now)) offset len (Ok v.items) ∷ C.calls (folder_of self.old)) }
+        ensures stopped { IfErr result (λ e. PartUnread (file_number receipt.now) (C.Mark.image (mark_of receipt.now)) offset len e (C.calls (folder_of self.old)) (C.calls (folder_of self.new))) }
         ensures told { Becomes (file_told C.place self.old) (file_told C.place self.new) }
         ensures cause { IfErr result (λ e. NotTaken e × Counted e (file_told C.place self.old) (file_told C.place self.new)) }
         ensures counts { CountedBy result (file_told C.place self.old) (file_told C.place self.new) }
@@ -89,10 +85,8 @@ where
         number: u64,
     ) -> Result<(FileReceipt<C::Mark>, Vec<u8>), ShelfFault>
         ensures receipt { IfOk result (λ r. (file_number r.0 ≡ number) × (C.Mark.image (mark_of r.0) ≡ r.1.items) × C.is_of (file_told C.place self.old).place (mark_of r.0)) }
-        ensures calls { IfOk result (λ r. C.calls (folder_of self.new) ≡ loaded (table_name number) (Some r.1.items) ∷ C.calls (folder_of self.old)) }
-        ensures stopped { OnErr result ((C.calls (folder_of self.new) ≡ C.calls (folder_of self.old)) ⊎ (C.calls (folder_of self.new) ≡ loaded (table_name number) None ∷ C.calls (folder_of self.old))) }
-        ensures missing { IsErrOf result ShelfFault.Missing → C.calls (folder_of self.new) ≡ loaded (table_name number) None ∷ C.calls (folder_of self.old) }
-        ensures device { IsErrOf result ShelfFault.Device → C.calls (folder_of self.new) ≡ loaded (table_name number) None ∷ C.calls (folder_of self.old) }
+        ensures calls { IfOk result (λ r. C.calls (folder_of self.new) ≡ loaded (table_name number) (Ok r.1.items) ∷ C.calls (folder_of self.old)) }
+        ensures stopped { IfErr result (λ e. TableUnread number e (C.calls (folder_of self.old)) (C.calls (folder_of self.new))) }
         ensures told { Becomes (file_told C.place self.old) (file_told C.place self.new) }
         ensures cause { IfErr result (λ e. NotTaken e × Counted e (file_told C.place self.old) (file_told C.place self.new)) }
         ensures counts { CountedBy result (file_told C.place self.old) (file_told C.place self.new) }
@@ -103,10 +97,7 @@ where
 
     fn remove<W: Wait>(&mut self, rt: &W, number: u64) -> Result<(), ShelfFault>
         ensures calls { OnOk result (C.calls (folder_of self.new) ≡ done (remove_plan number) (C.calls (folder_of self.old))) }
-        ensures stopped { OnErr result (Stopped (remove_plan number) (C.calls (folder_of self.old)) (C.calls (folder_of self.new))) }
-        ensures missing { IsErrOf result ShelfFault.Missing → C.calls (folder_of self.new) ≡ removed (table_name number) false ∷ C.calls (folder_of self.old) }
-        ensures device { IsErrOf result ShelfFault.Device → Refused (remove_plan number) (C.calls (folder_of self.old)) (C.calls (folder_of self.new)) }
-        ensures memory { IsErrOf result ShelfFault.OutOfMemory → (C.calls (folder_of self.new) ≡ C.calls (folder_of self.old)) ⊎ (C.calls (folder_of self.new) ≡ removed (table_name number) false ∷ C.calls (folder_of self.old)) }
+        ensures stopped { IfErr result (λ e. RemoveStopped number e (C.calls (folder_of self.old)) (C.calls (folder_of self.new))) }
         ensures told { Becomes (removed_by result number (file_told C.place self.old)) (file_told C.place self.new) }
         ensures cause { IfErr result (λ e. NotTaken e × Counted e (file_told C.place self.old) (file_told C.place self.new)) }
         ensures counts { CountedBy result (file_told C.place self.old) (file_told C.place self.new) }
@@ -120,9 +111,8 @@ where
 
     fn list<W: Wait>(&mut self, rt: &W, alloc: Global) -> Result<Vec<u64>, ShelfFault>
         ensures ascending { IfOk result (λ v. IsStrictlyIncreasing v.items) }
-        ensures calls { IfOk result (λ v. (names : List (List ℕ)) × (C.calls (folder_of self.new) ≡ listed (Some names) ∷ C.calls (folder_of self.old)) × AreTablesOf names v.items) }
-        ensures device { IsErrOf result ShelfFault.Device → C.calls (folder_of self.new) ≡ listed None ∷ C.calls (folder_of self.old) }
-        ensures stopped { OnErr result ((answer : Option (List (List ℕ))) × (C.calls (folder_of self.new) ≡ listed answer ∷ C.calls (folder_of self.old))) }
+        ensures calls { IfOk result (λ v. (names : List (List ℕ)) × (C.calls (folder_of self.new) ≡ listed (Ok names) ∷ C.calls (folder_of self.old)) × AreTablesOf names v.items) }
+        ensures stopped { IfErr result (λ e. ListStopped e (C.calls (folder_of self.old)) (C.calls (folder_of self.new))) }
         ensures ok { IfOk result (λ v. Becomes (listing v.items (file_told C.place self.old)) (file_told C.place self.new)) }
         ensures err { OnErr result (Becomes (file_told C.place self.old) (file_told C.place self.new)) }
         ensures cause { IfErr result (λ e. NotNamed e × Counted e (file_told C.place self.old) (file_told C.place self.new)) }
@@ -140,9 +130,7 @@ where
         alloc: Global,
     ) -> Result<(u64, Vec<u8>), ShelfFault>
         ensures calls { IfOk result (λ r. C.calls (folder_of self.new) ≡ manifest_read r.0 r.1.items (C.calls (folder_of self.old))) }
-        ensures stopped { OnErr result (ReadStopped (C.calls (folder_of self.old)) (C.calls (folder_of self.new))) }
-        ensures missing { IsErrOf result ShelfFault.Missing → MissingManifest (C.calls (folder_of self.old)) (C.calls (folder_of self.new)) }
-        ensures device { IsErrOf result ShelfFault.Device → UnreadManifest (C.calls (folder_of self.old)) (C.calls (folder_of self.new)) }
+        ensures stopped { IfErr result (λ e. ReadStopped e (C.calls (folder_of self.old)) (C.calls (folder_of self.new))) }
         ensures ok { IfOk result (λ r. Becomes (finding r.0 r.1.items (file_told C.place self.old)) (file_told C.place self.new)) }
         ensures err { OnErr result (Becomes (file_told C.place self.old) (file_told C.place self.new)) }
         ensures cause { IfErr result (λ e. NotTaken e × Counted e (file_told C.place self.old) (file_told C.place self.new)) }
@@ -164,28 +152,27 @@ where
         bytes: &[u8],
     ) -> Result<(), ShelfFault>
         ensures calls { OnOk result (StartedFrom number bytes.now (C.calls (folder_of self.old)) (C.calls (folder_of self.new))) }
-        ensures stopped { OnErr result (StartStopped number bytes.now (C.calls (folder_of self.old)) (C.calls (folder_of self.new))) }
-        ensures memory { IsErrOf result ShelfFault.OutOfMemory → Unnamed number bytes.now (C.calls (folder_of self.old)) (C.calls (folder_of self.new)) }
+        ensures stopped { IfErr result (λ e. StartStopped number bytes.now e (C.calls (folder_of self.old)) (C.calls (folder_of self.new))) }
         ensures large { 2 ^ 30 < length bytes.now → IsErrOf result ShelfFault.Device × (C.calls (folder_of self.new) ≡ C.calls (folder_of self.old)) }
-        ensures device { IsErrOf result ShelfFault.Device → length bytes.now ≤ 2 ^ 30 → StartRefused number bytes.now (C.calls (folder_of self.old)) (C.calls (folder_of self.new)) }
-        ensures taken { IsErrOf result (ShelfFault.Taken number) → C.calls (folder_of self.new) ≡ current_read (Some (current_text number)) (C.calls (folder_of self.old)) }
         ensures ok { OnOk result (Becomes (sending number bytes.now (file_told C.place self.old)) (file_told C.place self.new)) }
         ensures err { OnErr result (Becomes (file_told C.place self.old) (file_told C.place self.new)) }
         ensures cause { IfErr result (λ e. TakenIs number e × Counted e (file_told C.place self.old) (file_told C.place self.new)) }
         ensures counts { CountedBy result (file_told C.place self.old) (file_told C.place self.new) }
     {
         let outcome = start_manifest(&mut self.folder, rt, alloc, number, bytes);
-        self.account.count(outcome)?;
-        self.account.manifest = tag_of_number(number);
-        self.account.sent = tag_of_bytes(bytes);
-        Ok(())
+        match self.account.count(outcome) {
+            Ok(()) => {
+                self.account.manifest = tag_of_number(number);
+                self.account.sent = tag_of_bytes(bytes);
+                Ok(())
+            }
+            Err(fault) => Err(fault),
+        }
     }
 
     fn append_manifest<W: Wait>(&mut self, rt: &W, bytes: &[u8]) -> Result<(), ShelfFault>
         ensures calls { OnOk result ((n : ℕ) × (len : ℕ) × (len + length bytes.now ≤ 2 ^ 30) × (C.calls (folder_of self.new) ≡ done (append_plan n bytes.now) (manifest_measured n len (C.calls (folder_of self.old))))) }
-        ensures stopped { OnErr result (AppendStopped bytes.now (C.calls (folder_of self.old)) (C.calls (folder_of self.new))) }
-        ensures missing { IsErrOf result ShelfFault.Missing → MissingToAppend bytes.now (C.calls (folder_of self.old)) (C.calls (folder_of self.new)) }
-        ensures memory { IsErrOf result ShelfFault.OutOfMemory → Unappended bytes.now (C.calls (folder_of self.old)) (C.calls (folder_of self.new)) }
+        ensures stopped { IfErr result (λ e. AppendStopped bytes.now e (C.calls (folder_of self.old)) (C.calls (folder_of self.new))) }
         ensures ok { OnOk result (Becomes (appending bytes.now (file_told C.place self.old)) (file_told C.place self.new)) }
         ensures err { OnErr result (Becomes (file_told C.place self.old) (file_told C.place self.new)) }
         ensures cause { IfErr result (λ e. NotTaken e × Counted e (file_told C.place self.old) (file_told C.place self.new)) }

@@ -1,10 +1,10 @@
 //! Which manifest a folder's `CURRENT` names, and that manifest's bytes.
 
-ghost use Rattle.std.specs.Prelude.{◌≡◌, ◌⊎◌, ◌↔◌, ℕ, ◌<◌, ◌^◌, ◌∷◌, List, Option, Some, None, codes, IfOk, IfErr, IsTrue, OnErr, IsErrOf};
-ghost use Rattle.lsm_folder.specs.Calls.{loaded};
-ghost use Rattle.lsm_shelf.specs.FileNames.{current_text, manifest_name};
-ghost use Rattle.lsm_shelf.specs.Plans.{NamesNone, MissingManifest, UnreadManifest, ReadStopped, current_read, manifest_read};
-ghost use Rattle.lsm_shelf.specs.Told.{NotDevice, NotNamed, NotTaken};
+ghost use Rattle.std.specs.Prelude.{◌≡◌, ℕ, ◌<◌, ◌^◌, List, Ok, Err, Result, IfOk, IfErr, MatchBool};
+ghost use Rattle.lsm_folder.specs.declared.folder_fault.FolderFault.{FolderFault};
+ghost use Rattle.lsm_shelf.specs.FileNames.{current_text};
+ghost use Rattle.lsm_shelf.specs.Plans.{CurrentUnread, CurrentStopped, NoneIn, NamesOther, ReadStopped, current_read, manifest_read};
+ghost use Rattle.lsm_shelf.specs.Told.{NotNamed, NotTaken};
 
 use crate::file::fault::missing;
 use crate::file::file_names::{manifest_file, manifest_in};
@@ -19,8 +19,8 @@ fn load_current<C: FolderCalls, W: Wait>(
     rt: &W,
     alloc: Global,
 ) -> Result<Vec<u8>, ShelfFault>
-    ensures ok { IfOk result (λ v. C.calls folder.new ≡ current_read (Some v.items) (C.calls folder.old)) }
-    ensures err { OnErr result (C.calls folder.new ≡ current_read None (C.calls folder.old)) }
+    ensures ok { IfOk result (λ v. C.calls folder.new ≡ current_read (Ok v.items) (C.calls folder.old)) }
+    ensures err { IfErr result (λ e. CurrentUnread e (C.calls folder.old) (C.calls folder.new)) }
     ensures place { C.place folder.new ≡ C.place folder.old }
     ensures fault { IfErr result NotTaken }
 {
@@ -32,9 +32,8 @@ fn load_current<C: FolderCalls, W: Wait>(
 fn named_by(alloc: Global, text: &Vec<u8>) -> Result<u64, ShelfFault>
     ensures named { IfOk result (λ n. text.now.items ≡ current_text n) }
     ensures only { IfOk result (λ n. (m : ℕ) → m < 2 ^ 64 → text.now.items ≡ current_text m → n ≡ m) }
-    ensures none { IsErrOf result ShelfFault.Missing → NamesNone (Some text.now.items) }
+    ensures none { IfErr result (λ e. NoneIn text.now.items e) }
     ensures fault { IfErr result NotTaken }
-    ensures device { IfErr result NotDevice }
 {
     match manifest_in(alloc, text.as_slice()) {
         Ok(Some(number)) => Ok(number),
@@ -49,10 +48,9 @@ pub(crate) fn current<C: FolderCalls, W: Wait>(
     rt: &W,
     alloc: Global,
 ) -> Result<u64, ShelfFault>
-    ensures ok { IfOk result (λ n. C.calls folder.new ≡ current_read (Some (current_text n)) (C.calls folder.old)) }
+    ensures ok { IfOk result (λ n. C.calls folder.new ≡ current_read (Ok (current_text n)) (C.calls folder.old)) }
     ensures only { IfOk result (λ n. (m : ℕ) → m < 2 ^ 64 → current_text n ≡ current_text m → n ≡ m) }
-    ensures err { OnErr result ((answer : Option (List ℕ)) × (C.calls folder.new ≡ current_read answer (C.calls folder.old)) × (IsErrOf result ShelfFault.Missing → NamesNone answer)) }
-    ensures device { IsErrOf result ShelfFault.Device → C.calls folder.new ≡ current_read None (C.calls folder.old) }
+    ensures err { IfErr result (λ e. CurrentStopped e (C.calls folder.old) (C.calls folder.new)) }
     ensures place { C.place folder.new ≡ C.place folder.old }
     ensures fault { IfErr result NotTaken }
 {
@@ -70,8 +68,8 @@ pub(crate) fn names_manifest<C: FolderCalls, W: Wait>(
     alloc: Global,
     number: u64,
 ) -> Result<bool, ShelfFault>
-    ensures calls { (answer : Option (List ℕ)) × (C.calls folder.new ≡ current_read answer (C.calls folder.old)) × IfOk result (λ b. IsTrue b ↔ (answer ≡ Some (current_text number))) }
-    ensures device { IsErrOf result ShelfFault.Device → C.calls folder.new ≡ current_read None (C.calls folder.old) }
+    ensures ok { IfOk result (λ b. (answer : Result (List ℕ) FolderFault) × (C.calls folder.new ≡ current_read answer (C.calls folder.old)) × MatchBool b (answer ≡ Ok (current_text number)) (NamesOther number answer)) }
+    ensures err { IfErr result (λ e. CurrentStopped e (C.calls folder.old) (C.calls folder.new)) }
     ensures place { C.place folder.new ≡ C.place folder.old }
     ensures fault { IfErr result NotNamed }
 {
@@ -90,16 +88,14 @@ pub(crate) fn read_manifest<C: FolderCalls, W: Wait>(
     alloc: Global,
 ) -> Result<(u64, Vec<u8>), ShelfFault>
     ensures ok { IfOk result (λ r. C.calls folder.new ≡ manifest_read r.0 r.1.items (C.calls folder.old)) }
-    ensures err { OnErr result (ReadStopped (C.calls folder.old) (C.calls folder.new)) }
-    ensures missing { IsErrOf result ShelfFault.Missing → MissingManifest (C.calls folder.old) (C.calls folder.new) }
-    ensures device { IsErrOf result ShelfFault.Device → UnreadManifest (C.calls folder.old) (C.calls folder.new) }
+    ensures err { IfErr result (λ e. ReadStopped e (C.calls folder.old) (C.calls folder.new)) }
     ensures place { C.place folder.new ≡ C.place folder.old }
     ensures fault { IfErr result NotTaken }
 {
     let number = current(folder, rt, alloc)?;
     let name = manifest_file(alloc, number)?;
-    let (_, bytes) = folder
-        .load(rt, alloc, name.as_str())
-        .map_err(|e| missing(e))?;
-    Ok((number, bytes))
+    match folder.load(rt, alloc, name.as_str()) {
+        Ok((_, bytes)) => Ok((number, bytes)),
+        Err(fault) => Err(missing(fault)),
+    }
 }

@@ -1,10 +1,10 @@
 //! The tables of a folder.
 
-ghost use Rattle.std.specs.Prelude.{◌≡◌, ◌↔◌, ℕ, ◌<◌, ◌^◌, ◌∷◌, List, [], ◌++◌, Option, Some, None, map, string_bytes, IfOk, IfErr, OnOk, OnErr, IsErrOf};
+ghost use Rattle.std.specs.Prelude.{◌≡◌, ◌↔◌, ℕ, ◌<◌, ◌^◌, ◌∷◌, List, [], ◌++◌, Ok, map, string_bytes, IfOk, IfErr, OnOk};
 ghost use Rattle.std.specs.List.{Contains};
 ghost use Rattle.std.specs.List.Sorted.{IsStrictlyIncreasing};
 ghost use Rattle.lsm_folder.specs.Calls.{listed};
-ghost use Rattle.lsm_shelf.specs.Plans.{AreTablesOf};
+ghost use Rattle.lsm_shelf.specs.Plans.{AreTablesOf, Unlisted, ListStopped};
 ghost use Rattle.lsm_shelf.specs.Told.{NotNamed};
 
 use crate::file::fault::device;
@@ -55,8 +55,8 @@ fn list_names<C: FolderCalls, W: Wait>(
     rt: &W,
     alloc: Global,
 ) -> Result<Vec<String>, ShelfFault>
-    ensures ok { IfOk result (λ v. C.calls folder.new ≡ listed (Some (map string_bytes v.items)) ∷ C.calls folder.old) }
-    ensures err { OnErr result (C.calls folder.new ≡ listed None ∷ C.calls folder.old) }
+    ensures ok { IfOk result (λ v. C.calls folder.new ≡ listed (Ok (map string_bytes v.items)) ∷ C.calls folder.old) }
+    ensures err { IfErr result (λ e. Unlisted e (C.calls folder.old) (C.calls folder.new)) }
     ensures place { C.place folder.new ≡ C.place folder.old }
     ensures fault { IfErr result NotNamed }
 {
@@ -80,9 +80,8 @@ pub(crate) fn list_tables<C: FolderCalls, W: Wait>(
     alloc: Global,
 ) -> Result<Vec<u64>, ShelfFault>
     ensures ascending { IfOk result (λ v. IsStrictlyIncreasing v.items) }
-    ensures ok { IfOk result (λ v. (names : List (List ℕ)) × (C.calls folder.new ≡ listed (Some names) ∷ C.calls folder.old) × AreTablesOf names v.items) }
-    ensures device { IsErrOf result ShelfFault.Device → C.calls folder.new ≡ listed None ∷ C.calls folder.old }
-    ensures err { OnErr result ((answer : Option (List (List ℕ))) × (C.calls folder.new ≡ listed answer ∷ C.calls folder.old)) }
+    ensures ok { IfOk result (λ v. (names : List (List ℕ)) × (C.calls folder.new ≡ listed (Ok names) ∷ C.calls folder.old) × AreTablesOf names v.items) }
+    ensures err { IfErr result (λ e. ListStopped e (C.calls folder.old) (C.calls folder.new)) }
     ensures place { C.place folder.new ≡ C.place folder.old }
     ensures fault { IfErr result NotNamed }
 {

@@ -1,8 +1,7 @@
 //! How a manifest is started in a folder.
 
-ghost use Rattle.std.specs.Prelude.{◌≡◌, ◌≢◌, ◌⊎◌, ◌↔◌, ◌<◌, ◌≤◌, ◌^◌, length, ℕ, List, Option, Some, IfErr, OnOk, OnErr, IsErrOf};
-ghost use Rattle.lsm_shelf.specs.FileNames.{current_text, manifest_name};
-ghost use Rattle.lsm_shelf.specs.Plans.{done, Stopped, StartedFrom, StartRefused, StartStopped, Unnamed, start_plan, unnamed_plan, current_read};
+ghost use Rattle.std.specs.Prelude.{◌≡◌, ◌<◌, ◌^◌, length, IfErr, OnOk, IsErrOf};
+ghost use Rattle.lsm_shelf.specs.Plans.{done, StartedFrom, StartStopped, WriteStopped, start_plan};
 ghost use Rattle.lsm_shelf.specs.Told.{NotNamed, TakenIs};
 
 use crate::file::current::names_manifest;
@@ -10,7 +9,7 @@ use crate::file::fault::device;
 use crate::file::file_names::{manifest_file, temporary_file, text_of_current};
 use crate::shelf_fault::ShelfFault;
 use crate::slip::MAX_IMAGE;
-use lsm_folder::{FolderCalls, FolderFault};
+use lsm_folder::FolderCalls;
 use std::alloc::Global;
 use std::sync::Wait;
 
@@ -23,8 +22,7 @@ fn write_manifest<C: FolderCalls, W: Wait>(
     bytes: &[u8],
 ) -> Result<(), ShelfFault>
     ensures ok { OnOk result (C.calls folder.new ≡ done (start_plan number bytes.now) (C.calls folder.old)) }
-    ensures err { OnErr result (Stopped (start_plan number bytes.now) (C.calls folder.old) (C.calls folder.new)) }
-    ensures memory { IsErrOf result ShelfFault.OutOfMemory → Stopped (unnamed_plan number bytes.now) (C.calls folder.old) (C.calls folder.new) }
+    ensures err { IfErr result (λ e. WriteStopped number bytes.now e (C.calls folder.old) (C.calls folder.new)) }
     ensures place { C.place folder.new ≡ C.place folder.old }
     ensures fault { IfErr result NotNamed }
 {
@@ -58,11 +56,8 @@ pub(crate) fn start_manifest<C: FolderCalls, W: Wait>(
     bytes: &[u8],
 ) -> Result<(), ShelfFault>
     ensures ok { OnOk result (StartedFrom number bytes.now (C.calls folder.old) (C.calls folder.new)) }
-    ensures err { OnErr result (StartStopped number bytes.now (C.calls folder.old) (C.calls folder.new)) }
-    ensures memory { IsErrOf result ShelfFault.OutOfMemory → Unnamed number bytes.now (C.calls folder.old) (C.calls folder.new) }
+    ensures err { IfErr result (λ e. StartStopped number bytes.now e (C.calls folder.old) (C.calls folder.new)) }
     ensures large { 2 ^ 30 < length bytes.now → IsErrOf result ShelfFault.Device × (C.calls folder.new ≡ C.calls folder.old) }
-    ensures device { IsErrOf result ShelfFault.Device → length bytes.now ≤ 2 ^ 30 → StartRefused number bytes.now (C.calls folder.old) (C.calls folder.new) }
-    ensures taken { IsErrOf result (ShelfFault.Taken number) → C.calls folder.new ≡ current_read (Some (current_text number)) (C.calls folder.old) }
     ensures place { C.place folder.new ≡ C.place folder.old }
     ensures fault { IfErr result (TakenIs number) }
 {
@@ -72,5 +67,8 @@ pub(crate) fn start_manifest<C: FolderCalls, W: Wait>(
     if names_manifest(folder, rt, alloc, number)? {
         return Err(ShelfFault::Taken(number));
     }
-    write_manifest(folder, rt, alloc, number, bytes)
+    match write_manifest(folder, rt, alloc, number, bytes) {
+        Ok(()) => Ok(()),
+        Err(fault) => Err(fault),
+    }
 }

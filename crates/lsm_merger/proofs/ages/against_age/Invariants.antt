@@ -1,9 +1,11 @@
-use Rattle.std.proofs.Common.{◌≡◌, None, length}
+use Rattle.std.proofs.Common.{◌≡◌, None}
+use Rattle.lsm_table.specs.Told.{Becomes}
 use Rattle.lsm_levels.specs.Ages.{against_age}
 use Rattle.lsm_merger.proofs.ages.against_age.Given as goal
 
-abbrev pub invariant-loop-before : goal.invariant-loop-before
-invariant-loop-before g l = against_age None l.initial.merger ≡ against_age l.before l.merger
-
-abbrev pub decreases-loop-before : goal.decreases-loop-before
-decreases-loop-before g l = length l.merger
+abbrev pub invariant-loop : goal.invariant-loop
+invariant-loop g l = record {
+  told : Becomes (g.B.Blocks.told l.fn.blocks) (g.B.Blocks.told l.blocks);
+  loan : g.B.Blocks.loan l.blocks ≡ g.B.Blocks.loan l.fn.blocks;
+  same : g.S.Shelf.honest → against_age None l.fn.merger.placed ≡ against_age l.before l.merger.placed;
+}

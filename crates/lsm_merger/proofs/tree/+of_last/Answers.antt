@@ -1,16 +1,15 @@
 use Rattle.std.proofs.Common.{◌≡◌, List}
 use Rattle.std.specs.Prelude.{Result, Ok, Err, IfOk}
-use Rattle.lsm_levels.specs.Merging.{Placed}
-use Rattle.lsm_levels.specs.Merging.{merge, merge_all}
-use Rattle.lsm_merger.specs.Tree.{left_of}
+use Rattle.lsm_merger.specs.Runs.{Left}
+use Rattle.lsm_merger.specs.Tree.{all_left, both, left_of}
 use Rattle.lsm_merger.specs.declared.tree.Tree.{Tree}
-use Rattle.lsm_merger.proofs.Joining.{joined}
+use Rattle.lsm_merger.proofs.TreeLaws.{joined_left}
 use Rattle.lsm_merger.proofs.tree.+of_last.Goals as goal
 
-joined_ok : {E : Type 0} (old mid new : List (List Placed)) (first second : List Placed) (r : Result (Tree (List Placed) Placed) E)
-    → merge_all old ≡ merge (merge_all mid) second → merge_all mid ≡ merge (merge_all new) first
-    → IfOk r (λ t. left_of t ≡ merge first second) → IfOk r (λ t. merge_all old ≡ merge (merge_all new) (left_of t))
-joined_ok old mid new first second (Ok t) e f h = joined old mid new first second (left_of t) e f h
+joined_ok : {E : Type 0} (old mid new : List Left) (first second : Left) (r : Result (Tree Left) E)
+    → all_left old ≡ both (all_left mid) second → all_left mid ≡ both (all_left new) first
+    → IfOk r (λ t. left_of t ≡ both first second) → IfOk r (λ t. all_left old ≡ both (all_left new) (left_of t))
+joined_ok old mid new first second (Ok t) e f h = joined_left old mid new first second (left_of t) e f h
 joined_ok old mid new first second (Err x) e f h = tt
 
 pub returns-in_ok-first-clause-left : goal.returns-in_ok-first-clause-left

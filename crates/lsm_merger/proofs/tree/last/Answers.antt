@@ -1,7 +1,7 @@
 use Rattle.std.proofs.Common.{◌∙◌, ap}
-use Rattle.lsm_levels.specs.Merging.{merge_all}
-use Rattle.lsm_merger.proofs.Joining.{merge_all-append}
+use Rattle.lsm_merger.specs.Tree.{all_left}
+use Rattle.lsm_merger.proofs.TreeLaws.{all_left-append}
 use Rattle.lsm_merger.proofs.tree.last.Goals as goal
 
 pub returns-clause-left : goal.returns-clause-left
-returns-clause-left g c = ap merge_all c.in-Some.ensures.items ∙ merge_all-append c.pop.new.self.items c.in-Some.source
+returns-clause-left g c = ap all_left c.in-Some.ensures.items ∙ all_left-append c.pop.new.self.items c.in-Some.source

@@ -1,0 +1,171 @@
+// Directories of the real LevelDB, without compression: made of one of the kinds below, and printed as LevelDB reads them.
+//
+//   directory kinds          prints the names of the kinds
+//   directory make DIR KIND  makes DIR; all that was written stands in tables, its log is empty
+//   directory scan DIR       prints each live key with its value, as KEY=VALUE in hex, `.` for no bytes; it opens DIR to write
+//   directory get DIR KEY..  prints the value of each key (hex), or `absent`
+#include <cstdio>
+#include <cstdlib>
+#include <cstring>
+#include <memory>
+#include <string>
+#include <vector>
+
+#include "leveldb/db.h"
+#include "leveldb/filter_policy.h"
+#include "leveldb/options.h"
+
+namespace {
+
+struct Kind {
+  const char* name;
+  int writes;          // in all
+  int keys;            // how many different ones
+  int value;           // bytes of a value at most
+  int delete_each;     // each so many writes one is a deletion; 0: none
+  int snapshot_each;   // a snapshot is held from each so many writes on; 0: none
+  int reopen;          // how often it is closed and opened in between
+  bool bloom;
+  bool compact;        // whole, at the end, the snapshots still held
+  int key;             // bytes of a key at least
+  int block;           // bytes of a block
+  int restart;         // entries a restart
+};
+
+const Kind kKinds[] = {
+    {"empty", 0, 1, 0, 0, 0, 0, false, false, 1, 4096, 16},
+    {"one_key", 1, 1, 10, 0, 0, 0, false, false, 1, 4096, 16},
+    {"one_deletion", 2, 1, 10, 2, 0, 0, false, false, 1, 4096, 16},
+    {"small", 300, 100, 20, 7, 0, 0, false, false, 3, 4096, 16},
+    {"small_compacted", 300, 100, 20, 7, 0, 0, false, true, 3, 4096, 16},
+    {"empty_values", 5000, 5000, 0, 0, 0, 1, false, true, 3, 4096, 16},
+    {"fresh_keys", 60000, 60000, 100, 0, 0, 0, false, false, 16, 4096, 16},
+    {"fresh_keys_compacted", 60000, 60000, 100, 0, 0, 0, false, true, 16, 4096, 16},
+    {"written_over", 90000, 3000, 100, 0, 0, 0, false, false, 16, 4096, 16},
+    {"written_over_compacted", 90000, 3000, 100, 0, 0, 0, false, true, 16, 4096, 16},
+    {"with_deletions", 90000, 20000, 100, 5, 0, 0, false, false, 16, 4096, 16},
+    {"with_deletions_compacted", 90000, 20000, 100, 5, 0, 0, false, true, 16, 4096, 16},
+    {"all_deleted", 40000, 10, 30, 2, 0, 0, false, true, 4, 4096, 16},
+    {"bloom", 60000, 30000, 60, 9, 0, 0, true, false, 16, 4096, 16},
+    {"bloom_compacted", 60000, 30000, 60, 9, 0, 2, true, true, 16, 4096, 16},
+    {"reopened_often", 20000, 5000, 80, 11, 0, 25, false, false, 8, 4096, 16},
+    {"reopened_often_compacted", 20000, 5000, 80, 11, 0, 25, false, true, 8, 4096, 16},
+    {"keys_span_files", 60000, 3, 100, 0, 10, 0, false, true, 4, 4096, 16},
+    {"keys_span_files_deleted", 80000, 4, 100, 3, 10, 1, false, true, 4, 4096, 16},
+    {"one_key_spans_files", 60000, 1, 90, 0, 7, 0, false, true, 20, 4096, 16},
+    {"span_not_compacted", 80000, 5, 100, 6, 15, 3, false, false, 4, 4096, 16},
+    {"span_with_bloom", 80000, 6, 100, 6, 15, 3, true, true, 4, 4096, 16},
+    {"small_blocks", 30000, 10000, 50, 8, 0, 1, false, true, 12, 256, 4},
+    {"no_restarts", 30000, 10000, 50, 8, 0, 1, false, true, 12, 4096, 1000},
+    {"huge_values", 400, 200, 200000, 9, 0, 1, false, false, 8, 4096, 16},
+    {"long_keys", 4000, 2000, 10, 9, 0, 1, true, true, 5000, 4096, 16},
+};
+
+leveldb::DB* Open(const Kind& kind, const std::string& folder) {
+  leveldb::Options options;
+  options.create_if_missing = true;
+  options.compression = leveldb::kNoCompression;
+  options.write_buffer_size = 64 << 10;
+  options.max_file_size = 1 << 20;
+  options.block_size = kind.block;
+  options.block_restart_interval = kind.restart;
+  if (kind.bloom) options.filter_policy = leveldb::NewBloomFilterPolicy(10);
+  leveldb::DB* database = nullptr;
+  leveldb::Status status = leveldb::DB::Open(options, folder, &database);
+  if (!status.ok()) {
+    std::fprintf(stderr, "%s\n", status.ToString().c_str());
+    std::exit(1);
+  }
+  return database;
+}
+
+void Check(const leveldb::Status& status) {
+  if (status.ok()) return;
+  std::fprintf(stderr, "%s\n", status.ToString().c_str());
+  std::exit(1);
+}
+
+void Make(const Kind& kind, const std::string& folder) {
+  leveldb::DB* database = Open(kind, folder);
+  unsigned state = 12345;
+  for (int i = 0; i < kind.writes; i++) {
+    state = state * 1664525u + 1013904223u;
+    std::string key = std::to_string((state >> 8) % static_cast<unsigned>(kind.keys));
+    if (static_cast<int>(key.size()) < kind.key) key.insert(0, kind.key - key.size(), 'k');
+    if (kind.delete_each != 0 && i % kind.delete_each == kind.delete_each - 1) {
+      Check(database->Delete(leveldb::WriteOptions(), key));
+    } else {
+      std::string value = std::to_string(i);
+      value.resize(kind.value == 0 ? 0 : (state >> 4) % static_cast<unsigned>(kind.value + 1), 'v');
+      Check(database->Put(leveldb::WriteOptions(), key, value));
+    }
+    if (kind.snapshot_each != 0 && i % kind.snapshot_each == 0) database->GetSnapshot();
+    if (kind.reopen != 0 && i % (kind.writes / (kind.reopen + 1) + 1) == kind.writes / (kind.reopen + 1)) {
+      delete database;
+      database = Open(kind, folder);
+    }
+  }
+  if (kind.compact) database->CompactRange(nullptr, nullptr);
+  delete database;
+  delete Open(kind, folder);  // what its log had is in a table then
+}
+
+std::string Hex(const leveldb::Slice& bytes) {
+  if (bytes.empty()) return ".";
+  static const char kDigits[] = "0123456789abcdef";
+  std::string hex;
+  for (size_t i = 0; i < bytes.size(); i++) {
+    unsigned char byte = static_cast<unsigned char>(bytes[i]);
+    hex += kDigits[byte >> 4];
+    hex += kDigits[byte & 15];
+  }
+  return hex;
+}
+
+void Scan(const std::string& folder) {
+  std::unique_ptr<leveldb::DB> database(Open(kKinds[0], folder));
+  leveldb::ReadOptions options;
+  options.verify_checksums = true;
+  std::unique_ptr<leveldb::Iterator> place(database->NewIterator(options));
+  for (place->SeekToFirst(); place->Valid(); place->Next()) {
+    std::printf("%s=%s\n", Hex(place->key()).c_str(), Hex(place->value()).c_str());
+  }
+  Check(place->status());
+}
+
+void Get(const std::string& folder, int count, char** keys) {
+  std::unique_ptr<leveldb::DB> database(Open(kKinds[0], folder));
+  for (int i = 0; i < count; i++) {
+    std::string value;
+    leveldb::Status status = database->Get(leveldb::ReadOptions(), keys[i], &value);
+    if (!status.IsNotFound()) Check(status);
+    std::printf("%s\n", status.ok() ? Hex(value).c_str() : "absent");
+  }
+}
+
+}  // namespace
+
+int main(int count, char** words) {
+  std::string what = count > 1 ? words[1] : "";
+  if (what == "kinds" && count == 2) {
+    for (const Kind& kind : kKinds) std::printf("%s\n", kind.name);
+    return 0;
+  }
+  if (what == "scan" && count == 3) {
+    Scan(words[2]);
+    return 0;
+  }
+  if (what == "get" && count >= 4) {
+    Get(words[2], count - 3, words + 3);
+    return 0;
+  }
+  if (what == "make" && count == 4) {
+    for (const Kind& kind : kKinds) {
+      if (std::strcmp(kind.name, words[3]) != 0) continue;
+      Make(kind, words[2]);
+      return 0;
+    }
+  }
+  std::fprintf(stderr, "usage: directory kinds | make DIR KIND | scan DIR | get DIR KEY..\n");
+  return 2;
+}

@@ -1,0 +1,39 @@
+#!/usr/bin/env bash
+# Directories of the real LevelDB (Debian's libleveldb-dev), without compression, beside this repository: of each kind that `directory.cc`
+# knows (keys that span files, Bloom filters, many edits, reopened, compacted) one is made, its version checked, and all its live
+# keys printed by both; stops at the first difference. Prints one line a kind. Proves the reading program in a scratch folder first, over
+# what crates/*/out keep.
+set -euo pipefail
+here=$(cd "$(dirname "$0")" && pwd)
+top=$(cd "$here/../.." && pwd)
+scratch=$(mktemp -d)
+trap 'rm -rf "$scratch"' EXIT
+
+program="$scratch/crates/directory"
+mkdir -p "$program/src" "$program/proofs/main"
+source "$top/benches/copy_crates.sh"
+copy_crates lsm_version "$scratch"
+cp "$here/directory.rattle" "$program/src/main.rt"
+cat > "$program/proofs/main/Invariants.antt" <<'END'
+use Rattle.std.specs.Arc.{arc_value}
+use Rattle.lsm_folder.specs.SystemFolder.{system_place}
+use Rattle.lsm_shelf.specs.FileShelf.{folder_of}
+use Rattle.directory.proofs.main.Given as goal
+
+-- the registry and the contents that were just made
+abbrev pub ghosts-read_all : goal.ghosts-read_all
+ghosts-read_all g a = record { registry = arc_value a.registry; place = system_place (folder_of a.shelf) }
+END
+echo 'directory: lsm_version lsm_table lsm_shelf lsm_folder lsm_block lsm_manifest lsm_codec boxcar' >> "$scratch/crates.txt"
+(cd "$program" && rt run > "$scratch/first" 2> "$scratch/log" || [[ -x out/directory ]]) || { cat "$scratch/log" >&2; exit 1; }
+g++ -O2 -Wall -o "$scratch/leveldb" "$here/directory.cc" -lleveldb
+
+for kind in $("$scratch/leveldb" kinds); do
+    "$scratch/leveldb" make "$scratch/$kind" "$kind"
+    cp -r "$scratch/$kind" "$scratch/copy"
+    "$program/out/directory" "$scratch/$kind" > "$scratch/ours" || { echo "$kind: $(tail -1 "$scratch/ours")"; exit 1; }
+    "$scratch/leveldb" scan "$scratch/copy" > "$scratch/theirs"
+    cmp "$scratch/ours" "$scratch/theirs"
+    echo "$kind: $(find "$scratch/$kind" -name '*.ldb' | wc -l) tables, $(wc -l < "$scratch/ours") live keys, the same"
+    rm -rf "${scratch:?}/$kind" "$scratch/copy"
+done

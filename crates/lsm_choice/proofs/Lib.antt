@@ -1,0 +1,9 @@
+pub mod LevelFiles
+pub mod Linking
+pub mod Growing
+pub mod Planning
+pub mod Conflicting
+pub mod Opening
+pub mod Scoring
+pub mod Choosing
+pub mod Ranges

@@ -1,0 +1,50 @@
+-- What is sent to the shelf, and what the journal holds then (LevelDB's `VersionSet::LogAndApply`; that a new manifest is due by its size
+-- is this project's rule).
+use Rattle.std.specs.Prelude.{◌≡◌, ℕ, ◌+◌, [], ◌++◌, ◌⊎◌, MatchBool}
+use Rattle.lsm_shelf.specs.declared.shelf_fault.ShelfFault.{ShelfFault}
+use Rattle.lsm_shelf.specs.declared.shelf_fault.ShelfFault.TheVariants.{OutOfMemory, Device, Missing, Taken}
+use Rattle.lsm_shelf.specs.Told.{Told, Becomes, Counted, NotTaken, Rose, TakenIs, appending, finding, next_count, sending}
+use Rattle.lsm_manifest.specs.Edit.{IsEdit}
+use Rattle.lsm_manifest.specs.EditFit.{Change}
+use Rattle.lsm_manifest.specs.EditWriting.{edit_text}
+use Rattle.lsm_version.specs.Versions.{Levels}
+use Rattle.lsm_journal.specs.HeldManifest.{HeldManifest, is_at_limit}
+use Rattle.lsm_journal.specs.Difference.{Difference}
+use Rattle.lsm_journal.specs.Writing.{change_edit, record_of, version_edit}
+
+-- The record of the edit was appended, here and on the shelf. Its bytes spell the edit.
+pub record Grows (edit : Change) (old new : HeldManifest) (was is : Told) : Type 0 where
+  pub held : new ≡ record old { bytes = old.bytes ++ record_of old.bytes edit }
+  pub sent : Becomes (appending (record_of old.bytes edit) was) is
+  pub spelled : IsEdit (edit_text edit) edit
+
+-- A new manifest of this number, of one edit, took the place of the one before, here and on the shelf. Its bytes spell the edit.
+pub record Starts (number : ℕ) (edit : Change) (old new : HeldManifest) (was is : Told) : Type 0 where
+  pub held : new ≡ record old { number = number; bytes = record_of [] edit }
+  pub sent : Becomes (sending number (record_of [] edit) was) is
+  pub spelled : IsEdit (edit_text edit) edit
+
+-- What is held and what the shelf was sent grow by one record, the same, or are one new manifest, the same.
+abbrev pub GrowsAlike : HeldManifest → HeldManifest → Told → Told → Type 0
+GrowsAlike old new was is = ((edit : Change) × Grows edit old new was is) ⊎ ((number : ℕ) × (edit : Change) × Starts number edit old new was is)
+
+-- A new manifest that spells this version; its number is the next file number, which rises by one.
+abbrev pub RollsOver : Levels → ℕ → HeldManifest → HeldManifest → Told → Told → Type 0
+RollsOver v number old new was is = Starts number (version_edit old v (number + 1)) old new was is
+
+-- What the change sends, and the next file number afterwards: below the limit the record of its edit; from the limit on a new manifest
+-- that spells the version after it.
+abbrev pub Sends : Difference → Levels → ℕ → ℕ → HeldManifest → HeldManifest → Told → Told → Type 0
+Sends d w next after old new was is = MatchBool (is_at_limit old) ((after ≡ next + 1) × RollsOver w next old new was is) ((after ≡ next) × Grows (change_edit old d next) old new was is)
+
+-- why it refuses
+abbrev pub IsSendRefusal : HeldManifest → ℕ → ShelfFault → Told → Told → Type 0
+IsSendRefusal old next e was is = MatchBool (is_at_limit old) (TakenIs next e) (NotTaken e) × Counted e was is
+
+-- Why no database was created: one is there, as its manifest was read; or the shelf refused, and a name taken by another was the second
+-- of its refusals that say what is there.
+abbrev pub IsCreateRefusal : ShelfFault → Told → Told → Type 0
+IsCreateRefusal OutOfMemory was is = Becomes was is
+IsCreateRefusal Device was is = Becomes was is × Rose was.faults is.faults
+IsCreateRefusal Missing was is = ⊥
+IsCreateRefusal (Taken n) was is = ((bytes : Rattle.std.specs.Prelude.List ℕ) × Becomes (finding n bytes was) is) ⊎ ((n ≡ 1) × Becomes was is × Rose (next_count was.misses) is.misses)

@@ -1,0 +1,51 @@
+//! A new database's manifest.
+
+ghost use Rattle.std.specs.Prelude.{◌≡◌, IfErr, IfOk, OnOk};
+ghost use Rattle.lsm_shelf.specs.Told.{Becomes, Rose, sending};
+ghost use Rattle.lsm_version.specs.Versions.{no_levels};
+ghost use Rattle.lsm_journal.specs.Recorded.{IsRecorded};
+ghost use Rattle.lsm_journal.specs.Sending.{IsCreateRefusal};
+ghost use Rattle.lsm_journal.specs.Writing.{created};
+
+use crate::journal::Journal;
+use crate::written::{first_edit, manifest_of};
+use lsm_table::{Shelf, ShelfFault};
+use std::alloc::Global;
+use std::sync::Wait;
+
+impl Journal {
+    /// Begins a database where there is none: manifest 1, which records no table, and 2 as the next file number. The limit is in bytes.
+    ///
+    /// `Taken` with the number of the manifest that is there; then `OutOfMemory`, `Device`, and `Taken` of number 1 where another began
+    /// one meanwhile. A refused call sent nothing that took effect; after `Device` the manifest may be there or not.
+    pub fn create<S: Shelf, R: Wait>(
+        rt: &R,
+        alloc: Global,
+        shelf: &mut S,
+        limit: u64,
+    ) -> Result<Journal, ShelfFault>
+        ensures created { IfOk result (λ j. j ≡ created limit) }
+        ensures recorded { IfOk result (λ j. IsRecorded 0 j no_levels 2) }
+        ensures sent { IfOk result (λ j. Becomes (sending j.number j.bytes (S.told shelf.old)) (S.told shelf.new)) }
+
+        // No manifest was there: the shelf said so.
+        ensures missing { OnOk result (Rose (S.told shelf.old).misses (S.told shelf.new).misses) }
+        ensures refused { IfErr result (λ e. IsCreateRefusal e (S.told shelf.old) (S.told shelf.new)) }
+    {
+        match shelf.read_manifest(rt, alloc) {
+            Ok((number, _)) => return Err(ShelfFault::Taken(number)),
+            Err(ShelfFault::Missing) => {}
+            Err(fault) => return Err(fault),
+        }
+        let edit = first_edit(alloc)?;
+        let bytes = manifest_of(alloc, &edit)?;
+        shelf.start_manifest(rt, alloc, 1, &bytes)?;
+        Ok(Journal {
+            number: 1,
+            bytes,
+            log: 0,
+            prev_log: 0,
+            limit,
+        })
+    }
+}

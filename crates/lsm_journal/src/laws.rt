@@ -1,0 +1,45 @@
+//! Laws of what a manifest records. Each function's contract is one law; its body is empty.
+
+ghost use Rattle.std.specs.Prelude.{◌≡◌, ◌≤◌, ◌^◌, ℕ, List, length};
+ghost use Rattle.lsm_table.specs.Registry.{Table};
+ghost use Rattle.lsm_manifest.specs.EditFit.{FitsKey};
+ghost use Rattle.lsm_manifest.specs.Shape.{Form};
+ghost use Rattle.lsm_version.specs.CheckRefusal.{IsOfShape};
+ghost use Rattle.lsm_version.specs.FileNumbers.{AreDistinct, numbers_of};
+ghost use Rattle.lsm_version.specs.Versions.{IsWhole, Levels};
+ghost use Rattle.lsm_journal.specs.HeldManifest.{HeldManifest};
+ghost use Rattle.lsm_journal.specs.Recorded.{FitsLevels, IsRecorded};
+ghost use Rattle.lsm_journal.specs.Difference.{Difference, FitsDifference, LeadsTo};
+ghost use Rattle.lsm_journal.specs.Recovering.{IsRecovered};
+
+use lsm_version::{changed_tables, shapes_in_order};
+
+/// The manifest that was read records each version of its shape.
+pub fn recovered_is_recorded()
+    ensures { (rest : ℕ) (h : HeldManifest) (shape : Form) (v : Levels) → IsRecovered h shape rest → IsOfShape shape v → AreDistinct (numbers_of shape.levels) → IsRecorded rest h v shape.next }
+{
+    shapes_in_order();
+}
+
+/// What is recorded stays so as the next file number rises.
+pub fn recorded_later()
+    ensures { (rest : ℕ) (h : HeldManifest) (v : Levels) (n m : ℕ) → IsRecorded rest h v n → n ≤ m → IsRecorded rest h v m }
+{}
+
+/// The keys of a recorded version fit: each is an internal key, and its length fits 32 bits.
+pub fn recorded_keys_fit()
+    ensures { (rest : ℕ) (h : HeldManifest) (v : Levels) (next : ℕ) → IsRecorded rest h v next → FitsLevels v }
+{}
+
+/// So do those of the version after a change.
+pub fn differences_fit()
+    ensures { (h : HeldManifest) (d : Difference) (w : Levels) (next : ℕ) → FitsDifference d → LeadsTo h d w next → FitsLevels w }
+{
+    changed_tables();
+}
+
+/// The keys of a record that stands for a table fit where its image is not above 1 GiB, as that of each receipt is: a key is not longer
+/// than the table's bytes.
+pub fn whole_keys_fit()
+    ensures { (t : Table) → IsWhole t → length t.image ≤ 2 ^ 30 → FitsKey t.smallest × FitsKey t.largest }
+{}

@@ -1,0 +1,29 @@
+//! The journal of a database: the manifest that it holds, and what it writes there when the current version changes.
+//!
+//! Stands on `lsm_version` for versions and their changes, on `lsm_manifest` for the bytes of a manifest, and on `lsm_table` and
+//! `lsm_shelf` for tables and shelves. Its contract: the manifest held records the current version, and what is held and what the shelf
+//! was sent grow alike.
+#![tactic(auto)]
+
+// A change, and the edits that are written.
+mod keys;
+mod version_change;
+mod written;
+
+// The manifest held.
+mod create;
+mod journal;
+mod laws;
+mod recover;
+mod recover_fault;
+mod roll_over;
+mod send;
+
+pub use journal::Journal;
+pub use keys::added_keys_fit;
+pub use laws::{
+    differences_fit, recorded_keys_fit, recorded_later, recovered_is_recorded, whole_keys_fit,
+};
+pub use recover::Recovered;
+pub use recover_fault::RecoverFault;
+pub use version_change::VersionChange;

@@ -1,0 +1,43 @@
+//! A new manifest for a version.
+
+ghost use Rattle.std.specs.Prelude.{◌≡◌, ◌+◌, ◌<◌, ◌^◌, ℕ, IfErr, OnErr, OnOk};
+ghost use Rattle.lsm_shelf.specs.Told.{Becomes, Counted, CountedBy, TakenIs};
+ghost use Rattle.lsm_journal.specs.Recorded.{IsRecorded};
+ghost use Rattle.lsm_journal.specs.Sending.{RollsOver};
+
+use crate::journal::Journal;
+use crate::written::manifest_of;
+use lsm_table::{Naming, Registry, Shelf, ShelfFault};
+use lsm_version::Version;
+use std::alloc::Global;
+use std::sync::Wait;
+
+impl Journal {
+    /// Begins a new manifest, of one edit that spells the version held: comparator, log numbers, next file number, last sequence,
+    /// pointers by level, files by level. Its number is the next file number, so the next one is one more.
+    ///
+    /// Its bytes are made before anything is sent: after `OutOfMemory` nothing was. `Taken` where the directory's manifest has this
+    /// number, `Device` where the shelf failed; the directory then names the old manifest or the new one whole. After a refusal the
+    /// journal is as before.
+    pub fn roll_over<N: Naming, S: Shelf, R: Wait>(
+        &mut self,
+        rt: &R,
+        alloc: Global,
+        shelf: &mut S,
+        registry: &Registry<S::Receipt>,
+        version: &Version<N, S>,
+        number: u64,
+    ) -> Result<(), ShelfFault>
+        requires named { registry.now ≡ N.registry }
+        requires recorded { (rest : ℕ) × IsRecorded rest self.old version.now number }
+        requires numbers { number + 1 < 2 ^ 64 }
+        ensures rolls { OnOk result (RollsOver version.now number self.old self.new (S.told shelf.old) (S.told shelf.new)) }
+        ensures recorded { OnOk result (IsRecorded 0 self.new version.now (number + 1)) }
+        ensures err { OnErr result (self.new ≡ self.old) }
+        ensures unsent { OnErr result (Becomes (S.told shelf.old) (S.told shelf.new)) }
+        ensures cause { IfErr result (λ e. TakenIs number e × Counted e (S.told shelf.old) (S.told shelf.new)) }
+        ensures counts { CountedBy result (S.told shelf.old) (S.told shelf.new) }
+    {
+        self.start(rt, alloc, shelf, registry, version, number)
+    }
+}

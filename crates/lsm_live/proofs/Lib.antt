@@ -1,0 +1,9 @@
+mod Elements
+mod Tickets
+mod Places
+mod Machine
+mod Handing
+mod Reservations
+mod Sharing
+mod Results
+pub mod CallerLemmas

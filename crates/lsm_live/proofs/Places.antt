@@ -1,0 +1,59 @@
+-- Live jobs by their places.
+use Rattle.std.proofs.Common.{◌≡◌, ℕ, zero, suc, ◌<◌, ◌≤◌, true, length, get_or, set, take, List, [], ◌∷◌, Option, None, Some, is_some, refl, ◌∙◌, ap, inl, inr, arith}
+use Rattle.std.specs.Prelude.{◌⊎◌, ◌↔◌, MatchOption, OnErr, OnOk, Result, Ok, Err}
+use Rattle.lsm_codec.specs.Lists.{Has}
+use Rattle.lsm_levels.specs.Jobs.{Conflicts}
+use Rattle.lsm_merge.specs.Work.{Work, job_of}
+use Rattle.lsm_live.specs.Booked.{AreIncreasing, Booked, HasTicket, drawing, tickets_of}
+use Rattle.lsm_live.specs.Conflicting.{HasNoConflict, IsLeastConflict}
+use Rattle.lsm_live.proofs.Elements.{has_at}
+use Rattle.lsm_live.proofs.Tickets.{has_ticket}
+
+-- a place of the ticket makes it live
+pub ticket_at : (live : List Booked) (ticket i : ℕ) → i < length live → ((d : Booked) → (get_or live i d).work.ticket ≡ ticket) → HasTicket live ticket
+ticket_at [] ticket i lt its = absurd (omega arith)
+ticket_at (b ∷ live) ticket zero lt its = (b, inl refl, its b)
+ticket_at (b ∷ live) ticket (suc i) lt its = (let r = ticket_at live ticket i (omega arith) its in (r.0, inr r.1, r.2))
+
+-- whether there is a place is whether the ticket is live
+pub place_live : (live : List Booked) (ticket : ℕ) (place : Option ℕ)
+    → MatchOption place ((b : Booked) → Has live b → b.work.ticket ≡ ticket → ⊥) (λ i. (i < length live) × ((d : Booked) → (get_or live i d).work.ticket ≡ ticket))
+    → (is_some place ≡ true) ↔ HasTicket live ticket
+place_live live ticket None none = (λ e. absurd (cc e), λ h. absurd (none h.0 h.1 h.2))
+place_live live ticket (Some i) at = (λ e. ticket_at live ticket i at.0 at.1, λ h. refl)
+
+-- a job in the place of one of its ticket
+pub set_tickets : (live : List Booked) (i : ℕ) (old new : Booked) → old ≡ get_or live i old → new.work.ticket ≡ old.work.ticket → tickets_of (set live i new) ≡ tickets_of live
+set_tickets [] i old new is same = refl
+set_tickets (b ∷ live) zero old new is same = ap (λ n. n ∷ tickets_of live) (same ∙ ap (λ (x : Booked). x.work.ticket) is)
+set_tickets (b ∷ live) (suc i) old new is same = ap (λ ns. b.work.ticket ∷ ns) (set_tickets live i old new is same)
+
+-- each live job stands before a place, or has no lesser ticket than the one there
+before_or_after : (live : List Booked) (i : ℕ) (x : Booked) → AreIncreasing (tickets_of live) → i < length live → x ≡ get_or live i x → (b : Booked) → Has live b
+    → Has (take i live) b ⊎ (x.work.ticket ≤ b.work.ticket)
+before_or_after [] i x r lt is b h = absurd h
+before_or_after (c ∷ live) zero x r lt is b (inl e) = (let same : x.work.ticket ≡ b.work.ticket = ap (λ (y : Booked). y.work.ticket) (is ∙ e) in inr (omega arith))
+before_or_after (c ∷ live) zero x r lt is b (inr h) = (let after = r.0 b.work.ticket (has_ticket live b h) in let here = ap (λ (y : Booked). y.work.ticket) is in inr (omega arith))
+before_or_after (c ∷ live) (suc i) x r lt is b (inl e) = inl (inl e)
+before_or_after (c ∷ live) (suc i) x r lt is b (inr h) = elim (before_or_after live i x r.1 (omega arith) is b h) [ inl a ↦ inl (inr a) | inr le ↦ inr le ]
+
+-- the first job in conflict is that of the least ticket
+pub least_at : (live : List Booked) (w : Work) (i : ℕ) (x : Booked) → AreIncreasing (tickets_of live) → i < length live → x ≡ get_or live i x → HasNoConflict (take i live) w
+    → Conflicts (job_of w) (job_of x.work) → IsLeastConflict live w x.work.ticket
+least_at live w i x r lt is none conflict = record {
+  one = x;
+  is_live = has_at live i x lt is;
+  its = refl;
+  conflict = conflict;
+  least = λ b h k. elim (before_or_after live i x r lt is b h) [ inl before ↦ absurd (none b before k) | inr le ↦ le ];
+}
+
+-- ---- after a draw
+
+pub ticket_after : {A E : Type 0} (n : ℕ) (old new : Booked) (r : Result A E) → OnOk r (new ≡ drawing n old) → OnErr r (new ≡ old) → new.work.ticket ≡ old.work.ticket
+ticket_after n old new (Ok x) drawn same = ap (λ (b : Booked). b.work.ticket) drawn
+ticket_after n old new (Err e) drawn same = ap (λ (b : Booked). b.work.ticket) same
+
+pub on_ok : {A E P Q : Type 0} (r : Result A E) → (P → Q) → OnOk r P → OnOk r Q
+on_ok (Ok x) f p = f p
+on_ok (Err e) f p = p

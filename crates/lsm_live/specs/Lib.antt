@@ -1,0 +1,4 @@
+pub mod Booked
+pub mod Conflicting
+pub mod Reserving
+pub mod Results

@@ -1,0 +1,212 @@
+-- One entry more: it comes after those of the output in the making, and that goes on.
+use Rattle.std.proofs.Common.{◌≡◌, ℕ, ◌+◌, ◌≤◌, Bool, true, false, cond, List, [], ◌∷◌, ◌++◌, length, Option, Some, None, Ordering, Less, Equal, Greater, refl, sym, ◌∙◌, ap, subst, inl, inr, arith, append_assoc}
+use Rattle.std.specs.Prelude.{◌⊎◌, Result, Ok, Err, OnOk, OnErr, IfErr}
+use Rattle.std.specs.Ordering.{is_le, is_lt}
+use Rattle.std.proofs.lemmas.List.{append-nil}
+use Rattle.lsm_codec.specs.Lists.{Has}
+use Rattle.lsm_codec.specs.Keys.{InternalKey, UserKey, key_cmp}
+use Rattle.lsm_codec.specs.Entries.{Entry, internal_key}
+use Rattle.lsm_block.specs.Block.{Ascends}
+use Rattle.lsm_block.specs.Building.{after_last, last_key}
+use Rattle.lsm_block.proofs.CallerLemmas.{ascends-push}
+use Rattle.lsm_table.proofs.CallerLemmas.{key_cmp_total, becomes_same}
+use Rattle.lsm_shelf.specs.Told.{Told, Becomes, Counted, Rose, TakenIs, putting}
+use Rattle.lsm_shelf.specs.declared.shelf_fault.ShelfFault.{ShelfFault}
+use Rattle.lsm_shelf.specs.declared.shelf_fault.ShelfFault.TheVariants as why
+use Rattle.lsm_table.specs.ReadFault.{ReadCounted}
+use Rattle.lsm_table.specs.declared.read_fault.ReadFault.TheVariants as read
+use Rattle.lsm_merge.specs.declared.merge_fault.InputFault.TheVariants.{Read, OutOfOrder}
+use Rattle.lsm_merge.specs.declared.merge_fault.OutputFault.TheVariants.{TooLarge, Shelf}
+use Rattle.lsm_merge.specs.declared.merge_fault.MergeFault.{MergeFault}
+use Rattle.lsm_merge.specs.declared.merge_fault.MergeFault.TheVariants.{OutOfMemory, ReadFailed, PutFailed, UnknownTicket, NumbersSpent}
+use Rattle.lsm_merge.specs.Causes.{HasCause, Leaves}
+use Rattle.lsm_merge.specs.Cuts.{closes}
+use Rattle.lsm_merge.specs.Dropping.{Follows, IsAtMost, IsUpTo, Making, is_kept, placed, shut, shut_before, with_entry}
+use Rattle.lsm_merge.specs.Outputs.{AreGood, Goes, Made, PutsMore, SameSizes, drawn_of, entries_of_last, going, making_of, putting_all}
+use Rattle.lsm_merge.specs.Remembered.{bare}
+
+-- ---- order
+
+-- an entry that stands after the one before stands after all of the output in the making
+pub up_to_after : (es : List Entry) (before : Option Entry) (e : Entry) → IsUpTo es before → Follows before e → after_last (last_key es) (internal_key e) ≡ true
+up_to_after es before e up f = go (last_key es) refl
+  where
+    less : (p : Entry) (key : InternalKey) (o : Ordering) → key_cmp key (internal_key p) ≡ o → is_le o ≡ true → key_cmp (internal_key p) (internal_key e) ≡ Less → is_lt (key_cmp key (internal_key e)) ≡ true
+    less p key Less is h k = ap is_lt (key_cmp_total.trans key (internal_key p) (internal_key e) is k)
+    less p key Equal is h k = ap is_lt (key_cmp_total.congr key (internal_key p) (internal_key e) is ∙ k)
+    less p key Greater is h k = absurd (cc h)
+
+    at : (b : Option Entry) (key : InternalKey) → IsAtMost key b → Follows b e → is_lt (key_cmp key (internal_key e)) ≡ true
+    at None key none g = absurd none
+    at (Some p) key h g = less p key (key_cmp key (internal_key p)) refl h g
+
+    go : (l : Option InternalKey) → last_key es ≡ l → after_last l (internal_key e) ≡ true
+    go None is = refl
+    go (Some key) is = at before key (up key is) f
+
+pub ascends_after : (es : List Entry) (before : Option Entry) (e : Entry) → Ascends es → IsUpTo es before → Follows before e → Ascends (es ++ e ∷ [])
+ascends_after es before e a up f = ascends-push es e a (up_to_after es before e up f)
+
+last_of_push : (es : List Entry) (e : Entry) → last_key (es ++ e ∷ []) ≡ Some (internal_key e)
+last_of_push [] e = refl
+last_of_push (x ∷ []) e = refl
+last_of_push (x ∷ y ∷ es) e = last_of_push (y ∷ es) e
+
+self_le : (key : InternalKey) → is_le (key_cmp key key) ≡ true
+self_le key = go (key_cmp key key) (key_cmp_total.antisymm key key)
+  where
+    go : (o : Ordering) → o ≡ Rattle.std.specs.Ordering.ordering_reverse o → is_le o ≡ true
+    go Less e = refl
+    go Equal e = refl
+    go Greater e = absurd (cc e)
+
+pub up_to_pushed : (es : List Entry) (e : Entry) → IsUpTo (es ++ e ∷ []) (Some (bare e))
+up_to_pushed es e key is = subst (λ (k : InternalKey). is_le (key_cmp k (internal_key e)) ≡ true) (let z : internal_key e ≡ key = (let p = last_of_push es e in cc (p, is)) in z) (self_le (internal_key e))
+
+pub up_to_dropped : (es : List Entry) (before : Option Entry) (e : Entry) → IsUpTo es before → Follows before e → IsUpTo es (Some (bare e))
+up_to_dropped es before e up f key is = at before (up key is) f
+  where
+    less : (p : Entry) (o : Ordering) → key_cmp key (internal_key p) ≡ o → is_le o ≡ true → key_cmp (internal_key p) (internal_key e) ≡ Less → is_le (key_cmp key (internal_key e)) ≡ true
+    less p Less same h k = ap is_le (key_cmp_total.trans key (internal_key p) (internal_key e) same k)
+    less p Equal same h k = ap is_le (key_cmp_total.congr key (internal_key p) (internal_key e) same ∙ k)
+    less p Greater same h k = absurd (cc h)
+
+    at : (b : Option Entry) → IsAtMost key b → Follows b e → is_le (key_cmp key (internal_key e)) ≡ true
+    at None none g = absurd none
+    at (Some p) h g = less p (key_cmp key (internal_key p)) refl h g
+
+pub up_to_taken : (size : List Entry → ℕ) (target : ℕ) (m : Making) (kept : Bool) (before : Option Entry) (e : Entry) → IsUpTo m.output before → Follows before e
+    → IsUpTo (cond {A = Making} kept (placed size target m e) m).output (Some (bare e))
+up_to_taken size target m true before e up f = up_to_pushed (shut_before size target m e.user).output e
+up_to_taken size target m false before e up f = up_to_dropped m.output before e up f
+
+-- what ascends with one entry more does so where the output before it was put
+pub ascends_shut : (size : List Entry → ℕ) (target : ℕ) (m : Making) (e : Entry) → Ascends (m.output ++ e ∷ []) → Ascends ((shut_before size target m e.user).output ++ e ∷ [])
+ascends_shut size target m e a = go (closes size target m.output e.user)
+  where
+    go : (b : Bool) → Ascends ((cond {A = Making} b (shut m) m).output ++ e ∷ [])
+    go true = tt
+    go false = a
+
+-- ---- steps
+
+pub sizes_then : (a b c : Made) → SameSizes a b → SameSizes b c → SameSizes a c
+sizes_then a b c p q = record { ticket = q.ticket ∙ p.ticket; options = q.options ∙ p.options; target = q.target ∙ p.target }
+
+pub goes_then : (a b c : Made) (m n : Making) → Goes a b m → Goes b c n → Goes a c n
+goes_then a b c m n p q = record { sizes = sizes_then a b c p.sizes q.sizes; good = q.good; is = q.is }
+
+pub place_goes : (a b c : Made) (size : List Entry → ℕ) (target : ℕ) (e : Entry) → Goes a b (shut_before size target (making_of a) e.user) → Goes b c (with_entry e (making_of b))
+    → Goes a c (placed size target (making_of a) e)
+place_goes a b c size target e p q = record { sizes = sizes_then a b c p.sizes q.sizes; good = q.good; is = q.is ∙ ap (with_entry e) p.is }
+
+pub place_ascends : (a b : Made) (size : List Entry → ℕ) (target : ℕ) (e : Entry) → Goes a b (shut_before size target (making_of a) e.user)
+    → Ascends (entries_of_last a.last ++ e ∷ []) → Ascends (entries_of_last b.last ++ e ∷ [])
+place_ascends a b size target e p h = subst (λ (m : Making). Ascends (m.output ++ e ∷ [])) (sym p.is) (ascends_shut size target (making_of a) e h)
+
+-- ---- what the shelf was told
+
+putting_rises : (ns : List ℕ) (t : Told) → ((putting_all ns t).faults ≡ t.faults) × ((putting_all ns t).misses ≡ t.misses) × ((putting_all ns t).place ≡ t.place)
+putting_rises [] t = (refl, refl, refl)
+putting_rises (n ∷ ns) t = putting_rises ns (putting n t)
+
+pub puts_place : (old new : List ℕ) (t u : Told) → PutsMore old new t u → u.place ≡ t.place
+puts_place old new t u p = (p.told).place ∙ (putting_rises p.more t).2
+
+-- whatever it put, its contents are the same
+pub told_place : (put : List ℕ) (t u : Told) → Becomes (putting_all put t) u → u.place ≡ t.place
+told_place put t u b = b.place ∙ (putting_rises put t).2
+
+becomes_putting : (ns : List ℕ) (t u : Told) → Becomes t u → Becomes (putting_all ns t) (putting_all ns u)
+becomes_putting [] t u b = b
+becomes_putting (n ∷ ns) t u b = becomes_putting ns (putting n t) (putting n u) (record {
+  place = b.place;
+  faults = b.faults;
+  misses = b.misses;
+  puts = ap (λ (l : List ℕ). n ∷ l) b.puts;
+  gone = b.gone;
+  listed = b.listed;
+  manifest = b.manifest;
+  sent = b.sent;
+  found = b.found;
+})
+
+pub then_becomes : (a b c : Told) → Becomes a b → Becomes b c → Becomes a c
+then_becomes a b c p q = record {
+  place = q.place ∙ p.place;
+  faults = (let x = p.faults in let y = q.faults in omega arith);
+  misses = (let x = p.misses in let y = q.misses in omega arith);
+  puts = q.puts ∙ p.puts;
+  gone = q.gone ∙ p.gone;
+  listed = q.listed ∙ p.listed;
+  manifest = q.manifest ∙ p.manifest;
+  sent = q.sent ∙ p.sent;
+  found = q.found ∙ p.found;
+}
+
+putting_both : (ns ms : List ℕ) (t : Told) → putting_all (ns ++ ms) t ≡ putting_all ms (putting_all ns t)
+putting_both [] ms t = refl
+putting_both (n ∷ ns) ms t = putting_both ns ms (putting n t)
+
+pub puts_none : (put : List ℕ) (t u : Told) → Becomes t u → PutsMore put put t u
+puts_none put t u b = record { more = []; grown = sym (append-nil put); told = b }
+
+pub puts_then : (a b c : List ℕ) (t u v : Told) → PutsMore a b t u → PutsMore b c u v → PutsMore a c t v
+puts_then a b c t u v p q = record {
+  more = p.more ++ q.more;
+  grown = q.grown ∙ ap (λ (l : List ℕ). l ++ q.more) p.grown ∙ append_assoc a p.more q.more;
+  told = subst (λ (w : Told). Becomes w v) (sym (putting_both p.more q.more t)) (then_becomes (putting_all q.more (putting_all p.more t)) (putting_all q.more u) v (becomes_putting q.more (putting_all p.more t) u p.told) q.told);
+}
+
+-- all that was put from the start
+pub puts_all : (put : List ℕ) (t u : Told) → PutsMore [] put t u → Becomes (putting_all put t) u
+puts_all put t u p = subst (λ (l : List ℕ). Becomes (putting_all l t) u) (sym p.grown) p.told
+
+-- ---- refusals
+
+-- counts that do not fall
+pub record Rises (a b : Told) : Type 0 where
+  pub faults : a.faults ≤ b.faults
+  pub misses : a.misses ≤ b.misses
+
+pub becomes_rises : (a b : Told) → Becomes a b → Rises a b
+becomes_rises a b p = record { faults = p.faults; misses = p.misses }
+
+pub puts_rise : (old new : List ℕ) (t u : Told) → PutsMore old new t u → Rises t u
+puts_rise old new t u p = record {
+  faults = (let x = (p.told).faults in let y = (putting_rises p.more t).0 in omega arith);
+  misses = (let x = (p.told).misses in let y = (putting_rises p.more t).1 in omega arith);
+}
+
+counted_after : (f : ShelfFault) (a b c : Told) → Rises a b → Counted f b c → Counted f a c
+counted_after why.OutOfMemory a b c p q = tt
+counted_after why.Device a b c p q = (let x = p.faults in omega arith)
+counted_after why.Missing a b c p q = (let x = p.misses in omega arith)
+counted_after (why.Taken n) a b c p q = (let x = p.misses in omega arith)
+
+read_after : (f : Rattle.lsm_table.specs.declared.read_fault.ReadFault.ReadFault) (a b c : Told) → Rises a b → ReadCounted f b c → ReadCounted f a c
+read_after (read.Shelf f) a b c p q = (q.0, counted_after f a b c p q.1)
+read_after (read.Table f) a b c p q = tt
+
+pub cause_after : (inputs : List ℕ) (e : MergeFault) (a b c : Told) → Rises a b → HasCause inputs e b c → HasCause inputs e a c
+cause_after inputs OutOfMemory a b c p q = tt
+cause_after inputs (ReadFailed n (Read f)) a b c p q = (q.0, (read_after f a b c p q.1.0, q.1.1))
+cause_after inputs (ReadFailed n OutOfOrder) a b c p q = q
+cause_after inputs (PutFailed n TooLarge) a b c p q = tt
+cause_after inputs (PutFailed n (Shelf f)) a b c p q = (q.0, (counted_after f a b c p q.1.0, q.1.1))
+cause_after inputs (UnknownTicket t) a b c p q = tt
+cause_after inputs NumbersSpent a b c p q = tt
+
+-- an input of none is an input
+pub cause_of_put : (inputs : List ℕ) (e : MergeFault) (a b : Told) → HasCause [] e a b → HasCause inputs e a b
+cause_of_put inputs OutOfMemory a b q = tt
+cause_of_put inputs (ReadFailed n (Read f)) a b q = absurd q.0
+cause_of_put inputs (ReadFailed n OutOfOrder) a b q = absurd q
+cause_of_put inputs (PutFailed n TooLarge) a b q = tt
+cause_of_put inputs (PutFailed n (Shelf f)) a b q = q
+cause_of_put inputs (UnknownTicket t) a b q = tt
+cause_of_put inputs NumbersSpent a b q = tt
+
+pub if_err : {A E : Type 0} (P Q : E → Type 0) (r : Result A E) → ((e : E) → P e → Q e) → IfErr r P → IfErr r Q
+if_err P Q (Ok x) f h = tt
+if_err P Q (Err e) f h = f e h

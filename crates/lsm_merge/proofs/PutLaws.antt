@@ -1,0 +1,95 @@
+-- Outputs that are put one after another.
+use Rattle.std.proofs.Common.{◌≡◌, ℕ, ◌≤◌, Bool, true, false, cond, List, [], ◌∷◌, ◌++◌, Option, Some, None, map, refl, sym, ◌∙◌, ap, subst, inl, inr, arith, append_assoc}
+use Rattle.std.specs.Prelude.{◌⊎◌, Result, Ok, Err, OnOk, OnErr, IfErr}
+use Rattle.lsm_codec.specs.Lists.{Has}
+use Rattle.lsm_codec.specs.Keys.{IsKey}
+use Rattle.lsm_codec.specs.Entries.{Entry, internal_key}
+use Rattle.lsm_codec.proofs.CallerLemmas.{has_cases}
+use Rattle.lsm_table.specs.Registry.{Table}
+use Rattle.lsm_table.specs.Table.{IsTable}
+use Rattle.lsm_table.specs.HeldTable.{entries_in}
+use Rattle.lsm_table.specs.declared.table_options.TableOptions.{TableOptions}
+use Rattle.lsm_version.specs.Versions.{IsWhole}
+use Rattle.lsm_merge.specs.Causes.{DrewMore}
+use Rattle.lsm_merge.specs.Cuts.{is_empty}
+use Rattle.lsm_merge.specs.Dropping.{Making, closed}
+use Rattle.lsm_merge.specs.Outputs.{AreGood, Goes, IsImage, IsPut, Made, Unfinished, drawn_of, entries_of_last, going, making_of}
+use Rattle.lsm_merge.specs.Work.{contents_of}
+
+pub going_snoc : (ns : List ℕ) (n : ℕ) (there : List ℕ) → going (ns ++ n ∷ []) there ≡ n ∷ going ns there
+going_snoc [] n there = refl
+going_snoc (m ∷ ns) n there = going_snoc ns n (m ∷ there)
+
+pub drew_put : (put put' : List ℕ) (n : ℕ) (there : List ℕ) → put' ≡ put ++ n ∷ [] → DrewMore put' (n ∷ going put there) there
+drew_put put put' n there e = inl (sym (ap (λ (p : List ℕ). going p there) e ∙ going_snoc put n there))
+
+-- the law of records that stand for a table
+abbrev pub AreWholeTables : Type 0
+AreWholeTables = (t : Table) (e : Entry) (rest : List Entry) (front : List Entry) (l : Entry) → IsTable t.image (e ∷ rest) → e ∷ rest ≡ front ++ l ∷ []
+    → IsKey t.smallest (internal_key e) → IsKey t.largest (internal_key l) → IsWhole t
+
+pub whole_of : AreWholeTables → (t : Table) (es : List Entry) (smallest largest image : List ℕ) → IsImage es smallest largest image
+    → t.smallest ≡ smallest → t.largest ≡ largest → t.image ≡ image → IsWhole t
+whole_of law t es smallest largest image i a b c =
+    law t i.first i.rest i.front i.last
+    (subst (λ (bytes : List ℕ). IsTable bytes (i.first ∷ i.rest)) (sym c) (subst (IsTable image) i.begins i.table))
+    (sym i.begins ∙ i.ends)
+    (subst (λ (k : List ℕ). IsKey k (internal_key i.first)) (sym a) i.smallest_is)
+    (subst (λ (k : List ℕ). IsKey k (internal_key i.last)) (sym b) i.largest_is)
+
+pub contents_snoc : (ts : List Table) (t : Table) → contents_of (ts ++ t ∷ []) ≡ contents_of ts ++ entries_in t.image ∷ []
+contents_snoc [] t = refl
+contents_snoc (u ∷ ts) t = ap (λ (l : List (List Entry)). entries_in u.image ∷ l) (contents_snoc ts t)
+
+pub numbers_snoc : (ts : List Table) (t : Table) → map (λ (u : Table). u.number) (ts ++ t ∷ []) ≡ map (λ (u : Table). u.number) ts ++ t.number ∷ []
+numbers_snoc [] t = refl
+numbers_snoc (u ∷ ts) t = ap (λ (l : List ℕ). u.number ∷ l) (numbers_snoc ts t)
+
+filled_first : (es : List Entry) → (es ≡ [] → ⊥) → is_empty es ≡ false
+filled_first [] h = absurd (h refl)
+filled_first (e ∷ es) h = refl
+
+pub put_goes : (ticket : ℕ) (options : TableOptions) (target : ℕ) (tables tables' : List Table) (put put' : List ℕ) (o : Unfinished) (last last' : Option Unfinished)
+    → last ≡ Some o → last' ≡ None
+    → AreGood (record { ticket = ticket; options = options; target = target; tables = tables; put = put; last = last })
+    → IsPut o tables tables' put put'
+    → Goes (record { ticket = ticket; options = options; target = target; tables = tables; put = put; last = last })
+    (record { ticket = ticket; options = options; target = target; tables = tables'; put = put'; last = last' })
+    (record { outputs = closed (making_of (record { ticket = ticket; options = options; target = target; tables = tables; put = put; last = last })); output = [] })
+put_goes ticket options target tables tables' put put' o None last' at none good p = absurd (cc at)
+put_goes ticket options target tables tables' put put' o (Some q) (Some r) at none good p = absurd (cc none)
+put_goes ticket options target tables tables' put put' o (Some q) None at none good p = record {
+  sizes = record { ticket = refl; options = refl; target = refl };
+  good = record {
+    in_range = good.in_range;
+    whole = λ t h. elim (has_cases tables (p.table ∷ []) t (subst (λ (ts : List Table). Has ts t) p.tables_are h)) [
+      | inl old ↦ good.whole t old
+      | inr new ↦ elim new [ inl is ↦ subst IsWhole is p.whole | inr nothing ↦ absurd nothing ]
+    ];
+    numbers = ap (map (λ (t : Table). t.number)) p.tables_are ∙ numbers_snoc tables p.table
+        ∙ ap (λ (ns : List ℕ). ns ++ (p.table).number ∷ []) good.numbers ∙ ap (λ (n : ℕ). put ++ n ∷ []) p.number ∙ sym p.put_are;
+    written = tt;
+  };
+  is = ap (λ (ls : List (List Entry)). record { outputs = ls; output = [] }) (
+      ap contents_of p.tables_are ∙ contents_snoc tables p.table ∙ ap (λ (es : List Entry). contents_of tables ++ es ∷ []) (p.entries ∙ sym same)
+      ∙ ap (λ (b : Bool). cond b (contents_of tables) (contents_of tables ++ q.entries ∷ [])) (sym (filled_first q.entries (good.written).1)));
+}
+  where
+    same : q.entries ≡ o.entries
+    same = ap (λ (u : Option Unfinished). entries_of_last u) at
+
+pub put_drawn : (ticket : ℕ) (options : TableOptions) (target : ℕ) (tables tables' : List Table) (put put' : List ℕ) (o : Unfinished) (last last' : Option Unfinished)
+    → last ≡ Some o → last' ≡ None → IsPut o tables tables' put put' → (there : List ℕ)
+    → drawn_of (record { ticket = ticket; options = options; target = target; tables = tables'; put = put'; last = last' }) there
+    ≡ drawn_of (record { ticket = ticket; options = options; target = target; tables = tables; put = put; last = last }) there
+put_drawn ticket options target tables tables' put put' o None last' at none p there = absurd (cc at)
+put_drawn ticket options target tables tables' put put' o (Some q) (Some r) at none p there = absurd (cc none)
+put_drawn ticket options target tables tables' put put' o (Some q) None at none p there =
+    ap (λ (ns : List ℕ). going ns there) p.put_are ∙ going_snoc put o.number there ∙ ap (λ (n : ℕ). n ∷ going put there) (sym same)
+  where
+    same : q.number ≡ o.number
+    same = (let z : q ≡ o = (cc at) in ap (λ (u : Unfinished). u.number) z)
+
+pub on_ok : {A E P Q : Type 0} (r : Result A E) → (P → Q) → OnOk r P → OnOk r Q
+on_ok (Ok x) f h = f h
+on_ok (Err e) f h = tt

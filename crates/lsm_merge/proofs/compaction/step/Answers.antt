@@ -1,0 +1,48 @@
+use Rattle.std.proofs.Common.{◌≡◌, ℕ, List, ◌∷◌, sym, ◌∙◌}
+use Rattle.lsm_codec.specs.Entries.{Entry}
+use Rattle.lsm_codec.specs.KeyRef.{key_of}
+use Rattle.lsm_block.specs.Block.{entry_of}
+use Rattle.lsm_levels.specs.Merging.{Placed}
+use Rattle.lsm_merge.specs.declared.merge_fault.MergeFault.{MergeFault}
+use Rattle.lsm_merge.specs.Causes.{AnswersOf, HasCause, Leaves}
+use Rattle.lsm_merge.specs.Dropping.{Follows, follows}
+use Rattle.lsm_merge.specs.Inputs.{AreInputs, IsOfReading, IsOrderFault}
+use Rattle.lsm_merge.specs.Outputs.{drawn_of}
+use Rattle.lsm_merge.proofs.Dropped.{follows_says}
+use Rattle.lsm_merge.proofs.PlaceLaws.{ascends_after, cause_after, if_err, puts_place, puts_rise}
+use Rattle.lsm_merge.proofs.UnderWay.{leaves_reading, order_reading, why_reading}
+use Rattle.lsm_merge.proofs.compaction.step.Goals as goal
+
+pub take-requires-clause-ascends : goal.take-requires-clause-ascends
+take-requires-clause-ascends g c = λ lts lives.
+    let e : Entry = entry_of (key_of c.in-Some.key) c.value.result.now in
+    let f : Follows c.args.before.now e = follows_says c.args.before.now e (sym c.is_followed_by.ensures ∙ c.if-not-is_followed_by.false) in
+    ascends_after _ c.args.before.now e c.tell_order.ensures c.requires.up f
+
+pub advance-requires-clause-here : goal.advance-requires-clause-here
+advance-requires-clause-here g c = λ lts lives.
+    puts_place c.args.outputs.now.put c.take.new.self.put (g.S.Shelf.told c.args.shelf.now) (g.S.Shelf.told c.take.new.shelf) c.take.ensures.told ∙ c.requires.here
+
+pub returns-clause-leaves : goal.returns-clause-leaves
+returns-clause-leaves g c =
+    if_err IsOfReading (λ (e : MergeFault). (there : List ℕ) → g.D.NumberSource.drew c.args.numbers.now ≡ drawn_of c.args.outputs.now there → Leaves e c.take.new.self.put (g.D.NumberSource.drew c.take.new.numbers) there)
+    c.advance.result (λ e k there d. leaves_reading e c.take.new.self (g.D.NumberSource.drew c.take.new.numbers) there k (c.in-Ok.ensures.drawn there d)) c.advance.ensures.kind
+
+pub returns-clause-why : goal.returns-clause-why
+returns-clause-why g c =
+    if_err IsOfReading (λ (e : MergeFault). AnswersOf e (g.D.NumberSource.refused c.args.numbers.now) (g.D.NumberSource.refused c.take.new.numbers))
+    c.advance.result (λ e k. why_reading e (g.D.NumberSource.refused c.args.numbers.now) (g.D.NumberSource.refused c.take.new.numbers) k c.in-Ok.ensures.answered) c.advance.ensures.kind
+
+pub returns-clause-cause : goal.returns-clause-cause
+returns-clause-cause g c =
+    if_err (λ (e : MergeFault). (inputs : List ℕ) → AreInputs c.args.merger.now.files inputs → HasCause inputs e (g.S.Shelf.told c.take.new.shelf) (g.S.Shelf.told c.advance.new.shelf))
+    (λ (e : MergeFault). (inputs : List ℕ) → AreInputs c.args.merger.now.files inputs → HasCause inputs e (g.S.Shelf.told c.args.shelf.now) (g.S.Shelf.told c.advance.new.shelf))
+    c.advance.result
+    (λ e h inputs i. cause_after inputs e (g.S.Shelf.told c.args.shelf.now) (g.S.Shelf.told c.take.new.shelf) (g.S.Shelf.told c.advance.new.shelf)
+    (puts_rise c.args.outputs.now.put c.take.new.self.put (g.S.Shelf.told c.args.shelf.now) (g.S.Shelf.told c.take.new.shelf) c.take.ensures.told) (h inputs i))
+    c.advance.ensures.cause
+
+pub returns-clause-order : goal.returns-clause-order
+returns-clause-order g c =
+    if_err IsOfReading (λ (e : MergeFault). IsOrderFault e → (p : Placed) (rest : List Placed) → c.args.merger.now.placed ≡ p ∷ rest → Follows c.args.before.now p.1 → ⊥)
+    c.advance.result (λ e k h p rest is f. order_reading e k h) c.advance.ensures.kind

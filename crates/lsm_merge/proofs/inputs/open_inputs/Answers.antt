@@ -1,0 +1,40 @@
+use Rattle.std.proofs.Common.{List, ◌≡◌, ◌++◌, subst}
+use Rattle.lsm_codec.specs.Lists.{Has}
+use Rattle.lsm_codec.proofs.CallerLemmas.{has_left, has_right}
+use Rattle.lsm_table.specs.Registry.{Table}
+use Rattle.lsm_merge.specs.Inputs.{input_numbers, numbers_of}
+use Rattle.lsm_merge.proofs.InputLaws.{cause_more, files_all, files_are_inputs, lower_has, merger_merges, streams_all, upper_has}
+use Rattle.lsm_merge.proofs.PlaceLaws.{becomes_rises, cause_after}
+use Rattle.lsm_merge.proofs.inputs.open_inputs.Goals as goal
+
+pub push_upper-requires-clause-whole : goal.push_upper-requires-clause-whole
+push_upper-requires-clause-whole g c = λ lts lives honest t h.
+    c.ticket-ticket.ensures.work.whole honest t (has_left c.args.job.now.upper c.args.job.now.lower t (subst (λ (l : List Table). Has l t) c.upper.ensures h))
+
+pub push_run-requires-clause-whole : goal.push_run-requires-clause-whole
+push_run-requires-clause-whole g c = λ lts lives honest t h.
+    c.ticket-ticket.ensures.work.whole honest t (has_right c.args.job.now.upper c.args.job.now.lower t (subst (λ (l : List Table). Has l t) c.lower.ensures h))
+
+pub returns-in-Err-clause-cause : goal.returns-in-Err-clause-cause
+returns-in-Err-clause-cause g c =
+    cause_more (numbers_of c.upper.result.now) (input_numbers c.args.job.now) c.in-Err.fault (g.S.Shelf.told c.args.shelf.now) (g.S.Shelf.told c.push_upper.new.shelf)
+    (λ n h. upper_has c.args.job.now n (subst (λ (l : List Table). Has (numbers_of l) n) c.upper.ensures h)) c.in-Err.ensures.cause
+
+pub returns-in-Err-push_run-clause-cause : goal.returns-in-Err-push_run-clause-cause
+returns-in-Err-push_run-clause-cause g c =
+    cause_after (input_numbers c.args.job.now) c.in-Err-push_run.fault (g.S.Shelf.told c.args.shelf.now) (g.S.Shelf.told c.push_upper.new.shelf) (g.S.Shelf.told c.push_run.new.shelf)
+    (becomes_rises (g.S.Shelf.told c.args.shelf.now) (g.S.Shelf.told c.push_upper.new.shelf) c.push_upper.ensures.told)
+    (cause_more (numbers_of c.lower.result.now) (input_numbers c.args.job.now) c.in-Err-push_run.fault (g.S.Shelf.told c.push_upper.new.shelf) (g.S.Shelf.told c.push_run.new.shelf)
+    (λ n h. lower_has c.args.job.now n (subst (λ (l : List Table). Has (numbers_of l) n) c.lower.ensures h)) c.in-Err-push_run.ensures.cause)
+
+pub returns-clause-merges : goal.returns-clause-merges
+returns-clause-merges g c = λ honest.
+    merger_merges c.merges_are_in_order.ensures.whole c.args.job.now c.in_ok-new.field-0.placed c.push_run.new.runs.items c.in_ok-new.ensures.placed
+    (streams_all c.new-runs.result.items c.push_upper.new.runs.items c.push_run.new.runs.items c.upper.result.now c.args.job.now.upper c.lower.result.now c.args.job.now.lower
+    c.new-runs.ensures.items (c.in-Ok.ensures.entries honest) (c.in-Ok-push_run.ensures.entries honest) c.upper.ensures c.lower.ensures)
+
+pub returns-clause-files : goal.returns-clause-files
+returns-clause-files g c =
+    files_are_inputs c.in_ok-new.field-0.files c.push_run.new.runs.items (input_numbers c.args.job.now) c.in_ok-new.ensures.files
+    (files_all c.new-runs.result.items c.push_upper.new.runs.items c.push_run.new.runs.items c.upper.result.now c.args.job.now.upper c.lower.result.now c.args.job.now.lower
+    c.new-runs.ensures.items c.in-Ok.ensures.files c.in-Ok-push_run.ensures.files c.upper.ensures c.lower.ensures)

@@ -1,0 +1,10 @@
+pub mod Causes
+pub mod Compacting
+pub mod Cuts
+pub mod Dropping
+pub mod Inputs
+pub mod MergeFault
+pub mod NumberFault
+pub mod Outputs
+pub mod Remembered
+pub mod Work

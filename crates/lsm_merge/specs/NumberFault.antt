@@ -1,0 +1,14 @@
+-- The refusals of a source of numbers: their numbers and names (this project's rule).
+use Rattle.std.specs.Prelude.{ℕ, List, codes}
+use Rattle.lsm_merge.specs.declared.number_source.NumberFault.{NumberFault}
+use Rattle.lsm_merge.specs.declared.number_source.NumberFault.TheVariants.{OutOfMemory, UnknownTicket, NumbersSpent}
+
+abbrev pub number_of : NumberFault → ℕ
+number_of OutOfMemory = 1
+number_of (UnknownTicket ticket) = 45
+number_of NumbersSpent = 46
+
+abbrev pub name_of : NumberFault → List ℕ
+name_of OutOfMemory = codes "OutOfMemory"
+name_of (UnknownTicket ticket) = codes "UnknownTicket"
+name_of NumbersSpent = codes "NumbersSpent"

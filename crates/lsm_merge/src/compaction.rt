@@ -1,0 +1,207 @@
+//! The merge of a job.
+
+ghost use Rattle.std.specs.Prelude.{◌≡◌, [], ◌∷◌, ℕ, List, None, false, true, IfOk, IfErr, OnOk};
+ghost use Rattle.lsm_levels.specs.Merging.{Placed};
+ghost use Rattle.lsm_merger.specs.Heads.{no_more};
+ghost use Rattle.lsm_merger.specs.Runs.{ReadsNoOther};
+ghost use Rattle.lsm_shelf.specs.Told.{Becomes};
+ghost use Rattle.lsm_merge.specs.Causes.{AnswersOf, HasCause, Leaves};
+ghost use Rattle.lsm_merge.specs.Compacting.{AreMergedOf, nothing_of};
+ghost use Rattle.lsm_merge.specs.Dropping.{Follows, IsUpTo};
+ghost use Rattle.lsm_merge.specs.Inputs.{AreInputs, IsOrderFault, IsReadable, Stepped, input_numbers};
+ghost use Rattle.lsm_merge.specs.Outputs.{AreGood, PutsMore, drawn_of, entries_of_last, going, putting_all};
+ghost use Rattle.lsm_merge.specs.declared.merge_fault.MergeFault.TheVariants.{OutOfMemory};
+
+use crate::copies::again_all;
+use crate::finished::Finished;
+use crate::inputs::{advance, open_inputs};
+use crate::job::Job;
+use crate::merge_fault::{InputFault, MergeFault};
+use crate::number_source::NumberSource;
+use crate::outputs::Outputs;
+use crate::remembered::{Remembered, is_kept};
+use lsm_levels::laws::streaming_keeps_the_kept;
+use lsm_merger::Merger;
+use lsm_table::{Naming, Registry, Shelf};
+use std::alloc::Global;
+use std::sync::Wait;
+
+/// One step of the merge: the entry at hand is dropped or placed, and remembered.
+fn step<N: Naming, S: Shelf, R: Wait, D: NumberSource>(
+    rt: &R,
+    alloc: Global,
+    shelf: &mut S,
+    registry: &Registry<S::Receipt>,
+    job: &Job<N, S>,
+    numbers: &mut D,
+    outputs: &mut Outputs<N, S>,
+    before: &mut Remembered,
+    merger: &mut Merger<N, S>,
+) -> Result<(), MergeFault>
+    requires good { AreGood outputs.old }
+    requires named { registry.now ≡ N.registry }
+    requires here { (S.told shelf.old).place ≡ N.place }
+    requires some { no_more merger.old.placed ≡ false }
+    requires up { IsUpTo (entries_of_last outputs.old.last) before.old }
+    ensures ok { (p : Placed) (rest : List Placed) → merger.old.placed ≡ p ∷ rest → OnOk result (Stepped S.honest job.now p rest before.old before.new outputs.old outputs.new merger.new) }
+    ensures drawn { OnOk result ((there : List ℕ) → D.drew numbers.old ≡ drawn_of outputs.old there → D.drew numbers.new ≡ drawn_of outputs.new there) }
+    ensures answered { OnOk result (D.refused numbers.new ≡ D.refused numbers.old) }
+    ensures files { OnOk result (ReadsNoOther merger.old merger.new) }
+    ensures told { PutsMore outputs.old.put outputs.new.put (S.told shelf.old) (S.told shelf.new) }
+    ensures leaves { IfErr result (λ e. (there : List ℕ) → D.drew numbers.old ≡ drawn_of outputs.old there → Leaves e outputs.new.put (D.drew numbers.new) there) }
+    ensures why { IfErr result (λ e. AnswersOf e (D.refused numbers.old) (D.refused numbers.new)) }
+    ensures cause { IfErr result (λ e. (inputs : List ℕ) → AreInputs merger.old.files inputs → HasCause inputs e (S.told shelf.old) (S.told shelf.new)) }
+    ensures sound { S.honest → IfErr result IsReadable }
+    ensures order { IfErr result (λ e. IsOrderFault e → (p : Placed) (rest : List Placed) → merger.old.placed ≡ p ∷ rest → Follows before.old p.1 → ⊥) }
+{
+    let Some(key) = merger.key() else {
+        unreachable!()
+    };
+    if !before.is_followed_by(&key) {
+        return Err(MergeFault::ReadFailed(merger.number(), InputFault::OutOfOrder));
+    }
+    outputs.tell_order();
+    let kept = is_kept(job.floor(), job.ranges(), before, &key);
+    match outputs.take(rt, shelf, registry, numbers, kept, &key, merger.value()) {
+        Ok(()) => {}
+        Err(fault) => return Err(fault),
+    }
+    match before.remember(&key) {
+        Ok(()) => {}
+        Err(_memory) => return Err(MergeFault::OutOfMemory),
+    }
+    advance(shelf, alloc, merger)
+}
+
+/// Merges the inputs of a job into outputs.
+fn merge<N: Naming, S: Shelf, R: Wait, D: NumberSource>(
+    rt: &R,
+    alloc: Global,
+    shelf: &mut S,
+    registry: &Registry<S::Receipt>,
+    job: &Job<N, S>,
+    numbers: &mut D,
+    outputs: &mut Outputs<N, S>,
+) -> Result<(), MergeFault>
+    requires named { registry.now ≡ N.registry }
+    requires here { (S.told shelf.old).place ≡ N.place }
+    requires fresh { outputs.old ≡ nothing_of job.now }
+    ensures good { OnOk result (AreGood outputs.new × (outputs.new.last ≡ None)) }
+    ensures kept { S.honest → OnOk result (AreMergedOf job.now outputs.new.tables) }
+    ensures drew { OnOk result (D.drew numbers.new ≡ going outputs.new.put (D.drew numbers.old)) }
+    ensures answered { OnOk result (D.refused numbers.new ≡ D.refused numbers.old) }
+    ensures told { Becomes (putting_all outputs.new.put (S.told shelf.old)) (S.told shelf.new) }
+    ensures leaves { IfErr result (λ e. Leaves e outputs.new.put (D.drew numbers.new) (D.drew numbers.old)) }
+    ensures why { IfErr result (λ e. AnswersOf e (D.refused numbers.old) (D.refused numbers.new)) }
+    ensures cause { IfErr result (λ e. HasCause (input_numbers job.now) e (S.told shelf.old) (S.told shelf.new)) }
+    ensures sound { S.honest → IfErr result IsReadable }
+{
+    streaming_keeps_the_kept();
+    let _ticket = job.ticket();
+    let mut merger = match open_inputs(shelf, alloc, registry, job) {
+        Ok(merger) => merger,
+        Err(fault) => return Err(fault),
+    };
+    let mut before = Remembered::nothing(alloc);
+    'entries: for _ in rt.forever() {
+        if merger.is_at_end() {
+            return outputs.put_last(rt, shelf, registry);
+        }
+        match step(
+            rt,
+            alloc,
+            shelf,
+            registry,
+            job,
+            numbers,
+            outputs,
+            &mut before,
+            &mut merger,
+        ) {
+            Ok(()) => {}
+            Err(fault) => return Err(fault),
+        }
+    }
+    unreachable!()
+}
+
+/// The job with its one input as its output.
+fn hand_on<N: Naming, S: Shelf>(
+    alloc: Global,
+    job: Job<N, S>,
+) -> Result<Finished<N, S>, (MergeFault, Job<N, S>, Vec<u64>)>
+    requires { job.is_move ≡ true }
+    ensures work { IfOk result (λ f. f.work ≡ job) }
+    ensures put { IfOk result (λ f. f.put ≡ []) }
+    ensures refused { IfErr result (λ e. (e.0 ≡ OutOfMemory) × (e.1 ≡ job) × (e.2.items ≡ [])) }
+{
+    let _ticket = job.ticket();
+    match again_all(alloc, job.upper()) {
+        Ok(outputs) => Ok(Finished {
+            job,
+            outputs,
+            put: Vec::new(alloc),
+        }),
+        Err(_memory) => Err((MergeFault::OutOfMemory, job, Vec::new(alloc))),
+    }
+}
+
+/// Merges the tables of a job into new ones, which hold what the job keeps of their entries (LevelDB's `doc/impl.md`,
+/// "Compactions"). Each is put on the shelf under a number that is drawn for it when it gets its first entry, and then its row is
+/// pushed into the registry. It holds one block a source, the output in the making, and the key of the entry before. A move puts
+/// nothing, and hands its input on.
+///
+/// # Errors
+/// With every refusal the job comes back, with the numbers of the tables that were put, in the order in which they were put.
+/// `OutOfMemory` where a growth was refused; `ReadFailed` with the number of the input that could not be read or whose next entry
+/// has the internal key of the one before it; `PutFailed` with the number of the output that could not be built or put;
+/// `UnknownTicket` and `NumbersSpent` are the source's.
+pub fn compact<N: Naming, S: Shelf, R: Wait, D: NumberSource>(
+    rt: &R,
+    alloc: Global,
+    shelf: &mut S,
+    registry: &Registry<S::Receipt>,
+    job: Job<N, S>,
+    numbers: &mut D,
+) -> Result<Finished<N, S>, (MergeFault, Job<N, S>, Vec<u64>)>
+    requires named { registry.now ≡ N.registry }
+    requires here { (S.told shelf.old).place ≡ N.place }
+
+    // What a finished job has, its type says (`Finished::job`).
+    ensures work { IfOk result (λ f. f.work ≡ job) }
+
+    // The shelf was told to put just the outputs, and the numbers drawn are theirs.
+    ensures told { IfOk result (λ f. Becomes (putting_all f.put (S.told shelf.old)) (S.told shelf.new)) }
+    ensures drew { IfOk result (λ f. D.drew numbers.new ≡ going f.put (D.drew numbers.old)) }
+    ensures answered { OnOk result (D.refused numbers.new ≡ D.refused numbers.old) }
+
+    ensures place { (S.told shelf.new).place ≡ (S.told shelf.old).place }
+
+    // A refusal hands the job back, with just the numbers put.
+    ensures back { IfErr result (λ e. e.1 ≡ job) }
+    ensures put { IfErr result (λ e. Becomes (putting_all e.2.items (S.told shelf.old)) (S.told shelf.new)) }
+    ensures leaves { IfErr result (λ e. Leaves e.0 e.2.items (D.drew numbers.new) (D.drew numbers.old)) }
+    ensures why { IfErr result (λ e. AnswersOf e.0 (D.refused numbers.old) (D.refused numbers.new)) }
+    ensures cause { IfErr result (λ e. HasCause (input_numbers job) e.0 (S.told shelf.old) (S.told shelf.new)) }
+    ensures sound { S.honest → IfErr result (λ e. IsReadable e.0) }
+
+    // A move asks nothing of the shelf or of the source of numbers.
+    ensures unasked { job.is_move ≡ true → (S.told shelf.new ≡ S.told shelf.old) × (D.drew numbers.new ≡ D.drew numbers.old) × (D.refused numbers.new ≡ D.refused numbers.old) }
+    ensures moved { job.is_move ≡ true → IfErr result (λ e. (e.0 ≡ OutOfMemory) × (e.2.items ≡ [])) }
+{
+    if job.is_move() {
+        return hand_on(alloc, job);
+    }
+    let _ticket = job.ticket();
+    let mut outputs = Outputs::none(alloc, &job);
+    let merged = merge(rt, alloc, shelf, registry, &job, numbers, &mut outputs);
+    let (tables, put) = outputs.into_parts();
+    match merged {
+        Ok(()) => Ok(Finished {
+            job,
+            outputs: tables,
+            put,
+        }),
+        Err(fault) => Err((fault, job, put)),
+    }
+}

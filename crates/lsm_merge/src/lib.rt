@@ -1,0 +1,25 @@
+//! Jobs, merges and what comes of them.
+//!
+//! Stands on `lsm_version` for the tables of versions and on `lsm_merger` for their merge.
+#![tactic(auto)]
+
+mod compaction;
+mod copies;
+mod finished;
+mod inputs;
+mod job;
+mod job_parts;
+mod merge_fault;
+mod number_source;
+mod output;
+mod outputs;
+mod putting;
+mod remembered;
+mod sameness;
+
+pub use compaction::compact;
+pub use finished::Finished;
+pub use job::Job;
+pub use job_parts::JobParts;
+pub use merge_fault::{InputFault, MergeFault, OutputFault};
+pub use number_source::{NumberFault, NumberSource};

@@ -1,0 +1,138 @@
+//! An output in the making.
+
+ghost use Rattle.std.specs.Prelude.{◌≡◌, [], ◌∷◌, ◌++◌, not, ◌&&◌, nat_le, IfOk, OnOk, OnErr};
+ghost use Rattle.std.specs.Str.{bytes_eq};
+ghost use Rattle.lsm_codec.specs.KeyRef.{key_of};
+ghost use Rattle.lsm_codec.specs.Keys.{IsKey};
+ghost use Rattle.lsm_block.specs.Block.{Ascends, entry_of};
+ghost use Rattle.lsm_table.specs.Options.{AreInRange};
+ghost use Rattle.lsm_merge.specs.Cuts.{closes};
+ghost use Rattle.lsm_merge.specs.Outputs.{IsImage};
+ghost use Rattle.lsm_merge.specs.Work.{finished};
+
+use lsm_codec::{Bytes, KeyRef, push_key};
+use lsm_table::{BuildFault, TableBuilder, TableOptions};
+use std::alloc::{AllocError, Global};
+use std::marker::Model;
+
+/// An output in the making: a table under its number, with an entry at least.
+#[derive(Drop)]
+pub(crate) struct Output {
+    number: u64,
+    smallest: Bytes,
+    builder: TableBuilder,
+}
+
+impl Model for Output {
+    ghost use Rattle.lsm_merge.specs.Outputs.{IsBegun, Unfinished};
+
+    ghost Value = { Unfinished };
+
+    ghost view = { λ o. record { number = o.number; options = o.builder.options; entries = o.builder.entries } };
+
+    ghost invariant = { λ o. IsBegun o.smallest o.builder.entries };
+}
+
+/// A table that was built, with its first and last internal key.
+#[derive(Drop)]
+pub(crate) struct Image {
+    pub(crate) number: u64,
+    pub(crate) smallest: Bytes,
+    pub(crate) largest: Bytes,
+    pub(crate) bytes: Vec<u8>,
+}
+
+/// The bytes of a key.
+fn bytes_of(alloc: Global, key: &KeyRef<'_>) -> Result<Bytes, AllocError>
+    ensures { IfOk result (λ b. IsKey b (key_of key.now)) }
+{
+    let mut bytes = Vec::new(alloc);
+    push_key(&mut bytes, key.user, key.seq, key.kind)?;
+    Ok(Bytes::of(bytes))
+}
+
+/// Whether an output may end with the one user key where another one follows: they differ, and it has reached the target.
+fn may_close(last: &[u8], user: &[u8], target: u64, written: u64) -> bool
+    ensures { result ≡ (not (bytes_eq last.now user.now) && nat_le target written) }
+{
+    last != user && target <= written
+}
+
+impl Output {
+    /// An output that begins with an entry.
+    pub(crate) fn begin(
+        alloc: Global,
+        number: u64,
+        options: TableOptions,
+        key: &KeyRef<'_>,
+        value: &[u8],
+    ) -> Result<Output, BuildFault>
+        requires { AreInRange options }
+        ensures { IfOk result (λ o. o ≡ record { number = number; options = options; entries = entry_of (key_of key.now) value.now ∷ [] }) }
+    {
+        let smallest = bytes_of(alloc, key)?;
+        let mut builder = TableBuilder::new(alloc, options);
+        builder.add(key.user, key.seq, key.kind, value)?;
+        Ok(Output {
+            number,
+            smallest,
+            builder,
+        })
+    }
+
+    /// The number under which it will be put.
+    pub(crate) fn number(&self) -> u64
+        ensures { result ≡ self.now.number }
+    {
+        self.number
+    }
+
+    /// Tells that its entries ascend.
+    pub(crate) fn tell_order(&self)
+        ensures { Ascends self.now.entries }
+    {
+        let _last = self.builder.last_key();
+    }
+
+    /// Adds an entry after the others. An `Err` leaves the output as it was.
+    pub(crate) fn add(&mut self, key: &KeyRef<'_>, value: &[u8]) -> Result<(), BuildFault>
+        requires { Ascends (self.old.entries ++ entry_of (key_of key.now) value.now ∷ []) }
+        ensures ok { OnOk result (self.new ≡ record self.old { entries = self.old.entries ++ entry_of (key_of key.now) value.now ∷ [] }) }
+        ensures err { OnErr result (self.new ≡ self.old) }
+    {
+        self.builder.add(key.user, key.seq, key.kind, value)
+    }
+
+    /// Whether it is closed before an entry of this user key: it ends with another one, and its finished data blocks reach the target.
+    pub(crate) fn closes(&self, target: u64, user: &[u8]) -> bool
+        ensures { result ≡ closes (finished self.now.options) target self.now.entries user.now }
+    {
+        match self.builder.last_key() {
+            None => false,
+            Some(last) => may_close(last.user, user, target, self.builder.written()),
+        }
+    }
+
+    /// The table of its entries.
+    pub(crate) fn finish(self, alloc: Global) -> Result<Image, BuildFault>
+        ensures number { IfOk result (λ i. i.number ≡ self.number) }
+        ensures image { IfOk result (λ i. IsImage self.entries i.smallest i.largest i.bytes.items) }
+    {
+        let Output {
+            number,
+            smallest,
+            builder,
+        } = self;
+        let largest = match builder.last_key() {
+            Some(key) => bytes_of(alloc, &key)?,
+            None => unreachable!(),
+        };
+        let bytes = builder.finish()?;
+        Ok(Image {
+            number,
+            smallest,
+            largest,
+            bytes,
+        })
+    }
+}

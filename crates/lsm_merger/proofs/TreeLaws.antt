@@ -1,0 +1,106 @@
+-- A tree of merges: its files, and the source that has the first entry.
+use Rattle.std.specs.List.{flat_map}
+use Rattle.std.proofs.Common.{◌≡◌, ◌+◌, ℕ, true, false, List, [], ◌∷◌, ◌++◌, map, length, arith, refl, sym, ap, ◌∙◌, subst, append_assoc, append-nil, inl, inr}
+use Rattle.lsm_codec.specs.Lists.{Has}
+use Rattle.lsm_codec.proofs.CallerLemmas.{has_left, has_right, has_cases}
+use Rattle.lsm_levels.specs.Merging.{Placed, goes_first, merge, merge_all, leads}
+use Rattle.lsm_levels.proofs.CallerLemmas.{merge_left, merge_right, merge_empty}
+use Rattle.lsm_merger.specs.Heads.{first_of, after_first, key_in, leads_by, place_in}
+use Rattle.lsm_merger.specs.Runs.{Left, ReadsNoOther, IsOfFirst}
+use Rattle.lsm_merger.specs.Tree.{both, all_left, none_left}
+use Rattle.lsm_merger.proofs.Joining.{merge-merge}
+
+-- ---- where the first leads
+
+pub first_left : (l r : List Placed) → leads l r ≡ true → first_of (merge l r) ≡ first_of l
+first_left [] r h = absurd cc
+first_left (x ∷ xs) r h = ap first_of (merge_left x xs r h)
+
+pub step_left : (l r : List Placed) → leads l r ≡ true → after_first (merge l r) ≡ merge (after_first l) r
+step_left [] r h = absurd cc
+step_left (x ∷ xs) r h = ap after_first (merge_left x xs r h)
+
+-- ---- where it does not
+
+only_second : (l : List Placed) → leads l [] ≡ false → l ≡ []
+only_second [] h = refl
+only_second (x ∷ xs) h = absurd cc
+
+pub first_right : (l r : List Placed) → leads l r ≡ false → first_of (merge l r) ≡ first_of r
+first_right l [] h = ap (λ (m : List Placed). first_of (merge m [])) (only_second l h)
+first_right l (y ∷ ys) h = ap first_of (merge_right l y ys h)
+
+pub step_right : (l r : List Placed) → leads l r ≡ false → after_first (merge l r) ≡ merge l (after_first r)
+step_right l [] h = ap (λ (m : List Placed). after_first (merge m [])) (only_second l h) ∙ ap (λ (m : List Placed). merge m []) (sym (only_second l h))
+step_right l (y ∷ ys) h = ap after_first (merge_right l y ys h)
+
+-- the test by the keys of the first entries
+pub leads_keys : (l r : List Placed) → leads_by (key_in (first_of l)) (key_in (first_of r)) ≡ leads l r
+unfolding goes_first
+leads_keys [] r = refl
+leads_keys (x ∷ xs) [] = refl
+leads_keys (x ∷ xs) (y ∷ ys) = refl
+
+-- ---- files
+
+pub in_first : (a b : Left) (f : ℕ × ℕ) → Has a.files f → Has (both a b).files f
+in_first a b f h = has_left a.files b.files f h
+
+pub in_second : (a b : Left) (f : ℕ × ℕ) → Has b.files f → Has (both a b).files f
+in_second a b f h = has_right a.files b.files f h
+
+pub none_other_first : (a a' b : Left) → ReadsNoOther a a' → ReadsNoOther (both a b) (both a' b)
+none_other_first a a' b r f h = elim (has_cases a'.files b.files f h) [
+  | inl k ↦ has_left a.files b.files f (r f k)
+  | inr k ↦ has_right a.files b.files f k
+]
+
+pub none_other_second : (a b b' : Left) → ReadsNoOther b b' → ReadsNoOther (both a b) (both a b')
+none_other_second a b b' r f h = elim (has_cases a.files b'.files f h) [
+  | inl k ↦ has_left a.files b.files f k
+  | inr k ↦ has_right a.files b.files f (r f k)
+]
+
+pub fault_first : (a b : Left) (number : ℕ) → leads a.placed b.placed ≡ true → IsOfFirst a number → IsOfFirst (both a b) number
+fault_first a b number t h =
+    subst (λ (p : ℕ). Has (a.files ++ b.files) (p, number)) (sym (ap place_in (first_left a.placed b.placed t)))
+    (has_left a.files b.files (place_in (first_of a.placed), number) h)
+
+pub fault_second : (a b : Left) (number : ℕ) → leads a.placed b.placed ≡ false → IsOfFirst b number → IsOfFirst (both a b) number
+fault_second a b number t h =
+    subst (λ (p : ℕ). Has (a.files ++ b.files) (p, number)) (sym (ap place_in (first_right a.placed b.placed t)))
+    (has_right a.files b.files (place_in (first_of b.placed), number) h)
+
+-- ---- several sources
+
+left_is : (p q : List Placed) (f h : List (ℕ × ℕ)) → p ≡ q → f ≡ h → (let l : Left = record { placed = p; files = f } in l) ≡ record { placed = q; files = h }
+left_is p q f h e k = rw (e, k) refl
+
+pub both-both : (a b c : Left) → both (both a b) c ≡ both a (both b c)
+both-both a b c = left_is _ _ _ _ (merge-merge a.placed b.placed c.placed) (append_assoc a.files b.files c.files)
+
+both_none : (a : Left) → both a none_left ≡ a
+both_none a = left_is _ _ _ _ (merge_empty a.placed) (append-nil a.files)
+
+pub all_left-append : (ls : List Left) (l : Left) → all_left (ls ++ l ∷ []) ≡ both (all_left ls) l
+all_left-append [] l = both_none l
+all_left-append (m ∷ ls) l = ap (λ (r : Left). both m r) (all_left-append ls l) ∙ sym (both-both m (all_left ls) l)
+
+-- the last sources as one, and before them others as one
+pub joined_left : (old mid new : List Left) (first second t : Left) → all_left old ≡ both (all_left mid) second → all_left mid ≡ both (all_left new) first → t ≡ both first second
+    → all_left old ≡ both (all_left new) t
+joined_left old mid new first second t e f g =
+    e ∙ ap (λ (l : Left). both l second) f ∙ both-both (all_left new) first second ∙ ap (λ (l : Left). both (all_left new) l) (sym g)
+
+-- all of them
+pub none_before : (old new : List Left) (count : ℕ) (t : Left) → all_left old ≡ both (all_left new) t → length new + count ≡ length old → count ≡ length old → t ≡ all_left old
+none_before old [] count t e rest all = sym e
+none_before old (l ∷ new) count t e rest all = absurd (omega arith)
+
+pub all_placed : (ls : List Left) → (all_left ls).placed ≡ merge_all (map (λ (l : Left). l.placed) ls)
+all_placed [] = refl
+all_placed (l ∷ ls) = ap (λ (ps : List Placed). merge l.placed ps) (all_placed ls)
+
+pub all_files : (ls : List Left) → (all_left ls).files ≡ flat_map (λ (l : Left). l.files) ls
+all_files [] = refl
+all_files (l ∷ ls) = ap (λ (fs : List (ℕ × ℕ)). l.files ++ fs) (all_files ls)

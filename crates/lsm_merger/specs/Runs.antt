@@ -1,0 +1,54 @@
+-- What is left of the sources of a merge, and which files they have still to read.
+use Rattle.std.specs.Prelude.{◌≡◌, ◌≢◌, ℕ, List, [], ◌∷◌, ◌++◌}
+use Rattle.std.specs.List.{flat_map}
+use Rattle.lsm_codec.specs.Lists.{Has}
+use Rattle.lsm_codec.specs.Entries.{Entry}
+use Rattle.lsm_table.specs.Table.{IsTable}
+use Rattle.lsm_table.specs.HeldTable.{entries_in}
+use Rattle.lsm_levels.specs.Merging.{Placed, placed_at}
+use Rattle.lsm_merger.specs.Heads.{first_of, place_in}
+
+-- what is left: the entries with the places of their sources, and the files that are not yet read
+-- to their ends, each number with the place of its source
+pub record Left : Type 0 where
+  pub placed : List Placed
+  pub files : List (ℕ × ℕ)
+
+-- The image is a table that has an entry.
+pub record HasEntries (image : List ℕ) : Type 0 where
+  pub table : IsTable image (entries_in image)
+  pub some : entries_in image ≢ []
+
+-- the entries of the tables of images, one after another
+abbrev pub entries_of_all : List (List ℕ) → List Entry
+entries_of_all images = flat_map entries_in images
+
+-- the number of each file with a place
+abbrev pub files_at : ℕ → List ℕ → List (ℕ × ℕ)
+files_at place [] = []
+files_at place (n ∷ ns) = (place, n) ∷ files_at place ns
+
+-- what is left where a run stands in a table, and images are to come after it
+abbrev pub run_left : ℕ → ℕ → List Entry → List ℕ → List (List ℕ) → Left
+run_left place number here numbers images = record {
+  placed = placed_at place (here ++ entries_of_all images);
+  files = files_at place (number ∷ numbers);
+}
+
+-- Where no entry is left of a table, no table comes after it.
+abbrev pub IsLastAtEnd : List Entry → List (List ℕ) → Type 0
+IsLastAtEnd [] images = images ≡ []
+IsLastAtEnd (e ∷ es) images = Unit {0}
+
+-- These are the entries of the first table.
+abbrev pub IsFirstOf : List Entry → List (List ℕ) → Type 0
+IsFirstOf es [] = ⊥
+IsFirstOf es (image ∷ images) = es ≡ entries_in image
+
+-- No file is new.
+abbrev pub ReadsNoOther : Left → Left → Type 0
+ReadsNoOther old new = (f : ℕ × ℕ) → Has new.files f → Has old.files f
+
+-- The number is that of a file of the source that has the first entry.
+abbrev pub IsOfFirst : Left → ℕ → Type 0
+IsOfFirst left number = Has left.files (place_in (first_of left.placed), number)

@@ -1,0 +1,280 @@
+//! The tables of a level, one after another.
+
+ghost use Rattle.std.specs.Prelude.{◌≡◌, ◌∷◌, ◌<◌, [], ℕ, List, All, length, map, false, IfOk, IfErr, IfSome, MatchOption, OnOk, OnErr};
+ghost use Rattle.std.specs.Option.{option_map};
+ghost use Rattle.lsm_codec.specs.KeyRef.{key_of};
+ghost use Rattle.lsm_codec.specs.Lists.{Has};
+ghost use Rattle.lsm_block.specs.Standing.{is_end};
+ghost use Rattle.lsm_table.specs.HeldTable.{entries_in};
+ghost use Rattle.lsm_table.specs.Registry.{image_of};
+ghost use Rattle.lsm_table.specs.ReadFault.{ReadCounted, IsMemoryOrShelf};
+ghost use Rattle.lsm_table.specs.Told.{Becomes};
+ghost use Rattle.lsm_levels.specs.Merging.{placed_at};
+ghost use Rattle.lsm_merger.specs.Heads.{after_first, first_of, key_in, no_more, place_in, value_in};
+ghost use Rattle.lsm_merger.specs.Runs.{HasEntries, IsFirstOf, IsOfFirst, ReadsNoOther, entries_of_all, files_at};
+
+use crate::file_fault::FileFault;
+use lsm_codec::KeyRef;
+use lsm_reader::{Blocks, TableStream};
+use lsm_table::{Naming, ReadFault, Registry, Shelf, Slip, TableFault, TableRef};
+use std::alloc::{AllocError, Global};
+use std::collections::VecDeque;
+use std::marker::Model;
+
+/// A source of a merge: tables of which each one's entries stand before the next one's, as those of
+/// a level from 1 on, or one table. Each is opened when it is reached, and it holds the index block
+/// and one data block of the table at which it stands.
+///
+/// Contracts see it as what is left: the entries with its place, the one at which it stands first,
+/// and the files that are not yet read to their ends.
+#[derive(Drop)]
+pub struct Run<N: Naming, S: Shelf> {
+    // Given to each of its entries.
+    place: u64,
+    // Of the file of the table at which it stands.
+    number: u64,
+    here: TableStream<N, S>,
+    // What stands for the tables after it.
+    later: VecDeque<S::Receipt>,
+}
+
+impl<N: Naming, S: Shelf> Model for Run<N, S> {
+    ghost use Rattle.std.specs.Prelude.{All, map};
+    ghost use Rattle.lsm_merger.specs.Runs.{HasEntries, IsLastAtEnd, Left, run_left};
+
+    ghost Value = { Left };
+
+    ghost view = { λ r. run_left r.place r.number r.here (map S.Receipt.number r.later.items) (map S.Receipt.image r.later.items) };
+
+    ghost invariant = { λ r. IsLastAtEnd r.here (map S.Receipt.image r.later.items) × All (S.is_of N.place) r.later.items × (S.honest → All HasEntries (map S.Receipt.image r.later.items)) };
+}
+
+/// Opens the table of a receipt, which has an entry: a table without entries is `BadIndex`.
+fn open_some_by<N: Naming, S: Shelf, B: Blocks<S>>(
+    blocks: &mut B,
+    alloc: Global,
+    receipt: S::Receipt,
+) -> Result<TableStream<N, S>, ReadFault>
+    requires here { (B.told blocks.old).place ≡ N.place }
+    requires named { S.is_of N.place receipt }
+    requires table { S.honest → HasEntries (S.Receipt.image receipt) }
+    ensures some { IfOk result (λ t. is_end t ≡ false) }
+    ensures entries { S.honest → IfOk result (λ t. t ≡ entries_in (S.Receipt.image receipt)) }
+    ensures sound { S.honest → IfErr result IsMemoryOrShelf }
+    ensures told { Becomes (B.told blocks.old) (B.told blocks.new) }
+    ensures loan { B.loan blocks.new ≡ B.loan blocks.old }
+    ensures cause { IfErr result (λ e. ReadCounted e (B.told blocks.old) (B.told blocks.new)) }
+{
+    let stream = match TableStream::open_by(blocks, alloc, receipt) {
+        Ok(stream) => stream,
+        Err(fault) => return Err(fault),
+    };
+    if stream.is_at_end() {
+        return Err(ReadFault::Table(TableFault::BadIndex));
+    }
+    Ok(stream)
+}
+
+/// Opens the first of these tables, if there is one.
+fn open_next_by<N: Naming, S: Shelf, B: Blocks<S>>(
+    blocks: &mut B,
+    alloc: Global,
+    later: &VecDeque<S::Receipt>,
+) -> Result<Option<TableStream<N, S>>, FileFault>
+    requires here { (B.told blocks.old).place ≡ N.place }
+    requires named { All (S.is_of N.place) later.now.items }
+    requires tables { S.honest → All HasEntries (map S.Receipt.image later.now.items) }
+    ensures some { IfOk result (λ o. MatchOption o (later.now.items ≡ []) (λ t. (0 < length later.now.items) × (is_end t ≡ false))) }
+    ensures entries { S.honest → IfOk result (λ o. IfSome o (λ t. IsFirstOf t (map S.Receipt.image later.now.items))) }
+    ensures sound { S.honest → IfErr result (λ e. IsMemoryOrShelf e.fault) }
+    ensures number { IfErr result (λ e. Has (map S.Receipt.number later.now.items) e.number) }
+    ensures told { Becomes (B.told blocks.old) (B.told blocks.new) }
+    ensures loan { B.loan blocks.new ≡ B.loan blocks.old }
+    ensures cause { IfErr result (λ e. ReadCounted e.fault (B.told blocks.old) (B.told blocks.new)) }
+{
+    let next = match later.front() {
+        Some(next) => blocks.copy_receipt(next),
+        None => return Ok(None),
+    };
+    let number = next.number();
+    match open_some_by(blocks, alloc, next) {
+        Ok(here) => Ok(Some(here)),
+        Err(fault) => Err(FileFault { number, fault }),
+    }
+}
+
+/// What stands for these tables.
+fn copies_of<N: Naming, S: Shelf, B: Blocks<S>>(
+    blocks: &B,
+    alloc: Global,
+    registry: &Registry<S::Receipt>,
+    tables: &[TableRef<N, S>],
+) -> Result<VecDeque<S::Receipt>, AllocError>
+    requires { registry.now ≡ N.registry }
+    ensures named { IfOk result (λ v. All (S.is_of N.place) v.items) }
+    ensures numbers { IfOk result (λ v. map S.Receipt.number v.items ≡ map (λ t. t.number) tables.now) }
+    ensures images { IfOk result (λ v. map S.Receipt.image v.items ≡ map image_of tables.now) }
+{
+    let mut copies = VecDeque::new(alloc);
+    for table in tables {
+        let copy = blocks.copy_receipt(&registry.record(table).receipt);
+        copies.push_back(copy)?;
+    }
+    Ok(copies)
+}
+
+impl<N: Naming, S: Shelf> Run<N, S> {
+    /// At the first entry of the first table. The entries get this place, as a depth.
+    pub fn open_by<B: Blocks<S>>(
+        blocks: &mut B,
+        alloc: Global,
+        place: u64,
+        first: S::Receipt,
+        later: VecDeque<S::Receipt>,
+    ) -> Result<Run<N, S>, FileFault>
+        requires here { (B.told blocks.old).place ≡ N.place }
+        requires named { All (S.is_of N.place) (first ∷ later.items) }
+        requires tables { S.honest → All HasEntries (map S.Receipt.image (first ∷ later.items)) }
+        ensures entries { S.honest → IfOk result (λ r. r.placed ≡ placed_at place (entries_of_all (map S.Receipt.image (first ∷ later.items)))) }
+        ensures files { IfOk result (λ r. r.files ≡ files_at place (map S.Receipt.number (first ∷ later.items))) }
+        ensures sound { S.honest → IfErr result (λ e. IsMemoryOrShelf e.fault) }
+        ensures number { IfErr result (λ e. e.number ≡ S.Receipt.number first) }
+        ensures told { Becomes (B.told blocks.old) (B.told blocks.new) }
+        ensures loan { B.loan blocks.new ≡ B.loan blocks.old }
+        ensures cause { IfErr result (λ e. ReadCounted e.fault (B.told blocks.old) (B.told blocks.new)) }
+    {
+        let number = first.number();
+        match open_some_by(blocks, alloc, first) {
+            Ok(here) => Ok(Run {
+                place,
+                number,
+                here,
+                later,
+            }),
+            Err(fault) => Err(FileFault { number, fault }),
+        }
+    }
+
+    /// At the first entry of the first of these tables, each of which stands for its record.
+    pub fn over_by<B: Blocks<S>>(
+        blocks: &mut B,
+        alloc: Global,
+        place: u64,
+        registry: &Registry<S::Receipt>,
+        tables: &[TableRef<N, S>],
+    ) -> Result<Run<N, S>, FileFault>
+        requires here { (B.told blocks.old).place ≡ N.place }
+        requires registry { registry.now ≡ N.registry }
+        requires some { 0 < length tables.now }
+        requires tables { S.honest → All HasEntries (map image_of tables.now) }
+        ensures entries { S.honest → IfOk result (λ r. r.placed ≡ placed_at place (entries_of_all (map image_of tables.now))) }
+        ensures files { IfOk result (λ r. r.files ≡ files_at place (map (λ t. t.number) tables.now)) }
+        ensures sound { S.honest → IfErr result (λ e. IsMemoryOrShelf e.fault) }
+        ensures number { IfErr result (λ e. Has (map (λ t. t.number) tables.now) e.number) }
+        ensures told { Becomes (B.told blocks.old) (B.told blocks.new) }
+        ensures loan { B.loan blocks.new ≡ B.loan blocks.old }
+        ensures cause { IfErr result (λ e. ReadCounted e.fault (B.told blocks.old) (B.told blocks.new)) }
+    {
+        let Some((first, rest)) = tables.split_first() else {
+            unreachable!()
+        };
+        let first = blocks.copy_receipt(&registry.record(first).receipt);
+        let number = first.number();
+        let later = match copies_of(&*blocks, alloc, registry, rest) {
+            Ok(later) => later,
+            Err(_memory) => {
+                return Err(FileFault {
+                    number,
+                    fault: ReadFault::Table(TableFault::OutOfMemory),
+                });
+            }
+        };
+        Run::open_by(blocks, alloc, place, first, later)
+    }
+
+    /// The key of the entry at which it stands, if it stands at one.
+    pub fn key(&self) -> Option<KeyRef<'_>>
+        ensures { option_map key_of result ≡ key_in (first_of self.now.placed) }
+    {
+        self.here.key()
+    }
+
+    /// The value of the entry at which it stands; no bytes where it stands at none.
+    pub fn value(&self) -> &[u8]
+        ensures { result.now ≡ value_in (first_of self.now.placed) }
+    {
+        self.here.value()
+    }
+
+    /// The place that its entries get; 0 where it stands at none.
+    pub fn place(&self) -> u64
+        ensures { result ≡ place_in (first_of self.now.placed) }
+    {
+        if self.here.is_at_end() { 0 } else { self.place }
+    }
+
+    /// The number of the file in which the entry stands at which it stands.
+    pub fn number(&self) -> u64
+        ensures { no_more self.now.placed ≡ false → IsOfFirst self.now result }
+    {
+        self.number
+    }
+
+    /// Whether it stands at no entry. Then none is left.
+    pub fn is_at_end(&self) -> bool
+        ensures { result ≡ no_more self.now.placed }
+    {
+        self.here.is_at_end()
+    }
+
+    /// Goes on to the next entry, or to the end. The next table is opened before it lets go of the
+    /// last entry of the one before, so an `Err` leaves it.
+    pub fn advance_by<B: Blocks<S>>(
+        &mut self,
+        blocks: &mut B,
+        alloc: Global,
+    ) -> Result<(), FileFault>
+        requires here { (B.told blocks.old).place ≡ N.place }
+        ensures ok { S.honest → OnOk result (self.new.placed ≡ after_first self.old.placed) }
+        ensures files { OnOk result (ReadsNoOther self.old self.new) }
+        ensures sound { S.honest → IfErr result (λ e. IsMemoryOrShelf e.fault) }
+        ensures err { OnErr result (self.new ≡ self.old) }
+        ensures number { IfErr result (λ e. IsOfFirst self.old e.number) }
+        ensures told { Becomes (B.told blocks.old) (B.told blocks.new) }
+        ensures loan { B.loan blocks.new ≡ B.loan blocks.old }
+        ensures cause { IfErr result (λ e. ReadCounted e.fault (B.told blocks.old) (B.told blocks.new)) }
+    {
+        if self.here.is_at_end() {
+            return Ok(());
+        }
+        match self.here.step_by(blocks, alloc) {
+            Ok(true) => return Ok(()),
+            Ok(false) => {}
+            Err(fault) => {
+                return Err(FileFault {
+                    number: self.number,
+                    fault,
+                });
+            }
+        }
+        match open_next_by(blocks, alloc, &self.later) {
+            Ok(None) => {}
+            Ok(Some(here)) => {
+                let Some(receipt) = self.later.pop_front() else {
+                    unreachable!()
+                };
+                self.number = receipt.number();
+                self.here = here;
+                return Ok(());
+            }
+            Err(fault) => return Err(fault),
+        }
+        match self.here.advance_by(blocks, alloc) {
+            Ok(()) => Ok(()),
+            Err(fault) => Err(FileFault {
+                number: self.number,
+                fault,
+            }),
+        }
+    }
+}

@@ -1,0 +1,4 @@
+mod Elements
+mod SlotLaws
+mod SnapshotLaws
+pub mod CallerLemmas

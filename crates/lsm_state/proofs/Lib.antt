@@ -1,0 +1,4 @@
+mod Numbers
+mod StateLaws
+mod Removing
+mod Listed

@@ -1,0 +1,95 @@
+-- The numbers that are kept.
+use Rattle.std.proofs.Common.{◌≡◌, ℕ, zero, suc, Option, Some, None, List, [], ◌∷◌, ◌++◌, map, refl, sym, ap, ◌∙◌, subst, inl, inr}
+use Rattle.std.specs.Prelude.{Result, Ok, Err, IfOk, IfSome, slice_get, slice_set}
+use Rattle.std.proofs.lemmas.Bool.{cases_eq}
+use Rattle.lsm_codec.specs.Lists.{Has}
+use Rattle.lsm_codec.proofs.CallerLemmas.{flat_has, has_cases, has_flat, has_left, has_right}
+use Rattle.lsm_levels.specs.Files.{File}
+use Rattle.lsm_version.specs.Versions.{files, numbers_in}
+use Rattle.lsm_slots.specs.Slots.{Epoch, HasEpoch, Looked, PinsMove, Slotted, numbers_at, numbers_held}
+use Rattle.lsm_slots.proofs.CallerLemmas.{set_else, set_found}
+use Rattle.lsm_live.specs.Booked.{Booked, drawn_numbers}
+use Rattle.lsm_state.specs.Held.{Held}
+use Rattle.lsm_state.specs.Collecting.{IsKeptNumber}
+
+-- ---- versions in slots
+
+-- a version that has a slot names the number
+pub record IsNamed (es : List (Option Epoch)) (n : ℕ) : Type 0 where
+  pub slot : ℕ
+  pub epoch : Epoch
+  pub had : slice_get es slot ≡ Some (Some epoch)
+  pub number : Has (numbers_in epoch.version) n
+
+pub held_named : (es : List (Option Epoch)) (n : ℕ) → Has (numbers_held es) n → IsNamed es n
+held_named [] n h = absurd h
+held_named (None ∷ es) n h = (let r = held_named es n h in record { slot = suc r.slot; epoch = r.epoch; had = r.had; number = r.number })
+held_named (Some e ∷ es) n h = elim (has_cases (numbers_in e.version) (numbers_held es) n h) [
+  | inl here ↦ record { slot = zero; epoch = e; had = refl; number = here }
+  | inr later ↦ (let r = held_named es n later in record { slot = suc r.slot; epoch = r.epoch; had = r.had; number = r.number })
+]
+
+pub named_held : (es : List (Option Epoch)) (slot n : ℕ) (e : Epoch) → slice_get es slot ≡ Some (Some e) → Has (numbers_in e.version) n → Has (numbers_held es) n
+named_held [] slot n e had h = (let no : None ≡ Some (Some e) = had in cc)
+named_held (o ∷ es) zero n e had h = (let is : Some o ≡ Some (Some e) = had in let same : o ≡ Some e = cc in has_left (numbers_at o) (numbers_held es) n (subst (λ x. Has (numbers_at x) n) (sym same) h))
+named_held (o ∷ es) (suc slot) n e had h = has_right (numbers_at o) (numbers_held es) n (named_held es slot n e had h)
+
+-- looks free slots only
+pub looked_numbers : (old new : Slotted) (n : ℕ) → Looked old new → Has (numbers_held new.epochs) n → Has (numbers_held old.epochs) n
+looked_numbers old new n l h = go (held_named new.epochs n h)
+  where
+    go : IsNamed new.epochs n → Has (numbers_held old.epochs) n
+    go r = elim (l.each r.slot) [
+      | inl same ↦ named_held old.epochs r.slot n r.epoch (sym same ∙ r.had) r.number
+      | inr freed ↦ (let both : Some None ≡ Some (Some r.epoch) = sym freed.free ∙ r.had in cc)
+    ]
+
+-- pins change no version
+pub pinned_numbers : (old new : Slotted) (id from to n : ℕ) → PinsMove old new id from to → Has (numbers_held new.epochs) n → Has (numbers_held old.epochs) n
+pinned_numbers old new id from to n m h = go (held_named new.epochs n h)
+  where
+    after : Option Epoch
+    after = Some (record m.epoch { pins = to })
+
+    go : IsNamed new.epochs n → Has (numbers_held old.epochs) n
+    go r = (let had : slice_get (slice_set old.epochs m.slot after) r.slot ≡ Some (Some r.epoch) = ap (λ (s : Slotted). slice_get s.epochs r.slot) (sym m.is) ∙ r.had in elim (cases_eq r.slot m.slot) [
+      | inl same ↦ (
+          let here : slice_get (slice_set old.epochs m.slot after) m.slot ≡ Some (Some r.epoch) = subst (λ i. slice_get (slice_set old.epochs m.slot after) i ≡ Some (Some r.epoch)) same had in
+          let both : Some after ≡ Some (Some r.epoch) = sym (set_found old.epochs m.slot after (Some r.epoch) here) ∙ here in
+          let is : record m.epoch { pins = to } ≡ r.epoch = cc in
+          named_held old.epochs m.slot n m.epoch m.had (subst (λ (e : Epoch). Has (numbers_in e.version) n) (sym is) r.number))
+      | inr other ↦ named_held old.epochs r.slot n r.epoch (sym (set_else old.epochs m.slot r.slot after other) ∙ had) r.number
+    ])
+
+-- ---- what is kept
+
+map_has : (fs : List File) (n : ℕ) → Has (map (λ (F : File). F.number) fs) n → (F : File) × Has fs F × (F.number ≡ n)
+map_has [] n h = absurd h
+map_has (F ∷ fs) n (inl e) = (F, inl refl, e)
+map_has (F ∷ fs) n (inr h) = (let r = map_has fs n h in (r.0, inr r.1, r.2))
+
+has_map : (fs : List File) (F : File) → Has fs F → Has (map (λ (G : File). G.number) fs) F.number
+has_map [] F h = absurd h
+has_map (G ∷ fs) F (inl e) = inl (ap (λ (H : File). H.number) e)
+has_map (G ∷ fs) F (inr h) = inr (has_map fs F h)
+
+pub kept_from : (h : Held) (n : ℕ) → Has (numbers_held h.slots.epochs ++ drawn_numbers h.live) n → IsKeptNumber h n
+kept_from h n k = elim (has_cases (numbers_held h.slots.epochs) (drawn_numbers h.live) n k) [
+  | inl held ↦ (let r = held_named h.slots.epochs n held in let f = map_has (files r.epoch.version) n r.number in inl (r.slot, r.epoch, f.0, r.had, f.1, f.2))
+  | inr drawn ↦ (let r = flat_has (λ (b : Booked). b.drawn) h.live n drawn in inr (r.0, r.1, r.2))
+]
+
+pub kept_to : (h : Held) (n : ℕ) → IsKeptNumber h n → Has (numbers_held h.slots.epochs ++ drawn_numbers h.live) n
+kept_to h n (inl r) = has_left (numbers_held h.slots.epochs) (drawn_numbers h.live) n (named_held h.slots.epochs r.0 n r.1 r.3 (subst (λ m. Has (numbers_in r.1.version) m) r.5 (has_map (files r.1.version) r.2 r.4)))
+kept_to h n (inr r) = has_right (numbers_held h.slots.epochs) (drawn_numbers h.live) n (has_flat (λ (b : Booked). b.drawn) h.live r.0 n r.1 r.2)
+
+-- the tables of a version that has a slot are kept
+pub version_kept : (h : Held) (slot n : ℕ) (e : Epoch) → HasEpoch h.slots slot e → Has (numbers_in e.version) n → IsKeptNumber h n
+version_kept h slot n e had k = (let f = map_has (files e.version) n k in inl (slot, e, f.0, had, f.1, f.2))
+
+pub kept_if : {V E : Type 0} (items : V → List ℕ) (h : Held) (held : Option (ℕ × ℕ)) (r : Result (Option V) E)
+    → IfOk r (λ o. IfSome o (λ v. (slot : ℕ) × (id : ℕ) × (e : Epoch) × (held ≡ Some (id, slot)) × HasEpoch h.slots slot e × (e.id ≡ id) × (items v ≡ numbers_in e.version)))
+    → IfOk r (λ o. IfSome o (λ v. (n : ℕ) → Has (items v) n → IsKeptNumber h n))
+kept_if items h held (Ok (Some v)) m = λ n k. version_kept h m.0 n m.2 m.4 (subst (λ ns. Has ns n) m.6 k)
+kept_if items h held (Ok None) m = m
+kept_if items h held (Err e) m = m

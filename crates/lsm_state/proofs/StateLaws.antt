@@ -1,0 +1,137 @@
+-- What the smaller calls leave of the law of a state.
+use Rattle.std.proofs.Common.{◌≡◌, ℕ, zero, suc, ◌-◌, false, None, replicate, List, [], ◌∷◌, ◌++◌, refl, sym, ◌∙◌, ap, subst, arith}
+use Rattle.atomic_table.specs.Seated.{TableId}
+use Rattle.lsm_codec.specs.Lists.{Has}
+use Rattle.lsm_codec.proofs.CallerLemmas.{all_at}
+use Rattle.lsm_pins.specs.Known.{Known}
+use Rattle.lsm_pins.specs.Made.{IsNewPinner}
+use Rattle.lsm_pins.specs.declared.view.View.{View}
+use Rattle.lsm_levels.specs.Files.{Lie}
+use Rattle.lsm_levels.proofs.CallerLemmas.{in_order_split}
+use Rattle.lsm_version.specs.Versions.{Levels, files, no_levels}
+use Rattle.lsm_machine.specs.Law.{Law}
+use Rattle.lsm_machine.specs.Plain.{Plain, created, without_snapshot}
+use Rattle.lsm_machine.specs.Runs.{Event, Step, Snapshot, Release, Cancel, Draw}
+use Rattle.lsm_machine.proofs.CallerLemmas.{step_law}
+use Rattle.lsm_slots.specs.Slots.{Looked, PinsMove, Slotted, first_slots, numbers_held}
+use Rattle.lsm_slots.specs.Snapshots.{Taken}
+use Rattle.lsm_live.specs.Booked.{Booked, booked, without}
+use Rattle.lsm_live.proofs.CallerLemmas.{lives_booked, lives_without}
+use Rattle.lsm_journal.specs.HeldManifest.{HeldManifest}
+use Rattle.lsm_journal.specs.Recorded.{IsRecorded}
+use Rattle.lsm_journal.specs.Writing.{created as first_manifest}
+use Rattle.lsm_journal.proofs.CallerLemmas.{later}
+use Rattle.lsm_state.specs.Making.{IsNewBoard, created_state}
+use Rattle.lsm_state.specs.Options.{Fits}
+use Rattle.lsm_state.specs.declared.options.Options.{Options}
+use Rattle.lsm_state.specs.Held.{Held, IsLawfulState, plain}
+use Rattle.lsm_state.proofs.Numbers.{looked_numbers, pinned_numbers}
+
+-- an event keeps the machine's law
+pub stepped : (honest : Type 0) (s : Plain) (e : Event) (t : Plain) → Law honest Lie s → Step honest s e t → Law honest Lie t
+stepped honest s e t l step = step_law honest Lie in_order_split s e t l step
+
+-- ---- slots: the current version stays, and no number comes
+
+pub lawful_slots : (honest : Type 0) (board : TableId) (h : Held) (s : Slotted) → IsLawfulState honest board h → s.version ≡ h.slots.version
+    → ((n : ℕ) → Has (numbers_held s.epochs) n → Has (numbers_held h.slots.epochs) n) → IsLawfulState honest board (record h { slots = s })
+lawful_slots honest board h s l same fewer = record {
+  law = subst (λ (p : Plain). Law honest Lie p) (ap (λ (v : Levels). record (plain h) { files = files v; last = v.last }) (sym same)) l.law;
+  journaled = (l.journaled.0, subst (λ (v : Levels). IsRecorded l.journaled.0 h.journal v h.next) (sym same) l.journaled.1, l.journaled.2);
+  below = λ n k. l.below n (fewer n k);
+  pinners = l.pinners;
+  fits = l.fits;
+}
+
+pub lawful_pinned : (honest : Type 0) (board : TableId) (h : Held) (s : Slotted) (id from to : ℕ) → IsLawfulState honest board h → PinsMove h.slots s id from to → IsLawfulState honest board (record h { slots = s })
+lawful_pinned honest board h s id from to l m = lawful_slots honest board h s l (ap (λ (x : Slotted). x.version) m.is) (λ n k. pinned_numbers h.slots s id from to n m k)
+
+pub lawful_looked : (honest : Type 0) (board : TableId) (h : Held) (s : Slotted) → IsLawfulState honest board h → Looked h.slots s → IsLawfulState honest board (record h { slots = s })
+lawful_looked honest board h s l k = lawful_slots honest board h s l k.version (λ n m. looked_numbers h.slots s n k m)
+
+pub lawful_same : (honest : Type 0) (board : TableId) (h : Held) (s : Slotted) → IsLawfulState honest board h → s ≡ h.slots → IsLawfulState honest board (record h { slots = s })
+lawful_same honest board h s l e = subst (λ (x : Slotted). IsLawfulState honest board (record h { slots = x })) (sym e) l
+
+-- ---- snapshots
+
+pub taken_at : (h : Held) (taken : Taken) (id last : ℕ) → id ≡ h.snapshots.next → last ≡ h.slots.version.last → taken ≡ record { taken = h.snapshots.taken ++ (id, last) ∷ []; next = suc id }
+    → taken ≡ record { taken = h.snapshots.taken ++ (h.snapshots.next, h.slots.version.last) ∷ []; next = suc h.snapshots.next }
+taken_at h taken id last a b e = e ∙ (ap (λ i. let t : Taken = record { taken = h.snapshots.taken ++ (i, last) ∷ []; next = suc i } in t) a
+    ∙ ap (λ n. let t : Taken = record { taken = h.snapshots.taken ++ (h.snapshots.next, n) ∷ []; next = suc h.snapshots.next } in t) b)
+
+pub lawful_taken : (honest : Type 0) (board : TableId) (h : Held) (taken : Taken) → IsLawfulState honest board h
+    → taken ≡ record { taken = h.snapshots.taken ++ (h.snapshots.next, h.slots.version.last) ∷ []; next = suc h.snapshots.next } → IsLawfulState honest board (record h { snapshots = taken })
+lawful_taken honest board h taken l is = record {
+  law = stepped honest (plain h) Snapshot (plain (record h { snapshots = taken })) l.law (ap (λ (t : Taken). plain (record h { snapshots = t })) is);
+  journaled = l.journaled;
+  below = l.below;
+  pinners = l.pinners;
+  fits = l.fits;
+}
+
+pub lawful_released : (honest : Type 0) (board : TableId) (h : Held) (taken : Taken) (id : ℕ) → IsLawfulState honest board h
+    → taken ≡ record h.snapshots { taken = without_snapshot id h.snapshots.taken } → IsLawfulState honest board (record h { snapshots = taken })
+lawful_released honest board h taken id l is = record {
+  law = stepped honest (plain h) (Release id) (plain (record h { snapshots = taken })) l.law (ap (λ (t : Taken). plain (record h { snapshots = t })) is);
+  journaled = l.journaled;
+  below = l.below;
+  pinners = l.pinners;
+  fits = l.fits;
+}
+
+-- ---- jobs
+
+pub lawful_cancelled : (honest : Type 0) (board : TableId) (h : Held) (live : List Booked) (ticket : ℕ) → IsLawfulState honest board h → live ≡ without ticket h.live
+    → IsLawfulState honest board (record h { live = live })
+lawful_cancelled honest board h live ticket l is = record {
+  law = stepped honest (plain h) (Cancel ticket) (plain (record h { live = live })) l.law
+      (ap (λ (b : List Booked). plain (record h { live = b })) is ∙ ap (λ ls. record (plain h) { live = ls }) (lives_without ticket h.live));
+  journaled = l.journaled;
+  below = l.below;
+  pinners = l.pinners;
+  fits = l.fits;
+}
+
+pub lawful_drawn : (honest : Type 0) (board : TableId) (h : Held) (live : List Booked) (ticket next : ℕ) → IsLawfulState honest board h → live ≡ booked ticket h.next h.live → next ≡ suc h.next
+    → IsLawfulState honest board (record h { live = live; next = next })
+lawful_drawn honest board h live ticket next l is more = record {
+  law = stepped honest (plain h) (Draw ticket) (plain (record h { live = live; next = next })) l.law
+      (ap (λ (b : List Booked). plain (record h { live = b; next = next })) is
+      ∙ (ap (λ n. plain (record h { live = booked ticket h.next h.live; next = n })) more ∙ ap (λ ls. record (plain h) { live = ls; next = suc h.next }) (lives_booked ticket h.next h.live)));
+  journaled = (l.journaled.0, later l.journaled.0 h.journal h.slots.version h.next next l.journaled.1 (omega arith), l.journaled.2);
+  below = λ n k. (let lt = l.below n k in omega arith);
+  pinners = l.pinners;
+  fits = l.fits;
+}
+
+-- ---- pinners
+
+pub lawful_given : (honest : Type 0) (board : TableId) (h : Held) → IsLawfulState honest board h → IsLawfulState honest board (record h { pinners = [] })
+lawful_given honest board h l = record { law = l.law; journaled = l.journaled; below = l.below; pinners = λ p k. absurd k; fits = l.fits }
+
+-- ---- a new database
+
+pub lawful_created : (honest : Type 0) (board : TableId) (o : Options) (publisher : Known) (pinners : List Known) → Fits o → IsNewBoard board o publisher pinners → Law honest Lie created
+    → IsRecorded 0 (first_manifest o.manifest_limit) no_levels 2 → IsLawfulState honest board (created_state o publisher pinners)
+lawful_created honest board o publisher pinners fits new law recorded = record {
+  law = law;
+  journaled = (0, recorded, λ e. refl);
+  below = λ n k. absurd (none_held (o.versions - 1) n k);
+  pinners = λ p k. (let one = all_at (IsNewPinner board o.versions new.id) pinners p new.readers k in (one.at, ap (λ (v : View). v.held) one.knows));
+  fits = fits;
+}
+  where
+    none_held : (m n : ℕ) → Has (numbers_held (replicate m None)) n → ⊥
+    none_held zero n h = h
+    none_held (suc m) n h = none_held m n h
+
+-- the same of its parts, as they were made
+pub lawful_made : (honest : Type 0) (board : TableId) (o : Options) (publisher : Known) (pinners : List Known) (s : Slotted) (taken : Taken) (live : List Booked) (j : HeldManifest)
+    → s ≡ first_slots publisher o.versions no_levels → taken ≡ record { taken = []; next = 1 } → live ≡ [] → j ≡ first_manifest o.manifest_limit → IsLawfulState honest board (created_state o publisher pinners)
+    → IsLawfulState honest board (record { options = o; slots = s; snapshots = taken; next = 2; next_ticket = 1; live = live; journal = j; halted = false; pinners = pinners })
+lawful_made honest board o publisher pinners s taken live j a b c d l =
+    let h : Held = created_state o publisher pinners in
+    subst (λ (x : Slotted). IsLawfulState honest board (record h { slots = x; snapshots = taken; live = live; journal = j })) (sym a)
+    (subst (λ (x : Taken). IsLawfulState honest board (record h { snapshots = x; live = live; journal = j })) (sym b)
+    (subst (λ (x : List Booked). IsLawfulState honest board (record h { live = x; journal = j })) (sym c)
+    (subst (λ (x : HeldManifest). IsLawfulState honest board (record h { journal = x })) (sym d) l)))

@@ -1,0 +1,78 @@
+-- What is kept of the tables on the shelf, and what a collect removes (this project's rule).
+use Rattle.std.specs.Prelude.{◌≡◌, ℕ, ◌+◌, ◌⊎◌, ◌↔◌, Bool, true, false, List, [], ◌∷◌, ◌++◌, not, ◌==◌, Err}
+use Rattle.std.specs.List.{filter, list_any}
+use Rattle.lsm_codec.specs.Lists.{Has}
+use Rattle.lsm_levels.specs.Files.{File}
+use Rattle.lsm_version.specs.Versions.{files}
+use Rattle.lsm_shelf.specs.Told.{Told, Becomes, Counted, CountedBy, NotTaken, listing}
+use Rattle.lsm_slots.specs.Slots.{Epoch, HasEpoch, Looked, count_to_look_at, looks_of}
+use Rattle.lsm_live.specs.Booked.{Booked}
+use Rattle.lsm_state.specs.Held.{Held}
+use Rattle.lsm_state.specs.declared.state_fault.StateFault.{StateFault}
+use Rattle.lsm_state.specs.declared.state_fault.StateFault.TheVariants.{Halted, OutOfMemory, Shelf}
+
+-- a version that has a slot names the number, or a live job has drawn it
+abbrev pub IsKeptNumber : Held → ℕ → Type 0
+IsKeptNumber h n = ((slot : ℕ) × (e : Epoch) × (F : File) × HasEpoch h.slots slot e × Has (files e.version) F × (F.number ≡ n))
+    ⊎ ((b : Booked) × Has h.live b × Has b.drawn n)
+
+abbrev pub is_in : List ℕ → ℕ → Bool
+is_in ns n = list_any (λ m. m == n) ns
+
+-- the numbers of the list that are not kept
+abbrev pub outside : List ℕ → List ℕ → List ℕ
+outside kept ns = filter (λ n. not (is_in kept n)) ns
+
+-- what was asked to be removed, after these numbers one after another
+abbrev pub going : List ℕ → List ℕ → List ℕ
+going [] gone = gone
+going (n ∷ ns) gone = going ns (n ∷ gone)
+
+abbrev pub removing_all : List ℕ → Told → Told
+removing_all ns t = record t { gone = going ns t.gone }
+
+-- just the listed numbers that are not kept were removed
+pub record AreCollected (h : Held) (removed : List ℕ) (was is : Told) : Type 0 where
+  pub listed : List ℕ
+  pub kept : List ℕ
+  pub kept_are : (n : ℕ) → Has kept n ↔ IsKeptNumber h n
+  pub removed_are : removed ≡ outside kept listed
+  pub told : Becomes (removing_all removed (listing listed was)) is
+
+-- The removal of numbers stopped: those at the front were removed, and the next one was perhaps asked for.
+pub record IsStopped (ns removed : List ℕ) (was is : Told) : Type 0 where
+  pub back : List ℕ
+  pub parts : ns ≡ removed ++ back
+  pub asked : Becomes (removing_all removed was) is ⊎ ((n : ℕ) × (rest : List ℕ) × (back ≡ n ∷ rest) × Becomes (removing_all (removed ++ n ∷ []) was) is)
+
+-- No table was removed, since the numbers were not known; or the removal of those that are not kept stopped.
+abbrev pub StoppedEarly : Held → List ℕ → Told → Told → Type 0
+StoppedEarly h removed was is = ((removed ≡ []) × Becomes was is)
+    ⊎ ((listed : List ℕ) × (kept : List ℕ) × ((n : ℕ) → Has kept n ↔ IsKeptNumber h n) × IsStopped (outside kept listed) removed (listing listed was) is)
+
+-- memory was refused, or the shelf refused, with a count that rose
+abbrev pub IsMemoryOrShelf : StateFault → Told → Told → Type 0
+IsMemoryOrShelf OutOfMemory was is = Unit {0}
+IsMemoryOrShelf (Shelf fault) was is = Counted fault was is
+IsMemoryOrShelf e was is = ⊥
+
+-- no count rose
+abbrev pub SameCounts : Told → Told → Type 0
+SameCounts was is = (is.faults ≡ was.faults) × (is.misses ≡ was.misses)
+
+-- What a refused call counted: a refusal of the shelf, which is no `Taken`, just once, and else nothing.
+abbrev pub IsCountedOnce : StateFault → Told → Told → Type 0
+IsCountedOnce OutOfMemory was is = SameCounts was is
+IsCountedOnce Halted was is = SameCounts was is
+IsCountedOnce (Shelf fault) was is = NotTaken fault × CountedBy {T = Unit {0}} (Err fault) was is
+IsCountedOnce e was is = ⊥
+
+-- just as many looks were made as there are slots that may turn free
+pub record HasLookedAround (old new : Held) : Type 0 where
+  pub looked : Looked old.slots new.slots
+  pub looks : looks_of new.slots ≡ looks_of old.slots + count_to_look_at old.slots
+
+-- Why a collect is refused: the state is halted, and nothing was done; else it stopped early.
+abbrev pub IsCollectRefusal : Held → Held → StateFault → List ℕ → Told → Told → Type 0
+IsCollectRefusal old new e removed was is = ((e ≡ Halted) × (old.halted ≡ true) × (new ≡ old) × (removed ≡ []) × Becomes was is)
+    ⊎ ((old.halted ≡ false) × HasLookedAround old new × StoppedEarly new removed was is × IsMemoryOrShelf e was is)

@@ -1,0 +1,33 @@
+-- What a state is made with, and a new one (this project's rule; the first manifest is LevelDB's `DBImpl::NewDB`).
+use Rattle.std.specs.Prelude.{◌≡◌, ℕ, false, List, []}
+use Rattle.std.specs.List.{All}
+use Rattle.atomic_table.specs.Seated.{TableId}
+use Rattle.lsm_pins.specs.Known.{Known}
+use Rattle.lsm_pins.specs.Made.{IsNewPinner}
+use Rattle.lsm_pins.specs.View.{after_making}
+use Rattle.lsm_version.specs.Versions.{no_levels}
+use Rattle.lsm_slots.specs.Slots.{first_slots}
+use Rattle.lsm_journal.specs.Writing.{created}
+use Rattle.lsm_state.specs.Held.{Held}
+use Rattle.lsm_state.specs.declared.options.Options.{Options}
+
+-- The ends of a board that was just made, with the slots and the readers of the options.
+pub record IsNewBoard (board : TableId) (o : Options) (publisher : Known) (pinners : List Known) : Type 0 where
+  pub id : ℕ
+  pub here : publisher.board ≡ board
+  pub made : publisher.knows ≡ after_making o.versions id o.readers
+  pub readers : All (IsNewPinner board o.versions id) pinners
+
+-- no table, no snapshot, no job; manifest 1, so 2 is the next number
+abbrev pub created_state : Options → Known → List Known → Held
+created_state o publisher pinners = record {
+  options = o;
+  slots = first_slots publisher o.versions no_levels;
+  snapshots = record { taken = []; next = 1 };
+  next = 2;
+  next_ticket = 1;
+  live = [];
+  journal = created o.manifest_limit;
+  halted = false;
+  pinners = pinners;
+}

@@ -1,0 +1,91 @@
+//! Removing tables that no reader and no job needs.
+
+ghost use Rattle.std.specs.Prelude.{◌≡◌, ◌++◌, [], IfErr, IfOk, OnErr, OnOk, false};
+ghost use Rattle.lsm_shelf.specs.Told.{Becomes, Counted, CountedBy, NotTaken};
+ghost use Rattle.lsm_state.specs.Collecting.{AreCollected, HasLookedAround, IsCollectRefusal, IsCountedOnce, IsMemoryOrShelf, IsStopped, SameCounts, StoppedEarly, outside, removing_all};
+
+use crate::state::State;
+use crate::state_fault::StateFault;
+use lsm_slots::Boarded;
+use lsm_table::{Shelf, ShelfFault};
+use std::alloc::Global;
+use std::sync::Wait;
+
+// The numbers that are not kept.
+fn keep_outside(numbers: &mut Vec<u64>, kept: &[u64])
+    ensures { numbers.new.items ≡ outside kept.now numbers.old.items }
+{
+    numbers.retain(|number| !kept.contains(number));
+}
+
+// Removes tables one after another, and notes each that was removed.
+fn remove_all<S: Shelf, R: Wait>(
+    shelf: &mut S,
+    rt: &R,
+    numbers: &[u64],
+    removed: &mut Vec<u64>,
+) -> Result<(), ShelfFault>
+    requires { removed.old.items ≡ [] }
+    ensures ok { OnOk result ((removed.new.items ≡ numbers.now) × Becomes (removing_all numbers.now (S.told shelf.old)) (S.told shelf.new)) }
+    ensures err { OnErr result (IsStopped numbers.now removed.new.items (S.told shelf.old) (S.told shelf.new)) }
+    ensures cause { IfErr result (λ e. NotTaken e × Counted e (S.told shelf.old) (S.told shelf.new)) }
+    ensures counts { CountedBy result (S.told shelf.old) (S.told shelf.new) }
+{
+    for number in numbers {
+        shelf.remove(rt, *number)?;
+        removed.push(*number)?;
+    }
+    Ok(())
+}
+
+impl<N: Boarded, S: Shelf> State<N, S> {
+    // Removes the listed tables that are not kept.
+    fn sweep<R: Wait>(
+        &self,
+        rt: &R,
+        alloc: Global,
+        shelf: &mut S,
+        removed: &mut Vec<u64>,
+    ) -> Result<(), StateFault>
+        requires { removed.old.items ≡ [] }
+        ensures ok { OnOk result (AreCollected self.now removed.new.items (S.told shelf.old) (S.told shelf.new)) }
+        ensures err { OnErr result (StoppedEarly self.now removed.new.items (S.told shelf.old) (S.told shelf.new)) }
+        ensures cause { IfErr result (λ e. IsMemoryOrShelf e (S.told shelf.old) (S.told shelf.new)) }
+        ensures counts { OnOk result (SameCounts (S.told shelf.old) (S.told shelf.new)) }
+        ensures counts_err { IfErr result (λ e. IsCountedOnce e (S.told shelf.old) (S.told shelf.new)) }
+    {
+        let kept = self.kept(alloc)?;
+        let mut numbers = shelf.list(rt, alloc)?;
+        keep_outside(&mut numbers, &kept);
+        removed.reserve(numbers.len())?;
+        remove_all(shelf, rt, &numbers, removed)?;
+        Ok(())
+    }
+
+    /// Looks at the slots that may turn free, and removes the listed tables that are not kept. Answers their numbers, ascending.
+    ///
+    /// `Halted` where the state is halted; else `OutOfMemory`, and the shelf's refusals. A refusal has the numbers of the tables that
+    /// were removed; the state goes on, and a later call removes the others.
+    pub fn collect<R: Wait>(
+        &mut self,
+        rt: &R,
+        alloc: Global,
+        shelf: &mut S,
+    ) -> Result<Vec<u64>, (StateFault, Vec<u64>)>
+        ensures ok { IfOk result (λ v. (self.old.halted ≡ false) × HasLookedAround self.old self.new × AreCollected self.new v.items (S.told shelf.old) (S.told shelf.new)) }
+        ensures rest { self.new ≡ record self.old { slots = self.new.slots } }
+        ensures refused { IfErr result (λ e. IsCollectRefusal self.old self.new e.0 e.1.items (S.told shelf.old) (S.told shelf.new)) }
+        ensures counts { OnOk result (SameCounts (S.told shelf.old) (S.told shelf.new)) }
+        ensures counts_err { IfErr result (λ e. IsCountedOnce e.0 (S.told shelf.old) (S.told shelf.new)) }
+    {
+        let mut removed = Vec::new(alloc);
+        if self.halted {
+            return Err((StateFault::Halted, removed));
+        }
+        self.slots.look_around();
+        match self.sweep(rt, alloc, shelf, &mut removed) {
+            Ok(()) => Ok(removed),
+            Err(fault) => Err((fault, removed)),
+        }
+    }
+}

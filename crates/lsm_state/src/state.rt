@@ -1,0 +1,72 @@
+//! The value behind the lock.
+
+ghost use Rattle.std.specs.Prelude.{◌≡◌};
+ghost use Rattle.std.specs.Arc.{arc_value};
+ghost use Rattle.lsm_slots.specs.Slots.{AreSlots, current_id};
+ghost use Rattle.lsm_state.specs.Held.{IsLawfulState};
+
+use crate::options::Options;
+use lsm_journal::Journal;
+use lsm_live::LiveJobs;
+use lsm_pins::Pinner;
+use lsm_slots::{Boarded, Slots, Snapshots};
+use lsm_table::{Registry, Shelf};
+use lsm_version::Version;
+use std::marker::Model;
+use std::sync::Arc;
+
+/// What a database holds behind its lock: versions by slot, snapshots, live jobs, and the manifest. Contracts see it as that (`Held`).
+#[derive(Drop)]
+pub struct State<N: Boarded, S: Shelf> {
+    pub(crate) registry: Arc<Registry<S::Receipt>>,
+    pub(crate) options: Options,
+    pub(crate) slots: Slots<N, S>,
+    pub(crate) snapshots: Snapshots,
+    pub(crate) next: u64,
+    pub(crate) next_ticket: u64,
+    pub(crate) live: LiveJobs<N, S>,
+    pub(crate) journal: Journal,
+    pub(crate) halted: bool,
+    pub(crate) pinners: Vec<Pinner>,
+}
+
+impl<N: Boarded, S: Shelf> Model for State<N, S> {
+    ghost use Rattle.std.specs.Prelude.{◌≡◌};
+    ghost use Rattle.std.specs.Arc.{arc_value};
+    ghost use Rattle.lsm_state.specs.Held.{Held, IsLawfulState};
+
+    ghost Value = { Held };
+
+    ghost view = { λ s. record { options = s.options; slots = s.slots; snapshots = s.snapshots; next = s.next; next_ticket = s.next_ticket; live = s.live; journal = s.journal; halted = s.halted; pinners = s.pinners.items } };
+
+    ghost invariant = { λ s. (arc_value s.registry ≡ N.registry)
+        × IsLawfulState S.honest N.board record { options = s.options; slots = s.slots; snapshots = s.snapshots; next = s.next; next_ticket = s.next_ticket; live = s.live; journal = s.journal; halted = s.halted; pinners = s.pinners.items } };
+}
+
+impl<N: Boarded, S: Shelf> State<N, S> {
+    /// The options that it was made with. What holds of every state is told here too.
+    pub fn options(&self) -> &Options
+        ensures options { result.now ≡ self.now.options }
+        ensures law { IsLawfulState S.honest N.board self.now }
+        ensures slots { AreSlots self.now.slots }
+        ensures board { self.now.slots.board.board ≡ N.board }
+    {
+        let _version = self.slots.version();
+        &self.options
+    }
+
+    /// The registry of its tables.
+    pub fn registry(&self) -> &Arc<Registry<S::Receipt>>
+        ensures { arc_value result.now ≡ N.registry }
+    {
+        &self.registry
+    }
+
+    /// The current version's id, and the version.
+    pub fn current(&self) -> (u32, &Arc<Version<N, S>>)
+        ensures id { result.0 ≡ current_id self.now.slots }
+        ensures version { arc_value result.1.now ≡ self.now.slots.version }
+    {
+        (self.slots.id(), self.slots.current())
+    }
+}
