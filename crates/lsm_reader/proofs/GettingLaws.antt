@@ -6,7 +6,9 @@ use Rattle.lsm_block.specs.Block.{entry_of}
 use Rattle.lsm_block.specs.Seeking.{not_below}
 use Rattle.lsm_block.specs.Standing.{is_end, but_first, key_of_first, value_of_first}
 use Rattle.lsm_table.specs.declared.table_fault.TableFault.{TableFault}
+use Rattle.lsm_table.specs.declared.table_fault.TableFault.TheVariants.{BadIndex}
 use Rattle.lsm_table.specs.declared.read_fault.ReadFault.{ReadFault}
+use Rattle.lsm_table.specs.declared.read_fault.ReadFault.TheVariants.{Shelf, Table}
 use Rattle.lsm_table.specs.Reading.{◌>>=◌}
 use Rattle.lsm_table.specs.Footer.{body_of}
 use Rattle.lsm_table.specs.Found.{found_in}
@@ -14,7 +16,7 @@ use Rattle.lsm_table.specs.OpenTable.{opening_at, block_named}
 use Rattle.lsm_table.specs.Searching.{read_key, of_user}
 use Rattle.lsm_table.proofs.CallerLemmas.{done}
 use Rattle.lsm_reader.specs.Blocks.{Reads}
-use Rattle.lsm_reader.specs.Getting.{or_later, sought_there, first_named, got_by, got}
+use Rattle.lsm_reader.specs.Getting.{or_later, entered_there, first_entered, sought_there, first_named, got_by, got}
 use Rattle.lsm_reader.proofs.OpeningLaws.{reads_on}
 
 abbrev entries_read : Type 0
@@ -46,6 +48,39 @@ there_is key body place index es here p b h =
 pub there_fails : {X Z : Type 0} (see : X → List Entry) (see' : Z → List Entry) (e : ReadFault) (key : InternalKey) (body place : List ℕ) (index : List Entry) → place ≡ value_of_first index → Reads see (Err e) (block_named body place) → Reads see' (Err e) (sought_there key body index)
 there_fails see see' e key body place index p r =
     subst (λ (v : List ℕ). Reads see' (Err e) (block_named body v >>= λ xs. done (not_below key xs))) p (reads_on see see' e (block_named body place) (λ xs. done (not_below key xs)) r)
+
+-- ---- going on, whatever the image is
+
+pub entered_fails : {X Z : Type 0} (see : X → List Entry) (see' : Z → List Entry) (e : ReadFault) (body place : List ℕ) → Reads see (Err e) (block_named body place) → Reads see' (Err e) (entered_there body place)
+entered_fails see see' e body place r = reads_on see see' e (block_named body place) (λ es. or_later es (Err BadIndex)) r
+
+entered_is : (body place : List ℕ) (es here : List Entry) → block_named body place ≡ Ok es → here ≡ es → entered_there body place ≡ or_later here (Err BadIndex)
+entered_is body place es here b same = ap (λ (r : entries_read). r >>= λ xs. or_later xs (Err BadIndex)) b ∙ ap (λ (xs : List Entry). or_later xs (Err BadIndex)) (sym same)
+
+pub entered_none : (body place : List ℕ) (es here : List Entry) → block_named body place ≡ Ok es → here ≡ es → is_end here ≡ true → entered_there body place ≡ Err BadIndex
+entered_none body place es here b same h = entered_is body place es here b same ∙ later_none here (Err BadIndex) h
+
+pub entered_some : (body place : List ℕ) (es here : List Entry) → block_named body place ≡ Ok es → here ≡ es → is_end here ≡ false → entered_there body place ≡ Ok here
+entered_some body place es here b same h = entered_is body place es here b same ∙ later_some here (Err BadIndex) h
+
+pub first_is_end : (body : List ℕ) (index whole : List Entry) → index ≡ whole → is_end index ≡ true → first_entered body whole ≡ Ok []
+first_is_end body [] whole same h = ap (first_entered body) (sym same)
+first_is_end body (i ∷ index) whole same h = absurd cc
+
+first_there : (body place : List ℕ) (index : List Entry) → is_end index ≡ false → place ≡ value_of_first index → first_entered body index ≡ entered_there body place
+first_there body place [] h p = absurd cc
+first_there body place (i ∷ index) h p = ap (entered_there body) (sym p)
+
+fails_as : {X Z Y : Type 0} (see : X → Y) (see' : Z → Y) (e : ReadFault) (r : Result Y TableFault) → Reads see (Err e) r → Reads see' (Err e) r
+fails_as see see' (Shelf fault) r h = tt
+fails_as see see' (Table fault) r h = h
+
+pub first_fails : {X Z : Type 0} (see : X → List Entry) (see' : Z → List Entry) (e : ReadFault) (body place : List ℕ) (index whole : List Entry) → index ≡ whole → is_end index ≡ false → place ≡ value_of_first index
+    → Reads see (Err e) (entered_there body place) → Reads see' (Err e) (first_entered body whole)
+first_fails see see' e body place index whole same h p f = subst (λ (x : entries_read). Reads see' (Err e) x) (sym (ap (first_entered body) (sym same) ∙ first_there body place index h p)) (fails_as see see' e (entered_there body place) f)
+
+pub first_is : (body place : List ℕ) (index whole here : List Entry) → index ≡ whole → is_end index ≡ false → place ≡ value_of_first index → entered_there body place ≡ Ok here → first_entered body whole ≡ Ok here
+first_is body place index whole here same h p e = ap (first_entered body) (sym same) ∙ first_there body place index h p ∙ e
 
 -- ---- a search, where it has come to these index entries of the whole
 

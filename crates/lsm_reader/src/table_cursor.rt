@@ -9,7 +9,7 @@ ghost use Rattle.lsm_block.specs.Held.{HeldBlock};
 ghost use Rattle.lsm_block.specs.Seeking.{not_below};
 ghost use Rattle.lsm_block.specs.Standing.{IsMoved, but_first, is_end, key_of_first, value_of_first};
 ghost use Rattle.lsm_reader.specs.Blocks.{Reads, left_at, or_none, IsSought, IsAtEntry};
-ghost use Rattle.lsm_reader.specs.Getting.{first_named, sought_there};
+ghost use Rattle.lsm_reader.specs.Getting.{entered_there, first_entered, first_named, sought_there, stepped_on, stepped_or_stays};
 ghost use Rattle.lsm_table.specs.Footer.{body_of};
 ghost use Rattle.lsm_table.specs.HeldTable.{AreNamed, Names};
 ghost use Rattle.lsm_table.specs.ReadFault.{ReadCounted, IsMemoryOrShelf};
@@ -57,6 +57,7 @@ fn enter_by<S: Shelf, B: Blocks<S>>(
 ) -> Result<BlockIter, ReadFault>
     requires here { S.is_of (B.told blocks.old).place receipt.now }
     ensures some { IfOk result (λ i. IsSome (key_of_first i)) }
+    ensures exact { S.honest → Reads (λ i. i) result (entered_there (body_of (S.Receipt.image receipt.now)) place.now) }
     ensures found { S.honest → (e : Entry) (es : List Entry) → DataBlock (body_of (S.Receipt.image receipt.now)) place.now (e ∷ es) → IfOk result (λ i. i ≡ e ∷ es) }
     ensures sound { S.honest → (e : Entry) (es : List Entry) → DataBlock (body_of (S.Receipt.image receipt.now)) place.now (e ∷ es) → IfErr result IsMemoryOrShelf }
     ensures told { Becomes (B.told blocks.old) (B.told blocks.new) }
@@ -111,6 +112,8 @@ impl TableCursor {
     ) -> Result<TableCursor, ReadFault>
         requires here { S.is_of (B.told blocks.old).place receipt.now }
         ensures found { S.honest → (es : List Entry) → Names (body_of (S.Receipt.image receipt.now)) (arc_value {X = HeldBlock} index).entries es → IfOk result (λ c. AreNamed (body_of (S.Receipt.image receipt.now)) c.index × (left_at (S.Receipt.image receipt.now) c ≡ es)) }
+        // Whatever the image is.
+        ensures exact { S.honest → Reads (λ c. c.here) result (first_entered (body_of (S.Receipt.image receipt.now)) (arc_value {X = HeldBlock} index).entries) }
         ensures sound { S.honest → (es : List Entry) → Names (body_of (S.Receipt.image receipt.now)) (arc_value {X = HeldBlock} index).entries es → IfErr result IsMemoryOrShelf }
         ensures told { Becomes (B.told blocks.old) (B.told blocks.new) }
         ensures loan { B.loan blocks.new ≡ B.loan blocks.old }
@@ -214,6 +217,7 @@ impl TableCursor {
         requires here { S.is_of (B.told blocks.old).place receipt.now }
         // It stands at an entry, unless no data block was left.
         ensures some { OnOk result (is_end self.old.index ≡ false → IsSome (key_of_first self.new.here)) }
+        ensures exact { S.honest → Reads (λ _. self.new.here) result (first_entered (body_of (S.Receipt.image receipt.now)) self.old.index) }
         ensures entered { S.honest → AreNamed (body_of (S.Receipt.image receipt.now)) self.old.index → OnOk result (AreNamed (body_of (S.Receipt.image receipt.now)) self.new.index × (left_at (S.Receipt.image receipt.now) self.new ≡ left_at (S.Receipt.image receipt.now) record { here = []; index = self.old.index })) }
         ensures sound { S.honest → AreNamed (body_of (S.Receipt.image receipt.now)) self.old.index → IfErr result IsMemoryOrShelf }
         ensures err { OnErr result (self.new ≡ self.old) }
@@ -243,6 +247,8 @@ impl TableCursor {
     ) -> Result<(), ReadFault>
         requires here { S.is_of (B.told blocks.old).place receipt.now }
         ensures steps { S.honest → AreNamed (body_of (S.Receipt.image receipt.now)) self.old.index → OnOk result (AreNamed (body_of (S.Receipt.image receipt.now)) self.new.index × (left_at (S.Receipt.image receipt.now) self.new ≡ but_first (left_at (S.Receipt.image receipt.now) self.old))) }
+        // Whatever the image is.
+        ensures exact { S.honest → Reads (λ _. self.new.here) result (stepped_on (body_of (S.Receipt.image receipt.now)) self.old) }
         ensures sound { S.honest → AreNamed (body_of (S.Receipt.image receipt.now)) self.old.index → IfErr result IsMemoryOrShelf }
         ensures err { OnErr result (self.new ≡ self.old) }
         ensures told { Becomes (B.told blocks.old) (B.told blocks.new) }
@@ -269,6 +275,7 @@ impl TableCursor {
         ensures moved { S.honest → AreNamed (body_of (S.Receipt.image receipt.now)) self.old.index → IfOk result (λ m. AreNamed (body_of (S.Receipt.image receipt.now)) self.new.index × IsMoved m (left_at (S.Receipt.image receipt.now) self.old) (left_at (S.Receipt.image receipt.now) self.new)) }
         // Whatever the image is.
         ensures stands { IfOk result (λ m. MatchBool m (IsSome (key_of_first self.new.here)) (self.new ≡ self.old)) }
+        ensures exact { S.honest → Reads (λ _. self.new.here) result (stepped_or_stays (body_of (S.Receipt.image receipt.now)) self.old) }
         ensures sound { S.honest → AreNamed (body_of (S.Receipt.image receipt.now)) self.old.index → IfErr result IsMemoryOrShelf }
         ensures err { OnErr result (self.new ≡ self.old) }
         ensures told { Becomes (B.told blocks.old) (B.told blocks.new) }

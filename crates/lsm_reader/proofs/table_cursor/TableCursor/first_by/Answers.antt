@@ -2,8 +2,10 @@ use Rattle.std.proofs.Common.{◌∷◌, ℕ, List, sym, ◌∙◌, subst}
 use Rattle.lsm_codec.specs.Entries.{Entry}
 use Rattle.lsm_table.specs.Footer.{body_of}
 use Rattle.lsm_table.specs.HeldTable.{Names}
+use Rattle.lsm_reader.specs.Blocks.{Rest}
 use Rattle.lsm_table.specs.Table.{DataBlock}
 use Rattle.lsm_reader.proofs.CursorLaws.{next_named, first_none, first_some}
+use Rattle.lsm_reader.proofs.GettingLaws.{first_fails, first_is, first_is_end}
 use Rattle.lsm_reader.proofs.table_cursor.TableCursor.first_by.Goals as goal
 
 pub returns-then-is_at_end-clause-found : goal.returns-then-is_at_end-clause-found
@@ -25,3 +27,17 @@ returns-clause-found g c honest es n =
     let next = next_named image c.in_ok-places.places (sym c.is_at_end.ensures ∙ c.if-is_at_end.false) (es, names) in
     let block = subst (λ (p : List ℕ). DataBlock (body_of image) p (next.first ∷ next.others)) (sym c.value.ensures) next.block in
     first_some image c.in_ok-places.places c.pass.new.self c.in-Ok.entries es next names (c.in-Ok.ensures.found honest next.first next.others block) c.in_ok-pass.ensures.ok
+
+pub returns-then-is_at_end-clause-exact : goal.returns-then-is_at_end-clause-exact
+returns-then-is_at_end-clause-exact g c honest =
+    first_is_end (body_of (g.S.Receipt.Slip.image c.args.receipt.now)) c.in_ok-places.places _ c.in_ok-places.ensures (sym c.is_at_end.ensures ∙ c.if-is_at_end.true)
+
+pub returns-in-Err-clause-exact : goal.returns-in-Err-clause-exact
+returns-in-Err-clause-exact g c honest =
+    first_fails (λ (es : List Entry). es) (λ (r : Rest). r.here) c.in-Err.fault (body_of (g.S.Receipt.Slip.image c.args.receipt.now)) c.value.result.now c.in_ok-places.places _ c.in_ok-places.ensures
+    (sym c.is_at_end.ensures ∙ c.if-is_at_end.false) c.value.ensures (c.in-Err.ensures.exact honest)
+
+pub returns-clause-exact : goal.returns-clause-exact
+returns-clause-exact g c honest =
+    first_is (body_of (g.S.Receipt.Slip.image c.args.receipt.now)) c.value.result.now c.in_ok-places.places _ c.in-Ok.entries c.in_ok-places.ensures
+    (sym c.is_at_end.ensures ∙ c.if-is_at_end.false) c.value.ensures (c.in-Ok.ensures.exact honest)

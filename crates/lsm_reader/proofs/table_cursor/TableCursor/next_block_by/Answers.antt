@@ -6,6 +6,7 @@ use Rattle.lsm_table.specs.HeldTable.{AreNamed}
 use Rattle.lsm_table.specs.Table.{DataBlock}
 use Rattle.lsm_reader.specs.Blocks.{Rest}
 use Rattle.lsm_reader.proofs.CursorLaws.{next_named, entered}
+use Rattle.lsm_reader.proofs.GettingLaws.{first_fails, first_is, first_is_end}
 use Rattle.lsm_reader.proofs.table_cursor.TableCursor.next_block_by.Goals as goal
 
 pub returns-in-Err-clause-sound : goal.returns-in-Err-clause-sound
@@ -26,3 +27,17 @@ returns-clause-entered g c honest nm =
     let n = next_named image index some (subst (λ (xs : List Entry). AreNamed (body_of image) xs) (sym same) nm) in
     let block = subst (λ (p : List ℕ). DataBlock (body_of image) p (n.first ∷ n.others)) (sym c.value.ensures) n.block in
     rw (sym same) (entered image index c.pass.new.self c.in-Ok.entries n (c.in-Ok.ensures.found honest n.first n.others block) c.in_ok-pass.ensures.ok)
+
+pub returns-then-is_at_end-clause-exact : goal.returns-then-is_at_end-clause-exact
+returns-then-is_at_end-clause-exact g c honest =
+    first_is_end (body_of (g.S.Receipt.Slip.image c.args.receipt.now)) c.self.inside.index _ (ap (λ (r : Rest). r.index) c.self.view_is) (sym c.is_at_end.ensures ∙ c.if-is_at_end.true)
+
+pub returns-in-Err-clause-exact : goal.returns-in-Err-clause-exact
+returns-in-Err-clause-exact g c honest =
+    first_fails (λ (es : List Entry). es) (λ (u : Unit {0}). c.args.self.now.here) c.in-Err.fault (body_of (g.S.Receipt.Slip.image c.args.receipt.now)) c.value.result.now c.self.inside.index _
+    (ap (λ (r : Rest). r.index) c.self.view_is) (sym c.is_at_end.ensures ∙ c.if-is_at_end.false) c.value.ensures (c.in-Err.ensures.exact honest)
+
+pub returns-clause-exact : goal.returns-clause-exact
+returns-clause-exact g c honest =
+    first_is (body_of (g.S.Receipt.Slip.image c.args.receipt.now)) c.value.result.now c.self.inside.index _ c.in-Ok.entries (ap (λ (r : Rest). r.index) c.self.view_is)
+    (sym c.is_at_end.ensures ∙ c.if-is_at_end.false) c.value.ensures (c.in-Ok.ensures.exact honest)
