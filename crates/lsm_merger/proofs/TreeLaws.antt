@@ -1,13 +1,14 @@
 -- A tree of merges: its files, and the source that has the first entry.
 use Rattle.std.specs.List.{flat_map}
-use Rattle.std.proofs.Common.{◌≡◌, ◌+◌, ℕ, true, false, List, [], ◌∷◌, ◌++◌, map, length, arith, refl, sym, ap, ◌∙◌, subst, append_assoc, append-nil, inl, inr}
+use Rattle.std.proofs.Common.{◌≡◌, ◌+◌, ℕ, Bool, true, false, Option, List, [], ◌∷◌, ◌++◌, map, length, arith, refl, sym, ap, ◌∙◌, subst, append_assoc, append-nil, inl, inr}
 use Rattle.lsm_codec.specs.Lists.{Has}
+use Rattle.lsm_codec.specs.Keys.{InternalKey}
 use Rattle.lsm_codec.proofs.CallerLemmas.{has_left, has_right, has_cases}
 use Rattle.lsm_levels.specs.Merging.{Placed, goes_first, merge, merge_all, leads}
 use Rattle.lsm_levels.proofs.CallerLemmas.{merge_left, merge_right, merge_empty}
 use Rattle.lsm_merger.specs.Heads.{first_of, after_first, key_in, leads_by, place_in}
 use Rattle.lsm_merger.specs.Runs.{Left, ReadsNoOther, IsOfFirst}
-use Rattle.lsm_merger.specs.Tree.{both, all_left, none_left}
+use Rattle.lsm_merger.specs.Tree.{IsLed, both, all_left, none_left}
 use Rattle.lsm_merger.proofs.Joining.{merge-merge}
 
 -- ---- where the first leads
@@ -35,11 +36,19 @@ step_right l [] h = ap (λ (m : List Placed). after_first (merge m [])) (only_se
 step_right l (y ∷ ys) h = ap after_first (merge_right l y ys h)
 
 -- the test by the keys of the first entries
-pub leads_keys : (l r : List Placed) → leads_by (key_in (first_of l)) (key_in (first_of r)) ≡ leads l r
+leads_keys : (l r : List Placed) → leads_by (key_in (first_of l)) (key_in (first_of r)) ≡ leads l r
 unfolding goes_first
 leads_keys [] r = refl
 leads_keys (x ∷ xs) [] = refl
 leads_keys (x ∷ xs) (y ∷ ys) = refl
+
+-- by places and by numbers it is the same test, as the keys are the same
+pub led_by_keys : (a b : Left) (led : Bool) (j k : Option InternalKey) → led ≡ leads_by j k → j ≡ key_in (first_of a.placed) → k ≡ key_in (first_of b.placed)
+    → j ≡ key_in (first_of a.numbered) → k ≡ key_in (first_of b.numbered) → IsLed led a b
+led_by_keys a b led j k t ja kb ja' kb' = record {
+  placed = t ∙ rw (ja, kb) refl ∙ leads_keys a.placed b.placed;
+  numbered = t ∙ rw (ja', kb') refl ∙ leads_keys a.numbered b.numbered;
+}
 
 -- ---- files
 
@@ -61,26 +70,27 @@ none_other_second a b b' r f h = elim (has_cases a.files b'.files f h) [
   | inr k ↦ has_right a.files b.files f (r f k)
 ]
 
-pub fault_first : (a b : Left) (number : ℕ) → leads a.placed b.placed ≡ true → IsOfFirst a number → IsOfFirst (both a b) number
+pub fault_first : (a b : Left) (number : ℕ) → IsLed true a b → IsOfFirst a number → IsOfFirst (both a b) number
 fault_first a b number t h =
-    subst (λ (p : ℕ). Has (a.files ++ b.files) (p, number)) (sym (ap place_in (first_left a.placed b.placed t)))
+    subst (λ (p : ℕ). Has (a.files ++ b.files) (p, number)) (sym (ap place_in (first_left a.placed b.placed (sym t.placed))))
     (has_left a.files b.files (place_in (first_of a.placed), number) h)
 
-pub fault_second : (a b : Left) (number : ℕ) → leads a.placed b.placed ≡ false → IsOfFirst b number → IsOfFirst (both a b) number
+pub fault_second : (a b : Left) (number : ℕ) → IsLed false a b → IsOfFirst b number → IsOfFirst (both a b) number
 fault_second a b number t h =
-    subst (λ (p : ℕ). Has (a.files ++ b.files) (p, number)) (sym (ap place_in (first_right a.placed b.placed t)))
+    subst (λ (p : ℕ). Has (a.files ++ b.files) (p, number)) (sym (ap place_in (first_right a.placed b.placed (sym t.placed))))
     (has_right a.files b.files (place_in (first_of b.placed), number) h)
 
 -- ---- several sources
 
-left_is : (p q : List Placed) (f h : List (ℕ × ℕ)) → p ≡ q → f ≡ h → (let l : Left = record { placed = p; files = f } in l) ≡ record { placed = q; files = h }
-left_is p q f h e k = rw (e, k) refl
+left_is : (p q m n : List Placed) (f h : List (ℕ × ℕ)) → p ≡ q → f ≡ h → m ≡ n
+    → (let l : Left = record { placed = p; files = f; numbered = m } in l) ≡ record { placed = q; files = h; numbered = n }
+left_is p q m n f h e k i = rw (e, k, i) refl
 
 pub both-both : (a b c : Left) → both (both a b) c ≡ both a (both b c)
-both-both a b c = left_is _ _ _ _ (merge-merge a.placed b.placed c.placed) (append_assoc a.files b.files c.files)
+both-both a b c = left_is _ _ _ _ _ _ (merge-merge a.placed b.placed c.placed) (append_assoc a.files b.files c.files) (merge-merge a.numbered b.numbered c.numbered)
 
 both_none : (a : Left) → both a none_left ≡ a
-both_none a = left_is _ _ _ _ (merge_empty a.placed) (append-nil a.files)
+both_none a = left_is _ _ _ _ _ _ (merge_empty a.placed) (append-nil a.files) (merge_empty a.numbered)
 
 pub all_left-append : (ls : List Left) (l : Left) → all_left (ls ++ l ∷ []) ≡ both (all_left ls) l
 all_left-append [] l = both_none l
@@ -100,6 +110,10 @@ none_before old (l ∷ new) count t e rest all = absurd (omega arith)
 pub all_placed : (ls : List Left) → (all_left ls).placed ≡ merge_all (map (λ (l : Left). l.placed) ls)
 all_placed [] = refl
 all_placed (l ∷ ls) = ap (λ (ps : List Placed). merge l.placed ps) (all_placed ls)
+
+pub all_numbered : (ls : List Left) → (all_left ls).numbered ≡ merge_all (map (λ (l : Left). l.numbered) ls)
+all_numbered [] = refl
+all_numbered (l ∷ ls) = ap (λ (ps : List Placed). merge l.numbered ps) (all_numbered ls)
 
 pub all_files : (ls : List Left) → (all_left ls).files ≡ flat_map (λ (l : Left). l.files) ls
 all_files [] = refl

@@ -9,10 +9,12 @@ use Rattle.lsm_levels.specs.Merging.{Placed, placed_at}
 use Rattle.lsm_merger.specs.Heads.{first_of, place_in}
 
 -- what is left: the entries with the places of their sources, and the files that are not yet read
--- to their ends, each number with the place of its source
+-- to their ends, each number with the place of its source; and the same entries with the numbers of
+-- the files in which they stand, where `placed` has places
 pub record Left : Type 0 where
   pub placed : List Placed
   pub files : List (ℕ × ℕ)
+  pub numbered : List Placed
 
 -- The image is a table that has an entry.
 pub record HasEntries (image : List ℕ) : Type 0 where
@@ -28,11 +30,18 @@ abbrev pub files_at : ℕ → List ℕ → List (ℕ × ℕ)
 files_at place [] = []
 files_at place (n ∷ ns) = (place, n) ∷ files_at place ns
 
+-- the entries of the tables of images, one after another, each with its file's number
+abbrev pub numbered_all : List ℕ → List (List ℕ) → List Placed
+numbered_all [] images = []
+numbered_all (n ∷ ns) [] = []
+numbered_all (n ∷ ns) (image ∷ images) = placed_at n (entries_in image) ++ numbered_all ns images
+
 -- what is left where a run stands in a table, and images are to come after it
 abbrev pub run_left : ℕ → ℕ → List Entry → List ℕ → List (List ℕ) → Left
 run_left place number here numbers images = record {
   placed = placed_at place (here ++ entries_of_all images);
   files = files_at place (number ∷ numbers);
+  numbered = placed_at number here ++ numbered_all numbers images;
 }
 
 -- Where no entry is left of a table, no table comes after it.
@@ -52,3 +61,7 @@ ReadsNoOther old new = (f : ℕ × ℕ) → Has new.files f → Has old.files f
 -- The number is that of a file of the source that has the first entry.
 abbrev pub IsOfFirst : Left → ℕ → Type 0
 IsOfFirst left number = Has left.files (place_in (first_of left.placed), number)
+
+-- The number is that of a file which is not yet read to its end.
+abbrev pub IsOfFiles : Left → ℕ → Type 0
+IsOfFiles left number = (place : ℕ) × Has left.files (place, number)

@@ -7,10 +7,10 @@ use Rattle.lsm_merger.specs.declared.tree.Tree.TheVariants.{Leaf, Fork'}
 
 -- what is left of two, the first one's entry first where both may go
 abbrev pub both : Left → Left → Left
-both a b = record { placed = merge a.placed b.placed; files = a.files ++ b.files }
+both a b = record { placed = merge a.placed b.placed; files = a.files ++ b.files; numbered = merge a.numbered b.numbered }
 
 abbrev pub none_left : Left
-none_left = record { placed = []; files = [] }
+none_left = record { placed = []; files = []; numbered = [] }
 
 -- what is left of several sources, an earlier one's entry first where both may go
 abbrev pub all_left : List Left → Left
@@ -22,20 +22,25 @@ abbrev pub left_of : Tree Left → Left
 left_of (Leaf source) = source
 left_of (Fork' led p l q r) = both (left_of l) (left_of r)
 
+-- Whether the first of the two leads, whether by places or by numbers.
+pub record IsLed (led : Bool) (a b : Left) : Type 0 where
+  pub placed : led ≡ leads a.placed b.placed
+  pub numbered : led ≡ leads a.numbered b.numbered
+
 -- each fork knows which of its two trees leads
 abbrev pub IsReady : Tree Left → Type 0
 IsReady (Leaf source) = Unit {0}
-IsReady (Fork' led p l q r) = (led ≡ leads (left_of l).placed (left_of r).placed) × IsReady l × IsReady r
+IsReady (Fork' led p l q r) = IsLed led (left_of l) (left_of r) × IsReady l × IsReady r
 
 -- the two trees of a fork are ready
 abbrev pub AreReady : Tree Left → Type 0
 AreReady (Leaf source) = Unit {0}
 AreReady (Fork' led p l q r) = IsReady l × IsReady r
 
--- the first of the two trees of a fork leads
-abbrev pub leads_in : Tree Left → Bool
-leads_in (Leaf source) = false
-leads_in (Fork' led p l q r) = leads (left_of l).placed (left_of r).placed
+-- Whether the first of the two trees of a fork leads.
+abbrev pub IsLedIn : Bool → Tree Left → Type 0
+IsLedIn now (Leaf source) = now ≡ false
+IsLedIn now (Fork' led p l q r) = IsLed now (left_of l) (left_of r)
 
 -- the same where there may be no tree
 abbrev pub left_of_any : Option (Tree Left) → Left

@@ -3,11 +3,15 @@
 ghost use Rattle.std.specs.Prelude.{◌≡◌, false, IfOk, IfErr, OnOk, MatchOption, None};
 ghost use Rattle.lsm_table.specs.ReadFault.{ReadCounted, IsMemoryOrShelf};
 ghost use Rattle.lsm_table.specs.Told.{Becomes};
+ghost use Rattle.lsm_table.specs.declared.read_fault.ReadFault.TheVariants.{Table};
+ghost use Rattle.lsm_table.specs.declared.table_fault.TableFault.TheVariants.{OutOfMemory};
 ghost use Rattle.lsm_levels.specs.Ages.{IsAgeOrder, IsLeastAgainstAge};
 ghost use Rattle.lsm_levels.specs.Merging.{IsOrdered};
-ghost use Rattle.lsm_merger.specs.Heads.{first_of};
+ghost use Rattle.lsm_merger.specs.Heads.{first_of, no_more};
 ghost use Rattle.lsm_merger.specs.Followed.{follows, followed_by, user_in};
+ghost use Rattle.lsm_merger.specs.Runs.{IsOfFiles, IsOfFirst};
 
+use crate::file_fault::FileFault;
 use crate::followed::Followed;
 use crate::merger::Merger;
 use lsm_codec::Bytes;
@@ -51,20 +55,34 @@ fn user_of<N: Naming, S: Shelf>(alloc: Global, merger: &Merger<N, S>) -> Result<
     }
 }
 
+/// Want of memory, with the number of the file in which the merge stands.
+fn want_at<N: Naming, S: Shelf>(merger: &Merger<N, S>) -> FileFault
+    requires { no_more merger.now.placed ≡ false }
+    ensures number { IsOfFirst merger.now result.number }
+    ensures fault { result.fault ≡ Table OutOfMemory }
+{
+    FileFault {
+        number: merger.number(),
+        fault: ReadFault::Table(TableFault::OutOfMemory),
+    }
+}
+
 /// The least user key of which a deeper entry has no lesser sequence than a shallower one, if there
-/// is one. The places of the merge's runs are their depths; it is read to the first such entry.
+/// is one. The places of the merge's runs are their depths; it is read to the first such entry. A
+/// refusal names a file of the merge.
 #[tactic(auto, using(crate::proofs::FollowedLaws::goes_on, crate::proofs::FollowedLaws::judged_none, crate::proofs::FollowedLaws::judged_some))]
 pub fn against_age<N: Naming, S: Shelf, B: Blocks<S>>(
     blocks: &mut B,
     alloc: Global,
     merger: &mut Merger<N, S>,
-) -> Result<Option<Bytes>, ReadFault>
+) -> Result<Option<Bytes>, FileFault>
     requires here { (B.told blocks.old).place ≡ N.place }
     ensures judged { S.honest → IsOrdered merger.old.placed → IfOk result (λ r. MatchOption r (IsAgeOrder merger.old.placed) (λ k. IsLeastAgainstAge merger.old.placed k)) }
-    ensures sound { S.honest → IfErr result IsMemoryOrShelf }
+    ensures sound { S.honest → IfErr result (λ e. IsMemoryOrShelf e.fault) }
+    ensures number { IfErr result (λ e. IsOfFiles merger.old e.number) }
     ensures told { Becomes (B.told blocks.old) (B.told blocks.new) }
     ensures loan { B.loan blocks.new ≡ B.loan blocks.old }
-    ensures cause { IfErr result (λ e. ReadCounted e (B.told blocks.old) (B.told blocks.new)) }
+    ensures cause { IfErr result (λ e. ReadCounted e.fault (B.told blocks.old) (B.told blocks.new)) }
 {
     let mut before = Followed::new(alloc);
     for _ in 0..u64::MAX {
@@ -72,15 +90,24 @@ pub fn against_age<N: Naming, S: Shelf, B: Blocks<S>>(
             return Ok(None);
         }
         if !may_follow(&before, &*merger) {
-            let user = user_of(alloc, &*merger)?;
+            let user = match user_of(alloc, &*merger) {
+                Ok(user) => user,
+                Err(AllocError) => return Err(want_at(&*merger)),
+            };
             return Ok(Some(user));
         }
-        remember(&mut before, &*merger)?;
+        match remember(&mut before, &*merger) {
+            Ok(()) => {}
+            Err(AllocError) => return Err(want_at(&*merger)),
+        }
         match merger.advance_by(blocks, alloc) {
             Ok(()) => {}
-            Err(fault) => return Err(fault.fault),
+            Err(fault) => return Err(fault),
         }
     }
+    if merger.is_at_end() {
+        return Ok(None);
+    }
     // Only a shelf that is not honest could give so many.
-    Err(ReadFault::Table(TableFault::OutOfMemory))
+    Err(want_at(&*merger))
 }

@@ -23,7 +23,7 @@ use std::marker::Model;
 /// the runs. It stands at the first that is left, and lends it.
 ///
 /// Contracts see what is left: the merge of what is left of each run, each entry with its run's
-/// place, and the files that are not yet read to their ends.
+/// place and with its file's number, and the files that are not yet read to their ends.
 #[derive(Drop)]
 pub struct Merger<N: Naming, S: Shelf> {
     tree: Option<Tree<Run<N, S>>>,
@@ -45,6 +45,7 @@ impl<N: Naming, S: Shelf> Merger<N, S> {
     pub fn new(alloc: Global, runs: Vec<Run<N, S>>) -> Result<Merger<N, S>, AllocError>
         ensures placed { IfOk result (λ m. m.placed ≡ merge_all (map (λ r. r.placed) runs.items)) }
         ensures files { IfOk result (λ m. m.files ≡ flat_map (λ r. r.files) runs.items) }
+        ensures numbered { IfOk result (λ m. m.numbered ≡ merge_all (map (λ r. r.numbered) runs.items)) }
     {
         let mut runs = runs;
         let count = runs.len();
@@ -57,7 +58,8 @@ impl<N: Naming, S: Shelf> Merger<N, S> {
 
     /// The key of the entry at which it stands, if it stands at one.
     pub fn key(&self) -> Option<KeyRef<'_>>
-        ensures { option_map key_of result ≡ key_in (first_of self.now.placed) }
+        ensures key { option_map key_of result ≡ key_in (first_of self.now.placed) }
+        ensures numbered { option_map key_of result ≡ key_in (first_of self.now.numbered) }
     {
         match &self.tree {
             None => None,
@@ -86,10 +88,11 @@ impl<N: Naming, S: Shelf> Merger<N, S> {
         }
     }
 
-    /// The number of the file in which the entry stands at which it stands; 0 where no run was
-    /// given.
+    /// The number of the file in which the entry stands at which it stands; 0 where it stands at
+    /// none.
     pub fn number(&self) -> u64
-        ensures { no_more self.now.placed ≡ false → IsOfFirst self.now result }
+        ensures exact { result ≡ place_in (first_of self.now.numbered) }
+        ensures listed { no_more self.now.placed ≡ false → IsOfFirst self.now result }
     {
         match &self.tree {
             None => 0,
@@ -116,6 +119,7 @@ impl<N: Naming, S: Shelf> Merger<N, S> {
     ) -> Result<(), FileFault>
         requires here { (B.told blocks.old).place ≡ N.place }
         ensures ok { S.honest → OnOk result (self.new.placed ≡ after_first self.old.placed) }
+        ensures numbered { S.honest → OnOk result (self.new.numbered ≡ after_first self.old.numbered) }
         ensures files { OnOk result (ReadsNoOther self.old self.new) }
         ensures sound { S.honest → IfErr result (λ e. IsMemoryOrShelf e.fault) }
         ensures err { OnErr result (self.new ≡ self.old) }

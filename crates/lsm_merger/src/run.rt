@@ -11,7 +11,7 @@ ghost use Rattle.lsm_table.specs.ReadFault.{ReadCounted, IsMemoryOrShelf};
 ghost use Rattle.lsm_table.specs.Told.{Becomes};
 ghost use Rattle.lsm_levels.specs.Merging.{placed_at};
 ghost use Rattle.lsm_merger.specs.Heads.{after_first, first_of, key_in, no_more, place_in, value_in};
-ghost use Rattle.lsm_merger.specs.Runs.{HasEntries, IsFirstOf, IsOfFirst, ReadsNoOther, entries_of_all, files_at};
+ghost use Rattle.lsm_merger.specs.Runs.{HasEntries, IsFirstOf, IsOfFirst, ReadsNoOther, entries_of_all, files_at, numbered_all};
 
 use crate::file_fault::FileFault;
 use lsm_codec::KeyRef;
@@ -26,7 +26,8 @@ use std::marker::Model;
 /// and one data block of the table at which it stands.
 ///
 /// Contracts see it as what is left: the entries with its place, the one at which it stands first,
-/// and the files that are not yet read to their ends.
+/// the same entries with the numbers of their files, and the files that are not yet read to their
+/// ends.
 #[derive(Drop)]
 pub struct Run<N: Naming, S: Shelf> {
     // Given to each of its entries.
@@ -137,6 +138,7 @@ impl<N: Naming, S: Shelf> Run<N, S> {
         requires tables { S.honest → All HasEntries (map S.Receipt.image (first ∷ later.items)) }
         ensures entries { S.honest → IfOk result (λ r. r.placed ≡ placed_at place (entries_of_all (map S.Receipt.image (first ∷ later.items)))) }
         ensures files { IfOk result (λ r. r.files ≡ files_at place (map S.Receipt.number (first ∷ later.items))) }
+        ensures numbered { S.honest → IfOk result (λ r. r.numbered ≡ numbered_all (map S.Receipt.number (first ∷ later.items)) (map S.Receipt.image (first ∷ later.items))) }
         ensures sound { S.honest → IfErr result (λ e. IsMemoryOrShelf e.fault) }
         ensures number { IfErr result (λ e. e.number ≡ S.Receipt.number first) }
         ensures told { Becomes (B.told blocks.old) (B.told blocks.new) }
@@ -169,6 +171,7 @@ impl<N: Naming, S: Shelf> Run<N, S> {
         requires tables { S.honest → All HasEntries (map image_of tables.now) }
         ensures entries { S.honest → IfOk result (λ r. r.placed ≡ placed_at place (entries_of_all (map image_of tables.now))) }
         ensures files { IfOk result (λ r. r.files ≡ files_at place (map (λ t. t.number) tables.now)) }
+        ensures numbered { S.honest → IfOk result (λ r. r.numbered ≡ numbered_all (map (λ t. t.number) tables.now) (map image_of tables.now)) }
         ensures sound { S.honest → IfErr result (λ e. IsMemoryOrShelf e.fault) }
         ensures number { IfErr result (λ e. Has (map (λ t. t.number) tables.now) e.number) }
         ensures told { Becomes (B.told blocks.old) (B.told blocks.new) }
@@ -194,7 +197,8 @@ impl<N: Naming, S: Shelf> Run<N, S> {
 
     /// The key of the entry at which it stands, if it stands at one.
     pub fn key(&self) -> Option<KeyRef<'_>>
-        ensures { option_map key_of result ≡ key_in (first_of self.now.placed) }
+        ensures key { option_map key_of result ≡ key_in (first_of self.now.placed) }
+        ensures numbered { option_map key_of result ≡ key_in (first_of self.now.numbered) }
     {
         self.here.key()
     }
@@ -213,11 +217,17 @@ impl<N: Naming, S: Shelf> Run<N, S> {
         if self.here.is_at_end() { 0 } else { self.place }
     }
 
-    /// The number of the file in which the entry stands at which it stands.
+    /// The number of the file in which the entry stands at which it stands; 0 where it stands at
+    /// none.
     pub fn number(&self) -> u64
-        ensures { no_more self.now.placed ≡ false → IsOfFirst self.now result }
+        ensures exact { result ≡ place_in (first_of self.now.numbered) }
+        ensures listed { no_more self.now.placed ≡ false → IsOfFirst self.now result }
     {
-        self.number
+        if self.here.is_at_end() {
+            0
+        } else {
+            self.number
+        }
     }
 
     /// Whether it stands at no entry. Then none is left.
@@ -236,6 +246,7 @@ impl<N: Naming, S: Shelf> Run<N, S> {
     ) -> Result<(), FileFault>
         requires here { (B.told blocks.old).place ≡ N.place }
         ensures ok { S.honest → OnOk result (self.new.placed ≡ after_first self.old.placed) }
+        ensures numbered { S.honest → OnOk result (self.new.numbered ≡ after_first self.old.numbered) }
         ensures files { OnOk result (ReadsNoOther self.old self.new) }
         ensures sound { S.honest → IfErr result (λ e. IsMemoryOrShelf e.fault) }
         ensures err { OnErr result (self.new ≡ self.old) }

@@ -7,10 +7,9 @@ ghost use Rattle.lsm_codec.specs.KeyRef.{key_of};
 ghost use Rattle.lsm_codec.specs.Lists.{Has};
 ghost use Rattle.lsm_table.specs.ReadFault.{ReadCounted, IsMemoryOrShelf};
 ghost use Rattle.lsm_table.specs.Told.{Becomes};
-ghost use Rattle.lsm_levels.specs.Merging.{leads};
 ghost use Rattle.lsm_merger.specs.Heads.{after_first, first_of, leads_by};
 ghost use Rattle.lsm_merger.specs.Runs.{IsOfFirst, ReadsNoOther};
-ghost use Rattle.lsm_merger.specs.Tree.{all_left, both, left_of, leads_in, IsReady, AreReady};
+ghost use Rattle.lsm_merger.specs.Tree.{all_left, both, left_of, AreReady, IsLed, IsLedIn, IsReady};
 
 use crate::file_fault::FileFault;
 use crate::run::Run;
@@ -32,6 +31,7 @@ pub(crate) enum Tree<X> {
 pub(crate) fn head<N: Naming, S: Shelf>(tree: &Tree<Run<N, S>>) -> &Run<N, S>
     requires { IsReady tree.now }
     ensures first { first_of result.now.placed ≡ first_of (left_of tree.now).placed }
+    ensures numbered { first_of result.now.numbered ≡ first_of (left_of tree.now).numbered }
     ensures files { (f : ℕ × ℕ) → Has result.now.files f → Has (left_of tree.now).files f }
 {
     match tree {
@@ -52,11 +52,10 @@ fn is_first(own: Option<KeyRef<'_>>, other: Option<KeyRef<'_>>) -> bool
 }
 
 /// Whether the first tree has an entry, and it may be handed out before the second's.
-#[tactic(auto, using(crate::proofs::TreeLaws::leads_keys))]
 fn is_led<N: Naming, S: Shelf>(first: &Tree<Run<N, S>>, second: &Tree<Run<N, S>>) -> bool
     requires first { IsReady first.now }
     requires second { IsReady second.now }
-    ensures { result ≡ leads (left_of first.now).placed (left_of second.now).placed }
+    ensures { IsLed result (left_of first.now) (left_of second.now) }
 {
     is_first(head(first).key(), head(second).key())
 }
@@ -64,7 +63,7 @@ fn is_led<N: Naming, S: Shelf>(first: &Tree<Run<N, S>>, second: &Tree<Run<N, S>>
 /// Whether the first of a fork's two trees leads.
 fn which<N: Naming, S: Shelf>(tree: &Tree<Run<N, S>>) -> bool
     requires { AreReady tree.now }
-    ensures { result ≡ leads_in tree.now }
+    ensures { IsLedIn result tree.now }
 {
     match tree {
         Tree::Leaf(_source) => false,
@@ -95,6 +94,7 @@ pub(crate) fn advance_by<N: Naming, S: Shelf, B: Blocks<S>>(
     requires here { (B.told blocks.old).place ≡ N.place }
     ensures ready { IsReady tree.new }
     ensures ok { S.honest → OnOk result ((left_of tree.new).placed ≡ after_first (left_of tree.old).placed) }
+    ensures numbered { S.honest → OnOk result ((left_of tree.new).numbered ≡ after_first (left_of tree.old).numbered) }
     ensures files { OnOk result (ReadsNoOther (left_of tree.old) (left_of tree.new)) }
     ensures sound { S.honest → IfErr result (λ e. IsMemoryOrShelf e.fault) }
     ensures err { OnErr result (left_of tree.new ≡ left_of tree.old) }

@@ -7,4 +7,4 @@ use Rattle.lsm_merger.proofs.ages.against_age.Goals as goal
 pub returns-then-not-may_follow-clause-judged : goal.returns-then-not-may_follow-clause-judged
 returns-then-not-may_follow-clause-judged g c honest ordered =
     let stops : follows c.loop.before (first_of c.loop.merger.placed) ≡ false = search rules in
-    judged_some c.args.merger.now.placed c.loop.merger.placed c.loop.before c.in_ok-user.user ordered (c.loop.invariant.same honest) stops c.in_ok-user.ensures
+    judged_some c.args.merger.now.placed c.loop.merger.placed c.loop.before c.in-Ok.user ordered (c.loop.invariant.same honest) stops c.in-Ok.ensures

@@ -1,7 +1,7 @@
 use Rattle.std.proofs.Common.{rules, ◌≡◌, List, length, ap, ◌∙◌}
 use Rattle.lsm_merger.specs.Runs.{Left}
 use Rattle.lsm_merger.specs.Tree.{all_left, left_of}
-use Rattle.lsm_merger.proofs.TreeLaws.{none_before, all_placed, all_files}
+use Rattle.lsm_merger.proofs.TreeLaws.{none_before, all_placed, all_files, all_numbered}
 use Rattle.lsm_merger.proofs.merger.Merger.new.Goals as goal
 
 pub returns-clause-placed : goal.returns-clause-placed
@@ -17,3 +17,10 @@ returns-clause-files g c =
     let count : c.len-count.result ≡ length runs = search rules in
     let whole : left_of c.in_ok-tree.tree ≡ all_left runs = none_before runs c.of_last.new.sources.items c.len-count.result (left_of c.in_ok-tree.tree) c.in_ok-tree.ensures.left c.in_ok-tree.ensures.rest count in
     ap (λ (l : Left). l.files) whole ∙ all_files runs
+
+pub returns-clause-numbered : goal.returns-clause-numbered
+returns-clause-numbered g c =
+    let runs : List Left = c.args.runs.items in
+    let count : c.len-count.result ≡ length runs = search rules in
+    let whole : left_of c.in_ok-tree.tree ≡ all_left runs = none_before runs c.of_last.new.sources.items c.len-count.result (left_of c.in_ok-tree.tree) c.in_ok-tree.ensures.left c.in_ok-tree.ensures.rest count in
+    ap (λ (l : Left). l.numbered) whole ∙ all_numbered runs
