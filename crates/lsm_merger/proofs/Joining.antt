@@ -1,6 +1,6 @@
 -- A merge of merges is one merge: sources may be merged two at a time, in any nesting.
-use Rattle.std.proofs.Common.{◌≡◌, zero, suc, ℕ, ◌+◌, ◌≤◌, Bool, true, false, List, [], ◌∷◌, ◌++◌, length, refl, sym, ◌∙◌, ap, arith}
-use Rattle.lsm_levels.specs.Merging.{Placed, goes_first, leads, merge, merge_all}
+use Rattle.std.proofs.Common.{◌≡◌, zero, suc, ℕ, ◌+◌, ◌≤◌, Bool, true, false, List, [], ◌∷◌, length, refl, sym, ◌∙◌, ap, arith}
+use Rattle.lsm_levels.specs.Merging.{Placed, goes_first, leads, merge}
 use Rattle.lsm_levels.proofs.CallerLemmas.{first_trans, first_total, merge_left, merge_right, merge_empty, leads_merge}
 
 -- where the first of the first list goes before the first of the second, and that goes first of the merge of the last two

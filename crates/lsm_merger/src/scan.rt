@@ -219,6 +219,7 @@ fn pair_by<N: Naming, S: Shelf, B: Blocks<S>>(
 ) -> Result<Option<Pair>, ReadFault>
     requires here { (B.told blocks.old).place ≡ N.place }
     ensures ok { S.honest → IfOk result (λ r. ShowsPair r (left_to_show seq told.old.told is_done.old merger.old.placed) (left_to_show seq told.new.told is_done.new merger.new.placed)) }
+    ensures stands { S.honest → IfOk result (λ r. pair_at is_done.new merger.new.placed ≡ r) }
     ensures err { S.honest → OnErr result (left_to_show seq told.new.told is_done.new merger.new.placed ≡ left_to_show seq told.old.told is_done.old merger.old.placed) }
     ensures sound { S.honest → IfErr result IsMemoryOrShelf }
     ensures told { Becomes (B.told blocks.old) (B.told blocks.new) }
@@ -315,7 +316,8 @@ impl<N: Naming, S: Shelf> Scan<N, S> {
         )
     }
 
-    /// A copy of the next pair, or none at the end. An `Err` leaves what is left to show.
+    /// A copy of the next pair, at which it then stands, or none at the end. An `Err` leaves what is
+    /// left to show.
     pub fn next_by<B: Blocks<S>>(
         &mut self,
         blocks: &mut B,
@@ -323,6 +325,7 @@ impl<N: Naming, S: Shelf> Scan<N, S> {
     ) -> Result<Option<Pair>, ReadFault>
         requires here { (B.told blocks.old).place ≡ N.place }
         ensures ok { S.honest → IfOk result (λ r. ShowsPair r self.old.left self.new.left) }
+        ensures stands { S.honest → IfOk result (λ r. self.new.here ≡ r) }
         ensures err { S.honest → OnErr result (self.new.left ≡ self.old.left) }
         ensures sound { S.honest → IfErr result IsMemoryOrShelf }
         ensures told { Becomes (B.told blocks.old) (B.told blocks.new) }
@@ -343,6 +346,7 @@ impl<N: Naming, S: Shelf> Scan<N, S> {
     pub fn next(&mut self, shelf: &mut S, alloc: Global) -> Result<Option<Pair>, ReadFault>
         requires here { (S.told shelf.old).place ≡ N.place }
         ensures ok { S.honest → IfOk result (λ r. ShowsPair r self.old.left self.new.left) }
+        ensures stands { S.honest → IfOk result (λ r. self.new.here ≡ r) }
         ensures err { S.honest → OnErr result (self.new.left ≡ self.old.left) }
         ensures sound { S.honest → IfErr result IsMemoryOrShelf }
         ensures told { Becomes (S.told shelf.old) (S.told shelf.new) }
