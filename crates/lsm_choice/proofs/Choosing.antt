@@ -6,7 +6,7 @@ use Rattle.std.proofs.lemmas.Option.{get_or_from_slice_get, slice_get_read, slic
 use Rattle.lsm_codec.specs.Lists.{Has}
 use Rattle.lsm_table.specs.Registry.{Table}
 use Rattle.lsm_version.specs.Versions.{Levels, file_of, level_in}
-use Rattle.lsm_choice.specs.Choice.{AllBlocked, AllBlockedBeside, AreEqual, Candidate, HasNoChoice, IsBlocked, IsBlockedAt, IsCandidate, IsChoice, IsDue, IsFirstClear, IsFree, IsGreater, IsLevelBefore, IsLevelChoice, IsOnSide, IsPlaceBefore, IsTriedBefore, is_beyond, pointer_at}
+use Rattle.lsm_choice.specs.Choice.{AllBlocked, AllBlockedBeside, AreEqual, Candidate, HasNoChoice, IsBlocked, IsBlockedAt, IsCandidate, IsChoice, IsDue, IsFirstClear, IsFree, IsGreaterScore, IsLevelBefore, IsLevelChoice, IsOnSide, IsPlaceBefore, IsTriedBefore, is_beyond, pointer_at}
 use Rattle.lsm_choice.specs.Reservations.{IsClear, Reserved, is_taken}
 use Rattle.lsm_choice.specs.Scores.{score, weight}
 use Rattle.lsm_choice.specs.TablePlans.{IsPlanFrom, TablePlan}
@@ -211,7 +211,7 @@ best_some v rs end most p few six b = record {
 
     heavier : (l : ℕ) → l ≤ 5 → IsLevelBefore v rs l k.start.level → IsHeavier v rs l most p.level
     heavier l low (inl more) =
-        let more' : IsGreater (score v rs l) (score v rs p.level) = subst (λ (n : ℕ). IsGreater (score v rs l) (score v rs n)) k.level_is more in
+        let more' : IsGreaterScore (score v rs l) (score v rs p.level) = subst (λ (n : ℕ). IsGreaterScore (score v rs l) (score v rs n)) k.level_is more in
         let w = greater_weight v rs l p.level low (let below = b.0 in omega arith) more' in
         let m = b.2 in
         inl (omega arith)

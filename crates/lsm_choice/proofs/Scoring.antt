@@ -3,7 +3,7 @@ use Rattle.std.proofs.Common.{◌≡◌, ℕ, zero, suc, ◌*◌, ◌<◌, ◌�
 use Rattle.std.proofs.Math.Nat.{lt_of_mul-lt-mul_right, mul-lt-mul_of_pos_right, mul-mul-mul_comm, mul_comm}
 use Rattle.std.proofs.lemmas.Bool.{cases_lt}
 use Rattle.lsm_version.specs.Versions.{Levels}
-use Rattle.lsm_choice.specs.Choice.{AreEqual, IsGreater}
+use Rattle.lsm_choice.specs.Choice.{AreEqual, IsGreaterScore}
 use Rattle.lsm_choice.specs.Reservations.{Reserved}
 use Rattle.lsm_choice.specs.Scores.{limit, part, score, weight}
 
@@ -44,7 +44,7 @@ parts_less x y p q k m c e f kp mp h =
     let right : (x * q) * (m * k) ≡ (x * k) * c = crossed x q k m c f in
     lt_of_mul-lt-mul_right c (subst (λ (n : ℕ). (y * m) * c < n) right (subst (λ (n : ℕ). n < (x * q) * (m * k)) left scaled))
 
-pub greater_weight : (v : Levels) (rs : List Reserved) (l m : ℕ) → l ≤ 5 → m ≤ 5 → IsGreater (score v rs l) (score v rs m) → weight v rs m < weight v rs l
+pub greater_weight : (v : Levels) (rs : List Reserved) (l m : ℕ) → l ≤ 5 → m ≤ 5 → IsGreaterScore (score v rs l) (score v rs m) → weight v rs m < weight v rs l
 greater_weight v rs l m low high h =
     parts_less (score v rs l).0 (score v rs m).0 (limit l) (limit m) (part l) (part m) 104857600000 (limit_part l low) (limit_part m high) (part_positive l low) (part_positive m high) h
 

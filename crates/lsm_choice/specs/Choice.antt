@@ -17,8 +17,8 @@ use Rattle.lsm_choice.specs.Scores.{score}
 abbrev pub IsDue : ℕ × ℕ → Type 0
 IsDue p = p.1 ≤ p.0
 
-abbrev pub IsGreater : ℕ × ℕ → ℕ × ℕ → Type 0
-IsGreater p q = q.0 * p.1 < p.0 * q.1
+abbrev pub IsGreaterScore : ℕ × ℕ → ℕ × ℕ → Type 0
+IsGreaterScore p q = q.0 * p.1 < p.0 * q.1
 
 abbrev pub AreEqual : ℕ × ℕ → ℕ × ℕ → Type 0
 AreEqual p q = p.0 * q.1 ≡ q.0 * p.1
@@ -59,7 +59,7 @@ pub record IsCandidate (v : Levels) (rs : List Reserved) (c : Candidate) : Type 
 
 -- the greater score first, the lower level on a tie
 abbrev pub IsLevelBefore : Levels → List Reserved → ℕ → ℕ → Type 0
-IsLevelBefore v rs l m = IsGreater (score v rs l) (score v rs m) ⊎ (AreEqual (score v rs l) (score v rs m) × (l < m))
+IsLevelBefore v rs l m = IsGreaterScore (score v rs l) (score v rs m) ⊎ (AreEqual (score v rs l) (score v rs m) × (l < m))
 
 -- in a level those beyond its pointer first, then the others, both in the level's order
 abbrev pub IsPlaceBefore : Levels → Candidate → Candidate → Type 0
