@@ -96,7 +96,7 @@ fn show<N: Naming, S: Shelf>(
 }
 
 /// The version of both tables, once checked. What is generic in `N` is of the registry and of the shelf's contents that the
-/// two premises name; the caller picks them by `proofs/main/Invariants.antt`.
+/// premises name; the caller picks them by `proofs/main/Invariants.antt`. The shelf is honest, so that the scan comes to its end.
 fn read_all<N: Naming, S: Shelf, R: Wait + Print>(
     rt: &R,
     alloc: Global,
@@ -106,6 +106,7 @@ fn read_all<N: Naming, S: Shelf, R: Wait + Print>(
 ) -> anyhow::Result<()>
     requires registry { arc_value registry ≡ N.registry }
     requires shelf { (S.told shelf).place ≡ N.place }
+    requires honest { S.honest }
 {
     let edits = [edit];
     let shape = replay(alloc, &edits)?;

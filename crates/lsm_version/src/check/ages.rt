@@ -95,7 +95,10 @@ fn look_again<N: Naming, S: Shelf, B: Blocks<S>>(
     let mut merger = Merger::new(alloc, runs)?;
     match against_age(blocks, alloc, &mut merger) {
         Ok(user) => Ok(user),
-        Err(fault) => Err(Unread { file: None, fault }),
+        Err(fault) => Err(Unread {
+            file: None,
+            fault: fault.fault,
+        }),
     }
 }
 
