@@ -25,7 +25,7 @@ use Rattle.lsm_merge.specs.declared.merge_fault.MergeFault.{MergeFault}
 use Rattle.lsm_merge.specs.declared.merge_fault.MergeFault.TheVariants.{OutOfMemory, ReadFailed, PutFailed, UnknownTicket, NumbersSpent}
 use Rattle.lsm_merge.specs.Causes.{HasCause}
 use Rattle.lsm_merge.specs.InputOrder.{HasTwins, StandInOrder}
-use Rattle.lsm_merge.proofs.Twins.{KeepsAlike, lists_have_twins, ordered_more}
+use Rattle.lsm_merge.proofs.Twins.{KeepsAlike, lists_have_no_twins, lists_have_twins, ordered_more}
 use Rattle.lsm_merge.specs.Inputs.{AreInputs, IsReadable, entries_of_tables, files_in, input_numbers, numbers_of, streams}
 use Rattle.lsm_merge.specs.MergeFault.{of_read}
 use Rattle.lsm_merge.specs.Work.{Work, job_of}
@@ -302,6 +302,12 @@ merger_twins alike sort w placed rs m s o n =
     let ls = map (λ (r : Left). r.placed) rs in
     subst HasTwins (inputs_of w rs s)
     (lists_have_twins alike ls o (sort ls o) (subst (λ (ps : List Placed). IsAscending (entries_of ps) → ⊥) m n))
+
+pub merger_apart : KeepsAlike → (w : Work) (placed : List Placed) (rs : List Left) → placed ≡ merge_all (map (λ (r : Left). r.placed) rs)
+    → streams rs ≡ entries_of_tables w.upper ++ entries_of_tables w.lower → AreOrdered (map (λ (r : Left). r.placed) rs)
+    → IsAscending (entries_of placed) → HasTwins (all_entries (job_of w).inputs) → ⊥
+merger_apart alike w placed rs m s o a h =
+    lists_have_no_twins alike (map (λ (r : Left). r.placed) rs) o (subst (λ (ps : List Placed). IsAscending (entries_of ps)) m a) (subst HasTwins (sym (inputs_of w rs s)) h)
 
 -- the runs of both levels
 pub runs_all : (w : Work) (u l : List Table) (rs0 rs1 rs2 : List Left) → StandInOrder w → u ≡ w.upper → l ≡ w.lower → rs0 ≡ []

@@ -1,18 +1,19 @@
 -- A merge of sorted lists that does not ascend has an internal key twice, and so have the lists.
-use Rattle.std.proofs.Common.{◌≡◌, ◌≤◌, Bool, true, false, cond, List, [], ◌∷◌, ◌++◌, length, Ordering, Less, Equal, Greater, refl, sym, ◌∙◌, ap, subst, inl, inr, arith}
+use Rattle.std.proofs.Common.{◌≡◌, ℕ, ◌≤◌, Bool, true, false, cond, List, [], ◌∷◌, ◌++◌, length, Ordering, Less, Equal, Greater, refl, sym, ◌∙◌, ap, subst, inl, inr, arith}
 use Rattle.std.specs.Prelude.{◌⊎◌, ◌&&◌}
 use Rattle.std.specs.List.{flat_map, filter}
-use Rattle.std.specs.Ordering.{is_le, ordering_reverse}
+use Rattle.std.specs.Ordering.{is_le, ordering_reverse, nat_cmp}
+use Rattle.std.specs.Cmp.Lexicographic.{slice_cmp}
 use Rattle.std.proofs.lemmas.Bool.{and_parts}
 use Rattle.std.proofs.lemmas.List.Elements.{filter-append}
 use Rattle.lsm_codec.specs.Lists.{Has}
 use Rattle.lsm_codec.specs.Entries.{Entry, entry_cmp, internal_key, stamp}
-use Rattle.lsm_codec.specs.Keys.{UserLe}
+use Rattle.lsm_codec.specs.Keys.{UserKey, UserLe, then_by}
 use Rattle.lsm_codec.proofs.CallerLemmas.{key_cmp-swapped, user_le_antisym}
 use Rattle.lsm_levels.specs.Files.{Before}
 use Rattle.lsm_levels.specs.Merging.{AreOrdered, IsOrdered, IsSorted, Placed, entries_of, goes_first, is_alike, merge_all}
 use Rattle.lsm_levels.specs.Streams.{IsAscending}
-use Rattle.lsm_levels.proofs.CallerLemmas.{first_says, first_trans, placed_entry}
+use Rattle.lsm_levels.proofs.CallerLemmas.{before_not_first, entry_placed, first_says, first_trans, placed_entry}
 use Rattle.lsm_merge.specs.InputOrder.{AreTwins, HasTwins}
 
 -- each of two may be handed out before the other one only where they are twins
@@ -140,3 +141,45 @@ lists_have_twins law ls o s n =
 pub ordered_more : (ls : List (List Placed)) (l : List Placed) → AreOrdered ls → IsOrdered l → AreOrdered (ls ++ l ∷ [])
 ordered_more [] l a o = (o, tt)
 ordered_more (k ∷ ls) l a o = (a.0, ordered_more ls l a.1 o)
+
+-- ---- and what ascends has none twice
+
+twins_first : (x y : Entry) → AreTwins x y → goes_first x y ≡ true
+unfolding goes_first
+twins_first x y t =
+    subst (λ (s : ℕ). is_le (then_by (slice_cmp nat_cmp x.user y.user) (nat_cmp s (stamp x))) ≡ true) t.1
+    (subst (λ (u : UserKey). is_le (then_by (slice_cmp nat_cmp x.user u) (nat_cmp (stamp x) (stamp x))) ≡ true) t.0 (alike_self x))
+
+one_more : (p : Placed) (e : Entry) (ps : List Placed) (b : Bool) → IsTwice e ps → 2 ≤ length (cond b (p ∷ filter (is_alike e) ps) (filter (is_alike e) ps))
+one_more p e ps true h = omega arith
+one_more p e ps false h = h
+
+own_more : (p : Placed) (ps : List Placed) (b : Bool) → b ≡ true → 1 ≤ length (filter (is_alike p.1) ps) → 2 ≤ length (cond b (p ∷ filter (is_alike p.1) ps) (filter (is_alike p.1) ps))
+own_more p ps true t h = omega arith
+own_more p ps false t h = absurd (cc t)
+
+both_true : (a b : Bool) → a ≡ true → b ≡ true → (a && b) ≡ true
+both_true a b ea eb = cc
+
+twice_of_twins : (ps : List Placed) → HasTwins (entries_of ps) → (e : Entry) × IsTwice e ps
+twice_of_twins [] h = absurd h
+twice_of_twins (p ∷ ps) (inl r) =
+    let q = entry_placed ps r.0 r.1 in
+    let t : AreTwins p.1 (q.0).1 = subst (AreTwins p.1) (sym q.2) r.2 in (
+      p.1,
+      own_more p ps (is_alike p.1 p) (both_true (goes_first p.1 p.1) (goes_first p.1 p.1) (alike_self p.1) (alike_self p.1))
+          (there_one p.1 ps (q.0, q.1, both_true (goes_first p.1 (q.0).1) (goes_first (q.0).1 p.1) (twins_first p.1 (q.0).1 t) (twins_first (q.0).1 p.1 (sym t.0, sym t.1)))),
+    )
+twice_of_twins (p ∷ ps) (inr h) = (let r = twice_of_twins ps h in (r.0, one_more p r.0 ps (is_alike r.0 p) r.1))
+
+ascends_once : (es : List Entry) → IsAscending es → HasTwins es → ⊥
+ascends_once [] a h = h
+ascends_once (x ∷ xs) a (inl r) = absurd (let late = before_not_first x r.0 (a.0 r.0 r.1) in let soon = twins_first r.0 x (sym (r.2).0, sym (r.2).1) in cc (late, soon))
+ascends_once (x ∷ xs) a (inr h) = ascends_once xs a.1 h
+
+-- a merge of ordered lists that ascends: the lists have no internal key twice
+pub lists_have_no_twins : KeepsAlike → (ls : List (List Placed)) → AreOrdered ls → IsAscending (entries_of (merge_all ls)) → HasTwins (entries_of (flat_map (λ l. l) ls)) → ⊥
+lists_have_no_twins law ls o a h =
+    let r = twice_of_twins (flat_map (λ (l : List Placed). l) ls) h in
+    ascends_once (entries_of (merge_all ls)) a
+    (twins_of_twice r.0 (merge_all ls) (subst (λ (ps : List Placed). 2 ≤ length ps) (sym (law r.0 ls o ∙ flat_filter r.0 ls)) r.1))

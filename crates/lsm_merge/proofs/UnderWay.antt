@@ -196,3 +196,10 @@ under_last Honest w whole es was is drew0 drew answers0 answers asked0 asked m b
     over_more w.table (entries_of_last m.last) es
     (λ e h. f e (output_from w.floor w.ranges (finished w.table) w.target_size whole (making_of m) before (entries_of left.placed) (u.way honest) e h))
     (subst (λ (o : Rattle.lsm_table.specs.declared.table_options.TableOptions.TableOptions). IsOverLimit o (entries_of_last m.last)) (u.sizes).options over)
+
+-- at the end the whole ascends
+pub under_ascends : (Honest : Type 0) (w : Work) (whole : List Entry) (was is : Told) (drew0 drew answers0 answers asked0 asked : List ℕ) (m : Made) (before : Option Entry) (left : Left)
+    → IsUnderWay Honest w whole was is drew0 drew answers0 answers asked0 asked m before left → no_more left.placed ≡ true → Honest → IsAscending whole
+under_ascends Honest w whole was is drew0 drew answers0 answers asked0 asked m before left u none honest =
+    let way = subst (λ (es : List Placed). IsOnTheWay w.floor w.ranges (finished w.table) w.target_size whole (making_of m) before (entries_of es)) (none_of left.placed none) (u.way honest) in
+    way.ascending (λ x h. absurd h, tt)

@@ -106,6 +106,7 @@ fn merge<N: Naming, S: Shelf, R: Wait, D: NumberSource>(
     ensures ticket { IfErr result (λ e. NamesTicket e job.now.ticket) }
     ensures large { S.honest → IfErr result (λ e. IsSizeFault e → IsOverLimit job.now.table (all_entries (job_of job.now).inputs)) }
     ensures order { S.honest → StandInOrder job.now → IfErr result (λ e. IsOrderFault e → HasTwins (all_entries (job_of job.now).inputs)) }
+    ensures apart { S.honest → StandInOrder job.now → OnOk result (HasTwins (all_entries (job_of job.now).inputs) → ⊥) }
 {
     streaming_keeps_the_kept();
     let _ticket = job.ticket();
@@ -197,8 +198,9 @@ pub fn compact<N: Naming, S: Shelf, R: Wait, D: NumberSource>(
     ensures sound { S.honest → IfErr result (λ e. IsReadable e.0) }
 
     // Over an honest shelf inputs that stand in order are refused as out of order only where two of their entries have one internal
-    // key, and an output only where entries of the inputs make no table.
+    // key, and are not merged there; and an output is too large only where entries of the inputs make no table.
     ensures order { S.honest → StandInOrder job → IfErr result (λ e. IsOrderFault e.0 → HasTwins (all_entries (job_of job).inputs)) }
+    ensures apart { S.honest → StandInOrder job → job.is_move ≡ false → OnOk result (HasTwins (all_entries (job_of job).inputs) → ⊥) }
     ensures large { S.honest → IfErr result (λ e. IsSizeFault e.0 → IsOverLimit job.table (all_entries (job_of job).inputs)) }
 
     // Numbers are drawn for the job's ticket, and for no other.

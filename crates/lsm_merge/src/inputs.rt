@@ -147,6 +147,7 @@ pub(crate) fn open_inputs<N: Naming, S: Shelf>(
     ensures merges { S.honest → IfOk result (λ m. IsAscending (entries_of m.placed) → IsMerge (entries_of m.placed) (all_entries (job_of job.now).inputs)) }
     ensures from { S.honest → IfOk result (λ m. (e : Entry) → Has (entries_of m.placed) e → Has (all_entries (job_of job.now).inputs) e) }
     ensures order { S.honest → StandInOrder job.now → IfOk result (λ m. (IsAscending (entries_of m.placed) → ⊥) → HasTwins (all_entries (job_of job.now).inputs)) }
+    ensures apart { S.honest → StandInOrder job.now → IfOk result (λ m. IsAscending (entries_of m.placed) → HasTwins (all_entries (job_of job.now).inputs) → ⊥) }
     ensures files { IfOk result (λ m. AreInputs m.files (input_numbers job.now)) }
     ensures kind { IfErr result IsOfReading }
     ensures sound { S.honest → IfErr result IsReadable }

@@ -12,7 +12,7 @@ use Rattle.lsm_merge.proofs.Limited.{no_size_reading}
 use Rattle.lsm_merge.proofs.Tickets.{asks_none, asks_then, names_put, names_reading}
 use Rattle.lsm_merge.proofs.PlaceLaws.{cause_after, cause_of_put, if_err, order_put, puts_all, puts_place, puts_rise, puts_then}
 use Rattle.lsm_merge.proofs.PutLaws.{on_ok}
-use Rattle.lsm_merge.proofs.UnderWay.{order_reading, under_done, under_last, under_limit, under_order, under_step}
+use Rattle.lsm_merge.proofs.UnderWay.{order_reading, under_ascends, under_done, under_last, under_limit, under_order, under_step}
 use Rattle.lsm_merge.proofs.compaction.merge.Goals as goal
 
 pub put_last-requires-clause-here : goal.put_last-requires-clause-here
@@ -132,3 +132,13 @@ returns-in-Err-step-clause-order g c = λ honest stand late.
     (g.D.NumberSource.asked c.args.numbers.now) (g.D.NumberSource.asked c.entries.numbers)
     c.entries.outputs c.entries.before c.entries.merger c.entries.invariant
     (sym c.is_at_end.ensures ∙ c.if-is_at_end.false) (c.in-Err-step.ensures.order late) honest)
+
+pub returns-then-is_at_end-clause-apart : goal.returns-then-is_at_end-clause-apart
+returns-then-is_at_end-clause-apart g c = λ honest stand.
+    on_ok c.put_last.result
+    (λ goes. c.in-Ok.ensures.apart honest stand
+    (under_ascends g.S.Shelf.honest c.args.job.now (entries_of c.in-Ok.merger.placed) (g.S.Shelf.told c.args.shelf.now) (g.S.Shelf.told c.entries.shelf)
+    (g.D.NumberSource.drew c.args.numbers.now) (g.D.NumberSource.drew c.entries.numbers) (g.D.NumberSource.refused c.args.numbers.now) (g.D.NumberSource.refused c.entries.numbers)
+    (g.D.NumberSource.asked c.args.numbers.now) (g.D.NumberSource.asked c.entries.numbers)
+    c.entries.outputs c.entries.before c.entries.merger c.entries.invariant (sym c.is_at_end.ensures ∙ c.if-is_at_end.true) honest))
+    c.put_last.ensures.ok
