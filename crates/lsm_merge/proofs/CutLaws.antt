@@ -1,10 +1,9 @@
 -- Tables whose contents stand in the cut are pieces as an install wants them.
-use Rattle.std.proofs.Common.{◌≡◌, ℕ, suc, ◌-◌, ◌≤◌, Bool, true, false, List, [], ◌∷◌, ◌++◌, map, length, take, refl, sym, ◌∙◌, ap, subst, inl, inr}
-use Rattle.std.specs.Prelude.{◌⊎◌}
+use Rattle.std.proofs.Common.{◌≡◌, ℕ, suc, true, false, List, [], ◌∷◌, ◌++◌, refl, sym, ◌∙◌, ap, subst, inl, inr}
 use Rattle.std.specs.List.{flat_map}
 use Rattle.lsm_codec.specs.Lists.{Has}
-use Rattle.lsm_codec.specs.Keys.{InternalKey, IsKey, UserKey}
-use Rattle.lsm_codec.specs.Entries.{Entry, internal_key}
+use Rattle.lsm_codec.specs.Keys.{InternalKey, IsKey}
+use Rattle.lsm_codec.specs.Entries.{Entry}
 use Rattle.lsm_codec.proofs.CallerLemmas.{take-key_bytes}
 use Rattle.lsm_table.specs.Registry.{Table}
 use Rattle.lsm_table.specs.HeldTable.{entries_in}
@@ -15,7 +14,7 @@ use Rattle.lsm_version.specs.Versions.{IsWhole, file_of, files_of, user_of}
 use Rattle.lsm_merge.specs.Compacting.{AreMergedOf}
 use Rattle.lsm_merge.specs.Cuts.{AreRightCuts, IsCutBy}
 use Rattle.lsm_merge.specs.Outputs.{AreGood, Made}
-use Rattle.lsm_merge.specs.Work.{AreKept, Done, IsFinished, IsMade, IsWork, MovesOne, Work, contents_of, finished}
+use Rattle.lsm_merge.specs.Work.{AreKept, IsFinished, IsMade, IsWork, MovesOne, Work, contents_of, finished}
 
 user_of_key : (bytes : List ℕ) (key : InternalKey) → IsKey bytes key → user_of bytes ≡ key.user
 user_of_key bytes key k = ap user_of k.bytes_are ∙ take-key_bytes key

@@ -61,7 +61,7 @@ no_cut_more size target output e own h front x y back is = elim (split_end outpu
 ]
 
 -- the pieces, one after another, are what was there and what follows
-cut_whole : (size : List Entry → ℕ) (target : ℕ) (output es : List Entry) → flat_map (λ o. o) (cut_on size target output es) ≡ output ++ es
+pub cut_whole : (size : List Entry → ℕ) (target : ℕ) (output es : List Entry) → flat_map (λ o. o) (cut_on size target output es) ≡ output ++ es
 cut_whole size target [] [] = refl
 cut_whole size target (x ∷ xs) [] = refl
 cut_whole size target output (e ∷ es) = go (closes size target output e.user) (cut_whole size target (e ∷ []) es) (cut_whole size target (output ++ e ∷ []) es)

@@ -5,6 +5,7 @@ use Rattle.std.proofs.Common.{Ordering, Less, Equal, Greater}
 use Rattle.std.specs.Cmp.{IsTotalOrder}
 use Rattle.std.specs.Ordering.{is_lt}
 use Rattle.std.proofs.lemmas.Cmp.{nat_list_cmp_total, nat_cmp_total, on_total, then_total, back_total}
+use Rattle.lsm_codec.specs.Lists.{Has}
 use Rattle.lsm_codec.specs.Keys.{InternalKey, UserKey, key_cmp, packed}
 use Rattle.lsm_codec.specs.Entries.{Entry, entry_cmp, internal_key}
 use Rattle.lsm_levels.specs.Files.{Before}
@@ -25,13 +26,15 @@ streamed_bare : (floor : ℕ) (ranges : List (UserKey × UserKey)) (e : Entry) (
 streamed_bare floor ranges e [] = refl
 streamed_bare floor ranges e (x ∷ es) = refl
 
--- what was made so far, and what will be made of the rest, is what is made of the whole; and if the rest ascends, the whole does
+-- what was made so far, and what will be made of the rest, is what is made of the whole; and the rest ascends just where the whole does
 pub record IsOnTheWay (floor : ℕ) (ranges : List (UserKey × UserKey)) (size : List Entry → ℕ) (target : ℕ) (whole : List Entry) (m : Making) (before : Option Entry) (rest : List Entry) : Type 0 where
   pub same : m.outputs ++ cut_on size target m.output (streamed floor ranges before rest) ≡ cut size target (streamed floor ranges None whole)
   pub ascending : AscendingAfter before rest → IsAscending whole
+  pub back : IsAscending whole → AscendingAfter before rest
+  pub left : (e : Entry) → Has rest e → Has whole e
 
 pub way_start : (floor : ℕ) (ranges : List (UserKey × UserKey)) (size : List Entry → ℕ) (target : ℕ) (whole : List Entry) → IsOnTheWay floor ranges size target whole (record { outputs = []; output = [] }) None whole
-way_start floor ranges size target whole = record { same = refl; ascending = λ a. a.1 }
+way_start floor ranges size target whole = record { same = refl; ascending = λ a. a.1; back = λ a. (λ e h. tt, a); left = λ e h. h }
 
 -- one entry more
 pub way_step : (floor : ℕ) (ranges : List (UserKey × UserKey)) (size : List Entry → ℕ) (target : ℕ) (whole : List Entry) (m : Making) (before : Option Entry) (e : Entry) (rest : List Entry)
@@ -40,6 +43,8 @@ pub way_step : (floor : ℕ) (ranges : List (UserKey × UserKey)) (size : List E
 way_step floor ranges size target whole m before e rest w f = record {
   same = bared (is_kept floor ranges before e) ∙ go (is_kept floor ranges before e) ∙ w.same;
   ascending = λ a. w.ascending (λ x h. elim h [ inl s ↦ subst (Follows before) s f | inr l ↦ beyond before x f (a.0 x l) ], a);
+  back = λ a. (w.back a).1;
+  left = λ x h. w.left x (inr h);
 }
   where
     beyond : (before : Option Entry) (x : Entry) → Follows before e → Before e x → Follows before x

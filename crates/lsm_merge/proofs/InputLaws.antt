@@ -1,8 +1,7 @@
 -- The inputs of a job as runs, one after another.
-use Rattle.std.proofs.Common.{◌≡◌, ◌≢◌, ℕ, ◌+◌, ◌<◌, List, [], ◌∷◌, ◌++◌, map, length, take, All, refl, sym, ◌∙◌, ap, subst, inl, inr, arith, append_assoc}
-use Rattle.std.specs.Prelude.{◌⊎◌}
+use Rattle.std.proofs.Common.{◌≡◌, ◌≢◌, ℕ, ◌+◌, ◌<◌, ◌≤◌, List, [], ◌∷◌, ◌++◌, map, length, take, All, refl, sym, ◌∙◌, ap, subst, inl, inr, arith, append_assoc}
 use Rattle.std.specs.List.{flat_map}
-use Rattle.std.proofs.lemmas.Grind.{flat_map-append}
+use Rattle.std.proofs.lemmas.List.{append-nil, take_more}
 use Rattle.std.proofs.lemmas.List.Elements.{All-nil, All-cons}
 use Rattle.lsm_codec.specs.Lists.{Has}
 use Rattle.lsm_codec.specs.Entries.{Entry}
@@ -15,15 +14,18 @@ use Rattle.lsm_table.specs.declared.table_fault.TableFault.TheVariants as table
 use Rattle.lsm_table.specs.declared.read_fault.ReadFault.{ReadFault}
 use Rattle.lsm_table.specs.declared.read_fault.ReadFault.TheVariants as read
 use Rattle.lsm_levels.specs.Files.{File, all_entries}
-use Rattle.lsm_levels.specs.Merging.{Placed, entries_of, placed_at, merge_all}
+use Rattle.lsm_levels.specs.Merging.{AreOrdered, IsOrdered, IsSorted, Placed, entries_of, placed_at, merge_all}
 use Rattle.lsm_levels.specs.Streams.{IsAscending, IsMerge}
-use Rattle.lsm_merger.specs.Runs.{HasEntries, Left, entries_of_all, files_at}
+use Rattle.lsm_levels.proofs.CallerLemmas.{ascending_sorted, entry_placed, placed_entry, sorted_ordered}
+use Rattle.lsm_merger.specs.Runs.{HasEntries, Left, files_at}
 use Rattle.lsm_version.specs.Versions.{IsWhole, files_of}
 use Rattle.lsm_merge.specs.declared.merge_fault.InputFault.TheVariants.{Read, OutOfOrder}
 use Rattle.lsm_merge.specs.declared.merge_fault.OutputFault.TheVariants.{TooLarge, Shelf}
 use Rattle.lsm_merge.specs.declared.merge_fault.MergeFault.{MergeFault}
 use Rattle.lsm_merge.specs.declared.merge_fault.MergeFault.TheVariants.{OutOfMemory, ReadFailed, PutFailed, UnknownTicket, NumbersSpent}
 use Rattle.lsm_merge.specs.Causes.{HasCause}
+use Rattle.lsm_merge.specs.InputOrder.{HasTwins, StandInOrder}
+use Rattle.lsm_merge.proofs.Twins.{KeepsAlike, lists_have_no_twins, lists_have_twins, ordered_more}
 use Rattle.lsm_merge.specs.Inputs.{AreInputs, IsReadable, entries_of_tables, files_in, input_numbers, numbers_of, streams}
 use Rattle.lsm_merge.specs.MergeFault.{of_read}
 use Rattle.lsm_merge.specs.Work.{Work, job_of}
@@ -251,3 +253,84 @@ pub files_all : (rs0 rs1 rs2 : List Left) (u0 u l0 l : List Table) → rs0 ≡ [
 files_all rs0 rs1 rs2 u0 u l0 l none p q eu el =
     q ∙ ap (λ (s : List ℕ). s ++ numbers_of l0) (p ∙ ap (λ (r : List Left). files_in r ++ numbers_of u0) none)
     ∙ ap (λ (t : List Table). numbers_of t ++ numbers_of l0) eu ∙ ap (λ (t : List Table). numbers_of u ++ numbers_of t) el
+
+-- ---- order
+
+pub runs_ordered : (rs : List Left) (r : Left) (place : ℕ) (es : List Entry) (rs' : List Left) → rs' ≡ rs ++ r ∷ [] → r.placed ≡ placed_at place es → IsSorted es
+    → AreOrdered (map (λ (l : Left). l.placed) rs) → AreOrdered (map (λ (l : Left). l.placed) rs')
+runs_ordered rs r place es rs' e p s a =
+    subst (λ (ls : List Left). AreOrdered (map (λ (l : Left). l.placed) ls)) (sym e)
+    (subst AreOrdered (sym (placed_snoc rs))
+    (ordered_more (map (λ (l : Left). l.placed) rs) r.placed a (subst IsOrdered (sym p) (sorted_ordered place es s))))
+  where
+    placed_snoc : (qs : List Left) → map (λ (l : Left). l.placed) (qs ++ r ∷ []) ≡ map (λ (l : Left). l.placed) qs ++ r.placed ∷ []
+    placed_snoc [] = refl
+    placed_snoc (q ∷ qs) = ap (λ (ls : List (List Placed)). q.placed ∷ ls) (placed_snoc qs)
+
+-- the entries of one whole table are sorted
+pub one_sorted : (ts : List Table) (i : ℕ) (x : Table) (l : List Table) → i < length ts → x ≡ Rattle.std.proofs.Common.get_or ts i x → l ≡ x ∷ []
+    → ((t : Table) → Has ts t → IsWhole t) → IsSorted (entries_of_tables l)
+one_sorted ts i x l h e is f =
+    subst (λ (m : List Table). IsSorted (entries_of_tables m)) (sym is)
+    (subst IsSorted (sym (append-nil (Rattle.lsm_table.specs.HeldTable.entries_in x.image)))
+    (ascending_sorted (Rattle.lsm_table.specs.HeldTable.entries_in x.image) ((f x (has_index ts i x h e)).entries).ascending))
+
+-- the law of merges: their entries are those of the lists
+abbrev pub MergesHave : Type 0
+MergesHave = (ls : List (List Placed)) (p : Placed) → Has (merge_all ls) p → Has (flat_map (λ l. l) ls) p
+
+inputs_of : (w : Work) (rs : List Left) → streams rs ≡ entries_of_tables w.upper ++ entries_of_tables w.lower
+    → entries_of (flat_map (λ (l : List Placed). l) (map (λ (r : Left). r.placed) rs)) ≡ all_entries (job_of w).inputs
+inputs_of w rs s = ap entries_of (flat_placed rs) ∙ s ∙ sym (inputs_are w)
+
+pub merger_from : MergesHave → (w : Work) (placed : List Placed) (rs : List Left) → placed ≡ merge_all (map (λ (r : Left). r.placed) rs)
+    → streams rs ≡ entries_of_tables w.upper ++ entries_of_tables w.lower → (e : Entry) → Has (entries_of placed) e → Has (all_entries (job_of w).inputs) e
+merger_from law w placed rs m s e h =
+    let ls = map (λ (r : Left). r.placed) rs in
+    let p = entry_placed (merge_all ls) e (subst (λ (ps : List Placed). Has (entries_of ps) e) m h) in
+    subst (λ (es : List Entry). Has es e) (inputs_of w rs s)
+    (subst (Has (entries_of (flat_map (λ (l : List Placed). l) ls))) p.2 (placed_entry (flat_map (λ (l : List Placed). l) ls) p.0 (law ls p.0 p.1)))
+
+-- the law of merges: of ordered lists they are sorted
+abbrev pub MergesSort : Type 0
+MergesSort = (ls : List (List Placed)) → AreOrdered ls → IsSorted (entries_of (merge_all ls))
+
+pub merger_twins : KeepsAlike → MergesSort → (w : Work) (placed : List Placed) (rs : List Left) → placed ≡ merge_all (map (λ (r : Left). r.placed) rs)
+    → streams rs ≡ entries_of_tables w.upper ++ entries_of_tables w.lower → AreOrdered (map (λ (r : Left). r.placed) rs)
+    → (IsAscending (entries_of placed) → ⊥) → HasTwins (all_entries (job_of w).inputs)
+merger_twins alike sort w placed rs m s o n =
+    let ls = map (λ (r : Left). r.placed) rs in
+    subst HasTwins (inputs_of w rs s)
+    (lists_have_twins alike ls o (sort ls o) (subst (λ (ps : List Placed). IsAscending (entries_of ps) → ⊥) m n))
+
+pub merger_apart : KeepsAlike → (w : Work) (placed : List Placed) (rs : List Left) → placed ≡ merge_all (map (λ (r : Left). r.placed) rs)
+    → streams rs ≡ entries_of_tables w.upper ++ entries_of_tables w.lower → AreOrdered (map (λ (r : Left). r.placed) rs)
+    → IsAscending (entries_of placed) → HasTwins (all_entries (job_of w).inputs) → ⊥
+merger_apart alike w placed rs m s o a h =
+    lists_have_no_twins alike (map (λ (r : Left). r.placed) rs) o (subst (λ (ps : List Placed). IsAscending (entries_of ps)) m a) (subst HasTwins (sym (inputs_of w rs s)) h)
+
+-- the runs of both levels
+pub runs_all : (w : Work) (u l : List Table) (rs0 rs1 rs2 : List Left) → StandInOrder w → u ≡ w.upper → l ≡ w.lower → rs0 ≡ []
+    → ((1 ≤ w.level → IsSorted (entries_of_tables u)) → AreOrdered (map (λ (r : Left). r.placed) rs0) → AreOrdered (map (λ (r : Left). r.placed) rs1))
+    → (IsSorted (entries_of_tables l) → AreOrdered (map (λ (r : Left). r.placed) rs1) → AreOrdered (map (λ (r : Left). r.placed) rs2))
+    → AreOrdered (map (λ (r : Left). r.placed) rs2)
+runs_all w u l rs0 rs1 rs2 o eu el none up low =
+    low (subst (λ (ts : List Table). IsSorted (entries_of_tables ts)) (sym el) (subst IsSorted (files_entries (Rattle.std.proofs.Common.suc w.level) w.lower) o.lower))
+    (up (λ h. subst (λ (ts : List Table). IsSorted (entries_of_tables ts)) (sym eu) (subst IsSorted (files_entries w.level w.upper) (o.upper h)))
+    (subst (λ (rs : List Left). AreOrdered (map (λ (r : Left). r.placed) rs)) (sym none) tt))
+
+-- one table more of a list
+next_of : (ts : List Table) (i : ℕ) (x : Table) → i < length ts → x ≡ Rattle.std.proofs.Common.get_or ts i x → take (i + 1) ts ≡ take i ts ++ x ∷ []
+next_of ts i x h e = take_more ts i x h ∙ ap (λ (t : Table). take i ts ++ t ∷ []) (sym e)
+
+pub entries_more : (ts : List Table) (i : ℕ) (x : Table) (l : List Table) (first old new : List Entry) → i < length ts → x ≡ Rattle.std.proofs.Common.get_or ts i x → l ≡ x ∷ []
+    → old ≡ first ++ entries_of_tables (take i ts) → new ≡ old ++ entries_of_tables l → new ≡ first ++ entries_of_tables (take (i + 1) ts)
+entries_more ts i x l first old new h e is p q =
+    q ∙ ap (λ (es : List Entry). es ++ entries_of_tables l) p ∙ append_assoc first (entries_of_tables (take i ts)) (entries_of_tables l)
+    ∙ ap (λ (es : List Entry). first ++ es) (ap (λ (m : List Table). entries_of_tables (take i ts) ++ entries_of_tables m) is ∙ sym (tables_then (take i ts) (x ∷ [])) ∙ ap entries_of_tables (sym (next_of ts i x h e)))
+
+pub files_more : (ts : List Table) (i : ℕ) (x : Table) (l : List Table) (first old new : List ℕ) → i < length ts → x ≡ Rattle.std.proofs.Common.get_or ts i x → l ≡ x ∷ []
+    → old ≡ first ++ numbers_of (take i ts) → new ≡ old ++ numbers_of l → new ≡ first ++ numbers_of (take (i + 1) ts)
+files_more ts i x l first old new h e is p q =
+    q ∙ ap (λ (es : List ℕ). es ++ numbers_of l) p ∙ append_assoc first (numbers_of (take i ts)) (numbers_of l)
+    ∙ ap (λ (es : List ℕ). first ++ es) (ap (λ (m : List Table). numbers_of (take i ts) ++ numbers_of m) is ∙ sym (numbers_then (take i ts) (x ∷ [])) ∙ ap numbers_of (sym (next_of ts i x h e)))

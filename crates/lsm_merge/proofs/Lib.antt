@@ -4,5 +4,8 @@ mod Cutting
 mod Dropped
 mod InputLaws
 mod PlaceLaws
+mod Limited
 mod PutLaws
+mod Tickets
+mod Twins
 mod UnderWay

@@ -1,16 +1,17 @@
 -- One entry more: it comes after those of the output in the making, and that goes on.
-use Rattle.std.proofs.Common.{◌≡◌, ℕ, ◌+◌, ◌≤◌, Bool, true, false, cond, List, [], ◌∷◌, ◌++◌, length, Option, Some, None, Ordering, Less, Equal, Greater, refl, sym, ◌∙◌, ap, subst, inl, inr, arith, append_assoc}
-use Rattle.std.specs.Prelude.{◌⊎◌, Result, Ok, Err, OnOk, OnErr, IfErr}
+use Rattle.std.proofs.Common.{◌≡◌, ℕ, ◌≤◌, Bool, true, false, cond, List, [], ◌∷◌, ◌++◌, Option, Some, None, Ordering, Less, Equal, Greater, refl, sym, ◌∙◌, ap, subst, arith, append_assoc}
+use Rattle.std.specs.Prelude.{Result, Ok, Err, IfErr}
 use Rattle.std.specs.Ordering.{is_le, is_lt}
 use Rattle.std.proofs.lemmas.List.{append-nil}
 use Rattle.lsm_codec.specs.Lists.{Has}
-use Rattle.lsm_codec.specs.Keys.{InternalKey, UserKey, key_cmp}
+use Rattle.lsm_codec.specs.Keys.{InternalKey, key_cmp}
 use Rattle.lsm_codec.specs.Entries.{Entry, internal_key}
+use Rattle.lsm_codec.proofs.CallerLemmas.{has_right}
 use Rattle.lsm_block.specs.Block.{Ascends}
 use Rattle.lsm_block.specs.Building.{after_last, last_key}
 use Rattle.lsm_block.proofs.CallerLemmas.{ascends-push}
-use Rattle.lsm_table.proofs.CallerLemmas.{key_cmp_total, becomes_same}
-use Rattle.lsm_shelf.specs.Told.{Told, Becomes, Counted, Rose, TakenIs, putting}
+use Rattle.lsm_table.proofs.CallerLemmas.{key_cmp_total}
+use Rattle.lsm_shelf.specs.Told.{Told, Becomes, Counted, putting}
 use Rattle.lsm_shelf.specs.declared.shelf_fault.ShelfFault.{ShelfFault}
 use Rattle.lsm_shelf.specs.declared.shelf_fault.ShelfFault.TheVariants as why
 use Rattle.lsm_table.specs.ReadFault.{ReadCounted}
@@ -19,11 +20,14 @@ use Rattle.lsm_merge.specs.declared.merge_fault.InputFault.TheVariants.{Read, Ou
 use Rattle.lsm_merge.specs.declared.merge_fault.OutputFault.TheVariants.{TooLarge, Shelf}
 use Rattle.lsm_merge.specs.declared.merge_fault.MergeFault.{MergeFault}
 use Rattle.lsm_merge.specs.declared.merge_fault.MergeFault.TheVariants.{OutOfMemory, ReadFailed, PutFailed, UnknownTicket, NumbersSpent}
-use Rattle.lsm_merge.specs.Causes.{HasCause, Leaves}
+use Rattle.lsm_merge.specs.Causes.{HasCause}
 use Rattle.lsm_merge.specs.Cuts.{closes}
-use Rattle.lsm_merge.specs.Dropping.{Follows, IsAtMost, IsUpTo, Making, is_kept, placed, shut, shut_before, with_entry}
-use Rattle.lsm_merge.specs.Outputs.{AreGood, Goes, Made, PutsMore, SameSizes, drawn_of, entries_of_last, going, making_of, putting_all}
+use Rattle.lsm_merge.specs.Dropping.{Follows, IsAtMost, IsUpTo, Making, placed, shut, shut_before, with_entry}
+use Rattle.lsm_merge.specs.Outputs.{Goes, Made, PutsMore, SameSizes, entries_of_last, making_of, putting_all}
 use Rattle.lsm_merge.specs.Remembered.{bare}
+use Rattle.lsm_merge.specs.Inputs.{IsOrderFault}
+use Rattle.lsm_merge.specs.Limits.{IsOverLimit}
+use Rattle.lsm_merge.proofs.Limited.{over_more}
 
 -- ---- order
 
@@ -210,3 +214,25 @@ cause_of_put inputs NumbersSpent a b q = tt
 pub if_err : {A E : Type 0} (P Q : E → Type 0) (r : Result A E) → ((e : E) → P e → Q e) → IfErr r P → IfErr r Q
 if_err P Q (Ok x) f h = tt
 if_err P Q (Err e) f h = f e h
+
+-- ---- entries over a limit
+
+pub place_limit : (a b : Made) (size : List Entry → ℕ) (target : ℕ) (e : Entry) → Goes a b (shut_before size target (making_of a) e.user)
+    → IsOverLimit b.options (entries_of_last b.last ++ e ∷ []) → IsOverLimit a.options (entries_of_last a.last ++ e ∷ [])
+place_limit a b size target e p o =
+    over_more a.options (entries_of_last b.last ++ e ∷ []) (entries_of_last a.last ++ e ∷ [])
+    (λ x h. still (closes size target (entries_of_last a.last) e.user) x (subst (λ (es : List Entry). Has (es ++ e ∷ []) x) (ap (λ (m : Making). m.output) p.is) h))
+    (subst (λ (t : Rattle.lsm_table.specs.declared.table_options.TableOptions.TableOptions). IsOverLimit t (entries_of_last b.last ++ e ∷ [])) (p.sizes).options o)
+  where
+    still : (t : Bool) (x : Entry) → Has ((cond {A = Making} t (shut (making_of a)) (making_of a)).output ++ e ∷ []) x → Has (entries_of_last a.last ++ e ∷ []) x
+    still true x h = has_right (entries_of_last a.last) (e ∷ []) x h
+    still false x h = h
+
+-- an output that is put was asked of no source, and no input is at fault
+pub order_put : (e : MergeFault) (a b : Told) → HasCause [] e a b → IsOrderFault e → ⊥
+order_put OutOfMemory a b q h = h
+order_put (ReadFailed n (Read f)) a b q h = h
+order_put (ReadFailed n OutOfOrder) a b q h = q
+order_put (PutFailed n f) a b q h = h
+order_put (UnknownTicket t) a b q h = h
+order_put NumbersSpent a b q h = h

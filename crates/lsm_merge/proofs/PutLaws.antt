@@ -1,6 +1,6 @@
 -- Outputs that are put one after another.
-use Rattle.std.proofs.Common.{◌≡◌, ℕ, ◌≤◌, Bool, true, false, cond, List, [], ◌∷◌, ◌++◌, Option, Some, None, map, refl, sym, ◌∙◌, ap, subst, inl, inr, arith, append_assoc}
-use Rattle.std.specs.Prelude.{◌⊎◌, Result, Ok, Err, OnOk, OnErr, IfErr}
+use Rattle.std.proofs.Common.{◌≡◌, ℕ, Bool, false, cond, List, [], ◌∷◌, ◌++◌, Option, Some, None, map, refl, sym, ◌∙◌, ap, subst, inl, inr}
+use Rattle.std.specs.Prelude.{Result, Ok, Err, OnOk}
 use Rattle.lsm_codec.specs.Lists.{Has}
 use Rattle.lsm_codec.specs.Keys.{IsKey}
 use Rattle.lsm_codec.specs.Entries.{Entry, internal_key}
@@ -12,8 +12,8 @@ use Rattle.lsm_table.specs.declared.table_options.TableOptions.{TableOptions}
 use Rattle.lsm_version.specs.Versions.{IsWhole}
 use Rattle.lsm_merge.specs.Causes.{DrewMore}
 use Rattle.lsm_merge.specs.Cuts.{is_empty}
-use Rattle.lsm_merge.specs.Dropping.{Making, closed}
-use Rattle.lsm_merge.specs.Outputs.{AreGood, Goes, IsImage, IsPut, Made, Unfinished, drawn_of, entries_of_last, going, making_of}
+use Rattle.lsm_merge.specs.Dropping.{closed}
+use Rattle.lsm_merge.specs.Outputs.{AreGood, Goes, IsImage, IsPut, Unfinished, drawn_of, entries_of_last, going, making_of}
 use Rattle.lsm_merge.specs.Work.{contents_of}
 
 pub going_snoc : (ns : List ℕ) (n : ℕ) (there : List ℕ) → going (ns ++ n ∷ []) there ≡ n ∷ going ns there

@@ -1,30 +1,29 @@
 -- A merge that is under way: what holds before each step.
-use Rattle.std.proofs.Common.{◌≡◌, ℕ, Bool, true, false, cond, List, [], ◌∷◌, ◌++◌, Option, Some, None, map, refl, sym, ◌∙◌, ap, subst, inl, inr}
-use Rattle.std.specs.Prelude.{◌⊎◌, Result, Ok, Err, OnOk, IfErr}
+use Rattle.std.proofs.Common.{◌≡◌, ℕ, true, false, cond, List, [], ◌∷◌, ◌++◌, Option, Some, None, refl, sym, ◌∙◌, ap, subst, inl, inr}
 use Rattle.lsm_codec.specs.Lists.{Has}
 use Rattle.lsm_codec.specs.Entries.{Entry}
 use Rattle.lsm_shelf.specs.Told.{Told, Becomes}
-use Rattle.lsm_table.specs.Registry.{Table}
 use Rattle.lsm_table.specs.Options.{AreInRange}
-use Rattle.lsm_table.specs.declared.read_fault.ReadFault.TheVariants as read
 use Rattle.lsm_levels.specs.Files.{all_entries}
 use Rattle.lsm_levels.specs.Merging.{Placed, entries_of}
 use Rattle.lsm_levels.specs.Streams.{IsAscending, IsMerge}
 use Rattle.lsm_merger.specs.Heads.{no_more}
 use Rattle.lsm_merger.specs.Runs.{Left, ReadsNoOther}
 use Rattle.lsm_merge.specs.declared.merge_fault.InputFault.TheVariants.{Read, OutOfOrder}
-use Rattle.lsm_merge.specs.declared.merge_fault.OutputFault.TheVariants.{TooLarge, Shelf}
 use Rattle.lsm_merge.specs.declared.merge_fault.MergeFault.{MergeFault}
 use Rattle.lsm_merge.specs.declared.merge_fault.MergeFault.TheVariants.{OutOfMemory, ReadFailed, PutFailed, UnknownTicket, NumbersSpent}
-use Rattle.lsm_merge.specs.Causes.{AnswersOf, DrewMore, HasCause, Leaves}
+use Rattle.lsm_merge.specs.Causes.{AnswersOf, AsksFor, DrewMore, HasCause, Leaves}
 use Rattle.lsm_merge.specs.Compacting.{AreMergedOf, nothing_of}
 use Rattle.lsm_merge.specs.Dropping.{Follows, IsMerged, IsUpTo, Making, closed, is_kept, placed}
 use Rattle.lsm_merge.specs.Inputs.{AreInputs, IsOfReading, IsOrderFault, IsReadable, Stepped, input_numbers}
 use Rattle.lsm_merge.specs.Outputs.{AreGood, Goes, IsWrittenBy, Made, PutsMore, SameSizes, Unfinished, drawn_for, drawn_of, entries_of_last, going, making_of, number_of_last}
 use Rattle.lsm_merge.specs.Remembered.{bare}
-use Rattle.lsm_merge.specs.Work.{IsWork, Work, contents_of, finished, job_of}
+use Rattle.lsm_merge.specs.Work.{Work, finished, job_of}
+use Rattle.lsm_merge.proofs.Tickets.{asks_none, asks_then}
+use Rattle.lsm_merge.proofs.Limited.{over_more, with_next_from, output_from}
+use Rattle.lsm_merge.specs.Limits.{IsOverLimit}
 use Rattle.lsm_merge.proofs.Dropped.{IsOnTheWay, StreamingKeeps, way_done, way_start, way_step}
-use Rattle.lsm_merge.proofs.PlaceLaws.{cause_after, cause_of_put, puts_none, puts_rise, puts_then, sizes_then, up_to_taken}
+use Rattle.lsm_merge.proofs.PlaceLaws.{puts_none, puts_then, sizes_then, up_to_taken}
 
 -- ---- refusals
 
@@ -78,7 +77,7 @@ none_of [] h = refl
 none_of (p ∷ ps) h = absurd (cc h)
 
 -- what holds of a merge: by what it was told and drew at its start, and by then
-pub record IsUnderWay (Honest : Type 0) (w : Work) (whole : List Entry) (was is : Told) (drew0 drew answers0 answers : List ℕ) (m : Made) (before : Option Entry) (left : Left) : Type 0 where
+pub record IsUnderWay (Honest : Type 0) (w : Work) (whole : List Entry) (was is : Told) (drew0 drew answers0 answers asked0 asked : List ℕ) (m : Made) (before : Option Entry) (left : Left) : Type 0 where
   pub sizes : SameSizes (nothing_of w) m
   pub good : AreGood m
   pub up : IsUpTo (entries_of_last m.last) before
@@ -86,12 +85,13 @@ pub record IsUnderWay (Honest : Type 0) (w : Work) (whole : List Entry) (was is 
   pub drawn : drew ≡ drawn_of m drew0
   pub answered : answers ≡ answers0
   pub files : AreInputs left.files (input_numbers w)
+  pub asks : AsksFor w.ticket asked0 asked
   pub way : Honest → IsOnTheWay w.floor w.ranges (finished w.table) w.target_size whole (making_of m) before (entries_of left.placed)
 
-pub under_start : (Honest : Type 0) (w : Work) (was is : Told) (drew0 answers0 : List ℕ) (m : Made) (left : Left) → AreInRange w.table → m ≡ nothing_of w → Becomes was is
-    → AreInputs left.files (input_numbers w) → IsUnderWay Honest w (entries_of left.placed) was is drew0 drew0 answers0 answers0 m None left
-under_start Honest w was is drew0 answers0 m left range e b files =
-    subst (λ (n : Made). IsUnderWay Honest w (entries_of left.placed) was is drew0 drew0 answers0 answers0 n None left) (sym e) (record {
+pub under_start : (Honest : Type 0) (w : Work) (was is : Told) (drew0 answers0 asked0 : List ℕ) (m : Made) (left : Left) → AreInRange w.table → m ≡ nothing_of w → Becomes was is
+    → AreInputs left.files (input_numbers w) → IsUnderWay Honest w (entries_of left.placed) was is drew0 drew0 answers0 answers0 asked0 asked0 m None left
+under_start Honest w was is drew0 answers0 asked0 m left range e b files =
+    subst (λ (n : Made). IsUnderWay Honest w (entries_of left.placed) was is drew0 drew0 answers0 answers0 asked0 asked0 n None left) (sym e) (record {
       sizes = record { ticket = refl; options = refl; target = refl };
       good = record { in_range = range; whole = λ t h. absurd h; numbers = refl; written = tt };
       up = λ key h. absurd (cc h);
@@ -99,17 +99,18 @@ under_start Honest w was is drew0 answers0 m left range e b files =
       drawn = refl;
       answered = refl;
       files = files;
+      asks = asks_none w.ticket asked0 asked0 refl;
       way = λ honest. way_start w.floor w.ranges (finished w.table) w.target_size (entries_of left.placed);
     })
 
-pub under_step : (Honest : Type 0) (w : Work) (whole : List Entry) (was is is' : Told) (drew0 drew drew' answers0 answers answers' : List ℕ) (m m' : Made) (before before' : Option Entry) (left left' : Left)
-    → IsUnderWay Honest w whole was is drew0 drew answers0 answers m before left
+pub under_step : (Honest : Type 0) (w : Work) (whole : List Entry) (was is is' : Told) (drew0 drew drew' answers0 answers answers' asked0 asked asked' : List ℕ) (m m' : Made) (before before' : Option Entry) (left left' : Left)
+    → IsUnderWay Honest w whole was is drew0 drew answers0 answers asked0 asked m before left
     → no_more left.placed ≡ false
     → ((p : Placed) (rest : List Placed) → left.placed ≡ p ∷ rest → Stepped Honest w p rest before before' m m' left')
     → ((there : List ℕ) → drew ≡ drawn_of m there → drew' ≡ drawn_of m' there)
-    → answers' ≡ answers → ReadsNoOther left left' → PutsMore m.put m'.put is is'
-    → IsUnderWay Honest w whole was is' drew0 drew' answers0 answers' m' before' left'
-under_step Honest w whole was is is' drew0 drew drew' answers0 answers answers' m m' before before' left left' u more ok drawn answered files told =
+    → answers' ≡ answers → ReadsNoOther left left' → PutsMore m.put m'.put is is' → AsksFor m.ticket asked asked'
+    → IsUnderWay Honest w whole was is' drew0 drew' answers0 answers' asked0 asked' m' before' left'
+under_step Honest w whole was is is' drew0 drew drew' answers0 answers answers' asked0 asked asked' m m' before before' left left' u more ok drawn answered files told later =
     let head = some_of left.placed more in
     let s = ok head.0 head.1 head.2 in
     let e : Entry = (head.0).1 in
@@ -123,6 +124,7 @@ under_step Honest w whole was is is' drew0 drew drew' answers0 answers answers' 
       drawn = drawn drew0 u.drawn;
       answered = answered ∙ u.answered;
       files = λ f h. u.files f (files f h);
+      asks = asks_then w.ticket asked0 asked asked' u.asks (subst (λ (t : ℕ). AsksFor t asked asked') (u.sizes).ticket later);
       way = λ honest.
           subst (λ (es : List Placed). IsOnTheWay w.floor w.ranges (finished w.table) w.target_size whole (making_of m') before' (entries_of es)) (sym (s.left honest))
           (subst (λ (b : Option Entry). IsOnTheWay w.floor w.ranges (finished w.table) w.target_size whole (making_of m') b (entries_of head.1)) (sym s.before_is)
@@ -147,11 +149,11 @@ last_gone options (Some o) h e = absurd (h.1 e)
 pub none_last : (m n : Made) (outputs : List (List Entry)) → Goes m n (record { outputs = outputs; output = [] }) → n.last ≡ None
 none_last m n outputs g = last_gone n.options n.last (g.good).written (ap (λ (k : Making). k.output) g.is)
 
-pub under_done : (Honest : Type 0) (w : Work) (whole : List Entry) (was is : Told) (drew0 drew answers0 answers : List ℕ) (m n : Made) (before : Option Entry) (left : Left)
-    → IsUnderWay Honest w whole was is drew0 drew answers0 answers m before left → StreamingKeeps → no_more left.placed ≡ true
+pub under_done : (Honest : Type 0) (w : Work) (whole : List Entry) (was is : Told) (drew0 drew answers0 answers asked0 asked : List ℕ) (m n : Made) (before : Option Entry) (left : Left)
+    → IsUnderWay Honest w whole was is drew0 drew answers0 answers asked0 asked m before left → StreamingKeeps → no_more left.placed ≡ true
     → (Honest → IsAscending whole → IsMerge whole (all_entries (job_of w).inputs))
     → Goes m n (record { outputs = closed (making_of m); output = [] }) → Honest → AreMergedOf w n.tables
-under_done Honest w whole was is drew0 drew answers0 answers m n before left u keeps none merges g honest =
+under_done Honest w whole was is drew0 drew answers0 answers asked0 asked m n before left u keeps none merges g honest =
     let way = subst (λ (es : List Placed). IsOnTheWay w.floor w.ranges (finished w.table) w.target_size whole (making_of m) before (entries_of es)) (none_of left.placed none) (u.way honest) in
     let done = way_done w.floor w.ranges (finished w.table) w.target_size whole (making_of m) before keeps way in
     record {
@@ -162,3 +164,42 @@ under_done Honest w whole was is drew0 drew answers0 answers m n before left u k
 
 pub drew_all : (m n : Made) (drew drew0 : List ℕ) → drew ≡ drawn_of m drew0 → n.last ≡ None → ((there : List ℕ) → drawn_of n there ≡ drawn_of m there) → drew ≡ going n.put drew0
 drew_all m n drew drew0 d none same = d ∙ sym (same drew0) ∙ ap (λ (l : Option Unfinished). drawn_for n.put (number_of_last l) drew0) none
+
+-- ---- refusals over an honest shelf
+
+-- an entry that does not follow: the whole does not ascend
+pub under_order : (Honest : Type 0) (w : Work) (whole : List Entry) (was is : Told) (drew0 drew answers0 answers asked0 asked : List ℕ) (m : Made) (before : Option Entry) (left : Left)
+    → IsUnderWay Honest w whole was is drew0 drew answers0 answers asked0 asked m before left → no_more left.placed ≡ false
+    → ((p : Placed) (rest : List Placed) → left.placed ≡ p ∷ rest → Follows before p.1 → ⊥) → Honest → IsAscending whole → ⊥
+under_order Honest w whole was is drew0 drew answers0 answers asked0 asked m before left u more late honest up =
+    let head = some_of left.placed more in
+    let way = subst (λ (es : List Placed). IsOnTheWay w.floor w.ranges (finished w.table) w.target_size whole (making_of m) before (entries_of es)) head.2 (u.way honest) in
+    late head.0 head.1 head.2 ((way.back up).0 (head.0).1 (inl refl))
+
+-- an output that cannot be built has entries of the whole
+pub under_limit : (Honest : Type 0) (w : Work) (whole es : List Entry) (was is : Told) (drew0 drew answers0 answers asked0 asked : List ℕ) (m : Made) (before : Option Entry) (left : Left)
+    → IsUnderWay Honest w whole was is drew0 drew answers0 answers asked0 asked m before left → no_more left.placed ≡ false
+    → ((p : Placed) (rest : List Placed) → left.placed ≡ p ∷ rest → IsOverLimit m.options (entries_of_last m.last ++ p.1 ∷ []))
+    → Honest → ((e : Entry) → Has whole e → Has es e) → IsOverLimit w.table es
+under_limit Honest w whole es was is drew0 drew answers0 answers asked0 asked m before left u more over honest f =
+    let head = some_of left.placed more in
+    let way = subst (λ (l : List Placed). IsOnTheWay w.floor w.ranges (finished w.table) w.target_size whole (making_of m) before (entries_of l)) head.2 (u.way honest) in
+    over_more w.table (entries_of_last m.last ++ (head.0).1 ∷ []) es
+    (λ e h. f e (with_next_from w.floor w.ranges (finished w.table) w.target_size whole (making_of m) before (head.0).1 (entries_of head.1) way e h))
+    (subst (λ (o : Rattle.lsm_table.specs.declared.table_options.TableOptions.TableOptions). IsOverLimit o (entries_of_last m.last ++ (head.0).1 ∷ [])) (u.sizes).options (over head.0 head.1 head.2))
+
+-- so has the last one
+pub under_last : (Honest : Type 0) (w : Work) (whole es : List Entry) (was is : Told) (drew0 drew answers0 answers asked0 asked : List ℕ) (m : Made) (before : Option Entry) (left : Left)
+    → IsUnderWay Honest w whole was is drew0 drew answers0 answers asked0 asked m before left
+    → Honest → ((e : Entry) → Has whole e → Has es e) → IsOverLimit m.options (entries_of_last m.last) → IsOverLimit w.table es
+under_last Honest w whole es was is drew0 drew answers0 answers asked0 asked m before left u honest f over =
+    over_more w.table (entries_of_last m.last) es
+    (λ e h. f e (output_from w.floor w.ranges (finished w.table) w.target_size whole (making_of m) before (entries_of left.placed) (u.way honest) e h))
+    (subst (λ (o : Rattle.lsm_table.specs.declared.table_options.TableOptions.TableOptions). IsOverLimit o (entries_of_last m.last)) (u.sizes).options over)
+
+-- at the end the whole ascends
+pub under_ascends : (Honest : Type 0) (w : Work) (whole : List Entry) (was is : Told) (drew0 drew answers0 answers asked0 asked : List ℕ) (m : Made) (before : Option Entry) (left : Left)
+    → IsUnderWay Honest w whole was is drew0 drew answers0 answers asked0 asked m before left → no_more left.placed ≡ true → Honest → IsAscending whole
+under_ascends Honest w whole was is drew0 drew answers0 answers asked0 asked m before left u none honest =
+    let way = subst (λ (es : List Placed). IsOnTheWay w.floor w.ranges (finished w.table) w.target_size whole (making_of m) before (entries_of es)) (none_of left.placed none) (u.way honest) in
+    way.ascending (λ x h. absurd h, tt)

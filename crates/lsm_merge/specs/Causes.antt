@@ -1,5 +1,5 @@
 -- When a merge is refused, and what was drawn and put by then.
-use Rattle.std.specs.Prelude.{◌≡◌, ◌⊎◌, ℕ, List, ◌∷◌}
+use Rattle.std.specs.Prelude.{◌≡◌, ◌⊎◌, ℕ, List, ◌∷◌, ◌++◌}
 use Rattle.lsm_codec.specs.Lists.{Has}
 use Rattle.lsm_shelf.specs.Told.{Told, Counted, TakenIs}
 use Rattle.lsm_table.specs.ReadFault.{ReadCounted}
@@ -54,3 +54,17 @@ AnswersOf (ReadFailed number fault) old new = new ≡ old
 AnswersOf (PutFailed number fault) old new = new ≡ old
 AnswersOf (UnknownTicket ticket) old new = new ≡ 45 ∷ old
 AnswersOf NumbersSpent old new = new ≡ 46 ∷ old
+
+-- a ticket that is unknown is the job's
+abbrev pub NamesTicket : MergeFault → ℕ → Type 0
+NamesTicket OutOfMemory asked = Unit {0}
+NamesTicket (ReadFailed number fault) asked = Unit {0}
+NamesTicket (PutFailed number fault) asked = Unit {0}
+NamesTicket (UnknownTicket ticket) asked = ticket ≡ asked
+NamesTicket NumbersSpent asked = Unit {0}
+
+-- the tickets for which numbers were asked, the last first: after the old ones this one alone
+pub record AsksFor (ticket : ℕ) (old new : List ℕ) : Type 0 where
+  pub more : List ℕ
+  pub grown : new ≡ more ++ old
+  pub each : (t : ℕ) → Has more t → t ≡ ticket

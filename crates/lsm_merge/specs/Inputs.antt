@@ -1,11 +1,9 @@
 -- The inputs of a job, as the merge reads them: at level 0 each table by itself, else those of a level one after another.
-use Rattle.std.specs.Prelude.{◌≡◌, ℕ, true, false, List, [], ◌∷◌, ◌++◌, map, cond, Option, Some, None}
+use Rattle.std.specs.Prelude.{◌≡◌, ℕ, List, ◌++◌, map, cond, Option, Some}
 use Rattle.std.specs.List.{flat_map}
 use Rattle.lsm_codec.specs.Lists.{Has}
 use Rattle.lsm_codec.specs.Entries.{Entry}
-use Rattle.lsm_shelf.specs.Told.{Told}
 use Rattle.lsm_table.specs.Registry.{Table, image_of}
-use Rattle.lsm_table.specs.declared.table_fault.TableFault.{TableFault}
 use Rattle.lsm_table.specs.declared.read_fault.ReadFault.TheVariants as read
 use Rattle.lsm_levels.specs.Merging.{Placed, entries_of}
 use Rattle.lsm_merger.specs.Runs.{Left, entries_of_all}

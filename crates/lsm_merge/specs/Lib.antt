@@ -2,7 +2,9 @@ pub mod Causes
 pub mod Compacting
 pub mod Cuts
 pub mod Dropping
+pub mod InputOrder
 pub mod Inputs
+pub mod Limits
 pub mod MergeFault
 pub mod NumberFault
 pub mod Outputs

@@ -1,5 +1,5 @@
 -- The refusals of a source of numbers: their numbers and names (this project's rule).
-use Rattle.std.specs.Prelude.{ℕ, List, codes}
+use Rattle.std.specs.Prelude.{◌≡◌, ℕ, List, codes}
 use Rattle.lsm_merge.specs.declared.number_source.NumberFault.{NumberFault}
 use Rattle.lsm_merge.specs.declared.number_source.NumberFault.TheVariants.{OutOfMemory, UnknownTicket, NumbersSpent}
 
@@ -12,3 +12,9 @@ abbrev pub name_of : NumberFault → List ℕ
 name_of OutOfMemory = codes "OutOfMemory"
 name_of (UnknownTicket ticket) = codes "UnknownTicket"
 name_of NumbersSpent = codes "NumbersSpent"
+
+-- a ticket that is unknown is this one
+abbrev pub IsOfTicket : NumberFault → ℕ → Type 0
+IsOfTicket OutOfMemory asked = Unit {0}
+IsOfTicket (UnknownTicket ticket) asked = ticket ≡ asked
+IsOfTicket NumbersSpent asked = Unit {0}

@@ -1,10 +1,8 @@
 -- What a merge has made so far: tables that were put, and an output in the making.
-use Rattle.std.specs.Prelude.{◌≡◌, ℕ, ◌≤◌, true, Bool, List, [], ◌∷◌, ◌++◌, length, map, Option, Some, None}
-use Rattle.std.specs.Ordering.{is_le}
-use Rattle.lsm_codec.specs.Keys.{InternalKey, IsKey, key_cmp}
+use Rattle.std.specs.Prelude.{◌≡◌, ℕ, List, [], ◌∷◌, ◌++◌, map, Option, Some, None}
+use Rattle.lsm_codec.specs.Keys.{IsKey}
 use Rattle.lsm_codec.specs.Entries.{Entry, internal_key}
 use Rattle.lsm_codec.specs.Lists.{Has}
-use Rattle.lsm_block.specs.Building.{last_key}
 use Rattle.lsm_shelf.specs.Told.{Told, Becomes, putting}
 use Rattle.lsm_table.specs.Registry.{Table}
 use Rattle.lsm_table.specs.Table.{IsTable}

@@ -1,15 +1,19 @@
 //! The merge of a job.
 
-ghost use Rattle.std.specs.Prelude.{◌≡◌, [], ◌∷◌, ℕ, List, None, false, true, IfOk, IfErr, OnOk};
+ghost use Rattle.std.specs.Prelude.{◌≡◌, [], ◌∷◌, ◌++◌, ℕ, List, None, false, true, IfOk, IfErr, OnOk};
+ghost use Rattle.lsm_levels.specs.Files.{all_entries};
 ghost use Rattle.lsm_levels.specs.Merging.{Placed};
 ghost use Rattle.lsm_merger.specs.Heads.{no_more};
 ghost use Rattle.lsm_merger.specs.Runs.{ReadsNoOther};
 ghost use Rattle.lsm_shelf.specs.Told.{Becomes};
-ghost use Rattle.lsm_merge.specs.Causes.{AnswersOf, HasCause, Leaves};
+ghost use Rattle.lsm_merge.specs.Causes.{AnswersOf, AsksFor, HasCause, Leaves, NamesTicket};
 ghost use Rattle.lsm_merge.specs.Compacting.{AreMergedOf, nothing_of};
 ghost use Rattle.lsm_merge.specs.Dropping.{Follows, IsUpTo};
+ghost use Rattle.lsm_merge.specs.InputOrder.{HasTwins, StandInOrder};
 ghost use Rattle.lsm_merge.specs.Inputs.{AreInputs, IsOrderFault, IsReadable, Stepped, input_numbers};
+ghost use Rattle.lsm_merge.specs.Limits.{IsOverLimit, IsSizeFault};
 ghost use Rattle.lsm_merge.specs.Outputs.{AreGood, PutsMore, drawn_of, entries_of_last, going, putting_all};
+ghost use Rattle.lsm_merge.specs.Work.{job_of};
 ghost use Rattle.lsm_merge.specs.declared.merge_fault.MergeFault.TheVariants.{OutOfMemory};
 
 use crate::copies::again_all;
@@ -53,6 +57,9 @@ fn step<N: Naming, S: Shelf, R: Wait, D: NumberSource>(
     ensures cause { IfErr result (λ e. (inputs : List ℕ) → AreInputs merger.old.files inputs → HasCause inputs e (S.told shelf.old) (S.told shelf.new)) }
     ensures sound { S.honest → IfErr result IsReadable }
     ensures order { IfErr result (λ e. IsOrderFault e → (p : Placed) (rest : List Placed) → merger.old.placed ≡ p ∷ rest → Follows before.old p.1 → ⊥) }
+    ensures asked { AsksFor outputs.old.ticket (D.asked numbers.old) (D.asked numbers.new) }
+    ensures ticket { IfErr result (λ e. NamesTicket e outputs.old.ticket) }
+    ensures large { IfErr result (λ e. IsSizeFault e → (p : Placed) (rest : List Placed) → merger.old.placed ≡ p ∷ rest → IsOverLimit outputs.old.options (entries_of_last outputs.old.last ++ p.1 ∷ [])) }
 {
     let Some(key) = merger.key() else {
         unreachable!()
@@ -95,6 +102,11 @@ fn merge<N: Naming, S: Shelf, R: Wait, D: NumberSource>(
     ensures why { IfErr result (λ e. AnswersOf e (D.refused numbers.old) (D.refused numbers.new)) }
     ensures cause { IfErr result (λ e. HasCause (input_numbers job.now) e (S.told shelf.old) (S.told shelf.new)) }
     ensures sound { S.honest → IfErr result IsReadable }
+    ensures asked { AsksFor job.now.ticket (D.asked numbers.old) (D.asked numbers.new) }
+    ensures ticket { IfErr result (λ e. NamesTicket e job.now.ticket) }
+    ensures large { S.honest → IfErr result (λ e. IsSizeFault e → IsOverLimit job.now.table (all_entries (job_of job.now).inputs)) }
+    ensures order { S.honest → StandInOrder job.now → IfErr result (λ e. IsOrderFault e → HasTwins (all_entries (job_of job.now).inputs)) }
+    ensures apart { S.honest → StandInOrder job.now → OnOk result (HasTwins (all_entries (job_of job.now).inputs) → ⊥) }
 {
     streaming_keeps_the_kept();
     let _ticket = job.ticket();
@@ -185,8 +197,18 @@ pub fn compact<N: Naming, S: Shelf, R: Wait, D: NumberSource>(
     ensures cause { IfErr result (λ e. HasCause (input_numbers job) e.0 (S.told shelf.old) (S.told shelf.new)) }
     ensures sound { S.honest → IfErr result (λ e. IsReadable e.0) }
 
+    // Over an honest shelf inputs that stand in order are refused as out of order only where two of their entries have one internal
+    // key, and are not merged there; and an output is too large only where entries of the inputs make no table.
+    ensures order { S.honest → StandInOrder job → IfErr result (λ e. IsOrderFault e.0 → HasTwins (all_entries (job_of job).inputs)) }
+    ensures apart { S.honest → StandInOrder job → job.is_move ≡ false → OnOk result (HasTwins (all_entries (job_of job).inputs) → ⊥) }
+    ensures large { S.honest → IfErr result (λ e. IsSizeFault e.0 → IsOverLimit job.table (all_entries (job_of job).inputs)) }
+
+    // Numbers are drawn for the job's ticket, and for no other.
+    ensures asked { AsksFor job.ticket (D.asked numbers.old) (D.asked numbers.new) }
+    ensures ticket { IfErr result (λ e. NamesTicket e.0 job.ticket) }
+
     // A move asks nothing of the shelf or of the source of numbers.
-    ensures unasked { job.is_move ≡ true → (S.told shelf.new ≡ S.told shelf.old) × (D.drew numbers.new ≡ D.drew numbers.old) × (D.refused numbers.new ≡ D.refused numbers.old) }
+    ensures unasked { job.is_move ≡ true → (S.told shelf.new ≡ S.told shelf.old) × (D.drew numbers.new ≡ D.drew numbers.old) × (D.refused numbers.new ≡ D.refused numbers.old) × (D.asked numbers.new ≡ D.asked numbers.old) }
     ensures moved { job.is_move ≡ true → IfErr result (λ e. (e.0 ≡ OutOfMemory) × (e.2.items ≡ [])) }
 {
     if job.is_move() {

@@ -1,16 +1,18 @@
 //! The inputs of a job, as one stream.
 
-ghost use Rattle.std.specs.Prelude.{◌≡◌, ◌<◌, ◌++◌, ℕ, List, length, IfOk, IfErr, OnOk};
+ghost use Rattle.std.specs.Prelude.{◌≡◌, ◌<◌, ◌≤◌, ◌++◌, ℕ, List, length, map, IfOk, IfErr, OnOk};
 ghost use Rattle.lsm_codec.specs.Lists.{Has};
+ghost use Rattle.lsm_codec.specs.Entries.{Entry};
 ghost use Rattle.lsm_shelf.specs.Told.{Becomes};
 ghost use Rattle.lsm_table.specs.Registry.{Table};
 ghost use Rattle.lsm_levels.specs.Files.{all_entries};
-ghost use Rattle.lsm_levels.specs.Merging.{entries_of, merge_all, placed_at};
+ghost use Rattle.lsm_levels.specs.Merging.{AreOrdered, IsSorted, entries_of, placed_at};
 ghost use Rattle.lsm_levels.specs.Streams.{IsAscending, IsMerge};
 ghost use Rattle.lsm_merger.specs.Heads.{after_first};
 ghost use Rattle.lsm_merger.specs.Runs.{ReadsNoOther, files_at};
 ghost use Rattle.lsm_version.specs.Versions.{IsWhole};
 ghost use Rattle.lsm_merge.specs.Causes.{HasCause};
+ghost use Rattle.lsm_merge.specs.InputOrder.{HasTwins, StandInOrder};
 ghost use Rattle.lsm_merge.specs.Inputs.{AreInputs, IsOfReading, IsReadable, entries_of_tables, files_in, input_numbers, numbers_of, streams};
 ghost use Rattle.lsm_merge.specs.Work.{job_of};
 
@@ -62,6 +64,7 @@ fn push_run<N: Naming, S: Shelf>(
     requires named { registry.now ≡ N.registry }
     requires whole { S.honest → (t : Table) → Has tables.now t → IsWhole t }
     ensures entries { S.honest → OnOk result (streams runs.new.items ≡ streams runs.old.items ++ entries_of_tables tables.now) }
+    ensures ordered { S.honest → IsSorted (entries_of_tables tables.now) → OnOk result (AreOrdered (map (λ r. r.placed) runs.old.items) → AreOrdered (map (λ r. r.placed) runs.new.items)) }
     ensures files { OnOk result (files_in runs.new.items ≡ files_in runs.old.items ++ numbers_of tables.now) }
     ensures kind { IfErr result IsOfReading }
     ensures sound { S.honest → IfErr result IsReadable }
@@ -89,6 +92,7 @@ fn push_each<N: Naming, S: Shelf>(
     requires named { registry.now ≡ N.registry }
     requires whole { S.honest → (t : Table) → Has tables.now t → IsWhole t }
     ensures entries { S.honest → OnOk result (streams runs.new.items ≡ streams runs.old.items ++ entries_of_tables tables.now) }
+    ensures ordered { S.honest → OnOk result (AreOrdered (map (λ r. r.placed) runs.old.items) → AreOrdered (map (λ r. r.placed) runs.new.items)) }
     ensures files { OnOk result (files_in runs.new.items ≡ files_in runs.old.items ++ numbers_of tables.now) }
     ensures kind { IfErr result IsOfReading }
     ensures sound { S.honest → IfErr result IsReadable }
@@ -117,6 +121,7 @@ fn push_upper<N: Naming, S: Shelf>(
     requires named { registry.now ≡ N.registry }
     requires whole { S.honest → (t : Table) → Has tables.now t → IsWhole t }
     ensures entries { S.honest → OnOk result (streams runs.new.items ≡ streams runs.old.items ++ entries_of_tables tables.now) }
+    ensures ordered { S.honest → (1 ≤ level → IsSorted (entries_of_tables tables.now)) → OnOk result (AreOrdered (map (λ r. r.placed) runs.old.items) → AreOrdered (map (λ r. r.placed) runs.new.items)) }
     ensures files { OnOk result (files_in runs.new.items ≡ files_in runs.old.items ++ numbers_of tables.now) }
     ensures kind { IfErr result IsOfReading }
     ensures sound { S.honest → IfErr result IsReadable }
@@ -140,6 +145,9 @@ pub(crate) fn open_inputs<N: Naming, S: Shelf>(
     requires here { (S.told shelf.old).place ≡ N.place }
     requires named { registry.now ≡ N.registry }
     ensures merges { S.honest → IfOk result (λ m. IsAscending (entries_of m.placed) → IsMerge (entries_of m.placed) (all_entries (job_of job.now).inputs)) }
+    ensures from { S.honest → IfOk result (λ m. (e : Entry) → Has (entries_of m.placed) e → Has (all_entries (job_of job.now).inputs) e) }
+    ensures order { S.honest → StandInOrder job.now → IfOk result (λ m. (IsAscending (entries_of m.placed) → ⊥) → HasTwins (all_entries (job_of job.now).inputs)) }
+    ensures apart { S.honest → StandInOrder job.now → IfOk result (λ m. IsAscending (entries_of m.placed) → HasTwins (all_entries (job_of job.now).inputs) → ⊥) }
     ensures files { IfOk result (λ m. AreInputs m.files (input_numbers job.now)) }
     ensures kind { IfErr result IsOfReading }
     ensures sound { S.honest → IfErr result IsReadable }

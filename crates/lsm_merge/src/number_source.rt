@@ -1,7 +1,7 @@
 //! Where the numbers of outputs come from.
 
 ghost use Rattle.std.specs.Prelude.{◌≡◌};
-ghost use Rattle.lsm_merge.specs.NumberFault.{number_of, name_of};
+ghost use Rattle.lsm_merge.specs.NumberFault.{IsOfTicket, number_of, name_of};
 ghost use Rattle.lsm_merge.specs.declared.number_source.NumberFault.TheVariants.{OutOfMemory};
 
 use std::alloc::{AllocError, Global};
@@ -65,10 +65,15 @@ pub trait NumberSource {
     /// The published numbers of its refusals, the last first.
     ghost refused: { Self → List ℕ };
 
+    /// The tickets for which it was asked, the last first.
+    ghost asked: { Self → List ℕ };
+
     /// A number for an output of the job of this ticket.
     fn draw<R: Wait>(&mut self, rt: &R, alloc: Global, ticket: u64) -> Result<u64, NumberFault>
         ensures ok { IfOk result (λ n. drew self.new ≡ n ∷ drew self.old) }
         ensures answered { OnOk result (refused self.new ≡ refused self.old) }
         ensures err { OnErr result (drew self.new ≡ drew self.old) }
-        ensures why { IfErr result (λ e. refused self.new ≡ number_of e ∷ refused self.old) };
+        ensures why { IfErr result (λ e. refused self.new ≡ number_of e ∷ refused self.old) }
+        ensures asked { asked self.new ≡ ticket ∷ asked self.old }
+        ensures named { IfErr result (λ e. IsOfTicket e ticket) };
 }

@@ -1,12 +1,14 @@
 //! An output in the making.
 
-ghost use Rattle.std.specs.Prelude.{◌≡◌, [], ◌∷◌, ◌++◌, not, ◌&&◌, nat_le, IfOk, OnOk, OnErr};
+ghost use Rattle.std.specs.Prelude.{◌≡◌, [], ◌∷◌, ◌++◌, not, ◌&&◌, nat_le, IfOk, IfErr, OnOk, OnErr};
 ghost use Rattle.std.specs.Str.{bytes_eq};
 ghost use Rattle.lsm_codec.specs.KeyRef.{key_of};
 ghost use Rattle.lsm_codec.specs.Keys.{IsKey};
 ghost use Rattle.lsm_block.specs.Block.{Ascends, entry_of};
+ghost use Rattle.lsm_block.specs.declared.build_fault.BuildFault.TheVariants.{TooLarge};
 ghost use Rattle.lsm_table.specs.Options.{AreInRange};
 ghost use Rattle.lsm_merge.specs.Cuts.{closes};
+ghost use Rattle.lsm_merge.specs.Limits.{IsOverLimit};
 ghost use Rattle.lsm_merge.specs.Outputs.{IsImage};
 ghost use Rattle.lsm_merge.specs.Work.{finished};
 
@@ -68,11 +70,15 @@ impl Output {
         value: &[u8],
     ) -> Result<Output, BuildFault>
         requires { AreInRange options }
-        ensures { IfOk result (λ o. o ≡ record { number = number; options = options; entries = entry_of (key_of key.now) value.now ∷ [] }) }
+        ensures ok { IfOk result (λ o. o ≡ record { number = number; options = options; entries = entry_of (key_of key.now) value.now ∷ [] }) }
+        ensures large { IfErr result (λ e. e ≡ TooLarge → IsOverLimit options (entry_of (key_of key.now) value.now ∷ [])) }
     {
         let smallest = bytes_of(alloc, key)?;
         let mut builder = TableBuilder::new(alloc, options);
-        builder.add(key.user, key.seq, key.kind, value)?;
+        match builder.add(key.user, key.seq, key.kind, value) {
+            Ok(()) => {}
+            Err(fault) => return Err(fault),
+        }
         Ok(Output {
             number,
             smallest,
@@ -99,6 +105,7 @@ impl Output {
         requires { Ascends (self.old.entries ++ entry_of (key_of key.now) value.now ∷ []) }
         ensures ok { OnOk result (self.new ≡ record self.old { entries = self.old.entries ++ entry_of (key_of key.now) value.now ∷ [] }) }
         ensures err { OnErr result (self.new ≡ self.old) }
+        ensures large { IfErr result (λ e. e ≡ TooLarge → IsOverLimit self.old.options (self.old.entries ++ entry_of (key_of key.now) value.now ∷ [])) }
     {
         self.builder.add(key.user, key.seq, key.kind, value)
     }
@@ -117,6 +124,7 @@ impl Output {
     pub(crate) fn finish(self, alloc: Global) -> Result<Image, BuildFault>
         ensures number { IfOk result (λ i. i.number ≡ self.number) }
         ensures image { IfOk result (λ i. IsImage self.entries i.smallest i.largest i.bytes.items) }
+        ensures large { IfErr result (λ e. e ≡ TooLarge → IsOverLimit self.options self.entries) }
     {
         let Output {
             number,

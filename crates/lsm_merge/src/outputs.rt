@@ -6,8 +6,9 @@ ghost use Rattle.lsm_block.specs.Block.{Ascends, entry_of};
 ghost use Rattle.lsm_shelf.specs.Told.{Told};
 ghost use Rattle.lsm_table.specs.Options.{AreInRange};
 ghost use Rattle.lsm_merge.specs.Cuts.{closes};
-ghost use Rattle.lsm_merge.specs.Causes.{AnswersOf, HasCause, Leaves};
+ghost use Rattle.lsm_merge.specs.Causes.{AnswersOf, AsksFor, HasCause, Leaves, NamesTicket};
 ghost use Rattle.lsm_merge.specs.Dropping.{closed, placed, shut_before, with_entry};
+ghost use Rattle.lsm_merge.specs.Limits.{IsOverLimit, IsSizeFault};
 ghost use Rattle.lsm_merge.specs.Outputs.{AreGood, Goes, PutsMore, drawn_of, entries_of_last, going, making_of};
 ghost use Rattle.lsm_merge.specs.Work.{finished};
 
@@ -60,6 +61,9 @@ fn begin<R: Wait, D: NumberSource>(
     ensures leaves { IfErr result (λ e. (put there : List ℕ) → D.drew numbers.old ≡ going put there → Leaves e put (D.drew numbers.new) there) }
     ensures why { IfErr result (λ e. AnswersOf e (D.refused numbers.old) (D.refused numbers.new)) }
     ensures cause { IfErr result (λ e. (t u : Told) → HasCause [] e t u) }
+    ensures asked { D.asked numbers.new ≡ ticket ∷ D.asked numbers.old }
+    ensures ticket { IfErr result (λ e. NamesTicket e ticket) }
+    ensures large { IfErr result (λ e. IsSizeFault e → IsOverLimit options (entry_of (key_of key.now) value.now ∷ [])) }
 {
     let number = match numbers.draw(rt, alloc, ticket) {
         Ok(number) => number,
@@ -78,6 +82,8 @@ fn grow(output: Output, key: &KeyRef<'_>, value: &[u8]) -> Result<Output, MergeF
     ensures leaves { IfErr result (λ e. (put there : List ℕ) → Leaves e put (output.number ∷ going put there) there) }
     ensures why { IfErr result (λ e. (answers : List ℕ) → AnswersOf e answers answers) }
     ensures cause { IfErr result (λ e. (t u : Told) → HasCause [] e t u) }
+    ensures ticket { IfErr result (λ e. (ticket : ℕ) → NamesTicket e ticket) }
+    ensures large { IfErr result (λ e. IsSizeFault e → IsOverLimit output.options (output.entries ++ entry_of (key_of key.now) value.now ∷ [])) }
 {
     let mut output = output;
     match output.add(key, value) {
@@ -127,6 +133,7 @@ impl<N: Naming, S: Shelf> Outputs<N, S> {
         ensures leaves { IfErr result (λ e. (there : List ℕ) → Leaves e self.new.put (drawn_of self.old there) there) }
         ensures cause { IfErr result (λ e. HasCause [] e (S.told shelf.old) (S.told shelf.new)) }
         ensures why { IfErr result (λ e. (answers : List ℕ) → AnswersOf e answers answers) }
+        ensures large { IfErr result (λ e. IsSizeFault e → IsOverLimit self.old.options (entries_of_last self.old.last)) }
     {
         match self.last.take() {
             None => Ok(()),
@@ -170,6 +177,7 @@ impl<N: Naming, S: Shelf> Outputs<N, S> {
         ensures leaves { IfErr result (λ e. (there : List ℕ) → Leaves e self.new.put (drawn_of self.old there) there) }
         ensures cause { IfErr result (λ e. HasCause [] e (S.told shelf.old) (S.told shelf.new)) }
         ensures why { IfErr result (λ e. (answers : List ℕ) → AnswersOf e answers answers) }
+        ensures large { IfErr result (λ e. IsSizeFault e → IsOverLimit self.old.options (entries_of_last self.old.last)) }
     {
         if !self.closes(user) {
             return Ok(());
@@ -194,6 +202,9 @@ impl<N: Naming, S: Shelf> Outputs<N, S> {
         ensures leaves { IfErr result (λ e. (there : List ℕ) → D.drew numbers.old ≡ drawn_of self.old there → Leaves e self.new.put (D.drew numbers.new) there) }
         ensures why { IfErr result (λ e. AnswersOf e (D.refused numbers.old) (D.refused numbers.new)) }
         ensures cause { IfErr result (λ e. (t u : Told) → HasCause [] e t u) }
+        ensures asked { AsksFor self.old.ticket (D.asked numbers.old) (D.asked numbers.new) }
+        ensures ticket { IfErr result (λ e. NamesTicket e self.old.ticket) }
+        ensures large { IfErr result (λ e. IsSizeFault e → IsOverLimit self.old.options (entries_of_last self.old.last ++ entry_of (key_of key.now) value.now ∷ [])) }
     {
         let output = match self.last.take() {
             Some(output) => grow(output, key, value)?,
@@ -232,6 +243,9 @@ impl<N: Naming, S: Shelf> Outputs<N, S> {
         ensures leaves { IfErr result (λ e. (there : List ℕ) → D.drew numbers.old ≡ drawn_of self.old there → Leaves e self.new.put (D.drew numbers.new) there) }
         ensures why { IfErr result (λ e. AnswersOf e (D.refused numbers.old) (D.refused numbers.new)) }
         ensures cause { IfErr result (λ e. HasCause [] e (S.told shelf.old) (S.told shelf.new)) }
+        ensures asked { AsksFor self.old.ticket (D.asked numbers.old) (D.asked numbers.new) }
+        ensures ticket { IfErr result (λ e. NamesTicket e self.old.ticket) }
+        ensures large { IfErr result (λ e. IsSizeFault e → IsOverLimit self.old.options (entries_of_last self.old.last ++ entry_of (key_of key.now) value.now ∷ [])) }
     {
         match self.close_before(rt, shelf, registry, key.user) {
             Ok(()) => {}
@@ -262,6 +276,9 @@ impl<N: Naming, S: Shelf> Outputs<N, S> {
         ensures leaves { IfErr result (λ e. (there : List ℕ) → D.drew numbers.old ≡ drawn_of self.old there → Leaves e self.new.put (D.drew numbers.new) there) }
         ensures why { IfErr result (λ e. AnswersOf e (D.refused numbers.old) (D.refused numbers.new)) }
         ensures cause { IfErr result (λ e. HasCause [] e (S.told shelf.old) (S.told shelf.new)) }
+        ensures asked { AsksFor self.old.ticket (D.asked numbers.old) (D.asked numbers.new) }
+        ensures ticket { IfErr result (λ e. NamesTicket e self.old.ticket) }
+        ensures large { IfErr result (λ e. IsSizeFault e → IsOverLimit self.old.options (entries_of_last self.old.last ++ entry_of (key_of key.now) value.now ∷ [])) }
     {
         if !kept {
             return Ok(());

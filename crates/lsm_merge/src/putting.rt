@@ -2,6 +2,7 @@
 
 ghost use Rattle.std.specs.Prelude.{◌≡◌, [], ◌∷◌, ◌++◌, ℕ, List, IfOk, IfErr, OnOk};
 ghost use Rattle.lsm_merge.specs.Causes.{AnswersOf, HasCause, Leaves};
+ghost use Rattle.lsm_merge.specs.Limits.{IsOverLimit, IsSizeFault};
 ghost use Rattle.lsm_merge.specs.Outputs.{IsPut, PutsMore, going};
 
 use crate::merge_fault::MergeFault;
@@ -31,6 +32,7 @@ fn put_image<N: Naming, S: Shelf, R: Wait>(
     ensures leaves { IfErr result (λ e. (there : List ℕ) → Leaves e put.new.items (image.number ∷ going put.old.items there) there) }
     ensures cause { IfErr result (λ e. HasCause [] e (S.told shelf.old) (S.told shelf.new)) }
     ensures why { IfErr result (λ e. (answers : List ℕ) → AnswersOf e answers answers) }
+    ensures built { IfErr result (λ e. IsSizeFault e → ⊥) }
 {
     let Image {
         number,
@@ -75,6 +77,7 @@ pub(crate) fn put_output<N: Naming, S: Shelf, R: Wait>(
     ensures leaves { IfErr result (λ e. (there : List ℕ) → Leaves e put.new.items (output.number ∷ going put.old.items there) there) }
     ensures cause { IfErr result (λ e. HasCause [] e (S.told shelf.old) (S.told shelf.new)) }
     ensures why { IfErr result (λ e. (answers : List ℕ) → AnswersOf e answers answers) }
+    ensures large { IfErr result (λ e. IsSizeFault e → IsOverLimit output.options output.entries) }
 {
     tables_are_whole();
     entries_are();

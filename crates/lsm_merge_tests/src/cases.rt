@@ -53,6 +53,7 @@ pub(crate) struct Counter {
     next: u64,
     drew: Tag,
     refused: Tag,
+    asked: Tag,
 }
 
 impl Counter {
@@ -61,6 +62,7 @@ impl Counter {
             next,
             drew: Tag::of::<(), Nothing>(&()),
             refused: Tag::of::<(), Nothing>(&()),
+            asked: Tag::of::<(), Nothing>(&()),
         }
     }
 }
@@ -70,7 +72,10 @@ impl NumberSource for Counter {
 
     ghost refused = { λ c. c.refused.numbers };
 
-    fn draw<R: Wait>(&mut self, _rt: &R, _alloc: Global, _ticket: u64) -> Result<u64, NumberFault> {
+    ghost asked = { λ c. c.asked.numbers };
+
+    fn draw<R: Wait>(&mut self, _rt: &R, _alloc: Global, ticket: u64) -> Result<u64, NumberFault> {
+        self.asked = with_number(ticket, &self.asked);
         let number = self.next;
         match number.checked_add(1) {
             Some(next) => {

@@ -1,4 +1,4 @@
-use Rattle.std.proofs.Common.{◌≡◌, ℕ, List, sym, ◌∙◌, subst}
+use Rattle.std.proofs.Common.{ℕ, List, sym, ◌∙◌, subst}
 use Rattle.lsm_table.specs.Registry.{Table}
 use Rattle.lsm_merge.specs.Outputs.{Made}
 use Rattle.lsm_merge.specs.Work.{IsFinished}

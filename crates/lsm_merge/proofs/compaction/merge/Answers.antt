@@ -1,11 +1,18 @@
-use Rattle.std.proofs.Common.{◌≡◌, ℕ, List, [], false, true, sym, ◌∙◌}
+use Rattle.std.proofs.Common.{ℕ, List, [], refl, sym, ◌∙◌, subst}
 use Rattle.lsm_levels.specs.Merging.{entries_of}
 use Rattle.lsm_merge.specs.declared.merge_fault.MergeFault.{MergeFault}
-use Rattle.lsm_merge.specs.Causes.{HasCause}
-use Rattle.lsm_merge.specs.Inputs.{input_numbers}
-use Rattle.lsm_merge.proofs.PlaceLaws.{cause_after, cause_of_put, if_err, puts_all, puts_place, puts_rise, puts_then}
+use Rattle.lsm_merge.specs.Causes.{AnswersOf, AsksFor, HasCause, NamesTicket}
+use Rattle.lsm_merge.specs.Inputs.{IsOrderFault, input_numbers}
+use Rattle.lsm_levels.specs.Files.{all_entries}
+use Rattle.lsm_merge.specs.InputOrder.{HasTwins}
+use Rattle.lsm_merge.specs.Limits.{IsOverLimit, IsSizeFault}
+use Rattle.lsm_merge.specs.Outputs.{entries_of_last}
+use Rattle.lsm_merge.specs.Work.{job_of}
+use Rattle.lsm_merge.proofs.Limited.{no_size_reading}
+use Rattle.lsm_merge.proofs.Tickets.{asks_none, asks_then, names_put, names_reading}
+use Rattle.lsm_merge.proofs.PlaceLaws.{cause_after, cause_of_put, if_err, order_put, puts_all, puts_place, puts_rise, puts_then}
 use Rattle.lsm_merge.proofs.PutLaws.{on_ok}
-use Rattle.lsm_merge.proofs.UnderWay.{under_done, under_step}
+use Rattle.lsm_merge.proofs.UnderWay.{order_reading, under_ascends, under_done, under_last, under_limit, under_order, under_step}
 use Rattle.lsm_merge.proofs.compaction.merge.Goals as goal
 
 pub put_last-requires-clause-here : goal.put_last-requires-clause-here
@@ -21,6 +28,7 @@ returns-then-is_at_end-clause-kept g c = λ honest.
     on_ok c.put_last.result
     (λ goes. under_done g.S.Shelf.honest c.args.job.now (entries_of c.in-Ok.merger.placed) (g.S.Shelf.told c.args.shelf.now) (g.S.Shelf.told c.entries.shelf)
     (g.D.NumberSource.drew c.args.numbers.now) (g.D.NumberSource.drew c.entries.numbers) (g.D.NumberSource.refused c.args.numbers.now) (g.D.NumberSource.refused c.entries.numbers)
+    (g.D.NumberSource.asked c.args.numbers.now) (g.D.NumberSource.asked c.entries.numbers)
     c.entries.outputs c.put_last.new.self c.entries.before c.entries.merger c.entries.invariant c.streaming_keeps_the_kept.ensures.stream
     (sym c.is_at_end.ensures ∙ c.if-is_at_end.true) c.in-Ok.ensures.merges goes honest)
     c.put_last.ensures.ok
@@ -46,8 +54,9 @@ entries-preserved g c =
     under_step g.S.Shelf.honest c.args.job.now (entries_of c.in-Ok.merger.placed) (g.S.Shelf.told c.args.shelf.now) (g.S.Shelf.told c.entries.shelf) (g.S.Shelf.told c.step.new.shelf)
     (g.D.NumberSource.drew c.args.numbers.now) (g.D.NumberSource.drew c.entries.numbers) (g.D.NumberSource.drew c.step.new.numbers)
     (g.D.NumberSource.refused c.args.numbers.now) (g.D.NumberSource.refused c.entries.numbers) (g.D.NumberSource.refused c.step.new.numbers)
+    (g.D.NumberSource.asked c.args.numbers.now) (g.D.NumberSource.asked c.entries.numbers) (g.D.NumberSource.asked c.step.new.numbers)
     c.entries.outputs c.step.new.outputs c.entries.before c.step.new.before c.entries.merger c.step.new.merger c.entries.invariant
-    (sym c.is_at_end.ensures ∙ c.if-is_at_end.false) c.in-Ok-step.ensures.ok c.in-Ok-step.ensures.drawn c.in-Ok-step.ensures.answered c.in-Ok-step.ensures.files c.step.ensures.told
+    (sym c.is_at_end.ensures ∙ c.if-is_at_end.false) c.in-Ok-step.ensures.ok c.in-Ok-step.ensures.drawn c.in-Ok-step.ensures.answered c.in-Ok-step.ensures.files c.step.ensures.told c.step.ensures.asked
 
 pub returns-in-Err-step-clause-told : goal.returns-in-Err-step-clause-told
 returns-in-Err-step-clause-told g c =
@@ -60,3 +69,76 @@ returns-in-Err-step-clause-cause g c =
     cause_after (input_numbers c.args.job.now) c.in-Err-step.fault (g.S.Shelf.told c.args.shelf.now) (g.S.Shelf.told c.entries.shelf) (g.S.Shelf.told c.step.new.shelf)
     (puts_rise [] c.entries.outputs.put (g.S.Shelf.told c.args.shelf.now) (g.S.Shelf.told c.entries.shelf) c.entries.invariant.told)
     (c.in-Err-step.ensures.cause (input_numbers c.args.job.now) c.entries.invariant.files)
+
+pub returns-in-Err-clause-asked : goal.returns-in-Err-clause-asked
+returns-in-Err-clause-asked g c = asks_none c.args.job.now.ticket (g.D.NumberSource.asked c.args.numbers.now) (g.D.NumberSource.asked c.args.numbers.now) refl
+
+pub returns-in-Err-clause-ticket : goal.returns-in-Err-clause-ticket
+returns-in-Err-clause-ticket g c = names_reading c.in-Err.fault c.args.job.now.ticket c.in-Err.ensures.kind
+
+pub returns-in-Err-clause-large : goal.returns-in-Err-clause-large
+returns-in-Err-clause-large g c = λ honest size. absurd (no_size_reading c.in-Err.fault c.in-Err.ensures.kind size)
+
+pub returns-in-Err-clause-order : goal.returns-in-Err-clause-order
+returns-in-Err-clause-order g c = λ honest stand late. absurd (order_reading c.in-Err.fault c.in-Err.ensures.kind late)
+
+pub returns-then-is_at_end-clause-asked : goal.returns-then-is_at_end-clause-asked
+returns-then-is_at_end-clause-asked g c = c.entries.invariant.asks
+
+pub returns-then-is_at_end-clause-ticket : goal.returns-then-is_at_end-clause-ticket
+returns-then-is_at_end-clause-ticket g c =
+    if_err (λ (e : MergeFault). (answers : List ℕ) → AnswersOf e answers answers) (λ (e : MergeFault). NamesTicket e c.args.job.now.ticket)
+    c.put_last.result (λ e h. names_put e c.args.job.now.ticket h) c.put_last.ensures.why
+
+pub returns-then-is_at_end-clause-large : goal.returns-then-is_at_end-clause-large
+returns-then-is_at_end-clause-large g c = λ honest.
+    if_err (λ (e : MergeFault). IsSizeFault e → IsOverLimit c.entries.outputs.options (entries_of_last c.entries.outputs.last))
+    (λ (e : MergeFault). IsSizeFault e → IsOverLimit c.args.job.now.table (all_entries (job_of c.args.job.now).inputs))
+    c.put_last.result
+    (λ e h size. under_last g.S.Shelf.honest c.args.job.now (entries_of c.in-Ok.merger.placed) (all_entries (job_of c.args.job.now).inputs) (g.S.Shelf.told c.args.shelf.now) (g.S.Shelf.told c.entries.shelf)
+    (g.D.NumberSource.drew c.args.numbers.now) (g.D.NumberSource.drew c.entries.numbers) (g.D.NumberSource.refused c.args.numbers.now) (g.D.NumberSource.refused c.entries.numbers)
+    (g.D.NumberSource.asked c.args.numbers.now) (g.D.NumberSource.asked c.entries.numbers)
+    c.entries.outputs c.entries.before c.entries.merger c.entries.invariant honest
+    (c.in-Ok.ensures.from honest) (h size))
+    c.put_last.ensures.large
+
+pub returns-then-is_at_end-clause-order : goal.returns-then-is_at_end-clause-order
+returns-then-is_at_end-clause-order g c = λ honest stand.
+    if_err (λ (e : MergeFault). HasCause [] e (g.S.Shelf.told c.entries.shelf) (g.S.Shelf.told c.put_last.new.shelf))
+    (λ (e : MergeFault). IsOrderFault e → HasTwins (all_entries (job_of c.args.job.now).inputs))
+    c.put_last.result (λ e h late. absurd (order_put e (g.S.Shelf.told c.entries.shelf) (g.S.Shelf.told c.put_last.new.shelf) h late)) c.put_last.ensures.cause
+
+pub returns-in-Err-step-clause-asked : goal.returns-in-Err-step-clause-asked
+returns-in-Err-step-clause-asked g c =
+    asks_then c.args.job.now.ticket (g.D.NumberSource.asked c.args.numbers.now) (g.D.NumberSource.asked c.entries.numbers) (g.D.NumberSource.asked c.step.new.numbers) c.entries.invariant.asks
+    (subst (λ (t : ℕ). AsksFor t (g.D.NumberSource.asked c.entries.numbers) (g.D.NumberSource.asked c.step.new.numbers)) (c.entries.invariant.sizes).ticket c.step.ensures.asked)
+
+pub returns-in-Err-step-clause-ticket : goal.returns-in-Err-step-clause-ticket
+returns-in-Err-step-clause-ticket g c = subst (NamesTicket c.in-Err-step.fault) (c.entries.invariant.sizes).ticket c.in-Err-step.ensures.ticket
+
+pub returns-in-Err-step-clause-large : goal.returns-in-Err-step-clause-large
+returns-in-Err-step-clause-large g c = λ honest size.
+    under_limit g.S.Shelf.honest c.args.job.now (entries_of c.in-Ok.merger.placed) (all_entries (job_of c.args.job.now).inputs) (g.S.Shelf.told c.args.shelf.now) (g.S.Shelf.told c.entries.shelf)
+    (g.D.NumberSource.drew c.args.numbers.now) (g.D.NumberSource.drew c.entries.numbers) (g.D.NumberSource.refused c.args.numbers.now) (g.D.NumberSource.refused c.entries.numbers)
+    (g.D.NumberSource.asked c.args.numbers.now) (g.D.NumberSource.asked c.entries.numbers)
+    c.entries.outputs c.entries.before c.entries.merger c.entries.invariant
+    (sym c.is_at_end.ensures ∙ c.if-is_at_end.false) (c.in-Err-step.ensures.large size) honest (c.in-Ok.ensures.from honest)
+
+pub returns-in-Err-step-clause-order : goal.returns-in-Err-step-clause-order
+returns-in-Err-step-clause-order g c = λ honest stand late.
+    c.in-Ok.ensures.order honest stand
+    (under_order g.S.Shelf.honest c.args.job.now (entries_of c.in-Ok.merger.placed) (g.S.Shelf.told c.args.shelf.now) (g.S.Shelf.told c.entries.shelf)
+    (g.D.NumberSource.drew c.args.numbers.now) (g.D.NumberSource.drew c.entries.numbers) (g.D.NumberSource.refused c.args.numbers.now) (g.D.NumberSource.refused c.entries.numbers)
+    (g.D.NumberSource.asked c.args.numbers.now) (g.D.NumberSource.asked c.entries.numbers)
+    c.entries.outputs c.entries.before c.entries.merger c.entries.invariant
+    (sym c.is_at_end.ensures ∙ c.if-is_at_end.false) (c.in-Err-step.ensures.order late) honest)
+
+pub returns-then-is_at_end-clause-apart : goal.returns-then-is_at_end-clause-apart
+returns-then-is_at_end-clause-apart g c = λ honest stand.
+    on_ok c.put_last.result
+    (λ goes. c.in-Ok.ensures.apart honest stand
+    (under_ascends g.S.Shelf.honest c.args.job.now (entries_of c.in-Ok.merger.placed) (g.S.Shelf.told c.args.shelf.now) (g.S.Shelf.told c.entries.shelf)
+    (g.D.NumberSource.drew c.args.numbers.now) (g.D.NumberSource.drew c.entries.numbers) (g.D.NumberSource.refused c.args.numbers.now) (g.D.NumberSource.refused c.entries.numbers)
+    (g.D.NumberSource.asked c.args.numbers.now) (g.D.NumberSource.asked c.entries.numbers)
+    c.entries.outputs c.entries.before c.entries.merger c.entries.invariant (sym c.is_at_end.ensures ∙ c.if-is_at_end.true) honest))
+    c.put_last.ensures.ok

@@ -1,13 +1,16 @@
-use Rattle.std.proofs.Common.{◌≡◌, ℕ, List, ◌∷◌, sym, ◌∙◌}
+use Rattle.std.proofs.Common.{◌≡◌, ℕ, List, [], ◌∷◌, ◌++◌, sym, ◌∙◌}
 use Rattle.lsm_codec.specs.Entries.{Entry}
 use Rattle.lsm_codec.specs.KeyRef.{key_of}
 use Rattle.lsm_block.specs.Block.{entry_of}
 use Rattle.lsm_levels.specs.Merging.{Placed}
 use Rattle.lsm_merge.specs.declared.merge_fault.MergeFault.{MergeFault}
-use Rattle.lsm_merge.specs.Causes.{AnswersOf, HasCause, Leaves}
-use Rattle.lsm_merge.specs.Dropping.{Follows, follows}
+use Rattle.lsm_merge.specs.Causes.{AnswersOf, HasCause, Leaves, NamesTicket}
+use Rattle.lsm_merge.specs.Dropping.{Follows}
 use Rattle.lsm_merge.specs.Inputs.{AreInputs, IsOfReading, IsOrderFault}
-use Rattle.lsm_merge.specs.Outputs.{drawn_of}
+use Rattle.lsm_merge.specs.Outputs.{drawn_of, entries_of_last}
+use Rattle.lsm_merge.specs.Limits.{IsOverLimit, IsSizeFault}
+use Rattle.lsm_merge.proofs.Limited.{no_size_reading}
+use Rattle.lsm_merge.proofs.Tickets.{names_reading}
 use Rattle.lsm_merge.proofs.Dropped.{follows_says}
 use Rattle.lsm_merge.proofs.PlaceLaws.{ascends_after, cause_after, if_err, puts_place, puts_rise}
 use Rattle.lsm_merge.proofs.UnderWay.{leaves_reading, order_reading, why_reading}
@@ -46,3 +49,13 @@ pub returns-clause-order : goal.returns-clause-order
 returns-clause-order g c =
     if_err IsOfReading (λ (e : MergeFault). IsOrderFault e → (p : Placed) (rest : List Placed) → c.args.merger.now.placed ≡ p ∷ rest → Follows c.args.before.now p.1 → ⊥)
     c.advance.result (λ e k h p rest is f. order_reading e k h) c.advance.ensures.kind
+
+pub returns-clause-ticket : goal.returns-clause-ticket
+returns-clause-ticket g c =
+    if_err IsOfReading (λ (e : MergeFault). NamesTicket e c.args.outputs.now.ticket) c.advance.result (λ e k. names_reading e c.args.outputs.now.ticket k) c.advance.ensures.kind
+
+pub returns-clause-large : goal.returns-clause-large
+returns-clause-large g c =
+    if_err IsOfReading (λ (e : MergeFault). IsSizeFault e → (p : Placed) (rest : List Placed) → c.args.merger.now.placed ≡ p ∷ rest
+    → IsOverLimit c.args.outputs.now.options (entries_of_last c.args.outputs.now.last ++ p.1 ∷ []))
+    c.advance.result (λ e k s p rest is. absurd (no_size_reading e k s)) c.advance.ensures.kind

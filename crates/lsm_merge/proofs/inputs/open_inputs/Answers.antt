@@ -1,9 +1,9 @@
-use Rattle.std.proofs.Common.{List, ◌≡◌, ◌++◌, subst}
+use Rattle.std.proofs.Common.{ℕ, ◌≤◌, List, subst}
 use Rattle.lsm_codec.specs.Lists.{Has}
 use Rattle.lsm_codec.proofs.CallerLemmas.{has_left, has_right}
 use Rattle.lsm_table.specs.Registry.{Table}
 use Rattle.lsm_merge.specs.Inputs.{input_numbers, numbers_of}
-use Rattle.lsm_merge.proofs.InputLaws.{cause_more, files_all, files_are_inputs, lower_has, merger_merges, streams_all, upper_has}
+use Rattle.lsm_merge.proofs.InputLaws.{cause_more, files_all, files_are_inputs, lower_has, merger_apart, merger_from, merger_merges, merger_twins, runs_all, streams_all, upper_has}
 use Rattle.lsm_merge.proofs.PlaceLaws.{becomes_rises, cause_after}
 use Rattle.lsm_merge.proofs.inputs.open_inputs.Goals as goal
 
@@ -38,3 +38,29 @@ returns-clause-files g c =
     files_are_inputs c.in_ok-new.field-0.files c.push_run.new.runs.items (input_numbers c.args.job.now) c.in_ok-new.ensures.files
     (files_all c.new-runs.result.items c.push_upper.new.runs.items c.push_run.new.runs.items c.upper.result.now c.args.job.now.upper c.lower.result.now c.args.job.now.lower
     c.new-runs.ensures.items c.in-Ok.ensures.files c.in-Ok-push_run.ensures.files c.upper.ensures c.lower.ensures)
+
+pub returns-clause-from : goal.returns-clause-from
+returns-clause-from g c = λ honest.
+    merger_from c.merges_are_in_order.ensures.from c.args.job.now c.in_ok-new.field-0.placed c.push_run.new.runs.items c.in_ok-new.ensures.placed
+    (streams_all c.new-runs.result.items c.push_upper.new.runs.items c.push_run.new.runs.items c.upper.result.now c.args.job.now.upper c.lower.result.now c.args.job.now.lower
+    c.new-runs.ensures.items (c.in-Ok.ensures.entries honest) (c.in-Ok-push_run.ensures.entries honest) c.upper.ensures c.lower.ensures)
+
+pub returns-clause-order : goal.returns-clause-order
+returns-clause-order g c = λ honest stand late.
+    merger_twins c.merges_are_in_order.ensures.alike c.merges_are_in_order.ensures.order c.args.job.now c.in_ok-new.field-0.placed c.push_run.new.runs.items c.in_ok-new.ensures.placed
+    (streams_all c.new-runs.result.items c.push_upper.new.runs.items c.push_run.new.runs.items c.upper.result.now c.args.job.now.upper c.lower.result.now c.args.job.now.lower
+    c.new-runs.ensures.items (c.in-Ok.ensures.entries honest) (c.in-Ok-push_run.ensures.entries honest) c.upper.ensures c.lower.ensures)
+    (runs_all c.args.job.now c.upper.result.now c.lower.result.now c.new-runs.result.items c.push_upper.new.runs.items c.push_run.new.runs.items stand c.upper.ensures c.lower.ensures c.new-runs.ensures.items
+    (λ sorted. c.in-Ok.ensures.ordered honest (λ h. sorted (subst (λ (n : ℕ). 1 ≤ n) c.level.ensures.level h)))
+    (c.in-Ok-push_run.ensures.ordered honest))
+    late
+
+pub returns-clause-apart : goal.returns-clause-apart
+returns-clause-apart g c = λ honest stand up twins.
+    merger_apart c.merges_are_in_order.ensures.alike c.args.job.now c.in_ok-new.field-0.placed c.push_run.new.runs.items c.in_ok-new.ensures.placed
+    (streams_all c.new-runs.result.items c.push_upper.new.runs.items c.push_run.new.runs.items c.upper.result.now c.args.job.now.upper c.lower.result.now c.args.job.now.lower
+    c.new-runs.ensures.items (c.in-Ok.ensures.entries honest) (c.in-Ok-push_run.ensures.entries honest) c.upper.ensures c.lower.ensures)
+    (runs_all c.args.job.now c.upper.result.now c.lower.result.now c.new-runs.result.items c.push_upper.new.runs.items c.push_run.new.runs.items stand c.upper.ensures c.lower.ensures c.new-runs.ensures.items
+    (λ sorted. c.in-Ok.ensures.ordered honest (λ h. sorted (subst (λ (n : ℕ). 1 ≤ n) c.level.ensures.level h)))
+    (c.in-Ok-push_run.ensures.ordered honest))
+    up twins

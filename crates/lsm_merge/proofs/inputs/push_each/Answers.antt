@@ -1,7 +1,7 @@
 use Rattle.std.proofs.Common.{◌<◌, length, arith}
-use Rattle.lsm_merge.specs.Inputs.{numbers_of}
-use Rattle.lsm_merge.proofs.InputLaws.{cause_more, number_one, whole_one}
-use Rattle.lsm_merge.proofs.PlaceLaws.{becomes_rises, cause_after}
+use Rattle.lsm_merge.specs.Inputs.{files_in, numbers_of, streams}
+use Rattle.lsm_merge.proofs.InputLaws.{cause_more, entries_more, files_more, number_one, one_sorted, whole_one}
+use Rattle.lsm_merge.proofs.PlaceLaws.{becomes_rises, cause_after, then_becomes}
 use Rattle.lsm_merge.proofs.inputs.push_each.Goals as goal
 
 pub push_run-requires-clause-whole : goal.push_run-requires-clause-whole
@@ -17,3 +17,18 @@ returns-in-Err-clause-cause g c =
     (cause_more (numbers_of c.from_ref.result.now) (numbers_of c.args.tables.now) c.in-Err.fault (g.S.Shelf.told c.loop-table.shelf) (g.S.Shelf.told c.push_run.new.shelf)
     (number_one c.args.tables.now c.loop-table.table-index c.table-item.result c.from_ref.result.now inside c.table-item.is c.from_ref.ensures.value)
     c.in-Err.ensures.cause)
+
+pub loop-table-preserved : goal.loop-table-preserved
+loop-table-preserved g c =
+    let inside : c.loop-table.table-index < length c.args.tables.now = omega arith in
+    record {
+      told = then_becomes (g.S.Shelf.told c.args.shelf.now) (g.S.Shelf.told c.loop-table.shelf) (g.S.Shelf.told c.push_run.new.shelf) c.loop-table.invariant.told c.push_run.ensures.told;
+      entries = λ honest.
+          entries_more c.args.tables.now c.loop-table.table-index c.table-item.result c.from_ref.result.now (streams c.args.runs.now.items) (streams c.loop-table.runs.items) (streams c.push_run.new.runs.items)
+          inside c.table-item.is c.from_ref.ensures.value (c.loop-table.invariant.entries honest) (c.in-Ok.ensures.entries honest);
+      ordered = λ honest a.
+          c.in-Ok.ensures.ordered honest (one_sorted c.args.tables.now c.loop-table.table-index c.table-item.result c.from_ref.result.now inside c.table-item.is c.from_ref.ensures.value (c.requires.whole honest))
+          (c.loop-table.invariant.ordered honest a);
+      files = files_more c.args.tables.now c.loop-table.table-index c.table-item.result c.from_ref.result.now (files_in c.args.runs.now.items) (files_in c.loop-table.runs.items) (files_in c.push_run.new.runs.items)
+          inside c.table-item.is c.from_ref.ensures.value c.loop-table.invariant.files c.in-Ok.ensures.files;
+    }

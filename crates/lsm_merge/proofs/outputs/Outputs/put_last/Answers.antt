@@ -1,7 +1,7 @@
-use Rattle.std.proofs.Common.{◌≡◌, ℕ, List, [], Option, Some, None, sym, ◌∙◌, subst}
+use Rattle.std.proofs.Common.{◌≡◌, ℕ, List, [], Some, None, sym, subst}
 use Rattle.std.specs.Prelude.{OnOk}
 use Rattle.lsm_merge.specs.Dropping.{closed}
-use Rattle.lsm_merge.specs.Outputs.{AreGood, Goes, Made, Unfinished, drawn_of, making_of}
+use Rattle.lsm_merge.specs.Outputs.{AreGood, Goes, Made, drawn_of, making_of}
 use Rattle.lsm_merge.proofs.PutLaws.{on_ok, put_drawn, put_goes}
 use Rattle.lsm_merge.proofs.outputs.Outputs.put_last.Goals as goal
 
