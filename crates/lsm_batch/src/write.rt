@@ -1,0 +1,37 @@
+//! What a batch does to one key.
+
+ghost use Rattle.std.specs.Prelude.{◌≡◌};
+ghost use Rattle.lsm_batch.specs.Batches.{kind_of, value_of};
+
+use lsm_codec::{Bytes, Kind};
+
+/// What a batch does to one user key.
+#[derive(Debug, Drop)]
+pub struct Write {
+    /// The user key.
+    pub key: Bytes,
+    /// Its new value, or none for a deletion.
+    pub value: Option<Bytes>,
+}
+
+impl Write {
+    // The kind of its entry.
+    pub(crate) fn kind(&self) -> Kind
+        ensures { result ≡ kind_of self.now.value }
+    {
+        match &self.value {
+            Some(_) => Kind::Value,
+            None => Kind::Deletion,
+        }
+    }
+
+    // The bytes of its entry's value, none for a deletion.
+    pub(crate) fn bytes(&self) -> &[u8]
+        ensures { result.now ≡ value_of self.now.value }
+    {
+        match &self.value {
+            Some(value) => value.as_slice(),
+            None => b"".as_slice(),
+        }
+    }
+}
