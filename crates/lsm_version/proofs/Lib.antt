@@ -21,3 +21,4 @@ pub mod Ages
 pub mod Opening
 pub mod Refused
 pub mod Deletions
+pub mod NamedFiles

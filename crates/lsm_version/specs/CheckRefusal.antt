@@ -11,10 +11,10 @@ use Rattle.lsm_version.specs.declared.check.check_fault.CheckFault.{CheckFault}
 use Rattle.lsm_version.specs.declared.check.check_fault.CheckFault.TheVariants.{Read, DoubleFile, Overlap, WrongRange, AgeOrder}
 use Rattle.lsm_levels.specs.Files.{File, Shallower}
 use Rattle.lsm_version.specs.FileNumbers.{AreDistinct, IsLeastTwice, numbers_of}
-use Rattle.lsm_version.specs.FileRefusal.{IsWant, IsFilesRefusal}
+use Rattle.lsm_version.specs.FileRefusal.{IsWant, IsFilesRefusal, NamesOne}
 use Rattle.lsm_version.specs.LevelLayouts.{IsLayoutRefusal, LieInOrder}
 use Rattle.lsm_version.specs.Loading.{AreLevelsOf, AreLevelsStored, all_files, placed_levels}
-use Rattle.lsm_version.specs.Settled.{IsSettled}
+use Rattle.lsm_version.specs.Settled.{IsOneUnsettled, IsSettled}
 use Rattle.lsm_version.specs.Versions.{Levels, AreInOrder, files_from}
 
 -- The version has a table for each file of the shape, the shape's pointers and its last sequence. The tables of a level were put
@@ -53,10 +53,11 @@ IsNumberRefusal numbers (Overlap level) = ⊥
 IsNumberRefusal numbers (WrongRange number) = ⊥
 IsNumberRefusal numbers (AgeOrder user) = ⊥
 
--- Of files of which ranges and sequences alone don't settle the age order, tables are read a second time. Over an honest shelf that is
--- refused by the shelf or for want of memory alone, or for the least user key against age.
+-- Of files of which ranges and sequences alone don't settle the age order, tables are read a second time. Where that is refused, the
+-- file of such a table is named, or memory ran out; over an honest shelf it is refused by the shelf or for want of memory alone, or for
+-- the least user key against age.
 abbrev pub IsAgeRefusal : Type 0 → List File → CheckFault → Type 0
-IsAgeRefusal Honest v (Read file fault) = IsWant fault ⊎ ((IsSettled v → ⊥) × (Honest → IsMemoryOrShelf fault))
+IsAgeRefusal Honest v (Read file fault) = NamesOne (IsOneUnsettled v) file fault × (Honest → IsMemoryOrShelf fault)
 IsAgeRefusal Honest v (AgeOrder user) = (IsSettled v → ⊥) × (Honest → IsLeastAgainst v user)
 IsAgeRefusal Honest v (DoubleFile number) = ⊥
 IsAgeRefusal Honest v (Overlap level) = ⊥

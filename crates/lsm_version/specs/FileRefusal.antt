@@ -1,5 +1,5 @@
 -- Why a check refuses a file of a shape (this project's rule).
-use Rattle.std.specs.Prelude.{◌≡◌, ◌⊎◌, ℕ, false, List, ◌∷◌, ◌++◌, Some, Err}
+use Rattle.std.specs.Prelude.{◌≡◌, ◌⊎◌, ℕ, false, List, ◌∷◌, ◌++◌, Option, None, Some, Err}
 use Rattle.lsm_codec.specs.Lists.{Has}
 use Rattle.lsm_table.specs.declared.read_fault.ReadFault.TheVariants.{Shelf, Table}
 use Rattle.lsm_table.specs.ReadFault.{IsMemory}
@@ -29,6 +29,11 @@ IsFileRefusal Stored last file (AgeOrder user) = ⊥
 abbrev pub IsWant : ReadFault → Type 0
 IsWant (Shelf fault) = ⊥
 IsWant (Table fault) = IsMemory fault
+
+-- The file has a number of which `P` tells; or none is named, and memory ran out.
+abbrev pub NamesOne : (ℕ → Type 0) → Option ℕ → ReadFault → Type 0
+NamesOne P None fault = IsWant fault
+NamesOne P (Some number) fault = P number
 
 -- memory ran out
 abbrev pub IsMemoryRefusal : CheckFault → Type 0

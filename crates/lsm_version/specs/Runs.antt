@@ -27,6 +27,20 @@ pub record AreRunsOf (shallow : List Table) (P : File → Type 0) (runs : List (
   pub all : (F : File) (e : Entry) → P F → Has F.entries e → (l : List Placed) × Has runs l × Has l (depth_of shallow F, e)
   pub ordered : AreOrdered runs
 
+-- ---- files that are named
+
+-- one of these tables has the number
+abbrev pub IsNumberOf : List Table → ℕ → Type 0
+IsNumberOf ts n = (t : Table) × Has ts t × (t.number ≡ n)
+
+-- a table of some level has it
+abbrev pub IsNumberIn : List (List Table) → ℕ → Type 0
+IsNumberIn levels n = (level : ℕ) × IsNumberOf (level_in levels level) n
+
+-- each of these files, which stand with the places of their runs, has a number of which `P` tells
+abbrev pub AreNamed : (ℕ → Type 0) → List (ℕ × ℕ) → Type 0
+AreNamed P files = (f : ℕ × ℕ) → Has files f → P f.1
+
 -- ---- how the code makes them
 
 -- a file of a level below k

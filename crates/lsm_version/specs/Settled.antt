@@ -26,6 +26,10 @@ IsUnsettled F G = Shallower F G × Meets F G.low G.high × Reaches F G
 abbrev pub IsSettled : List File → Type 0
 IsSettled v = (F G : File) → Has v F → Has v G → IsUnsettled F G → ⊥
 
+-- one of two such files has the number
+abbrev pub IsOneUnsettled : List File → ℕ → Type 0
+IsOneUnsettled v n = (F : File) × (G : File) × Has v F × Has v G × IsUnsettled F G × ((n ≡ F.number) ⊎ (n ≡ G.number))
+
 -- ---- the sequences of a table
 
 -- the least and the greatest sequence of these entries

@@ -74,7 +74,8 @@ impl<N: Naming, S: Shelf> Version<N, S> {
     /// shelf's refusals and those of a table, with the file's number, and `WrongRange` where a table has another size, another first
     /// or last internal key than the shape says, no entries, or an entry above the last sequence; then `Overlap` with the least level
     /// from 1 on in which two files meet in internal keys (a user key may go on in the next file of a level); then, where a second
-    /// look is needed, `AgeOrder` with the least user key of which a deeper entry has no lesser sequence than a shallower one (that a
+    /// look is needed, the shelf's refusals and those of a table with the number of one of the files that are not settled, or `AgeOrder`
+    /// with the least user key of which a deeper entry has no lesser sequence than a shallower one (that a
     /// key's entries are newer the shallower they lie is what LevelDB's `doc/impl.md` builds on; that a database which breaks it is
     /// refused is this project's rule).
     ///

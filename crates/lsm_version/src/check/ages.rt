@@ -11,7 +11,8 @@ ghost use Rattle.lsm_levels.specs.Files.{File, Fits};
 ghost use Rattle.lsm_levels.specs.Merging.{Placed, merge_all};
 ghost use Rattle.lsm_version.specs.CheckFault.{CheckCounted};
 ghost use Rattle.lsm_version.specs.CheckRefusal.{IsAgeRefusal};
-ghost use Rattle.lsm_version.specs.Runs.{AreMergeable, AreRunsOf, chosen, is_among};
+ghost use Rattle.lsm_version.specs.FileRefusal.{NamesOne};
+ghost use Rattle.lsm_version.specs.Runs.{AreMergeable, AreRunsOf, IsNumberIn, chosen, is_among};
 ghost use Rattle.lsm_version.specs.Settled.{AreUnsettled, KeepsAge};
 ghost use Rattle.lsm_version.specs.Versions.{files_from, level_in};
 
@@ -71,7 +72,7 @@ fn choose<N: Naming, S: Shelf>(
 }
 
 /// Goes through the tables of all levels in the order of keys, block by block: the least user key of which a deeper entry has no lesser
-/// sequence than a shallower one, if there is one.
+/// sequence than a shallower one, if there is one. A refusal names the file of one of these tables, unless memory ran out beside them.
 fn look_again<N: Naming, S: Shelf, B: Blocks<S>>(
     blocks: &mut B,
     alloc: Global,
@@ -84,6 +85,7 @@ fn look_again<N: Naming, S: Shelf, B: Blocks<S>>(
     requires mergeable { S.honest → AreMergeable (map (λ l. l.items) levels.now) }
     ensures judged { S.honest → IfOk result (λ r. (ls : List (List Placed)) × AreRunsOf (level_in (map (λ l. l.items) levels.now) 0) (Has (files_from 0 (map (λ l. l.items) levels.now))) ls × MatchOption r (IsAgeOrder (merge_all ls)) (λ k. IsLeastAgainstAge (merge_all ls) k)) }
     ensures sound { S.honest → IfErr result (λ e. IsMemoryOrShelf e.fault) }
+    ensures number { IfErr result (λ e. NamesOne (IsNumberIn (map (λ l. l.items) levels.now)) e.file e.fault) }
     ensures told { Becomes (B.told blocks.old) (B.told blocks.new) }
     ensures loan { B.loan blocks.new ≡ B.loan blocks.old }
     ensures cause { IfErr result (λ e. ReadCounted e.fault (B.told blocks.old) (B.told blocks.new)) }
@@ -96,14 +98,15 @@ fn look_again<N: Naming, S: Shelf, B: Blocks<S>>(
     match against_age(blocks, alloc, &mut merger) {
         Ok(user) => Ok(user),
         Err(fault) => Err(Unread {
-            file: None,
+            file: Some(fault.number),
             fault: fault.fault,
         }),
     }
 }
 
 /// Reads the tables of these numbers a second time, block by block, in the order of keys, and refuses the least user key of which a
-/// deeper entry has no lesser sequence than a shallower one. Where there is no number, it reads nothing.
+/// deeper entry has no lesser sequence than a shallower one. Where there is no number, it reads nothing. A refusal names a file of one
+/// of these numbers, unless memory ran out beside them.
 pub(crate) fn judge_ages<N: Naming, S: Shelf>(
     shelf: &mut S,
     alloc: Global,

@@ -1,11 +1,14 @@
 //! The sources of a merge of all levels.
 
 ghost use Rattle.std.specs.Prelude.{◌≡◌, ◌++◌, [], ◌∷◌, None, length, map, IfOk, IfErr, OnOk};
+ghost use Rattle.std.specs.List.{flat_map};
 ghost use Rattle.lsm_codec.specs.Lists.{Has};
 ghost use Rattle.lsm_table.specs.ReadFault.{IsMemoryOrShelf, ReadCounted};
 ghost use Rattle.lsm_table.specs.Told.{Becomes};
 ghost use Rattle.lsm_levels.specs.Merging.{placed_at};
-ghost use Rattle.lsm_version.specs.Runs.{AreMergeable, AreRunsOf, AreWhole, entries_after, once};
+ghost use Rattle.lsm_merger.specs.Runs.{files_at};
+ghost use Rattle.lsm_version.specs.FileRefusal.{NamesOne};
+ghost use Rattle.lsm_version.specs.Runs.{AreMergeable, AreNamed, AreRunsOf, AreWhole, IsNumberIn, IsNumberOf, entries_after, once};
 ghost use Rattle.lsm_version.specs.Versions.{files_from, files_of, level_in};
 
 use crate::read::depths::newer_count;
@@ -27,6 +30,8 @@ fn open_shallow<N: Naming, S: Shelf, B: Blocks<S>>(
     requires named { registry.now ≡ N.registry }
     requires whole { S.honest → AreWhole level.now }
     ensures runs { S.honest → IfOk result (λ v. AreRunsOf level.now (Has (files_of 0 level.now)) (map (λ r. r.placed) v.items)) }
+    ensures files { IfOk result (λ v. AreNamed (IsNumberOf level.now) (flat_map (λ r. r.files) v.items)) }
+    ensures number { IfErr result (λ e. NamesOne (IsNumberOf level.now) e.file e.fault) }
     ensures sound { S.honest → IfErr result (λ e. IsMemoryOrShelf e.fault) }
     ensures told { Becomes (B.told blocks.old) (B.told blocks.new) }
     ensures loan { B.loan blocks.new ≡ B.loan blocks.old }
@@ -57,6 +62,8 @@ fn open_deeper<N: Naming, S: Shelf, B: Blocks<S>>(
     requires here { (B.told blocks.old).place ≡ N.place }
     requires named { registry.now ≡ N.registry }
     requires whole { S.honest → AreWhole level.now }
+    ensures files { OnOk result (flat_map (λ r. r.files) runs.new.items ≡ flat_map (λ r. r.files) runs.old.items ++ files_at depth (map (λ t. t.number) (once None level.now))) }
+    ensures number { IfErr result (λ e. NamesOne (IsNumberOf level.now) e.file e.fault) }
     ensures none { once None level.now ≡ [] → OnOk result (runs.new.items ≡ runs.old.items) }
     ensures run { S.honest → (once None level.now ≡ [] → ⊥) → OnOk result (map (λ r. r.placed) runs.new.items ≡ map (λ r. r.placed) runs.old.items ++ placed_at depth (entries_after (once None level.now)) ∷ []) }
     ensures sound { S.honest → IfErr result (λ e. IsMemoryOrShelf e.fault) }
@@ -89,6 +96,8 @@ pub(crate) fn open_runs<N: Naming, S: Shelf, B: Blocks<S>>(
     requires seven { length levels.now ≡ 7 }
     requires mergeable { S.honest → AreMergeable (map (λ l. l.items) levels.now) }
     ensures runs { S.honest → IfOk result (λ v. AreRunsOf (level_in (map (λ l. l.items) levels.now) 0) (Has (files_from 0 (map (λ l. l.items) levels.now))) (map (λ r. r.placed) v.items)) }
+    ensures files { IfOk result (λ v. AreNamed (IsNumberIn (map (λ l. l.items) levels.now)) (flat_map (λ r. r.files) v.items)) }
+    ensures number { IfErr result (λ e. NamesOne (IsNumberIn (map (λ l. l.items) levels.now)) e.file e.fault) }
     ensures sound { S.honest → IfErr result (λ e. IsMemoryOrShelf e.fault) }
     ensures told { Becomes (B.told blocks.old) (B.told blocks.new) }
     ensures loan { B.loan blocks.new ≡ B.loan blocks.old }

@@ -1,4 +1,4 @@
-use Rattle.std.proofs.Common.{◌≡◌, ◌∙◌, ◌++◌, ◌∷◌, [], List, map, ap, sym}
+use Rattle.std.proofs.Common.{◌∙◌, ◌∷◌, [], List, map, ap}
 use Rattle.std.specs.List.{filter}
 use Rattle.std.proofs.lemmas.List.{map-append}
 use Rattle.lsm_table.specs.Registry.{Table}

@@ -1,12 +1,14 @@
-use Rattle.std.proofs.Common.{◌≡◌, ◌∙◌, List, ℕ, length, map, ap, sym, subst, arith, refl, inr}
+use Rattle.std.proofs.Common.{◌≡◌, ◌∙◌, List, ℕ, length, map, ap, sym, subst, arith, refl}
 use Rattle.std.proofs.lemmas.Bool.{eqb-true, eqb-false}
 use Rattle.std.proofs.lemmas.List.{length-map}
 use Rattle.lsm_table.specs.Registry.{Table}
 use Rattle.lsm_levels.specs.Ages.{IsAgeOrder, IsLeastAgainstAge}
 use Rattle.lsm_levels.specs.Merging.{Placed, merge_all}
-use Rattle.lsm_version.specs.Runs.{AreMergeable, chosen}
+use Rattle.lsm_version.specs.Runs.{AreMergeable, IsNumberIn, chosen}
+use Rattle.lsm_version.specs.Settled.{IsOneUnsettled}
 use Rattle.lsm_version.specs.Versions.{files_from}
 use Rattle.lsm_version.proofs.Ages.{all_settled, looked_none, looked_some, not_settled}
+use Rattle.lsm_version.proofs.NamedFiles.{chosen_unsettled, names_as}
 use Rattle.lsm_version.proofs.Runs.{chosen_mergeable, length-chosen}
 use Rattle.lsm_version.proofs.check.ages.judge_ages.Goals as goal
 
@@ -44,5 +46,8 @@ returns-in-Ok-Some-clause-refused g c =
 pub returns-clause-refused : goal.returns-clause-refused
 returns-clause-refused g c =
     let levels : List (List Table) = map (λ l. l.items) c.args.levels.now in
-    let some : length c.args.unsettled.now ≡ 0 → ⊥ = λ e. (let ne = eqb-false (length c.args.unsettled.now) 0 (sym c.is_empty.ensures ∙ c.if-is_empty.false) in absurd (omega (arith, ne, e))) in
-    inr (not_settled levels c.args.unsettled.now c.requires.unsettled some, λ h. c.in-Err.ensures.sound h)
+    let some : map (λ l. l.items) c.deref.result.now ≡ chosen c.args.unsettled.now levels = ap (map (λ l. l.items)) c.deref.ensures.value ∙ c.in_ok-chosen.ensures in (
+      names_as (IsNumberIn (map (λ l. l.items) c.deref.result.now)) (IsOneUnsettled (files_from 0 levels)) c.in-Err.unread.file c.in-Err.unread.fault
+          (λ n. chosen_unsettled c.args.unsettled.now levels (map (λ l. l.items) c.deref.result.now) n c.requires.unsettled some) c.in-Err.ensures.number,
+      λ h. c.in-Err.ensures.sound h,
+    )

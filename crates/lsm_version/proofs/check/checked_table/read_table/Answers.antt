@@ -1,4 +1,4 @@
-use Rattle.std.proofs.Common.{◌≡◌, rules, length, refl, sym, ◌∙◌, ap, subst, List, ℕ}
+use Rattle.std.proofs.Common.{◌≡◌, rules, length, refl, sym, ◌∙◌, ap, subst, List}
 use Rattle.lsm_codec.specs.Entries.{Entry}
 use Rattle.lsm_table.specs.HeldTable.{entries_in}
 use Rattle.lsm_version.specs.CheckedFiles.{IsImageOf, IsSpanned}

@@ -1,9 +1,8 @@
-use Rattle.std.proofs.Common.{◌≡◌, ◌<◌, ℕ, List, [], length, get_or, arith, ap, sym, ◌∙◌, subst}
+use Rattle.std.proofs.Common.{◌≡◌, ℕ, List, [], length, arith, ap, sym, subst}
 use Rattle.std.proofs.lemmas.Result.{err_from_is_err_and}
 use Rattle.lsm_table.proofs.CallerLemmas.{becomes_same, becomes_then}
 use Rattle.lsm_table.specs.Registry.{Table}
 use Rattle.lsm_version.specs.Loading.{IsLevelRead}
-use Rattle.lsm_version.specs.Settled.{AreSequences}
 use Rattle.lsm_version.specs.declared.check.sequences.Sequences.{Sequences}
 use Rattle.lsm_version.proofs.LevelReads.{level_start, level_more, refused_at}
 use Rattle.lsm_version.proofs.check.loading.load_level.Goals as goal

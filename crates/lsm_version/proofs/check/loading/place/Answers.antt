@@ -1,4 +1,4 @@
-use Rattle.std.proofs.Common.{◌≡◌, ◌≤◌, ◌∙◌, ℕ, rules, arith, length, List, ap, sym, subst, take, drop, not}
+use Rattle.std.proofs.Common.{◌≡◌, ◌≤◌, ◌∙◌, rules, arith, length, List, ap, sym, subst, take, drop, not}
 use Rattle.std.specs.Prelude.{vec_len}
 use Rattle.std.specs.List.{filter, insert}
 use Rattle.std.specs.List.Sorted.{IsSortedBy}

@@ -1,4 +1,4 @@
-use Rattle.std.proofs.Common.{◌≡◌, ◌∙◌, ◌++◌, ◌∷◌, [], ℕ, List, ap}
+use Rattle.std.proofs.Common.{◌≡◌, ◌∙◌, ◌++◌, ◌∷◌, [], ℕ, ap}
 use Rattle.lsm_version.specs.Versions.{file_of}
 use Rattle.lsm_version.proofs.Unsettled.{adds_pair}
 use Rattle.lsm_version.proofs.check.unsettled.compare.Goals as goal

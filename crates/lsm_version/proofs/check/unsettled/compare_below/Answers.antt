@@ -1,8 +1,8 @@
-use Rattle.std.proofs.Common.{◌≡◌, ◌∙◌, ◌<◌, ◌≤◌, ℕ, List, length, map, sym, ap, subst, arith}
+use Rattle.std.proofs.Common.{◌≡◌, ◌∙◌, ℕ, List, length, map, sym, subst, arith}
 use Rattle.lsm_table.specs.Registry.{Table}
 use Rattle.lsm_version.specs.Reads.{IsRising}
-use Rattle.lsm_version.specs.Settled.{Adds, AreSequences, OneAgainst, OneBelow}
-use Rattle.lsm_version.specs.Versions.{file_of, level_in}
+use Rattle.lsm_version.specs.Settled.{Adds, AreSequences, OneBelow}
+use Rattle.lsm_version.specs.Versions.{file_of}
 use Rattle.lsm_version.specs.declared.check.sequences.Sequences.{Sequences}
 use Rattle.lsm_version.proofs.LevelRanges.{level_in-map}
 use Rattle.lsm_version.proofs.Unsettled.{below_more, level_sequences_at, levels_long}

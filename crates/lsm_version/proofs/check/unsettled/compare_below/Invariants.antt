@@ -1,4 +1,4 @@
-use Rattle.std.proofs.Common.{◌≡◌, map}
+use Rattle.std.proofs.Common.{map}
 use Rattle.lsm_version.specs.Settled.{Adds, OneBelow}
 use Rattle.lsm_version.specs.Versions.{file_of}
 use Rattle.lsm_version.proofs.check.unsettled.compare_below.Given as goal

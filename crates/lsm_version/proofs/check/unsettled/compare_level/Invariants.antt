@@ -1,4 +1,4 @@
-use Rattle.std.proofs.Common.{◌≡◌, take, map}
+use Rattle.std.proofs.Common.{take, map}
 use Rattle.lsm_version.specs.Settled.{Adds, SomeBelow}
 use Rattle.lsm_version.proofs.check.unsettled.compare_level.Given as goal
 

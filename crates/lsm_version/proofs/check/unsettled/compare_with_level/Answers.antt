@@ -1,8 +1,7 @@
-use Rattle.std.proofs.Common.{◌≡◌, ◌∙◌, ◌<◌, ◌≤◌, ℕ, List, length, get_or, false, sym, ap, subst, arith}
-use Rattle.lsm_table.specs.Registry.{Table}
+use Rattle.std.proofs.Common.{◌≡◌, ◌∙◌, get_or, false, sym, ap, subst, arith}
 use Rattle.lsm_codec.specs.Keys.{UserKey}
 use Rattle.lsm_version.specs.Reads.{begins_by, reaches}
-use Rattle.lsm_version.specs.Versions.{file_of, user_of}
+use Rattle.lsm_version.specs.Versions.{file_of}
 use Rattle.lsm_version.proofs.LevelReads.{length_beside}
 use Rattle.lsm_version.proofs.Unsettled.{against_start, against_more, against_rest, against_whole, sequences_at}
 use Rattle.lsm_version.proofs.check.unsettled.compare_with_level.Goals as goal

@@ -1,4 +1,4 @@
-use Rattle.std.proofs.Common.{◌≡◌, take}
+use Rattle.std.proofs.Common.{take}
 use Rattle.lsm_version.specs.Settled.{Adds, OneAgainst}
 use Rattle.lsm_version.specs.Versions.{file_of}
 use Rattle.lsm_version.proofs.check.unsettled.compare_with_level.Given as goal

@@ -1,4 +1,4 @@
-use Rattle.std.proofs.Common.{◌≡◌, ◌∙◌, ◌≤◌, ℕ, List, [], length, map, sym, ap, subst, rules}
+use Rattle.std.proofs.Common.{◌≤◌, ℕ, List, [], length, map, sym, subst}
 use Rattle.std.proofs.lemmas.List.{length-map}
 use Rattle.std.proofs.lemmas.List.Sorted.{IsNonDecreasingBy-from_sort}
 use Rattle.lsm_version.specs.Settled.{Adds, Both, EachBelow}

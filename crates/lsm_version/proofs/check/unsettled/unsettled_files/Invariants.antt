@@ -1,4 +1,4 @@
-use Rattle.std.proofs.Common.{◌≡◌, [], map}
+use Rattle.std.proofs.Common.{[], map}
 use Rattle.lsm_version.specs.Settled.{Adds, EachBelow}
 use Rattle.lsm_version.proofs.check.unsettled.unsettled_files.Given as goal
 

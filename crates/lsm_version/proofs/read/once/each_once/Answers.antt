@@ -1,4 +1,4 @@
-use Rattle.std.proofs.Common.{◌≡◌, ℕ, ◌∙◌, ◌++◌, ◌∷◌, [], ◌+◌, List, Option, Some, None, true, false, drop, ap, sym, append-nil}
+use Rattle.std.proofs.Common.{◌≡◌, ℕ, ◌∙◌, ◌++◌, ◌∷◌, [], ◌+◌, List, Option, Some, None, drop, ap, sym, append-nil}
 use Rattle.std.proofs.lemmas.List.{drop_all}
 use Rattle.lsm_table.specs.Registry.{Table}
 use Rattle.lsm_version.specs.Runs.{once, is_number}
