@@ -4,6 +4,8 @@
 #[cfg(test)]
 mod creating;
 #[cfg(test)]
+mod failing;
+#[cfg(test)]
 mod opening;
 #[cfg(test)]
 mod tables;

@@ -2,3 +2,5 @@ mod Numbers
 mod StateLaws
 mod Removing
 mod Listed
+mod OpenLaws
+mod OpenRefusals

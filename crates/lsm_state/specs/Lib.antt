@@ -5,3 +5,5 @@ pub mod Reading
 pub mod Collecting
 pub mod Making
 pub mod Listing
+pub mod OpenFault
+pub mod Opening

@@ -9,12 +9,15 @@ mod collect;
 mod create;
 mod jobs;
 mod listing;
+mod open;
+mod open_fault;
 mod options;
 mod pins;
 mod reads;
 mod state;
 mod state_fault;
 
+pub use open_fault::OpenFault;
 pub use options::Options;
 pub use state::State;
 pub use state_fault::StateFault;

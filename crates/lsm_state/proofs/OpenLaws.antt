@@ -1,0 +1,149 @@
+-- What opening a database gives: the next number, the law of the state, and the causes of refusals.
+use Rattle.std.proofs.Common.{◌≡◌, ℕ, zero, suc, ◌+◌, ◌-◌, ◌<◌, ◌≤◌, ◌==◌, max, Bool, false, cond, None, Some, Option, replicate, List, [], ◌∷◌, ◌++◌, length, map, get_or, take, refl, sym, ◌∙◌, ap, subst, inl, inr, arith}
+use Rattle.std.specs.Prelude.{◌⊎◌}
+use Rattle.std.proofs.lemmas.Bool.{eq-eqb}
+use Rattle.std.proofs.lemmas.List.{take_all, take_more}
+use Rattle.std.proofs.lemmas.List.Sums.{sum_by-cons}
+use Rattle.atomic_table.specs.Seated.{TableId}
+use Rattle.lsm_codec.specs.Entries.{Entry}
+use Rattle.lsm_codec.specs.Lists.{Has}
+use Rattle.lsm_codec.proofs.CallerLemmas.{all_at, flat_has, has_cases, has_left, has_right}
+use Rattle.lsm_pins.specs.Known.{Known}
+use Rattle.lsm_pins.specs.Made.{IsNewPinner}
+use Rattle.lsm_pins.specs.declared.view.View.{View}
+use Rattle.lsm_levels.specs.Files.{File, Lie, all_entries}
+use Rattle.lsm_version.specs.FileNumbers.{AreDistinct, times}
+use Rattle.lsm_version.specs.Versions.{IsSound, Levels, files, numbers_in}
+use Rattle.lsm_machine.specs.Law.{Books, Law, Meaning}
+use Rattle.lsm_machine.specs.Plain.{Plain}
+use Rattle.lsm_slots.specs.Slots.{Epoch, Slotted, first_slots, numbers_held}
+use Rattle.lsm_slots.specs.Snapshots.{Taken}
+use Rattle.lsm_live.specs.Booked.{Booked}
+use Rattle.lsm_journal.specs.HeldManifest.{HeldManifest}
+use Rattle.lsm_journal.specs.Recorded.{IsRecorded}
+use Rattle.lsm_state.specs.Held.{Held, IsLawfulState, plain}
+use Rattle.lsm_state.specs.Making.{IsNewBoard}
+use Rattle.lsm_state.specs.Opening.{IsFree, IsLeastFree, opened_state}
+use Rattle.lsm_state.specs.Options.{Fits}
+use Rattle.lsm_state.specs.declared.options.Options.{Options}
+
+-- ---- the next number
+
+pub free_none : (from : ℕ) → IsLeastFree from [] from
+free_none from = ((omega arith, λ m h. absurd h), λ m f. f.0)
+
+pub free_more : (from next number : ℕ) (xs : List ℕ) → IsLeastFree from xs next → IsLeastFree from (xs ++ number ∷ []) (max next (number + 1))
+free_more from next number xs l = ((bound, λ m h. above m (has_cases xs (number ∷ []) m h)), λ m f. least m f)
+  where
+    bound : from ≤ max next (number + 1)
+    bound = (let a = l.0.0 in omega arith)
+
+    above : (m : ℕ) → Has xs m ⊎ Has (number ∷ []) m → m < max next (number + 1)
+    above m (inl h) = (let a = l.0.1 m h in omega arith)
+    above m (inr (inl e)) = (let a : number ≡ m = e in omega arith)
+    above m (inr (inr h)) = absurd h
+
+    least : (m : ℕ) → IsFree from (xs ++ number ∷ []) m → max next (number + 1) ≤ m
+    least m f =
+        let a = f.1 number (has_right xs (number ∷ []) number (inl refl)) in
+        let b = l.1 m (f.0, λ k h. f.1 k (has_left xs (number ∷ []) k h)) in
+        omega arith
+
+pub at_has : (xs : List ℕ) (i : ℕ) → i < length xs → Has xs (get_or xs i 0)
+at_has [] i lt = absurd (omega arith)
+at_has (x ∷ xs) zero lt = inl refl
+at_has (x ∷ xs) (suc i) lt = inr (at_has xs i (omega arith))
+
+-- ---- numbers that stand once
+
+times_more : (n a : ℕ) (xs : List ℕ) → times n (a ∷ xs) ≡ cond (a == n) 1 0 + times n xs
+times_more n a xs = sum_by-cons (λ m. cond (m == n) 1 0) a xs
+
+same_once : (a n : ℕ) → a ≡ n → ◌≡◌ {A = ℕ} (cond (a == n) 1 0) 1
+same_once a n e = ap (λ (b : Bool). cond b 1 0) (eq-eqb a n e)
+
+at_once : (n : ℕ) (xs : List ℕ) → Has xs n → 1 ≤ times n xs
+at_once n [] h = absurd h
+at_once n (a ∷ xs) (inl e) = let m = times_more n a xs in let s = same_once a n e in omega arith
+at_once n (a ∷ xs) (inr h) = let m = times_more n a xs in let s = at_once n xs h in omega arith
+
+alone : (a : ℕ) (xs : List ℕ) → AreDistinct (a ∷ xs) → Has xs a → ⊥
+alone a xs d h = let few = d a in let m = times_more a a xs in let s = same_once a a refl in let k = at_once a xs h in omega arith
+
+rest_distinct : (a : ℕ) (xs : List ℕ) → AreDistinct (a ∷ xs) → AreDistinct xs
+rest_distinct a xs d n = let few = d n in let m = times_more n a xs in omega arith
+
+has_number : (fs : List File) (F : File) → Has fs F → Has (map (λ G. G.number) fs) F.number
+has_number [] F h = absurd h
+has_number (G ∷ fs) F (inl e) = inl (ap (λ (H : File). H.number) e)
+has_number (G ∷ fs) F (inr h) = inr (has_number fs F h)
+
+one_number : (fs : List File) → AreDistinct (map (λ G. G.number) fs) → (F G : File) → Has fs F → Has fs G → F.number ≡ G.number → F ≡ G
+one_number [] d F G f g e = absurd f
+one_number (H ∷ fs) d F G (inl f) (inl g) e = sym f ∙ g
+one_number (H ∷ fs) d F G (inl f) (inr g) e = absurd (alone H.number (map (λ K. K.number) fs) d
+    (subst (λ n. Has (map (λ K. K.number) fs) n) (sym e ∙ ap (λ (K : File). K.number) (sym f)) (has_number fs G g)))
+one_number (H ∷ fs) d F G (inr f) (inl g) e = absurd (alone H.number (map (λ K. K.number) fs) d
+    (subst (λ n. Has (map (λ K. K.number) fs) n) (e ∙ ap (λ (K : File). K.number) (sym g)) (has_number fs F f)))
+one_number (H ∷ fs) d F G (inr f) (inr g) e = one_number fs (rest_distinct H.number (map (λ K. K.number) fs) d) F G f g e
+
+-- ---- the law of the state
+
+opened_books : (o : Options) (publisher : Known) (pinners : List Known) (v : Levels) (j : HeldManifest) (next : ℕ) (halted : Bool)
+    → AreDistinct (numbers_in v) → ((n : ℕ) → Has (numbers_in v) n → n < next) → Books (plain (opened_state o publisher pinners v j next halted))
+opened_books o publisher pinners v j next halted own below = record {
+  numbers = one_number (files v) own;
+  below_next = λ F h. below F.number (has_number (files v) F h);
+  drawn_below = λ a n h k. absurd h;
+  drawn_fresh = λ a n F h k i e. absurd h;
+  drawn_apart = λ a b n h k i m. absurd h;
+  inputs = λ a F h k. absurd h;
+  levels = λ a F h k. absurd h;
+  tickets = λ a h. absurd h;
+  one_each = λ a b h k e. absurd h;
+  clear = λ a b h k e m. absurd h;
+  floors = λ a h. absurd h;
+  rising = tt;
+  ids = λ p h. absurd h;
+  snapshots = λ p h. absurd h;
+}
+
+opened_meaning : (o : Options) (publisher : Known) (pinners : List Known) (v : Levels) (j : HeldManifest) (next : ℕ) (halted : Bool)
+    → IsSound v → Meaning Lie (plain (opened_state o publisher pinners v j next halted))
+opened_meaning o publisher pinners v j next halted sound = record {
+  lawful = sound.lawful;
+  reached = λ e h. (let r = flat_has (λ (F : File). F.entries) (files v) e h in sound.reached r.0 e r.1 r.2);
+  are_open = λ a h. absurd h;
+}
+
+pub lawful_opened : (honest : Type 0) (board : TableId) (o : Options) (publisher : Known) (pinners : List Known) (v : Levels) (j : HeldManifest) (next : ℕ) (halted : Bool) (rest : ℕ)
+    → Fits o → IsNewBoard board o publisher pinners → (honest → IsSound v) → IsRecorded rest j v next → (halted ≡ false → rest ≡ 0) → ((n : ℕ) → Has (numbers_in v) n → n < next)
+    → IsLawfulState honest board (opened_state o publisher pinners v j next halted)
+lawful_opened honest board o publisher pinners v j next halted rest fits new sound recorded whole below = record {
+  law = record {
+    books = opened_books o publisher pinners v j next halted recorded.own.numbers below;
+    meaning = λ is. opened_meaning o publisher pinners v j next halted (sound is);
+  };
+  journaled = (rest, recorded, whole);
+  below = λ n k. elim (has_cases (numbers_in v) (numbers_held (replicate (o.versions - 1) None)) n k) [
+    | inl here ↦ below n here
+    | inr later ↦ absurd (none_held (o.versions - 1) n later)
+  ];
+  pinners = λ p k. (let one = all_at (IsNewPinner board o.versions new.id) pinners p new.readers k in (one.at, ap (λ (w : View). w.held) one.knows));
+  fits = fits;
+}
+  where
+    none_held : (m n : ℕ) → Has (numbers_held (replicate m None)) n → ⊥
+    none_held zero n h = h
+    none_held (suc m) n h = none_held m n h
+
+-- the same of its parts, as they were made
+pub opened_made : (honest : Type 0) (board : TableId) (o : Options) (publisher : Known) (pinners : List Known) (v : Levels) (j : HeldManifest) (next : ℕ) (halted : Bool) (s : Slotted) (taken : Taken)
+    (live : List Booked) → s ≡ first_slots publisher o.versions v → taken ≡ record { taken = []; next = 1 } → live ≡ []
+    → IsLawfulState honest board (opened_state o publisher pinners v j next halted)
+    → IsLawfulState honest board (record { options = o; slots = s; snapshots = taken; next = next; next_ticket = 1; live = live; journal = j; halted = halted; pinners = pinners })
+opened_made honest board o publisher pinners v j next halted s taken live a b c l =
+    let h : Held = opened_state o publisher pinners v j next halted in
+    subst (λ (x : Slotted). IsLawfulState honest board (record h { slots = x; snapshots = taken; live = live })) (sym a)
+    (subst (λ (x : Taken). IsLawfulState honest board (record h { snapshots = x; live = live })) (sym b)
+    (subst (λ (x : List Booked). IsLawfulState honest board (record h { live = x })) (sym c) l))
