@@ -1,0 +1,24 @@
+-- What is kept of an image (this project's rule).
+use Rattle.std.specs.Prelude.{◌≡◌, ℕ, List, Ok}
+use Rattle.lsm_codec.specs.Entries.{Entry}
+use Rattle.lsm_table.specs.declared.handle.Handle.{Handle}
+use Rattle.lsm_reader.specs.Blocks.{last_part, stored_block}
+
+-- a block of an image: its place, and the entries that were read there
+pub record Part : Type 0 where
+  pub image : List ℕ
+  pub handle : Handle
+  pub entries : List Entry
+
+-- the block that stands at that place
+abbrev pub IsPart : Part → Type 0
+IsPart p = stored_block p.image p.handle ≡ Ok p.entries
+
+-- the bytes that were read of the end of an image
+pub record End : Type 0 where
+  pub image : List ℕ
+  pub footer : List ℕ
+
+-- its footer
+abbrev pub IsEnd : End → Type 0
+IsEnd e = last_part e.image ≡ Ok e.footer
