@@ -4,3 +4,4 @@ mod Removing
 mod Listed
 mod OpenLaws
 mod OpenRefusals
+mod ReserveLaws

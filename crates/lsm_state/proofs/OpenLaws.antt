@@ -131,6 +131,7 @@ lawful_opened honest board o publisher pinners v j next halted rest fits new sou
   ];
   pinners = λ p k. (let one = all_at (IsNewPinner board o.versions new.id) pinners p new.readers k in (one.at, ap (λ (w : View). w.held) one.knows));
   fits = fits;
+  inputs = λ b k. absurd k;
 }
   where
     none_held : (m n : ℕ) → Has (numbers_held (replicate m None)) n → ⊥

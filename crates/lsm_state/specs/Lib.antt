@@ -7,3 +7,4 @@ pub mod Making
 pub mod Listing
 pub mod OpenFault
 pub mod Opening
+pub mod Reserving

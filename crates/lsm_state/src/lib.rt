@@ -14,6 +14,7 @@ mod open_fault;
 mod options;
 mod pins;
 mod reads;
+mod reserve;
 mod state;
 mod state_fault;
 
