@@ -95,8 +95,29 @@ fn show<N: Naming, S: Shelf>(
     Ok(())
 }
 
+/// Prints the live keys as of sequence 4, each with its value. The shelf is honest, so that the scan comes to its end.
+fn scan_all<N: Naming, S: Shelf>(
+    rt: &impl Print,
+    alloc: Global,
+    version: &Version<N, S>,
+    shelf: &mut S,
+) -> anyhow::Result<()>
+    requires place { (S.told shelf.old).place ≡ N.place }
+    requires honest { S.honest }
+{
+    let mut scan = version.scan(shelf, alloc, 4)?;
+    while let Some(pair) = scan.next(shelf, alloc)? {
+        println!(rt;
+            "scan: {} {}",
+            str::from_utf8(pair.user())?,
+            str::from_utf8(pair.value())?
+        )?;
+    }
+    Ok(())
+}
+
 /// The version of both tables, once checked. What is generic in `N` is of the registry and of the shelf's contents that the
-/// premises name; the caller picks them by `proofs/main/Invariants.antt`. The shelf is honest, so that the scan comes to its end.
+/// premises name; the caller picks them by `proofs/main/Invariants.antt`.
 fn read_all<N: Naming, S: Shelf, R: Wait + Print>(
     rt: &R,
     alloc: Global,
@@ -116,15 +137,7 @@ fn read_all<N: Naming, S: Shelf, R: Wait + Print>(
     show(rt, alloc, &version, &mut shelf, "apple", 2)?;
     show(rt, alloc, &version, &mut shelf, "cherry", 4)?;
     show(rt, alloc, &version, &mut shelf, "cherry", 3)?;
-    let mut scan = version.scan(&mut shelf, alloc, 4)?;
-    while let Some(pair) = scan.next(&mut shelf, alloc)? {
-        println!(rt;
-            "scan: {} {}",
-            str::from_utf8(pair.user())?,
-            str::from_utf8(pair.value())?
-        )?;
-    }
-    Ok(())
+    scan_all(rt, alloc, &version, &mut shelf)
 }
 
 fn main(rt: HostRuntime) -> anyhow::Result<()> {
