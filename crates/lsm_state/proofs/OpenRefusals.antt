@@ -13,7 +13,8 @@ use Rattle.lsm_manifest.specs.Shape.{Form}
 use Rattle.lsm_version.specs.CheckFault.{CheckCounted}
 use Rattle.lsm_version.specs.CheckRefusal.{IsOfShape, IsRefusal}
 use Rattle.lsm_version.specs.FileNumbers.{AreDistinct, numbers_of}
-use Rattle.lsm_version.specs.Versions.{IsSound, Levels, numbers_in}
+use Rattle.lsm_version.specs.Settled.{IsSettled, KeepsAge}
+use Rattle.lsm_version.specs.Versions.{IsSound, Levels, files, numbers_in}
 use Rattle.lsm_version.specs.declared.check.check_fault.CheckFault.{CheckFault}
 use Rattle.lsm_version.specs.declared.check.check_fault.CheckFault.TheVariants.{Read, DoubleFile, Overlap, WrongRange, AgeOrder}
 use Rattle.lsm_journal.specs.HeldManifest.{HeldManifest}
@@ -27,8 +28,8 @@ abbrev pub RecoveredIsRecorded : Type 0
 RecoveredIsRecorded = (rest : ℕ) (h : HeldManifest) (shape : Form) (v : Levels) → IsRecovered h shape rest → IsOfShape shape v → AreDistinct (numbers_of shape.levels) → IsRecorded rest h v shape.next
 
 pub loaded : (honest : Type 0) (rest : ℕ) (h : HeldManifest) (shape : Form) (v : Levels) → RecoveredIsRecorded → IsRecovered h shape rest → IsOfShape shape v → AreDistinct (numbers_of shape.levels)
-    → (honest → IsSound v) → IsLoaded honest h shape v
-loaded honest rest h shape v law r of own sound = record { rest = rest; recovered = r; of_shape = of; recorded = law rest h shape v r of own; sound = sound }
+    → (IsSettled (files v) → IsSound v) → (KeepsAge (files v) → IsSound v) → (honest → IsSound v) → IsLoaded honest h shape v
+loaded honest rest h shape v law r of own settled judged sound = record { rest = rest; recovered = r; of_shape = of; recorded = law rest h shape v r of own; settled = settled; judged = judged; sound = sound }
 
 -- ---- what was told
 

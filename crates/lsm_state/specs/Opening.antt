@@ -8,7 +8,8 @@ use Rattle.lsm_shelf.specs.Told.{Told, Becomes, Counted, NotNamed, TakenIs, find
 use Rattle.lsm_manifest.specs.Shape.{Form}
 use Rattle.lsm_version.specs.CheckFault.{CheckCounted}
 use Rattle.lsm_version.specs.CheckRefusal.{IsOfShape, IsRefusal}
-use Rattle.lsm_version.specs.Versions.{IsSound, Levels, numbers_in}
+use Rattle.lsm_version.specs.Settled.{IsSettled, KeepsAge}
+use Rattle.lsm_version.specs.Versions.{IsSound, Levels, files, numbers_in}
 use Rattle.lsm_version.specs.declared.check.check_fault.CheckFault.{CheckFault}
 use Rattle.lsm_slots.specs.Slots.{first_slots}
 use Rattle.lsm_journal.specs.HeldManifest.{HeldManifest}
@@ -56,6 +57,9 @@ pub record IsLoaded (Honest : Type 0) (h : HeldManifest) (shape : Form) (v : Lev
   pub recovered : IsRecovered h shape rest
   pub of_shape : IsOfShape shape v
   pub recorded : IsRecorded rest h v shape.next
+  -- where ranges and sequences leave no age open, or ages are in order, whatever the shelf is
+  pub settled : IsSettled (files v) → IsSound v
+  pub judged : KeepsAge (files v) → IsSound v
   pub sound : Honest → IsSound v
 
 -- The manifest that was read records the version, and the next number is the least that is at least the manifest's next file number and

@@ -25,7 +25,7 @@ returns-in_err-taken-clause-refused g c =
     let p = err_from_is_err_and c.from_residual-in_err-taken.result c.from_residual-in_err-taken.ensures.1 in
     let r = c.in_ok-recovered.recovered in
     let l = loaded g.S.Shelf.honest r.rest r.journal r.shape c.in_ok-version.version c.recovered_is_recorded.ensures c.in_ok-recovered.ensures.recovered c.in_ok-version.ensures.shape c.in_ok-version.ensures.numbers
-    c.in_ok-version.ensures.sound in
+    c.in_ok-version.ensures.settled c.in_ok-version.ensures.judged c.in_ok-version.ensures.sound in
     rw (p.1, p.2) (unlisted g.S.Shelf.honest c.in_err-taken.field-0.0 r.journal r.shape c.in_ok-version.version _ (g.S.Shelf.told c.check.new.shelf) _ l
     (becomes_then _ _ _ c.in_ok-recovered.ensures.found c.check.ensures.told) c.in_err-taken.ensures.cause c.in_err-taken.ensures.err)
 
@@ -48,7 +48,7 @@ returns-in_err-next-clause-refused g c =
     let p = err_from_is_err_and c.from_residual-in_err-next.result c.from_residual-in_err-next.ensures.1 in
     let r = c.in_ok-recovered.recovered in
     let l = loaded g.S.Shelf.honest r.rest r.journal r.shape c.in_ok-version.version c.recovered_is_recorded.ensures c.in_ok-recovered.ensures.recovered c.in_ok-version.ensures.shape c.in_ok-version.ensures.numbers
-    c.in_ok-version.ensures.sound in
+    c.in_ok-version.ensures.settled c.in_ok-version.ensures.judged c.in_ok-version.ensures.sound in
     let v = c.in_ok-version.version in
     let listed = c.in_ok-taken.taken.items in
     let all : c.deref.result.now ≡ taken_numbers listed v r.journal.number = c.deref.ensures.value ∙ (c.in_ok-push.ensures.items
@@ -60,7 +60,7 @@ pub returns-clause-found : goal.returns-clause-found
 returns-clause-found g c =
     let r = c.in_ok-recovered.recovered in
     let l = loaded g.S.Shelf.honest r.rest r.journal r.shape c.in_ok-version.version c.recovered_is_recorded.ensures c.in_ok-recovered.ensures.recovered c.in_ok-version.ensures.shape c.in_ok-version.ensures.numbers
-    c.in_ok-version.ensures.sound in
+    c.in_ok-version.ensures.settled c.in_ok-version.ensures.judged c.in_ok-version.ensures.sound in
     let v = c.in_ok-version.version in
     let listed = c.in_ok-taken.taken.items in
     let all : c.deref.result.now ≡ taken_numbers listed v r.journal.number = c.deref.ensures.value ∙ (c.in_ok-push.ensures.items
