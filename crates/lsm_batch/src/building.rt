@@ -8,7 +8,7 @@ ghost use Rattle.lsm_block.specs.Block.{Ascends};
 ghost use Rattle.lsm_block.specs.declared.build_fault.BuildFault.TheVariants.{TooLarge};
 ghost use Rattle.lsm_table.specs.Options.{AreInRange};
 ghost use Rattle.lsm_table.specs.Table.{IsTable};
-ghost use Rattle.lsm_table.specs.TableBuilding.{PassesLimit};
+ghost use Rattle.lsm_table.specs.TableBuilding.{PassesLimit, table_bytes};
 ghost use Rattle.lsm_batch.specs.Batches.{IsBatch, KeysRise, entries_from, written_at};
 ghost use Rattle.lsm_batch.specs.Images.{IsImage, PassesIn, PassesTable};
 
@@ -65,6 +65,7 @@ fn table_of(
     requires rises { KeysRise (length writes.now) writes.now }
     requires room { first + length writes.now ≤ 2 ^ 56 }
     requires options { AreInRange options }
+    ensures bytes { IfOk result (λ r. r.1.items ≡ table_bytes options (entries_from first writes.now)) }
     ensures table { IfOk result (λ r. IsTable r.1.items (entries_from first writes.now)) }
     ensures largest { IfOk result (λ r. (front : List Entry) × (last : Entry) × (entries_from first writes.now ≡ front ++ last ∷ []) × IsKey r.0 (internal_key last)) }
     ensures large { result ≡ Err TooLarge → PassesTable options (entries_from first writes.now) }
@@ -97,6 +98,7 @@ impl Batch {
         requires batch { IsBatch self.now }
         requires sequences { first + length self.now ≤ 2 ^ 56 }
         requires options { AreInRange options }
+        ensures bytes { IfOk result (λ i. i.bytes ≡ table_bytes options (entries_from first self.now)) }
         ensures image { IfOk result (IsImage (entries_from first self.now)) }
         ensures large { result ≡ Err TooLarge → PassesTable options (entries_from first self.now) }
     {
