@@ -2,7 +2,7 @@
 use Rattle.std.specs.Prelude.{[]}
 use Rattle.lsm_levels.specs.Files.{File, IsLawful}
 use Rattle.lsm_machine.specs.Plain.{created}
-use Rattle.lsm_machine.specs.Law.{Books, Law, Meaning}
+use Rattle.lsm_machine.specs.Law.{Books, Law}
 
 created_books : Books created
 created_books = record {

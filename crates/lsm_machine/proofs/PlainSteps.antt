@@ -137,10 +137,8 @@ new_live job = record { job = job; drawn = [] }
 none_drawn : (job : Job) (a : Live) (n : ℕ) → new_live job ≡ a → Has a.drawn n → ⊥
 none_drawn job a n e h = subst (λ (b : Live). Has b.drawn n) (sym e) h
 
--- what a reservation needs beside its plan: the job's inputs in the version
-pub reserve_books : (s : Plain) (starts : List File) (plan : Plan) (job : Job) (t : Plain) → Books s → Reserves s starts plan job t
-    → ((F : File) → Has job.inputs F → Has s.files F × ((F.level ≡ job.level) ⊎ (F.level ≡ suc job.level))) → Books t
-reserve_books s starts plan job t b i there = subst Books (sym i.is) record {
+pub reserve_books : (H : Type 0) (s : Plain) (plan : Plan) (job : Job) (t : Plain) → Books s → Reserves H s plan job t → Books t
+reserve_books H s plan job t b i = subst Books (sym i.is) record {
   numbers = b.numbers;
   below_next = b.below_next;
   drawn_below = λ a n h k. elim (more a h) [ inl old ↦ b.drawn_below a n old k | inr e ↦ absurd (none_drawn job a n e k) ];
@@ -149,8 +147,8 @@ reserve_books s starts plan job t b i there = subst Books (sym i.is) record {
     | inl olda ↦ elim (more c hc) [ inl oldc ↦ b.drawn_apart a c n olda oldc ka kc | inr e ↦ absurd (none_drawn job c n e kc) ]
     | inr e ↦ absurd (none_drawn job a n e ka)
   ];
-  inputs = λ a F h k. elim (more a h) [ inl old ↦ b.inputs a F old k | inr e ↦ (there F (subst (λ (d : Live). Has d.job.inputs F) (sym e) k)).0 ];
-  levels = λ a F h k. elim (more a h) [ inl old ↦ b.levels a F old k | inr e ↦ subst (λ (d : Live). (F.level ≡ d.job.level) ⊎ (F.level ≡ suc d.job.level)) e (there F (subst (λ (d : Live). Has d.job.inputs F) (sym e) k)).1 ];
+  inputs = λ a F h k. elim (more a h) [ inl old ↦ b.inputs a F old k | inr e ↦ i.inputs F (subst (λ (d : Live). Has d.job.inputs F) (sym e) k) ];
+  levels = λ a F h k. elim (more a h) [ inl old ↦ b.levels a F old k | inr e ↦ subst (λ (d : Live). (F.level ≡ d.job.level) ⊎ (F.level ≡ suc d.job.level)) e (i.levels F (subst (λ (d : Live). Has d.job.inputs F) (sym e) k)) ];
   tickets = λ a h. elim (more a h) [ inl old ↦ (let lt = b.tickets a old in omega arith) | inr e ↦ (let q = ap (λ (d : Live). d.job.ticket) e in let z = i.ticket in omega arith) ];
   one_each = λ a c ha hc e. one a c (more a ha) (more c hc) e;
   clear = λ a c ha hc ne k. clear a c (more a ha) (more c hc) ne k;
@@ -175,13 +173,13 @@ reserve_books s starts plan job t b i there = subst Books (sym i.is) record {
     clear a c (inr x) (inl y) ne k = i.clear c y (subst (λ (d : Live). Conflicts d.job c.job) (sym x) k)
     clear a c (inr x) (inr y) ne k = ne (ap (λ (d : Live). d.job.ticket) (sym x ∙ y))
 
-pub reserve_meaning : (Split : File → File → Type 0) (s : Plain) (starts : List File) (plan : Plan) (job : Job) (t : Plain) → Meaning Split s → Reserves s starts plan job t → Meaning Split t
-reserve_meaning Split s starts plan job t m i = subst (Meaning Split) (sym i.is) record {
+pub reserve_meaning : (H : Type 0) (Split : File → File → Type 0) (s : Plain) (plan : Plan) (job : Job) (t : Plain) → Meaning Split s → H → Reserves H s plan job t → Meaning Split t
+reserve_meaning H Split s plan job t m honest i = subst (Meaning Split) (sym i.is) record {
   lawful = m.lawful;
   reached = m.reached;
   are_open = λ a h. elim (one_more s.live (new_live job) a h) [
     | inl old ↦ m.are_open a old
-    | inr e ↦ subst (λ (b : Live). IsOpenIn s.files b.job) e (plan_opens Split s.files (Has starts) plan job m.lawful i.closed i.is_job)
+    | inr e ↦ subst (λ (b : Live). IsOpenIn s.files b.job) e (let c = i.closed honest in plan_opens Split s.files (Has c.0) plan job m.lawful c.1 i.is_job)
   ];
 }
 

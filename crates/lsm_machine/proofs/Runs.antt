@@ -1,5 +1,5 @@
 -- Over every run: the law holds, and every read that is promised gives what it gives over all that was ingested.
-use Rattle.std.proofs.Common.{◌≡◌, ℕ, suc, ◌≤◌, ◌<◌, List, [], ◌∷◌, ◌++◌, Option, Some, None, refl, sym, ◌∙◌, ap, subst, inl, inr, arith, ◌⊎◌}
+use Rattle.std.proofs.Common.{◌≡◌, ℕ, ◌≤◌, ◌<◌, List, [], ◌∷◌, ◌++◌, Option, Some, None, refl, sym, ◌∙◌, ap, subst, inl, inr, arith, ◌⊎◌}
 use Rattle.lsm_codec.specs.Keys.{UserKey}
 use Rattle.lsm_codec.specs.Lists.{Has}
 use Rattle.lsm_codec.specs.Entries.{Entry, newest, value_in, answer}
@@ -7,7 +7,7 @@ use Rattle.lsm_codec.proofs.CallerLemmas.{has_left, has_right, has_cases, IsAllo
 use Rattle.lsm_levels.specs.Files.{File, all_entries, IsSplit, OneEach}
 use Rattle.lsm_levels.specs.Jobs.{Job}
 use Rattle.lsm_levels.specs.Plans.{Plan}
-use Rattle.lsm_levels.proofs.CallerLemmas.{drops_answer, newest_is, all_has, has_all, one_each, linked_in}
+use Rattle.lsm_levels.proofs.CallerLemmas.{drops_answer, newest_is, all_has, has_all, one_each}
 use Rattle.lsm_machine.specs.Plain.{Ingests, IsReadable, Plain, Reserves}
 use Rattle.lsm_machine.specs.Law.{Law, Meaning}
 use Rattle.lsm_machine.specs.Runs.{Event, Ingest, Snapshot, Release, Reserve, Cancel, Draw, Install, Spend, Nothing, ReadsAs, Run, Step, ingested}
@@ -15,13 +15,11 @@ use Rattle.lsm_machine.proofs.LiveLists.{left_snapshot, one_more}
 use Rattle.lsm_machine.proofs.PlainSteps.{cancel_books, cancel_meaning, draw_books, draw_meaning, ingest_books, ingest_meaning, release_books, reserve_books, reserve_meaning, snapshot_books, spend_books}
 use Rattle.lsm_machine.proofs.Installing.{install_law, install_same}
 
--- the inputs of a closed plan's job are files of the version
-plan_inputs : (s : Plain) (starts : List File) (plan : Plan) (job : Job) (t : Plain) → Reserves s starts plan job t
-    → (F : File) → Has job.inputs F → Has s.files F × ((F.level ≡ job.level) ⊎ (F.level ≡ suc job.level))
-plan_inputs s starts plan job t i F h = elim (has_cases plan.upper plan.lower F (subst (λ fs. Has fs F) i.is_job.inputs h)) [
-  | inl a ↦ (let r = linked_in s.files plan.level (Has starts) F (i.closed.upper_from F a) in (r.0, inl (r.1 ∙ sym i.is_job.level)))
-  | inr b ↦ (let r = linked_in s.files (suc plan.level) (λ (G : File). Rattle.lsm_levels.specs.Files.Meets G i.closed.from i.closed.to) F (i.closed.lower_from F b) in (r.0, inr (r.1 ∙ ap suc (sym i.is_job.level))))
-]
+reserve_law : (H : Type 0) (Split : File → File → Type 0) (s : Plain) (plan : Plan) (job : Job) (t : Plain) → Law H Split s → Reserves H s plan job t → Law H Split t
+reserve_law H Split s plan job t l i = record {
+  books = reserve_books H s plan job t l.books i;
+  meaning = λ h. reserve_meaning H Split s plan job t (l.meaning h) h i;
+}
 
 kept_law : (H : Type 0) (Split : File → File → Type 0) (s t : Plain) → Law H Split s → Rattle.lsm_machine.specs.Law.Books t → (Meaning Split s → Meaning Split t) → Law H Split t
 kept_law H Split s t l b m = record { books = b; meaning = λ h. m (l.meaning h) }
@@ -30,7 +28,7 @@ pub step_law : (H : Type 0) (Split : File → File → Type 0) → IsSplit Split
 step_law H Split i s (Ingest es) t l h = kept_law H Split s t l (ingest_books s es t l.books h) (λ m. ingest_meaning Split s es t l.books m h)
 step_law H Split i s Snapshot t l h = kept_law H Split s t l (snapshot_books s t l.books h) (λ m. subst (Meaning Split) (sym h) record { lawful = m.lawful; reached = m.reached; are_open = m.are_open })
 step_law H Split i s (Release id) t l h = kept_law H Split s t l (release_books s id t l.books h) (λ m. subst (Meaning Split) (sym h) record { lawful = m.lawful; reached = m.reached; are_open = m.are_open })
-step_law H Split i s (Reserve starts plan job) t l h = kept_law H Split s t l (reserve_books s starts plan job t l.books h (plan_inputs s starts plan job t h)) (λ m. reserve_meaning Split s starts plan job t m h)
+step_law H Split i s (Reserve plan job) t l h = reserve_law H Split s plan job t l h
 step_law H Split i s (Cancel ticket) t l h = kept_law H Split s t l (cancel_books s ticket t l.books h) (λ m. cancel_meaning Split s ticket t m h)
 step_law H Split i s (Draw ticket) t l h = kept_law H Split s t l (draw_books s ticket t l.books h) (λ m. draw_meaning Split s ticket t m h)
 step_law H Split i s (Install ticket) t l h = install_law H Split i s ticket t l h
@@ -166,7 +164,7 @@ step_agrees H Split i y s (Release id) t es l h a = subst (λ (u : Plain). Agree
   one = a.one;
   reads = λ k q r. a.reads k q (elim r [ inl e ↦ inl e | inr p ↦ inr (p.0, left_snapshot id s.snapshots p.0 p.1, p.2) ]);
 }
-step_agrees H Split i y s (Reserve starts plan job) t es l h a = subst (λ (u : Plain). Agrees u es) (sym h.is) record { upto = a.upto; one = a.one; reads = a.reads }
+step_agrees H Split i y s (Reserve plan job) t es l h a = subst (λ (u : Plain). Agrees u es) (sym h.is) record { upto = a.upto; one = a.one; reads = a.reads }
 step_agrees H Split i y s (Cancel ticket) t es l h a = subst (λ (u : Plain). Agrees u es) (sym h) record { upto = a.upto; one = a.one; reads = a.reads }
 step_agrees H Split i y s (Draw ticket) t es l h a = subst (λ (u : Plain). Agrees u es) (sym h) record { upto = a.upto; one = a.one; reads = a.reads }
 step_agrees H Split i y s (Install ticket) t es l h a = record {
@@ -181,7 +179,7 @@ ingested_step : (e : Event) (events : List Event) (es : List Entry) → ingested
 ingested_step (Ingest new) events es = refl
 ingested_step Snapshot events es = refl
 ingested_step (Release id) events es = refl
-ingested_step (Reserve starts plan job) events es = refl
+ingested_step (Reserve plan job) events es = refl
 ingested_step (Cancel ticket) events es = refl
 ingested_step (Draw ticket) events es = refl
 ingested_step (Install ticket) events es = refl

@@ -72,14 +72,17 @@ TakesSnapshot s t = t ≡ record s { snapshots = s.snapshots ++ (s.next_id, s.la
 abbrev pub Releases : Plain → ℕ → Plain → Type 0
 Releases s id t = t ≡ record s { snapshots = without_snapshot id s.snapshots }
 
--- the job is that of a closed plan from the starting files, and conflicts with no live one
-pub record Reserves (s : Plain) (starts : List File) (plan : Plan) (job : Job) (t : Plain) : Type 0 where
+-- The job is that of a plan; its inputs are files of the version, at its level and the next, and it conflicts with no live one. Over an
+-- honest shelf the plan is the closed one from some starting files.
+pub record Reserves (Honest : Type 0) (s : Plain) (plan : Plan) (job : Job) (t : Plain) : Type 0 where
   pub is : t ≡ record s { live = s.live ++ record { job = job; drawn = [] } ∷ []; next_ticket = suc s.next_ticket }
-  pub closed : IsClosed s.files (Has starts) plan
   pub is_job : IsJobOf s.files plan job
+  pub inputs : (F : File) → Has job.inputs F → Has s.files F
+  pub levels : (F : File) → Has job.inputs F → (F.level ≡ job.level) ⊎ (F.level ≡ suc job.level)
   pub floor : job.floor ≡ floor_of s.last s.snapshots
   pub ticket : job.ticket ≡ s.next_ticket
   pub clear : (a : Live) → Has s.live a → Conflicts job a.job → ⊥
+  pub closed : Honest → (starts : List File) × IsClosed s.files (Has starts) plan
 
 abbrev pub Cancels : Plain → ℕ → Plain → Type 0
 Cancels s ticket t = t ≡ record s { live = without_job ticket s.live }

@@ -2,7 +2,7 @@
 use Rattle.std.specs.Prelude.{◌≡◌, ℕ, List, [], ◌∷◌, ◌++◌}
 use Rattle.lsm_codec.specs.Keys.{UserKey}
 use Rattle.lsm_codec.specs.Entries.{Entry, answer}
-use Rattle.lsm_levels.specs.Files.{File, all_entries}
+use Rattle.lsm_levels.specs.Files.{all_entries}
 use Rattle.lsm_levels.specs.Jobs.{Job}
 use Rattle.lsm_levels.specs.Plans.{Plan}
 use Rattle.lsm_machine.specs.Plain.{Cancels, Draws, Ingests, Installs, IsReadable, Plain, Releases, Reserves, Spends, TakesSnapshot}
@@ -11,7 +11,7 @@ pub data Event : Type 0 where
   Ingest : (entries : List Entry) → Event
   Snapshot : Event
   Release : (id : ℕ) → Event
-  Reserve : (starts : List File) → (plan : Plan) → (job : Job) → Event
+  Reserve : (plan : Plan) → (job : Job) → Event
   Cancel : (ticket : ℕ) → Event
   Draw : (ticket : ℕ) → Event
   Install : (ticket : ℕ) → Event
@@ -23,7 +23,7 @@ abbrev pub Step : Type 0 → Plain → Event → Plain → Type 0
 Step honest s (Ingest es) t = Ingests s es t
 Step honest s Snapshot t = TakesSnapshot s t
 Step honest s (Release id) t = Releases s id t
-Step honest s (Reserve starts plan job) t = Reserves s starts plan job t
+Step honest s (Reserve plan job) t = Reserves honest s plan job t
 Step honest s (Cancel ticket) t = Cancels s ticket t
 Step honest s (Draw ticket) t = Draws s ticket t
 Step honest s (Install ticket) t = Installs honest s ticket t
@@ -40,7 +40,7 @@ ingested [] es = es
 ingested (Ingest new ∷ events) es = ingested events (new ++ es)
 ingested (Snapshot ∷ events) es = ingested events es
 ingested (Release id ∷ events) es = ingested events es
-ingested (Reserve starts plan job ∷ events) es = ingested events es
+ingested (Reserve plan job ∷ events) es = ingested events es
 ingested (Cancel ticket ∷ events) es = ingested events es
 ingested (Draw ticket ∷ events) es = ingested events es
 ingested (Install ticket ∷ events) es = ingested events es

@@ -2,3 +2,4 @@ mod Numbers
 mod StateLaws
 mod Removing
 mod Listed
+mod ReserveLaws

@@ -1,8 +1,8 @@
 -- What the smaller calls leave of the law of a state.
-use Rattle.std.proofs.Common.{◌≡◌, ℕ, zero, suc, ◌-◌, false, None, replicate, List, [], ◌∷◌, ◌++◌, refl, sym, ◌∙◌, ap, subst, arith}
+use Rattle.std.proofs.Common.{◌≡◌, ℕ, zero, suc, ◌-◌, ◌==◌, Bool, true, false, cond, not, inl, inr, None, replicate, List, [], ◌∷◌, ◌++◌, refl, sym, ◌∙◌, ap, subst, arith}
 use Rattle.atomic_table.specs.Seated.{TableId}
 use Rattle.lsm_codec.specs.Lists.{Has}
-use Rattle.lsm_codec.proofs.CallerLemmas.{all_at}
+use Rattle.lsm_codec.proofs.CallerLemmas.{all_at, filter_has}
 use Rattle.lsm_pins.specs.Known.{Known}
 use Rattle.lsm_pins.specs.Made.{IsNewPinner}
 use Rattle.lsm_pins.specs.declared.view.View.{View}
@@ -15,7 +15,8 @@ use Rattle.lsm_machine.specs.Runs.{Event, Step, Snapshot, Release, Cancel, Draw}
 use Rattle.lsm_machine.proofs.CallerLemmas.{step_law}
 use Rattle.lsm_slots.specs.Slots.{Looked, PinsMove, Slotted, first_slots, numbers_held}
 use Rattle.lsm_slots.specs.Snapshots.{Taken}
-use Rattle.lsm_live.specs.Booked.{Booked, booked, without}
+use Rattle.lsm_merge.specs.Work.{Work}
+use Rattle.lsm_live.specs.Booked.{Booked, booked, drawing, without}
 use Rattle.lsm_live.proofs.CallerLemmas.{lives_booked, lives_without}
 use Rattle.lsm_journal.specs.HeldManifest.{HeldManifest}
 use Rattle.lsm_journal.specs.Recorded.{IsRecorded}
@@ -24,7 +25,7 @@ use Rattle.lsm_journal.proofs.CallerLemmas.{later}
 use Rattle.lsm_state.specs.Making.{IsNewBoard, created_state}
 use Rattle.lsm_state.specs.Options.{Fits}
 use Rattle.lsm_state.specs.declared.options.Options.{Options}
-use Rattle.lsm_state.specs.Held.{Held, IsLawfulState, plain}
+use Rattle.lsm_state.specs.Held.{HasInputs, Held, IsLawfulState, plain}
 use Rattle.lsm_state.proofs.Numbers.{looked_numbers, pinned_numbers}
 
 -- an event keeps the machine's law
@@ -41,6 +42,7 @@ lawful_slots honest board h s l same fewer = record {
   below = λ n k. l.below n (fewer n k);
   pinners = l.pinners;
   fits = l.fits;
+  inputs = λ b k. subst (λ (v : Levels). HasInputs v b.work) (sym same) (l.inputs b k);
 }
 
 pub lawful_pinned : (honest : Type 0) (board : TableId) (h : Held) (s : Slotted) (id from to : ℕ) → IsLawfulState honest board h → PinsMove h.slots s id from to → IsLawfulState honest board (record h { slots = s })
@@ -67,6 +69,7 @@ lawful_taken honest board h taken l is = record {
   below = l.below;
   pinners = l.pinners;
   fits = l.fits;
+  inputs = l.inputs;
 }
 
 pub lawful_released : (honest : Type 0) (board : TableId) (h : Held) (taken : Taken) (id : ℕ) → IsLawfulState honest board h
@@ -77,9 +80,20 @@ lawful_released honest board h taken id l is = record {
   below = l.below;
   pinners = l.pinners;
   fits = l.fits;
+  inputs = l.inputs;
 }
 
 -- ---- jobs
+
+drawn_work : (number : ℕ) (b : Booked) (c : Bool) → (cond c (drawing number b) b).work ≡ b.work
+drawn_work number b true = refl
+drawn_work number b false = refl
+
+-- a job after a draw is a job before it
+booked_from : (ticket number : ℕ) (live : List Booked) (b : Booked) → Has (booked ticket number live) b → (c : Booked) × Has live c × (c.work ≡ b.work)
+booked_from ticket number [] b h = absurd h
+booked_from ticket number (c ∷ live) b (inl e) = (c, inl refl, sym (drawn_work number c (c.work.ticket == ticket)) ∙ ap (λ (x : Booked). x.work) e)
+booked_from ticket number (c ∷ live) b (inr h) = (let r = booked_from ticket number live b h in (r.0, inr r.1, r.2))
 
 pub lawful_cancelled : (honest : Type 0) (board : TableId) (h : Held) (live : List Booked) (ticket : ℕ) → IsLawfulState honest board h → live ≡ without ticket h.live
     → IsLawfulState honest board (record h { live = live })
@@ -90,6 +104,7 @@ lawful_cancelled honest board h live ticket l is = record {
   below = l.below;
   pinners = l.pinners;
   fits = l.fits;
+  inputs = λ b k. l.inputs b (filter_has (λ (c : Booked). not (c.work.ticket == ticket)) h.live b (subst (λ (bs : List Booked). Has bs b) is k)).0;
 }
 
 pub lawful_drawn : (honest : Type 0) (board : TableId) (h : Held) (live : List Booked) (ticket next : ℕ) → IsLawfulState honest board h → live ≡ booked ticket h.next h.live → next ≡ suc h.next
@@ -102,12 +117,13 @@ lawful_drawn honest board h live ticket next l is more = record {
   below = λ n k. (let lt = l.below n k in omega arith);
   pinners = l.pinners;
   fits = l.fits;
+  inputs = λ b k. (let r = booked_from ticket h.next h.live b (subst (λ (bs : List Booked). Has bs b) is k) in subst (λ (w : Work). HasInputs h.slots.version w) r.2 (l.inputs r.0 r.1));
 }
 
 -- ---- pinners
 
 pub lawful_given : (honest : Type 0) (board : TableId) (h : Held) → IsLawfulState honest board h → IsLawfulState honest board (record h { pinners = [] })
-lawful_given honest board h l = record { law = l.law; journaled = l.journaled; below = l.below; pinners = λ p k. absurd k; fits = l.fits }
+lawful_given honest board h l = record { law = l.law; journaled = l.journaled; below = l.below; pinners = λ p k. absurd k; fits = l.fits; inputs = l.inputs }
 
 -- ---- a new database
 
@@ -119,6 +135,7 @@ lawful_created honest board o publisher pinners fits new law recorded = record {
   below = λ n k. absurd (none_held (o.versions - 1) n k);
   pinners = λ p k. (let one = all_at (IsNewPinner board o.versions new.id) pinners p new.readers k in (one.at, ap (λ (v : View). v.held) one.knows));
   fits = fits;
+  inputs = λ b k. absurd k;
 }
   where
     none_held : (m n : ℕ) → Has (numbers_held (replicate m None)) n → ⊥

@@ -5,3 +5,4 @@ pub mod Reading
 pub mod Collecting
 pub mod Making
 pub mod Listing
+pub mod Reserving

@@ -12,6 +12,7 @@ mod listing;
 mod options;
 mod pins;
 mod reads;
+mod reserve;
 mod state;
 mod state_fault;
 

@@ -1,0 +1,173 @@
+-- What a reservation leaves of the law of a state.
+use Rattle.std.proofs.Common.{◌≡◌, ℕ, suc, ◌-◌, ◌^◌, ◌<◌, ◌≤◌, Bool, Option, Some, None, true, false, List, [], ◌∷◌, ◌++◌, length, refl, sym, ◌∙◌, ap, subst, inl, inr, arith, ◌⊎◌, ◌↔◌}
+use Rattle.std.specs.Prelude.{Result, Ok, Err, MatchOption, IfErr, IfSome, IsErrAnd}
+use Rattle.std.proofs.lemmas.Bool.{both_ways}
+use Rattle.atomic_table.specs.Seated.{TableId}
+use Rattle.lsm_codec.specs.Keys.{UserKey}
+use Rattle.lsm_codec.specs.Lists.{Has}
+use Rattle.lsm_codec.proofs.CallerLemmas.{has_cases}
+use Rattle.lsm_table.specs.Registry.{Table}
+use Rattle.lsm_levels.specs.Files.{File, Lie}
+use Rattle.lsm_levels.specs.Jobs.{Conflicts, Job}
+use Rattle.lsm_machine.specs.Law.{Law}
+use Rattle.lsm_machine.specs.Plain.{Live, Plain}
+use Rattle.lsm_machine.specs.Runs.{Reserve}
+use Rattle.lsm_version.specs.Versions.{IsSound, IsWhole, Levels, file_of, files}
+use Rattle.lsm_choice.specs.Choice.{IsChoice}
+use Rattle.lsm_choice.specs.RangesBelow.{AreRangesBelow}
+use Rattle.lsm_choice.specs.Reservations.{IsClear, IsLeastConflict, Reserved, conflicts, reserved_of}
+use Rattle.lsm_choice.specs.TablePlans.{IsPlanFrom, StandsIn, TablePlan, files_over, plan_of}
+use Rattle.lsm_choice.specs.TablePlans as planned
+use Rattle.lsm_merge.specs.Work.{MovesOne, Work, job_of}
+use Rattle.lsm_live.specs.Booked.{Booked, live_of, lives_of, new_booked}
+use Rattle.lsm_live.specs.Reserving.{reserved_jobs}
+use Rattle.lsm_live.proofs.CallerLemmas.{live_has, live_says, lives_added, reserved_has}
+use Rattle.lsm_state.specs.Held.{HasInputs, Held, IsLawfulState, plain}
+use Rattle.lsm_state.specs.Reserving.{IsChosen, IsClosedPlan, IsOfMoment, IsRangePlan, IsRangeRefusal, IsReserveRefusal, IsReserving, plan_in, reserved}
+use Rattle.lsm_state.specs.declared.state_fault.StateFault.{StateFault}
+use Rattle.lsm_state.specs.declared.state_fault.StateFault.TheVariants.{Conflict, NumbersSpent, OutOfMemory}
+use Rattle.lsm_state.proofs.StateLaws.{stepped}
+
+-- what the laws of plans say
+abbrev pub InputsStand : Type 0
+InputsStand = (v : Levels) (p : TablePlan) (ticket : ℕ) (floor : ℕ) (ranges : List (UserKey × UserKey)) (is_move : Bool) (F : File) → StandsIn v p
+    → Has (planned.job_of p ticket floor ranges is_move).inputs F → Has (files v) F × ((F.level ≡ p.level) ⊎ (F.level ≡ suc p.level))
+
+abbrev pub ConflictsAgree : Type 0
+ConflictsAgree = (p : TablePlan) (ticket : ℕ) (floor : ℕ) (ranges : List (UserKey × UserKey)) (is_move : Bool) (other : Job)
+    → ((conflicts p (reserved_of other) ≡ true) ↔ Conflicts (planned.job_of p ticket floor ranges is_move) other)
+
+-- ---- a job of a plan is an event of the machine
+
+clear_of : ConflictsAgree → (w : Work) (live : List Booked) → IsClear (plan_in w) (reserved_jobs live) → (a : Live) → Has (lives_of live) a → Conflicts (job_of w) a.job → ⊥
+clear_of agree w live clear a h k =
+    let b = live_says live a h in
+    let k2 : Conflicts (job_of w) (job_of b.0.work) = subst (λ (x : Live). Conflicts (job_of w) x.job) (sym b.2) k in
+    both_ways (conflicts (plan_in w) (reserved_of (job_of b.0.work))) (clear (reserved_of (job_of b.0.work)) (reserved_has live b.0 b.1))
+    ((agree (plan_in w) w.ticket w.floor w.ranges w.is_move (job_of b.0.work)).1 k2)
+
+pub reserves : (honest : Type 0) (h : Held) (w : Work) → InputsStand → ConflictsAgree → IsOfMoment h w → StandsIn h.slots.version (plan_in w) → IsClear (plan_in w) (reserved_jobs h.live)
+    → (honest → IsClosedPlan h (plan_in w)) → IsReserving honest h w (reserved w h)
+reserves honest h w stand agree m s clear closed = record {
+  is = ap (λ (ls : List Live). let t : Plain = record (plain h) { live = ls; next_ticket = suc h.next_ticket } in t) (lives_added h.live w);
+  is_job = record { level = refl; inputs = refl; low = refl; high = refl; ranges = (m.ranges).all; ranges_from = (m.ranges).only };
+  inputs = λ F k. (stand h.slots.version (plan_in w) w.ticket w.floor w.ranges w.is_move F s k).0;
+  levels = λ F k. (stand h.slots.version (plan_in w) w.ticket w.floor w.ranges w.is_move F s k).1;
+  floor = m.floor;
+  ticket = m.ticket;
+  clear = λ a k. clear_of agree w h.live clear a k;
+  closed = λ y. (let c = closed y in (c.0, (c.1).closed));
+}
+
+-- ---- the law afterwards
+
+one_more : (live : List Booked) (w : Work) (b : Booked) → Has (live ++ new_booked w ∷ []) b → Has live b ⊎ (new_booked w ≡ b)
+one_more live w b h = elim (has_cases live (new_booked w ∷ []) b h) [ inl a ↦ inl a | inr c ↦ elim c [ inl e ↦ inr e | inr none ↦ absurd none ] ]
+
+pub lawful_reserved : (honest : Type 0) (board : TableId) (h : Held) (w : Work) → IsLawfulState honest board h → IsReserving honest h w (reserved w h) → StandsIn h.slots.version (plan_in w)
+    → IsLawfulState honest board (reserved w h)
+lawful_reserved honest board h w l step s = record {
+  law = stepped honest (plain h) (Reserve (plan_of (plan_in w)) (job_of w)) (plain (reserved w h)) l.law step;
+  journaled = l.journaled;
+  below = l.below;
+  pinners = l.pinners;
+  fits = l.fits;
+  inputs = λ b k. elim (one_more h.live w b k) [
+    | inl old ↦ l.inputs b old
+    | inr new ↦ subst (λ (c : Booked). HasInputs h.slots.version c.work) new record { upper = s.upper; lower = s.lower }
+  ];
+}
+
+-- the same of the parts, as they were made
+pub lawful_booked : (honest : Type 0) (board : TableId) (h : Held) (w : Work) (live : List Booked) (next : ℕ) → live ≡ h.live ++ new_booked w ∷ [] → next ≡ suc h.next_ticket
+    → IsLawfulState honest board (reserved w h) → IsLawfulState honest board (record h { live = live; next_ticket = next })
+lawful_booked honest board h w live next a b l =
+    subst (λ (bs : List Booked). IsLawfulState honest board (record h { live = bs; next_ticket = next })) (sym a)
+    (subst (λ (n : ℕ). IsLawfulState honest board (record h { live = h.live ++ new_booked w ∷ []; next_ticket = n })) (sym b) l)
+
+pub booked_is : (h : Held) (w : Work) (live : List Booked) (next : ℕ) → live ≡ h.live ++ new_booked w ∷ [] → next ≡ suc h.next_ticket
+    → record h { live = live; next_ticket = next } ≡ reserved w h
+booked_is h w live next a b =
+    ap (λ (bs : List Booked). let t : Held = record h { live = bs; next_ticket = next } in t) a
+    ∙ ap (λ (n : ℕ). let t : Held = record h { live = h.live ++ new_booked w ∷ []; next_ticket = n } in t) b
+
+-- the next ticket is above those of all live jobs
+pub newest : (honest : Type 0) (h : Held) → Law honest Lie (plain h) → (b : Booked) → Has h.live b → b.work.ticket < h.next_ticket
+newest honest h l b k = (l.books).tickets (live_of b) (live_has h.live b k)
+
+-- ---- a job is made of a plan
+
+one_of : (w : Work) (ts : List Table) → w.upper ≡ ts → length ts ≡ 1 → w.lower ≡ [] → (t : Table) × (w.upper ≡ t ∷ []) × (w.lower ≡ [])
+one_of w [] e one none = absurd (omega arith)
+one_of w (t ∷ []) e one none = (t, e, none)
+one_of w (t ∷ u ∷ ts) e one none = absurd (omega arith)
+
+pub moves_one : (w : Work) (m : Bool) → (m ≡ true → (length w.upper ≡ 1) × (w.lower ≡ [])) → MovesOne w m
+moves_one w true h = (let r = h refl in one_of w w.upper refl r.0 r.1)
+moves_one w false h = tt
+
+pub plan_is : (w : Work) (p : TablePlan) → w.level ≡ p.level → w.upper ≡ p.upper → w.lower ≡ p.lower → w.low ≡ p.low → w.high ≡ p.high → plan_in w ≡ p
+plan_is w p a b c d e = λ i. record { level = a i; upper = b i; lower = c i; low = d i; high = e i }
+
+pub whole_plan : (v : Levels) (p : TablePlan) → StandsIn v p → IsSound v → (t : Table) → Has (p.upper ++ p.lower) t → IsWhole t
+whole_plan v p s sound t h = elim (has_cases p.upper p.lower t h) [
+  | inl up ↦ sound.tables p.level t (s.upper t up)
+  | inr down ↦ sound.tables (suc p.level) t (s.lower t down)
+]
+
+pub whole_parts : (v : Levels) (p : TablePlan) (upper lower : List Table) → upper ≡ p.upper → lower ≡ p.lower → StandsIn v p → IsSound v → (t : Table) → Has (upper ++ lower) t → IsWhole t
+whole_parts v p upper lower a b s sound t h = elim (has_cases upper lower t h) [
+  | inl up ↦ sound.tables p.level t (s.upper t (subst (λ (ts : List Table). Has ts t) a up))
+  | inr down ↦ sound.tables (suc p.level) t (s.lower t (subst (λ (ts : List Table). Has ts t) b down))
+]
+
+pub moves_by : (w : Work) (p : TablePlan) (m : Bool) → w.upper ≡ p.upper → w.lower ≡ p.lower → (m ≡ true → (length p.upper ≡ 1) × (p.lower ≡ [])) → MovesOne w m
+moves_by w p m a b h = moves_one w m (λ e. (let r = h e in (ap length a ∙ r.0, b ∙ r.1)))
+
+pub booked_reserves : (honest : Type 0) (h : Held) (w : Work) (p : TablePlan) → InputsStand → ConflictsAgree → IsOfMoment h w → plan_in w ≡ p → StandsIn h.slots.version p → IsClear p (reserved_jobs h.live)
+    → (honest → IsClosedPlan h p) → IsReserving honest h w (reserved w h)
+booked_reserves honest h w p stand agree m same s clear closed =
+    reserves honest h w stand agree m (subst (λ (x : TablePlan). StandsIn h.slots.version x) (sym same) s) (subst (λ (x : TablePlan). IsClear x (reserved_jobs h.live)) (sym same) clear)
+    (λ y. subst (λ (x : TablePlan). IsClosedPlan h x) (sym same) (closed y))
+
+pub newest_kept : (honest : Type 0) (h : Held) (w kept : Work) → Law honest Lie (plain h) → IsOfMoment h w → kept ≡ w → (b : Booked) → Has h.live b → b.work.ticket < kept.ticket
+newest_kept honest h w kept l m same b k = (let lt = newest honest h l b k in let e = m.ticket in let f = ap (λ (x : Work). x.ticket) same in omega arith)
+
+-- ---- plans that were found, and refusals
+
+pub closed_choice : (h : Held) (v : Levels) (rs : List Reserved) (p : TablePlan) → v ≡ h.slots.version → IsChoice v rs p → IsClosedPlan h p
+closed_choice h v rs p same k =
+    (file_of (k.start).level (k.start).table ∷ [], subst (λ (x : Levels). IsPlanFrom x (Has (file_of (k.start).level (k.start).table ∷ [])) p) same (k.planned).planned)
+
+pub closed_range : (h : Held) (v : Levels) (starts : List File) (p : TablePlan) → v ≡ h.slots.version → IsPlanFrom v (Has starts) p → IsClosedPlan h p
+closed_range h v starts p same k = (starts, subst (λ (x : Levels). IsPlanFrom x (Has starts) p) same k)
+
+pub chosen_at : (h : Held) (v : Levels) (rs : List Reserved) (p : TablePlan) → v ≡ h.slots.version → rs ≡ reserved_jobs h.live → IsChoice v rs p → IsChosen h p
+chosen_at h v rs p a b k = subst (λ (x : Levels). IsChoice x (reserved_jobs h.live) p) a (subst (λ (x : List Reserved). IsChoice v x p) b k)
+
+pub planned_at : (h : Held) (v : Levels) (level : ℕ) (from to : UserKey) (p : TablePlan) → v ≡ h.slots.version → IsPlanFrom v (Has (files_over v level from to)) p → IsRangePlan h level from to p
+planned_at h v level from to p a k = subst (λ (x : Levels). IsPlanFrom x (Has (files_over x level from to)) p) a k
+
+pub refused_choice : (honest : Type 0) (h : Held) (p : TablePlan) (e : StateFault) → h.halted ≡ false → (honest → IsChosen h p) → ((e ≡ NumbersSpent) × (h.next_ticket ≡ 2 ^ 64 - 1)) ⊎ (e ≡ OutOfMemory)
+    → IsReserveRefusal honest h e
+refused_choice honest h p e going chosen (inl x) = subst (λ (f : StateFault). IsReserveRefusal honest h f) (sym x.0) (going, x.1, λ y. (p, chosen y))
+refused_choice honest h p e going chosen (inr x) = subst (λ (f : StateFault). IsReserveRefusal honest h f) (sym x) going
+
+pub refused_range : (honest : Type 0) (h : Held) (level : ℕ) (from to : UserKey) (p : TablePlan) (e : StateFault) → h.halted ≡ false → level ≤ 5 → (honest → IsRangePlan h level from to p) → IsClear p (reserved_jobs h.live)
+    → ((e ≡ NumbersSpent) × (h.next_ticket ≡ 2 ^ 64 - 1)) ⊎ (e ≡ OutOfMemory) → IsRangeRefusal honest h level from to e
+refused_range honest h level from to p e going low planned clear (inl x) = subst (λ (f : StateFault). IsRangeRefusal honest h level from to f) (sym x.0) (going, low, x.1, (p, planned, clear))
+refused_range honest h level from to p e going low planned clear (inr x) = subst (λ (f : StateFault). IsRangeRefusal honest h level from to f) (sym x) (going, low)
+
+pub refused_conflict : (honest : Type 0) (h : Held) (level : ℕ) (from to : UserKey) (p : TablePlan) (rs : List Reserved) (ticket : ℕ) → h.halted ≡ false → level ≤ 5 → (honest → IsRangePlan h level from to p)
+    → rs ≡ reserved_jobs h.live → IsLeastConflict p rs ticket → IsRangeRefusal honest h level from to (Conflict ticket)
+refused_conflict honest h level from to p rs ticket going low planned same k = (going, low, (p, planned, subst (λ (x : List Reserved). IsLeastConflict p x ticket) same k))
+
+pub match_some : {A : Type 0} (o : Option A) (x : A) (P : Type 0) (Q : A → Type 0) → o ≡ Some x → MatchOption o P Q → Q x
+match_some {A} o x P Q e m = subst (λ (y : Option A). MatchOption y P Q) e m
+
+pub if_some : {A : Type 0} (o : Option A) (x : A) (Q : A → Type 0) → o ≡ Some x → IfSome o Q → Q x
+if_some {A} o x Q e m = subst (λ (y : Option A). IfSome y Q) e m
+
+pub if_err : {A : Type 0} (r : Result A StateFault) (P Q : StateFault → Type 0) → IsErrAnd r P → ((e : StateFault) → P e → Q e) → IfErr r Q
+if_err (Ok a) P Q x f = tt
+if_err (Err e) P Q x f = f e x

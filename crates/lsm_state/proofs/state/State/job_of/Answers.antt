@@ -1,0 +1,21 @@
+use Rattle.std.proofs.Common.{◌≡◌, ◌++◌, List, ◌∙◌, ap, sym, subst}
+use Rattle.lsm_codec.specs.Lists.{Has}
+use Rattle.lsm_table.specs.Registry.{Table}
+use Rattle.lsm_version.specs.Versions.{IsSound, Levels}
+use Rattle.lsm_choice.specs.TablePlans.{StandsIn, TablePlan}
+use Rattle.lsm_merge.specs.Work.{Work}
+use Rattle.lsm_state.specs.Held.{Held}
+use Rattle.lsm_state.proofs.ReserveLaws.{moves_by, whole_parts}
+use Rattle.lsm_state.proofs.state.State.job_of.Goals as goal
+
+pub of-requires-clause-whole : goal.of-requires-clause-whole
+of-requires-clause-whole g c κs within honest t h =
+    let p : TablePlan = c.args.plan in
+    let same : c.version-version.result.now ≡ c.args.self.now.slots.version = c.version-version.ensures.version ∙ ap (λ (x : Held). x.slots.version) c.self.view_is in
+    whole_parts c.args.self.now.slots.version p c.into_parts-upper.result.0.items c.into_parts-upper.result.1.items c.into_parts-upper.ensures.upper c.into_parts-upper.ensures.lower c.requires.stands
+    (subst IsSound same (c.last.ensures.sound honest)) t h
+
+pub of-requires-clause-moves : goal.of-requires-clause-moves
+of-requires-clause-moves g c κs within =
+    let w : Work = record { ticket = c.self.inside.next_ticket; level = c.from-level.result; upper = c.into_parts-upper.result.0.items; lower = c.into_parts-upper.result.1.items; low = c.into_parts-upper.result.2.0; high = c.into_parts-upper.result.2.1; floor = c.floor-floor.result; ranges = c.in_ok-ranges.ranges.items; is_move = c.args.is_move; table = c.sizes.result; target_size = c.self.inside.options.target_size } in
+    moves_by w c.args.plan c.args.is_move c.into_parts-upper.ensures.upper c.into_parts-upper.ensures.lower c.requires.moves

@@ -1,0 +1,80 @@
+-- Reservations: what a job gets at its moment, and why there is none (LevelDB's `doc/impl.md`, "Compactions"; several jobs at a time are
+-- this project's).
+use Rattle.std.specs.Prelude.{◌≡◌, ℕ, suc, ◌-◌, ◌^◌, ◌<◌, ◌≤◌, true, false, List, [], ◌∷◌, ◌++◌}
+use Rattle.lsm_codec.specs.Keys.{UserKey}
+use Rattle.lsm_codec.specs.Lists.{Has}
+use Rattle.lsm_machine.specs.Plain.{Reserves, floor_of}
+use Rattle.lsm_choice.specs.Choice.{IsChoice}
+use Rattle.lsm_choice.specs.RangesBelow.{AreRangesBelow}
+use Rattle.lsm_choice.specs.Reservations.{IsClear, IsLeastConflict}
+use Rattle.lsm_choice.specs.TablePlans.{IsPlanFrom, TablePlan, files_over, plan_of}
+use Rattle.lsm_choice.specs.declared.plan_fault.PlanFault.{PlanFault}
+use Rattle.lsm_choice.specs.declared.plan_fault.PlanFault.TheVariants as planned
+use Rattle.lsm_merge.specs.Work.{Work, job_of}
+use Rattle.lsm_live.specs.Booked.{new_booked}
+use Rattle.lsm_live.specs.Reserving.{reserved_jobs}
+use Rattle.lsm_state.specs.Held.{Held, plain}
+use Rattle.lsm_state.specs.Options.{sizes_of}
+use Rattle.lsm_state.specs.declared.state_fault.StateFault.{StateFault}
+use Rattle.lsm_state.specs.declared.state_fault.StateFault.TheVariants.{BadLevel, Conflict, Halted, NumbersSpent, OutOfMemory}
+
+-- the plan of a job: its level, its tables there and at the next level, and its hull
+abbrev pub plan_in : Work → TablePlan
+plan_in w = record { level = w.level; upper = w.upper; lower = w.lower; low = w.low; high = w.high }
+
+-- What a job gets at its reservation: the next ticket, the oldest live snapshot's sequence or the last one as its floor, the ranges of the
+-- files two or more levels below, and the state's sizes.
+pub record IsOfMoment (h : Held) (w : Work) : Type 0 where
+  pub ticket : w.ticket ≡ h.next_ticket
+  pub floor : w.floor ≡ floor_of h.slots.version.last h.snapshots.taken
+  pub ranges : AreRangesBelow h.slots.version w.level w.ranges
+  pub table : w.table ≡ sizes_of h.options
+  pub target_size : w.target_size ≡ h.options.target_size
+
+-- the state with one live job more, for which no number was drawn yet
+abbrev pub reserved : Work → Held → Held
+reserved w h = record h { live = h.live ++ new_booked w ∷ []; next_ticket = suc h.next_ticket }
+
+-- the reservation is an event of the plain machine
+abbrev pub IsReserving : Type 0 → Held → Work → Held → Type 0
+IsReserving honest old w new = Reserves honest (plain old) (plan_of (plan_in w)) (job_of w) (plain new)
+
+-- the plan is closed, from some starting files
+abbrev pub IsClosedPlan : Held → TablePlan → Type 0
+IsClosedPlan h p = (starts : List Rattle.lsm_levels.specs.Files.File) × IsPlanFrom h.slots.version (Has starts) p
+
+-- a refusal of a range plan, as the state answers it
+abbrev pub plan_refusal : PlanFault → StateFault
+plan_refusal planned.OutOfMemory = OutOfMemory
+plan_refusal (planned.BadLevel level) = BadLevel level
+
+-- ---- the choice
+
+-- the plan that is chosen beside the live jobs
+abbrev pub IsChosen : Held → TablePlan → Type 0
+IsChosen h p = IsChoice h.slots.version (reserved_jobs h.live) p
+
+-- Why there is no chosen job: the state is halted; or there is one, but its ticket would be 2^64 - 1; or memory was refused.
+abbrev pub IsReserveRefusal : Type 0 → Held → StateFault → Type 0
+IsReserveRefusal honest h Halted = h.halted ≡ true
+IsReserveRefusal honest h NumbersSpent = (h.halted ≡ false) × (h.next_ticket ≡ 2 ^ 64 - 1) × (honest → (p : TablePlan) × IsChosen h p)
+IsReserveRefusal honest h OutOfMemory = h.halted ≡ false
+IsReserveRefusal honest h e = ⊥
+
+-- ---- a range
+
+-- the closed plan of the files of the level that meet the range
+abbrev pub IsRangePlan : Held → ℕ → UserKey → UserKey → TablePlan → Type 0
+IsRangePlan h level from to p = IsPlanFrom h.slots.version (Has (files_over h.slots.version level from to)) p
+
+-- Why there is no job of a range: the state is halted; or the level is above 5; or the plan conflicts with a live job, the least ticket of
+-- which is named; or it conflicts with none, but its ticket would be 2^64 - 1; or memory was refused.
+abbrev pub IsRangeRefusal : Type 0 → Held → ℕ → UserKey → UserKey → StateFault → Type 0
+IsRangeRefusal honest h level from to Halted = h.halted ≡ true
+IsRangeRefusal honest h level from to (BadLevel n) = (h.halted ≡ false) × (n ≡ level) × (5 < level)
+IsRangeRefusal honest h level from to (Conflict ticket) = (h.halted ≡ false) × (level ≤ 5)
+    × ((p : TablePlan) × (honest → IsRangePlan h level from to p) × IsLeastConflict p (reserved_jobs h.live) ticket)
+IsRangeRefusal honest h level from to NumbersSpent = (h.halted ≡ false) × (level ≤ 5) × (h.next_ticket ≡ 2 ^ 64 - 1)
+    × ((p : TablePlan) × (honest → IsRangePlan h level from to p) × IsClear p (reserved_jobs h.live))
+IsRangeRefusal honest h level from to OutOfMemory = (h.halted ≡ false) × (level ≤ 5)
+IsRangeRefusal honest h level from to e = ⊥
