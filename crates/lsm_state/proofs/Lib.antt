@@ -3,3 +3,4 @@ mod StateLaws
 mod Removing
 mod Listed
 mod ReserveLaws
+mod ChangeLaws

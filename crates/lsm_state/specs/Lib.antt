@@ -6,3 +6,4 @@ pub mod Collecting
 pub mod Making
 pub mod Listing
 pub mod Reserving
+pub mod Changing
