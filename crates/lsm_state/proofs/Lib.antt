@@ -5,3 +5,4 @@ mod Listed
 mod OpenLaws
 mod OpenRefusals
 mod ReserveLaws
+mod ChangeLaws

@@ -8,3 +8,4 @@ pub mod Listing
 pub mod OpenFault
 pub mod Opening
 pub mod Reserving
+pub mod Changing

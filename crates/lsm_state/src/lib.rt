@@ -5,6 +5,7 @@
 //! says all that it leaves.
 #![tactic(auto)]
 
+mod changing;
 mod collect;
 mod create;
 mod jobs;

@@ -1,0 +1,29 @@
+use Rattle.std.proofs.Common.{◌≡◌, ℕ, sym, ◌∙◌, ap, subst}
+use Rattle.lsm_codec.specs.Lists.{Has}
+use Rattle.lsm_levels.specs.Files.{Lie}
+use Rattle.lsm_version.specs.Versions.{Levels}
+use Rattle.lsm_machine.specs.Law.{Law}
+use Rattle.lsm_slots.specs.Slots.{Published}
+use Rattle.lsm_live.specs.Booked.{Booked}
+use Rattle.lsm_journal.specs.Difference.{Difference, changed_by}
+use Rattle.lsm_journal.specs.Recorded.{IsRecorded}
+use Rattle.lsm_state.specs.Held.{HasInputs, Held}
+use Rattle.lsm_state.specs.Changing.{live_after, plain_after}
+use Rattle.lsm_state.proofs.ChangeLaws.{lawful_changed, next_rises}
+use Rattle.lsm_state.proofs.state.State.change_version.Goals as goal
+
+pub invariant_of-self-2 : goal.invariant_of-self-2
+invariant_of-self-2 g c =
+    let h : Held = record { options = c.self.inside.options; slots = c.self.inside.slots; snapshots = c.self.inside.snapshots; next = c.self.inside.next; next_ticket = c.self.inside.next_ticket; live = c.self.inside.live; journal = c.self.inside.journal; halted = c.self.inside.halted; pinners = c.self.inside.pinners.items } in
+    let d : Difference = c.args.change.now in
+    let w : Levels = changed_by d h.slots.version in
+    let back = ap (λ (x : Held). changed_by d x.slots.version) (sym c.self.view_is) in
+    let after = subst (λ (x : Held). Law g.S.Shelf.honest Lie (plain_after x d c.args.out)) (sym c.self.view_is) c.requires.law in
+    let inputs = subst (λ (x : Held). (b : Booked) → Has (live_after c.args.out x.live) b → HasInputs (changed_by d x.slots.version) b.work) (sym c.self.view_is) c.requires.inputs in
+    let published = subst (λ (v : Levels). Published h.slots c.publish.new.self v) (c.in_ok-first.ensures.first ∙ back) c.publish.ensures.published in
+    let recorded = subst (λ (v : Levels). IsRecorded 0 c.send-sent.new.self v c.in-Ok.next) (c.deref-2.ensures ∙ c.in_ok-first.ensures.first ∙ back) c.in-Ok.ensures.recorded in
+    let rises = next_rises d c.deref-2.result.now h.next c.in-Ok.next h.journal c.send-sent.new.self (g.S.Shelf.told c.args.shelf.now) (g.S.Shelf.told c.send-sent.new.shelf) c.in-Ok.ensures.sends in (
+      c.self.invariant.0,
+      lawful_changed g.S.Shelf.honest g.N.Boarded.board h d c.args.out c.publish.new.self c.in-Ok.next c.take_out.new.live c.send-sent.new.self c.self.invariant.1
+          after published c.take_out.ensures recorded rises inputs,
+    )
