@@ -12,7 +12,7 @@ shared=$(mktemp -d -p /dev/shm)
 trap 'rm -rf "$scratch" "$shared"' EXIT
 
 bench="$scratch/crates/bench_compaction"
-mkdir -p "$bench/src" "$bench"/proofs/{time,copies_of,job_of}
+mkdir -p "$bench/src" "$bench"/proofs/{main,time,copies_of,job_of}
 source "$top/benches/copy_crates.sh"
 copy_crates lsm_merge "$scratch"
 cp "$here/compaction.rattle" "$bench/src/main.rt"
@@ -53,11 +53,22 @@ of-requires-3-clause-whole g c = λ lts lives honest.
 PROOF
 cat > "$bench/proofs/time/Invariants.antt" <<'PROOF'
 use Rattle.std.specs.Arc.{arc_value}
+use Rattle.lsm_shelf.specs.MemoryShelf.{memory_told}
 use Rattle.bench_compaction.proofs.time.Given as goal
 
 -- the registry and the contents that were just made
 abbrev pub ghosts-measured : goal.ghosts-measured
-ghosts-measured g a = record { registry = arc_value a.registry; place = (g.S.Shelf.told a.shelf).place }
+ghosts-measured g a = record { registry = arc_value a.registry; place = (memory_told a.shelf).place }
+PROOF
+cat > "$bench/proofs/main/Invariants.antt" <<'PROOF'
+use Rattle.std.specs.Arc.{arc_value}
+use Rattle.lsm_folder.specs.SystemFolder.{system_place}
+use Rattle.lsm_shelf.specs.FileShelf.{folder_of}
+use Rattle.bench_compaction.proofs.main.Given as goal
+
+-- the registry and the contents that were just made
+abbrev pub ghosts-measured : goal.ghosts-measured
+ghosts-measured g a = record { registry = arc_value a.registry; place = system_place (folder_of a.shelf) }
 PROOF
 echo 'bench_compaction: lsm_merge lsm_version lsm_merger lsm_reader lsm_table lsm_shelf lsm_folder lsm_block lsm_manifest lsm_levels lsm_codec boxcar' >> "$scratch/crates.txt"
 (cd "$bench" && rt run > "$scratch/first" 2> "$scratch/log" || [[ -x out/bench_compaction ]]) || { cat "$scratch/log" >&2; exit 1; }

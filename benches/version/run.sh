@@ -12,19 +12,51 @@ shared=$(mktemp -d -p /dev/shm)
 trap 'rm -rf "$scratch" "$shared"' EXIT
 
 bench="$scratch/crates/bench_version"
-mkdir -p "$bench/src" "$bench/proofs/time"
+mkdir -p "$bench/src" "$bench"/proofs/{main,time,read,scan,scan_lent}
 source "$top/benches/copy_crates.sh"
 copy_crates lsm_version "$scratch"
 cp "$here/version.rattle" "$bench/src/main.rt"
 cp "$here/holding.rattle" "$bench/src/holding.rt"
-cat > "$bench/proofs/time/Invariants.antt" <<'END'
+cat > "$bench/proofs/main/Invariants.antt" <<'PROOF'
 use Rattle.std.specs.Arc.{arc_value}
+use Rattle.lsm_folder.specs.SystemFolder.{system_place}
+use Rattle.lsm_shelf.specs.FileShelf.{folder_of}
+use Rattle.bench_version.proofs.main.Given as goal
+
+-- the registry and the contents that were just made
+abbrev pub ghosts-measured : goal.ghosts-measured
+ghosts-measured g a = record { registry = arc_value a.registry; place = system_place (folder_of a.shelf) }
+PROOF
+cat > "$bench/proofs/time/Invariants.antt" <<'PROOF'
+use Rattle.std.specs.Arc.{arc_value}
+use Rattle.lsm_shelf.specs.MemoryShelf.{memory_told}
 use Rattle.bench_version.proofs.time.Given as goal
 
 -- the registry and the contents that were just made
 abbrev pub ghosts-measured : goal.ghosts-measured
-ghosts-measured g a = record { registry = arc_value a.registry; place = (g.S.Shelf.told a.shelf).place }
-END
+ghosts-measured g a = record { registry = arc_value a.registry; place = (memory_told a.shelf).place }
+PROOF
+cat > "$bench/proofs/read/Invariants.antt" <<'PROOF'
+use Rattle.std.proofs.Common.{◌≡◌}
+use Rattle.bench_version.proofs.read.Given as goal
+
+abbrev pub invariant-loop-i : goal.invariant-loop-i
+invariant-loop-i g l = (g.S.Shelf.told l.shelf).place ≡ g.N.Naming.place
+PROOF
+cat > "$bench/proofs/scan/Invariants.antt" <<'PROOF'
+use Rattle.std.proofs.Common.{◌≡◌}
+use Rattle.bench_version.proofs.scan.Given as goal
+
+abbrev pub invariant-loop : goal.invariant-loop
+invariant-loop g l = (g.S.Shelf.told l.shelf).place ≡ g.N.Naming.place
+PROOF
+cat > "$bench/proofs/scan_lent/Invariants.antt" <<'PROOF'
+use Rattle.std.proofs.Common.{◌≡◌}
+use Rattle.bench_version.proofs.scan_lent.Given as goal
+
+abbrev pub invariant-loop : goal.invariant-loop
+invariant-loop g l = (g.S.Shelf.told l.direct.shelf.now).place ≡ g.N.Naming.place
+PROOF
 echo 'bench_version: lsm_version lsm_reader lsm_merger lsm_table lsm_shelf lsm_folder lsm_block lsm_manifest lsm_levels lsm_codec boxcar' >> "$scratch/crates.txt"
 mkdir "$shared/same"
 (cd "$bench" && rt run -- "$shared/same" > "$scratch/first" 2> "$scratch/log" || [[ -x out/bench_version ]]) || { cat "$scratch/log" >&2; exit 1; }

@@ -10,7 +10,7 @@ scratch=$(mktemp -d)
 trap 'rm -rf "$scratch"' EXIT
 
 program="$scratch/crates/hostile"
-mkdir -p "$program/src" "$program"/proofs/{time,copies_of,job_at}
+mkdir -p "$program/src" "$program"/proofs/{main,time_files,scan_lent,copies_of,job_at}
 source "$top/benches/copy_crates.sh"
 copy_crates lsm_merge "$scratch"
 cp "$here/hostile.rattle" "$program/src/main.rt"
@@ -49,13 +49,31 @@ of-requires-3-clause-whole g c = λ lts lives honest.
     whole_inputs c.args.version.now c.args.level (c.args.level + 1) c.in_ok-upper.upper.items c.in_ok-lower.lower.items (c.last-last.ensures.sound honest)
     (c.in_ok-upper.ensures ∙ c.level-above.ensures) (c.in_ok-lower.ensures ∙ c.level-below.ensures)
 PROOF
-cat > "$program/proofs/time/Invariants.antt" <<'PROOF'
+cat > "$program/proofs/scan_lent/Invariants.antt" <<'PROOF'
+use Rattle.std.proofs.Common.{◌≡◌}
+use Rattle.hostile.proofs.scan_lent.Given as goal
+
+abbrev pub invariant-loop : goal.invariant-loop
+invariant-loop g l = (g.S.Shelf.told l.direct.shelf.now).place ≡ g.N.Naming.place
+PROOF
+cat > "$program/proofs/time_files/Invariants.antt" <<'PROOF'
 use Rattle.std.specs.Arc.{arc_value}
-use Rattle.hostile.proofs.time.Given as goal
+use Rattle.lsm_shelf.specs.MemoryShelf.{memory_told}
+use Rattle.hostile.proofs.time_files.Given as goal
 
 -- the registry and the contents that were just made
 abbrev pub ghosts-measured : goal.ghosts-measured
-ghosts-measured g a = record { registry = arc_value a.registry; place = (g.S.Shelf.told a.shelf).place }
+ghosts-measured g a = record { registry = arc_value a.registry; place = (memory_told a.shelf).place }
+PROOF
+cat > "$program/proofs/main/Invariants.antt" <<'PROOF'
+use Rattle.std.specs.Arc.{arc_value}
+use Rattle.lsm_folder.specs.SystemFolder.{system_place}
+use Rattle.lsm_shelf.specs.FileShelf.{folder_of}
+use Rattle.hostile.proofs.main.Given as goal
+
+-- the registry and the contents that were just made
+abbrev pub ghosts-measured : goal.ghosts-measured
+ghosts-measured g a = record { registry = arc_value a.registry; place = system_place (folder_of a.shelf) }
 PROOF
 echo 'hostile: lsm_merge lsm_version lsm_merger lsm_reader lsm_table lsm_shelf lsm_folder lsm_block lsm_manifest lsm_levels lsm_codec boxcar' >> "$scratch/crates.txt"
 (cd "$program" && rt run > "$scratch/first" 2> "$scratch/log" || [[ -x out/hostile ]]) || { cat "$scratch/log" >&2; exit 1; }
