@@ -41,6 +41,7 @@ for kind in $("$scratch/leveldb" kinds); do
     "$program/out/directory" "$scratch/$kind" > "$scratch/ours" || { echo "$kind: $(tail -1 "$scratch/ours")"; exit 1; }
     "$scratch/leveldb" scan "$scratch/copy" > "$scratch/theirs"
     cmp "$scratch/ours" "$scratch/theirs"
-    echo "$kind: $(find "$scratch/$kind" -name '*.ldb' | wc -l) tables, $(wc -l < "$scratch/ours") live keys, the same"
+    echo "$kind: $(find "$scratch/$kind" -name '*.ldb' | wc -l) tables, $(wc -l < "$scratch/ours") live keys, the same;" \
+        "$("$scratch/leveldb" spans "$scratch/copy") times a key goes on in the next file"
     rm -rf "${scratch:?}/$kind" "$scratch/copy"
 done
