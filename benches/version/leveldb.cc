@@ -50,7 +50,7 @@ int main(int count, char** words) {
   }
   leveldb::ReadOptions reads;
   reads.verify_checksums = true;
-  const uint32_t kReads = 100000, kEntries = 1000000;
+  const uint32_t kReads = 10000, kEntries = 1000000;
   char key[16];
   for (int turn = 0; turn < 3; turn++) {
     uint64_t lent = 0, pairs = 0, read = 0;
