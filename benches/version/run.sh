@@ -1,6 +1,9 @@
 #!/usr/bin/env bash
-# Times a version of a million entries over a shelf in memory: its check, reads of single keys, a scan; and, where libleveldb-dev is there, a
-# database of LevelDB with the same writes in /dev/shm. Needs rt. Proves the program in a scratch folder first, over what crates/*/out keep.
+# Times a version of a million entries in 52 tables over a shelf in memory: its check, beside that of its tables alone; reads of single
+# keys, with nothing cached and with footers and index blocks held; scans, copied and lent. Where libleveldb-dev is there, LevelDB reads
+# the same tables at the same levels, in /dev/shm. Prints nanoseconds an entry or a read, the least of TURNS (5) turns, and how many times
+# LevelDB's time that is. Then the memory that a check and scans of ever more tables in a folder take at most.
+# Needs rt. Proves the program in a scratch folder first, over what crates/*/out keep.
 set -euo pipefail
 here=$(cd "$(dirname "$0")" && pwd)
 top=$(cd "$here/../.." && pwd)
@@ -9,35 +12,83 @@ shared=$(mktemp -d -p /dev/shm)
 trap 'rm -rf "$scratch" "$shared"' EXIT
 
 bench="$scratch/crates/bench_version"
-mkdir -p "$bench/src" "$bench/proofs/main" "$bench/proofs/measured"
+mkdir -p "$bench/src" "$bench"/proofs/{main,time,read,scan,scan_lent}
 source "$top/benches/copy_crates.sh"
 copy_crates lsm_version "$scratch"
 cp "$here/version.rattle" "$bench/src/main.rt"
-cat > "$bench/proofs/main/Invariants.antt" <<'END'
+cp "$here/holding.rattle" "$bench/src/holding.rt"
+cat > "$bench/proofs/main/Invariants.antt" <<'PROOF'
 use Rattle.std.specs.Arc.{arc_value}
-use Rattle.lsm_shelf.specs.MemoryShelf.{memory_told}
+use Rattle.lsm_folder.specs.SystemFolder.{system_place}
+use Rattle.lsm_shelf.specs.FileShelf.{folder_of}
 use Rattle.bench_version.proofs.main.Given as goal
 
 -- the registry and the contents that were just made
 abbrev pub ghosts-measured : goal.ghosts-measured
-ghosts-measured g a = record { registry = arc_value a.registry; place = (memory_told a.shelf).place }
-END
-cat > "$bench/proofs/measured/Invariants.antt" <<'END'
-use Rattle.std.proofs.Common.{◌≡◌}
-use Rattle.bench_version.proofs.measured.Given as goal
+ghosts-measured g a = record { registry = arc_value a.registry; place = system_place (folder_of a.shelf) }
+PROOF
+cat > "$bench/proofs/time/Invariants.antt" <<'PROOF'
+use Rattle.std.specs.Arc.{arc_value}
+use Rattle.lsm_shelf.specs.MemoryShelf.{memory_told}
+use Rattle.bench_version.proofs.time.Given as goal
 
--- the shelf's contents are those of the name
+-- the registry and the contents that were just made
+abbrev pub ghosts-measured : goal.ghosts-measured
+ghosts-measured g a = record { registry = arc_value a.registry; place = (memory_told a.shelf).place }
+PROOF
+cat > "$bench/proofs/read/Invariants.antt" <<'PROOF'
+use Rattle.std.proofs.Common.{◌≡◌}
+use Rattle.bench_version.proofs.read.Given as goal
+
 abbrev pub invariant-loop-i : goal.invariant-loop-i
 invariant-loop-i g l = (g.S.Shelf.told l.shelf).place ≡ g.N.Naming.place
-END
-echo 'bench_version: lsm_version lsm_table lsm_shelf lsm_block lsm_manifest lsm_codec boxcar' >> "$scratch/crates.txt"
-(cd "$bench" && rt run > "$scratch/first" 2> "$scratch/log") || { cat "$scratch/log" >&2; exit 1; }
-if g++ -O2 -o "$scratch/leveldb" "$here/leveldb.cc" -lleveldb 2> "$scratch/log"; then leveldb=yes; else leveldb=no; fi
+PROOF
+cat > "$bench/proofs/scan/Invariants.antt" <<'PROOF'
+use Rattle.std.proofs.Common.{◌≡◌}
+use Rattle.bench_version.proofs.scan.Given as goal
+
+abbrev pub invariant-loop : goal.invariant-loop
+invariant-loop g l = (g.S.Shelf.told l.shelf).place ≡ g.N.Naming.place
+PROOF
+cat > "$bench/proofs/scan_lent/Invariants.antt" <<'PROOF'
+use Rattle.std.proofs.Common.{◌≡◌}
+use Rattle.bench_version.proofs.scan_lent.Given as goal
+
+abbrev pub invariant-loop : goal.invariant-loop
+invariant-loop g l = (g.S.Shelf.told l.direct.shelf.now).place ≡ g.N.Naming.place
+PROOF
+echo 'bench_version: lsm_version lsm_reader lsm_merger lsm_table lsm_shelf lsm_folder lsm_block lsm_manifest lsm_levels lsm_codec boxcar' >> "$scratch/crates.txt"
+mkdir "$shared/same"
+(cd "$bench" && rt run -- "$shared/same" > "$scratch/first" 2> "$scratch/log" || [[ -x out/bench_version ]]) || { cat "$scratch/log" >&2; exit 1; }
+[[ -e $shared/same/CURRENT ]] || "$bench/out/bench_version" "$shared/same" > "$scratch/first"
+if g++ -O2 -o "$scratch/leveldb" "$here/leveldb.cc" -lleveldb 2> "$scratch/log"; then leveldb="$scratch/leveldb"; else leveldb=true; fi
+
+for ((turn = 0; turn < ${TURNS:-5}; turn++)); do
+    "$bench/out/bench_version"
+    "$leveldb" "$shared/same"
+done > "$scratch/figures"
+# all read the same
+awk '$2 == "values" { print $3, $4, $5 }' "$scratch/figures" | sort -u > "$scratch/values"
+[[ $(wc -l < "$scratch/values") == 1 ]] || { cat "$scratch/values" >&2; exit 1; }
 
 date -u '+%Y-%m-%d %H:%M UTC'
 sed -n 's/^model name[^:]*: //p' /proc/cpuinfo | head -1
 uptime | sed 's/.*load/load/'
-for turn in 1 2 3; do
-    "$bench/out/bench_version"
-    [[ $leveldb == no ]] || "$scratch/leveldb" "$shared/$turn"
+awk '
+    $2 != "values" && NF == 3 && (!(($1, $2) in least) || $3 < least[$1, $2]) { least[$1, $2] = $3 }
+    END {
+        for (pair in least) {
+            split(pair, part, SUBSEP)
+            name = part[2]
+            peer = name == "get_held" ? "get" : name == "scan_lent" || name == "scan" ? "scan_lent" : name
+            times = part[1] == "proved" && (("leveldb", peer) in least) ? sprintf("  %.2f times", least[pair] / least["leveldb", peer]) : ""
+            print part[1], name, least[pair] times
+        }
+    }' "$scratch/figures" | sort
+
+for parts in 1 4 16; do
+    mkdir "$shared/$parts"
+    /usr/bin/time -f %M -o "$scratch/peak" "$bench/out/bench_version" "$shared/$parts" "$parts" > "$scratch/memory"
+    echo "memory: $((parts * 198000 + 10000)) entries, $(du -sm "$shared/$parts" | cut -f1) MB of tables: at most $(cat "$scratch/peak") kB"
+    rm -rf "${shared:?}/$parts"
 done

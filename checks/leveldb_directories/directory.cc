@@ -4,6 +4,7 @@
 //   directory make DIR KIND  makes DIR; all that was written stands in tables, its log is empty
 //   directory scan DIR       prints each live key with its value, as KEY=VALUE in hex, `.` for no bytes; it opens DIR to write
 //   directory get DIR KEY..  prints the value of each key (hex), or `absent`
+//   directory spans DIR      prints how often a user key goes on in the next file of a level from 1 on; it opens DIR to write
 #include <cstdio>
 #include <cstdlib>
 #include <cstring>
@@ -143,6 +144,41 @@ void Get(const std::string& folder, int count, char** keys) {
   }
 }
 
+// The first and the last user key of a line of LevelDB's list of files: ` 7:1234['a' @ 9 : 1 .. 'b' @ 8 : 1]`.
+std::vector<std::string> Ends(const std::string& line) {
+  std::vector<std::string> ends;
+  for (size_t from = line.find('\''); from != std::string::npos && ends.size() < 2; from = line.find('\'', from + 1)) {
+    size_t end = line.find("' @ ", from + 1);
+    if (end == std::string::npos) break;
+    ends.push_back(line.substr(from + 1, end - from - 1));
+    from = end;
+  }
+  return ends;
+}
+
+void Spans(const std::string& folder) {
+  std::unique_ptr<leveldb::DB> database(Open(kKinds[0], folder));
+  std::string files, line, last;
+  database->GetProperty("leveldb.sstables", &files);
+  int level = -1, spans = 0;
+  for (char c : files) {
+    if (c != '\n') {
+      line += c;
+      continue;
+    }
+    std::vector<std::string> ends = Ends(line);
+    if (ends.size() == 2) {
+      if (level > 0 && ends[0] == last) spans++;
+      last = ends[1];
+    } else {
+      level++;
+      last.clear();
+    }
+    line.clear();
+  }
+  std::printf("%d\n", spans);
+}
+
 }  // namespace
 
 int main(int count, char** words) {
@@ -153,6 +189,10 @@ int main(int count, char** words) {
   }
   if (what == "scan" && count == 3) {
     Scan(words[2]);
+    return 0;
+  }
+  if (what == "spans" && count == 3) {
+    Spans(words[2]);
     return 0;
   }
   if (what == "get" && count >= 4) {
@@ -166,6 +206,6 @@ int main(int count, char** words) {
       return 0;
     }
   }
-  std::fprintf(stderr, "usage: directory kinds | make DIR KIND | scan DIR | get DIR KEY..\n");
+  std::fprintf(stderr, "usage: directory kinds | make DIR KIND | scan DIR | get DIR KEY.. | spans DIR\n");
   return 2;
 }

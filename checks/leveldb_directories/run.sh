@@ -10,7 +10,7 @@ scratch=$(mktemp -d)
 trap 'rm -rf "$scratch"' EXIT
 
 program="$scratch/crates/directory"
-mkdir -p "$program/src" "$program/proofs/main"
+mkdir -p "$program/src" "$program"/proofs/{main,print_all}
 source "$top/benches/copy_crates.sh"
 copy_crates lsm_version "$scratch"
 cp "$here/directory.rattle" "$program/src/main.rt"
@@ -24,6 +24,13 @@ use Rattle.directory.proofs.main.Given as goal
 abbrev pub ghosts-read_all : goal.ghosts-read_all
 ghosts-read_all g a = record { registry = arc_value a.registry; place = system_place (folder_of a.shelf) }
 END
+cat > "$program/proofs/print_all/Invariants.antt" <<'END'
+use Rattle.std.proofs.Common.{◌≡◌}
+use Rattle.directory.proofs.print_all.Given as goal
+
+abbrev pub invariant-loop : goal.invariant-loop
+invariant-loop g l = (g.S.Shelf.told l.shelf).place ≡ g.N.Naming.place
+END
 echo 'directory: lsm_version lsm_table lsm_shelf lsm_folder lsm_block lsm_manifest lsm_codec boxcar' >> "$scratch/crates.txt"
 (cd "$program" && rt run > "$scratch/first" 2> "$scratch/log" || [[ -x out/directory ]]) || { cat "$scratch/log" >&2; exit 1; }
 g++ -O2 -Wall -o "$scratch/leveldb" "$here/directory.cc" -lleveldb
@@ -34,6 +41,7 @@ for kind in $("$scratch/leveldb" kinds); do
     "$program/out/directory" "$scratch/$kind" > "$scratch/ours" || { echo "$kind: $(tail -1 "$scratch/ours")"; exit 1; }
     "$scratch/leveldb" scan "$scratch/copy" > "$scratch/theirs"
     cmp "$scratch/ours" "$scratch/theirs"
-    echo "$kind: $(find "$scratch/$kind" -name '*.ldb' | wc -l) tables, $(wc -l < "$scratch/ours") live keys, the same"
+    echo "$kind: $(find "$scratch/$kind" -name '*.ldb' | wc -l) tables, $(wc -l < "$scratch/ours") live keys, the same;" \
+        "$("$scratch/leveldb" spans "$scratch/copy") times a key goes on in the next file"
     rm -rf "${scratch:?}/$kind" "$scratch/copy"
 done
