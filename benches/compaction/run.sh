@@ -1,4 +1,5 @@
 #!/usr/bin/env bash
+# Not yet run to its end: the program is not proved whole.
 # Times the compaction of four tables of level 0 with 250,000 entries each (keys of 16 bytes, values of 100) over a shelf in memory: with
 # disjoint keys, and with the same keys in every table. Where libleveldb-dev is there, the real LevelDB merges tables of the same entries
 # in /dev/shm, by one thread too. Prints MB of input a second, the most of TURNS (5) turns, and how much of LevelDB's that is. Then the memory
