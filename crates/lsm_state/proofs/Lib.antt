@@ -4,3 +4,5 @@ mod Removing
 mod Listed
 mod ReserveLaws
 mod ChangeLaws
+mod IngestLaws
+mod Inputs

@@ -7,3 +7,4 @@ pub mod Making
 pub mod Listing
 pub mod Reserving
 pub mod Changing
+pub mod Ingesting

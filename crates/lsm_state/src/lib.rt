@@ -8,6 +8,7 @@
 mod changing;
 mod collect;
 mod create;
+mod ingest;
 mod jobs;
 mod listing;
 mod options;
@@ -17,6 +18,7 @@ mod reserve;
 mod state;
 mod state_fault;
 
+pub use ingest::Ingested;
 pub use options::Options;
 pub use state::State;
 pub use state_fault::StateFault;
