@@ -1,12 +1,9 @@
-use Rattle.std.proofs.Common.{◌≡◌, ℕ, suc, None, ◌∙◌, ap}
 use Rattle.lsm_shelf.specs.Told.{Told}
 use Rattle.lsm_table.specs.Registry.{Table}
-use Rattle.lsm_journal.specs.Difference.{Difference}
 use Rattle.lsm_batch.specs.declared.write.Write.{Write}
 use Rattle.std.specs.Prelude.{List}
 use Rattle.lsm_state.specs.Held.{Held, plain}
 use Rattle.lsm_state.specs.Ingesting.{IsIngestRefusal, entries_of, last_of}
-use Rattle.lsm_state.specs.declared.state_fault.StateFault.{StateFault}
 use Rattle.lsm_state.proofs.IngestLaws.{change_of, entries_gained, err_is, event_after, inputs_grown, law_grown, numbered, refused_change, refused_put, suits_grown, table_of, version_stays}
 use Rattle.lsm_state.proofs.state.State.ingest.Goals as goal
 

@@ -1,4 +1,4 @@
-use Rattle.std.proofs.Common.{◌≡◌, ℕ, ◌+◌, refl, ◌∙◌, ap, subst, inl, Err}
+use Rattle.std.proofs.Common.{◌≡◌, ℕ, refl, ◌∙◌, ap, subst, inl, Err}
 use Rattle.std.specs.Prelude.{List}
 use Rattle.lsm_codec.specs.Entries.{Entry}
 use Rattle.lsm_version.specs.Versions.{Levels}
