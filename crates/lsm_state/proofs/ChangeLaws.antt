@@ -1,5 +1,5 @@
 -- What a change of the current version leaves of the law of a state.
-use Rattle.std.proofs.Common.{◌≡◌, ℕ, suc, ◌+◌, ◌<◌, ◌≤◌, Bool, true, false, Option, Some, None, List, [], ◌∷◌, ◌++◌, map, refl, sym, ◌∙◌, ap, subst, inl, inr, arith}
+use Rattle.std.proofs.Common.{◌≡◌, ℕ, suc, ◌+◌, ◌≤◌, Bool, true, false, Option, Some, List, [], ◌∷◌, map, refl, sym, ◌∙◌, ap, subst, inl, inr, arith}
 use Rattle.std.specs.Prelude.{◌⊎◌, MatchBool, slice_get, slice_set, if◌then◌else◌}
 use Rattle.std.proofs.lemmas.Bool.{cases_eq}
 use Rattle.atomic_table.specs.Seated.{TableId}
@@ -14,7 +14,7 @@ use Rattle.lsm_version.specs.Versions.{IsSound, IsWhole, Levels, files, numbers_
 use Rattle.lsm_machine.specs.Law.{Law}
 use Rattle.lsm_machine.specs.Plain.{Plain}
 use Rattle.lsm_machine.specs.Runs.{Spend}
-use Rattle.lsm_slots.specs.Slots.{Epoch, Looked, Published, Slotted, numbers_held}
+use Rattle.lsm_slots.specs.Slots.{Epoch, Published, Slotted, numbers_held}
 use Rattle.lsm_slots.proofs.CallerLemmas.{set_else, set_found}
 use Rattle.lsm_live.specs.Booked.{Booked, lives_of}
 use Rattle.lsm_journal.specs.HeldManifest.{HeldManifest, is_at_limit}

@@ -6,3 +6,5 @@ mod OpenLaws
 mod OpenRefusals
 mod ReserveLaws
 mod ChangeLaws
+mod IngestLaws
+mod Inputs

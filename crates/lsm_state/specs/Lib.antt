@@ -9,3 +9,4 @@ pub mod OpenFault
 pub mod Opening
 pub mod Reserving
 pub mod Changing
+pub mod Ingesting

@@ -8,6 +8,7 @@
 mod changing;
 mod collect;
 mod create;
+mod ingest;
 mod jobs;
 mod listing;
 mod open;
@@ -19,6 +20,7 @@ mod reserve;
 mod state;
 mod state_fault;
 
+pub use ingest::Ingested;
 pub use open_fault::OpenFault;
 pub use options::Options;
 pub use state::State;

@@ -1,0 +1,85 @@
+use Rattle.lsm_shelf.specs.Told.{Told}
+use Rattle.lsm_table.specs.Registry.{Table}
+use Rattle.lsm_batch.specs.declared.write.Write.{Write}
+use Rattle.std.specs.Prelude.{List}
+use Rattle.lsm_state.specs.Held.{Held, plain}
+use Rattle.lsm_state.specs.Ingesting.{IsIngestRefusal, entries_of, last_of}
+use Rattle.lsm_state.proofs.IngestLaws.{change_of, entries_gained, err_is, event_after, inputs_grown, law_grown, numbered, refused_change, refused_put, suits_grown, table_of, version_stays}
+use Rattle.lsm_state.proofs.state.State.ingest.Goals as goal
+
+pub returns-in_err-table-clause-refused : goal.returns-in_err-table-clause-refused
+returns-in_err-table-clause-refused g c =
+    let h : Held = c.args.self.now in
+    let y : Held = c.put_batch.new.self in
+    let ws : List Write = c.args.batch.now in
+    let was : Told = g.S.Shelf.told c.args.shelf.now in
+    let is : Told = g.S.Shelf.told c.put_batch.new.shelf in
+    err_is (λ e. IsIngestRefusal h y ws e was is) c.from_residual-in_err-table.result c.in_err-table.field-0.0 c.from_residual-in_err-table.ensures.1
+    (refused_put h c.find_slot.new.self y ws c.in_err-table.field-0.0 c.in_ok-slot.slot was is c.in_ok-may_ingest.ensures.ok c.find_slot.ensures.sought c.find_slot.ensures.rest c.in_ok-slot.ensures.ok.0
+    c.in_err-table.ensures.slots c.in_err-table.ensures.refused)
+
+pub change_version-requires-clause-suits : goal.change_version-requires-clause-suits
+change_version-requires-clause-suits g c κs within =
+    let h : Held = c.args.self.now in
+    let m : Held = c.find_slot.new.self in
+    let x : Held = c.put_batch.new.self in
+    let ws : List Write = c.args.batch.now in
+    let t : Table = c.in_ok-table.table in
+    let is = table_of h m ws t c.find_slot.ensures.rest c.find_slot.ensures.sought c.in_ok-table.ensures.table in
+    let version = version_stays h m x c.find_slot.ensures.sought c.in_ok-table.ensures.ok in
+    let change = change_of h ws t c.in_ok-change.change c.last-before.result c.len.result c.in_ok-change.ensures c.last-before.ensures.last c.len.ensures in
+    suits_grown g.S.Shelf.honest h x (entries_of h ws) t (last_of h ws) c.in_ok-change.change is c.last-before.ensures.law.law version change
+
+pub change_version-requires-clause-law : goal.change_version-requires-clause-law
+change_version-requires-clause-law g c κs within =
+    let h : Held = c.args.self.now in
+    let m : Held = c.find_slot.new.self in
+    let x : Held = c.put_batch.new.self in
+    let ws : List Write = c.args.batch.now in
+    let t : Table = c.in_ok-table.table in
+    let is = table_of h m ws t c.find_slot.ensures.rest c.find_slot.ensures.sought c.in_ok-table.ensures.table in
+    let version = version_stays h m x c.find_slot.ensures.sought c.in_ok-table.ensures.ok in
+    let same = numbered h m x c.find_slot.ensures.rest c.in_ok-table.ensures.ok in
+    let change = change_of h ws t c.in_ok-change.change c.last-before.result c.len.result c.in_ok-change.ensures c.last-before.ensures.last c.len.ensures in
+    law_grown c.changed_files.ensures c.whole_tables_fit.ensures g.S.Shelf.honest h x ws t c.in_ok-change.change c.last-before.ensures.levels is c.last-before.ensures.law.law same version change
+
+pub change_version-requires-clause-inputs : goal.change_version-requires-clause-inputs
+change_version-requires-clause-inputs g c κs within =
+    let h : Held = c.args.self.now in
+    let m : Held = c.find_slot.new.self in
+    let x : Held = c.put_batch.new.self in
+    let ws : List Write = c.args.batch.now in
+    let t : Table = c.in_ok-table.table in
+    let version = version_stays h m x c.find_slot.ensures.sought c.in_ok-table.ensures.ok in
+    let same = numbered h m x c.find_slot.ensures.rest c.in_ok-table.ensures.ok in
+    let change = change_of h ws t c.in_ok-change.change c.last-before.result c.len.result c.in_ok-change.ensures c.last-before.ensures.last c.len.ensures in
+    inputs_grown c.changed_tables.ensures g.S.Shelf.honest g.N.Boarded.board h x t (last_of h ws) c.in_ok-change.change c.last-before.ensures.law same version change
+
+pub returns-in_err-change_version-clause-refused : goal.returns-in_err-change_version-clause-refused
+returns-in_err-change_version-clause-refused g c =
+    let h : Held = c.args.self.now in
+    let y : Held = c.change_version.new.self in
+    let ws : List Write = c.args.batch.now in
+    let was : Told = g.S.Shelf.told c.args.shelf.now in
+    let mid : Told = g.S.Shelf.told c.put_batch.new.shelf in
+    let is : Told = g.S.Shelf.told c.change_version.new.shelf in
+    err_is (λ e. IsIngestRefusal h y ws e was is) c.from_residual-in_err-change_version.result c.in_err-change_version.field-0.0 c.from_residual-in_err-change_version.ensures.1
+    (refused_change h c.find_slot.new.self c.put_batch.new.self y ws c.in_err-change_version.field-0.0 c.in_ok-slot.slot was mid is c.in_ok-may_ingest.ensures.ok c.find_slot.ensures.sought
+    c.find_slot.ensures.rest c.in_ok-slot.ensures.ok.0 c.in_ok-table.ensures.ok c.in_ok-table.ensures.told c.in_ok-table.ensures.counts c.in_err-change_version.ensures.refused c.in_err-change_version.ensures.unsent)
+
+pub returns-clause-event : goal.returns-clause-event
+returns-clause-event g c =
+    let h : Held = c.args.self.now in
+    let m : Held = c.find_slot.new.self in
+    let x : Held = c.put_batch.new.self in
+    let ws : List Write = c.args.batch.now in
+    let t : Table = c.in_ok-table.table in
+    let is = table_of h m ws t c.find_slot.ensures.rest c.find_slot.ensures.sought c.in_ok-table.ensures.table in
+    let version = version_stays h m x c.find_slot.ensures.sought c.in_ok-table.ensures.ok in
+    let same = numbered h m x c.find_slot.ensures.rest c.in_ok-table.ensures.ok in
+    let change = change_of h ws t c.in_ok-change.change c.last-before.result c.len.result c.in_ok-change.ensures c.last-before.ensures.last c.len.ensures in
+    event_after c.changed_files.ensures c.whole_tables_fit.ensures h x c.change_version.new.self ws t c.in_ok-change.change (g.S.Shelf.told c.put_batch.new.shelf) (g.S.Shelf.told c.change_version.new.shelf)
+    c.last-before.ensures.levels is same version change c.in_ok-change_version.ensures.ok
+
+pub returns-clause-entries : goal.returns-clause-entries
+returns-clause-entries g c = entries_gained (plain c.args.self.now) (entries_of c.args.self.now c.args.batch.now) (plain c.change_version.new.self) (returns-clause-event g c)

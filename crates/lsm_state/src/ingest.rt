@@ -1,0 +1,186 @@
+//! Ingests.
+
+ghost use Rattle.std.specs.Prelude.{◌≡◌, ℕ, suc, ◌+◌, ◌<◌, ◌≤◌, ◌^◌, ◌↔◌, ◌⊎◌, length, IfErr, IfOk, OnErr, OnOk};
+ghost use Rattle.lsm_codec.specs.Entries.{Entry};
+ghost use Rattle.lsm_codec.specs.Lists.{Has};
+ghost use Rattle.lsm_levels.specs.Files.{all_entries};
+ghost use Rattle.lsm_shelf.specs.Told.{Becomes, putting};
+ghost use Rattle.lsm_version.specs.Versions.{IsWhole, files};
+ghost use Rattle.lsm_machine.specs.Plain as machine;
+ghost use Rattle.lsm_state.specs.Collecting.{SameCounts};
+ghost use Rattle.lsm_state.specs.Held.{IsLawfulState, plain};
+ghost use Rattle.lsm_state.specs.Ingesting.{FailsToBuild, FailsToPut, Ingests, IsEarlyRefusal, IsIngestRefusal, IsTableOf, IsWelcome, coming_in, entries_of, numbers_needed, of_batch};
+
+use crate::state::State;
+use crate::state_fault::StateFault;
+use lsm_batch::{Batch, BatchFault};
+use lsm_codec::MAX_SEQ;
+use lsm_journal::{VersionChange, added_keys_fit};
+use lsm_slots::Boarded;
+use lsm_table::{BuildFault, Shelf, TableRef, entries_are};
+use lsm_version::{changed_files, changed_tables, tables_are_whole, whole_tables_fit};
+use std::alloc::{AllocError, Global};
+use std::sync::Wait;
+
+// So many files at level 0 keep batches out.
+const FULL: usize = 12;
+
+/// What came in.
+#[derive(Clone, Copy, Debug, PartialEq, Eq)]
+pub struct Ingested {
+    /// The number of its table.
+    pub file: u64,
+    /// The sequence of its first entry.
+    pub first: u64,
+    /// The sequence of its last entry.
+    pub last: u64,
+}
+
+// The refusal of a batch.
+fn of_batch(fault: BatchFault) -> StateFault
+    ensures { result ≡ of_batch fault }
+{
+    match fault {
+        BatchFault::EmptyBatch => StateFault::EmptyBatch,
+        BatchFault::KeyOrder(place) => StateFault::KeyOrder(place),
+        BatchFault::TooLarge => StateFault::TooLarge,
+    }
+}
+
+impl<N: Boarded, S: Shelf> State<N, S> {
+    // The last sequence. What holds of the state and of its version is told here too.
+    fn last(&self) -> u64
+        ensures last { result ≡ self.now.slots.version.last }
+        ensures levels { length self.now.slots.version.tables ≡ 7 }
+        ensures law { IsLawfulState S.honest N.board self.now }
+    {
+        self.slots.version().last()
+    }
+
+    // The next file number.
+    fn next_file(&self) -> u64
+        ensures { result ≡ self.now.next }
+    {
+        self.next
+    }
+
+    // How many file numbers an ingest needs.
+    fn numbers_needed(&self) -> u64
+        ensures { result ≡ numbers_needed self.now }
+    {
+        if self.journal.is_at_limit() { 2 } else { 1 }
+    }
+
+    // Whether a batch may come in now, as far as this can be tested first.
+    fn may_ingest(&self, batch: &Batch) -> Result<(), StateFault>
+        ensures ok { OnOk result (IsWelcome self.now batch.now) }
+        ensures refused { IfErr result (IsEarlyRefusal self.now batch.now) }
+    {
+        if self.halted {
+            return Err(StateFault::Halted);
+        }
+        if let Err(fault) = batch.check() {
+            return Err(of_batch(fault));
+        }
+        let version = self.slots.version();
+        if version.level(0).len() >= FULL {
+            return Err(StateFault::LevelZeroFull);
+        }
+        let last = version.last();
+        if last > MAX_SEQ || batch.len() as u64 > MAX_SEQ - last {
+            return Err(StateFault::SequencesSpent);
+        }
+        if self.next > u64::MAX - self.numbers_needed() {
+            return Err(StateFault::NumbersSpent);
+        }
+        Ok(())
+    }
+
+    // Builds the table of a batch, and puts it under the next file number, which is spent once the put begins.
+    fn put_batch<R: Wait>(
+        &mut self,
+        rt: &R,
+        alloc: Global,
+        shelf: &mut S,
+        batch: &Batch,
+    ) -> Result<TableRef<N, S>, StateFault>
+        requires welcome { IsWelcome self.old batch.now }
+        requires here { (S.told shelf.old).place ≡ N.place }
+        ensures table { IfOk result (IsTableOf (entries_of self.old batch.now) self.old.next) }
+        ensures ok { OnOk result (self.new ≡ record self.old { next = suc self.old.next }) }
+        ensures told { OnOk result (Becomes (putting self.old.next (S.told shelf.old)) (S.told shelf.new)) }
+        ensures counts { OnOk result (SameCounts (S.told shelf.old) (S.told shelf.new)) }
+        ensures refused { IfErr result (λ e. FailsToBuild self.old self.new batch.now e (S.told shelf.old) (S.told shelf.new)
+            ⊎ FailsToPut self.old self.new e (S.told shelf.old) (S.told shelf.new)) }
+        ensures slots { OnErr result (self.new.slots ≡ self.old.slots) }
+    {
+        tables_are_whole();
+        entries_are();
+        let first = self.slots.version().last() + 1;
+        let image = match batch.build(alloc, self.options.sizes(), first) {
+            Ok(image) => image,
+            Err(BuildFault::OutOfMemory) => return Err(StateFault::OutOfMemory),
+            Err(BuildFault::TooLarge) => return Err(StateFault::TooLarge),
+        };
+        let number = self.next;
+        self.next = number + 1;
+        match image.put(rt, alloc, shelf, &self.registry, number) {
+            Ok(table) => Ok(table),
+            Err(fault) => Err(StateFault::Shelf(fault)),
+        }
+    }
+
+    // The change that brings a table in at level 0.
+    fn bring_in(
+        &self,
+        alloc: Global,
+        table: TableRef<N, S>,
+        last: u64,
+    ) -> Result<VersionChange<N, S>, AllocError>
+        requires { IsWhole table }
+        ensures { IfOk result (λ c. c ≡ coming_in table last) }
+    {
+        let mut added = Vec::new(alloc);
+        added.push((0, table))?;
+        added_keys_fit(&self.registry, &added);
+        Ok(VersionChange::new(Vec::new(alloc), added, None, last))
+    }
+
+    /// Brings a batch in: its entries, at sequences one after another from the one after the last, are one table at level 0.
+    ///
+    /// `Halted`, `EmptyBatch`, `TooLarge`, `KeyOrder`, `LevelZeroFull`, `SequencesSpent`, `NumbersSpent`, `SlotsHeld`, `VersionsSpent`,
+    /// `OutOfMemory`, and the shelf's, in this order. A refused call leaves all as it was, but that slots seen free stay free. From the put
+    /// of the table on the file number is spent, and where the start of a new manifest was refused its number too; where the shelf
+    /// refused the append or the start, the state is halted.
+    pub fn ingest<R: Wait>(
+        &mut self,
+        rt: &R,
+        alloc: Global,
+        shelf: &mut S,
+        batch: &Batch,
+    ) -> Result<Ingested, StateFault>
+        requires here { (S.told shelf.old).place ≡ N.place }
+        ensures ok { IfOk result (λ r. Ingests self.old self.new batch.now r (S.told shelf.old) (S.told shelf.new)) }
+        ensures event { OnOk result (machine.Ingests (plain self.old) (entries_of self.old batch.now) (plain self.new)) }
+        ensures entries { OnOk result ((e : Entry) → Has (all_entries (files self.new.slots.version)) e ↔ (Has (entries_of self.old batch.now) e ⊎ Has (all_entries (files self.old.slots.version)) e)) }
+        ensures counts { OnOk result (SameCounts (S.told shelf.old) (S.told shelf.new)) }
+        ensures refused { IfErr result (λ e. IsIngestRefusal self.old self.new batch.now e (S.told shelf.old) (S.told shelf.new)) }
+    {
+        changed_files();
+        changed_tables();
+        whole_tables_fit();
+        self.may_ingest(batch)?;
+        let before = self.last();
+        let slot = self.find_slot()?;
+        let file = self.next_file();
+        let table = self.put_batch(rt, alloc, shelf, batch)?;
+        let last = before + batch.len() as u64;
+        let change = self.bring_in(alloc, table, last)?;
+        self.change_version(rt, alloc, shelf, &change, slot, None)?;
+        Ok(Ingested {
+            file,
+            first: before + 1,
+            last,
+        })
+    }
+}
