@@ -6,3 +6,6 @@ mod OpenLaws
 mod OpenRefusals
 mod ReserveLaws
 mod ChangeLaws
+mod Inputs
+mod LargestKeys
+mod InstallLaws

@@ -9,3 +9,5 @@ pub mod OpenFault
 pub mod Opening
 pub mod Reserving
 pub mod Changing
+pub mod Installing
+pub mod LargestKeys

@@ -8,6 +8,8 @@
 mod changing;
 mod collect;
 mod create;
+mod install;
+mod install_change;
 mod jobs;
 mod listing;
 mod open;
