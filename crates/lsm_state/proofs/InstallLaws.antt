@@ -398,7 +398,7 @@ pub later_refused : (old mid new : Held) (e : StateFault) (was is : Told) → mi
     → Sought old.slots new.slots × IsRefusedLater old new e was is
 later_refused old mid new OutOfMemory was is same k r = (
   subst (λ (s : Slotted). Sought old.slots s) (sym (ap (λ (h : Held). h.slots) r.0)) k,
-  subst (λ (h : Held). h ≡ record old { slots = h.slots }) (sym r.0) same,
+  (subst (λ (h : Held). h ≡ record old { slots = h.slots }) (sym r.0) same, r.1),
 )
 later_refused old mid new (Shelf fault) was is same k r = (
     let stays : new.slots ≡ mid.slots = ap (λ (h : Held). h.slots) r.0 in
@@ -422,22 +422,22 @@ later_refused old mid new VersionsSpent was is same k r = absurd r
 later_refused old mid new PinsSpent was is same k r = absurd r
 
 -- a refusal by the look for a slot
-pub slot_refused : (old mid : Held) (e : StateFault) (was is : Told) → mid ≡ record old { slots = mid.slots } → IsSlotRefusal old.slots mid.slots e → IsRefusedLater old mid e was is
-slot_refused old mid SlotsHeld was is same k = (k, same)
-slot_refused old mid VersionsSpent was is same k = (k, same)
-slot_refused old mid OutOfMemory was is same k = absurd k
-slot_refused old mid (Shelf fault) was is same k = absurd k
-slot_refused old mid (Read fault) was is same k = absurd k
-slot_refused old mid (BadLevel n) was is same k = absurd k
-slot_refused old mid EmptyBatch was is same k = absurd k
-slot_refused old mid (KeyOrder n) was is same k = absurd k
-slot_refused old mid TooLarge was is same k = absurd k
-slot_refused old mid LevelZeroFull was is same k = absurd k
-slot_refused old mid SequencesSpent was is same k = absurd k
-slot_refused old mid Halted was is same k = absurd k
-slot_refused old mid (UnknownSnapshot n) was is same k = absurd k
-slot_refused old mid (Conflict n) was is same k = absurd k
-slot_refused old mid (UnknownTicket n) was is same k = absurd k
-slot_refused old mid NumbersSpent was is same k = absurd k
-slot_refused old mid Stale was is same k = absurd k
-slot_refused old mid PinsSpent was is same k = absurd k
+pub slot_refused : (old mid : Held) (e : StateFault) (was is : Told) → mid ≡ record old { slots = mid.slots } → IsSlotRefusal old.slots mid.slots e → is ≡ was → IsRefusedLater old mid e was is
+slot_refused old mid SlotsHeld was is same k quiet = (k, same, quiet)
+slot_refused old mid VersionsSpent was is same k quiet = (k, same, quiet)
+slot_refused old mid OutOfMemory was is same k quiet = absurd k
+slot_refused old mid (Shelf fault) was is same k quiet = absurd k
+slot_refused old mid (Read fault) was is same k quiet = absurd k
+slot_refused old mid (BadLevel n) was is same k quiet = absurd k
+slot_refused old mid EmptyBatch was is same k quiet = absurd k
+slot_refused old mid (KeyOrder n) was is same k quiet = absurd k
+slot_refused old mid TooLarge was is same k quiet = absurd k
+slot_refused old mid LevelZeroFull was is same k quiet = absurd k
+slot_refused old mid SequencesSpent was is same k quiet = absurd k
+slot_refused old mid Halted was is same k quiet = absurd k
+slot_refused old mid (UnknownSnapshot n) was is same k quiet = absurd k
+slot_refused old mid (Conflict n) was is same k quiet = absurd k
+slot_refused old mid (UnknownTicket n) was is same k quiet = absurd k
+slot_refused old mid NumbersSpent was is same k quiet = absurd k
+slot_refused old mid Stale was is same k quiet = absurd k
+slot_refused old mid PinsSpent was is same k quiet = absurd k

@@ -98,8 +98,8 @@ pub record MayInstall (h : Held) (d : Done) : Type 0 where
   pub going : h.halted ≡ false
   pub number : LacksNumber h → ⊥
 
--- Why an install is refused before it tries anything, in this order: the result's ticket is not live; the state is halted; no number is left
--- for a new manifest.
+-- Why an install is refused before it tries anything, in this order: the result's job is not live with the numbers drawn that it put; the
+-- state is halted; no number is left for a new manifest.
 abbrev pub IsRefusedAtOnce : Held → Done → StateFault → Type 0
 IsRefusedAtOnce h d Stale = IsLive h d → ⊥
 IsRefusedAtOnce h d Halted = IsLive h d × (h.halted ≡ true)
@@ -109,12 +109,12 @@ IsRefusedAtOnce h d e = ⊥
 -- Why it is refused after that, and what is left: no slot or no id, after looks; memory was refused; or the shelf refused the write of the
 -- manifest.
 abbrev pub IsRefusedLater : Held → Held → StateFault → Told → Told → Type 0
-IsRefusedLater old new SlotsHeld was is = IsSlotRefusal old.slots new.slots SlotsHeld × (new ≡ record old { slots = new.slots })
-IsRefusedLater old new VersionsSpent was is = IsSlotRefusal old.slots new.slots VersionsSpent × (new ≡ record old { slots = new.slots })
-IsRefusedLater old new OutOfMemory was is = new ≡ record old { slots = new.slots }
+IsRefusedLater old new SlotsHeld was is = IsSlotRefusal old.slots new.slots SlotsHeld × (new ≡ record old { slots = new.slots }) × (is ≡ was)
+IsRefusedLater old new VersionsSpent was is = IsSlotRefusal old.slots new.slots VersionsSpent × (new ≡ record old { slots = new.slots }) × (is ≡ was)
+IsRefusedLater old new OutOfMemory was is = (new ≡ record old { slots = new.slots }) × (is ≡ was)
 IsRefusedLater old new (Shelf fault) was is = IsChangeRefusal (record old { slots = new.slots }) new (Shelf fault) was is
 IsRefusedLater old new e was is = ⊥
 
 -- A refused install: at once, and all is as before; or later, after a free slot was sought.
 abbrev pub IsInstallRefusal : Held → Held → Done → StateFault → Told → Told → Type 0
-IsInstallRefusal old new d e was is = (IsRefusedAtOnce old d e × (new ≡ old)) ⊎ (MayInstall old d × Sought old.slots new.slots × IsRefusedLater old new e was is)
+IsInstallRefusal old new d e was is = (IsRefusedAtOnce old d e × (new ≡ old) × (is ≡ was)) ⊎ (MayInstall old d × Sought old.slots new.slots × IsRefusedLater old new e was is)

@@ -1,4 +1,4 @@
-use Rattle.std.proofs.Common.{sym, subst, inr}
+use Rattle.std.proofs.Common.{refl, sym, subst, inr}
 use Rattle.std.proofs.lemmas.Result.{on_ok_weaker}
 use Rattle.lsm_merge.specs.Work.{Done}
 use Rattle.lsm_state.specs.Held.{Held}
@@ -15,7 +15,7 @@ returns-in_err-slot-clause-refused g c =
     let d : Done = c.args.done.now in
     let told = g.S.Shelf.told c.args.shelf.now in
     let e : StateFault = c.in_err-slot.field-0.0 in
-    let refused : IsInstallRefusal h mid d e told told = inr (c.in_ok-admit.ensures.ok, c.in_err-slot.ensures.sought, slot_refused h mid e told told c.in_err-slot.ensures.rest c.in_err-slot.ensures.refused) in
+    let refused : IsInstallRefusal h mid d e told told = inr (c.in_ok-admit.ensures.ok, c.in_err-slot.ensures.sought, slot_refused h mid e told told c.in_err-slot.ensures.rest c.in_err-slot.ensures.refused refl) in
     if_err c.from_residual-in_err-slot.result _ (λ (f : StateFault). IsInstallRefusal h mid d f told told) c.from_residual-in_err-slot.ensures.1
     (λ f k. subst (λ (x : StateFault). IsInstallRefusal h mid d x told told) (sym k) refused)
 
