@@ -1,6 +1,7 @@
 -- Tables whose contents stand in the cut are pieces as an install wants them.
 use Rattle.std.proofs.Common.{◌≡◌, ℕ, suc, true, false, List, [], ◌∷◌, ◌++◌, refl, sym, ◌∙◌, ap, subst, inl, inr}
 use Rattle.std.specs.List.{flat_map}
+use Rattle.std.proofs.lemmas.Bool.{both_ways}
 use Rattle.lsm_codec.specs.Lists.{Has}
 use Rattle.lsm_codec.specs.Keys.{InternalKey, IsKey}
 use Rattle.lsm_codec.specs.Entries.{Entry}
@@ -81,6 +82,7 @@ pub merge_finished : (Honest : Type 0) (w : Work) (m : Made) → IsWork Honest w
 merge_finished Honest w m work move good kept = record {
   low = work.low;
   whole = λ honest. good.whole;
+  put_whole = λ other. good.whole;
   made = subst (IsMade Honest (record { work = w; outputs = m.tables; put = m.put })) (sym move) (good.numbers, λ honest. merged_kept w m.tables good.whole (kept honest));
 }
 
@@ -90,6 +92,7 @@ pub move_finished : (Honest : Type 0) (w : Work) (outputs : List Table) → IsWo
 move_finished Honest w outputs work move same = record {
   low = work.low;
   whole = λ honest t h. work.whole honest t (left_has w.upper w.lower t (subst (λ (l : List Table). Has l t) same h));
+  put_whole = λ other. absurd (both_ways w.is_move other move);
   made = subst (IsMade Honest (record { work = w; outputs = outputs; put = [] })) (sym move)
       (let one = subst (MovesOne w) move work.moves in (one.0, one.1, one.2, same ∙ one.1, refl));
 }

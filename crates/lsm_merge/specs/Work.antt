@@ -86,4 +86,6 @@ IsMade honest d false = (map (λ t. t.number) d.outputs ≡ d.put) × (honest �
 pub record IsFinished (honest : Type 0) (d : Done) : Type 0 where
   pub low : d.work.level ≤ 5
   pub whole : honest → (t : Table) → Has d.outputs t → IsWhole t
+  -- the tables that were put are whole, whatever the shelf is
+  pub put_whole : d.work.is_move ≡ false → (t : Table) → Has d.outputs t → IsWhole t
   pub made : IsMade honest d d.work.is_move

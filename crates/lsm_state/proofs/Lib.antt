@@ -8,3 +8,5 @@ mod ReserveLaws
 mod ChangeLaws
 mod IngestLaws
 mod Inputs
+mod LargestKeys
+mod InstallLaws

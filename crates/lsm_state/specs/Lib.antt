@@ -10,3 +10,5 @@ pub mod Opening
 pub mod Reserving
 pub mod Changing
 pub mod Ingesting
+pub mod Installing
+pub mod LargestKeys

@@ -9,6 +9,8 @@ mod changing;
 mod collect;
 mod create;
 mod ingest;
+mod install;
+mod install_change;
 mod jobs;
 mod listing;
 mod open;

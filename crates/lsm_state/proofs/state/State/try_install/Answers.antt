@@ -1,0 +1,36 @@
+use Rattle.std.proofs.Common.{refl, sym, subst, inr}
+use Rattle.std.proofs.lemmas.Result.{on_ok_weaker}
+use Rattle.lsm_merge.specs.Work.{Done}
+use Rattle.lsm_state.specs.Held.{Held}
+use Rattle.lsm_state.specs.Installing.{IsInstallRefusal}
+use Rattle.lsm_state.specs.declared.state_fault.StateFault.{StateFault}
+use Rattle.lsm_state.proofs.InstallLaws.{answers_looked, installed_looked, installing_looked, slot_refused}
+use Rattle.lsm_state.proofs.ReserveLaws.{if_err}
+use Rattle.lsm_state.proofs.state.State.try_install.Goals as goal
+
+pub returns-in_err-slot-clause-refused : goal.returns-in_err-slot-clause-refused
+returns-in_err-slot-clause-refused g c =
+    let h : Held = c.args.self.now in
+    let mid : Held = c.find_slot.new.self in
+    let d : Done = c.args.done.now in
+    let told = g.S.Shelf.told c.args.shelf.now in
+    let e : StateFault = c.in_err-slot.field-0.0 in
+    let refused : IsInstallRefusal h mid d e told told = inr (c.in_ok-admit.ensures.ok, c.in_err-slot.ensures.sought, slot_refused h mid e told told c.in_err-slot.ensures.rest c.in_err-slot.ensures.refused refl) in
+    if_err c.from_residual-in_err-slot.result _ (λ (f : StateFault). IsInstallRefusal h mid d f told told) c.from_residual-in_err-slot.ensures.1
+    (λ f k. subst (λ (x : StateFault). IsInstallRefusal h mid d x told told) (sym k) refused)
+
+pub returns-clause-installed : goal.returns-clause-installed
+returns-clause-installed g c =
+    on_ok_weaker c.put_in.result
+    (λ p. installed_looked c.args.self.now c.find_slot.new.self c.put_in.new.self c.args.done.now (g.S.Shelf.told c.args.shelf.now) (g.S.Shelf.told c.put_in.new.shelf) c.in_ok-slot.ensures.rest c.in_ok-slot.ensures.sought p)
+    c.put_in.ensures.installed
+
+pub returns-clause-answers : goal.returns-clause-answers
+returns-clause-answers g c =
+    on_ok_weaker c.put_in.result
+    (λ k fair. answers_looked c.args.self.now c.find_slot.new.self c.put_in.new.self c.in_ok-slot.ensures.rest (c.in_ok-slot.ensures.sought).looked (k fair)) c.put_in.ensures.answers
+
+pub returns-clause-event : goal.returns-clause-event
+returns-clause-event g c =
+    on_ok_weaker c.put_in.result
+    (λ r. installing_looked g.S.Shelf.honest c.args.self.now c.find_slot.new.self c.put_in.new.self c.args.done.now.work.ticket c.in_ok-slot.ensures.rest (c.in_ok-slot.ensures.sought).looked r) c.put_in.ensures.event
