@@ -1,0 +1,2 @@
+pub mod ReaderLaws
+pub mod SeatLaws

@@ -1,0 +1,45 @@
+-- Steps of a reader.
+use Rattle.std.proofs.Common.{◌≡◌, ◌≢◌, ℕ, List, Option, None, Some, is_some, if◌then◌else◌, sym, ap, ◌∙◌}
+use Rattle.atomic_table.specs.Seated.{TableId}
+use Rattle.lsm_shelf.specs.Told.{Told}
+use Rattle.lsm_version.specs.Versions.{Levels, numbers_in}
+use Rattle.lsm_pins.specs.Known.{Known}
+use Rattle.lsm_pins.specs.declared.view.View.{View}
+use Rattle.lsm_pins.specs.View.{pinned_view, unpinned_view}
+use Rattle.lsm_slots.specs.Slots.{Slotted, Epoch, HasEpoch}
+use Rattle.lsm_store.specs.Readers.{Learnt, IsBegun, IsRefused, pinned, unpinned}
+use Rattle.lsm_store.specs.declared.begin_fault.BeginFault.TheVariants.{Moved}
+
+abbrev known_by : TableId → View → Known
+known_by b k = record { board = b; knows = k }
+
+abbrev learnt_by : ℕ → Levels → Known → Told → Learnt
+learnt_by i v p t = record { id = i; version = v; pinner = p; told = t }
+
+same_known : (a b : Known) → a.board ≡ b.board → a.knows ≡ b.knows → a ≡ b
+same_known a b p k = ap (λ (x : TableId). known_by x a.knows) p ∙ ap (λ (x : View). known_by b.board x) k
+
+pub same_learnt : (a b : Learnt) → a.id ≡ b.id → a.version ≡ b.version → a.told ≡ b.told → a.pinner.board ≡ b.pinner.board → a.pinner.knows ≡ b.pinner.knows → a ≡ b
+same_learnt a b i v t p k =
+    ap (λ (x : ℕ). learnt_by x a.version a.pinner a.told) i ∙ ap (λ (x : Levels). learnt_by b.id x a.pinner a.told) v
+    ∙ ap (λ (x : Known). learnt_by b.id b.version x a.told) (same_known a.pinner b.pinner p k) ∙ ap (λ (x : Told). learnt_by b.id b.version b.pinner x) t
+
+pub begun_at : (r v : Learnt) (slot : ℕ) → v.id ≡ r.id → v.version ≡ r.version → v.told ≡ r.told → v.pinner.board ≡ r.pinner.board → v.pinner.knows ≡ pinned_view r.pinner.knows r.id slot → IsBegun r v
+begun_at r v slot i e t p k = (slot, same_learnt v (pinned r.id slot r) i e t p k)
+
+pub moved_at : (r back : Learnt) (id slot : ℕ) → id ≢ r.id → back.id ≡ r.id → back.version ≡ r.version → back.told ≡ r.told → back.pinner.board ≡ r.pinner.board
+    → back.pinner.knows ≡ unpinned_view (pinned_view r.pinner.knows id slot) → IsRefused r back (Moved id)
+moved_at r back id slot other i e t p k = (other, (slot, same_learnt back (unpinned (pinned id slot r)) i e t p k))
+
+-- where something is held
+pub held_so : {X P : Type 0} (o : Option P) (p : P) (x a b : X) → o ≡ Some p → x ≡ (if is_some o then a else b) → x ≡ a
+held_so {X} {P} o p x a b h e = e ∙ ap (λ (q : Option P). if is_some q then a else b) h
+
+abbrev id_in : Option (ℕ × ℕ) → ℕ
+id_in None = 0
+id_in (Some p) = p.0
+
+-- the version that is met has the id of the one that is held
+pub met_at : (s : Slotted) (held : Option (ℕ × ℕ)) (id slot : ℕ) (ns : List ℕ) → held ≡ Some (id, slot)
+    → (t : ℕ) × (i : ℕ) × (e : Epoch) × (held ≡ Some (i, t)) × HasEpoch s t e × (e.id ≡ i) × (ns ≡ numbers_in e.version) → (t : ℕ) × (e : Epoch) × HasEpoch s t e × (e.id ≡ id) × (ns ≡ numbers_in e.version)
+met_at s held id slot ns h m = (m.0, m.2, m.4, m.5 ∙ ap id_in (sym m.3 ∙ h), m.6)

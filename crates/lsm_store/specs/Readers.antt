@@ -1,0 +1,79 @@
+-- Readers outside the lock, and what each step of theirs leaves (this project's rule).
+use Rattle.std.specs.Prelude.{◌≡◌, ◌≢◌, ℕ, ◌^◌, None, Some}
+use Rattle.atomic_table.specs.Seated.{TableId}
+use Rattle.lsm_shelf.specs.Told.{Place, Told, fresh}
+use Rattle.lsm_version.specs.Versions.{Levels}
+use Rattle.lsm_pins.specs.Known.{Known}
+use Rattle.lsm_pins.specs.View.{learnt_view, pinned_view, told_view, unpinned_view}
+use Rattle.lsm_slots.specs.Slots.{current_id, current_slot}
+use Rattle.lsm_state.specs.Held.{Held}
+use Rattle.lsm_store.specs.declared.begin_fault.BeginFault.{BeginFault}
+use Rattle.lsm_store.specs.declared.begin_fault.BeginFault.TheVariants.{Moved, PinsSpent}
+
+-- What contracts see of a reader and of a view: the version that it has learnt and its id, its end of the board, and what the shelf
+-- told by which it reads.
+pub record Learnt : Type 0 where
+  pub id : ℕ
+  pub version : Levels
+  pub pinner : Known
+  pub told : Told
+
+-- it holds no pin
+abbrev pub IsIdle : Learnt → Type 0
+IsIdle r = r.pinner.knows.held ≡ None
+
+-- it holds a pin of the version that it has learnt
+abbrev pub IsPinning : Learnt → Type 0
+IsPinning v = (slot : ℕ) × (v.pinner.knows.held ≡ Some (v.id, slot))
+
+-- ---- steps
+
+-- its pin found this id and slot
+abbrev pub pinned : ℕ → ℕ → Learnt → Learnt
+pinned id slot r = record r { pinner = record r.pinner { knows = pinned_view r.pinner.knows id slot } }
+
+-- its pin was given back
+abbrev pub unpinned : Learnt → Learnt
+unpinned r = record r { pinner = record r.pinner { knows = unpinned_view r.pinner.knows } }
+
+-- it was told what the publisher knows
+abbrev pub informed : Held → Learnt → Learnt
+informed h r = record r { pinner = record r.pinner { knows = told_view r.pinner.knows h.slots.board.knows } }
+
+-- it learnt the current version of the state
+abbrev pub refreshed : Held → Learnt → Learnt
+refreshed h r = record (informed h r) {
+  id = current_id h.slots;
+  version = h.slots.version;
+  pinner = record r.pinner { knows = learnt_view (told_view r.pinner.knows h.slots.board.knows) (current_id h.slots) (current_slot h.slots) };
+}
+
+-- One step pinned the version that was learnt.
+abbrev pub IsBegun : Learnt → Learnt → Type 0
+IsBegun r v = (slot : ℕ) × (v ≡ pinned r.id slot r)
+
+-- `Moved`: one step found another version than the one learnt, and its pin was given back. `PinsSpent`: all pins of the id seen last
+-- were made, and no step was.
+abbrev pub IsRefused : Learnt → Learnt → BeginFault → Type 0
+IsRefused r back (Moved id) = (id ≢ r.id) × ((slot : ℕ) × (back ≡ unpinned (pinned id slot r)))
+IsRefused r back PinsSpent = (r.pinner.knows.count ≡ 2 ^ 24) × (back ≡ r)
+
+-- ---- a new store
+
+-- what a reader has besides its end of the board
+pub record AtDesk : Type 0 where
+  pub id : ℕ
+  pub version : Levels
+  pub told : Told
+
+-- the current version is known, and nothing was told by the shelf yet
+abbrev pub desk_at : Held → Place → AtDesk
+desk_at h place = record { id = current_id h.slots; version = h.slots.version; told = fresh place }
+
+-- it has learnt the current version, and nothing was told by its shelf yet
+abbrev pub HasLearnt : Held → Place → Learnt → Type 0
+HasLearnt h place r = (r.id ≡ current_id h.slots) × (r.version ≡ h.slots.version) × (r.told ≡ fresh place)
+
+-- an end of this board that holds no pin
+abbrev pub IsFreeEnd : TableId → Known → Type 0
+IsFreeEnd board p = (p.board ≡ board) × (p.knows.held ≡ None)

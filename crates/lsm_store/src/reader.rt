@@ -1,0 +1,81 @@
+//! Readers, which hold no pin.
+
+ghost use Rattle.std.specs.Prelude.{◌≡◌, ◌^◌, IfErr, IfOk, IsErr, OnErr, OnOk};
+ghost use Rattle.lsm_pins.specs.View.{noted_view};
+ghost use Rattle.lsm_store.specs.Readers.{IsBegun, IsIdle, IsRefused, refreshed};
+ghost use Rattle.lsm_store.specs.declared.begin_fault.BeginFault.TheVariants.{PinsSpent};
+
+use crate::begin_fault::BeginFault;
+use crate::desk::Desk;
+use crate::view::View;
+use lsm_pins::Pinner;
+use lsm_slots::Boarded;
+use lsm_state::State;
+use lsm_table::Shelf;
+use std::alloc::AllocError;
+use std::marker::Model;
+use std::sync::Arc;
+
+/// A reader outside the lock. It has learnt a version, and holds no pin.
+#[derive(Drop)]
+pub struct Reader<N: Boarded, S: Shelf> {
+    pub(crate) pinner: Pinner,
+    pub(crate) desk: Desk<N, S>,
+}
+
+impl<N: Boarded, S: Shelf> Model for Reader<N, S> {
+    ghost use Rattle.std.specs.Prelude.{◌≡◌, None};
+    ghost use Rattle.lsm_store.specs.Readers.{Learnt};
+
+    ghost Value = { Learnt };
+
+    ghost view = { λ r. record { id = r.desk.id; version = r.desk.version; pinner = r.pinner; told = r.desk.told } };
+
+    ghost invariant = { λ r. (r.pinner.board ≡ N.board) × (r.pinner.knows.held ≡ None) };
+}
+
+impl<N: Boarded, S: Shelf> Reader<N, S> {
+    /// The id of the version that it has learnt.
+    pub fn id(&self) -> u32
+        ensures id { result ≡ self.now.id }
+        ensures idle { IsIdle self.now }
+    {
+        self.desk.id
+    }
+
+    /// Learns the current version of the state that the lock has lent. `AllocError` where the version's count of owners is at its end.
+    #[tactic(auto, using(crate::proofs::ReaderLaws::same_learnt))]
+    pub fn refresh(&mut self, state: &mut State<N, S>) -> Result<(), AllocError>
+        ensures ok { OnOk result (self.new ≡ refreshed state.old self.old) }
+        ensures board { OnOk result ((state.new.slots.board.board ≡ state.old.slots.board.board) × (state.new.slots.board.knows ≡ noted_view state.old.slots.board.knows self.new.pinner.knows)) }
+        ensures rest { state.new ≡ record state.old { slots = record state.old.slots { board = state.new.slots.board } } }
+        ensures err { OnErr result ((self.new ≡ self.old) × (state.new ≡ state.old)) }
+    {
+        let version = Arc::try_clone(state.current().1)?;
+        let (id, _) = state.learn(&mut self.pinner);
+        self.desk.id = id;
+        self.desk.version = version;
+        Ok(())
+    }
+
+    /// Pins the version that was learnt, by one atomic step and without the lock. Where another one is current, the pin is given back
+    /// (`Moved`); `PinsSpent` where all pins of the id seen last were made.
+    #[tactic(auto, using(crate::proofs::ReaderLaws::begun_at, crate::proofs::ReaderLaws::moved_at))]
+    pub fn begin(self) -> Result<View<N, S>, (Reader<N, S>, BeginFault)>
+        ensures begun { IfOk result (λ v. IsBegun self v) }
+        ensures refused { IfErr result (λ e. IsRefused self e.0 e.1) }
+        ensures spent { self.pinner.knows.count ≡ 2 ^ 24 → IsErr result × IfErr result (λ e. e.1 ≡ PinsSpent) }
+    {
+        let Reader { mut pinner, desk } = self;
+        match pinner.pin() {
+            Ok((id, slot)) => {
+                if id == desk.id {
+                    return Ok(View { pinner, slot, desk });
+                }
+                pinner.unpin();
+                Err((Reader { pinner, desk }, BeginFault::Moved(id)))
+            }
+            Err(_) => Err((Reader { pinner, desk }, BeginFault::PinsSpent)),
+        }
+    }
+}

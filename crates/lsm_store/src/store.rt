@@ -1,0 +1,162 @@
+//! The state behind its lock.
+
+ghost use Rattle.std.specs.Prelude.{◌≡◌, ◌+◌, ◌≤◌, [], All, IfErr, IfOk, length, vec_capacity, vec_len};
+ghost use Rattle.lsm_shelf.specs.Told.{Becomes, Counted, NotNamed};
+ghost use Rattle.lsm_slots.specs.Slots.{current_id};
+ghost use Rattle.lsm_store.specs.Readers.{HasLearnt, IsFreeEnd, desk_at};
+
+use crate::desk::Desk;
+use crate::reader::Reader;
+use lsm_pins::Pinner;
+use lsm_slots::Boarded;
+use lsm_state::State;
+use lsm_table::{Shelf, ShelfFault};
+use std::alloc::Global;
+use std::num::NonZeroUsize;
+use std::sync::{Mutex, MutexGuard, Wait};
+
+/// A desk for each reader that the options name.
+#[tactic(auto, using(lsm_shelf::proofs::CallerLemmas::becomes_then, lsm_shelf::proofs::CallerLemmas::becomes_same, lsm_shelf::proofs::CallerLemmas::counted_later))]
+fn desks_for<N: Boarded, S: Shelf>(
+    alloc: Global,
+    state: &State<N, S>,
+    shelf: &mut S,
+) -> Result<Vec<Desk<N, S>>, ShelfFault>
+    requires { (S.told shelf.old).place ≡ N.place }
+    ensures desks { IfOk result (λ v. All (λ d. d ≡ desk_at state.now N.place) v.items) }
+    ensures len { IfOk result (λ v. vec_len v ≡ state.now.options.readers) }
+    ensures told { Becomes (S.told shelf.old) (S.told shelf.new) }
+    ensures cause { IfErr result (λ e. NotNamed e × Counted e (S.told shelf.old) (S.told shelf.new)) }
+{
+    let options = state.options();
+    let Some(blocks) = NonZeroUsize::new(options.cache_blocks) else {
+        unreachable!()
+    };
+    let mut desks = Vec::new(alloc);
+    for number in 0..options.readers {
+        let desk = Desk::new(alloc, state, shelf, blocks)?;
+        desks.push(desk)?;
+    }
+    Ok(desks)
+}
+
+/// The reader at this desk, whose end of the board learns the current version.
+fn seat<N: Boarded, S: Shelf>(
+    state: &mut State<N, S>,
+    pinner: Pinner,
+    desk: Desk<N, S>,
+) -> Reader<N, S>
+    requires pinner { IsFreeEnd N.board pinner }
+    requires desk { desk.id ≡ current_id state.old.slots }
+    ensures id { result.id ≡ desk.id }
+    ensures version { result.version ≡ desk.version }
+    ensures told { result.told ≡ desk.told }
+    ensures same { current_id state.new.slots ≡ current_id state.old.slots }
+{
+    let mut pinner = pinner;
+    state.learn(&mut pinner);
+    Reader { pinner, desk }
+}
+
+/// A reader for each end of the board, at a desk each; there is room for all.
+#[tactic(auto, using(crate::proofs::SeatLaws::all_popped, crate::proofs::SeatLaws::one_popped, crate::proofs::SeatLaws::learnt_at))]
+fn seat_all<N: Boarded, S: Shelf>(
+    state: &mut State<N, S>,
+    pinners: Vec<Pinner>,
+    desks: Vec<Desk<N, S>>,
+    readers: Vec<Reader<N, S>>,
+) -> Vec<Reader<N, S>>
+    requires pinners { All (IsFreeEnd N.board) pinners.items }
+    requires desks { All (λ d. d ≡ desk_at state.old N.place) desks.items }
+    requires enough { vec_len pinners ≤ vec_len desks }
+    requires none { (readers.items ≡ []) × (vec_len readers ≡ 0) }
+    requires room { vec_len pinners ≤ vec_capacity readers }
+    ensures readers { All (HasLearnt state.old N.place) result.items }
+    ensures len { vec_len result ≡ vec_len pinners }
+{
+    let mut pinners = pinners;
+    let mut desks = desks;
+    let mut readers = readers;
+    while let Some(pinner) = pinners.pop() {
+        let Some(desk) = desks.pop() else {
+            unreachable!()
+        };
+        let reader = seat(state, pinner, desk);
+        let Ok(()) = readers.push(reader) else {
+            unreachable!()
+        };
+    }
+    readers
+}
+
+/// Desks and room for the readers, and nothing is taken of the state yet.
+fn furnish<N: Boarded, S: Shelf>(
+    alloc: Global,
+    state: &State<N, S>,
+    shelf: &mut S,
+) -> Result<(Vec<Desk<N, S>>, Vec<Reader<N, S>>), ShelfFault>
+    requires { (S.told shelf.old).place ≡ N.place }
+    ensures desks { IfOk result (λ r. All (λ d. d ≡ desk_at state.now N.place) r.0.items) }
+    ensures len { IfOk result (λ r. vec_len r.0 ≡ state.now.options.readers) }
+    ensures none { IfOk result (λ r. (r.1.items ≡ []) × (vec_len r.1 ≡ 0)) }
+    ensures room { IfOk result (λ r. vec_capacity r.1 ≡ state.now.options.readers) }
+    ensures told { Becomes (S.told shelf.old) (S.told shelf.new) }
+    ensures cause { IfErr result (λ e. NotNamed e × Counted e (S.told shelf.old) (S.told shelf.new)) }
+{
+    let readers = Vec::with_capacity(alloc, state.options().readers)?;
+    let desks = desks_for(alloc, state, shelf)?;
+    Ok((desks, readers))
+}
+
+/// The ends of the board that were not taken yet, each of which holds no pin.
+fn take_ends<N: Boarded, S: Shelf>(state: &mut State<N, S>, alloc: Global) -> Vec<Pinner>
+    ensures ends { All (IsFreeEnd N.board) result.items }
+    ensures all { result.items ≡ state.old.pinners }
+    ensures same { state.new ≡ record state.old { pinners = [] } }
+{
+    let _options = state.options();
+    state.take_pinners(alloc)
+}
+
+/// The state of a database behind its lock.
+#[derive(Drop)]
+pub struct Store<N: Boarded, S: Shelf> {
+    state: Mutex<State<N, S>>,
+}
+
+impl<N: Boarded, S: Shelf> Store<N, S> {
+    /// The store of a state, and a reader for each pinner that was not taken yet. Each has a fork of the shelf and an empty cache of
+    /// blocks, and has learnt the current version. All of that is made before the pinners are taken.
+    ///
+    /// `OutOfMemory`; `Device` where the shelf failed. A refusal hands the state back as it was, and the shelf.
+    pub fn new(
+        alloc: Global,
+        state: State<N, S>,
+        shelf: S,
+    ) -> Result<(Store<N, S>, Vec<Reader<N, S>>), (State<N, S>, S, ShelfFault)>
+        requires place { (S.told shelf).place ≡ N.place }
+        requires seats { length state.pinners ≤ state.options.readers }
+        ensures readers { IfOk result (λ r. All (HasLearnt state N.place) r.1.items) }
+        ensures len { IfOk result (λ r. vec_len r.1 ≡ length state.pinners) }
+        ensures err { IfErr result (λ e. (e.0 ≡ state) × Becomes (S.told shelf) (S.told e.1)) }
+        ensures cause { IfErr result (λ e. NotNamed e.2 × Counted e.2 (S.told shelf) (S.told e.1)) }
+    {
+        let mut state = state;
+        let mut shelf = shelf;
+        let (desks, readers) = match furnish(alloc, &state, &mut shelf) {
+            Ok(furniture) => furniture,
+            Err(fault) => return Err((state, shelf, fault)),
+        };
+        let pinners = take_ends(&mut state, alloc);
+        let readers = seat_all(&mut state, pinners, desks, readers);
+        let store = Store {
+            state: Mutex::new(state),
+        };
+        Ok((store, readers))
+    }
+
+    /// Lends the state, which keeps its law (`State::options` tells it); calls are made on the guard.
+    pub fn lock<'a, R: Wait>(&'a self, rt: &R) -> MutexGuard<'a, State<N, S>> {
+        self.state.lock(rt)
+    }
+}
