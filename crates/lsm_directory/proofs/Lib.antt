@@ -1,0 +1,2 @@
+mod ScanLaws
+mod ListLaws
