@@ -1,15 +1,14 @@
 -- Loops over the tables of a level, and over levels.
-use Rattle.std.proofs.Common.{◌≡◌, ℕ, zero, suc, inl, inr, ◌+◌, ◌<◌, ◌≤◌, List, [], ◌∷◌, ◌++◌, length, get_or, take, drop, refl, sym, ap, ◌∙◌, subst, append_assoc, append-nil, arith}
+use Rattle.std.proofs.Common.{◌≡◌, ℕ, suc, ◌+◌, ◌<◌, ◌≤◌, List, [], ◌∷◌, ◌++◌, length, get_or, take, drop, refl, sym, ap, ◌∙◌, subst, append_assoc, append-nil, arith}
 use Rattle.std.specs.List.{flat_map, sum_by}
 use Rattle.std.proofs.lemmas.List.{drop_more, drop_all}
 use Rattle.std.proofs.lemmas.List.Sums.{sum_by-drop_more}
 use Rattle.lsm_codec.specs.Lists.{Has}
+use Rattle.lsm_codec.proofs.CallerLemmas.{contains_says}
 use Rattle.lsm_directory.specs.Listing.{level_texts}
 
 pub has_at : {X : Type 0} (xs : List X) (i : ℕ) (x : X) → i < length xs → x ≡ get_or xs i x → Has xs x
-has_at [] i x h e = absurd (omega (arith, h))
-has_at (y ∷ ys) zero x h e = inl (sym e)
-has_at (y ∷ ys) (suc i) x h e = inr (has_at ys i x (omega (arith, h)) e)
+has_at xs i x h e = contains_says xs x (i, h, sym e)
 
 -- the term of one more element
 pub sum_more : {X : Type 0} (f : X → ℕ) (xs : List X) (i : ℕ) (x : X) (before after : ℕ) → i < length xs → x ≡ get_or xs i x

@@ -10,5 +10,5 @@ loop-count-init g c = record {
   counted = λ honest.
       let image : g.S.Receipt.Slip.image c.copy_receipt-receipt.result ≡ c.args.table.now.image = ap g.S.Receipt.Slip.image c.copy_receipt-receipt.ensures ∙ c.record.ensures.image in
       let table = subst (λ (bytes : List ℕ). IsTable bytes (entries_in c.args.table.now.image)) (sym image) (c.requires.whole honest).table in
-      ap length (c.in_ok-entries.ensures.entries honest (entries_in c.args.table.now.image) table);
+      omega (arith, ap length (c.in_ok-entries.ensures.entries honest (entries_in c.args.table.now.image) table));
 }
