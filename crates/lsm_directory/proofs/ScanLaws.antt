@@ -20,8 +20,8 @@ none_left from to (p ∷ ps) h = rw (h p (inl refl)) (none_left from to ps (λ q
 before_false : (to : Option UserKey) (a b : UserKey) → UserLe a b → is_before to a ≡ false → is_before to b ≡ false
 before_false None a b le h = absurd (false≢true (sym h))
 before_false (Some to) a b le h = elim (cases_Bool (user_le b to)) [
-  | inl yes ↦ absurd (false≢true (sym h ∙ user_le_trans a b to le yes))
-  | inr no ↦ no
+  | inl held ↦ absurd (false≢true (sym h ∙ user_le_trans a b to le held))
+  | inr other ↦ other
 ]
 
 beyond : (from to : Option UserKey) (p : Pair) (ps : List Pair) → UsersAscend (p ∷ ps) → is_before to p.0 ≡ false → between from to (p ∷ ps) ≡ []
@@ -31,7 +31,7 @@ beyond from to p ps up h = none_left from to (p ∷ ps) (λ q k. elim k [
 ])
 
 between_more : (from to : Option UserKey) (p : Pair) (ps : List Pair) → between from to (p ∷ ps) ≡ between from to (p ∷ []) ++ between from to ps
-between_more from to p ps = elim (cases_Bool (is_before to p.0 && is_after from p.0)) [ inl yes ↦ rw yes refl | inr no ↦ rw no refl ]
+between_more from to p ps = elim (cases_Bool (is_before to p.0 && is_after from p.0)) [ inl held ↦ rw held refl | inr other ↦ rw other refl ]
 
 text_append : (xs ys : List Pair) → pairs_text (xs ++ ys) ≡ pairs_text xs ++ pairs_text ys
 unfolding pairs_text
@@ -58,39 +58,39 @@ pub turn_written : (from to : Option UserKey) (before after : Showing) (was is :
     → Appends was is (pair_line (user, value)) → IsTurned true from to before.left after.left was is
 turn_written from to before after was is user value h u v b a w =
     let p = h.0 in
-    let user_is : user ≡ p.0 = u ∙ ap user_shown h.1.0 in
-    let value_is : value ≡ p.1 = v ∙ ap value_shown h.1.0 in
+    let user_is : user ≡ p.0 = u ∙ ap user_shown h.1 in
+    let value_is : value ≡ p.1 = v ∙ ap value_shown h.1 in
     let b' : is_before to p.0 ≡ true = rw (← user_is) b in
     let a' : is_after from p.0 ≡ true = rw (← user_is) a in
     let one : between from to (p ∷ []) ≡ p ∷ [] = rw (b', a') refl in
     let text : pairs_text (between from to (p ∷ [])) ≡ pair_line (user, value) = ap pairs_text one ∙ text_one p ∙ sym (ap (λ (k : List ℕ). pair_line (k, value)) user_is ∙ ap (λ (x : List ℕ). pair_line (p.0, x)) value_is) in
-    (p, h.1.1, subst (Appends was is) (sym text) w)
+    (p, h.2, subst (Appends was is) (sym text) w)
 
 -- it stands before the first key
 pub turn_skipped : (from to : Option UserKey) (before after : Showing) (was : Option (List ℕ)) (user : List ℕ) → ShowsNext true before after
     → user ≡ user_shown after.here → is_before to user ≡ true → is_after from user ≡ false → IsTurned true from to before.left after.left was was
 turn_skipped from to before after was user h u b a =
     let p = h.0 in
-    let user_is : user ≡ p.0 = u ∙ ap user_shown h.1.0 in
+    let user_is : user ≡ p.0 = u ∙ ap user_shown h.1 in
     let b' : is_before to p.0 ≡ true = rw (← user_is) b in
     let a' : is_after from p.0 ≡ false = rw (← user_is) a in
     let none : between from to (p ∷ []) ≡ [] = rw (b', a') refl in
-    (p, h.1.1, subst (Appends was was) (sym (ap pairs_text none ∙ text_none)) (Appends-nil was))
+    (p, h.2, subst (Appends was was) (sym (ap pairs_text none ∙ text_none)) (Appends-nil was))
 
 -- it stands behind the last key
 pub turn_beyond : (from to : Option UserKey) (before after : Showing) (was : Option (List ℕ)) (user : List ℕ) → ShowsNext true before after
     → user ≡ user_shown after.here → is_before to user ≡ false → UsersAscend before.left → IsTurned false from to before.left after.left was was
 turn_beyond from to before after was user h u b up =
     let p = h.0 in
-    let user_is : user ≡ p.0 = u ∙ ap user_shown h.1.0 in
+    let user_is : user ≡ p.0 = u ∙ ap user_shown h.1 in
     let b' : is_before to p.0 ≡ false = rw (← user_is) b in
-    let up' : UsersAscend (p ∷ after.left) = subst UsersAscend h.1.1 up in
-    (ap (between from to) h.1.1 ∙ beyond from to p after.left up' b', Keeps-refl was)
+    let up' : UsersAscend (p ∷ after.left) = subst UsersAscend h.2 up in
+    (ap (between from to) h.2 ∙ beyond from to p after.left up' b', Keeps-refl was)
 
 -- no pair is left
 pub turn_end : (from to : Option UserKey) (before after : Showing) (was : Option (List ℕ)) → ShowsNext false before after
     → IsTurned false from to before.left after.left was was
-turn_end from to before after was h = (ap (between from to) h.1.0, Keeps-refl was)
+turn_end from to before after was h = (ap (between from to) h.1, Keeps-refl was)
 
 -- ---- all turns
 
@@ -108,19 +108,19 @@ written_more from to all before after old mid new w t =
     let p = t.0 in
     let line = pairs_text (between from to (p ∷ [])) in
     let rest = pairs_text (between from to after) in
-    let next : pairs_text (between from to before) ≡ line ++ rest = ap (λ (ps : List Pair). pairs_text (between from to ps)) t.1.0 ∙ text_more from to p after in
-    (w.0 ++ line, Appends-trans old mid new w.0 line w.1.0 t.1.1, w.1.1 ∙ ap (λ (x : List ℕ). w.0 ++ x) next ∙ sym (append_assoc w.0 line rest))
+    let next : pairs_text (between from to before) ≡ line ++ rest = ap (λ (ps : List Pair). pairs_text (between from to ps)) t.1 ∙ text_more from to p after in
+    (w.0 ++ line, Appends-trans old mid new w.0 line w.1 t.2, w.2 ∙ ap (λ (x : List ℕ). w.0 ++ x) next ∙ sym (append_assoc w.0 line rest))
 
 pub ascending_more : (from to : Option UserKey) (before after : List Pair) (mid new : Option (List ℕ)) → UsersAscend before → IsTurned true from to before after mid new
     → UsersAscend after
-ascending_more from to before after mid new up t = let up' : UsersAscend (t.0 ∷ after) = subst UsersAscend t.1.0 up in up'.1
+ascending_more from to before after mid new up t = let up' : UsersAscend (t.0 ∷ after) = subst UsersAscend t.1 up in up'.1
 
 pub written_all : (from to : Option UserKey) (all before after : List Pair) (old mid new last : Option (List ℕ)) → IsWritten from to all before old mid
     → IsTurned false from to before after mid new → Keeps new last → Appends old last (pairs_text (between from to all))
 written_all from to all before after old mid new last w t kept =
-    let end : pairs_text (between from to all) ≡ w.0 = w.1.1 ∙ ap (λ (ps : List Pair). w.0 ++ pairs_text ps) t.0 ∙ ap (λ (x : List ℕ). w.0 ++ x) text_none ∙ append-nil w.0 in
-    subst (Appends old last) (sym end) (Appends-kept old mid last w.0 w.1.0 (Keeps-trans mid new last t.1 kept))
+    let end : pairs_text (between from to all) ≡ w.0 = w.2 ∙ ap (λ (ps : List Pair). w.0 ++ pairs_text ps) t.0 ∙ ap (λ (x : List ℕ). w.0 ++ x) text_none ∙ append-nil w.0 in
+    subst (Appends old last) (sym end) (Appends-kept old mid last w.0 w.1 (Keeps-trans mid new last t.1 kept))
 
 pub written_front : (from to : Option UserKey) (all left : List Pair) (old mid new : Option (List ℕ)) → IsWritten from to all left old mid → Keeps mid new
     → IsBrokenOff (pairs_text (between from to all)) old new
-written_front from to all left old mid new w kept = (w.0, pairs_text (between from to left), w.1.1, Appends-kept old mid new w.0 w.1.0 kept)
+written_front from to all left old mid new w kept = (w.0, pairs_text (between from to left), w.2, Appends-kept old mid new w.0 w.1 kept)
