@@ -1,6 +1,6 @@
 -- Words of a command line, taken apart.
 use Rattle.std.proofs.Common.{◌≡◌, ℕ, ◌+◌, ◌-◌, ◌<◌, ◌≤◌, List, [], ◌∷◌, length, map, get_or, drop, take, refl, sym, ap, ◌∙◌, subst, arith}
-use Rattle.std.proofs.lemmas.List.{drop_more, drop_all, take_all, length-drop}
+use Rattle.std.proofs.lemmas.List.{drop_more, take_all, length-drop}
 
 pub no_words : {X : Type 0} (text : X → List ℕ) (xs : List X) → length xs < 1 → map text xs ≡ []
 no_words text [] h = refl
@@ -21,13 +21,3 @@ two_words text xs a b e f h =
 
 pub later_words : {X : Type 0} (xs : List X) → take (length xs - 2) (drop 2 xs) ≡ drop 2 xs
 later_words xs = take_all (length xs - 2) (drop 2 xs) (omega (arith, length-drop 2 xs))
-
-pub four_words : {X : Type 0} (text : X → List ℕ) (xs : List X) (a b c d : X) → a ≡ get_or xs 0 a → b ≡ get_or xs 1 b → c ≡ get_or xs 2 c → d ≡ get_or xs 3 d
-    → 4 ≤ length xs → length xs < 5 → map text xs ≡ text a ∷ text b ∷ text c ∷ text d ∷ []
-four_words text xs a b c d e f g k h j =
-    let third = drop_more xs 2 c (omega (arith, h)) in
-    let fourth = drop_more xs 3 d (omega (arith, h)) in
-    let end = drop_all 4 xs (omega (arith, j)) in
-    let tail : drop 2 xs ≡ c ∷ d ∷ [] =
-    third ∙ ap (λ x. x ∷ drop 3 xs) (sym g) ∙ ap (λ ys. c ∷ ys) (fourth ∙ ap (λ x. x ∷ drop 4 xs) (sym k) ∙ ap (λ ys. d ∷ ys) end) in
-    sym (two_words text xs a b e f (omega (arith, h))) ∙ ap (λ ys. text a ∷ text b ∷ map text ys) tail

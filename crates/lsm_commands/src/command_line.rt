@@ -65,15 +65,6 @@ What stands in a write-ahead log (`N.log`) is not read. Status 0 where all is we
 
 const CHECK_EXAMPLE: &str = "Example: lsm check db";
 
-const SCAN: &str =
-    "Prints the live keys of the LevelDB folder DIR, ascending, one `KEY=VALUE` a line: both in hex, `.` for no bytes. Every table
-is verified before the first line, as by `check`; nothing is written. What stands in a write-ahead log (`N.log`) is not read.
-
-Lines are printed as they are read, in memory that does not grow with DIR. Where the device fails on the way, what was printed
-stays, and the status is 1.";
-
-const SCAN_EXAMPLE: &str = "Example: lsm scan db --from 61 --to 6affff";
-
 const LIST: &str =
     "Prints the tables of the LevelDB folder DIR: `LEVEL NUMBER SIZE SMALLEST LARGEST` for each, levels 0 to 6 and in a level by
 smallest key, and then `end`. Keys are `KEY@SEQ+` for a value and `KEY@SEQ-` for a deletion, KEY in hex, `.` for no bytes; SIZE
@@ -97,14 +88,6 @@ fn folder<'a>(alloc: Global) -> Arg<'a> {
         .help("The folder of a LevelDB database")
 }
 
-/// The option that names a first or a last key.
-fn bound<'a>(alloc: Global, name: &'a str, help: &'a str) -> Arg<'a> {
-    Arg::new(alloc, name)
-        .long(name)
-        .value_name("KEY")
-        .help(help)
-}
-
 /// The commands on a folder.
 fn with_folders<'a>(alloc: Global, lsm: Command<'a>) -> Result<Command<'a>, AllocError> {
     let check = Command::new(alloc, "check")
@@ -112,13 +95,6 @@ fn with_folders<'a>(alloc: Global, lsm: Command<'a>) -> Result<Command<'a>, Allo
         .long_about(CHECK)
         .after_help(CHECK_EXAMPLE)
         .arg(folder(alloc))?;
-    let scan = Command::new(alloc, "scan")
-        .about("Prints the live keys of a folder, with their values")
-        .long_about(SCAN)
-        .after_help(SCAN_EXAMPLE)
-        .arg(folder(alloc))?
-        .arg(bound(alloc, "from", "The first key"))?
-        .arg(bound(alloc, "to", "The last key, which is printed too"))?;
     let list = Command::new(alloc, "list")
         .about("Prints the tables of a folder, level by level")
         .long_about(LIST)
@@ -130,10 +106,7 @@ fn with_folders<'a>(alloc: Global, lsm: Command<'a>) -> Result<Command<'a>, Allo
         .after_help(GET_EXAMPLE)
         .arg(folder(alloc))?
         .arg(Arg::new(alloc, "KEY").required(true).help("The key"))?;
-    lsm.subcommand(check)?
-        .subcommand(scan)?
-        .subcommand(list)?
-        .subcommand(get)
+    lsm.subcommand(check)?.subcommand(list)?.subcommand(get)
 }
 
 fn command<'a>(alloc: Global) -> Result<Command<'a>, AllocError> {

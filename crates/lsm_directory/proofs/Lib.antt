@@ -1,2 +1,2 @@
-mod ScanLaws
 mod ListLaws
+mod Outcomes

@@ -2,5 +2,5 @@ pub mod Directory
 pub mod Listing
 pub mod DirectoryFault
 pub mod Opening
-pub mod Scanning
+pub mod ReadFault
 pub mod Answers

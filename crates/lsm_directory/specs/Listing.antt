@@ -1,10 +1,8 @@
 -- What is printed of a version and of what it answers: this project's rule. Keys and values are hex, `.` for no bytes.
-use Rattle.std.specs.Prelude.{ℕ, zero, suc, ◌+◌, Bool, true, ◌&&◌, List, [], ◌∷◌, ◌++◌, length, codes, decimal, Option, Some, None}
-use Rattle.std.specs.List.{flat_map, filter, sum_by}
-use Rattle.lsm_codec.specs.Keys.{UserKey, user_le}
+use Rattle.std.specs.Prelude.{ℕ, zero, suc, ◌+◌, List, [], ◌∷◌, ◌++◌, length, codes, decimal, Option, Some, None}
+use Rattle.std.specs.List.{flat_map, sum_by}
 use Rattle.lsm_table.specs.HeldTable.{entries_in}
 use Rattle.lsm_table.specs.Registry.{Table, size_of}
-use Rattle.lsm_levels.specs.Scanning.{Pair}
 use Rattle.lsm_version.specs.Versions.{Levels, level_in}
 use Rattle.lsm_commands.specs.EntryPrinting.{bytes_word}
 use Rattle.lsm_commands.specs.ManifestPrinting.{key_word, number_line}
@@ -38,29 +36,6 @@ list_text v = level_texts (λ n. file_lines n (level_in v.tables n)) 7 ++ codes 
 abbrev pub answer_text : Option (List ℕ) → List ℕ
 answer_text None = codes "absent\n"
 answer_text (Some value) = codes "value " ++ (bytes_word value ++ (10 ∷ []))
-
--- ---- `scan`
-
--- at or after the first key, where one is given
-abbrev pub is_after : Option UserKey → UserKey → Bool
-is_after None k = true
-is_after (Some from) k = user_le from k
-
--- at or before the last key, where one is given
-abbrev pub is_before : Option UserKey → UserKey → Bool
-is_before None k = true
-is_before (Some to) k = user_le k to
-
--- the pairs whose keys lie between the two, these included
-abbrev pub between : Option UserKey → Option UserKey → List Pair → List Pair
-between from to pairs = filter (λ p. is_before to p.0 && is_after from p.0) pairs
-
--- `KEY=VALUE`
-unfoldable pub pair_line : Pair → List ℕ
-pair_line p = bytes_word p.0 ++ (61 ∷ (bytes_word p.1 ++ (10 ∷ [])))
-
-unfoldable pub pairs_text : List Pair → List ℕ
-pairs_text pairs = flat_map pair_line pairs
 
 -- ---- `check`
 

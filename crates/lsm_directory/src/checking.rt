@@ -7,7 +7,7 @@ ghost use Rattle.lsm_table.specs.ReadFault.{IsMemoryOrShelf};
 ghost use Rattle.lsm_table.specs.Told.{Becomes};
 ghost use Rattle.lsm_version.specs.Versions.{IsWhole};
 ghost use Rattle.lsm_directory.specs.Listing.{bytes_of, check_text, count_of, counts_line, labelled, level_line};
-ghost use Rattle.lsm_directory.specs.Scanning.{IsReadFault};
+ghost use Rattle.lsm_directory.specs.ReadFault.{IsReadFault};
 
 use crate::counting::{count_level, size_of_level};
 use crate::directory_fault::DirectoryFault;

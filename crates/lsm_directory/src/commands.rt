@@ -1,14 +1,16 @@
 //! What the commands on a directory do. Each opens it to read, and writes nothing there.
 
-ghost use Rattle.std.specs.Prelude.{◌≡◌, ◌≢◌, ◌⊎◌, ℕ, List, IfErr, IfOk, OnOk};
+ghost use Rattle.std.specs.Prelude.{◌≡◌, ◌≢◌, IfErr, IfOk, OnOk};
 ghost use Rattle.std.specs.Arc.{arc_value};
 ghost use Rattle.std.specs.Io.KnownBytes.{Appends, Keeps};
+ghost use Rattle.lsm_codec.specs.Entries.{answer};
 ghost use Rattle.lsm_table.specs.Told.{Becomes};
-ghost use Rattle.lsm_directory.specs.Answers.{IsDone, IsFault, IsLeft, IsLeftOf, IsTextOf};
-ghost use Rattle.lsm_directory.specs.Listing.{check_text};
-ghost use Rattle.lsm_directory.specs.Scanning.{IsBrokenOff, IsReadFault, IsScanFault};
+ghost use Rattle.lsm_levels.specs.Files.{all_entries};
+ghost use Rattle.lsm_version.specs.Versions.{files};
+ghost use Rattle.lsm_directory.specs.Answers.{IsDone, IsFault, text_of};
+ghost use Rattle.lsm_directory.specs.Listing.{answer_text, check_text};
+ghost use Rattle.lsm_directory.specs.ReadFault.{IsAnswerFault, IsReadFault};
 ghost use Rattle.lsm_directory.specs.declared.directory_fault.DirectoryFault.TheVariants.{Write as WriteFault};
-ghost use Rattle.lsm_commands.specs.declared.directory_command.DirectoryCommand.TheVariants.{Scan as ScanPairs, Get};
 
 use crate::answering::answer_line;
 use crate::checking::describe;
@@ -16,8 +18,6 @@ use crate::directory_fault::DirectoryFault;
 use crate::listing::list_files;
 use crate::opened::{Opened, open};
 use crate::output::write_output;
-use crate::scanning::write_pairs;
-use lsm_codec::Bytes;
 use lsm_commands::DirectoryCommand;
 use lsm_reader::Direct;
 use lsm_table::{Naming, Registry, Shelf};
@@ -34,7 +34,7 @@ fn answer_of<N: Naming, S: Shelf>(
     key: &[u8],
 ) -> Result<Vec<u8>, DirectoryFault>
     requires here { (S.told shelf.old).place ≡ N.place }
-    ensures text { (rest : ℕ) → S.honest → IfOk result (λ text. IsTextOf (Get key.now) version.now rest text.items) }
+    ensures text { S.honest → IfOk result (λ text. text.items ≡ answer_text (answer (all_entries (files version.now)) key.now version.now.last)) }
     ensures fault { IfErr result (IsReadFault S.honest) }
     ensures told { Becomes (S.told shelf.old) (S.told shelf.new) }
 {
@@ -59,24 +59,26 @@ fn description_of<N: Naming, S: Shelf>(
     describe(&mut direct, alloc, registry, &opened.version, opened.rest)
 }
 
-/// Writes the live keys of a version between two keys.
-fn scan_between<N: Naming, S: Shelf, O: Write>(
+/// What a command prints of a directory that is open.
+fn text_for<N: Naming, S: Shelf>(
     shelf: &mut S,
     alloc: Global,
-    version: &Version<N, S>,
-    from: &Option<Bytes>,
-    to: &Option<Bytes>,
-    out: &mut O,
-) -> Result<(), DirectoryFault>
+    registry: &Registry<S::Receipt>,
+    opened: &Opened<N, S>,
+    command: &DirectoryCommand,
+) -> Result<Vec<u8>, DirectoryFault>
     requires here { (S.told shelf.old).place ≡ N.place }
-    ensures done { (rest : ℕ) → S.honest → OnOk result ((text : List ℕ) × IsTextOf (ScanPairs from.now to.now) version.now rest text × Appends (O.contents out.old) (O.contents out.new) text) }
-    ensures broken { (rest : ℕ) → IfErr result (λ e. e ≢ WriteFault → Keeps (O.contents out.old) (O.contents out.new) ⊎ (S.honest → (text : List ℕ) × IsTextOf (ScanPairs from.now to.now) version.now rest text × IsBrokenOff text (O.contents out.old) (O.contents out.new))) }
-    ensures fault { IfErr result (IsScanFault S.honest) }
+    requires named { registry.now ≡ N.registry }
+    ensures text { S.honest → IfOk result (λ text. text.items ≡ text_of command.now opened.now.version opened.now.rest) }
+    ensures fault { IfErr result (IsReadFault S.honest) }
     ensures told { Becomes (S.told shelf.old) (S.told shelf.new) }
 {
-    let scan = version.scan(shelf, alloc, version.last())?;
-    let mut direct = Direct::new(shelf);
-    write_pairs(&mut direct, alloc, scan, from, to, out)
+    let version = &opened.version;
+    match command {
+        DirectoryCommand::Check => description_of(shelf, alloc, registry, opened),
+        DirectoryCommand::List => Ok(list_files(alloc, registry, version)?),
+        DirectoryCommand::Get(key) => answer_of(shelf, alloc, version, key.as_slice()),
+    }
 }
 
 /// Does what a command asks of a directory that is open.
@@ -90,20 +92,12 @@ fn perform_on<N: Naming, S: Shelf, O: Write>(
 ) -> Result<(), DirectoryFault>
     requires here { (S.told shelf.old).place ≡ N.place }
     requires named { registry.now ≡ N.registry }
-    ensures done { S.honest → OnOk result ((text : List ℕ) × IsTextOf command.now opened.now.version opened.now.rest text × Appends (O.contents out.old) (O.contents out.new) text) }
-    ensures left { IfErr result (λ e. e ≢ WriteFault → IsLeftOf command.now S.honest opened.now.version opened.now.rest (O.contents out.old) (O.contents out.new)) }
-    ensures fault { IfErr result (IsScanFault S.honest) }
+    ensures done { S.honest → OnOk result (Appends (O.contents out.old) (O.contents out.new) (text_of command.now opened.now.version opened.now.rest)) }
+    ensures left { IfErr result (λ e. e ≢ WriteFault → Keeps (O.contents out.old) (O.contents out.new)) }
+    ensures fault { IfErr result (IsAnswerFault S.honest) }
     ensures told { Becomes (S.told shelf.old) (S.told shelf.new) }
 {
-    let version = &opened.version;
-    let text = match command {
-        DirectoryCommand::Scan(from, to) => {
-            return scan_between(shelf, alloc, version, from, to, out);
-        }
-        DirectoryCommand::Check => description_of(shelf, alloc, registry, opened)?,
-        DirectoryCommand::List => list_files(alloc, registry, version)?,
-        DirectoryCommand::Get(key) => answer_of(shelf, alloc, version, key.as_slice())?,
-    };
+    let text = text_for(shelf, alloc, registry, opened, command)?;
     write_output(out, text.as_slice())
 }
 
@@ -120,7 +114,7 @@ pub fn perform<N: Naming, S: Shelf, R: Wait, O: Write>(
     requires named { arc_value registry ≡ N.registry }
     ensures done { OnOk result (IsDone command.now S.honest (S.told shelf.new) (O.contents out.old) (O.contents out.new)) }
     ensures fault { IfErr result (λ e. IsFault (λ number image. (r : S.Receipt) × S.is_of N.place r × (S.Receipt.number r ≡ number) × (S.Receipt.image r ≡ image)) S.honest e (S.told shelf.old) (S.told shelf.new)) }
-    ensures left { IfErr result (λ e. e ≢ WriteFault → IsLeft command.now S.honest (S.told shelf.new) (O.contents out.old) (O.contents out.new)) }
+    ensures left { IfErr result (λ e. e ≢ WriteFault → Keeps (O.contents out.old) (O.contents out.new)) }
 {
     let shared = Arc::try_clone(&registry)?;
     let opened: Opened<N, S> = open(rt, alloc, shelf, shared)?;

@@ -14,7 +14,6 @@ mod answering;
 mod checking;
 mod counting;
 mod listing;
-mod scanning;
 
 // What is written, and why it is not.
 mod directory_fault;

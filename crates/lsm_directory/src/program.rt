@@ -25,7 +25,7 @@ fn tell<E: Write>(err: &mut E, fault: &DirectoryFault, names_files: bool) -> io:
 /// Whether the refusals of a command name the files of tables.
 fn names_files(command: &DirectoryCommand) -> bool {
     match command {
-        DirectoryCommand::Check | DirectoryCommand::Scan(_, _) => true,
+        DirectoryCommand::Check => true,
         DirectoryCommand::List | DirectoryCommand::Get(_) => false,
     }
 }
@@ -39,14 +39,14 @@ fn begin<S: Shelf, R: Wait, O: Write>(
     out: &mut O,
 ) -> Result<(), DirectoryFault>
     ensures done { OnOk result (IsDone command.now S.honest (S.told shelf.new) (O.contents out.old) (O.contents out.new)) }
-    ensures refused { IfErr result (λ e. IsRefused command.now e (λ number image. (r : S.Receipt) × S.is_of (S.told shelf.old).place r × (S.Receipt.number r ≡ number) × (S.Receipt.image r ≡ image)) S.honest (S.told shelf.old) (S.told shelf.new) (O.contents out.old) (O.contents out.new)) }
+    ensures refused { IfErr result (λ e. IsRefused e (λ number image. (r : S.Receipt) × S.is_of (S.told shelf.old).place r × (S.Receipt.number r ≡ number) × (S.Receipt.image r ≡ image)) S.honest (S.told shelf.old) (S.told shelf.new) (O.contents out.old) (O.contents out.new)) }
 {
     let registry = Arc::new(alloc, Registry::new(alloc)?)?;
     perform::<Brand, S, R, O>(rt, alloc, shelf, registry, command, out)
 }
 
 /// Opens the directory of a shelf to read, does what a command asks of it, and answers the exit status: 0 where it is done, and 1 where
-/// it is refused. A fault is one line on `err`; `check` and `scan` name in it the file of which a table is refused.
+/// it is refused. A fault is one line on `err`; `check` names in it the file of which a table is refused.
 pub fn run<S: Shelf, R: Wait, O: Write, E: Write>(
     rt: &R,
     alloc: Global,
@@ -56,7 +56,7 @@ pub fn run<S: Shelf, R: Wait, O: Write, E: Write>(
     err: &mut E,
 ) -> u8
     ensures done { result ≡ 0 → IsDone command.now S.honest (S.told shelf.new) (O.contents out.old) (O.contents out.new) }
-    ensures refused { result ≢ 0 → (result ≡ 1) × ((fault : DirectoryFault) × IsRefused command.now fault (λ number image. (r : S.Receipt) × S.is_of (S.told shelf.old).place r × (S.Receipt.number r ≡ number) × (S.Receipt.image r ≡ image)) S.honest (S.told shelf.old) (S.told shelf.new) (O.contents out.old) (O.contents out.new)) }
+    ensures refused { result ≢ 0 → (result ≡ 1) × ((fault : DirectoryFault) × IsRefused fault (λ number image. (r : S.Receipt) × S.is_of (S.told shelf.old).place r × (S.Receipt.number r ≡ number) × (S.Receipt.image r ≡ image)) S.honest (S.told shelf.old) (S.told shelf.new) (O.contents out.old) (O.contents out.new)) }
 {
     let done = begin(rt, alloc, shelf, command, out);
     match done {

@@ -15,10 +15,10 @@ returns-in-empty-2 g c = λ path.
     let rest = no_words g.S.AsStr.text c.args.words.now c.in-empty.len_below in
     rw (name, rest) refl
 
-pub returns-in-Some-2 : goal.returns-in-Some-2
-returns-in-Some-2 g c = λ path.
+pub returns-in-Some : goal.returns-in-Some
+returns-in-Some g c = λ path.
     let name : c.args.name.now ≡ codes "get" = search rules in
     let text = g.S.AsStr.text in
     let rest = one_word text c.args.words.now c.word-item.result c.word-item.is c.in-len1.len_at_least c.in-len1.len_below in
-    let key = rw c.in-Some-2.is at c.in_ok-key-in-len1.ensures in
+    let key = rw c.in-Some.is at c.in_ok-key-in-len1.ensures in
     (c.as_str.result.now, key, rw (name, rest, c.as_str.ensures) refl)
