@@ -13,7 +13,21 @@ use Rattle.lsm_directory.specs.declared.directory_fault.DirectoryFault.TheVarian
 
 -- reads of tables do not change what the manifest was
 pub holds_later : (Honest : Type 0) (old new : Told) (v : Levels) (rest : ℕ) → Becomes old new → Holds Honest old v rest → Holds Honest new v rest
-holds_later Honest old new v rest b h = record h { here = record h.here { read = b.found ∙ h.here.read } }
+holds_later Honest old new v rest b h = record {
+  shape = h.shape;
+  here = record {
+    number = h.here.number;
+    bytes = h.here.bytes;
+    read = b.found ∙ h.here.read;
+    edits = h.here.edits;
+    manifest = h.here.manifest;
+    replayed = h.here.replayed;
+  };
+  version = h.version;
+  numbers = h.numbers;
+  sound = h.sound;
+  judged = h.judged;
+}
 
 pub fault_later : (Stored : ℕ → List ℕ → Type 0) (Honest : Type 0) (was old new : Told) (v : Levels) (rest : ℕ) (fault : DirectoryFault)
     → Becomes old new → Holds Honest old v rest → IsAnswerFault Honest fault → IsFault Stored Honest fault was new

@@ -83,20 +83,6 @@ fn answers_for_keys(rt: HostRuntime) -> Result<(), Fail> {
 }
 
 #[test]
-fn scans_between_keys(rt: HostRuntime) -> Result<(), Fail> {
-    let alloc = rt.alloc();
-    let mut shelf = shelf_with(&rt, alloc, &TABLES, 5)?;
-    let all = DirectoryCommand::Scan(None, None);
-    expect(&rt, alloc, &mut shelf, &all, 0, "61=61\n62=62\n", "")?;
-    let first = DirectoryCommand::Scan(None, Some(key(alloc, "a")?));
-    expect(&rt, alloc, &mut shelf, &first, 0, "61=61\n", "")?;
-    let last = DirectoryCommand::Scan(Some(key(alloc, "b")?), None);
-    expect(&rt, alloc, &mut shelf, &last, 0, "62=62\n", "")?;
-    let none = DirectoryCommand::Scan(Some(key(alloc, "b")?), Some(key(alloc, "a")?));
-    expect(&rt, alloc, &mut shelf, &none, 0, "", "")
-}
-
-#[test]
 fn checks_all(rt: HostRuntime) -> Result<(), Fail> {
     let alloc = rt.alloc();
     let mut shelf = shelf_with(&rt, alloc, &TABLES, 5)?;
@@ -128,8 +114,6 @@ fn names_the_file_that_is_missing(rt: HostRuntime) -> Result<(), Fail> {
         "",
         fault,
     )?;
-    let all = DirectoryCommand::Scan(None, None);
-    expect(&rt, alloc, &mut shelf, &all, 1, "", fault)?;
     let fault = "refused 10 Missing\n";
     expect(
         &rt,
@@ -217,7 +201,6 @@ fn a_failed_write_is_told(rt: HostRuntime) -> Result<(), Fail> {
     for command in [
         DirectoryCommand::Check,
         DirectoryCommand::List,
-        DirectoryCommand::Scan(None, None),
         DirectoryCommand::Get(key(alloc, "a")?),
     ] {
         let mut err = Vec::new(alloc);
