@@ -1,8 +1,7 @@
 //! What words are taken for.
 
 use crate::runs::outcome;
-use lsm_commands::{directory_asked, refuse_words};
-use std::alloc::{AllocError, Global};
+use lsm_commands::refuse_words;
 use std::io::{self, ErrorKind};
 use std::process::Abort;
 use std::test::Fail;
@@ -42,25 +41,6 @@ fn knows_its_command_line(rt: HostRuntime) -> Result<(), Fail> {
     expect_usage(&rt, &["mktable", "--help"], 0)?;
     expect_usage(&rt, &["dump", "--help"], 0)?;
     expect_usage(&rt, &["manifest", "--help"], 0)?;
-    Ok(())
-}
-
-/// Whether words ask for a command on a folder.
-fn asks_folder(alloc: Global, words: &[&str]) -> Result<bool, AllocError> {
-    Ok(directory_asked(alloc, words)?.is_some())
-}
-
-#[test]
-fn takes_folder_commands_apart(rt: HostRuntime) -> Result<(), Fail> {
-    let alloc = rt.alloc();
-    for words in [["check", "db"], ["list", "db"]] {
-        assert!(rt; asks_folder(alloc, &words)?);
-    }
-    for words in [["check", "--help"], ["dump", "db"], ["get", "db"]] {
-        assert!(rt; !asks_folder(alloc, &words)?);
-    }
-    assert!(rt; asks_folder(alloc, &["get", "db", "6a"])?);
-    assert!(rt; !asks_folder(alloc, &["get", "db", "6"])?);
     Ok(())
 }
 
