@@ -8,4 +8,5 @@ pub mod StreamLaws
 pub mod MakingLaws
 pub mod ManifestLaws
 pub mod LineLists
+mod DirectoryLines
 mod LineCases

@@ -1,5 +1,6 @@
 pub mod EntryList
 pub mod EntryReading
+pub mod DirectoryLine
 pub mod EntryPrinting
 pub mod EntryView
 pub mod ReaderView

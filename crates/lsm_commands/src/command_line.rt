@@ -3,8 +3,8 @@
 ghost use Rattle.std.specs.Prelude.{◌≡◌, ◌≢◌, IfOk, IfSome, Some, map};
 ghost use Rattle.lsm_commands.specs.Commands.{word_of, Asks};
 
-use clap::Command;
 use clap::error::ErrorKind;
+use clap::{Arg, Command};
 use std::alloc::{AllocError, Global};
 use std::convert::AsStr;
 use std::io::Write;
@@ -55,8 +55,59 @@ Other bytes are refused by number and name, as in `refused 19 LogChecksum 0`.";
 
 const MANIFEST_EXAMPLE: &str = "Example: lsm manifest < db/MANIFEST-000001";
 
+const CHECK: &str =
+    "Verifies all that a read of the LevelDB folder DIR can reach: every block of every table that its manifest names, and how
+the tables lie in their levels. Nothing is written. Prints a line a level, `level L files F bytes B entries E`, then `last S`,
+the last sequence, and `rest B`, how many bytes at the manifest's end hold no whole record: above 0 the last record was cut off.
+
+The first fault is refused by number and name; that of a table names its file, as in `refused 15 BadChecksum 0 in 000005.ldb`.
+What stands in a write-ahead log (`N.log`) is not read. Status 0 where all is well, 1 at a fault.";
+
+const CHECK_EXAMPLE: &str = "Example: lsm check db";
+
+const LIST: &str =
+    "Prints the tables of the LevelDB folder DIR: `LEVEL NUMBER SIZE SMALLEST LARGEST` for each, levels 0 to 6 and in a level by
+smallest key, and then `end`. Keys are `KEY@SEQ+` for a value and `KEY@SEQ-` for a deletion, KEY in hex, `.` for no bytes; SIZE
+is in bytes. Every table is verified first; nothing is written.";
+
+const LIST_EXAMPLE: &str = "Example: lsm list db";
+
+const GET: &str =
+    "Prints what the LevelDB folder DIR answers for KEY: `value V`, or `absent`. KEY and V are hex, `.` for no bytes. Every table is
+verified first; nothing is written. What stands in a write-ahead log (`N.log`) is not read.";
+
+const GET_EXAMPLE: &str = "Example: lsm get db 6170706c65";
+
 const MORE_WORDS: &[u8] =
-    b"error: a command takes no words\n\nUsage: lsm <COMMAND>\n\nFor more information, try '--help'.\n";
+    b"error: a command on standard input takes no words; of a folder, DIR comes first, and KEY is hex, or `.` for no bytes\n\nUsage: lsm <COMMAND>\n\nFor more information, try '--help'.\n";
+
+/// The path of a folder, as an argument.
+fn folder<'a>(alloc: Global) -> Arg<'a> {
+    Arg::new(alloc, "DIR")
+        .required(true)
+        .help("The folder of a LevelDB database")
+}
+
+/// The commands on a folder.
+fn with_folders<'a>(alloc: Global, lsm: Command<'a>) -> Result<Command<'a>, AllocError> {
+    let check = Command::new(alloc, "check")
+        .about("Verifies a folder, and counts what is in it")
+        .long_about(CHECK)
+        .after_help(CHECK_EXAMPLE)
+        .arg(folder(alloc))?;
+    let list = Command::new(alloc, "list")
+        .about("Prints the tables of a folder, level by level")
+        .long_about(LIST)
+        .after_help(LIST_EXAMPLE)
+        .arg(folder(alloc))?;
+    let get = Command::new(alloc, "get")
+        .about("Prints the value of a key in a folder")
+        .long_about(GET)
+        .after_help(GET_EXAMPLE)
+        .arg(folder(alloc))?
+        .arg(Arg::new(alloc, "KEY").required(true).help("The key"))?;
+    lsm.subcommand(check)?.subcommand(list)?.subcommand(get)
+}
 
 fn command<'a>(alloc: Global) -> Result<Command<'a>, AllocError> {
     let make_table = Command::new(alloc, "mktable")
@@ -71,14 +122,15 @@ fn command<'a>(alloc: Global) -> Result<Command<'a>, AllocError> {
         .about("Prints the edits of the manifest on standard input")
         .long_about(MANIFEST)
         .after_help(MANIFEST_EXAMPLE);
-    Command::new(alloc, "lsm")
+    let lsm = Command::new(alloc, "lsm")
         .about("Makes LevelDB's files, and shows what is in them")
         .no_binary_name(true)
         .bin_name("lsm")?
         .subcommand_required(true)
         .subcommand(make_table)?
         .subcommand(dump)?
-        .subcommand(manifest)
+        .subcommand(manifest)?;
+    with_folders(alloc, lsm)
 }
 
 fn text_of(alloc: Global, error: &clap::Error) -> Result<Vec<u8>, AllocError> {

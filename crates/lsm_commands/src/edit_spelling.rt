@@ -11,7 +11,7 @@ use std::alloc::AllocError;
 
 /// Appends an internal key.
 #[tactic(auto, unfolding(crate::specs::ManifestPrinting::key_word))]
-fn push_key(out: &mut Vec<u8>, key: &[u8]) -> Result<(), AllocError>
+pub fn push_key(out: &mut Vec<u8>, key: &[u8]) -> Result<(), AllocError>
     ensures { OnOk result (out.new.items ≡ out.old.items ++ key_word key.now) }
 {
     let (user, packed) = key_parts(key);
@@ -24,7 +24,7 @@ fn push_key(out: &mut Vec<u8>, key: &[u8]) -> Result<(), AllocError>
 
 /// Appends a line of a word, which ends in a space, and a number.
 #[tactic(auto, unfolding(crate::specs::ManifestPrinting::number_line))]
-pub(crate) fn push_number(out: &mut Vec<u8>, word: &[u8], n: u64) -> Result<(), AllocError>
+pub fn push_number(out: &mut Vec<u8>, word: &[u8], n: u64) -> Result<(), AllocError>
     ensures { OnOk result (out.new.items ≡ out.old.items ++ number_line word.now n) }
 {
     out.extend_from_slice(word)?;

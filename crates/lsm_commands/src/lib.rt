@@ -9,6 +9,8 @@
 // A run: what its words ask for, and what is done for them.
 mod command_line;
 mod commands;
+mod directory_command;
+mod directory_line;
 mod program;
 mod streams;
 
@@ -27,6 +29,11 @@ mod spelling;
 mod laws;
 
 pub use command_line::{CommandLine, CommandName};
+pub use directory_command::DirectoryCommand;
+pub use directory_line::{DirectoryLine, directory_asked};
+pub use edit_spelling::{push_key, push_number};
 pub use fault::Fault;
 pub use laws::{one_list, printed_list};
 pub use program::{refuse_words, run};
+pub use refusal::Refusal;
+pub use spelling::{push_bytes, push_decimal};

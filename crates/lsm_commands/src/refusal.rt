@@ -13,10 +13,10 @@ use std::fmt;
 
 /// A refusal as it is printed: its published number and name, and then its field, if it has one.
 #[derive(Clone, Copy)]
-pub(crate) struct Refusal {
-    number: u8,
-    name: &'static str,
-    field: Option<u64>,
+pub struct Refusal {
+    pub number: u8,
+    pub name: &'static str,
+    pub field: Option<u64>,
 }
 
 impl Refusal {
@@ -34,7 +34,7 @@ impl Refusal {
     }
 
     /// A refusal of bytes that are no table.
-    pub(crate) fn of_table(fault: TableFault) -> Refusal
+    pub fn of_table(fault: TableFault) -> Refusal
         ensures number { result.number ≡ table_number fault }
         ensures name { result.name.now ≡ table_name fault }
         ensures field { result.field ≡ table_field fault }
@@ -59,7 +59,7 @@ impl Refusal {
     }
 
     /// A refusal of bytes that are no record log.
-    pub(crate) fn of_log(fault: LogFault) -> Refusal
+    pub fn of_log(fault: LogFault) -> Refusal
         ensures number { result.number ≡ log_number fault }
         ensures name { result.name.now ≡ log_name fault }
         ensures field { result.field ≡ log_field fault }
@@ -77,7 +77,7 @@ impl Refusal {
     }
 
     /// A refusal of a record that is no version edit.
-    pub(crate) fn of_edit(fault: EditFault) -> Refusal
+    pub fn of_edit(fault: EditFault) -> Refusal
         ensures number { result.number ≡ edit_number fault }
         ensures name { result.name.now ≡ edit_name fault }
         ensures field { result.field ≡ edit_field fault }

@@ -7,7 +7,7 @@ use lsm_codec::{KeyRef, Kind};
 use std::alloc::AllocError;
 
 /// Appends the word for some bytes: lower-case hex, or `.` for no bytes.
-pub(crate) fn push_bytes(out: &mut Vec<u8>, bytes: &[u8]) -> Result<(), AllocError>
+pub fn push_bytes(out: &mut Vec<u8>, bytes: &[u8]) -> Result<(), AllocError>
     ensures { OnOk result (out.new.items ≡ out.old.items ++ bytes_word bytes.now) }
 {
     if bytes.is_empty() {
@@ -26,7 +26,7 @@ pub(crate) fn push_bytes(out: &mut Vec<u8>, bytes: &[u8]) -> Result<(), AllocErr
 
 /// Appends a number in decimal digits.
 #[tactic(auto, using(std::proofs::lemmas::Fmt::decimal_digit, std::proofs::lemmas::Fmt::decimal_step))]
-pub(crate) fn push_decimal(out: &mut Vec<u8>, n: u64) -> Result<(), AllocError>
+pub fn push_decimal(out: &mut Vec<u8>, n: u64) -> Result<(), AllocError>
     ensures { OnOk result (out.new.items ≡ out.old.items ++ decimal n) }
 {
     if n < 10 {

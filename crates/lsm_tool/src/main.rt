@@ -1,14 +1,16 @@
-//! The program `lsm`: makes LevelDB's files, and shows what is in them.
+//! The program `lsm`: makes LevelDB's files, and shows what is in them and in a folder of them.
 //!
-//! Stands on `lsm_commands`, which does all that it does. Here stand the words, standard input and
-//! output, and the exit status.
+//! Stands on `lsm_commands` and `lsm_directory`, which do all that it does. Here stand the words, standard input and output, the
+//! folder, and the exit status.
 #![tactic(auto)]
 
-use lsm_commands::{refuse_words, run};
-use std::alloc::Global;
+use lsm_commands::{DirectoryLine, directory_asked, refuse_words, run};
+use lsm_directory::refuse_shelf;
+use lsm_shelf::FileShelf;
 use std::env::{self, Env};
-use std::io;
+use std::io::{self, BufWriter};
 use std::process::ExitCode;
+use std::sync::Wait;
 
 /// The program's name, and the words after it.
 fn words_of(rt: &(impl Env + AllocGlobal)) -> io::Result<Vec<String>> {
@@ -16,16 +18,46 @@ fn words_of(rt: &(impl Env + AllocGlobal)) -> io::Result<Vec<String>> {
     Ok(words)
 }
 
+/// Does what words ask of a folder.
+fn ask_folder(waits: &impl Wait, rt: HostRuntime, line: &DirectoryLine<'_>) -> io::Result<u8> {
+    let mut err = rt.stderr();
+    let mut shelf = match FileShelf::open(rt.clone()?, line.path) {
+        Ok(shelf) => shelf,
+        Err(fault) => return Ok(refuse_shelf(fault, &mut err)),
+    };
+    let mut out = BufWriter::new(rt.alloc(), rt.stdout())?;
+    let alloc = rt.alloc();
+    let command = &line.command;
+    Ok(lsm_directory::run(waits, alloc, &mut shelf, command, &mut out, &mut err))
+}
+
+/// Does what words ask.
+fn obey(waits: &impl Wait, rt: HostRuntime, words: &[String]) -> io::Result<u8> {
+    let alloc = rt.alloc();
+    match directory_asked(alloc, words)? {
+        Some(line) => ask_folder(waits, rt, &line),
+        None => {
+            let mut out = rt.stdout();
+            Ok(run(alloc, words, &mut rt.stdin(), &mut out, &mut rt.stderr()))
+        }
+    }
+}
+
+/// Reads the words of the command line, and does what they ask.
+fn start(waits: &impl Wait, rt: HostRuntime) -> io::Result<u8> {
+    let words = words_of(&rt)?;
+    obey(waits, rt, words.as_slice().get(1..).unwrap_or(&[]))
+}
+
 fn main(rt: HostRuntime) -> ExitCode {
     let mut err = rt.stderr();
-    let status = match words_of(&rt) {
-        Ok(words) => run(
-            rt.alloc(),
-            words.as_slice().get(1..).unwrap_or(&[]),
-            &mut rt.stdin(),
-            &mut rt.stdout(),
-            &mut err,
-        ),
+    let host: Result<HostRuntime, _> = rt.clone();
+    let done = match host {
+        Ok(host) => start(&rt, host),
+        Err(error) => Err(io::Error::from(error)),
+    };
+    let status = match done {
+        Ok(status) => status,
         Err(error) => refuse_words(&error, &mut err),
     };
     ExitCode::from(status)

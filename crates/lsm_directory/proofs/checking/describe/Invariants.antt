@@ -1,0 +1,12 @@
+use Rattle.std.proofs.Common.{◌≡◌}
+use Rattle.lsm_table.specs.Told.{Becomes}
+use Rattle.lsm_version.specs.Versions.{level_in}
+use Rattle.lsm_directory.specs.Listing.{level_line, level_texts}
+use Rattle.lsm_directory.proofs.checking.describe.Given as goal
+
+abbrev pub invariant-loop-level : goal.invariant-loop-level
+invariant-loop-level g l = record {
+  told : Becomes (g.B.Blocks.told l.fn.blocks) (g.B.Blocks.told l.blocks);
+  loan : g.B.Blocks.loan l.blocks ≡ g.B.Blocks.loan l.fn.blocks;
+  text : g.S.Shelf.honest → l.text.items ≡ level_texts (λ n. level_line n (level_in l.version.tables n)) l.level;
+}

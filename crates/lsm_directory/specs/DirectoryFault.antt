@@ -1,0 +1,82 @@
+-- Why a command on a directory is refused, and what it prints of that: this project's rule.
+use Rattle.std.specs.Prelude.{ℕ, List, codes, Option, Some, None}
+use Rattle.lsm_table.specs.declared.read_fault.ReadFault.{ReadFault}
+use Rattle.lsm_table.specs.declared.read_fault.ReadFault.TheVariants.{Shelf as ShelfOfRead, Table as TableOfRead}
+use Rattle.lsm_table.specs.Fault as table
+use Rattle.lsm_shelf.specs.declared.shelf_fault.ShelfFault.{ShelfFault}
+use Rattle.lsm_shelf.specs.declared.shelf_fault.ShelfFault.TheVariants as shelf_faults
+use Rattle.lsm_shelf.specs.ShelfFault as shelf
+use Rattle.lsm_manifest.specs.LogFault as log
+use Rattle.lsm_manifest.specs.EditFault as edit
+use Rattle.lsm_manifest.specs.ReplayFault as replay
+use Rattle.lsm_manifest.specs.declared.replay_fault.ReplayFault.{ReplayFault}
+use Rattle.lsm_manifest.specs.declared.replay_fault.ReplayFault.TheVariants as replay_faults
+use Rattle.lsm_journal.specs.declared.recover_fault.RecoverFault.{RecoverFault}
+use Rattle.lsm_journal.specs.declared.recover_fault.RecoverFault.TheVariants as recover_faults
+use Rattle.lsm_version.specs.declared.check.check_fault.CheckFault.{CheckFault}
+use Rattle.lsm_version.specs.declared.check.check_fault.CheckFault.TheVariants as check_faults
+use Rattle.lsm_commands.specs.FaultText.{refusal_text, table_field, log_field, edit_field}
+use Rattle.lsm_directory.specs.declared.directory_fault.DirectoryFault.{DirectoryFault}
+use Rattle.lsm_directory.specs.declared.directory_fault.DirectoryFault.TheVariants.{OutOfMemory, Write, Manifest, Tables, Read}
+
+-- the number that a refusal of a shelf names
+abbrev pub shelf_field : ShelfFault → Option ℕ
+shelf_field shelf_faults.OutOfMemory = None
+shelf_field shelf_faults.Device = None
+shelf_field shelf_faults.Missing = None
+shelf_field (shelf_faults.Taken number) = Some number
+
+-- the number that a refusal of a row of edits names
+abbrev pub replay_field : ReplayFault → Option ℕ
+replay_field replay_faults.OutOfMemory = None
+replay_field replay_faults.NoNextFile = None
+replay_field replay_faults.NoLogNumber = None
+replay_field replay_faults.NoLastSequence = None
+replay_field replay_faults.OtherComparator = None
+replay_field (replay_faults.DoubleFile number) = Some number
+
+abbrev pub shelf_text : ShelfFault → List ℕ
+shelf_text fault = refusal_text (shelf.number_of fault) (shelf.name_of fault) (shelf_field fault)
+
+abbrev pub replay_text : ReplayFault → List ℕ
+replay_text fault = refusal_text (replay.number_of fault) (replay.name_of fault) (replay_field fault)
+
+abbrev pub read_text : ReadFault → List ℕ
+read_text (ShelfOfRead fault) = shelf_text fault
+read_text (TableOfRead fault) = refusal_text (table.number_of fault) (table.name_of fault) (table_field fault)
+
+abbrev pub recover_text : RecoverFault → List ℕ
+recover_text (recover_faults.Shelf fault) = shelf_text fault
+recover_text (recover_faults.Log fault) = refusal_text (log.number_of fault) (log.name_of fault) (log_field fault)
+recover_text (recover_faults.Edit fault) = refusal_text (edit.number_of fault) (edit.name_of fault) (edit_field fault)
+recover_text (recover_faults.Replay fault) = replay_text fault
+
+-- A key against age is spelled as a word, which is tested.
+abbrev pub check_text : CheckFault → Option (List ℕ)
+check_text (check_faults.Read file fault) = Some (read_text fault)
+check_text (check_faults.DoubleFile number) = Some (refusal_text 30 (codes "DoubleFile") (Some number))
+check_text (check_faults.Overlap level) = Some (refusal_text 31 (codes "Overlap") (Some level))
+check_text (check_faults.WrongRange number) = Some (refusal_text 32 (codes "WrongRange") (Some number))
+check_text (check_faults.AgeOrder user) = None
+
+abbrev pub fault_text : DirectoryFault → Option (List ℕ)
+fault_text OutOfMemory = Some (refusal_text 1 (codes "OutOfMemory") None)
+fault_text Write = Some (codes "write fault")
+fault_text (Manifest fault) = Some (recover_text fault)
+fault_text (Tables fault) = check_text fault
+fault_text (Read fault) = Some (read_text fault)
+
+-- the number of the file that a refusal of its table names
+abbrev pub file_in : CheckFault → Option ℕ
+file_in (check_faults.Read file fault) = file
+file_in (check_faults.DoubleFile number) = None
+file_in (check_faults.Overlap level) = None
+file_in (check_faults.WrongRange number) = None
+file_in (check_faults.AgeOrder user) = None
+
+abbrev pub file_of : DirectoryFault → Option ℕ
+file_of OutOfMemory = None
+file_of Write = None
+file_of (Manifest fault) = None
+file_of (Tables fault) = file_in fault
+file_of (Read fault) = None

@@ -1,0 +1,129 @@
+//! What a check prints of a version.
+
+ghost use Rattle.std.specs.Prelude.{◌≡◌, ◌++◌, IfErr, IfOk, OnOk, length};
+ghost use Rattle.lsm_codec.specs.Lists.{Has};
+ghost use Rattle.lsm_table.specs.Registry.{Table};
+ghost use Rattle.lsm_table.specs.ReadFault.{IsMemoryOrShelf};
+ghost use Rattle.lsm_table.specs.Told.{Becomes};
+ghost use Rattle.lsm_version.specs.Versions.{IsWhole};
+ghost use Rattle.lsm_directory.specs.Listing.{bytes_of, check_text, count_of, counts_line, labelled, level_line};
+ghost use Rattle.lsm_directory.specs.ReadFault.{IsReadFault};
+
+use crate::counting::{count_level, size_of_level};
+use crate::directory_fault::DirectoryFault;
+use lsm_commands::{push_decimal, push_number};
+use lsm_reader::Blocks;
+use lsm_table::{Naming, ReadFault, Registry, Shelf, TableRef};
+use lsm_version::Version;
+use std::alloc::{AllocError, Global};
+
+/// What is counted of a level.
+#[derive(Clone, Copy)]
+struct Counts {
+    files: u64,
+    bytes: u64,
+    entries: u64,
+}
+
+/// Appends a word and a number.
+#[tactic(auto, unfolding(crate::specs::Listing::labelled))]
+fn push_labelled(out: &mut Vec<u8>, word: &[u8], n: u64) -> Result<(), AllocError>
+    ensures { OnOk result (out.new.items ≡ out.old.items ++ labelled word.now n) }
+{
+    out.extend_from_slice(word)?;
+    push_decimal(out, n)
+}
+
+/// Appends the line of a level.
+fn push_counts(out: &mut Vec<u8>, level: usize, counts: Counts) -> Result<(), AllocError>
+    ensures { OnOk result (out.new.items ≡ out.old.items ++ counts_line level counts.files counts.bytes counts.entries) }
+{
+    push_labelled(out, b"level ", level as u64)?;
+    push_labelled(out, b" files ", counts.files)?;
+    push_labelled(out, b" bytes ", counts.bytes)?;
+    push_labelled(out, b" entries ", counts.entries)?;
+    out.push(b'\n')?;
+    Ok(())
+}
+
+/// Counts the files, bytes and entries of a level.
+fn counts_of<N: Naming, S: Shelf, B: Blocks<S>>(
+    blocks: &mut B,
+    alloc: Global,
+    registry: &Registry<S::Receipt>,
+    tables: &[TableRef<N, S>],
+) -> Result<Counts, ReadFault>
+    requires here { (B.told blocks.old).place ≡ N.place }
+    requires named { registry.now ≡ N.registry }
+    requires whole { S.honest → (t : Table) → Has tables.now t → IsWhole t }
+    ensures files { IfOk result (λ c. c.files ≡ length tables.now) }
+    ensures bytes { IfOk result (λ c. c.bytes ≡ bytes_of tables.now) }
+    ensures entries { S.honest → IfOk result (λ c. c.entries ≡ count_of tables.now) }
+    ensures sound { S.honest → IfErr result IsMemoryOrShelf }
+    ensures told { Becomes (B.told blocks.old) (B.told blocks.new) }
+    ensures loan { B.loan blocks.new ≡ B.loan blocks.old }
+{
+    let bytes = size_of_level(registry, tables)?;
+    let entries = count_level(blocks, alloc, registry, tables)?;
+    Ok(Counts {
+        files: tables.len() as u64,
+        bytes,
+        entries,
+    })
+}
+
+/// Counts a level, and appends its line.
+#[tactic(auto, unfolding(crate::specs::Listing::level_line))]
+fn push_level<N: Naming, S: Shelf, B: Blocks<S>>(
+    out: &mut Vec<u8>,
+    blocks: &mut B,
+    alloc: Global,
+    registry: &Registry<S::Receipt>,
+    level: usize,
+    tables: &[TableRef<N, S>],
+) -> Result<(), DirectoryFault>
+    requires here { (B.told blocks.old).place ≡ N.place }
+    requires named { registry.now ≡ N.registry }
+    requires whole { S.honest → (t : Table) → Has tables.now t → IsWhole t }
+    ensures line { S.honest → OnOk result (out.new.items ≡ out.old.items ++ level_line level tables.now) }
+    ensures fault { IfErr result (IsReadFault S.honest) }
+    ensures told { Becomes (B.told blocks.old) (B.told blocks.new) }
+    ensures loan { B.loan blocks.new ≡ B.loan blocks.old }
+{
+    let counts = counts_of(blocks, alloc, registry, tables)?;
+    push_counts(out, level, counts)?;
+    Ok(())
+}
+
+/// A line for each level, the last sequence, and how many bytes at the end of the manifest hold no whole record.
+#[tactic(auto, unfolding(crate::specs::Listing::check_text), using(crate::proofs::ListLaws::level_more, crate::proofs::ListLaws::levels_none))]
+pub(crate) fn describe<N: Naming, S: Shelf, B: Blocks<S>>(
+    blocks: &mut B,
+    alloc: Global,
+    registry: &Registry<S::Receipt>,
+    version: &Version<N, S>,
+    rest: u64,
+) -> Result<Vec<u8>, DirectoryFault>
+    requires here { (B.told blocks.old).place ≡ N.place }
+    requires named { registry.now ≡ N.registry }
+    ensures text { S.honest → IfOk result (λ text. text.items ≡ check_text version.now rest) }
+    ensures fault { IfErr result (IsReadFault S.honest) }
+    ensures told { Becomes (B.told blocks.old) (B.told blocks.new) }
+    ensures loan { B.loan blocks.new ≡ B.loan blocks.old }
+{
+    let last = version.last();
+    let mut text = Vec::new(alloc);
+    for level in 0..7 {
+        push_level(
+            &mut text,
+            blocks,
+            alloc,
+            registry,
+            level,
+            version.level(level),
+        )?;
+    }
+    push_number(&mut text, b"last ", last)?;
+    push_number(&mut text, b"rest ", rest)?;
+    Ok(text)
+}

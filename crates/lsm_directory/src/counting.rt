@@ -1,0 +1,92 @@
+//! What a check counts.
+
+ghost use Rattle.std.specs.Prelude.{◌≡◌, ◌+◌, IfErr, IfOk, length};
+ghost use Rattle.lsm_codec.specs.Lists.{Has};
+ghost use Rattle.lsm_table.specs.Registry.{Table};
+ghost use Rattle.lsm_table.specs.HeldTable.{entries_in};
+ghost use Rattle.lsm_table.specs.ReadFault.{IsMemoryOrShelf};
+ghost use Rattle.lsm_table.specs.Told.{Becomes};
+ghost use Rattle.lsm_version.specs.Versions.{IsWhole};
+ghost use Rattle.lsm_directory.specs.Listing.{bytes_of, count_of};
+
+use lsm_reader::{Blocks, TableStream};
+use lsm_table::{Naming, ReadFault, Registry, Shelf, TableFault, TableRef};
+use std::alloc::Global;
+
+/// How many entries a table has: it is read block by block.
+fn count_entries<N: Naming, S: Shelf, B: Blocks<S>>(
+    blocks: &mut B,
+    alloc: Global,
+    registry: &Registry<S::Receipt>,
+    table: &TableRef<N, S>,
+) -> Result<u64, ReadFault>
+    requires here { (B.told blocks.old).place ≡ N.place }
+    requires named { registry.now ≡ N.registry }
+    requires whole { S.honest → IsWhole table.now }
+    ensures counted { S.honest → IfOk result (λ n. n ≡ length (entries_in table.now.image)) }
+    ensures sound { S.honest → IfErr result IsMemoryOrShelf }
+    ensures told { Becomes (B.told blocks.old) (B.told blocks.new) }
+    ensures loan { B.loan blocks.new ≡ B.loan blocks.old }
+{
+    let receipt = blocks.copy_receipt(&registry.record(table).receipt);
+    let mut entries: TableStream<N, S> = TableStream::open_by(blocks, alloc, receipt)?;
+    for count in 0..u64::MAX {
+        if entries.is_at_end() {
+            return Ok(count);
+        }
+        entries.advance_by(blocks, alloc)?;
+    }
+    // Only a shelf that is not honest could give so many.
+    Err(ReadFault::Table(TableFault::OutOfMemory))
+}
+
+/// A sum that stays within 64 bits. No shelf holds so much.
+fn sum_of(a: u64, b: u64) -> Result<u64, ReadFault>
+    ensures sum { IfOk result (λ n. n ≡ a + b) }
+    ensures fault { IfErr result IsMemoryOrShelf }
+{
+    match a.checked_add(b) {
+        Some(sum) => Ok(sum),
+        None => Err(ReadFault::Table(TableFault::OutOfMemory)),
+    }
+}
+
+/// How many entries the tables of a level have.
+#[tactic(auto, using(crate::proofs::ListLaws::sum_more, crate::proofs::ListLaws::sum_all))]
+pub(crate) fn count_level<N: Naming, S: Shelf, B: Blocks<S>>(
+    blocks: &mut B,
+    alloc: Global,
+    registry: &Registry<S::Receipt>,
+    tables: &[TableRef<N, S>],
+) -> Result<u64, ReadFault>
+    requires here { (B.told blocks.old).place ≡ N.place }
+    requires named { registry.now ≡ N.registry }
+    requires whole { S.honest → (t : Table) → Has tables.now t → IsWhole t }
+    ensures counted { S.honest → IfOk result (λ n. n ≡ count_of tables.now) }
+    ensures sound { S.honest → IfErr result IsMemoryOrShelf }
+    ensures told { Becomes (B.told blocks.old) (B.told blocks.new) }
+    ensures loan { B.loan blocks.new ≡ B.loan blocks.old }
+{
+    let mut count = 0;
+    for table in tables {
+        count = sum_of(count, count_entries(blocks, alloc, registry, table)?)?;
+    }
+    Ok(count)
+}
+
+/// How many bytes the tables of a level have.
+#[tactic(auto, using(crate::proofs::ListLaws::sum_more, crate::proofs::ListLaws::sum_all))]
+pub(crate) fn size_of_level<N: Naming, S: Shelf>(
+    registry: &Registry<S::Receipt>,
+    tables: &[TableRef<N, S>],
+) -> Result<u64, ReadFault>
+    requires named { registry.now ≡ N.registry }
+    ensures size { IfOk result (λ n. n ≡ bytes_of tables.now) }
+    ensures fault { IfErr result IsMemoryOrShelf }
+{
+    let mut size = 0;
+    for table in tables {
+        size = sum_of(size, registry.record(table).size())?;
+    }
+    Ok(size)
+}

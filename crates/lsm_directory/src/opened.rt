@@ -1,0 +1,44 @@
+//! A directory that is opened to be read.
+
+ghost use Rattle.std.specs.Prelude.{◌≡◌, IfErr, IfOk};
+ghost use Rattle.std.specs.Arc.{arc_value};
+ghost use Rattle.lsm_directory.specs.Directory.{Holds};
+ghost use Rattle.lsm_directory.specs.Opening.{IsOpenRefusal};
+
+use crate::directory_fault::DirectoryFault;
+use lsm_journal::Journal;
+use lsm_table::{Naming, Registry, Shelf};
+use lsm_version::Version;
+use std::alloc::Global;
+use std::sync::{Arc, Wait};
+
+/// A directory that is opened to be read: its version, and how many bytes at the end of its manifest hold no whole record.
+#[derive(Drop)]
+pub struct Opened<N: Naming, S: Shelf> {
+    pub version: Version<N, S>,
+    pub rest: u64,
+}
+
+/// Opens the directory of a shelf to read: reads the manifest that it names, and reads and judges every table. Nothing is written.
+///
+/// The refusals of `Journal::recover`, then those of `Version::check`.
+pub fn open<N: Naming, S: Shelf, R: Wait>(
+    rt: &R,
+    alloc: Global,
+    shelf: &mut S,
+    registry: Arc<Registry<S::Receipt>>,
+) -> Result<Opened<N, S>, DirectoryFault>
+    requires here { (S.told shelf.old).place ≡ N.place }
+    requires named { arc_value registry ≡ N.registry }
+    ensures opened { IfOk result (λ o. Holds S.honest (S.told shelf.new) o.version o.rest) }
+    ensures refused { IfErr result (λ e. IsOpenRefusal (λ number image. (r : S.Receipt) × S.is_of N.place r × (S.Receipt.number r ≡ number) × (S.Receipt.image r ≡ image)) S.honest e (S.told shelf.old) (S.told shelf.new)) }
+    ensures place { (S.told shelf.new).place ≡ N.place }
+{
+    // A journal that nothing is sent through has no use for its limit.
+    let found = Journal::recover(rt, alloc, shelf, u64::MAX)?;
+    let version = Version::check(shelf, rt, alloc, &found.shape, registry)?;
+    Ok(Opened {
+        version,
+        rest: found.rest,
+    })
+}

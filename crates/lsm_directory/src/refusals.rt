@@ -1,0 +1,83 @@
+//! Refusals of the parts of a directory, as they are printed.
+
+ghost use Rattle.std.specs.Prelude.{◌≡◌, Some};
+ghost use Rattle.std.specs.Option.{option_map};
+ghost use Rattle.lsm_commands.specs.FaultText.{refusal_text};
+ghost use Rattle.lsm_directory.specs.DirectoryFault.{check_text, read_text, recover_text, replay_text, shelf_text};
+
+use lsm_commands::Refusal;
+use lsm_journal::RecoverFault;
+use lsm_manifest::ReplayFault;
+use lsm_table::{ReadFault, ShelfFault};
+use lsm_version::CheckFault;
+
+/// A refusal of a shelf.
+fn of_shelf(fault: ShelfFault) -> Refusal
+    ensures { refusal_text result.number result.name.now result.field ≡ shelf_text fault }
+{
+    Refusal {
+        number: fault.number(),
+        name: fault.name(),
+        field: match fault {
+            ShelfFault::Taken(number) => Some(number),
+            ShelfFault::OutOfMemory | ShelfFault::Device | ShelfFault::Missing => None,
+        },
+    }
+}
+
+/// A refusal of a row of edits.
+fn of_replay(fault: ReplayFault) -> Refusal
+    ensures { refusal_text result.number result.name.now result.field ≡ replay_text fault }
+{
+    Refusal {
+        number: fault.number(),
+        name: fault.name(),
+        field: match fault {
+            ReplayFault::DoubleFile(number) => Some(number),
+            ReplayFault::OutOfMemory
+            | ReplayFault::NoNextFile
+            | ReplayFault::NoLogNumber
+            | ReplayFault::NoLastSequence
+            | ReplayFault::OtherComparator => None,
+        },
+    }
+}
+
+/// A refusal of a manifest.
+pub(crate) fn of_manifest(fault: RecoverFault) -> Refusal
+    ensures { refusal_text result.number result.name.now result.field ≡ recover_text fault }
+{
+    match fault {
+        RecoverFault::Shelf(fault) => of_shelf(fault),
+        RecoverFault::Log(fault) => Refusal::of_log(fault),
+        RecoverFault::Edit(fault) => Refusal::of_edit(fault),
+        RecoverFault::Replay(fault) => of_replay(fault),
+    }
+}
+
+/// A refusal of a table on a shelf.
+pub(crate) fn of_read(fault: ReadFault) -> Refusal
+    ensures { refusal_text result.number result.name.now result.field ≡ read_text fault }
+{
+    match fault {
+        ReadFault::Shelf(fault) => of_shelf(fault),
+        ReadFault::Table(fault) => Refusal::of_table(fault),
+    }
+}
+
+/// A refusal of tables that are no version; none where it names a key.
+pub(crate) fn of_tables(fault: &CheckFault) -> Option<Refusal>
+    ensures { option_map (λ r. refusal_text r.number r.name.now r.field) result ≡ check_text fault.now }
+{
+    let field = match fault {
+        CheckFault::Read(_, fault) => return Some(of_read(*fault)),
+        CheckFault::AgeOrder(_) => return None,
+        CheckFault::DoubleFile(number) | CheckFault::WrongRange(number) => *number,
+        CheckFault::Overlap(level) => u64::from(*level),
+    };
+    Some(Refusal {
+        number: fault.number(),
+        name: fault.name(),
+        field: Some(field),
+    })
+}
