@@ -1,7 +1,6 @@
 -- What an install leaves of the law of a state, and what its change of the version is to the plain machine.
-use Rattle.std.proofs.Common.{◌≡◌, ℕ, zero, suc, ◌+◌, ◌<◌, ◌≤◌, Bool, true, false, cond, not, ◌==◌, Option, Some, None, List, [], ◌∷◌, ◌++◌, length, map, refl, sym, ◌∙◌, ap, subst, inl, inr, arith, ◌⊎◌, ◌↔◌, All}
+use Rattle.std.proofs.Common.{◌≡◌, ℕ, zero, suc, ◌+◌, ◌<◌, ◌≤◌, Bool, true, false, cond, not, ◌==◌, Option, Some, List, [], ◌∷◌, ◌++◌, length, map, refl, sym, ◌∙◌, ap, subst, inl, inr, arith, ◌⊎◌, ◌↔◌, All}
 use Rattle.std.specs.Prelude.{MatchBool}
-use Rattle.std.specs.List.{list_any}
 use Rattle.std.specs.List.Sorted.{IsPermutation}
 use Rattle.std.proofs.lemmas.Bool.{cases_Bool, both_ways, eqb-true, eq-eqb}
 use Rattle.std.proofs.lemmas.List.Elements.{All-nil, All-cons}
@@ -15,7 +14,7 @@ use Rattle.lsm_codec.proofs.CallerLemmas.{any_at, any_says, contains_from, conta
 use Rattle.lsm_shelf.specs.Told.{Told}
 use Rattle.lsm_table.specs.Registry.{Table}
 use Rattle.lsm_levels.specs.Files.{File, Lie, all_entries}
-use Rattle.lsm_levels.specs.Jobs.{Changed, Job, Shares, is_input}
+use Rattle.lsm_levels.specs.Jobs.{Changed, Shares, is_input}
 use Rattle.lsm_levels.proofs.CallerLemmas.{in_order_split}
 use Rattle.lsm_manifest.specs.EditFit.{FitsDeleted, FitsKey}
 use Rattle.lsm_manifest.specs.Replay.{Deletion}

@@ -1,5 +1,5 @@
 -- What a reservation leaves of the law of a state.
-use Rattle.std.proofs.Common.{◌≡◌, ℕ, suc, ◌-◌, ◌^◌, ◌<◌, ◌≤◌, Bool, Option, Some, None, true, false, List, [], ◌∷◌, ◌++◌, length, refl, sym, ◌∙◌, ap, subst, inl, inr, arith, ◌⊎◌, ◌↔◌}
+use Rattle.std.proofs.Common.{◌≡◌, ℕ, suc, ◌-◌, ◌^◌, ◌<◌, ◌≤◌, Bool, Option, Some, true, false, List, [], ◌∷◌, ◌++◌, length, refl, sym, ◌∙◌, ap, subst, inl, inr, arith, ◌⊎◌, ◌↔◌}
 use Rattle.std.specs.Prelude.{Result, Ok, Err, MatchOption, IfErr, IfSome, IsErrAnd}
 use Rattle.std.proofs.lemmas.Bool.{both_ways}
 use Rattle.atomic_table.specs.Seated.{TableId}
@@ -14,7 +14,6 @@ use Rattle.lsm_machine.specs.Plain.{Live, Plain}
 use Rattle.lsm_machine.specs.Runs.{Reserve}
 use Rattle.lsm_version.specs.Versions.{IsSound, IsWhole, Levels, file_of, files}
 use Rattle.lsm_choice.specs.Choice.{IsChoice}
-use Rattle.lsm_choice.specs.RangesBelow.{AreRangesBelow}
 use Rattle.lsm_choice.specs.Reservations.{IsClear, IsLeastConflict, Reserved, conflicts, reserved_of}
 use Rattle.lsm_choice.specs.TablePlans.{IsPlanFrom, StandsIn, TablePlan, files_over, plan_of}
 use Rattle.lsm_choice.specs.TablePlans as planned

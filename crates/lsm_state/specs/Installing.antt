@@ -1,6 +1,6 @@
 -- Installs: the change that the result of a job makes, and why it is refused (LevelDB's `doc/impl.md`, "Compactions", and
 -- `Compaction::AddInputDeletions`; several jobs at a time are this project's rule).
-use Rattle.std.specs.Prelude.{◌≡◌, ℕ, suc, ◌-◌, ◌^◌, true, false, Bool, List, [], ◌∷◌, ◌++◌, ◌⊎◌, map, Option, Some, None}
+use Rattle.std.specs.Prelude.{◌≡◌, ℕ, suc, ◌-◌, ◌^◌, true, false, List, [], ◌∷◌, ◌++◌, ◌⊎◌, map, Option, Some, None}
 use Rattle.std.specs.List.Sorted.{IsPermutation}
 use Rattle.std.specs.Ordering.{is_gt}
 use Rattle.lsm_codec.specs.Entries.{answer}

@@ -1,4 +1,4 @@
-use Rattle.std.proofs.Common.{◌≡◌, ◌≤◌, ℕ, List, ◌∙◌, ap, sym, subst}
+use Rattle.std.proofs.Common.{◌≤◌, ℕ, List, ◌∙◌, ap, sym, subst}
 use Rattle.lsm_codec.specs.Lists.{Has}
 use Rattle.lsm_table.specs.Registry.{Table}
 use Rattle.lsm_manifest.specs.EditFit.{FitsKey}

@@ -1,13 +1,11 @@
 use Rattle.std.proofs.Common.{◌≡◌, suc, ◌+◌, [], ◌∷◌, ◌++◌, ◌∙◌, ap, sym, subst, arith}
-use Rattle.lsm_levels.specs.Files.{Lie}
-use Rattle.lsm_machine.specs.Law.{Law}
 use Rattle.lsm_choice.specs.Reservations.{IsClear}
 use Rattle.lsm_choice.specs.TablePlans.{StandsIn, TablePlan}
 use Rattle.lsm_merge.specs.Work.{Work}
-use Rattle.lsm_live.specs.Booked.{Booked, new_booked}
+use Rattle.lsm_live.specs.Booked.{new_booked}
 use Rattle.lsm_live.specs.Reserving.{reserved_jobs}
-use Rattle.lsm_state.specs.Held.{Held, plain}
-use Rattle.lsm_state.specs.Reserving.{IsClosedPlan, IsOfMoment, IsReserving, plan_in, reserved}
+use Rattle.lsm_state.specs.Held.{Held}
+use Rattle.lsm_state.specs.Reserving.{IsClosedPlan, IsOfMoment, IsReserving, reserved}
 use Rattle.lsm_state.proofs.ReserveLaws.{booked_is, booked_reserves, lawful_booked, lawful_reserved, newest_kept}
 use Rattle.lsm_state.proofs.state.State.book.Goals as goal
 

@@ -1,8 +1,6 @@
-use Rattle.std.proofs.Common.{◌≡◌, ◌++◌, List, ◌∙◌, ap, sym, subst}
-use Rattle.lsm_codec.specs.Lists.{Has}
-use Rattle.lsm_table.specs.Registry.{Table}
-use Rattle.lsm_version.specs.Versions.{IsSound, Levels}
-use Rattle.lsm_choice.specs.TablePlans.{StandsIn, TablePlan}
+use Rattle.std.proofs.Common.{◌≡◌, ◌∙◌, ap, subst}
+use Rattle.lsm_version.specs.Versions.{IsSound}
+use Rattle.lsm_choice.specs.TablePlans.{TablePlan}
 use Rattle.lsm_merge.specs.Work.{Work}
 use Rattle.lsm_state.specs.Held.{Held}
 use Rattle.lsm_state.proofs.ReserveLaws.{moves_by, whole_parts}
