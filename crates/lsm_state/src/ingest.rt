@@ -160,6 +160,7 @@ impl<N: Boarded, S: Shelf> State<N, S> {
         batch: &Batch,
     ) -> Result<Ingested, StateFault>
         requires here { (S.told shelf.old).place ≡ N.place }
+        ensures welcome { OnOk result (IsWelcome self.old batch.now) }
         ensures ok { IfOk result (λ r. Ingests self.old self.new batch.now r (S.told shelf.old) (S.told shelf.new)) }
         ensures event { OnOk result (machine.Ingests (plain self.old) (entries_of self.old batch.now) (plain self.new)) }
         ensures entries { OnOk result ((e : Entry) → Has (all_entries (files self.new.slots.version)) e ↔ (Has (entries_of self.old batch.now) e ⊎ Has (all_entries (files self.old.slots.version)) e)) }
