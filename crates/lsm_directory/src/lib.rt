@@ -1,7 +1,8 @@
 //! The commands of `lsm` on a directory: what each writes on standard output for what a shelf on it holds.
 //!
 //! Stands on `lsm_journal` and `lsm_version` to open a directory, on `lsm_reader` to count entries, and on `lsm_commands` for words
-//! and refusals. Its contract: `run` prints of the version that the manifest names, over any shelf, and writes nothing there.
+//! and refusals. Its contract: over an honest shelf a `run` that ends with 0 printed what its command asks of the version that the
+//! manifest names. That nothing is written there is to be read.
 #![tactic(auto)]
 
 // A run: a directory is opened, and asked.
