@@ -13,7 +13,7 @@ use Rattle.lsm_block.specs.Block.{Ascends}
 use Rattle.lsm_table.specs.Table.{IsTable}
 use Rattle.lsm_table.proofs.CallerLemmas.{key_cmp_total, data_ascends}
 use Rattle.lsm_levels.specs.Streams.{IsAscending}
-use Rattle.lsm_version.specs.CheckedFiles.{IsSpanned, starts_with, ends_with, spread, walked, walked_all}
+use Rattle.lsm_version.specs.CheckedFiles.{IsSpanned, starts_with, ends_at, ends_with, spread, walked, walked_all}
 
 -- ---- a table's entries ascend
 
@@ -59,16 +59,16 @@ begins_says key (e ∷ es) h = (e, es, refl, equal_says (internal_key e) key h)
 begins_from : (key : InternalKey) (es : List Entry) → Begins key es → starts_with key es ≡ true
 begins_from key es b = subst (λ (l : List Entry). starts_with key l ≡ true) (sym b.2) (equal_from (internal_key b.0) key b.3)
 
--- what the walk to the end says of an entry before it that has the key
-record IsEnd (last : ℕ) (key : InternalKey) (ends : Bool) (es : List Entry) : Type 0 where
+-- what the walk to the end says of the entry before it and of those on the way
+record IsEnd (last : ℕ) (key : InternalKey) (before : Option InternalKey) (es : List Entry) : Type 0 where
   reached : (e : Entry) → Has es e → e.seq ≤ last
-  end : ((es ≡ []) × (ends ≡ true)) ⊎ Ends key es
+  end : ((es ≡ []) × (ends_at key before ≡ true)) ⊎ Ends key es
 
-ends_says : (last : ℕ) (key : InternalKey) (ends : Bool) (es : List Entry) → ends_with last key ends es ≡ true → IsEnd last key ends es
-ends_says last key ends [] h = record { reached = λ e k. absurd k; end = inl (refl, h) }
-ends_says last key ends (e ∷ es) h =
-    let parts = and_parts (nat_le e.seq last) (ends_with last key (is_eq (key_cmp (internal_key e) key)) es) h in
-    let rest = ends_says last key (is_eq (key_cmp (internal_key e) key)) es parts.1 in
+ends_says : (last : ℕ) (key : InternalKey) (before : Option InternalKey) (es : List Entry) → ends_with last key before es ≡ true → IsEnd last key before es
+ends_says last key before [] h = record { reached = λ e k. absurd k; end = inl (refl, h) }
+ends_says last key before (e ∷ es) h =
+    let parts = and_parts (nat_le e.seq last) (ends_with last key (Some (internal_key e)) es) h in
+    let rest = ends_says last key (Some (internal_key e)) es parts.1 in
     record {
       reached = λ x k. elim k [ inl s ↦ subst (λ (z : Entry). z.seq ≤ last) s (leb-true e.seq last parts.0) | inr t ↦ rest.reached x t ];
       end = inr (elim rest.end [
@@ -77,23 +77,23 @@ ends_says last key ends (e ∷ es) h =
       ]);
     }
 
-ends_from_front : (last : ℕ) (key : InternalKey) (ends : Bool) (front : List Entry) (e : Entry) → ((x : Entry) → Has (front ++ e ∷ []) x → x.seq ≤ last) → internal_key e ≡ key → ends_with last key ends (front ++ e ∷ []) ≡ true
-ends_from_front last key ends [] e r k = and_from (nat_le e.seq last) (is_eq (key_cmp (internal_key e) key)) (le-leb e.seq last (r e (inl refl))) (equal_from (internal_key e) key k)
-ends_from_front last key ends (f ∷ front) e r k =
-    and_from (nat_le f.seq last) (ends_with last key (is_eq (key_cmp (internal_key f) key)) (front ++ e ∷ [])) (le-leb f.seq last (r f (inl refl)))
-    (ends_from_front last key (is_eq (key_cmp (internal_key f) key)) front e (λ x h. r x (inr h)) k)
+ends_from_front : (last : ℕ) (key : InternalKey) (before : Option InternalKey) (front : List Entry) (e : Entry) → ((x : Entry) → Has (front ++ e ∷ []) x → x.seq ≤ last) → internal_key e ≡ key → ends_with last key before (front ++ e ∷ []) ≡ true
+ends_from_front last key before [] e r k = and_from (nat_le e.seq last) (is_eq (key_cmp (internal_key e) key)) (le-leb e.seq last (r e (inl refl))) (equal_from (internal_key e) key k)
+ends_from_front last key before (f ∷ front) e r k =
+    and_from (nat_le f.seq last) (ends_with last key (Some (internal_key f)) (front ++ e ∷ [])) (le-leb f.seq last (r f (inl refl)))
+    (ends_from_front last key (Some (internal_key f)) front e (λ x h. r x (inr h)) k)
 
-ends_from : (last : ℕ) (key : InternalKey) (ends : Bool) (es : List Entry) → ((x : Entry) → Has es x → x.seq ≤ last) → Ends key es → ends_with last key ends es ≡ true
-ends_from last key ends es r d =
-    subst (λ (l : List Entry). ends_with last key ends l ≡ true) (sym d.2)
-    (ends_from_front last key ends d.0 d.1 (λ x h. r x (subst (λ (l : List Entry). Has l x) (sym d.2) h)) d.3)
+ends_from : (last : ℕ) (key : InternalKey) (before : Option InternalKey) (es : List Entry) → ((x : Entry) → Has es x → x.seq ≤ last) → Ends key es → ends_with last key before es ≡ true
+ends_from last key before es r d =
+    subst (λ (l : List Entry). ends_with last key before l ≡ true) (sym d.2)
+    (ends_from_front last key before d.0 d.1 (λ x h. r x (subst (λ (l : List Entry). Has l x) (sym d.2) h)) d.3)
 
 -- ---- a table between two keys
 
 pub spanned_says : (last : ℕ) (smallest largest : List ℕ) (es : List Entry) (first end : InternalKey) → IsKey smallest first → IsKey largest end → IsAscending es
-    → starts_with first es ≡ true → ends_with last end false es ≡ true → IsSpanned last smallest largest es
+    → starts_with first es ≡ true → ends_with last end None es ≡ true → IsSpanned last smallest largest es
 spanned_says last smallest largest es first end ks kl up b d =
-    let judged = ends_says last end false es d in
+    let judged = ends_says last end None es d in
     record {
       range = record { smallest = first; largest = end };
       first = ks;
@@ -109,8 +109,8 @@ spanned_says last smallest largest es first end ks kl up b d =
 pub spanned_begins : (last : ℕ) (smallest largest : List ℕ) (es : List Entry) (s : IsSpanned last smallest largest es) → starts_with s.range.smallest es ≡ true
 spanned_begins last smallest largest es s = begins_from s.range.smallest es s.spans.first
 
-pub spanned_ends : (last : ℕ) (smallest largest : List ℕ) (es : List Entry) (s : IsSpanned last smallest largest es) → ends_with last s.range.largest false es ≡ true
-spanned_ends last smallest largest es s = ends_from last s.range.largest false es s.reached s.spans.last
+pub spanned_ends : (last : ℕ) (smallest largest : List ℕ) (es : List Entry) (s : IsSpanned last smallest largest es) → ends_with last s.range.largest None es ≡ true
+spanned_ends last smallest largest es s = ends_from last s.range.largest None es s.reached s.spans.last
 
 -- ---- the sequences of a walk
 
@@ -143,38 +143,38 @@ sequences_of_one e = record {
 }
 
 -- what a walk that came to the end says
-record Walked (last : ℕ) (key : InternalKey) (ends : Bool) (front es : List Entry) (r : Sequences) : Type 0 where
-  test : ends_with last key ends es ≡ true
+record Walked (last : ℕ) (key : InternalKey) (before : Option InternalKey) (front es : List Entry) (r : Sequences) : Type 0 where
+  test : ends_with last key before es ≡ true
   sequences : AreSequencesOf (front ++ es) r
 
-walked_says : (last : ℕ) (key : InternalKey) (ends : Bool) (s : Sequences) (front es : List Entry) (r : Sequences) → AreSequencesOf front s → walked last key ends s es ≡ Some r → Walked last key ends front es r
-walked_says last key ends s front [] r a w = go ends w
+walked_says : (last : ℕ) (key : InternalKey) (before : Option InternalKey) (s : Sequences) (front es : List Entry) (r : Sequences) → AreSequencesOf front s → walked last key before s es ≡ Some r → Walked last key before front es r
+walked_says last key before s front [] r a w = go (ends_at key before) refl w
   where
-    go : (b : Bool) → cond b (Some s) None ≡ Some r → Walked last key b front [] r
-    go true e = record { test = refl; sequences = subst (λ (l : List Entry). AreSequencesOf l r) (sym (append-nil front)) (subst (AreSequencesOf front) (cc e) a) }
-    go false e = absurd (cc e)
-walked_says last key ends s front (e ∷ es) r a w =
-    go (nat_le e.seq last) refl w (walked_says last key (is_eq (key_cmp (internal_key e) key)) (spread s e.seq) (front ++ e ∷ []) es r (record_more front s e a))
+    go : (b : Bool) → ends_at key before ≡ b → cond b (Some s) None ≡ Some r → Walked last key before front [] r
+    go true at e = record { test = at; sequences = subst (λ (l : List Entry). AreSequencesOf l r) (sym (append-nil front)) (subst (AreSequencesOf front) (cc e) a) }
+    go false at e = absurd (cc e)
+walked_says last key before s front (e ∷ es) r a w =
+    go (nat_le e.seq last) refl w (walked_says last key (Some (internal_key e)) (spread s e.seq) (front ++ e ∷ []) es r (record_more front s e a))
   where
-    go : (b : Bool) → nat_le e.seq last ≡ b → cond b (walked last key (is_eq (key_cmp (internal_key e) key)) (spread s e.seq) es) None ≡ Some r
-        → (walked last key (is_eq (key_cmp (internal_key e) key)) (spread s e.seq) es ≡ Some r → Walked last key (is_eq (key_cmp (internal_key e) key)) (front ++ e ∷ []) es r)
-        → Walked last key ends front (e ∷ es) r
+    go : (b : Bool) → nat_le e.seq last ≡ b → cond b (walked last key (Some (internal_key e)) (spread s e.seq) es) None ≡ Some r
+        → (walked last key (Some (internal_key e)) (spread s e.seq) es ≡ Some r → Walked last key (Some (internal_key e)) (front ++ e ∷ []) es r)
+        → Walked last key before front (e ∷ es) r
     go true le h more =
         let rest = more h in
-        record { test = and_from (nat_le e.seq last) (ends_with last key (is_eq (key_cmp (internal_key e) key)) es) le rest.test; sequences = subst (λ (l : List Entry). AreSequencesOf l r) (append_assoc front (e ∷ []) es) rest.sequences }
+        record { test = and_from (nat_le e.seq last) (ends_with last key (Some (internal_key e)) es) le rest.test; sequences = subst (λ (l : List Entry). AreSequencesOf l r) (append_assoc front (e ∷ []) es) rest.sequences }
     go false le h more = absurd (cc h)
 
-walked_none : (last : ℕ) (key : InternalKey) (ends : Bool) (s : Sequences) (es : List Entry) → walked last key ends s es ≡ None → ends_with last key ends es ≡ false
-walked_none last key ends s [] w = go ends w
+walked_none : (last : ℕ) (key : InternalKey) (before : Option InternalKey) (s : Sequences) (es : List Entry) → walked last key before s es ≡ None → ends_with last key before es ≡ false
+walked_none last key before s [] w = go (ends_at key before) w
   where
     go : (b : Bool) → cond b (Some s) None ≡ None → b ≡ false
     go true e = absurd (cc e)
     go false e = refl
-walked_none last key ends s (e ∷ es) w = go (nat_le e.seq last) w (walked_none last key (is_eq (key_cmp (internal_key e) key)) (spread s e.seq) es)
+walked_none last key before s (e ∷ es) w = go (nat_le e.seq last) w (walked_none last key (Some (internal_key e)) (spread s e.seq) es)
   where
-    go : (b : Bool) → cond b (walked last key (is_eq (key_cmp (internal_key e) key)) (spread s e.seq) es) None ≡ None
-        → (walked last key (is_eq (key_cmp (internal_key e) key)) (spread s e.seq) es ≡ None → ends_with last key (is_eq (key_cmp (internal_key e) key)) es ≡ false)
-        → (b && ends_with last key (is_eq (key_cmp (internal_key e) key)) es) ≡ false
+    go : (b : Bool) → cond b (walked last key (Some (internal_key e)) (spread s e.seq) es) None ≡ None
+        → (walked last key (Some (internal_key e)) (spread s e.seq) es ≡ None → ends_with last key (Some (internal_key e)) es ≡ false)
+        → (b && ends_with last key (Some (internal_key e)) es) ≡ false
     go true h more = more h
     go false h more = refl
 
@@ -187,23 +187,23 @@ pub walk_says : (last : ℕ) (smallest largest : List ℕ) (es : List Entry) (fi
     → r ≡ walked_all last first end es → IsWalk last smallest largest es r
 walk_says last smallest largest es first end r ks kl same_first same_end up is = subst (IsWalk last smallest largest es) (sym is) (go es up)
   where
-    not_spanned : (es : List Entry) → ((starts_with first es && ends_with last end false es) ≡ true → ⊥) → IsSpanned last smallest largest es → ⊥
-    not_spanned es fails s = fails (and_from (starts_with first es) (ends_with last end false es)
+    not_spanned : (es : List Entry) → ((starts_with first es && ends_with last end None es) ≡ true → ⊥) → IsSpanned last smallest largest es → ⊥
+    not_spanned es fails s = fails (and_from (starts_with first es) (ends_with last end None es)
         (subst (λ (k : InternalKey). starts_with k es ≡ true) (sym (same_first s.range.smallest s.first)) (spanned_begins last smallest largest es s))
-        (subst (λ (k : InternalKey). ends_with last k false es ≡ true) (sym (same_end s.range.largest s.end)) (spanned_ends last smallest largest es s)))
+        (subst (λ (k : InternalKey). ends_with last k None es ≡ true) (sym (same_end s.range.largest s.end)) (spanned_ends last smallest largest es s)))
 
     go : (es : List Entry) → IsAscending es → IsWalk last smallest largest es (walked_all last first end es)
     go [] up = not_spanned [] (λ h. absurd (cc h))
     go (e ∷ es) up = begin (is_eq (key_cmp (internal_key e) first)) (nat_le e.seq last) refl refl
       where
-        on : Bool
-        on = is_eq (key_cmp (internal_key e) end)
+        on : Option InternalKey
+        on = Some (internal_key e)
 
         one : Sequences
         one = record { least = e.seq; greatest = e.seq }
 
         finish : (o : Option Sequences) → walked last end on one es ≡ o → is_eq (key_cmp (internal_key e) first) ≡ true → nat_le e.seq last ≡ true → IsWalk last smallest largest (e ∷ es) o
-        finish None w b l = not_spanned (e ∷ es) (λ h. (let ends = walked_none last end on one es w in let parts = and_parts (starts_with first (e ∷ es)) (ends_with last end false (e ∷ es)) h in
+        finish None w b l = not_spanned (e ∷ es) (λ h. (let ends = walked_none last end on one es w in let parts = and_parts (starts_with first (e ∷ es)) (ends_with last end None (e ∷ es)) h in
             let rest = and_parts (nat_le e.seq last) (ends_with last end on es) parts.1 in absurd (cc (ends, rest.1))))
         finish (Some s) w b l =
             let r = walked_says last end on one (e ∷ []) es s (sequences_of_one e) w in (
@@ -213,6 +213,6 @@ walk_says last smallest largest es first end r ks kl same_first same_end up is =
 
         begin : (b l : Bool) → is_eq (key_cmp (internal_key e) first) ≡ b → nat_le e.seq last ≡ l → IsWalk last smallest largest (e ∷ es) (cond (b && l) (walked last end on one es) None)
         begin true true eb el = finish (walked last end on one es) refl eb el
-        begin true false eb el = not_spanned (e ∷ es) (λ h. (let parts = and_parts (starts_with first (e ∷ es)) (ends_with last end false (e ∷ es)) h in
+        begin true false eb el = not_spanned (e ∷ es) (λ h. (let parts = and_parts (starts_with first (e ∷ es)) (ends_with last end None (e ∷ es)) h in
             let rest = and_parts (nat_le e.seq last) (ends_with last end on es) parts.1 in absurd (cc (el, rest.0))))
-        begin false l eb el = not_spanned (e ∷ es) (λ h. (let parts = and_parts (starts_with first (e ∷ es)) (ends_with last end false (e ∷ es)) h in absurd (cc (eb, parts.0))))
+        begin false l eb el = not_spanned (e ∷ es) (λ h. (let parts = and_parts (starts_with first (e ∷ es)) (ends_with last end None (e ∷ es)) h in absurd (cc (eb, parts.0))))

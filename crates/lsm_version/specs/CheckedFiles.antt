@@ -40,22 +40,27 @@ abbrev pub starts_with : InternalKey → List Entry → Bool
 starts_with key [] = false
 starts_with key (e ∷ es) = is_eq (key_cmp (internal_key e) key)
 
--- no entry is above the last sequence, and the last one has this key; `ends` stands for the entry before
-abbrev pub ends_with : ℕ → InternalKey → Bool → List Entry → Bool
-ends_with last key ends [] = ends
-ends_with last key ends (e ∷ es) = nat_le e.seq last && ends_with last key (is_eq (key_cmp (internal_key e) key)) es
+-- the entry has this key, if there is one
+abbrev pub ends_at : InternalKey → Option InternalKey → Bool
+ends_at key None = false
+ends_at key (Some own) = is_eq (key_cmp own key)
+
+-- no entry is above the last sequence, and the last one has this key; `before` is the key of the entry before, if there is one
+abbrev pub ends_with : ℕ → InternalKey → Option InternalKey → List Entry → Bool
+ends_with last key before [] = ends_at key before
+ends_with last key before (e ∷ es) = nat_le e.seq last && ends_with last key (Some (internal_key e)) es
 
 -- the least and the greatest sequence with one more
 abbrev pub spread : Sequences → ℕ → Sequences
 spread s seq = record { least = min s.least seq; greatest = max s.greatest seq }
 
 -- The same walk with the sequences of the entries before: none where the test fails.
-abbrev pub walked : ℕ → InternalKey → Bool → Sequences → List Entry → Option Sequences
-walked last key ends s [] = cond ends (Some s) None
-walked last key ends s (e ∷ es) = cond (nat_le e.seq last) (walked last key (is_eq (key_cmp (internal_key e) key)) (spread s e.seq) es) None
+abbrev pub walked : ℕ → InternalKey → Option InternalKey → Sequences → List Entry → Option Sequences
+walked last key before s [] = cond (ends_at key before) (Some s) None
+walked last key before s (e ∷ es) = cond (nat_le e.seq last) (walked last key (Some (internal_key e)) (spread s e.seq) es) None
 
 -- and from the first entry on, which has to have the first key
 abbrev pub walked_all : ℕ → InternalKey → InternalKey → List Entry → Option Sequences
 walked_all last first end [] = None
 walked_all last first end (e ∷ es) =
-    cond (is_eq (key_cmp (internal_key e) first) && nat_le e.seq last) (walked last end (is_eq (key_cmp (internal_key e) end)) (record { least = e.seq; greatest = e.seq }) es) None
+    cond (is_eq (key_cmp (internal_key e) first) && nat_le e.seq last) (walked last end (Some (internal_key e)) (record { least = e.seq; greatest = e.seq }) es) None

@@ -4,7 +4,7 @@ ghost use Rattle.std.specs.Prelude.{◌≡◌, IfOk, MatchOption, OnErr};
 ghost use Rattle.std.specs.Option.{option_map};
 ghost use Rattle.lsm_codec.specs.KeyRef.{key_of};
 ghost use Rattle.lsm_table.specs.HeldTable.{Steps};
-ghost use Rattle.lsm_version.specs.CheckedFiles.{IsSpanned, walked, walked_all};
+ghost use Rattle.lsm_version.specs.CheckedFiles.{IsSpanned, ends_at, walked, walked_all};
 ghost use Rattle.lsm_version.specs.Settled.{AreSequencesOf};
 ghost use Rattle.lsm_levels.specs.Streams.{IsAscending};
 
@@ -24,18 +24,26 @@ fn step<'t>(entries: &mut TableIter<'t>) -> Result<Option<&'t [u8]>, AllocError>
     }
 }
 
+/// Whether the entry that was given last, if one was, has this key.
+fn ends_at(entries: &TableIter<'_>, end: &KeyRef<'_>) -> bool
+    ensures { result ≡ ends_at (key_of end.now) entries.now.last }
+{
+    match entries.key() {
+        None => false,
+        Some(here) => here.compare(end).is_eq(),
+    }
+}
+
 /// Walks to the end of a table: the sequences with those of the entries that are left, where the last entry has this key, and none is
-/// above the last sequence. `ends` says whether the entry before has the key.
+/// above the last sequence. An entry costs its own bytes: of whole keys just the last one is compared.
 fn walk_on(
     entries: &mut TableIter<'_>,
     end: &KeyRef<'_>,
     last: u64,
-    ends: bool,
     sequences: Sequences,
 ) -> Result<Option<Sequences>, AllocError>
-    ensures { IfOk result (λ r. r ≡ walked last (key_of end.now) ends sequences entries.old.left) }
+    ensures { IfOk result (λ r. r ≡ walked last (key_of end.now) entries.old.last sequences entries.old.left) }
 {
-    let mut ends = ends;
     let mut sequences = sequences;
     while let Some(_value) = step(entries)? {
         let Some(here) = entries.key() else {
@@ -44,10 +52,13 @@ fn walk_on(
         if here.seq > last {
             return Ok(None);
         }
-        ends = here.compare(end).is_eq();
         sequences = sequences.with(here.seq);
     }
-    if ends { Ok(Some(sequences)) } else { Ok(None) }
+    if ends_at(&*entries, end) {
+        Ok(Some(sequences))
+    } else {
+        Ok(None)
+    }
 }
 
 /// The same from the first entry on, which has to have the first key.
@@ -71,9 +82,8 @@ fn walk(
     if !begins {
         return Ok(None);
     }
-    let ends = here.compare(end).is_eq();
     let sequences = Sequences::of(here.seq);
-    walk_on(&mut entries, end, last, ends, sequences)
+    walk_on(&mut entries, end, last, sequences)
 }
 
 /// The sequences of a table, in one walk through it, where it begins and ends at these internal keys and has no entry above the last
