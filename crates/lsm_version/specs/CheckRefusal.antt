@@ -5,13 +5,12 @@ use Rattle.lsm_codec.specs.Keys.{UserKey, UserLe}
 use Rattle.lsm_codec.specs.Entries.{Entry}
 use Rattle.lsm_table.specs.Registry.{Table}
 use Rattle.lsm_table.specs.ReadFault.{IsMemoryOrShelf}
-use Rattle.lsm_table.specs.declared.read_fault.ReadFault.{ReadFault}
 use Rattle.lsm_manifest.specs.declared.shape.Shape.{Shape}
 use Rattle.lsm_version.specs.declared.check.check_fault.CheckFault.{CheckFault}
 use Rattle.lsm_version.specs.declared.check.check_fault.CheckFault.TheVariants.{Read, DoubleFile, Overlap, WrongRange, AgeOrder}
 use Rattle.lsm_levels.specs.Files.{File, Shallower}
 use Rattle.lsm_version.specs.FileNumbers.{AreDistinct, IsLeastTwice, numbers_of}
-use Rattle.lsm_version.specs.FileRefusal.{IsWant, IsFilesRefusal, NamesOne}
+use Rattle.lsm_version.specs.FileRefusal.{IsFilesRefusal, NamesNone, NamesOne}
 use Rattle.lsm_version.specs.LevelLayouts.{IsLayoutRefusal, LieInOrder}
 use Rattle.lsm_version.specs.Loading.{AreLevelsOf, AreLevelsStored, all_files, placed_levels}
 use Rattle.lsm_version.specs.Settled.{IsOneUnsettled, IsSettled}
@@ -47,14 +46,14 @@ pub record IsLeastAgainst (v : List File) (k : UserKey) : Type 0 where
 
 -- the refusals of the numbers of files
 abbrev pub IsNumberRefusal : List ℕ → CheckFault → Type 0
-IsNumberRefusal numbers (Read file fault) = IsWant fault
+IsNumberRefusal numbers (Read file fault) = NamesNone file fault
 IsNumberRefusal numbers (DoubleFile number) = IsLeastTwice numbers number
 IsNumberRefusal numbers (Overlap level) = ⊥
 IsNumberRefusal numbers (WrongRange number) = ⊥
 IsNumberRefusal numbers (AgeOrder user) = ⊥
 
 -- Of files of which ranges and sequences alone don't settle the age order, tables are read a second time. Where that is refused, the
--- file of such a table is named, or memory ran out; over an honest shelf it is refused by the shelf or for want of memory alone, or for
+-- file of such a table is named, or memory ran out and none is; over an honest shelf it is refused by the shelf or for want of memory alone, or for
 -- the least user key against age.
 abbrev pub IsAgeRefusal : Type 0 → List File → CheckFault → Type 0
 IsAgeRefusal Honest v (Read file fault) = NamesOne (IsOneUnsettled v) file fault × (Honest → IsMemoryOrShelf fault)
@@ -67,13 +66,13 @@ IsAgeRefusal Honest v (WrongRange number) = ⊥
 abbrev pub IsAgainRefusal : (ℕ → List ℕ → Type 0) → Type 0 → Shape → CheckFault → Type 0
 IsAgainRefusal Stored Honest shape fault = (tables : List (List Table)) × AreTablesOf Stored shape tables × LieInOrder tables × IsAgeRefusal Honest (files_from 0 tables) fault
 
--- `Stored` says which images the shelf holds under which numbers, `Honest` that its later reads give these. Memory ran out; or two
--- files have one number; or a file is refused; or the tables of all files were read, and a level from 1 on is refused; or no level
+-- `Stored` says which images the shelf holds under which numbers, `Honest` that its later reads give these. Memory ran out beside the files, and
+-- none is named; or two files have one number; or a file is refused; or the tables of all files were read, and a level from 1 on is refused; or no level
 -- is, ranges and sequences alone don't settle the age order, and a second look at the tables is refused, or finds a key against age.
 abbrev pub IsRefusal : (ℕ → List ℕ → Type 0) → Type 0 → Shape → CheckFault → Type 0
 IsRefusal Stored Honest shape (DoubleFile number) = IsLeastTwice (numbers_of shape.levels) number
 IsRefusal Stored Honest shape (Read file fault) =
-    IsWant fault ⊎ ((AreDistinct (numbers_of shape.levels) × IsFilesRefusal Stored shape.last (all_files shape.levels) (Read file fault)) ⊎ IsAgainRefusal Stored Honest shape (Read file fault))
+    NamesNone file fault ⊎ ((AreDistinct (numbers_of shape.levels) × IsFilesRefusal Stored shape.last (all_files shape.levels) (Read file fault)) ⊎ IsAgainRefusal Stored Honest shape (Read file fault))
 IsRefusal Stored Honest shape (WrongRange number) = AreDistinct (numbers_of shape.levels) × IsFilesRefusal Stored shape.last (all_files shape.levels) (WrongRange number)
 IsRefusal Stored Honest shape (Overlap level) = (tables : List (List Table)) × AreTablesOf Stored shape tables × IsLayoutRefusal tables (Overlap level)
 IsRefusal Stored Honest shape (AgeOrder user) = IsAgainRefusal Stored Honest shape (AgeOrder user)

@@ -13,12 +13,12 @@ use Rattle.lsm_version.specs.declared.check.check_fault.CheckFault.{CheckFault}
 use Rattle.lsm_version.specs.declared.check.check_fault.CheckFault.TheVariants.{Read, DoubleFile, Overlap, WrongRange, AgeOrder}
 use Rattle.lsm_version.specs.CheckedFiles.{IsImageOf}
 
--- `Stored` says which images the shelf holds under the file's number. The shelf refused, or memory ran out; or a stored image is
--- no table; or it is a table, and not the file's. Each refusal but want of memory names the file's number.
+-- `Stored` says which images the shelf holds under the file's number, which each refusal names: the shelf refused, or memory ran out; or a
+-- stored image is no table; or it is a table, and not the file's.
 abbrev pub IsFileRefusal : (List ℕ → Type 0) → ℕ → TableFile → CheckFault → Type 0
 IsFileRefusal Stored last file (Read number (Shelf fault)) = number ≡ Some file.number
 IsFileRefusal Stored last file (Read number (Table fault)) =
-    is_memory fault ≡ false → (number ≡ Some file.number) × ((image : List ℕ) × Stored image × (table_at image ≡ Err fault))
+    (number ≡ Some file.number) × (is_memory fault ≡ false → (image : List ℕ) × Stored image × (table_at image ≡ Err fault))
 IsFileRefusal Stored last file (WrongRange number) =
     (number ≡ file.number) × ((image : List ℕ) × Stored image × IsTable image (entries_in image) × (IsImageOf last file image → ⊥))
 IsFileRefusal Stored last file (DoubleFile number) = ⊥
@@ -35,9 +35,13 @@ abbrev pub NamesOne : (ℕ → Type 0) → Option ℕ → ReadFault → Type 0
 NamesOne P None fault = IsWant fault
 NamesOne P (Some number) fault = P number
 
--- memory ran out
+-- Memory ran out beside the files, and none is named.
+abbrev pub NamesNone : Option ℕ → ReadFault → Type 0
+NamesNone None fault = IsWant fault
+NamesNone (Some number) fault = ⊥
+
 abbrev pub IsMemoryRefusal : CheckFault → Type 0
-IsMemoryRefusal (Read number fault) = IsWant fault
+IsMemoryRefusal (Read number fault) = NamesNone number fault
 IsMemoryRefusal (WrongRange number) = ⊥
 IsMemoryRefusal (DoubleFile number) = ⊥
 IsMemoryRefusal (Overlap level) = ⊥
@@ -47,7 +51,7 @@ IsMemoryRefusal (AgeOrder user) = ⊥
 abbrev pub IsGood : (ℕ → List ℕ → Type 0) → ℕ → TableFile → Type 0
 IsGood Stored last file = (image : List ℕ) × Stored file.number image × IsImageOf last file image
 
--- memory ran out, or one of the files is refused, and each one before it is good
+-- memory ran out beside the files, or one of them is refused, and each one before it is good
 abbrev pub IsFilesRefusal : (ℕ → List ℕ → Type 0) → ℕ → List TableFile → CheckFault → Type 0
 IsFilesRefusal Stored last files fault = IsMemoryRefusal fault
     ⊎ ((front : List TableFile) × (file : TableFile) × (back : List TableFile) × (files ≡ front ++ file ∷ back)

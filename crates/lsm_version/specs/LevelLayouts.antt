@@ -8,7 +8,7 @@ use Rattle.lsm_levels.specs.declared.key_range.Layout.{Layout}
 use Rattle.lsm_levels.specs.declared.key_range.Layout.TheVariants as layout
 use Rattle.lsm_version.specs.declared.check.check_fault.CheckFault.{CheckFault}
 use Rattle.lsm_version.specs.declared.check.check_fault.CheckFault.TheVariants.{Read, DoubleFile, Overlap, WrongRange, AgeOrder}
-use Rattle.lsm_version.specs.FileRefusal.{IsWant}
+use Rattle.lsm_version.specs.FileRefusal.{NamesNone}
 
 -- each record stands for a table
 abbrev pub AreWhole : List Table → Type 0
@@ -36,7 +36,7 @@ MeetNowhere ts = LieAs ts layout.Shared ⊎ LieAs ts layout.Apart
 
 -- The least level from 1 on with two tables that meet in internal keys.
 abbrev pub IsLayoutRefusal : List (List Table) → CheckFault → Type 0
-IsLayoutRefusal levels (Read number fault) = IsWant fault
+IsLayoutRefusal levels (Read number fault) = NamesNone number fault
 IsLayoutRefusal levels (Overlap level) = (1 ≤ level) × (level ≤ 6) × LieAs (level_in levels level) layout.Overlap × ((n : ℕ) → 1 ≤ n → n < level → MeetNowhere (level_in levels n))
 IsLayoutRefusal levels (DoubleFile number) = ⊥
 IsLayoutRefusal levels (WrongRange number) = ⊥

@@ -71,16 +71,16 @@ impl<N: Naming, S: Shelf> Version<N, S> {
     /// honest one does.
     ///
     /// `DoubleFile` with the least number that two files have; then the files by level, and in a level in the order of the shape: the
-    /// shelf's refusals and those of a table, with the file's number, and `WrongRange` where a table has another size, another first
-    /// or last internal key than the shape says, no entries, or an entry above the last sequence; then `Overlap` with the least level
-    /// from 1 on in which two files meet in internal keys (a user key may go on in the next file of a level); then, where a second
-    /// look is needed, the shelf's refusals and those of a table with the number of one of the files that are not settled, or `AgeOrder`
-    /// with the least user key of which a deeper entry has no lesser sequence than a shallower one (that a
-    /// key's entries are newer the shallower they lie is what LevelDB's `doc/impl.md` builds on; that a database which breaks it is
-    /// refused is this project's rule).
+    /// shelf's refusals, those of a table, and want of memory over it, with the file's number, and `WrongRange` where a table has another
+    /// size, another first or last internal key than the shape says, no entries, or an entry above the last sequence; then `Overlap` with
+    /// the least level from 1 on in which two files meet in internal keys (a user key may go on in the next file of a level); then, where
+    /// a second look is needed, the shelf's refusals and those of a table with the number of one of the files that are not settled, or
+    /// `AgeOrder` with the least user key of which a deeper entry has no lesser sequence than a shallower one (that a key's entries are
+    /// newer the shallower they lie is what LevelDB's `doc/impl.md` builds on; that a database which breaks it is refused is this
+    /// project's rule). Want of memory beside the tables names no file.
     ///
-    /// Time: one walk through each table; for each file a search in each deeper level, and a look at the files there that its range
-    /// meets; of level 0 each file is looked at with each other one.
+    /// Time: one walk through each table, by its bytes; for each file a search in each deeper level, and a look at the files there that
+    /// its range meets; of level 0 each file is looked at with each other one. A second look is a merge, and takes a merge's time.
     pub fn check<R: Wait>(
         shelf: &mut S,
         rt: &R,

@@ -12,8 +12,8 @@ use thiserror::Error;
 /// Why the tables of a shape are no version.
 #[derive(Debug, Drop, Error)]
 pub enum CheckFault {
-    /// The table of the file of this number could not be read: the shelf refused, the bytes are no table, or memory ran out. No number
-    /// is named where memory ran out beside a file.
+    /// The table of the file of this number could not be read: the shelf refused, the bytes are no table, or memory ran out over it. No
+    /// number is named where memory ran out beside the tables: over lists of files, their places in a level, or pointers.
     #[error("{1}")]
     Read(Option<u64>, ReadFault),
     /// Two files have this number.

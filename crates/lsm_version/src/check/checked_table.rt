@@ -4,6 +4,7 @@ ghost use Rattle.std.specs.Prelude.{◌≡◌, IfErr, IfOk, MatchOption, Some};
 ghost use Rattle.lsm_version.specs.declared.check.check_fault.CheckFault.TheVariants.{Read};
 ghost use Rattle.lsm_table.specs.HeldTable.{entries_in};
 ghost use Rattle.lsm_table.specs.Told.{Becomes};
+ghost use Rattle.lsm_table.specs.ReadFault.{out_of_memory};
 ghost use Rattle.lsm_version.specs.CheckFault.{CheckCounted};
 ghost use Rattle.lsm_version.specs.CheckedFiles.{IsImageOf, IsSpanned};
 ghost use Rattle.lsm_version.specs.FileRefusal.{IsFileRefusal};
@@ -15,7 +16,7 @@ use crate::check::sequences::Sequences;
 use crate::check::span::sequences_of;
 use crate::copies::copy_of;
 use lsm_manifest::FileMeta;
-use lsm_table::{Naming, ReadFault, Registry, Shelf, Table, TableRecord, TableRef};
+use lsm_table::{Naming, ReadFault, Registry, Shelf, Table, TableFault, TableRecord, TableRef};
 use std::alloc::{AllocError, Global};
 use std::sync::Wait;
 
@@ -49,6 +50,13 @@ fn unread(file: &FileMeta, fault: ReadFault) -> CheckFault
     CheckFault::Read(Some(file.number), fault)
 }
 
+/// Memory ran out over the table of this file.
+pub(crate) fn want(file: &FileMeta) -> CheckFault
+    ensures { result ≡ Read (Some file.now.number) out_of_memory }
+{
+    unread(file, ReadFault::Table(TableFault::OutOfMemory))
+}
+
 /// Reads the table of a file, and judges whether it is the file's. Its image is given back before the next one is read: a receipt and
 /// the sequences stay.
 pub(crate) fn read_table<S: Shelf, R: Wait>(
@@ -73,9 +81,10 @@ pub(crate) fn read_table<S: Shelf, R: Wait>(
         Ok(table) => table,
         Err(fault) => return Err(unread(file, ReadFault::from(fault))),
     };
-    match sequences_in(alloc, file, size, &table, last)? {
-        Some(sequences) => Ok((receipt, sequences)),
-        None => Err(CheckFault::WrongRange(file.number)),
+    match sequences_in(alloc, file, size, &table, last) {
+        Ok(Some(sequences)) => Ok((receipt, sequences)),
+        Ok(None) => Err(CheckFault::WrongRange(file.number)),
+        Err(AllocError) => Err(want(file)),
     }
 }
 

@@ -13,7 +13,7 @@ ghost use Rattle.lsm_version.specs.Settled.{AreSequences, AreSequencesOf};
 ghost use Rattle.lsm_version.specs.Versions.{AreInOrder, stands_before};
 
 use crate::check::check_fault::CheckFault;
-use crate::check::checked_table::{read_table, record_table};
+use crate::check::checked_table::{read_table, record_table, want};
 use crate::check::sequences::Sequences;
 use crate::ordered_level::place_in;
 use lsm_codec::List;
@@ -41,8 +41,10 @@ fn load_file<N: Naming, S: Shelf, R: Wait>(
     ensures cause { IfErr result (λ e. CheckCounted e (S.told shelf.old) (S.told shelf.new)) }
 {
     let (receipt, sequences) = read_table(shelf, rt, alloc, file, last)?;
-    let record = record_table(rt, alloc, registry, file, receipt)?;
-    Ok((record, sequences))
+    match record_table(rt, alloc, registry, file, receipt) {
+        Ok(record) => Ok((record, sequences)),
+        Err(AllocError) => Err(want(file)),
+    }
 }
 
 /// Puts a table into its place in a level, and its sequences into the same place.

@@ -10,23 +10,23 @@ use Rattle.lsm_version.proofs.check.checked_table.read_table.Goals as goal
 pub sequences_in-requires : goal.sequences_in-requires
 sequences_in-requires g c = table_ascends c.in-Ok.loaded.1.items c.in-Ok-check.table c.in-Ok-check.ensures.found
 
-pub returns-in-Some-clause-image : goal.returns-in-Some-clause-image
-returns-in-Some-clause-image g c =
+pub returns-in-Ok-Some-clause-image : goal.returns-in-Ok-Some-clause-image
+returns-in-Ok-Some-clause-image g c =
     let bytes = c.in-Ok.loaded.1.items in
     let from = c.in-Ok.ensures.receipt in
     let long : c.len-size.result ≡ length bytes = search rules in
-    let judged : (c.len-size.result ≡ c.args.file.now.size) × IsSpanned c.args.last c.args.file.now.smallest c.args.file.now.largest c.in-Ok-check.table × AreSequencesOf c.in-Ok-check.table c.in-Some.sequences =
-    rw c.in-Some.is at c.in_ok-sequences.ensures in (
+    let judged : (c.len-size.result ≡ c.args.file.now.size) × IsSpanned c.args.last c.args.file.now.smallest c.args.file.now.largest c.in-Ok-check.table × AreSequencesOf c.in-Ok-check.table c.in-Ok-Some.sequences =
+    rw c.in-Ok-Some.field-0-is at c.in-Ok-Some.ensures in (
       subst (IsImageOf c.args.last c.args.file.now) (sym from.1) (image_says c.args.last c.args.file.now bytes c.in-Ok-check.table c.len-size.result c.in-Ok-check.ensures.found long judged.0 judged.1),
-      subst (λ (es : List Entry). AreSequencesOf es c.in-Some.sequences) (held_as bytes c.in-Ok-check.table c.in-Ok-check.ensures.found ∙ ap entries_in (sym from.1)) judged.2,
+      subst (λ (es : List Entry). AreSequencesOf es c.in-Ok-Some.sequences) (held_as bytes c.in-Ok-check.table c.in-Ok-check.ensures.found ∙ ap entries_in (sym from.1)) judged.2,
     )
 
-pub returns-in-None-clause-refused : goal.returns-in-None-clause-refused
-returns-in-None-clause-refused g c =
+pub returns-in-Ok-None-clause-refused : goal.returns-in-Ok-None-clause-refused
+returns-in-Ok-None-clause-refused g c =
     let bytes = c.in-Ok.loaded.1.items in
     let from = c.in-Ok.ensures.receipt in
     let long : c.len-size.result ≡ length bytes = search rules in
-    let fails : (c.len-size.result ≡ c.args.file.now.size) × IsSpanned c.args.last c.args.file.now.smallest c.args.file.now.largest c.in-Ok-check.table → ⊥ = rw c.in-None.is at c.in_ok-sequences.ensures in (
+    let fails : (c.len-size.result ≡ c.args.file.now.size) × IsSpanned c.args.last c.args.file.now.smallest c.args.file.now.largest c.in-Ok-check.table → ⊥ = rw c.in-Ok-None.field-0-is at c.in-Ok-None.ensures in (
       refl,
       (
         bytes,
