@@ -1,5 +1,7 @@
 //! What a merge comes to, by plain loops over all of its entries in order.
 
+ghost use Rattle.std.specs.Prelude.{◌≤◌};
+
 use crate::cases::{Described, Row};
 use lsm_codec::Kind;
 use std::alloc::{AllocError, Global};
