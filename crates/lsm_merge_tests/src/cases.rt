@@ -1,6 +1,6 @@
 //! Jobs over tables that a test describes.
 
-ghost use Rattle.std.specs.Prelude.{◌≡◌, ◌≤◌, ◌∷◌, IfOk};
+ghost use Rattle.std.specs.Prelude.{◌≡◌, ◌≤◌, [], ◌∷◌, IfOk};
 ghost use Rattle.std.specs.Arc.{arc_value};
 ghost use Rattle.lsm_table.specs.Options.{AreInRange};
 ghost use Rattle.lsm_version.specs.Versions.{IsWhole};
@@ -343,12 +343,24 @@ fn first_of<N: Naming, S: Shelf>(version: &Version<N, S>) -> Result<TableRef<N, 
     }
 }
 
+fn alone<N: Naming, S: Shelf>(
+    alloc: Global,
+    table: &TableRef<N, S>,
+) -> Result<Vec<TableRef<N, S>>, AllocError>
+    ensures { IfOk result (λ v. v.items ≡ table.now ∷ []) }
+{
+    let mut tables = Vec::new(alloc);
+    tables.push(table.again())?;
+    Ok(tables)
+}
+
 /// The move of the first table of level 1.
 pub(crate) fn move_of<N: Naming, S: Shelf>(
     alloc: Global,
     version: &Version<N, S>,
 ) -> Result<Job<N, S>, Fail> {
-    let upper = vec![in alloc; first_of(version)?]?;
+    let table = first_of(version)?;
+    let upper = alone(alloc, &table)?;
     Ok(Job::of(parts_of(alloc, upper, Vec::new(alloc), true)))
 }
 
@@ -358,8 +370,8 @@ pub(crate) fn twice_of<N: Naming, S: Shelf>(
     version: &Version<N, S>,
 ) -> Result<Job<N, S>, Fail> {
     let table = first_of(version)?;
-    let upper = vec![in alloc; table.again()]?;
-    let lower = vec![in alloc; table]?;
+    let upper = alone(alloc, &table)?;
+    let lower = alone(alloc, &table)?;
     Ok(Job::of(parts_of(alloc, upper, lower, false)))
 }
 

@@ -24,10 +24,10 @@ pub(crate) struct Drawn {
 /// Entries of the sequences 1 to 30: the newer one of a key never lies deeper.
 pub(crate) fn draw_entries(alloc: Global, draw: &mut Pcg32) -> Result<Vec<Laid>, AllocError> {
     let mut entries = Vec::new(alloc);
-    let mut depth = 0;
+    let mut depth = 0usize;
     for seq in 1..=30u8 {
-        if draw.next_word() % 6 == 0 {
-            depth = (depth + 1).min(8);
+        if draw.next_word() % 6 == 0 && depth < 8 {
+            depth += 1;
         }
         let user = USERS[(draw.next_word() % 6) as usize];
         let kind = if draw.next_word() % 3 == 0 {

@@ -7,11 +7,11 @@ use lsm_codec::Kind;
 use std::alloc::{AllocError, Global};
 use std::mem;
 
-/// Whether a table two or more levels below has the user key in its range.
-fn lies_below(tables: &[Described<'_>], level: usize, user: u8) -> bool {
+/// Whether a table of this level or a deeper one has the user key in its range.
+fn lies_from(tables: &[Described<'_>], level: usize, user: u8) -> bool {
     for &(deep, _, rows) in tables {
         if let (Some(first), Some(last)) = (rows.first(), rows.last()) {
-            if deep >= level + 2 && first.0 <= user && user <= last.0 {
+            if deep >= level && first.0 <= user && user <= last.0 {
                 return true;
             }
         }
@@ -32,12 +32,13 @@ pub(crate) fn kept(
 {
     let mut kept = Vec::new(alloc);
     let mut before = None;
-    for &row in rows {
+    for row in rows {
+        let seq = row.1 as u64;
         let is_hidden = before == Some(row.0);
-        let is_old = row.1 as u64 <= floor;
-        let is_void = row.2 == Kind::Deletion && is_old && !lies_below(tables, level, row.0);
+        let is_old = seq <= floor;
+        let is_void = row.2 == Kind::Deletion && is_old && !lies_from(tables, level + 2, row.0);
         if !is_hidden && !is_void {
-            kept.push(row)?;
+            kept.push(*row)?;
         }
         before = if is_old { Some(row.0) } else { None };
     }

@@ -55,10 +55,10 @@ fn compares_drawn<R: Wait + Abort>(
     let kept = kept(alloc, tables.as_slice(), level, floor, rows.as_slice())?;
     let outputs = cut(alloc, kept.as_slice(), value as u64 + 25, target)?;
     if kept.len() < rows.len() {
-        tally.dropped += 1;
+        tally.dropped = tally.dropped.saturating_add(1);
     }
     if outputs.len() > 1 {
-        tally.cut += 1;
+        tally.cut = tally.cut.saturating_add(1);
     }
     let outputs = slices(alloc, outputs.as_slice())?;
     let case = Case {

@@ -43,6 +43,7 @@ fn comes_back<N: Naming, S: Shelf, R: Wait + Abort>(
 ) -> Result<Job<N, S>, Fail>
     requires named { registry.now ≡ N.registry }
     requires here { (S.told shelf.old).place ≡ N.place }
+    ensures { (S.told shelf.new).place ≡ N.place }
 {
     match compact(rt, alloc, shelf, registry, job, numbers) {
         Ok(_done) => Err(Fail::new("a job was merged that was to be refused")),
