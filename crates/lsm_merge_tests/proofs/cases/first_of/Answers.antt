@@ -1,4 +1,3 @@
-use Rattle.std.proofs.Common.{◌∙◌}
 use Rattle.lsm_merge_tests.proofs.Wholes.{first_whole}
 use Rattle.lsm_merge_tests.proofs.cases.first_of.Goals as goal
 
