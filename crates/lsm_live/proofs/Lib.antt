@@ -6,4 +6,6 @@ mod Handing
 mod Reservations
 mod Sharing
 mod Results
+mod Alone
+mod Standing
 pub mod CallerLemmas

@@ -8,6 +8,7 @@ use Rattle.lsm_codec.specs.Entries.{Entry}
 use Rattle.lsm_codec.proofs.CallerLemmas.{take-key_bytes}
 use Rattle.lsm_table.specs.Registry.{Table}
 use Rattle.lsm_table.specs.HeldTable.{entries_in}
+use Rattle.lsm_table.specs.declared.table_options.TableOptions.{TableOptions}
 use Rattle.lsm_levels.specs.Files.{File, all_entries}
 use Rattle.lsm_levels.specs.Kept.{kept_entries}
 use Rattle.lsm_levels.specs.Streams.{CutAtKeys, Ends, IsCut, NumbersRise}
@@ -15,7 +16,7 @@ use Rattle.lsm_version.specs.Versions.{IsWhole, file_of, files_of, user_of}
 use Rattle.lsm_merge.specs.Compacting.{AreMergedOf}
 use Rattle.lsm_merge.specs.Cuts.{AreRightCuts, IsCutBy}
 use Rattle.lsm_merge.specs.Outputs.{AreGood, Made}
-use Rattle.lsm_merge.specs.Work.{AreKept, IsFinished, IsMade, IsWork, MovesOne, Work, contents_of, finished}
+use Rattle.lsm_merge.specs.Work.{AreKept, IsBuilt, IsFinished, IsMade, IsWork, MovesOne, Work, contents_of, finished}
 
 user_of_key : (bytes : List ℕ) (key : InternalKey) → IsKey bytes key → user_of bytes ≡ key.user
 user_of_key bytes key k = ap user_of k.bytes_are ∙ take-key_bytes key
@@ -77,12 +78,13 @@ merged_kept w ts f a = record {
   sizes = (a.is).cuts;
 }
 
-pub merge_finished : (Honest : Type 0) (w : Work) (m : Made) → IsWork Honest w → w.is_move ≡ false → AreGood m → (Honest → AreMergedOf w m.tables)
+pub merge_finished : (Honest : Type 0) (w : Work) (m : Made) → IsWork Honest w → w.is_move ≡ false → AreGood m → m.options ≡ w.table → (Honest → AreMergedOf w m.tables)
     → IsFinished Honest (record { work = w; outputs = m.tables; put = m.put })
-merge_finished Honest w m work move good kept = record {
+merge_finished Honest w m work move good sizes kept = record {
   low = work.low;
   whole = λ honest. good.whole;
   put_whole = λ other. good.whole;
+  built = λ other t h. subst (λ (o : TableOptions). IsBuilt o t) sizes (good.built t h);
   made = subst (IsMade Honest (record { work = w; outputs = m.tables; put = m.put })) (sym move) (good.numbers, λ honest. merged_kept w m.tables good.whole (kept honest));
 }
 
@@ -93,6 +95,7 @@ move_finished Honest w outputs work move same = record {
   low = work.low;
   whole = λ honest t h. work.whole honest t (left_has w.upper w.lower t (subst (λ (l : List Table). Has l t) same h));
   put_whole = λ other. absurd (both_ways w.is_move other move);
+  built = λ other. absurd (both_ways w.is_move other move);
   made = subst (IsMade Honest (record { work = w; outputs = outputs; put = [] })) (sym move)
       (let one = subst (MovesOne w) move work.moves in (one.0, one.1, one.2, same ∙ one.1, refl));
 }

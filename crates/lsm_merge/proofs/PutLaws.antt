@@ -14,7 +14,7 @@ use Rattle.lsm_merge.specs.Causes.{DrewMore}
 use Rattle.lsm_merge.specs.Cuts.{is_empty}
 use Rattle.lsm_merge.specs.Dropping.{closed}
 use Rattle.lsm_merge.specs.Outputs.{AreGood, Goes, IsImage, IsPut, Unfinished, drawn_of, entries_of_last, going, making_of}
-use Rattle.lsm_merge.specs.Work.{contents_of}
+use Rattle.lsm_merge.specs.Work.{IsBuilt, contents_of}
 
 pub going_snoc : (ns : List ℕ) (n : ℕ) (there : List ℕ) → going (ns ++ n ∷ []) there ≡ n ∷ going ns there
 going_snoc [] n there = refl
@@ -66,6 +66,10 @@ put_goes ticket options target tables tables' put put' o (Some q) None at none g
       | inl old ↦ good.whole t old
       | inr new ↦ elim new [ inl is ↦ subst IsWhole is p.whole | inr nothing ↦ absurd nothing ]
     ];
+    built = λ t h. elim (has_cases tables (p.table ∷ []) t (subst (λ (ts : List Table). Has ts t) p.tables_are h)) [
+      | inl old ↦ good.built t old
+      | inr new ↦ elim new [ inl is ↦ subst (IsBuilt options) is (subst (λ (s : TableOptions). IsBuilt s p.table) (sym sizes ∙ (good.written).0) p.built) | inr nothing ↦ absurd nothing ]
+    ];
     numbers = ap (map (λ (t : Table). t.number)) p.tables_are ∙ numbers_snoc tables p.table
         ∙ ap (λ (ns : List ℕ). ns ++ (p.table).number ∷ []) good.numbers ∙ ap (λ (n : ℕ). put ++ n ∷ []) p.number ∙ sym p.put_are;
     written = tt;
@@ -77,6 +81,9 @@ put_goes ticket options target tables tables' put put' o (Some q) None at none g
   where
     same : q.entries ≡ o.entries
     same = ap (λ (u : Option Unfinished). entries_of_last u) at
+
+    sizes : q.options ≡ o.options
+    sizes = (let z : q ≡ o = (cc at) in ap (λ (u : Unfinished). u.options) z)
 
 pub put_drawn : (ticket : ℕ) (options : TableOptions) (target : ℕ) (tables tables' : List Table) (put put' : List ℕ) (o : Unfinished) (last last' : Option Unfinished)
     → last ≡ Some o → last' ≡ None → IsPut o tables tables' put put' → (there : List ℕ)

@@ -93,7 +93,7 @@ pub under_start : (Honest : Type 0) (w : Work) (was is : Told) (drew0 answers0 a
 under_start Honest w was is drew0 answers0 asked0 m left range e b files =
     subst (λ (n : Made). IsUnderWay Honest w (entries_of left.placed) was is drew0 drew0 answers0 answers0 asked0 asked0 n None left) (sym e) (record {
       sizes = record { ticket = refl; options = refl; target = refl };
-      good = record { in_range = range; whole = λ t h. absurd h; numbers = refl; written = tt };
+      good = record { in_range = range; whole = λ t h. absurd h; built = λ t h. absurd h; numbers = refl; written = tt };
       up = λ key h. absurd (cc h);
       told = puts_none [] was is b;
       drawn = refl;

@@ -11,7 +11,7 @@ use Rattle.lsm_table.specs.Options.{AreInRange}
 use Rattle.lsm_table.specs.declared.table_options.TableOptions.{TableOptions}
 use Rattle.lsm_version.specs.Versions.{IsWhole}
 use Rattle.lsm_merge.specs.Dropping.{Making}
-use Rattle.lsm_merge.specs.Work.{contents_of}
+use Rattle.lsm_merge.specs.Work.{IsBuilt, contents_of}
 
 -- an output in the making, under its number
 pub record Unfinished : Type 0 where
@@ -62,10 +62,11 @@ abbrev pub IsWrittenBy : TableOptions → Option Unfinished → Type 0
 IsWrittenBy options None = Unit {0}
 IsWrittenBy options (Some output) = (output.options ≡ options) × (output.entries ≡ [] → ⊥)
 
--- the tables that were put are whole, and the numbers are theirs
+-- the tables that were put are whole and written with the job's sizes, and the numbers are theirs
 pub record AreGood (m : Made) : Type 0 where
   pub in_range : AreInRange m.options
   pub whole : (t : Table) → Has m.tables t → IsWhole t
+  pub built : (t : Table) → Has m.tables t → IsBuilt m.options t
   pub numbers : map (λ t. t.number) m.tables ≡ m.put
   pub written : IsWrittenBy m.options m.last
 
@@ -81,11 +82,12 @@ pub record Goes (old new : Made) (making : Making) : Type 0 where
   pub good : AreGood new
   pub is : making_of new ≡ making
 
--- a table of the output's entries is put under its number
+-- a table of the output's entries is put under its number, written with its sizes
 pub record IsPut (output : Unfinished) (tables tables' : List Table) (put put' : List ℕ) : Type 0 where
   pub table : Table
   pub whole : IsWhole table
   pub entries : entries_in table.image ≡ output.entries
+  pub built : IsBuilt output.options table
   pub number : table.number ≡ output.number
   pub tables_are : tables' ≡ tables ++ table ∷ []
   pub put_are : put' ≡ put ++ output.number ∷ []

@@ -6,7 +6,7 @@ use Rattle.lsm_codec.specs.Entries.{Entry}
 use Rattle.lsm_table.specs.Registry.{Table}
 use Rattle.lsm_table.specs.HeldTable.{entries_in}
 use Rattle.lsm_table.specs.Options.{AreInRange}
-use Rattle.lsm_table.specs.TableBuilding.{written_bytes}
+use Rattle.lsm_table.specs.TableBuilding.{table_bytes, written_bytes}
 use Rattle.lsm_table.specs.declared.table_options.TableOptions.{TableOptions}
 use Rattle.lsm_levels.specs.Files.{all_entries}
 use Rattle.lsm_levels.specs.Jobs.{Job}
@@ -54,6 +54,10 @@ pub record IsWork (honest : Type 0) (w : Work) : Type 0 where
   pub whole : honest → (t : Table) → Has (w.upper ++ w.lower) t → IsWhole t
   pub moves : MovesOne w w.is_move
 
+-- the image for which the table stands is, byte for byte, what the builder makes of its entries with these sizes
+abbrev pub IsBuilt : TableOptions → Table → Type 0
+IsBuilt options t = t.image ≡ table_bytes options (entries_in t.image)
+
 -- a finished job: its outputs, and the numbers under which they were put (a move puts none)
 pub record Done : Type 0 where
   pub work : Work
@@ -88,4 +92,6 @@ pub record IsFinished (honest : Type 0) (d : Done) : Type 0 where
   pub whole : honest → (t : Table) → Has d.outputs t → IsWhole t
   -- the tables that were put are whole, whatever the shelf is
   pub put_whole : d.work.is_move ≡ false → (t : Table) → Has d.outputs t → IsWhole t
+  -- and they are written with the job's sizes
+  pub built : d.work.is_move ≡ false → (t : Table) → Has d.outputs t → IsBuilt d.work.table t
   pub made : IsMade honest d d.work.is_move

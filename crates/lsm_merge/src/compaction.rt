@@ -94,6 +94,7 @@ fn merge<N: Naming, S: Shelf, R: Wait, D: NumberSource>(
     requires here { (S.told shelf.old).place ≡ N.place }
     requires fresh { outputs.old ≡ nothing_of job.now }
     ensures good { OnOk result (AreGood outputs.new × (outputs.new.last ≡ None)) }
+    ensures sizes { OnOk result (outputs.new.options ≡ job.now.table) }
     ensures kept { S.honest → OnOk result (AreMergedOf job.now outputs.new.tables) }
     ensures drew { OnOk result (D.drew numbers.new ≡ going outputs.new.put (D.drew numbers.old)) }
     ensures answered { OnOk result (D.refused numbers.new ≡ D.refused numbers.old) }

@@ -7,6 +7,7 @@ ghost use Rattle.lsm_codec.specs.Keys.{IsKey};
 ghost use Rattle.lsm_block.specs.Block.{Ascends, entry_of};
 ghost use Rattle.lsm_block.specs.declared.build_fault.BuildFault.TheVariants.{TooLarge};
 ghost use Rattle.lsm_table.specs.Options.{AreInRange};
+ghost use Rattle.lsm_table.specs.TableBuilding.{table_bytes};
 ghost use Rattle.lsm_merge.specs.Cuts.{closes};
 ghost use Rattle.lsm_merge.specs.Limits.{IsOverLimit};
 ghost use Rattle.lsm_merge.specs.Outputs.{IsImage};
@@ -123,6 +124,7 @@ impl Output {
     /// The table of its entries.
     pub(crate) fn finish(self, alloc: Global) -> Result<Image, BuildFault>
         ensures number { IfOk result (λ i. i.number ≡ self.number) }
+        ensures bytes { IfOk result (λ i. i.bytes.items ≡ table_bytes self.options self.entries) }
         ensures image { IfOk result (λ i. IsImage self.entries i.smallest i.largest i.bytes.items) }
         ensures large { IfErr result (λ e. e ≡ TooLarge → IsOverLimit self.options self.entries) }
     {

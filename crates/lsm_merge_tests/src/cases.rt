@@ -1,8 +1,9 @@
 //! Jobs over tables that a test describes.
 
-ghost use Rattle.std.specs.Prelude.{◌≡◌, ◌≤◌, ◌∷◌, IfOk};
+ghost use Rattle.std.specs.Prelude.{◌≡◌, ◌≤◌, [], ◌∷◌, IfOk};
 ghost use Rattle.std.specs.Arc.{arc_value};
 ghost use Rattle.lsm_table.specs.Options.{AreInRange};
+ghost use Rattle.lsm_version.specs.Versions.{IsWhole};
 
 use boxcar::tag::{Names, Tag};
 use lsm_codec::{Bytes, KeyRef, Kind, List, push_key};
@@ -47,9 +48,10 @@ fn with_number(number: u64, before: &Tag) -> Tag
     Tag::of::<Pair<'_>, Joined>(&Pair { number, before })
 }
 
-/// Gives numbers from a first one on, one after another.
+/// Gives numbers from a first one on, one after another, for one ticket.
 #[derive(Drop)]
 pub(crate) struct Counter {
+    ticket: u64,
     next: u64,
     drew: Tag,
     refused: Tag,
@@ -57,8 +59,9 @@ pub(crate) struct Counter {
 }
 
 impl Counter {
-    pub(crate) fn from(next: u64) -> Counter {
+    pub(crate) fn from(ticket: u64, next: u64) -> Counter {
         Counter {
+            ticket,
             next,
             drew: Tag::of::<(), Nothing>(&()),
             refused: Tag::of::<(), Nothing>(&()),
@@ -76,6 +79,10 @@ impl NumberSource for Counter {
 
     fn draw<R: Wait>(&mut self, _rt: &R, _alloc: Global, ticket: u64) -> Result<u64, NumberFault> {
         self.asked = with_number(ticket, &self.asked);
+        if ticket != self.ticket {
+            self.refused = with_number(45, &self.refused);
+            return Err(NumberFault::UnknownTicket(ticket));
+        }
         let number = self.next;
         match number.checked_add(1) {
             Some(next) => {
@@ -295,6 +302,77 @@ pub(crate) fn job_at<N: Naming, S: Shelf>(
         table,
         target_size,
     }))
+}
+
+/// The parts of a job over tables of level 1 and of the next one.
+fn parts_of<N: Naming, S: Shelf>(
+    alloc: Global,
+    upper: Vec<TableRef<N, S>>,
+    lower: Vec<TableRef<N, S>>,
+    is_move: bool,
+) -> JobParts<N, S>
+    ensures level { result.level ≡ 1 }
+    ensures upper { result.upper ≡ upper.items }
+    ensures lower { result.lower ≡ lower.items }
+    ensures moves { result.is_move ≡ is_move }
+    ensures sizes { AreInRange result.table }
+{
+    JobParts {
+        ticket: 1,
+        level: 1,
+        upper,
+        lower,
+        low: Bytes::of(Vec::new(alloc)),
+        high: Bytes::of(Vec::new(alloc)),
+        floor: 255,
+        ranges: Vec::new(alloc),
+        is_move,
+        table: TableOptions::usual(),
+        target_size: 1_024,
+    }
+}
+
+/// The first table of level 1.
+fn first_of<N: Naming, S: Shelf>(version: &Version<N, S>) -> Result<TableRef<N, S>, Fail>
+    ensures { S.honest → IfOk result IsWhole }
+{
+    let _last = version.last();
+    match version.level(1) {
+        [table, ..] => Ok(table.again()),
+        [] => Err(Fail::new("no table is at level 1")),
+    }
+}
+
+fn alone<N: Naming, S: Shelf>(
+    alloc: Global,
+    table: &TableRef<N, S>,
+) -> Result<Vec<TableRef<N, S>>, AllocError>
+    ensures { IfOk result (λ v. v.items ≡ table.now ∷ []) }
+{
+    let mut tables = Vec::new(alloc);
+    tables.push(table.again())?;
+    Ok(tables)
+}
+
+/// The move of the first table of level 1.
+pub(crate) fn move_of<N: Naming, S: Shelf>(
+    alloc: Global,
+    version: &Version<N, S>,
+) -> Result<Job<N, S>, Fail> {
+    let table = first_of(version)?;
+    let upper = alone(alloc, &table)?;
+    Ok(Job::of(parts_of(alloc, upper, Vec::new(alloc), true)))
+}
+
+/// The job that has the first table of level 1 there and at the next level too.
+pub(crate) fn twice_of<N: Naming, S: Shelf>(
+    alloc: Global,
+    version: &Version<N, S>,
+) -> Result<Job<N, S>, Fail> {
+    let table = first_of(version)?;
+    let upper = alone(alloc, &table)?;
+    let lower = alone(alloc, &table)?;
+    Ok(Job::of(parts_of(alloc, upper, lower, false)))
 }
 
 /// Whether the table of a number on the shelf has just these entries.

@@ -2,8 +2,18 @@
 #![tactic(auto)]
 
 #[cfg(test)]
+mod altering;
+#[cfg(test)]
 mod cases;
 #[cfg(test)]
+mod drawn;
+#[cfg(test)]
 mod merging;
+#[cfg(test)]
+mod moving;
+#[cfg(test)]
+mod plain;
+#[cfg(test)]
+mod plainly;
 #[cfg(test)]
 mod refusing;

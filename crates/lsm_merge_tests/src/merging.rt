@@ -17,16 +17,17 @@ use std::test::Fail;
 
 /// A job over all tables of a level and the next one, and the entries of its outputs, which get numbers from 100 on.
 #[derive(Clone, Copy)]
-struct Case {
-    name: &'static str,
-    tables: &'static [Described<'static>],
-    level: usize,
-    floor: u64,
-    value: usize,
-    outputs: &'static [&'static [Row]],
+pub(crate) struct Case<'a> {
+    pub(crate) name: &'static str,
+    pub(crate) tables: &'a [Described<'a>],
+    pub(crate) level: usize,
+    pub(crate) floor: u64,
+    pub(crate) value: usize,
+    pub(crate) target: u64,
+    pub(crate) outputs: &'a [&'a [Row]],
 }
 
-const CASES: &[Case] = &[
+const CASES: &[Case<'static>] = &[
     Case {
         name: "one key three times, a snapshot at the first",
         tables: &[
@@ -37,6 +38,7 @@ const CASES: &[Case] = &[
         level: 0,
         floor: 1,
         value: 1,
+        target: 1_024,
         outputs: &[&[(b'k', 3, Deletion), (b'k', 2, Value), (b'k', 1, Value)]],
     },
     Case {
@@ -49,6 +51,7 @@ const CASES: &[Case] = &[
         level: 1,
         floor: 3,
         value: 1,
+        target: 1_024,
         outputs: &[],
     },
     Case {
@@ -57,6 +60,7 @@ const CASES: &[Case] = &[
         level: 1,
         floor: 5,
         value: 1,
+        target: 1_024,
         outputs: &[&[(b'k', 5, Deletion)]],
     },
     Case {
@@ -65,6 +69,7 @@ const CASES: &[Case] = &[
         level: 1,
         floor: 5,
         value: 1,
+        target: 1_024,
         outputs: &[],
     },
     Case {
@@ -73,6 +78,7 @@ const CASES: &[Case] = &[
         level: 1,
         floor: 5,
         value: 1,
+        target: 1_024,
         outputs: &[],
     },
     Case {
@@ -89,6 +95,7 @@ const CASES: &[Case] = &[
         level: 0,
         floor: 5,
         value: 1,
+        target: 1_024,
         outputs: &[&[
             (b'a', 9, Value),
             (b'k', 8, Value),
@@ -107,6 +114,7 @@ const CASES: &[Case] = &[
         level: 0,
         floor: 3,
         value: 998,
+        target: 1_024,
         outputs: &[
             &[(b'a', 1, Value)],
             &[(b'b', 2, Value)],
@@ -123,6 +131,7 @@ const CASES: &[Case] = &[
         level: 0,
         floor: 3,
         value: 997,
+        target: 1_024,
         outputs: &[&[(b'a', 1, Value), (b'b', 2, Value)], &[(b'c', 3, Value)]],
     },
     Case {
@@ -135,12 +144,13 @@ const CASES: &[Case] = &[
         level: 0,
         floor: 1,
         value: 998,
+        target: 1_024,
         outputs: &[&[(b'a', 3, Value), (b'a', 2, Value), (b'a', 1, Value)]],
     },
 ];
 
 /// Blocks of 64 bytes.
-fn small_blocks() -> TableOptions
+pub(crate) fn small_blocks() -> TableOptions
     ensures { AreInRange result }
 {
     TableOptions {
@@ -155,7 +165,7 @@ fn compares<N: Naming, S: Shelf, R: Wait + Abort>(
     alloc: Global,
     registry: Arc<Registry<S::Receipt>>,
     mut shelf: S,
-    case: &Case,
+    case: &Case<'_>,
 ) -> Result<(), Fail>
     requires registry { arc_value registry ≡ N.registry }
     requires shelf { (S.told shelf).place ≡ N.place }
@@ -171,9 +181,9 @@ fn compares<N: Naming, S: Shelf, R: Wait + Abort>(
         case.level,
         case.floor,
         small_blocks(),
-        1_024,
+        case.target,
     )?;
-    let mut numbers = Counter::from(100);
+    let mut numbers = Counter::from(1, 100);
     let Ok(done) = compact(rt, alloc, &mut shelf, &registry, job, &mut numbers) else {
         return Err(Fail::new(name));
     };
@@ -191,7 +201,11 @@ pub(crate) fn new_registry<C: Slip>(alloc: Global) -> Result<Arc<Registry<C>>, A
     Ok(Arc::new(alloc, Registry::new(alloc)?)?)
 }
 
-fn compares_one<R: Wait + Abort>(rt: &R, alloc: Global, case: &Case) -> Result<(), Fail> {
+pub(crate) fn compares_one<R: Wait + Abort>(
+    rt: &R,
+    alloc: Global,
+    case: &Case<'_>,
+) -> Result<(), Fail> {
     let registry = new_registry(alloc)?;
     let shelf = MemoryShelf::new(alloc)?;
     compares::<Brand, MemoryShelf, R>(rt, alloc, registry, shelf, case)

@@ -33,6 +33,10 @@ returns-then-is_at_end-clause-kept g c = λ honest.
     (sym c.is_at_end.ensures ∙ c.if-is_at_end.true) c.in-Ok.ensures.merges goes honest)
     c.put_last.ensures.ok
 
+pub returns-then-is_at_end-clause-sizes : goal.returns-then-is_at_end-clause-sizes
+returns-then-is_at_end-clause-sizes g c =
+    on_ok c.put_last.result (λ goes. (goes.sizes).options ∙ (c.entries.invariant.sizes).options) c.put_last.ensures.ok
+
 pub returns-then-is_at_end-clause-told : goal.returns-then-is_at_end-clause-told
 returns-then-is_at_end-clause-told g c =
     puts_all c.put_last.new.self.put (g.S.Shelf.told c.args.shelf.now) (g.S.Shelf.told c.put_last.new.shelf)

@@ -1,6 +1,8 @@
-use Rattle.std.proofs.Common.{ℕ, List, [], ◌∷◌, ◌++◌, ◌∙◌, ap, sym, subst}
+use Rattle.std.proofs.Common.{◌≡◌, ℕ, List, [], ◌∷◌, ◌++◌, ◌∙◌, ap, sym, subst}
 use Rattle.lsm_table.specs.Registry.{Table}
 use Rattle.lsm_table.specs.Table.{IsTable}
+use Rattle.lsm_table.specs.HeldTable.{entries_in}
+use Rattle.lsm_table.specs.TableBuilding.{table_bytes}
 use Rattle.lsm_merge.proofs.PutLaws.{whole_of}
 use Rattle.lsm_merge.proofs.putting.put_output.Goals as goal
 
@@ -8,11 +10,14 @@ pub returns-clause-ok : goal.returns-clause-ok
 returns-clause-ok g c =
     let made = c.in-Ok.ensures.image in
     let ens = c.in_ok-table.ensures in
+    let same : entries_in c.in_ok-table.table.image ≡ c.args.output.entries =
+    c.entries_are.ensures.same c.in_ok-table.table.image c.args.output.entries
+    (subst (λ (bytes : List ℕ). IsTable bytes c.args.output.entries) (sym ens.image) made.table) in
     record {
       table = c.in_ok-table.table;
       whole = whole_of c.tables_are_whole.ensures c.in_ok-table.table c.args.output.entries c.in-Ok.image.smallest c.in-Ok.image.largest c.in-Ok.image.bytes.items made ens.smallest ens.largest ens.image;
-      entries = c.entries_are.ensures.same c.in_ok-table.table.image c.args.output.entries
-          (subst (λ (bytes : List ℕ). IsTable bytes c.args.output.entries) (sym ens.image) made.table);
+      entries = same;
+      built = ens.image ∙ c.in-Ok.ensures.bytes ∙ ap (table_bytes c.args.output.options) (sym same);
       number = ens.number ∙ c.in-Ok.ensures.number;
       tables_are = (let i = c.in-Ok-push.ensures.items in i ∙ ap (λ (l : List Table). l ++ c.in_ok-table.table ∷ []) c.in_ok-reserve.ensures.items);
       put_are = ens.put ∙ ap (λ (n : ℕ). c.args.put.now.items ++ n ∷ []) c.in-Ok.ensures.number;
