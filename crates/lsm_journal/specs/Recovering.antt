@@ -1,6 +1,6 @@
 -- What is read of a manifest, and why it is refused (LevelDB's `VersionSet::Recover`).
-use Rattle.std.specs.Prelude.{◌≡◌, ℕ, List, ◌∷◌, ◌++◌}
-use Rattle.lsm_shelf.specs.Told.{Told, Becomes, Counted, NotTaken, finding}
+use Rattle.std.specs.Prelude.{◌≡◌, ℕ, List, ◌∷◌, ◌++◌, Err}
+use Rattle.lsm_shelf.specs.Told.{Told, Becomes, Counted, CountedBy, NotTaken, finding}
 use Rattle.lsm_manifest.specs.declared.edit_fault.EditFault.{EditFault}
 use Rattle.lsm_manifest.specs.declared.replay_fault.ReplayFault.{ReplayFault}
 use Rattle.lsm_manifest.specs.EditFit.{Change}
@@ -52,3 +52,14 @@ IsRecoverRefusal (Shelf e) was is = Becomes was is × NotTaken e × Counted e wa
 IsRecoverRefusal (Log e) was is = (bytes : List ℕ) × Gave bytes was is × log_view.Fails e (log_at bytes)
 IsRecoverRefusal (Edit e) was is = (bytes : List ℕ) × Gave bytes was is × IsEditRefusal bytes e
 IsRecoverRefusal (Replay e) was is = (bytes : List ℕ) × Gave bytes was is × IsReplayRefusal bytes e
+
+-- no count rose
+abbrev pub SameCounts : Told → Told → Type 0
+SameCounts was is = (is.faults ≡ was.faults) × (is.misses ≡ was.misses)
+
+-- what a refused reading counted: a refusal of the shelf just once, and else nothing
+abbrev pub RecoverCounted : RecoverFault → Told → Told → Type 0
+RecoverCounted (Shelf e) was is = CountedBy {T = Unit {0}} (Err e) was is
+RecoverCounted (Log e) was is = SameCounts was is
+RecoverCounted (Edit e) was is = SameCounts was is
+RecoverCounted (Replay e) was is = SameCounts was is

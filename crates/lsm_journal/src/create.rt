@@ -1,7 +1,7 @@
 //! A new database's manifest.
 
 ghost use Rattle.std.specs.Prelude.{◌≡◌, IfErr, IfOk, OnOk};
-ghost use Rattle.lsm_shelf.specs.Told.{Becomes, Rose, sending};
+ghost use Rattle.lsm_shelf.specs.Told.{Becomes, Rose, next_count, sending};
 ghost use Rattle.lsm_version.specs.Versions.{no_levels};
 ghost use Rattle.lsm_journal.specs.Recorded.{IsRecorded};
 ghost use Rattle.lsm_journal.specs.Sending.{IsCreateRefusal};
@@ -30,6 +30,7 @@ impl Journal {
 
         // No manifest was there: the shelf said so.
         ensures missing { OnOk result (Rose (S.told shelf.old).misses (S.told shelf.new).misses) }
+        ensures counts { OnOk result (((S.told shelf.new).faults ≡ (S.told shelf.old).faults) × ((S.told shelf.new).misses ≡ next_count (S.told shelf.old).misses)) }
         ensures refused { IfErr result (λ e. IsCreateRefusal e (S.told shelf.old) (S.told shelf.new)) }
     {
         match shelf.read_manifest(rt, alloc) {

@@ -1,9 +1,9 @@
 //! The manifest of a database that is there.
 
-ghost use Rattle.std.specs.Prelude.{◌≡◌, IfErr, IfOk};
+ghost use Rattle.std.specs.Prelude.{◌≡◌, IfErr, IfOk, OnOk};
 ghost use Rattle.lsm_manifest.specs.Manifest.{AreEdits};
 ghost use Rattle.lsm_shelf.specs.Told.{Becomes, finding};
-ghost use Rattle.lsm_journal.specs.Recovering.{IsRecordRefusal, IsRecoverRefusal, IsRecovered};
+ghost use Rattle.lsm_journal.specs.Recovering.{IsRecordRefusal, IsRecoverRefusal, IsRecovered, RecoverCounted, SameCounts};
 
 use crate::journal::Journal;
 use crate::recover_fault::RecoverFault;
@@ -53,6 +53,8 @@ impl Journal {
         ensures recovered { IfOk result (λ r. IsRecovered r.journal r.shape r.rest) }
         ensures limit { IfOk result (λ r. r.journal.limit ≡ limit) }
         ensures refused { IfErr result (λ e. IsRecoverRefusal e (S.told shelf.old) (S.told shelf.new)) }
+        ensures counts { OnOk result (SameCounts (S.told shelf.old) (S.told shelf.new)) }
+        ensures counts_err { IfErr result (λ e. RecoverCounted e (S.told shelf.old) (S.told shelf.new)) }
     {
         let (number, bytes) = shelf.read_manifest(rt, alloc)?;
         let log = read_log(alloc, &bytes)?;

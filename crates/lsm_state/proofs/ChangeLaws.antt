@@ -1,6 +1,6 @@
 -- What a change of the current version leaves of the law of a state.
 use Rattle.std.proofs.Common.{◌≡◌, ℕ, suc, ◌+◌, ◌≤◌, Bool, true, false, Option, Some, List, [], ◌∷◌, map, refl, sym, ◌∙◌, ap, subst, inl, inr, arith}
-use Rattle.std.specs.Prelude.{◌⊎◌, MatchBool, slice_get, slice_set, if◌then◌else◌}
+use Rattle.std.specs.Prelude.{◌⊎◌, MatchBool, Result, Ok, Err, IfErr, OnErr, slice_get, slice_set, if◌then◌else◌}
 use Rattle.std.proofs.lemmas.Bool.{cases_eq}
 use Rattle.atomic_table.specs.Seated.{TableId}
 use Rattle.lsm_codec.specs.Lists.{Has}
@@ -12,9 +12,9 @@ use Rattle.lsm_table.specs.Registry.{Table}
 use Rattle.lsm_version.specs.Changes.{changed}
 use Rattle.lsm_version.specs.Versions.{IsSound, IsWhole, Levels, files, numbers_in}
 use Rattle.lsm_machine.specs.Law.{Law}
-use Rattle.lsm_machine.specs.Plain.{Plain}
+use Rattle.lsm_machine.specs.Plain.{Plain, Spends}
 use Rattle.lsm_machine.specs.Runs.{Spend}
-use Rattle.lsm_slots.specs.Slots.{Epoch, Published, Slotted, numbers_held}
+use Rattle.lsm_slots.specs.Slots.{Epoch, Looked, Published, Slotted, numbers_held}
 use Rattle.lsm_slots.proofs.CallerLemmas.{set_else, set_found}
 use Rattle.lsm_live.specs.Booked.{Booked, lives_of}
 use Rattle.lsm_journal.specs.HeldManifest.{HeldManifest, is_at_limit}
@@ -24,7 +24,9 @@ use Rattle.lsm_journal.specs.Sending.{Grows, RollsOver, Sends}
 use Rattle.lsm_journal.specs.Writing.{change_edit}
 use Rattle.lsm_journal.proofs.CallerLemmas.{later}
 use Rattle.lsm_state.specs.Held.{HasInputs, Held, IsJournaled, IsLawfulState, plain}
-use Rattle.lsm_state.specs.Changing.{live_after, next_spent, plain_after}
+use Rattle.lsm_state.specs.Changing.{IsChangeRefusal, live_after, next_spent, plain_after}
+use Rattle.lsm_state.specs.declared.state_fault.StateFault.{StateFault}
+use Rattle.lsm_state.specs.declared.state_fault.StateFault.TheVariants.{OutOfMemory, Shelf, Read, BadLevel, EmptyBatch, KeyOrder, TooLarge, LevelZeroFull, SequencesSpent, Halted, UnknownSnapshot, Conflict, UnknownTicket, NumbersSpent, Stale, SlotsHeld, VersionsSpent, PinsSpent}
 use Rattle.lsm_state.proofs.Numbers.{held_named, named_held, IsNamed}
 use Rattle.lsm_state.proofs.StateLaws.{stepped}
 
@@ -102,6 +104,35 @@ spent_rises h = go (is_at_limit h.journal)
     go : (b : Bool) → h.next ≤ (if b then h.next + 1 else h.next)
     go true = omega arith
     go false = omega arith
+
+-- looks change nothing of the plain machine
+pub looked_plain : (h : Held) (s : Slotted) → Looked h.slots s → plain (record h { slots = s }) ≡ plain h
+looked_plain h s k = ap (λ (v : Levels). let t : Plain = record (plain h) { files = files v; last = v.last } in t) k.version
+
+-- a refused change spends the number of a new manifest at most
+pub change_spends : (x y : Held) (e : StateFault) (was is : Told) → IsChangeRefusal x y e was is → Spends (plain x) (plain y)
+change_spends x y OutOfMemory was is r = (x.next, omega arith, ap plain r.0)
+change_spends x y (Shelf fault) was is r = (next_spent x, spent_rises x, ap plain r.0)
+change_spends x y (Read fault) was is r = absurd r
+change_spends x y (BadLevel level) was is r = absurd r
+change_spends x y EmptyBatch was is r = absurd r
+change_spends x y (KeyOrder place) was is r = absurd r
+change_spends x y TooLarge was is r = absurd r
+change_spends x y LevelZeroFull was is r = absurd r
+change_spends x y SequencesSpent was is r = absurd r
+change_spends x y Halted was is r = absurd r
+change_spends x y (UnknownSnapshot id) was is r = absurd r
+change_spends x y (Conflict ticket) was is r = absurd r
+change_spends x y (UnknownTicket ticket) was is r = absurd r
+change_spends x y NumbersSpent was is r = absurd r
+change_spends x y Stale was is r = absurd r
+change_spends x y SlotsHeld was is r = absurd r
+change_spends x y VersionsSpent was is r = absurd r
+change_spends x y PinsSpent was is r = absurd r
+
+pub on_err_from : {T E P : Type 0} (r : Result T E) (Q : E → Type 0) → ((e : E) → Q e → P) → IfErr r Q → OnErr r P
+on_err_from (Ok v) Q f h = tt
+on_err_from (Err e) Q f h = f e h
 
 pub next_rises : (d : Difference) (w : Levels) (next after : ℕ) (old new : HeldManifest) (was is : Told) → Sends d w next after old new was is → next ≤ after
 next_rises d w next after old new was is s = go (is_at_limit old) s

@@ -16,6 +16,7 @@ use Rattle.lsm_shelf.specs.Told.{Told, Becomes, putting}
 use Rattle.lsm_table.specs.HeldTable.{entries_in}
 use Rattle.lsm_table.specs.Registry.{Table}
 use Rattle.lsm_table.specs.Table.{IsTable}
+use Rattle.lsm_table.specs.TableBuilding.{table_bytes}
 use Rattle.lsm_table.specs.declared.table_options.TableOptions.{TableOptions}
 use Rattle.lsm_manifest.specs.EditFit.{FitsKey}
 use Rattle.lsm_manifest.specs.Replay.{Deletion}
@@ -23,10 +24,10 @@ use Rattle.lsm_version.specs.Changes.{added_files, changed}
 use Rattle.lsm_version.specs.FileNumbers.{AreDistinct}
 use Rattle.lsm_version.specs.Versions.{IsWhole, Levels, file_of, files, files_from, files_of, level_in}
 use Rattle.lsm_machine.specs.Law.{Law}
-use Rattle.lsm_machine.specs.Plain.{Plain}
+use Rattle.lsm_machine.specs.Plain.{Plain, Spends}
 use Rattle.lsm_machine.specs.Plain as machine
 use Rattle.lsm_machine.specs.Runs.{Ingest}
-use Rattle.lsm_slots.specs.Slots.{IsFreeSlot, Slotted}
+use Rattle.lsm_slots.specs.Slots.{Slotted}
 use Rattle.lsm_journal.specs.HeldManifest.{is_at_limit}
 use Rattle.lsm_live.specs.Booked.{Booked}
 use Rattle.lsm_journal.specs.Difference.{Difference, FitsComing, Suits, changed_by}
@@ -36,12 +37,12 @@ use Rattle.lsm_batch.specs.Images.{Imaged, IsImage, IsPutAs, PassesTable}
 use Rattle.lsm_state.specs.Held.{HasInputs, Held, IsLawfulState, plain}
 use Rattle.lsm_state.specs.Options.{sizes_of}
 use Rattle.lsm_state.specs.Collecting.{SameCounts}
-use Rattle.lsm_state.specs.Changing.{ChangesVersion, IsChangeRefusal, Sought, plain_after}
+use Rattle.lsm_state.specs.Changing.{ChangesVersion, HasSlot, IsChangeRefusal, Sought, plain_after}
 use Rattle.lsm_state.specs.Ingesting.{FailsToBuild, FailsToPut, IsBuildRefusal, IsIngestRefusal, IsTableOf, IsWelcome, coming_in, entries_of, last_of, numbers_needed, with_number, with_slots}
 use Rattle.lsm_state.specs.declared.state_fault.StateFault.{StateFault}
 use Rattle.lsm_state.specs.declared.state_fault.StateFault.TheVariants.{OutOfMemory, Shelf, Read, BadLevel, EmptyBatch, KeyOrder, TooLarge, LevelZeroFull, SequencesSpent, Halted, UnknownSnapshot, Conflict, UnknownTicket, NumbersSpent, Stale, SlotsHeld, VersionsSpent, PinsSpent}
 use Rattle.lsm_state.proofs.Inputs.{TablesChange, inputs_stay}
-use Rattle.lsm_state.proofs.ChangeLaws.{last_after, next_rises}
+use Rattle.lsm_state.proofs.ChangeLaws.{change_spends, last_after, looked_plain, next_rises}
 use Rattle.lsm_state.proofs.StateLaws.{stepped}
 
 -- laws of versions
@@ -144,6 +145,15 @@ pub passes : (h : Held) (ws : List Write) (o : TableOptions) (last : ℕ) → o 
     → PassesTable (sizes_of h.options) (entries_of h ws)
 passes h ws o last sizes same p =
     subst (λ (q : TableOptions). PassesTable q (entries_of h ws)) sizes (subst (λ (n : ℕ). PassesTable o (entries_from n ws)) (next_of last h.slots.version.last same) p)
+
+-- the bytes are those of the batch's table
+pub built_as : (h : Held) (ws : List Write) (o : TableOptions) (last : ℕ) (bytes : List ℕ) → o ≡ sizes_of h.options → last ≡ h.slots.version.last → bytes ≡ table_bytes o (entries_from (last + 1) ws)
+    → bytes ≡ table_bytes (sizes_of h.options) (entries_of h ws)
+built_as h ws o last bytes sizes same is =
+    let at : table_bytes o (entries_from (last + 1) ws) ≡ table_bytes (sizes_of h.options) (entries_from (last + 1) ws) = ap (λ (q : TableOptions). table_bytes q (entries_from (last + 1) ws)) sizes in
+    let next : table_bytes (sizes_of h.options) (entries_from (last + 1) ws) ≡ table_bytes (sizes_of h.options) (entries_of h ws) =
+    ap (λ (n : ℕ). table_bytes (sizes_of h.options) (entries_from n ws)) (next_of last h.slots.version.last same) in
+    is ∙ (at ∙ next)
 
 -- ---- the change
 
@@ -284,14 +294,14 @@ pub err_is : {A : Type 0} (P : StateFault → Type 0) (r : Result A StateFault) 
 err_is P (Ok x) f h k = tt
 err_is P (Err e) f h k = subst P (sym h) k
 
-pub refused_put : (h m y : Held) (ws : List Write) (e : StateFault) (slot : ℕ) (was is : Told) → IsWelcome h ws → Sought h.slots m.slots → m ≡ with_slots h m.slots → IsFreeSlot m.slots slot
+pub refused_put : (h m y : Held) (ws : List Write) (e : StateFault) (was is : Told) → IsWelcome h ws → Sought h.slots m.slots → m ≡ with_slots h m.slots → HasSlot m.slots
     → y.slots ≡ m.slots → FailsToBuild m y ws e was is ⊎ FailsToPut m y e was is → IsIngestRefusal h y ws e was is
-refused_put h m y ws e slot was is welcome sought looked free slots fails =
+refused_put h m y ws e was is welcome sought looked room slots fails =
     inr (
       welcome,
       inr (
         subst (λ (s : Slotted). Sought h.slots s) (sym slots) sought,
-        (slot, subst (λ (s : Slotted). IsFreeSlot s slot) (sym slots) free),
+        subst HasSlot (sym slots) room,
         elim (subst (λ (z : Held). FailsToBuild z y ws e was is ⊎ FailsToPut z y e was is) looked fails) [
           | inl built ↦ inl (built.0, subst (λ (v : Levels). IsBuildRefusal (sizes_of h.options) (entries_from (suc v.last) ws) e) sought.looked.version built.1, built.2)
           | inr put ↦ inr (inl put)
@@ -320,16 +330,48 @@ slots_stay x y SlotsHeld was is p = absurd p
 slots_stay x y VersionsSpent was is p = absurd p
 slots_stay x y PinsSpent was is p = absurd p
 
-pub refused_change : (h m x y : Held) (ws : List Write) (e : StateFault) (slot : ℕ) (was mid is : Told) → IsWelcome h ws → Sought h.slots m.slots → m ≡ with_slots h m.slots → IsFreeSlot m.slots slot
+pub refused_change : (h m x y : Held) (ws : List Write) (e : StateFault) (was mid is : Told) → IsWelcome h ws → Sought h.slots m.slots → m ≡ with_slots h m.slots → HasSlot m.slots
     → x ≡ record m { next = suc m.next } → Becomes (putting m.next was) mid → SameCounts was mid → IsChangeRefusal x y e mid is → Becomes mid is → IsIngestRefusal h y ws e was is
-refused_change h m x y ws e slot was mid is welcome sought looked free put told counts fails unsent =
+refused_change h m x y ws e was mid is welcome sought looked room put told counts fails unsent =
     let slots : y.slots ≡ m.slots = slots_stay x y e mid is fails ∙ ap (λ (z : Held). z.slots) put in
     let spent : x ≡ with_number h y.slots = put ∙ (ap (λ (z : Held). record z { next = suc z.next }) looked ∙ ap (λ (s : Slotted). with_number h s) (sym slots)) in
     inr (
       welcome,
       inr (
         subst (λ (s : Slotted). Sought h.slots s) (sym slots) sought,
-        (slot, subst (λ (s : Slotted). IsFreeSlot s slot) (sym slots) free),
+        subst HasSlot (sym slots) room,
         inr (inr (mid, subst (λ (n : ℕ). Becomes (putting n was) mid) (ap (λ (z : Held). z.next) looked) told, counts, subst (λ (z : Held). IsChangeRefusal z y e mid is) spent fails, unsent)),
       ),
     )
+
+-- ---- a refusal is the machine's event of numbers spent
+
+pub slots_spend : (h y : Held) (s : Slotted) → Sought h.slots s → y ≡ with_slots h s → Spends (plain h) (plain y)
+slots_spend h y s sought is = (h.next, omega arith, ap plain is ∙ looked_plain h s sought.looked)
+
+pub number_spends : (h y : Held) (s : Slotted) → Sought h.slots s → y ≡ with_number h s → Spends (plain h) (plain y)
+number_spends h y s sought is =
+    (suc h.next, omega arith, ap plain is ∙ ap (λ (v : Levels). let t : Plain = record (plain h) { files = files v; last = v.last; next = suc h.next } in t) sought.looked.version)
+
+pub put_spends : (h m y : Held) (ws : List Write) (e : StateFault) (was is : Told) → Sought h.slots m.slots → m ≡ with_slots h m.slots → y.slots ≡ m.slots
+    → FailsToBuild m y ws e was is ⊎ FailsToPut m y e was is → Spends (plain h) (plain y)
+put_spends h m y ws e was is sought looked slots fails =
+    let found : Sought h.slots y.slots = subst (λ (s : Slotted). Sought h.slots s) (sym slots) sought in
+    elim fails [
+      | inl built ↦ slots_spend h y y.slots found (built.0 ∙ ap (λ (z : Held). with_slots z y.slots) looked)
+      | inr put ↦ number_spends h y y.slots found (put.0 ∙ ap (λ (z : Held). with_number z y.slots) looked)
+    ]
+
+pub numbered_spends : (h m x : Held) → Sought h.slots m.slots → m ≡ with_slots h m.slots → x ≡ record m { next = suc m.next } → Spends (plain h) (plain x)
+numbered_spends h m x sought looked put =
+    number_spends h x x.slots (subst (λ (s : Slotted). Sought h.slots s) (sym (ap (λ (z : Held). z.slots) put)) sought) (numbered h m x looked put)
+
+pub change_spent : (h m x y : Held) (e : StateFault) (was is : Told) → Sought h.slots m.slots → m ≡ with_slots h m.slots → x ≡ record m { next = suc m.next } → IsChangeRefusal x y e was is
+    → Spends (plain h) (plain y)
+change_spent h m x y e was is sought looked put r =
+    let spent = numbered_spends h m x sought looked put in
+    let change = change_spends x y e was is r in
+    let first : h.next ≤ spent.0 = spent.1 in
+    let here : x.next ≡ spent.0 = ap (λ (p : Plain). p.next) spent.2 in
+    let more : x.next ≤ change.0 = change.1 in
+    (change.0, omega arith, change.2 ∙ ap (λ (p : Plain). let t : Plain = record p { next = change.0 } in t) spent.2)

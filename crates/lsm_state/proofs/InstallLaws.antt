@@ -19,7 +19,7 @@ use Rattle.lsm_levels.proofs.CallerLemmas.{in_order_split}
 use Rattle.lsm_manifest.specs.EditFit.{FitsDeleted, FitsKey}
 use Rattle.lsm_manifest.specs.Replay.{Deletion}
 use Rattle.lsm_machine.specs.Law.{Law}
-use Rattle.lsm_machine.specs.Plain.{Installs, IsReadable, Live, Plain, without_job}
+use Rattle.lsm_machine.specs.Plain.{Installs, IsReadable, Live, Plain, Spends, without_job}
 use Rattle.lsm_machine.specs.Runs.{Install, Run, Spend}
 use Rattle.lsm_machine.proofs.CallerLemmas.{install_same, left_job}
 use Rattle.lsm_version.specs.Changes.{added_files, changed}
@@ -36,11 +36,12 @@ use Rattle.lsm_journal.specs.Writing.{change_edit}
 use Rattle.lsm_journal.proofs.CallerLemmas.{recorded_fit}
 use Rattle.lsm_slots.specs.Slots.{Looked, Slotted}
 use Rattle.lsm_state.specs.Held.{HasInputs, Held, IsLawfulState, plain}
-use Rattle.lsm_state.specs.Changing.{ChangesVersion, IsChangeRefusal, IsSlotRefusal, Sought, live_after, plain_after}
+use Rattle.lsm_state.specs.Changing.{ChangesVersion, HasSlot, IsChangeRefusal, IsSlotRefusal, Sought, live_after, plain_after}
 use Rattle.lsm_state.specs.Installing.{IsInstallChange, IsInstalling, IsPutIn, IsRefusedLater, Installed, MayInstall, SameAnswers, added_at, deleted_at, inputs_gone}
 use Rattle.lsm_state.specs.declared.state_fault.StateFault.{StateFault}
 use Rattle.lsm_state.specs.declared.state_fault.StateFault.TheVariants.{OutOfMemory, Shelf, Read, BadLevel, EmptyBatch, KeyOrder, TooLarge, LevelZeroFull, SequencesSpent, Halted, UnknownSnapshot, Conflict, UnknownTicket, NumbersSpent, Stale, SlotsHeld, VersionsSpent, PinsSpent}
 use Rattle.lsm_state.proofs.Inputs.{TablesChange, inputs_stay}
+use Rattle.lsm_state.proofs.ChangeLaws.{change_spends, looked_plain}
 use Rattle.lsm_state.proofs.StateLaws.{stepped}
 
 -- which files a changed version has (a law of versions)
@@ -369,9 +370,6 @@ answers_of old new c out was is x same k q r = ap (λ (v : Levels). answer (all_
 
 -- ---- looks came before
 
-looked_plain : (old : Held) (s : Slotted) → Looked old.slots s → plain (record old { slots = s }) ≡ plain old
-looked_plain old s k = ap (λ (v : Levels). let t : Plain = record (plain old) { files = files v; last = v.last } in t) k.version
-
 pub installed_looked : (old mid new : Held) (d : Done) (was is : Told) → mid ≡ record old { slots = mid.slots } → Sought old.slots mid.slots → IsPutIn mid new d was is → Installed old new d was is
 installed_looked old mid new d was is same k p = record {
   slots = mid.slots;
@@ -392,33 +390,41 @@ answers_looked old mid new same k x key q r =
 pub may_looked : (old mid : Held) (d : Done) → mid ≡ record old { slots = mid.slots } → MayInstall old d → MayInstall mid d
 may_looked old mid d same m = subst (λ (h : Held). MayInstall h d) (sym same) record { live = m.live; going = m.going; number = m.number }
 
+-- a refusal is the machine's event of numbers spent
+pub looked_spends : (old mid : Held) → mid ≡ record old { slots = mid.slots } → Looked old.slots mid.slots → Spends (plain old) (plain mid)
+looked_spends old mid same k = (old.next, omega arith, ap plain same ∙ looked_plain old mid.slots k)
+
+pub later_spends : (old mid new : Held) (e : StateFault) (was is : Told) → mid ≡ record old { slots = mid.slots } → Looked old.slots mid.slots → IsChangeRefusal mid new e was is → Spends (plain old) (plain new)
+later_spends old mid new e was is same k r = subst (λ (p : Plain). Spends p (plain new)) (ap plain same ∙ looked_plain old mid.slots k) (change_spends mid new e was is r)
+
 -- a refusal after looks
-pub later_refused : (old mid new : Held) (e : StateFault) (was is : Told) → mid ≡ record old { slots = mid.slots } → Sought old.slots mid.slots → IsChangeRefusal mid new e was is
+pub later_refused : (old mid new : Held) (e : StateFault) (was is : Told) → mid ≡ record old { slots = mid.slots } → Sought old.slots mid.slots → HasSlot mid.slots → IsChangeRefusal mid new e was is
     → Sought old.slots new.slots × IsRefusedLater old new e was is
-later_refused old mid new OutOfMemory was is same k r = (
+later_refused old mid new OutOfMemory was is same k room r = (
   subst (λ (s : Slotted). Sought old.slots s) (sym (ap (λ (h : Held). h.slots) r.0)) k,
-  (subst (λ (h : Held). h ≡ record old { slots = h.slots }) (sym r.0) same, r.1),
+  (subst (λ (h : Held). h ≡ record old { slots = h.slots }) (sym r.0) same, r.1, subst HasSlot (sym (ap (λ (h : Held). h.slots) r.0)) room),
 )
-later_refused old mid new (Shelf fault) was is same k r = (
+later_refused old mid new (Shelf fault) was is same k room r = (
     let stays : new.slots ≡ mid.slots = ap (λ (h : Held). h.slots) r.0 in
     let was_mid : mid ≡ record old { slots = new.slots } = same ∙ ap (λ (s : Slotted). let t : Held = record old { slots = s } in t) (sym stays) in
-    (subst (λ (s : Slotted). Sought old.slots s) (sym stays) k, subst (λ (h : Held). IsChangeRefusal h new (Shelf fault) was is) was_mid r))
-later_refused old mid new (Read fault) was is same k r = absurd r
-later_refused old mid new (BadLevel n) was is same k r = absurd r
-later_refused old mid new EmptyBatch was is same k r = absurd r
-later_refused old mid new (KeyOrder n) was is same k r = absurd r
-later_refused old mid new TooLarge was is same k r = absurd r
-later_refused old mid new LevelZeroFull was is same k r = absurd r
-later_refused old mid new SequencesSpent was is same k r = absurd r
-later_refused old mid new Halted was is same k r = absurd r
-later_refused old mid new (UnknownSnapshot n) was is same k r = absurd r
-later_refused old mid new (Conflict n) was is same k r = absurd r
-later_refused old mid new (UnknownTicket n) was is same k r = absurd r
-later_refused old mid new NumbersSpent was is same k r = absurd r
-later_refused old mid new Stale was is same k r = absurd r
-later_refused old mid new SlotsHeld was is same k r = absurd r
-later_refused old mid new VersionsSpent was is same k r = absurd r
-later_refused old mid new PinsSpent was is same k r = absurd r
+    let left : IsChangeRefusal (record old { slots = new.slots }) new (Shelf fault) was is = subst (λ (h : Held). IsChangeRefusal h new (Shelf fault) was is) was_mid r in
+    (subst (λ (s : Slotted). Sought old.slots s) (sym stays) k, (left.0, left.1, left.2, subst HasSlot (sym stays) room)))
+later_refused old mid new (Read fault) was is same k room r = absurd r
+later_refused old mid new (BadLevel n) was is same k room r = absurd r
+later_refused old mid new EmptyBatch was is same k room r = absurd r
+later_refused old mid new (KeyOrder n) was is same k room r = absurd r
+later_refused old mid new TooLarge was is same k room r = absurd r
+later_refused old mid new LevelZeroFull was is same k room r = absurd r
+later_refused old mid new SequencesSpent was is same k room r = absurd r
+later_refused old mid new Halted was is same k room r = absurd r
+later_refused old mid new (UnknownSnapshot n) was is same k room r = absurd r
+later_refused old mid new (Conflict n) was is same k room r = absurd r
+later_refused old mid new (UnknownTicket n) was is same k room r = absurd r
+later_refused old mid new NumbersSpent was is same k room r = absurd r
+later_refused old mid new Stale was is same k room r = absurd r
+later_refused old mid new SlotsHeld was is same k room r = absurd r
+later_refused old mid new VersionsSpent was is same k room r = absurd r
+later_refused old mid new PinsSpent was is same k room r = absurd r
 
 -- a refusal by the look for a slot
 pub slot_refused : (old mid : Held) (e : StateFault) (was is : Told) → mid ≡ record old { slots = mid.slots } → IsSlotRefusal old.slots mid.slots e → is ≡ was → IsRefusedLater old mid e was is

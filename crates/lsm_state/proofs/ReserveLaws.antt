@@ -22,7 +22,7 @@ use Rattle.lsm_live.specs.Booked.{Booked, live_of, lives_of, new_booked}
 use Rattle.lsm_live.specs.Reserving.{reserved_jobs}
 use Rattle.lsm_live.proofs.CallerLemmas.{live_has, live_says, lives_added, reserved_has}
 use Rattle.lsm_state.specs.Held.{HasInputs, Held, IsLawfulState, plain}
-use Rattle.lsm_state.specs.Reserving.{IsChosen, IsClosedPlan, IsOfMoment, IsRangePlan, IsRangeRefusal, IsReserveRefusal, IsReserving, plan_in, reserved}
+use Rattle.lsm_state.specs.Reserving.{IsChosen, IsClosedPlan, IsOfMoment, IsPlanAt, IsRangePlan, IsRangeRefusal, IsReserveRefusal, IsReserving, plan_in, reserved}
 use Rattle.lsm_state.specs.declared.state_fault.StateFault.{StateFault}
 use Rattle.lsm_state.specs.declared.state_fault.StateFault.TheVariants.{Conflict, NumbersSpent, OutOfMemory}
 use Rattle.lsm_state.proofs.StateLaws.{stepped}
@@ -152,14 +152,14 @@ pub refused_choice : (honest : Type 0) (h : Held) (p : TablePlan) (e : StateFaul
 refused_choice honest h p e going chosen (inl x) = subst (λ (f : StateFault). IsReserveRefusal honest h f) (sym x.0) (going, x.1, λ y. (p, chosen y))
 refused_choice honest h p e going chosen (inr x) = subst (λ (f : StateFault). IsReserveRefusal honest h f) (sym x) going
 
-pub refused_range : (honest : Type 0) (h : Held) (level : ℕ) (from to : UserKey) (p : TablePlan) (e : StateFault) → h.halted ≡ false → level ≤ 5 → (honest → IsRangePlan h level from to p) → IsClear p (reserved_jobs h.live)
+pub refused_range : (honest : Type 0) (h : Held) (level : ℕ) (from to : UserKey) (p : TablePlan) (e : StateFault) → h.halted ≡ false → level ≤ 5 → (honest → IsRangePlan h level from to p) → IsClear p (reserved_jobs h.live) → IsPlanAt h level p
     → ((e ≡ NumbersSpent) × (h.next_ticket ≡ 2 ^ 64 - 1)) ⊎ (e ≡ OutOfMemory) → IsRangeRefusal honest h level from to e
-refused_range honest h level from to p e going low planned clear (inl x) = subst (λ (f : StateFault). IsRangeRefusal honest h level from to f) (sym x.0) (going, low, x.1, (p, planned, clear))
-refused_range honest h level from to p e going low planned clear (inr x) = subst (λ (f : StateFault). IsRangeRefusal honest h level from to f) (sym x) (going, low)
+refused_range honest h level from to p e going low planned clear at (inl x) = subst (λ (f : StateFault). IsRangeRefusal honest h level from to f) (sym x.0) (going, low, x.1, (p, planned, clear, at))
+refused_range honest h level from to p e going low planned clear at (inr x) = subst (λ (f : StateFault). IsRangeRefusal honest h level from to f) (sym x) (going, low)
 
 pub refused_conflict : (honest : Type 0) (h : Held) (level : ℕ) (from to : UserKey) (p : TablePlan) (rs : List Reserved) (ticket : ℕ) → h.halted ≡ false → level ≤ 5 → (honest → IsRangePlan h level from to p)
-    → rs ≡ reserved_jobs h.live → IsLeastConflict p rs ticket → IsRangeRefusal honest h level from to (Conflict ticket)
-refused_conflict honest h level from to p rs ticket going low planned same k = (going, low, (p, planned, subst (λ (x : List Reserved). IsLeastConflict p x ticket) same k))
+    → rs ≡ reserved_jobs h.live → IsLeastConflict p rs ticket → IsPlanAt h level p → IsRangeRefusal honest h level from to (Conflict ticket)
+refused_conflict honest h level from to p rs ticket going low planned same k at = (going, low, (p, planned, subst (λ (x : List Reserved). IsLeastConflict p x ticket) same k, at))
 
 pub match_some : {A : Type 0} (o : Option A) (x : A) (P : Type 0) (Q : A → Type 0) → o ≡ Some x → MatchOption o P Q → Q x
 match_some {A} o x P Q e m = subst (λ (y : Option A). MatchOption y P Q) e m

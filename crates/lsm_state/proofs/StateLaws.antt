@@ -10,7 +10,7 @@ use Rattle.lsm_levels.specs.Files.{Lie}
 use Rattle.lsm_levels.proofs.CallerLemmas.{in_order_split}
 use Rattle.lsm_version.specs.Versions.{Levels, files, no_levels}
 use Rattle.lsm_machine.specs.Law.{Law}
-use Rattle.lsm_machine.specs.Plain.{Plain, created, without_snapshot}
+use Rattle.lsm_machine.specs.Plain.{Cancels, Draws, Plain, Releases, TakesSnapshot, created, without_snapshot}
 use Rattle.lsm_machine.specs.Runs.{Event, Step, Snapshot, Release, Cancel, Draw}
 use Rattle.lsm_machine.proofs.CallerLemmas.{step_law}
 use Rattle.lsm_slots.specs.Slots.{Looked, PinsMove, Slotted, first_slots, numbers_held}
@@ -61,10 +61,18 @@ pub taken_at : (h : Held) (taken : Taken) (id last : ℕ) → id ≡ h.snapshots
 taken_at h taken id last a b e = e ∙ (ap (λ i. let t : Taken = record { taken = h.snapshots.taken ++ (i, last) ∷ []; next = suc i } in t) a
     ∙ ap (λ n. let t : Taken = record { taken = h.snapshots.taken ++ (h.snapshots.next, n) ∷ []; next = suc h.snapshots.next } in t) b)
 
+-- the machine's events
+pub takes : (h : Held) (taken : Taken) → taken ≡ record { taken = h.snapshots.taken ++ (h.snapshots.next, h.slots.version.last) ∷ []; next = suc h.snapshots.next }
+    → TakesSnapshot (plain h) (plain (record h { snapshots = taken }))
+takes h taken is = ap (λ (t : Taken). plain (record h { snapshots = t })) is
+
+pub releases : (h : Held) (taken : Taken) (id : ℕ) → taken ≡ record h.snapshots { taken = without_snapshot id h.snapshots.taken } → Releases (plain h) id (plain (record h { snapshots = taken }))
+releases h taken id is = ap (λ (t : Taken). plain (record h { snapshots = t })) is
+
 pub lawful_taken : (honest : Type 0) (board : TableId) (h : Held) (taken : Taken) → IsLawfulState honest board h
     → taken ≡ record { taken = h.snapshots.taken ++ (h.snapshots.next, h.slots.version.last) ∷ []; next = suc h.snapshots.next } → IsLawfulState honest board (record h { snapshots = taken })
 lawful_taken honest board h taken l is = record {
-  law = stepped honest (plain h) Snapshot (plain (record h { snapshots = taken })) l.law (ap (λ (t : Taken). plain (record h { snapshots = t })) is);
+  law = stepped honest (plain h) Snapshot (plain (record h { snapshots = taken })) l.law (takes h taken is);
   journaled = l.journaled;
   below = l.below;
   pinners = l.pinners;
@@ -75,7 +83,7 @@ lawful_taken honest board h taken l is = record {
 pub lawful_released : (honest : Type 0) (board : TableId) (h : Held) (taken : Taken) (id : ℕ) → IsLawfulState honest board h
     → taken ≡ record h.snapshots { taken = without_snapshot id h.snapshots.taken } → IsLawfulState honest board (record h { snapshots = taken })
 lawful_released honest board h taken id l is = record {
-  law = stepped honest (plain h) (Release id) (plain (record h { snapshots = taken })) l.law (ap (λ (t : Taken). plain (record h { snapshots = t })) is);
+  law = stepped honest (plain h) (Release id) (plain (record h { snapshots = taken })) l.law (releases h taken id is);
   journaled = l.journaled;
   below = l.below;
   pinners = l.pinners;
@@ -95,11 +103,19 @@ booked_from ticket number [] b h = absurd h
 booked_from ticket number (c ∷ live) b (inl e) = (c, inl refl, sym (drawn_work number c (c.work.ticket == ticket)) ∙ ap (λ (x : Booked). x.work) e)
 booked_from ticket number (c ∷ live) b (inr h) = (let r = booked_from ticket number live b h in (r.0, inr r.1, r.2))
 
+-- the machine's events
+pub cancels : (h : Held) (live : List Booked) (ticket : ℕ) → live ≡ without ticket h.live → Cancels (plain h) ticket (plain (record h { live = live }))
+cancels h live ticket is = ap (λ (b : List Booked). plain (record h { live = b })) is ∙ ap (λ ls. record (plain h) { live = ls }) (lives_without ticket h.live)
+
+pub draws : (h : Held) (live : List Booked) (ticket next : ℕ) → live ≡ booked ticket h.next h.live → next ≡ suc h.next → Draws (plain h) ticket (plain (record h { live = live; next = next }))
+draws h live ticket next is more =
+    ap (λ (b : List Booked). plain (record h { live = b; next = next })) is
+    ∙ (ap (λ n. plain (record h { live = booked ticket h.next h.live; next = n })) more ∙ ap (λ ls. record (plain h) { live = ls; next = suc h.next }) (lives_booked ticket h.next h.live))
+
 pub lawful_cancelled : (honest : Type 0) (board : TableId) (h : Held) (live : List Booked) (ticket : ℕ) → IsLawfulState honest board h → live ≡ without ticket h.live
     → IsLawfulState honest board (record h { live = live })
 lawful_cancelled honest board h live ticket l is = record {
-  law = stepped honest (plain h) (Cancel ticket) (plain (record h { live = live })) l.law
-      (ap (λ (b : List Booked). plain (record h { live = b })) is ∙ ap (λ ls. record (plain h) { live = ls }) (lives_without ticket h.live));
+  law = stepped honest (plain h) (Cancel ticket) (plain (record h { live = live })) l.law (cancels h live ticket is);
   journaled = l.journaled;
   below = l.below;
   pinners = l.pinners;
@@ -110,9 +126,7 @@ lawful_cancelled honest board h live ticket l is = record {
 pub lawful_drawn : (honest : Type 0) (board : TableId) (h : Held) (live : List Booked) (ticket next : ℕ) → IsLawfulState honest board h → live ≡ booked ticket h.next h.live → next ≡ suc h.next
     → IsLawfulState honest board (record h { live = live; next = next })
 lawful_drawn honest board h live ticket next l is more = record {
-  law = stepped honest (plain h) (Draw ticket) (plain (record h { live = live; next = next })) l.law
-      (ap (λ (b : List Booked). plain (record h { live = b; next = next })) is
-      ∙ (ap (λ n. plain (record h { live = booked ticket h.next h.live; next = n })) more ∙ ap (λ ls. record (plain h) { live = ls; next = suc h.next }) (lives_booked ticket h.next h.live)));
+  law = stepped honest (plain h) (Draw ticket) (plain (record h { live = live; next = next })) l.law (draws h live ticket next is more);
   journaled = (l.journaled.0, later l.journaled.0 h.journal h.slots.version h.next next l.journaled.1 (omega arith), l.journaled.2);
   below = λ n k. (let lt = l.below n k in omega arith);
   pinners = l.pinners;

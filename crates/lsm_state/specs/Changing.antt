@@ -1,6 +1,6 @@
 -- What a change of the current version leaves of a state, and why it is refused (LevelDB's `VersionSet::LogAndApply`; slots, and a new
 -- manifest at a limit, are this project's rule).
-use Rattle.std.specs.Prelude.{◌≡◌, ℕ, ◌+◌, ◌-◌, ◌^◌, ◌≤◌, Bool, true, false, if◌then◌else◌, List, Option, Some, None, Err}
+use Rattle.std.specs.Prelude.{◌≡◌, ℕ, ◌+◌, ◌-◌, ◌^◌, ◌<◌, ◌≤◌, Bool, true, false, if◌then◌else◌, List, Option, Some, None, Err}
 use Rattle.lsm_shelf.specs.Told.{Told, CountedBy}
 use Rattle.lsm_shelf.specs.declared.shelf_fault.ShelfFault.{ShelfFault}
 use Rattle.lsm_shelf.specs.declared.shelf_fault.ShelfFault.TheVariants as shelf
@@ -22,6 +22,10 @@ pub record Sought (old new : Slotted) : Type 0 where
   pub looked : Looked old new
   pub known : (slot : ℕ) → IsFreeSlot old slot → new ≡ old
   pub looks : AllHeld old → looks_of new ≡ looks_of old + count_to_look_at old
+
+-- a slot is free, and an id is left for the version that comes next
+abbrev pub HasSlot : Slotted → Type 0
+HasSlot s = (slot : ℕ) × IsFreeSlot s slot × (current_id s < 2 ^ 28 - 1)
 
 -- Why no slot is found: none is free after every slot that may turn free was looked at; or the current version's id is the last one.
 abbrev pub IsSlotRefusal : Slotted → Slotted → StateFault → Type 0

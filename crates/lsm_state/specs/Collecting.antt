@@ -7,6 +7,8 @@ use Rattle.lsm_version.specs.Versions.{files}
 use Rattle.lsm_shelf.specs.Told.{Told, Becomes, Counted, CountedBy, NotTaken, listing}
 use Rattle.lsm_slots.specs.Slots.{Epoch, HasEpoch, Looked, count_to_look_at, looks_of}
 use Rattle.lsm_live.specs.Booked.{Booked}
+-- no count rose
+pub use Rattle.lsm_journal.specs.Recovering.{SameCounts}
 use Rattle.lsm_state.specs.Held.{Held}
 use Rattle.lsm_state.specs.declared.state_fault.StateFault.{StateFault}
 use Rattle.lsm_state.specs.declared.state_fault.StateFault.TheVariants.{Halted, OutOfMemory, Shelf}
@@ -55,10 +57,6 @@ abbrev pub IsMemoryOrShelf : StateFault → Told → Told → Type 0
 IsMemoryOrShelf OutOfMemory was is = Unit {0}
 IsMemoryOrShelf (Shelf fault) was is = Counted fault was is
 IsMemoryOrShelf e was is = ⊥
-
--- no count rose
-abbrev pub SameCounts : Told → Told → Type 0
-SameCounts was is = (is.faults ≡ was.faults) × (is.misses ≡ was.misses)
 
 -- What a refused call counted: a refusal of the shelf, which is no `Taken`, just once, and else nothing.
 abbrev pub IsCountedOnce : StateFault → Told → Told → Type 0

@@ -5,9 +5,10 @@ use Rattle.lsm_codec.specs.Entries.{Entry}
 use Rattle.lsm_shelf.specs.Told.{Told, Becomes, putting}
 use Rattle.lsm_table.specs.HeldTable.{entries_in}
 use Rattle.lsm_table.specs.Registry.{Table}
+use Rattle.lsm_table.specs.TableBuilding.{table_bytes}
 use Rattle.lsm_table.specs.declared.table_options.TableOptions.{TableOptions}
 use Rattle.lsm_version.specs.Versions.{IsWhole, level_in}
-use Rattle.lsm_slots.specs.Slots.{IsFreeSlot, Slotted}
+use Rattle.lsm_slots.specs.Slots.{Slotted}
 use Rattle.lsm_journal.specs.HeldManifest.{is_at_limit}
 use Rattle.lsm_journal.specs.Difference.{Difference}
 use Rattle.lsm_batch.specs.declared.batch_fault.BatchFault.{BatchFault}
@@ -15,7 +16,7 @@ use Rattle.lsm_batch.specs.declared.batch_fault.BatchFault.TheVariants as batch
 use Rattle.lsm_batch.specs.declared.write.Write.{Write}
 use Rattle.lsm_batch.specs.Batches.{IsBatch, IsBatchRefusal, entries_from}
 use Rattle.lsm_batch.specs.Images.{IsPutRefusal, PassesTable}
-use Rattle.lsm_state.specs.Changing.{ChangesVersion, IsChangeRefusal, IsSlotRefusal, Sought}
+use Rattle.lsm_state.specs.Changing.{ChangesVersion, HasSlot, IsChangeRefusal, IsSlotRefusal, Sought}
 use Rattle.lsm_state.specs.Collecting.{SameCounts}
 use Rattle.lsm_state.specs.Held.{Held}
 use Rattle.lsm_state.specs.Options.{sizes_of}
@@ -66,6 +67,8 @@ pub record Ingests (old new : Held) (ws : List Write) (r : Ingested) (was is : T
   pub mid : Told
   pub put : Becomes (putting old.next was) mid
   pub changes : ChangesVersion (with_number old slots) new (coming_in table (last_of old ws)) None mid is
+  -- the table is written with the options' sizes
+  pub bytes : table.image ≡ table_bytes (sizes_of old.options) (entries_of old ws)
 
 -- ---- refusals before anything is tried
 
@@ -134,12 +137,12 @@ FailsToPut old new e was is = (new ≡ with_number old new.slots) × IsPutFault 
 abbrev pub FailsToChange : Held → Held → StateFault → Told → Told → Type 0
 FailsToChange old new e was is = (mid : Told) × Becomes (putting old.next was) mid × SameCounts was mid × IsChangeRefusal (with_number old new.slots) new e mid is × Becomes mid is
 
--- Why an ingest is refused, and what it leaves. What can be tested first comes first, and leaves all as it was; then a slot is looked for; then
--- the table is built. From its put on the number is spent.
+-- Why an ingest is refused, and what it leaves. What can be tested first comes first, and leaves all as it was; then a slot is looked for; then,
+-- where one is free and an id is left, the table is built. From its put on the number is spent.
 abbrev pub IsIngestRefusal : Held → Held → List Write → StateFault → Told → Told → Type 0
 IsIngestRefusal old new ws e was is =
     (IsEarlyRefusal old ws e × (new ≡ old) × (is ≡ was))
-    ⊎ (IsWelcome old ws × (LacksSlot old new e was is ⊎ (Sought old.slots new.slots × ((slot : ℕ) × IsFreeSlot new.slots slot)
+    ⊎ (IsWelcome old ws × (LacksSlot old new e was is ⊎ (Sought old.slots new.slots × HasSlot new.slots
     × (FailsToBuild old new ws e was is ⊎ (FailsToPut old new e was is ⊎ FailsToChange old new e was is)))))
 
 -- ---- names of refusals

@@ -1,13 +1,13 @@
 -- Installs: the change that the result of a job makes, and why it is refused (LevelDB's `doc/impl.md`, "Compactions", and
 -- `Compaction::AddInputDeletions`; several jobs at a time are this project's rule).
-use Rattle.std.specs.Prelude.{◌≡◌, ℕ, suc, ◌-◌, ◌^◌, true, false, List, [], ◌∷◌, ◌++◌, ◌⊎◌, map, Option, Some, None}
+use Rattle.std.specs.Prelude.{◌≡◌, ℕ, suc, ◌-◌, ◌^◌, true, false, List, [], ◌∷◌, ◌++◌, ◌⊎◌, map, Option, Some, None, Err}
 use Rattle.std.specs.List.Sorted.{IsPermutation}
 use Rattle.std.specs.Ordering.{is_gt}
 use Rattle.lsm_codec.specs.Entries.{answer}
 use Rattle.lsm_codec.specs.Keys.{UserKey}
 use Rattle.lsm_codec.specs.Lists.{Has}
 use Rattle.lsm_levels.specs.Files.{all_entries}
-use Rattle.lsm_shelf.specs.Told.{Told}
+use Rattle.lsm_shelf.specs.Told.{Told, CountedBy}
 use Rattle.lsm_table.specs.Registry.{Table}
 use Rattle.lsm_manifest.specs.Replay.{Deletion}
 use Rattle.lsm_machine.specs.Plain.{IsReadable}
@@ -20,7 +20,8 @@ use Rattle.lsm_live.specs.Booked.{Booked}
 use Rattle.lsm_live.specs.Results.{IsLiveResult}
 use Rattle.lsm_journal.specs.HeldManifest.{is_at_limit}
 use Rattle.lsm_journal.specs.Difference.{Difference}
-use Rattle.lsm_state.specs.Changing.{ChangesVersion, IsChangeRefusal, IsSlotRefusal, Sought}
+use Rattle.lsm_journal.specs.Sending.{IsSendRefusal}
+use Rattle.lsm_state.specs.Changing.{ChangesVersion, HasSlot, IsSlotRefusal, Sought, halts, next_spent}
 use Rattle.lsm_state.specs.Held.{Held, plain}
 use Rattle.lsm_state.specs.declared.state_fault.StateFault.{StateFault}
 use Rattle.lsm_state.specs.declared.state_fault.StateFault.TheVariants.{Halted, NumbersSpent, OutOfMemory, Shelf, SlotsHeld, Stale, VersionsSpent}
@@ -106,13 +107,14 @@ IsRefusedAtOnce h d Halted = IsLive h d × (h.halted ≡ true)
 IsRefusedAtOnce h d NumbersSpent = IsLive h d × (h.halted ≡ false) × LacksNumber h
 IsRefusedAtOnce h d e = ⊥
 
--- Why it is refused after that, and what is left: no slot or no id, after looks; memory was refused; or the shelf refused the write of the
--- manifest.
+-- Why it is refused after that, and what is left: no slot or no id, after looks; or, where a slot is free and an id is left, memory was refused,
+-- or the shelf refused the write of the manifest, as `IsChangeRefusal` says.
 abbrev pub IsRefusedLater : Held → Held → StateFault → Told → Told → Type 0
 IsRefusedLater old new SlotsHeld was is = IsSlotRefusal old.slots new.slots SlotsHeld × (new ≡ record old { slots = new.slots }) × (is ≡ was)
 IsRefusedLater old new VersionsSpent was is = IsSlotRefusal old.slots new.slots VersionsSpent × (new ≡ record old { slots = new.slots }) × (is ≡ was)
-IsRefusedLater old new OutOfMemory was is = (new ≡ record old { slots = new.slots }) × (is ≡ was)
-IsRefusedLater old new (Shelf fault) was is = IsChangeRefusal (record old { slots = new.slots }) new (Shelf fault) was is
+IsRefusedLater old new OutOfMemory was is = (new ≡ record old { slots = new.slots }) × (is ≡ was) × HasSlot new.slots
+IsRefusedLater old new (Shelf fault) was is = (new ≡ record old { slots = new.slots; next = next_spent old; halted = halts fault })
+    × IsSendRefusal old.journal old.next fault was is × CountedBy {T = Unit {0}} (Err fault) was is × HasSlot new.slots
 IsRefusedLater old new e was is = ⊥
 
 -- A refused install: at once, and all is as before; or later, after a free slot was sought.

@@ -14,7 +14,7 @@ use Rattle.lsm_version.specs.declared.check.check_fault.CheckFault.{CheckFault}
 use Rattle.lsm_slots.specs.Slots.{first_slots}
 use Rattle.lsm_journal.specs.HeldManifest.{HeldManifest}
 use Rattle.lsm_journal.specs.Recorded.{IsRecorded}
-use Rattle.lsm_journal.specs.Recovering.{IsRecovered, IsRecoverRefusal}
+use Rattle.lsm_journal.specs.Recovering.{IsRecovered, IsRecoverRefusal, RecoverCounted}
 use Rattle.lsm_journal.specs.Sending.{RollsOver}
 use Rattle.lsm_state.specs.Held.{Held}
 use Rattle.lsm_state.specs.declared.options.Options.{Options}
@@ -159,3 +159,11 @@ IsStartRefusal Honest limit OutOfMemory was is = ⊥
 -- Why no database is opened: it could not be read; or no new manifest could begin.
 abbrev pub IsOpenRefusal : (ℕ → List ℕ → Type 0) → Type 0 → ℕ → OpenFault → Told → Told → Type 0
 IsOpenRefusal Stored Honest limit e was is = IsFindRefusal Stored Honest e was is ⊎ IsStartRefusal Honest limit e was is
+
+-- Where the manifest could not be read, the shelf was asked for it once, and a refusal counted once.
+abbrev pub IsReadOnce : OpenFault → Told → Told → Type 0
+IsReadOnce (Recover e) was is = RecoverCounted e was is
+IsReadOnce (Check e) was is = Unit {0}
+IsReadOnce (Shelf e) was is = Unit {0}
+IsReadOnce NumbersSpent was is = Unit {0}
+IsReadOnce OutOfMemory was is = Unit {0}

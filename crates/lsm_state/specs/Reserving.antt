@@ -7,7 +7,7 @@ use Rattle.lsm_machine.specs.Plain.{Reserves, floor_of}
 use Rattle.lsm_choice.specs.Choice.{IsChoice}
 use Rattle.lsm_choice.specs.RangesBelow.{AreRangesBelow}
 use Rattle.lsm_choice.specs.Reservations.{IsClear, IsLeastConflict}
-use Rattle.lsm_choice.specs.TablePlans.{IsPlanFrom, TablePlan, files_over, plan_of}
+use Rattle.lsm_choice.specs.TablePlans.{IsPlanFrom, StandsIn, TablePlan, files_over, plan_of}
 use Rattle.lsm_choice.specs.declared.plan_fault.PlanFault.{PlanFault}
 use Rattle.lsm_choice.specs.declared.plan_fault.PlanFault.TheVariants as planned
 use Rattle.lsm_merge.specs.Work.{Work, job_of}
@@ -67,14 +67,18 @@ IsReserveRefusal honest h e = ⊥
 abbrev pub IsRangePlan : Held → ℕ → UserKey → UserKey → TablePlan → Type 0
 IsRangePlan h level from to p = IsPlanFrom h.slots.version (Has (files_over h.slots.version level from to)) p
 
+-- Whatever the shelf is: the plan is one of the level, of tables that stand there and at the next level.
+abbrev pub IsPlanAt : Held → ℕ → TablePlan → Type 0
+IsPlanAt h level p = (p.level ≡ level) × StandsIn h.slots.version p
+
 -- Why there is no job of a range: the state is halted; or the level is above 5; or the plan conflicts with a live job, the least ticket of
 -- which is named; or it conflicts with none, but its ticket would be 2^64 - 1; or memory was refused.
 abbrev pub IsRangeRefusal : Type 0 → Held → ℕ → UserKey → UserKey → StateFault → Type 0
 IsRangeRefusal honest h level from to Halted = h.halted ≡ true
 IsRangeRefusal honest h level from to (BadLevel n) = (h.halted ≡ false) × (n ≡ level) × (5 < level)
 IsRangeRefusal honest h level from to (Conflict ticket) = (h.halted ≡ false) × (level ≤ 5)
-    × ((p : TablePlan) × (honest → IsRangePlan h level from to p) × IsLeastConflict p (reserved_jobs h.live) ticket)
+    × ((p : TablePlan) × (honest → IsRangePlan h level from to p) × IsLeastConflict p (reserved_jobs h.live) ticket × IsPlanAt h level p)
 IsRangeRefusal honest h level from to NumbersSpent = (h.halted ≡ false) × (level ≤ 5) × (h.next_ticket ≡ 2 ^ 64 - 1)
-    × ((p : TablePlan) × (honest → IsRangePlan h level from to p) × IsClear p (reserved_jobs h.live))
+    × ((p : TablePlan) × (honest → IsRangePlan h level from to p) × IsClear p (reserved_jobs h.live) × IsPlanAt h level p)
 IsRangeRefusal honest h level from to OutOfMemory = (h.halted ≡ false) × (level ≤ 5)
 IsRangeRefusal honest h level from to e = ⊥

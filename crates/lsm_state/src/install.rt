@@ -2,9 +2,11 @@
 
 ghost use Rattle.std.specs.Prelude.{◌≡◌, ◌-◌, ◌^◌, ◌<◌, ◌++◌, map, IfErr, IfOk, OnErr, OnOk};
 ghost use Rattle.lsm_shelf.specs.Told.{Becomes};
+ghost use Rattle.lsm_machine.specs.Plain.{Spends};
 ghost use Rattle.lsm_slots.specs.Slots.{IsFreeSlot, current_id};
 ghost use Rattle.lsm_state.specs.Changing.{IsChangeRefusal};
 ghost use Rattle.lsm_state.specs.Collecting.{SameCounts};
+ghost use Rattle.lsm_state.specs.Held.{plain};
 ghost use Rattle.lsm_state.specs.Installing.{Installed, IsInstallRefusal, IsInstalling, IsPutIn, IsRefusedAtOnce, MayInstall, SameAnswers};
 
 use crate::install_change::change_of;
@@ -95,6 +97,7 @@ impl<N: Boarded, S: Shelf> State<N, S> {
         ensures numbers { IfOk result (λ v. v.items ≡ map (λ t. t.number) done.now.outputs) }
         ensures answers { OnOk result (S.honest → SameAnswers self.old self.new) }
         ensures event { OnOk result (IsInstalling S.honest self.old done.now.work.ticket self.new) }
+        ensures event_err { OnErr result (Spends (plain self.old) (plain self.new)) }
         ensures counts { OnOk result (SameCounts (S.told shelf.old) (S.told shelf.new)) }
         ensures refused { IfErr result (λ e. IsInstallRefusal self.old self.new done.now e (S.told shelf.old) (S.told shelf.new)) }
         ensures unsent { OnErr result (Becomes (S.told shelf.old) (S.told shelf.new)) }
@@ -123,6 +126,7 @@ impl<N: Boarded, S: Shelf> State<N, S> {
         ensures numbers { IfOk result (λ v. v.items ≡ map (λ t. t.number) done.outputs) }
         ensures answers { OnOk result (S.honest → SameAnswers self.old self.new) }
         ensures event { OnOk result (IsInstalling S.honest self.old done.work.ticket self.new) }
+        ensures event_err { OnErr result (Spends (plain self.old) (plain self.new)) }
         ensures counts { OnOk result (SameCounts (S.told shelf.old) (S.told shelf.new)) }
         ensures back { IfErr result (λ e. e.1 ≡ done) }
         ensures refused { IfErr result (λ e. IsInstallRefusal self.old self.new done e.0 (S.told shelf.old) (S.told shelf.new)) }

@@ -4,7 +4,7 @@ ghost use Rattle.std.specs.Prelude.{◌≡◌, ℕ, ◌-◌, ◌^◌, false, tru
 ghost use Rattle.std.specs.Arc.{arc_value};
 ghost use Rattle.lsm_codec.specs.Lists.{Has};
 ghost use Rattle.lsm_state.specs.Making.{IsNewBoard};
-ghost use Rattle.lsm_state.specs.Opening.{IsBegun, IsFindRefusal, IsFound, IsLeastFree, IsOpenRefusal, opened_state};
+ghost use Rattle.lsm_state.specs.Opening.{IsBegun, IsFindRefusal, IsFound, IsLeastFree, IsOpenRefusal, IsReadOnce, opened_state};
 ghost use Rattle.lsm_state.specs.Options.{Fits};
 ghost use Rattle.lsm_state.specs.declared.open_fault.OpenFault.TheVariants.{NumbersSpent};
 
@@ -56,6 +56,7 @@ impl<N: Boarded, S: Shelf> Found<N, S> {
         requires named { arc_value registry.now ≡ N.registry }
         ensures found { IfOk result (λ f. IsFound S.honest limit f.journal f.version f.next (S.told shelf.old) (S.told shelf.new)) }
         ensures refused { IfErr result (λ e. IsFindRefusal (λ number image. (r : S.Receipt) × S.is_of N.place r × (S.Receipt.number r ≡ number) × (S.Receipt.image r ≡ image)) S.honest e (S.told shelf.old) (S.told shelf.new)) }
+        ensures counts_err { IfErr result (λ e. IsReadOnce e (S.told shelf.old) (S.told shelf.new)) }
     {
         recovered_is_recorded();
         let recovered = Journal::recover(rt, alloc, shelf, limit)?;
@@ -98,6 +99,7 @@ impl<N: Boarded, S: Shelf> State<N, S> {
         ensures begun { IfOk result (λ s. IsBegun S.honest options.manifest_limit s.journal s.slots.version s.next (S.told shelf.old) (S.told shelf.new)) }
         ensures opened { IfOk result (λ s. s ≡ opened_state options board.0 board.1.items s.slots.version s.journal s.next false) }
         ensures refused { IfErr result (λ e. IsOpenRefusal (λ number image. (r : S.Receipt) × S.is_of N.place r × (S.Receipt.number r ≡ number) × (S.Receipt.image r ≡ image)) S.honest options.manifest_limit e (S.told shelf.old) (S.told shelf.new)) }
+        ensures counts_err { IfErr result (λ e. IsReadOnce e (S.told shelf.old) (S.told shelf.new)) }
     {
         let (publisher, pinners) = board;
         let found = Found::read(rt, alloc, shelf, &registry, options.manifest_limit)?;
@@ -142,6 +144,7 @@ impl<N: Boarded, S: Shelf> State<N, S> {
         ensures found { IfOk result (λ s. IsFound S.honest options.manifest_limit s.journal s.slots.version s.next (S.told shelf.old) (S.told shelf.new)) }
         ensures opened { IfOk result (λ s. s ≡ opened_state options board.0 board.1.items s.slots.version s.journal s.next true) }
         ensures refused { IfErr result (λ e. IsFindRefusal (λ number image. (r : S.Receipt) × S.is_of N.place r × (S.Receipt.number r ≡ number) × (S.Receipt.image r ≡ image)) S.honest e (S.told shelf.old) (S.told shelf.new)) }
+        ensures counts_err { IfErr result (λ e. IsReadOnce e (S.told shelf.old) (S.told shelf.new)) }
     {
         let (publisher, pinners) = board;
         let found = Found::read(rt, alloc, shelf, &registry, options.manifest_limit)?;

@@ -7,8 +7,9 @@ ghost use Rattle.lsm_codec.specs.Lists.{Has};
 ghost use Rattle.lsm_levels.specs.Files.{all_entries};
 ghost use Rattle.lsm_shelf.specs.Told.{Becomes};
 ghost use Rattle.lsm_version.specs.Versions.{files};
-ghost use Rattle.lsm_machine.specs.Plain.{without_snapshot};
+ghost use Rattle.lsm_machine.specs.Plain.{Releases, TakesSnapshot, without_snapshot};
 ghost use Rattle.lsm_slots.specs.Snapshots.{HasId};
+ghost use Rattle.lsm_state.specs.Held.{plain};
 ghost use Rattle.lsm_state.specs.Reading.{IsNoBadTable, IsReadRefusal, IsSequence, IsUnknown};
 ghost use Rattle.lsm_state.specs.declared.state_fault.StateFault.TheVariants.{NumbersSpent, OutOfMemory, UnknownSnapshot};
 
@@ -55,6 +56,7 @@ impl<N: Boarded, S: Shelf> State<N, S> {
     /// A snapshot at the last sequence, under the next id, which it answers. `NumbersSpent` where the next id would be 2^64 - 1.
     pub fn snapshot(&mut self) -> Result<u64, StateFault>
         ensures ok { IfOk result (λ id. (id ≡ self.old.snapshots.next) × (self.new ≡ record self.old { snapshots = record { taken = self.old.snapshots.taken ++ (id, self.old.slots.version.last) ∷ []; next = suc id } })) }
+        ensures event { OnOk result (TakesSnapshot (plain self.old) (plain self.new)) }
         ensures spent { IfOk result (λ id. self.old.snapshots.next ≡ 2 ^ 64 - 1 → ⊥) }
         ensures err { OnErr result (self.new ≡ self.old) }
         ensures refused { IfErr result (λ e. ((e ≡ NumbersSpent) × (self.old.snapshots.next ≡ 2 ^ 64 - 1)) ⊎ ((e ≡ OutOfMemory) × (self.old.snapshots.next ≡ 2 ^ 64 - 1 → ⊥))) }
@@ -70,6 +72,7 @@ impl<N: Boarded, S: Shelf> State<N, S> {
     /// Gives up the snapshot of this id. `UnknownSnapshot` where it is not live.
     pub fn release(&mut self, id: u64) -> Result<(), StateFault>
         ensures ok { OnOk result (HasId self.old.snapshots.taken id × (self.new ≡ record self.old { snapshots = record self.old.snapshots { taken = without_snapshot id self.old.snapshots.taken } })) }
+        ensures event { OnOk result (Releases (plain self.old) id (plain self.new)) }
         ensures err { OnErr result (self.new ≡ self.old) }
         ensures refused { IfErr result (λ e. (e ≡ UnknownSnapshot id) × (HasId self.old.snapshots.taken id → ⊥)) }
     {

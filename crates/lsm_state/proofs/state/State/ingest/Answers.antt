@@ -1,10 +1,12 @@
+use Rattle.std.proofs.Common.{refl, arith}
 use Rattle.lsm_shelf.specs.Told.{Told}
 use Rattle.lsm_table.specs.Registry.{Table}
 use Rattle.lsm_batch.specs.declared.write.Write.{Write}
 use Rattle.std.specs.Prelude.{List}
 use Rattle.lsm_state.specs.Held.{Held, plain}
 use Rattle.lsm_state.specs.Ingesting.{IsIngestRefusal, entries_of, last_of}
-use Rattle.lsm_state.proofs.IngestLaws.{change_of, entries_gained, err_is, event_after, inputs_grown, law_grown, numbered, refused_change, refused_put, suits_grown, table_of, version_stays}
+use Rattle.lsm_state.proofs.IngestLaws.{change_of, change_spent, entries_gained, err_is, event_after, inputs_grown, law_grown, numbered, numbered_spends, put_spends, refused_change, refused_put, slots_spend, suits_grown, table_of, version_stays}
+use Rattle.lsm_state.proofs.Removing.{on_err}
 use Rattle.lsm_state.proofs.state.State.ingest.Goals as goal
 
 pub returns-in_err-table-clause-refused : goal.returns-in_err-table-clause-refused
@@ -15,7 +17,7 @@ returns-in_err-table-clause-refused g c =
     let was : Told = g.S.Shelf.told c.args.shelf.now in
     let is : Told = g.S.Shelf.told c.put_batch.new.shelf in
     err_is (λ e. IsIngestRefusal h y ws e was is) c.from_residual-in_err-table.result c.in_err-table.field-0.0 c.from_residual-in_err-table.ensures.1
-    (refused_put h c.find_slot.new.self y ws c.in_err-table.field-0.0 c.in_ok-slot.slot was is c.in_ok-may_ingest.ensures.ok c.find_slot.ensures.sought c.find_slot.ensures.rest c.in_ok-slot.ensures.ok.0
+    (refused_put h c.find_slot.new.self y ws c.in_err-table.field-0.0 was is c.in_ok-may_ingest.ensures.ok c.find_slot.ensures.sought c.find_slot.ensures.rest (c.in_ok-slot.slot, c.in_ok-slot.ensures.ok.0, c.in_ok-slot.ensures.ok.1)
     c.in_err-table.ensures.slots c.in_err-table.ensures.refused)
 
 pub change_version-requires-clause-suits : goal.change_version-requires-clause-suits
@@ -64,8 +66,8 @@ returns-in_err-change_version-clause-refused g c =
     let mid : Told = g.S.Shelf.told c.put_batch.new.shelf in
     let is : Told = g.S.Shelf.told c.change_version.new.shelf in
     err_is (λ e. IsIngestRefusal h y ws e was is) c.from_residual-in_err-change_version.result c.in_err-change_version.field-0.0 c.from_residual-in_err-change_version.ensures.1
-    (refused_change h c.find_slot.new.self c.put_batch.new.self y ws c.in_err-change_version.field-0.0 c.in_ok-slot.slot was mid is c.in_ok-may_ingest.ensures.ok c.find_slot.ensures.sought
-    c.find_slot.ensures.rest c.in_ok-slot.ensures.ok.0 c.in_ok-table.ensures.ok c.in_ok-table.ensures.told c.in_ok-table.ensures.counts c.in_err-change_version.ensures.refused c.in_err-change_version.ensures.unsent)
+    (refused_change h c.find_slot.new.self c.put_batch.new.self y ws c.in_err-change_version.field-0.0 was mid is c.in_ok-may_ingest.ensures.ok c.find_slot.ensures.sought
+    c.find_slot.ensures.rest (c.in_ok-slot.slot, c.in_ok-slot.ensures.ok.0, c.in_ok-slot.ensures.ok.1) c.in_ok-table.ensures.ok c.in_ok-table.ensures.told c.in_ok-table.ensures.counts c.in_err-change_version.ensures.refused c.in_err-change_version.ensures.unsent)
 
 pub returns-clause-event : goal.returns-clause-event
 returns-clause-event g c =
@@ -83,3 +85,31 @@ returns-clause-event g c =
 
 pub returns-clause-entries : goal.returns-clause-entries
 returns-clause-entries g c = entries_gained (plain c.args.self.now) (entries_of c.args.self.now c.args.batch.now) (plain c.change_version.new.self) (returns-clause-event g c)
+
+pub returns-in_err-may_ingest-clause-event_err : goal.returns-in_err-may_ingest-clause-event_err
+returns-in_err-may_ingest-clause-event_err g c = on_err c.from_residual.result (c.args.self.now.next, omega arith, refl)
+
+pub returns-in_err-slot-clause-event_err : goal.returns-in_err-slot-clause-event_err
+returns-in_err-slot-clause-event_err g c =
+    let m : Held = c.find_slot.new.self in
+    on_err c.from_residual-in_err-slot.result (slots_spend c.args.self.now m m.slots c.find_slot.ensures.sought c.find_slot.ensures.rest)
+
+pub returns-in_err-table-clause-event_err : goal.returns-in_err-table-clause-event_err
+returns-in_err-table-clause-event_err g c =
+    let was : Told = g.S.Shelf.told c.args.shelf.now in
+    let is : Told = g.S.Shelf.told c.put_batch.new.shelf in
+    on_err c.from_residual-in_err-table.result
+    (put_spends c.args.self.now c.find_slot.new.self c.put_batch.new.self c.args.batch.now c.in_err-table.field-0.0 was is c.find_slot.ensures.sought c.find_slot.ensures.rest c.in_err-table.ensures.slots
+    c.in_err-table.ensures.refused)
+
+pub returns-in_err-change-clause-event_err : goal.returns-in_err-change-clause-event_err
+returns-in_err-change-clause-event_err g c =
+    on_err c.from_residual-in_err-change.result (numbered_spends c.args.self.now c.find_slot.new.self c.put_batch.new.self c.find_slot.ensures.sought c.find_slot.ensures.rest c.in_ok-table.ensures.ok)
+
+pub returns-in_err-change_version-clause-event_err : goal.returns-in_err-change_version-clause-event_err
+returns-in_err-change_version-clause-event_err g c =
+    let mid : Told = g.S.Shelf.told c.put_batch.new.shelf in
+    let is : Told = g.S.Shelf.told c.change_version.new.shelf in
+    on_err c.from_residual-in_err-change_version.result
+    (change_spent c.args.self.now c.find_slot.new.self c.put_batch.new.self c.change_version.new.self c.in_err-change_version.field-0.0 mid is c.find_slot.ensures.sought c.find_slot.ensures.rest c.in_ok-table.ensures.ok
+    c.in_err-change_version.ensures.refused)

@@ -25,7 +25,7 @@ returns-in-Some-conflict-clause-refused g c =
     refused_conflict g.S.Shelf.honest h c.args.level c.args.from.now c.args.to.now p rs c.in-Some-conflict.ticket going (subst (λ n. n ≤ 5) level stands.level)
     (λ y. planned_at h v c.args.level c.args.from.now c.args.to.now p at
     (match_some c.in_ok-plan.field-0 p (tables_over v c.args.level c.args.from.now c.args.to.now ≡ []) (λ (q : TablePlan). IsPlanFrom v (Has (files_over v c.args.level c.args.from.now c.args.to.now)) q) c.in-Some.is (c.in_ok-plan.ensures.planned y)))
-    live found
+    live found (level, subst (λ (x : Levels). StandsIn x p) at stands)
 
 pub book-requires-clause-closed : goal.book-requires-clause-closed
 book-requires-clause-closed g c κs within honest =
@@ -51,6 +51,6 @@ returns-in_err-book-clause-refused g c =
     let refused : IsRangeRefusal g.S.Shelf.honest h c.args.level c.args.from.now c.args.to.now e = refused_range g.S.Shelf.honest h c.args.level c.args.from.now c.args.to.now p e going (subst (λ n. n ≤ 5) level stands.level)
     (λ y. planned_at h v c.args.level c.args.from.now c.args.to.now p at
     (match_some c.in_ok-plan.field-0 p (tables_over v c.args.level c.args.from.now c.args.to.now ≡ []) (λ (q : TablePlan). IsPlanFrom v (Has (files_over v c.args.level c.args.from.now c.args.to.now)) q) c.in-Some.is (c.in_ok-plan.ensures.planned y)))
-    clear c.in_err-book.ensures.refused in
+    clear (level, subst (λ (x : Levels). StandsIn x p) at stands) c.in_err-book.ensures.refused in
     if_err c.from_residual-in_err-book.result _ (IsRangeRefusal g.S.Shelf.honest h c.args.level c.args.from.now c.args.to.now) c.from_residual-in_err-book.ensures.1
     (λ f k. subst (IsRangeRefusal g.S.Shelf.honest h c.args.level c.args.from.now c.args.to.now) (sym k) refused)

@@ -1,10 +1,13 @@
-use Rattle.std.proofs.Common.{refl, sym, subst, inr}
-use Rattle.std.proofs.lemmas.Result.{on_ok_weaker}
+use Rattle.std.proofs.Common.{refl, sym, subst, inr, arith}
+use Rattle.std.proofs.lemmas.Result.{IfErr-weaker, on_ok_weaker}
 use Rattle.lsm_merge.specs.Work.{Done}
 use Rattle.lsm_state.specs.Held.{Held}
+use Rattle.lsm_state.specs.Changing.{HasSlot, IsChangeRefusal}
 use Rattle.lsm_state.specs.Installing.{IsInstallRefusal}
 use Rattle.lsm_state.specs.declared.state_fault.StateFault.{StateFault}
-use Rattle.lsm_state.proofs.InstallLaws.{answers_looked, installed_looked, installing_looked, slot_refused}
+use Rattle.lsm_state.proofs.InstallLaws.{answers_looked, installed_looked, installing_looked, later_refused, later_spends, looked_spends, slot_refused}
+use Rattle.lsm_state.proofs.ChangeLaws.{on_err_from}
+use Rattle.lsm_state.proofs.Removing.{on_err}
 use Rattle.lsm_state.proofs.ReserveLaws.{if_err}
 use Rattle.lsm_state.proofs.state.State.try_install.Goals as goal
 
@@ -34,3 +37,32 @@ pub returns-clause-event : goal.returns-clause-event
 returns-clause-event g c =
     on_ok_weaker c.put_in.result
     (λ r. installing_looked g.S.Shelf.honest c.args.self.now c.find_slot.new.self c.put_in.new.self c.args.done.now.work.ticket c.in_ok-slot.ensures.rest (c.in_ok-slot.ensures.sought).looked r) c.put_in.ensures.event
+
+pub returns-clause-refused : goal.returns-clause-refused
+returns-clause-refused g c =
+    let h : Held = c.args.self.now in
+    let mid : Held = c.find_slot.new.self in
+    let new : Held = c.put_in.new.self in
+    let d : Done = c.args.done.now in
+    let was = g.S.Shelf.told c.args.shelf.now in
+    let is = g.S.Shelf.told c.put_in.new.shelf in
+    let room : HasSlot mid.slots = (c.in_ok-slot.slot, c.in_ok-slot.ensures.ok.0, c.in_ok-slot.ensures.ok.1) in
+    IfErr-weaker c.put_in.result (λ (e : StateFault). IsChangeRefusal mid new e was is) (λ (e : StateFault). IsInstallRefusal h new d e was is)
+    (λ e k. (let r = later_refused h mid new e was is c.in_ok-slot.ensures.rest c.in_ok-slot.ensures.sought room k in inr (c.in_ok-admit.ensures.ok, r.0, r.1))) c.put_in.ensures.refused
+
+pub returns-in_err-admit-clause-event_err : goal.returns-in_err-admit-clause-event_err
+returns-in_err-admit-clause-event_err g c = on_err c.from_residual.result (c.args.self.now.next, omega arith, refl)
+
+pub returns-in_err-slot-clause-event_err : goal.returns-in_err-slot-clause-event_err
+returns-in_err-slot-clause-event_err g c =
+    on_err c.from_residual-in_err-slot.result (looked_spends c.args.self.now c.find_slot.new.self c.in_err-slot.ensures.rest (c.in_err-slot.ensures.sought).looked)
+
+pub returns-clause-event_err : goal.returns-clause-event_err
+returns-clause-event_err g c =
+    let h : Held = c.args.self.now in
+    let mid : Held = c.find_slot.new.self in
+    let new : Held = c.put_in.new.self in
+    let was = g.S.Shelf.told c.args.shelf.now in
+    let is = g.S.Shelf.told c.put_in.new.shelf in
+    on_err_from c.put_in.result (λ (e : StateFault). IsChangeRefusal mid new e was is)
+    (λ e k. later_spends h mid new e was is c.in_ok-slot.ensures.rest (c.in_ok-slot.ensures.sought).looked k) c.put_in.ensures.refused
