@@ -1,9 +1,8 @@
 #!/usr/bin/env bash
-# Not yet run to its end: the program is not proved whole.
 # Times the compaction of four tables of level 0 with 250,000 entries each (keys of 16 bytes, values of 100) over a shelf in memory: with
 # disjoint keys, and with the same keys in every table. Where libleveldb-dev is there, the real LevelDB merges tables of the same entries
 # in /dev/shm, by one thread too. Prints MB of input a second, the most of TURNS (5) turns, and how much of LevelDB's that is. Then the memory
-# that a compaction in a folder takes at most, with tables of 1, 4 and 16 times the size.
+# that a compaction in a folder takes at most, with input of 1, 4 and 16 times the size.
 # Needs rt. Proves the program in a scratch folder first, over what crates/*/out keep.
 set -euo pipefail
 here=$(cd "$(dirname "$0")" && pwd)
@@ -108,9 +107,9 @@ awk '
     }' "$scratch/figures" | sort
 
 rm -rf "${shared:?}"/*
-for entries in 62500 250000 1000000; do
+for tables in 16 64 256; do
     mkdir "$shared/tables"
-    /usr/bin/time -f %M -o "$scratch/peak" "$bench/out/bench_compaction" "$shared/tables" "$entries" > "$scratch/memory"
-    echo "memory: four tables of $entries entries, $(awk '$2 ~ /^bytes/ { print int($3 / 1000000) }' "$scratch/memory") MB: at most $(cat "$scratch/peak") kB"
+    /usr/bin/time -f %M -o "$scratch/peak" "$bench/out/bench_compaction" "$shared/tables" "$tables" > "$scratch/memory"
+    echo "memory: $tables tables of 15625 entries, $(awk '$2 ~ /^bytes/ { print int($3 / 1000000) }' "$scratch/memory") MB: at most $(cat "$scratch/peak") kB"
     rm -rf "$shared/tables"
 done
