@@ -1,0 +1,50 @@
+-- What an `ingest` leaves, and why it is refused (this project's rule).
+use Rattle.std.specs.Prelude.{◌≡◌, ◌≢◌, ℕ, ◌⊎◌, Bool, List, [], ◌∷◌, ◌++◌, codes, decimal, Option}
+use Rattle.std.specs.Io.KnownBytes.{Appends, Keeps}
+use Rattle.lsm_shelf.specs.Told.{Told}
+use Rattle.lsm_batch.specs.declared.write.Write.{Write}
+use Rattle.lsm_state.specs.Held.{Held}
+use Rattle.lsm_state.specs.Ingesting.{Ingests, IsIngestRefusal}
+use Rattle.lsm_state.specs.declared.ingest.Ingested.{Ingested}
+use Rattle.lsm_state.specs.declared.state_fault.StateFault.{StateFault}
+use Rattle.lsm_writer.specs.Starting.{IsStarted, IsStartRefusal}
+use Rattle.lsm_writer.specs.declared.writer_fault.WriterFault.{WriterFault}
+use Rattle.lsm_writer.specs.declared.writer_fault.WriterFault.TheVariants.{OutOfMemory, Write as WriteFault, State}
+
+-- `file N first F last L`
+abbrev pub ingest_text : Ingested → List ℕ
+ingest_text r = codes "file " ++ (decimal r.file ++ (codes " first " ++ (decimal r.first ++ (codes " last " ++ (decimal r.last ++ (10 ∷ []))))))
+
+-- The directory was begun or opened, and then the batch came in.
+pub record ComesIn (Honest : Type 0) (is_new : Bool) (ws : List Write) (r : Ingested) (was is : Told) : Type 0 where
+  pub before : Held
+  pub after : Held
+  pub mid : Told
+  pub started : IsStarted Honest is_new before was mid
+  pub ingested : Ingests before after ws r mid is
+
+-- It came in, and the reply was written.
+abbrev pub IsBroughtIn : Type 0 → Bool → List Write → Told → Told → Option (List ℕ) → Option (List ℕ) → Type 0
+IsBroughtIn Honest is_new ws was is old new = (r : Ingested) × ComesIn Honest is_new ws r was is × Appends old new (ingest_text r)
+
+-- The directory was begun or opened, and then the state refused the batch.
+pub record StaysOut (Honest : Type 0) (is_new : Bool) (ws : List Write) (fault : StateFault) (was is : Told) : Type 0 where
+  pub before : Held
+  pub after : Held
+  pub mid : Told
+  pub started : IsStarted Honest is_new before was mid
+  pub refused : IsIngestRefusal before after ws fault mid is
+
+-- What a fault says: memory ran out before the shelf was asked for anything; the directory was not begun or opened; the state refused the
+-- batch; or it came in, and the reply was not written.
+abbrev pub IsIngestFault : (ℕ → List ℕ → Type 0) → Type 0 → Bool → List Write → WriterFault → Told → Told → Type 0
+IsIngestFault Stored Honest is_new ws e was is =
+    ((e ≡ OutOfMemory) × (is ≡ was))
+    ⊎ (IsStartRefusal Stored Honest is_new e was is
+    ⊎ (((fault : StateFault) × (e ≡ State fault) × StaysOut Honest is_new ws fault was is)
+    ⊎ ((e ≡ WriteFault) × ((r : Ingested) × ComesIn Honest is_new ws r was is))))
+
+-- What a refusal is: what the fault says; and, unless a write failed, nothing was written on standard output.
+pub record IsRefused (Stored : ℕ → List ℕ → Type 0) (Honest : Type 0) (is_new : Bool) (ws : List Write) (fault : WriterFault) (was is : Told) (old new : Option (List ℕ)) : Type 0 where
+  pub says : IsIngestFault Stored Honest is_new ws fault was is
+  pub left : fault ≢ WriteFault → Keeps old new

@@ -1,0 +1,5 @@
+pub mod WritingLine
+pub mod BatchText
+pub mod WriterFault
+pub mod Starting
+pub mod Ingesting

@@ -1,0 +1,72 @@
+//! A batch comes into a directory.
+
+ghost use Rattle.std.specs.Prelude.{◌≡◌, ◌≢◌, IfErr, OnOk};
+ghost use Rattle.std.specs.Arc.{arc_value};
+ghost use Rattle.std.specs.Io.KnownBytes.{Appends, Keeps};
+ghost use Rattle.lsm_state.specs.Making.{IsNewBoard};
+ghost use Rattle.lsm_writer.specs.Ingesting.{IsBroughtIn, IsIngestFault, ingest_text};
+ghost use Rattle.lsm_writer.specs.Starting.{usual};
+ghost use Rattle.lsm_writer.specs.declared.writer_fault.WriterFault.TheVariants.{Write as WriteFault};
+
+use crate::ends::{Ends, make_ends};
+use crate::starting::start;
+use crate::writer_fault::WriterFault;
+use lsm_batch::Batch;
+use lsm_slots::Boarded;
+use lsm_state::{Ingested, State};
+use lsm_table::Shelf;
+use std::alloc::Global;
+use std::io::{self, Write};
+use std::marker::Brand;
+use std::sync::Wait;
+
+/// Writes the reply, and flushes.
+fn reply<O: Write>(out: &mut O, ingested: Ingested) -> io::Result<()>
+    ensures written { OnOk result (Appends (O.contents out.old) (O.contents out.new) (ingest_text ingested)) }
+{
+    let Ingested { file, first, last } = ingested;
+    writeln!(out, "file {file} first {first} last {last}")?;
+    out.flush()
+}
+
+/// Begins or opens the directory of a shelf, brings a batch in, and writes the reply.
+fn bring_in_as<N: Boarded, S: Shelf, R: Wait, O: Write>(
+    rt: &R,
+    alloc: Global,
+    shelf: &mut S,
+    is_new: bool,
+    ends: Ends<S>,
+    batch: &Batch,
+    out: &mut O,
+) -> Result<(), WriterFault>
+    requires here { (S.told shelf.old).place ≡ N.place }
+    requires named { arc_value ends.registry ≡ N.registry }
+    requires board { IsNewBoard N.board usual ends.publisher ends.pinners.items }
+    ensures done { OnOk result (IsBroughtIn S.honest is_new batch.now (S.told shelf.old) (S.told shelf.new) (O.contents out.old) (O.contents out.new)) }
+    ensures fault { IfErr result (λ e. IsIngestFault (λ number image. (r : S.Receipt) × S.is_of N.place r × (S.Receipt.number r ≡ number) × (S.Receipt.image r ≡ image)) S.honest is_new batch.now e (S.told shelf.old) (S.told shelf.new)) }
+    ensures left { IfErr result (λ e. e ≢ WriteFault → Keeps (O.contents out.old) (O.contents out.new)) }
+{
+    let mut state: State<N, S> = start(rt, alloc, shelf, is_new, ends)?;
+    let ingested = state.ingest(rt, alloc, shelf, batch)?;
+    match reply(out, ingested) {
+        Ok(()) => Ok(()),
+        Err(_) => Err(WriterFault::Write),
+    }
+}
+
+/// Begins a database on the shelf, or opens the one that is there, brings a batch in, and writes `file N first F last L`.
+pub(crate) fn bring_in<S: Shelf, R: Wait, O: Write>(
+    rt: &R,
+    alloc: Global,
+    shelf: &mut S,
+    is_new: bool,
+    batch: &Batch,
+    out: &mut O,
+) -> Result<(), WriterFault>
+    ensures done { OnOk result (IsBroughtIn S.honest is_new batch.now (S.told shelf.old) (S.told shelf.new) (O.contents out.old) (O.contents out.new)) }
+    ensures fault { IfErr result (λ e. IsIngestFault (λ number image. (r : S.Receipt) × S.is_of (S.told shelf.old).place r × (S.Receipt.number r ≡ number) × (S.Receipt.image r ≡ image)) S.honest is_new batch.now e (S.told shelf.old) (S.told shelf.new)) }
+    ensures left { IfErr result (λ e. e ≢ WriteFault → Keeps (O.contents out.old) (O.contents out.new)) }
+{
+    let ends = make_ends(alloc)?;
+    bring_in_as::<Brand, S, R, O>(rt, alloc, shelf, is_new, ends, batch, out)
+}

@@ -1,0 +1,110 @@
+//! One run of a command that writes a directory.
+
+ghost use Rattle.std.specs.Prelude.{◌≡◌, ◌≢◌, ◌≤◌, IfErr, OnErr, OnOk};
+ghost use Rattle.lsm_writer.specs.Ingesting.{IsBroughtIn, IsRefused};
+
+use crate::batch_text::read_batch;
+use crate::ingesting::bring_in;
+use crate::writer_fault::WriterFault;
+use crate::writing_command::WritingCommand;
+use crate::writing_line::WritingLine;
+use lsm_batch::Batch;
+use lsm_shelf::{FileShelf, SystemShelf};
+use lsm_table::Shelf;
+use std::alloc::Global;
+use std::fs;
+use std::io::{self, Write};
+use std::sync::Wait;
+
+/// Writes the line of a fault, and flushes.
+fn tell<E: Write>(err: &mut E, fault: &WriterFault) -> io::Result<()> {
+    writeln!(err, "{fault}")?;
+    err.flush()
+}
+
+/// The exit status of a command, and the line of its fault.
+fn status_of<E: Write>(done: Result<(), WriterFault>, err: &mut E) -> u8
+    ensures ok { OnOk done (result ≡ 0) }
+    ensures err { OnErr done (result ≡ 1) }
+{
+    match done {
+        Ok(()) => 0,
+        Err(fault) => {
+            let _ = tell(err, &fault);
+            1
+        }
+    }
+}
+
+/// Begins a database on the shelf, or opens the one that is there, brings a batch in, writes `file N first F last L`, and answers the
+/// exit status: 0 where it is done, and 1 where it is refused. A fault is one line on `err`.
+pub fn ingest<S: Shelf, R: Wait, O: Write, E: Write>(
+    rt: &R,
+    alloc: Global,
+    shelf: &mut S,
+    is_new: bool,
+    batch: &Batch,
+    out: &mut O,
+    err: &mut E,
+) -> u8
+    ensures done { result ≡ 0 → IsBroughtIn S.honest is_new batch.now (S.told shelf.old) (S.told shelf.new) (O.contents out.old) (O.contents out.new) }
+    ensures refused { result ≢ 0 → (result ≡ 1) × ((fault : WriterFault) × IsRefused (λ number image. (r : S.Receipt) × S.is_of (S.told shelf.old).place r × (S.Receipt.number r ≡ number) × (S.Receipt.image r ≡ image)) S.honest is_new batch.now fault (S.told shelf.old) (S.told shelf.new) (O.contents out.old) (O.contents out.new)) }
+{
+    let done = bring_in(rt, alloc, shelf, is_new, batch, out);
+    status_of(done, err)
+}
+
+/// The batch of the file of this path. `Read` where it cannot be opened.
+fn batch_at(files: &HostRuntime, path: &str) -> Result<Batch, WriterFault> {
+    match fs::open(files, path) {
+        Ok(mut file) => read_batch(files.alloc(), &mut file),
+        Err(error) if error.kind() == io::ErrorKind::OutOfMemory => Err(WriterFault::OutOfMemory),
+        Err(_) => Err(WriterFault::Read),
+    }
+}
+
+/// Whether no file `CURRENT` is found in the folder of this path.
+fn is_without_current(files: &HostRuntime, path: &str) -> Result<bool, WriterFault> {
+    let current = format!(in files.alloc(); "{path}/CURRENT")?;
+    Ok(matches!(fs::exists(files, current.as_str()), Ok(false)))
+}
+
+/// Does what a line asks of a folder of the system.
+fn obey<R: Wait, O: Write>(
+    rt: &R,
+    files: HostRuntime,
+    line: &WritingLine<'_>,
+    out: &mut O,
+) -> Result<(), WriterFault> {
+    let alloc = files.alloc();
+    match line.command {
+        WritingCommand::Ingest(file) => {
+            let batch = batch_at(&files, file)?;
+            let is_new = is_without_current(&files, line.path)?;
+            let mut shelf = open_shelf(files, line.path)?;
+            bring_in(rt, alloc, &mut shelf, is_new, &batch, out)
+        }
+    }
+}
+
+/// The shelf on the folder of this path.
+fn open_shelf(files: HostRuntime, path: &str) -> Result<SystemShelf<HostRuntime>, WriterFault> {
+    match FileShelf::open(files, path) {
+        Ok(shelf) => Ok(shelf),
+        Err(fault) => Err(WriterFault::of_shelf(fault)),
+    }
+}
+
+/// Does what a line asks of a folder of the system, and answers the exit status.
+pub fn run<R: Wait, O: Write, E: Write>(
+    rt: &R,
+    files: HostRuntime,
+    line: &WritingLine<'_>,
+    out: &mut O,
+    err: &mut E,
+) -> u8
+    ensures { result ≤ 1 }
+{
+    let done = obey(rt, files, line, out);
+    status_of(done, err)
+}
