@@ -7,7 +7,10 @@
 
 mod begin_fault;
 mod desk;
+mod drawing;
 mod gate;
+pub mod laws;
+mod number_service;
 mod reader;
 mod store;
 mod ticket_numbers;

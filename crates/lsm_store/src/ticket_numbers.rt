@@ -1,31 +1,28 @@
-//! Numbers for the outputs of a merge, drawn under the lock.
+//! Numbers for the outputs of one merge.
 
 ghost use Rattle.std.specs.Prelude.{◌≡◌, ◌∷◌};
 
-use crate::store::Store;
+use crate::number_service::NumberService;
 use boxcar::tag::{Names, Tag};
 use lsm_merge::{NumberFault, NumberSource};
-use lsm_slots::Boarded;
-use lsm_state::{State, StateFault};
-use lsm_table::Shelf;
 use std::alloc::Global;
 use std::sync::Wait;
 
-/// Draws numbers for the outputs of a merge, each under the lock and booked under its ticket.
+/// Asks for the numbers of the outputs of a merge.
 #[derive(Drop)]
-pub(crate) struct TicketNumbers<'a, N: Boarded, S: Shelf> {
-    store: &'a Store<N, S>,
+pub(crate) struct TicketNumbers<'a> {
+    service: &'a NumberService,
     // What it answered, which only clauses read.
     drew: Tag,
     refused: Tag,
     asked: Tag,
 }
 
-impl<'a, N: Boarded, S: Shelf> TicketNumbers<'a, N, S> {
-    /// One that has drawn nothing yet.
-    pub(crate) fn of(store: &'a Store<N, S>) -> TicketNumbers<'a, N, S> {
+impl<'a> TicketNumbers<'a> {
+    /// One that has asked nothing yet.
+    pub(crate) fn of(service: &'a NumberService) -> TicketNumbers<'a> {
         TicketNumbers {
-            store,
+            service,
             drew: Tag::empty(),
             refused: Tag::empty(),
             asked: Tag::empty(),
@@ -33,7 +30,7 @@ impl<'a, N: Boarded, S: Shelf> TicketNumbers<'a, N, S> {
     }
 }
 
-impl<'a, N: Boarded, S: Shelf> NumberSource for TicketNumbers<'a, N, S> {
+impl<'a> NumberSource for TicketNumbers<'a> {
     ghost drew = { λ n. n.drew.numbers };
 
     ghost refused = { λ n. n.refused.numbers };
@@ -42,7 +39,7 @@ impl<'a, N: Boarded, S: Shelf> NumberSource for TicketNumbers<'a, N, S> {
 
     fn draw<R: Wait>(&mut self, rt: &R, _alloc: Global, ticket: u64) -> Result<u64, NumberFault> {
         self.asked = with_number(ticket, &self.asked);
-        match drawn(&mut self.store.lock(rt), ticket) {
+        match self.service.ask(rt, ticket) {
             Ok(number) => {
                 self.drew = with_number(number, &self.drew);
                 Ok(number)
@@ -52,17 +49,6 @@ impl<'a, N: Boarded, S: Shelf> NumberSource for TicketNumbers<'a, N, S> {
                 Err(fault)
             }
         }
-    }
-}
-
-/// The state's next number, booked under the ticket.
-fn drawn<N: Boarded, S: Shelf>(state: &mut State<N, S>, ticket: u64) -> Result<u64, NumberFault> {
-    match state.new_number(ticket) {
-        Ok(number) => Ok(number),
-        Err(StateFault::OutOfMemory) => Err(NumberFault::OutOfMemory),
-        Err(StateFault::UnknownTicket(ticket)) => Err(NumberFault::UnknownTicket(ticket)),
-        Err(StateFault::NumbersSpent) => Err(NumberFault::NumbersSpent),
-        Err(_) => unreachable!(),
     }
 }
 

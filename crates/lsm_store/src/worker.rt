@@ -1,15 +1,19 @@
 //! What a worker does in its thread.
 
 ghost use Rattle.std.specs.Prelude.{◌≡◌, IfErr, IfOk};
+ghost use Rattle.std.specs.Arc.{arc_value};
+ghost use Rattle.lsm_live.specs.Booked.{HasTicket, without};
+ghost use Rattle.lsm_store.specs.Workers.{IsOfInstalling, IsOfReserving, IsOfTurn, IsWorkersEnd};
 
 use crate::gate::Gate;
+use crate::number_service::NumberService;
 use crate::store::Store;
 use crate::ticket_numbers::TicketNumbers;
 use crate::worker_end::WorkerEnd;
 use crate::worker_fault::WorkerFault;
 use lsm_merge::{Finished, Job, compact};
 use lsm_slots::Boarded;
-use lsm_state::StateFault;
+use lsm_state::{State, StateFault};
 use lsm_table::{Registry, Shelf};
 use std::alloc::{AllocError, Global};
 use std::sync::{Arc, Wait};
@@ -19,7 +23,9 @@ fn reserve<N: Boarded, S: Shelf, R: Wait>(
     rt: &R,
     alloc: Global,
     store: &Store<N, S>,
-) -> Result<Option<Job<N, S>>, StateFault> {
+) -> Result<Option<Job<N, S>>, StateFault>
+    ensures { IfErr result IsOfReserving }
+{
     store.lock(rt).reserve(alloc)
 }
 
@@ -30,33 +36,50 @@ fn install<N: Boarded, S: Shelf, R: Wait>(
     store: &Store<N, S>,
     shelf: &mut S,
     done: Finished<N, S>,
-) -> Result<(), StateFault> {
+) -> Result<(), StateFault>
+    ensures place { (S.told shelf.new).place ≡ (S.told shelf.old).place }
+    ensures refused { IfErr result IsOfInstalling }
+{
     match store.lock(rt).install(rt, alloc, shelf, done) {
         Ok(_numbers) => Ok(()),
         Err((fault, _done)) => Err(fault),
     }
 }
 
-/// Cancels the job of the ticket under the lock, if it is still live.
-fn give_up<N: Boarded, S: Shelf, R: Wait>(rt: &R, store: &Store<N, S>, ticket: u64) {
-    // A job that is not live needs no cancel.
-    let _ = store.lock(rt).cancel(ticket);
+/// Cancels the job of the ticket, if it is still live.
+#[tactic(auto, using(crate::proofs::WorkerLaws::without_absent))]
+fn withdraw<N: Boarded, S: Shelf>(state: &mut State<N, S>, ticket: u64)
+    ensures gone { HasTicket state.new.live ticket → ⊥ }
+    ensures rest { state.new ≡ record state.old { live = without ticket state.old.live } }
+{
+    match state.cancel(ticket) {
+        Ok(()) => {}
+        // A job that is not live needs no cancel.
+        Err(_) => {}
+    }
 }
 
-/// Merges a job outside the lock, with numbers that are drawn under it, and installs the result.
+/// Cancels the job of the ticket under the lock.
+fn give_up<N: Boarded, S: Shelf, R: Wait>(rt: &R, store: &Store<N, S>, ticket: u64) {
+    withdraw(&mut store.lock(rt), ticket);
+}
+
+/// Merges a job outside the lock, with numbers that it asks for, and installs the result.
 fn finish<N: Boarded, S: Shelf, R: Wait>(
     rt: &R,
     alloc: Global,
     store: &Store<N, S>,
     registry: &Registry<S::Receipt>,
+    service: &NumberService,
     shelf: &mut S,
     job: Job<N, S>,
 ) -> Result<(), WorkerFault>
     requires named { registry.now ≡ N.registry }
     requires here { (S.told shelf.old).place ≡ N.place }
     ensures place { (S.told shelf.new).place ≡ (S.told shelf.old).place }
+    ensures refused { IfErr result (IsOfTurn S.honest) }
 {
-    let mut numbers = TicketNumbers::of(store);
+    let mut numbers = TicketNumbers::of(service);
     match compact(rt, alloc, shelf, registry, job, &mut numbers) {
         Ok(done) => Ok(install(rt, alloc, store, shelf, done)?),
         Err((fault, _job, _put)) => Err(WorkerFault::Merge(fault)),
@@ -69,6 +92,7 @@ fn turn<N: Boarded, S: Shelf, G: Gate, R: Wait>(
     alloc: Global,
     store: &Store<N, S>,
     registry: &Registry<S::Receipt>,
+    service: &NumberService,
     shelf: &mut S,
     gate: &G,
     worker: usize,
@@ -76,13 +100,14 @@ fn turn<N: Boarded, S: Shelf, G: Gate, R: Wait>(
     requires named { registry.now ≡ N.registry }
     requires here { (S.told shelf.old).place ≡ N.place }
     ensures place { (S.told shelf.new).place ≡ (S.told shelf.old).place }
+    ensures refused { IfErr result (IsOfTurn S.honest) }
 {
     let Some(job) = reserve(rt, alloc, store)? else {
         return Ok(false);
     };
     let ticket = job.ticket();
     gate.merging(worker, ticket);
-    match finish(rt, alloc, store, registry, shelf, job) {
+    match finish(rt, alloc, store, registry, service, shelf, job) {
         Ok(()) => Ok(true),
         Err(fault) => {
             give_up(rt, store, ticket);
@@ -95,7 +120,9 @@ fn turn<N: Boarded, S: Shelf, G: Gate, R: Wait>(
 fn registry_of<N: Boarded, S: Shelf, R: Wait>(
     rt: &R,
     store: &Store<N, S>,
-) -> Result<Arc<Registry<S::Receipt>>, AllocError> {
+) -> Result<Arc<Registry<S::Receipt>>, AllocError>
+    ensures { IfOk result (λ r. arc_value r ≡ N.registry) }
+{
     Arc::try_clone(store.lock(rt).registry())
 }
 
@@ -104,11 +131,13 @@ pub(crate) fn work<N: Boarded, S: Shelf, G: Gate, R: Wait>(
     rt: &R,
     alloc: Global,
     store: &Store<N, S>,
+    service: &NumberService,
     shelf: S,
     gate: &G,
     worker: usize,
 ) -> WorkerEnd
     requires { (S.told shelf).place ≡ N.place }
+    ensures { IsWorkersEnd S.honest result }
 {
     let mut shelf = shelf;
     let mut installed = 0u64;
@@ -119,7 +148,9 @@ pub(crate) fn work<N: Boarded, S: Shelf, G: Gate, R: Wait>(
         };
     };
     for _ in rt.forever() {
-        match turn(rt, alloc, store, &registry, &mut shelf, gate, worker) {
+        match turn(
+            rt, alloc, store, &registry, service, &mut shelf, gate, worker,
+        ) {
             Ok(true) => installed = installed.saturating_add(1),
             Ok(false) => {
                 return WorkerEnd {
