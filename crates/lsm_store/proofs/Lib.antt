@@ -1,2 +1,3 @@
 pub mod ReaderLaws
 pub mod SeatLaws
+pub mod WorkerLaws

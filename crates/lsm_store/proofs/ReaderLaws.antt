@@ -6,8 +6,9 @@ use Rattle.lsm_version.specs.Versions.{Levels, numbers_in}
 use Rattle.lsm_pins.specs.Known.{Known}
 use Rattle.lsm_pins.specs.declared.view.View.{View}
 use Rattle.lsm_pins.specs.View.{pinned_view, unpinned_view}
-use Rattle.lsm_slots.specs.Slots.{Slotted, Epoch, HasEpoch}
-use Rattle.lsm_store.specs.Readers.{Learnt, IsBegun, IsRefused, pinned, unpinned}
+use Rattle.lsm_slots.specs.Slots.{Epoch, HasEpoch}
+use Rattle.lsm_state.specs.Held.{Held}
+use Rattle.lsm_store.specs.Readers.{Learnt, IsBegun, IsMet, IsRefused, pinned, unpinned}
 use Rattle.lsm_store.specs.declared.begin_fault.BeginFault.TheVariants.{Moved}
 
 abbrev known_by : TableId → View → Known
@@ -39,7 +40,16 @@ abbrev id_in : Option (ℕ × ℕ) → ℕ
 id_in None = 0
 id_in (Some p) = p.0
 
--- the version that is met has the id of the one that is held
-pub met_at : (s : Slotted) (held : Option (ℕ × ℕ)) (id slot : ℕ) (ns : List ℕ) → held ≡ Some (id, slot)
-    → (t : ℕ) × (i : ℕ) × (e : Epoch) × (held ≡ Some (i, t)) × HasEpoch s t e × (e.id ≡ i) × (ns ≡ numbers_in e.version) → (t : ℕ) × (e : Epoch) × HasEpoch s t e × (e.id ≡ id) × (ns ≡ numbers_in e.version)
-met_at s held id slot ns h m = (m.0, m.2, m.4, m.5 ∙ ap id_in (sym m.3 ∙ h), m.6)
+-- what is met is what the view's pin holds
+pub met_at : (v : Learnt) (h : Held) (slot : ℕ) (ns : List ℕ) → v.pinner.knows.held ≡ Some (v.id, slot)
+    → (t : ℕ) × (i : ℕ) × (e : Epoch) × (v.pinner.knows.held ≡ Some (i, t)) × HasEpoch h.slots t e × (e.id ≡ i) × (ns ≡ numbers_in e.version) → IsMet v h ns
+met_at v h slot ns held m =
+    let its : m.1 ≡ v.id = ap id_in (sym m.3 ∙ held) in
+    record {
+      slot = m.0;
+      epoch = m.2;
+      held = m.3 ∙ ap (λ (i : ℕ). Some (i, m.0)) its;
+      there = m.4;
+      its = m.5 ∙ its;
+      numbers_are = m.6;
+    }

@@ -1,1 +1,3 @@
 pub mod Readers
+pub mod WorkerFault
+pub mod Workers

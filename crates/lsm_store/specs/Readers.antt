@@ -1,11 +1,11 @@
 -- Readers outside the lock, and what each step of theirs leaves (this project's rule).
-use Rattle.std.specs.Prelude.{◌≡◌, ◌≢◌, ℕ, ◌^◌, None, Some}
+use Rattle.std.specs.Prelude.{◌≡◌, ◌≢◌, ℕ, ◌^◌, ◌≤◌, List, length, None, Some}
 use Rattle.atomic_table.specs.Seated.{TableId}
 use Rattle.lsm_shelf.specs.Told.{Place, Told, fresh}
-use Rattle.lsm_version.specs.Versions.{Levels}
+use Rattle.lsm_version.specs.Versions.{Levels, numbers_in}
 use Rattle.lsm_pins.specs.Known.{Known}
 use Rattle.lsm_pins.specs.View.{learnt_view, pinned_view, told_view, unpinned_view}
-use Rattle.lsm_slots.specs.Slots.{current_id, current_slot}
+use Rattle.lsm_slots.specs.Slots.{Epoch, HasEpoch, current_id, current_slot}
 use Rattle.lsm_state.specs.Held.{Held}
 use Rattle.lsm_store.specs.declared.begin_fault.BeginFault.{BeginFault}
 use Rattle.lsm_store.specs.declared.begin_fault.BeginFault.TheVariants.{Moved, PinsSpent}
@@ -40,13 +40,13 @@ unpinned r = record r { pinner = record r.pinner { knows = unpinned_view r.pinne
 abbrev pub informed : Held → Learnt → Learnt
 informed h r = record r { pinner = record r.pinner { knows = told_view r.pinner.knows h.slots.board.knows } }
 
+-- an end of the board that learns the current id and slot of the state, and is told what the publisher knows
+abbrev pub learning : Held → Known → Known
+learning h p = record p { knows = learnt_view (told_view p.knows h.slots.board.knows) (current_id h.slots) (current_slot h.slots) }
+
 -- it learnt the current version of the state
 abbrev pub refreshed : Held → Learnt → Learnt
-refreshed h r = record (informed h r) {
-  id = current_id h.slots;
-  version = h.slots.version;
-  pinner = record r.pinner { knows = learnt_view (told_view r.pinner.knows h.slots.board.knows) (current_id h.slots) (current_slot h.slots) };
-}
+refreshed h r = record r { id = current_id h.slots; version = h.slots.version; pinner = learning h r.pinner }
 
 -- One step pinned the version that was learnt.
 abbrev pub IsBegun : Learnt → Learnt → Type 0
@@ -58,7 +58,20 @@ abbrev pub IsRefused : Learnt → Learnt → BeginFault → Type 0
 IsRefused r back (Moved id) = (id ≢ r.id) × ((slot : ℕ) × (back ≡ unpinned (pinned id slot r)))
 IsRefused r back PinsSpent = (r.pinner.knows.count ≡ 2 ^ 24) × (back ≡ r)
 
+-- The state has the view's version in the slot that its pin holds, under the view's id, and these are the numbers of its tables.
+pub record IsMet (v : Learnt) (h : Held) (numbers : List ℕ) : Type 0 where
+  pub slot : ℕ
+  pub epoch : Epoch
+  pub held : v.pinner.knows.held ≡ Some (v.id, slot)
+  pub there : HasEpoch h.slots slot epoch
+  pub its : epoch.id ≡ v.id
+  pub numbers_are : numbers ≡ numbers_in epoch.version
+
 -- ---- a new store
+
+-- there are no more pinners than readers in the options
+abbrev pub SeatsPinners : Held → Type 0
+SeatsPinners h = length h.pinners ≤ h.options.readers
 
 -- what a reader has besides its end of the board
 pub record AtDesk : Type 0 where
@@ -70,9 +83,9 @@ pub record AtDesk : Type 0 where
 abbrev pub desk_at : Held → Place → AtDesk
 desk_at h place = record { id = current_id h.slots; version = h.slots.version; told = fresh place }
 
--- it has learnt the current version, and nothing was told by its shelf yet
-abbrev pub HasLearnt : Held → Place → Learnt → Type 0
-HasLearnt h place r = (r.id ≡ current_id h.slots) × (r.version ≡ h.slots.version) × (r.told ≡ fresh place)
+-- the reader with this end of the board: it has learnt the current version, and nothing was told by its shelf yet
+abbrev pub seated : Held → Place → Known → Learnt
+seated h place p = record { id = current_id h.slots; version = h.slots.version; pinner = learning h p; told = fresh place }
 
 -- an end of this board that holds no pin
 abbrev pub IsFreeEnd : TableId → Known → Type 0

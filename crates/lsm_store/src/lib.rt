@@ -7,12 +7,25 @@
 
 mod begin_fault;
 mod desk;
+mod drawing;
+mod gate;
+pub mod laws;
+mod number_service;
 mod reader;
 mod store;
+mod ticket_numbers;
 mod view;
+mod worker;
+mod worker_end;
+mod worker_fault;
+mod workers;
 
 pub use begin_fault::BeginFault;
 pub use desk::Desk;
+pub use gate::{Gate, NoGate};
 pub use reader::Reader;
 pub use store::Store;
 pub use view::View;
+pub use worker_end::WorkerEnd;
+pub use worker_fault::WorkerFault;
+pub use workers::run_workers;

@@ -35,10 +35,11 @@ impl<N: Boarded, S: Shelf> Model for Reader<N, S> {
 }
 
 impl<N: Boarded, S: Shelf> Reader<N, S> {
-    /// The id of the version that it has learnt.
+    /// The id of the version that it has learnt. What holds of every reader is told here too.
     pub fn id(&self) -> u32
         ensures id { result ≡ self.now.id }
         ensures idle { IsIdle self.now }
+        ensures board { self.now.pinner.board ≡ N.board }
     {
         self.desk.id
     }

@@ -1,9 +1,9 @@
 //! The state behind its lock.
 
-ghost use Rattle.std.specs.Prelude.{◌≡◌, ◌+◌, ◌≤◌, [], All, IfErr, IfOk, length, vec_capacity, vec_len};
+ghost use Rattle.std.specs.Prelude.{◌≡◌, ◌≤◌, [], All, IfErr, IfOk, length, map, vec_capacity, vec_len};
 ghost use Rattle.lsm_shelf.specs.Told.{Becomes, Counted, NotNamed};
-ghost use Rattle.lsm_slots.specs.Slots.{current_id};
-ghost use Rattle.lsm_store.specs.Readers.{HasLearnt, IsFreeEnd, desk_at};
+ghost use Rattle.lsm_pins.specs.Known.{Known};
+ghost use Rattle.lsm_store.specs.Readers.{IsFreeEnd, SeatsPinners, desk_at, seated};
 
 use crate::desk::Desk;
 use crate::reader::Reader;
@@ -47,19 +47,17 @@ fn seat<N: Boarded, S: Shelf>(
     desk: Desk<N, S>,
 ) -> Reader<N, S>
     requires pinner { IsFreeEnd N.board pinner }
-    requires desk { desk.id ≡ current_id state.old.slots }
-    ensures id { result.id ≡ desk.id }
-    ensures version { result.version ≡ desk.version }
-    ensures told { result.told ≡ desk.told }
-    ensures same { current_id state.new.slots ≡ current_id state.old.slots }
+    requires desk { desk ≡ desk_at state.old N.place }
+    ensures seated { result ≡ seated state.old N.place pinner }
+    ensures same { desk_at state.new N.place ≡ desk_at state.old N.place }
+    ensures others { (p : Known) → seated state.new N.place p ≡ seated state.old N.place p }
 {
     let mut pinner = pinner;
     state.learn(&mut pinner);
     Reader { pinner, desk }
 }
 
-/// A reader for each end of the board, at a desk each; there is room for all.
-#[tactic(auto, using(crate::proofs::SeatLaws::all_popped, crate::proofs::SeatLaws::one_popped, crate::proofs::SeatLaws::learnt_at))]
+/// A reader for each end of the board, in their order, at a desk each; there is room for all.
 fn seat_all<N: Boarded, S: Shelf>(
     state: &mut State<N, S>,
     pinners: Vec<Pinner>,
@@ -71,13 +69,12 @@ fn seat_all<N: Boarded, S: Shelf>(
     requires enough { vec_len pinners ≤ vec_len desks }
     requires none { (readers.items ≡ []) × (vec_len readers ≡ 0) }
     requires room { vec_len pinners ≤ vec_capacity readers }
-    ensures readers { All (HasLearnt state.old N.place) result.items }
+    ensures readers { result.items ≡ map (seated state.old N.place) pinners.items }
     ensures len { vec_len result ≡ vec_len pinners }
 {
-    let mut pinners = pinners;
     let mut desks = desks;
     let mut readers = readers;
-    while let Some(pinner) = pinners.pop() {
+    for pinner in pinners {
         let Some(desk) = desks.pop() else {
             unreachable!()
         };
@@ -125,8 +122,11 @@ pub struct Store<N: Boarded, S: Shelf> {
 }
 
 impl<N: Boarded, S: Shelf> Store<N, S> {
-    /// The store of a state, and a reader for each pinner that was not taken yet. Each has a fork of the shelf and an empty cache of
-    /// blocks, and has learnt the current version. All of that is made before the pinners are taken.
+    /// The store of a state, and a reader for each pinner that was not taken yet, in their order. Each has a fork of the shelf and an
+    /// empty cache of blocks, and has learnt the current version. All of that is made before the pinners are taken.
+    ///
+    /// The state has no more pinners than its options have readers: so it is after `State::create` and `State::open` with the board
+    /// that `Board::new` made for these options.
     ///
     /// `OutOfMemory`; `Device` where the shelf failed. A refusal hands the state back as it was, and the shelf.
     pub fn new(
@@ -135,8 +135,8 @@ impl<N: Boarded, S: Shelf> Store<N, S> {
         shelf: S,
     ) -> Result<(Store<N, S>, Vec<Reader<N, S>>), (State<N, S>, S, ShelfFault)>
         requires place { (S.told shelf).place ≡ N.place }
-        requires seats { length state.pinners ≤ state.options.readers }
-        ensures readers { IfOk result (λ r. All (HasLearnt state N.place) r.1.items) }
+        requires seats { SeatsPinners state }
+        ensures readers { IfOk result (λ r. r.1.items ≡ map (seated state N.place) state.pinners) }
         ensures len { IfOk result (λ r. vec_len r.1 ≡ length state.pinners) }
         ensures err { IfErr result (λ e. (e.0 ≡ state) × Becomes (S.told shelf) (S.told e.1)) }
         ensures cause { IfErr result (λ e. NotNamed e.2 × Counted e.2 (S.told shelf) (S.told e.1)) }

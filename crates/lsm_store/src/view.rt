@@ -9,11 +9,10 @@ ghost use Rattle.lsm_levels.specs.Scanning.{IsScan};
 ghost use Rattle.lsm_merger.specs.Shown.{ShowsNext, ShowsPair};
 ghost use Rattle.lsm_pins.specs.View.{noted_view};
 ghost use Rattle.lsm_shelf.specs.Told.{Becomes};
-ghost use Rattle.lsm_slots.specs.Slots.{Epoch, HasEpoch};
 ghost use Rattle.lsm_state.specs.Collecting.{IsKeptNumber};
-ghost use Rattle.lsm_store.specs.Readers.{IsPinning, informed, unpinned};
+ghost use Rattle.lsm_store.specs.Readers.{IsMet, IsPinning, informed, unpinned};
 ghost use Rattle.lsm_table.specs.ReadFault.{IsMemoryOrShelf, ReadCounted};
-ghost use Rattle.lsm_version.specs.Versions.{files, numbers_in};
+ghost use Rattle.lsm_version.specs.Versions.{files};
 
 use crate::desk::Desk;
 use crate::reader::Reader;
@@ -49,6 +48,7 @@ impl<N: Boarded, S: Shelf> View<N, S> {
     pub fn id(&self) -> u32
         ensures id { result ≡ self.now.id }
         ensures pinning { IsPinning self.now }
+        ensures board { self.now.pinner.board ≡ N.board }
     {
         self.desk.id
     }
@@ -119,11 +119,11 @@ impl<N: Boarded, S: Shelf> View<N, S> {
         scan.next_by(&mut self.desk.blocks, alloc)
     }
 
-    /// The numbers of the tables of the version that its pin holds, level by level: the state has that version in a slot, under the
-    /// view's id, and keeps its tables. `AllocError` where a growth was refused.
+    /// The numbers of the tables of the version that its pin holds, level by level: the state has that version in the slot that was
+    /// pinned, under the view's id, and keeps its tables. `AllocError` where a growth was refused.
     #[tactic(auto, using(crate::proofs::ReaderLaws::same_learnt, crate::proofs::ReaderLaws::held_so, crate::proofs::ReaderLaws::met_at))]
     pub fn meet(&mut self, alloc: Global, state: &mut State<N, S>) -> Result<Vec<u64>, AllocError>
-        ensures numbers { IfOk result (λ v. (slot : ℕ) × (e : Epoch) × HasEpoch state.new.slots slot e × (e.id ≡ self.old.id) × (v.items ≡ numbers_in e.version)) }
+        ensures met { IfOk result (λ v. IsMet self.old state.new v.items) }
         ensures kept { IfOk result (λ v. (n : ℕ) → Has v.items n → IsKeptNumber state.new n) }
         ensures view { self.new ≡ informed state.old self.old }
         ensures board { (state.new.slots.board.board ≡ state.old.slots.board.board) × (state.new.slots.board.knows ≡ noted_view state.old.slots.board.knows self.old.pinner.knows) }

@@ -1,39 +1,34 @@
-use Rattle.std.proofs.Common.{◌≡◌, Some, sym, ap, ◌∙◌, arith}
-use Rattle.std.proofs.lemmas.List.Elements.{All-push, All-same}
-use Rattle.lsm_store.specs.Readers.{AtDesk, Learnt, HasLearnt, IsFreeEnd, desk_at}
-use Rattle.lsm_store.proofs.SeatLaws.{all_popped, one_popped, learnt_at}
+use Rattle.std.proofs.Common.{◌≡◌, ◌++◌, ◌∷◌, [], Some, ap, ◌∙◌, arith}
+use Rattle.std.specs.Vec.Iter.{into_iter_items}
+use Rattle.lsm_pins.specs.Known.{Known}
+use Rattle.lsm_store.specs.Readers.{AtDesk, IsFreeEnd, Learnt, desk_at, seated}
+use Rattle.lsm_store.proofs.SeatLaws.{all_popped, all_rest, one_more}
 use Rattle.lsm_store.proofs.store.seat_all.Goals as goal
 
--- src/store.rt:84:13
-pub seat-reader-requires-clause-desk : goal.seat-reader-requires-clause-desk
-seat-reader-requires-clause-desk g c κs within =
-    let IsAt = (λ (d : AtDesk). d ≡ desk_at c.args.state.now g.N.Naming.place) in
-    let before = c.loop-pinner.invariant in
-    ap (λ (d : AtDesk). d.id) (one_popped IsAt c.loop-pinner.desks.items c.pop-in-Some.new.self.items c.in-Some-pop.desk c.in-Some-pop.ensures.items before.desks) ∙ sym before.same
-
--- src/store.rt:80:5
+-- src/store.rt:77:5
 pub loop-pinner-preserved : goal.loop-pinner-preserved
 loop-pinner-preserved g c =
-    let IsAt = (λ (d : AtDesk). d ≡ desk_at c.args.state.now g.N.Naming.place) in
-    let IsHere = (λ (r : Learnt). HasLearnt c.args.state.now g.N.Naming.place r) in
+    let place = g.N.Naming.place in
+    let state = c.args.state.now in
     let before = c.loop-pinner.invariant in
-    let desk = c.in-Some-pop.desk in
-    let reader = c.seat-reader.result in
-    let taken = c.in-Some.ensures.cases in
+    let pinner = c.in-Some.pinner in
+    let step = c.in-Some.ensures.steps in
     let left = c.in-Some-pop.ensures.cases in
     let longer = c.in-Ok.ensures.len in
     let wider = c.in-Ok.ensures.capacity in
     let enough = before.enough in
     let room = before.room in
     let all = before.all in
-    let at = one_popped IsAt c.loop-pinner.desks.items c.pop-in-Some.new.self.items desk c.in-Some-pop.ensures.items before.desks in
+    let first = step.0 in
+    let fewer = step.1 in
     record {
-      pinners = all_popped (IsFreeEnd g.N.Boarded.board) c.loop-pinner.pinners.items c.pop.new.self.items (Some c.in-Some.pinner) c.in-Some.ensures.items before.pinners;
-      desks = all_popped IsAt c.loop-pinner.desks.items c.pop-in-Some.new.self.items (Some desk) c.in-Some-pop.ensures.items before.desks;
+      pinners = all_rest (IsFreeEnd g.N.Boarded.board) (into_iter_items c.loop-pinner.pinner-iterator) (into_iter_items c.next.new.self) pinner first before.pinners;
+      desks = all_popped (λ (d : AtDesk). d ≡ desk_at state place) c.loop-pinner.desks.items c.pop.new.self.items (Some c.in-Some-pop.desk) c.in-Some-pop.ensures.items before.desks;
       enough = omega arith;
       room = omega arith;
       all = omega arith;
-      readers = All-same IsHere _ _ c.in-Ok.ensures.items
-          (All-push IsHere _ reader before.readers (learnt_at c.args.state.now g.N.Naming.place reader desk at c.seat-reader.ensures.id c.seat-reader.ensures.version c.seat-reader.ensures.told));
+      readers = one_more (seated state place) c.loop-pinner.readers.items c.push.new.self.items (into_iter_items c.loop-pinner.pinner-iterator) (into_iter_items c.next.new.self) pinner _ before.readers first
+          (c.in-Ok.ensures.items ∙ ap (λ (r : Learnt). c.loop-pinner.readers.items ++ r ∷ []) (c.seat-reader.ensures.seated ∙ before.others pinner));
       same = c.seat-reader.ensures.same ∙ before.same;
+      others = λ (p : Known). c.seat-reader.ensures.others p ∙ before.others p;
     }

@@ -1,0 +1,72 @@
+//! Numbers for the outputs of one merge.
+
+ghost use Rattle.std.specs.Prelude.{◌≡◌, ◌∷◌};
+
+use crate::number_service::NumberService;
+use boxcar::tag::{Names, Tag};
+use lsm_merge::{NumberFault, NumberSource};
+use std::alloc::Global;
+use std::sync::Wait;
+
+/// Asks for the numbers of the outputs of a merge.
+#[derive(Drop)]
+pub(crate) struct TicketNumbers<'a> {
+    service: &'a NumberService,
+    // What it answered, which only clauses read.
+    drew: Tag,
+    refused: Tag,
+    asked: Tag,
+}
+
+impl<'a> TicketNumbers<'a> {
+    /// One that has asked nothing yet.
+    pub(crate) fn of(service: &'a NumberService) -> TicketNumbers<'a> {
+        TicketNumbers {
+            service,
+            drew: Tag::empty(),
+            refused: Tag::empty(),
+            asked: Tag::empty(),
+        }
+    }
+}
+
+impl<'a> NumberSource for TicketNumbers<'a> {
+    ghost drew = { λ n. n.drew.numbers };
+
+    ghost refused = { λ n. n.refused.numbers };
+
+    ghost asked = { λ n. n.asked.numbers };
+
+    fn draw<R: Wait>(&mut self, rt: &R, _alloc: Global, ticket: u64) -> Result<u64, NumberFault> {
+        self.asked = with_number(ticket, &self.asked);
+        match self.service.ask(rt, ticket) {
+            Ok(number) => {
+                self.drew = with_number(number, &self.drew);
+                Ok(number)
+            }
+            Err(fault) => {
+                self.refused = with_number(u64::from(fault.number()), &self.refused);
+                Err(fault)
+            }
+        }
+    }
+}
+
+/// A number and what came before it.
+#[derive(Drop)]
+struct Latest<'a> {
+    number: u64,
+    before: &'a Tag,
+}
+
+struct LatestFirst;
+
+impl<'a> Names<Latest<'a>> for LatestFirst {
+    ghost numbers = { λ l. l.number ∷ l.before.now.numbers };
+}
+
+fn with_number(number: u64, before: &Tag) -> Tag
+    ensures { result.numbers ≡ number ∷ before.now.numbers }
+{
+    Tag::of::<Latest<'_>, LatestFirst>(&Latest { number, before })
+}

@@ -1,0 +1,170 @@
+//! What a worker does in its thread.
+
+ghost use Rattle.std.specs.Prelude.{◌≡◌, IfErr, IfOk};
+ghost use Rattle.std.specs.Arc.{arc_value};
+ghost use Rattle.lsm_live.specs.Booked.{HasTicket, without};
+ghost use Rattle.lsm_store.specs.Workers.{IsOfInstalling, IsOfReserving, IsOfTurn, IsWorkersEnd};
+
+use crate::gate::Gate;
+use crate::number_service::NumberService;
+use crate::store::Store;
+use crate::ticket_numbers::TicketNumbers;
+use crate::worker_end::WorkerEnd;
+use crate::worker_fault::WorkerFault;
+use lsm_merge::{Finished, Job, compact};
+use lsm_slots::Boarded;
+use lsm_state::{State, StateFault};
+use lsm_table::{Registry, Shelf};
+use std::alloc::{AllocError, Global};
+use std::sync::{Arc, Wait};
+
+/// The next job, which the state reserves under the lock; none where there is no choice.
+fn reserve<N: Boarded, S: Shelf, R: Wait>(
+    rt: &R,
+    alloc: Global,
+    store: &Store<N, S>,
+) -> Result<Option<Job<N, S>>, StateFault>
+    ensures { IfErr result IsOfReserving }
+{
+    store.lock(rt).reserve(alloc)
+}
+
+/// Installs the result under the lock. A refused one is let go.
+fn install<N: Boarded, S: Shelf, R: Wait>(
+    rt: &R,
+    alloc: Global,
+    store: &Store<N, S>,
+    shelf: &mut S,
+    done: Finished<N, S>,
+) -> Result<(), StateFault>
+    ensures place { (S.told shelf.new).place ≡ (S.told shelf.old).place }
+    ensures refused { IfErr result IsOfInstalling }
+{
+    match store.lock(rt).install(rt, alloc, shelf, done) {
+        Ok(_numbers) => Ok(()),
+        Err((fault, _done)) => Err(fault),
+    }
+}
+
+/// Cancels the job of the ticket, if it is still live.
+#[tactic(auto, using(crate::proofs::WorkerLaws::without_absent))]
+fn withdraw<N: Boarded, S: Shelf>(state: &mut State<N, S>, ticket: u64)
+    ensures gone { HasTicket state.new.live ticket → ⊥ }
+    ensures rest { state.new ≡ record state.old { live = without ticket state.old.live } }
+{
+    match state.cancel(ticket) {
+        Ok(()) => {}
+        // A job that is not live needs no cancel.
+        Err(_) => {}
+    }
+}
+
+/// Cancels the job of the ticket under the lock.
+fn give_up<N: Boarded, S: Shelf, R: Wait>(rt: &R, store: &Store<N, S>, ticket: u64) {
+    withdraw(&mut store.lock(rt), ticket);
+}
+
+/// Merges a job outside the lock, with numbers that it asks for, and installs the result.
+fn finish<N: Boarded, S: Shelf, R: Wait>(
+    rt: &R,
+    alloc: Global,
+    store: &Store<N, S>,
+    registry: &Registry<S::Receipt>,
+    service: &NumberService,
+    shelf: &mut S,
+    job: Job<N, S>,
+) -> Result<(), WorkerFault>
+    requires named { registry.now ≡ N.registry }
+    requires here { (S.told shelf.old).place ≡ N.place }
+    ensures place { (S.told shelf.new).place ≡ (S.told shelf.old).place }
+    ensures refused { IfErr result (IsOfTurn S.honest) }
+{
+    let mut numbers = TicketNumbers::of(service);
+    match compact(rt, alloc, shelf, registry, job, &mut numbers) {
+        Ok(done) => Ok(install(rt, alloc, store, shelf, done)?),
+        Err((fault, _job, _put)) => Err(WorkerFault::Merge(fault)),
+    }
+}
+
+/// One compaction: whether there was one to do. After a fault its job is not live.
+fn turn<N: Boarded, S: Shelf, G: Gate, R: Wait>(
+    rt: &R,
+    alloc: Global,
+    store: &Store<N, S>,
+    registry: &Registry<S::Receipt>,
+    service: &NumberService,
+    shelf: &mut S,
+    gate: &G,
+    worker: usize,
+) -> Result<bool, WorkerFault>
+    requires named { registry.now ≡ N.registry }
+    requires here { (S.told shelf.old).place ≡ N.place }
+    ensures place { (S.told shelf.new).place ≡ (S.told shelf.old).place }
+    ensures refused { IfErr result (IsOfTurn S.honest) }
+{
+    let Some(job) = reserve(rt, alloc, store)? else {
+        return Ok(false);
+    };
+    let ticket = job.ticket();
+    gate.merging(worker, ticket);
+    match finish(rt, alloc, store, registry, service, shelf, job) {
+        Ok(()) => Ok(true),
+        Err(fault) => {
+            give_up(rt, store, ticket);
+            Err(fault)
+        }
+    }
+}
+
+/// The registry of the store's tables.
+fn registry_of<N: Boarded, S: Shelf, R: Wait>(
+    rt: &R,
+    store: &Store<N, S>,
+) -> Result<Arc<Registry<S::Receipt>>, AllocError>
+    ensures { IfOk result (λ r. arc_value r ≡ N.registry) }
+{
+    Arc::try_clone(store.lock(rt).registry())
+}
+
+/// One compaction after another, until there is nothing left to reserve, or a fault.
+pub(crate) fn work<N: Boarded, S: Shelf, G: Gate, R: Wait>(
+    rt: &R,
+    alloc: Global,
+    store: &Store<N, S>,
+    service: &NumberService,
+    shelf: S,
+    gate: &G,
+    worker: usize,
+) -> WorkerEnd
+    requires { (S.told shelf).place ≡ N.place }
+    ensures { IsWorkersEnd S.honest result }
+{
+    let mut shelf = shelf;
+    let mut installed = 0u64;
+    let Ok(registry) = registry_of(rt, store) else {
+        return WorkerEnd {
+            installed,
+            fault: Some(WorkerFault::State(StateFault::OutOfMemory)),
+        };
+    };
+    for _ in rt.forever() {
+        match turn(
+            rt, alloc, store, &registry, service, &mut shelf, gate, worker,
+        ) {
+            Ok(true) => installed = installed.saturating_add(1),
+            Ok(false) => {
+                return WorkerEnd {
+                    installed,
+                    fault: None,
+                };
+            }
+            Err(fault) => {
+                return WorkerEnd {
+                    installed,
+                    fault: Some(fault),
+                };
+            }
+        }
+    }
+    unreachable!()
+}

@@ -1,0 +1,12 @@
+//! What a worker has done.
+
+use crate::worker_fault::WorkerFault;
+
+/// What a worker has done when it ends.
+#[derive(Clone, Copy, Debug, PartialEq, Eq)]
+pub struct WorkerEnd {
+    /// How many results it has installed.
+    pub installed: u64,
+    /// Why it ended early; none where nothing was left to reserve.
+    pub fault: Option<WorkerFault>,
+}

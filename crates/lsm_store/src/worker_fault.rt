@@ -1,0 +1,66 @@
+//! Why a worker ended early.
+
+ghost use Rattle.std.specs.Prelude.{◌≡◌};
+ghost use Rattle.lsm_store.specs.WorkerFault.{name_of, number_of};
+
+use lsm_merge::MergeFault;
+use lsm_state::StateFault;
+use thiserror::Error;
+
+/// Why a worker ended before nothing was left to do.
+#[derive(Clone, Copy, Debug, Drop, Error, PartialEq, Eq)]
+pub enum WorkerFault {
+    /// Its thread could not be made: it has done nothing.
+    #[error("OutOfMemory")]
+    NoThread,
+    /// The state refused a reservation or an install.
+    #[error("{0}")]
+    State(StateFault),
+    /// A job was not finished.
+    #[error("{0}")]
+    Merge(MergeFault),
+}
+
+impl WorkerFault {
+    /// The published number of the refusal. That of a thread that could not be made is 1, as for want of memory.
+    pub fn number(&self) -> u8
+        ensures { result ≡ number_of self.now }
+    {
+        match self {
+            WorkerFault::NoThread => 1,
+            WorkerFault::State(fault) => fault.number(),
+            WorkerFault::Merge(fault) => fault.number(),
+        }
+    }
+
+    /// The published name of the refusal, without its fields.
+    pub fn name(&self) -> &'static str
+        ensures { result.now ≡ name_of self.now }
+    {
+        match self {
+            WorkerFault::NoThread => "OutOfMemory",
+            WorkerFault::State(fault) => fault.name(),
+            WorkerFault::Merge(fault) => fault.name(),
+        }
+    }
+}
+
+impl From<StateFault> for WorkerFault {
+    ghost use Rattle.lsm_store.specs.declared.worker_fault.WorkerFault.TheVariants.{State};
+
+    ghost from_gives = { λ fault e. e ≡ State fault };
+
+    fn from(fault: StateFault) -> WorkerFault {
+        WorkerFault::State(fault)
+    }
+}
+
+impl From<MergeFault> for WorkerFault {
+    ghost use Rattle.lsm_store.specs.declared.worker_fault.WorkerFault.TheVariants.{Merge};
+
+    ghost from_gives = { λ fault e. e ≡ Merge fault };
+
+    fn from(fault: MergeFault) -> WorkerFault {
+        WorkerFault::Merge(fault)
+    }
+}
