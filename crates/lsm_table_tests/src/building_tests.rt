@@ -3,7 +3,7 @@
 use crate::expectation::{expect, expect_items};
 use lsm_codec::{KeyRef, Kind};
 use lsm_table::{BuildFault, Table, TableBuilder, TableFault, TableIter, TableOptions};
-use std::alloc::Global;
+use std::alloc::{AllocError, Global};
 use std::process::Abort;
 use std::test::Fail;
 
@@ -73,6 +73,31 @@ fn gives_one_entry<R: Abort>(rt: &R, entries: &mut TableIter<'_>) {
 fn reads_the_entry_back(rt: HostRuntime) -> Result<(), Fail> {
     let table = Table::check(rt.alloc(), Vec::from_slice(rt.alloc(), &ONE_ENTRY)?)?;
     gives_one_entry(&rt, &mut table.iter(rt.alloc()));
+    Ok(())
+}
+
+/// The table of one entry with 40 bytes put in behind the data block, and a footer that names where
+/// the blocks stand then: 154 bytes.
+fn with_a_gap(alloc: Global, filler: u8) -> Result<Vec<u8>, AllocError> {
+    let (data, rest) = ONE_ENTRY.split_at(26);
+    let (blocks, footer) = rest.split_at(40);
+    let (_, padding) = footer.split_at(4);
+    let mut file = Vec::from_slice(alloc, data)?;
+    file.extend_from_slice(&[filler; 40])?;
+    file.extend_from_slice(blocks)?;
+    file.extend_from_slice(&[0x42, 0x08, 0x4f, 0x16])?;
+    file.extend_from_slice(padding)?;
+    Ok(file)
+}
+
+#[test]
+fn a_gap_between_the_blocks_is_passed_over(rt: HostRuntime) -> Result<(), Fail> {
+    for filler in [0u8, 0x61, 0xff] {
+        let file = with_a_gap(rt.alloc(), filler)?;
+        expect(&rt, file.len(), 154);
+        let table = Table::check(rt.alloc(), file)?;
+        gives_one_entry(&rt, &mut table.iter(rt.alloc()));
+    }
     Ok(())
 }
 

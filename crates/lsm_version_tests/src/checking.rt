@@ -144,7 +144,23 @@ fn answer<N: Naming, S: Shelf, R: Wait + Abort>(
     }
 }
 
-/// Puts the tables on a shelf, and compares what the check of the shape says.
+/// Compares what the check of the shape of files says over a shelf.
+fn expects_over<R: Wait + Abort>(
+    rt: &R,
+    alloc: Global,
+    shelf: MemoryShelf,
+    files: &[File<'_>],
+    last: u64,
+    wanted: &str,
+) -> Result<(), Fail> {
+    let shape = shape_of(alloc, files, last)?;
+    let registry = new_registry(alloc)?;
+    let said = answer::<Brand, MemoryShelf, _>(rt, alloc, shelf, registry, &shape)?;
+    assert!(rt; said.as_str() == wanted, "{said} for {wanted}");
+    Ok(())
+}
+
+/// Puts the tables on a shelf first.
 fn expects<R: Wait + Abort>(
     rt: &R,
     alloc: Global,
@@ -152,12 +168,8 @@ fn expects<R: Wait + Abort>(
     last: u64,
     wanted: &str,
 ) -> Result<(), Fail> {
-    let shape = shape_of(alloc, files, last)?;
     let shelf = shelf_of(rt, alloc, files)?;
-    let registry = new_registry(alloc)?;
-    let said = answer::<Brand, MemoryShelf, _>(rt, alloc, shelf, registry, &shape)?;
-    assert!(rt; said.as_str() == wanted, "{said} for {wanted}");
-    Ok(())
+    expects_over(rt, alloc, shelf, files, last, wanted)
 }
 
 #[test]
@@ -191,6 +203,22 @@ fn files_are_judged_by_what_is_there(rt: HostRuntime) -> Result<(), Fail> {
     expects(&rt, alloc, &[before, missing], 1, "of 2: Missing")?;
     let double = one_entry(1, 2, (b"m", 2));
     expects(&rt, alloc, &[one, double], 9, "DoubleFile 2")
+}
+
+#[test]
+fn the_first_refused_file_is_named(rt: HostRuntime) -> Result<(), Fail> {
+    let alloc = rt.alloc();
+    let files = [
+        one_entry(0, 4, (b"k", 3)),
+        one_entry(1, 9, (b"k", 2)),
+        one_entry(2, 3, (b"k", 1)),
+    ];
+    // The table of the second is cut by a byte, and the third is missing.
+    let mut shelf = shelf_of(&rt, alloc, &files[..1])?;
+    let mut image = image_of(alloc, &files[1])?;
+    image.truncate(113);
+    let _ = shelf.put(&rt, alloc, 9, &image);
+    expects_over(&rt, alloc, shelf, &files, 3, "of 9: BadMagic")
 }
 
 #[test]

@@ -208,12 +208,13 @@ pub(crate) fn reads_as<N: Naming, S: Shelf, R: Abort>(
 }
 
 /// Compares how many tables each range meets.
-fn counts_overlapping<N: Naming, S: Shelf, R: Abort>(
+pub(crate) fn counts_overlapping<N: Naming, S: Shelf, R: Abort>(
     rt: &R,
     alloc: Global,
     version: &Version<N, S>,
+    ranges: &[(usize, u8, u8, usize)],
 ) -> Result<(), Fail> {
-    for &(level, from, to, count) in OVERLAPPING {
+    for &(level, from, to, count) in ranges {
         assert!(rt; level <= 6);
         let found = version.overlapping(alloc, level, &[from], &[to])?;
         assert!(rt; found.len() == count, "at level {level}");
@@ -234,7 +235,7 @@ fn compares_depths<N: Naming, S: Shelf, R: Wait + Abort>(
     let tables = depths(alloc)?;
     let version: Version<N, S> = version_of(rt, alloc, registry, &mut shelf, &tables)?;
     reads_as(rt, alloc, &mut shelf, &version, AT_DEPTHS)?;
-    counts_overlapping(rt, alloc, &version)
+    counts_overlapping(rt, alloc, &version, OVERLAPPING)
 }
 
 /// A registry without tables.
@@ -372,7 +373,7 @@ fn plain_pairs(alloc: Global, tables: &[Rows], seq: u8) -> Result<Vec<(u8, u8)>,
 }
 
 /// Whether a scan shows just these pairs.
-fn shows_each<N: Naming, S: Shelf>(
+pub(crate) fn shows_each<N: Naming, S: Shelf>(
     alloc: Global,
     shelf: &mut S,
     scan: &mut Scan<N, S>,

@@ -1,6 +1,6 @@
 use Rattle.std.specs.Arc.{arc_value}
 use Rattle.lsm_shelf.specs.Told.{in_memory}
-use Rattle.lsm_version_tests.proofs.checking.expects.Given as goal
+use Rattle.lsm_version_tests.proofs.checking.expects_over.Given as goal
 
 -- the registry and the contents that were just made
 abbrev pub ghosts-answer : goal.ghosts-answer
