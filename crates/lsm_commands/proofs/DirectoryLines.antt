@@ -1,6 +1,14 @@
 -- Words of a command line, taken apart.
-use Rattle.std.proofs.Common.{◌≡◌, ℕ, ◌+◌, ◌-◌, ◌<◌, ◌≤◌, List, [], ◌∷◌, length, map, get_or, drop, take, refl, sym, ap, ◌∙◌, subst, arith}
+use Rattle.std.proofs.Common.{◌≡◌, ℕ, ◌-◌, ◌^◌, ◌<◌, ◌≤◌, List, [], ◌∷◌, codes, length, map, get_or, drop, take, Some, None, refl, sym, ap, ◌∙◌, arith}
 use Rattle.std.proofs.lemmas.List.{drop_more, take_all, length-drop}
+use Rattle.hex.proofs.HexLemmas.{decode_of-ok}
+use Rattle.lsm_commands.specs.EntryList.{IsBytesWord}
+use Rattle.lsm_commands.specs.EntryReading.{bytes_at}
+use Rattle.lsm_commands.specs.DirectoryLine.{AsksOn}
+use Rattle.lsm_commands.specs.declared.directory_command.DirectoryCommand.{DirectoryCommand}
+use Rattle.lsm_commands.specs.declared.directory_command.DirectoryCommand.TheVariants.{Check, List as ListFiles, Get, Scan}
+use Rattle.lsm_commands.specs.Options.{options_at}
+use Rattle.lsm_commands.proofs.WordLaws.{bytes_again}
 
 pub no_words : {X : Type 0} (text : X → List ℕ) (xs : List X) → length xs < 1 → map text xs ≡ []
 no_words text [] h = refl
@@ -21,3 +29,34 @@ two_words text xs a b e f h =
 
 pub later_words : {X : Type 0} (xs : List X) → take (length xs - 2) (drop 2 xs) ≡ drop 2 xs
 later_words xs = take_all (length xs - 2) (drop 2 xs) (omega (arith, length-drop 2 xs))
+
+pub lone_word : {X : Type 0} (text : X → List ℕ) (xs : List X) → 1 ≤ length xs → length xs < 2 → options_at (map text xs) ≡ None
+unfolding options_at
+lone_word text [] h k = absurd (omega (arith, h))
+lone_word text (x ∷ []) h k = refl
+lone_word text (x ∷ y ∷ ys) h k = absurd (omega (arith, k))
+
+short_key : (word key : List ℕ) → length word < 2 ^ 64 → IsBytesWord word key → length key ≤ 18446744073709551615
+short_key word [] h is = omega arith
+short_key word (b ∷ bs) h is = let len = (decode_of-ok word (b ∷ bs) is).2 in omega (arith, len, h)
+
+-- a word that spells a key is read as that key
+pub key_again : (word key : List ℕ) → length word < 2 ^ 64 → IsBytesWord word key → bytes_at 18446744073709551615 word ≡ Some key
+key_again word key h is = bytes_again 18446744073709551615 word key is (short_key word key h is)
+
+-- a line has a command's name and the path
+pub asks_words : (c : DirectoryCommand) (path : List ℕ) (words : List (List ℕ)) → AsksOn c path words
+    → (name : List ℕ) × (rest : List (List ℕ)) × (words ≡ name ∷ path ∷ rest)
+asks_words Check path words asks = (codes "check", [], asks)
+asks_words ListFiles path words asks = (codes "list", [], asks)
+asks_words (Get key) path words asks = (codes "get", asks.0 ∷ [], asks.2)
+asks_words (Scan bounds) path words asks = (codes "scan", asks.0, asks.2)
+
+pub asks_two : {X : Type 0} (text : X → List ℕ) (xs : List X) (c : DirectoryCommand) (path : List ℕ) → AsksOn c path (map text xs) → length xs < 2 → ⊥
+asks_two text [] c path asks h = let w = asks_words c path [] asks in absurd cc
+asks_two text (x ∷ []) c path asks h = let w = asks_words c path (text x ∷ []) asks in absurd cc
+asks_two text (x ∷ y ∷ ys) c path asks h = omega (arith, h)
+
+-- the path is the second word
+pub asks_path : (c : DirectoryCommand) (path name second : List ℕ) (rest words : List (List ℕ)) → AsksOn c path words → name ∷ second ∷ rest ≡ words → path ≡ second
+asks_path c path name second rest words asks e = let w = asks_words c path words asks in cc

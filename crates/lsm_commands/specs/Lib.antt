@@ -1,5 +1,7 @@
 pub mod EntryList
 pub mod EntryReading
+pub mod KeyBounds
+pub mod Options
 pub mod DirectoryLine
 pub mod EntryPrinting
 pub mod EntryView

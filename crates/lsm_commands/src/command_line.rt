@@ -78,14 +78,44 @@ verified first; nothing is written. What stands in a write-ahead log (`N.log`) i
 
 const GET_EXAMPLE: &str = "Example: lsm get db 6170706c65";
 
+const SCAN: &str =
+    "Prints the live keys of the LevelDB folder DIR with their values, a line `KEY=VALUE` each, ascending, from the key of `--from` to that of
+`--to`, both included; without them from the first to the last. KEY and VALUE are hex, `.` for no bytes. Lines are printed as the
+folder is read, in memory that does not grow with it; every table is verified before the first line, and what is before
+`--from` is read too. Nothing is written. What stands in a write-ahead log (`N.log`) is not read.
+
+A refusal of a table names its file, as in `refused 15 BadChecksum 0 in 000005.ldb`. Status 0 where all was printed, 1 at a fault: one of
+the device leaves the lines that were printed before it.";
+
+const SCAN_EXAMPLE: &str = "Example: lsm scan db --from 61 --to 6dff";
+
 const MORE_WORDS: &[u8] =
-    b"error: a command on standard input takes no words; of a folder, DIR comes first, and KEY is hex, or `.` for no bytes\n\nUsage: lsm <COMMAND>\n\nFor more information, try '--help'.\n";
+    b"error: a command on standard input takes no words; of a folder, DIR comes first and options last, and KEY is hex, or `.` for no bytes\n\nUsage: lsm <COMMAND>\n\nFor more information, try '--help'.\n";
 
 /// The path of a folder, as an argument.
 fn folder<'a>(alloc: Global) -> Arg<'a> {
     Arg::new(alloc, "DIR")
         .required(true)
         .help("The folder of a LevelDB database")
+}
+
+/// An option with a key behind it.
+fn bound<'a>(alloc: Global, name: &'a str, help: &'a str) -> Arg<'a> {
+    Arg::new(alloc, name)
+        .long(name)
+        .value_name("KEY")
+        .help(help)
+}
+
+/// The command that prints a folder's live keys.
+fn scan_command<'a>(alloc: Global) -> Result<Command<'a>, AllocError> {
+    Command::new(alloc, "scan")
+        .about("Prints the live keys of a folder and their values")
+        .long_about(SCAN)
+        .after_help(SCAN_EXAMPLE)
+        .arg(folder(alloc))?
+        .arg(bound(alloc, "from", "The first key that is printed"))?
+        .arg(bound(alloc, "to", "The last key that is printed"))
 }
 
 /// The commands on a folder.
@@ -106,7 +136,10 @@ fn with_folders<'a>(alloc: Global, lsm: Command<'a>) -> Result<Command<'a>, Allo
         .after_help(GET_EXAMPLE)
         .arg(folder(alloc))?
         .arg(Arg::new(alloc, "KEY").required(true).help("The key"))?;
-    lsm.subcommand(check)?.subcommand(list)?.subcommand(get)
+    lsm.subcommand(check)?
+        .subcommand(list)?
+        .subcommand(get)?
+        .subcommand(scan_command(alloc)?)
 }
 
 fn command<'a>(alloc: Global) -> Result<Command<'a>, AllocError> {

@@ -1,5 +1,6 @@
 //! What is asked of a directory.
 
+use crate::key_bounds::KeyBounds;
 use lsm_codec::Bytes;
 
 /// A command on a directory.
@@ -11,4 +12,6 @@ pub enum DirectoryCommand {
     List,
     /// The value of a key.
     Get(Bytes),
+    /// The live keys within bounds, with their values.
+    Scan(KeyBounds),
 }

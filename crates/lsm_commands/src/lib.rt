@@ -11,6 +11,8 @@ mod command_line;
 mod commands;
 mod directory_command;
 mod directory_line;
+mod key_bounds;
+mod options;
 mod program;
 mod streams;
 
@@ -33,6 +35,7 @@ pub use directory_command::DirectoryCommand;
 pub use directory_line::{DirectoryLine, directory_asked};
 pub use edit_spelling::{push_key, push_number};
 pub use fault::Fault;
+pub use key_bounds::KeyBounds;
 pub use laws::{one_list, printed_list};
 pub use program::{refuse_words, run};
 pub use refusal::Refusal;

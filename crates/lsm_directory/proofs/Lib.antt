@@ -1,2 +1,4 @@
 mod ListLaws
 mod Outcomes
+mod ScanLaws
+mod FaultLaws

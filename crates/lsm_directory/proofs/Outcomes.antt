@@ -1,24 +1,42 @@
 -- What a command answers, by what opening the directory and asking it answer.
-use Rattle.std.proofs.Common.{◌≡◌, ◌≢◌, ℕ, List, Option, IfErr, OnOk, ◌∙◌}
-use Rattle.std.specs.Prelude.{Result, Ok, Err}
+use Rattle.std.proofs.Common.{◌≢◌, ℕ, List, Option, IfErr, OnOk, ◌++◌, [], ◌∷◌, Bool, true, false, inl, inr}
+use Rattle.std.specs.Prelude.{Result, Ok, Err, Some, None, IfSome}
 use Rattle.std.specs.Io.KnownBytes.{Appends, Keeps}
-use Rattle.lsm_shelf.specs.Told.{Told, Becomes}
+use Rattle.std.proofs.KnownBytes.{Appends-kept, Keeps-refl}
+use Rattle.lsm_shelf.specs.Told.{Told, Becomes, Counted, finding}
+use Rattle.lsm_shelf.specs.declared.shelf_fault.ShelfFault.{ShelfFault}
+use Rattle.lsm_shelf.specs.declared.shelf_fault.ShelfFault.TheVariants as shelf_faults
+use Rattle.lsm_shelf.proofs.CallerLemmas.{becomes_then}
+use Rattle.lsm_table.specs.ReadFault.{ReadCounted}
+use Rattle.lsm_table.specs.declared.read_fault.ReadFault.{ReadFault}
+use Rattle.lsm_table.specs.declared.read_fault.ReadFault.TheVariants.{Shelf, Table}
+use Rattle.lsm_table.proofs.CallerLemmas.{read_counted_later}
+use Rattle.lsm_manifest.specs.Shape.{Form}
+use Rattle.lsm_journal.specs.HeldManifest.{HeldManifest}
+use Rattle.lsm_journal.specs.Recovering.{IsRecovered}
+use Rattle.lsm_version.specs.CheckFault.{CheckCounted}
+use Rattle.lsm_version.specs.CheckRefusal.{IsRefusal}
+use Rattle.lsm_version.specs.declared.check.check_fault.CheckFault.{CheckFault}
+use Rattle.lsm_version.specs.declared.check.check_fault.CheckFault.TheVariants.{Read as ReadOfCheck, DoubleFile, Overlap, WrongRange, AgeOrder}
 use Rattle.lsm_version.specs.Versions.{Levels}
 use Rattle.lsm_commands.specs.declared.directory_command.DirectoryCommand.{DirectoryCommand}
-use Rattle.lsm_directory.specs.Answers.{IsDone, IsFault, IsRefused, text_of}
+use Rattle.lsm_commands.specs.EntryReading.{◌>>=◌}
+use Rattle.lsm_directory.specs.DirectoryFault.{line_of}
+use Rattle.lsm_directory.specs.Answers.{IsDone, IsFault, IsRefused, Leaves, Prints, PrintsBefore}
 use Rattle.lsm_directory.specs.Directory.{Holds}
+use Rattle.lsm_directory.specs.Opening.{IsOpenRefusal}
 use Rattle.lsm_directory.specs.ReadFault.{IsAnswerFault}
 use Rattle.lsm_directory.specs.declared.directory_fault.DirectoryFault.{DirectoryFault}
 use Rattle.lsm_directory.specs.declared.directory_fault.DirectoryFault.TheVariants.{OutOfMemory, Write, Manifest, Tables, Read}
 
--- reads of tables do not change what the manifest was
-pub holds_later : (Honest : Type 0) (old new : Told) (v : Levels) (rest : ℕ) → Becomes old new → Holds Honest old v rest → Holds Honest new v rest
-holds_later Honest old new v rest b h = record {
+-- after later reads of tables
+pub holds_later : (Honest : Type 0) (was mid is : Told) (v : Levels) (rest : ℕ) → Becomes mid is → Holds Honest was mid v rest → Holds Honest was is v rest
+holds_later Honest was mid is v rest b h = record {
   shape = h.shape;
   here = record {
     number = h.here.number;
     bytes = h.here.bytes;
-    read = b.found ∙ h.here.read;
+    told = becomes_then (finding h.here.number h.here.bytes was) mid is h.here.told b;
     edits = h.here.edits;
     manifest = h.here.manifest;
     replayed = h.here.replayed;
@@ -29,25 +47,117 @@ holds_later Honest old new v rest b h = record {
   judged = h.judged;
 }
 
-pub fault_later : (Stored : ℕ → List ℕ → Type 0) (Honest : Type 0) (was old new : Told) (v : Levels) (rest : ℕ) (fault : DirectoryFault)
-    → Becomes old new → Holds Honest old v rest → IsAnswerFault Honest fault → IsFault Stored Honest fault was new
-fault_later Stored Honest was old new v rest OutOfMemory b h f = f
-fault_later Stored Honest was old new v rest Write b h f = (v, rest, holds_later Honest old new v rest b h)
-fault_later Stored Honest was old new v rest (Manifest fault) b h f = absurd f
-fault_later Stored Honest was old new v rest (Tables fault) b h f = absurd f
-fault_later Stored Honest was old new v rest (Read fault) b h f = (v, rest, holds_later Honest old new v rest b h, f)
+shelf_counted_from : (e : ShelfFault) (number : ℕ) (bytes : List ℕ) (was is : Told) → Counted e (finding number bytes was) is → Counted e was is
+shelf_counted_from shelf_faults.OutOfMemory number bytes was is c = c
+shelf_counted_from shelf_faults.Device number bytes was is c = c
+shelf_counted_from shelf_faults.Missing number bytes was is c = c
+shelf_counted_from (shelf_faults.Taken n) number bytes was is c = c
 
-pub is_done : {T : Type 0} (r : Result T DirectoryFault) (command : DirectoryCommand) (Honest : Type 0) (was is : Told) (v : Levels) (rest : ℕ) (old new : Option (List ℕ))
-    → Becomes was is → Holds Honest was v rest → (Honest → OnOk r (Appends old new (text_of command v rest))) → OnOk r (IsDone command Honest is old new)
-is_done (Ok x) command Honest was is v rest old new b h w = (v, rest, holds_later Honest was is v rest b h, w)
-is_done (Err e) command Honest was is v rest old new b h w = search
+-- a refusal after the manifest was read
+counted_from : (e : ReadFault) (number : ℕ) (bytes : List ℕ) (was is : Told) → ReadCounted e (finding number bytes was) is → ReadCounted e was is
+counted_from (Shelf fault) number bytes was is k = (k.0, shelf_counted_from fault number bytes was is k.1)
+counted_from (Table fault) number bytes was is k = tt
 
-pub is_fault : {T : Type 0} (r : Result T DirectoryFault) (Stored : ℕ → List ℕ → Type 0) (Honest : Type 0) (first was is : Told) (v : Levels) (rest : ℕ)
-    → Becomes was is → Holds Honest was v rest → IfErr r (IsAnswerFault Honest) → IfErr r (λ e. IsFault Stored Honest e first is)
-is_fault (Ok x) Stored Honest first was is v rest b h f = search
-is_fault (Err e) Stored Honest first was is v rest b h f = fault_later Stored Honest first was is v rest e b h f
+pub read_counted_from : (Honest : Type 0) (e : ReadFault) (was mid is : Told) (v : Levels) (rest : ℕ) → Holds Honest was mid v rest → ReadCounted e mid is → ReadCounted e was is
+read_counted_from Honest e was mid is v rest h c =
+    counted_from e h.here.number h.here.bytes was is (read_counted_later e (finding h.here.number h.here.bytes was) mid is h.here.told c)
 
-pub is_refused : {T : Type 0} (r : Result T DirectoryFault) (Stored : ℕ → List ℕ → Type 0) (Honest : Type 0) (was is : Told) (old new : Option (List ℕ))
-    → IfErr r (λ e. IsFault Stored Honest e was is) → IfErr r (λ e. e ≢ Write → Keeps old new) → IfErr r (λ e. IsRefused e Stored Honest was is old new)
-is_refused (Ok x) Stored Honest was is old new f k = search
-is_refused (Err e) Stored Honest was is old new f k = record { says = f; left = k }
+pub check_counted_from : (e : CheckFault) (number : ℕ) (bytes : List ℕ) (was mid is : Told) → Becomes (finding number bytes was) mid → CheckCounted e mid is → CheckCounted e was is
+check_counted_from (ReadOfCheck file e) number bytes was mid is b c = counted_from e number bytes was is (read_counted_later e (finding number bytes was) mid is b c)
+check_counted_from (DoubleFile n) number bytes was mid is b c = tt
+check_counted_from (Overlap n) number bytes was mid is b c = tt
+check_counted_from (WrongRange n) number bytes was mid is b c = tt
+check_counted_from (AgeOrder user) number bytes was mid is b c = tt
+
+-- the tables of the shape that was read are refused
+pub tables_refused : (Stored : ℕ → List ℕ → Type 0) (Honest : Type 0) (e : CheckFault) (h : HeldManifest) (shape : Form) (rest : ℕ) (was mid is : Told)
+    → Becomes (finding h.number h.bytes was) mid → IsRecovered h shape rest → IsRefusal Stored Honest shape e → Becomes mid is → CheckCounted e mid is
+    → IsOpenRefusal Stored Honest (Tables e) was is
+tables_refused Stored Honest e h shape rest was mid is found r why same cause = (
+  shape,
+  rest,
+  record {
+    number = h.number;
+    bytes = h.bytes;
+    told = becomes_then (finding h.number h.bytes was) mid is found same;
+    edits = r.edits;
+    manifest = r.manifest;
+    replayed = r.replayed;
+  },
+  why,
+  check_counted_from e h.number h.bytes was mid is found cause,
+)
+
+fault_later : (Stored : ℕ → List ℕ → Type 0) (Honest : Type 0) (was mid is : Told) (v : Levels) (rest : ℕ) (fault : DirectoryFault)
+    → Becomes mid is → Holds Honest was mid v rest → IsAnswerFault Honest fault mid is → IsFault Stored Honest fault was is
+fault_later Stored Honest was mid is v rest OutOfMemory b h f = f
+fault_later Stored Honest was mid is v rest Write b h f = (v, rest, holds_later Honest was mid is v rest b h)
+fault_later Stored Honest was mid is v rest (Manifest fault) b h f = absurd f
+fault_later Stored Honest was mid is v rest (Tables fault) b h f = absurd f
+fault_later Stored Honest was mid is v rest (Read fault) b h f =
+    (v, rest, holds_later Honest was mid is v rest b h, f.0, read_counted_from Honest fault was mid is v rest h f.1)
+
+pub is_done : {T : Type 0} (r : Result T DirectoryFault) (command : DirectoryCommand) (Honest : Type 0) (was mid is : Told) (v : Levels) (rest : ℕ) (old new : Option (List ℕ))
+    → Becomes mid is → Holds Honest was mid v rest → (Honest → OnOk r (Prints command v rest old new)) → OnOk r (IsDone command Honest was is old new)
+is_done (Ok x) command Honest was mid is v rest old new b h w = (v, rest, holds_later Honest was mid is v rest b h, w)
+is_done (Err e) command Honest was mid is v rest old new b h w = search
+
+pub is_fault : {T : Type 0} (r : Result T DirectoryFault) (Stored : ℕ → List ℕ → Type 0) (Honest : Type 0) (was mid is : Told) (v : Levels) (rest : ℕ)
+    → Becomes mid is → Holds Honest was mid v rest → IfErr r (λ e. IsAnswerFault Honest e mid is) → IfErr r (λ e. IsFault Stored Honest e was is)
+is_fault (Ok x) Stored Honest was mid is v rest b h f = search
+is_fault (Err e) Stored Honest was mid is v rest b h f = fault_later Stored Honest was mid is v rest e b h f
+
+-- where nothing was written, a refusal to open leaves what it may
+pub keeps_leaves : (command : DirectoryCommand) (Honest : Type 0) (Stored : ℕ → List ℕ → Type 0) (fault : DirectoryFault) (was is : Told) (old : Option (List ℕ))
+    → IsOpenRefusal Stored Honest fault was is → Leaves command Honest fault was is old old
+keeps_leaves command Honest Stored OutOfMemory was is old f = absurd f
+keeps_leaves command Honest Stored Write was is old f = absurd f
+keeps_leaves command Honest Stored (Manifest fault) was is old f = Keeps-refl old
+keeps_leaves command Honest Stored (Tables fault) was is old f = Keeps-refl old
+keeps_leaves command Honest Stored (Read fault) was is old f = absurd f
+
+leaves_later : (command : DirectoryCommand) (Honest : Type 0) (fault : DirectoryFault) (was mid is : Told) (v : Levels) (rest : ℕ) (old new : Option (List ℕ))
+    → Becomes mid is → Holds Honest was mid v rest → IsAnswerFault Honest fault mid is → (fault ≢ Write → PrintsBefore command Honest v old new)
+    → Leaves command Honest fault was is old new
+leaves_later command Honest OutOfMemory was mid is v rest old new b h f p = inr (v, rest, holds_later Honest was mid is v rest b h, p (λ e. cc))
+leaves_later command Honest Write was mid is v rest old new b h f p = tt
+leaves_later command Honest (Manifest fault) was mid is v rest old new b h f p = absurd f
+leaves_later command Honest (Tables fault) was mid is v rest old new b h f p = absurd f
+leaves_later command Honest (Read fault) was mid is v rest old new b h f p = (v, rest, holds_later Honest was mid is v rest b h, p (λ e. cc))
+
+pub is_left : {T : Type 0} (r : Result T DirectoryFault) (command : DirectoryCommand) (Honest : Type 0) (was mid is : Told) (v : Levels) (rest : ℕ) (old new : Option (List ℕ))
+    → Becomes mid is → Holds Honest was mid v rest → IfErr r (λ e. IsAnswerFault Honest e mid is) → IfErr r (λ e. e ≢ Write → PrintsBefore command Honest v old new)
+    → IfErr r (λ e. Leaves command Honest e was is old new)
+is_left (Ok x) command Honest was mid is v rest old new b h f p = search
+is_left (Err e) command Honest was mid is v rest old new b h f p = leaves_later command Honest e was mid is v rest old new b h f p
+
+pub is_refused : {T : Type 0} (r : Result T DirectoryFault) (command : DirectoryCommand) (Stored : ℕ → List ℕ → Type 0) (Honest : Type 0) (was is : Told) (old new : Option (List ℕ))
+    → IfErr r (λ e. IsFault Stored Honest e was is) → IfErr r (λ e. Leaves command Honest e was is old new) → IfErr r (λ e. IsRefused command e Stored Honest was is old new)
+is_refused (Ok x) command Stored Honest was is old new f k = search
+is_refused (Err e) command Stored Honest was is old new f k = record { says = f; left = k }
+
+-- a line that stands, after a flush
+pub told_kept : (line : Option (List ℕ)) (a b c : Option (List ℕ)) → IfSome line (λ l. Appends a b l) → Keeps b c → IfSome line (λ l. Appends a c l)
+told_kept None a b c told kept = tt
+told_kept (Some l) a b c told kept = Appends-kept a b c l told kept
+
+-- memory ran out before anything was written
+pub memory_leaves : (command : DirectoryCommand) (Honest : Type 0) (was is : Told) (old : Option (List ℕ)) → Leaves command Honest OutOfMemory was is old old
+memory_leaves command Honest was is old = inl (Keeps-refl old)
+
+pub memory_refused : (command : DirectoryCommand) (Stored : ℕ → List ℕ → Type 0) (Honest : Type 0) (was is : Told) (old : Option (List ℕ))
+    → IsRefused command OutOfMemory Stored Honest was is old old
+memory_refused command Stored Honest was is old = record { says = tt; left = inl (Keeps-refl old) }
+
+-- the line of a fault that names no file
+pub told_plain : (named : Bool) (text : Option (List ℕ)) (file : Option ℕ) (a b : Option (List ℕ)) → IfSome text (λ t. Appends a b (t ++ (10 ∷ [])))
+    → IfSome (text >>= line_of named file) (λ l. Appends a b l)
+told_plain named None file a b h = tt
+told_plain true (Some t) (Some number) a b h = tt
+told_plain true (Some t) None a b h = h
+told_plain false (Some t) file a b h = h
+
+-- of the line that names a file nothing is said
+pub told_named : (text : Option (List ℕ)) (number : ℕ) (a b : Option (List ℕ)) → IfSome (text >>= line_of true (Some number)) (λ l. Appends a b l)
+told_named None number a b = tt
+told_named (Some t) number a b = tt

@@ -1,5 +1,8 @@
 -- Why a command on a directory is refused, and what it prints of that: this project's rule.
-use Rattle.std.specs.Prelude.{ℕ, List, codes, Option, Some, None}
+use Rattle.std.specs.Prelude.{ℕ, Bool, true, false, List, [], ◌∷◌, ◌++◌, codes, Option, Some, None}
+use Rattle.lsm_commands.specs.EntryReading.{◌>>=◌}
+use Rattle.lsm_commands.specs.declared.directory_command.DirectoryCommand.{DirectoryCommand}
+use Rattle.lsm_commands.specs.declared.directory_command.DirectoryCommand.TheVariants.{Check, List as ListFiles, Get, Scan}
 use Rattle.lsm_table.specs.declared.read_fault.ReadFault.{ReadFault}
 use Rattle.lsm_table.specs.declared.read_fault.ReadFault.TheVariants.{Shelf as ShelfOfRead, Table as TableOfRead}
 use Rattle.lsm_table.specs.Fault as table
@@ -80,3 +83,20 @@ file_of Write = None
 file_of (Manifest fault) = None
 file_of (Tables fault) = file_in fault
 file_of (Read fault) = None
+
+-- a command whose refusals name the file of a table
+abbrev pub names_files : DirectoryCommand → Bool
+names_files Check = true
+names_files ListFiles = false
+names_files (Get key) = false
+names_files (Scan bounds) = true
+
+-- the line of a text; where a file is named in it, that is tested
+abbrev pub line_of : Bool → Option ℕ → List ℕ → Option (List ℕ)
+line_of true (Some number) text = None
+line_of true None text = Some (text ++ (10 ∷ []))
+line_of false file text = Some (text ++ (10 ∷ []))
+
+-- the line of a fault, but for a key against age and where a file is named in it
+abbrev pub fault_line : Bool → DirectoryFault → Option (List ℕ)
+fault_line named fault = fault_text fault >>= line_of named (file_of fault)

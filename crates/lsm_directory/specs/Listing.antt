@@ -1,5 +1,5 @@
 -- What is printed of a version and of what it answers: this project's rule. Keys and values are hex, `.` for no bytes.
-use Rattle.std.specs.Prelude.{ℕ, zero, suc, ◌+◌, List, [], ◌∷◌, ◌++◌, length, codes, decimal, Option, Some, None}
+use Rattle.std.specs.Prelude.{ℕ, zero, suc, List, [], ◌∷◌, ◌++◌, length, codes, decimal, Option, Some, None}
 use Rattle.std.specs.List.{flat_map, sum_by}
 use Rattle.lsm_table.specs.HeldTable.{entries_in}
 use Rattle.lsm_table.specs.Registry.{Table, size_of}

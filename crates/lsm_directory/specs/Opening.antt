@@ -1,5 +1,5 @@
 -- Why a directory is not opened (LevelDB's `VersionSet::Recover`; the judgment of its tables is this project's rule).
-use Rattle.std.specs.Prelude.{◌≡◌, ℕ, List}
+use Rattle.std.specs.Prelude.{ℕ, List}
 use Rattle.lsm_shelf.specs.Told.{Told}
 use Rattle.lsm_manifest.specs.Shape.{Form}
 use Rattle.lsm_journal.specs.Recovering.{IsRecoverRefusal}
@@ -13,7 +13,7 @@ use Rattle.lsm_directory.specs.declared.directory_fault.DirectoryFault.TheVarian
 -- which numbers; a refusal of the shelf comes with a count that rose.
 abbrev pub IsOpenRefusal : (ℕ → List ℕ → Type 0) → Type 0 → DirectoryFault → Told → Told → Type 0
 IsOpenRefusal Stored Honest (Manifest fault) was is = IsRecoverRefusal fault was is
-IsOpenRefusal Stored Honest (Tables fault) was is = (shape : Form) × (rest : ℕ) × (read : Told) × HoldsShape read shape rest × IsRefusal Stored Honest shape fault × CheckCounted fault read is
+IsOpenRefusal Stored Honest (Tables fault) was is = (shape : Form) × (rest : ℕ) × HoldsShape was is shape rest × IsRefusal Stored Honest shape fault × CheckCounted fault was is
 IsOpenRefusal Stored Honest OutOfMemory was is = ⊥
 IsOpenRefusal Stored Honest Write was is = ⊥
 IsOpenRefusal Stored Honest (Read fault) was is = ⊥

@@ -3,7 +3,7 @@
 ghost use Rattle.std.specs.Prelude.{◌≡◌, ◌++◌, IfErr, IfOk, OnOk, length};
 ghost use Rattle.lsm_codec.specs.Lists.{Has};
 ghost use Rattle.lsm_table.specs.Registry.{Table};
-ghost use Rattle.lsm_table.specs.ReadFault.{IsMemoryOrShelf};
+ghost use Rattle.lsm_table.specs.ReadFault.{IsMemoryOrShelf, ReadCounted};
 ghost use Rattle.lsm_table.specs.Told.{Becomes};
 ghost use Rattle.lsm_version.specs.Versions.{IsWhole};
 ghost use Rattle.lsm_directory.specs.Listing.{bytes_of, check_text, count_of, counts_line, labelled, level_line};
@@ -60,6 +60,7 @@ fn counts_of<N: Naming, S: Shelf, B: Blocks<S>>(
     ensures bytes { IfOk result (λ c. c.bytes ≡ bytes_of tables.now) }
     ensures entries { S.honest → IfOk result (λ c. c.entries ≡ count_of tables.now) }
     ensures sound { S.honest → IfErr result IsMemoryOrShelf }
+    ensures cause { IfErr result (λ e. ReadCounted e (B.told blocks.old) (B.told blocks.new)) }
     ensures told { Becomes (B.told blocks.old) (B.told blocks.new) }
     ensures loan { B.loan blocks.new ≡ B.loan blocks.old }
 {
@@ -86,7 +87,7 @@ fn push_level<N: Naming, S: Shelf, B: Blocks<S>>(
     requires named { registry.now ≡ N.registry }
     requires whole { S.honest → (t : Table) → Has tables.now t → IsWhole t }
     ensures line { S.honest → OnOk result (out.new.items ≡ out.old.items ++ level_line level tables.now) }
-    ensures fault { IfErr result (IsReadFault S.honest) }
+    ensures fault { IfErr result (λ e. IsReadFault S.honest e (B.told blocks.old) (B.told blocks.new)) }
     ensures told { Becomes (B.told blocks.old) (B.told blocks.new) }
     ensures loan { B.loan blocks.new ≡ B.loan blocks.old }
 {
@@ -96,7 +97,7 @@ fn push_level<N: Naming, S: Shelf, B: Blocks<S>>(
 }
 
 /// A line for each level, the last sequence, and how many bytes at the end of the manifest hold no whole record.
-#[tactic(auto, unfolding(crate::specs::Listing::check_text), using(crate::proofs::ListLaws::level_more, crate::proofs::ListLaws::levels_none))]
+#[tactic(auto, unfolding(crate::specs::Listing::check_text), using(crate::proofs::ListLaws::level_more, crate::proofs::ListLaws::levels_none, crate::proofs::FaultLaws::read_fault_later))]
 pub(crate) fn describe<N: Naming, S: Shelf, B: Blocks<S>>(
     blocks: &mut B,
     alloc: Global,
@@ -107,7 +108,7 @@ pub(crate) fn describe<N: Naming, S: Shelf, B: Blocks<S>>(
     requires here { (B.told blocks.old).place ≡ N.place }
     requires named { registry.now ≡ N.registry }
     ensures text { S.honest → IfOk result (λ text. text.items ≡ check_text version.now rest) }
-    ensures fault { IfErr result (IsReadFault S.honest) }
+    ensures fault { IfErr result (λ e. IsReadFault S.honest e (B.told blocks.old) (B.told blocks.new)) }
     ensures told { Becomes (B.told blocks.old) (B.told blocks.new) }
     ensures loan { B.loan blocks.new ≡ B.loan blocks.old }
 {

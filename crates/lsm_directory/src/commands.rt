@@ -2,12 +2,11 @@
 
 ghost use Rattle.std.specs.Prelude.{◌≡◌, ◌≢◌, IfErr, IfOk, OnOk};
 ghost use Rattle.std.specs.Arc.{arc_value};
-ghost use Rattle.std.specs.Io.KnownBytes.{Appends, Keeps};
 ghost use Rattle.lsm_codec.specs.Entries.{answer};
 ghost use Rattle.lsm_table.specs.Told.{Becomes};
 ghost use Rattle.lsm_levels.specs.Files.{all_entries};
 ghost use Rattle.lsm_version.specs.Versions.{files};
-ghost use Rattle.lsm_directory.specs.Answers.{IsDone, IsFault, text_of};
+ghost use Rattle.lsm_directory.specs.Answers.{IsDone, IsFault, Leaves, Prints, PrintsBefore};
 ghost use Rattle.lsm_directory.specs.Listing.{answer_text, check_text};
 ghost use Rattle.lsm_directory.specs.ReadFault.{IsAnswerFault, IsReadFault};
 ghost use Rattle.lsm_directory.specs.declared.directory_fault.DirectoryFault.TheVariants.{Write as WriteFault};
@@ -18,6 +17,7 @@ use crate::directory_fault::DirectoryFault;
 use crate::listing::list_files;
 use crate::opened::{Opened, open};
 use crate::output::write_output;
+use crate::scanning::print_scan;
 use lsm_commands::DirectoryCommand;
 use lsm_reader::Direct;
 use lsm_table::{Naming, Registry, Shelf};
@@ -35,7 +35,7 @@ fn answer_of<N: Naming, S: Shelf>(
 ) -> Result<Vec<u8>, DirectoryFault>
     requires here { (S.told shelf.old).place ≡ N.place }
     ensures text { S.honest → IfOk result (λ text. text.items ≡ answer_text (answer (all_entries (files version.now)) key.now version.now.last)) }
-    ensures fault { IfErr result (IsReadFault S.honest) }
+    ensures fault { IfErr result (λ e. IsReadFault S.honest e (S.told shelf.old) (S.told shelf.new)) }
     ensures told { Becomes (S.told shelf.old) (S.told shelf.new) }
 {
     let answer = version.get(shelf, alloc, key, version.last())?;
@@ -52,36 +52,15 @@ fn description_of<N: Naming, S: Shelf>(
     requires here { (S.told shelf.old).place ≡ N.place }
     requires named { registry.now ≡ N.registry }
     ensures text { S.honest → IfOk result (λ text. text.items ≡ check_text opened.now.version opened.now.rest) }
-    ensures fault { IfErr result (IsReadFault S.honest) }
+    ensures fault { IfErr result (λ e. IsReadFault S.honest e (S.told shelf.old) (S.told shelf.new)) }
     ensures told { Becomes (S.told shelf.old) (S.told shelf.new) }
 {
     let mut direct = Direct::new(shelf);
     describe(&mut direct, alloc, registry, &opened.version, opened.rest)
 }
 
-/// What a command prints of a directory that is open.
-fn text_for<N: Naming, S: Shelf>(
-    shelf: &mut S,
-    alloc: Global,
-    registry: &Registry<S::Receipt>,
-    opened: &Opened<N, S>,
-    command: &DirectoryCommand,
-) -> Result<Vec<u8>, DirectoryFault>
-    requires here { (S.told shelf.old).place ≡ N.place }
-    requires named { registry.now ≡ N.registry }
-    ensures text { S.honest → IfOk result (λ text. text.items ≡ text_of command.now opened.now.version opened.now.rest) }
-    ensures fault { IfErr result (IsReadFault S.honest) }
-    ensures told { Becomes (S.told shelf.old) (S.told shelf.new) }
-{
-    let version = &opened.version;
-    match command {
-        DirectoryCommand::Check => description_of(shelf, alloc, registry, opened),
-        DirectoryCommand::List => Ok(list_files(alloc, registry, version)?),
-        DirectoryCommand::Get(key) => answer_of(shelf, alloc, version, key.as_slice()),
-    }
-}
-
 /// Does what a command asks of a directory that is open.
+#[tactic(auto, using(crate::proofs::FaultLaws::answer_fault_from_read, crate::proofs::FaultLaws::answer_fault_from_output))]
 fn perform_on<N: Naming, S: Shelf, O: Write>(
     shelf: &mut S,
     alloc: Global,
@@ -92,12 +71,18 @@ fn perform_on<N: Naming, S: Shelf, O: Write>(
 ) -> Result<(), DirectoryFault>
     requires here { (S.told shelf.old).place ≡ N.place }
     requires named { registry.now ≡ N.registry }
-    ensures done { S.honest → OnOk result (Appends (O.contents out.old) (O.contents out.new) (text_of command.now opened.now.version opened.now.rest)) }
-    ensures left { IfErr result (λ e. e ≢ WriteFault → Keeps (O.contents out.old) (O.contents out.new)) }
-    ensures fault { IfErr result (IsAnswerFault S.honest) }
+    ensures done { S.honest → OnOk result (Prints command.now opened.now.version opened.now.rest (O.contents out.old) (O.contents out.new)) }
+    ensures left { IfErr result (λ e. e ≢ WriteFault → PrintsBefore command.now S.honest opened.now.version (O.contents out.old) (O.contents out.new)) }
+    ensures fault { IfErr result (λ e. IsAnswerFault S.honest e (S.told shelf.old) (S.told shelf.new)) }
     ensures told { Becomes (S.told shelf.old) (S.told shelf.new) }
 {
-    let text = text_for(shelf, alloc, registry, opened, command)?;
+    let version = &opened.version;
+    let text = match command {
+        DirectoryCommand::Check => description_of(shelf, alloc, registry, opened)?,
+        DirectoryCommand::List => list_files(alloc, registry, version)?,
+        DirectoryCommand::Get(key) => answer_of(shelf, alloc, version, key.as_slice())?,
+        DirectoryCommand::Scan(bounds) => return print_scan(shelf, alloc, version, bounds, out),
+    };
     write_output(out, text.as_slice())
 }
 
@@ -112,9 +97,9 @@ pub fn perform<N: Naming, S: Shelf, R: Wait, O: Write>(
 ) -> Result<(), DirectoryFault>
     requires here { (S.told shelf.old).place ≡ N.place }
     requires named { arc_value registry ≡ N.registry }
-    ensures done { OnOk result (IsDone command.now S.honest (S.told shelf.new) (O.contents out.old) (O.contents out.new)) }
+    ensures done { OnOk result (IsDone command.now S.honest (S.told shelf.old) (S.told shelf.new) (O.contents out.old) (O.contents out.new)) }
     ensures fault { IfErr result (λ e. IsFault (λ number image. (r : S.Receipt) × S.is_of N.place r × (S.Receipt.number r ≡ number) × (S.Receipt.image r ≡ image)) S.honest e (S.told shelf.old) (S.told shelf.new)) }
-    ensures left { IfErr result (λ e. e ≢ WriteFault → Keeps (O.contents out.old) (O.contents out.new)) }
+    ensures left { IfErr result (λ e. Leaves command.now S.honest e (S.told shelf.old) (S.told shelf.new) (O.contents out.old) (O.contents out.new)) }
 {
     let shared = Arc::try_clone(&registry)?;
     let opened: Opened<N, S> = open(rt, alloc, shelf, shared)?;

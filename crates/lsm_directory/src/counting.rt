@@ -4,7 +4,7 @@ ghost use Rattle.std.specs.Prelude.{◌≡◌, ◌+◌, IfErr, IfOk, length};
 ghost use Rattle.lsm_codec.specs.Lists.{Has};
 ghost use Rattle.lsm_table.specs.Registry.{Table};
 ghost use Rattle.lsm_table.specs.HeldTable.{entries_in};
-ghost use Rattle.lsm_table.specs.ReadFault.{IsMemoryOrShelf};
+ghost use Rattle.lsm_table.specs.ReadFault.{IsMemoryOrShelf, ReadCounted};
 ghost use Rattle.lsm_table.specs.Told.{Becomes};
 ghost use Rattle.lsm_version.specs.Versions.{IsWhole};
 ghost use Rattle.lsm_directory.specs.Listing.{bytes_of, count_of};
@@ -14,6 +14,7 @@ use lsm_table::{Naming, ReadFault, Registry, Shelf, TableFault, TableRef};
 use std::alloc::Global;
 
 /// How many entries a table has: it is read block by block.
+#[tactic(auto, using(lsm_table::proofs::CallerLemmas::read_counted_later))]
 fn count_entries<N: Naming, S: Shelf, B: Blocks<S>>(
     blocks: &mut B,
     alloc: Global,
@@ -25,6 +26,7 @@ fn count_entries<N: Naming, S: Shelf, B: Blocks<S>>(
     requires whole { S.honest → IsWhole table.now }
     ensures counted { S.honest → IfOk result (λ n. n ≡ length (entries_in table.now.image)) }
     ensures sound { S.honest → IfErr result IsMemoryOrShelf }
+    ensures cause { IfErr result (λ e. ReadCounted e (B.told blocks.old) (B.told blocks.new)) }
     ensures told { Becomes (B.told blocks.old) (B.told blocks.new) }
     ensures loan { B.loan blocks.new ≡ B.loan blocks.old }
 {
@@ -43,7 +45,7 @@ fn count_entries<N: Naming, S: Shelf, B: Blocks<S>>(
 /// A sum that stays within 64 bits. No shelf holds so much.
 fn sum_of(a: u64, b: u64) -> Result<u64, ReadFault>
     ensures sum { IfOk result (λ n. n ≡ a + b) }
-    ensures fault { IfErr result IsMemoryOrShelf }
+    ensures fault { IfErr result (λ e. e ≡ ReadFault.Table TableFault.OutOfMemory) }
 {
     match a.checked_add(b) {
         Some(sum) => Ok(sum),
@@ -52,7 +54,7 @@ fn sum_of(a: u64, b: u64) -> Result<u64, ReadFault>
 }
 
 /// How many entries the tables of a level have.
-#[tactic(auto, using(crate::proofs::ListLaws::sum_more, crate::proofs::ListLaws::sum_all))]
+#[tactic(auto, using(crate::proofs::ListLaws::sum_more, crate::proofs::ListLaws::sum_all, lsm_table::proofs::CallerLemmas::read_counted_later))]
 pub(crate) fn count_level<N: Naming, S: Shelf, B: Blocks<S>>(
     blocks: &mut B,
     alloc: Global,
@@ -64,6 +66,7 @@ pub(crate) fn count_level<N: Naming, S: Shelf, B: Blocks<S>>(
     requires whole { S.honest → (t : Table) → Has tables.now t → IsWhole t }
     ensures counted { S.honest → IfOk result (λ n. n ≡ count_of tables.now) }
     ensures sound { S.honest → IfErr result IsMemoryOrShelf }
+    ensures cause { IfErr result (λ e. ReadCounted e (B.told blocks.old) (B.told blocks.new)) }
     ensures told { Becomes (B.told blocks.old) (B.told blocks.new) }
     ensures loan { B.loan blocks.new ≡ B.loan blocks.old }
 {
@@ -82,7 +85,7 @@ pub(crate) fn size_of_level<N: Naming, S: Shelf>(
 ) -> Result<u64, ReadFault>
     requires named { registry.now ≡ N.registry }
     ensures size { IfOk result (λ n. n ≡ bytes_of tables.now) }
-    ensures fault { IfErr result IsMemoryOrShelf }
+    ensures fault { IfErr result (λ e. e ≡ ReadFault.Table TableFault.OutOfMemory) }
 {
     let mut size = 0;
     for table in tables {

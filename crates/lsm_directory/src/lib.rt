@@ -15,6 +15,7 @@ mod answering;
 mod checking;
 mod counting;
 mod listing;
+mod scanning;
 
 // What is written, and why it is not.
 mod directory_fault;

@@ -1,0 +1,145 @@
+//! A scan, printed as it goes.
+
+ghost use Rattle.std.specs.Prelude.{◌≡◌, ◌≢◌, ◌++◌, IfErr, IfOk, OnOk};
+ghost use Rattle.std.specs.Io.KnownBytes.{Appends, Keeps};
+ghost use Rattle.lsm_table.specs.Told.{Becomes};
+ghost use Rattle.lsm_levels.specs.Scanning.{UsersAscend};
+ghost use Rattle.lsm_directory.specs.Scanned.{BeginsPrinting, LeavesScan, PrintsNext, PrintsScan, pair_line, scan_text};
+ghost use Rattle.lsm_directory.specs.ReadFault.{IsAnswerFault, IsOutputFault};
+ghost use Rattle.lsm_directory.specs.declared.directory_fault.DirectoryFault.TheVariants.{Write as WriteFault};
+
+use crate::directory_fault::DirectoryFault;
+use crate::output::{flush, write_bytes};
+use lsm_commands::{KeyBounds, push_bytes};
+use lsm_reader::{Blocks, Direct};
+use lsm_table::{Naming, Shelf};
+use lsm_version::{Scan, Version};
+use std::alloc::{AllocError, Global};
+use std::io::Write;
+
+/// Appends the line of a pair: `KEY=VALUE`.
+#[tactic(auto, unfolding(crate::specs::Scanned::pair_line))]
+fn push_pair(out: &mut Vec<u8>, user: &[u8], value: &[u8]) -> Result<(), AllocError>
+    ensures { OnOk result (out.new.items ≡ out.old.items ++ pair_line (user.now, value.now)) }
+{
+    push_bytes(out, user)?;
+    out.push(b'=')?;
+    push_bytes(out, value)?;
+    out.push(b'\n')?;
+    Ok(())
+}
+
+/// Prints the line of a pair. `line` is memory for it.
+fn print_pair<O: Write>(
+    line: &mut Vec<u8>,
+    user: &[u8],
+    value: &[u8],
+    out: &mut O,
+) -> Result<(), DirectoryFault>
+    ensures printed { OnOk result (Appends (O.contents out.old) (O.contents out.new) (pair_line (user.now, value.now))) }
+    ensures left { IfErr result (λ e. e ≢ WriteFault → Keeps (O.contents out.old) (O.contents out.new)) }
+    ensures fault { IfErr result IsOutputFault }
+{
+    line.clear();
+    push_pair(line, user, value)?;
+    write_bytes(out, line.as_slice())
+}
+
+/// Goes on to the next pair, and prints it where it is within the bounds. `false` where none is left that is.
+#[tactic(auto, using(crate::proofs::FaultLaws::answer_fault_later, crate::proofs::FaultLaws::answer_fault_from_output))]
+fn print_next<N: Naming, S: Shelf, B: Blocks<S>, O: Write>(
+    scan: &mut Scan<N, S>,
+    blocks: &mut B,
+    alloc: Global,
+    bounds: &KeyBounds,
+    line: &mut Vec<u8>,
+    out: &mut O,
+) -> Result<bool, DirectoryFault>
+    requires here { (B.told blocks.old).place ≡ N.place }
+    requires ascending { S.honest → UsersAscend scan.old.left }
+    ensures next { S.honest → IfOk result (λ more. PrintsNext more bounds.now scan.old.left scan.new.left (O.contents out.old) (O.contents out.new)) }
+    ensures left { IfErr result (λ e. e ≢ WriteFault → Keeps (O.contents out.old) (O.contents out.new)) }
+    ensures fault { IfErr result (λ e. IsAnswerFault S.honest e (B.told blocks.old) (B.told blocks.new)) }
+    ensures told { Becomes (B.told blocks.old) (B.told blocks.new) }
+    ensures loan { B.loan blocks.new ≡ B.loan blocks.old }
+{
+    if !scan.step_by(blocks, alloc)? {
+        return Ok(false);
+    }
+    let key = scan.user();
+    if !bounds.is_to(key) {
+        return Ok(false);
+    }
+    if !bounds.is_from(key) {
+        return Ok(true);
+    }
+    print_pair(line, key, scan.value(), out)?;
+    Ok(true)
+}
+
+/// Prints the pairs that are left of a scan and within the bounds, as it goes on.
+#[tactic(auto, using(crate::proofs::ScanLaws::front_none, crate::proofs::ScanLaws::front_begun, crate::proofs::FaultLaws::answer_fault_later))]
+fn print_pairs<N: Naming, S: Shelf, B: Blocks<S>, O: Write>(
+    scan: &mut Scan<N, S>,
+    blocks: &mut B,
+    alloc: Global,
+    bounds: &KeyBounds,
+    out: &mut O,
+) -> Result<(), DirectoryFault>
+    requires here { (B.told blocks.old).place ≡ N.place }
+    requires ascending { S.honest → UsersAscend scan.old.left }
+    ensures done { S.honest → OnOk result (Appends (O.contents out.old) (O.contents out.new) (scan_text bounds.now scan.old.left)) }
+    ensures left { S.honest → IfErr result (λ e. e ≢ WriteFault → BeginsPrinting bounds.now scan.old.left (O.contents out.old) (O.contents out.new)) }
+    ensures fault { IfErr result (λ e. IsAnswerFault S.honest e (B.told blocks.old) (B.told blocks.new)) }
+    ensures told { Becomes (B.told blocks.old) (B.told blocks.new) }
+    ensures loan { B.loan blocks.new ≡ B.loan blocks.old }
+{
+    let mut line = Vec::new(alloc);
+    for _ in 0..u64::MAX {
+        if !print_next(scan, blocks, alloc, bounds, &mut line, out)? {
+            return Ok(());
+        }
+    }
+    // Only a shelf that is not honest could give so many.
+    Err(DirectoryFault::OutOfMemory)
+}
+
+/// The same, and flushes: what was printed before a fault of the shelf is not held back.
+fn print_open<N: Naming, S: Shelf, O: Write>(
+    shelf: &mut S,
+    alloc: Global,
+    scan: &mut Scan<N, S>,
+    bounds: &KeyBounds,
+    out: &mut O,
+) -> Result<(), DirectoryFault>
+    requires here { (S.told shelf.old).place ≡ N.place }
+    requires ascending { S.honest → UsersAscend scan.old.left }
+    ensures done { S.honest → OnOk result (Appends (O.contents out.old) (O.contents out.new) (scan_text bounds.now scan.old.left)) }
+    ensures left { S.honest → IfErr result (λ e. e ≢ WriteFault → BeginsPrinting bounds.now scan.old.left (O.contents out.old) (O.contents out.new)) }
+    ensures fault { IfErr result (λ e. IsAnswerFault S.honest e (S.told shelf.old) (S.told shelf.new)) }
+    ensures told { Becomes (S.told shelf.old) (S.told shelf.new) }
+{
+    let mut direct = Direct::new(shelf);
+    let printed = print_pairs(scan, &mut direct, alloc, bounds, out);
+    let flushed = flush(out);
+    printed?;
+    flushed
+}
+
+/// Prints what a version shows within bounds. What was printed before a fault of the shelf stands.
+pub(crate) fn print_scan<N: Naming, S: Shelf, O: Write>(
+    shelf: &mut S,
+    alloc: Global,
+    version: &Version<N, S>,
+    bounds: &KeyBounds,
+    out: &mut O,
+) -> Result<(), DirectoryFault>
+    requires here { (S.told shelf.old).place ≡ N.place }
+    ensures done { S.honest → OnOk result (PrintsScan bounds.now version.now (O.contents out.old) (O.contents out.new)) }
+    ensures left { IfErr result (λ e. e ≢ WriteFault → LeavesScan bounds.now S.honest version.now (O.contents out.old) (O.contents out.new)) }
+    ensures fault { IfErr result (λ e. IsAnswerFault S.honest e (S.told shelf.old) (S.told shelf.new)) }
+    ensures told { Becomes (S.told shelf.old) (S.told shelf.new) }
+{
+    let mut scan = version.scan(shelf, alloc, version.last())?;
+    print_open(shelf, alloc, &mut scan, bounds, out)
+}
