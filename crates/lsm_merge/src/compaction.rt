@@ -42,6 +42,7 @@ fn step<N: Naming, S: Shelf, R: Wait, D: NumberSource>(
     before: &mut Remembered,
     merger: &mut Merger<N, S>,
 ) -> Result<(), MergeFault>
+    requires ready { D.ready numbers.old }
     requires good { AreGood outputs.old }
     requires named { registry.now ≡ N.registry }
     requires here { (S.told shelf.old).place ≡ N.place }
@@ -60,6 +61,7 @@ fn step<N: Naming, S: Shelf, R: Wait, D: NumberSource>(
     ensures asked { AsksFor outputs.old.ticket (D.asked numbers.old) (D.asked numbers.new) }
     ensures ticket { IfErr result (λ e. NamesTicket e outputs.old.ticket) }
     ensures large { IfErr result (λ e. IsSizeFault e → (p : Placed) (rest : List Placed) → merger.old.placed ≡ p ∷ rest → IsOverLimit outputs.old.options (entries_of_last outputs.old.last ++ p.1 ∷ [])) }
+    ensures ready { D.ready numbers.new }
 {
     let Some(key) = merger.key() else {
         unreachable!()
@@ -90,6 +92,7 @@ fn merge<N: Naming, S: Shelf, R: Wait, D: NumberSource>(
     numbers: &mut D,
     outputs: &mut Outputs<N, S>,
 ) -> Result<(), MergeFault>
+    requires ready { D.ready numbers.old }
     requires named { registry.now ≡ N.registry }
     requires here { (S.told shelf.old).place ≡ N.place }
     requires fresh { outputs.old ≡ nothing_of job.now }
@@ -108,6 +111,7 @@ fn merge<N: Naming, S: Shelf, R: Wait, D: NumberSource>(
     ensures large { S.honest → IfErr result (λ e. IsSizeFault e → IsOverLimit job.now.table (all_entries (job_of job.now).inputs)) }
     ensures order { S.honest → StandInOrder job.now → IfErr result (λ e. IsOrderFault e → HasTwins (all_entries (job_of job.now).inputs)) }
     ensures apart { S.honest → StandInOrder job.now → OnOk result (HasTwins (all_entries (job_of job.now).inputs) → ⊥) }
+    ensures ready { D.ready numbers.new }
 {
     streaming_keeps_the_kept();
     let _ticket = job.ticket();
@@ -177,6 +181,7 @@ pub fn compact<N: Naming, S: Shelf, R: Wait, D: NumberSource>(
     job: Job<N, S>,
     numbers: &mut D,
 ) -> Result<Finished<N, S>, (MergeFault, Job<N, S>, Vec<u64>)>
+    requires ready { D.ready numbers.old }
     requires named { registry.now ≡ N.registry }
     requires here { (S.told shelf.old).place ≡ N.place }
 
@@ -211,6 +216,7 @@ pub fn compact<N: Naming, S: Shelf, R: Wait, D: NumberSource>(
     // A move asks nothing of the shelf or of the source of numbers.
     ensures unasked { job.is_move ≡ true → (S.told shelf.new ≡ S.told shelf.old) × (D.drew numbers.new ≡ D.drew numbers.old) × (D.refused numbers.new ≡ D.refused numbers.old) × (D.asked numbers.new ≡ D.asked numbers.old) }
     ensures moved { job.is_move ≡ true → IfErr result (λ e. (e.0 ≡ OutOfMemory) × (e.2.items ≡ [])) }
+    ensures ready { D.ready numbers.new }
 {
     if job.is_move() {
         return hand_on(alloc, job);

@@ -68,12 +68,17 @@ pub trait NumberSource {
     /// The tickets for which it was asked, the last first.
     ghost asked: { Self → List ℕ };
 
+    /// What has to hold of the source before it is asked; each answer keeps it. A source that asks for nothing says `Unit {0}`.
+    ghost ready: { Self → Type 0 };
+
     /// A number for an output of the job of this ticket.
     fn draw<R: Wait>(&mut self, rt: &R, alloc: Global, ticket: u64) -> Result<u64, NumberFault>
+        requires ready { ready self.old }
         ensures ok { IfOk result (λ n. drew self.new ≡ n ∷ drew self.old) }
         ensures answered { OnOk result (refused self.new ≡ refused self.old) }
         ensures err { OnErr result (drew self.new ≡ drew self.old) }
         ensures why { IfErr result (λ e. refused self.new ≡ number_of e ∷ refused self.old) }
         ensures asked { asked self.new ≡ ticket ∷ asked self.old }
-        ensures named { IfErr result (λ e. IsOfTicket e ticket) };
+        ensures named { IfErr result (λ e. IsOfTicket e ticket) }
+        ensures ready { ready self.new };
 }

@@ -53,7 +53,8 @@ fn begin<R: Wait, D: NumberSource>(
     key: &KeyRef<'_>,
     value: &[u8],
 ) -> Result<Output, MergeFault>
-    requires { AreInRange options }
+    requires ready { D.ready numbers.old }
+    requires sizes { AreInRange options }
     ensures options { IfOk result (λ o. o.options ≡ options) }
     ensures entries { IfOk result (λ o. o.entries ≡ entry_of (key_of key.now) value.now ∷ []) }
     ensures drew { IfOk result (λ o. D.drew numbers.new ≡ o.number ∷ D.drew numbers.old) }
@@ -64,6 +65,7 @@ fn begin<R: Wait, D: NumberSource>(
     ensures asked { D.asked numbers.new ≡ ticket ∷ D.asked numbers.old }
     ensures ticket { IfErr result (λ e. NamesTicket e ticket) }
     ensures large { IfErr result (λ e. IsSizeFault e → IsOverLimit options (entry_of (key_of key.now) value.now ∷ [])) }
+    ensures ready { D.ready numbers.new }
 {
     let number = match numbers.draw(rt, alloc, ticket) {
         Ok(number) => number,
@@ -193,6 +195,7 @@ impl<N: Naming, S: Shelf> Outputs<N, S> {
         key: &KeyRef<'_>,
         value: &[u8],
     ) -> Result<(), MergeFault>
+        requires ready { D.ready numbers.old }
         requires good { AreGood self.old }
         requires ascends { Ascends (entries_of_last self.old.last ++ entry_of (key_of key.now) value.now ∷ []) }
         ensures ok { OnOk result (Goes self.old self.new (with_entry (entry_of (key_of key.now) value.now) (making_of self.old))) }
@@ -205,6 +208,7 @@ impl<N: Naming, S: Shelf> Outputs<N, S> {
         ensures asked { AsksFor self.old.ticket (D.asked numbers.old) (D.asked numbers.new) }
         ensures ticket { IfErr result (λ e. NamesTicket e self.old.ticket) }
         ensures large { IfErr result (λ e. IsSizeFault e → IsOverLimit self.old.options (entries_of_last self.old.last ++ entry_of (key_of key.now) value.now ∷ [])) }
+        ensures ready { D.ready numbers.new }
     {
         let output = match self.last.take() {
             Some(output) => grow(output, key, value)?,
@@ -232,6 +236,7 @@ impl<N: Naming, S: Shelf> Outputs<N, S> {
         key: &KeyRef<'_>,
         value: &[u8],
     ) -> Result<(), MergeFault>
+        requires ready { D.ready numbers.old }
         requires good { AreGood self.old }
         requires named { registry.now ≡ N.registry }
         requires here { (S.told shelf.old).place ≡ N.place }
@@ -246,6 +251,7 @@ impl<N: Naming, S: Shelf> Outputs<N, S> {
         ensures asked { AsksFor self.old.ticket (D.asked numbers.old) (D.asked numbers.new) }
         ensures ticket { IfErr result (λ e. NamesTicket e self.old.ticket) }
         ensures large { IfErr result (λ e. IsSizeFault e → IsOverLimit self.old.options (entries_of_last self.old.last ++ entry_of (key_of key.now) value.now ∷ [])) }
+        ensures ready { D.ready numbers.new }
     {
         match self.close_before(rt, shelf, registry, key.user) {
             Ok(()) => {}
@@ -265,6 +271,7 @@ impl<N: Naming, S: Shelf> Outputs<N, S> {
         key: &KeyRef<'_>,
         value: &[u8],
     ) -> Result<(), MergeFault>
+        requires ready { D.ready numbers.old }
         requires good { AreGood self.old }
         requires named { registry.now ≡ N.registry }
         requires here { (S.told shelf.old).place ≡ N.place }
@@ -279,6 +286,7 @@ impl<N: Naming, S: Shelf> Outputs<N, S> {
         ensures asked { AsksFor self.old.ticket (D.asked numbers.old) (D.asked numbers.new) }
         ensures ticket { IfErr result (λ e. NamesTicket e self.old.ticket) }
         ensures large { IfErr result (λ e. IsSizeFault e → IsOverLimit self.old.options (entries_of_last self.old.last ++ entry_of (key_of key.now) value.now ∷ [])) }
+        ensures ready { D.ready numbers.new }
     {
         if !kept {
             return Ok(());

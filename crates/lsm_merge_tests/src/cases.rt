@@ -77,6 +77,8 @@ impl NumberSource for Counter {
 
     ghost asked = { λ c. c.asked.numbers };
 
+    ghost ready = { λ _. Unit {0} };
+
     fn draw<R: Wait>(&mut self, _rt: &R, _alloc: Global, ticket: u64) -> Result<u64, NumberFault> {
         self.asked = with_number(ticket, &self.asked);
         if ticket != self.ticket {

@@ -37,6 +37,8 @@ impl<'a> NumberSource for TicketNumbers<'a> {
 
     ghost asked = { λ n. n.asked.numbers };
 
+    ghost ready = { λ _. Unit {0} };
+
     fn draw<R: Wait>(&mut self, rt: &R, _alloc: Global, ticket: u64) -> Result<u64, NumberFault> {
         self.asked = with_number(ticket, &self.asked);
         match self.service.ask(rt, ticket) {

@@ -17,11 +17,11 @@ use Rattle.lsm_merge.proofs.compaction.merge.Goals as goal
 
 pub put_last-requires-clause-here : goal.put_last-requires-clause-here
 put_last-requires-clause-here g c = λ lts lives.
-    puts_place [] c.entries.outputs.put (g.S.Shelf.told c.args.shelf.now) (g.S.Shelf.told c.entries.shelf) c.entries.invariant.told ∙ c.requires.here
+    puts_place [] c.entries.outputs.put (g.S.Shelf.told c.args.shelf.now) (g.S.Shelf.told c.entries.shelf) c.entries.invariant.0.told ∙ c.requires.here
 
 pub step-requires-clause-here : goal.step-requires-clause-here
 step-requires-clause-here g c = λ lts lives.
-    puts_place [] c.entries.outputs.put (g.S.Shelf.told c.args.shelf.now) (g.S.Shelf.told c.entries.shelf) c.entries.invariant.told ∙ c.requires.here
+    puts_place [] c.entries.outputs.put (g.S.Shelf.told c.args.shelf.now) (g.S.Shelf.told c.entries.shelf) c.entries.invariant.0.told ∙ c.requires.here
 
 pub returns-then-is_at_end-clause-kept : goal.returns-then-is_at_end-clause-kept
 returns-then-is_at_end-clause-kept g c = λ honest.
@@ -29,19 +29,19 @@ returns-then-is_at_end-clause-kept g c = λ honest.
     (λ goes. under_done g.S.Shelf.honest c.args.job.now (entries_of c.in-Ok.merger.placed) (g.S.Shelf.told c.args.shelf.now) (g.S.Shelf.told c.entries.shelf)
     (g.D.NumberSource.drew c.args.numbers.now) (g.D.NumberSource.drew c.entries.numbers) (g.D.NumberSource.refused c.args.numbers.now) (g.D.NumberSource.refused c.entries.numbers)
     (g.D.NumberSource.asked c.args.numbers.now) (g.D.NumberSource.asked c.entries.numbers)
-    c.entries.outputs c.put_last.new.self c.entries.before c.entries.merger c.entries.invariant c.streaming_keeps_the_kept.ensures.stream
+    c.entries.outputs c.put_last.new.self c.entries.before c.entries.merger c.entries.invariant.0 c.streaming_keeps_the_kept.ensures.stream
     (sym c.is_at_end.ensures ∙ c.if-is_at_end.true) c.in-Ok.ensures.merges goes honest)
     c.put_last.ensures.ok
 
 pub returns-then-is_at_end-clause-sizes : goal.returns-then-is_at_end-clause-sizes
 returns-then-is_at_end-clause-sizes g c =
-    on_ok c.put_last.result (λ goes. (goes.sizes).options ∙ (c.entries.invariant.sizes).options) c.put_last.ensures.ok
+    on_ok c.put_last.result (λ goes. (goes.sizes).options ∙ (c.entries.invariant.0.sizes).options) c.put_last.ensures.ok
 
 pub returns-then-is_at_end-clause-told : goal.returns-then-is_at_end-clause-told
 returns-then-is_at_end-clause-told g c =
     puts_all c.put_last.new.self.put (g.S.Shelf.told c.args.shelf.now) (g.S.Shelf.told c.put_last.new.shelf)
     (puts_then [] c.entries.outputs.put c.put_last.new.self.put (g.S.Shelf.told c.args.shelf.now) (g.S.Shelf.told c.entries.shelf) (g.S.Shelf.told c.put_last.new.shelf)
-    c.entries.invariant.told c.put_last.ensures.told)
+    c.entries.invariant.0.told c.put_last.ensures.told)
 
 pub returns-then-is_at_end-clause-cause : goal.returns-then-is_at_end-clause-cause
 returns-then-is_at_end-clause-cause g c =
@@ -49,30 +49,31 @@ returns-then-is_at_end-clause-cause g c =
     (λ (e : MergeFault). HasCause (input_numbers c.args.job.now) e (g.S.Shelf.told c.args.shelf.now) (g.S.Shelf.told c.put_last.new.shelf))
     c.put_last.result
     (λ e h. cause_after (input_numbers c.args.job.now) e (g.S.Shelf.told c.args.shelf.now) (g.S.Shelf.told c.entries.shelf) (g.S.Shelf.told c.put_last.new.shelf)
-    (puts_rise [] c.entries.outputs.put (g.S.Shelf.told c.args.shelf.now) (g.S.Shelf.told c.entries.shelf) c.entries.invariant.told)
+    (puts_rise [] c.entries.outputs.put (g.S.Shelf.told c.args.shelf.now) (g.S.Shelf.told c.entries.shelf) c.entries.invariant.0.told)
     (cause_of_put (input_numbers c.args.job.now) e (g.S.Shelf.told c.entries.shelf) (g.S.Shelf.told c.put_last.new.shelf) h))
     c.put_last.ensures.cause
 
 pub entries-preserved : goal.entries-preserved
 entries-preserved g c =
-    under_step g.S.Shelf.honest c.args.job.now (entries_of c.in-Ok.merger.placed) (g.S.Shelf.told c.args.shelf.now) (g.S.Shelf.told c.entries.shelf) (g.S.Shelf.told c.step.new.shelf)
+    (under_step g.S.Shelf.honest c.args.job.now (entries_of c.in-Ok.merger.placed) (g.S.Shelf.told c.args.shelf.now) (g.S.Shelf.told c.entries.shelf) (g.S.Shelf.told c.step.new.shelf)
     (g.D.NumberSource.drew c.args.numbers.now) (g.D.NumberSource.drew c.entries.numbers) (g.D.NumberSource.drew c.step.new.numbers)
     (g.D.NumberSource.refused c.args.numbers.now) (g.D.NumberSource.refused c.entries.numbers) (g.D.NumberSource.refused c.step.new.numbers)
     (g.D.NumberSource.asked c.args.numbers.now) (g.D.NumberSource.asked c.entries.numbers) (g.D.NumberSource.asked c.step.new.numbers)
-    c.entries.outputs c.step.new.outputs c.entries.before c.step.new.before c.entries.merger c.step.new.merger c.entries.invariant
-    (sym c.is_at_end.ensures ∙ c.if-is_at_end.false) c.in-Ok-step.ensures.ok c.in-Ok-step.ensures.drawn c.in-Ok-step.ensures.answered c.in-Ok-step.ensures.files c.step.ensures.told c.step.ensures.asked
+    c.entries.outputs c.step.new.outputs c.entries.before c.step.new.before c.entries.merger c.step.new.merger c.entries.invariant.0
+    (sym c.is_at_end.ensures ∙ c.if-is_at_end.false) c.in-Ok-step.ensures.ok c.in-Ok-step.ensures.drawn c.in-Ok-step.ensures.answered c.in-Ok-step.ensures.files c.step.ensures.told c.step.ensures.asked,
+    c.step.ensures.ready)
 
 pub returns-in-Err-step-clause-told : goal.returns-in-Err-step-clause-told
 returns-in-Err-step-clause-told g c =
     puts_all c.step.new.outputs.put (g.S.Shelf.told c.args.shelf.now) (g.S.Shelf.told c.step.new.shelf)
     (puts_then [] c.entries.outputs.put c.step.new.outputs.put (g.S.Shelf.told c.args.shelf.now) (g.S.Shelf.told c.entries.shelf) (g.S.Shelf.told c.step.new.shelf)
-    c.entries.invariant.told c.step.ensures.told)
+    c.entries.invariant.0.told c.step.ensures.told)
 
 pub returns-in-Err-step-clause-cause : goal.returns-in-Err-step-clause-cause
 returns-in-Err-step-clause-cause g c =
     cause_after (input_numbers c.args.job.now) c.in-Err-step.fault (g.S.Shelf.told c.args.shelf.now) (g.S.Shelf.told c.entries.shelf) (g.S.Shelf.told c.step.new.shelf)
-    (puts_rise [] c.entries.outputs.put (g.S.Shelf.told c.args.shelf.now) (g.S.Shelf.told c.entries.shelf) c.entries.invariant.told)
-    (c.in-Err-step.ensures.cause (input_numbers c.args.job.now) c.entries.invariant.files)
+    (puts_rise [] c.entries.outputs.put (g.S.Shelf.told c.args.shelf.now) (g.S.Shelf.told c.entries.shelf) c.entries.invariant.0.told)
+    (c.in-Err-step.ensures.cause (input_numbers c.args.job.now) c.entries.invariant.0.files)
 
 pub returns-in-Err-clause-asked : goal.returns-in-Err-clause-asked
 returns-in-Err-clause-asked g c = asks_none c.args.job.now.ticket (g.D.NumberSource.asked c.args.numbers.now) (g.D.NumberSource.asked c.args.numbers.now) refl
@@ -87,7 +88,7 @@ pub returns-in-Err-clause-order : goal.returns-in-Err-clause-order
 returns-in-Err-clause-order g c = λ honest stand late. absurd (order_reading c.in-Err.fault c.in-Err.ensures.kind late)
 
 pub returns-then-is_at_end-clause-asked : goal.returns-then-is_at_end-clause-asked
-returns-then-is_at_end-clause-asked g c = c.entries.invariant.asks
+returns-then-is_at_end-clause-asked g c = c.entries.invariant.0.asks
 
 pub returns-then-is_at_end-clause-ticket : goal.returns-then-is_at_end-clause-ticket
 returns-then-is_at_end-clause-ticket g c =
@@ -102,7 +103,7 @@ returns-then-is_at_end-clause-large g c = λ honest.
     (λ e h size. under_last g.S.Shelf.honest c.args.job.now (entries_of c.in-Ok.merger.placed) (all_entries (job_of c.args.job.now).inputs) (g.S.Shelf.told c.args.shelf.now) (g.S.Shelf.told c.entries.shelf)
     (g.D.NumberSource.drew c.args.numbers.now) (g.D.NumberSource.drew c.entries.numbers) (g.D.NumberSource.refused c.args.numbers.now) (g.D.NumberSource.refused c.entries.numbers)
     (g.D.NumberSource.asked c.args.numbers.now) (g.D.NumberSource.asked c.entries.numbers)
-    c.entries.outputs c.entries.before c.entries.merger c.entries.invariant honest
+    c.entries.outputs c.entries.before c.entries.merger c.entries.invariant.0 honest
     (c.in-Ok.ensures.from honest) (h size))
     c.put_last.ensures.large
 
@@ -114,18 +115,18 @@ returns-then-is_at_end-clause-order g c = λ honest stand.
 
 pub returns-in-Err-step-clause-asked : goal.returns-in-Err-step-clause-asked
 returns-in-Err-step-clause-asked g c =
-    asks_then c.args.job.now.ticket (g.D.NumberSource.asked c.args.numbers.now) (g.D.NumberSource.asked c.entries.numbers) (g.D.NumberSource.asked c.step.new.numbers) c.entries.invariant.asks
-    (subst (λ (t : ℕ). AsksFor t (g.D.NumberSource.asked c.entries.numbers) (g.D.NumberSource.asked c.step.new.numbers)) (c.entries.invariant.sizes).ticket c.step.ensures.asked)
+    asks_then c.args.job.now.ticket (g.D.NumberSource.asked c.args.numbers.now) (g.D.NumberSource.asked c.entries.numbers) (g.D.NumberSource.asked c.step.new.numbers) c.entries.invariant.0.asks
+    (subst (λ (t : ℕ). AsksFor t (g.D.NumberSource.asked c.entries.numbers) (g.D.NumberSource.asked c.step.new.numbers)) (c.entries.invariant.0.sizes).ticket c.step.ensures.asked)
 
 pub returns-in-Err-step-clause-ticket : goal.returns-in-Err-step-clause-ticket
-returns-in-Err-step-clause-ticket g c = subst (NamesTicket c.in-Err-step.fault) (c.entries.invariant.sizes).ticket c.in-Err-step.ensures.ticket
+returns-in-Err-step-clause-ticket g c = subst (NamesTicket c.in-Err-step.fault) (c.entries.invariant.0.sizes).ticket c.in-Err-step.ensures.ticket
 
 pub returns-in-Err-step-clause-large : goal.returns-in-Err-step-clause-large
 returns-in-Err-step-clause-large g c = λ honest size.
     under_limit g.S.Shelf.honest c.args.job.now (entries_of c.in-Ok.merger.placed) (all_entries (job_of c.args.job.now).inputs) (g.S.Shelf.told c.args.shelf.now) (g.S.Shelf.told c.entries.shelf)
     (g.D.NumberSource.drew c.args.numbers.now) (g.D.NumberSource.drew c.entries.numbers) (g.D.NumberSource.refused c.args.numbers.now) (g.D.NumberSource.refused c.entries.numbers)
     (g.D.NumberSource.asked c.args.numbers.now) (g.D.NumberSource.asked c.entries.numbers)
-    c.entries.outputs c.entries.before c.entries.merger c.entries.invariant
+    c.entries.outputs c.entries.before c.entries.merger c.entries.invariant.0
     (sym c.is_at_end.ensures ∙ c.if-is_at_end.false) (c.in-Err-step.ensures.large size) honest (c.in-Ok.ensures.from honest)
 
 pub returns-in-Err-step-clause-order : goal.returns-in-Err-step-clause-order
@@ -134,7 +135,7 @@ returns-in-Err-step-clause-order g c = λ honest stand late.
     (under_order g.S.Shelf.honest c.args.job.now (entries_of c.in-Ok.merger.placed) (g.S.Shelf.told c.args.shelf.now) (g.S.Shelf.told c.entries.shelf)
     (g.D.NumberSource.drew c.args.numbers.now) (g.D.NumberSource.drew c.entries.numbers) (g.D.NumberSource.refused c.args.numbers.now) (g.D.NumberSource.refused c.entries.numbers)
     (g.D.NumberSource.asked c.args.numbers.now) (g.D.NumberSource.asked c.entries.numbers)
-    c.entries.outputs c.entries.before c.entries.merger c.entries.invariant
+    c.entries.outputs c.entries.before c.entries.merger c.entries.invariant.0
     (sym c.is_at_end.ensures ∙ c.if-is_at_end.false) (c.in-Err-step.ensures.order late) honest)
 
 pub returns-then-is_at_end-clause-apart : goal.returns-then-is_at_end-clause-apart
@@ -144,5 +145,5 @@ returns-then-is_at_end-clause-apart g c = λ honest stand.
     (under_ascends g.S.Shelf.honest c.args.job.now (entries_of c.in-Ok.merger.placed) (g.S.Shelf.told c.args.shelf.now) (g.S.Shelf.told c.entries.shelf)
     (g.D.NumberSource.drew c.args.numbers.now) (g.D.NumberSource.drew c.entries.numbers) (g.D.NumberSource.refused c.args.numbers.now) (g.D.NumberSource.refused c.entries.numbers)
     (g.D.NumberSource.asked c.args.numbers.now) (g.D.NumberSource.asked c.entries.numbers)
-    c.entries.outputs c.entries.before c.entries.merger c.entries.invariant (sym c.is_at_end.ensures ∙ c.if-is_at_end.true) honest))
+    c.entries.outputs c.entries.before c.entries.merger c.entries.invariant.0 (sym c.is_at_end.ensures ∙ c.if-is_at_end.true) honest))
     c.put_last.ensures.ok

@@ -8,3 +8,4 @@ invariant-entries g l =
     (g.D.NumberSource.drew l.fn.numbers) (g.D.NumberSource.drew l.numbers) (g.D.NumberSource.refused l.fn.numbers) (g.D.NumberSource.refused l.numbers)
     (g.D.NumberSource.asked l.fn.numbers) (g.D.NumberSource.asked l.numbers)
     l.outputs l.before l.merger
+    × g.D.NumberSource.ready l.numbers
