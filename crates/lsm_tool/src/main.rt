@@ -1,12 +1,13 @@
 //! The program `lsm`: makes LevelDB's files, and shows what is in them and in a folder of them.
 //!
-//! Stands on `lsm_commands` and `lsm_directory`, which do all that it does. Here stand the words, standard input and output, the
-//! folder, and the exit status.
+//! Stands on `lsm_commands`, `lsm_directory` and `lsm_writer`, which do all that it does. Here stand the words, standard input and
+//! output, the folder, and the exit status.
 #![tactic(auto)]
 
 use lsm_commands::{DirectoryLine, directory_asked, refuse_words, run};
 use lsm_directory::refuse_shelf;
 use lsm_shelf::FileShelf;
+use lsm_writer::{WritingLine, writing_asked};
 use std::env::{self, Env};
 use std::io::{self, BufWriter};
 use std::process::ExitCode;
@@ -31,9 +32,19 @@ fn ask_folder(waits: &impl Wait, rt: HostRuntime, line: &DirectoryLine<'_>) -> i
     Ok(lsm_directory::run(waits, alloc, &mut shelf, command, &mut out, &mut err))
 }
 
+/// Does what words ask of a folder that is written.
+fn write_folder(waits: &impl Wait, rt: HostRuntime, line: &WritingLine<'_>) -> io::Result<u8> {
+    let mut err = rt.stderr();
+    let mut out = BufWriter::new(rt.alloc(), rt.stdout())?;
+    Ok(lsm_writer::run(waits, rt, line, &mut out, &mut err))
+}
+
 /// Does what words ask.
 fn obey(waits: &impl Wait, rt: HostRuntime, words: &[String]) -> io::Result<u8> {
     let alloc = rt.alloc();
+    if let Some(line) = writing_asked(words) {
+        return write_folder(waits, rt, &line);
+    }
     match directory_asked(alloc, words)? {
         Some(line) => ask_folder(waits, rt, &line),
         None => {
