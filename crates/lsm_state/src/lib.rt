@@ -10,8 +10,9 @@
 //! brackets stands the clause that carries what was said, or the field of the law.
 //!
 //! - Over an honest shelf the files of each level from 1 on are sorted and share no key of an entry (`split`), and of a user key each
-//!   entry is newer than all that lie deeper (`depth`; both in `meaning` of `law`). Whatever the shelf is, numbers, tickets, floors and
-//!   the inputs of live jobs keep apart (`books` of `law`).
+//!   entry is newer than all that lie deeper (`depth`; both in `meaning` of `law`). Whatever the shelf is, no two files or tickets
+//!   have one number, numbers drawn are no file's, inputs of live jobs are files of the version, no two live jobs conflict, and no floor
+//!   is above the last sequence or a live snapshot's (`books` of `law`).
 //! - The current version is what the edits of the manifest held come to (`journaled`). What is held is what the shelf was sent: as a
 //!   state is made (`sent` of `create`, `begun` of `open`, `found` of `open_to_read`), and at each change of the version (`sends`, in
 //!   `ok` of `ingest` and `installed` of `install`).
@@ -24,7 +25,7 @@
 //!   gave before (`answers`), whatever came since the job was reserved.
 //! - A stale result changes nothing: `install` refuses one whose job is not live, or that has numbers which the job did not draw, leaves
 //!   all as it was (`refused`), and hands the result back (`back`).
-//! - A read gives the newest value at or before its sequence (`answer` of `get`).
+//! - Over an honest shelf a read gives the newest value at or before its sequence (`answer` of `get`).
 //! - What changes entries, snapshots or jobs is an event of the plain machine (`event`), so the laws of `lsm_machine` over whole runs
 //!   speak of states.
 #![tactic(auto)]

@@ -35,7 +35,7 @@ abbrev pub NamesOne : (ℕ → Type 0) → Option ℕ → ReadFault → Type 0
 NamesOne P None fault = IsWant fault
 NamesOne P (Some number) fault = P number
 
--- Memory ran out beside the files, and none is named.
+-- Memory ran out, and no file is named.
 abbrev pub NamesNone : Option ℕ → ReadFault → Type 0
 NamesNone None fault = IsWant fault
 NamesNone (Some number) fault = ⊥

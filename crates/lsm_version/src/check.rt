@@ -77,7 +77,7 @@ impl<N: Naming, S: Shelf> Version<N, S> {
     /// a second look is needed, the shelf's refusals and those of a table with the number of one of the files that are not settled, or
     /// `AgeOrder` with the least user key of which a deeper entry has no lesser sequence than a shallower one (that a key's entries are
     /// newer the shallower they lie is what LevelDB's `doc/impl.md` builds on; that a database which breaks it is refused is this
-    /// project's rule). Want of memory beside the tables names no file.
+    /// project's rule). Beside want of memory a file may be named or not.
     ///
     /// Time: one walk through each table, by its bytes; for each file a search in each deeper level, and a look at the files there that
     /// its range meets; of level 0 each file is looked at with each other one. A second look is a merge, and takes a merge's time.
