@@ -2,7 +2,7 @@
 //!
 //! Stands on `lsm_journal` and `lsm_version` to open a directory, on `lsm_reader` to count entries, and on `lsm_commands` for words
 //! and refusals. Its contract: over an honest shelf a `run` that ends with 0 printed what its command asks of the version that the
-//! manifest names. That nothing is written there is to be read.
+//! manifest names. An Ok `open`, and each refusal but for want of memory, says that nothing was written there.
 #![tactic(auto)]
 
 // A run: a directory is opened, and asked.
