@@ -1,5 +1,4 @@
 #!/usr/bin/env bash
-# Not yet run to its end: the program is not proved whole.
 # What a version does with hostile tables, its check, a scan and a merge of two levels, beside the check of the tables alone: ever more files
 # of one entry each, and two tables whose one data block spells far more bytes of keys than it has (make.rs), once with ages that are
 # settled and once with open ones. Prints milliseconds and the peak of memory for sizes that double (FILES, LEVEL0 and SIZES name others):
@@ -90,14 +89,14 @@ measure() { # NAME WORDS..: one line of figures
 
 for files in ${FILES:-125000 250000 500000 1000000}; do measure "$files files at levels 1 and 2" "$files" 1; done
 for files in ${LEVEL0:-2000 4000 8000 16000}; do measure "$files files, half of them at level 0" "$files" 0; done
-for size in ${SIZES:-1 2 4}; do
-    bytes=$((size * 1048576))
+for size in ${SIZES:-64 128 256}; do
+    bytes=$((size * 1024))
     mkdir "$scratch/tables"
     "$scratch/make" "$bytes" 1 2> "$scratch/last" > "$scratch/tables/000006.ldb"
     for seq in 10 2; do
         "$scratch/make" "$bytes" "$seq" 2> "$scratch/last" > "$scratch/tables/000005.ldb"
         if [[ $seq == 10 ]]; then ages=settled; else ages=open; fi
-        measure "two blocks of $size MiB, ages $ages" "$scratch/tables" "$((bytes / 2))" "$(cat "$scratch/last")" "$seq"
+        measure "two blocks of $size KiB, ages $ages" "$scratch/tables" "$((bytes / 2))" "$(cat "$scratch/last")" "$seq"
         rm -f "$scratch/tables"/000005.ldb "$scratch/tables"/[12]*.ldb
     done
     rm -rf "$scratch/tables"
