@@ -1,6 +1,6 @@
 //! What each command writes for directories that are well.
 
-use crate::directories::{FIRST, shelf_of, small, wide};
+use crate::directories::{ADDS_TWO, FIRST, manifest_of, shelf_of, small, wide};
 use crate::runs::{get, key_of, prints, whole_scan};
 use lsm_commands::{DirectoryCommand, KeyBounds};
 use lsm_shelf::Shelf;
@@ -27,6 +27,18 @@ fn checks_and_scans(rt: HostRuntime) -> Result<(), Fail> {
         "level 0 files 1 bytes 114 entries 1\nlevel 1 files 0 bytes 0 entries 0\nlevel 2 files 0 bytes 0 entries 0\nlevel 3 files 0 bytes 0 entries 0\nlevel 4 files 0 bytes 0 entries 0\nlevel 5 files 0 bytes 0 entries 0\nlevel 6 files 0 bytes 0 entries 0\nlast 1\nrest 0\n";
     prints(&rt, alloc, &mut shelf, DirectoryCommand::Check, counted)?;
     prints(&rt, alloc, &mut shelf, whole_scan(), "6b=31\n")
+}
+
+#[test]
+fn counts_a_rest(rt: HostRuntime) -> Result<(), Fail> {
+    let alloc = rt.alloc();
+    let manifest = manifest_of(alloc, ADDS_TWO)?;
+    assert_eq!(&rt; manifest.len(), 80);
+    let cut = manifest.as_slice().get(..79).unwrap_or(&[]);
+    let mut shelf = shelf_of(&rt, alloc, cut, &[])?;
+    let counted =
+        "level 0 files 0 bytes 0 entries 0\nlevel 1 files 0 bytes 0 entries 0\nlevel 2 files 0 bytes 0 entries 0\nlevel 3 files 0 bytes 0 entries 0\nlevel 4 files 0 bytes 0 entries 0\nlevel 5 files 0 bytes 0 entries 0\nlevel 6 files 0 bytes 0 entries 0\nlast 0\nrest 38\n";
+    prints(&rt, alloc, &mut shelf, DirectoryCommand::Check, counted)
 }
 
 #[test]
