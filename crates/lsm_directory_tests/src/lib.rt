@@ -1,0 +1,15 @@
+//! Tests of `lsm_directory` by its public names: what each command writes for known directories, and what a device that fails leaves.
+#![tactic(auto)]
+
+#[cfg(test)]
+mod answering;
+#[cfg(test)]
+mod command_lines;
+#[cfg(test)]
+mod directories;
+#[cfg(test)]
+mod failing;
+#[cfg(test)]
+mod refusing;
+#[cfg(test)]
+mod runs;
