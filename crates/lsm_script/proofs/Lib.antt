@@ -1,0 +1,7 @@
+mod Elements
+mod Events
+mod Drawings
+mod Histories
+mod Chains
+mod Turns
+mod Sourced

@@ -1,0 +1,114 @@
+//! Numbers that a merge draws from a state.
+
+ghost use Rattle.std.specs.Prelude.{◌≡◌, ◌∷◌};
+ghost use Rattle.lsm_script.specs.Drawing.{GivesNumber, refusal_of};
+
+use boxcar::tag::{Names, Tag};
+use lsm_merge::{NumberFault, NumberSource};
+use lsm_slots::Boarded;
+use lsm_state::{State, StateFault};
+use lsm_table::Shelf;
+use std::alloc::Global;
+use std::marker::{Brand, PhantomData};
+use std::sync::Wait;
+
+/// What holds of a state that gave numbers: of the state, of the numbers, of the published numbers of its refusals, and of the tickets
+/// that it was asked for, each list the last first. A merge picks it.
+pub(crate) trait Noted<X> {
+    ghost use Rattle.std.specs.Prelude.{ℕ, List};
+
+    ghost holds: { X → List ℕ → List ℕ → List ℕ → Type 0 };
+}
+
+impl<X> Noted<X> for Brand {
+    ghost holds = { λ state drew refused asked. Unit {0} };
+}
+
+/// A state, and the function that draws a number from it. It has no bound: a method of an impl may call no function that is bounded by a
+/// shelf, so the function is a value.
+#[derive(Drop)]
+pub(crate) struct Numbers<M, X, F> {
+    pub(crate) state: Option<X>,
+    pub(crate) draw: F,
+    pub(crate) drew: Tag,
+    pub(crate) refused: Tag,
+    pub(crate) asked: Tag,
+    pub(crate) noted: PhantomData<M>,
+}
+
+impl<M: Noted<X>, X: Drop, F: Fn(X, u64) -> (X, Result<u64, NumberFault>)> NumberSource
+    for Numbers<M, X, F> {
+    ghost use Rattle.lsm_script.specs.Drawing.{IsSource};
+
+    ghost drew = { λ n. n.drew.numbers };
+
+    ghost refused = { λ n. n.refused.numbers };
+
+    ghost asked = { λ n. n.asked.numbers };
+
+    ghost ready = { λ n. F.IsAlwaysCallable n.draw × IsSource M.holds (λ x t y r. F.post n.draw x t (y, r)) record { state = n.state; drew = n.drew.numbers; refused = n.refused.numbers; asked = n.asked.numbers } };
+
+    fn draw<R: Wait>(&mut self, _rt: &R, _alloc: Global, ticket: u64) -> Result<u64, NumberFault> {
+        let Some(state) = self.state.take() else {
+            unreachable!()
+        };
+        let (state, answer) = (self.draw)(state, ticket);
+        self.state = Some(state);
+        self.asked = with_number(ticket, &self.asked);
+        match answer {
+            Ok(number) => {
+                self.drew = with_number(number, &self.drew);
+                Ok(number)
+            }
+            Err(fault) => {
+                self.refused = with_number(u64::from(fault.number()), &self.refused);
+                Err(fault)
+            }
+        }
+    }
+}
+
+/// A number, and those before it.
+#[derive(Drop)]
+struct Pair<'a> {
+    number: u64,
+    before: &'a Tag,
+}
+
+struct Joined;
+
+impl<'a> Names<Pair<'a>> for Joined {
+    ghost numbers = { λ p. p.number ∷ p.before.now.numbers };
+}
+
+/// One number more, which only clauses read.
+fn with_number(number: u64, before: &Tag) -> Tag
+    ensures { result.numbers ≡ number ∷ before.now.numbers }
+{
+    Tag::of::<Pair<'_>, Joined>(&Pair { number, before })
+}
+
+/// The state's refusal of a number.
+fn refusal_of(fault: StateFault) -> NumberFault
+    ensures { result ≡ refusal_of fault }
+{
+    match fault {
+        StateFault::UnknownTicket(ticket) => NumberFault::UnknownTicket(ticket),
+        StateFault::NumbersSpent => NumberFault::NumbersSpent,
+        _ => NumberFault::OutOfMemory,
+    }
+}
+
+/// The state's next number, booked under the ticket.
+pub(crate) fn drawn<N: Boarded, S: Shelf>(
+    state: State<N, S>,
+    ticket: u64,
+) -> (State<N, S>, Result<u64, NumberFault>)
+    ensures { GivesNumber state ticket result.0 result.1 }
+{
+    let mut state = state;
+    match state.new_number(ticket) {
+        Ok(number) => (state, Ok(number)),
+        Err(fault) => (state, Err(refusal_of(fault))),
+    }
+}

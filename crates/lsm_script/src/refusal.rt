@@ -1,0 +1,42 @@
+//! Why a command was refused.
+
+ghost use Rattle.std.specs.Prelude.{◌≡◌};
+ghost use Rattle.lsm_script.specs.Refusal.{name_of, number_of};
+
+use lsm_merge::MergeFault;
+use lsm_state::StateFault;
+use std::alloc::{AllocError, AllocFailed};
+use thiserror::Error;
+
+/// Why a command was refused.
+#[derive(Clone, Copy, Debug, Drop, Error, PartialEq, Eq)]
+pub enum Refusal {
+    /// The state refused; `UnknownTicket` where the script has no job or no result of the ticket.
+    #[error("{0}")]
+    State(StateFault),
+    /// The merge was refused.
+    #[error("{0}")]
+    Merge(MergeFault),
+}
+
+impl Refusal {
+    /// The published number of the refusal.
+    pub fn number(&self) -> u8
+        ensures { result ≡ number_of self.now }
+    {
+        match self {
+            Refusal::State(fault) => fault.number(),
+            Refusal::Merge(fault) => fault.number(),
+        }
+    }
+
+    /// The published name of the refusal, without its fields.
+    pub fn name(&self) -> &'static str
+        ensures { result.now ≡ name_of self.now }
+    {
+        match self {
+            Refusal::State(fault) => fault.name(),
+            Refusal::Merge(fault) => fault.name(),
+        }
+    }
+}
