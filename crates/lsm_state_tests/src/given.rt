@@ -1,0 +1,82 @@
+//! Numbers that were drawn before a merge.
+
+ghost use Rattle.std.specs.Prelude.{◌≡◌, ◌∷◌};
+
+use boxcar::tag::{Names, Tag};
+use lsm_merge::{NumberFault, NumberSource};
+use std::alloc::Global;
+use std::sync::Wait;
+
+/// A number and what came before it.
+#[derive(Drop)]
+struct Pair<'a> {
+    number: u64,
+    before: &'a Tag,
+}
+
+struct Joined;
+
+impl<'a> Names<Pair<'a>> for Joined {
+    ghost numbers = { λ p. p.number ∷ p.before.now.numbers };
+}
+
+struct Nothing;
+
+impl Names<()> for Nothing {
+    ghost use Rattle.std.specs.Prelude.{[]};
+
+    ghost numbers = { λ _. [] };
+}
+
+fn with_number(number: u64, before: &Tag) -> Tag
+    ensures { result.numbers ≡ number ∷ before.now.numbers }
+{
+    Tag::of::<Pair<'_>, Joined>(&Pair { number, before })
+}
+
+/// Gives numbers out of a list, one after another.
+#[derive(Drop)]
+pub(crate) struct Given {
+    numbers: Vec<u64>,
+    place: usize,
+    drew: Tag,
+    refused: Tag,
+    asked: Tag,
+}
+
+impl Given {
+    pub(crate) fn of(numbers: Vec<u64>) -> Given {
+        Given {
+            numbers,
+            place: 0,
+            drew: Tag::of::<(), Nothing>(&()),
+            refused: Tag::of::<(), Nothing>(&()),
+            asked: Tag::of::<(), Nothing>(&()),
+        }
+    }
+}
+
+impl NumberSource for Given {
+    ghost ready = { λ _. Unit {0} };
+
+    ghost drew = { λ g. g.drew.numbers };
+
+    ghost refused = { λ g. g.refused.numbers };
+
+    ghost asked = { λ g. g.asked.numbers };
+
+    fn draw<R: Wait>(&mut self, _rt: &R, _alloc: Global, ticket: u64) -> Result<u64, NumberFault> {
+        self.asked = with_number(ticket, &self.asked);
+        match self.numbers.get(self.place).copied() {
+            Some(number) => {
+                self.place = self.place.saturating_add(1);
+                self.drew = with_number(number, &self.drew);
+                Ok(number)
+            }
+            None => {
+                self.refused = with_number(46, &self.refused);
+                Err(NumberFault::NumbersSpent)
+            }
+        }
+    }
+}
