@@ -1,5 +1,5 @@
 -- What a command answers, by what is done.
-use Rattle.std.proofs.Common.{◌≡◌, ◌≢◌, ℕ, Bool, List, Option, IfErr, OnErr, OnOk}
+use Rattle.std.proofs.Common.{◌≡◌, ◌≢◌, ℕ, Bool, List, Option, None, Some, IfErr, OnErr, OnOk, refl}
 use Rattle.std.specs.Prelude.{Result, Ok, Err}
 use Rattle.std.specs.Io.KnownBytes.{Keeps}
 use Rattle.lsm_shelf.specs.Told.{Told}
@@ -14,3 +14,12 @@ pub is_refused : {T : Type 0} (r : Result T WriterFault) (status : ℕ) (Stored 
     → (status ≡ 1) × ((fault : WriterFault) × IsRefused Stored Honest is_new ws fault was is old new)
 is_refused (Ok x) status Stored Honest is_new ws was is old new ok err says left other = absurd (other ok)
 is_refused (Err e) status Stored Honest is_new ws was is old new ok err says left other = (err, (e, record { says = says; left = left }))
+
+keeps_itself : (x : Option (List ℕ)) → Keeps x x
+keeps_itself None = tt
+keeps_itself (Some xs) = refl
+
+-- nothing was written, whatever the answer is
+pub all_keep : {T : Type 0} (r : Result T WriterFault) (x : Option (List ℕ)) → IfErr r (λ e. e ≢ WriteFault → Keeps x x)
+all_keep (Ok v) x = tt
+all_keep (Err e) x = λ n. keeps_itself x

@@ -1,4 +1,5 @@
 use Rattle.std.proofs.Common.{inr, refl}
+use Rattle.lsm_writer.proofs.Outcomes.{all_keep}
 use Rattle.lsm_writer.proofs.ingesting.bring_in_as.Goals as goal
 
 pub returns-clause-fault : goal.returns-clause-fault
@@ -15,3 +16,6 @@ returns-clause-fault g c = inr (inr (inr (
     },
   ),
 )))
+
+pub returns-in_err-ingested-clause-left : goal.returns-in_err-ingested-clause-left
+returns-in_err-ingested-clause-left g c = all_keep c.from_residual-in_err-ingested.result (g.O.Write.contents c.args.out.now)
