@@ -54,14 +54,15 @@ returns-then-is_at_end-clause-cause g c =
     c.put_last.ensures.cause
 
 pub entries-preserved : goal.entries-preserved
-entries-preserved g c =
-    (under_step g.S.Shelf.honest c.args.job.now (entries_of c.in-Ok.merger.placed) (g.S.Shelf.told c.args.shelf.now) (g.S.Shelf.told c.entries.shelf) (g.S.Shelf.told c.step.new.shelf)
-    (g.D.NumberSource.drew c.args.numbers.now) (g.D.NumberSource.drew c.entries.numbers) (g.D.NumberSource.drew c.step.new.numbers)
-    (g.D.NumberSource.refused c.args.numbers.now) (g.D.NumberSource.refused c.entries.numbers) (g.D.NumberSource.refused c.step.new.numbers)
-    (g.D.NumberSource.asked c.args.numbers.now) (g.D.NumberSource.asked c.entries.numbers) (g.D.NumberSource.asked c.step.new.numbers)
-    c.entries.outputs c.step.new.outputs c.entries.before c.step.new.before c.entries.merger c.step.new.merger c.entries.invariant.0
-    (sym c.is_at_end.ensures ∙ c.if-is_at_end.false) c.in-Ok-step.ensures.ok c.in-Ok-step.ensures.drawn c.in-Ok-step.ensures.answered c.in-Ok-step.ensures.files c.step.ensures.told c.step.ensures.asked,
-    c.step.ensures.ready)
+entries-preserved g c = (
+  under_step g.S.Shelf.honest c.args.job.now (entries_of c.in-Ok.merger.placed) (g.S.Shelf.told c.args.shelf.now) (g.S.Shelf.told c.entries.shelf) (g.S.Shelf.told c.step.new.shelf)
+      (g.D.NumberSource.drew c.args.numbers.now) (g.D.NumberSource.drew c.entries.numbers) (g.D.NumberSource.drew c.step.new.numbers)
+      (g.D.NumberSource.refused c.args.numbers.now) (g.D.NumberSource.refused c.entries.numbers) (g.D.NumberSource.refused c.step.new.numbers)
+      (g.D.NumberSource.asked c.args.numbers.now) (g.D.NumberSource.asked c.entries.numbers) (g.D.NumberSource.asked c.step.new.numbers)
+      c.entries.outputs c.step.new.outputs c.entries.before c.step.new.before c.entries.merger c.step.new.merger c.entries.invariant.0
+      (sym c.is_at_end.ensures ∙ c.if-is_at_end.false) c.in-Ok-step.ensures.ok c.in-Ok-step.ensures.drawn c.in-Ok-step.ensures.answered c.in-Ok-step.ensures.files c.step.ensures.told c.step.ensures.asked,
+  c.step.ensures.ready,
+)
 
 pub returns-in-Err-step-clause-told : goal.returns-in-Err-step-clause-told
 returns-in-Err-step-clause-told g c =
