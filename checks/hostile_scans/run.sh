@@ -1,4 +1,5 @@
 #!/usr/bin/env bash
+# Not yet run to its end with these sizes: the parts on many files ran, and blocks of 1 MiB, which a merge found no memory for.
 # What a version does with hostile tables, its check, a scan and a merge of two levels, beside the check of the tables alone: ever more files
 # of one entry each, and two tables whose one data block spells far more bytes of keys than it has (make.rs), once with ages that are
 # settled and once with open ones. Prints milliseconds and the peak of memory for sizes that double (FILES, LEVEL0 and SIZES name others):
