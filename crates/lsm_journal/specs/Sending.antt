@@ -48,3 +48,16 @@ IsCreateRefusal OutOfMemory was is = Becomes was is
 IsCreateRefusal Device was is = Becomes was is × Rose was.faults is.faults
 IsCreateRefusal Missing was is = ⊥
 IsCreateRefusal (Taken n) was is = ((bytes : Rattle.std.specs.Prelude.List ℕ) × Becomes (finding n bytes was) is) ⊎ ((n ≡ 1) × Becomes was is × Rose (next_count was.misses) is.misses)
+
+-- the shelf answered once at most that something is missing
+abbrev pub MissedOnce : Told → Told → Type 0
+MissedOnce was is = (is.misses ≡ was.misses) ⊎ (is.misses ≡ next_count was.misses)
+
+-- What a refused creation counted. Before the refusal that it tells, the shelf may have answered once that no manifest is there; for want of
+-- memory, and where a manifest was read, no failure more was counted, for `Device` just one, and for a name taken by another just that.
+abbrev pub CreateCounted : ShelfFault → Told → Told → Type 0
+CreateCounted OutOfMemory was is = (is.faults ≡ was.faults) × MissedOnce was is
+CreateCounted Device was is = (is.faults ≡ next_count was.faults) × MissedOnce was is
+CreateCounted Missing was is = ⊥
+CreateCounted (Taken n) was is = (is.faults ≡ was.faults)
+    × (((bytes : Rattle.std.specs.Prelude.List ℕ) × Becomes (finding n bytes was) is × (is.misses ≡ was.misses)) ⊎ ((n ≡ 1) × (is.misses ≡ next_count (next_count was.misses))))

@@ -1,6 +1,6 @@
 -- The numbers that are kept.
 use Rattle.std.proofs.Common.{◌≡◌, ℕ, zero, suc, Option, Some, None, List, [], ◌∷◌, ◌++◌, map, refl, sym, ap, ◌∙◌, subst, inl, inr}
-use Rattle.std.specs.Prelude.{Result, Ok, Err, IfOk, IfSome, slice_get, slice_set}
+use Rattle.std.specs.Prelude.{◌↔◌, Result, Ok, Err, IfOk, IfSome, slice_get, slice_set}
 use Rattle.std.proofs.lemmas.Bool.{cases_eq}
 use Rattle.lsm_codec.specs.Lists.{Has}
 use Rattle.lsm_codec.proofs.CallerLemmas.{flat_has, has_cases, has_flat, has_left, has_right}
@@ -82,6 +82,31 @@ kept_from h n k = elim (has_cases (numbers_held h.slots.epochs) (drawn_numbers h
 pub kept_to : (h : Held) (n : ℕ) → IsKeptNumber h n → Has (numbers_held h.slots.epochs ++ drawn_numbers h.live) n
 kept_to h n (inl r) = has_left (numbers_held h.slots.epochs) (drawn_numbers h.live) n (named_held h.slots.epochs r.0 n r.1 r.3 (subst (λ m. Has (numbers_in r.1.version) m) r.5 (has_map (files r.1.version) r.2 r.4)))
 kept_to h n (inr r) = has_right (numbers_held h.slots.epochs) (drawn_numbers h.live) n (has_flat (λ (b : Booked). b.drawn) h.live r.0 n r.1 r.2)
+
+-- the versions in slots stay, and what live jobs drew, so the same is kept
+same_kept : (h : Held) (s : Slotted) → numbers_held s.epochs ≡ numbers_held h.slots.epochs → (n : ℕ) → IsKeptNumber (record h { slots = s }) n ↔ IsKeptNumber h n
+same_kept h s same n = (
+  λ k. kept_from h n (subst (λ ns. Has (ns ++ drawn_numbers h.live) n) same (kept_to (record h { slots = s }) n k)),
+  λ k. kept_from (record h { slots = s }) n (subst (λ ns. Has (ns ++ drawn_numbers h.live) n) (sym same) (kept_to h n k)),
+)
+
+other_pins : (es : List (Option Epoch)) (slot to : ℕ) (e : Epoch) → slice_get es slot ≡ Some (Some e) → numbers_held (slice_set es slot (Some (record e { pins = to }))) ≡ numbers_held es
+other_pins [] slot to e had = (let no : None ≡ Some (Some e) = had in cc)
+other_pins (o ∷ es) zero to e had = (let is : Some o ≡ Some (Some e) = had in let same : o ≡ Some e = cc in ap (λ x. numbers_at x ++ numbers_held es) (sym same))
+other_pins (o ∷ es) (suc slot) to e had = ap (λ ns. numbers_at o ++ ns) (other_pins es slot to e had)
+
+pub pinned_kept : (h : Held) (s : Slotted) (id from to : ℕ) → PinsMove h.slots s id from to → (n : ℕ) → IsKeptNumber (record h { slots = s }) n ↔ IsKeptNumber h n
+pinned_kept h s id from to m = same_kept h s (ap (λ (x : Slotted). numbers_held x.epochs) m.is ∙ other_pins h.slots.epochs m.slot to m.epoch m.had)
+
+pub unpinned_kept : (h : Held) (s : Slotted) → s ≡ h.slots → (n : ℕ) → IsKeptNumber (record h { slots = s }) n ↔ IsKeptNumber h n
+unpinned_kept h s is = same_kept h s (ap (λ (x : Slotted). numbers_held x.epochs) is)
+
+-- looks free slots only, so no more is kept
+pub looked_kept : (h : Held) (s : Slotted) → Looked h.slots s → (n : ℕ) → IsKeptNumber (record h { slots = s }) n → IsKeptNumber h n
+looked_kept h s l n k = elim (has_cases (numbers_held s.epochs) (drawn_numbers h.live) n (kept_to (record h { slots = s }) n k)) [
+  | inl held ↦ kept_from h n (has_left (numbers_held h.slots.epochs) (drawn_numbers h.live) n (looked_numbers h.slots s n l held))
+  | inr drawn ↦ kept_from h n (has_right (numbers_held h.slots.epochs) (drawn_numbers h.live) n drawn)
+]
 
 -- the tables of a version that has a slot are kept
 pub version_kept : (h : Held) (slot n : ℕ) (e : Epoch) → HasEpoch h.slots slot e → Has (numbers_in e.version) n → IsKeptNumber h n

@@ -7,22 +7,25 @@ use Rattle.lsm_codec.specs.Keys.{UserKey}
 use Rattle.lsm_codec.specs.Lists.{Has}
 use Rattle.lsm_codec.proofs.CallerLemmas.{has_cases}
 use Rattle.lsm_table.specs.Registry.{Table}
-use Rattle.lsm_levels.specs.Files.{File, Lie}
+use Rattle.lsm_levels.specs.Files.{File, Lie, all_entries}
 use Rattle.lsm_levels.specs.Jobs.{Conflicts, Job}
 use Rattle.lsm_machine.specs.Law.{Law}
 use Rattle.lsm_machine.specs.Plain.{Live, Plain}
 use Rattle.lsm_machine.specs.Runs.{Reserve}
-use Rattle.lsm_version.specs.Versions.{IsSound, IsWhole, Levels, file_of, files}
+use Rattle.lsm_version.specs.FileNumbers.{AreDistinct}
+use Rattle.lsm_version.specs.Versions.{AreInOrder, IsSound, IsWhole, Levels, file_of, files, numbers_in}
 use Rattle.lsm_choice.specs.Choice.{IsChoice}
 use Rattle.lsm_choice.specs.Reservations.{IsClear, IsLeastConflict, Reserved, conflicts, reserved_of}
 use Rattle.lsm_choice.specs.TablePlans.{IsPlanFrom, StandsIn, TablePlan, files_over, plan_of}
 use Rattle.lsm_choice.specs.TablePlans as planned
+use Rattle.lsm_merge.specs.InputOrder.{HasTwins, StandInOrder}
 use Rattle.lsm_merge.specs.Work.{MovesOne, Work, job_of}
 use Rattle.lsm_live.specs.Booked.{Booked, live_of, lives_of, new_booked}
+use Rattle.lsm_live.specs.Planned.{IsWorkOf}
 use Rattle.lsm_live.specs.Reserving.{reserved_jobs}
 use Rattle.lsm_live.proofs.CallerLemmas.{live_has, live_says, lives_added, reserved_has}
 use Rattle.lsm_state.specs.Held.{HasInputs, Held, IsLawfulState, plain}
-use Rattle.lsm_state.specs.Reserving.{IsChosen, IsClosedPlan, IsOfMoment, IsPlanAt, IsRangePlan, IsRangeRefusal, IsReserveRefusal, IsReserving, plan_in, reserved}
+use Rattle.lsm_state.specs.Reserving.{HasOrderedInputs, IsChosen, IsClosedPlan, IsOfMoment, IsPlanAt, IsRangePlan, IsRangeRefusal, IsReserveRefusal, IsReserving, plan_in, reserved}
 use Rattle.lsm_state.specs.declared.state_fault.StateFault.{StateFault}
 use Rattle.lsm_state.specs.declared.state_fault.StateFault.TheVariants.{Conflict, NumbersSpent, OutOfMemory}
 use Rattle.lsm_state.proofs.StateLaws.{stepped}
@@ -35,6 +38,14 @@ InputsStand = (v : Levels) (p : TablePlan) (ticket : ℕ) (floor : ℕ) (ranges 
 abbrev pub ConflictsAgree : Type 0
 ConflictsAgree = (p : TablePlan) (ticket : ℕ) (floor : ℕ) (ranges : List (UserKey × UserKey)) (is_move : Bool) (other : Job)
     → ((conflicts p (reserved_of other) ≡ true) ↔ Conflicts (planned.job_of p ticket floor ranges is_move) other)
+
+abbrev pub PlansStandInOrder : Type 0
+PlansStandInOrder = (v : Levels) (starts : List File) (p : TablePlan) (w : Work) → IsSound v → AreInOrder v.tables → AreDistinct (numbers_in v) → IsPlanFrom v (Has starts) p → IsWorkOf p w
+    → StandInOrder w
+
+abbrev pub PlansHaveNoTwins : Type 0
+PlansHaveNoTwins = (v : Levels) (starts : List File) (p : TablePlan) (w : Work) → IsSound v → AreDistinct (numbers_in v) → IsPlanFrom v (Has starts) p → IsWorkOf p w
+    → HasTwins (all_entries (job_of w).inputs) → ⊥
 
 -- ---- a job of a plan is an event of the machine
 
@@ -131,6 +142,13 @@ booked_reserves honest h w p stand agree m same s clear closed =
 
 pub newest_kept : (honest : Type 0) (h : Held) (w kept : Work) → Law honest Lie (plain h) → IsOfMoment h w → kept ≡ w → (b : Booked) → Has h.live b → b.work.ticket < kept.ticket
 newest_kept honest h w kept l m same b k = (let lt = newest honest h l b k in let e = m.ticket in let f = ap (λ (x : Work). x.ticket) same in omega arith)
+
+-- the inputs of the job of a closed plan stand in order
+pub ordered : PlansStandInOrder → PlansHaveNoTwins → (h : Held) (v : Levels) (p : TablePlan) (w : Work) → v ≡ h.slots.version → IsSound v → AreInOrder v.tables → AreDistinct (numbers_in v)
+    → IsClosedPlan h p → IsWorkOf p w → HasOrderedInputs w
+ordered in_order single h v p w same sound lines apart closed its =
+    let planned : IsPlanFrom v (Has closed.0) p = subst (λ (x : Levels). IsPlanFrom x (Has closed.0) p) (sym same) closed.1 in
+    record { order = in_order v closed.0 p w sound lines apart planned its; single = single v closed.0 p w sound apart planned its }
 
 -- ---- plans that were found, and refusals
 

@@ -34,6 +34,10 @@ stepped honest s e t l step = step_law honest Lie in_order_split s e t l step
 
 -- ---- slots: the current version stays, and no number comes
 
+-- which is nothing to the machine
+pub nothing : (h : Held) (s : Slotted) → s.version ≡ h.slots.version → plain (record h { slots = s }) ≡ plain h
+nothing h s same = ap (λ (v : Levels). record (plain h) { files = files v; last = v.last }) same
+
 pub lawful_slots : (honest : Type 0) (board : TableId) (h : Held) (s : Slotted) → IsLawfulState honest board h → s.version ≡ h.slots.version
     → ((n : ℕ) → Has (numbers_held s.epochs) n → Has (numbers_held h.slots.epochs) n) → IsLawfulState honest board (record h { slots = s })
 lawful_slots honest board h s l same fewer = record {

@@ -3,6 +3,7 @@
 use Rattle.std.specs.Prelude.{◌≡◌, ℕ, suc, ◌-◌, ◌^◌, ◌<◌, ◌≤◌, true, false, List, [], ◌∷◌, ◌++◌}
 use Rattle.lsm_codec.specs.Keys.{UserKey}
 use Rattle.lsm_codec.specs.Lists.{Has}
+use Rattle.lsm_levels.specs.Files.{all_entries}
 use Rattle.lsm_machine.specs.Plain.{Reserves, floor_of}
 use Rattle.lsm_choice.specs.Choice.{IsChoice}
 use Rattle.lsm_choice.specs.RangesBelow.{AreRangesBelow}
@@ -10,6 +11,7 @@ use Rattle.lsm_choice.specs.Reservations.{IsClear, IsLeastConflict}
 use Rattle.lsm_choice.specs.TablePlans.{IsPlanFrom, StandsIn, TablePlan, files_over, plan_of}
 use Rattle.lsm_choice.specs.declared.plan_fault.PlanFault.{PlanFault}
 use Rattle.lsm_choice.specs.declared.plan_fault.PlanFault.TheVariants as planned
+use Rattle.lsm_merge.specs.InputOrder.{HasTwins, StandInOrder}
 use Rattle.lsm_merge.specs.Work.{Work, job_of}
 use Rattle.lsm_live.specs.Booked.{new_booked}
 use Rattle.lsm_live.specs.Reserving.{reserved_jobs}
@@ -38,6 +40,12 @@ reserved w h = record h { live = h.live ++ new_booked w ∷ []; next_ticket = su
 -- the reservation is an event of the plain machine
 abbrev pub IsReserving : Type 0 → Held → Work → Held → Type 0
 IsReserving honest old w new = Reserves honest (plain old) (plan_of (plan_in w)) (job_of w) (plain new)
+
+-- The inputs of each level from 1 on stand one after another, and no two entries of all inputs have one internal key. So a merge of them over
+-- an honest shelf is never refused as out of order.
+pub record HasOrderedInputs (w : Work) : Type 0 where
+  pub order : StandInOrder w
+  pub single : HasTwins (all_entries (job_of w).inputs) → ⊥
 
 -- the plan is closed, from some starting files
 abbrev pub IsClosedPlan : Held → TablePlan → Type 0

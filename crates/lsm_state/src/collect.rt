@@ -1,8 +1,9 @@
 //! Removing tables that no reader and no job needs.
 
-ghost use Rattle.std.specs.Prelude.{◌≡◌, ◌++◌, [], IfErr, IfOk, OnErr, OnOk, false};
+ghost use Rattle.std.specs.Prelude.{◌≡◌, ℕ, ◌++◌, [], IfErr, IfOk, OnErr, OnOk, false};
 ghost use Rattle.lsm_shelf.specs.Told.{Becomes, Counted, CountedBy, NotTaken};
-ghost use Rattle.lsm_state.specs.Collecting.{AreCollected, HasLookedAround, IsCollectRefusal, IsCountedOnce, IsMemoryOrShelf, IsStopped, SameCounts, StoppedEarly, outside, removing_all};
+ghost use Rattle.lsm_state.specs.Collecting.{AreCollected, HasLookedAround, IsCollectRefusal, IsCountedOnce, IsKeptNumber, IsMemoryOrShelf, IsStopped, SameCounts, StoppedEarly, outside, removing_all};
+ghost use Rattle.lsm_state.specs.Held.{plain};
 
 use crate::state::State;
 use crate::state_fault::StateFault;
@@ -73,6 +74,8 @@ impl<N: Boarded, S: Shelf> State<N, S> {
         shelf: &mut S,
     ) -> Result<Vec<u64>, (StateFault, Vec<u64>)>
         ensures ok { IfOk result (λ v. (self.old.halted ≡ false) × HasLookedAround self.old self.new × AreCollected self.new v.items (S.told shelf.old) (S.told shelf.new)) }
+        ensures event { plain self.new ≡ plain self.old }
+        ensures kept { (n : ℕ) → IsKeptNumber self.new n → IsKeptNumber self.old n }
         ensures rest { self.new ≡ record self.old { slots = self.new.slots } }
         ensures refused { IfErr result (λ e. IsCollectRefusal self.old self.new e.0 e.1.items (S.told shelf.old) (S.told shelf.new)) }
         ensures counts { OnOk result (SameCounts (S.told shelf.old) (S.told shelf.new)) }

@@ -7,6 +7,7 @@ ghost use Rattle.lsm_pins.specs.View.{learnt_view, noted_view, told_view};
 ghost use Rattle.lsm_version.specs.Versions.{numbers_in};
 ghost use Rattle.lsm_slots.specs.Slots.{Epoch as Held, HasEpoch, IsPinned, PinsMove, current_id, current_slot};
 ghost use Rattle.lsm_state.specs.Collecting.{IsKeptNumber};
+ghost use Rattle.lsm_state.specs.Held.{plain};
 ghost use Rattle.lsm_state.specs.declared.state_fault.StateFault.TheVariants.{PinsSpent, UnknownSnapshot};
 
 use crate::state::State;
@@ -31,6 +32,8 @@ impl<N: Boarded, S: Shelf> State<N, S> {
     /// Pins the current version under the lock, and answers its id. `PinsSpent` where it has 2^32 - 1 such pins.
     pub fn pin(&mut self) -> Result<u32, StateFault>
         ensures ok { IfOk result (λ id. (id ≡ current_id self.old.slots) × ((pins : ℕ) × (pins < 2 ^ 32 - 1) × PinsMove self.old.slots self.new.slots id pins (pins + 1))) }
+        ensures event { plain self.new ≡ plain self.old }
+        ensures kept { (n : ℕ) → IsKeptNumber self.new n ↔ IsKeptNumber self.old n }
         ensures rest { self.new ≡ record self.old { slots = self.new.slots } }
         ensures err { OnErr result (self.new ≡ self.old) }
         ensures refused { IfErr result (λ e. (e ≡ PinsSpent) × ((epoch : Held) × HasEpoch self.old.slots (current_slot self.old.slots) epoch × (epoch.pins ≡ 2 ^ 32 - 1))) }
@@ -44,6 +47,8 @@ impl<N: Boarded, S: Shelf> State<N, S> {
     /// Gives back a pin under the lock of the version of this id. `UnknownSnapshot` where no version of this id has one.
     pub fn unpin(&mut self, id: u32) -> Result<(), StateFault>
         ensures ok { OnOk result ((pins : ℕ) × PinsMove self.old.slots self.new.slots id (pins + 1) pins) }
+        ensures event { plain self.new ≡ plain self.old }
+        ensures kept { (n : ℕ) → IsKeptNumber self.new n ↔ IsKeptNumber self.old n }
         ensures rest { self.new ≡ record self.old { slots = self.new.slots } }
         ensures err { OnErr result (self.new ≡ self.old) }
         ensures refused { IfErr result (λ e. (e ≡ UnknownSnapshot id) × (IsPinned self.old.slots id → ⊥)) }

@@ -6,7 +6,7 @@ ghost use Rattle.lsm_choice.specs.Moves.{IsMovable};
 ghost use Rattle.lsm_choice.specs.Reservations.{IsClear};
 ghost use Rattle.lsm_choice.specs.TablePlans.{StandsIn, tables_over};
 ghost use Rattle.lsm_live.specs.Reserving.{reserved_jobs};
-ghost use Rattle.lsm_state.specs.Reserving.{IsChosen, IsClosedPlan, IsOfMoment, IsRangePlan, IsRangeRefusal, IsReserveRefusal, IsReserving, plan_in, reserved};
+ghost use Rattle.lsm_state.specs.Reserving.{HasOrderedInputs, IsChosen, IsClosedPlan, IsOfMoment, IsRangePlan, IsRangeRefusal, IsReserveRefusal, IsReserving, plan_in, reserved};
 ghost use Rattle.lsm_state.specs.declared.state_fault.StateFault.TheVariants.{NumbersSpent, OutOfMemory};
 
 use crate::state::State;
@@ -15,6 +15,7 @@ use lsm_choice::laws::{
     conflicts_are_those_of_jobs, inputs_are_of_the_version, plan_opens_its_job,
 };
 use lsm_choice::{Plan, PlanFault, choose, conflict, is_move, plan_range, ranges_below};
+use lsm_live::laws::planned_inputs_stand_in_order;
 use lsm_merge::{Job, JobParts};
 use lsm_slots::Boarded;
 use lsm_table::Shelf;
@@ -43,10 +44,13 @@ impl<N: Boarded, S: Shelf> State<N, S> {
     ) -> Result<Job<N, S>, AllocError>
         requires stands { StandsIn self.now.slots.version plan }
         requires moves { IsTrue is_move → (length plan.upper ≡ 1) × (plan.lower ≡ []) }
+        requires closed { S.honest → IsClosedPlan self.now plan }
         ensures plan { IfOk result (λ w. plan_in w ≡ plan) }
         ensures moment { IfOk result (λ w. IsOfMoment self.now w) }
         ensures is_move { IfOk result (λ w. w.is_move ≡ is_move) }
+        ensures in_order { S.honest → IfOk result HasOrderedInputs }
     {
+        planned_inputs_stand_in_order();
         let version = self.slots.version();
         let floor = self.snapshots.floor(version.last());
         let ranges = ranges_below(alloc, &self.registry, version, plan.level())?;
@@ -81,6 +85,7 @@ impl<N: Boarded, S: Shelf> State<N, S> {
         ensures plan { IfOk result (λ w. plan_in w ≡ plan) }
         ensures moment { IfOk result (λ w. IsOfMoment self.old w) }
         ensures is_move { IfOk result (λ w. w.is_move ≡ is_move) }
+        ensures in_order { S.honest → IfOk result HasOrderedInputs }
         ensures unspent { OnOk result (self.old.next_ticket ≡ 2 ^ 64 - 1 → ⊥) }
         ensures ok { IfOk result (λ w. self.new ≡ reserved w self.old) }
         ensures event { IfOk result (λ w. IsReserving S.honest self.old w self.new) }
@@ -107,6 +112,7 @@ impl<N: Boarded, S: Shelf> State<N, S> {
     pub fn reserve(&mut self, alloc: Global) -> Result<Option<Job<N, S>>, StateFault>
         ensures choice { S.honest → IfOk result (λ r. MatchOption r (HasNoChoice self.old.slots.version (reserved_jobs self.old.live)) (λ w. IsChosen self.old (plan_in w))) }
         ensures moment { IfOk result (λ r. IfSome r (λ w. IsOfMoment self.old w)) }
+        ensures in_order { S.honest → IfOk result (λ r. IfSome r HasOrderedInputs) }
         ensures is_move { IfOk result (λ r. IfSome r (λ w. IsTrue w.is_move ↔ IsMovable self.old.slots.version (plan_in w) self.old.options.target_size)) }
         ensures ok { IfOk result (λ r. IfSome r (λ w. self.new ≡ reserved w self.old)) }
         ensures event { IfOk result (λ r. IfSome r (λ w. IsReserving S.honest self.old w self.new)) }
@@ -144,6 +150,7 @@ impl<N: Boarded, S: Shelf> State<N, S> {
         ensures planned { S.honest → IfOk result (λ r. MatchOption r (tables_over self.old.slots.version level from.now to.now ≡ []) (λ w. IsRangePlan self.old level from.now to.now (plan_in w))) }
         ensures level { IfOk result (λ r. IfSome r (λ w. w.level ≡ level)) }
         ensures moment { IfOk result (λ r. IfSome r (λ w. IsOfMoment self.old w)) }
+        ensures in_order { S.honest → IfOk result (λ r. IfSome r HasOrderedInputs) }
         ensures no_move { IfOk result (λ r. IfSome r (λ w. w.is_move ≡ false)) }
         ensures clear { IfOk result (λ r. IfSome r (λ w. IsClear (plan_in w) (reserved_jobs self.old.live))) }
         ensures ok { IfOk result (λ r. IfSome r (λ w. self.new ≡ reserved w self.old)) }
