@@ -1,14 +1,13 @@
 -- Words of a command line, taken apart.
-use Rattle.std.proofs.Common.{◌≡◌, ℕ, ◌-◌, ◌^◌, ◌<◌, ◌≤◌, List, [], ◌∷◌, codes, length, map, get_or, drop, take, Some, None, refl, sym, ap, ◌∙◌, arith}
+use Rattle.std.proofs.Common.{◌≡◌, ℕ, Bool, false, Option, Some, None, ◌-◌, ◌<◌, ◌≤◌, List, [], ◌∷◌, codes, length, map, get_or, drop, take, refl, sym, ap, ◌∙◌, subst, arith}
 use Rattle.std.proofs.lemmas.List.{drop_more, take_all, length-drop}
-use Rattle.hex.proofs.HexLemmas.{decode_of-ok}
-use Rattle.lsm_commands.specs.EntryList.{IsBytesWord}
-use Rattle.lsm_commands.specs.EntryReading.{bytes_at}
-use Rattle.lsm_commands.specs.DirectoryLine.{AsksOn}
+use Rattle.lsm_commands.specs.DirectoryLine.{AsksOn, Spell}
+use Rattle.lsm_commands.specs.Options.{unbounded}
+use Rattle.lsm_commands.specs.Spelling.{IsWord}
+use Rattle.lsm_commands.specs.declared.directory_line.Asked.{Asked}
+use Rattle.lsm_commands.specs.declared.form.Form.{Form}
 use Rattle.lsm_commands.specs.declared.directory_command.DirectoryCommand.{DirectoryCommand}
 use Rattle.lsm_commands.specs.declared.directory_command.DirectoryCommand.TheVariants.{Check, List as ListFiles, Get, Scan}
-use Rattle.lsm_commands.specs.Options.{options_at}
-use Rattle.lsm_commands.proofs.WordLaws.{bytes_again}
 
 pub no_words : {X : Type 0} (text : X → List ℕ) (xs : List X) → length xs < 1 → map text xs ≡ []
 no_words text [] h = refl
@@ -30,33 +29,72 @@ two_words text xs a b e f h =
 pub later_words : {X : Type 0} (xs : List X) → take (length xs - 2) (drop 2 xs) ≡ drop 2 xs
 later_words xs = take_all (length xs - 2) (drop 2 xs) (omega (arith, length-drop 2 xs))
 
-pub lone_word : {X : Type 0} (text : X → List ℕ) (xs : List X) → 1 ≤ length xs → length xs < 2 → options_at (map text xs) ≡ None
-unfolding options_at
-lone_word text [] h k = absurd (omega (arith, h))
-lone_word text (x ∷ []) h k = refl
-lone_word text (x ∷ y ∷ ys) h k = absurd (omega (arith, k))
-
-short_key : (word key : List ℕ) → length word < 2 ^ 64 → IsBytesWord word key → length key ≤ 18446744073709551615
-short_key word [] h is = omega arith
-short_key word (b ∷ bs) h is = let len = (decode_of-ok word (b ∷ bs) is).2 in omega (arith, len, h)
-
--- a word that spells a key is read as that key
-pub key_again : (word key : List ℕ) → length word < 2 ^ 64 → IsBytesWord word key → bytes_at 18446744073709551615 word ≡ Some key
-key_again word key h is = bytes_again 18446744073709551615 word key is (short_key word key h is)
-
 -- a line has a command's name and the path
-pub asks_words : (c : DirectoryCommand) (path : List ℕ) (words : List (List ℕ)) → AsksOn c path words
+pub asks_words : (c : DirectoryCommand) (form : Form) (progress : Bool) (path : List ℕ) (words : List (List ℕ)) → AsksOn c form progress path words
     → (name : List ℕ) × (rest : List (List ℕ)) × (words ≡ name ∷ path ∷ rest)
-asks_words Check path words asks = (codes "check", [], asks)
-asks_words ListFiles path words asks = (codes "list", [], asks)
-asks_words (Get key) path words asks = (codes "get", asks.0 ∷ [], asks.2)
-asks_words (Scan bounds) path words asks = (codes "scan", asks.0, asks.2)
+asks_words Check form progress path words asks = (codes "check", asks.0, asks.1)
+asks_words ListFiles form progress path words asks = (codes "list", asks.0, asks.1)
+asks_words (Get key) form progress path words asks = (codes "get", asks.0 ∷ asks.1, asks.2)
+asks_words (Scan bounds) form progress path words asks = (codes "scan", asks.0, asks.2)
 
-pub asks_two : {X : Type 0} (text : X → List ℕ) (xs : List X) (c : DirectoryCommand) (path : List ℕ) → AsksOn c path (map text xs) → length xs < 2 → ⊥
-asks_two text [] c path asks h = let w = asks_words c path [] asks in absurd cc
-asks_two text (x ∷ []) c path asks h = let w = asks_words c path (text x ∷ []) asks in absurd cc
-asks_two text (x ∷ y ∷ ys) c path asks h = omega (arith, h)
+pub asks_two : {X : Type 0} (text : X → List ℕ) (xs : List X) (c : DirectoryCommand) (form : Form) (progress : Bool) (path : List ℕ)
+    → AsksOn c form progress path (map text xs) → length xs < 2 → ⊥
+asks_two text [] c form progress path asks h = let w = asks_words c form progress path [] asks in absurd cc
+asks_two text (x ∷ []) c form progress path asks h = let w = asks_words c form progress path (text x ∷ []) asks in absurd cc
+asks_two text (x ∷ y ∷ ys) c form progress path asks h = omega (arith, h)
 
 -- the path is the second word
-pub asks_path : (c : DirectoryCommand) (path name second : List ℕ) (rest words : List (List ℕ)) → AsksOn c path words → name ∷ second ∷ rest ≡ words → path ≡ second
-asks_path c path name second rest words asks e = let w = asks_words c path words asks in cc
+pub asks_path : (c : DirectoryCommand) (form : Form) (progress : Bool) (path name second : List ℕ) (rest words : List (List ℕ))
+    → AsksOn c form progress path words → name ∷ second ∷ rest ≡ words → path ≡ second
+asks_path c form progress path name second rest words asks e = let w = asks_words c form progress path words asks in cc
+
+-- a line of `get`
+pub asks_get : (c : DirectoryCommand) (form : Form) (progress : Bool) (path name : List ℕ) (rest : List (List ℕ)) → name ≡ codes "get"
+    → AsksOn c form progress path (name ∷ path ∷ rest)
+    → (key : List ℕ) × (word : List ℕ) × (options : List (List ℕ)) × (c ≡ Get key) × (rest ≡ word ∷ options) × Spell options (unbounded form false)
+    × (progress ≡ false) × IsWord form word key
+asks_get Check form progress path name rest is asks =
+    let other : codes "check" ≡ codes "get" = let e = asks.1 in cc in
+    absurd (omega (arith, ap length other))
+asks_get ListFiles form progress path name rest is asks =
+    let other : codes "list" ≡ codes "get" = let e = asks.1 in cc in
+    absurd (omega (arith, ap length other))
+asks_get (Get key) form progress path name rest is asks =
+    let same : rest ≡ asks.0 ∷ asks.1 = let e = asks.2 in cc in
+    (key, asks.0, asks.1, refl, same, asks.3, asks.4, asks.5)
+asks_get (Scan bounds) form progress path name rest is asks =
+    let other : codes "scan" ≡ codes "get" = let e = asks.2 in cc in
+    absurd (omega (arith, ap length other))
+
+-- what stands behind the first word of a list, as the code takes it apart
+pub asks_second : {X : Type 0} (text : X → List ℕ) (xs : List X) (a b : X) (c : DirectoryCommand) (form : Form) (progress : Bool) (path : List ℕ)
+    → a ≡ get_or xs 0 a → b ≡ get_or xs 1 b → 2 ≤ length xs → AsksOn c form progress path (map text xs) → path ≡ text b
+asks_second text xs a b c form progress path e f h asks =
+    asks_path c form progress path (text a) (text b) (map text (drop 2 xs)) (map text xs) asks (two_words text xs a b e f h)
+
+pub asks_rest : {X : Type 0} (text : X → List ℕ) (xs : List X) (a b : X) (name : List ℕ) (c : DirectoryCommand) (form : Form) (progress : Bool) (path : List ℕ)
+    → a ≡ get_or xs 0 a → b ≡ get_or xs 1 b → 2 ≤ length xs → name ≡ text a → AsksOn c form progress path (map text xs)
+    → AsksOn c form progress path (name ∷ path ∷ map text (take (length xs - 2) (drop 2 xs)))
+asks_rest text xs a b name c form progress path e f h named asks =
+    let second = asks_second text xs a b c form progress path e f h asks in
+    let parts : map text xs ≡ name ∷ path ∷ map text (drop 2 xs) =
+    sym (two_words text xs a b e f h) ∙ ap (λ (y : List ℕ). text a ∷ y ∷ map text (drop 2 xs)) (sym second)
+    ∙ ap (λ (y : List ℕ). y ∷ path ∷ map text (drop 2 xs)) (sym named) in
+    let later : map text xs ≡ name ∷ path ∷ map text (take (length xs - 2) (drop 2 xs)) =
+    parts ∙ ap (λ ys. name ∷ path ∷ map text ys) (sym (later_words xs)) in
+    subst (λ (ws : List (List ℕ)). AsksOn c form progress path ws) later asks
+
+-- ---- what is asked
+
+abbrev pub made : DirectoryCommand → Form → Bool → Asked
+made c form progress = record { command = c; form = form; progress = progress }
+
+pub made_again : (a : Asked) (c : DirectoryCommand) → a.command ≡ c → a.progress ≡ false → made c a.form false ≡ a
+made_again a c e f =
+    ap (λ (x : DirectoryCommand). made x a.form false) (sym e) ∙ ap (λ (x : Bool). made a.command a.form x) (sym f)
+
+pub same_asked : (a b : Asked) → Some a ≡ Some b → a ≡ b
+same_asked a b e = cc
+
+pub none_asked : (a : Asked) → ◌≡◌ {A = Option Asked} None (Some a) → ⊥
+none_asked a e = cc

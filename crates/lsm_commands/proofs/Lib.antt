@@ -8,5 +8,7 @@ pub mod StreamLaws
 pub mod MakingLaws
 pub mod ManifestLaws
 pub mod LineLists
+pub mod SpellingLaws
+pub mod CallerLemmas
 mod DirectoryLines
 mod LineCases

@@ -1,5 +1,5 @@
 -- A word is read as it is spelled, and spelled as it is read.
-use Rattle.std.proofs.Common.{◌≡◌, ℕ, ◌/◌, ◌%◌, ◌<◌, ◌≤◌, false, leb, List, [], ◌∷◌, length, codes, Some, None, Result, Ok, Err, refl, sym, ap, ◌∙◌, arith, inl, inr}
+use Rattle.std.proofs.Common.{◌≡◌, ℕ, ◌/◌, ◌%◌, ◌^◌, ◌<◌, ◌≤◌, false, leb, List, [], ◌∷◌, length, codes, Some, None, Result, Ok, Err, refl, sym, ap, ◌∙◌, arith, inl, inr}
 use Rattle.std.specs.Prelude.{◌⊎◌}
 use Rattle.std.proofs.lemmas.Bool.{le-leb, leb-true, cases_Bool}
 use Rattle.std.proofs.lemmas.Slice.Eq.{bytes_eq-Decides}
@@ -63,3 +63,11 @@ bytes_again most word (b ∷ bs) h fits = elim (cases_Bool (bytes_eq word (codes
       absurd cc
   | inr other ↦ let few = le-leb _ _ fits in rw (other, h, few) refl
 ]
+
+short_key : (word key : List ℕ) → length word < 2 ^ 64 → IsBytesWord word key → length key ≤ 18446744073709551615
+short_key word [] h is = omega arith
+short_key word (b ∷ bs) h is = let len = (decode_of-ok word (b ∷ bs) is).2 in omega (arith, len, h)
+
+-- a word that spells a key is read as that key
+pub key_again : (word key : List ℕ) → length word < 2 ^ 64 → IsBytesWord word key → bytes_at 18446744073709551615 word ≡ Some key
+key_again word key h is = bytes_again 18446744073709551615 word key is (short_key word key h is)

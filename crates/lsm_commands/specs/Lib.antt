@@ -1,9 +1,10 @@
 pub mod EntryList
 pub mod EntryReading
 pub mod KeyBounds
+pub mod EntryPrinting
+pub mod Spelling
 pub mod Options
 pub mod DirectoryLine
-pub mod EntryPrinting
 pub mod EntryView
 pub mod ReaderView
 pub mod Fault

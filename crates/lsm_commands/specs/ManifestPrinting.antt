@@ -9,12 +9,19 @@ use Rattle.lsm_manifest.specs.declared.file_meta.FileMeta.{FileMeta}
 use Rattle.lsm_manifest.specs.EditFit.{Change}
 use Rattle.lsm_codec.specs.Keys.{user_part, packed_part}
 use Rattle.lsm_commands.specs.EntryPrinting.{bytes_word}
+use Rattle.lsm_commands.specs.Spelling.{spelled}
+use Rattle.lsm_commands.specs.declared.form.Form.{Form}
+use Rattle.lsm_commands.specs.declared.form.Form.TheVariants.{Hex}
 
 -- an internal key: `KEY@SEQ+` for a value, `KEY@SEQ-` for a deletion
-unfoldable pub key_word : List ℕ → List ℕ
-key_word key =
-    bytes_word (user_part key)
+unfoldable pub key_word_in : Form → List ℕ → List ℕ
+key_word_in form key =
+    spelled form (user_part key)
     ++ (64 ∷ (decimal (packed_part key / 256) ++ cond (packed_part key % 256 == 0) (codes "-") (codes "+")))
+
+-- in hex
+unfoldable pub key_word : List ℕ → List ℕ
+key_word key = key_word_in Hex key
 
 -- a word with its space, and a number
 unfoldable pub number_line : List ℕ → ℕ → List ℕ

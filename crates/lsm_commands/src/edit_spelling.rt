@@ -4,22 +4,18 @@ ghost use Rattle.std.specs.Prelude.{◌≡◌, ◌++◌, OnOk, List, ℕ, codes}
 ghost use Rattle.std.specs.List.{flat_map};
 ghost use Rattle.lsm_commands.specs.ManifestPrinting.{key_word, number_line, name_line, comparator_line, field_line, pointer_line, deleted_line, file_words, added_line, number_lines, list_lines, edit_lines};
 
+use crate::form::Form;
 use crate::spelling::{push_bytes, push_decimal};
-use lsm_codec::{Bytes, key_parts};
+use lsm_codec::Bytes;
 use lsm_manifest::{AddedFile, CompactPointer, DeletedFile, Edit, FileMeta};
 use std::alloc::AllocError;
 
-/// Appends an internal key.
+/// Appends an internal key, in hex.
 #[tactic(auto, unfolding(crate::specs::ManifestPrinting::key_word))]
 pub fn push_key(out: &mut Vec<u8>, key: &[u8]) -> Result<(), AllocError>
     ensures { OnOk result (out.new.items ≡ out.old.items ++ key_word key.now) }
 {
-    let (user, packed) = key_parts(key);
-    push_bytes(out, user)?;
-    out.push(b'@')?;
-    push_decimal(out, packed / 256)?;
-    out.extend_from_slice(if packed % 256 == 0 { b"-" } else { b"+" })?;
-    Ok(())
+    Form::Hex.push_key(out, key)
 }
 
 /// Appends a line of a word, which ends in a space, and a number.

@@ -11,6 +11,7 @@ mod command_line;
 mod commands;
 mod directory_command;
 mod directory_line;
+mod help;
 mod key_bounds;
 mod options;
 mod program;
@@ -27,6 +28,10 @@ mod fault;
 mod refusal;
 mod spelling;
 
+// Words for bytes, in hex or as text.
+mod form;
+mod text_words;
+
 // What holds of lists.
 mod laws;
 
@@ -35,8 +40,9 @@ pub use directory_command::DirectoryCommand;
 pub use directory_line::{DirectoryLine, directory_asked};
 pub use edit_spelling::{push_key, push_number};
 pub use fault::Fault;
+pub use form::Form;
 pub use key_bounds::KeyBounds;
-pub use laws::{one_list, printed_list};
+pub use laws::{one_list, one_word, printed_list};
 pub use program::{refuse_words, run};
 pub use refusal::Refusal;
 pub use spelling::{push_bytes, push_decimal};

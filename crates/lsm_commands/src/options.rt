@@ -2,33 +2,89 @@
 
 ghost use Rattle.std.specs.Prelude.{◌≡◌, map};
 ghost use Rattle.std.specs.Option.{option_map};
+ghost use Rattle.lsm_commands.specs.Options.{takes_word};
 
+use crate::form::Form;
 use std::convert::AsStr;
 
-/// The words behind the options that stand behind a command's other words.
+/// The options that stand behind a command's other words.
 #[derive(Clone, Copy)]
 pub(crate) struct Options<'a> {
+    /// The words behind `--from` and `--to`.
     pub(crate) from: Option<&'a str>,
     pub(crate) to: Option<&'a str>,
+    /// `Text` where there is `--text`.
+    pub(crate) form: Form,
+    /// Whether there is `--progress`.
+    pub(crate) progress: bool,
+}
+
+/// Whether a word stands behind an option of this name.
+fn takes_word(name: &str) -> bool
+    ensures { result ≡ takes_word name.now }
+{
+    name == "--from" || name == "--to"
 }
 
 impl<'a> Options<'a> {
-    ghost use Rattle.std.specs.Prelude.{Some};
-    ghost use Rattle.lsm_commands.specs.Options.{chosen_of, options_at, with_word};
+    ghost use Rattle.std.specs.Prelude.{Some, false};
+    ghost use Rattle.lsm_commands.specs.Options.{chosen_of, is_text, options_at, unbounded, with_flag, with_word};
+    ghost use Rattle.lsm_commands.specs.declared.form.Form.TheVariants.{Hex};
 
-    /// One more option, which is not there yet.
+    /// No option.
+    fn none() -> Options<'a>
+        ensures { chosen_of result ≡ unbounded Hex false }
+    {
+        Options {
+            from: None,
+            to: None,
+            form: Form::Hex,
+            progress: false,
+        }
+    }
+
+    /// Whether there is `--text`.
+    fn is_text(&self) -> bool
+        ensures { result ≡ is_text self.now.form }
+    {
+        matches!(self.form, Form::Text)
+    }
+
+    /// One more option, with the word behind it, which is not there yet.
     fn with_word(self, name: &str, word: &'a str) -> Option<Options<'a>>
         ensures { option_map chosen_of result ≡ with_word name.now word.now (Some (chosen_of self.entry)) }
     {
-        if name == "--from" && self.from.is_none() {
+        if name == "--from" {
+            if self.from.is_some() {
+                return None;
+            }
             return Some(Options {
                 from: Some(word),
                 ..self
             });
         }
-        if name == "--to" && self.to.is_none() {
+        if self.to.is_some() {
+            return None;
+        }
+        Some(Options {
+            to: Some(word),
+            ..self
+        })
+    }
+
+    /// One more option without a word behind it, which is not there yet.
+    fn with_flag(self, name: &str) -> Option<Options<'a>>
+        ensures { option_map chosen_of result ≡ with_flag name.now (Some (chosen_of self.entry)) }
+    {
+        if name == "--text" && !self.is_text() {
             return Some(Options {
-                to: Some(word),
+                form: Form::Text,
+                ..self
+            });
+        }
+        if name == "--progress" && !self.progress {
+            return Some(Options {
+                progress: true,
                 ..self
             });
         }
@@ -41,13 +97,13 @@ impl<'a> Options<'a> {
         ensures { option_map chosen_of result ≡ options_at (map S.text words.now) }
     {
         match words {
-            [] => Some(Options {
-                from: None,
-                to: None,
-            }),
-            [_] => None,
+            [] => Some(Options::none()),
+            [name] => Options::none().with_flag(name.as_str()),
             [name, word, rest @ ..] => {
-                Options::read(rest)?.with_word(name.as_str(), word.as_str())
+                if takes_word(name.as_str()) {
+                    return Options::read(rest)?.with_word(name.as_str(), word.as_str());
+                }
+                Options::read(&words[1..])?.with_flag(name.as_str())
             }
         }
     }

@@ -52,9 +52,27 @@ fn tell<E: Write>(err: &mut E, fault: &Fault) -> io::Result<()>
     err.flush()
 }
 
+/// Writes what a fault may mean of the input, where there is more to say, and flushes.
+fn explain<E: Write>(err: &mut E, fault: &Fault) -> io::Result<()> {
+    match fault {
+        Fault::Read => writeln!(err, "the input could not be read, or has more than 64 MiB")?,
+        Fault::BadLine(line) => writeln!(
+            err,
+            "line {line} is not of the form KEY SEQ put VALUE or KEY SEQ del, in hex, or is out of order"
+        )?,
+        Fault::Write
+        | Fault::OutOfMemory
+        | Fault::TooLarge
+        | Fault::Table(_)
+        | Fault::Log(_)
+        | Fault::Edit(_) => return Ok(()),
+    }
+    err.flush()
+}
+
 /// Runs the program on the words after its name, and answers its exit status: 0 where it is done, 1
-/// where it is refused, 2 for a bad command line. A fault is one line on `err`; then nothing is
-/// written to `out`, but for a write fault.
+/// where it is refused, 2 for a bad command line. A fault is one line on `err`, which for
+/// `read fault` and `bad line I` a second one explains; then nothing is written to `out`, but for a write fault.
 ///
 /// `bad line I` names the first bad line of a list, `refused N Name ..` a refusal by its published
 /// number and name (docs/FORMATS.md). A read that fails, or that gives more than 64 MiB, is
@@ -80,6 +98,7 @@ pub fn run<S: AsStr, R: Read, O: Write, E: Write>(
         Ok(status) => status,
         Err(fault) => {
             let _ = tell(err, &fault);
+            let _ = explain(err, &fault);
             1
         }
     }

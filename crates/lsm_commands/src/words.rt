@@ -1,11 +1,12 @@
 //! The words of a line.
 
-ghost use Rattle.std.specs.Prelude.{◌≡◌, ℕ, ◌<◌, ◌^◌, List, length, IfOk, IfSome};
+ghost use Rattle.std.specs.Prelude.{◌≡◌, ℕ, ◌<◌, ◌^◌, List, length, IfOk, IfSome, Some};
 ghost use Rattle.std.specs.Option.{option_map};
+ghost use Rattle.lsm_commands.specs.EntryList.{IsBytesWord};
 ghost use Rattle.lsm_commands.specs.EntryReading.{parts_at, digits_at, sequence_at, bytes_at, Reads};
 
-use lsm_codec::MAX_SEQ;
-use std::alloc::AllocError;
+use lsm_codec::{Bytes, MAX_SEQ};
+use std::alloc::{AllocError, Global};
 
 /// What stands before the first separator, and what stands after it.
 pub(crate) fn parts<'a>(separator: u8, text: &'a [u8]) -> Option<(&'a [u8], &'a [u8])>
@@ -68,4 +69,16 @@ pub(crate) fn read_bytes(out: &mut Vec<u8>, most: usize, word: &[u8]) -> Result<
     }
     out.resize(len, 0)?;
     Ok(hex::decode_to_slice(word, out.as_mut_slice()).is_ok())
+}
+
+/// The bytes that a word spells in hex; none where it spells none.
+pub(crate) fn read_hex(alloc: Global, word: &[u8]) -> Result<Option<Bytes>, AllocError>
+    ensures only { IfOk result (λ o. IfSome o (IsBytesWord word.now)) }
+    ensures found { (bytes : List ℕ) → IsBytesWord word.now bytes → IfOk result (λ o. o ≡ Some bytes) }
+{
+    let mut bytes = Vec::new(alloc);
+    if read_bytes(&mut bytes, usize::MAX, word)? {
+        return Ok(Some(Bytes::of(bytes)));
+    }
+    Ok(None)
 }

@@ -45,6 +45,90 @@ fn knows_its_command_line(rt: HostRuntime) -> Result<(), Fail> {
 }
 
 #[test]
+fn knows_what_is_no_command_on_a_folder(rt: HostRuntime) -> Result<(), Fail> {
+    expect_usage(&rt, &["check"], 2)?;
+    expect_usage(&rt, &["check", "db", "--text"], 2)?;
+    expect_usage(&rt, &["get", "db", "apple"], 2)?;
+    expect_usage(&rt, &["scan", "db", "--text", "--text"], 2)?;
+    expect_usage(&rt, &["ingest", "db"], 2)?;
+    expect_usage(&rt, &["ingest", "db", "-"], 2)?;
+    expect_usage(&rt, &["compact", "db", "--workers", "0"], 2)?;
+    expect_usage(&rt, &["compact", "db", "--workers", "9"], 2)?;
+    expect_usage(&rt, &["script", "extra"], 2)
+}
+
+/// Whether a text has these bytes somewhere.
+fn has(text: &[u8], part: &str) -> bool {
+    text.windows(part.len())
+        .any(|bytes| bytes == part.as_bytes())
+}
+
+/// The help for these words is on standard output, with these parts.
+fn expect_help(
+    rt: &(impl Abort + AllocGlobal),
+    words: &[&str],
+    parts: &[&str],
+) -> Result<(), Fail> {
+    expect_usage(rt, words, 0)?;
+    let run = outcome(rt.alloc(), words, b"")?;
+    for part in parts {
+        assert!(rt; has(&run.out, part), "{part}");
+    }
+    Ok(())
+}
+
+#[test]
+fn helps(rt: HostRuntime) -> Result<(), Fail> {
+    let statuses = ["Exit status", "Example"];
+    for name in [
+        "mktable", "dump", "manifest", "script", "check", "list", "get", "scan", "ingest",
+        "compact",
+    ] {
+        expect_help(&rt, &["help", name], statuses.as_slice())?;
+        expect_help(&rt, &[name, "--help"], statuses.as_slice())?;
+    }
+    expect_help(
+        &rt,
+        &["help"],
+        &["ingest", "compact", "script", "--version", "64 MiB"],
+    )?;
+    expect_help(
+        &rt,
+        &["ingest", "db", "--help"],
+        &["old manifests stay", "flush its log", "40 LevelZeroFull"],
+    )?;
+    expect_help(
+        &rt,
+        &["ingest", "db", "batch", "--help"],
+        &["lsm compact DIR", "65536 lines"],
+    )?;
+    expect_help(
+        &rt,
+        &["compact", "--help"],
+        &["old manifests stay", "installed M", "1 to 8; 2"],
+    )?;
+    expect_help(
+        &rt,
+        &["scan", "--help"],
+        &["--text", "--progress", "--from", "--to"],
+    )
+}
+
+#[test]
+fn tells_its_version(rt: HostRuntime) -> Result<(), Fail> {
+    for word in ["--version", "-V"] {
+        let run = outcome(rt.alloc(), &[word], b"")?;
+        assert_eq!(rt; run.status, 0);
+        assert_eq!(rt;
+            run.out.as_slice(),
+            b"lsm 0.1.0 (files of LevelDB 1.23, uncompressed)\n".as_slice()
+        );
+        assert!(rt; run.err.is_empty());
+    }
+    Ok(())
+}
+
+#[test]
 fn says_why_it_has_no_words(rt: HostRuntime) -> Result<(), Fail> {
     for (kind, status, text) in [
         (ErrorKind::OutOfMemory, 1, "refused 1 OutOfMemory\n"),

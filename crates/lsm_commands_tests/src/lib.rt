@@ -5,6 +5,10 @@
 #[cfg(test)]
 mod command_lines;
 #[cfg(test)]
+mod directory_lines;
+#[cfg(test)]
+mod forms;
+#[cfg(test)]
 mod lists;
 #[cfg(test)]
 mod manifests;

@@ -7,26 +7,29 @@ use std::test::Fail;
 #[test]
 fn names_the_first_bad_line(rt: HostRuntime) -> Result<(), Fail> {
     for (list, want) in [
-        ("61 1 put 76\n61 2 put 76\n", "bad line 2\n"),
-        ("61 1 put 76\n61 1 put 76\n", "bad line 2\n"),
-        ("62 1 put 76\n61 1 put 76\n", "bad line 2\n"),
-        ("61 1 put 76\n\n62 1 put 76\n", "bad line 2\n"),
-        ("\n", "bad line 1\n"),
-        ("61 1 put", "bad line 1\n"),
-        ("61 1 put \n", "bad line 1\n"),
-        (" 1 put 76\n", "bad line 1\n"),
-        ("61  1 put 76\n", "bad line 1\n"),
-        ("61 1 put 76 \n", "bad line 1\n"),
-        ("61 1 put 76\r\n", "bad line 1\n"),
-        ("61 1 del 76\n", "bad line 1\n"),
-        ("61 1 set 76\n", "bad line 1\n"),
-        ("6 1 put 76\n", "bad line 1\n"),
-        ("6g 1 put 76\n", "bad line 1\n"),
-        ("61 +1 put 76\n", "bad line 1\n"),
-        ("61 72057594037927936 put 76\n", "bad line 1\n"),
-        ("61 000000000000000000001 put 76\n", "bad line 1\n"),
+        ("61 1 put 76\n61 2 put 76\n", 2),
+        ("61 1 put 76\n61 1 put 76\n", 2),
+        ("62 1 put 76\n61 1 put 76\n", 2),
+        ("61 1 put 76\n\n62 1 put 76\n", 2),
+        ("\n", 1),
+        ("61 1 put", 1),
+        ("61 1 put \n", 1),
+        (" 1 put 76\n", 1),
+        ("61  1 put 76\n", 1),
+        ("61 1 put 76 \n", 1),
+        ("61 1 put 76\r\n", 1),
+        ("61 1 del 76\n", 1),
+        ("61 1 set 76\n", 1),
+        ("6 1 put 76\n", 1),
+        ("6g 1 put 76\n", 1),
+        ("61 +1 put 76\n", 1),
+        ("61 72057594037927936 put 76\n", 1),
+        ("61 000000000000000000001 put 76\n", 1),
     ] {
-        expect_refused(&rt, &["mktable"], list.as_bytes(), want)?;
+        let want = format!(in rt.alloc();
+            "bad line {want}\nline {want} is not of the form KEY SEQ put VALUE or KEY SEQ del, in hex, or is out of order\n"
+        )?;
+        expect_refused(&rt, &["mktable"], list.as_bytes(), want.as_str())?;
     }
     Ok(())
 }
@@ -59,7 +62,7 @@ fn keeps_the_limits(rt: HostRuntime) -> Result<(), Fail> {
         if status == 0 {
             expect_done(&rt, &["dump"], made.out.as_slice(), line.as_slice())?;
         } else {
-            assert_eq!(rt; made.err.as_slice(), b"bad line 1\n".as_slice());
+            assert!(rt; made.err.starts_with(b"bad line 1\n"));
         }
     }
     Ok(())

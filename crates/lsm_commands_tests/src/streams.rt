@@ -42,7 +42,10 @@ impl Write for Unflushed {
 #[test]
 fn reports_failed_reads(rt: HostRuntime) -> Result<(), Fail> {
     for (kind, want) in [
-        (ErrorKind::UnexpectedEof, "read fault\n"),
+        (
+            ErrorKind::UnexpectedEof,
+            "read fault\nthe input could not be read, or has more than 64 MiB\n",
+        ),
         (ErrorKind::OutOfMemory, "refused 1 OutOfMemory\n"),
     ] {
         for word in ["mktable", "dump", "manifest"] {
@@ -115,7 +118,10 @@ impl Read for Zeros {
 fn reads_64_mebibytes(rt: HostRuntime) -> Result<(), Fail> {
     for (count, want) in [
         (67_108_864, "refused 13 BadMagic\n"),
-        (67_108_865, "read fault\n"),
+        (
+            67_108_865,
+            "read fault\nthe input could not be read, or has more than 64 MiB\n",
+        ),
     ] {
         let mut out = Vec::new(rt.alloc());
         let mut err = Vec::new(rt.alloc());
@@ -148,7 +154,10 @@ fn a_failed_read_goes_before_each_refusal(rt: HostRuntime) -> Result<(), Fail> {
         ("manifest", "no log"),
     ] {
         for (kind, want) in [
-            (ErrorKind::UnexpectedEof, "read fault\n"),
+            (
+                ErrorKind::UnexpectedEof,
+                "read fault\nthe input could not be read, or has more than 64 MiB\n",
+            ),
             (ErrorKind::OutOfMemory, "refused 1 OutOfMemory\n"),
         ] {
             let mut reader = BreaksOff(input.as_bytes(), kind);

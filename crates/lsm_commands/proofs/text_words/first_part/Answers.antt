@@ -1,0 +1,21 @@
+use Rattle.std.proofs.Common.{◌≡◌, ◌-◌, ◌≤◌, ◌∷◌, [], ℕ, List, length, get_or, drop, take, refl, rules, ap, ◌∙◌, sym, arith, inl, inr, drop-cons, length-drop, Option, Some, None}
+use Rattle.std.specs.Prelude.{IfSome}
+use Rattle.std.proofs.lemmas.List.{take_all}
+use Rattle.lsm_commands.specs.Spelling.{escaped}
+use Rattle.lsm_commands.proofs.text_words.first_part.Goals as goal
+
+some_so : {X : Type 0} (o : Option X) (P Q : X → Type 0) → ((x : X) → P x → Q x) → IfSome o P → IfSome o Q
+some_so None P Q f h = tt
+some_so (Some x) P Q f h = f x h
+
+front_is : (text : List ℕ) → 1 ≤ length text → text ≡ get_or text 0 0 ∷ take (length text - 1) (drop 1 text)
+front_is text some =
+    drop-cons text 0 0 (omega arith) ∙ ap (λ (l : List ℕ). get_or text 0 0 ∷ l) (sym (take_all (length text - 1) (drop 1 text) (omega (arith, length-drop 1 text))))
+
+pub returns-then-is_plain-clause-some : goal.returns-then-is_plain-clause-some
+returns-then-is_plain-clause-some c =
+    (get_or c.args.text.now 0 0 ∷ [], front_is c.args.text.now c.in-len1-up.len_at_least, inl (refl, search rules))
+
+pub returns-clause-some : goal.returns-clause-some
+returns-clause-some c =
+    some_so c.first_escaped.result _ _ (λ p h. (escaped p.0, h.0, inr (refl, h.1))) c.first_escaped.ensures.some
