@@ -1,37 +1,41 @@
 -- What a command answers, by what opening the directory and asking it answer.
-use Rattle.std.proofs.Common.{◌≢◌, ℕ, List, Option, IfErr, OnOk, ◌++◌, [], ◌∷◌, Bool, true, false, inl, inr}
-use Rattle.std.specs.Prelude.{Result, Ok, Err, Some, None, IfSome}
+use Rattle.std.proofs.Common.{◌≢◌, ℕ, List, Option, IfErr, OnOk, ◌≡◌, ◌++◌, [], ◌∷◌, inl, inr, sym, subst, append_assoc}
+use Rattle.std.specs.Prelude.{Result, Ok, Err, Some, None, IfSome, codes}
 use Rattle.std.specs.Io.KnownBytes.{Appends, Keeps}
-use Rattle.std.proofs.KnownBytes.{Appends-kept, Keeps-refl}
+use Rattle.std.proofs.KnownBytes.{Appends-kept, Appends-trans, Keeps-refl}
 use Rattle.lsm_shelf.specs.Told.{Told, Becomes, Counted, finding}
 use Rattle.lsm_shelf.specs.declared.shelf_fault.ShelfFault.{ShelfFault}
 use Rattle.lsm_shelf.specs.declared.shelf_fault.ShelfFault.TheVariants as shelf_faults
-use Rattle.lsm_shelf.proofs.CallerLemmas.{becomes_then}
+use Rattle.lsm_shelf.proofs.CallerLemmas.{becomes_same, becomes_then}
 use Rattle.lsm_table.specs.ReadFault.{ReadCounted}
 use Rattle.lsm_table.specs.declared.read_fault.ReadFault.{ReadFault}
 use Rattle.lsm_table.specs.declared.read_fault.ReadFault.TheVariants.{Shelf, Table}
 use Rattle.lsm_table.proofs.CallerLemmas.{read_counted_later}
 use Rattle.lsm_manifest.specs.Shape.{Form}
 use Rattle.lsm_journal.specs.HeldManifest.{HeldManifest}
-use Rattle.lsm_journal.specs.Recovering.{IsRecovered}
+use Rattle.lsm_journal.specs.Recovering.{IsRecovered, IsRecoverRefusal}
+use Rattle.lsm_journal.specs.declared.recover_fault.RecoverFault.{RecoverFault}
+use Rattle.lsm_journal.specs.declared.recover_fault.RecoverFault.TheVariants as recover_faults
 use Rattle.lsm_version.specs.CheckFault.{CheckCounted}
 use Rattle.lsm_version.specs.CheckRefusal.{IsRefusal}
 use Rattle.lsm_version.specs.declared.check.check_fault.CheckFault.{CheckFault}
 use Rattle.lsm_version.specs.declared.check.check_fault.CheckFault.TheVariants.{Read as ReadOfCheck, DoubleFile, Overlap, WrongRange, AgeOrder}
 use Rattle.lsm_version.specs.Versions.{Levels}
 use Rattle.lsm_commands.specs.declared.directory_command.DirectoryCommand.{DirectoryCommand}
-use Rattle.lsm_commands.specs.EntryReading.{◌>>=◌}
+use Rattle.std.specs.Option.{option_map}
+use Rattle.lsm_shelf.specs.FileNames.{padded, table_name}
 use Rattle.lsm_directory.specs.DirectoryFault.{line_of}
 use Rattle.lsm_directory.specs.Answers.{IsDone, IsFault, IsRefused, Leaves, Prints, PrintsBefore}
-use Rattle.lsm_directory.specs.Directory.{Holds}
+use Rattle.lsm_directory.specs.Directory.{Holds, OnlyReads}
 use Rattle.lsm_directory.specs.Opening.{IsOpenRefusal}
 use Rattle.lsm_directory.specs.ReadFault.{IsAnswerFault}
+use Rattle.lsm_directory.specs.declared.folder_file.FolderFile.{FolderFile}
 use Rattle.lsm_directory.specs.declared.directory_fault.DirectoryFault.{DirectoryFault}
 use Rattle.lsm_directory.specs.declared.directory_fault.DirectoryFault.TheVariants.{OutOfMemory, Write, Manifest, Tables, Read}
 
 -- after later reads of tables
-pub holds_later : (Honest : Type 0) (was mid is : Told) (v : Levels) (rest : ℕ) → Becomes mid is → Holds Honest was mid v rest → Holds Honest was is v rest
-holds_later Honest was mid is v rest b h = record {
+pub holds_later : (Honest : Type 0) (was mid is : Told) (v : Levels) (rest log prev : ℕ) → Becomes mid is → Holds Honest was mid v rest log prev → Holds Honest was is v rest log prev
+holds_later Honest was mid is v rest log prev b h = record {
   shape = h.shape;
   here = record {
     number = h.here.number;
@@ -45,6 +49,8 @@ holds_later Honest was mid is v rest b h = record {
   numbers = h.numbers;
   sound = h.sound;
   judged = h.judged;
+  logs = h.logs;
+  previous = h.previous;
 }
 
 shelf_counted_from : (e : ShelfFault) (number : ℕ) (bytes : List ℕ) (was is : Told) → Counted e (finding number bytes was) is → Counted e was is
@@ -58,8 +64,8 @@ counted_from : (e : ReadFault) (number : ℕ) (bytes : List ℕ) (was is : Told)
 counted_from (Shelf fault) number bytes was is k = (k.0, shelf_counted_from fault number bytes was is k.1)
 counted_from (Table fault) number bytes was is k = tt
 
-pub read_counted_from : (Honest : Type 0) (e : ReadFault) (was mid is : Told) (v : Levels) (rest : ℕ) → Holds Honest was mid v rest → ReadCounted e mid is → ReadCounted e was is
-read_counted_from Honest e was mid is v rest h c =
+pub read_counted_from : (Honest : Type 0) (e : ReadFault) (was mid is : Told) (v : Levels) (rest log prev : ℕ) → Holds Honest was mid v rest log prev → ReadCounted e mid is → ReadCounted e was is
+read_counted_from Honest e was mid is v rest log prev h c =
     counted_from e h.here.number h.here.bytes was is (read_counted_later e (finding h.here.number h.here.bytes was) mid is h.here.told c)
 
 pub check_counted_from : (e : CheckFault) (number : ℕ) (bytes : List ℕ) (was mid is : Told) → Becomes (finding number bytes was) mid → CheckCounted e mid is → CheckCounted e was is
@@ -88,24 +94,24 @@ tables_refused Stored Honest e h shape rest was mid is found r why same cause = 
   check_counted_from e h.number h.bytes was mid is found cause,
 )
 
-fault_later : (Stored : ℕ → List ℕ → Type 0) (Honest : Type 0) (was mid is : Told) (v : Levels) (rest : ℕ) (fault : DirectoryFault)
-    → Becomes mid is → Holds Honest was mid v rest → IsAnswerFault Honest fault mid is → IsFault Stored Honest fault was is
-fault_later Stored Honest was mid is v rest OutOfMemory b h f = f
-fault_later Stored Honest was mid is v rest Write b h f = (v, rest, holds_later Honest was mid is v rest b h)
-fault_later Stored Honest was mid is v rest (Manifest fault) b h f = absurd f
-fault_later Stored Honest was mid is v rest (Tables fault) b h f = absurd f
-fault_later Stored Honest was mid is v rest (Read fault) b h f =
-    (v, rest, holds_later Honest was mid is v rest b h, f.0, read_counted_from Honest fault was mid is v rest h f.1)
+fault_later : (Stored : ℕ → List ℕ → Type 0) (Honest : Type 0) (was mid is : Told) (v : Levels) (rest log prev : ℕ) (fault : DirectoryFault)
+    → Becomes mid is → Holds Honest was mid v rest log prev → IsAnswerFault Honest fault mid is → IsFault Stored Honest fault was is
+fault_later Stored Honest was mid is v rest log prev OutOfMemory b h f = f
+fault_later Stored Honest was mid is v rest log prev Write b h f = (v, (rest, log, prev, holds_later Honest was mid is v rest log prev b h))
+fault_later Stored Honest was mid is v rest log prev (Manifest fault) b h f = absurd f
+fault_later Stored Honest was mid is v rest log prev (Tables fault) b h f = absurd f
+fault_later Stored Honest was mid is v rest log prev (Read fault) b h f =
+    (v, (rest, log, prev, holds_later Honest was mid is v rest log prev b h), f.0, read_counted_from Honest fault was mid is v rest log prev h f.1)
 
-pub is_done : {T : Type 0} (r : Result T DirectoryFault) (command : DirectoryCommand) (Honest : Type 0) (was mid is : Told) (v : Levels) (rest : ℕ) (old new : Option (List ℕ))
-    → Becomes mid is → Holds Honest was mid v rest → (Honest → OnOk r (Prints command v rest old new)) → OnOk r (IsDone command Honest was is old new)
-is_done (Ok x) command Honest was mid is v rest old new b h w = (v, rest, holds_later Honest was mid is v rest b h, w)
-is_done (Err e) command Honest was mid is v rest old new b h w = search
+pub is_done : {T : Type 0} (r : Result T DirectoryFault) (command : DirectoryCommand) (others : List FolderFile) (Honest : Type 0) (was mid is : Told) (v : Levels) (rest log prev : ℕ) (old new : Option (List ℕ))
+    → Becomes mid is → Holds Honest was mid v rest log prev → (Honest → OnOk r (Prints command v rest log prev others old new)) → OnOk r (IsDone command others Honest was is old new)
+is_done (Ok x) command others Honest was mid is v rest log prev old new b h w = (v, rest, log, prev, holds_later Honest was mid is v rest log prev b h, w)
+is_done (Err e) command others Honest was mid is v rest log prev old new b h w = search
 
-pub is_fault : {T : Type 0} (r : Result T DirectoryFault) (Stored : ℕ → List ℕ → Type 0) (Honest : Type 0) (was mid is : Told) (v : Levels) (rest : ℕ)
-    → Becomes mid is → Holds Honest was mid v rest → IfErr r (λ e. IsAnswerFault Honest e mid is) → IfErr r (λ e. IsFault Stored Honest e was is)
-is_fault (Ok x) Stored Honest was mid is v rest b h f = search
-is_fault (Err e) Stored Honest was mid is v rest b h f = fault_later Stored Honest was mid is v rest e b h f
+pub is_fault : {T : Type 0} (r : Result T DirectoryFault) (Stored : ℕ → List ℕ → Type 0) (Honest : Type 0) (was mid is : Told) (v : Levels) (rest log prev : ℕ)
+    → Becomes mid is → Holds Honest was mid v rest log prev → IfErr r (λ e. IsAnswerFault Honest e mid is) → IfErr r (λ e. IsFault Stored Honest e was is)
+is_fault (Ok x) Stored Honest was mid is v rest log prev b h f = search
+is_fault (Err e) Stored Honest was mid is v rest log prev b h f = fault_later Stored Honest was mid is v rest log prev e b h f
 
 -- where nothing was written, a refusal to open leaves what it may
 pub keeps_leaves : (command : DirectoryCommand) (Honest : Type 0) (Stored : ℕ → List ℕ → Type 0) (fault : DirectoryFault) (was is : Told) (old : Option (List ℕ))
@@ -116,20 +122,20 @@ keeps_leaves command Honest Stored (Manifest fault) was is old f = Keeps-refl ol
 keeps_leaves command Honest Stored (Tables fault) was is old f = Keeps-refl old
 keeps_leaves command Honest Stored (Read fault) was is old f = absurd f
 
-leaves_later : (command : DirectoryCommand) (Honest : Type 0) (fault : DirectoryFault) (was mid is : Told) (v : Levels) (rest : ℕ) (old new : Option (List ℕ))
-    → Becomes mid is → Holds Honest was mid v rest → IsAnswerFault Honest fault mid is → (fault ≢ Write → PrintsBefore command Honest v old new)
+leaves_later : (command : DirectoryCommand) (Honest : Type 0) (fault : DirectoryFault) (was mid is : Told) (v : Levels) (rest log prev : ℕ) (old new : Option (List ℕ))
+    → Becomes mid is → Holds Honest was mid v rest log prev → IsAnswerFault Honest fault mid is → (fault ≢ Write → PrintsBefore command Honest v old new)
     → Leaves command Honest fault was is old new
-leaves_later command Honest OutOfMemory was mid is v rest old new b h f p = inr (v, rest, holds_later Honest was mid is v rest b h, p (λ e. cc))
-leaves_later command Honest Write was mid is v rest old new b h f p = tt
-leaves_later command Honest (Manifest fault) was mid is v rest old new b h f p = absurd f
-leaves_later command Honest (Tables fault) was mid is v rest old new b h f p = absurd f
-leaves_later command Honest (Read fault) was mid is v rest old new b h f p = (v, rest, holds_later Honest was mid is v rest b h, p (λ e. cc))
+leaves_later command Honest OutOfMemory was mid is v rest log prev old new b h f p = inr (v, (rest, log, prev, holds_later Honest was mid is v rest log prev b h), p (λ e. cc))
+leaves_later command Honest Write was mid is v rest log prev old new b h f p = tt
+leaves_later command Honest (Manifest fault) was mid is v rest log prev old new b h f p = absurd f
+leaves_later command Honest (Tables fault) was mid is v rest log prev old new b h f p = absurd f
+leaves_later command Honest (Read fault) was mid is v rest log prev old new b h f p = (v, (rest, log, prev, holds_later Honest was mid is v rest log prev b h), p (λ e. cc))
 
-pub is_left : {T : Type 0} (r : Result T DirectoryFault) (command : DirectoryCommand) (Honest : Type 0) (was mid is : Told) (v : Levels) (rest : ℕ) (old new : Option (List ℕ))
-    → Becomes mid is → Holds Honest was mid v rest → IfErr r (λ e. IsAnswerFault Honest e mid is) → IfErr r (λ e. e ≢ Write → PrintsBefore command Honest v old new)
+pub is_left : {T : Type 0} (r : Result T DirectoryFault) (command : DirectoryCommand) (Honest : Type 0) (was mid is : Told) (v : Levels) (rest log prev : ℕ) (old new : Option (List ℕ))
+    → Becomes mid is → Holds Honest was mid v rest log prev → IfErr r (λ e. IsAnswerFault Honest e mid is) → IfErr r (λ e. e ≢ Write → PrintsBefore command Honest v old new)
     → IfErr r (λ e. Leaves command Honest e was is old new)
-is_left (Ok x) command Honest was mid is v rest old new b h f p = search
-is_left (Err e) command Honest was mid is v rest old new b h f p = leaves_later command Honest e was mid is v rest old new b h f p
+is_left (Ok x) command Honest was mid is v rest log prev old new b h f p = search
+is_left (Err e) command Honest was mid is v rest log prev old new b h f p = leaves_later command Honest e was mid is v rest log prev old new b h f p
 
 pub is_refused : {T : Type 0} (r : Result T DirectoryFault) (command : DirectoryCommand) (Stored : ℕ → List ℕ → Type 0) (Honest : Type 0) (was is : Told) (old new : Option (List ℕ))
     → IfErr r (λ e. IsFault Stored Honest e was is) → IfErr r (λ e. Leaves command Honest e was is old new) → IfErr r (λ e. IsRefused command e Stored Honest was is old new)
@@ -149,15 +155,49 @@ pub memory_refused : (command : DirectoryCommand) (Stored : ℕ → List ℕ →
     → IsRefused command OutOfMemory Stored Honest was is old old
 memory_refused command Stored Honest was is old = record { says = tt; left = inl (Keeps-refl old) }
 
--- the line of a fault that names no file
-pub told_plain : (named : Bool) (text : Option (List ℕ)) (file : Option ℕ) (a b : Option (List ℕ)) → IfSome text (λ t. Appends a b (t ++ (10 ∷ [])))
-    → IfSome (text >>= line_of named file) (λ l. Appends a b l)
-told_plain named None file a b h = tt
-told_plain true (Some t) (Some number) a b h = tt
-told_plain true (Some t) None a b h = h
-told_plain false (Some t) file a b h = h
+-- a text, and what ends its line
+pub told_joined : {T E : Type 0} (r : Result T E) (text : Option (List ℕ)) (a b c : Option (List ℕ)) (end : List ℕ) → IfSome text (λ t. Appends a b t) → OnOk r (Appends b c end)
+    → OnOk r (IfSome text (λ t. Appends a c (t ++ end)))
+told_joined (Ok x) None a b c end h k = tt
+told_joined (Ok x) (Some t) a b c end h k = Appends-trans a b c t end h k
+told_joined (Err e) text a b c end h k = search
 
--- of the line that names a file nothing is said
-pub told_named : (text : Option (List ℕ)) (number : ℕ) (a b : Option (List ℕ)) → IfSome (text >>= line_of true (Some number)) (λ l. Appends a b l)
-told_named None number a b = tt
-told_named (Some t) number a b = tt
+-- three parts one after another
+pub file_joined : {T E : Type 0} (r : Result T E) (number : ℕ) (a b c d : Option (List ℕ)) → Appends a b (codes " in ") → Appends b c (padded number)
+    → OnOk r (Appends c d (codes ".ldb\n")) → OnOk r (Appends a d (codes " in " ++ (table_name number ++ (10 ∷ []))))
+file_joined (Ok x) number a b c d in_file digits end =
+    let tail : Appends b d (padded number ++ codes ".ldb\n") = Appends-trans b c d (padded number) (codes ".ldb\n") digits end in
+    let name : padded number ++ codes ".ldb\n" ≡ table_name number ++ (10 ∷ []) = sym (append_assoc (padded number) (codes ".ldb") (10 ∷ [])) in
+    Appends-trans a b d (codes " in ") (table_name number ++ (10 ∷ [])) in_file (subst (λ (t : List ℕ). Appends b d t) name tail)
+file_joined (Err e) number a b c d in_file digits end = search
+
+-- the line of a fault that names no file
+pub told_plain : (text : Option (List ℕ)) (a b : Option (List ℕ)) → IfSome text (λ t. Appends a b (t ++ (10 ∷ []))) → IfSome (option_map (line_of None) text) (λ l. Appends a b l)
+told_plain None a b h = tt
+told_plain (Some t) a b h = h
+
+-- and of one that does
+pub told_named : (text : Option (List ℕ)) (number : ℕ) (a b : Option (List ℕ)) → IfSome text (λ t. Appends a b (t ++ (codes " in " ++ (table_name number ++ (10 ∷ [])))))
+    → IfSome (option_map (line_of (Some number)) text) (λ l. Appends a b l)
+told_named None number a b h = tt
+told_named (Some t) number a b h = h
+
+-- ---- nothing but reads
+
+pub reads_none : (t : Told) → OnlyReads t t
+reads_none t = inl (becomes_same t)
+
+-- the manifest was read, and then tables
+pub reads_found : (number : ℕ) (bytes : List ℕ) (was mid is : Told) → Becomes (finding number bytes was) mid → Becomes mid is → OnlyReads was is
+reads_found number bytes was mid is b c = inr (number, bytes, becomes_then (finding number bytes was) mid is b c)
+
+-- the manifest was refused
+pub reads_refused : (e : RecoverFault) (was is : Told) → IsRecoverRefusal e was is → OnlyReads was is
+reads_refused (recover_faults.Shelf e) was is r = inl r.0
+reads_refused (recover_faults.Log e) was is r = let gave = r.1 in inr (gave.0, r.0, gave.1)
+reads_refused (recover_faults.Edit e) was is r = let gave = r.1 in inr (gave.0, r.0, gave.1)
+reads_refused (recover_faults.Replay e) was is r = let gave = r.1 in inr (gave.0, r.0, gave.1)
+
+pub reads_later : (was mid is : Told) → OnlyReads was mid → Becomes mid is → OnlyReads was is
+reads_later was mid is (inl b) c = inl (becomes_then was mid is b c)
+reads_later was mid is (inr found) c = inr (found.0, found.1, becomes_then (finding found.0 found.1 was) mid is found.2 c)

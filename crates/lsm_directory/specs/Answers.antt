@@ -9,31 +9,39 @@ use Rattle.lsm_version.specs.Versions.{Levels, files}
 use Rattle.lsm_commands.specs.declared.directory_command.DirectoryCommand.{DirectoryCommand}
 use Rattle.lsm_commands.specs.declared.directory_command.DirectoryCommand.TheVariants.{Check, List as ListFiles, Get, Scan}
 use Rattle.lsm_directory.specs.Directory.{Holds}
-use Rattle.lsm_directory.specs.Listing.{answer_text, check_text, list_text}
+use Rattle.lsm_directory.specs.Listing.{answer_text, list_text}
+use Rattle.lsm_directory.specs.Logs.{IsChecked}
 use Rattle.lsm_directory.specs.Scanned.{LeavesScan, PrintsScan}
 use Rattle.lsm_directory.specs.Opening.{IsOpenRefusal}
+use Rattle.lsm_directory.specs.declared.folder_file.FolderFile.{FolderFile}
 use Rattle.lsm_directory.specs.declared.directory_fault.DirectoryFault.{DirectoryFault}
 use Rattle.lsm_directory.specs.declared.directory_fault.DirectoryFault.TheVariants.{OutOfMemory, Write, Manifest, Tables, Read}
 
--- what a command writes for a version, and for a manifest with so many bytes at its end that hold no whole record
-abbrev pub Prints : DirectoryCommand → Levels → ℕ → Option (List ℕ) → Option (List ℕ) → Type 0
-Prints Check v rest old new = Appends old new (check_text v rest)
-Prints ListFiles v rest old new = Appends old new (list_text v)
-Prints (Get key) v rest old new = Appends old new (answer_text (answer (all_entries (files v)) key v.last))
-Prints (Scan bounds) v rest old new = PrintsScan bounds v old new
+-- what a command writes for a version, for a manifest with so many bytes at its end that hold no whole record and with these log numbers,
+-- and for the files beside it
+abbrev pub Prints : DirectoryCommand → Levels → (rest log prev : ℕ) → List FolderFile → Option (List ℕ) → Option (List ℕ) → Type 0
+Prints Check v rest log prev others old new = (text : List ℕ) × IsChecked v rest log prev others text × Appends old new text
+Prints ListFiles v rest log prev others old new = Appends old new (list_text v)
+Prints (Get key) v rest log prev others old new = Appends old new (answer_text (answer (all_entries (files v)) key v.last))
+Prints (Scan bounds) v rest log prev others old new = PrintsScan bounds v old new
 
 -- The shelf's directory holds a version, and over an honest shelf what the command prints of it was written.
-abbrev pub IsDone : DirectoryCommand → Type 0 → Told → Told → Option (List ℕ) → Option (List ℕ) → Type 0
-IsDone command Honest was is old new = (v : Levels) × (rest : ℕ) × Holds Honest was is v rest × (Honest → Prints command v rest old new)
+abbrev pub IsDone : DirectoryCommand → List FolderFile → Type 0 → Told → Told → Option (List ℕ) → Option (List ℕ) → Type 0
+IsDone command others Honest was is old new =
+    (v : Levels) × (rest : ℕ) × (log : ℕ) × (prev : ℕ) × Holds Honest was is v rest log prev × (Honest → Prints command v rest log prev others old new)
+
+-- the directory holds a version
+abbrev pub HoldsVersion : Type 0 → Told → Told → Levels → Type 0
+HoldsVersion Honest was is v = (rest : ℕ) × (log : ℕ) × (prev : ℕ) × Holds Honest was is v rest log prev
 
 -- What a fault says of the directory: the first fault that opening it meets; or it was opened, and a write failed, or the shelf did.
 -- Want of memory says nothing.
 abbrev pub IsFault : (ℕ → List ℕ → Type 0) → Type 0 → DirectoryFault → Told → Told → Type 0
 IsFault Stored Honest OutOfMemory was is = ⊤
-IsFault Stored Honest Write was is = (v : Levels) × (rest : ℕ) × Holds Honest was is v rest
+IsFault Stored Honest Write was is = (v : Levels) × HoldsVersion Honest was is v
 IsFault Stored Honest (Manifest fault) was is = IsOpenRefusal Stored Honest (Manifest fault) was is
 IsFault Stored Honest (Tables fault) was is = IsOpenRefusal Stored Honest (Tables fault) was is
-IsFault Stored Honest (Read fault) was is = (v : Levels) × (rest : ℕ) × Holds Honest was is v rest × (Honest → IsMemoryOrShelf fault) × ReadCounted fault was is
+IsFault Stored Honest (Read fault) was is = (v : Levels) × HoldsVersion Honest was is v × (Honest → IsMemoryOrShelf fault) × ReadCounted fault was is
 
 -- What is written of a version before a fault that is no failed write: nothing, or, by a scan and over an honest shelf, its first lines.
 abbrev pub PrintsBefore : DirectoryCommand → Type 0 → Levels → Option (List ℕ) → Option (List ℕ) → Type 0
@@ -45,11 +53,11 @@ PrintsBefore (Scan bounds) Honest v old new = LeavesScan bounds Honest v old new
 -- What a fault leaves on standard output: nothing where the directory could not be opened.
 abbrev pub Leaves : DirectoryCommand → Type 0 → DirectoryFault → Told → Told → Option (List ℕ) → Option (List ℕ) → Type 0
 Leaves command Honest OutOfMemory was is old new =
-    Keeps old new ⊎ ((v : Levels) × (rest : ℕ) × Holds Honest was is v rest × PrintsBefore command Honest v old new)
+    Keeps old new ⊎ ((v : Levels) × HoldsVersion Honest was is v × PrintsBefore command Honest v old new)
 Leaves command Honest Write was is old new = ⊤
 Leaves command Honest (Manifest fault) was is old new = Keeps old new
 Leaves command Honest (Tables fault) was is old new = Keeps old new
-Leaves command Honest (Read fault) was is old new = (v : Levels) × (rest : ℕ) × Holds Honest was is v rest × PrintsBefore command Honest v old new
+Leaves command Honest (Read fault) was is old new = (v : Levels) × HoldsVersion Honest was is v × PrintsBefore command Honest v old new
 
 -- What a refusal is: what the fault says of the directory, and what it leaves on standard output.
 pub record IsRefused (command : DirectoryCommand) (fault : DirectoryFault) (Stored : ℕ → List ℕ → Type 0) (Honest : Type 0) (was is : Told) (old new : Option (List ℕ)) : Type 0 where

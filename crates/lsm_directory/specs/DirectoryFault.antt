@@ -1,6 +1,6 @@
 -- Why a command on a directory is refused, and what it prints of that: this project's rule.
 use Rattle.std.specs.Prelude.{ℕ, Bool, true, false, List, [], ◌∷◌, ◌++◌, codes, Option, Some, None}
-use Rattle.lsm_commands.specs.EntryReading.{◌>>=◌}
+use Rattle.std.specs.Option.{option_map}
 use Rattle.lsm_commands.specs.declared.directory_command.DirectoryCommand.{DirectoryCommand}
 use Rattle.lsm_commands.specs.declared.directory_command.DirectoryCommand.TheVariants.{Check, List as ListFiles, Get, Scan}
 use Rattle.lsm_table.specs.declared.read_fault.ReadFault.{ReadFault}
@@ -9,6 +9,7 @@ use Rattle.lsm_table.specs.Fault as table
 use Rattle.lsm_shelf.specs.declared.shelf_fault.ShelfFault.{ShelfFault}
 use Rattle.lsm_shelf.specs.declared.shelf_fault.ShelfFault.TheVariants as shelf_faults
 use Rattle.lsm_shelf.specs.ShelfFault as shelf
+use Rattle.lsm_shelf.specs.FileNames.{table_name}
 use Rattle.lsm_manifest.specs.LogFault as log
 use Rattle.lsm_manifest.specs.EditFault as edit
 use Rattle.lsm_manifest.specs.ReplayFault as replay
@@ -91,12 +92,16 @@ names_files ListFiles = false
 names_files (Get key) = false
 names_files (Scan bounds) = true
 
--- the line of a text; where a file is named in it, that is tested
-abbrev pub line_of : Bool → Option ℕ → List ℕ → Option (List ℕ)
-line_of true (Some number) text = None
-line_of true None text = Some (text ++ (10 ∷ []))
-line_of false file text = Some (text ++ (10 ∷ []))
+-- the file that a line names, where files are named at all
+abbrev pub named_in : Bool → Option ℕ → Option ℕ
+named_in true file = file
+named_in false file = None
 
--- the line of a fault, but for a key against age and where a file is named in it
+-- the line of a text, with the file that it names: `TEXT in 000005.ldb`
+abbrev pub line_of : Option ℕ → List ℕ → List ℕ
+line_of None text = text ++ (10 ∷ [])
+line_of (Some number) text = text ++ (codes " in " ++ (table_name number ++ (10 ∷ [])))
+
+-- the line of a fault, but for a key against age
 abbrev pub fault_line : Bool → DirectoryFault → Option (List ℕ)
-fault_line named fault = fault_text fault >>= line_of named (file_of fault)
+fault_line named fault = option_map (line_of (named_in named (file_of fault))) (fault_text fault)

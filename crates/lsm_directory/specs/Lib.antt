@@ -1,5 +1,7 @@
 pub mod Directory
+pub mod Looking
 pub mod Listing
+pub mod Logs
 pub mod Scanned
 pub mod DirectoryFault
 pub mod Opening

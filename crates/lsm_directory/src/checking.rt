@@ -1,6 +1,7 @@
 //! What a check prints of a version.
 
-ghost use Rattle.std.specs.Prelude.{◌≡◌, ◌++◌, IfErr, IfOk, OnOk, length};
+ghost use Rattle.std.specs.Prelude.{◌≡◌, ◌++◌, IfErr, IfOk, IsFalse, OnOk, length};
+ghost use Rattle.std.specs.Io.KnownBytes.{Keeps};
 ghost use Rattle.lsm_codec.specs.Lists.{Has};
 ghost use Rattle.lsm_table.specs.Registry.{Table};
 ghost use Rattle.lsm_table.specs.ReadFault.{IsMemoryOrShelf, ReadCounted};
@@ -11,11 +12,13 @@ ghost use Rattle.lsm_directory.specs.ReadFault.{IsReadFault};
 
 use crate::counting::{count_level, size_of_level};
 use crate::directory_fault::DirectoryFault;
+use crate::progress::Progress;
 use lsm_commands::{push_decimal, push_number};
 use lsm_reader::Blocks;
 use lsm_table::{Naming, ReadFault, Registry, Shelf, TableRef};
 use lsm_version::Version;
 use std::alloc::{AllocError, Global};
+use std::io::Write;
 
 /// What is counted of a level.
 #[derive(Clone, Copy)]
@@ -47,11 +50,14 @@ fn push_counts(out: &mut Vec<u8>, level: usize, counts: Counts) -> Result<(), Al
 }
 
 /// Counts the files, bytes and entries of a level.
-fn counts_of<N: Naming, S: Shelf, B: Blocks<S>>(
+#[tactic(auto, using(crate::proofs::Quiet::keeps_same))]
+fn counts_of<N: Naming, S: Shelf, B: Blocks<S>, E: Write>(
     blocks: &mut B,
     alloc: Global,
     registry: &Registry<S::Receipt>,
     tables: &[TableRef<N, S>],
+    progress: &mut Progress,
+    err: &mut E,
 ) -> Result<Counts, ReadFault>
     requires here { (B.told blocks.old).place ≡ N.place }
     requires named { registry.now ≡ N.registry }
@@ -63,9 +69,11 @@ fn counts_of<N: Naming, S: Shelf, B: Blocks<S>>(
     ensures cause { IfErr result (λ e. ReadCounted e (B.told blocks.old) (B.told blocks.new)) }
     ensures told { Becomes (B.told blocks.old) (B.told blocks.new) }
     ensures loan { B.loan blocks.new ≡ B.loan blocks.old }
+    ensures asked { progress.new.asked ≡ progress.old.asked }
+    ensures quiet { IsFalse progress.old.asked → Keeps (E.contents err.old) (E.contents err.new) }
 {
     let bytes = size_of_level(registry, tables)?;
-    let entries = count_level(blocks, alloc, registry, tables)?;
+    let entries = count_level(blocks, alloc, registry, tables, progress, err)?;
     Ok(Counts {
         files: tables.len() as u64,
         bytes,
@@ -74,14 +82,16 @@ fn counts_of<N: Naming, S: Shelf, B: Blocks<S>>(
 }
 
 /// Counts a level, and appends its line.
-#[tactic(auto, unfolding(crate::specs::Listing::level_line))]
-fn push_level<N: Naming, S: Shelf, B: Blocks<S>>(
+#[tactic(auto, unfolding(crate::specs::Listing::level_line), using(crate::proofs::Quiet::keeps_same))]
+fn push_level<N: Naming, S: Shelf, B: Blocks<S>, E: Write>(
     out: &mut Vec<u8>,
     blocks: &mut B,
     alloc: Global,
     registry: &Registry<S::Receipt>,
     level: usize,
     tables: &[TableRef<N, S>],
+    progress: &mut Progress,
+    err: &mut E,
 ) -> Result<(), DirectoryFault>
     requires here { (B.told blocks.old).place ≡ N.place }
     requires named { registry.now ≡ N.registry }
@@ -90,20 +100,33 @@ fn push_level<N: Naming, S: Shelf, B: Blocks<S>>(
     ensures fault { IfErr result (λ e. IsReadFault S.honest e (B.told blocks.old) (B.told blocks.new)) }
     ensures told { Becomes (B.told blocks.old) (B.told blocks.new) }
     ensures loan { B.loan blocks.new ≡ B.loan blocks.old }
+    ensures asked { progress.new.asked ≡ progress.old.asked }
+    ensures quiet { IsFalse progress.old.asked → Keeps (E.contents err.old) (E.contents err.new) }
 {
-    let counts = counts_of(blocks, alloc, registry, tables)?;
+    let counts = counts_of(blocks, alloc, registry, tables, progress, err)?;
     push_counts(out, level, counts)?;
     Ok(())
 }
 
+/// How many files a version has, as progress tells it.
+fn files_in<N: Naming, S: Shelf>(version: &Version<N, S>) -> u64 {
+    let mut count: u64 = 0;
+    for level in 0..7 {
+        count = count.saturating_add(version.level(level).len() as u64);
+    }
+    count
+}
+
 /// A line for each level, the last sequence, and how many bytes at the end of the manifest hold no whole record.
-#[tactic(auto, unfolding(crate::specs::Listing::check_text), using(crate::proofs::ListLaws::level_more, crate::proofs::ListLaws::levels_none, crate::proofs::FaultLaws::read_fault_later))]
-pub(crate) fn describe<N: Naming, S: Shelf, B: Blocks<S>>(
+#[tactic(auto, unfolding(crate::specs::Listing::check_text), using(crate::proofs::ListLaws::level_more, crate::proofs::ListLaws::levels_none, crate::proofs::FaultLaws::read_fault_later, crate::proofs::Quiet::keeps_same, crate::proofs::Quiet::keeps_then))]
+pub(crate) fn describe<N: Naming, S: Shelf, B: Blocks<S>, E: Write>(
     blocks: &mut B,
     alloc: Global,
     registry: &Registry<S::Receipt>,
     version: &Version<N, S>,
     rest: u64,
+    asked: bool,
+    err: &mut E,
 ) -> Result<Vec<u8>, DirectoryFault>
     requires here { (B.told blocks.old).place ≡ N.place }
     requires named { registry.now ≡ N.registry }
@@ -111,9 +134,15 @@ pub(crate) fn describe<N: Naming, S: Shelf, B: Blocks<S>>(
     ensures fault { IfErr result (λ e. IsReadFault S.honest e (B.told blocks.old) (B.told blocks.new)) }
     ensures told { Becomes (B.told blocks.old) (B.told blocks.new) }
     ensures loan { B.loan blocks.new ≡ B.loan blocks.old }
+    ensures quiet { IsFalse asked → Keeps (E.contents err.old) (E.contents err.new) }
 {
     let last = version.last();
     let mut text = Vec::new(alloc);
+    let mut progress = Progress {
+        asked,
+        done: 0,
+        all: files_in(version),
+    };
     for level in 0..7 {
         push_level(
             &mut text,
@@ -122,6 +151,8 @@ pub(crate) fn describe<N: Naming, S: Shelf, B: Blocks<S>>(
             registry,
             level,
             version.level(level),
+            &mut progress,
+            err,
         )?;
     }
     push_number(&mut text, b"last ", last)?;

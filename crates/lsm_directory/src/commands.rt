@@ -1,13 +1,17 @@
 //! What the commands on a directory do. Each opens it to read, and writes nothing there.
 
-ghost use Rattle.std.specs.Prelude.{◌≡◌, ◌≢◌, IfErr, IfOk, OnOk};
+ghost use Rattle.std.specs.Prelude.{◌≡◌, ◌≢◌, IfErr, IfOk, IsFalse, OnOk};
+ghost use Rattle.std.specs.Io.KnownBytes.{Keeps};
 ghost use Rattle.std.specs.Arc.{arc_value};
 ghost use Rattle.lsm_codec.specs.Entries.{answer};
 ghost use Rattle.lsm_table.specs.Told.{Becomes};
 ghost use Rattle.lsm_levels.specs.Files.{all_entries};
 ghost use Rattle.lsm_version.specs.Versions.{files};
+ghost use Rattle.lsm_commands.specs.declared.directory_command.DirectoryCommand.TheVariants.{Check};
 ghost use Rattle.lsm_directory.specs.Answers.{IsDone, IsFault, Leaves, Prints, PrintsBefore};
+ghost use Rattle.lsm_directory.specs.Directory.{OnlyReads};
 ghost use Rattle.lsm_directory.specs.Listing.{answer_text, check_text};
+ghost use Rattle.lsm_directory.specs.Logs.{IsChecked};
 ghost use Rattle.lsm_directory.specs.ReadFault.{IsAnswerFault, IsReadFault};
 ghost use Rattle.lsm_directory.specs.declared.directory_fault.DirectoryFault.TheVariants.{Write as WriteFault};
 
@@ -15,8 +19,10 @@ use crate::answering::answer_line;
 use crate::checking::describe;
 use crate::directory_fault::DirectoryFault;
 use crate::listing::list_files;
+use crate::logs::push_logs;
 use crate::opened::{Opened, open};
 use crate::output::write_output;
+use crate::request::Request;
 use crate::scanning::print_scan;
 use lsm_commands::DirectoryCommand;
 use lsm_reader::Direct;
@@ -42,66 +48,132 @@ fn answer_of<N: Naming, S: Shelf>(
     Ok(answer_line(alloc, answer)?)
 }
 
-/// What a check prints.
-fn description_of<N: Naming, S: Shelf>(
+/// What a check prints of a version.
+fn description_of<N: Naming, S: Shelf, E: Write>(
     shelf: &mut S,
     alloc: Global,
     registry: &Registry<S::Receipt>,
     opened: &Opened<N, S>,
+    progress: bool,
+    err: &mut E,
 ) -> Result<Vec<u8>, DirectoryFault>
     requires here { (S.told shelf.old).place ≡ N.place }
     requires named { registry.now ≡ N.registry }
     ensures text { S.honest → IfOk result (λ text. text.items ≡ check_text opened.now.version opened.now.rest) }
     ensures fault { IfErr result (λ e. IsReadFault S.honest e (S.told shelf.old) (S.told shelf.new)) }
     ensures told { Becomes (S.told shelf.old) (S.told shelf.new) }
+    ensures quiet { IsFalse progress → Keeps (E.contents err.old) (E.contents err.new) }
 {
     let mut direct = Direct::new(shelf);
-    describe(&mut direct, alloc, registry, &opened.version, opened.rest)
+    let version = &opened.version;
+    describe(
+        &mut direct,
+        alloc,
+        registry,
+        version,
+        opened.rest,
+        progress,
+        err,
+    )
 }
 
-/// Does what a command asks of a directory that is open.
-#[tactic(auto, using(crate::proofs::FaultLaws::answer_fault_from_read, crate::proofs::FaultLaws::answer_fault_from_output))]
-fn perform_on<N: Naming, S: Shelf, O: Write>(
+/// What a check prints: that, and the logs that are not read.
+fn checked<N: Naming, S: Shelf, E: Write>(
     shelf: &mut S,
     alloc: Global,
     registry: &Registry<S::Receipt>,
     opened: &Opened<N, S>,
-    command: &DirectoryCommand,
+    request: &Request<'_>,
+    err: &mut E,
+) -> Result<Vec<u8>, DirectoryFault>
+    requires here { (S.told shelf.old).place ≡ N.place }
+    requires named { registry.now ≡ N.registry }
+    ensures text { S.honest → IfOk result (λ text. IsChecked opened.now.version opened.now.rest opened.now.log opened.now.prev_log request.now.files.now text.items) }
+    ensures fault { IfErr result (λ e. IsReadFault S.honest e (S.told shelf.old) (S.told shelf.new)) }
+    ensures told { Becomes (S.told shelf.old) (S.told shelf.new) }
+    ensures quiet { IsFalse request.now.progress → Keeps (E.contents err.old) (E.contents err.new) }
+{
+    let mut text = description_of(shelf, alloc, registry, opened, request.progress, err)?;
+    push_logs(&mut text, request.files, opened.log, opened.prev_log)?;
+    Ok(text)
+}
+
+/// Prints that.
+#[tactic(auto, using(crate::proofs::FaultLaws::answer_fault_from_read, crate::proofs::FaultLaws::answer_fault_from_output, crate::proofs::Quiet::keeps_same))]
+fn print_check<N: Naming, S: Shelf, O: Write, E: Write>(
+    shelf: &mut S,
+    alloc: Global,
+    registry: &Registry<S::Receipt>,
+    opened: &Opened<N, S>,
+    request: &Request<'_>,
     out: &mut O,
+    err: &mut E,
 ) -> Result<(), DirectoryFault>
     requires here { (S.told shelf.old).place ≡ N.place }
     requires named { registry.now ≡ N.registry }
-    ensures done { S.honest → OnOk result (Prints command.now opened.now.version opened.now.rest (O.contents out.old) (O.contents out.new)) }
-    ensures left { IfErr result (λ e. e ≢ WriteFault → PrintsBefore command.now S.honest opened.now.version (O.contents out.old) (O.contents out.new)) }
+    ensures done { S.honest → OnOk result (Prints Check opened.now.version opened.now.rest opened.now.log opened.now.prev_log request.now.files.now (O.contents out.old) (O.contents out.new)) }
+    ensures left { IfErr result (λ e. e ≢ WriteFault → Keeps (O.contents out.old) (O.contents out.new)) }
     ensures fault { IfErr result (λ e. IsAnswerFault S.honest e (S.told shelf.old) (S.told shelf.new)) }
     ensures told { Becomes (S.told shelf.old) (S.told shelf.new) }
+    ensures quiet { IsFalse request.now.progress → Keeps (E.contents err.old) (E.contents err.new) }
+{
+    let text = checked(shelf, alloc, registry, opened, request, err)?;
+    write_output(out, text.as_slice())
+}
+
+/// Does what a command asks of a directory that is open.
+#[tactic(auto, using(crate::proofs::FaultLaws::answer_fault_from_read, crate::proofs::FaultLaws::answer_fault_from_output, crate::proofs::Quiet::keeps_same))]
+fn perform_on<N: Naming, S: Shelf, O: Write, E: Write>(
+    shelf: &mut S,
+    alloc: Global,
+    registry: &Registry<S::Receipt>,
+    opened: &Opened<N, S>,
+    request: &Request<'_>,
+    out: &mut O,
+    err: &mut E,
+) -> Result<(), DirectoryFault>
+    requires here { (S.told shelf.old).place ≡ N.place }
+    requires named { registry.now ≡ N.registry }
+    ensures done { S.honest → OnOk result (Prints request.now.command.now opened.now.version opened.now.rest opened.now.log opened.now.prev_log request.now.files.now (O.contents out.old) (O.contents out.new)) }
+    ensures left { IfErr result (λ e. e ≢ WriteFault → PrintsBefore request.now.command.now S.honest opened.now.version (O.contents out.old) (O.contents out.new)) }
+    ensures fault { IfErr result (λ e. IsAnswerFault S.honest e (S.told shelf.old) (S.told shelf.new)) }
+    ensures told { Becomes (S.told shelf.old) (S.told shelf.new) }
+    ensures quiet { IsFalse request.now.progress → Keeps (E.contents err.old) (E.contents err.new) }
 {
     let version = &opened.version;
-    let text = match command {
-        DirectoryCommand::Check => description_of(shelf, alloc, registry, opened)?,
+    let text = match request.command {
+        DirectoryCommand::Check => {
+            return print_check(shelf, alloc, registry, opened, request, out, err);
+        }
         DirectoryCommand::List => list_files(alloc, registry, version)?,
         DirectoryCommand::Get(key) => answer_of(shelf, alloc, version, key.as_slice())?,
-        DirectoryCommand::Scan(bounds) => return print_scan(shelf, alloc, version, bounds, out),
+        DirectoryCommand::Scan(bounds) => {
+            return print_scan(shelf, alloc, version, bounds, request.progress, out, err);
+        }
     };
     write_output(out, text.as_slice())
 }
 
 /// Opens the directory of a shelf to read, and does what a command asks of it. Nothing is written there.
-pub fn perform<N: Naming, S: Shelf, R: Wait, O: Write>(
+#[tactic(auto, using(crate::proofs::Outcomes::reads_none, crate::proofs::Outcomes::reads_later, crate::proofs::Quiet::keeps_same))]
+pub(crate) fn perform<N: Naming, S: Shelf, R: Wait, O: Write, E: Write>(
     rt: &R,
     alloc: Global,
     shelf: &mut S,
     registry: Arc<Registry<S::Receipt>>,
-    command: &DirectoryCommand,
+    request: &Request<'_>,
     out: &mut O,
+    err: &mut E,
 ) -> Result<(), DirectoryFault>
     requires here { (S.told shelf.old).place ≡ N.place }
     requires named { arc_value registry ≡ N.registry }
-    ensures done { OnOk result (IsDone command.now S.honest (S.told shelf.old) (S.told shelf.new) (O.contents out.old) (O.contents out.new)) }
+    ensures done { OnOk result (IsDone request.now.command.now request.now.files.now S.honest (S.told shelf.old) (S.told shelf.new) (O.contents out.old) (O.contents out.new)) }
     ensures fault { IfErr result (λ e. IsFault (λ number image. (r : S.Receipt) × S.is_of N.place r × (S.Receipt.number r ≡ number) × (S.Receipt.image r ≡ image)) S.honest e (S.told shelf.old) (S.told shelf.new)) }
-    ensures left { IfErr result (λ e. Leaves command.now S.honest e (S.told shelf.old) (S.told shelf.new) (O.contents out.old) (O.contents out.new)) }
+    ensures left { IfErr result (λ e. Leaves request.now.command.now S.honest e (S.told shelf.old) (S.told shelf.new) (O.contents out.old) (O.contents out.new)) }
+    ensures reads { OnlyReads (S.told shelf.old) (S.told shelf.new) }
+    ensures quiet { IsFalse request.now.progress → Keeps (E.contents err.old) (E.contents err.new) }
 {
     let shared = Arc::try_clone(&registry)?;
     let opened: Opened<N, S> = open(rt, alloc, shelf, shared)?;
-    perform_on(shelf, alloc, &registry, &opened, command, out)
+    perform_on(shelf, alloc, &registry, &opened, request, out, err)
 }

@@ -1,6 +1,7 @@
 //! What a check counts.
 
-ghost use Rattle.std.specs.Prelude.{◌≡◌, ◌+◌, IfErr, IfOk, length};
+ghost use Rattle.std.specs.Prelude.{◌≡◌, ◌+◌, IfErr, IfOk, IsFalse, length};
+ghost use Rattle.std.specs.Io.KnownBytes.{Keeps};
 ghost use Rattle.lsm_codec.specs.Lists.{Has};
 ghost use Rattle.lsm_table.specs.Registry.{Table};
 ghost use Rattle.lsm_table.specs.HeldTable.{entries_in};
@@ -9,9 +10,11 @@ ghost use Rattle.lsm_table.specs.Told.{Becomes};
 ghost use Rattle.lsm_version.specs.Versions.{IsWhole};
 ghost use Rattle.lsm_directory.specs.Listing.{bytes_of, count_of};
 
+use crate::progress::Progress;
 use lsm_reader::{Blocks, TableStream};
 use lsm_table::{Naming, ReadFault, Registry, Shelf, TableFault, TableRef};
 use std::alloc::Global;
+use std::io::Write;
 
 /// How many entries a table has: it is read block by block.
 #[tactic(auto, using(lsm_table::proofs::CallerLemmas::read_counted_later))]
@@ -53,13 +56,15 @@ fn sum_of(a: u64, b: u64) -> Result<u64, ReadFault>
     }
 }
 
-/// How many entries the tables of a level have.
-#[tactic(auto, using(crate::proofs::ListLaws::sum_more, crate::proofs::ListLaws::sum_all, lsm_table::proofs::CallerLemmas::read_counted_later))]
-pub(crate) fn count_level<N: Naming, S: Shelf, B: Blocks<S>>(
+/// How many entries the tables of a level have. Each table that is counted is a file more of the progress.
+#[tactic(auto, using(crate::proofs::ListLaws::sum_more, crate::proofs::ListLaws::sum_all, lsm_table::proofs::CallerLemmas::read_counted_later, crate::proofs::Quiet::keeps_same, crate::proofs::Quiet::keeps_then))]
+pub(crate) fn count_level<N: Naming, S: Shelf, B: Blocks<S>, E: Write>(
     blocks: &mut B,
     alloc: Global,
     registry: &Registry<S::Receipt>,
     tables: &[TableRef<N, S>],
+    progress: &mut Progress,
+    err: &mut E,
 ) -> Result<u64, ReadFault>
     requires here { (B.told blocks.old).place ≡ N.place }
     requires named { registry.now ≡ N.registry }
@@ -69,10 +74,13 @@ pub(crate) fn count_level<N: Naming, S: Shelf, B: Blocks<S>>(
     ensures cause { IfErr result (λ e. ReadCounted e (B.told blocks.old) (B.told blocks.new)) }
     ensures told { Becomes (B.told blocks.old) (B.told blocks.new) }
     ensures loan { B.loan blocks.new ≡ B.loan blocks.old }
+    ensures asked { progress.new.asked ≡ progress.old.asked }
+    ensures quiet { IsFalse progress.old.asked → Keeps (E.contents err.old) (E.contents err.new) }
 {
     let mut count = 0;
     for table in tables {
         count = sum_of(count, count_entries(blocks, alloc, registry, table)?)?;
+        progress.pass_file(err);
     }
     Ok(count)
 }

@@ -2,7 +2,7 @@
 
 ghost use Rattle.std.specs.Prelude.{◌≡◌, IfErr, IfOk};
 ghost use Rattle.std.specs.Arc.{arc_value};
-ghost use Rattle.lsm_directory.specs.Directory.{Holds};
+ghost use Rattle.lsm_directory.specs.Directory.{Holds, OnlyReads};
 ghost use Rattle.lsm_directory.specs.Opening.{IsOpenRefusal};
 
 use crate::directory_fault::DirectoryFault;
@@ -12,16 +12,20 @@ use lsm_version::Version;
 use std::alloc::Global;
 use std::sync::{Arc, Wait};
 
-/// A directory that is opened to be read: its version, and how many bytes at the end of its manifest hold no whole record.
+/// A directory that is opened to be read: its version, how many bytes at the end of its manifest hold no whole record, and the numbers
+/// that the manifest gives of the write-ahead log and of the one before it.
 #[derive(Drop)]
 pub struct Opened<N: Naming, S: Shelf> {
     pub version: Version<N, S>,
     pub rest: u64,
+    pub log: u64,
+    pub prev_log: u64,
 }
 
 /// Opens the directory of a shelf to read: reads the manifest that it names, and reads and judges every table. Nothing is written.
 ///
 /// The refusals of `Journal::recover`, then those of `Version::check`.
+#[tactic(auto, using(crate::proofs::Outcomes::reads_refused, crate::proofs::Outcomes::reads_found))]
 pub fn open<N: Naming, S: Shelf, R: Wait>(
     rt: &R,
     alloc: Global,
@@ -30,8 +34,9 @@ pub fn open<N: Naming, S: Shelf, R: Wait>(
 ) -> Result<Opened<N, S>, DirectoryFault>
     requires here { (S.told shelf.old).place ≡ N.place }
     requires named { arc_value registry ≡ N.registry }
-    ensures opened { IfOk result (λ o. Holds S.honest (S.told shelf.old) (S.told shelf.new) o.version o.rest) }
+    ensures opened { IfOk result (λ o. Holds S.honest (S.told shelf.old) (S.told shelf.new) o.version o.rest o.log o.prev_log) }
     ensures refused { IfErr result (λ e. IsOpenRefusal (λ number image. (r : S.Receipt) × S.is_of N.place r × (S.Receipt.number r ≡ number) × (S.Receipt.image r ≡ image)) S.honest e (S.told shelf.old) (S.told shelf.new)) }
+    ensures reads { OnlyReads (S.told shelf.old) (S.told shelf.new) }
     ensures place { (S.told shelf.new).place ≡ N.place }
 {
     // A journal that nothing is sent through has no use for its limit.
@@ -40,5 +45,7 @@ pub fn open<N: Naming, S: Shelf, R: Wait>(
     Ok(Opened {
         version,
         rest: found.rest,
+        log: found.shape.log,
+        prev_log: found.shape.prev_log,
     })
 }

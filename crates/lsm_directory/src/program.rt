@@ -1,12 +1,15 @@
 //! One run of a command on a directory.
 
-ghost use Rattle.std.specs.Prelude.{◌≡◌, ◌≢◌, ◌++◌, [], ◌∷◌, IfErr, IfSome, OnOk};
-ghost use Rattle.std.specs.Io.KnownBytes.{Appends};
+ghost use Rattle.std.specs.Prelude.{◌≡◌, ◌≢◌, ◌++◌, [], ◌∷◌, IfErr, IfSome, IsFalse, OnOk, codes};
+ghost use Rattle.std.specs.Io.KnownBytes.{Appends, Keeps};
+ghost use Rattle.lsm_shelf.specs.FileNames.{padded, table_name};
 ghost use Rattle.lsm_directory.specs.Answers.{IsDone, IsRefused};
-ghost use Rattle.lsm_directory.specs.DirectoryFault.{fault_line, fault_text, names_files};
+ghost use Rattle.lsm_directory.specs.Directory.{OnlyReads};
+ghost use Rattle.lsm_directory.specs.DirectoryFault.{fault_line, fault_text, file_of, named_in, names_files};
 
 use crate::commands::perform;
 use crate::directory_fault::DirectoryFault;
+use crate::request::Request;
 use lsm_commands::DirectoryCommand;
 use lsm_journal::RecoverFault;
 use lsm_table::{Registry, Shelf, ShelfFault};
@@ -22,15 +25,56 @@ fn write_fault<E: Write>(err: &mut E, fault: &DirectoryFault) -> io::Result<()>
     writeln!(err, "{fault}")
 }
 
+/// Writes the text of a fault.
+fn write_text<E: Write>(err: &mut E, fault: &DirectoryFault) -> io::Result<()>
+    ensures { OnOk result (IfSome (fault_text fault.now) (λ text. Appends (E.contents err.old) (E.contents err.new) text)) }
+{
+    write!(err, "{fault}")
+}
+
+/// Writes the number of a file, with zeros in front to at least six digits.
+fn write_number<E: Write>(err: &mut E, number: u64) -> io::Result<()>
+    ensures { OnOk result (Appends (E.contents err.old) (E.contents err.new) (padded number)) }
+{
+    write!(err, "{number:06}")
+}
+
+/// Ends the line of a fault of this file's table.
+fn write_file<E: Write>(err: &mut E, number: u64) -> io::Result<()>
+    ensures { OnOk result (Appends (E.contents err.old) (E.contents err.new) (codes " in " ++ (table_name number ++ (10 ∷ [])))) }
+{
+    err.write_all(b" in ")?;
+    write_number(err, number)?;
+    err.write_all(b".ldb\n")
+}
+
+/// Writes the line of a fault of this file's table.
+fn write_in_file<E: Write>(err: &mut E, fault: &DirectoryFault, number: u64) -> io::Result<()>
+    ensures { OnOk result (IfSome (fault_text fault.now) (λ text. Appends (E.contents err.old) (E.contents err.new) (text ++ (codes " in " ++ (table_name number ++ (10 ∷ [])))))) }
+{
+    write_text(err, fault)?;
+    write_file(err, number)
+}
+
+/// The file that the line of a fault names, where files are named at all.
+fn named_in(fault: &DirectoryFault, names_files: bool) -> Option<u64>
+    ensures { result ≡ named_in names_files (file_of fault.now) }
+{
+    if names_files {
+        return fault.file();
+    }
+    None
+}
+
 /// Writes the line of a fault. Where it is asked to, it names the file of which a table is refused.
 #[tactic(auto, using(crate::proofs::Outcomes::told_plain, crate::proofs::Outcomes::told_named))]
 fn write_named<E: Write>(err: &mut E, fault: &DirectoryFault, names_files: bool) -> io::Result<()>
     ensures { OnOk result (IfSome (fault_line names_files fault.now) (λ line. Appends (E.contents err.old) (E.contents err.new) line)) }
 {
-    if names_files && let Some(number) = fault.file() {
-        return writeln!(err, "{fault} in {number:06}.ldb");
+    match named_in(fault, names_files) {
+        Some(number) => write_in_file(err, fault, number),
+        None => write_fault(err, fault),
     }
-    write_fault(err, fault)
 }
 
 /// The same, and flushes.
@@ -53,39 +97,46 @@ fn names_files(command: &DirectoryCommand) -> bool
 }
 
 /// Does what a command asks, with a registry of its own.
-#[tactic(auto, using(crate::proofs::Outcomes::memory_refused))]
-fn begin<S: Shelf, R: Wait, O: Write>(
+#[tactic(auto, using(crate::proofs::Outcomes::memory_refused, crate::proofs::Outcomes::reads_none, crate::proofs::Quiet::keeps_same))]
+fn begin<S: Shelf, R: Wait, O: Write, E: Write>(
     rt: &R,
     alloc: Global,
     shelf: &mut S,
-    command: &DirectoryCommand,
+    request: &Request<'_>,
     out: &mut O,
+    err: &mut E,
 ) -> Result<(), DirectoryFault>
-    ensures done { OnOk result (IsDone command.now S.honest (S.told shelf.old) (S.told shelf.new) (O.contents out.old) (O.contents out.new)) }
-    ensures refused { IfErr result (λ e. IsRefused command.now e (λ number image. (r : S.Receipt) × S.is_of (S.told shelf.old).place r × (S.Receipt.number r ≡ number) × (S.Receipt.image r ≡ image)) S.honest (S.told shelf.old) (S.told shelf.new) (O.contents out.old) (O.contents out.new)) }
+    ensures done { OnOk result (IsDone request.now.command.now request.now.files.now S.honest (S.told shelf.old) (S.told shelf.new) (O.contents out.old) (O.contents out.new)) }
+    ensures refused { IfErr result (λ e. IsRefused request.now.command.now e (λ number image. (r : S.Receipt) × S.is_of (S.told shelf.old).place r × (S.Receipt.number r ≡ number) × (S.Receipt.image r ≡ image)) S.honest (S.told shelf.old) (S.told shelf.new) (O.contents out.old) (O.contents out.new)) }
+    ensures reads { OnlyReads (S.told shelf.old) (S.told shelf.new) }
+    ensures quiet { IsFalse request.now.progress → Keeps (E.contents err.old) (E.contents err.new) }
 {
     let registry = Arc::new(alloc, Registry::new(alloc)?)?;
-    perform::<Brand, S, R, O>(rt, alloc, shelf, registry, command, out)
+    perform::<Brand, S, R, O, E>(rt, alloc, shelf, registry, request, out, err)
 }
 
-/// Opens the directory of a shelf to read, does what a command asks of it, and answers the exit status: 0 where it is done, and 1 where
-/// it is refused. A fault is one line on `err`; `check` and `scan` name in it the file of which a table is refused.
+/// Opens the directory of a shelf to read, does what is asked of it, and answers the exit status: 0 where it is done, and 1 where
+/// it is refused. A fault is one line on `err`; `check` and `scan` name in it the file of which a table is refused. Nothing is written
+/// in the directory.
+#[tactic(auto, using(crate::proofs::Quiet::keeps_same))]
 pub fn run<S: Shelf, R: Wait, O: Write, E: Write>(
     rt: &R,
     alloc: Global,
     shelf: &mut S,
-    command: &DirectoryCommand,
+    request: &Request<'_>,
     out: &mut O,
     err: &mut E,
 ) -> u8
-    ensures done { result ≡ 0 → IsDone command.now S.honest (S.told shelf.old) (S.told shelf.new) (O.contents out.old) (O.contents out.new) }
-    ensures refused { result ≢ 0 → (result ≡ 1) × ((fault : DirectoryFault) × IsRefused command.now fault (λ number image. (r : S.Receipt) × S.is_of (S.told shelf.old).place r × (S.Receipt.number r ≡ number) × (S.Receipt.image r ≡ image)) S.honest (S.told shelf.old) (S.told shelf.new) (O.contents out.old) (O.contents out.new)) }
+    ensures done { result ≡ 0 → IsDone request.now.command.now request.now.files.now S.honest (S.told shelf.old) (S.told shelf.new) (O.contents out.old) (O.contents out.new) }
+    ensures refused { result ≢ 0 → (result ≡ 1) × ((fault : DirectoryFault) × IsRefused request.now.command.now fault (λ number image. (r : S.Receipt) × S.is_of (S.told shelf.old).place r × (S.Receipt.number r ≡ number) × (S.Receipt.image r ≡ image)) S.honest (S.told shelf.old) (S.told shelf.new) (O.contents out.old) (O.contents out.new)) }
+    ensures reads { OnlyReads (S.told shelf.old) (S.told shelf.new) }
+    ensures quiet { result ≡ 0 → IsFalse request.now.progress → Keeps (E.contents err.old) (E.contents err.new) }
 {
-    let done = begin(rt, alloc, shelf, command, out);
+    let done = begin(rt, alloc, shelf, request, out, err);
     match done {
         Ok(()) => 0,
         Err(fault) => {
-            let _ = tell(err, &fault, names_files(command));
+            let _ = tell(err, &fault, names_files(request.command));
             1
         }
     }

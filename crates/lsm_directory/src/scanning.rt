@@ -1,6 +1,6 @@
 //! A scan, printed as it goes.
 
-ghost use Rattle.std.specs.Prelude.{◌≡◌, ◌≢◌, ◌++◌, IfErr, IfOk, OnOk};
+ghost use Rattle.std.specs.Prelude.{◌≡◌, ◌≢◌, ◌++◌, IfErr, IfOk, IsFalse, OnOk};
 ghost use Rattle.std.specs.Io.KnownBytes.{Appends, Keeps};
 ghost use Rattle.lsm_table.specs.Told.{Becomes};
 ghost use Rattle.lsm_levels.specs.Scanning.{UsersAscend};
@@ -10,6 +10,7 @@ ghost use Rattle.lsm_directory.specs.declared.directory_fault.DirectoryFault.The
 
 use crate::directory_fault::DirectoryFault;
 use crate::output::{flush, write_bytes};
+use crate::progress::tell_keys;
 use lsm_commands::{KeyBounds, push_bytes};
 use lsm_reader::{Blocks, Direct};
 use lsm_table::{Naming, Shelf};
@@ -78,13 +79,15 @@ fn print_next<N: Naming, S: Shelf, B: Blocks<S>, O: Write>(
 }
 
 /// Prints the pairs that are left of a scan and within the bounds, as it goes on.
-#[tactic(auto, using(crate::proofs::ScanLaws::front_none, crate::proofs::ScanLaws::front_begun, crate::proofs::FaultLaws::answer_fault_later))]
-fn print_pairs<N: Naming, S: Shelf, B: Blocks<S>, O: Write>(
+#[tactic(auto, using(crate::proofs::ScanLaws::front_none, crate::proofs::ScanLaws::front_begun, crate::proofs::FaultLaws::answer_fault_later, crate::proofs::Quiet::keeps_same, crate::proofs::Quiet::keeps_then))]
+fn print_pairs<N: Naming, S: Shelf, B: Blocks<S>, O: Write, E: Write>(
     scan: &mut Scan<N, S>,
     blocks: &mut B,
     alloc: Global,
     bounds: &KeyBounds,
+    progress: bool,
     out: &mut O,
+    err: &mut E,
 ) -> Result<(), DirectoryFault>
     requires here { (B.told blocks.old).place ≡ N.place }
     requires ascending { S.honest → UsersAscend scan.old.left }
@@ -93,24 +96,28 @@ fn print_pairs<N: Naming, S: Shelf, B: Blocks<S>, O: Write>(
     ensures fault { IfErr result (λ e. IsAnswerFault S.honest e (B.told blocks.old) (B.told blocks.new)) }
     ensures told { Becomes (B.told blocks.old) (B.told blocks.new) }
     ensures loan { B.loan blocks.new ≡ B.loan blocks.old }
+    ensures quiet { IsFalse progress → Keeps (E.contents err.old) (E.contents err.new) }
 {
     let mut line = Vec::new(alloc);
-    for _ in 0..u64::MAX {
+    for passed in 0..u64::MAX {
         if !print_next(scan, blocks, alloc, bounds, &mut line, out)? {
             return Ok(());
         }
+        tell_keys(err, progress, passed + 1);
     }
     // Only a shelf that is not honest could give so many.
     Err(DirectoryFault::OutOfMemory)
 }
 
 /// The same, and flushes: what was printed before a fault of the shelf is not held back.
-fn print_open<N: Naming, S: Shelf, O: Write>(
+fn print_open<N: Naming, S: Shelf, O: Write, E: Write>(
     shelf: &mut S,
     alloc: Global,
     scan: &mut Scan<N, S>,
     bounds: &KeyBounds,
+    progress: bool,
     out: &mut O,
+    err: &mut E,
 ) -> Result<(), DirectoryFault>
     requires here { (S.told shelf.old).place ≡ N.place }
     requires ascending { S.honest → UsersAscend scan.old.left }
@@ -118,28 +125,33 @@ fn print_open<N: Naming, S: Shelf, O: Write>(
     ensures left { S.honest → IfErr result (λ e. e ≢ WriteFault → BeginsPrinting bounds.now scan.old.left (O.contents out.old) (O.contents out.new)) }
     ensures fault { IfErr result (λ e. IsAnswerFault S.honest e (S.told shelf.old) (S.told shelf.new)) }
     ensures told { Becomes (S.told shelf.old) (S.told shelf.new) }
+    ensures quiet { IsFalse progress → Keeps (E.contents err.old) (E.contents err.new) }
 {
     let mut direct = Direct::new(shelf);
-    let printed = print_pairs(scan, &mut direct, alloc, bounds, out);
+    let printed = print_pairs(scan, &mut direct, alloc, bounds, progress, out, err);
     let flushed = flush(out);
     printed?;
     flushed
 }
 
 /// Prints what a version shows within bounds. What was printed before a fault of the shelf stands.
-pub(crate) fn print_scan<N: Naming, S: Shelf, O: Write>(
+#[tactic(auto, using(crate::proofs::Quiet::keeps_same))]
+pub(crate) fn print_scan<N: Naming, S: Shelf, O: Write, E: Write>(
     shelf: &mut S,
     alloc: Global,
     version: &Version<N, S>,
     bounds: &KeyBounds,
+    progress: bool,
     out: &mut O,
+    err: &mut E,
 ) -> Result<(), DirectoryFault>
     requires here { (S.told shelf.old).place ≡ N.place }
     ensures done { S.honest → OnOk result (PrintsScan bounds.now version.now (O.contents out.old) (O.contents out.new)) }
     ensures left { IfErr result (λ e. e ≢ WriteFault → LeavesScan bounds.now S.honest version.now (O.contents out.old) (O.contents out.new)) }
     ensures fault { IfErr result (λ e. IsAnswerFault S.honest e (S.told shelf.old) (S.told shelf.new)) }
     ensures told { Becomes (S.told shelf.old) (S.told shelf.new) }
+    ensures quiet { IsFalse progress → Keeps (E.contents err.old) (E.contents err.new) }
 {
     let mut scan = version.scan(shelf, alloc, version.last())?;
-    print_open(shelf, alloc, &mut scan, bounds, out)
+    print_open(shelf, alloc, &mut scan, bounds, progress, out, err)
 }

@@ -1,7 +1,7 @@
 //! Writes and reads that fail.
 
 use crate::directories::{small, wide};
-use crate::runs::{get, whole_scan};
+use crate::runs::{get, only, whole_scan};
 use lsm_commands::DirectoryCommand;
 use lsm_directory::run;
 use lsm_shelf::{FuseShelf, MemoryShelf, Shelf};
@@ -47,8 +47,9 @@ fn reports_no_writes<R: Wait + Abort>(
     command: DirectoryCommand,
 ) {
     let mut err = Vec::new(alloc);
-    let full = run(rt, alloc, shelf, &command, &mut Full, &mut err);
-    let unflushed = run(rt, alloc, shelf, &command, &mut Unflushed, &mut err);
+    let request = only(&command);
+    let full = run(rt, alloc, shelf, &request, &mut Full, &mut err);
+    let unflushed = run(rt, alloc, shelf, &request, &mut Unflushed, &mut err);
     assert_eq!(rt; full, 1);
     assert_eq!(rt; unflushed, 1);
     assert_eq!(rt; err.as_slice(), b"write fault\nwrite fault\n".as_slice());
@@ -75,7 +76,8 @@ fn lines_before_a_fault<R: Wait + Abort>(
     let mut fuse = FuseShelf::new(shelf.fork(alloc)?, passes, true, false, 0);
     let mut out = Vec::new(alloc);
     let mut err = Vec::new(alloc);
-    let status = run(rt, alloc, &mut fuse, &whole_scan(), &mut out, &mut err);
+    let command = whole_scan();
+    let status = run(rt, alloc, &mut fuse, &only(&command), &mut out, &mut err);
     if status == 0 {
         assert_eq!(rt; out.as_slice(), b"6b=31\n6c=.\n".as_slice());
         return Ok(2);

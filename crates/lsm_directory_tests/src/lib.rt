@@ -10,6 +10,10 @@ mod directories;
 #[cfg(test)]
 mod failing;
 #[cfg(test)]
+mod logs;
+#[cfg(test)]
+mod progress;
+#[cfg(test)]
 mod refusing;
 #[cfg(test)]
 mod runs;

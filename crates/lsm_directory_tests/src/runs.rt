@@ -2,7 +2,7 @@
 
 use lsm_codec::Bytes;
 use lsm_commands::{DirectoryCommand, KeyBounds};
-use lsm_directory::run;
+use lsm_directory::{Request, run};
 use lsm_shelf::Shelf;
 use std::alloc::{AllocError, Global};
 use std::process::Abort;
@@ -27,18 +27,27 @@ pub(crate) fn whole_scan() -> DirectoryCommand {
     })
 }
 
-/// Runs a command, and asserts the exit status and what stands on standard output and on standard error.
+/// A command alone.
+pub(crate) fn only(command: &DirectoryCommand) -> Request<'_> {
+    Request {
+        command,
+        files: &[],
+        progress: false,
+    }
+}
+
+/// Runs what is asked for, and asserts the exit status and what stands on standard output and on standard error.
 pub(crate) fn expect<S: Shelf, R: Wait + Abort>(
     rt: &R,
     alloc: Global,
     shelf: &mut S,
-    command: &DirectoryCommand,
+    request: &Request<'_>,
     want: (u8, &str, &str),
 ) -> Result<(), Fail> {
     let (want_status, want_out, want_err) = want;
     let mut out = Vec::new(alloc);
     let mut err = Vec::new(alloc);
-    let status = run(rt, alloc, shelf, command, &mut out, &mut err);
+    let status = run(rt, alloc, shelf, request, &mut out, &mut err);
     assert_eq!(rt; err.as_slice(), want_err.as_bytes());
     assert_eq!(rt; out.as_slice(), want_out.as_bytes());
     assert_eq!(rt; status, want_status);
@@ -53,7 +62,7 @@ pub(crate) fn prints<S: Shelf, R: Wait + Abort>(
     command: DirectoryCommand,
     want: &str,
 ) -> Result<(), Fail> {
-    expect(rt, alloc, shelf, &command, (0, want, ""))
+    expect(rt, alloc, shelf, &only(&command), (0, want, ""))
 }
 
 /// Runs a command that is refused, and asserts the line of its refusal.
@@ -64,5 +73,5 @@ pub(crate) fn refused<S: Shelf, R: Wait + Abort>(
     command: DirectoryCommand,
     want: &str,
 ) -> Result<(), Fail> {
-    expect(rt, alloc, shelf, &command, (1, "", want))
+    expect(rt, alloc, shelf, &only(&command), (1, "", want))
 }

@@ -1,0 +1,85 @@
+//! Logs beside the tables: which a check names, and what of a folder is asked for them.
+
+use crate::directories::{FIRST, manifest_of, shelf_of};
+use crate::runs::expect;
+use lsm_commands::DirectoryCommand;
+use lsm_directory::{FolderFile, Request, log_files};
+use lsm_folder::{FolderCalls, MemoryFolder};
+use std::alloc::{AllocError, Global};
+use std::test::Fail;
+
+/// What a check prints of a directory without tables, up to the logs.
+const COUNTED: &str =
+    "level 0 files 0 bytes 0 entries 0\nlevel 1 files 0 bytes 0 entries 0\nlevel 2 files 0 bytes 0 entries 0\nlevel 3 files 0 bytes 0 entries 0\nlevel 4 files 0 bytes 0 entries 0\nlevel 5 files 0 bytes 0 entries 0\nlevel 6 files 0 bytes 0 entries 0\nlast 0\nrest 0\n";
+
+/// An edit that only gives log number 7 and previous log number 4.
+const LOGS_SEVEN_AND_FOUR: &[u8] = b"\x02\x07\x09\x04";
+
+/// A file of a folder.
+fn file(alloc: Global, name: &str, size: u64) -> Result<FolderFile, AllocError> {
+    let name = String::from_str(alloc, name)?;
+    Ok(FolderFile { name, size })
+}
+
+#[test]
+fn names_logs_that_are_not_read(rt: HostRuntime) -> Result<(), Fail> {
+    let alloc = rt.alloc();
+    let manifest = manifest_of(alloc, LOGS_SEVEN_AND_FOUR)?;
+    let mut shelf = shelf_of(&rt, alloc, &manifest, &[])?;
+    let files = [
+        file(alloc, "000003.log", 30)?,
+        file(alloc, "000004.log", 40)?,
+        file(alloc, "000005.log", 50)?,
+        file(alloc, "000007.log", 1234)?,
+        file(alloc, "000008.log", 0)?,
+        file(alloc, "1000000.log", 1)?,
+        file(alloc, "+9.log", 1)?,
+        file(alloc, ".log", 1)?,
+        file(alloc, "000007.ldb", 1)?,
+        file(alloc, "LOG", 1)?,
+        file(alloc, "a000007.log", 1)?,
+        file(alloc, "000007.log.old", 1)?,
+        file(alloc, "18446744073709551616.log", 1)?,
+        file(alloc, "18446744073709551615.log", 1)?,
+    ];
+    let want = format!(in alloc; "{COUNTED}log 000004.log 40\nlog 000007.log 1234\nlog 1000000.log 1\nlog 18446744073709551615.log 1\n")?;
+    let request = Request {
+        command: &DirectoryCommand::Check,
+        files: &files,
+        progress: false,
+    };
+    expect(&rt, alloc, &mut shelf, &request, (0, want.as_str(), ""))
+}
+
+#[test]
+fn no_log_is_below_zero(rt: HostRuntime) -> Result<(), Fail> {
+    let alloc = rt.alloc();
+    let mut shelf = shelf_of(&rt, alloc, FIRST.as_slice(), &[])?;
+    let files = [file(alloc, "000000.log", 2)?];
+    let want = format!(in alloc; "{COUNTED}log 000000.log 2\n")?;
+    let request = Request {
+        command: &DirectoryCommand::Check,
+        files: &files,
+        progress: false,
+    };
+    expect(&rt, alloc, &mut shelf, &request, (0, want.as_str(), ""))
+}
+
+#[test]
+fn a_folder_tells_its_logs(rt: HostRuntime) -> Result<(), Fail> {
+    let alloc = rt.alloc();
+    let mut folder = MemoryFolder::new(alloc)?;
+    folder.write(&rt, "000009.log", b"123")?;
+    folder.write(&rt, "000002.ldb", b"1234")?;
+    folder.write(&rt, "000003.log", b"")?;
+    folder.write(&rt, "LOG", b"1")?;
+    let files = log_files(&rt, alloc, &mut folder)?;
+    let [first, second] = files.as_slice() else {
+        return Err(Fail::new("the folder has not two logs"));
+    };
+    assert_eq!(&rt; first.name.as_str(), "000003.log");
+    assert_eq!(&rt; first.size, 0);
+    assert_eq!(&rt; second.name.as_str(), "000009.log");
+    assert_eq!(&rt; second.size, 3);
+    Ok(())
+}
