@@ -12,14 +12,14 @@ use std::sync::Arc;
 
 /// A registry and the ends of a board, both new.
 #[derive(Drop)]
-pub(crate) struct Ends<S: Shelf> {
-    pub(crate) registry: Arc<Registry<S::Receipt>>,
-    pub(crate) publisher: Publisher,
-    pub(crate) pinners: Vec<Pinner>,
+pub struct Ends<S: Shelf> {
+    pub registry: Arc<Registry<S::Receipt>>,
+    pub publisher: Publisher,
+    pub pinners: Vec<Pinner>,
 }
 
 /// A registry without records, and the ends of a board for the usual options.
-pub(crate) fn make_ends<S: Shelf>(alloc: Global) -> Result<Ends<S>, AllocError>
+pub fn make_ends<S: Shelf>(alloc: Global) -> Result<Ends<S>, AllocError>
     ensures board { IfOk result (λ e. IsNewBoard e.publisher.board usual e.publisher e.pinners.items) }
     ensures seats { IfOk result (λ e. vec_len e.pinners ≡ usual.readers) }
 {

@@ -26,7 +26,8 @@ mod refusals;
 mod writer_fault;
 
 pub use batch_text::read_batch;
-pub use program::{ingest, run};
+pub use ends::{Ends, make_ends};
+pub use program::{ingest, open_shelf, run};
 pub use write_line::write_in;
 pub use writer_fault::WriterFault;
 pub use writing_command::WritingCommand;

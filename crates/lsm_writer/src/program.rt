@@ -88,7 +88,7 @@ fn obey<R: Wait, O: Write>(
 }
 
 /// The shelf on the folder of this path.
-fn open_shelf(files: HostRuntime, path: &str) -> Result<SystemShelf<HostRuntime>, WriterFault> {
+pub fn open_shelf(files: HostRuntime, path: &str) -> Result<SystemShelf<HostRuntime>, WriterFault> {
     match FileShelf::open(files, path) {
         Ok(shelf) => Ok(shelf),
         Err(fault) => Err(WriterFault::of_shelf(fault)),

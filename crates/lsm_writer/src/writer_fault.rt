@@ -32,14 +32,14 @@ pub enum WriterFault {
 
 impl WriterFault {
     /// A refusal of the shelf.
-    pub(crate) fn of_shelf(fault: ShelfFault) -> WriterFault
+    pub fn of_shelf(fault: ShelfFault) -> WriterFault
         ensures { result ≡ of_shelf fault }
     {
         WriterFault::Directory(DirectoryFault::Manifest(RecoverFault::Shelf(fault)))
     }
 
     /// A directory that could not be opened.
-    pub(crate) fn of_open(fault: OpenFault) -> WriterFault
+    pub fn of_open(fault: OpenFault) -> WriterFault
         ensures { result ≡ of_open fault }
     {
         match fault {

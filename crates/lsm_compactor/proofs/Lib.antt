@@ -1,0 +1,3 @@
+mod Words
+mod Ends
+mod Outcomes

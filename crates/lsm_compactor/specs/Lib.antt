@@ -1,0 +1,3 @@
+pub mod CompactLine
+pub mod CompactFault
+pub mod Compacting

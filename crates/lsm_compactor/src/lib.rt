@@ -1,0 +1,24 @@
+//! The command of `lsm` that compacts a directory, `compact`.
+//!
+//! Stands on `lsm_store` for the workers, and on `lsm_writer` and `lsm_commands` for the opening, words and refusals. Its contract: a
+//! `compact` that ends with 0 opened the directory, had so many workers end without a fault, removed what nothing names any more, and
+//! printed how many results they installed.
+#![tactic(auto)]
+
+// What words ask for.
+mod compact_line;
+
+// What is done with a directory.
+mod compacting;
+mod crew;
+mod opening;
+mod sweeping;
+mod tally;
+
+// A run, and why it ends with status 1.
+mod compact_fault;
+mod program;
+
+pub use compact_fault::CompactFault;
+pub use compact_line::{CompactLine, compacting_asked};
+pub use program::{compact, run};

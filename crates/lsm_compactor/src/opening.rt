@@ -1,0 +1,41 @@
+//! The database that is compacted.
+
+ghost use Rattle.std.specs.Prelude.{◌≡◌, IfErr, IfOk, vec_len};
+ghost use Rattle.std.specs.Arc.{arc_value};
+ghost use Rattle.lsm_state.specs.Making.{IsNewBoard};
+ghost use Rattle.lsm_store.specs.Readers.{SeatsPinners};
+ghost use Rattle.lsm_writer.specs.Starting.{IsReopened, usual};
+ghost use Rattle.lsm_compactor.specs.Compacting.{IsUnopened};
+
+use crate::compact_fault::CompactFault;
+use lsm_slots::Boarded;
+use lsm_state::{Options, State};
+use lsm_store::laws::made_states_seat_their_pinners;
+use lsm_table::Shelf;
+use lsm_writer::{Ends, WriterFault};
+use std::alloc::Global;
+use std::sync::Wait;
+
+/// The state of the database that is on the shelf, with the usual options.
+pub(crate) fn open<N: Boarded, S: Shelf, R: Wait>(
+    rt: &R,
+    alloc: Global,
+    shelf: &mut S,
+    ends: Ends<S>,
+) -> Result<State<N, S>, CompactFault>
+    requires here { (S.told shelf.old).place ≡ N.place }
+    requires named { arc_value ends.registry ≡ N.registry }
+    requires board { IsNewBoard N.board usual ends.publisher ends.pinners.items }
+    requires seats { vec_len ends.pinners ≡ usual.readers }
+    ensures opened { IfOk result (λ s. IsReopened S.honest s (S.told shelf.old) (S.told shelf.new)) }
+    ensures seats { IfOk result (λ s. SeatsPinners s) }
+    ensures refused { IfErr result (λ e. IsUnopened (λ number image. (r : S.Receipt) × S.is_of N.place r × (S.Receipt.number r ≡ number) × (S.Receipt.image r ≡ image)) S.honest e (S.told shelf.old) (S.told shelf.new)) }
+{
+    made_states_seat_their_pinners();
+    let options = Options::usual();
+    let board = (ends.publisher, ends.pinners);
+    match State::open(rt, alloc, shelf, options, ends.registry, board) {
+        Ok(state) => Ok(state),
+        Err(fault) => Err(CompactFault::Writer(WriterFault::of_open(fault))),
+    }
+}

@@ -1,0 +1,81 @@
+//! One run of a compaction.
+
+ghost use Rattle.std.specs.Prelude.{◌≡◌, ◌≢◌, ◌≤◌, OnErr, OnOk};
+ghost use Rattle.lsm_compactor.specs.Compacting.{IsCompacted, IsRefused};
+
+use crate::compact_fault::CompactFault;
+use crate::compact_line::CompactLine;
+use crate::compacting::compact_to;
+use lsm_table::Shelf;
+use lsm_writer::open_shelf;
+use std::alloc::Global;
+use std::io::{self, Write};
+use std::sync::Wait;
+use std::thread::Threads;
+
+/// Writes the line of a fault, and flushes.
+fn tell<E: Write>(err: &mut E, fault: &CompactFault) -> io::Result<()> {
+    writeln!(err, "{fault}")?;
+    err.flush()
+}
+
+/// The exit status of a compaction, and the line of its fault.
+fn status_of<E: Write>(done: Result<(), CompactFault>, err: &mut E) -> u8
+    ensures ok { OnOk done (result ≡ 0) }
+    ensures err { OnErr done (result ≡ 1) }
+{
+    match done {
+        Ok(()) => 0,
+        Err(fault) => {
+            let _ = tell(err, &fault);
+            1
+        }
+    }
+}
+
+/// Opens the database on the shelf, compacts it by so many workers (1 to 8 are meant), each in a thread of its own with a fork of the
+/// shelf, until none of them finds anything left to do, removes the tables that nothing names any more, writes `installed M`, and
+/// answers the exit status: 0 where it is done, and 1 where it is refused. A fault is one line on `err`: that of the first worker, in
+/// their order, that has one, and then nothing is removed; else what refused the opening, the removal or the write.
+///
+/// Opening begins a new manifest; a database that is not there is not begun.
+pub fn compact<S: Shelf, R: Threads + Wait + Sync, O: Write, E: Write>(
+    rt: &R,
+    alloc: Global,
+    shelf: &mut S,
+    workers: usize,
+    out: &mut O,
+    err: &mut E,
+) -> u8
+    ensures done { result ≡ 0 → IsCompacted S.honest workers (S.told shelf.old) (S.told shelf.new) (O.contents out.old) (O.contents out.new) }
+    ensures refused { result ≢ 0 → (result ≡ 1) × ((fault : CompactFault) × IsRefused (λ number image. (r : S.Receipt) × S.is_of (S.told shelf.old).place r × (S.Receipt.number r ≡ number) × (S.Receipt.image r ≡ image)) S.honest workers fault (S.told shelf.old) (S.told shelf.new) (O.contents out.old) (O.contents out.new)) }
+{
+    let done = compact_to(rt, alloc, shelf, workers, out);
+    status_of(done, err)
+}
+
+/// Compacts a folder of the system.
+fn obey<R: Threads + Wait + Sync, O: Write>(
+    rt: &R,
+    files: HostRuntime,
+    line: &CompactLine<'_>,
+    out: &mut O,
+) -> Result<(), CompactFault> {
+    let alloc = files.alloc();
+    let mut shelf = open_shelf(files, line.path)?;
+    compact_to(rt, alloc, &mut shelf, line.workers, out)
+}
+
+/// Does what a line asks of a folder of the system, and answers the exit status.
+pub fn run<R: Threads + Wait + Sync, O: Write, E: Write>(
+    rt: &R,
+    files: HostRuntime,
+    line: &CompactLine<'_>,
+    out: &mut O,
+    err: &mut E,
+) -> u8
+    ensures { result ≤ 1 }
+{
+    let done = obey(rt, files, line, out);
+    status_of(done, err)
+}

@@ -1,0 +1,42 @@
+//! What nothing names any more is removed.
+
+ghost use Rattle.std.specs.Prelude.{IfErr, OnOk};
+ghost use Rattle.lsm_compactor.specs.Compacting.{IsSwept, Refuses};
+
+use lsm_slots::Boarded;
+use lsm_state::{State, StateFault};
+use lsm_store::Store;
+use lsm_table::Shelf;
+use std::alloc::Global;
+use std::sync::Wait;
+
+/// Removes the tables that the state does not keep.
+fn sweep_state<N: Boarded, S: Shelf, R: Wait>(
+    rt: &R,
+    alloc: Global,
+    state: &mut State<N, S>,
+    shelf: &mut S,
+) -> Result<(), StateFault>
+    ensures ok { OnOk result (IsSwept S.honest (S.told shelf.old) (S.told shelf.new)) }
+    ensures refused { IfErr result (λ e. Refuses S.honest e (S.told shelf.old) (S.told shelf.new)) }
+{
+    let collected = state.collect(rt, alloc, shelf);
+    let _options = state.options();
+    match collected {
+        Ok(_removed) => Ok(()),
+        Err((fault, _removed)) => Err(fault),
+    }
+}
+
+/// Removes, under the lock, the tables that the store's state does not keep.
+pub(crate) fn sweep<N: Boarded, S: Shelf, R: Wait>(
+    rt: &R,
+    alloc: Global,
+    store: &Store<N, S>,
+    shelf: &mut S,
+) -> Result<(), StateFault>
+    ensures ok { OnOk result (IsSwept S.honest (S.told shelf.old) (S.told shelf.new)) }
+    ensures refused { IfErr result (λ e. Refuses S.honest e (S.told shelf.old) (S.told shelf.new)) }
+{
+    sweep_state(rt, alloc, &mut store.lock(rt), shelf)
+}
