@@ -9,6 +9,7 @@ use crate::parts::first_line;
 use crate::write_line::write_in;
 use crate::writer_fault::WriterFault;
 use lsm_batch::{Batch, Write};
+use lsm_commands::Form;
 use std::alloc::{AllocError, Global};
 use std::io::Read;
 
@@ -25,16 +26,16 @@ fn push(batch: &mut Batch, write: Write) -> Result<(), AllocError>
 
 /// The batch that a text spells. `BadLine` with the number of the first line that spells no write.
 #[tactic(auto, using(crate::proofs::BatchLaws::read_start, crate::proofs::BatchLaws::read_more, crate::proofs::BatchLaws::read_all, crate::proofs::BatchLaws::read_bad))]
-pub(crate) fn batch_of(alloc: Global, text: &[u8]) -> Result<Batch, WriterFault>
-    ensures batch { IfOk result (λ b. IsBatchText text.now b) }
-    ensures refused { IfErr result (IsTextFault text.now) }
+pub(crate) fn batch_of(alloc: Global, form: Form, text: &[u8]) -> Result<Batch, WriterFault>
+    ensures batch { IfOk result (λ b. IsBatchText form text.now b) }
+    ensures refused { IfErr result (IsTextFault form text.now) }
 {
     let mut batch = Batch::new(alloc);
     let mut rest = text;
     let mut count = 0;
     'lines: while !rest.is_empty() {
         let (line, after) = first_line(rest);
-        let Some(write) = write_in(alloc, line)? else {
+        let Some(write) = write_in(alloc, form, line)? else {
             return Err(WriterFault::BadLine(count + 1));
         };
         push(&mut batch, write)?;
@@ -44,16 +45,16 @@ pub(crate) fn batch_of(alloc: Global, text: &[u8]) -> Result<Batch, WriterFault>
     Ok(batch)
 }
 
-/// The batch that an input spells: one line a key, `KEY=VALUE` for its new value or `KEY!` where it is deleted, both in hex, `.` for
-/// no bytes. Whether it may come in is not judged here.
+/// The batch that an input spells: one line a key, `KEY=VALUE` for its new value or `KEY!` where it is deleted, KEY and VALUE words of
+/// this form. Whether it may come in is not judged here.
 ///
 /// `Read` where a read fails, or where there are more than 64 MiB; `BadLine` with the number of the first line of another form;
 /// `OutOfMemory`.
-pub fn read_batch<I: Read>(alloc: Global, input: &mut I) -> Result<Batch, WriterFault>
-    ensures batch { IfOk result (λ b. IfSome (I.remaining input.old) (λ text. IsBatchText text b)) }
+pub fn read_batch<I: Read>(alloc: Global, form: Form, input: &mut I) -> Result<Batch, WriterFault>
+    ensures batch { IfOk result (λ b. IfSome (I.remaining input.old) (λ text. IsBatchText form text b)) }
     ensures limit { OnOk result (IfSome (I.remaining input.old) (λ text. length text ≤ 67108864)) }
-    ensures refused { IfErr result (λ e. IfSome (I.remaining input.old) (λ text. IsTextFault text e)) }
+    ensures refused { IfErr result (λ e. IfSome (I.remaining input.old) (λ text. IsTextFault form text e)) }
 {
     let text = read_input(alloc, input)?;
-    batch_of(alloc, &text)
+    batch_of(alloc, form, &text)
 }

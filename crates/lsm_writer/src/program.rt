@@ -9,6 +9,7 @@ use crate::writer_fault::WriterFault;
 use crate::writing_command::WritingCommand;
 use crate::writing_line::WritingLine;
 use lsm_batch::Batch;
+use lsm_commands::Form;
 use lsm_shelf::{FileShelf, SystemShelf};
 use lsm_table::Shelf;
 use std::alloc::Global;
@@ -16,9 +17,20 @@ use std::fs;
 use std::io::{self, Write};
 use std::sync::Wait;
 
-/// Writes the line of a fault, and flushes.
+/// Writes the line of a fault, and on a second line what it may mean of the file; and flushes.
 fn tell<E: Write>(err: &mut E, fault: &WriterFault) -> io::Result<()> {
     writeln!(err, "{fault}")?;
+    match fault {
+        WriterFault::Read => writeln!(err, "the file could not be read, or has more than 64 MiB")?,
+        WriterFault::BadLine(line) => writeln!(
+            err,
+            "line {line} is not of the form KEY=VALUE or KEY!, in hex, or as text with --text; `.` stands for no bytes"
+        )?,
+        WriterFault::OutOfMemory
+        | WriterFault::Write
+        | WriterFault::Directory(_)
+        | WriterFault::State(_) => {}
+    }
     err.flush()
 }
 
@@ -54,10 +66,10 @@ pub fn ingest<S: Shelf, R: Wait, O: Write, E: Write>(
     status_of(done, err)
 }
 
-/// The batch of the file of this path. `Read` where it cannot be opened.
-fn batch_at(files: &HostRuntime, path: &str) -> Result<Batch, WriterFault> {
+/// The batch of the file of this path, in this form. `Read` where it cannot be opened.
+fn batch_at(files: &HostRuntime, form: Form, path: &str) -> Result<Batch, WriterFault> {
     match fs::open(files, path) {
-        Ok(mut file) => read_batch(files.alloc(), &mut file),
+        Ok(mut file) => read_batch(files.alloc(), form, &mut file),
         Err(error) if error.kind() == io::ErrorKind::OutOfMemory => Err(WriterFault::OutOfMemory),
         Err(_) => Err(WriterFault::Read),
     }
@@ -66,7 +78,11 @@ fn batch_at(files: &HostRuntime, path: &str) -> Result<Batch, WriterFault> {
 /// Whether no file `CURRENT` is found in the folder of this path.
 fn is_without_current(files: &HostRuntime, path: &str) -> Result<bool, WriterFault> {
     let current = format!(in files.alloc(); "{path}/CURRENT")?;
-    Ok(matches!(fs::exists(files, current.as_str()), Ok(false)))
+    match fs::exists(files, current.as_str()) {
+        Ok(is_there) => Ok(!is_there),
+        Err(error) if error.kind() == io::ErrorKind::OutOfMemory => Err(WriterFault::OutOfMemory),
+        Err(_) => Ok(false),
+    }
 }
 
 /// Does what a line asks of a folder of the system.
@@ -78,8 +94,8 @@ fn obey<R: Wait, O: Write>(
 ) -> Result<(), WriterFault> {
     let alloc = files.alloc();
     match line.command {
-        WritingCommand::Ingest(file) => {
-            let batch = batch_at(&files, file)?;
+        WritingCommand::Ingest(file, form) => {
+            let batch = batch_at(&files, form, file)?;
             let is_new = is_without_current(&files, line.path)?;
             let mut shelf = open_shelf(files, line.path)?;
             bring_in(rt, alloc, &mut shelf, is_new, &batch, out)

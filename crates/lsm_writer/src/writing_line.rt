@@ -1,9 +1,13 @@
 //! Command lines that ask for a command which writes a directory.
 
-ghost use Rattle.std.specs.Prelude.{◌∷◌, IfSome, List, ℕ, map};
-ghost use Rattle.lsm_writer.specs.WritingLine.{AsksToWrite};
+ghost use Rattle.std.specs.Prelude.{◌≡◌, IfNone, IfSome, List, ℕ, false, map, true};
+ghost use Rattle.lsm_commands.specs.DirectoryLine.{IsOptionWord};
+ghost use Rattle.lsm_commands.specs.declared.form.Form.{Form};
+ghost use Rattle.lsm_writer.specs.WritingLine.{AsksToWrite, form_option};
+ghost use Rattle.lsm_writer.specs.declared.writing_command.WritingCommand.{WritingCommand};
 
 use crate::writing_command::WritingCommand;
+use lsm_commands::Form;
 use std::convert::AsStr;
 
 /// A command that writes a directory, and the path of that.
@@ -13,28 +17,56 @@ pub struct WritingLine<'a> {
     pub command: WritingCommand<'a>,
 }
 
-/// The command of this name with these words behind the path.
-fn command_in<'a, S: AsStr>(name: &str, words: &'a [S]) -> Option<WritingCommand<'a>>
-    ensures only { (path : List ℕ) → IfSome result (λ c. AsksToWrite c path (name.now ∷ path ∷ map S.text words.now)) }
+/// Whether a word begins with `-`: an option, and no path.
+fn is_option(word: &[u8]) -> bool
+    ensures yes { result ≡ true → IsOptionWord word.now }
+    ensures no { result ≡ false → IsOptionWord word.now → ⊥ }
 {
-    match words {
-        [file] if name == "ingest" => Some(WritingCommand::Ingest(file.as_str())),
-        _ => None,
+    let [first, ..] = word else {
+        return false;
+    };
+    *first == b'-'
+}
+
+/// The form that the words behind a command's paths ask for.
+fn form_in<S: AsStr>(words: &[S]) -> Option<Form>
+    ensures some { IfSome result (λ form. map S.text words.now ≡ form_option form) }
+    ensures none { IfNone result ((form : Form) → map S.text words.now ≡ form_option form → ⊥) }
+{
+    let [word, rest @ ..] = words else {
+        return Some(Form::Hex);
+    };
+    if word.as_str() != "--text" {
+        return None;
     }
+    if !rest.is_empty() {
+        return None;
+    }
+    Some(Form::Text)
 }
 
 /// What words ask of a directory that is written; none where they ask for something else, or are not of the form.
 pub fn writing_asked<'a, S: AsStr>(words: &'a [S]) -> Option<WritingLine<'a>>
-    ensures only { IfSome result (λ l. AsksToWrite l.command l.path.now (map S.text words.now)) }
+    ensures some { IfSome result (λ l. AsksToWrite l.command l.path.now (map S.text words.now)) }
+    ensures none { IfNone result ((c : WritingCommand) (path : List ℕ) → AsksToWrite c path (map S.text words.now) → ⊥) }
 {
-    let [name, path, rest @ ..] = words else {
+    let [name, path, file, rest @ ..] = words else {
         return None;
     };
-    let path = path.as_str();
-    // An option stands here only where help is asked for.
-    if path.starts_with('-') {
+    if name.as_str() != "ingest" {
         return None;
     }
-    let command = command_in(name.as_str(), rest)?;
-    Some(WritingLine { path, command })
+    let path = path.as_str();
+    if is_option(path.as_bytes()) {
+        return None;
+    }
+    let file = file.as_str();
+    if is_option(file.as_bytes()) {
+        return None;
+    }
+    let form = form_in(rest)?;
+    Some(WritingLine {
+        path,
+        command: WritingCommand::Ingest(file, form),
+    })
 }

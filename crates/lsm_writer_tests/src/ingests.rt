@@ -1,6 +1,7 @@
 //! Batches that come in, and that stay out.
 
 use crate::runs::{expect_done, expect_refused, ingest_text};
+use lsm_commands::Form;
 use lsm_shelf::{MemoryShelf, Shelf};
 use lsm_writer::{ingest, read_batch};
 use std::io::{self, ErrorKind, Write};
@@ -60,7 +61,7 @@ impl Write for Broken {
 #[test]
 fn a_failed_write_is_told(rt: HostRuntime) -> Result<(), Fail> {
     let mut shelf = MemoryShelf::new(rt.alloc())?;
-    let Ok(batch) = read_batch(rt.alloc(), &mut b"61=31".as_slice()) else {
+    let Ok(batch) = read_batch(rt.alloc(), Form::Hex, &mut b"61=31".as_slice()) else {
         return Err(Fail::new("a bad line"));
     };
     let mut err = Vec::new(rt.alloc());

@@ -9,3 +9,5 @@ mod ingests;
 mod lines;
 #[cfg(test)]
 mod runs;
+#[cfg(test)]
+mod system;

@@ -1,5 +1,6 @@
 //! Runs of the commands.
 
+use lsm_commands::Form;
 use lsm_table::Shelf;
 use lsm_writer::{ingest, read_batch};
 use std::alloc::Global;
@@ -24,7 +25,7 @@ pub(crate) fn ingest_text<S: Shelf, R: Wait>(
     text: &str,
 ) -> Result<Answer, Fail> {
     let mut input = text.as_bytes();
-    let Ok(batch) = read_batch(alloc, &mut input) else {
+    let Ok(batch) = read_batch(alloc, Form::Hex, &mut input) else {
         return Err(Fail::new("a bad line"));
     };
     let mut out = Vec::new(alloc);
