@@ -5,7 +5,10 @@ use crate::runs::expect;
 use lsm_commands::DirectoryCommand;
 use lsm_directory::{FolderFile, Request, log_files};
 use lsm_folder::{FolderCalls, MemoryFolder};
+use lsm_shelf::MemoryShelf;
 use std::alloc::{AllocError, Global};
+use std::process::Abort;
+use std::sync::Wait;
 use std::test::Fail;
 
 /// What a check prints of a directory without tables, up to the logs.
@@ -15,10 +18,32 @@ const COUNTED: &str =
 /// An edit that only gives log number 7 and previous log number 4.
 const LOGS_SEVEN_AND_FOUR: &[u8] = b"\x02\x07\x09\x04";
 
-/// A file of a folder.
-fn file(alloc: Global, name: &str, size: u64) -> Result<FolderFile, AllocError> {
-    let name = String::from_str(alloc, name)?;
-    Ok(FolderFile { name, size })
+/// Files of a folder, by name and size.
+fn files_of(alloc: Global, files: &[(&str, u64)]) -> Result<Vec<FolderFile>, AllocError> {
+    let mut named = Vec::new(alloc);
+    for &(name, size) in files {
+        let name = String::from_str(alloc, name)?;
+        named.push(FolderFile { name, size })?;
+    }
+    Ok(named)
+}
+
+/// What a check beside these files prints behind what it counts.
+fn names<R: Wait + Abort>(
+    rt: &R,
+    alloc: Global,
+    shelf: &mut MemoryShelf,
+    files: &[(&str, u64)],
+    want: &str,
+) -> Result<(), Fail> {
+    let files = files_of(alloc, files)?;
+    let want = format!(in alloc; "{COUNTED}{want}")?;
+    let request = Request {
+        command: &DirectoryCommand::Check,
+        files: &files,
+        progress: false,
+    };
+    expect(rt, alloc, shelf, &request, (0, want.as_str(), ""))
 }
 
 #[test]
@@ -26,43 +51,28 @@ fn names_logs_that_are_not_read(rt: HostRuntime) -> Result<(), Fail> {
     let alloc = rt.alloc();
     let manifest = manifest_of(alloc, LOGS_SEVEN_AND_FOUR)?;
     let mut shelf = shelf_of(&rt, alloc, &manifest, &[])?;
-    let files = [
-        file(alloc, "000003.log", 30)?,
-        file(alloc, "000004.log", 40)?,
-        file(alloc, "000005.log", 50)?,
-        file(alloc, "000007.log", 1234)?,
-        file(alloc, "000008.log", 0)?,
-        file(alloc, "1000000.log", 1)?,
-        file(alloc, "+9.log", 1)?,
-        file(alloc, ".log", 1)?,
-        file(alloc, "000007.ldb", 1)?,
-        file(alloc, "LOG", 1)?,
-        file(alloc, "a000007.log", 1)?,
-        file(alloc, "000007.log.old", 1)?,
-        file(alloc, "18446744073709551616.log", 1)?,
-        file(alloc, "18446744073709551615.log", 1)?,
-    ];
-    let want = format!(in alloc; "{COUNTED}log 000004.log 40\nlog 000007.log 1234\nlog 1000000.log 1\nlog 18446744073709551615.log 1\n")?;
-    let request = Request {
-        command: &DirectoryCommand::Check,
-        files: &files,
-        progress: false,
-    };
-    expect(&rt, alloc, &mut shelf, &request, (0, want.as_str(), ""))
+    let files = [("000003.log", 30), ("000004.log", 40), ("000005.log", 50)];
+    names(&rt, alloc, &mut shelf, &files, "log 000004.log 40\n")?;
+    let files = [("000007.log", 1234), ("000008.log", 0), ("000009.log", 1)];
+    let want = "log 000007.log 1234\nlog 000009.log 1\n";
+    names(&rt, alloc, &mut shelf, &files, want)
 }
 
 #[test]
-fn no_log_is_below_zero(rt: HostRuntime) -> Result<(), Fail> {
+fn other_names_are_no_logs(rt: HostRuntime) -> Result<(), Fail> {
     let alloc = rt.alloc();
     let mut shelf = shelf_of(&rt, alloc, FIRST.as_slice(), &[])?;
-    let files = [file(alloc, "000000.log", 2)?];
-    let want = format!(in alloc; "{COUNTED}log 000000.log 2\n")?;
-    let request = Request {
-        command: &DirectoryCommand::Check,
-        files: &files,
-        progress: false,
-    };
-    expect(&rt, alloc, &mut shelf, &request, (0, want.as_str(), ""))
+    let files = [("+9.log", 1), (".log", 1), ("000007.ldb", 1), ("LOG", 1)];
+    names(&rt, alloc, &mut shelf, &files, "")?;
+    let files = [
+        ("a7.log", 1),
+        ("7.log.old", 1),
+        ("18446744073709551616.log", 1),
+    ];
+    names(&rt, alloc, &mut shelf, &files, "")?;
+    let files = [("000000.log", 2), ("18446744073709551615.log", 1)];
+    let want = "log 000000.log 2\nlog 18446744073709551615.log 1\n";
+    names(&rt, alloc, &mut shelf, &files, want)
 }
 
 #[test]
