@@ -3,12 +3,14 @@ use Rattle.std.proofs.Common.{◌≡◌, ◌≢◌, ℕ, ◌+◌, ◌-◌, ◌<�
 use Rattle.std.specs.Prelude.{Result, Ok, Err, MatchBool, codes, string_bytes}
 use Rattle.std.specs.Char.{digit_value}
 use Rattle.std.specs.Io.KnownBytes.{Appends}
+use Rattle.std.specs.List.{flat_map}
 use Rattle.std.specs.Str.Parse.{AllDigits, IsNumeral, ParsesUnsigned, digits_value}
 use Rattle.std.proofs.lemmas.Grind.{flat_map-append}
 use Rattle.std.proofs.lemmas.List.{append_cancel_right, take_all, take_more}
 use Rattle.std.proofs.lemmas.Str.Parse.{IsNumeralModel, numerals_by_value, tells_digits, parse_gives, parse_plain}
 use Rattle.lsm_version.specs.Versions.{Levels}
 use Rattle.lsm_commands.specs.declared.directory_command.DirectoryCommand.TheVariants.{Check}
+use Rattle.lsm_commands.specs.declared.form.Form.{Form}
 use Rattle.lsm_directory.specs.Answers.{Prints}
 use Rattle.lsm_directory.specs.Listing.{check_text}
 use Rattle.lsm_directory.specs.Logs.{AppendsLogs, AreThose, IsChecked, IsLogName, IsReached, IsUnread, log_line, log_lines}
@@ -126,7 +128,7 @@ pub checked_logs : (v : Levels) (rest log prev : ℕ) (files : List FolderFile) 
     → IsChecked v rest log prev files new
 checked_logs v rest log prev files mid new is h = subst (λ (t : List ℕ). AppendsLogs log prev files t new) is h
 
-pub checked_printed : {T : Type 0} (r : Result T DirectoryFault) (v : Levels) (rest log prev : ℕ) (files : List FolderFile) (text : List ℕ) (old new : Option (List ℕ))
-    → IsChecked v rest log prev files text → OnOk r (Appends old new text) → OnOk r (Prints Check v rest log prev files old new)
-checked_printed (Ok x) v rest log prev files text old new h w = (text, h, w)
-checked_printed (Err e) v rest log prev files text old new h w = search
+pub checked_printed : {T : Type 0} (r : Result T DirectoryFault) (form : Form) (v : Levels) (rest log prev : ℕ) (files : List FolderFile) (text : List ℕ) (old new : Option (List ℕ))
+    → IsChecked v rest log prev files text → OnOk r (Appends old new text) → OnOk r (Prints form Check v rest log prev files old new)
+checked_printed (Ok x) form v rest log prev files text old new h w = (text, h, w)
+checked_printed (Err e) form v rest log prev files text old new h w = search

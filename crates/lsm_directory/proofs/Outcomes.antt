@@ -1,5 +1,5 @@
 -- What a command answers, by what opening the directory and asking it answer.
-use Rattle.std.proofs.Common.{◌≢◌, ℕ, List, Option, IfErr, OnOk, ◌≡◌, ◌++◌, [], ◌∷◌, inl, inr, sym, subst, append_assoc}
+use Rattle.std.proofs.Common.{◌≢◌, ℕ, List, Option, IfErr, OnOk, ◌≡◌, ◌++◌, [], ◌∷◌, Bool, true, false, inl, inr, refl, sym, subst, append_assoc}
 use Rattle.std.specs.Prelude.{Result, Ok, Err, Some, None, IfSome, codes}
 use Rattle.std.specs.Io.KnownBytes.{Appends, Keeps}
 use Rattle.std.proofs.KnownBytes.{Appends-kept, Appends-trans, Keeps-refl}
@@ -26,6 +26,7 @@ use Rattle.std.specs.Option.{option_map}
 use Rattle.lsm_shelf.specs.FileNames.{padded, table_name}
 use Rattle.lsm_directory.specs.DirectoryFault.{line_of}
 use Rattle.lsm_directory.specs.Answers.{IsDone, IsFault, IsRefused, Leaves, Prints, PrintsBefore}
+use Rattle.lsm_commands.specs.declared.form.Form.{Form}
 use Rattle.lsm_directory.specs.Directory.{Holds, OnlyReads}
 use Rattle.lsm_directory.specs.Opening.{IsOpenRefusal}
 use Rattle.lsm_directory.specs.ReadFault.{IsAnswerFault}
@@ -103,10 +104,10 @@ fault_later Stored Honest was mid is v rest log prev (Tables fault) b h f = absu
 fault_later Stored Honest was mid is v rest log prev (Read fault) b h f =
     (v, (rest, log, prev, holds_later Honest was mid is v rest log prev b h), f.0, read_counted_from Honest fault was mid is v rest log prev h f.1)
 
-pub is_done : {T : Type 0} (r : Result T DirectoryFault) (command : DirectoryCommand) (others : List FolderFile) (Honest : Type 0) (was mid is : Told) (v : Levels) (rest log prev : ℕ) (old new : Option (List ℕ))
-    → Becomes mid is → Holds Honest was mid v rest log prev → (Honest → OnOk r (Prints command v rest log prev others old new)) → OnOk r (IsDone command others Honest was is old new)
-is_done (Ok x) command others Honest was mid is v rest log prev old new b h w = (v, rest, log, prev, holds_later Honest was mid is v rest log prev b h, w)
-is_done (Err e) command others Honest was mid is v rest log prev old new b h w = search
+pub is_done : {T : Type 0} (r : Result T DirectoryFault) (form : Form) (command : DirectoryCommand) (others : List FolderFile) (Honest : Type 0) (was mid is : Told) (v : Levels) (rest log prev : ℕ) (old new : Option (List ℕ))
+    → Becomes mid is → Holds Honest was mid v rest log prev → (Honest → OnOk r (Prints form command v rest log prev others old new)) → OnOk r (IsDone form command others Honest was is old new)
+is_done (Ok x) form command others Honest was mid is v rest log prev old new b h w = (v, rest, log, prev, holds_later Honest was mid is v rest log prev b h, w)
+is_done (Err e) form command others Honest was mid is v rest log prev old new b h w = search
 
 pub is_fault : {T : Type 0} (r : Result T DirectoryFault) (Stored : ℕ → List ℕ → Type 0) (Honest : Type 0) (was mid is : Told) (v : Levels) (rest log prev : ℕ)
     → Becomes mid is → Holds Honest was mid v rest log prev → IfErr r (λ e. IsAnswerFault Honest e mid is) → IfErr r (λ e. IsFault Stored Honest e was is)
@@ -114,33 +115,33 @@ is_fault (Ok x) Stored Honest was mid is v rest log prev b h f = search
 is_fault (Err e) Stored Honest was mid is v rest log prev b h f = fault_later Stored Honest was mid is v rest log prev e b h f
 
 -- where nothing was written, a refusal to open leaves what it may
-pub keeps_leaves : (command : DirectoryCommand) (Honest : Type 0) (Stored : ℕ → List ℕ → Type 0) (fault : DirectoryFault) (was is : Told) (old : Option (List ℕ))
-    → IsOpenRefusal Stored Honest fault was is → Leaves command Honest fault was is old old
-keeps_leaves command Honest Stored OutOfMemory was is old f = absurd f
-keeps_leaves command Honest Stored Write was is old f = absurd f
-keeps_leaves command Honest Stored (Manifest fault) was is old f = Keeps-refl old
-keeps_leaves command Honest Stored (Tables fault) was is old f = Keeps-refl old
-keeps_leaves command Honest Stored (Read fault) was is old f = absurd f
+pub keeps_leaves : (form : Form) (command : DirectoryCommand) (Honest : Type 0) (Stored : ℕ → List ℕ → Type 0) (fault : DirectoryFault) (was is : Told) (old : Option (List ℕ))
+    → IsOpenRefusal Stored Honest fault was is → Leaves form command Honest fault was is old old
+keeps_leaves form command Honest Stored OutOfMemory was is old f = absurd f
+keeps_leaves form command Honest Stored Write was is old f = absurd f
+keeps_leaves form command Honest Stored (Manifest fault) was is old f = Keeps-refl old
+keeps_leaves form command Honest Stored (Tables fault) was is old f = Keeps-refl old
+keeps_leaves form command Honest Stored (Read fault) was is old f = absurd f
 
-leaves_later : (command : DirectoryCommand) (Honest : Type 0) (fault : DirectoryFault) (was mid is : Told) (v : Levels) (rest log prev : ℕ) (old new : Option (List ℕ))
-    → Becomes mid is → Holds Honest was mid v rest log prev → IsAnswerFault Honest fault mid is → (fault ≢ Write → PrintsBefore command Honest v old new)
-    → Leaves command Honest fault was is old new
-leaves_later command Honest OutOfMemory was mid is v rest log prev old new b h f p = inr (v, (rest, log, prev, holds_later Honest was mid is v rest log prev b h), p (λ e. cc))
-leaves_later command Honest Write was mid is v rest log prev old new b h f p = tt
-leaves_later command Honest (Manifest fault) was mid is v rest log prev old new b h f p = absurd f
-leaves_later command Honest (Tables fault) was mid is v rest log prev old new b h f p = absurd f
-leaves_later command Honest (Read fault) was mid is v rest log prev old new b h f p = (v, (rest, log, prev, holds_later Honest was mid is v rest log prev b h), p (λ e. cc))
+leaves_later : (form : Form) (command : DirectoryCommand) (Honest : Type 0) (fault : DirectoryFault) (was mid is : Told) (v : Levels) (rest log prev : ℕ) (old new : Option (List ℕ))
+    → Becomes mid is → Holds Honest was mid v rest log prev → IsAnswerFault Honest fault mid is → (fault ≢ Write → PrintsBefore form command Honest v old new)
+    → Leaves form command Honest fault was is old new
+leaves_later form command Honest OutOfMemory was mid is v rest log prev old new b h f p = inr (v, (rest, log, prev, holds_later Honest was mid is v rest log prev b h), p (λ e. cc))
+leaves_later form command Honest Write was mid is v rest log prev old new b h f p = tt
+leaves_later form command Honest (Manifest fault) was mid is v rest log prev old new b h f p = absurd f
+leaves_later form command Honest (Tables fault) was mid is v rest log prev old new b h f p = absurd f
+leaves_later form command Honest (Read fault) was mid is v rest log prev old new b h f p = (v, (rest, log, prev, holds_later Honest was mid is v rest log prev b h), p (λ e. cc))
 
-pub is_left : {T : Type 0} (r : Result T DirectoryFault) (command : DirectoryCommand) (Honest : Type 0) (was mid is : Told) (v : Levels) (rest log prev : ℕ) (old new : Option (List ℕ))
-    → Becomes mid is → Holds Honest was mid v rest log prev → IfErr r (λ e. IsAnswerFault Honest e mid is) → IfErr r (λ e. e ≢ Write → PrintsBefore command Honest v old new)
-    → IfErr r (λ e. Leaves command Honest e was is old new)
-is_left (Ok x) command Honest was mid is v rest log prev old new b h f p = search
-is_left (Err e) command Honest was mid is v rest log prev old new b h f p = leaves_later command Honest e was mid is v rest log prev old new b h f p
+pub is_left : {T : Type 0} (r : Result T DirectoryFault) (form : Form) (command : DirectoryCommand) (Honest : Type 0) (was mid is : Told) (v : Levels) (rest log prev : ℕ) (old new : Option (List ℕ))
+    → Becomes mid is → Holds Honest was mid v rest log prev → IfErr r (λ e. IsAnswerFault Honest e mid is) → IfErr r (λ e. e ≢ Write → PrintsBefore form command Honest v old new)
+    → IfErr r (λ e. Leaves form command Honest e was is old new)
+is_left (Ok x) form command Honest was mid is v rest log prev old new b h f p = search
+is_left (Err e) form command Honest was mid is v rest log prev old new b h f p = leaves_later form command Honest e was mid is v rest log prev old new b h f p
 
-pub is_refused : {T : Type 0} (r : Result T DirectoryFault) (command : DirectoryCommand) (Stored : ℕ → List ℕ → Type 0) (Honest : Type 0) (was is : Told) (old new : Option (List ℕ))
-    → IfErr r (λ e. IsFault Stored Honest e was is) → IfErr r (λ e. Leaves command Honest e was is old new) → IfErr r (λ e. IsRefused command e Stored Honest was is old new)
-is_refused (Ok x) command Stored Honest was is old new f k = search
-is_refused (Err e) command Stored Honest was is old new f k = record { says = f; left = k }
+pub is_refused : {T : Type 0} (r : Result T DirectoryFault) (form : Form) (command : DirectoryCommand) (Stored : ℕ → List ℕ → Type 0) (Honest : Type 0) (was is : Told) (old new : Option (List ℕ))
+    → IfErr r (λ e. IsFault Stored Honest e was is) → IfErr r (λ e. Leaves form command Honest e was is old new) → IfErr r (λ e. IsRefused form command e Stored Honest was is old new)
+is_refused (Ok x) form command Stored Honest was is old new f k = search
+is_refused (Err e) form command Stored Honest was is old new f k = record { says = f; left = k }
 
 -- a line that stands, after a flush
 pub told_kept : (line : Option (List ℕ)) (a b c : Option (List ℕ)) → IfSome line (λ l. Appends a b l) → Keeps b c → IfSome line (λ l. Appends a c l)
@@ -148,12 +149,12 @@ told_kept None a b c told kept = tt
 told_kept (Some l) a b c told kept = Appends-kept a b c l told kept
 
 -- memory ran out before anything was written
-pub memory_leaves : (command : DirectoryCommand) (Honest : Type 0) (was is : Told) (old : Option (List ℕ)) → Leaves command Honest OutOfMemory was is old old
-memory_leaves command Honest was is old = inl (Keeps-refl old)
+pub memory_leaves : (form : Form) (command : DirectoryCommand) (Honest : Type 0) (was is : Told) (old : Option (List ℕ)) → Leaves form command Honest OutOfMemory was is old old
+memory_leaves form command Honest was is old = inl (Keeps-refl old)
 
-pub memory_refused : (command : DirectoryCommand) (Stored : ℕ → List ℕ → Type 0) (Honest : Type 0) (was is : Told) (old : Option (List ℕ))
-    → IsRefused command OutOfMemory Stored Honest was is old old
-memory_refused command Stored Honest was is old = record { says = tt; left = inl (Keeps-refl old) }
+pub memory_refused : (form : Form) (command : DirectoryCommand) (Stored : ℕ → List ℕ → Type 0) (Honest : Type 0) (was is : Told) (old : Option (List ℕ))
+    → IsRefused form command OutOfMemory Stored Honest was is old old
+memory_refused form command Stored Honest was is old = record { says = tt; left = inl (Keeps-refl old) }
 
 -- a text, and what ends its line
 pub told_joined : {T E : Type 0} (r : Result T E) (text : Option (List ℕ)) (a b c : Option (List ℕ)) (end : List ℕ) → IfSome text (λ t. Appends a b t) → OnOk r (Appends b c end)

@@ -8,6 +8,7 @@ use Rattle.lsm_levels.specs.Files.{all_entries}
 use Rattle.lsm_version.specs.Versions.{Levels, files}
 use Rattle.lsm_commands.specs.declared.directory_command.DirectoryCommand.{DirectoryCommand}
 use Rattle.lsm_commands.specs.declared.directory_command.DirectoryCommand.TheVariants.{Check, List as ListFiles, Get, Scan}
+use Rattle.lsm_commands.specs.declared.form.Form.{Form}
 use Rattle.lsm_directory.specs.Directory.{Holds}
 use Rattle.lsm_directory.specs.Listing.{answer_text, list_text}
 use Rattle.lsm_directory.specs.Logs.{IsChecked}
@@ -19,16 +20,16 @@ use Rattle.lsm_directory.specs.declared.directory_fault.DirectoryFault.TheVarian
 
 -- what a command writes for a version, for a manifest with so many bytes at its end that hold no whole record and with these log numbers,
 -- and for the files beside it
-abbrev pub Prints : DirectoryCommand → Levels → (rest log prev : ℕ) → List FolderFile → Option (List ℕ) → Option (List ℕ) → Type 0
-Prints Check v rest log prev others old new = (text : List ℕ) × IsChecked v rest log prev others text × Appends old new text
-Prints ListFiles v rest log prev others old new = Appends old new (list_text v)
-Prints (Get key) v rest log prev others old new = Appends old new (answer_text (answer (all_entries (files v)) key v.last))
-Prints (Scan bounds) v rest log prev others old new = PrintsScan bounds v old new
+abbrev pub Prints : Form → DirectoryCommand → Levels → (rest log prev : ℕ) → List FolderFile → Option (List ℕ) → Option (List ℕ) → Type 0
+Prints form Check v rest log prev others old new = (text : List ℕ) × IsChecked v rest log prev others text × Appends old new text
+Prints form ListFiles v rest log prev others old new = Appends old new (list_text form v)
+Prints form (Get key) v rest log prev others old new = Appends old new (answer_text form (answer (all_entries (files v)) key v.last))
+Prints form (Scan bounds) v rest log prev others old new = PrintsScan form bounds v old new
 
 -- The shelf's directory holds a version, and over an honest shelf what the command prints of it was written.
-abbrev pub IsDone : DirectoryCommand → List FolderFile → Type 0 → Told → Told → Option (List ℕ) → Option (List ℕ) → Type 0
-IsDone command others Honest was is old new =
-    (v : Levels) × (rest : ℕ) × (log : ℕ) × (prev : ℕ) × Holds Honest was is v rest log prev × (Honest → Prints command v rest log prev others old new)
+abbrev pub IsDone : Form → DirectoryCommand → List FolderFile → Type 0 → Told → Told → Option (List ℕ) → Option (List ℕ) → Type 0
+IsDone form command others Honest was is old new =
+    (v : Levels) × (rest : ℕ) × (log : ℕ) × (prev : ℕ) × Holds Honest was is v rest log prev × (Honest → Prints form command v rest log prev others old new)
 
 -- the directory holds a version
 abbrev pub HoldsVersion : Type 0 → Told → Told → Levels → Type 0
@@ -44,22 +45,22 @@ IsFault Stored Honest (Tables fault) was is = IsOpenRefusal Stored Honest (Table
 IsFault Stored Honest (Read fault) was is = (v : Levels) × HoldsVersion Honest was is v × (Honest → IsMemoryOrShelf fault) × ReadCounted fault was is
 
 -- What is written of a version before a fault that is no failed write: nothing, or, by a scan and over an honest shelf, its first lines.
-abbrev pub PrintsBefore : DirectoryCommand → Type 0 → Levels → Option (List ℕ) → Option (List ℕ) → Type 0
-PrintsBefore Check Honest v old new = Keeps old new
-PrintsBefore ListFiles Honest v old new = Keeps old new
-PrintsBefore (Get key) Honest v old new = Keeps old new
-PrintsBefore (Scan bounds) Honest v old new = LeavesScan bounds Honest v old new
+abbrev pub PrintsBefore : Form → DirectoryCommand → Type 0 → Levels → Option (List ℕ) → Option (List ℕ) → Type 0
+PrintsBefore form Check Honest v old new = Keeps old new
+PrintsBefore form ListFiles Honest v old new = Keeps old new
+PrintsBefore form (Get key) Honest v old new = Keeps old new
+PrintsBefore form (Scan bounds) Honest v old new = LeavesScan form bounds Honest v old new
 
 -- What a fault leaves on standard output: nothing where the directory could not be opened.
-abbrev pub Leaves : DirectoryCommand → Type 0 → DirectoryFault → Told → Told → Option (List ℕ) → Option (List ℕ) → Type 0
-Leaves command Honest OutOfMemory was is old new =
-    Keeps old new ⊎ ((v : Levels) × HoldsVersion Honest was is v × PrintsBefore command Honest v old new)
-Leaves command Honest Write was is old new = ⊤
-Leaves command Honest (Manifest fault) was is old new = Keeps old new
-Leaves command Honest (Tables fault) was is old new = Keeps old new
-Leaves command Honest (Read fault) was is old new = (v : Levels) × HoldsVersion Honest was is v × PrintsBefore command Honest v old new
+abbrev pub Leaves : Form → DirectoryCommand → Type 0 → DirectoryFault → Told → Told → Option (List ℕ) → Option (List ℕ) → Type 0
+Leaves form command Honest OutOfMemory was is old new =
+    Keeps old new ⊎ ((v : Levels) × HoldsVersion Honest was is v × PrintsBefore form command Honest v old new)
+Leaves form command Honest Write was is old new = ⊤
+Leaves form command Honest (Manifest fault) was is old new = Keeps old new
+Leaves form command Honest (Tables fault) was is old new = Keeps old new
+Leaves form command Honest (Read fault) was is old new = (v : Levels) × HoldsVersion Honest was is v × PrintsBefore form command Honest v old new
 
 -- What a refusal is: what the fault says of the directory, and what it leaves on standard output.
-pub record IsRefused (command : DirectoryCommand) (fault : DirectoryFault) (Stored : ℕ → List ℕ → Type 0) (Honest : Type 0) (was is : Told) (old new : Option (List ℕ)) : Type 0 where
+pub record IsRefused (form : Form) (command : DirectoryCommand) (fault : DirectoryFault) (Stored : ℕ → List ℕ → Type 0) (Honest : Type 0) (was is : Told) (old new : Option (List ℕ)) : Type 0 where
   pub says : IsFault Stored Honest fault was is
-  pub left : Leaves command Honest fault was is old new
+  pub left : Leaves form command Honest fault was is old new

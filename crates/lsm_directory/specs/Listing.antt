@@ -1,11 +1,12 @@
--- What is printed of a version and of what it answers: this project's rule. Keys and values are hex, `.` for no bytes.
+-- What is printed of a version and of what it answers: this project's rule. Keys and values stand in a form: hex, or text.
 use Rattle.std.specs.Prelude.{ℕ, zero, suc, List, [], ◌∷◌, ◌++◌, length, codes, decimal, Option, Some, None}
 use Rattle.std.specs.List.{flat_map, sum_by}
 use Rattle.lsm_table.specs.HeldTable.{entries_in}
 use Rattle.lsm_table.specs.Registry.{Table, size_of}
 use Rattle.lsm_version.specs.Versions.{Levels, level_in}
-use Rattle.lsm_commands.specs.EntryPrinting.{bytes_word}
-use Rattle.lsm_commands.specs.ManifestPrinting.{key_word, number_line}
+use Rattle.lsm_commands.specs.ManifestPrinting.{key_word_in, number_line}
+use Rattle.lsm_commands.specs.Spelling.{spelled}
+use Rattle.lsm_commands.specs.declared.form.Form.{Form}
 
 -- the texts of the first n levels
 unfoldable pub level_texts : (ℕ → List ℕ) → ℕ → List ℕ
@@ -19,23 +20,23 @@ unfoldable pub number_word : ℕ → List ℕ
 number_word n = decimal n ++ (32 ∷ [])
 
 -- `LEVEL NUMBER SIZE SMALLEST LARGEST`, the last two as `KEY@SEQ+` or `KEY@SEQ-`
-unfoldable pub file_line : ℕ → Table → List ℕ
-file_line level t =
-    number_word level ++ (number_word t.number ++ (number_word (size_of t) ++ (key_word t.smallest ++ (32 ∷ (key_word t.largest ++ (10 ∷ []))))))
+unfoldable pub file_line : Form → ℕ → Table → List ℕ
+file_line form level t =
+    number_word level ++ (number_word t.number ++ (number_word (size_of t) ++ (key_word_in form t.smallest ++ (32 ∷ (key_word_in form t.largest ++ (10 ∷ []))))))
 
-unfoldable pub file_lines : ℕ → List Table → List ℕ
-file_lines level ts = flat_map (file_line level) ts
+unfoldable pub file_lines : Form → ℕ → List Table → List ℕ
+file_lines form level ts = flat_map (file_line form level) ts
 
 -- the files of the levels 0 to 6, each level in its order, and `end`
-unfoldable pub list_text : Levels → List ℕ
-list_text v = level_texts (λ n. file_lines n (level_in v.tables n)) 7 ++ codes "end\n"
+unfoldable pub list_text : Form → Levels → List ℕ
+list_text form v = level_texts (λ n. file_lines form n (level_in v.tables n)) 7 ++ codes "end\n"
 
 -- ---- `get`
 
 -- `value V` or `absent`
-abbrev pub answer_text : Option (List ℕ) → List ℕ
-answer_text None = codes "absent\n"
-answer_text (Some value) = codes "value " ++ (bytes_word value ++ (10 ∷ []))
+abbrev pub answer_text : Form → Option (List ℕ) → List ℕ
+answer_text form None = codes "absent\n"
+answer_text form (Some value) = codes "value " ++ (spelled form value ++ (10 ∷ []))
 
 -- ---- `check`
 

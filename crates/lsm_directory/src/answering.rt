@@ -4,19 +4,23 @@ ghost use Rattle.std.specs.Prelude.{◌≡◌, IfOk};
 ghost use Rattle.std.specs.Option.{option_map};
 ghost use Rattle.lsm_directory.specs.Listing.{answer_text};
 
-use lsm_commands::push_bytes;
+use lsm_commands::Form;
 use std::alloc::{AllocError, Global};
 
 /// The line of an answer: `value V`, or `absent`.
-pub(crate) fn answer_line(alloc: Global, answer: Option<Vec<u8>>) -> Result<Vec<u8>, AllocError>
-    ensures { IfOk result (λ text. text.items ≡ answer_text (option_map (λ v. v.items) answer)) }
+pub(crate) fn answer_line(
+    alloc: Global,
+    form: Form,
+    answer: Option<Vec<u8>>,
+) -> Result<Vec<u8>, AllocError>
+    ensures { IfOk result (λ text. text.items ≡ answer_text form (option_map (λ v. v.items) answer)) }
 {
     let mut text = Vec::new(alloc);
     match answer {
         None => text.extend_from_slice(b"absent\n")?,
         Some(value) => {
             text.extend_from_slice(b"value ")?;
-            push_bytes(&mut text, value.as_slice())?;
+            form.push_bytes(&mut text, value.as_slice())?;
             text.push(b'\n')?;
         }
     }

@@ -24,7 +24,7 @@ use crate::opened::{Opened, open};
 use crate::output::write_output;
 use crate::request::Request;
 use crate::scanning::print_scan;
-use lsm_commands::DirectoryCommand;
+use lsm_commands::{DirectoryCommand, Form};
 use lsm_reader::Direct;
 use lsm_table::{Naming, Registry, Shelf};
 use lsm_version::Version;
@@ -37,15 +37,16 @@ fn answer_of<N: Naming, S: Shelf>(
     shelf: &mut S,
     alloc: Global,
     version: &Version<N, S>,
+    form: Form,
     key: &[u8],
 ) -> Result<Vec<u8>, DirectoryFault>
     requires here { (S.told shelf.old).place ≡ N.place }
-    ensures text { S.honest → IfOk result (λ text. text.items ≡ answer_text (answer (all_entries (files version.now)) key.now version.now.last)) }
+    ensures text { S.honest → IfOk result (λ text. text.items ≡ answer_text form (answer (all_entries (files version.now)) key.now version.now.last)) }
     ensures fault { IfErr result (λ e. IsReadFault S.honest e (S.told shelf.old) (S.told shelf.new)) }
     ensures told { Becomes (S.told shelf.old) (S.told shelf.new) }
 {
     let answer = version.get(shelf, alloc, key, version.last())?;
-    Ok(answer_line(alloc, answer)?)
+    Ok(answer_line(alloc, form, answer)?)
 }
 
 /// What a check prints of a version.
@@ -111,7 +112,7 @@ fn print_check<N: Naming, S: Shelf, O: Write, E: Write>(
 ) -> Result<(), DirectoryFault>
     requires here { (S.told shelf.old).place ≡ N.place }
     requires named { registry.now ≡ N.registry }
-    ensures done { S.honest → OnOk result (Prints Check opened.now.version opened.now.rest opened.now.log opened.now.prev_log request.now.files.now (O.contents out.old) (O.contents out.new)) }
+    ensures done { S.honest → OnOk result (Prints request.now.form Check opened.now.version opened.now.rest opened.now.log opened.now.prev_log request.now.files.now (O.contents out.old) (O.contents out.new)) }
     ensures left { IfErr result (λ e. e ≢ WriteFault → Keeps (O.contents out.old) (O.contents out.new)) }
     ensures fault { IfErr result (λ e. IsAnswerFault S.honest e (S.told shelf.old) (S.told shelf.new)) }
     ensures told { Becomes (S.told shelf.old) (S.told shelf.new) }
@@ -134,8 +135,8 @@ fn perform_on<N: Naming, S: Shelf, O: Write, E: Write>(
 ) -> Result<(), DirectoryFault>
     requires here { (S.told shelf.old).place ≡ N.place }
     requires named { registry.now ≡ N.registry }
-    ensures done { S.honest → OnOk result (Prints request.now.command.now opened.now.version opened.now.rest opened.now.log opened.now.prev_log request.now.files.now (O.contents out.old) (O.contents out.new)) }
-    ensures left { IfErr result (λ e. e ≢ WriteFault → PrintsBefore request.now.command.now S.honest opened.now.version (O.contents out.old) (O.contents out.new)) }
+    ensures done { S.honest → OnOk result (Prints request.now.form request.now.command.now opened.now.version opened.now.rest opened.now.log opened.now.prev_log request.now.files.now (O.contents out.old) (O.contents out.new)) }
+    ensures left { IfErr result (λ e. e ≢ WriteFault → PrintsBefore request.now.form request.now.command.now S.honest opened.now.version (O.contents out.old) (O.contents out.new)) }
     ensures fault { IfErr result (λ e. IsAnswerFault S.honest e (S.told shelf.old) (S.told shelf.new)) }
     ensures told { Becomes (S.told shelf.old) (S.told shelf.new) }
     ensures quiet { IsFalse request.now.progress → Keeps (E.contents err.old) (E.contents err.new) }
@@ -145,10 +146,25 @@ fn perform_on<N: Naming, S: Shelf, O: Write, E: Write>(
         DirectoryCommand::Check => {
             return print_check(shelf, alloc, registry, opened, request, out, err);
         }
-        DirectoryCommand::List => list_files(alloc, registry, version)?,
-        DirectoryCommand::Get(key) => answer_of(shelf, alloc, version, key.as_slice())?,
+        DirectoryCommand::List => list_files(alloc, request.form, registry, version)?,
+        DirectoryCommand::Get(key) => answer_of(
+            shelf,
+            alloc,
+            version,
+            request.form,
+            key.as_slice(),
+        )?,
         DirectoryCommand::Scan(bounds) => {
-            return print_scan(shelf, alloc, version, bounds, request.progress, out, err);
+            return print_scan(
+                shelf,
+                alloc,
+                version,
+                request.form,
+                bounds,
+                request.progress,
+                out,
+                err,
+            );
         }
     };
     write_output(out, text.as_slice())
@@ -167,9 +183,9 @@ pub(crate) fn perform<N: Naming, S: Shelf, R: Wait, O: Write, E: Write>(
 ) -> Result<(), DirectoryFault>
     requires here { (S.told shelf.old).place ≡ N.place }
     requires named { arc_value registry ≡ N.registry }
-    ensures done { OnOk result (IsDone request.now.command.now request.now.files.now S.honest (S.told shelf.old) (S.told shelf.new) (O.contents out.old) (O.contents out.new)) }
+    ensures done { OnOk result (IsDone request.now.form request.now.command.now request.now.files.now S.honest (S.told shelf.old) (S.told shelf.new) (O.contents out.old) (O.contents out.new)) }
     ensures fault { IfErr result (λ e. IsFault (λ number image. (r : S.Receipt) × S.is_of N.place r × (S.Receipt.number r ≡ number) × (S.Receipt.image r ≡ image)) S.honest e (S.told shelf.old) (S.told shelf.new)) }
-    ensures left { IfErr result (λ e. Leaves request.now.command.now S.honest e (S.told shelf.old) (S.told shelf.new) (O.contents out.old) (O.contents out.new)) }
+    ensures left { IfErr result (λ e. Leaves request.now.form request.now.command.now S.honest e (S.told shelf.old) (S.told shelf.new) (O.contents out.old) (O.contents out.new)) }
     ensures reads { OnlyReads (S.told shelf.old) (S.told shelf.new) }
     ensures quiet { IsFalse request.now.progress → Keeps (E.contents err.old) (E.contents err.new) }
 {

@@ -3,7 +3,7 @@
 ghost use Rattle.std.specs.Prelude.{◌≡◌, ◌≤◌, ◌++◌, IfOk, OnOk};
 ghost use Rattle.lsm_directory.specs.Listing.{file_line, file_lines, list_text, number_word};
 
-use lsm_commands::{push_decimal, push_key};
+use lsm_commands::{Form, push_decimal};
 use lsm_table::{Naming, Registry, Shelf, TableRef};
 use lsm_version::Version;
 use std::alloc::{AllocError, Global};
@@ -22,20 +22,21 @@ fn push_word(out: &mut Vec<u8>, number: u64) -> Result<(), AllocError>
 #[tactic(auto, unfolding(crate::specs::Listing::file_line))]
 fn push_file<N: Naming, S: Shelf>(
     out: &mut Vec<u8>,
+    form: Form,
     registry: &Registry<S::Receipt>,
     level: usize,
     table: &TableRef<N, S>,
 ) -> Result<(), AllocError>
     requires named { registry.now ≡ N.registry }
-    ensures { OnOk result (out.new.items ≡ out.old.items ++ file_line level table.now) }
+    ensures { OnOk result (out.new.items ≡ out.old.items ++ file_line form level table.now) }
 {
     let record = registry.record(table);
     push_word(out, level as u64)?;
     push_word(out, record.number())?;
     push_word(out, record.size())?;
-    push_key(out, record.smallest.as_slice())?;
+    form.push_key(out, record.smallest.as_slice())?;
     out.push(b' ')?;
-    push_key(out, record.largest.as_slice())?;
+    form.push_key(out, record.largest.as_slice())?;
     out.push(b'\n')?;
     Ok(())
 }
@@ -44,15 +45,16 @@ fn push_file<N: Naming, S: Shelf>(
 #[tactic(auto, unfolding(crate::specs::Listing::file_lines), using(crate::proofs::ListLaws::line_more, crate::proofs::ListLaws::lines_all))]
 fn push_files<N: Naming, S: Shelf>(
     out: &mut Vec<u8>,
+    form: Form,
     registry: &Registry<S::Receipt>,
     level: usize,
     tables: &[TableRef<N, S>],
 ) -> Result<(), AllocError>
     requires named { registry.now ≡ N.registry }
-    ensures { OnOk result (out.new.items ≡ out.old.items ++ file_lines level tables.now) }
+    ensures { OnOk result (out.new.items ≡ out.old.items ++ file_lines form level tables.now) }
 {
     for table in tables {
-        push_file(out, registry, level, table)?;
+        push_file(out, form, registry, level, table)?;
     }
     Ok(())
 }
@@ -61,15 +63,16 @@ fn push_files<N: Naming, S: Shelf>(
 #[tactic(auto, unfolding(crate::specs::Listing::list_text), using(crate::proofs::ListLaws::level_more, crate::proofs::ListLaws::levels_none))]
 pub(crate) fn list_files<N: Naming, S: Shelf>(
     alloc: Global,
+    form: Form,
     registry: &Registry<S::Receipt>,
     version: &Version<N, S>,
 ) -> Result<Vec<u8>, AllocError>
     requires named { registry.now ≡ N.registry }
-    ensures { IfOk result (λ text. text.items ≡ list_text version.now) }
+    ensures { IfOk result (λ text. text.items ≡ list_text form version.now) }
 {
     let mut text = Vec::new(alloc);
     for level in 0..7 {
-        push_files(&mut text, registry, level, version.level(level))?;
+        push_files(&mut text, form, registry, level, version.level(level))?;
     }
     text.extend_from_slice(b"end\n")?;
     Ok(text)

@@ -1,13 +1,14 @@
 //! What is asked of a directory, with all that an answer needs beside it.
 
 use crate::folder_file::FolderFile;
-use lsm_commands::DirectoryCommand;
+use lsm_commands::{DirectoryCommand, Form};
 
-/// What is asked of a directory: the command; the files beside its tables, as `log_files` gives them, at which only `check` looks, for
+/// What is asked of a directory: the command; the form of keys and values; the files beside its tables, as `log_files` gives them, at which only `check` looks, for
 /// logs; and whether `check` and `scan` are to say on standard error how far they are.
 #[derive(Clone, Copy, Debug)]
 pub struct Request<'a> {
     pub command: &'a DirectoryCommand,
+    pub form: Form,
     pub files: &'a [FolderFile],
     pub progress: bool,
 }

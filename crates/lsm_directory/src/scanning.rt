@@ -11,7 +11,7 @@ ghost use Rattle.lsm_directory.specs.declared.directory_fault.DirectoryFault.The
 use crate::directory_fault::DirectoryFault;
 use crate::output::{flush, write_bytes};
 use crate::progress::tell_keys;
-use lsm_commands::{KeyBounds, push_bytes};
+use lsm_commands::{Form, KeyBounds};
 use lsm_reader::{Blocks, Direct};
 use lsm_table::{Naming, Shelf};
 use lsm_version::{Scan, Version};
@@ -20,12 +20,12 @@ use std::io::Write;
 
 /// Appends the line of a pair: `KEY=VALUE`.
 #[tactic(auto, unfolding(crate::specs::Scanned::pair_line))]
-fn push_pair(out: &mut Vec<u8>, user: &[u8], value: &[u8]) -> Result<(), AllocError>
-    ensures { OnOk result (out.new.items ≡ out.old.items ++ pair_line (user.now, value.now)) }
+fn push_pair(out: &mut Vec<u8>, form: Form, user: &[u8], value: &[u8]) -> Result<(), AllocError>
+    ensures { OnOk result (out.new.items ≡ out.old.items ++ pair_line form (user.now, value.now)) }
 {
-    push_bytes(out, user)?;
+    form.push_bytes(out, user)?;
     out.push(b'=')?;
-    push_bytes(out, value)?;
+    form.push_bytes(out, value)?;
     out.push(b'\n')?;
     Ok(())
 }
@@ -33,16 +33,17 @@ fn push_pair(out: &mut Vec<u8>, user: &[u8], value: &[u8]) -> Result<(), AllocEr
 /// Prints the line of a pair. `line` is memory for it.
 fn print_pair<O: Write>(
     line: &mut Vec<u8>,
+    form: Form,
     user: &[u8],
     value: &[u8],
     out: &mut O,
 ) -> Result<(), DirectoryFault>
-    ensures printed { OnOk result (Appends (O.contents out.old) (O.contents out.new) (pair_line (user.now, value.now))) }
+    ensures printed { OnOk result (Appends (O.contents out.old) (O.contents out.new) (pair_line form (user.now, value.now))) }
     ensures left { IfErr result (λ e. e ≢ WriteFault → Keeps (O.contents out.old) (O.contents out.new)) }
     ensures fault { IfErr result IsOutputFault }
 {
     line.clear();
-    push_pair(line, user, value)?;
+    push_pair(line, form, user, value)?;
     write_bytes(out, line.as_slice())
 }
 
@@ -52,13 +53,14 @@ fn print_next<N: Naming, S: Shelf, B: Blocks<S>, O: Write>(
     scan: &mut Scan<N, S>,
     blocks: &mut B,
     alloc: Global,
+    form: Form,
     bounds: &KeyBounds,
     line: &mut Vec<u8>,
     out: &mut O,
 ) -> Result<bool, DirectoryFault>
     requires here { (B.told blocks.old).place ≡ N.place }
     requires ascending { S.honest → UsersAscend scan.old.left }
-    ensures next { S.honest → IfOk result (λ more. PrintsNext more bounds.now scan.old.left scan.new.left (O.contents out.old) (O.contents out.new)) }
+    ensures next { S.honest → IfOk result (λ more. PrintsNext form more bounds.now scan.old.left scan.new.left (O.contents out.old) (O.contents out.new)) }
     ensures left { IfErr result (λ e. e ≢ WriteFault → Keeps (O.contents out.old) (O.contents out.new)) }
     ensures fault { IfErr result (λ e. IsAnswerFault S.honest e (B.told blocks.old) (B.told blocks.new)) }
     ensures told { Becomes (B.told blocks.old) (B.told blocks.new) }
@@ -74,7 +76,7 @@ fn print_next<N: Naming, S: Shelf, B: Blocks<S>, O: Write>(
     if !bounds.is_from(key) {
         return Ok(true);
     }
-    print_pair(line, key, scan.value(), out)?;
+    print_pair(line, form, key, scan.value(), out)?;
     Ok(true)
 }
 
@@ -84,6 +86,7 @@ fn print_pairs<N: Naming, S: Shelf, B: Blocks<S>, O: Write, E: Write>(
     scan: &mut Scan<N, S>,
     blocks: &mut B,
     alloc: Global,
+    form: Form,
     bounds: &KeyBounds,
     progress: bool,
     out: &mut O,
@@ -91,8 +94,8 @@ fn print_pairs<N: Naming, S: Shelf, B: Blocks<S>, O: Write, E: Write>(
 ) -> Result<(), DirectoryFault>
     requires here { (B.told blocks.old).place ≡ N.place }
     requires ascending { S.honest → UsersAscend scan.old.left }
-    ensures done { S.honest → OnOk result (Appends (O.contents out.old) (O.contents out.new) (scan_text bounds.now scan.old.left)) }
-    ensures left { S.honest → IfErr result (λ e. e ≢ WriteFault → BeginsPrinting bounds.now scan.old.left (O.contents out.old) (O.contents out.new)) }
+    ensures done { S.honest → OnOk result (Appends (O.contents out.old) (O.contents out.new) (scan_text form bounds.now scan.old.left)) }
+    ensures left { S.honest → IfErr result (λ e. e ≢ WriteFault → BeginsPrinting form bounds.now scan.old.left (O.contents out.old) (O.contents out.new)) }
     ensures fault { IfErr result (λ e. IsAnswerFault S.honest e (B.told blocks.old) (B.told blocks.new)) }
     ensures told { Becomes (B.told blocks.old) (B.told blocks.new) }
     ensures loan { B.loan blocks.new ≡ B.loan blocks.old }
@@ -100,7 +103,7 @@ fn print_pairs<N: Naming, S: Shelf, B: Blocks<S>, O: Write, E: Write>(
 {
     let mut line = Vec::new(alloc);
     for passed in 0..u64::MAX {
-        if !print_next(scan, blocks, alloc, bounds, &mut line, out)? {
+        if !print_next(scan, blocks, alloc, form, bounds, &mut line, out)? {
             return Ok(());
         }
         tell_keys(err, progress, passed + 1);
@@ -114,6 +117,7 @@ fn print_open<N: Naming, S: Shelf, O: Write, E: Write>(
     shelf: &mut S,
     alloc: Global,
     scan: &mut Scan<N, S>,
+    form: Form,
     bounds: &KeyBounds,
     progress: bool,
     out: &mut O,
@@ -121,14 +125,14 @@ fn print_open<N: Naming, S: Shelf, O: Write, E: Write>(
 ) -> Result<(), DirectoryFault>
     requires here { (S.told shelf.old).place ≡ N.place }
     requires ascending { S.honest → UsersAscend scan.old.left }
-    ensures done { S.honest → OnOk result (Appends (O.contents out.old) (O.contents out.new) (scan_text bounds.now scan.old.left)) }
-    ensures left { S.honest → IfErr result (λ e. e ≢ WriteFault → BeginsPrinting bounds.now scan.old.left (O.contents out.old) (O.contents out.new)) }
+    ensures done { S.honest → OnOk result (Appends (O.contents out.old) (O.contents out.new) (scan_text form bounds.now scan.old.left)) }
+    ensures left { S.honest → IfErr result (λ e. e ≢ WriteFault → BeginsPrinting form bounds.now scan.old.left (O.contents out.old) (O.contents out.new)) }
     ensures fault { IfErr result (λ e. IsAnswerFault S.honest e (S.told shelf.old) (S.told shelf.new)) }
     ensures told { Becomes (S.told shelf.old) (S.told shelf.new) }
     ensures quiet { IsFalse progress → Keeps (E.contents err.old) (E.contents err.new) }
 {
     let mut direct = Direct::new(shelf);
-    let printed = print_pairs(scan, &mut direct, alloc, bounds, progress, out, err);
+    let printed = print_pairs(scan, &mut direct, alloc, form, bounds, progress, out, err);
     let flushed = flush(out);
     printed?;
     flushed
@@ -140,18 +144,19 @@ pub(crate) fn print_scan<N: Naming, S: Shelf, O: Write, E: Write>(
     shelf: &mut S,
     alloc: Global,
     version: &Version<N, S>,
+    form: Form,
     bounds: &KeyBounds,
     progress: bool,
     out: &mut O,
     err: &mut E,
 ) -> Result<(), DirectoryFault>
     requires here { (S.told shelf.old).place ≡ N.place }
-    ensures done { S.honest → OnOk result (PrintsScan bounds.now version.now (O.contents out.old) (O.contents out.new)) }
-    ensures left { IfErr result (λ e. e ≢ WriteFault → LeavesScan bounds.now S.honest version.now (O.contents out.old) (O.contents out.new)) }
+    ensures done { S.honest → OnOk result (PrintsScan form bounds.now version.now (O.contents out.old) (O.contents out.new)) }
+    ensures left { IfErr result (λ e. e ≢ WriteFault → LeavesScan form bounds.now S.honest version.now (O.contents out.old) (O.contents out.new)) }
     ensures fault { IfErr result (λ e. IsAnswerFault S.honest e (S.told shelf.old) (S.told shelf.new)) }
     ensures told { Becomes (S.told shelf.old) (S.told shelf.new) }
     ensures quiet { IsFalse progress → Keeps (E.contents err.old) (E.contents err.new) }
 {
     let mut scan = version.scan(shelf, alloc, version.last())?;
-    print_open(shelf, alloc, &mut scan, bounds, progress, out, err)
+    print_open(shelf, alloc, &mut scan, form, bounds, progress, out, err)
 }

@@ -10,6 +10,8 @@ mod directories;
 #[cfg(test)]
 mod failing;
 #[cfg(test)]
+mod forms;
+#[cfg(test)]
 mod logs;
 #[cfg(test)]
 mod progress;

@@ -2,7 +2,7 @@
 
 use crate::directories::{FIRST, manifest_of, shelf_of};
 use crate::runs::expect;
-use lsm_commands::DirectoryCommand;
+use lsm_commands::{DirectoryCommand, Form};
 use lsm_directory::{FolderFile, Request, log_files};
 use lsm_folder::{FolderCalls, MemoryFolder};
 use lsm_shelf::MemoryShelf;
@@ -40,6 +40,7 @@ fn names<R: Wait + Abort>(
     let want = format!(in alloc; "{COUNTED}{want}")?;
     let request = Request {
         command: &DirectoryCommand::Check,
+        form: Form::Hex,
         files: &files,
         progress: false,
     };

@@ -2,7 +2,7 @@
 
 use crate::directories::wide;
 use crate::runs::{expect, whole_scan};
-use lsm_commands::DirectoryCommand;
+use lsm_commands::{DirectoryCommand, Form};
 use lsm_directory::Request;
 use std::test::Fail;
 
@@ -12,6 +12,7 @@ fn a_check_tells_each_file(rt: HostRuntime) -> Result<(), Fail> {
     let mut shelf = wide(&rt, alloc)?;
     let request = Request {
         command: &DirectoryCommand::Check,
+        form: Form::Hex,
         files: &[],
         progress: true,
     };
@@ -27,6 +28,7 @@ fn a_short_scan_tells_nothing(rt: HostRuntime) -> Result<(), Fail> {
     let mut shelf = wide(&rt, alloc)?;
     let request = Request {
         command: &whole_scan(),
+        form: Form::Hex,
         files: &[],
         progress: true,
     };

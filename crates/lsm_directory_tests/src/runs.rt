@@ -1,7 +1,7 @@
 //! Runs of commands, and what they have to write.
 
 use lsm_codec::Bytes;
-use lsm_commands::{DirectoryCommand, KeyBounds};
+use lsm_commands::{DirectoryCommand, Form, KeyBounds};
 use lsm_directory::{Request, run};
 use lsm_shelf::Shelf;
 use std::alloc::{AllocError, Global};
@@ -31,6 +31,7 @@ pub(crate) fn whole_scan() -> DirectoryCommand {
 pub(crate) fn only(command: &DirectoryCommand) -> Request<'_> {
     Request {
         command,
+        form: Form::Hex,
         files: &[],
         progress: false,
     }

@@ -4,10 +4,10 @@
 //! input and output, the folder, and the exit status.
 #![tactic(auto)]
 
-use lsm_commands::{DirectoryLine, directory_asked, refuse_words, run};
+use lsm_commands::{DirectoryCommand, DirectoryLine, directory_asked, refuse_words, run};
 use lsm_compactor::{CompactLine, compacting_asked};
-use lsm_directory::refuse_shelf;
-use lsm_shelf::FileShelf;
+use lsm_directory::{FolderFile, Request, refuse_shelf, system_log_files};
+use lsm_shelf::{FileShelf, ShelfFault};
 use lsm_writer::{WritingLine, writing_asked};
 use std::env::{self, Env};
 use std::io::{self, BufWriter};
@@ -21,6 +21,18 @@ fn words_of(rt: &(impl Env + AllocGlobal)) -> io::Result<Vec<String>> {
     Ok(words)
 }
 
+/// The logs beside the tables of a folder, where a check asks for them.
+fn logs_beside(
+    waits: &impl Wait,
+    rt: HostRuntime,
+    line: &DirectoryLine<'_>,
+) -> Result<Vec<FolderFile>, ShelfFault> {
+    match line.command {
+        DirectoryCommand::Check => system_log_files(waits, rt, line.path),
+        _ => Ok(Vec::new(rt.alloc())),
+    }
+}
+
 /// Does what words ask of a folder.
 fn ask_folder(waits: &impl Wait, rt: HostRuntime, line: &DirectoryLine<'_>) -> io::Result<u8> {
     let mut err = rt.stderr();
@@ -28,10 +40,18 @@ fn ask_folder(waits: &impl Wait, rt: HostRuntime, line: &DirectoryLine<'_>) -> i
         Ok(shelf) => shelf,
         Err(fault) => return Ok(refuse_shelf(fault, &mut err)),
     };
+    let files = match logs_beside(waits, rt.clone()?, line) {
+        Ok(files) => files,
+        Err(fault) => return Ok(refuse_shelf(fault, &mut err)),
+    };
     let mut out = BufWriter::new(rt.alloc(), rt.stdout())?;
-    let alloc = rt.alloc();
-    let command = &line.command;
-    Ok(lsm_directory::run(waits, alloc, &mut shelf, command, &mut out, &mut err))
+    let request = Request {
+        command: &line.command,
+        form: line.form,
+        files: &files,
+        progress: line.progress,
+    };
+    Ok(lsm_directory::run(waits, rt.alloc(), &mut shelf, &request, &mut out, &mut err))
 }
 
 /// Does what words ask of a folder that is written.

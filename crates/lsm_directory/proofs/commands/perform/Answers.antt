@@ -4,7 +4,7 @@ use Rattle.lsm_directory.proofs.commands.perform.Goals as goal
 
 pub returns-clause-done : goal.returns-clause-done
 returns-clause-done g c =
-    is_done c.perform_on.result c.args.request.now.command.now c.args.request.now.files.now g.S.Shelf.honest _ _ _ _ _ _ _ _ _ c.perform_on.ensures.told c.in_ok-opened.ensures.opened c.perform_on.ensures.done
+    is_done c.perform_on.result c.args.request.now.form c.args.request.now.command.now c.args.request.now.files.now g.S.Shelf.honest _ _ _ _ _ _ _ _ _ c.perform_on.ensures.told c.in_ok-opened.ensures.opened c.perform_on.ensures.done
 
 pub returns-clause-fault : goal.returns-clause-fault
 returns-clause-fault g c =
@@ -12,15 +12,15 @@ returns-clause-fault g c =
 
 pub returns-clause-left : goal.returns-clause-left
 returns-clause-left g c =
-    is_left c.perform_on.result c.args.request.now.command.now g.S.Shelf.honest _ _ _ _ _ _ _ _ _ c.perform_on.ensures.told c.in_ok-opened.ensures.opened c.perform_on.ensures.fault
+    is_left c.perform_on.result c.args.request.now.form c.args.request.now.command.now g.S.Shelf.honest _ _ _ _ _ _ _ _ _ c.perform_on.ensures.told c.in_ok-opened.ensures.opened c.perform_on.ensures.fault
     c.perform_on.ensures.left
 
 pub returns-in_err-opened-clause-left : goal.returns-in_err-opened-clause-left
 returns-in_err-opened-clause-left g c =
     let p = err_from_is_err_and c.from_residual-in_err-opened.result c.from_residual-in_err-opened.ensures.1 in
-    rw (p.1, p.2) (keeps_leaves c.args.request.now.command.now g.S.Shelf.honest _ c.in_err-opened.field-0.0 _ _ _ c.in_err-opened.ensures.refused)
+    rw (p.1, p.2) (keeps_leaves c.args.request.now.form c.args.request.now.command.now g.S.Shelf.honest _ c.in_err-opened.field-0.0 _ _ _ c.in_err-opened.ensures.refused)
 
 pub returns-in_err-shared-clause-left : goal.returns-in_err-shared-clause-left
 returns-in_err-shared-clause-left g c =
     let p = err_from_is_err_and c.from_residual.result c.from_residual.ensures.1 in
-    rw (p.1, p.2) (memory_leaves c.args.request.now.command.now g.S.Shelf.honest _ _ _)
+    rw (p.1, p.2) (memory_leaves c.args.request.now.form c.args.request.now.command.now g.S.Shelf.honest _ _ _)

@@ -12,5 +12,5 @@ invariant-loop-passed g l = record {
   loan : g.B.Blocks.loan l.blocks ≡ g.B.Blocks.loan l.fn.blocks;
   quiet : IsFalse l.progress → Keeps (g.E.Write.contents l.fn.err) (g.E.Write.contents l.err);
   ascending : g.S.Shelf.honest → UsersAscend l.scan.left;
-  printed : g.S.Shelf.honest → PrintsFront l.bounds l.fn.scan.left l.scan.left (g.O.Write.contents l.fn.out) (g.O.Write.contents l.out);
+  printed : g.S.Shelf.honest → PrintsFront l.form l.bounds l.fn.scan.left l.scan.left (g.O.Write.contents l.fn.out) (g.O.Write.contents l.out);
 }
