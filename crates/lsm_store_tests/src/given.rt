@@ -20,14 +20,6 @@ impl<'a> Names<Pair<'a>> for Joined {
     ghost numbers = { λ p. p.number ∷ p.before.now.numbers };
 }
 
-struct Nothing;
-
-impl Names<()> for Nothing {
-    ghost use Rattle.std.specs.Prelude.{[]};
-
-    ghost numbers = { λ _. [] };
-}
-
 fn with_number(number: u64, before: &Tag) -> Tag
     ensures { result.numbers ≡ number ∷ before.now.numbers }
 {
@@ -49,9 +41,9 @@ impl Given {
         Given {
             numbers,
             place: 0,
-            drew: Tag::of::<(), Nothing>(&()),
-            refused: Tag::of::<(), Nothing>(&()),
-            asked: Tag::of::<(), Nothing>(&()),
+            drew: Tag::empty(),
+            refused: Tag::empty(),
+            asked: Tag::empty(),
         }
     }
 }

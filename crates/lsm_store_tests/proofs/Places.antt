@@ -1,13 +1,13 @@
--- The calls of a state leave a shelf its place.
+-- The calls of a state leave a shelf its contents.
 use Rattle.std.proofs.Common.{◌≡◌, ℕ, List, ◌∙◌, ap, inl, inr, true, false, Bool}
 use Rattle.std.specs.Prelude.{MatchBool}
-use Rattle.lsm_shelf.specs.Told.{Place, Told, Becomes}
+use Rattle.lsm_shelf.specs.Told.{Place, Told, Becomes, listing}
 use Rattle.lsm_batch.specs.declared.write.Write.{Write}
 use Rattle.lsm_merge.specs.Work.{Done}
 use Rattle.lsm_journal.specs.Difference.{Difference}
 use Rattle.lsm_journal.specs.HeldManifest.{is_at_limit}
 use Rattle.lsm_state.specs.Changing.{ChangesVersion}
-use Rattle.lsm_state.specs.Collecting.{AreCollected, IsCollectRefusal, IsStopped, StoppedEarly, outside, removing_all, listing}
+use Rattle.lsm_state.specs.Collecting.{AreCollected, IsCollectRefusal, IsStopped, StoppedEarly}
 use Rattle.lsm_state.specs.Held.{Held}
 use Rattle.lsm_state.specs.Ingesting.{Ingests, IsIngestRefusal, IsPutFault}
 use Rattle.lsm_state.specs.Installing.{Installed}
@@ -30,6 +30,23 @@ put_stays n (state.Shelf fault) was is p = elim p.2 [
   | inl b ↦ b.place
   | inr b ↦ b.1.place
 ]
+put_stays n state.OutOfMemory was is p = elim p [ ]
+put_stays n (state.Read _) was is p = elim p [ ]
+put_stays n (state.BadLevel _) was is p = elim p [ ]
+put_stays n state.EmptyBatch was is p = elim p [ ]
+put_stays n (state.KeyOrder _) was is p = elim p [ ]
+put_stays n state.TooLarge was is p = elim p [ ]
+put_stays n state.LevelZeroFull was is p = elim p [ ]
+put_stays n state.SequencesSpent was is p = elim p [ ]
+put_stays n state.Halted was is p = elim p [ ]
+put_stays n (state.UnknownSnapshot _) was is p = elim p [ ]
+put_stays n (state.Conflict _) was is p = elim p [ ]
+put_stays n (state.UnknownTicket _) was is p = elim p [ ]
+put_stays n state.NumbersSpent was is p = elim p [ ]
+put_stays n state.Stale was is p = elim p [ ]
+put_stays n state.SlotsHeld was is p = elim p [ ]
+put_stays n state.VersionsSpent was is p = elim p [ ]
+put_stays n state.PinsSpent was is p = elim p [ ]
 
 pub unchanged_stays : (was is : Told) → is ≡ was → is.place ≡ was.place
 unchanged_stays was is e = ap (λ (t : Told). t.place) e

@@ -5,6 +5,7 @@ ghost use Rattle.std.specs.Arc.{arc_value};
 ghost use Rattle.lsm_store_tests.specs.Parts.{IsMade};
 
 use crate::given::Given;
+use crate::refused::Refused;
 use crate::stage::{Parts, Stage};
 use crate::writes::{collect, compact_level, install, merge, put, reserve};
 use lsm_merge::Finished;
@@ -41,6 +42,20 @@ fn result_of<N: Boarded, S: Shelf, R: Wait>(
     Ok(merge(rt, alloc, store, shelf, job, numbers)?)
 }
 
+/// Installs a result by a shelf of its own. Whether it was live.
+fn install_by<N: Boarded, S: Shelf, R: Wait>(
+    rt: &R,
+    alloc: Global,
+    store: &Store<N, S>,
+    shelf: S,
+    finished: Finished<N, S>,
+) -> Result<bool, Refused>
+    requires { (S.told shelf).place ≡ N.place }
+{
+    let mut shelf = shelf;
+    install(rt, alloc, store, &mut shelf, finished)
+}
+
 /// One thread cancels the ticket that another installs: just one of them is in time.
 fn cancel_or_install<N: Boarded, S: Shelf, R: Threads + Wait + Abort + Sync>(
     rt: &R,
@@ -52,11 +67,14 @@ fn cancel_or_install<N: Boarded, S: Shelf, R: Threads + Wait + Abort + Sync>(
     ensures { (S.told shelf.new).place ≡ N.place }
 {
     let finished = result_of(rt, alloc, store, shelf)?;
+    let fork = shelf.fork(alloc)?;
     let ticket = finished.job().ticket();
     let (cancelled, installed) = join(
         rt,
         || cancel(rt, store, ticket),
-        || install(rt, alloc, store, shelf, finished),
+        move || -> Result<bool, Refused>
+            requires { (S.told fork).place ≡ N.place }
+        { install_by(rt, alloc, store, fork, finished) },
     );
     assert!(rt; cancelled != installed?);
     Ok(())
@@ -96,18 +114,15 @@ fn another_number<N: Boarded, S: Shelf, R: Wait>(
     Ok(Given::of(numbers))
 }
 
-/// Two results of one job, installed by a thread each: just one is live.
-fn install_twice<N: Boarded, S: Shelf, R: Threads + Wait + Abort + Sync>(
+/// Two results of one new job over level 0, which gets one more table first.
+fn two_results_of<N: Boarded, S: Shelf, R: Wait>(
     rt: &R,
     alloc: Global,
     store: &Store<N, S>,
     shelf: &mut S,
-    other: &mut S,
-) -> Result<(), Fail>
-    requires one { (S.told shelf.old).place ≡ N.place }
-    requires other { (S.told other.old).place ≡ N.place }
-    ensures one { (S.told shelf.new).place ≡ N.place }
-    ensures other { (S.told other.new).place ≡ N.place }
+) -> Result<(Finished<N, S>, Finished<N, S>), Fail>
+    requires { (S.told shelf.old).place ≡ N.place }
+    ensures { (S.told shelf.new).place ≡ N.place }
 {
     put(rt, alloc, store, shelf, b"k", b"v")?;
     let Some((job, numbers)) = reserve(rt, alloc, store, 0)? else {
@@ -116,11 +131,31 @@ fn install_twice<N: Boarded, S: Shelf, R: Threads + Wait + Abort + Sync>(
     let copy = job.try_copy(alloc)?;
     let more = another_number(rt, alloc, store, job.ticket())?;
     let first = merge(rt, alloc, store, shelf, job, numbers)?;
-    let second = merge(rt, alloc, store, other, copy, more)?;
+    let second = merge(rt, alloc, store, shelf, copy, more)?;
+    Ok((first, second))
+}
+
+/// Two results of one job, installed by a thread each: just one is live.
+fn install_twice<N: Boarded, S: Shelf, R: Threads + Wait + Abort + Sync>(
+    rt: &R,
+    alloc: Global,
+    store: &Store<N, S>,
+    shelf: &mut S,
+) -> Result<(), Fail>
+    requires { (S.told shelf.old).place ≡ N.place }
+    ensures { (S.told shelf.new).place ≡ N.place }
+{
+    let (first, second) = two_results_of(rt, alloc, store, shelf)?;
+    let one = shelf.fork(alloc)?;
+    let two = shelf.fork(alloc)?;
     let (one, two) = join(
         rt,
-        || install(rt, alloc, store, shelf, first),
-        || install(rt, alloc, store, other, second),
+        move || -> Result<bool, Refused>
+            requires { (S.told one).place ≡ N.place }
+        { install_by(rt, alloc, store, one, first) },
+        move || -> Result<bool, Refused>
+            requires { (S.told two).place ≡ N.place }
+        { install_by(rt, alloc, store, two, second) },
     );
     assert!(rt; one? != two?);
     Ok(())
@@ -140,9 +175,8 @@ fn installs<N: Boarded, S: Shelf, R: Threads + Wait + Abort + Sync>(
         readers: _readers,
         mut shelf,
     } = Stage::<N, S>::of(rt, alloc, parts)?;
-    let mut other = shelf.fork(alloc)?;
     for _ in 0..100 {
-        install_twice(rt, alloc, &store, &mut shelf, &mut other)?;
+        install_twice(rt, alloc, &store, &mut shelf)?;
         collect(rt, alloc, &store, &mut shelf)?;
     }
     Ok(())

@@ -1,6 +1,7 @@
 //! What writers do of a store: ingests, compactions of a range, collects.
 
-ghost use Rattle.std.specs.Prelude.{◌≡◌};
+ghost use Rattle.std.specs.Prelude.{◌≡◌, IfOk};
+ghost use Rattle.std.specs.Arc.{arc_value};
 
 use crate::given::Given;
 use crate::refused::Refused;
@@ -10,7 +11,7 @@ use lsm_merge::{Finished, Job, compact};
 use lsm_slots::Boarded;
 use lsm_state::StateFault;
 use lsm_store::Store;
-use lsm_table::Shelf;
+use lsm_table::{Registry, Shelf};
 use std::alloc::{AllocError, Global};
 use std::sync::{Arc, Wait};
 use std::thread::yield_now;
@@ -60,8 +61,17 @@ pub(crate) fn reserve<N: Boarded, S: Shelf, R: Wait>(
     }
 }
 
+/// The registry of the store's tables.
+fn registry_of<N: Boarded, S: Shelf, R: Wait>(
+    rt: &R,
+    store: &Store<N, S>,
+) -> Result<Arc<Registry<S::Receipt>>, AllocError>
+    ensures { IfOk result (λ r. arc_value r ≡ N.registry) }
+{
+    Arc::try_clone(store.lock(rt).registry())
+}
+
 /// Merges a job outside the lock.
-#[tactic(auto, using(crate::proofs::Places::becomes_stays))]
 pub(crate) fn merge<N: Boarded, S: Shelf, R: Wait>(
     rt: &R,
     alloc: Global,
@@ -73,7 +83,7 @@ pub(crate) fn merge<N: Boarded, S: Shelf, R: Wait>(
     requires { (S.told shelf.old).place ≡ N.place }
     ensures { (S.told shelf.new).place ≡ N.place }
 {
-    let registry = Arc::try_clone(store.lock(rt).registry())?;
+    let registry = registry_of(rt, store)?;
     let mut numbers = numbers;
     match compact(rt, alloc, shelf, &registry, job, &mut numbers) {
         Ok(finished) => Ok(finished),
@@ -81,8 +91,21 @@ pub(crate) fn merge<N: Boarded, S: Shelf, R: Wait>(
     }
 }
 
-/// Installs a result, as often as no slot is free for its version. Whether it was live.
+/// Tries to install a result. The lock is let go before the answer is looked at.
 #[tactic(auto, using(crate::proofs::Places::installed_stays, crate::proofs::Places::becomes_stays))]
+fn install_once<N: Boarded, S: Shelf, R: Wait>(
+    rt: &R,
+    alloc: Global,
+    store: &Store<N, S>,
+    shelf: &mut S,
+    finished: Finished<N, S>,
+) -> Result<Vec<u64>, (StateFault, Finished<N, S>)>
+    ensures { (S.told shelf.new).place ≡ (S.told shelf.old).place }
+{
+    store.lock(rt).install(rt, alloc, shelf, finished)
+}
+
+/// Installs a result, as often as no slot is free for its version. Whether it was live.
 pub(crate) fn install<N: Boarded, S: Shelf, R: Wait>(
     rt: &R,
     alloc: Global,
@@ -95,7 +118,7 @@ pub(crate) fn install<N: Boarded, S: Shelf, R: Wait>(
 {
     let mut finished = finished;
     for _ in 0..1_000_000_000u64 {
-        match store.lock(rt).install(rt, alloc, shelf, finished) {
+        match install_once(rt, alloc, store, shelf, finished) {
             Ok(_numbers) => return Ok(true),
             Err((StateFault::Stale, _finished)) => return Ok(false),
             Err((StateFault::SlotsHeld, back)) => finished = back,
