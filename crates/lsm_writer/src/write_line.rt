@@ -12,7 +12,7 @@ use lsm_codec::Bytes;
 use std::alloc::{AllocError, Global};
 
 /// The bytes that a word spells: two hex digits a byte, or `.` for no bytes. None for another word.
-fn bytes_in(alloc: Global, word: &[u8]) -> Result<Option<Bytes>, AllocError>
+pub fn bytes_in(alloc: Global, word: &[u8]) -> Result<Option<Bytes>, AllocError>
     ensures some { IfOk result (λ o. IfSome o (IsBytesWord word.now)) }
     ensures none { IfOk result (λ o. IfNone o ((bytes : List ℕ) → IsBytesWord word.now bytes → ⊥)) }
 {

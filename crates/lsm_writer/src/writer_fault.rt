@@ -32,7 +32,7 @@ pub enum WriterFault {
 
 impl WriterFault {
     /// A refusal of the shelf.
-    pub(crate) fn of_shelf(fault: ShelfFault) -> WriterFault
+    pub fn of_shelf(fault: ShelfFault) -> WriterFault
         ensures { result ≡ of_shelf fault }
     {
         WriterFault::Directory(DirectoryFault::Manifest(RecoverFault::Shelf(fault)))
