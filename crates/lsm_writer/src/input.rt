@@ -11,7 +11,7 @@ use std::io::{ErrorKind, Read};
 const MAX_INPUT: u64 = 67_108_864;
 
 /// All bytes of the input. `Read` where a read fails, or where there are more than 64 MiB.
-pub(crate) fn read_input<R: Read>(alloc: Global, input: &mut R) -> Result<Vec<u8>, WriterFault>
+pub fn read_input<R: Read>(alloc: Global, input: &mut R) -> Result<Vec<u8>, WriterFault>
     ensures found { IfOk result (λ bytes. IfSome (R.remaining input.old) (λ text. bytes.items ≡ text)) }
     ensures limit { IfOk result (λ bytes. length bytes.items ≤ 67108864) }
     ensures fault { IfErr result (λ e. (e ≡ ReadFault) ⊎ (e ≡ OutOfMemory)) }

@@ -27,8 +27,11 @@ mod writer_fault;
 
 pub use batch_text::read_batch;
 pub use ends::{Ends, make_ends};
+pub use input::read_input;
+pub use parts::first_line;
 pub use program::{ingest, open_shelf, run};
-pub use write_line::write_in;
+pub use refusals::of_state;
+pub use write_line::{bytes_in, write_in};
 pub use writer_fault::WriterFault;
 pub use writing_command::WritingCommand;
 pub use writing_line::{WritingLine, writing_asked};

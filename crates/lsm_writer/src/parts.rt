@@ -18,7 +18,7 @@ pub(crate) fn parts<'a>(separator: u8, text: &'a [u8]) -> Option<(&'a [u8], &'a 
 }
 
 /// The first line of a text, and what follows it.
-pub(crate) fn first_line(text: &[u8]) -> (&[u8], &[u8])
+pub fn first_line(text: &[u8]) -> (&[u8], &[u8])
     requires { 0 < length text.now }
     ensures lines { lines_of text.now ≡ result.0.now ∷ lines_of result.1.now }
     ensures shorter { length result.1.now < length text.now }

@@ -56,7 +56,7 @@ fn field_of_state(fault: StateFault) -> Option<u64>
 }
 
 /// A refusal of a database.
-pub(crate) fn of_state(fault: StateFault) -> Refusal
+pub fn of_state(fault: StateFault) -> Refusal
     ensures { refusal_text result.number result.name.now result.field ≡ state_text fault }
 {
     Refusal {

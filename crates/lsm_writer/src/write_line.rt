@@ -12,7 +12,7 @@ use lsm_commands::Form;
 use std::alloc::{AllocError, Global};
 
 /// The bytes that a word spells. None for another word.
-fn bytes_in(alloc: Global, form: Form, word: &[u8]) -> Result<Option<Bytes>, AllocError>
+pub fn bytes_in(alloc: Global, form: Form, word: &[u8]) -> Result<Option<Bytes>, AllocError>
     ensures some { IfOk result (λ o. IfSome o (IsWord form word.now)) }
     ensures none { IfOk result (λ o. IfNone o ((bytes : List ℕ) → IsWord form word.now bytes → ⊥)) }
 {

@@ -1,0 +1,6 @@
+mod WordLaws
+mod NumberLaws
+mod TextLaws
+mod CommandLaws
+mod ScriptLaws
+mod Outcomes

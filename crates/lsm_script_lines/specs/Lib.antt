@@ -1,0 +1,4 @@
+pub mod Words
+pub mod CommandLine
+pub mod ReplyText
+pub mod Played
