@@ -1,11 +1,12 @@
 //! The program `lsm`: makes LevelDB's files, and shows what is in them and in a folder of them.
 //!
-//! Stands on `lsm_commands`, `lsm_directory` and `lsm_writer`, which do all that it does. Here stand the words, standard input and
+//! Stands on `lsm_commands`, `lsm_directory`, `lsm_writer` and `lsm_script_lines`, which do all that it does. Here stand the words, standard input and
 //! output, the folder, and the exit status.
 #![tactic(auto)]
 
 use lsm_commands::{DirectoryLine, directory_asked, refuse_words, run};
 use lsm_directory::refuse_shelf;
+use lsm_script_lines::{script, script_asked};
 use lsm_shelf::FileShelf;
 use lsm_writer::{WritingLine, writing_asked};
 use std::env::{self, Env};
@@ -39,9 +40,18 @@ fn write_folder(waits: &impl Wait, rt: HostRuntime, line: &WritingLine<'_>) -> i
     Ok(lsm_writer::run(waits, rt, line, &mut out, &mut err))
 }
 
+/// Runs the script on standard input.
+fn play(waits: &impl Wait, rt: HostRuntime) -> io::Result<u8> {
+    let mut out = BufWriter::new(rt.alloc(), rt.stdout())?;
+    Ok(script(waits, rt.alloc(), &mut rt.stdin(), &mut out, &mut rt.stderr()))
+}
+
 /// Does what words ask.
 fn obey(waits: &impl Wait, rt: HostRuntime, words: &[String]) -> io::Result<u8> {
     let alloc = rt.alloc();
+    if script_asked(words) {
+        return play(waits, rt);
+    }
     if let Some(line) = writing_asked(words) {
         return write_folder(waits, rt, &line);
     }
