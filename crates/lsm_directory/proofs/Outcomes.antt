@@ -11,7 +11,7 @@ use Rattle.lsm_table.specs.ReadFault.{ReadCounted}
 use Rattle.lsm_table.specs.declared.read_fault.ReadFault.{ReadFault}
 use Rattle.lsm_table.specs.declared.read_fault.ReadFault.TheVariants.{Shelf, Table}
 use Rattle.lsm_table.proofs.CallerLemmas.{read_counted_later}
-use Rattle.lsm_manifest.specs.Shape.{Form}
+use Rattle.lsm_manifest.specs.Shape.{Form as Shape}
 use Rattle.lsm_journal.specs.HeldManifest.{HeldManifest}
 use Rattle.lsm_journal.specs.Recovering.{IsRecovered, IsRecoverRefusal}
 use Rattle.lsm_journal.specs.declared.recover_fault.RecoverFault.{RecoverFault}
@@ -77,7 +77,7 @@ check_counted_from (WrongRange n) number bytes was mid is b c = tt
 check_counted_from (AgeOrder user) number bytes was mid is b c = tt
 
 -- the tables of the shape that was read are refused
-pub tables_refused : (Stored : ℕ → List ℕ → Type 0) (Honest : Type 0) (e : CheckFault) (h : HeldManifest) (shape : Form) (rest : ℕ) (was mid is : Told)
+pub tables_refused : (Stored : ℕ → List ℕ → Type 0) (Honest : Type 0) (e : CheckFault) (h : HeldManifest) (shape : Shape) (rest : ℕ) (was mid is : Told)
     → Becomes (finding h.number h.bytes was) mid → IsRecovered h shape rest → IsRefusal Stored Honest shape e → Becomes mid is → CheckCounted e mid is
     → IsOpenRefusal Stored Honest (Tables e) was is
 tables_refused Stored Honest e h shape rest was mid is found r why same cause = (

@@ -1,12 +1,13 @@
 //! The program `lsm`: makes LevelDB's files, and shows what is in them and in a folder of them.
 //!
-//! Stands on `lsm_commands`, `lsm_directory`, `lsm_writer` and `lsm_compactor`, which do all that it does. Here stand the words, standard
-//! input and output, the folder, and the exit status.
+//! Stands on `lsm_commands`, `lsm_directory`, `lsm_writer`, `lsm_compactor` and `lsm_script_lines`, which do all that it does. Here stand
+//! the words, standard input and output, the folder, and the exit status.
 #![tactic(auto)]
 
 use lsm_commands::{DirectoryCommand, DirectoryLine, directory_asked, refuse_words, run};
 use lsm_compactor::{CompactLine, compacting_asked};
 use lsm_directory::{FolderFile, Request, refuse_shelf, system_log_files};
+use lsm_script_lines::{script, script_asked};
 use lsm_shelf::{FileShelf, ShelfFault};
 use lsm_writer::{WritingLine, writing_asked};
 use std::env::{self, Env};
@@ -72,11 +73,20 @@ fn compact_folder<R: Threads + Wait + Sync>(
     Ok(lsm_compactor::run(threads, rt, line, &mut out, &mut err))
 }
 
+/// Runs the script on standard input.
+fn play(waits: &impl Wait, rt: HostRuntime) -> io::Result<u8> {
+    let mut out = BufWriter::new(rt.alloc(), rt.stdout())?;
+    Ok(script(waits, rt.alloc(), &mut rt.stdin(), &mut out, &mut rt.stderr()))
+}
+
 /// Does what words ask.
 fn obey<R: Threads + Wait + Sync>(waits: &R, rt: HostRuntime, words: &[String]) -> io::Result<u8> {
     let alloc = rt.alloc();
     if let Some(line) = compacting_asked(words) {
         return compact_folder(waits, rt, &line);
+    }
+    if script_asked(words) {
+        return play(waits, rt);
     }
     if let Some(line) = writing_asked(words) {
         return write_folder(waits, rt, &line);
