@@ -1,7 +1,7 @@
 #!/usr/bin/env bash
 # Runs tests that are not proved yet, and so not part of the gate, without proofs (`rt try --test`): of the state (stories of calls beside
-# answers worked out by hand, drawn runs beside a plain list, failing devices), of the store (storms, beside
-# its proved tests) and of scripts. Each test passed so on 2026-11-23. Names of folders here choose among them. Needs rt.
+# answers worked out by hand, drawn runs beside plain lists, a device that fails at each place), of the store (storms, beside its proved
+# tests) and of scripts. Each test passed so on 2026-11-23. Names of folders here choose among them. Needs rt.
 set -euo pipefail
 here=$(cd "$(dirname "$0")" && pwd)
 top=$(cd "$here/../.." && pwd)
