@@ -17,28 +17,37 @@ fn words_name_a_folder_and_workers(rt: HostRuntime) -> Result<(), Fail> {
     Ok(())
 }
 
+/// Whether words ask for a compaction.
+fn is_asked(words: &[&str]) -> bool {
+    compacting_asked(words).is_some()
+}
+
+#[test]
+fn other_numbers_ask_for_nothing(rt: HostRuntime) -> Result<(), Fail> {
+    for number in ["0", "9", "10", "02", "x", ""] {
+        let is_asked = is_asked(&["compact", "db", "--workers", number]);
+        expect(&rt, (number, is_asked), (number, false));
+    }
+    Ok(())
+}
+
 #[test]
 fn other_words_ask_for_nothing(rt: HostRuntime) -> Result<(), Fail> {
-    for words in [
-        [].as_slice(),
-        ["compact"].as_slice(),
-        ["compact", "--help"].as_slice(),
-        ["compact", "-db"].as_slice(),
-        ["compact", "--workers", "2", "db"].as_slice(),
-        ["compact", "db", "--workers"].as_slice(),
-        ["compact", "db", "--workers", "0"].as_slice(),
-        ["compact", "db", "--workers", "9"].as_slice(),
-        ["compact", "db", "--workers", "10"].as_slice(),
-        ["compact", "db", "--workers", "02"].as_slice(),
-        ["compact", "db", "--workers", "x"].as_slice(),
-        ["compact", "db", "--workers", ""].as_slice(),
-        ["compact", "db", "--workers=2"].as_slice(),
-        ["compact", "db", "2"].as_slice(),
-        ["compact", "db", "--help"].as_slice(),
-        ["compact", "db", "--workers", "2", "--workers", "2"].as_slice(),
-        ["ingest", "db"].as_slice(),
-    ] {
-        expect(&rt, compacting_asked(words).is_none(), true);
-    }
+    expect(&rt, is_asked(&["compact"]), false);
+    expect(&rt, is_asked(&["compact", "--help"]), false);
+    expect(&rt, is_asked(&["compact", "-db"]), false);
+    expect(&rt, is_asked(&["compact", "--workers", "2", "db"]), false);
+    expect(&rt, is_asked(&["compact", "db", "--workers"]), false);
+    expect(&rt, is_asked(&["compact", "db", "--workers=2"]), false);
+    Ok(())
+}
+
+#[test]
+fn more_words_ask_for_nothing(rt: HostRuntime) -> Result<(), Fail> {
+    expect(&rt, is_asked(&["compact", "db", "2"]), false);
+    expect(&rt, is_asked(&["compact", "db", "--help"]), false);
+    let twice = ["compact", "db", "--workers", "2", "--workers", "2"];
+    expect(&rt, is_asked(&twice), false);
+    expect(&rt, is_asked(&["ingest", "db"]), false);
     Ok(())
 }
