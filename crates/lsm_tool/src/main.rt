@@ -76,7 +76,13 @@ fn compact_folder<R: Threads + Wait + Sync>(
 /// Runs the script on standard input.
 fn play(waits: &impl Wait, rt: HostRuntime) -> io::Result<u8> {
     let mut out = BufWriter::new(rt.alloc(), rt.stdout())?;
-    Ok(script(waits, rt.alloc(), &mut rt.stdin(), &mut out, &mut rt.stderr()))
+    Ok(script(
+        waits,
+        rt.alloc(),
+        &mut rt.stdin(),
+        &mut out,
+        &mut rt.stderr(),
+    ))
 }
 
 /// Does what words ask.
