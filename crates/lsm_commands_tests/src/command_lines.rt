@@ -59,8 +59,12 @@ fn knows_what_is_no_command_on_a_folder(rt: HostRuntime) -> Result<(), Fail> {
 
 /// Whether a text has these bytes somewhere.
 fn has(text: &[u8], part: &str) -> bool {
-    text.windows(part.len())
-        .any(|bytes| bytes == part.as_bytes())
+    for start in 0..text.len() {
+        if text[start..].starts_with(part.as_bytes()) {
+            return true;
+        }
+    }
+    false
 }
 
 /// The help for these words is on standard output, with these parts.
