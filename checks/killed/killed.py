@@ -6,8 +6,8 @@
 LSM is the program, LEVELDB the helper of checks/leveldb_directories, KILL the library that kill.c makes, FOLDER an empty folder for the
 directories. Half of the kills come after a random time, half at a random one of the calls that change files, or half-way in a write.
 After each kill: `lsm check` is done; `lsm scan` gives all that was answered, and of the killed batch all or nothing (all, where its
-reply was printed). After every 20th kill, and at each directory's end, LevelDB opens it and gives the same. Ends with status 1 at the
-first difference, and names the directory.
+reply was printed). After every 20th kill, after each that left a manifest which ends within a record, and at a directory's end, LevelDB
+opens it and gives the same. Ends with status 1 at the first difference, and names the directory.
 """
 import os
 import random
@@ -104,7 +104,8 @@ class Killer:
             self.stop(f"lsm check: status {status}, says: {err[:300]}")
         self.is_begun = True
         rest = re.search(r"^rest (\d+)$", out, re.M)
-        self.counts["torn"] += rest is not None and rest[1] != "0"
+        self.is_torn = rest is not None and rest[1] != "0"
+        self.counts["torn"] += self.is_torn
         lines = self.scanned()
         for i, content in enumerate(contents):
             if lines == plain.list_lines(content):
@@ -130,7 +131,7 @@ class Killer:
     # ---- turns
 
     def draw(self):
-        """A batch: half of it new or old keys of a fixed set, so that the directory stays of a size."""
+        """A batch: by half keys of a fixed set, so that the directory stays of a size."""
         batch = plain.draw(self.rng, self.content, self.rng.randrange(1, BATCH // 2), VALUE)
         total = sum(len(key) + len(value or "") // 2 for key, value in batch.items())
         for _ in range(self.rng.randrange(1, BATCH // 2)):
@@ -197,7 +198,7 @@ class Killer:
         self.kind = KINDS[self.life % len(KINDS)]
         self.life += 1
         self.path = f"{self.folder}/{self.life}"
-        self.content, self.is_begun = {}, bool(self.kind)
+        self.content, self.is_begun, self.is_torn = {}, bool(self.kind), False
         if not self.kind:
             os.mkdir(self.path)
             return
@@ -212,7 +213,7 @@ class Killer:
         first, begun = self.killed, time.monotonic()
         while self.killed < self.kills and self.killed < first + LIFE:
             turn = self.ingest if self.rng.random() < 0.6 else self.compact
-            if turn(self.rng.random() < 0.8) and self.is_begun and self.killed % LOOK == 0:
+            if turn(self.rng.random() < 0.8) and self.is_begun and (self.is_torn or self.killed % LOOK == 0):
                 self.look_by_leveldb()
                 self.look(self.content)
         files = len(os.listdir(self.path))
