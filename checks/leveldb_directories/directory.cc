@@ -5,14 +5,22 @@
 //   directory scan DIR       prints each live key with its value, as KEY=VALUE in hex, `.` for no bytes; it opens DIR to write
 //   directory get DIR KEY..  prints the value of each key (hex), or `absent`
 //   directory spans DIR      prints how often a user key goes on in the next file of a level from 1 on; it opens DIR to write
+//   directory edits FILE     prints the edits of a manifest, as LevelDB's own DumpFile does
+//   directory same DIR KIND LIST  opens DIR with the kind's options: whether it holds just the pairs of LIST (lines as `scan` prints
+//                            them), forwards, backwards, and by a `Get` of each key and of one beside it
+//   directory write DIR KIND COUNT  writes and deletes so many keys more, and compacts all; its log is empty then
 #include <cstdio>
 #include <cstdlib>
 #include <cstring>
+#include <fstream>
+#include <map>
 #include <memory>
 #include <string>
 #include <vector>
 
 #include "leveldb/db.h"
+#include "leveldb/dumpfile.h"
+#include "leveldb/env.h"
 #include "leveldb/filter_policy.h"
 #include "leveldb/options.h"
 
@@ -179,6 +187,105 @@ void Spans(const std::string& folder) {
   std::printf("%d\n", spans);
 }
 
+class Printed : public leveldb::WritableFile {
+ public:
+  leveldb::Status Append(const leveldb::Slice& data) override {
+    std::fwrite(data.data(), 1, data.size(), stdout);
+    return leveldb::Status::OK();
+  }
+  leveldb::Status Close() override { return leveldb::Status::OK(); }
+  leveldb::Status Flush() override { return leveldb::Status::OK(); }
+  leveldb::Status Sync() override { return leveldb::Status::OK(); }
+};
+
+std::string Bytes(const std::string& hex) {
+  std::string bytes;
+  if (hex == ".") return bytes;
+  for (size_t i = 0; i + 1 < hex.size(); i += 2) bytes += static_cast<char>(std::stoi(hex.substr(i, 2), nullptr, 16));
+  return bytes;
+}
+
+using Pairs = std::map<std::string, std::string>;  // std::string compares bytes as unsigned, as LevelDB does
+
+Pairs Listed(const char* name) {
+  Pairs pairs;
+  std::ifstream lines(name);
+  std::string line;
+  while (std::getline(lines, line)) {
+    size_t at = line.find('=');
+    pairs[Bytes(line.substr(0, at))] = Bytes(line.substr(at + 1));
+  }
+  return pairs;
+}
+
+[[noreturn]] void Differs(const char* how, const leveldb::Slice& key) {
+  std::printf("%s at the key %s\n", how, Hex(key).c_str());
+  std::exit(1);
+}
+
+void Walk(leveldb::DB* database, const Pairs& pairs) {
+  leveldb::ReadOptions options;
+  options.verify_checksums = true;
+  std::unique_ptr<leveldb::Iterator> place(database->NewIterator(options));
+  place->SeekToFirst();
+  for (const auto& pair : pairs) {
+    if (!place->Valid()) Differs("LevelDB ends forwards", pair.first);
+    if (place->key() != pair.first || place->value() != pair.second) Differs("LevelDB differs forwards", place->key());
+    place->Next();
+  }
+  if (place->Valid()) Differs("LevelDB goes on forwards", place->key());
+  place->SeekToLast();
+  for (auto pair = pairs.rbegin(); pair != pairs.rend(); ++pair) {
+    if (!place->Valid()) Differs("LevelDB ends backwards", pair->first);
+    if (place->key() != pair->first || place->value() != pair->second) Differs("LevelDB differs backwards", place->key());
+    place->Prev();
+  }
+  if (place->Valid()) Differs("LevelDB goes on backwards", place->key());
+  Check(place->status());
+}
+
+void Ask(leveldb::DB* database, const Pairs& pairs, const std::string& key) {
+  leveldb::ReadOptions options;
+  options.verify_checksums = true;
+  std::string value;
+  leveldb::Status status = database->Get(options, key, &value);
+  if (!status.IsNotFound()) Check(status);
+  auto pair = pairs.find(key);
+  if (status.ok() != (pair != pairs.end())) Differs(status.ok() ? "LevelDB finds a key that is not listed" : "LevelDB finds nothing", key);
+  if (status.ok() && value != pair->second) Differs("LevelDB finds another value", key);
+}
+
+void Same(const Kind& kind, const std::string& folder, const char* list) {
+  std::unique_ptr<leveldb::DB> database(Open(kind, folder));
+  Pairs pairs = Listed(list);
+  Walk(database.get(), pairs);
+  for (const auto& pair : pairs) {
+    Ask(database.get(), pairs, pair.first);
+    Ask(database.get(), pairs, pair.first + '\0');
+  }
+  Ask(database.get(), pairs, "");
+}
+
+void WriteMore(const Kind& kind, const std::string& folder, int count) {
+  leveldb::DB* database = Open(kind, folder);
+  for (int i = 0; i < count; i++) {
+    std::string key = std::to_string(i * 7919 % (count + 1));
+    if (static_cast<int>(key.size()) < kind.key) key.insert(0, kind.key - key.size(), 'k');
+    Check(i % 3 == 2 ? database->Delete(leveldb::WriteOptions(), key) : database->Put(leveldb::WriteOptions(), key, "more" + std::to_string(i)));
+  }
+  database->CompactRange(nullptr, nullptr);
+  delete database;
+  delete Open(kind, folder);
+}
+
+const Kind& Named(const char* name) {
+  for (const Kind& kind : kKinds) {
+    if (std::strcmp(kind.name, name) == 0) return kind;
+  }
+  std::fprintf(stderr, "no kind %s\n", name);
+  std::exit(2);
+}
+
 }  // namespace
 
 int main(int count, char** words) {
@@ -200,12 +307,22 @@ int main(int count, char** words) {
     return 0;
   }
   if (what == "make" && count == 4) {
-    for (const Kind& kind : kKinds) {
-      if (std::strcmp(kind.name, words[3]) != 0) continue;
-      Make(kind, words[2]);
-      return 0;
-    }
+    Make(Named(words[3]), words[2]);
+    return 0;
   }
-  std::fprintf(stderr, "usage: directory kinds | make DIR KIND | scan DIR | get DIR KEY.. | spans DIR\n");
+  if (what == "edits" && count == 3) {
+    Printed out;
+    Check(leveldb::DumpFile(leveldb::Env::Default(), words[2], &out));
+    return 0;
+  }
+  if (what == "same" && count == 5) {
+    Same(Named(words[3]), words[2], words[4]);
+    return 0;
+  }
+  if (what == "write" && count == 5) {
+    WriteMore(Named(words[3]), words[2], std::atoi(words[4]));
+    return 0;
+  }
+  std::fprintf(stderr, "usage: directory kinds | make DIR KIND | scan DIR | get DIR KEY.. | spans DIR | edits FILE | same DIR KIND LIST | write DIR KIND COUNT\n");
   return 2;
 }

@@ -1,0 +1,17 @@
+#!/usr/bin/env bash
+# Kills `lsm` at random moments while it ingests and compacts: killed.py says how. Words: how many kills (300), and a seed (drawn, and
+# printed). LSM=/path/to/a/built/program takes another program than the repository's; it has to be the program itself, no script that
+# starts it. KEYS, BATCH and VALUE change sizes. Needs gcc, g++, libleveldb-dev and python3. At a difference the directory is kept.
+set -euo pipefail
+here=$(cd "$(dirname "$0")" && pwd)
+top=$(cd "$here/../.." && pwd)
+scratch=$(mktemp -d)
+[[ -n ${LSM:-} ]] || "$top/lsm" --help > "$scratch/help"
+program=$(readlink -f "${LSM:-$top/crates/lsm_tool/out/lsm_tool}")
+seed=${2:-$RANDOM$RANDOM}
+echo "seed $seed"
+g++ -O2 -Wall -o "$scratch/leveldb" "$here/../leveldb_directories/directory.cc" -lleveldb
+gcc -O1 -Wall -shared -fPIC -o "$scratch/kill.so" "$here/kill.c" -ldl
+mkdir "$scratch/directories"
+python3 "$here/killed.py" "$program" "$scratch/leveldb" "$scratch/kill.so" "$scratch/directories" "${1:-300}" "$seed"
+rm -rf "$scratch"
