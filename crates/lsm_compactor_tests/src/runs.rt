@@ -1,8 +1,9 @@
 //! Runs of the commands, on any shelf.
 
 use crate::expectation::expect;
-use lsm_commands::{DirectoryCommand, KeyBounds};
+use lsm_commands::{DirectoryCommand, Form, KeyBounds};
 use lsm_compactor::compact;
+use lsm_directory::Request;
 use lsm_table::Shelf;
 use lsm_writer::{ingest, read_batch};
 use std::alloc::Global;
@@ -42,7 +43,7 @@ fn bring_in<S: Shelf, R: Wait>(
     text: &str,
 ) -> Result<(), Fail> {
     let mut input = text.as_bytes();
-    let Ok(batch) = read_batch(alloc, &mut input) else {
+    let Ok(batch) = read_batch(alloc, Form::Hex, &mut input) else {
         return Err(Fail::new("a bad line"));
     };
     let mut out = Vec::new(alloc);
@@ -90,7 +91,13 @@ fn print<S: Shelf, R: Wait>(
 ) -> Answer {
     let mut out = Vec::new(alloc);
     let mut err = Vec::new(alloc);
-    let status = lsm_directory::run(rt, alloc, shelf, command, &mut out, &mut err);
+    let request = Request {
+        command,
+        form: Form::Hex,
+        files: &[],
+        progress: false,
+    };
+    let status = lsm_directory::run(rt, alloc, shelf, &request, &mut out, &mut err);
     Answer { status, out, err }
 }
 
