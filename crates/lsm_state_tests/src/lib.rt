@@ -2,13 +2,31 @@
 #![tactic(auto)]
 
 #[cfg(test)]
-mod call;
+mod books;
+#[cfg(test)]
+mod devices;
+#[cfg(test)]
+mod dice;
+#[cfg(test)]
+mod directories;
+#[cfg(test)]
+mod failing;
 #[cfg(test)]
 mod files;
 #[cfg(test)]
 mod given;
 #[cfg(test)]
-mod numbers;
+mod jobs;
+#[cfg(test)]
+mod limits;
+#[cfg(test)]
+mod memory;
+#[cfg(test)]
+mod pins;
+#[cfg(test)]
+mod plain;
+#[cfg(test)]
+mod random;
 #[cfg(test)]
 mod replies;
 #[cfg(test)]
@@ -18,4 +36,12 @@ mod script;
 #[cfg(test)]
 mod session;
 #[cfg(test)]
+mod setting;
+#[cfg(test)]
 mod story;
+#[cfg(test)]
+mod texts;
+#[cfg(test)]
+mod versions;
+#[cfg(test)]
+mod words;

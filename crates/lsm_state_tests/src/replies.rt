@@ -1,7 +1,8 @@
-//! What calls answer, as one line each: bytes in hex, numbers in decimal.
+//! What calls answer, as one line each. Keys and values are their letters, no letters are a dot; numbers are decimal.
 
 ghost use Rattle.std.specs.Prelude.{◌≡◌};
 
+use crate::files::COMPARATOR;
 use lsm_codec::{CodecFault, KeyRef, Kind};
 use lsm_manifest::FileMeta;
 use lsm_merge::Job;
@@ -26,21 +27,43 @@ pub(crate) fn push_numbers(line: &mut String, numbers: &[u64]) -> Result<(), Fai
     Ok(())
 }
 
-/// Appends bytes; no bytes are a dot.
-fn push_hex(line: &mut String, bytes: &[u8]) -> Result<(), Fail> {
+/// Appends the letters of a key or a value.
+fn push_letters(line: &mut String, bytes: &[u8]) -> Result<(), Fail> {
     if bytes.is_empty() {
         line.push('.')?;
     }
+    for byte in bytes {
+        line.push(char::from(*byte))?;
+    }
+    Ok(())
+}
+
+/// Appends bytes in hex.
+fn push_hex(line: &mut String, bytes: &[u8]) -> Result<(), Fail> {
     for byte in bytes {
         write!(line, "{byte:02x}")?;
     }
     Ok(())
 }
 
+/// `HEAD .. REST`: a manifest in hex, without the field of the comparator's name, which follows the seven bytes of the first record's
+/// head.
+pub(crate) fn spelled_line(alloc: Global, bytes: &[u8]) -> Result<String, Fail> {
+    let (head, edit) = bytes.split_at(bytes.len().min(7));
+    let Some(rest) = edit.strip_prefix(COMPARATOR.as_slice()) else {
+        return Err(Fail::new("the manifest does not begin with a name"));
+    };
+    let mut line = String::new(alloc);
+    push_hex(&mut line, head)?;
+    line.push_str(" .. ")?;
+    push_hex(&mut line, rest)?;
+    Ok(line)
+}
+
 /// Appends an internal key: its user key, its sequence, and what it is.
 fn push_key(line: &mut String, key: &[u8]) -> Result<(), Fail> {
     let key = KeyRef::split(key)?;
-    push_hex(line, key.user)?;
+    push_letters(line, key.user)?;
     let seq = key.seq;
     match key.kind {
         Kind::Value => write!(line, "@{seq}+")?,
@@ -55,7 +78,7 @@ pub(crate) fn value_line(alloc: Global, value: Option<&[u8]>) -> Result<String, 
         None => Ok(String::from_str(alloc, "absent")?),
         Some(bytes) => {
             let mut line = String::from_str(alloc, "value ")?;
-            push_hex(&mut line, bytes)?;
+            push_letters(&mut line, bytes)?;
             Ok(line)
         }
     }

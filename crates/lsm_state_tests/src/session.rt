@@ -5,59 +5,22 @@ ghost use Rattle.std.specs.Arc.{arc_value};
 ghost use Rattle.lsm_state.specs.Making.{IsNewBoard};
 ghost use Rattle.lsm_state.specs.Options.{Fits};
 
-use crate::call::Call;
+use crate::setting::{Setting, Start};
 use crate::story::Story;
 use lsm_pins::{Board, Pinner, Publisher};
 use lsm_slots::Boarded;
-use lsm_state::{OpenFault, Options, State};
+use lsm_state::{OpenFault, State};
 use lsm_table::{FuseShelf, MemoryShelf, Registry, Shelf, ShelfFault};
 use std::alloc::Global;
 use std::marker::Brand;
-use std::process::Abort;
 use std::sync::{Arc, Wait};
 use std::test::Fail;
 
-/// How a session begins.
-#[derive(Clone, Copy)]
-pub(crate) enum Start {
-    Create,
-    Open,
-    OpenToRead,
-}
-
-/// How a session begins, with which options and with which id of the current version.
-#[derive(Clone, Copy)]
-pub(crate) struct Setting {
-    pub(crate) start: Start,
-    pub(crate) options: Options,
-    pub(crate) id: u32,
-}
-
-impl Setting {
-    /// The usual options and a new board.
-    pub(crate) fn usual(start: Start) -> Setting {
-        Setting {
-            start,
-            options: Options::usual(),
-            id: 0,
-        }
-    }
-}
-
-/// Which calls of a shelf fail.
-#[derive(Clone, Copy)]
-pub(crate) struct Failing {
-    pub(crate) passes: u64,
-    pub(crate) stays: bool,
-    pub(crate) does: bool,
-    pub(crate) keep: usize,
-}
-
-/// A session that is to be held.
+/// A session that is to be held: how it begins, and the lines of its calls.
 #[derive(Clone, Copy)]
 struct Session<'a> {
     setting: Setting,
-    calls: &'a [Call<'a>],
+    calls: &'a [&'a str],
 }
 
 /// Creates or opens a state.
@@ -112,14 +75,14 @@ fn hold<N: Boarded, S: Shelf, R: Wait>(
     }
 }
 
-/// Holds a session over a fork of a shelf in memory, and answers with its lines.
+/// Holds a session over a fork of a shelf in memory, which fails as the setting says, and answers with its lines.
 #[tactic(auto, using(crate::proofs::Boards::new_board))]
 pub(crate) fn lines_of<R: Wait>(
     rt: &R,
     alloc: Global,
     shelf: &mut MemoryShelf,
     setting: Setting,
-    calls: &[Call<'_>],
+    calls: &[&str],
 ) -> Result<Vec<String>, Fail> {
     let options = setting.options;
     if !options.fits() || setting.id >= 1 << 28 {
@@ -128,77 +91,8 @@ pub(crate) fn lines_of<R: Wait>(
     let registry = Arc::new(alloc, Registry::new(alloc)?)?;
     let board = Board::new_at(alloc, options.readers, options.versions, setting.id)?;
     let fork = shelf.fork(alloc)?;
-    let session = Session { setting, calls };
-    hold::<Brand, MemoryShelf, R>(rt, alloc, fork, registry, board, &session)
-}
-
-/// The same over a fork that fails.
-#[tactic(auto, using(crate::proofs::Boards::new_board))]
-pub(crate) fn lines_failing<R: Wait>(
-    rt: &R,
-    alloc: Global,
-    shelf: &mut MemoryShelf,
-    failing: Failing,
-    setting: Setting,
-    calls: &[Call<'_>],
-) -> Result<Vec<String>, Fail> {
-    let options = setting.options;
-    if !options.fits() || setting.id >= 1 << 28 {
-        return Err(Fail::new("the setting does not fit"));
-    }
-    let registry = Arc::new(alloc, Registry::new(alloc)?)?;
-    let board = Board::new_at(alloc, options.readers, options.versions, setting.id)?;
-    let fork = shelf.fork(alloc)?;
-    let fuse = FuseShelf::new(
-        fork,
-        failing.passes,
-        failing.stays,
-        failing.does,
-        failing.keep,
-    );
+    let device = setting.device;
+    let fuse = FuseShelf::new(fork, device.passes, device.stays, device.does, device.keep);
     let session = Session { setting, calls };
     hold::<Brand, FuseShelf<MemoryShelf>, R>(rt, alloc, fuse, registry, board, &session)
-}
-
-/// A call and the line that it is to answer.
-pub(crate) type Row<'a> = (Call<'a>, &'a str);
-
-/// Compares the lines of a session with those wanted.
-pub(crate) fn tells<R: Wait + Abort>(
-    rt: &R,
-    alloc: Global,
-    shelf: &mut MemoryShelf,
-    setting: Setting,
-    rows: &[Row<'_>],
-) -> Result<(), Fail> {
-    let mut calls = Vec::new(alloc);
-    for row in rows {
-        calls.push(row.0)?;
-    }
-    let lines = lines_of(rt, alloc, shelf, setting, &calls)?;
-    compares(rt, &lines, rows)
-}
-
-/// Compares the lines after the first one with those wanted.
-pub(crate) fn compares<R: Abort>(rt: &R, lines: &[String], rows: &[Row<'_>]) -> Result<(), Fail> {
-    let Some((begun, said)) = lines.split_first() else {
-        return Err(Fail::new("there is no line"));
-    };
-    assert!(rt; begun.as_str() == "begun", "{begun}");
-    assert!(rt; said.len() == rows.len());
-    for (line, row) in said.iter().zip(rows) {
-        let wanted = row.1;
-        assert!(rt; line.as_str() == wanted, "{line} for {wanted}");
-    }
-    Ok(())
-}
-
-/// Creates a database with the usual options in a new shelf, and compares what its calls answer.
-pub(crate) fn tells_created<R: Wait + Abort>(
-    rt: &R,
-    alloc: Global,
-    rows: &[Row<'_>],
-) -> Result<(), Fail> {
-    let mut shelf = MemoryShelf::new(alloc)?;
-    tells(rt, alloc, &mut shelf, Setting::usual(Start::Create), rows)
 }

@@ -4,7 +4,7 @@ use Rattle.lsm_state_tests.proofs.session.lines_of.Given as goal
 
 -- the registry and the contents that were just made
 abbrev pub ghosts-hold-N-Naming : goal.ghosts-hold-N-Naming
-ghosts-hold-N-Naming g a = record { registry = arc_value a.registry; place = in_memory (arc_value a.shelf.contents).images }
+ghosts-hold-N-Naming g a = record { registry = arc_value a.registry; place = in_memory (arc_value a.shelf.inner.contents).images }
 
 -- so the board
 abbrev pub ghosts-hold-N-Boarded : goal.ghosts-hold-N-Boarded

@@ -48,15 +48,15 @@ fn some_sizes(dice: &mut Dice) -> (u64, usize) {
     (limit, if dice.roll(2) == 0 { 5 } else { 64 })
 }
 
-/// Holds two sessions of these calls over one shelf, and answers how many installs there were.
+/// Holds a session of the first calls and one of the second over one shelf, and answers how many installs there were.
 fn follow_sessions<'a, R: Wait + Abort>(
     rt: &R,
     alloc: Global,
     dice: &mut Dice,
-    calls: [&[&'a str]; 2],
+    first: &[&'a str],
+    second: &[&'a str],
 ) -> Result<usize, Fail> {
     let mut shelf = MemoryShelf::new(alloc)?;
-    let [first, second] = calls;
     let (limit, slots) = some_sizes(dice);
     let begin = format!(in alloc;
         "create block=64 target=1024 readers=2 limit={limit} slots={slots}"
@@ -81,7 +81,7 @@ fn follow_run<R: Wait + Abort>(rt: &R, alloc: Global, seed: u32) -> Result<usize
     let second = some_calls(alloc, &mut dice, 80)?;
     let first = texts_of(alloc, &first)?;
     let second = texts_of(alloc, &second)?;
-    follow_sessions(rt, alloc, &mut dice, [&first, &second])
+    follow_sessions(rt, alloc, &mut dice, &first, &second)
 }
 
 #[test]
