@@ -18,6 +18,12 @@ fn scratch(rt: &HostRuntime, name: &str) -> Result<String, Fail> {
     Ok(path)
 }
 
+/// What asks for the file of this path to come into the folder of that path.
+fn line_of<'a>(path: &'a str, file: &'a str, form: Form) -> WritingLine<'a> {
+    let command = WritingCommand::Ingest(file, form);
+    WritingLine { path, command }
+}
+
 /// `ingest` of the file `batch`, which lies in the folder of this path, into that folder.
 fn ingest_file(
     waits: &impl Wait,
@@ -26,10 +32,7 @@ fn ingest_file(
     form: Form,
 ) -> Result<Answer, Fail> {
     let file = format!(in rt.alloc(); "{path}/batch")?;
-    let line = WritingLine {
-        path,
-        command: WritingCommand::Ingest(file.as_str(), form),
-    };
+    let line = line_of(path, file.as_str(), form);
     let mut out = Vec::new(rt.alloc());
     let mut err = Vec::new(rt.alloc());
     let status = run(waits, rt.clone()?, &line, &mut out, &mut err);
