@@ -2,11 +2,7 @@
 #![tactic(auto)]
 
 #[cfg(test)]
-mod books;
-#[cfg(test)]
 mod devices;
-#[cfg(test)]
-mod dice;
 #[cfg(test)]
 mod directories;
 #[cfg(test)]
@@ -24,10 +20,6 @@ mod memory;
 #[cfg(test)]
 mod pins;
 #[cfg(test)]
-mod plain;
-#[cfg(test)]
-mod random;
-#[cfg(test)]
 mod replies;
 #[cfg(test)]
 mod rolling;
@@ -41,7 +33,5 @@ mod setting;
 mod story;
 #[cfg(test)]
 mod texts;
-#[cfg(test)]
-mod versions;
 #[cfg(test)]
 mod words;
