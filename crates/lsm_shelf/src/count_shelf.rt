@@ -42,6 +42,8 @@ impl<S: Shelf> Shelf for CountShelf<S> {
 
     ghost is_of = { S.is_of };
 
+    ghost refuses = { S.refuses };
+
     fn put<R: Wait>(
         &mut self,
         rt: &R,

@@ -2,7 +2,7 @@
 
 ghost use Rattle.std.specs.Prelude.{◌≡◌};
 ghost use Rattle.lsm_shelf.specs.Account.{told_in};
-ghost use Rattle.lsm_shelf.specs.Told.{fresh};
+ghost use Rattle.lsm_shelf.specs.Told.{NotTaken, fresh};
 
 use crate::account::{Account, tag_of_both, tag_of_bytes, tag_of_number, tag_of_numbers};
 use crate::fuse::Fuse;
@@ -51,6 +51,8 @@ impl<S: Shelf> Shelf for FuseShelf<S> {
     ghost told = { λ s. told_in (S.told s.inner).place s.account };
 
     ghost is_of = { S.is_of };
+
+    ghost refuses = { λ p number fault. NotTaken fault };
 
     fn put<R: Wait>(
         &mut self,

@@ -1,6 +1,6 @@
 //! Where tables and the manifest lie.
 
-ghost use Rattle.std.specs.Prelude.{◌≡◌, ◌+◌, ◌≤◌, length, take, drop, IfOk, IfErr, OnOk, OnErr, IsTrue};
+ghost use Rattle.std.specs.Prelude.{◌≡◌, ◌+◌, ◌≤◌, ℕ, length, take, drop, IfOk, IfErr, OnOk, OnErr, IsTrue};
 ghost use Rattle.std.specs.List.Sorted.{IsStrictlyIncreasing};
 
 use crate::shelf_fault::ShelfFault;
@@ -27,6 +27,9 @@ pub trait Shelf: Drop + Send + Sync {
 
     /// The receipt is of these contents.
     ghost is_of: { Place → Self.Receipt → Type 0 };
+
+    /// A load of this number was refused with this fault. What is proved for every shelf learns of it by that load alone.
+    ghost refuses: { Place → ℕ → ShelfFault → Type 0 };
 
     /// Puts an image under a number, on the device before it answers Ok.
     ///
@@ -69,6 +72,7 @@ pub trait Shelf: Drop + Send + Sync {
         number: u64,
     ) -> Result<(Self::Receipt, Vec<u8>), ShelfFault>
         ensures receipt { IfOk result (λ r. (Self.Receipt.number r.0 ≡ number) × (Self.Receipt.image r.0 ≡ r.1.items) × is_of (told self.old).place r.0) }
+        ensures refused { IfErr result (refuses (told self.old).place number) }
         ensures told { Becomes (told self.old) (told self.new) }
         ensures cause { IfErr result (λ e. NotTaken e × Counted e (told self.old) (told self.new)) }
         ensures counts { CountedBy result (told self.old) (told self.new) };

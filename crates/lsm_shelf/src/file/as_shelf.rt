@@ -35,6 +35,8 @@ where
 
     ghost is_of = { λ p r. C.is_of p r.mark };
 
+    ghost refuses = { λ p number fault. NotTaken fault };
+
     fn put<W: Wait>(
         &mut self,
         rt: &W,
@@ -85,6 +87,7 @@ where
         number: u64,
     ) -> Result<(FileReceipt<C::Mark>, Vec<u8>), ShelfFault>
         ensures receipt { IfOk result (λ r. (file_number r.0 ≡ number) × (C.Mark.image (mark_of r.0) ≡ r.1.items) × C.is_of (file_told C.place self.old).place (mark_of r.0)) }
+        ensures refused { IfErr result NotTaken }
         ensures calls { IfOk result (λ r. C.calls (folder_of self.new) ≡ loaded (table_name number) (Ok r.1.items) ∷ C.calls (folder_of self.old)) }
         ensures stopped { IfErr result (λ e. TableUnread number e (C.calls (folder_of self.old)) (C.calls (folder_of self.new))) }
         ensures told { Becomes (file_told C.place self.old) (file_told C.place self.new) }

@@ -62,6 +62,8 @@ impl Shelf for MemoryShelf {
 
     ghost is_of = { IsOfMemory };
 
+    ghost refuses = { λ p number fault. NotDevice fault };
+
     fn put<R: Wait>(
         &mut self,
         rt: &R,
