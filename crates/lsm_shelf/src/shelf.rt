@@ -14,6 +14,7 @@ use std::sync::Wait;
 /// told it (`Told`): each call says what it leaves of that (`told`, or `ok` and `err`), which refusals it has, each other than
 /// `OutOfMemory` with a count that rose (`cause`), and that it counted its answer exactly (`counts`).
 pub trait Shelf: Drop + Send + Sync {
+    ghost use Rattle.lsm_shelf.specs.declared.shelf_fault.ShelfFault.{ShelfFault};
     ghost use Rattle.lsm_shelf.specs.Told.{Place, Told, Becomes, Counted, CountedBy, NotTaken, NotNamed, TakenIs, putting, removed_by, listing, sending, appending, finding, fresh};
 
     /// What stands for an image that was put or loaded.

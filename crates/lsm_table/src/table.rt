@@ -90,6 +90,15 @@ impl Table {
         let (body, index) = self.parts();
         TableIter::over(alloc, body, index)
     }
+
+    /// Sets a place in this table, or in another one, before the first entry of this one. The room that it has for keys stays, so
+    /// that a second walk through a table asks for no memory.
+    pub fn restart<'t>(&'t self, entries: &mut TableIter<'t>)
+        ensures { entries.new.left ≡ self.now }
+    {
+        let (body, index) = self.parts();
+        entries.begin_again(body, index);
+    }
 }
 
 /// At most one list of entries fits a table's bytes.

@@ -57,6 +57,18 @@ impl<'t> TableIter<'t> {
         }
     }
 
+    /// Before the first entry again, of the data blocks that an index names. The room for keys stays.
+    pub(crate) fn begin_again(&mut self, body: &'t [u8], index: BlockRef<'t>)
+        requires { AreNamed body.now index.entries }
+        ensures { self.new.left ≡ left_of body.now [] index.entry.entries }
+    {
+        index.rewind(&mut self.next_block);
+        self.body = body;
+        self.index = index;
+        self.block = no_entries();
+        self.block.rewind(&mut self.here);
+    }
+
     /// The key of the entry that was given last, if one was.
     pub fn key(&self) -> Option<KeyRef<'_>>
         ensures { option_map key_of result ≡ self.now.last }
