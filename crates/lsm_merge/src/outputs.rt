@@ -1,6 +1,6 @@
 //! What a merge has made.
 
-ghost use Rattle.std.specs.Prelude.{◌≡◌, [], ◌∷◌, ◌++◌, ℕ, List, None, cond, IfOk, IfErr, OnOk};
+ghost use Rattle.std.specs.Prelude.{◌≡◌, [], ◌∷◌, ◌++◌, ℕ, List, None, cond, IfOk, IfErr, OnOk, OnErr};
 ghost use Rattle.lsm_codec.specs.KeyRef.{key_of};
 ghost use Rattle.lsm_block.specs.Block.{Ascends, entry_of};
 ghost use Rattle.lsm_shelf.specs.Told.{Told};
@@ -77,19 +77,19 @@ fn begin<R: Wait, D: NumberSource>(
     }
 }
 
-/// The output with one entry more.
-fn grow(output: Output, key: &KeyRef<'_>, value: &[u8]) -> Result<Output, MergeFault>
-    requires { Ascends (output.entries ++ entry_of (key_of key.now) value.now ∷ []) }
-    ensures ok { IfOk result (λ o. o ≡ record output { entries = output.entries ++ entry_of (key_of key.now) value.now ∷ [] }) }
-    ensures leaves { IfErr result (λ e. (put there : List ℕ) → Leaves e put (output.number ∷ going put there) there) }
+/// Adds an entry to the output in the making.
+fn grow(output: &mut Output, key: &KeyRef<'_>, value: &[u8]) -> Result<(), MergeFault>
+    requires { Ascends (output.old.entries ++ entry_of (key_of key.now) value.now ∷ []) }
+    ensures ok { OnOk result (output.new ≡ record output.old { entries = output.old.entries ++ entry_of (key_of key.now) value.now ∷ [] }) }
+    ensures err { OnErr result (output.new ≡ output.old) }
+    ensures leaves { IfErr result (λ e. (put there : List ℕ) → Leaves e put (output.old.number ∷ going put there) there) }
     ensures why { IfErr result (λ e. (answers : List ℕ) → AnswersOf e answers answers) }
     ensures cause { IfErr result (λ e. (t u : Told) → HasCause [] e t u) }
     ensures ticket { IfErr result (λ e. (ticket : ℕ) → NamesTicket e ticket) }
-    ensures large { IfErr result (λ e. IsSizeFault e → IsOverLimit output.options (output.entries ++ entry_of (key_of key.now) value.now ∷ [])) }
+    ensures large { IfErr result (λ e. IsSizeFault e → IsOverLimit output.old.options (output.old.entries ++ entry_of (key_of key.now) value.now ∷ [])) }
 {
-    let mut output = output;
     match output.add(key, value) {
-        Ok(()) => Ok(output),
+        Ok(()) => Ok(()),
         Err(fault) => Err(MergeFault::of_build(output.number(), fault)),
     }
 }
@@ -210,19 +210,18 @@ impl<N: Naming, S: Shelf> Outputs<N, S> {
         ensures large { IfErr result (λ e. IsSizeFault e → IsOverLimit self.old.options (entries_of_last self.old.last ++ entry_of (key_of key.now) value.now ∷ [])) }
         ensures ready { D.ready numbers.new }
     {
-        let output = match self.last.take() {
-            Some(output) => grow(output, key, value)?,
-            None => begin(
-                rt,
-                self.alloc,
-                self.ticket,
-                self.options,
-                numbers,
-                key,
-                value,
-            )?,
-        };
-        self.last = Some(output);
+        if let Some(output) = &mut self.last {
+            return grow(output, key, value);
+        }
+        self.last = Some(begin(
+            rt,
+            self.alloc,
+            self.ticket,
+            self.options,
+            numbers,
+            key,
+            value,
+        )?);
         Ok(())
     }
 
