@@ -3,7 +3,6 @@
 ghost use Rattle.std.specs.Prelude.{◌≡◌, IfOk};
 
 use crate::block_key::BlockKey;
-use crate::judge::{footer_from, is_inside, judge};
 use crate::kept_block::KeptBlock;
 use crate::kept_blocks::KeptBlocks;
 use crate::kept_footer::{KeptFooter, names};

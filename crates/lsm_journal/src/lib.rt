@@ -27,3 +27,4 @@ pub use laws::{
 pub use recover::Recovered;
 pub use recover_fault::RecoverFault;
 pub use version_change::VersionChange;
+pub use written::meta_of;

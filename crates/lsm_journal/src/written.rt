@@ -61,8 +61,8 @@ pub(crate) fn first_edit(alloc: Global) -> Result<Edit, AllocError>
     })
 }
 
-/// A table as the manifest names it.
-fn meta_of<N: Naming, S: Shelf>(
+/// A table as the manifest names it. `AllocError` where memory for its keys was refused.
+pub fn meta_of<N: Naming, S: Shelf>(
     alloc: Global,
     registry: &Registry<S::Receipt>,
     table: &TableRef<N, S>,

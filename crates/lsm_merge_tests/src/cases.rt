@@ -5,10 +5,10 @@ ghost use Rattle.std.specs.Arc.{arc_value};
 ghost use Rattle.lsm_table.specs.Options.{AreInRange};
 ghost use Rattle.lsm_version.specs.Versions.{IsWhole};
 
-use boxcar::tag::{Names, Tag};
+use boxcar::tag::Tag;
 use lsm_codec::{Bytes, KeyRef, Kind, List, push_key};
 use lsm_manifest::{FileMeta, Shape};
-use lsm_merge::{Job, JobParts, NumberFault, NumberSource};
+use lsm_merge::{Job, JobParts, NumberFault, NumberSource, with_number};
 use lsm_table::{Naming, Registry, Shelf, Table, TableBuilder, TableOptions, TableRef};
 use lsm_version::Version;
 use std::alloc::{AllocError, Global};
@@ -20,33 +20,6 @@ pub(crate) type Row = (u8, u8, Kind);
 
 /// A table: its level, its number and its entries.
 pub(crate) type Described<'a> = (usize, u64, &'a [Row]);
-
-/// A number and what came before it.
-#[derive(Drop)]
-struct Pair<'a> {
-    number: u64,
-    before: &'a Tag,
-}
-
-struct Joined;
-
-impl<'a> Names<Pair<'a>> for Joined {
-    ghost numbers = { λ p. p.number ∷ p.before.now.numbers };
-}
-
-struct Nothing;
-
-impl Names<()> for Nothing {
-    ghost use Rattle.std.specs.Prelude.{[]};
-
-    ghost numbers = { λ _. [] };
-}
-
-fn with_number(number: u64, before: &Tag) -> Tag
-    ensures { result.numbers ≡ number ∷ before.now.numbers }
-{
-    Tag::of::<Pair<'_>, Joined>(&Pair { number, before })
-}
 
 /// Gives numbers from a first one on, one after another, for one ticket.
 #[derive(Drop)]
@@ -63,9 +36,9 @@ impl Counter {
         Counter {
             ticket,
             next,
-            drew: Tag::of::<(), Nothing>(&()),
-            refused: Tag::of::<(), Nothing>(&()),
-            asked: Tag::of::<(), Nothing>(&()),
+            drew: Tag::empty(),
+            refused: Tag::empty(),
+            asked: Tag::empty(),
         }
     }
 }

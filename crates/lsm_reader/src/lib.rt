@@ -8,6 +8,7 @@
 
 mod blocks;
 mod direct;
+mod judge;
 mod open_table;
 mod opening;
 mod reads;
@@ -17,6 +18,7 @@ mod table_stream;
 
 pub use blocks::Blocks;
 pub use direct::Direct;
+pub use judge::{footer_from, is_inside, judge};
 pub use open_table::OpenTable;
 pub use opening::index_by;
 pub use reads::{get, get_by};

@@ -1,10 +1,10 @@
 //! Numbers that a merge draws from a state.
 
-ghost use Rattle.std.specs.Prelude.{◌≡◌, ◌∷◌};
+ghost use Rattle.std.specs.Prelude.{◌≡◌};
 ghost use Rattle.lsm_script.specs.Drawing.{GivesNumber, refusal_of};
 
-use boxcar::tag::{Names, Tag};
-use lsm_merge::{NumberFault, NumberSource};
+use boxcar::tag::Tag;
+use lsm_merge::{NumberFault, NumberSource, with_number};
 use lsm_slots::Boarded;
 use lsm_state::{State, StateFault};
 use lsm_table::Shelf;
@@ -66,26 +66,6 @@ impl<M: Noted<X>, X: Drop, F: Fn(X, u64) -> (X, Result<u64, NumberFault>)> Numbe
             }
         }
     }
-}
-
-/// A number, and those before it.
-#[derive(Drop)]
-struct Pair<'a> {
-    number: u64,
-    before: &'a Tag,
-}
-
-struct Joined;
-
-impl<'a> Names<Pair<'a>> for Joined {
-    ghost numbers = { λ p. p.number ∷ p.before.now.numbers };
-}
-
-/// One number more, which only clauses read.
-fn with_number(number: u64, before: &Tag) -> Tag
-    ensures { result.numbers ≡ number ∷ before.now.numbers }
-{
-    Tag::of::<Pair<'_>, Joined>(&Pair { number, before })
 }
 
 /// The state's refusal of a number.

@@ -1,32 +1,14 @@
 //! The files of the current version.
 
 ghost use Rattle.std.specs.Prelude.{◌≡◌, ◌++◌, IfOk, OnOk};
-ghost use Rattle.lsm_journal.specs.Recorded.{meta_of};
 ghost use Rattle.lsm_state.specs.Listing.{listed_at, listed_from};
 
 use crate::state::State;
+use lsm_journal::meta_of;
 use lsm_manifest::FileMeta;
 use lsm_slots::Boarded;
 use lsm_table::{Naming, Registry, Shelf, TableRef};
 use std::alloc::{AllocError, Global};
-
-// A table as a listing names it.
-fn meta_of<N: Naming, S: Shelf>(
-    alloc: Global,
-    registry: &Registry<S::Receipt>,
-    table: &TableRef<N, S>,
-) -> Result<FileMeta, AllocError>
-    requires { registry.now ≡ N.registry }
-    ensures { IfOk result (λ file. file ≡ meta_of table.now) }
-{
-    let record = registry.record(table);
-    Ok(FileMeta {
-        number: record.number(),
-        size: record.size(),
-        smallest: record.smallest.try_copy(alloc)?,
-        largest: record.largest.try_copy(alloc)?,
-    })
-}
 
 // Appends the files of a level.
 fn push_files<N: Naming, S: Shelf>(

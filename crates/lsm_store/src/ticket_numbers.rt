@@ -1,10 +1,8 @@
 //! Numbers for the outputs of one merge.
 
-ghost use Rattle.std.specs.Prelude.{◌≡◌, ◌∷◌};
-
 use crate::number_service::NumberService;
-use boxcar::tag::{Names, Tag};
-use lsm_merge::{NumberFault, NumberSource};
+use boxcar::tag::Tag;
+use lsm_merge::{NumberFault, NumberSource, with_number};
 use std::alloc::Global;
 use std::sync::Wait;
 
@@ -52,23 +50,4 @@ impl<'a> NumberSource for TicketNumbers<'a> {
             }
         }
     }
-}
-
-/// A number and what came before it.
-#[derive(Drop)]
-struct Latest<'a> {
-    number: u64,
-    before: &'a Tag,
-}
-
-struct LatestFirst;
-
-impl<'a> Names<Latest<'a>> for LatestFirst {
-    ghost numbers = { λ l. l.number ∷ l.before.now.numbers };
-}
-
-fn with_number(number: u64, before: &Tag) -> Tag
-    ensures { result.numbers ≡ number ∷ before.now.numbers }
-{
-    Tag::of::<Latest<'_>, LatestFirst>(&Latest { number, before })
 }

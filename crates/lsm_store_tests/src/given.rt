@@ -1,30 +1,9 @@
 //! Numbers that were drawn before a merge.
 
-ghost use Rattle.std.specs.Prelude.{◌≡◌, ◌∷◌};
-
-use boxcar::tag::{Names, Tag};
-use lsm_merge::{NumberFault, NumberSource};
+use boxcar::tag::Tag;
+use lsm_merge::{NumberFault, NumberSource, with_number};
 use std::alloc::Global;
 use std::sync::Wait;
-
-/// A number and what came before it.
-#[derive(Drop)]
-struct Pair<'a> {
-    number: u64,
-    before: &'a Tag,
-}
-
-struct Joined;
-
-impl<'a> Names<Pair<'a>> for Joined {
-    ghost numbers = { λ p. p.number ∷ p.before.now.numbers };
-}
-
-fn with_number(number: u64, before: &Tag) -> Tag
-    ensures { result.numbers ≡ number ∷ before.now.numbers }
-{
-    Tag::of::<Pair<'_>, Joined>(&Pair { number, before })
-}
 
 /// Gives numbers out of a list, one after another.
 #[derive(Drop)]

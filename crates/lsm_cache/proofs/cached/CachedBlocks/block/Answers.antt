@@ -2,7 +2,7 @@ use Rattle.std.proofs.Common.{Ok, sym, ap, subst, ◌∙◌}
 use Rattle.lsm_block.specs.Held.{HeldBlock}
 use Rattle.lsm_shelf.specs.Told.{Place, Told}
 use Rattle.lsm_table.specs.declared.handle.Handle.{Handle}
-use Rattle.lsm_cache.proofs.ReadingLaws.{outside, tested, there_is, there_fails}
+use Rattle.lsm_reader.proofs.CallerLemmas.{outside, tested, there_is, there_fails}
 use Rattle.lsm_cache.proofs.cached.CachedBlocks.block.Goals as goal
 
 pub returns-then-not-is_inside-clause-exact : goal.returns-then-not-is_inside-clause-exact

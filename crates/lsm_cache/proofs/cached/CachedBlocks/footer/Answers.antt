@@ -1,6 +1,6 @@
 use Rattle.std.proofs.Common.{◌≤◌, sym, ap, subst, ◌∙◌, arith}
 use Rattle.lsm_shelf.specs.Told.{Place, Told}
-use Rattle.lsm_cache.proofs.ReadingLaws.{last_short, last_long_enough, footer_is}
+use Rattle.lsm_reader.proofs.CallerLemmas.{last_short, last_long_enough, footer_is}
 use Rattle.lsm_cache.proofs.cached.CachedBlocks.footer.Goals as goal
 
 pub returns-then-size-clause-exact : goal.returns-then-size-clause-exact

@@ -14,11 +14,11 @@ use lsm_table::{FOOTER, Handle, TRAILER, TableFault, unseal};
 use std::alloc::Global;
 use std::sync::Arc;
 
-/// The last 48 bytes of an image, where so many were read.
-pub(crate) fn footer_from(bytes: Vec<u8>) -> Result<[u8; 48], TableFault>
+/// The last 48 bytes of an image, where so many were read; other numbers of bytes, which only a shelf that is not honest
+/// gives, are `ShortFile`.
+pub fn footer_from(bytes: Vec<u8>) -> Result<[u8; 48], TableFault>
     ensures { length bytes.items ≡ 48 → result ≡ Ok bytes.items }
 {
-    // Only a shelf that is not honest gives another number of bytes.
     if bytes.len() != FOOTER {
         return Err(TableFault::ShortFile);
     }
@@ -29,7 +29,7 @@ pub(crate) fn footer_from(bytes: Vec<u8>) -> Result<[u8; 48], TableFault>
 
 /// Whether a block with its trailer lies in the part of an image before its footer, where the image
 /// has this size.
-pub(crate) fn is_inside(handle: Handle, size: u64) -> bool
+pub fn is_inside(handle: Handle, size: u64) -> bool
     ensures { result ≡ nat_le (handle.offset + handle.size + 5) (size - 48) }
 {
     let Some(len) = size.checked_sub(FOOTER as u64 + TRAILER as u64) else {
@@ -68,9 +68,9 @@ fn share(alloc: Global, contents: Vec<u8>) -> Result<Arc<Block>, TableFault>
     }
 }
 
-/// The block that a text is which was read for a place.
-#[tactic(auto, unfolding(lsm_reader::specs::Blocks::block_of))]
-pub(crate) fn judge(alloc: Global, handle: Handle, text: Vec<u8>) -> Result<Arc<Block>, TableFault>
+/// The block that a text is which was read for a place: its contents with their trailer, whose checksum is judged first.
+#[tactic(auto, unfolding(crate::specs::Blocks::block_of))]
+pub fn judge(alloc: Global, handle: Handle, text: Vec<u8>) -> Result<Arc<Block>, TableFault>
     ensures { length text.items ≡ handle.size + 5 → Gives (λ b. (arc_value {X = HeldBlock} b).entries) result (block_of handle text.items) }
 {
     let contents = match take_contents(handle, text) {
