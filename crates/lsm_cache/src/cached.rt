@@ -9,7 +9,7 @@ use crate::kept_footer::{KeptFooter, names};
 use crate::recent::keep;
 use lru::LruCache;
 use lsm_block::Block;
-use lsm_reader::Blocks;
+use lsm_reader::{Blocks, footer_from, is_inside, judge};
 use lsm_table::{FOOTER, Handle, Naming, ReadFault, Shelf, Slip, TRAILER, TableFault};
 use std::alloc::{AllocError, Global};
 use std::marker::{Model, PhantomData};

@@ -3,7 +3,7 @@
 ghost use Rattle.std.specs.Prelude.{◌≡◌};
 
 use crate::blocks::Blocks;
-use crate::judge::{footer_from, is_inside, judge};
+use crate::judging::{footer_from, is_inside, judge};
 use lsm_block::Block;
 use lsm_table::{FOOTER, Handle, ReadFault, Shelf, Slip, TRAILER, TableFault};
 use std::alloc::Global;

@@ -8,7 +8,7 @@
 
 mod blocks;
 mod direct;
-mod judge;
+mod judging;
 mod open_table;
 mod opening;
 mod reads;
@@ -18,7 +18,7 @@ mod table_stream;
 
 pub use blocks::Blocks;
 pub use direct::Direct;
-pub use judge::{footer_from, is_inside, judge};
+pub use judging::{footer_from, is_inside, judge};
 pub use open_table::OpenTable;
 pub use opening::index_by;
 pub use reads::{get, get_by};

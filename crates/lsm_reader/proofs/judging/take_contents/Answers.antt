@@ -1,6 +1,6 @@
 use Rattle.std.proofs.Common.{◌≡◌, ℕ, List, take, Ok, sym, ap, ◌∙◌, arith}
 use Rattle.lsm_reader.proofs.BlocksLaws.{unsealed_is}
-use Rattle.lsm_reader.proofs.judge.take_contents.Goals as goal
+use Rattle.lsm_reader.proofs.judging.take_contents.Goals as goal
 
 pub returns : goal.returns
 returns c fits =
