@@ -1,5 +1,6 @@
 mod WordLaws
 mod NumberLaws
+mod StreamLaws
 mod TextLaws
 mod CommandLaws
 mod ScriptLaws

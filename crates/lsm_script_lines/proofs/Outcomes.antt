@@ -1,7 +1,9 @@
 -- What a run answers, by what is done.
-use Rattle.std.proofs.Common.{◌≡◌, ◌≢◌, ℕ, ◌+◌, ◌<◌, ◌≤◌, Bool, true, false, List, [], ◌∷◌, length, map, get_or, drop, Option, None, Some, refl, sym, ap, ◌∙◌, subst, arith, inl, inr}
-use Rattle.std.specs.Prelude.{◌⊎◌, Result, Ok, Err, IfErr, IfOk, IfSome, ⊤}
+use Rattle.std.proofs.Common.{◌≡◌, ◌≢◌, ℕ, ◌+◌, ◌<◌, ◌≤◌, Bool, true, false, List, [], ◌∷◌, ◌++◌, append_assoc, length, map, get_or, drop, Option, None, Some, refl, sym, ap, ◌∙◌, subst, arith, inl, inr}
+use Rattle.std.specs.Prelude.{◌⊎◌, Result, Ok, Err, IfErr, IfOk, IfSome, OnOk, ⊤}
 use Rattle.std.specs.Io.KnownBytes.{Appends, Keeps}
+use Rattle.std.specs.Option.{option_map}
+use Rattle.std.proofs.KnownBytes.{Appends-kept, Appends-trans}
 use Rattle.std.proofs.lemmas.List.{drop_more, drop_all}
 use Rattle.lsm_codec.specs.Lists.{Has}
 use Rattle.lsm_codec.proofs.CallerLemmas.{contains_says}
@@ -20,9 +22,9 @@ use Rattle.lsm_script.specs.declared.reply.Reply.{Reply}
 use Rattle.lsm_writer.specs.Starting.{IsNew, usual}
 use Rattle.lsm_writer.specs.WriterFault.{of_shelf}
 use Rattle.lsm_writer.specs.declared.writer_fault.WriterFault.{WriterFault}
-use Rattle.lsm_writer.specs.declared.writer_fault.WriterFault.TheVariants.{OutOfMemory, Write}
+use Rattle.lsm_writer.specs.declared.writer_fault.WriterFault.TheVariants.{OutOfMemory, Read, Write}
 use Rattle.lsm_script_lines.specs.CommandLine.{IsScript}
-use Rattle.lsm_script_lines.specs.Played.{ArePlayed, ArePlayedInMemory, IsCutShort, IsDone, IsEnded, IsFault, IsPlayFault, IsRefused, IsTextFault, IsUncreated, nothing}
+use Rattle.lsm_script_lines.specs.Played.{ArePlayed, ArePlayedInMemory, IsCutShort, IsDone, IsEnded, IsFault, IsInputFault, IsPlayFault, IsRefused, IsTextFault, IsUncreated, IsUnread, nothing}
 use Rattle.lsm_script_lines.specs.ReplyText.{replies_text}
 
 -- ---- the words of a command line
@@ -97,24 +99,39 @@ cut_is None commands replies old new script played written cut = tt
 cut_is (Some text) commands replies old new script played written cut =
     inr (refl, (replies, record { commands = commands; spelled = script; played = played; written = written }, cut))
 
-pub text_fault : (known : Option (List ℕ)) (e : WriterFault) → IfSome known (λ text. IsTextFault text e) → IfSome known (λ text. IsFault text e)
-text_fault None e h = tt
-text_fault (Some text) e h = inl h
+pub input_fault : (known : Option (List ℕ)) (failed : Bool) (e : WriterFault) → IfSome known (λ text. IsInputFault text failed e) → IfSome known (λ text. IsFault text failed e)
+input_fault None failed e h = tt
+input_fault (Some text) failed e h = inl h
 
-pub play_fault : (known : Option (List ℕ)) (commands : List Command) (e : WriterFault) → IfSome known (λ text. IsScript text commands) → (e ≡ OutOfMemory) ⊎ IsUncreated e
-    → IfSome known (λ text. IsFault text e)
-play_fault None commands e script h = tt
-play_fault (Some text) commands e script h = elim h [
+-- a text that was not read, or is no script
+pub unread_fault : (known : Option (List ℕ)) (failed : Bool) (e : WriterFault) → (e ≡ OutOfMemory) ⊎ ((e ≡ Read) × IfSome known (λ text. IsUnread text failed))
+    → IfSome known (λ text. IsInputFault text failed e)
+unread_fault None failed e h = tt
+unread_fault (Some text) failed e h = elim h [
   | inl memory ↦ inl (subst (λ f. IsTextFault text f) (sym memory) tt)
+  | inr unread ↦ inr unread
+]
+
+pub spelling_fault : {T : Type 0} (r : Result T WriterFault) (known : Option (List ℕ)) (bytes : List ℕ) (failed : Bool) → IfSome known (λ text. bytes ≡ text) → IfErr r (IsTextFault bytes)
+    → IfErr r (λ e. IfSome known (λ text. IsInputFault text failed e))
+spelling_fault (Ok x) known bytes failed same h = tt
+spelling_fault (Err e) None bytes failed same h = tt
+spelling_fault (Err e) (Some text) bytes failed same h = inl (subst (λ (t : List ℕ). IsTextFault t e) same h)
+
+pub play_fault : (known : Option (List ℕ)) (failed : Bool) (commands : List Command) (e : WriterFault) → IfSome known (λ text. IsScript text commands)
+    → (e ≡ OutOfMemory) ⊎ IsUncreated e → IfSome known (λ text. IsFault text failed e)
+play_fault None failed commands e script h = tt
+play_fault (Some text) failed commands e script h = elim h [
+  | inl memory ↦ inl (inl (subst (λ f. IsTextFault text f) (sym memory) tt))
   | inr why ↦ inr (commands, script, subst (λ f. IsPlayFault commands f) (sym why.3) (why.0, why.1, why.2, refl, why.4))
 ]
 
-pub print_fault : (known : Option (List ℕ)) (commands : List Command) (replies : List Reply) (e : WriterFault) → IfSome known (λ text. IsScript text commands)
-    → ArePlayedInMemory commands replies → (e ≡ Write) ⊎ (e ≡ OutOfMemory) → IfSome known (λ text. IsFault text e)
-print_fault None commands replies e script played h = tt
-print_fault (Some text) commands replies e script played h = elim h [
+pub print_fault : (known : Option (List ℕ)) (failed : Bool) (commands : List Command) (replies : List Reply) (e : WriterFault)
+    → IfSome known (λ text. IsScript text commands) → ArePlayedInMemory commands replies → (e ≡ Write) ⊎ (e ≡ OutOfMemory) → IfSome known (λ text. IsFault text failed e)
+print_fault None failed commands replies e script played h = tt
+print_fault (Some text) failed commands replies e script played h = elim h [
   | inl write ↦ inr (commands, script, subst (λ f. IsPlayFault commands f) (sym write) (replies, played))
-  | inr memory ↦ inl (subst (λ f. IsTextFault text f) (sym memory) tt)
+  | inr memory ↦ inl (inl (subst (λ f. IsTextFault text f) (sym memory) tt))
 ]
 
 pub keeps_itself : (x : Option (List ℕ)) → Keeps x x
@@ -137,7 +154,20 @@ ended_refused (Some text) status old new few h other = elim h [
   | inr cut ↦ (cut.0, inl cut.1)
 ]
 
-pub fault_refused : (known : Option (List ℕ)) (e : WriterFault) (old new : Option (List ℕ)) → IfSome known (λ text. IsFault text e) → (e ≢ Write → Keeps old new)
-    → IfSome known (λ text. IsRefused text old new)
-fault_refused None e old new h kept = tt
-fault_refused (Some text) e old new h kept = inr (e, h, kept)
+pub fault_refused : (known : Option (List ℕ)) (failed : Bool) (e : WriterFault) (old new : Option (List ℕ)) → IfSome known (λ text. IsFault text failed e)
+    → (e ≢ Write → Keeps old new) → IfSome known (λ text. IsRefused text old new)
+fault_refused None failed e old new h kept = tt
+fault_refused (Some text) failed e old new h kept = inr (e, failed, h, kept)
+
+-- ---- what is told of a fault
+
+pub told_then : (line : Option (List ℕ)) (meaning : List ℕ) (a b c d : Option (List ℕ)) → IfSome line (λ text. Appends a b (text ++ (10 ∷ []))) → Appends b c meaning → Keeps c d
+    → IfSome (option_map (λ text. text ++ (10 ∷ meaning)) line) (λ text. Appends a d text)
+told_then None meaning a b c d told more kept = tt
+told_then (Some text) meaning a b c d told more kept =
+    let both : Appends a c ((text ++ (10 ∷ [])) ++ meaning) = Appends-trans a b c (text ++ (10 ∷ [])) meaning told more in
+    Appends-kept a c d (text ++ (10 ∷ meaning)) (subst (λ (bs : List ℕ). Appends a c bs) (append_assoc text (10 ∷ []) meaning) both) kept
+
+pub always : {T E : Type 0} (r : Result T E) (P : Type 0) → P → OnOk r P
+always (Ok x) P p = p
+always (Err e) P p = tt

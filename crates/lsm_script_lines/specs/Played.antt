@@ -1,5 +1,5 @@
 -- What a script is answered, and why it is refused (this project's rule).
-use Rattle.std.specs.Prelude.{◌≡◌, ◌≢◌, ℕ, ◌⊎◌, ⊤, Bool, true, false, List, [], Option}
+use Rattle.std.specs.Prelude.{◌≡◌, ◌≢◌, ℕ, ◌<◌, ◌⊎◌, ⊤, Bool, true, false, List, [], length, Option}
 use Rattle.std.specs.Io.KnownBytes.{Appends, Keeps}
 use Rattle.lsm_codec.specs.Lists.{Has}
 use Rattle.lsm_shelf.specs.Told.{Place, Told, fresh}
@@ -64,14 +64,22 @@ IsCut text old new = (replies : List Reply) × IsPrinted text replies old new ×
 abbrev pub IsEnded : List ℕ → ℕ → Option (List ℕ) → Option (List ℕ) → Type 0
 IsEnded text status old new = ((status ≡ 0) × IsDone text old new) ⊎ ((status ≡ 1) × IsCut text old new)
 
--- What a fault says of a text that is no script. A failed read, and want of memory, say nothing of it.
+-- What a fault says of a text that is no script. Want of memory says nothing of it.
 abbrev pub IsTextFault : List ℕ → WriterFault → Type 0
 IsTextFault text OutOfMemory = ⊤
-IsTextFault text Read = ⊤
+IsTextFault text Read = ⊥
 IsTextFault text Write = ⊥
 IsTextFault text (BadLine i) = IsFirstBadLine text i
 IsTextFault text (Directory fault) = ⊥
 IsTextFault text (State fault) = ⊥
+
+-- why a text is not read: the last read of its stream failed, or it has more than 64 MiB
+abbrev pub IsUnread : List ℕ → Bool → Type 0
+IsUnread text failed = (failed ≡ true) ⊎ (67108864 < length text)
+
+-- What a fault says of an input: its text is no script, or is not read.
+abbrev pub IsInputFault : List ℕ → Bool → WriterFault → Type 0
+IsInputFault text failed e = IsTextFault text e ⊎ ((e ≡ Read) × IsUnread text failed)
 
 -- What a fault says of a script: no database was created; or a write failed, of its replies. Want of memory says nothing.
 abbrev pub IsPlayFault : List Command → WriterFault → Type 0
@@ -82,10 +90,10 @@ IsPlayFault commands (BadLine i) = ⊥
 IsPlayFault commands (Directory fault) = IsUncreated (Directory fault)
 IsPlayFault commands (State fault) = ⊥
 
--- What a fault says: the text is no script; or it is one.
-abbrev pub IsFault : List ℕ → WriterFault → Type 0
-IsFault text e = IsTextFault text e ⊎ ((commands : List Command) × IsScript text commands × IsPlayFault commands e)
+-- What a fault says: the text is no script, or is not read; or it is one.
+abbrev pub IsFault : List ℕ → Bool → WriterFault → Type 0
+IsFault text failed e = IsInputFault text failed e ⊎ ((commands : List Command) × IsScript text commands × IsPlayFault commands e)
 
 -- Why a script ends with status 1: memory ran out within a command; or a fault, and unless a write failed nothing was written.
 abbrev pub IsRefused : List ℕ → Option (List ℕ) → Option (List ℕ) → Type 0
-IsRefused text old new = IsCut text old new ⊎ ((fault : WriterFault) × IsFault text fault × (fault ≢ Write → Keeps old new))
+IsRefused text old new = IsCut text old new ⊎ ((fault : WriterFault) × (failed : Bool) × IsFault text failed fault × (fault ≢ Write → Keeps old new))

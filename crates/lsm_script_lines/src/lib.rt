@@ -7,9 +7,11 @@
 
 // Commands as text.
 mod command_line;
+mod input;
 mod named;
 mod number;
 mod script_text;
+mod watched;
 mod words;
 
 // Replies as text.
@@ -19,8 +21,10 @@ mod reply_text;
 // A run.
 mod playing;
 mod program;
+mod telling;
 
 pub use command_line::command_in;
 pub use program::{script, script_asked};
 pub use reply_text::push_replies;
 pub use script_text::read_script;
+pub use watched::Watched;

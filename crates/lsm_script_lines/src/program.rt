@@ -9,6 +9,8 @@ ghost use Rattle.lsm_writer.specs.declared.writer_fault.WriterFault.TheVariants.
 use crate::playing::play;
 use crate::reply_text::push_replies;
 use crate::script_text::read_script;
+use crate::telling::tell;
+use crate::watched::Watched;
 use lsm_script::Reply;
 use lsm_writer::WriterFault;
 use std::alloc::Global;
@@ -61,16 +63,16 @@ fn print<O: Write>(alloc: Global, replies: &[Reply], out: &mut O) -> Result<(), 
 }
 
 /// Reads a script, and prints its replies: status 0, or 1 where memory ran out within a command.
-#[tactic(auto, using(crate::proofs::Outcomes::text_fault, crate::proofs::Outcomes::play_fault, crate::proofs::Outcomes::print_fault, crate::proofs::Outcomes::keeps_itself))]
+#[tactic(auto, using(crate::proofs::Outcomes::input_fault, crate::proofs::Outcomes::play_fault, crate::proofs::Outcomes::print_fault, crate::proofs::Outcomes::keeps_itself))]
 fn perform<R: Wait, I: Read, O: Write>(
     rt: &R,
     alloc: Global,
-    input: &mut I,
+    input: &mut Watched<I>,
     out: &mut O,
 ) -> Result<u8, WriterFault>
     ensures status { IfOk result (λ status. status ≤ 1) }
-    ensures ended { IfOk result (λ status. IfSome (I.remaining input.old) (λ text. IsEnded text status (O.contents out.old) (O.contents out.new))) }
-    ensures fault { IfErr result (λ e. IfSome (I.remaining input.old) (λ text. IsFault text e)) }
+    ensures ended { IfOk result (λ status. IfSome (I.remaining input.old.inner) (λ text. IsEnded text status (O.contents out.old) (O.contents out.new))) }
+    ensures fault { IfErr result (λ e. IfSome (I.remaining input.old.inner) (λ text. IsFault text input.new.failed e)) }
     ensures kept { IfErr result (λ e. e ≢ WriteFault → Keeps (O.contents out.old) (O.contents out.new)) }
 {
     let commands = read_script(alloc, input)?;
@@ -82,18 +84,14 @@ fn perform<R: Wait, I: Read, O: Write>(
     Ok(0)
 }
 
-/// Writes the line of a fault, and flushes.
-fn tell<E: Write>(err: &mut E, fault: &WriterFault) -> io::Result<()> {
-    writeln!(err, "{fault}")?;
-    err.flush()
-}
-
 /// Runs the script that stands on an input on a new database in memory, with LevelDB's sizes, and answers the exit status. All lines are
 /// read before the first command is done. Each reply is written on `out`, also a refusal: `refused N Name ..`.
 ///
 /// Status 0 where every command was answered; 1 where one was refused for want of memory, and this is the last reply; 1 also where a fault
 /// is one line on `err`, and, unless a write failed, nothing is written on `out`: `bad line I` for the first line that spells no command,
-/// `read fault` where a read fails or there are more than 64 MiB, `write fault`, `refused 1 OutOfMemory`.
+/// `read fault` where a read fails or there are more than 64 MiB, each of the two with a second line that says what it may mean; `write
+/// fault`; `refused 1 OutOfMemory`.
+#[tactic(auto, using(crate::proofs::Outcomes::keeps_itself))]
 pub fn script<R: Wait, I: Read, O: Write, E: Write>(
     rt: &R,
     alloc: Global,
@@ -103,8 +101,10 @@ pub fn script<R: Wait, I: Read, O: Write, E: Write>(
 ) -> u8
     ensures done { result ≡ 0 → IfSome (I.remaining input.old) (λ text. IsDone text (O.contents out.old) (O.contents out.new)) }
     ensures refused { result ≢ 0 → (result ≡ 1) × IfSome (I.remaining input.old) (λ text. IsRefused text (O.contents out.old) (O.contents out.new)) }
+    ensures quiet { result ≡ 0 → Keeps (E.contents err.old) (E.contents err.new) }
 {
-    match perform(rt, alloc, input, out) {
+    let mut input = Watched::new(input);
+    match perform(rt, alloc, &mut input, out) {
         Ok(status) => status,
         Err(fault) => {
             let _ = tell(err, &fault);

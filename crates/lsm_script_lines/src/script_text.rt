@@ -2,11 +2,13 @@
 
 ghost use Rattle.std.specs.Prelude.{◌≤◌, IfErr, IfOk, IfSome, OnOk, length};
 ghost use Rattle.lsm_script_lines.specs.CommandLine.{IsScript};
-ghost use Rattle.lsm_script_lines.specs.Played.{IsTextFault};
+ghost use Rattle.lsm_script_lines.specs.Played.{IsInputFault, IsTextFault};
 
 use crate::command_line::command_in;
+use crate::input::text_of;
+use crate::watched::Watched;
 use lsm_script::Command;
-use lsm_writer::{WriterFault, first_line, read_input};
+use lsm_writer::{WriterFault, first_line};
 use std::alloc::Global;
 use std::io::Read;
 
@@ -33,13 +35,16 @@ fn script_of(alloc: Global, text: &[u8]) -> Result<Vec<Command>, WriterFault>
 
 /// The commands that an input spells, one a line.
 ///
-/// `Read` where a read fails, or where there are more than 64 MiB; `BadLine` with the number of the first line of another form;
-/// `OutOfMemory`.
-pub fn read_script<I: Read>(alloc: Global, input: &mut I) -> Result<Vec<Command>, WriterFault>
-    ensures script { IfOk result (λ commands. IfSome (I.remaining input.old) (λ text. IsScript text commands.items)) }
-    ensures limit { OnOk result (IfSome (I.remaining input.old) (λ text. length text ≤ 67108864)) }
-    ensures refused { IfErr result (λ e. IfSome (I.remaining input.old) (λ text. IsTextFault text e)) }
+/// `Read` only where the last read of the input failed, or where there are more than 64 MiB; `BadLine` with the number of the first line
+/// of another form; `OutOfMemory`.
+pub fn read_script<I: Read>(
+    alloc: Global,
+    input: &mut Watched<I>,
+) -> Result<Vec<Command>, WriterFault>
+    ensures script { IfOk result (λ commands. IfSome (I.remaining input.old.inner) (λ text. IsScript text commands.items)) }
+    ensures limit { OnOk result (IfSome (I.remaining input.old.inner) (λ text. length text ≤ 67108864)) }
+    ensures refused { IfErr result (λ e. IfSome (I.remaining input.old.inner) (λ text. IsInputFault text input.new.failed e)) }
 {
-    let text = read_input(alloc, input)?;
+    let text = text_of(alloc, input)?;
     script_of(alloc, &text)
 }

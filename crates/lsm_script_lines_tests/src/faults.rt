@@ -1,7 +1,8 @@
 //! Readers and writers that fail.
 
 use crate::runs::answer_to;
-use lsm_script_lines::script;
+use lsm_script_lines::{Watched, read_script, script};
+use lsm_writer::WriterFault;
 use std::io::{self, ErrorKind, Read, Write};
 use std::test::Fail;
 
@@ -72,8 +73,53 @@ fn a_failed_read_is_told(rt: HostRuntime) -> Result<(), Fail> {
     );
     assert_eq!(rt; status, 1);
     assert_eq!(rt; out.as_slice(), b"".as_slice());
-    assert_eq!(rt; err.as_slice(), b"read fault\n".as_slice());
+    assert_eq!(rt;
+        err.as_slice(),
+        b"read fault\nthe input could not be read, or has more than 64 MiB\n".as_slice()
+    );
     Ok(())
+}
+
+#[test]
+fn a_reader_is_held_to_its_last_read(rt: HostRuntime) -> Result<(), Fail> {
+    let mut torn = Watched::new(Torn { gave: false });
+    assert!(rt; !torn.has_failed());
+    assert!(rt; matches!(&read_script(rt.alloc(), &mut torn), Err(WriterFault::Read)));
+    assert!(rt; torn.has_failed());
+    let mut whole = Watched::new(b"pin\nlist".as_slice());
+    let commands = read_script(rt.alloc(), &mut whole)?;
+    assert_eq!(rt; commands.len(), 2);
+    assert!(rt; !whole.has_failed());
+    Ok(())
+}
+
+/// A reader of so many line ends.
+#[derive(Debug, Drop)]
+struct Ends(usize);
+
+impl Read for Ends {
+    fn read(&mut self, buf: &mut [u8]) -> io::Result<usize> {
+        let count = self.0.min(buf.len());
+        if let Some(front) = buf.get_mut(..count) {
+            front.fill(b'\n');
+        }
+        self.0 -= count;
+        Ok(count)
+    }
+}
+
+#[test]
+fn reads_64_mebibytes(rt: HostRuntime) {
+    let mut input = Watched::new(Ends(67_108_864));
+    assert!(rt;
+        matches!(
+            &read_script(rt.alloc(), &mut input),
+            Err(WriterFault::BadLine(1))
+        )
+    );
+    let mut input = Watched::new(Ends(67_108_865));
+    assert!(rt; matches!(&read_script(rt.alloc(), &mut input), Err(WriterFault::Read)));
+    assert!(rt; !input.has_failed());
 }
 
 #[test]

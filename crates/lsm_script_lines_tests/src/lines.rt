@@ -118,13 +118,16 @@ fn numbers_fit_their_types(rt: HostRuntime) -> Result<(), Fail> {
 
 #[test]
 fn the_first_bad_line_is_named(rt: HostRuntime) -> Result<(), Fail> {
-    for (text, want) in [
-        ("\n", "bad line 1\n"),
-        ("pin\n\npin", "bad line 2\n"),
-        ("ingest 61=31\nlist\nfrob\nget", "bad line 3\n"),
-        ("pin\r\n", "bad line 1\n"),
+    for (text, line) in [
+        ("\n", 1),
+        ("pin\n\npin", 2),
+        ("ingest 61=31\nlist\nfrob\nget", 3),
+        ("pin\r\n", 1),
     ] {
         let answer = answer_to(&rt, rt.alloc(), text.as_bytes());
+        let want = format!(in rt.alloc();
+            "bad line {line}\nline {line} is none of the commands that `lsm script --help` lists, with one space between words, and keys and values in hex; `.` stands for no bytes\n"
+        )?;
         assert_eq!(rt; answer.out.as_slice(), b"".as_slice());
         assert_eq!(rt; answer.err.as_slice(), want.as_bytes());
         assert_eq!(rt; answer.status, 1);
