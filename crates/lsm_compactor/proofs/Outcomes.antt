@@ -2,6 +2,7 @@
 use Rattle.std.proofs.Common.{◌≡◌, ◌≢◌, ℕ, inl, inr, All, List, Option, None, Some, IfErr, OnErr, OnOk, refl, subst}
 use Rattle.std.specs.Prelude.{◌⊎◌, Result, Ok, Err}
 use Rattle.std.specs.Io.KnownBytes.{Keeps}
+use Rattle.lsm_shelf.specs.declared.shelf_fault.ShelfFault.{ShelfFault}
 use Rattle.lsm_shelf.specs.declared.shelf_fault.ShelfFault.TheVariants.{OutOfMemory}
 use Rattle.lsm_shelf.specs.Told.{Told}
 use Rattle.lsm_state.specs.declared.state_fault.StateFault.{StateFault}
@@ -12,12 +13,12 @@ use Rattle.lsm_compactor.specs.Compacting.{AreEnds, Compacts, IsCompactFault, Is
 use Rattle.lsm_compactor.specs.declared.compact_fault.CompactFault.{CompactFault}
 use Rattle.lsm_compactor.specs.declared.compact_fault.CompactFault.TheVariants.{Writer}
 
-pub is_refused : {T : Type 0} (r : Result T CompactFault) (status : ℕ) (Stored : ℕ → List ℕ → Type 0) (Honest : Type 0) (workers : ℕ)
+pub is_refused : {T : Type 0} (r : Result T CompactFault) (status : ℕ) (Stored : ℕ → List ℕ → Type 0) (Refused : ℕ → ShelfFault → Type 0) (Honest : Type 0) (workers : ℕ)
     (was is : Told) (old new : Option (List ℕ)) → OnOk r (status ≡ 0) → OnErr r (status ≡ 1)
-    → IfErr r (λ e. IsCompactFault Stored Honest workers e was is) → IfErr r (λ e. e ≢ Writer WriteFault → Keeps old new) → status ≢ 0
-    → (status ≡ 1) × ((fault : CompactFault) × IsRefused Stored Honest workers fault was is old new)
-is_refused (Ok x) status Stored Honest workers was is old new ok err says left other = absurd (other ok)
-is_refused (Err e) status Stored Honest workers was is old new ok err says left other = (err, (e, record { says = says; left = left }))
+    → IfErr r (λ e. IsCompactFault Stored Refused Honest workers e was is) → IfErr r (λ e. e ≢ Writer WriteFault → Keeps old new) → status ≢ 0
+    → (status ≡ 1) × ((fault : CompactFault) × IsRefused Stored Refused Honest workers fault was is old new)
+is_refused (Ok x) status Stored Refused Honest workers was is old new ok err says left other = absurd (other ok)
+is_refused (Err e) status Stored Refused Honest workers was is old new ok err says left other = (err, (e, record { says = says; left = left }))
 
 keeps_itself : (x : Option (List ℕ)) → Keeps x x
 keeps_itself None = tt
@@ -31,18 +32,18 @@ all_keep (Err e) x = λ n. keeps_itself x
 -- ---- after the opening
 
 -- memory ran out before the workers began, or one of them has a fault
-pub unfinished : (Stored : ℕ → List ℕ → Type 0) (Honest : Type 0) (workers crew : ℕ) (e : CompactFault) (was is : Told) → crew ≡ workers
-    → IsOpened Honest was is → (e ≡ Writer (of_shelf OutOfMemory)) ⊎ IsWorkersFault Honest crew e → IsCompactFault Stored Honest workers e was is
-unfinished Stored Honest workers crew e was is same opened stops = elim stops [
+pub unfinished : (Stored : ℕ → List ℕ → Type 0) (Refused : ℕ → ShelfFault → Type 0) (Honest : Type 0) (workers crew : ℕ) (e : CompactFault) (was is : Told) → crew ≡ workers
+    → IsOpened Honest was is → (e ≡ Writer (of_shelf OutOfMemory)) ⊎ IsWorkersFault Honest crew e → IsCompactFault Stored Refused Honest workers e was is
+unfinished Stored Refused Honest workers crew e was is same opened stops = elim stops [
   | inl memory ↦ inr (inl (inr (OutOfMemory, memory, tt, opened)))
   | inr fault ↦ inr (inr (inl (subst (λ n. IsWorkersFault Honest n e) same fault, opened)))
 ]
 
 -- the collect was refused
-pub unswept : (Stored : ℕ → List ℕ → Type 0) (Honest : Type 0) (workers crew : ℕ) (ends : List WorkerEnd) (fault : StateFault) (was mid is : Told)
+pub unswept : (Stored : ℕ → List ℕ → Type 0) (Refused : ℕ → ShelfFault → Type 0) (Honest : Type 0) (workers crew : ℕ) (ends : List WorkerEnd) (fault : StateFault) (was mid is : Told)
     → crew ≡ workers → IsOpened Honest was mid → AreEnds Honest crew ends → All IsFaultless ends → Refuses Honest fault mid is
-    → IsCompactFault Stored Honest workers (Writer (State fault)) was is
-unswept Stored Honest workers crew ends fault was mid is same opened each faultless refuses = inr (inr (inr (inl (
+    → IsCompactFault Stored Refused Honest workers (Writer (State fault)) was is
+unswept Stored Refused Honest workers crew ends fault was mid is same opened each faultless refuses = inr (inr (inr (inl (
   fault,
   refl,
   record {

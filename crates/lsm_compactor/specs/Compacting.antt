@@ -84,17 +84,17 @@ abbrev pub IsOutOfMemory : CompactFault → Told → Told → Type 0
 IsOutOfMemory e was is = (e ≡ Writer OutOfMemory) × (is ≡ was)
 
 -- The directory was not opened.
-abbrev pub IsUnopened : (ℕ → List ℕ → Type 0) → Type 0 → CompactFault → Told → Told → Type 0
-IsUnopened Stored Honest e was is = (fault : OpenFault) × (e ≡ Writer (of_open fault))
-    × IsOpenRefusal Stored Honest usual.manifest_limit fault was is × IsReadOnce fault was is
+abbrev pub IsUnopened : (ℕ → List ℕ → Type 0) → (ℕ → ShelfFault → Type 0) → Type 0 → CompactFault → Told → Told → Type 0
+IsUnopened Stored Refused Honest e was is = (fault : OpenFault) × (e ≡ Writer (of_open fault))
+    × IsOpenRefusal Stored Refused Honest usual.manifest_limit fault was is × IsReadOnce fault was is
 
 -- It was opened, and no worker began: memory ran out, or a shelf failed to fork.
 abbrev pub IsUnmanned : Type 0 → CompactFault → Told → Told → Type 0
 IsUnmanned Honest e was is = (fault : ShelfFault) × (e ≡ Writer (of_shelf fault)) × NotNamed fault × IsOpened Honest was is
 
 -- No worker began.
-abbrev pub IsUnbegun : (ℕ → List ℕ → Type 0) → Type 0 → CompactFault → Told → Told → Type 0
-IsUnbegun Stored Honest e was is = IsUnopened Stored Honest e was is ⊎ IsUnmanned Honest e was is
+abbrev pub IsUnbegun : (ℕ → List ℕ → Type 0) → (ℕ → ShelfFault → Type 0) → Type 0 → CompactFault → Told → Told → Type 0
+IsUnbegun Stored Refused Honest e was is = IsUnopened Stored Refused Honest e was is ⊎ IsUnmanned Honest e was is
 
 -- Workers ended, the first one in their order that has a fault with this one.
 abbrev pub IsWorkersFault : Type 0 → ℕ → CompactFault → Type 0
@@ -129,15 +129,15 @@ abbrev pub IsUnwritten : Type 0 → ℕ → CompactFault → Told → Told → T
 IsUnwritten Honest workers e was is = (e ≡ Writer WriteFault) × ((ends : List WorkerEnd) × Compacts Honest workers ends was is)
 
 -- What a fault says.
-abbrev pub IsCompactFault : (ℕ → List ℕ → Type 0) → Type 0 → ℕ → CompactFault → Told → Told → Type 0
-IsCompactFault Stored Honest workers e was is =
+abbrev pub IsCompactFault : (ℕ → List ℕ → Type 0) → (ℕ → ShelfFault → Type 0) → Type 0 → ℕ → CompactFault → Told → Told → Type 0
+IsCompactFault Stored Refused Honest workers e was is =
     IsOutOfMemory e was is
-    ⊎ (IsUnbegun Stored Honest e was is
+    ⊎ (IsUnbegun Stored Refused Honest e was is
     ⊎ (IsUnfinished Honest workers e was is
     ⊎ (((fault : StateFault) × (e ≡ Writer (State fault)) × IsUnswept Honest workers fault was is)
     ⊎ IsUnwritten Honest workers e was is)))
 
 -- What a refusal is: what the fault says; and, unless a write failed, nothing was written on standard output.
-pub record IsRefused (Stored : ℕ → List ℕ → Type 0) (Honest : Type 0) (workers : ℕ) (fault : CompactFault) (was is : Told) (old new : Option (List ℕ)) : Type 0 where
-  pub says : IsCompactFault Stored Honest workers fault was is
+pub record IsRefused (Stored : ℕ → List ℕ → Type 0) (Refused : ℕ → ShelfFault → Type 0) (Honest : Type 0) (workers : ℕ) (fault : CompactFault) (was is : Told) (old new : Option (List ℕ)) : Type 0 where
+  pub says : IsCompactFault Stored Refused Honest workers fault was is
   pub left : fault ≢ Writer WriteFault → Keeps old new

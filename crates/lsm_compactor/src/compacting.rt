@@ -41,7 +41,7 @@ fn man<N: Boarded, S: Shelf, R: Wait>(
     ensures here { IfOk result (λ c. All (λ s. (S.told s).place ≡ N.place) c.shelves.items) }
     ensures count { IfOk result (λ c. vec_len c.shelves ≡ workers) }
     ensures opened { OnOk result (IsOpened S.honest (S.told shelf.old) (S.told shelf.new)) }
-    ensures refused { IfErr result (λ e. IsUnbegun (λ number image. (r : S.Receipt) × S.is_of N.place r × (S.Receipt.number r ≡ number) × (S.Receipt.image r ≡ image)) S.honest e (S.told shelf.old) (S.told shelf.new)) }
+    ensures refused { IfErr result (λ e. IsUnbegun (λ number image. (r : S.Receipt) × S.is_of N.place r × (S.Receipt.number r ≡ number) × (S.Receipt.image r ≡ image)) (S.refuses N.place) S.honest e (S.told shelf.old) (S.told shelf.new)) }
 {
     let state = open(rt, alloc, shelf, ends)?;
     match Crew::new(alloc, state, shelf, workers) {
@@ -91,7 +91,7 @@ fn compact_as<N: Boarded, S: Shelf, R: Threads + Wait + Sync, O: Write>(
     requires board { IsNewBoard N.board usual ends.publisher ends.pinners.items }
     requires seats { vec_len ends.pinners ≡ usual.readers }
     ensures done { OnOk result (IsCompacted S.honest workers (S.told shelf.old) (S.told shelf.new) (O.contents out.old) (O.contents out.new)) }
-    ensures fault { IfErr result (λ e. IsCompactFault (λ number image. (r : S.Receipt) × S.is_of N.place r × (S.Receipt.number r ≡ number) × (S.Receipt.image r ≡ image)) S.honest workers e (S.told shelf.old) (S.told shelf.new)) }
+    ensures fault { IfErr result (λ e. IsCompactFault (λ number image. (r : S.Receipt) × S.is_of N.place r × (S.Receipt.number r ≡ number) × (S.Receipt.image r ≡ image)) (S.refuses N.place) S.honest workers e (S.told shelf.old) (S.told shelf.new)) }
     ensures left { IfErr result (λ e. e ≢ WriterVariant WriteFault → Keeps (O.contents out.old) (O.contents out.new)) }
 {
     let Crew { store, shelves } = man::<N, S, R>(rt, alloc, shelf, workers, ends)?;
@@ -112,7 +112,7 @@ pub(crate) fn compact_to<S: Shelf, R: Threads + Wait + Sync, O: Write>(
     out: &mut O,
 ) -> Result<(), CompactFault>
     ensures done { OnOk result (IsCompacted S.honest workers (S.told shelf.old) (S.told shelf.new) (O.contents out.old) (O.contents out.new)) }
-    ensures fault { IfErr result (λ e. IsCompactFault (λ number image. (r : S.Receipt) × S.is_of (S.told shelf.old).place r × (S.Receipt.number r ≡ number) × (S.Receipt.image r ≡ image)) S.honest workers e (S.told shelf.old) (S.told shelf.new)) }
+    ensures fault { IfErr result (λ e. IsCompactFault (λ number image. (r : S.Receipt) × S.is_of (S.told shelf.old).place r × (S.Receipt.number r ≡ number) × (S.Receipt.image r ≡ image)) (S.refuses (S.told shelf.old).place) S.honest workers e (S.told shelf.old) (S.told shelf.new)) }
     ensures left { IfErr result (λ e. e ≢ WriterVariant WriteFault → Keeps (O.contents out.old) (O.contents out.new)) }
 {
     let ends = make_ends(alloc)?;

@@ -29,7 +29,7 @@ pub(crate) fn open<N: Boarded, S: Shelf, R: Wait>(
     requires seats { vec_len ends.pinners ≡ usual.readers }
     ensures opened { IfOk result (λ s. IsReopened S.honest s (S.told shelf.old) (S.told shelf.new)) }
     ensures seats { IfOk result (λ s. SeatsPinners s) }
-    ensures refused { IfErr result (λ e. IsUnopened (λ number image. (r : S.Receipt) × S.is_of N.place r × (S.Receipt.number r ≡ number) × (S.Receipt.image r ≡ image)) S.honest e (S.told shelf.old) (S.told shelf.new)) }
+    ensures refused { IfErr result (λ e. IsUnopened (λ number image. (r : S.Receipt) × S.is_of N.place r × (S.Receipt.number r ≡ number) × (S.Receipt.image r ≡ image)) (S.refuses N.place) S.honest e (S.told shelf.old) (S.told shelf.new)) }
 {
     made_states_seat_their_pinners();
     let options = Options::usual();

@@ -48,7 +48,7 @@ pub fn compact<S: Shelf, R: Threads + Wait + Sync, O: Write, E: Write>(
     err: &mut E,
 ) -> u8
     ensures done { result ≡ 0 → IsCompacted S.honest workers (S.told shelf.old) (S.told shelf.new) (O.contents out.old) (O.contents out.new) }
-    ensures refused { result ≢ 0 → (result ≡ 1) × ((fault : CompactFault) × IsRefused (λ number image. (r : S.Receipt) × S.is_of (S.told shelf.old).place r × (S.Receipt.number r ≡ number) × (S.Receipt.image r ≡ image)) S.honest workers fault (S.told shelf.old) (S.told shelf.new) (O.contents out.old) (O.contents out.new)) }
+    ensures refused { result ≢ 0 → (result ≡ 1) × ((fault : CompactFault) × IsRefused (λ number image. (r : S.Receipt) × S.is_of (S.told shelf.old).place r × (S.Receipt.number r ≡ number) × (S.Receipt.image r ≡ image)) (S.refuses (S.told shelf.old).place) S.honest workers fault (S.told shelf.old) (S.told shelf.new) (O.contents out.old) (O.contents out.new)) }
 {
     let done = compact_to(rt, alloc, shelf, workers, out);
     status_of(done, err)

@@ -35,7 +35,7 @@ pub fn open<N: Naming, S: Shelf, R: Wait>(
     requires here { (S.told shelf.old).place ≡ N.place }
     requires named { arc_value registry ≡ N.registry }
     ensures opened { IfOk result (λ o. Holds S.honest (S.told shelf.old) (S.told shelf.new) o.version o.rest o.log o.prev_log) }
-    ensures refused { IfErr result (λ e. IsOpenRefusal (λ number image. (r : S.Receipt) × S.is_of N.place r × (S.Receipt.number r ≡ number) × (S.Receipt.image r ≡ image)) S.honest e (S.told shelf.old) (S.told shelf.new)) }
+    ensures refused { IfErr result (λ e. IsOpenRefusal (λ number image. (r : S.Receipt) × S.is_of N.place r × (S.Receipt.number r ≡ number) × (S.Receipt.image r ≡ image)) (S.refuses N.place) S.honest e (S.told shelf.old) (S.told shelf.new)) }
     ensures reads { OnlyReads (S.told shelf.old) (S.told shelf.new) }
     ensures place { (S.told shelf.new).place ≡ N.place }
 {

@@ -107,7 +107,7 @@ fn begin<S: Shelf, R: Wait, O: Write, E: Write>(
     err: &mut E,
 ) -> Result<(), DirectoryFault>
     ensures done { OnOk result (IsDone request.now.form request.now.command.now request.now.files.now S.honest (S.told shelf.old) (S.told shelf.new) (O.contents out.old) (O.contents out.new)) }
-    ensures refused { IfErr result (λ e. IsRefused request.now.form request.now.command.now e (λ number image. (r : S.Receipt) × S.is_of (S.told shelf.old).place r × (S.Receipt.number r ≡ number) × (S.Receipt.image r ≡ image)) S.honest (S.told shelf.old) (S.told shelf.new) (O.contents out.old) (O.contents out.new)) }
+    ensures refused { IfErr result (λ e. IsRefused request.now.form request.now.command.now e (λ number image. (r : S.Receipt) × S.is_of (S.told shelf.old).place r × (S.Receipt.number r ≡ number) × (S.Receipt.image r ≡ image)) (S.refuses (S.told shelf.old).place) S.honest (S.told shelf.old) (S.told shelf.new) (O.contents out.old) (O.contents out.new)) }
     ensures reads { OnlyReads (S.told shelf.old) (S.told shelf.new) }
     ensures quiet { IsFalse request.now.progress → Keeps (E.contents err.old) (E.contents err.new) }
 {
@@ -128,7 +128,7 @@ pub fn run<S: Shelf, R: Wait, O: Write, E: Write>(
     err: &mut E,
 ) -> u8
     ensures done { result ≡ 0 → IsDone request.now.form request.now.command.now request.now.files.now S.honest (S.told shelf.old) (S.told shelf.new) (O.contents out.old) (O.contents out.new) }
-    ensures refused { result ≢ 0 → (result ≡ 1) × ((fault : DirectoryFault) × IsRefused request.now.form request.now.command.now fault (λ number image. (r : S.Receipt) × S.is_of (S.told shelf.old).place r × (S.Receipt.number r ≡ number) × (S.Receipt.image r ≡ image)) S.honest (S.told shelf.old) (S.told shelf.new) (O.contents out.old) (O.contents out.new)) }
+    ensures refused { result ≢ 0 → (result ≡ 1) × ((fault : DirectoryFault) × IsRefused request.now.form request.now.command.now fault (λ number image. (r : S.Receipt) × S.is_of (S.told shelf.old).place r × (S.Receipt.number r ≡ number) × (S.Receipt.image r ≡ image)) (S.refuses (S.told shelf.old).place) S.honest (S.told shelf.old) (S.told shelf.new) (O.contents out.old) (O.contents out.new)) }
     ensures reads { OnlyReads (S.told shelf.old) (S.told shelf.new) }
     ensures quiet { result ≡ 0 → IsFalse request.now.progress → Keeps (E.contents err.old) (E.contents err.new) }
 {

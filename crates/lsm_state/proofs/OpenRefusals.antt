@@ -67,9 +67,9 @@ check_counted_from (AgeOrder user) n bytes was mid is t k = tt
 
 -- ---- refusals
 
-pub no_version : (Stored : ℕ → List ℕ → Type 0) (honest : Type 0) (e : CheckFault) (rest : ℕ) (h : HeldManifest) (shape : Form) (was mid is : Told) → IsRecovered h shape rest
-    → Becomes (finding h.number h.bytes was) mid → IsRefusal Stored honest shape e → CheckCounted e mid is → Becomes mid is → IsNoVersion Stored honest e was is
-no_version Stored honest e rest h shape was mid is r t why cause same = record {
+pub no_version : (Stored : ℕ → List ℕ → Type 0) (Refused : ℕ → ShelfFault → Type 0) (honest : Type 0) (e : CheckFault) (rest : ℕ) (h : HeldManifest) (shape : Form) (was mid is : Told) → IsRecovered h shape rest
+    → Becomes (finding h.number h.bytes was) mid → IsRefusal Stored Refused honest shape e → CheckCounted e mid is → Becomes mid is → IsNoVersion Stored Refused honest e was is
+no_version Stored Refused honest e rest h shape was mid is r t why cause same = record {
   held = h;
   shape = shape;
   rest = rest;

@@ -87,12 +87,12 @@ pub record IsBegun (Honest : Type 0) (limit : ℕ) (h : HeldManifest) (v : Level
 -- ---- refusals
 
 -- The manifest was read, and the tables of its shape are no version.
-pub record IsNoVersion (Stored : ℕ → List ℕ → Type 0) (Honest : Type 0) (e : CheckFault) (was is : Told) : Type 0 where
+pub record IsNoVersion (Stored : ℕ → List ℕ → Type 0) (Refused : ℕ → ShelfFault → Type 0) (Honest : Type 0) (e : CheckFault) (was is : Told) : Type 0 where
   pub held : HeldManifest
   pub shape : Form
   pub rest : ℕ
   pub recovered : IsRecovered held shape rest
-  pub why : IsRefusal Stored Honest shape e
+  pub why : IsRefusal Stored Refused Honest shape e
   pub cause : CheckCounted e was is
   pub told : Becomes (finding held.number held.bytes was) is
 
@@ -125,12 +125,12 @@ pub record IsWithoutRoom (was is : Told) : Type 0 where
 
 -- Why nothing is read, in this order: the manifest could not be read; the tables of its shape are no version; they could not be listed;
 -- a number that is taken is the last. Memory may run out on the way.
-abbrev pub IsFindRefusal : (ℕ → List ℕ → Type 0) → Type 0 → OpenFault → Told → Told → Type 0
-IsFindRefusal Stored Honest (Recover e) was is = IsRecoverRefusal e was is
-IsFindRefusal Stored Honest (Check e) was is = IsNoVersion Stored Honest e was is
-IsFindRefusal Stored Honest (Shelf e) was is = IsUnlisted Honest e was is
-IsFindRefusal Stored Honest NumbersSpent was is = IsTakenLast Honest was is
-IsFindRefusal Stored Honest OutOfMemory was is = IsWithoutRoom was is
+abbrev pub IsFindRefusal : (ℕ → List ℕ → Type 0) → (ℕ → ShelfFault → Type 0) → Type 0 → OpenFault → Told → Told → Type 0
+IsFindRefusal Stored Refused Honest (Recover e) was is = IsRecoverRefusal e was is
+IsFindRefusal Stored Refused Honest (Check e) was is = IsNoVersion Stored Refused Honest e was is
+IsFindRefusal Stored Refused Honest (Shelf e) was is = IsUnlisted Honest e was is
+IsFindRefusal Stored Refused Honest NumbersSpent was is = IsTakenLast Honest was is
+IsFindRefusal Stored Refused Honest OutOfMemory was is = IsWithoutRoom was is
 
 -- The new manifest was refused by the shelf, or for want of memory.
 pub record IsUnstarted (Honest : Type 0) (limit : ℕ) (e : ShelfFault) (was is : Told) : Type 0 where
@@ -157,8 +157,8 @@ IsStartRefusal Honest limit (Check e) was is = ⊥
 IsStartRefusal Honest limit OutOfMemory was is = ⊥
 
 -- Why no database is opened: it could not be read; or no new manifest could begin.
-abbrev pub IsOpenRefusal : (ℕ → List ℕ → Type 0) → Type 0 → ℕ → OpenFault → Told → Told → Type 0
-IsOpenRefusal Stored Honest limit e was is = IsFindRefusal Stored Honest e was is ⊎ IsStartRefusal Honest limit e was is
+abbrev pub IsOpenRefusal : (ℕ → List ℕ → Type 0) → (ℕ → ShelfFault → Type 0) → Type 0 → ℕ → OpenFault → Told → Told → Type 0
+IsOpenRefusal Stored Refused Honest limit e was is = IsFindRefusal Stored Refused Honest e was is ⊎ IsStartRefusal Honest limit e was is
 
 -- Where the manifest could not be read, the shelf was asked for it once, and a refusal counted once.
 abbrev pub IsReadOnce : OpenFault → Told → Told → Type 0

@@ -55,7 +55,7 @@ impl<N: Boarded, S: Shelf> Found<N, S> {
         requires here { (S.told shelf.old).place ≡ N.place }
         requires named { arc_value registry.now ≡ N.registry }
         ensures found { IfOk result (λ f. IsFound S.honest limit f.journal f.version f.next (S.told shelf.old) (S.told shelf.new)) }
-        ensures refused { IfErr result (λ e. IsFindRefusal (λ number image. (r : S.Receipt) × S.is_of N.place r × (S.Receipt.number r ≡ number) × (S.Receipt.image r ≡ image)) S.honest e (S.told shelf.old) (S.told shelf.new)) }
+        ensures refused { IfErr result (λ e. IsFindRefusal (λ number image. (r : S.Receipt) × S.is_of N.place r × (S.Receipt.number r ≡ number) × (S.Receipt.image r ≡ image)) (S.refuses N.place) S.honest e (S.told shelf.old) (S.told shelf.new)) }
         ensures counts_err { IfErr result (λ e. IsReadOnce e (S.told shelf.old) (S.told shelf.new)) }
     {
         recovered_is_recorded();
@@ -98,7 +98,7 @@ impl<N: Boarded, S: Shelf> State<N, S> {
         requires board { IsNewBoard N.board options board.0 board.1.items }
         ensures begun { IfOk result (λ s. IsBegun S.honest options.manifest_limit s.journal s.slots.version s.next (S.told shelf.old) (S.told shelf.new)) }
         ensures opened { IfOk result (λ s. s ≡ opened_state options board.0 board.1.items s.slots.version s.journal s.next false) }
-        ensures refused { IfErr result (λ e. IsOpenRefusal (λ number image. (r : S.Receipt) × S.is_of N.place r × (S.Receipt.number r ≡ number) × (S.Receipt.image r ≡ image)) S.honest options.manifest_limit e (S.told shelf.old) (S.told shelf.new)) }
+        ensures refused { IfErr result (λ e. IsOpenRefusal (λ number image. (r : S.Receipt) × S.is_of N.place r × (S.Receipt.number r ≡ number) × (S.Receipt.image r ≡ image)) (S.refuses N.place) S.honest options.manifest_limit e (S.told shelf.old) (S.told shelf.new)) }
         ensures counts_err { IfErr result (λ e. IsReadOnce e (S.told shelf.old) (S.told shelf.new)) }
     {
         let (publisher, pinners) = board;
@@ -143,7 +143,7 @@ impl<N: Boarded, S: Shelf> State<N, S> {
         requires board { IsNewBoard N.board options board.0 board.1.items }
         ensures found { IfOk result (λ s. IsFound S.honest options.manifest_limit s.journal s.slots.version s.next (S.told shelf.old) (S.told shelf.new)) }
         ensures opened { IfOk result (λ s. s ≡ opened_state options board.0 board.1.items s.slots.version s.journal s.next true) }
-        ensures refused { IfErr result (λ e. IsFindRefusal (λ number image. (r : S.Receipt) × S.is_of N.place r × (S.Receipt.number r ≡ number) × (S.Receipt.image r ≡ image)) S.honest e (S.told shelf.old) (S.told shelf.new)) }
+        ensures refused { IfErr result (λ e. IsFindRefusal (λ number image. (r : S.Receipt) × S.is_of N.place r × (S.Receipt.number r ≡ number) × (S.Receipt.image r ≡ image)) (S.refuses N.place) S.honest e (S.told shelf.old) (S.told shelf.new)) }
         ensures counts_err { IfErr result (λ e. IsReadOnce e (S.told shelf.old) (S.told shelf.new)) }
     {
         let (publisher, pinners) = board;

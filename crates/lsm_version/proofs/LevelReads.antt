@@ -5,6 +5,7 @@ use Rattle.std.specs.List.Sorted.{IsSortedBy}
 use Rattle.std.proofs.lemmas.List.{take_more, length-take, take-append-drop}
 use Rattle.lsm_codec.specs.Lists.{Has}
 use Rattle.lsm_codec.proofs.CallerLemmas.{contains_says, has_cases}
+use Rattle.lsm_shelf.specs.declared.shelf_fault.ShelfFault.{ShelfFault}
 use Rattle.lsm_table.specs.Registry.{Table}
 use Rattle.lsm_table.specs.HeldTable.{entries_in}
 use Rattle.lsm_manifest.specs.FileOrder.{TableFile}
@@ -100,10 +101,10 @@ around xs i x lt at =
     sym (take-append-drop (i + 1) xs) ∙ ap (λ front. front ++ drop (i + 1) xs) (take_more xs i x lt)
     ∙ append_assoc (take i xs) (get_or xs i x ∷ []) (drop (i + 1) xs) ∙ ap (λ y. take i xs ++ y ∷ drop (i + 1) xs) (sym at)
 
-pub refused_at : (Stored : ℕ → List ℕ → Type 0) (last : ℕ) (files : List TableFile) (i : ℕ) (file : TableFile) (fault : CheckFault) (tables : List Table) (spans : List Sequences)
+pub refused_at : (Stored : ℕ → List ℕ → Type 0) (Refused : ℕ → ShelfFault → Type 0) (last : ℕ) (files : List TableFile) (i : ℕ) (file : TableFile) (fault : CheckFault) (tables : List Table) (spans : List Sequences)
     → i < length files → file ≡ get_or files i file → IsLevelRead Stored last (take i files) tables spans
-    → IsFileRefusal (Stored file.number) last file fault → IsFilesRefusal Stored last files fault
-refused_at Stored last files i file fault tables spans lt at read r =
+    → IsFileRefusal (Stored file.number) (Refused file.number) last file fault → IsFilesRefusal Stored Refused last files fault
+refused_at Stored Refused last files i file fault tables spans lt at read r =
     inr (take i files, file, drop (i + 1) files, around files i file lt at, good_all Stored last (take i files) read.read read.are read.stored, r)
 
 -- ---- one more level
@@ -165,11 +166,11 @@ good_append Stored last front more good others f h = elim (has_cases front more 
   | inr there ↦ others f there
 ]
 
-pub refused_in : (Stored : ℕ → List ℕ → Type 0) (last : ℕ) (shape : List (List TableFile)) (n : ℕ) (files : List TableFile) (fault : CheckFault) (tables : List (List Table)) (spans : List (List Sequences))
+pub refused_in : (Stored : ℕ → List ℕ → Type 0) (Refused : ℕ → ShelfFault → Type 0) (last : ℕ) (shape : List (List TableFile)) (n : ℕ) (files : List TableFile) (fault : CheckFault) (tables : List (List Table)) (spans : List (List Sequences))
     → n < length shape → files ≡ get_or shape n files → AreRead Stored last (take n shape) tables spans
-    → IsFilesRefusal Stored last files fault → IsFilesRefusal Stored last (all_files shape) fault
-refused_in Stored last shape n files fault tables spans lt at read (inl want) = inl want
-refused_in Stored last shape n files fault tables spans lt at read (inr (front, file, back, is, good, r)) =
+    → IsFilesRefusal Stored Refused last files fault → IsFilesRefusal Stored Refused last (all_files shape) fault
+refused_in Stored Refused last shape n files fault tables spans lt at read (inl want) = inl want
+refused_in Stored Refused last shape n files fault tables spans lt at read (inr (front, file, back, is, good, r)) =
     let before = all_files (take n shape) in
     let behind = all_files (drop (n + 1) shape) in
     let whole : all_files shape ≡ before ++ (files ++ behind) = ap all_files (around shape n files lt at) ∙ all_append (take n shape) (files ∷ drop (n + 1) shape) in

@@ -3,6 +3,7 @@ use Rattle.std.specs.Prelude.{◌≡◌, ◌⊎◌, ℕ, ◌≤◌, List}
 use Rattle.lsm_codec.specs.Lists.{Has}
 use Rattle.lsm_codec.specs.Keys.{UserKey, UserLe}
 use Rattle.lsm_codec.specs.Entries.{Entry}
+use Rattle.lsm_shelf.specs.declared.shelf_fault.ShelfFault.{ShelfFault}
 use Rattle.lsm_table.specs.Registry.{Table}
 use Rattle.lsm_table.specs.ReadFault.{IsMemoryOrShelf}
 use Rattle.lsm_manifest.specs.declared.shape.Shape.{Shape}
@@ -66,13 +67,13 @@ IsAgeRefusal Honest v (WrongRange number) = ⊥
 abbrev pub IsAgainRefusal : (ℕ → List ℕ → Type 0) → Type 0 → Shape → CheckFault → Type 0
 IsAgainRefusal Stored Honest shape fault = (tables : List (List Table)) × AreTablesOf Stored shape tables × LieInOrder tables × IsAgeRefusal Honest (files_from 0 tables) fault
 
--- `Stored` says which images the shelf holds under which numbers, `Honest` that its later reads give these. Memory ran out beside the files, and
--- none is named; or two files have one number; or a file is refused; or the tables of all files were read, and a level from 1 on is refused; or no level
+-- `Stored` says which images the shelf holds under which numbers, `Refused` which loads it refused with which faults, `Honest` that its later reads
+-- give the stored images. Memory ran out beside the files, and none is named; or two files have one number; or a file is refused; or the tables of all files were read, and a level from 1 on is refused; or no level
 -- is, ranges and sequences alone don't settle the age order, and a second look at the tables is refused, or finds a key against age.
-abbrev pub IsRefusal : (ℕ → List ℕ → Type 0) → Type 0 → Shape → CheckFault → Type 0
-IsRefusal Stored Honest shape (DoubleFile number) = IsLeastTwice (numbers_of shape.levels) number
-IsRefusal Stored Honest shape (Read file fault) =
-    NamesNone file fault ⊎ ((AreDistinct (numbers_of shape.levels) × IsFilesRefusal Stored shape.last (all_files shape.levels) (Read file fault)) ⊎ IsAgainRefusal Stored Honest shape (Read file fault))
-IsRefusal Stored Honest shape (WrongRange number) = AreDistinct (numbers_of shape.levels) × IsFilesRefusal Stored shape.last (all_files shape.levels) (WrongRange number)
-IsRefusal Stored Honest shape (Overlap level) = (tables : List (List Table)) × AreTablesOf Stored shape tables × IsLayoutRefusal tables (Overlap level)
-IsRefusal Stored Honest shape (AgeOrder user) = IsAgainRefusal Stored Honest shape (AgeOrder user)
+abbrev pub IsRefusal : (ℕ → List ℕ → Type 0) → (ℕ → ShelfFault → Type 0) → Type 0 → Shape → CheckFault → Type 0
+IsRefusal Stored Refused Honest shape (DoubleFile number) = IsLeastTwice (numbers_of shape.levels) number
+IsRefusal Stored Refused Honest shape (Read file fault) =
+    NamesNone file fault ⊎ ((AreDistinct (numbers_of shape.levels) × IsFilesRefusal Stored Refused shape.last (all_files shape.levels) (Read file fault)) ⊎ IsAgainRefusal Stored Honest shape (Read file fault))
+IsRefusal Stored Refused Honest shape (WrongRange number) = AreDistinct (numbers_of shape.levels) × IsFilesRefusal Stored Refused shape.last (all_files shape.levels) (WrongRange number)
+IsRefusal Stored Refused Honest shape (Overlap level) = (tables : List (List Table)) × AreTablesOf Stored shape tables × IsLayoutRefusal tables (Overlap level)
+IsRefusal Stored Refused Honest shape (AgeOrder user) = IsAgainRefusal Stored Honest shape (AgeOrder user)

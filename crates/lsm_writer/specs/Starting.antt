@@ -35,7 +35,7 @@ abbrev pub IsStarted : Type 0 → Bool → Held → Told → Told → Type 0
 IsStarted Honest true h was is = IsNew h was is
 IsStarted Honest false h was is = IsReopened Honest h was is
 
--- Why there is no such state. `Stored` says which images the shelf gave for which numbers.
-abbrev pub IsStartRefusal : (ℕ → List ℕ → Type 0) → Type 0 → Bool → WriterFault → Told → Told → Type 0
-IsStartRefusal Stored Honest true e was is = (fault : ShelfFault) × (e ≡ of_shelf fault) × IsCreateRefusal fault was is
-IsStartRefusal Stored Honest false e was is = (fault : OpenFault) × (e ≡ of_open fault) × IsOpenRefusal Stored Honest usual.manifest_limit fault was is
+-- Why there is no such state. `Stored` says which images the shelf gave for which numbers, `Refused` which loads it refused with which faults.
+abbrev pub IsStartRefusal : (ℕ → List ℕ → Type 0) → (ℕ → ShelfFault → Type 0) → Type 0 → Bool → WriterFault → Told → Told → Type 0
+IsStartRefusal Stored Refused Honest true e was is = (fault : ShelfFault) × (e ≡ of_shelf fault) × IsCreateRefusal fault was is
+IsStartRefusal Stored Refused Honest false e was is = (fault : OpenFault) × (e ≡ of_open fault) × IsOpenRefusal Stored Refused Honest usual.manifest_limit fault was is

@@ -43,7 +43,7 @@ fn bring_in_as<N: Boarded, S: Shelf, R: Wait, O: Write>(
     requires named { arc_value ends.registry ≡ N.registry }
     requires board { IsNewBoard N.board usual ends.publisher ends.pinners.items }
     ensures done { OnOk result (IsBroughtIn S.honest is_new batch.now (S.told shelf.old) (S.told shelf.new) (O.contents out.old) (O.contents out.new)) }
-    ensures fault { IfErr result (λ e. IsIngestFault (λ number image. (r : S.Receipt) × S.is_of N.place r × (S.Receipt.number r ≡ number) × (S.Receipt.image r ≡ image)) S.honest is_new batch.now e (S.told shelf.old) (S.told shelf.new)) }
+    ensures fault { IfErr result (λ e. IsIngestFault (λ number image. (r : S.Receipt) × S.is_of N.place r × (S.Receipt.number r ≡ number) × (S.Receipt.image r ≡ image)) (S.refuses N.place) S.honest is_new batch.now e (S.told shelf.old) (S.told shelf.new)) }
     ensures left { IfErr result (λ e. e ≢ WriteFault → Keeps (O.contents out.old) (O.contents out.new)) }
 {
     let mut state: State<N, S> = start(rt, alloc, shelf, is_new, ends)?;
@@ -64,7 +64,7 @@ pub(crate) fn bring_in<S: Shelf, R: Wait, O: Write>(
     out: &mut O,
 ) -> Result<(), WriterFault>
     ensures done { OnOk result (IsBroughtIn S.honest is_new batch.now (S.told shelf.old) (S.told shelf.new) (O.contents out.old) (O.contents out.new)) }
-    ensures fault { IfErr result (λ e. IsIngestFault (λ number image. (r : S.Receipt) × S.is_of (S.told shelf.old).place r × (S.Receipt.number r ≡ number) × (S.Receipt.image r ≡ image)) S.honest is_new batch.now e (S.told shelf.old) (S.told shelf.new)) }
+    ensures fault { IfErr result (λ e. IsIngestFault (λ number image. (r : S.Receipt) × S.is_of (S.told shelf.old).place r × (S.Receipt.number r ≡ number) × (S.Receipt.image r ≡ image)) (S.refuses (S.told shelf.old).place) S.honest is_new batch.now e (S.told shelf.old) (S.told shelf.new)) }
     ensures left { IfErr result (λ e. e ≢ WriteFault → Keeps (O.contents out.old) (O.contents out.new)) }
 {
     let ends = make_ends(alloc)?;

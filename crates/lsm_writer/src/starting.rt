@@ -25,7 +25,7 @@ pub(crate) fn start<N: Boarded, S: Shelf, R: Wait>(
     requires named { arc_value ends.registry ≡ N.registry }
     requires board { IsNewBoard N.board usual ends.publisher ends.pinners.items }
     ensures started { IfOk result (λ s. IsStarted S.honest is_new s (S.told shelf.old) (S.told shelf.new)) }
-    ensures refused { IfErr result (λ e. IsStartRefusal (λ number image. (r : S.Receipt) × S.is_of N.place r × (S.Receipt.number r ≡ number) × (S.Receipt.image r ≡ image)) S.honest is_new e (S.told shelf.old) (S.told shelf.new)) }
+    ensures refused { IfErr result (λ e. IsStartRefusal (λ number image. (r : S.Receipt) × S.is_of N.place r × (S.Receipt.number r ≡ number) × (S.Receipt.image r ≡ image)) (S.refuses N.place) S.honest is_new e (S.told shelf.old) (S.told shelf.new)) }
 {
     let options = Options::usual();
     let registry = ends.registry;

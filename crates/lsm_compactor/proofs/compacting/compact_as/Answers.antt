@@ -12,13 +12,13 @@ pub returns-in_err-done-clause-fault : goal.returns-in_err-done-clause-fault
 returns-in_err-done-clause-fault g c =
     let p = err_from_is_err_and c.from_residual-in_err-done.result c.from_residual-in_err-done.ensures.1 in
     let count : c.in_ok-store.field-0.shelves.len ≡ c.args.workers = search rules in
-    rw (p.1, p.2) (unfinished _ g.S.Shelf.honest c.args.workers c.in_ok-store.field-0.shelves.len c.in_err-done.field-0.0 _ _ count c.in_ok-store.ensures.opened c.in_err-done.ensures.refused)
+    rw (p.1, p.2) (unfinished _ _ g.S.Shelf.honest c.args.workers c.in_ok-store.field-0.shelves.len c.in_err-done.field-0.0 _ _ count c.in_ok-store.ensures.opened c.in_err-done.ensures.refused)
 
 pub returns-in_err-sweep-clause-fault : goal.returns-in_err-sweep-clause-fault
 returns-in_err-sweep-clause-fault g c =
     let p = err_from_is_err_and c.from_residual-in_err-sweep.result c.from_residual-in_err-sweep.ensures.1 in
     let count : c.in_ok-store.field-0.shelves.len ≡ c.args.workers = search rules in
-    rw (p.1, p.2) (unswept _ g.S.Shelf.honest c.args.workers c.in_ok-store.field-0.shelves.len c.in_ok-done.done.items c.in_err-sweep.field-0.0 _ _ _ count c.in_ok-store.ensures.opened
+    rw (p.1, p.2) (unswept _ _ g.S.Shelf.honest c.args.workers c.in_ok-store.field-0.shelves.len c.in_ok-done.done.items c.in_err-sweep.field-0.0 _ _ _ count c.in_ok-store.ensures.opened
     c.in_ok-done.ensures.ends c.in_ok-done.ensures.faultless c.in_err-sweep.ensures.refused)
 
 pub returns-clause-fault : goal.returns-clause-fault

@@ -8,7 +8,7 @@ returns-clause-done g c =
 
 pub returns-clause-fault : goal.returns-clause-fault
 returns-clause-fault g c =
-    is_fault c.perform_on.result _ g.S.Shelf.honest _ _ _ _ _ _ _ c.perform_on.ensures.told c.in_ok-opened.ensures.opened c.perform_on.ensures.fault
+    is_fault c.perform_on.result _ _ g.S.Shelf.honest _ _ _ _ _ _ _ c.perform_on.ensures.told c.in_ok-opened.ensures.opened c.perform_on.ensures.fault
 
 pub returns-clause-left : goal.returns-clause-left
 returns-clause-left g c =
@@ -18,7 +18,7 @@ returns-clause-left g c =
 pub returns-in_err-opened-clause-left : goal.returns-in_err-opened-clause-left
 returns-in_err-opened-clause-left g c =
     let p = err_from_is_err_and c.from_residual-in_err-opened.result c.from_residual-in_err-opened.ensures.1 in
-    rw (p.1, p.2) (keeps_leaves c.args.request.now.form c.args.request.now.command.now g.S.Shelf.honest _ c.in_err-opened.field-0.0 _ _ _ c.in_err-opened.ensures.refused)
+    rw (p.1, p.2) (keeps_leaves c.args.request.now.form c.args.request.now.command.now g.S.Shelf.honest _ _ c.in_err-opened.field-0.0 _ _ _ c.in_err-opened.ensures.refused)
 
 pub returns-in_err-shared-clause-left : goal.returns-in_err-shared-clause-left
 returns-in_err-shared-clause-left g c =

@@ -17,7 +17,7 @@ pub returns-in_err-version-clause-refused : goal.returns-in_err-version-clause-r
 returns-in_err-version-clause-refused g c =
     let p = err_from_is_err_and c.from_residual-in_err-version.result c.from_residual-in_err-version.ensures.1 in
     let r = c.in_ok-recovered.recovered in
-    rw (p.1, p.2) (no_version _ g.S.Shelf.honest c.in_err-version.field-0.0 r.rest r.journal r.shape _ (g.S.Shelf.told c.recover.new.shelf) _ c.in_ok-recovered.ensures.recovered c.in_ok-recovered.ensures.found
+    rw (p.1, p.2) (no_version _ _ g.S.Shelf.honest c.in_err-version.field-0.0 r.rest r.journal r.shape _ (g.S.Shelf.told c.recover.new.shelf) _ c.in_ok-recovered.ensures.recovered c.in_ok-recovered.ensures.found
     c.in_err-version.ensures.refused c.in_err-version.ensures.cause c.check.ensures.told)
 
 pub returns-in_err-taken-clause-refused : goal.returns-in_err-taken-clause-refused
