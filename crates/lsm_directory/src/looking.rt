@@ -1,10 +1,13 @@
 //! Which logs a folder has, as it tells their names and sizes.
 
-ghost use Rattle.std.specs.Prelude.{◌≡◌, ◌∷◌, List, ℕ, Err, Ok, IfErr, IfOk, MatchOption, OnOk, map, string_bytes};
+ghost use Rattle.std.specs.Prelude.{◌≡◌, ◌∷◌, [], List, ℕ, Err, Ok, IfErr, IfOk, MatchOption, OnOk, map, string_bytes};
 ghost use Rattle.std.specs.Cmp.Lexicographic.{slice_cmp};
 ghost use Rattle.std.specs.List.Sorted.{IsPermutation, IsSorted};
 ghost use Rattle.std.specs.Ordering.{nat_cmp};
-ghost use Rattle.lsm_folder.specs.Calls.{listed, measured};
+ghost use Rattle.lsm_folder.specs.Calls.{listed, measured, opened};
+ghost use Rattle.lsm_folder.specs.Place.{IsAtPath};
+ghost use Rattle.lsm_folder.specs.SystemFolder.{system_calls, system_place};
+ghost use Rattle.lsm_folder.specs.declared.system_folder.SystemFolder.{SystemFolder};
 ghost use Rattle.lsm_folder.specs.declared.folder_fault.FolderFault.TheVariants.{Missing};
 ghost use Rattle.lsm_shelf.specs.FolderFault.{device_of};
 ghost use Rattle.lsm_shelf.specs.Told.{NotNamed};
@@ -151,9 +154,12 @@ pub fn system_log_files<R: Files + AllocGlobal + Clone + Drop, W: Wait>(
     rt: R,
     path: &str,
 ) -> Result<Vec<FolderFile>, ShelfFault>
+    ensures told { IfOk result (λ files. (folder : SystemFolder R R.File R.Dir) × IsAtPath path.now (system_place folder) × TellsLogs files.items (opened ∷ []) (system_calls folder)) }
     ensures fault { IfErr result NotNamed }
 {
     let alloc = rt.alloc();
-    let mut folder = SystemFolder::open(rt, path).map_err(|e| device(e))?;
-    log_files(waits, alloc, &mut folder)
+    match SystemFolder::open(rt, path) {
+        Ok(mut folder) => log_files(waits, alloc, &mut folder),
+        Err(fault) => Err(device(fault)),
+    }
 }
