@@ -1,8 +1,7 @@
 -- Looks at a folder one after another.
-use Rattle.std.proofs.Common.{◌≡◌, ◌≢◌, ℕ, ◌+◌, ◌<◌, List, [], ◌∷◌, ◌++◌, refl, sym, ap, ◌∙◌, subst, append_assoc, append-nil, inl, inr, length, get_or, map, arith, String, Vec}
+use Rattle.std.proofs.Common.{◌≡◌, ◌≢◌, ℕ, ◌+◌, ◌<◌, List, [], ◌∷◌, ◌++◌, refl, sym, ap, ◌∙◌, subst, append_assoc, append-nil, inl, inr, length, map, arith, String, Vec}
 use Rattle.std.specs.Prelude.{Result, Ok, Err, IfErr, IfOk, reverse, string_bytes}
 use Rattle.std.specs.Cmp.Lexicographic.{slice_cmp}
-use Rattle.std.specs.List.{flat_map}
 use Rattle.std.specs.List.Sorted.{IsPermutation, IsSorted}
 use Rattle.std.specs.Ordering.{nat_cmp}
 use Rattle.std.specs.String.{string_cmp}
@@ -20,7 +19,7 @@ use Rattle.lsm_shelf.specs.FolderFault.{device_of}
 use Rattle.lsm_shelf.specs.declared.shelf_fault.ShelfFault.{ShelfFault}
 use Rattle.lsm_shelf.specs.declared.shelf_fault.ShelfFault.TheVariants as shelf
 use Rattle.lsm_directory.specs.Logs.{AreThose}
-use Rattle.lsm_directory.specs.Looking.{AddsLog, Asked, AsksSizes, EndsLikeLog, IsLook, IsRefusedLook, IsSizeOrGone, LooksStopped, OnlyLooks, TellsLogs, after, named, size_in, sized}
+use Rattle.lsm_directory.specs.Looking.{AddsLog, Asked, AsksSizes, EndsLikeLog, IsLook, IsSizeOrGone, LooksStopped, OnlyLooks, TellsLogs, after, named, size_in, sized}
 use Rattle.lsm_directory.specs.declared.folder_file.FolderFile.{FolderFile}
 
 pub looks_same : (a : List Call) → OnlyLooks a a

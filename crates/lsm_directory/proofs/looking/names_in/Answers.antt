@@ -1,5 +1,3 @@
-use Rattle.std.proofs.Common.{map, inl}
-use Rattle.std.specs.Prelude.{Err, Ok, string_bytes}
 use Rattle.lsm_directory.proofs.LookLaws.{list_refused, looks_listed, memory_stopped, names_listed}
 use Rattle.lsm_directory.proofs.looking.names_in.Goals as goal
 
