@@ -1,5 +1,5 @@
 -- What a command answers, by what opening the directory and asking it answer.
-use Rattle.std.proofs.Common.{◌≢◌, ℕ, List, Option, IfErr, OnOk, ◌≡◌, ◌++◌, [], ◌∷◌, Bool, true, false, inl, inr, refl, sym, subst, append_assoc}
+use Rattle.std.proofs.Common.{◌≢◌, ℕ, List, Option, IfErr, OnOk, ◌≡◌, ◌++◌, [], ◌∷◌, inl, inr, sym, subst, append_assoc}
 use Rattle.std.specs.Prelude.{Result, Ok, Err, Some, None, IfSome, codes}
 use Rattle.std.specs.Io.KnownBytes.{Appends, Keeps}
 use Rattle.std.proofs.KnownBytes.{Appends-kept, Appends-trans, Keeps-refl}

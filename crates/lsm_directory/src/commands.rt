@@ -99,29 +99,6 @@ fn checked<N: Naming, S: Shelf, E: Write>(
     Ok(text)
 }
 
-/// Prints that.
-#[tactic(auto, using(crate::proofs::FaultLaws::answer_fault_from_read, crate::proofs::FaultLaws::answer_fault_from_output, crate::proofs::Quiet::keeps_same))]
-fn print_check<N: Naming, S: Shelf, O: Write, E: Write>(
-    shelf: &mut S,
-    alloc: Global,
-    registry: &Registry<S::Receipt>,
-    opened: &Opened<N, S>,
-    request: &Request<'_>,
-    out: &mut O,
-    err: &mut E,
-) -> Result<(), DirectoryFault>
-    requires here { (S.told shelf.old).place ≡ N.place }
-    requires named { registry.now ≡ N.registry }
-    ensures done { S.honest → OnOk result (Prints request.now.form Check opened.now.version opened.now.rest opened.now.log opened.now.prev_log request.now.files.now (O.contents out.old) (O.contents out.new)) }
-    ensures left { IfErr result (λ e. e ≢ WriteFault → Keeps (O.contents out.old) (O.contents out.new)) }
-    ensures fault { IfErr result (λ e. IsAnswerFault S.honest e (S.told shelf.old) (S.told shelf.new)) }
-    ensures told { Becomes (S.told shelf.old) (S.told shelf.new) }
-    ensures quiet { IsFalse request.now.progress → Keeps (E.contents err.old) (E.contents err.new) }
-{
-    let text = checked(shelf, alloc, registry, opened, request, err)?;
-    write_output(out, text.as_slice())
-}
-
 /// Does what a command asks of a directory that is open.
 #[tactic(auto, using(crate::proofs::FaultLaws::answer_fault_from_read, crate::proofs::FaultLaws::answer_fault_from_output, crate::proofs::Quiet::keeps_same))]
 fn perform_on<N: Naming, S: Shelf, O: Write, E: Write>(
@@ -143,9 +120,7 @@ fn perform_on<N: Naming, S: Shelf, O: Write, E: Write>(
 {
     let version = &opened.version;
     let text = match request.command {
-        DirectoryCommand::Check => {
-            return print_check(shelf, alloc, registry, opened, request, out, err);
-        }
+        DirectoryCommand::Check => checked(shelf, alloc, registry, opened, request, err)?,
         DirectoryCommand::List => list_files(alloc, request.form, registry, version)?,
         DirectoryCommand::Get(key) => answer_of(
             shelf,

@@ -1,8 +1,18 @@
 //! Which logs a folder has, as it tells their names and sizes.
 
-ghost use Rattle.std.specs.Prelude.{◌≡◌, IfErr};
+ghost use Rattle.std.specs.Prelude.{◌≡◌, ◌∷◌, [], List, ℕ, Err, Ok, IfErr, IfOk, MatchOption, OnOk, map, string_bytes};
+ghost use Rattle.std.specs.Cmp.Lexicographic.{slice_cmp};
+ghost use Rattle.std.specs.List.Sorted.{IsPermutation, IsSorted};
+ghost use Rattle.std.specs.Ordering.{nat_cmp};
+ghost use Rattle.lsm_folder.specs.Calls.{listed, measured, opened};
+ghost use Rattle.lsm_folder.specs.Place.{IsAtPath};
+ghost use Rattle.lsm_folder.specs.SystemFolder.{system_calls, system_place};
+ghost use Rattle.lsm_folder.specs.declared.system_folder.SystemFolder.{SystemFolder};
+ghost use Rattle.lsm_folder.specs.declared.folder_fault.FolderFault.TheVariants.{Missing};
+ghost use Rattle.lsm_shelf.specs.FolderFault.{device_of};
 ghost use Rattle.lsm_shelf.specs.Told.{NotNamed};
-ghost use Rattle.lsm_directory.specs.Looking.{OnlyLooks};
+ghost use Rattle.lsm_shelf.specs.declared.shelf_fault.ShelfFault.TheVariants.{OutOfMemory};
+ghost use Rattle.lsm_directory.specs.Looking.{AddsLog, AsksSizes, LooksStopped, OnlyLooks, TellsLogs};
 
 use crate::folder_file::FolderFile;
 use lsm_folder::{FolderCalls, FolderFault, SystemFolder};
@@ -13,7 +23,8 @@ use std::sync::Wait;
 
 /// What a refusal of a folder means to one that asks it.
 fn device(fault: FolderFault) -> ShelfFault
-    ensures { NotNamed result }
+    ensures device { result ≡ device_of fault }
+    ensures fault { NotNamed result }
 {
     match fault {
         FolderFault::OutOfMemory => ShelfFault::OutOfMemory,
@@ -21,46 +32,34 @@ fn device(fault: FolderFault) -> ShelfFault
     }
 }
 
-/// What a refusal to measure a file means: one that is gone has no size.
-fn gone(fault: FolderFault) -> Result<Option<u64>, ShelfFault>
-    ensures { IfErr result NotNamed }
+/// The names, ascending.
+fn in_order(mut names: Vec<String>) -> Result<Vec<String>, ShelfFault>
+    ensures same { IfOk result (λ v. IsPermutation (map string_bytes names.items) (map string_bytes v.items)) }
+    ensures ascending { IfOk result (λ v. IsSorted (slice_cmp nat_cmp) (map string_bytes v.items)) }
+    ensures memory { IfErr result (λ e. e ≡ OutOfMemory) }
 {
-    match fault {
-        FolderFault::Missing => Ok(None),
-        _ => Err(device(fault)),
+    match names.sort() {
+        Ok(()) => Ok(names),
+        Err(_) => Err(ShelfFault::OutOfMemory),
     }
 }
 
-/// The names of the folder's files.
-fn list_names<C: FolderCalls, R: Wait>(
-    rt: &R,
-    alloc: Global,
-    folder: &mut C,
-) -> Result<Vec<String>, ShelfFault>
-    ensures looked { OnlyLooks (C.calls folder.old) (C.calls folder.new) }
-    ensures place { C.place folder.new ≡ C.place folder.old }
-    ensures fault { IfErr result NotNamed }
-{
-    match folder.list(rt, alloc) {
-        Ok(names) => Ok(names),
-        Err(fault) => Err(device(fault)),
-    }
-}
-
-/// The same, ascending.
+/// The names of the folder's files, ascending.
 fn names_in<C: FolderCalls, R: Wait>(
     rt: &R,
     alloc: Global,
     folder: &mut C,
 ) -> Result<Vec<String>, ShelfFault>
+    ensures listed { IfOk result (λ v. (names : List (List ℕ)) × (C.calls folder.new ≡ listed (Ok names) ∷ C.calls folder.old) × IsPermutation names (map string_bytes v.items)) }
+    ensures ascending { IfOk result (λ v. IsSorted (slice_cmp nat_cmp) (map string_bytes v.items)) }
+    ensures refused { IfErr result (λ e. LooksStopped e (C.calls folder.old) (C.calls folder.new)) }
     ensures looked { OnlyLooks (C.calls folder.old) (C.calls folder.new) }
     ensures place { C.place folder.new ≡ C.place folder.old }
     ensures fault { IfErr result NotNamed }
 {
-    let mut names = list_names(rt, alloc, folder)?;
-    match names.sort() {
-        Ok(()) => Ok(names),
-        Err(_) => Err(ShelfFault::OutOfMemory),
+    match folder.list(rt, alloc) {
+        Ok(names) => in_order(names),
+        Err(fault) => Err(device(fault)),
     }
 }
 
@@ -70,24 +69,32 @@ fn size_of<C: FolderCalls, R: Wait>(
     folder: &mut C,
     name: &str,
 ) -> Result<Option<u64>, ShelfFault>
+    ensures measured { IfOk result (λ o. MatchOption o
+        (C.calls folder.new ≡ measured name.now (Err Missing) ∷ C.calls folder.old)
+        (λ size. C.calls folder.new ≡ measured name.now (Ok size) ∷ C.calls folder.old)) }
+    ensures refused { IfErr result (λ e. LooksStopped e (C.calls folder.old) (C.calls folder.new)) }
     ensures looked { OnlyLooks (C.calls folder.old) (C.calls folder.new) }
     ensures place { C.place folder.new ≡ C.place folder.old }
     ensures fault { IfErr result NotNamed }
 {
     match folder.length(rt, name) {
         Ok(size) => Ok(Some(size)),
-        Err(fault) => gone(fault),
+        Err(fault) => match fault {
+            FolderFault::Missing => Ok(None),
+            _ => Err(device(fault)),
+        },
     }
 }
 
 /// Adds the file of this name where the name ends like a log's.
-#[tactic(auto, using(crate::proofs::LookLaws::looks_same))]
 fn add_log<C: FolderCalls, R: Wait>(
     rt: &R,
     folder: &mut C,
     files: &mut Vec<FolderFile>,
     name: String,
 ) -> Result<(), ShelfFault>
+    ensures added { OnOk result (AddsLog (string_bytes name) files.old.items files.new.items (C.calls folder.old) (C.calls folder.new)) }
+    ensures refused { IfErr result (λ e. LooksStopped e (C.calls folder.old) (C.calls folder.new)) }
     ensures looked { OnlyLooks (C.calls folder.old) (C.calls folder.new) }
     ensures place { C.place folder.new ≡ C.place folder.old }
     ensures fault { IfErr result NotNamed }
@@ -104,23 +111,41 @@ fn add_log<C: FolderCalls, R: Wait>(
     }
 }
 
-/// The files of a folder whose names end like a log's, by name, with their sizes. The folder is asked for its names and for sizes alone: no
-/// file is opened. `Device` where the folder fails.
-pub fn log_files<C: FolderCalls, R: Wait>(
+/// The files among these names that end like a log's, with their sizes. One that is gone is left out.
+fn logs_among<C: FolderCalls, R: Wait>(
     rt: &R,
     alloc: Global,
     folder: &mut C,
+    names: Vec<String>,
 ) -> Result<Vec<FolderFile>, ShelfFault>
+    ensures told { IfOk result (λ files. AsksSizes (map string_bytes names.items) files.items (C.calls folder.old) (C.calls folder.new)) }
+    ensures refused { IfErr result (λ e. LooksStopped e (C.calls folder.old) (C.calls folder.new)) }
     ensures looked { OnlyLooks (C.calls folder.old) (C.calls folder.new) }
     ensures place { C.place folder.new ≡ C.place folder.old }
     ensures fault { IfErr result NotNamed }
 {
-    let names = names_in(rt, alloc, folder)?;
     let mut files = Vec::new(alloc);
     for name in names {
         add_log(rt, folder, &mut files, name)?;
     }
     Ok(files)
+}
+
+/// The files of a folder whose names end like a log's, by name, with their sizes. The folder is asked for its names and for sizes alone: no
+/// file is opened. One that is gone when its size is asked is left out. `Device` where the folder fails.
+pub fn log_files<C: FolderCalls, R: Wait>(
+    rt: &R,
+    alloc: Global,
+    folder: &mut C,
+) -> Result<Vec<FolderFile>, ShelfFault>
+    ensures told { IfOk result (λ files. TellsLogs files.items (C.calls folder.old) (C.calls folder.new)) }
+    ensures refused { IfErr result (λ e. LooksStopped e (C.calls folder.old) (C.calls folder.new)) }
+    ensures looked { OnlyLooks (C.calls folder.old) (C.calls folder.new) }
+    ensures place { C.place folder.new ≡ C.place folder.old }
+    ensures fault { IfErr result NotNamed }
+{
+    let names = names_in(rt, alloc, folder)?;
+    logs_among(rt, alloc, folder, names)
 }
 
 /// The same of the system's folder of this path. `Device` where it is no folder that can be opened.
@@ -129,6 +154,7 @@ pub fn system_log_files<R: Files + AllocGlobal + Clone + Drop, W: Wait>(
     rt: R,
     path: &str,
 ) -> Result<Vec<FolderFile>, ShelfFault>
+    ensures told { IfOk result (λ files. (folder : SystemFolder R R.File R.Dir) × IsAtPath path.now (system_place folder) × TellsLogs files.items (opened ∷ []) (system_calls folder)) }
     ensures fault { IfErr result NotNamed }
 {
     let alloc = rt.alloc();

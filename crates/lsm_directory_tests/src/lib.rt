@@ -14,6 +14,8 @@ mod forms;
 #[cfg(test)]
 mod logs;
 #[cfg(test)]
+mod longer;
+#[cfg(test)]
 mod progress;
 #[cfg(test)]
 mod refusing;

@@ -1,5 +1,5 @@
 use Rattle.std.proofs.Common.{◌≡◌}
-use Rattle.std.specs.Prelude.{Ok, get_or}
+use Rattle.std.specs.Prelude.{Ok}
 use Rattle.lsm_directory.proofs.LogLaws.{number_found, number_only, plus_is_none}
 use Rattle.lsm_directory.proofs.logs.number_in.Goals as goal
 
