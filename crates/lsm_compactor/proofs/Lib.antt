@@ -1,3 +1,4 @@
 mod Words
 mod Ends
 mod Outcomes
+mod Quiet

@@ -2,6 +2,7 @@
 use Rattle.std.proofs.Common.{◌≡◌, ◌≢◌, ℕ, inl, inr, All, List, Option, None, Some, IfErr, OnErr, OnOk, refl, subst}
 use Rattle.std.specs.Prelude.{◌⊎◌, Result, Ok, Err}
 use Rattle.std.specs.Io.KnownBytes.{Keeps}
+use Rattle.atomic_table.specs.Seated.{TableId}
 use Rattle.lsm_shelf.specs.declared.shelf_fault.ShelfFault.{ShelfFault}
 use Rattle.lsm_shelf.specs.declared.shelf_fault.ShelfFault.TheVariants.{OutOfMemory}
 use Rattle.lsm_shelf.specs.Told.{Told}
@@ -32,21 +33,22 @@ all_keep (Err e) x = λ n. keeps_itself x
 -- ---- after the opening
 
 -- memory ran out before the workers began, or one of them has a fault
-pub unfinished : (Stored : ℕ → List ℕ → Type 0) (Refused : ℕ → ShelfFault → Type 0) (Honest : Type 0) (workers crew : ℕ) (e : CompactFault) (was is : Told) → crew ≡ workers
-    → IsOpened Honest was is → (e ≡ Writer (of_shelf OutOfMemory)) ⊎ IsWorkersFault Honest crew e → IsCompactFault Stored Refused Honest workers e was is
-unfinished Stored Refused Honest workers crew e was is same opened stops = elim stops [
-  | inl memory ↦ inr (inl (inr (OutOfMemory, memory, tt, opened)))
-  | inr fault ↦ inr (inr (inl (subst (λ n. IsWorkersFault Honest n e) same fault, opened)))
+pub unfinished : (Stored : ℕ → List ℕ → Type 0) (Refused : ℕ → ShelfFault → Type 0) (Honest : Type 0) (board : TableId) (workers crew : ℕ) (e : CompactFault) (was is : Told) → crew ≡ workers
+    → IsOpened Honest board was is → (e ≡ Writer (of_shelf OutOfMemory)) ⊎ IsWorkersFault Honest crew e → IsCompactFault Stored Refused Honest workers e was is
+unfinished Stored Refused Honest board workers crew e was is same opened stops = elim stops [
+  | inl memory ↦ inr (inl (inr (OutOfMemory, memory, tt, (board, opened))))
+  | inr fault ↦ inr (inr (inl (subst (λ n. IsWorkersFault Honest n e) same fault, (board, opened))))
 ]
 
 -- the collect was refused
-pub unswept : (Stored : ℕ → List ℕ → Type 0) (Refused : ℕ → ShelfFault → Type 0) (Honest : Type 0) (workers crew : ℕ) (ends : List WorkerEnd) (fault : StateFault) (was mid is : Told)
-    → crew ≡ workers → IsOpened Honest was mid → AreEnds Honest crew ends → All IsFaultless ends → Refuses Honest fault mid is
+pub unswept : (Stored : ℕ → List ℕ → Type 0) (Refused : ℕ → ShelfFault → Type 0) (Honest : Type 0) (board : TableId) (workers crew : ℕ) (ends : List WorkerEnd) (fault : StateFault) (was mid is : Told)
+    → crew ≡ workers → IsOpened Honest board was mid → AreEnds Honest crew ends → All IsFaultless ends → Refuses Honest board fault mid is
     → IsCompactFault Stored Refused Honest workers (Writer (State fault)) was is
-unswept Stored Refused Honest workers crew ends fault was mid is same opened each faultless refuses = inr (inr (inr (inl (
+unswept Stored Refused Honest board workers crew ends fault was mid is same opened each faultless refuses = inr (inr (inr (inl (
   fault,
   refl,
   record {
+    board = board;
     mid = mid;
     opened = opened;
     ends = ends;
@@ -57,9 +59,10 @@ unswept Stored Refused Honest workers crew ends fault was mid is same opened eac
 ))))
 
 -- all was done
-pub compacts : (Honest : Type 0) (workers crew : ℕ) (ends : List WorkerEnd) (was mid is : Told) → crew ≡ workers → IsOpened Honest was mid
-    → AreEnds Honest crew ends → All IsFaultless ends → IsSwept Honest mid is → Compacts Honest workers ends was is
-compacts Honest workers crew ends was mid is same opened each faultless swept = record {
+pub compacts : (Honest : Type 0) (board : TableId) (workers crew : ℕ) (ends : List WorkerEnd) (was mid is : Told) → crew ≡ workers
+    → IsOpened Honest board was mid → AreEnds Honest crew ends → All IsFaultless ends → IsSwept Honest board mid is → Compacts Honest workers ends was is
+compacts Honest board workers crew ends was mid is same opened each faultless swept = record {
+  board = board;
   mid = mid;
   opened = opened;
   ends_are = subst (λ n. AreEnds Honest n ends) same each;

@@ -47,30 +47,32 @@ pub record AreEnds (Honest : Type 0) (workers : ℕ) (ends : List WorkerEnd) : T
 
 -- ---- what the shelf was told
 
--- The directory was opened, and after that the shelf was asked for forks alone.
-pub record IsOpened (Honest : Type 0) (was is : Told) : Type 0 where
+-- The directory was opened, as a state with this board; after that the shelf was asked for forks alone.
+pub record IsOpened (Honest : Type 0) (board : TableId) (was is : Told) : Type 0 where
   pub before : Held
   pub mid : Told
   pub opened : IsReopened Honest before was mid
+  pub on : before.slots.board.board ≡ board
   pub forked : Becomes mid is
 
--- The tables that are listed and that a state does not keep were removed. It is a lawful one, which may write.
-pub record IsSwept (Honest : Type 0) (was is : Told) : Type 0 where
-  pub board : TableId
+-- The tables that are listed and that a state with this board does not keep were removed. It is a lawful one, which may write.
+pub record IsSwept (Honest : Type 0) (board : TableId) (was is : Told) : Type 0 where
   pub held : Held
   pub lawful : IsLawfulState Honest board held
+  pub on : held.slots.board.board ≡ board
   pub running : held.halted ≡ false
   pub removed : List ℕ
   pub collected : AreCollected held removed was is
   pub counts : SameCounts was is
 
--- The directory was opened, no worker ended with a fault, and what nothing names was removed.
+-- The directory was opened, no worker ended with a fault, and what nothing names was removed, by a state with the board of the one opened.
 pub record Compacts (Honest : Type 0) (workers : ℕ) (ends : List WorkerEnd) (was is : Told) : Type 0 where
+  pub board : TableId
   pub mid : Told
-  pub opened : IsOpened Honest was mid
+  pub opened : IsOpened Honest board was mid
   pub ends_are : AreEnds Honest workers ends
   pub faultless : All IsFaultless ends
-  pub swept : IsSwept Honest mid is
+  pub swept : IsSwept Honest board mid is
 
 -- That was done, and how many results were installed was written.
 abbrev pub IsCompacted : Type 0 → ℕ → Told → Told → Option (List ℕ) → Option (List ℕ) → Type 0
@@ -90,7 +92,8 @@ IsUnopened Stored Refused Honest e was is = (fault : OpenFault) × (e ≡ Writer
 
 -- It was opened, and no worker began: memory ran out, or a shelf failed to fork.
 abbrev pub IsUnmanned : Type 0 → CompactFault → Told → Told → Type 0
-IsUnmanned Honest e was is = (fault : ShelfFault) × (e ≡ Writer (of_shelf fault)) × NotNamed fault × IsOpened Honest was is
+IsUnmanned Honest e was is = (fault : ShelfFault) × (e ≡ Writer (of_shelf fault)) × NotNamed fault
+    × ((board : TableId) × IsOpened Honest board was is)
 
 -- No worker began.
 abbrev pub IsUnbegun : (ℕ → List ℕ → Type 0) → (ℕ → ShelfFault → Type 0) → Type 0 → CompactFault → Told → Told → Type 0
@@ -103,26 +106,27 @@ IsWorkersFault Honest workers e = (fault : WorkerFault) × (e ≡ Worker fault)
 
 -- A worker ended with a fault, and nothing was removed.
 abbrev pub IsUnfinished : Type 0 → ℕ → CompactFault → Told → Told → Type 0
-IsUnfinished Honest workers e was is = IsWorkersFault Honest workers e × IsOpened Honest was is
+IsUnfinished Honest workers e was is = IsWorkersFault Honest workers e × ((board : TableId) × IsOpened Honest board was is)
 
--- A lawful state refused to collect; its refusal says what was removed until then.
-pub record Refuses (Honest : Type 0) (fault : StateFault) (was is : Told) : Type 0 where
-  pub board : TableId
+-- A lawful state with this board refused to collect; its refusal says what was removed until then.
+pub record Refuses (Honest : Type 0) (board : TableId) (fault : StateFault) (was is : Told) : Type 0 where
   pub before : Held
   pub after : Held
   pub lawful : IsLawfulState Honest board after
+  pub on : after.slots.board.board ≡ board
   pub removed : List ℕ
   pub refused : IsCollectRefusal before after fault removed was is
   pub counts : IsCountedOnce fault was is
 
 -- No worker ended with a fault, and the collect was refused.
 pub record IsUnswept (Honest : Type 0) (workers : ℕ) (fault : StateFault) (was is : Told) : Type 0 where
+  pub board : TableId
   pub mid : Told
-  pub opened : IsOpened Honest was mid
+  pub opened : IsOpened Honest board was mid
   pub ends : List WorkerEnd
   pub ends_are : AreEnds Honest workers ends
   pub faultless : All IsFaultless ends
-  pub refuses : Refuses Honest fault mid is
+  pub refuses : Refuses Honest board fault mid is
 
 -- All was done, and the reply was not written.
 abbrev pub IsUnwritten : Type 0 → ℕ → CompactFault → Told → Told → Type 0

@@ -1,72 +1,127 @@
 //! A directory is compacted.
 
-ghost use Rattle.std.specs.Prelude.{◌≡◌, ◌≢◌, ◌⊎◌, All, IfErr, IfOk, OnOk, vec_len};
+ghost use Rattle.std.specs.Prelude.{◌≡◌, ◌≢◌, ◌⊎◌, All, IfErr, IfOk, IsFalse, OnOk, vec_len};
 ghost use Rattle.std.specs.Arc.{arc_value};
 ghost use Rattle.std.specs.Io.KnownBytes.{Appends, Keeps};
 ghost use Rattle.lsm_shelf.specs.declared.shelf_fault.ShelfFault.TheVariants.{OutOfMemory};
 ghost use Rattle.lsm_state.specs.Making.{IsNewBoard};
+ghost use Rattle.lsm_store.specs.Workers.{IsWorkersEnd};
 ghost use Rattle.lsm_writer.specs.WriterFault.{of_shelf};
 ghost use Rattle.lsm_writer.specs.Starting.{usual};
 ghost use Rattle.lsm_writer.specs.declared.writer_fault.WriterFault.TheVariants.{Write as WriteFault};
-ghost use Rattle.lsm_compactor.specs.Compacting.{AreEnds, IsCompactFault, IsCompacted, IsFaultless, IsOpened, IsUnbegun, IsWorkersFault, installed_text};
+ghost use Rattle.lsm_compactor.specs.Compacting.{AreEnds, IsCompactFault, IsCompacted, IsFaultless, IsOpened, IsSwept, IsUnbegun, IsWorkersFault, Refuses, installed_text};
 ghost use Rattle.lsm_compactor.specs.declared.compact_fault.CompactFault.TheVariants.{Writer as WriterVariant};
 
 use crate::compact_fault::CompactFault;
+use crate::compact_options::CompactOptions;
 use crate::crew::Crew;
+use crate::job_teller::JobTeller;
 use crate::opening::open;
+use crate::progress::{tell_installed, tell_opened, tell_removed};
 use crate::sweeping::sweep;
 use crate::tally::{installed_by, judge};
 use lsm_slots::Boarded;
+use lsm_state::StateFault;
 use lsm_store::{NoGate, Store, WorkerEnd, run_workers};
 use lsm_table::{Shelf, ShelfFault};
 use lsm_writer::{Ends, WriterFault, make_ends};
-use std::alloc::Global;
+use std::alloc::{AllocFailed, Global};
 use std::io::{self, Write};
 use std::marker::Brand;
 use std::sync::Wait;
 use std::thread::Threads;
 
-/// Opens the directory of a shelf, and mans it with so many workers.
-fn man<N: Boarded, S: Shelf, R: Wait>(
+/// Opens the directory of a shelf, says so where that is asked for, and mans it with so many workers.
+#[tactic(auto, using(crate::proofs::Quiet::keeps_same))]
+fn man<N: Boarded, S: Shelf, R: Wait, E: Write>(
     rt: &R,
     alloc: Global,
     shelf: &mut S,
-    workers: usize,
+    options: CompactOptions,
     ends: Ends<S>,
+    err: &mut E,
 ) -> Result<Crew<N, S>, CompactFault>
     requires here { (S.told shelf.old).place ≡ N.place }
     requires named { arc_value ends.registry ≡ N.registry }
     requires board { IsNewBoard N.board usual ends.publisher ends.pinners.items }
     requires seats { vec_len ends.pinners ≡ usual.readers }
     ensures here { IfOk result (λ c. All (λ s. (S.told s).place ≡ N.place) c.shelves.items) }
-    ensures count { IfOk result (λ c. vec_len c.shelves ≡ workers) }
-    ensures opened { OnOk result (IsOpened S.honest (S.told shelf.old) (S.told shelf.new)) }
+    ensures count { IfOk result (λ c. vec_len c.shelves ≡ options.workers) }
+    ensures opened { OnOk result (IsOpened S.honest N.board (S.told shelf.old) (S.told shelf.new)) }
     ensures refused { IfErr result (λ e. IsUnbegun (λ number image. (r : S.Receipt) × S.is_of N.place r × (S.Receipt.number r ≡ number) × (S.Receipt.image r ≡ image)) (S.refuses N.place) S.honest e (S.told shelf.old) (S.told shelf.new)) }
+    ensures quiet { IsFalse options.progress → Keeps (E.contents err.old) (E.contents err.new) }
 {
     let state = open(rt, alloc, shelf, ends)?;
-    match Crew::new(alloc, state, shelf, workers) {
+    tell_opened(&state, options.progress, err);
+    match Crew::new(alloc, state, shelf, options.workers) {
         Ok(crew) => Ok(crew),
         Err(fault) => Err(CompactFault::of_shelf(fault)),
     }
 }
 
-/// What the workers of a store have done, one for each shelf, when none of them ends with a fault.
-fn work<N: Boarded, S: Shelf, R: Threads + Wait + Sync>(
+/// Lets workers compact a store, one for each shelf; each job that they begin is said where that is asked for.
+#[tactic(auto, using(crate::proofs::Quiet::keeps_same))]
+fn set_to_work<N: Boarded, S: Shelf, R: Threads + Wait + Sync, E: Write + Send>(
     rt: &R,
     alloc: Global,
     store: &Store<N, S>,
     shelves: Vec<S>,
+    progress: bool,
+    err: &mut E,
+) -> Result<Vec<WorkerEnd>, AllocFailed<Vec<S>>>
+    requires here { All (λ s. (S.told s).place ≡ N.place) shelves.items }
+    ensures len { IfOk result (λ v. vec_len v ≡ vec_len shelves) }
+    ensures ends { IfOk result (λ v. All (IsWorkersEnd S.honest) v.items) }
+    ensures quiet { IsFalse progress → Keeps (E.contents err.old) (E.contents err.new) }
+{
+    if progress {
+        let teller = JobTeller::new(rt, err);
+        return run_workers(rt, alloc, store, shelves, &teller);
+    }
+    run_workers(rt, alloc, store, shelves, &NoGate)
+}
+
+/// What the workers of a store have done, one for each shelf, when none of them ends with a fault.
+#[tactic(auto, using(crate::proofs::Quiet::keeps_same, crate::proofs::Quiet::quiet_then))]
+fn work<N: Boarded, S: Shelf, R: Threads + Wait + Sync, E: Write + Send>(
+    rt: &R,
+    alloc: Global,
+    store: &Store<N, S>,
+    shelves: Vec<S>,
+    progress: bool,
+    err: &mut E,
 ) -> Result<Vec<WorkerEnd>, CompactFault>
     requires here { All (λ s. (S.told s).place ≡ N.place) shelves.items }
     ensures ends { IfOk result (λ v. AreEnds S.honest (vec_len shelves) v.items) }
     ensures faultless { IfOk result (λ v. All IsFaultless v.items) }
     ensures refused { IfErr result (λ e. (e ≡ WriterVariant (of_shelf OutOfMemory)) ⊎ IsWorkersFault S.honest (vec_len shelves) e) }
+    ensures quiet { IsFalse progress → Keeps (E.contents err.old) (E.contents err.new) }
 {
-    let Ok(ends) = run_workers(rt, alloc, store, shelves, &NoGate) else {
+    let Ok(ends) = set_to_work(rt, alloc, store, shelves, progress, err) else {
         return Err(CompactFault::of_shelf(ShelfFault::OutOfMemory));
     };
     judge(&ends)?;
+    tell_installed(installed_by(&ends), progress, err);
     Ok(ends)
+}
+
+/// Removes what the store's state does not keep, and says how much where that is asked for.
+#[tactic(auto, using(crate::proofs::Quiet::keeps_same))]
+fn tidy<N: Boarded, S: Shelf, R: Wait, E: Write>(
+    rt: &R,
+    alloc: Global,
+    store: &Store<N, S>,
+    shelf: &mut S,
+    progress: bool,
+    err: &mut E,
+) -> Result<(), StateFault>
+    ensures ok { OnOk result (IsSwept S.honest N.board (S.told shelf.old) (S.told shelf.new)) }
+    ensures refused { IfErr result (λ e. Refuses S.honest N.board e (S.told shelf.old) (S.told shelf.new)) }
+    ensures quiet { IsFalse progress → Keeps (E.contents err.old) (E.contents err.new) }
+{
+    let removed = sweep(rt, alloc, store, shelf)?;
+    tell_removed(removed, progress, err);
+    Ok(())
 }
 
 /// Writes how many results were installed, and flushes.
@@ -78,25 +133,27 @@ fn reply<O: Write>(out: &mut O, installed: u128) -> io::Result<()>
 }
 
 /// Opens the directory of a shelf, lets so many workers compact it, removes what nothing names any more, and writes the reply.
-fn compact_as<N: Boarded, S: Shelf, R: Threads + Wait + Sync, O: Write>(
+fn compact_as<N: Boarded, S: Shelf, R: Threads + Wait + Sync, O: Write, E: Write + Send>(
     rt: &R,
     alloc: Global,
     shelf: &mut S,
-    workers: usize,
+    options: CompactOptions,
     ends: Ends<S>,
     out: &mut O,
+    err: &mut E,
 ) -> Result<(), CompactFault>
     requires here { (S.told shelf.old).place ≡ N.place }
     requires named { arc_value ends.registry ≡ N.registry }
     requires board { IsNewBoard N.board usual ends.publisher ends.pinners.items }
     requires seats { vec_len ends.pinners ≡ usual.readers }
-    ensures done { OnOk result (IsCompacted S.honest workers (S.told shelf.old) (S.told shelf.new) (O.contents out.old) (O.contents out.new)) }
-    ensures fault { IfErr result (λ e. IsCompactFault (λ number image. (r : S.Receipt) × S.is_of N.place r × (S.Receipt.number r ≡ number) × (S.Receipt.image r ≡ image)) (S.refuses N.place) S.honest workers e (S.told shelf.old) (S.told shelf.new)) }
+    ensures done { OnOk result (IsCompacted S.honest options.workers (S.told shelf.old) (S.told shelf.new) (O.contents out.old) (O.contents out.new)) }
+    ensures fault { IfErr result (λ e. IsCompactFault (λ number image. (r : S.Receipt) × S.is_of N.place r × (S.Receipt.number r ≡ number) × (S.Receipt.image r ≡ image)) (S.refuses N.place) S.honest options.workers e (S.told shelf.old) (S.told shelf.new)) }
     ensures left { IfErr result (λ e. e ≢ WriterVariant WriteFault → Keeps (O.contents out.old) (O.contents out.new)) }
+    ensures quiet { IsFalse options.progress → Keeps (E.contents err.old) (E.contents err.new) }
 {
-    let Crew { store, shelves } = man::<N, S, R>(rt, alloc, shelf, workers, ends)?;
-    let done = work(rt, alloc, &store, shelves)?;
-    sweep(rt, alloc, &store, shelf)?;
+    let Crew { store, shelves } = man::<N, S, R, E>(rt, alloc, shelf, options, ends, err)?;
+    let done = work(rt, alloc, &store, shelves, options.progress, err)?;
+    tidy(rt, alloc, &store, shelf, options.progress, err)?;
     match reply(out, installed_by(&done)) {
         Ok(()) => Ok(()),
         Err(_) => Err(CompactFault::Writer(WriterFault::Write)),
@@ -104,17 +161,20 @@ fn compact_as<N: Boarded, S: Shelf, R: Threads + Wait + Sync, O: Write>(
 }
 
 /// Opens the directory of a shelf, lets so many workers compact it, removes what nothing names any more, and writes `installed M`.
-pub(crate) fn compact_to<S: Shelf, R: Threads + Wait + Sync, O: Write>(
+#[tactic(auto, using(crate::proofs::Quiet::keeps_same))]
+pub(crate) fn compact_to<S: Shelf, R: Threads + Wait + Sync, O: Write, E: Write + Send>(
     rt: &R,
     alloc: Global,
     shelf: &mut S,
-    workers: usize,
+    options: CompactOptions,
     out: &mut O,
+    err: &mut E,
 ) -> Result<(), CompactFault>
-    ensures done { OnOk result (IsCompacted S.honest workers (S.told shelf.old) (S.told shelf.new) (O.contents out.old) (O.contents out.new)) }
-    ensures fault { IfErr result (λ e. IsCompactFault (λ number image. (r : S.Receipt) × S.is_of (S.told shelf.old).place r × (S.Receipt.number r ≡ number) × (S.Receipt.image r ≡ image)) (S.refuses (S.told shelf.old).place) S.honest workers e (S.told shelf.old) (S.told shelf.new)) }
+    ensures done { OnOk result (IsCompacted S.honest options.workers (S.told shelf.old) (S.told shelf.new) (O.contents out.old) (O.contents out.new)) }
+    ensures fault { IfErr result (λ e. IsCompactFault (λ number image. (r : S.Receipt) × S.is_of (S.told shelf.old).place r × (S.Receipt.number r ≡ number) × (S.Receipt.image r ≡ image)) (S.refuses (S.told shelf.old).place) S.honest options.workers e (S.told shelf.old) (S.told shelf.new)) }
     ensures left { IfErr result (λ e. e ≢ WriterVariant WriteFault → Keeps (O.contents out.old) (O.contents out.new)) }
+    ensures quiet { IsFalse options.progress → Keeps (E.contents err.old) (E.contents err.new) }
 {
     let ends = make_ends(alloc)?;
-    compact_as::<Brand, S, R, O>(rt, alloc, shelf, workers, ends, out)
+    compact_as::<Brand, S, R, O, E>(rt, alloc, shelf, options, ends, out, err)
 }

@@ -2,11 +2,12 @@
 //!
 //! Stands on `lsm_store` for the workers, and on `lsm_writer` and `lsm_commands` for the opening, words and refusals. Its contract: a
 //! `compact` that ends with 0 opened the directory, had so many workers end without a fault, removed what nothing names any more, and
-//! printed how many results they installed.
+//! printed how many results they installed; without `--progress` it wrote nothing on standard error.
 #![tactic(auto)]
 
 // What words ask for.
 mod compact_line;
+mod compact_options;
 
 // What is done with a directory.
 mod compacting;
@@ -15,10 +16,15 @@ mod opening;
 mod sweeping;
 mod tally;
 
+// How far it is, where that is asked for.
+mod job_teller;
+mod progress;
+
 // A run, and why it ends with status 1.
 mod compact_fault;
 mod program;
 
 pub use compact_fault::CompactFault;
 pub use compact_line::{CompactLine, compacting_asked};
+pub use compact_options::CompactOptions;
 pub use program::{compact, run};

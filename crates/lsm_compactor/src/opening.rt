@@ -28,6 +28,7 @@ pub(crate) fn open<N: Boarded, S: Shelf, R: Wait>(
     requires board { IsNewBoard N.board usual ends.publisher ends.pinners.items }
     requires seats { vec_len ends.pinners ≡ usual.readers }
     ensures opened { IfOk result (λ s. IsReopened S.honest s (S.told shelf.old) (S.told shelf.new)) }
+    ensures board { IfOk result (λ s. s.slots.board.board ≡ N.board) }
     ensures seats { IfOk result (λ s. SeatsPinners s) }
     ensures refused { IfErr result (λ e. IsUnopened (λ number image. (r : S.Receipt) × S.is_of N.place r × (S.Receipt.number r ≡ number) × (S.Receipt.image r ≡ image)) (S.refuses N.place) S.honest e (S.told shelf.old) (S.told shelf.new)) }
 {
@@ -35,7 +36,10 @@ pub(crate) fn open<N: Boarded, S: Shelf, R: Wait>(
     let options = Options::usual();
     let board = (ends.publisher, ends.pinners);
     match State::open(rt, alloc, shelf, options, ends.registry, board) {
-        Ok(state) => Ok(state),
+        Ok(state) => {
+            let _options = state.options();
+            Ok(state)
+        }
         Err(fault) => Err(CompactFault::Writer(WriterFault::of_open(fault))),
     }
 }

@@ -1,10 +1,12 @@
 //! One run of a compaction.
 
-ghost use Rattle.std.specs.Prelude.{◌≡◌, ◌≢◌, ◌≤◌, OnErr, OnOk};
+ghost use Rattle.std.specs.Prelude.{◌≡◌, ◌≢◌, ◌≤◌, IsFalse, OnErr, OnOk};
+ghost use Rattle.std.specs.Io.KnownBytes.{Keeps};
 ghost use Rattle.lsm_compactor.specs.Compacting.{IsCompacted, IsRefused};
 
 use crate::compact_fault::CompactFault;
 use crate::compact_line::CompactLine;
+use crate::compact_options::CompactOptions;
 use crate::compacting::compact_to;
 use lsm_table::Shelf;
 use lsm_writer::open_shelf;
@@ -20,9 +22,11 @@ fn tell<E: Write>(err: &mut E, fault: &CompactFault) -> io::Result<()> {
 }
 
 /// The exit status of a compaction, and the line of its fault.
+#[tactic(auto, using(crate::proofs::Quiet::keeps_same))]
 fn status_of<E: Write>(done: Result<(), CompactFault>, err: &mut E) -> u8
     ensures ok { OnOk done (result ≡ 0) }
     ensures err { OnErr done (result ≡ 1) }
+    ensures quiet { result ≡ 0 → Keeps (E.contents err.old) (E.contents err.new) }
 {
     match done {
         Ok(()) => 0,
@@ -38,44 +42,55 @@ fn status_of<E: Write>(done: Result<(), CompactFault>, err: &mut E) -> u8
 /// answers the exit status: 0 where it is done, and 1 where it is refused. A fault is one line on `err`: that of the first worker, in
 /// their order, that has one, and then nothing is removed; else what refused the opening, the removal or the write.
 ///
+/// Where progress is asked for, lines on `err` say what was opened, each job that a worker begins, how many results were installed, and
+/// how many files were removed. A line that can't be written is left out.
+///
 /// Opening begins a new manifest; a database that is not there is not begun.
-pub fn compact<S: Shelf, R: Threads + Wait + Sync, O: Write, E: Write>(
+#[tactic(auto, using(crate::proofs::Quiet::quietly))]
+pub fn compact<S: Shelf, R: Threads + Wait + Sync, O: Write, E: Write + Send>(
     rt: &R,
     alloc: Global,
     shelf: &mut S,
-    workers: usize,
+    options: CompactOptions,
     out: &mut O,
     err: &mut E,
 ) -> u8
-    ensures done { result ≡ 0 → IsCompacted S.honest workers (S.told shelf.old) (S.told shelf.new) (O.contents out.old) (O.contents out.new) }
-    ensures refused { result ≢ 0 → (result ≡ 1) × ((fault : CompactFault) × IsRefused (λ number image. (r : S.Receipt) × S.is_of (S.told shelf.old).place r × (S.Receipt.number r ≡ number) × (S.Receipt.image r ≡ image)) (S.refuses (S.told shelf.old).place) S.honest workers fault (S.told shelf.old) (S.told shelf.new) (O.contents out.old) (O.contents out.new)) }
+    ensures done { result ≡ 0 → IsCompacted S.honest options.workers (S.told shelf.old) (S.told shelf.new) (O.contents out.old) (O.contents out.new) }
+    ensures refused { result ≢ 0 → (result ≡ 1) × ((fault : CompactFault) × IsRefused (λ number image. (r : S.Receipt) × S.is_of (S.told shelf.old).place r × (S.Receipt.number r ≡ number) × (S.Receipt.image r ≡ image)) (S.refuses (S.told shelf.old).place) S.honest options.workers fault (S.told shelf.old) (S.told shelf.new) (O.contents out.old) (O.contents out.new)) }
+    ensures quiet { result ≡ 0 → IsFalse options.progress → Keeps (E.contents err.old) (E.contents err.new) }
 {
-    let done = compact_to(rt, alloc, shelf, workers, out);
+    let done = compact_to(rt, alloc, shelf, options, out, err);
     status_of(done, err)
 }
 
 /// Compacts a folder of the system.
-fn obey<R: Threads + Wait + Sync, O: Write>(
+#[tactic(auto, using(crate::proofs::Quiet::keeps_same))]
+fn obey<R: Threads + Wait + Sync, O: Write, E: Write + Send>(
     rt: &R,
     files: HostRuntime,
     line: &CompactLine<'_>,
     out: &mut O,
-) -> Result<(), CompactFault> {
+    err: &mut E,
+) -> Result<(), CompactFault>
+    ensures quiet { IsFalse line.now.options.progress → Keeps (E.contents err.old) (E.contents err.new) }
+{
     let alloc = files.alloc();
     let mut shelf = open_shelf(files, line.path)?;
-    compact_to(rt, alloc, &mut shelf, line.workers, out)
+    compact_to(rt, alloc, &mut shelf, line.options, out, err)
 }
 
 /// Does what a line asks of a folder of the system, and answers the exit status.
-pub fn run<R: Threads + Wait + Sync, O: Write, E: Write>(
+#[tactic(auto, using(crate::proofs::Quiet::quietly))]
+pub fn run<R: Threads + Wait + Sync, O: Write, E: Write + Send>(
     rt: &R,
     files: HostRuntime,
     line: &CompactLine<'_>,
     out: &mut O,
     err: &mut E,
 ) -> u8
-    ensures { result ≤ 1 }
+    ensures status { result ≤ 1 }
+    ensures quiet { result ≡ 0 → IsFalse line.now.options.progress → Keeps (E.contents err.old) (E.contents err.new) }
 {
-    let done = obey(rt, files, line, out);
+    let done = obey(rt, files, line, out, err);
     status_of(done, err)
 }

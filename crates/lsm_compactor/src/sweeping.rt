@@ -10,33 +10,33 @@ use lsm_table::Shelf;
 use std::alloc::Global;
 use std::sync::Wait;
 
-/// Removes the tables that the state does not keep.
+/// Removes the tables that the state does not keep. Answers how many.
 fn sweep_state<N: Boarded, S: Shelf, R: Wait>(
     rt: &R,
     alloc: Global,
     state: &mut State<N, S>,
     shelf: &mut S,
-) -> Result<(), StateFault>
-    ensures ok { OnOk result (IsSwept S.honest (S.told shelf.old) (S.told shelf.new)) }
-    ensures refused { IfErr result (λ e. Refuses S.honest e (S.told shelf.old) (S.told shelf.new)) }
+) -> Result<usize, StateFault>
+    ensures ok { OnOk result (IsSwept S.honest N.board (S.told shelf.old) (S.told shelf.new)) }
+    ensures refused { IfErr result (λ e. Refuses S.honest N.board e (S.told shelf.old) (S.told shelf.new)) }
 {
     let collected = state.collect(rt, alloc, shelf);
     let _options = state.options();
     match collected {
-        Ok(_removed) => Ok(()),
+        Ok(removed) => Ok(removed.len()),
         Err((fault, _removed)) => Err(fault),
     }
 }
 
-/// Removes, under the lock, the tables that the store's state does not keep.
+/// Removes, under the lock, the tables that the store's state does not keep. Answers how many.
 pub(crate) fn sweep<N: Boarded, S: Shelf, R: Wait>(
     rt: &R,
     alloc: Global,
     store: &Store<N, S>,
     shelf: &mut S,
-) -> Result<(), StateFault>
-    ensures ok { OnOk result (IsSwept S.honest (S.told shelf.old) (S.told shelf.new)) }
-    ensures refused { IfErr result (λ e. Refuses S.honest e (S.told shelf.old) (S.told shelf.new)) }
+) -> Result<usize, StateFault>
+    ensures ok { OnOk result (IsSwept S.honest N.board (S.told shelf.old) (S.told shelf.new)) }
+    ensures refused { IfErr result (λ e. Refuses S.honest N.board e (S.told shelf.old) (S.told shelf.new)) }
 {
     sweep_state(rt, alloc, &mut store.lock(rt), shelf)
 }

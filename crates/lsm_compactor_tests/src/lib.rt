@@ -2,6 +2,8 @@
 #![tactic(auto)]
 
 #[cfg(test)]
+mod broken;
+#[cfg(test)]
 mod compactions;
 #[cfg(test)]
 mod expectation;
@@ -9,6 +11,8 @@ mod expectation;
 mod failures;
 #[cfg(test)]
 mod lines;
+#[cfg(test)]
+mod progress;
 #[cfg(test)]
 mod refusals;
 #[cfg(test)]

@@ -1,13 +1,13 @@
 //! Compactions that are refused.
 
+use crate::broken::Broken;
 use crate::expectation::expect;
 use crate::runs::{compact_by, expect_answer, fill, list};
-use lsm_compactor::{CompactFault, compact};
+use lsm_compactor::{CompactFault, CompactOptions, compact};
 use lsm_merge::{InputFault, MergeFault, OutputFault};
 use lsm_shelf::{MemoryShelf, Shelf, ShelfFault};
 use lsm_state::StateFault;
 use lsm_store::WorkerFault;
-use std::io::{self, ErrorKind, Write};
 use std::test::Fail;
 
 #[test]
@@ -24,27 +24,17 @@ fn a_database_that_is_not_there_is_not_begun(rt: HostRuntime) -> Result<(), Fail
     Ok(())
 }
 
-/// A writer that fails.
-#[derive(Debug, Drop)]
-struct Broken;
-
-impl Write for Broken {
-    fn write(&mut self, _buf: &[u8]) -> io::Result<usize> {
-        Err(io::Error::from(ErrorKind::StorageFull))
-    }
-
-    fn flush(&mut self) -> io::Result<()> {
-        Ok(())
-    }
-}
-
 #[test]
 fn a_failed_write_is_told(rt: HostRuntime) -> Result<(), Fail> {
     let mut shelf = MemoryShelf::new(rt.alloc())?;
     let batches = ["61=31", "61=32", "61=33", "61=34"].as_slice();
     fill(&rt, rt.alloc(), &mut shelf, batches)?;
     let mut err = Vec::new(rt.alloc());
-    let status = compact(&rt, rt.alloc(), &mut shelf, 1, &mut Broken, &mut err);
+    let options = CompactOptions {
+        workers: 1,
+        progress: false,
+    };
+    let status = compact(&rt, rt.alloc(), &mut shelf, options, &mut Broken, &mut err);
     expect(&rt, status, 1);
     expect(&rt, err.as_slice(), b"write fault\n".as_slice());
     // It was compacted all the same.

@@ -2,7 +2,7 @@
 
 use crate::expectation::expect;
 use lsm_commands::{DirectoryCommand, Form, KeyBounds};
-use lsm_compactor::compact;
+use lsm_compactor::{CompactOptions, compact};
 use lsm_directory::Request;
 use lsm_table::Shelf;
 use lsm_writer::{ingest, read_batch};
@@ -69,17 +69,31 @@ pub(crate) fn fill<S: Shelf, R: Wait>(
     Ok(())
 }
 
-/// `compact` by so many workers.
+/// `compact` with these options.
+pub(crate) fn compact_with<S: Shelf, R: Threads + Wait + Sync>(
+    rt: &R,
+    alloc: Global,
+    shelf: &mut S,
+    options: CompactOptions,
+) -> Answer {
+    let mut out = Vec::new(alloc);
+    let mut err = Vec::new(alloc);
+    let status = compact(rt, alloc, shelf, options, &mut out, &mut err);
+    Answer { status, out, err }
+}
+
+/// `compact` by so many workers, which say nothing.
 pub(crate) fn compact_by<S: Shelf, R: Threads + Wait + Sync>(
     rt: &R,
     alloc: Global,
     shelf: &mut S,
     workers: usize,
 ) -> Answer {
-    let mut out = Vec::new(alloc);
-    let mut err = Vec::new(alloc);
-    let status = compact(rt, alloc, shelf, workers, &mut out, &mut err);
-    Answer { status, out, err }
+    let options = CompactOptions {
+        workers,
+        progress: false,
+    };
+    compact_with(rt, alloc, shelf, options)
 }
 
 /// What a command on the directory prints.

@@ -1,14 +1,6 @@
 use Rattle.std.proofs.Common.{◌≡◌, ◌==◌, false, slice_index, ◌∷◌, map, drop, codes, refl, rules}
-use Rattle.lsm_compactor.proofs.Words.{later_words, none_asked, not_option, two_words}
+use Rattle.lsm_compactor.proofs.Words.{later_words, not_option, two_words}
 use Rattle.lsm_compactor.proofs.compact_line.compacting_asked.Goals as goal
-
-pub returns-in_err-workers-clause-found : goal.returns-in_err-workers-clause-found
-returns-in_err-workers-clause-found g c = λ n path asks.
-    let text = g.S.AsStr.text in
-    let words = c.args.words.now in
-    let whole = two_words text words c.name-item.result c.path-item.result c.name-item.is c.path-item.is c.in-len2-up.len_at_least in
-    let found = rw (later_words words) at c.in_err-workers.ensures.found in
-    absurd (none_asked (map text words) (map text (drop 2 words)) (text c.name-item.result) (text c.path-item.result) n path whole found asks)
 
 pub returns-clause-only : goal.returns-clause-only
 returns-clause-only g c =
@@ -18,5 +10,5 @@ returns-clause-only g c =
     let first : (slice_index c.as_str-path.result.now 0 == 45) ≡ false = search rules in
     let whole = two_words text words c.name-item.result c.path-item.result c.name-item.is c.path-item.is c.in-len2-up.len_at_least in
     let line : map text words ≡ codes "compact" ∷ c.as_str-path.result.now ∷ map text (drop 2 words) = rw (← whole, ← name, c.as_str.ensures, c.as_str-path.ensures) refl in
-    let asks = rw (later_words words) at c.in_ok-workers.ensures.only in
+    let asks = rw (later_words words) at c.in_ok-options.ensures.only in
     (map text (drop 2 words), line, not_option c.as_str-path.result.now first, asks)

@@ -1,5 +1,7 @@
 use Rattle.std.proofs.Common.{◌≡◌, inl, inr, refl, rules}
+use Rattle.std.specs.Io.KnownBytes.{Appends}
 use Rattle.std.proofs.lemmas.Result.{err_from_is_err_and}
+use Rattle.lsm_compactor.specs.Compacting.{installed_by, installed_text}
 use Rattle.lsm_compactor.proofs.Outcomes.{compacts, unfinished, unswept}
 use Rattle.lsm_compactor.proofs.compacting.compact_as.Goals as goal
 
@@ -11,24 +13,35 @@ returns-in_err-store-clause-fault g c =
 pub returns-in_err-done-clause-fault : goal.returns-in_err-done-clause-fault
 returns-in_err-done-clause-fault g c =
     let p = err_from_is_err_and c.from_residual-in_err-done.result c.from_residual-in_err-done.ensures.1 in
-    let count : c.in_ok-store.field-0.shelves.len ≡ c.args.workers = search rules in
-    rw (p.1, p.2) (unfinished _ _ g.S.Shelf.honest c.args.workers c.in_ok-store.field-0.shelves.len c.in_err-done.field-0.0 _ _ count c.in_ok-store.ensures.opened c.in_err-done.ensures.refused)
+    let count : c.in_ok-store.field-0.shelves.len ≡ c.args.options.workers = search rules in
+    rw (p.1, p.2) (unfinished _ _ g.S.Shelf.honest g.N.Boarded.board c.args.options.workers c.in_ok-store.field-0.shelves.len c.in_err-done.field-0.0 _ _ count c.in_ok-store.ensures.opened c.in_err-done.ensures.refused)
 
-pub returns-in_err-sweep-clause-fault : goal.returns-in_err-sweep-clause-fault
-returns-in_err-sweep-clause-fault g c =
-    let p = err_from_is_err_and c.from_residual-in_err-sweep.result c.from_residual-in_err-sweep.ensures.1 in
-    let count : c.in_ok-store.field-0.shelves.len ≡ c.args.workers = search rules in
-    rw (p.1, p.2) (unswept _ _ g.S.Shelf.honest c.args.workers c.in_ok-store.field-0.shelves.len c.in_ok-done.done.items c.in_err-sweep.field-0.0 _ _ _ count c.in_ok-store.ensures.opened
-    c.in_ok-done.ensures.ends c.in_ok-done.ensures.faultless c.in_err-sweep.ensures.refused)
+pub returns-in_err-tidy-clause-fault : goal.returns-in_err-tidy-clause-fault
+returns-in_err-tidy-clause-fault g c =
+    let p = err_from_is_err_and c.from_residual-in_err-tidy.result c.from_residual-in_err-tidy.ensures.1 in
+    let count : c.in_ok-store.field-0.shelves.len ≡ c.args.options.workers = search rules in
+    rw (p.1, p.2) (unswept _ _ g.S.Shelf.honest g.N.Boarded.board c.args.options.workers c.in_ok-store.field-0.shelves.len c.in_ok-done.done.items c.in_err-tidy.field-0.0 _ _ _ count c.in_ok-store.ensures.opened
+    c.in_ok-done.ensures.ends c.in_ok-done.ensures.faultless c.in_err-tidy.ensures.refused)
 
 pub returns-clause-fault : goal.returns-clause-fault
 returns-clause-fault g c =
-    let count : c.in_ok-store.field-0.shelves.len ≡ c.args.workers = search rules in
+    let count : c.in_ok-store.field-0.shelves.len ≡ c.args.options.workers = search rules in
     inr (inr (inr (inr (
       refl,
       (
         c.in_ok-done.done.items,
-        compacts g.S.Shelf.honest c.args.workers c.in_ok-store.field-0.shelves.len c.in_ok-done.done.items _ _ _ count c.in_ok-store.ensures.opened c.in_ok-done.ensures.ends
-            c.in_ok-done.ensures.faultless c.in_ok-sweep.ensures.ok,
+        compacts g.S.Shelf.honest g.N.Boarded.board c.args.options.workers c.in_ok-store.field-0.shelves.len c.in_ok-done.done.items _ _ _ count c.in_ok-store.ensures.opened c.in_ok-done.ensures.ends
+            c.in_ok-done.ensures.faultless c.in_ok-tidy.ensures.ok,
       ),
     ))))
+
+pub returns-in-Ok-clause-done : goal.returns-in-Ok-clause-done
+returns-in-Ok-clause-done g c =
+    let count : c.in_ok-store.field-0.shelves.len ≡ c.args.options.workers = search rules in
+    let ends = c.in_ok-done.done.items in
+    let written : Appends (g.O.Write.contents c.args.out.now) (g.O.Write.contents c.reply.new.out) (installed_text (installed_by ends)) = search rules in (
+      ends,
+      compacts g.S.Shelf.honest g.N.Boarded.board c.args.options.workers c.in_ok-store.field-0.shelves.len ends _ _ _ count c.in_ok-store.ensures.opened
+          c.in_ok-done.ensures.ends c.in_ok-done.ensures.faultless c.in_ok-tidy.ensures.ok,
+      written,
+    )

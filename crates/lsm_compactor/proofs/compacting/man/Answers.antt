@@ -6,10 +6,14 @@ returns-in-Err-clause-refused g c = inr (
   c.in-Err.fault,
   c.of_shelf.ensures,
   c.in-Err.ensures.cause,
-  record {
-    before = _;
-    mid = _;
-    opened = c.in_ok-state.ensures.opened;
-    forked = c.in-Err.ensures.told;
-  },
+  (
+    _,
+    record {
+      before = _;
+      mid = _;
+      opened = c.in_ok-state.ensures.opened;
+      on = c.in_ok-state.ensures.board;
+      forked = c.in-Err.ensures.told;
+    },
+  ),
 )

@@ -1,0 +1,98 @@
+//! How far a compaction is, in lines on standard error.
+
+ghost use Rattle.std.specs.Prelude.{◌≡◌, ◌++◌, IsFalse, OnOk, codes, decimal};
+ghost use Rattle.std.specs.Io.KnownBytes.{Appends, Keeps};
+
+use lsm_slots::Boarded;
+use lsm_state::State;
+use lsm_table::Shelf;
+use std::io::{self, Write};
+
+/// How many files a version has, and at how many levels.
+#[derive(Clone, Copy)]
+struct Census {
+    files: u64,
+    levels: u64,
+}
+
+/// Counts the files of a state's current version.
+fn census_of<N: Boarded, S: Shelf>(state: &State<N, S>) -> Census {
+    let mut census = Census {
+        files: 0,
+        levels: 0,
+    };
+    for level in 0..7usize {
+        let files = state.current().1.level(level).len() as u64;
+        census.files = census.files.saturating_add(files);
+        if files > 0 {
+            census.levels = census.levels.saturating_add(1);
+        }
+    }
+    census
+}
+
+/// Writes a line: `opened 17 files at 3 levels`.
+fn write_opened<E: Write>(err: &mut E, files: u64, levels: u64) -> io::Result<()>
+    ensures { OnOk result (Appends (E.contents err.old) (E.contents err.new) (codes "opened " ++ (decimal files ++ (codes " files at " ++ (decimal levels ++ codes " levels\n"))))) }
+{
+    writeln!(err, "opened {files} files at {levels} levels")
+}
+
+/// Writes a line: `worker 1 begins job 5`.
+pub(crate) fn write_job<E: Write>(err: &mut E, worker: usize, ticket: u64) -> io::Result<()>
+    ensures { OnOk result (Appends (E.contents err.old) (E.contents err.new) (codes "worker " ++ (decimal worker ++ (codes " begins job " ++ (decimal ticket ++ codes "\n"))))) }
+{
+    writeln!(err, "worker {worker} begins job {ticket}")
+}
+
+/// Writes a line: `installed 4 results`.
+fn write_installed<E: Write>(err: &mut E, results: u128) -> io::Result<()>
+    ensures { OnOk result (Appends (E.contents err.old) (E.contents err.new) (codes "installed " ++ (decimal results ++ codes " results\n"))) }
+{
+    writeln!(err, "installed {results} results")
+}
+
+/// Writes a line: `removed 12 files`.
+fn write_removed<E: Write>(err: &mut E, files: usize) -> io::Result<()>
+    ensures { OnOk result (Appends (E.contents err.old) (E.contents err.new) (codes "removed " ++ (decimal files ++ codes " files\n"))) }
+{
+    writeln!(err, "removed {files} files")
+}
+
+/// Says what the current version of a state has, where that is asked for. What can't be written is left out.
+#[tactic(auto, using(crate::proofs::Quiet::keeps_same))]
+pub(crate) fn tell_opened<N: Boarded, S: Shelf, E: Write>(
+    state: &State<N, S>,
+    asked: bool,
+    err: &mut E,
+)
+    ensures quiet { IsFalse asked → Keeps (E.contents err.old) (E.contents err.new) }
+{
+    if asked {
+        let census = census_of(state);
+        let _ = write_opened(err, census.files, census.levels);
+        let _ = err.flush();
+    }
+}
+
+/// Says how many results workers have installed, where that is asked for. What can't be written is left out.
+#[tactic(auto, using(crate::proofs::Quiet::keeps_same))]
+pub(crate) fn tell_installed<E: Write>(results: u128, asked: bool, err: &mut E)
+    ensures quiet { IsFalse asked → Keeps (E.contents err.old) (E.contents err.new) }
+{
+    if asked {
+        let _ = write_installed(err, results);
+        let _ = err.flush();
+    }
+}
+
+/// Says how many files were removed, where that is asked for. What can't be written is left out.
+#[tactic(auto, using(crate::proofs::Quiet::keeps_same))]
+pub(crate) fn tell_removed<E: Write>(files: usize, asked: bool, err: &mut E)
+    ensures quiet { IsFalse asked → Keeps (E.contents err.old) (E.contents err.new) }
+{
+    if asked {
+        let _ = write_removed(err, files);
+        let _ = err.flush();
+    }
+}
