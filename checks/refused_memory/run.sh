@@ -8,9 +8,9 @@
 #   Check, list, get and scan leave the folder byte for byte as it was.
 # - ingest, each time in a folder as it was: also `refused 9 Device`, where it can't be undone (docs/DECISIONS.md). `lsm check` then takes
 #   the folder, and a scan shows just the old keys or just those with the whole batch. Asked again, with memory, it brings the batch in.
-# - compact, each time in a folder as it was: also `refused 9 Device` or that behind 35 and 36. A scan shows what it showed before. Asked
-#   again, with memory, it compacts, and then nothing is left to do. Its threads may take turns otherwise in each run, so it goes on until
-#   ten numbers in a row meet no request.
+# - compact, each time in a folder as it was: also `refused 9 Device`, 36 with a 9 behind it, or 42 Halted where another worker met the 9.
+#   A scan shows what it showed before. Asked again, with memory, it compacts: the tables are those of an undisturbed run but for their
+#   numbers. Its threads may take turns otherwise in each run, so it goes on until ten numbers in a row meet no request.
 # - script: the replies up to that of want of memory, `refused 1 OutOfMemory`, and status 1; or as the first point says.
 #
 # Parts are singles, reads, ingest, compact, script and rows; words of the command line choose among them (all). Rows run a Rattle program
@@ -148,13 +148,16 @@ judge_compact() {
   if [[ $status == 0 ]]; then
     [[ ! -s err && $(cat out) =~ ^installed\ [0-9]+$ ]] || stop "no such answer"
   else
-    [[ -e mark && $status == 1 && ! -s out && $(cat err) =~ ^refused\ (1\ OutOfMemory|9\ Device|35\ ReadFailed\ [0-9]+\ 9|36\ PutFailed\ [0-9]+\ 9)$ ]] || stop "no such answer"
+    [[ -e mark && $status == 1 && ! -s out && $(cat err) =~ ^refused\ (1\ OutOfMemory|9\ Device|36\ PutFailed\ [0-9]+\ 9|42\ Halted)$ ]] || stop "no such answer"
     if diff -rq "$2.old" "$2" > differences; then
       same=$((same + 1))
       return 0
     fi
     kept=$((kept + 1))
-    [[ $(cat err) =~ OutOfMemory$ ]] || device=$((device + 1))
+    case $(cat err) in
+      *Device | *9) device=$((device + 1)) ;;
+      *Halted) halted=$((halted + 1)) ;;
+    esac
     scan_of "$2" now
     cmp -s "$2.old.scan" now || stop "other keys"
     again "$@"
@@ -164,7 +167,7 @@ judge_compact() {
   files_of "$2" > now
   cmp -s "$2.new.list" now || stop "not compacted"
   put_back "$2"
-  note="of the refused $same left the folder byte for byte, $kept its keys; $device said 9"
+  note="of the refused $same left the folder byte for byte, $kept its keys; $device said 9, $halted 42"
 }
 
 judge_script() {
@@ -180,7 +183,7 @@ judge_script() {
 }
 
 begin() { # WORDS..: what a part begins with; the undisturbed run has been
-  same=0 kept=0 whole=0 device=0 replied=0 note=
+  same=0 kept=0 whole=0 device=0 halted=0 replied=0 note=
   case $1 in
     ingest | compact)
       "$program" scan "$2" > "$2.new.scan"
