@@ -238,7 +238,7 @@ reads() { # over two levels: a compacted table, and two above it
   each judge_read nothing get shelf 0003
   each judge_read nothing get shelf 0001
   each judge_read nothing scan shelf
-  each judge_read nothing scan shelf --from 0010 --to 0100 --text
+  each judge_read nothing scan shelf --from '\x00\x10' --to '\x01' --text
   each judge_read nothing scan shelf --from 0010 --to 0100
 }
 
@@ -247,12 +247,12 @@ ingests() { # over two levels, and where nothing is there
   for turn in 1 2 3 4; do ingest full "$turn" 0 60 3; done
   "$program" compact full > compacted
   ingest full 5 50 60 2
-  keys 7 20 90 2 > batch
+  keys 7 20 90 2 > brought
   keep full
-  each judge_ingest nothing ingest full batch
+  each judge_ingest nothing ingest full brought
   mkdir fresh.old
   : > fresh.old.scan
-  each judge_ingest nothing ingest fresh batch
+  each judge_ingest nothing ingest fresh brought
 }
 
 compacts() { # two jobs whose keys lie apart
