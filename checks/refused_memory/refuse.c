@@ -1,22 +1,31 @@
-// Refuses the request for memory whose number, from 1, stands in REFUSE, and then makes the file named by REFUSED.
+// Refuses the request for memory whose number, from 1, stands in REFUSE, and with LATER set each one after it too, and makes the file
+// named by REFUSED at the first. A thread is a request too, since its stack is memory. Requests of all threads are counted together.
 // Built as a shared library and put before the C library by LD_PRELOAD.
 #define _GNU_SOURCE
 #include <dlfcn.h>
 #include <errno.h>
 #include <fcntl.h>
+#include <pthread.h>
+#include <stdatomic.h>
 #include <stdlib.h>
 #include <unistd.h>
 
-static long left = -1;
+static atomic_long requests;
+static long refused_one;
+static int later_too;
+
+__attribute__((constructor)) static void read_words(void) {
+  const char *number = getenv("REFUSE");
+  refused_one = number ? atol(number) : 0;
+  later_too = getenv("LATER") != NULL;
+}
 
 static int is_refused(void) {
-  if (left < 0) {
-    const char *number = getenv("REFUSE");
-    left = number ? atol(number) : 0;
-  }
-  if (left == 0 || --left > 0) return 0;
+  if (refused_one == 0) return 0;
+  long number = atomic_fetch_add(&requests, 1) + 1;
+  if (number < refused_one || (number > refused_one && !later_too)) return 0;
   const char *mark = getenv("REFUSED");
-  if (mark) close(open(mark, O_CREAT | O_WRONLY, 0600));
+  if (number == refused_one && mark) close(open(mark, O_CREAT | O_WRONLY, 0600));
   errno = ENOMEM;
   return 1;
 }
@@ -43,4 +52,10 @@ int posix_memalign(void **out, size_t align, size_t size) {
   static int (*next)(void **, size_t, size_t);
   if (!next) next = (int (*)(void **, size_t, size_t))dlsym(RTLD_NEXT, "posix_memalign");
   return is_refused() ? ENOMEM : next(out, align, size);
+}
+
+int pthread_create(pthread_t *thread, const pthread_attr_t *how, void *(*work)(void *), void *with) {
+  static int (*next)(pthread_t *, const pthread_attr_t *, void *(*)(void *), void *);
+  if (!next) next = (int (*)(pthread_t *, const pthread_attr_t *, void *(*)(void *), void *))dlsym(RTLD_NEXT, "pthread_create");
+  return is_refused() ? EAGAIN : next(thread, how, work, with);
 }
