@@ -14,7 +14,8 @@
 # - script: the replies up to that of want of memory, `refused 1 OutOfMemory`, and status 1; or as the first point says.
 #
 # Parts are singles, reads, ingest, compact, script and rows; words of the command line choose among them (all). Rows run a Rattle program
-# on the state itself (rows.sh). Needs gcc, rt for rows, and a built program (./lsm builds it; LSM=/path/to/lsm_tool names another).
+# on the state itself (rows.sh). Takes a quarter of an hour. Needs gcc, rt for rows, and a built program (./lsm builds it;
+# LSM=/path/to/lsm_tool names another).
 set -euo pipefail
 here=$(cd "$(dirname "$0")" && pwd)
 top=$(cd "$here/../.." && pwd)
