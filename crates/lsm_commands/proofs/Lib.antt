@@ -4,6 +4,9 @@ pub mod SequenceLaws
 pub mod LineLaws
 pub mod ListLaws
 pub mod PrintLaws
+pub mod PrinterLaws
+pub mod EntryPieces
+pub mod AnswerLaws
 pub mod StreamLaws
 pub mod MakingLaws
 pub mod ManifestLaws

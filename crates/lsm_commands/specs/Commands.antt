@@ -22,6 +22,7 @@ use Rattle.lsm_table.specs.TableBuilding.{PassesLimit, index_block, groups_by, t
 use Rattle.lsm_commands.specs.EntryReading.{BeginsWith}
 use Rattle.lsm_commands.specs.EntryList.{IsEntryList, IsFirstBadLine}
 use Rattle.lsm_commands.specs.EntryPrinting.{entry_list}
+use Rattle.lsm_commands.specs.Printing.{Begins}
 
 -- The options of the tables that `mktable` makes.
 abbrev pub usual : TableOptions
@@ -72,6 +73,10 @@ Explains Manifest input (Edit fault) = HasBadEdit input fault
 Explains Dump input TooLarge = ⊥
 Explains Dump input (Table fault) = table_at input ≡ Err fault
 
+-- A beginning of what the command answers was written, and nothing else.
+abbrev pub BeginsAnswer : CommandName → List ℕ → Option (List ℕ) → Option (List ℕ) → Type 0
+BeginsAnswer name input old new = (output : List ℕ) × Answers name input output × Begins old new output
+
 -- ---- command lines
 
 -- the one word that asks for a command
@@ -96,6 +101,13 @@ IsExplained (Run name) input fault = IfSome input (λ text. Explains name text f
 IsExplained (Help text) input fault = fault ≡ Write
 IsExplained (Bad text) input fault = ⊥
 
--- Where the status is not 0 it is 1: some fault explains the input, and unless it is a failed write nothing was written.
+-- What a failed write leaves on standard output: a beginning of the answer, or of the help.
+abbrev pub IsBegun : CommandLine → Option (List ℕ) → Option (List ℕ) → Option (List ℕ) → Type 0
+IsBegun (Run name) input old new = IfSome input (λ text. BeginsAnswer name text old new)
+IsBegun (Help text) input old new = Begins old new text.items
+IsBegun (Bad text) input old new = ⊥
+
+-- Where the status is not 0 it is 1: some fault explains the input. A failed write leaves a beginning of the answer; any other fault
+-- leaves nothing.
 abbrev pub IsRefusal : CommandName → Option (List ℕ) → Option (List ℕ) → Option (List ℕ) → ℕ → Type 0
-IsRefusal name input old new status = (status ≡ 0) ⊎ ((status ≡ 1) × ((fault : Fault) × IsExplained (Run name) input fault × (fault ≢ Write → Keeps old new)))
+IsRefusal name input old new status = (status ≡ 0) ⊎ ((status ≡ 1) × ((fault : Fault) × IsExplained (Run name) input fault × (fault ≢ Write → Keeps old new) × (fault ≡ Write → IsBegun (Run name) input old new)))

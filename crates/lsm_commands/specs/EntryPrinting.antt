@@ -15,8 +15,12 @@ abbrev pub action_text : Kind → List ℕ → List ℕ
 action_text Deletion value = codes "del"
 action_text Value value = codes "put " ++ bytes_word value
 
+-- what stands behind the sequence
+abbrev pub action_line : Kind → List ℕ → List ℕ
+action_line kind value = 32 ∷ (action_text kind value ++ (10 ∷ []))
+
 unfoldable pub entry_line : Entry → List ℕ
-entry_line e = bytes_word e.user ++ (32 ∷ (decimal e.seq ++ (32 ∷ (action_text e.kind e.value ++ (10 ∷ [])))))
+entry_line e = bytes_word e.user ++ (32 ∷ (decimal e.seq ++ action_line e.kind e.value))
 
 unfoldable pub entry_list : List Entry → List ℕ
 entry_list entries = flat_map entry_line entries

@@ -2,6 +2,7 @@ pub mod EntryList
 pub mod EntryReading
 pub mod KeyBounds
 pub mod EntryPrinting
+pub mod Printing
 pub mod Spelling
 pub mod Options
 pub mod DirectoryLine

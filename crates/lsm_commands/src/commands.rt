@@ -1,6 +1,6 @@
 //! What the commands answer.
 
-ghost use Rattle.std.specs.Prelude.{◌≡◌, ◌≢◌, IfOk, IfErr, IfSome, OnOk, List, ℕ};
+ghost use Rattle.std.specs.Prelude.{◌≡◌, ◌≢◌, [], IfOk, IfErr, IfSome, OnErr, OnOk, List, ℕ};
 ghost use Rattle.std.specs.Io.KnownBytes.{Appends, Keeps};
 ghost use Rattle.lsm_codec.specs.Entries.{Entry};
 ghost use Rattle.lsm_table.specs.Table.{IsTable};
@@ -8,15 +8,17 @@ ghost use Rattle.lsm_table.specs.HeldTable.{Steps};
 ghost use Rattle.std.specs.Option.{option_map};
 ghost use Rattle.lsm_commands.specs.EntryList.{IsEntryList};
 ghost use Rattle.lsm_commands.specs.EntryPrinting.{entry_list};
-ghost use Rattle.lsm_commands.specs.Commands.{Answers, Explains};
+ghost use Rattle.lsm_commands.specs.Commands.{Answers, BeginsAnswer, Explains};
+ghost use Rattle.lsm_commands.specs.Printing.{Begins, Passes, Stops};
 ghost use Rattle.lsm_commands.specs.declared.command_line.CommandName.TheVariants.{MakeTable, Dump, Manifest};
 ghost use Rattle.lsm_commands.specs.declared.fault.Fault.TheVariants.{Write as WriteFault, Read as ReadFault, OutOfMemory};
 
 use crate::command_line::CommandName;
 use crate::edit_spelling::{push_edit, push_number};
+use crate::entry_printing::print_entry;
 use crate::entry_reader::EntryReader;
 use crate::fault::Fault;
-use crate::spelling::push_entry;
+use crate::printer::Printer;
 use crate::streams::{read_input, write_output};
 use lsm_manifest::{Edit, read_log};
 use lsm_table::{Table, TableBuilder, TableIter, TableOptions};
@@ -49,21 +51,72 @@ fn next_value<'t>(entries: &mut TableIter<'t>) -> Result<Option<&'t [u8]>, Fault
     }
 }
 
-/// The list of a table's entries.
-fn print_table(alloc: Global, file: Vec<u8>) -> Result<Vec<u8>, Fault>
-    ensures printed { IfOk result (λ list. Answers Dump file.items list.items) }
-    ensures explained { IfErr result (λ e. Explains Dump file.items e) }
-    ensures own { IfErr result (λ e. (e ≢ ReadFault) × (e ≢ WriteFault)) }
+/// The next value of a table that was gone through before. The room for its keys is there, so no memory is wanted; as no clause says
+/// that, a want of it is told as one of the writer.
+fn next_again<'t>(entries: &mut TableIter<'t>) -> Result<Option<&'t [u8]>, Fault>
+    ensures given { IfOk result (λ r. Steps entries.old entries.new (option_map (λ v. v.now) r)) }
+    ensures fault { IfErr result (λ e. e ≡ WriteFault) }
 {
-    let table = Table::check(alloc, file)?;
-    let mut list = Vec::new(alloc);
-    let mut entries = table.iter(alloc);
-    'values: while let Some(value) = next_value(&mut entries)? {
+    match entries.next() {
+        Ok(next) => Ok(next),
+        Err(_) => Err(Fault::Write),
+    }
+}
+
+/// Goes through all entries that are left, so that the room for the longest key is there. The one fault is want of memory.
+fn pass_all<'t>(entries: &mut TableIter<'t>) -> Result<(), Fault>
+    ensures { IfErr result (λ e. e ≡ OutOfMemory) }
+{
+    'entries: while next_value(entries)?.is_some() {}
+    Ok(())
+}
+
+/// Prints the entries that are left, a line each.
+fn print_left<'t, O: Write>(
+    entries: &mut TableIter<'t>,
+    printer: &mut Printer,
+    out: &mut O,
+) -> Result<(), Fault>
+    ensures printed { OnOk result (Passes (O.contents out.old) printer.old.held.items (O.contents out.new) printer.new.held.items (entry_list entries.old.left)) }
+    ensures begun { OnErr result (Stops (O.contents out.old) printer.old.held.items (O.contents out.new) (entry_list entries.old.left)) }
+    ensures fault { IfErr result (λ e. e ≡ WriteFault) }
+{
+    'values: while let Some(value) = next_again(entries)? {
         if let Some(key) = entries.key() {
-            push_entry(&mut list, key.user, key.seq, key.kind, value)?;
+            print_entry(printer, out, key.user, key.seq, key.kind, value)?;
         }
     }
-    Ok(list)
+    Ok(())
+}
+
+/// Prints the entries that are left, and flushes. The printer holds nothing before.
+fn write_entries<'t, O: Write>(
+    entries: &mut TableIter<'t>,
+    printer: &mut Printer,
+    out: &mut O,
+) -> Result<(), Fault>
+    requires { printer.old.held.items ≡ [] }
+    ensures written { OnOk result (Appends (O.contents out.old) (O.contents out.new) (entry_list entries.old.left)) }
+    ensures begun { OnErr result (Begins (O.contents out.old) (O.contents out.new) (entry_list entries.old.left)) }
+    ensures fault { IfErr result (λ e. e ≡ WriteFault) }
+{
+    print_left(entries, printer, out)?;
+    printer.finish(out)
+}
+
+/// Writes the list of a table's entries as it goes through them. All is judged, and all memory is there, before the first byte is written.
+fn print_table<O: Write>(alloc: Global, file: Vec<u8>, out: &mut O) -> Result<(), Fault>
+    ensures written { OnOk result ((output : List ℕ) × Answers Dump file.items output × Appends (O.contents out.old) (O.contents out.new) output) }
+    ensures explained { IfErr result (λ e. Explains Dump file.items e) }
+    ensures kept { IfErr result (λ e. e ≢ WriteFault → Keeps (O.contents out.old) (O.contents out.new)) }
+    ensures begun { IfErr result (λ e. e ≡ WriteFault → BeginsAnswer Dump file.items (O.contents out.old) (O.contents out.new)) }
+{
+    let table = Table::check(alloc, file)?;
+    let mut entries = table.iter(alloc);
+    pass_all(&mut entries)?;
+    let mut printer = Printer::new(alloc)?;
+    table.restart(&mut entries);
+    write_entries(&mut entries, &mut printer, out)
 }
 
 /// The edits of a manifest, and how many bytes at its end hold no whole record.
@@ -83,7 +136,30 @@ fn list_manifest(alloc: Global, manifest: &[u8]) -> Result<Vec<u8>, Fault>
     Ok(text)
 }
 
-/// Reads all of standard input, and then writes what the command answers; or nothing at all, but for a failed write.
+/// Writes the table of a list of entries.
+fn write_table<O: Write>(alloc: Global, list: Vec<u8>, out: &mut O) -> Result<(), Fault>
+    ensures written { OnOk result ((output : List ℕ) × Answers MakeTable list.items output × Appends (O.contents out.old) (O.contents out.new) output) }
+    ensures explained { IfErr result (λ e. Explains MakeTable list.items e) }
+    ensures kept { IfErr result (λ e. e ≢ WriteFault → Keeps (O.contents out.old) (O.contents out.new)) }
+    ensures begun { IfErr result (λ e. e ≡ WriteFault → BeginsAnswer MakeTable list.items (O.contents out.old) (O.contents out.new)) }
+{
+    let table = make_table(alloc, list.as_slice())?;
+    write_output(out, &table)
+}
+
+/// Writes the edits of a manifest, and how many bytes at its end hold no whole record.
+fn write_edits<O: Write>(alloc: Global, manifest: Vec<u8>, out: &mut O) -> Result<(), Fault>
+    ensures written { OnOk result ((output : List ℕ) × Answers Manifest manifest.items output × Appends (O.contents out.old) (O.contents out.new) output) }
+    ensures explained { IfErr result (λ e. Explains Manifest manifest.items e) }
+    ensures kept { IfErr result (λ e. e ≢ WriteFault → Keeps (O.contents out.old) (O.contents out.new)) }
+    ensures begun { IfErr result (λ e. e ≡ WriteFault → BeginsAnswer Manifest manifest.items (O.contents out.old) (O.contents out.new)) }
+{
+    let text = list_manifest(alloc, manifest.as_slice())?;
+    write_output(out, &text)
+}
+
+/// Reads all of standard input, and then writes what the command answers; or nothing at all, but for a failed write, which leaves a
+/// beginning of it.
 pub(crate) fn perform<R: Read, O: Write>(
     alloc: Global,
     name: CommandName,
@@ -94,12 +170,12 @@ pub(crate) fn perform<R: Read, O: Write>(
         × Appends (O.contents out.old) (O.contents out.new) output)) }
     ensures explained { IfErr result (λ e. IfSome (R.remaining input.old) (λ text. Explains name text e)) }
     ensures kept { IfErr result (λ e. e ≢ WriteFault → Keeps (O.contents out.old) (O.contents out.new)) }
+    ensures begun { IfErr result (λ e. e ≡ WriteFault → IfSome (R.remaining input.old) (λ text. BeginsAnswer name text (O.contents out.old) (O.contents out.new))) }
 {
     let bytes = read_input(alloc, input)?;
-    let output = match name {
-        CommandName::MakeTable => make_table(alloc, &bytes)?,
-        CommandName::Dump => print_table(alloc, bytes)?,
-        CommandName::Manifest => list_manifest(alloc, &bytes)?,
-    };
-    write_output(out, &output)
+    match name {
+        CommandName::MakeTable => write_table(alloc, bytes, out),
+        CommandName::Dump => print_table(alloc, bytes, out),
+        CommandName::Manifest => write_edits(alloc, bytes, out),
+    }
 }

@@ -41,9 +41,13 @@ const MAKE_TABLE_EXAMPLE: &str = "Example: printf '61 1 put 76\\n' | lsm mktable
 const DUMP: &str = "Reads a LevelDB table on standard input and prints its entries on standard
 output, as lines that `mktable` reads: `KEY SEQ put VALUE` or `KEY SEQ del`.
 
-Every checksum, block and key is judged first. Other bytes are refused by number
-and name, as in `refused 13 BadMagic`; a compressed table is `refused 16
-Compressed 1`.
+Every checksum, block and key is judged before the first line. Other bytes are
+refused by number and name, as in `refused 13 BadMagic`; a compressed table is
+`refused 16 Compressed 1`.
+
+Lines are printed as the table is gone through, in memory that does not grow with
+them. A table may spell far more than it has: keys that share nearly all of a
+huge one are each printed whole.
 
 Limit: 64 MiB of input.
 
@@ -74,10 +78,11 @@ Nothing is written there. One table at a time is held in memory.
 Prints a line a level, `level L files F bytes B entries E` for the levels 0 to 6,
 then `last S`, the last sequence, and `rest B`, how many bytes at the manifest's
 end hold no whole record: above 0 the last record was cut off, which is no fault.
+At the end comes `log NAME BYTES` for each write-ahead log (`N.log`) that is not
+empty and that LevelDB would read: what stands there no command reads.
 
 The first fault is refused by number and name; that of a table names its file,
-as in `refused 15 BadChecksum 0 in 000005.ldb`. What stands in a write-ahead log
-(`N.log`) is not read.
+as in `refused 15 BadChecksum 0 in 000005.ldb`.
 
 Exit status: 0 where all is well, 1 at a fault, 2 bad command line.";
 
@@ -171,7 +176,7 @@ Exit status: 0 done, 1 refused, 2 bad command line. After a refusal what was
 installed before it stands, and no table was removed, but by a removal that then
 failed.";
 
-const COMPACT_EXAMPLE: &str = "Example: lsm compact db --workers 4";
+const COMPACT_EXAMPLE: &str = "Example: lsm compact db --workers 4 --progress";
 
 const SCRIPT: &str = "Reads commands on standard input, one a line, runs them on a new database in
 memory, and prints a reply for each on standard output. No folder is touched.
@@ -305,7 +310,8 @@ fn compact<'a>(alloc: Global) -> Result<Command<'a>, AllocError> {
                 .long("workers")
                 .value_name("N")
                 .help("How many threads compact, 1 to 8; 2 if it is not said"),
-        )
+        )?
+        .arg(progress(alloc))
 }
 
 /// The commands on a folder.

@@ -24,7 +24,9 @@ mod words;
 
 // What is printed.
 mod edit_spelling;
+mod entry_printing;
 mod fault;
+mod printer;
 mod refusal;
 mod spelling;
 

@@ -3,7 +3,7 @@
 ghost use Rattle.std.specs.Prelude.{◌≡◌, ◌≢◌, ◌≤◌, ◌⊎◌, IfOk, IfErr, OnOk, map};
 ghost use Rattle.std.specs.Io.KnownBytes.{Appends, Keeps};
 ghost use Rattle.std.specs.IoError.{error_kind};
-ghost use Rattle.lsm_commands.specs.Commands.{Asks, IsExplained, IsFollowed, IsRefusal};
+ghost use Rattle.lsm_commands.specs.Commands.{Asks, IsBegun, IsExplained, IsFollowed, IsRefusal};
 ghost use Rattle.lsm_commands.specs.FaultText.{fault_line};
 ghost use Rattle.lsm_commands.specs.declared.fault.Fault.TheVariants.{Write as WriteFault};
 
@@ -26,6 +26,7 @@ fn follow<R: Read, O: Write, E: Write>(
     ensures done { IfOk result (λ status. IsFollowed line (R.remaining input.old) (O.contents out.old) (O.contents out.new) status) }
     ensures explained { IfErr result (λ e. IsExplained line (R.remaining input.old) e) }
     ensures kept { IfErr result (λ e. e ≢ WriteFault → Keeps (O.contents out.old) (O.contents out.new)) }
+    ensures begun { IfErr result (λ e. e ≡ WriteFault → IsBegun line (R.remaining input.old) (O.contents out.old) (O.contents out.new)) }
     ensures unread { ((name : CommandName) → line ≢ CommandLine.Run name) → input.new ≡ input.old }
 {
     match line {

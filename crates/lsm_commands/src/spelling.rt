@@ -1,9 +1,8 @@
-//! What the program prints of bytes, numbers and entries.
+//! What the program prints of bytes and numbers.
 
 ghost use Rattle.std.specs.Prelude.{◌≡◌, ◌+◌, ◌++◌, OnOk, decimal};
-ghost use Rattle.lsm_commands.specs.EntryPrinting.{bytes_word, action_text, entry_line};
+ghost use Rattle.lsm_commands.specs.EntryPrinting.{bytes_word};
 
-use lsm_codec::{KeyRef, Kind};
 use std::alloc::AllocError;
 
 /// Appends the word for some bytes: lower-case hex, or `.` for no bytes.
@@ -35,37 +34,5 @@ pub fn push_decimal(out: &mut Vec<u8>, n: u64) -> Result<(), AllocError>
     }
     push_decimal(out, n / 10)?;
     out.push(b'0' + (n % 10) as u8)?;
-    Ok(())
-}
-
-fn push_action(out: &mut Vec<u8>, kind: Kind, value: &[u8]) -> Result<(), AllocError>
-    ensures { OnOk result (out.new.items ≡ out.old.items ++ action_text kind value.now) }
-{
-    match kind {
-        Kind::Deletion => out.extend_from_slice(b"del"),
-        Kind::Value => {
-            out.extend_from_slice(b"put ")?;
-            push_bytes(out, value)
-        }
-    }
-}
-
-/// Appends the line of an entry.
-#[tactic(auto, unfolding(crate::specs::EntryPrinting::entry_line))]
-pub(crate) fn push_entry(
-    out: &mut Vec<u8>,
-    user: &[u8],
-    seq: u64,
-    kind: Kind,
-    value: &[u8],
-) -> Result<(), AllocError>
-    ensures { OnOk result (out.new.items ≡ out.old.items ++ entry_line record { user = user.now; seq = seq; kind = kind; value = value.now }) }
-{
-    push_bytes(out, user)?;
-    out.push(b' ')?;
-    push_decimal(out, seq)?;
-    out.push(b' ')?;
-    push_action(out, kind, value)?;
-    out.push(b'\n')?;
     Ok(())
 }

@@ -1,7 +1,9 @@
-//! Standard input, read whole, and standard output, written whole.
+//! Standard input, read whole, and standard output.
 
-ghost use Rattle.std.specs.Prelude.{◌≡◌, ◌⊎◌, ◌≤◌, length, IfOk, IfErr, IfSome, OnOk};
-ghost use Rattle.std.specs.Io.KnownBytes.{Appends};
+ghost use Rattle.std.specs.Prelude.{◌≡◌, ◌⊎◌, ◌≤◌, length, IfOk, IfErr, IfSome, OnErr, OnOk};
+ghost use Rattle.std.specs.Io.{WritesAtMost};
+ghost use Rattle.std.specs.Io.KnownBytes.{Appends, Keeps, WriteAppends};
+ghost use Rattle.lsm_commands.specs.Printing.{Begins};
 ghost use Rattle.lsm_commands.specs.declared.fault.Fault.TheVariants.{Read as ReadFault, Write as WriteFault, OutOfMemory};
 
 use crate::fault::Fault;
@@ -27,16 +29,55 @@ pub(crate) fn read_input<R: Read>(alloc: Global, input: &mut R) -> Result<Vec<u8
     }
 }
 
-/// Writes the bytes, and flushes. `Write` where that fails.
-pub(crate) fn write_output<W: Write>(out: &mut W, bytes: &[u8]) -> Result<(), Fault>
-    ensures written { OnOk result (Appends (W.contents out.old) (W.contents out.new) bytes.now) }
+/// Writes bytes by one call, and gives how many were taken: none where it was interrupted. `Write` where that fails, or takes none.
+fn write_some<W: Write>(out: &mut W, bytes: &[u8]) -> Result<usize, Fault>
+    ensures bound { WritesAtMost result bytes.now }
+    ensures written { WriteAppends (W.contents out.old) (W.contents out.new) result bytes.now }
     ensures fault { IfErr result (λ e. e ≡ WriteFault) }
 {
-    if out.write_all(bytes).is_err() {
-        return Err(Fault::Write);
+    match out.write(bytes) {
+        Ok(0) => Err(Fault::Write),
+        Ok(taken) => Ok(taken),
+        Err(error) if error.kind() == ErrorKind::Interrupted => Ok(0),
+        Err(_) => Err(Fault::Write),
     }
-    if out.flush().is_err() {
-        return Err(Fault::Write);
+}
+
+/// Writes the bytes. `Write` where that fails: then a beginning of them was written.
+pub(crate) fn write_bytes<W: Write>(out: &mut W, bytes: &[u8]) -> Result<(), Fault>
+    ensures written { OnOk result (Appends (W.contents out.old) (W.contents out.new) bytes.now) }
+    ensures begun { OnErr result (Begins (W.contents out.old) (W.contents out.new) bytes.now) }
+    ensures fault { IfErr result (λ e. e ≡ WriteFault) }
+{
+    let mut rest = bytes;
+    for _turn in 0..u64::MAX {
+        if rest.is_empty() {
+            return Ok(());
+        }
+        let taken = write_some(out, rest)?;
+        let (_, later) = rest.split_at(taken);
+        rest = later;
     }
-    Ok(())
+    Err(Fault::Write)
+}
+
+/// Flushes. `Write` where that fails.
+pub(crate) fn flush<W: Write>(out: &mut W) -> Result<(), Fault>
+    ensures kept { Keeps (W.contents out.old) (W.contents out.new) }
+    ensures fault { IfErr result (λ e. e ≡ WriteFault) }
+{
+    match out.flush() {
+        Ok(()) => Ok(()),
+        Err(_) => Err(Fault::Write),
+    }
+}
+
+/// Writes the bytes, and flushes. `Write` where that fails: then a beginning of them was written.
+pub(crate) fn write_output<W: Write>(out: &mut W, bytes: &[u8]) -> Result<(), Fault>
+    ensures written { OnOk result (Appends (W.contents out.old) (W.contents out.new) bytes.now) }
+    ensures begun { OnErr result (Begins (W.contents out.old) (W.contents out.new) bytes.now) }
+    ensures fault { IfErr result (λ e. e ≡ WriteFault) }
+{
+    write_bytes(out, bytes)?;
+    flush(out)
 }

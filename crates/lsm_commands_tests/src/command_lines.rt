@@ -109,8 +109,15 @@ fn helps(rt: HostRuntime) -> Result<(), Fail> {
     expect_help(
         &rt,
         &["compact", "--help"],
-        &["old manifests stay", "installed M", "1 to 8; 2"],
+        &[
+            "old manifests stay",
+            "installed M",
+            "1 to 8; 2",
+            "--progress",
+        ],
     )?;
+    expect_help(&rt, &["check", "--help"], &["log NAME BYTES", "--progress"])?;
+    expect_help(&rt, &["dump", "--help"], &["as the table is gone through"])?;
     expect_help(
         &rt,
         &["scan", "--help"],

@@ -2,6 +2,7 @@
 
 use crate::runs::{expect_done, expect_refused, outcome};
 use crate::table_bytes::{altered, empty_table, small_table};
+use std::alloc::Global;
 use std::test::Fail;
 
 #[test]
@@ -47,6 +48,39 @@ fn gives_lists_back(rt: HostRuntime) -> Result<(), Fail> {
         let made = outcome(rt.alloc(), &["mktable"], list.as_bytes())?;
         assert_eq!(rt; made.status, 0);
         expect_done(&rt, &["dump"], made.out.as_slice(), want.as_bytes())?;
+    }
+    Ok(())
+}
+
+/// The list of one entry with a key of so many bytes `ab` and a value of so many bytes `cd`.
+fn long_list(alloc: Global, key: usize, value: usize) -> Result<Vec<u8>, Fail> {
+    let mut list = Vec::new(alloc);
+    for _ in 0..key {
+        list.extend_from_slice(b"ab")?;
+    }
+    list.extend_from_slice(b" 72057594037927935 put ")?;
+    for _ in 0..value {
+        list.extend_from_slice(b"cd")?;
+    }
+    list.push(b'\n')?;
+    Ok(list)
+}
+
+// A word is spelled 128 bytes at a time, and 8192 bytes of text are held back.
+#[test]
+fn dumps_long_keys_and_values(rt: HostRuntime) -> Result<(), Fail> {
+    for (key, value) in [
+        (1, 127),
+        (127, 128),
+        (128, 129),
+        (256, 3955),
+        (257, 3956),
+        (4096, 1_048_576),
+    ] {
+        let list = long_list(rt.alloc(), key, value)?;
+        let made = outcome(rt.alloc(), &["mktable"], list.as_slice())?;
+        assert_eq!(rt; made.status, 0);
+        expect_done(&rt, &["dump"], made.out.as_slice(), list.as_slice())?;
     }
     Ok(())
 }

@@ -8,7 +8,7 @@ use Rattle.lsm_commands.specs.declared.command_line.CommandLine.TheVariants.{Run
 use Rattle.lsm_commands.specs.declared.fault.Fault.{Fault}
 use Rattle.lsm_commands.specs.declared.fault.Fault.TheVariants.{Write, OutOfMemory}
 use Rattle.lsm_commands.specs.declared.command_line.CommandName.{CommandName}
-use Rattle.lsm_commands.specs.Commands.{Asks, Explains, IsExplained, IsRefusal}
+use Rattle.lsm_commands.specs.Commands.{Asks, Explains, IsBegun, IsExplained, IsRefusal}
 use Rattle.lsm_commands.proofs.program.run.Goals.{in-Ok, in-Err}
 use Rattle.lsm_commands.proofs.program.run.Goals as goal
 
@@ -32,14 +32,19 @@ memory MakeTable (Some text) = tt
 memory Dump (Some text) = tt
 memory Manifest (Some text) = tt
 
+never : OutOfMemory ≡ Write → ⊥
+never e = absurd cc
+
 refused : (name : CommandName) (line : CommandLine) (input old new : Option (List ℕ)) (r : Result ℕ Fault) (fault : Fault) → r ≡ Err fault → line ≡ Run name
-    → IfErr r (λ e. IsExplained line input e) → IfErr r (λ e. e ≢ Write → Keeps old new) → IsRefusal name input old new 1
-refused name line input old new r fault is same explained kept = inr (
+    → IfErr r (λ e. IsExplained line input e) → IfErr r (λ e. e ≢ Write → Keeps old new)
+    → IfErr r (λ e. e ≡ Write → IsBegun line input old new) → IsRefusal name input old new 1
+refused name line input old new r fault is same explained kept begun = inr (
   refl,
   (
     fault,
     subst (λ (l : CommandLine). IsExplained l input fault) same (subst (λ (x : Result ℕ Fault). IfErr x (λ e. IsExplained line input e)) is explained),
     subst (λ (x : Result ℕ Fault). IfErr x (λ e. e ≢ Write → Keeps old new)) is kept,
+    subst (λ (l : CommandLine). fault ≡ Write → IsBegun l input old new) same (subst (λ (x : Result ℕ Fault). IfErr x (λ e. e ≡ Write → IsBegun line input old new)) is begun),
   ),
 )
 
@@ -50,8 +55,8 @@ returns-in-Err-done-clause-refused g c = λ (name : CommandName) (asks : Asks na
           subst (λ o. IsRefusal name (g.R.Read.remaining c.args.input.now) (g.O.Write.contents c.args.out.now) (g.O.Write.contents o) 1) (sym w.out-is)
           (refused name w.in-Ok.line (g.R.Read.remaining c.args.input.now) (g.O.Write.contents c.args.out.now) (g.O.Write.contents w.follow-done.new.out)
           w.follow-done.result c.in-Err-done.fault (sym w.done-is ∙ c.in-Err-done.is) (w.in-Ok.ensures.asked name asks)
-          w.follow-done.ensures.explained w.follow-done.ensures.kept)
+          w.follow-done.ensures.explained w.follow-done.ensures.kept w.follow-done.ensures.begun)
       | in-Err w ↦
           subst (λ o. IsRefusal name (g.R.Read.remaining c.args.input.now) (g.O.Write.contents c.args.out.now) (g.O.Write.contents o) 1) (sym w.out-is)
-          (inr (refl, (OutOfMemory, memory name (g.R.Read.remaining c.args.input.now), λ _. Keeps-refl (g.O.Write.contents c.args.out.now))))
+          (inr (refl, (OutOfMemory, memory name (g.R.Read.remaining c.args.input.now), λ _. Keeps-refl (g.O.Write.contents c.args.out.now), λ e. absurd (never e))))
     ]
