@@ -1,5 +1,5 @@
 -- What is printed for entries is a list of just those entries.
-use Rattle.std.proofs.Common.{◌≡◌, ℕ, ◌^◌, ◌<◌, List, [], ◌∷◌, ◌++◌, decimal, refl, sym, ap, ◌∙◌, subst, arith, append_assoc, append-nil}
+use Rattle.std.proofs.Common.{◌≡◌, ℕ, ◌^◌, ◌<◌, List, [], ◌∷◌, ◌++◌, decimal, refl, sym, ap, ◌∙◌, subst, arith, append_assoc}
 use Rattle.std.specs.List.{flat_map}
 use Rattle.std.specs.Prelude.{All}
 use Rattle.std.proofs.lemmas.Fmt.{decimal_is_IsNumeral, length-decimal-le}
@@ -83,18 +83,3 @@ printed_lines (e ∷ es) h =
 
 pub entry_list-is : (es : List Entry) → All IsListable es → Ascends es → IsEntryList (entry_list es) es
 entry_list-is es h a = record { spelled = printed_lines es h; ascending = a }
-
--- ---- line by line
-
--- the line of the first entry that was left
-pub line_more : (whole before after : List ℕ) (left later : List Entry) (e : Entry) → whole ≡ before ++ entry_list left
-    → left ≡ e ∷ later → after ≡ before ++ entry_line e → whole ≡ after ++ entry_list later
-unfolding entry_list
-line_more whole before after left later e so_far first added =
-    so_far ∙ ap (λ (es : List Entry). before ++ flat_map entry_line es) first
-    ∙ sym (append_assoc before (entry_line e) (flat_map entry_line later))
-    ∙ ap (λ (xs : List ℕ). xs ++ flat_map entry_line later) (sym added)
-
-pub lines_end : (whole all : List ℕ) (left : List Entry) → whole ≡ all ++ entry_list left → left ≡ [] → all ≡ whole
-unfolding entry_list
-lines_end whole all left so_far none = sym (so_far ∙ ap (λ (es : List Entry). all ++ flat_map entry_line es) none ∙ append-nil all)

@@ -1,8 +1,8 @@
 -- Text that goes to a writer piece by piece.
-use Rattle.std.proofs.Common.{◌≡◌, ℕ, List, [], ◌∷◌, ◌++◌, Option, Some, None, Result, Ok, Err, refl, sym, ap, ◌∙◌, subst, append_assoc, append-nil, take, drop, take-append-drop}
+use Rattle.std.proofs.Common.{◌≡◌, ℕ, List, [], ◌++◌, Option, Result, Ok, Err, refl, sym, ap, ◌∙◌, subst, append_assoc, append-nil, take, drop, take-append-drop}
 use Rattle.std.specs.Prelude.{OnErr, OnOk}
 use Rattle.std.specs.Io.KnownBytes.{Appends, Keeps}
-use Rattle.std.proofs.KnownBytes.{Appends-nil, Appends-trans, Appends-kept, Keeps-refl}
+use Rattle.std.proofs.KnownBytes.{Appends-nil, Appends-trans, Appends-kept}
 use Rattle.lsm_commands.specs.Printing.{Begins, Passes, Stops}
 
 -- ---- under a result
@@ -11,21 +11,10 @@ pub on_err : {X E : Type 0} {P : Type 0} (r : Result X E) → P → OnErr r P
 on_err (Ok x) p = tt
 on_err (Err e) p = p
 
-pub err_map : {X E : Type 0} {P Q : Type 0} (r : Result X E) → (P → Q) → OnErr r P → OnErr r Q
-err_map (Ok x) f p = tt
-err_map (Err e) f p = f p
-
-pub ok_map : {X E : Type 0} {P Q : Type 0} (r : Result X E) → (P → Q) → OnOk r P → OnOk r Q
-ok_map (Ok x) f p = f p
-ok_map (Err e) f p = tt
-
 -- ---- text that was printed
 
 pub passes_none : (a : Option (List ℕ)) (h : List ℕ) → Passes a h a h []
 passes_none a h = ([], Appends-nil a, append-nil h)
-
-pub passes_held : (a : Option (List ℕ)) (h l t : List ℕ) → l ≡ h ++ t → Passes a h a l t
-passes_held a h l t e = ([], Appends-nil a, sym e)
 
 pub passes_then : (a b c : Option (List ℕ)) (h k l s t : List ℕ) → Passes a h b k s → Passes b k c l t → Passes a h c l (s ++ t)
 passes_then a b c h k l s t p q = (
@@ -37,17 +26,7 @@ passes_then a b c h k l s t p q = (
 pub passes_kept : (a b c : Option (List ℕ)) (h l t : List ℕ) → Passes a h b l t → Keeps b c → Passes a h c l t
 passes_kept a b c h l t p kept = (p.0, Appends-kept a b c p.0 p.1 kept, p.2)
 
--- all that was held, and this text, was written
-pub passes_all : (a b : Option (List ℕ)) (h t : List ℕ) → Passes a h b [] t → Appends a b (h ++ t)
-passes_all a b h t p = subst (Appends a b) (sym (p.2 ∙ append-nil p.0)) p.1
-
-pub passes_written : (a b : Option (List ℕ)) (h : List ℕ) → Appends a b h → Passes a h b [] []
-passes_written a b h p = (h, p, refl)
-
 -- ---- bytes that are written by several calls
-
-pub written_none : (a : Option (List ℕ)) (t : List ℕ) → Passes a [] a t t
-written_none a t = ([], Appends-nil a, refl)
 
 pub written_more : (a b c : Option (List ℕ)) (n : ℕ) (rest t : List ℕ) → Passes a [] b rest t → Appends b c (take n rest) → Passes a [] c (drop n rest) t
 written_more a b c n rest t p more = (
@@ -56,9 +35,6 @@ written_more a b c n rest t p more = (
   p.2 ∙ ap (λ (x : List ℕ). p.0 ++ x) (sym (take-append-drop n rest)) ∙ sym (append_assoc p.0 (take n rest) (drop n rest)),
 )
 
-pub written_all : (a b : Option (List ℕ)) (rest t : List ℕ) → Passes a [] b rest t → rest ≡ [] → Appends a b t
-written_all a b rest t p none = passes_all a b [] t (subst (λ (x : List ℕ). Passes a [] b x t) none p)
-
 -- ---- text of which a beginning was written
 
 pub stops_in : (a b : Option (List ℕ)) (h s t : List ℕ) → Stops a h b s → Stops a h b (s ++ t)
@@ -66,13 +42,6 @@ stops_in a b h s t p = (p.0 ++ t, (p.1.0, p.1.1, sym (append_assoc h s t) ∙ ap
 
 pub stops_then : (a b c : Option (List ℕ)) (h k s t : List ℕ) → Passes a h b k s → Stops b k c t → Stops a h c (s ++ t)
 stops_then a b c h k s t p q = (q.0, passes_then a b c h k q.0 s t p q.1)
-
-pub stops_kept : (a b c : Option (List ℕ)) (h s : List ℕ) → Stops a h b s → Keeps b c → Stops a h c s
-stops_kept a b c h s p kept = (p.0, passes_kept a b c h p.0 s p.1 kept)
-
--- a beginning of what is held, while some text is to come
-pub stops_held : (a b : Option (List ℕ)) (h t : List ℕ) → Begins a b h → Stops a h b t
-stops_held a b h t p = (p.0 ++ t, (p.1.0, p.1.1, ap (λ (x : List ℕ). x ++ t) p.1.2 ∙ append_assoc p.1.0 p.0 t))
 
 -- ---- items that are printed one after the other
 
@@ -95,10 +64,6 @@ module _ {X : Type 0} (text : List X → List ℕ) where
     p.1 ∙ ap (λ (xs : List X). p.0 ++ xs) first ∙ sym (append_assoc p.0 some later),
     subst (Passes a h c l) (sym (splits p.0 some)) (passes_then a b c h k l (text p.0) (text some) p.2 q),
   )
-
-  pub printed_all : (all left : List X) (a b : Option (List ℕ)) (h k : List ℕ) → Printed text all left a h b k → left ≡ [] → Passes a h b k (text all)
-  printed_all all left a b h k p none =
-      subst (λ (xs : List X). Passes a h b k (text xs)) (sym (p.1 ∙ ap (λ (xs : List X). p.0 ++ xs) none ∙ append-nil p.0)) p.2
 
   pub printed_stops : (all left later some : List X) (a b c : Option (List ℕ)) (h k : List ℕ) → Splits text → Printed text all left a h b k → left ≡ some ++ later
       → Stops b k c (text some) → Stops a h c (text all)
