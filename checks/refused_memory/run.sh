@@ -22,6 +22,8 @@ top=$(cd "$here/../.." && pwd)
 work=$(mktemp -d)
 trap 'rm -rf "$work"' EXIT
 program=${LSM:-$top/crates/lsm_tool/out/lsm_tool}
+[[ -x $program ]] || { "$top/lsm" --help > "$work/help"; }
+program=$(realpath "$program")
 gcc -O1 -shared -fPIC -o "$work/refuse.so" "$here/refuse.c" -ldl
 : > "$work/nothing"
 cd "$work"
