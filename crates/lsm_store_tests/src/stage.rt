@@ -2,6 +2,7 @@
 
 ghost use Rattle.std.specs.Prelude.{◌≡◌, IfOk};
 ghost use Rattle.std.specs.Arc.{arc_value};
+ghost use Rattle.lsm_store.specs.Readers.{SeatsPinners};
 ghost use Rattle.lsm_store_tests.specs.Parts.{IsMade};
 
 use lsm_pins::{Board, Pinner, Publisher};
@@ -70,6 +71,41 @@ impl<N: Boarded, S: Shelf> Stage<N, S> {
         let Ok(state) = created else {
             return Err(Fail::new("the database was not created"));
         };
+        Stage::over(alloc, state, shelf)
+    }
+
+    /// A store over the database that is there.
+    #[tactic(auto, using(crate::proofs::Boards::seats_pinners_again))]
+    pub(crate) fn again<R: Wait>(
+        rt: &R,
+        alloc: Global,
+        parts: Parts<S>,
+    ) -> Result<Stage<N, S>, Fail>
+        requires named { arc_value parts.registry ≡ N.registry }
+        requires here { (S.told parts.shelf).place ≡ N.place }
+        requires made { IsMade N.board parts.options parts.board.0 parts.board.1.items }
+        ensures { IfOk result (λ s. (S.told s.shelf).place ≡ N.place) }
+    {
+        let Parts {
+            mut shelf,
+            options,
+            registry,
+            board,
+        } = parts;
+        let opened = State::<N, S>::open(rt, alloc, &mut shelf, options, registry, board);
+        let Ok(state) = opened else {
+            return Err(Fail::new("the database was not opened"));
+        };
+        Stage::over(alloc, state, shelf)
+    }
+
+    /// A store over a state, with a fork of the shelf for its readers.
+    fn over(alloc: Global, state: State<N, S>, shelf: S) -> Result<Stage<N, S>, Fail>
+        requires here { (S.told shelf).place ≡ N.place }
+        requires seats { SeatsPinners state }
+        ensures { IfOk result (λ s. (S.told s.shelf).place ≡ N.place) }
+    {
+        let mut shelf = shelf;
         let Ok(reading) = shelf.fork(alloc) else {
             return Err(Fail::new("the shelf has no fork"));
         };

@@ -42,23 +42,38 @@ pub(crate) fn put<N: Boarded, S: Shelf, R: Wait>(
     Ok(came.last)
 }
 
-/// A job over all files of the level, and a number for its output; none where there is no file, or another job holds one.
+/// Tries to reserve a job over all files of the level, with a number for its output; none where there is no file.
+fn reserve_once<N: Boarded, S: Shelf, R: Wait>(
+    rt: &R,
+    alloc: Global,
+    store: &Store<N, S>,
+    level: u8,
+) -> Result<Option<(Job<N, S>, Given)>, StateFault> {
+    let mut state = store.lock(rt);
+    let Some(job) = state.reserve_range(alloc, level, &[], &[0xff; 8])? else {
+        return Ok(None);
+    };
+    let mut numbers = Vec::new(alloc);
+    numbers.push(state.new_number(job.ticket())?)?;
+    Ok(Some((job, Given::of(numbers))))
+}
+
+/// A job over all files of the level, and a number for its output, as often as another job holds one of the files; none where there
+/// is no file.
 pub(crate) fn reserve<N: Boarded, S: Shelf, R: Wait>(
     rt: &R,
     alloc: Global,
     store: &Store<N, S>,
     level: u8,
 ) -> Result<Option<(Job<N, S>, Given)>, Refused> {
-    let mut state = store.lock(rt);
-    match state.reserve_range(alloc, level, &[], &[0xff; 8]) {
-        Ok(Some(job)) => {
-            let mut numbers = Vec::new(alloc);
-            numbers.push(state.new_number(job.ticket())?)?;
-            Ok(Some((job, Given::of(numbers))))
+    for _ in 0..1_000_000_000u64 {
+        match reserve_once(rt, alloc, store, level) {
+            Ok(reserved) => return Ok(reserved),
+            Err(StateFault::Conflict(_)) => yield_now(),
+            Err(fault) => return Err(Refused::from(fault)),
         }
-        Ok(None) | Err(StateFault::Conflict(_)) => Ok(None),
-        Err(fault) => Err(Refused::from(fault)),
     }
+    Err(Refused(44))
 }
 
 /// The registry of the store's tables.
@@ -129,7 +144,7 @@ pub(crate) fn install<N: Boarded, S: Shelf, R: Wait>(
     Err(Refused(48))
 }
 
-/// Compacts all files of the level, where no other job holds one of them.
+/// Compacts all files of the level.
 pub(crate) fn compact_level<N: Boarded, S: Shelf, R: Wait>(
     rt: &R,
     alloc: Global,
