@@ -182,6 +182,7 @@ pub fn directory_asked<'a, S: AsStr>(
     words: &'a [S],
 ) -> Result<Option<DirectoryLine<'a>>, AllocError>
     ensures only { IfOk result (λ o. IfSome o (λ l. AsksOn l.command l.form l.progress l.path.now (map S.text words.now))) }
+    ensures path { IfOk result (λ o. IfSome o (λ l. IsOptionWord l.path.now → ⊥)) }
     ensures found { (c : DirectoryCommand) (form : Form) (progress : Bool) (path : List ℕ) → AsksOn c form progress path (map S.text words.now) → (IsOptionWord path → ⊥)
         → IfOk result (λ o. IsSomeAnd o (λ l. (l.command ≡ c) × (l.form ≡ form) × (l.progress ≡ progress) × (l.path.now ≡ path))) }
 {
