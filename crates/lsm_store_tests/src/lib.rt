@@ -6,19 +6,11 @@ mod given;
 #[cfg(test)]
 mod holding;
 #[cfg(test)]
-mod puts;
-#[cfg(test)]
 mod races;
 #[cfg(test)]
 mod refused;
 #[cfg(test)]
 mod stage;
-#[cfg(test)]
-mod storm;
-#[cfg(test)]
-mod storm_reads;
-#[cfg(test)]
-mod storm_writes;
 #[cfg(test)]
 mod views;
 #[cfg(test)]
