@@ -2,11 +2,8 @@
 
 ghost use Rattle.std.specs.Prelude.{◌≡◌, ◌≢◌, [], IfOk, IfErr, IfSome, OnErr, OnOk, List, ℕ};
 ghost use Rattle.std.specs.Io.KnownBytes.{Appends, Keeps};
-ghost use Rattle.lsm_codec.specs.Entries.{Entry};
-ghost use Rattle.lsm_table.specs.Table.{IsTable};
 ghost use Rattle.lsm_table.specs.HeldTable.{Steps};
 ghost use Rattle.std.specs.Option.{option_map};
-ghost use Rattle.lsm_commands.specs.EntryList.{IsEntryList};
 ghost use Rattle.lsm_commands.specs.EntryPrinting.{entry_list};
 ghost use Rattle.lsm_commands.specs.Commands.{Answers, BeginsAnswer, Explains};
 ghost use Rattle.lsm_commands.specs.Printing.{Begins, Passes, Stops};
@@ -40,17 +37,6 @@ fn make_table(alloc: Global, list: &[u8]) -> Result<Vec<u8>, Fault>
     Ok(builder.finish()?)
 }
 
-/// The next value of a table. The one fault is want of memory.
-fn next_value<'t>(entries: &mut TableIter<'t>) -> Result<Option<&'t [u8]>, Fault>
-    ensures given { IfOk result (λ r. Steps entries.old entries.new (option_map (λ v. v.now) r)) }
-    ensures fault { IfErr result (λ e. e ≡ OutOfMemory) }
-{
-    match entries.next() {
-        Ok(next) => Ok(next),
-        Err(_) => Err(Fault::OutOfMemory),
-    }
-}
-
 /// The next value of a table that was gone through before. The room for its keys is there, so no memory is wanted; as no clause says
 /// that, a want of it is told as one of the writer.
 fn next_again<'t>(entries: &mut TableIter<'t>) -> Result<Option<&'t [u8]>, Fault>
@@ -64,10 +50,10 @@ fn next_again<'t>(entries: &mut TableIter<'t>) -> Result<Option<&'t [u8]>, Fault
 }
 
 /// Goes through all entries that are left, so that the room for the longest key is there. The one fault is want of memory.
-fn pass_all<'t>(entries: &mut TableIter<'t>) -> Result<(), Fault>
+fn pass_all(entries: &mut TableIter<'_>) -> Result<(), Fault>
     ensures { IfErr result (λ e. e ≡ OutOfMemory) }
 {
-    'entries: while next_value(entries)?.is_some() {}
+    'entries: while entries.next()?.is_some() {}
     Ok(())
 }
 
@@ -136,26 +122,24 @@ fn list_manifest(alloc: Global, manifest: &[u8]) -> Result<Vec<u8>, Fault>
     Ok(text)
 }
 
-/// Writes the table of a list of entries.
-fn write_table<O: Write>(alloc: Global, list: Vec<u8>, out: &mut O) -> Result<(), Fault>
-    ensures written { OnOk result ((output : List ℕ) × Answers MakeTable list.items output × Appends (O.contents out.old) (O.contents out.new) output) }
-    ensures explained { IfErr result (λ e. Explains MakeTable list.items e) }
+/// Writes what a command answers for what it was given.
+fn write_answer<O: Write>(
+    alloc: Global,
+    name: CommandName,
+    input: Vec<u8>,
+    out: &mut O,
+) -> Result<(), Fault>
+    ensures written { OnOk result ((output : List ℕ) × Answers name input.items output × Appends (O.contents out.old) (O.contents out.new) output) }
+    ensures explained { IfErr result (λ e. Explains name input.items e) }
     ensures kept { IfErr result (λ e. e ≢ WriteFault → Keeps (O.contents out.old) (O.contents out.new)) }
-    ensures begun { IfErr result (λ e. e ≡ WriteFault → BeginsAnswer MakeTable list.items (O.contents out.old) (O.contents out.new)) }
+    ensures begun { IfErr result (λ e. e ≡ WriteFault → BeginsAnswer name input.items (O.contents out.old) (O.contents out.new)) }
 {
-    let table = make_table(alloc, list.as_slice())?;
-    write_output(out, &table)
-}
-
-/// Writes the edits of a manifest, and how many bytes at its end hold no whole record.
-fn write_edits<O: Write>(alloc: Global, manifest: Vec<u8>, out: &mut O) -> Result<(), Fault>
-    ensures written { OnOk result ((output : List ℕ) × Answers Manifest manifest.items output × Appends (O.contents out.old) (O.contents out.new) output) }
-    ensures explained { IfErr result (λ e. Explains Manifest manifest.items e) }
-    ensures kept { IfErr result (λ e. e ≢ WriteFault → Keeps (O.contents out.old) (O.contents out.new)) }
-    ensures begun { IfErr result (λ e. e ≡ WriteFault → BeginsAnswer Manifest manifest.items (O.contents out.old) (O.contents out.new)) }
-{
-    let text = list_manifest(alloc, manifest.as_slice())?;
-    write_output(out, &text)
+    let answer = match name {
+        CommandName::MakeTable => make_table(alloc, input.as_slice())?,
+        CommandName::Manifest => list_manifest(alloc, input.as_slice())?,
+        CommandName::Dump => return print_table(alloc, input, out),
+    };
+    write_output(out, answer.as_slice())
 }
 
 /// Reads all of standard input, and then writes what the command answers; or nothing at all, but for a failed write, which leaves a
@@ -173,9 +157,5 @@ pub(crate) fn perform<R: Read, O: Write>(
     ensures begun { IfErr result (λ e. e ≡ WriteFault → IfSome (R.remaining input.old) (λ text. BeginsAnswer name text (O.contents out.old) (O.contents out.new))) }
 {
     let bytes = read_input(alloc, input)?;
-    match name {
-        CommandName::MakeTable => write_table(alloc, bytes, out),
-        CommandName::Dump => print_table(alloc, bytes, out),
-        CommandName::Manifest => write_edits(alloc, bytes, out),
-    }
+    write_answer(alloc, name, bytes, out)
 }

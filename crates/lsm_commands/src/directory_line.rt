@@ -1,6 +1,6 @@
 //! Command lines that ask for a command on a directory.
 
-ghost use Rattle.std.specs.Prelude.{◌≡◌, ℕ, Bool, List, ◌∷◌, [], codes, false, Option, IfOk, IfSome, IsSomeAnd, Some, map};
+ghost use Rattle.std.specs.Prelude.{◌≡◌, ℕ, Bool, List, ◌∷◌, codes, false, Option, IfOk, IfSome, IsSomeAnd, Some, map};
 ghost use Rattle.std.specs.Option.{option_map};
 ghost use Rattle.lsm_commands.specs.DirectoryLine.{AsksOn, IsBound, IsOptionWord, Spell};
 ghost use Rattle.lsm_commands.specs.Options.{Chosen, chosen_of, unbounded};

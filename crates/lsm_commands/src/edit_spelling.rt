@@ -1,6 +1,6 @@
 //! What the program prints of version edits.
 
-ghost use Rattle.std.specs.Prelude.{◌≡◌, ◌++◌, OnOk, List, ℕ, codes};
+ghost use Rattle.std.specs.Prelude.{◌≡◌, ◌++◌, OnOk};
 ghost use Rattle.std.specs.List.{flat_map};
 ghost use Rattle.lsm_commands.specs.ManifestPrinting.{key_word, number_line, name_line, comparator_line, field_line, pointer_line, deleted_line, file_words, added_line, number_lines, list_lines, edit_lines};
 

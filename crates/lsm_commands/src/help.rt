@@ -8,16 +8,23 @@ const VERSION: &str = "0.1.0 (files of LevelDB 1.23, uncompressed)";
 
 const OVERVIEW: &str =
     "Keys and values are words in hex, two digits a byte (61 is `a`), or with --text
-as text, in which `\\xNN` is a byte that does not print; `.` stands for no bytes.
-Sizes are in bytes. Standard input and FILE may have 64 MiB.
+as text, in which `\\xNN` is a byte that does not print; `.` stands for no
+bytes. Sizes are in bytes. Standard input and FILE may have 64 MiB.
+
+Options stand last, and a value is the word behind its option, as in
+`lsm scan db --from 61`.
+
+A DIR that is not there is `refused 9 Device`, one without a file CURRENT
+`refused 10 Missing`; but `ingest` begins a database in such a DIR.
 
 Tables that are compressed, as LevelDB makes them unless told otherwise, are
-refused: `refused 16 Compressed 1`. No command reads a write-ahead log (`N.log`).
+refused: `refused 16 Compressed 1`. No command reads a write-ahead log
+(`N.log`).
 
 Exit status:
   0  done
-  1  refused; standard error says why: `refused N Name ..`, `bad line I`,
-     `read fault` or `write fault`, the two in the middle with a second line
+  1  refused; standard error says why: `refused N Name ..`, `write fault`, or
+     `bad line I` or `read fault` with a second line that explains it
   2  bad command line
 
 Example: lsm check db";
@@ -45,9 +52,9 @@ Every checksum, block and key is judged before the first line. Other bytes are
 refused by number and name, as in `refused 13 BadMagic`; a compressed table is
 `refused 16 Compressed 1`.
 
-Lines are printed as the table is gone through, in memory that does not grow with
-them. A table may spell far more than it has: keys that share nearly all of a
-huge one are each printed whole.
+Lines are printed as the table is gone through, in memory that does not grow
+with them. A table may spell far more than it has: keys that share nearly all of
+a huge one are each printed whole.
 
 Limit: 64 MiB of input.
 
@@ -58,9 +65,9 @@ const DUMP_EXAMPLE: &str = "Example: lsm dump < db/000005.ldb";
 
 const MANIFEST: &str = "Reads a LevelDB manifest on standard input and prints its edits on standard
 output: for each `edit I` and then its fields, with keys as `KEY@SEQ+` for a
-value and `KEY@SEQ-` for a deletion. The last line, `rest B`, counts the bytes at
-the end that hold no whole record: above 0 the last record was cut off, or the
-bytes are no manifest. The edits are not replayed.
+value and `KEY@SEQ-` for a deletion. The last line, `rest B`, counts the bytes
+at the end that hold no whole record: above 0 the last record was cut off, or
+the bytes are no manifest. The edits are not replayed.
 
 Other bytes are refused by number and name, as in `refused 19 LogChecksum 0`.
 
@@ -75,11 +82,12 @@ const CHECK: &str = "Verifies all that a read of the LevelDB folder DIR can reac
 every table that its manifest names, and how the tables lie in their levels.
 Nothing is written there. One table at a time is held in memory.
 
-Prints a line a level, `level L files F bytes B entries E` for the levels 0 to 6,
-then `last S`, the last sequence, and `rest B`, how many bytes at the manifest's
-end hold no whole record: above 0 the last record was cut off, which is no fault.
-At the end comes `log NAME BYTES` for each write-ahead log (`N.log`) that is not
-empty and that LevelDB would read: what stands there no command reads.
+Prints a line a level, `level L files F bytes B entries E` for the levels 0 to
+6, then `last S`, the last sequence, and `rest B`, how many bytes at the
+manifest's end hold no whole record: above 0 the last record was cut off, which
+is no fault. At the end comes `log NAME BYTES` for each write-ahead log
+(`N.log`) that is not empty and that LevelDB would read: what stands there no
+command reads.
 
 The first fault is refused by number and name; that of a table names its file,
 as in `refused 15 BadChecksum 0 in 000005.ldb`.
@@ -88,11 +96,10 @@ Exit status: 0 where all is well, 1 at a fault, 2 bad command line.";
 
 const CHECK_EXAMPLE: &str = "Example: lsm check db --progress";
 
-const LIST: &str =
-    "Prints the tables of the LevelDB folder DIR: `LEVEL NUMBER SIZE SMALLEST LARGEST`
-for each, levels 0 to 6 and in a level by smallest key, and then `end`. Keys are
-`KEY@SEQ+` for a value and `KEY@SEQ-` for a deletion; SIZE is in bytes. KEY is
-hex, or text with --text, `.` for no bytes.
+const LIST: &str = "Prints the tables of the LevelDB folder DIR, levels 0 to 6 and in a level by
+smallest key, `LEVEL NUMBER SIZE SMALLEST LARGEST` for each, and then `end`.
+Keys are `KEY@SEQ+` for a value and `KEY@SEQ-` for a deletion; SIZE is in bytes.
+KEY is hex, or text with --text, `.` for no bytes.
 
 Every table is verified first. Nothing is written in DIR.
 
@@ -134,7 +141,8 @@ const SCAN_EXAMPLE: &str = "Examples: lsm scan db --from 61 --to 6dff
 
 const INGEST: &str = "Brings the keys of FILE into the LevelDB folder DIR, as one table at level 0,
 and prints `file N first F last L`: the table's number, and the first and the
-last of its sequences. Where DIR has no file CURRENT a database is begun there.
+last of its sequences. DIR has to be there; where it has no file CURRENT a
+database is begun in it.
 
 FILE has a line a key, `KEY=VALUE` for its new value or `KEY!` where it is
 deleted, ascending by the bytes of the keys, each key once. KEY and VALUE are
@@ -149,8 +157,9 @@ keys out of order are `refused 38 KeyOrder I`, where I counts from 0.
 Let LevelDB flush its log and close the folder first: what stands in a
 write-ahead log (`N.log`) is not read, and no lock is taken. Each run begins a
 new manifest, also where the batch is then refused; old manifests stay, and may
-be removed, but for the one that CURRENT names. At 12 tables in level 0 the batch
-is `refused 40 LevelZeroFull`: run `lsm compact DIR`, and then ingest again.
+be removed, but for the one that CURRENT names. At 12 tables in level 0 the
+batch is `refused 40 LevelZeroFull`: run `lsm compact DIR`, and then ingest
+again.
 
 Exit status: 0 the batch came in, 1 refused, 2 bad command line. After a `write
 fault` the batch is in; after `refused 9 Device` it may be.";
@@ -160,10 +169,10 @@ const INGEST_EXAMPLE: &str =
 
 const COMPACT: &str = "Compacts the LevelDB folder DIR until no level is too large: tables of such a
 level, and those of the next one that they meet, are written anew one level
-down. Level 0 is too large from 4 tables on, level 1 from 10 MiB, and each deeper
-one from ten times as much as the one above it. No answer of a read changes. Then
-the tables that are not needed any more are removed. Prints `installed M`, the
-number of compactions.
+down. Level 0 is too large from 4 tables on, level 1 from 10 MiB, and each
+deeper one from ten times as much as the one above it. No answer of a read
+changes. Then the tables that are not needed any more are removed. Prints
+`installed M`, the number of compactions.
 
 --workers is how many threads compact at a time, 1 to 8; 2 if it is not said.
 
@@ -242,6 +251,7 @@ fn progress<'a>(alloc: Global) -> Arg<'a> {
 /// The command that verifies a folder.
 fn check<'a>(alloc: Global) -> Result<Command<'a>, AllocError> {
     Command::new(alloc, "check")
+        .override_usage("lsm check <DIR> [--progress]")
         .about("Verifies a folder, and counts what is in it")
         .long_about(CHECK)
         .after_help(CHECK_EXAMPLE)
@@ -252,6 +262,7 @@ fn check<'a>(alloc: Global) -> Result<Command<'a>, AllocError> {
 /// The command that prints a folder's tables.
 fn list<'a>(alloc: Global) -> Result<Command<'a>, AllocError> {
     Command::new(alloc, "list")
+        .override_usage("lsm list <DIR> [--text]")
         .about("Prints the tables of a folder, level by level")
         .long_about(LIST)
         .after_help(LIST_EXAMPLE)
@@ -262,6 +273,7 @@ fn list<'a>(alloc: Global) -> Result<Command<'a>, AllocError> {
 /// The command that reads a key.
 fn get<'a>(alloc: Global) -> Result<Command<'a>, AllocError> {
     Command::new(alloc, "get")
+        .override_usage("lsm get <DIR> <KEY> [--text]")
         .about("Prints the value of a key in a folder")
         .long_about(GET)
         .after_help(GET_EXAMPLE)
@@ -273,6 +285,7 @@ fn get<'a>(alloc: Global) -> Result<Command<'a>, AllocError> {
 /// The command that prints a folder's live keys.
 fn scan<'a>(alloc: Global) -> Result<Command<'a>, AllocError> {
     Command::new(alloc, "scan")
+        .override_usage("lsm scan <DIR> [--from <KEY>] [--to <KEY>] [--text] [--progress]")
         .about("Prints the live keys of a folder and their values")
         .long_about(SCAN)
         .after_help(SCAN_EXAMPLE)
@@ -286,6 +299,7 @@ fn scan<'a>(alloc: Global) -> Result<Command<'a>, AllocError> {
 /// The command that brings keys in.
 fn ingest<'a>(alloc: Global) -> Result<Command<'a>, AllocError> {
     Command::new(alloc, "ingest")
+        .override_usage("lsm ingest <DIR> <FILE> [--text]")
         .about("Brings keys into a folder, or begins a database there")
         .long_about(INGEST)
         .after_help(INGEST_EXAMPLE)
@@ -301,6 +315,7 @@ fn ingest<'a>(alloc: Global) -> Result<Command<'a>, AllocError> {
 /// The command that compacts a folder.
 fn compact<'a>(alloc: Global) -> Result<Command<'a>, AllocError> {
     Command::new(alloc, "compact")
+        .override_usage("lsm compact <DIR> [--workers <N>] [--progress]")
         .about("Compacts a folder until no level is too large")
         .long_about(COMPACT)
         .after_help(COMPACT_EXAMPLE)

@@ -1,19 +1,15 @@
 //! Why a compaction ends with status 1.
 
 ghost use Rattle.std.specs.Prelude.{◌≡◌};
-ghost use Rattle.lsm_commands.specs.FaultText.{refusal_text};
-ghost use Rattle.lsm_merge.specs.MergeFault.{name_of, number_of};
 ghost use Rattle.lsm_writer.specs.WriterFault.{of_shelf};
 ghost use Rattle.lsm_writer.specs.declared.writer_fault.WriterFault.TheVariants.{OutOfMemory, State as StateVariant};
-ghost use Rattle.lsm_compactor.specs.CompactFault.{fault_text, merge_cause, merge_field};
+ghost use Rattle.lsm_compactor.specs.CompactFault.{fault_text};
 ghost use Rattle.lsm_compactor.specs.declared.compact_fault.CompactFault.TheVariants.{Writer as WriterVariant, Worker as WorkerVariant};
 
-use lsm_commands::Refusal;
-use lsm_merge::MergeFault;
 use lsm_state::StateFault;
 use lsm_store::WorkerFault;
 use lsm_table::ShelfFault;
-use lsm_writer::WriterFault;
+use lsm_writer::{WriterFault, cause_of_merge, of_merge};
 use std::alloc::AllocError;
 use std::fmt;
 
@@ -35,32 +31,6 @@ impl CompactFault {
     }
 }
 
-/// A refusal of a merge, with the table or the ticket that it names.
-fn refusal_of(fault: MergeFault) -> Refusal
-    ensures { refusal_text result.number result.name.now result.field ≡ refusal_text (number_of fault) (name_of fault) (merge_field fault) }
-{
-    Refusal {
-        number: fault.number(),
-        name: fault.name(),
-        field: match fault {
-            MergeFault::ReadFailed(number, _) | MergeFault::PutFailed(number, _) => Some(number),
-            MergeFault::UnknownTicket(ticket) => Some(ticket),
-            MergeFault::OutOfMemory | MergeFault::NumbersSpent => None,
-        },
-    }
-}
-
-/// The number of the refusal that stands behind one of a merge.
-fn cause_of(fault: MergeFault) -> Option<u8>
-    ensures { result ≡ merge_cause fault }
-{
-    match fault {
-        MergeFault::ReadFailed(_, cause) => Some(cause.number()),
-        MergeFault::PutFailed(_, cause) => Some(cause.number()),
-        MergeFault::OutOfMemory | MergeFault::UnknownTicket(_) | MergeFault::NumbersSpent => None,
-    }
-}
-
 impl fmt::Display for CompactFault {
     ghost output = { λ f. fault_text f };
 
@@ -75,8 +45,8 @@ impl fmt::Display for CompactFault {
             }
             CompactFault::Worker(WorkerFault::Merge(fault)) => *fault,
         };
-        let refusal = refusal_of(fault);
-        match cause_of(fault) {
+        let refusal = of_merge(fault);
+        match cause_of_merge(fault) {
             Some(cause) => write!(f, "{refusal} {cause}"),
             None => write!(f, "{refusal}"),
         }

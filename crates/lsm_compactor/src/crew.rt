@@ -1,7 +1,7 @@
 //! The store, and the shelves of its workers.
 
-ghost use Rattle.std.specs.Prelude.{◌≡◌, All, IfErr, IfOk, length, vec_len};
-ghost use Rattle.lsm_shelf.specs.Told.{Becomes, Counted, NotNamed};
+ghost use Rattle.std.specs.Prelude.{◌≡◌, All, IfErr, IfOk, vec_len};
+ghost use Rattle.lsm_shelf.specs.Told.{Becomes, NotNamed};
 ghost use Rattle.lsm_store.specs.Readers.{SeatsPinners};
 
 use lsm_slots::Boarded;

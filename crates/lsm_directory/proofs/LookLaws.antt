@@ -8,10 +8,7 @@ use Rattle.std.specs.String.{string_cmp}
 use Rattle.std.proofs.lemmas.Grind.{flat_map-append}
 use Rattle.std.proofs.lemmas.List.{get_or-map, length-map, map-append, reverse-append}
 use Rattle.lsm_codec.specs.Lists.{Has}
-use Rattle.lsm_folder.specs.Calls.{Call, listed, measured, opened}
-use Rattle.lsm_folder.specs.Place.{IsAtPath, Place}
-use Rattle.lsm_folder.specs.SystemFolder.{system_calls, system_place}
-use Rattle.lsm_folder.specs.declared.system_folder.SystemFolder.{SystemFolder}
+use Rattle.lsm_folder.specs.Calls.{Call, listed, measured}
 use Rattle.lsm_folder.specs.FolderFault.{NotNamed}
 use Rattle.lsm_folder.specs.declared.folder_fault.FolderFault.{FolderFault}
 use Rattle.lsm_folder.specs.declared.folder_fault.FolderFault.TheVariants as folder
@@ -19,7 +16,7 @@ use Rattle.lsm_shelf.specs.FolderFault.{device_of}
 use Rattle.lsm_shelf.specs.declared.shelf_fault.ShelfFault.{ShelfFault}
 use Rattle.lsm_shelf.specs.declared.shelf_fault.ShelfFault.TheVariants as shelf
 use Rattle.lsm_directory.specs.Logs.{AreThose}
-use Rattle.lsm_directory.specs.Looking.{AddsLog, Asked, AsksSizes, EndsLikeLog, IsLook, IsSizeOrGone, LooksStopped, OnlyLooks, TellsLogs, after, named, size_in, sized}
+use Rattle.lsm_directory.specs.Looking.{AddsLog, Asked, AsksSizes, EndsLikeLog, IsLook, IsSizeOrGone, LooksStopped, OnlyLooks, after, named, size_in, sized}
 use Rattle.lsm_directory.specs.declared.folder_file.FolderFile.{FolderFile}
 
 pub looks_same : (a : List Call) → OnlyLooks a a
@@ -160,11 +157,3 @@ so_far_all left all files old new is s = record {
   calls = s.calls;
   told = s.told;
 }
-
--- of a folder of the system that was just opened
-pub system_told : {R F D Z : Type 0} (r : Result (Vec FolderFile Z) ShelfFault) (path : List ℕ) (was is : SystemFolder R F D) → system_calls was ≡ opened ∷ []
-    → IsAtPath path (system_place was) → system_place is ≡ system_place was → IfOk r (λ files. TellsLogs files.items (system_calls was) (system_calls is))
-    → IfOk r (λ files. (folder : SystemFolder R F D) × IsAtPath path (system_place folder) × TellsLogs files.items (opened ∷ []) (system_calls folder))
-system_told (Ok files) path was is first here same told =
-    (is, subst (λ (p : Place). IsAtPath path p) (sym same) here, subst (λ (calls : List Call). TellsLogs files.items calls (system_calls is)) first told)
-system_told (Err e) path was is first here same told = tt

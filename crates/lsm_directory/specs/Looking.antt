@@ -11,6 +11,8 @@ use Rattle.lsm_folder.specs.declared.folder_fault.FolderFault.TheVariants.{Missi
 use Rattle.lsm_shelf.specs.FolderFault.{device_of}
 use Rattle.lsm_shelf.specs.declared.shelf_fault.ShelfFault.{ShelfFault}
 use Rattle.lsm_shelf.specs.declared.shelf_fault.ShelfFault.TheVariants.{OutOfMemory}
+use Rattle.lsm_commands.specs.declared.directory_command.DirectoryCommand.{DirectoryCommand}
+use Rattle.lsm_commands.specs.declared.directory_command.DirectoryCommand.TheVariants.{Check, List as ListFiles, Get, Scan}
 use Rattle.lsm_directory.specs.Logs.{AreThose}
 use Rattle.lsm_directory.specs.declared.folder_file.FolderFile.{FolderFile}
 
@@ -90,6 +92,13 @@ pub record TellsLogs (files : List FolderFile) (old new : List Call) : Type 0 wh
   pub same : IsPermutation names ordered
   pub ascending : IsSorted (slice_cmp nat_cmp) ordered
   pub sizes : AsksSizes ordered files (listed (Ok names) ∷ old) new
+
+-- What a command looks at beside the tables: a check at the logs, and any other command at nothing.
+abbrev pub TellsBeside : DirectoryCommand → List FolderFile → List Call → List Call → Type 0
+TellsBeside Check files old new = TellsLogs files old new
+TellsBeside ListFiles files old new = (files ≡ []) × (new ≡ old)
+TellsBeside (Get key) files old new = (files ≡ []) × (new ≡ old)
+TellsBeside (Scan bounds) files old new = (files ≡ []) × (new ≡ old)
 
 -- ---- refusals
 

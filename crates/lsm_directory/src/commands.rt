@@ -7,7 +7,6 @@ ghost use Rattle.lsm_codec.specs.Entries.{answer};
 ghost use Rattle.lsm_table.specs.Told.{Becomes};
 ghost use Rattle.lsm_levels.specs.Files.{all_entries};
 ghost use Rattle.lsm_version.specs.Versions.{files};
-ghost use Rattle.lsm_commands.specs.declared.directory_command.DirectoryCommand.TheVariants.{Check};
 ghost use Rattle.lsm_directory.specs.Answers.{IsDone, IsFault, Leaves, Prints, PrintsBefore};
 ghost use Rattle.lsm_directory.specs.Directory.{OnlyReads};
 ghost use Rattle.lsm_directory.specs.Listing.{answer_text, check_text};

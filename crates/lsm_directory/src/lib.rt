@@ -19,7 +19,7 @@ mod listing;
 mod logs;
 mod scanning;
 
-// What a folder tells of logs.
+// A folder of the system, and what a folder tells of logs.
 mod folder_file;
 mod looking;
 
@@ -31,7 +31,7 @@ mod refusals;
 
 pub use directory_fault::DirectoryFault;
 pub use folder_file::FolderFile;
-pub use looking::{log_files, system_log_files};
+pub use looking::{log_files, open_folder};
 pub use opened::{Opened, open};
 pub use program::{refuse_shelf, run};
 pub use request::Request;

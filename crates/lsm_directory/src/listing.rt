@@ -1,6 +1,6 @@
 //! The files of a version, as lines.
 
-ghost use Rattle.std.specs.Prelude.{◌≡◌, ◌≤◌, ◌++◌, IfOk, OnOk};
+ghost use Rattle.std.specs.Prelude.{◌≡◌, ◌++◌, IfOk, OnOk};
 ghost use Rattle.lsm_directory.specs.Listing.{file_line, file_lines, list_text, number_word};
 
 use lsm_commands::{Form, push_decimal};

@@ -1,4 +1,4 @@
-//! Which logs a folder has, as it tells their names and sizes.
+//! Which logs a folder has, as it tells their names and sizes, and the folder opened for a command.
 
 ghost use Rattle.std.specs.Prelude.{◌≡◌, ◌∷◌, [], List, ℕ, Err, Ok, IfErr, IfOk, MatchOption, OnOk, map, string_bytes};
 ghost use Rattle.std.specs.Cmp.Lexicographic.{slice_cmp};
@@ -7,15 +7,17 @@ ghost use Rattle.std.specs.Ordering.{nat_cmp};
 ghost use Rattle.lsm_folder.specs.Calls.{listed, measured, opened};
 ghost use Rattle.lsm_folder.specs.Place.{IsAtPath};
 ghost use Rattle.lsm_folder.specs.SystemFolder.{system_calls, system_place};
-ghost use Rattle.lsm_folder.specs.declared.system_folder.SystemFolder.{SystemFolder};
 ghost use Rattle.lsm_folder.specs.declared.folder_fault.FolderFault.TheVariants.{Missing};
+ghost use Rattle.lsm_shelf.specs.FileShelf.{file_told, folder_of};
 ghost use Rattle.lsm_shelf.specs.FolderFault.{device_of};
-ghost use Rattle.lsm_shelf.specs.Told.{NotNamed};
+ghost use Rattle.lsm_shelf.specs.Told.{NotNamed, fresh};
 ghost use Rattle.lsm_shelf.specs.declared.shelf_fault.ShelfFault.TheVariants.{OutOfMemory};
-ghost use Rattle.lsm_directory.specs.Looking.{AddsLog, AsksSizes, LooksStopped, OnlyLooks, TellsLogs};
+ghost use Rattle.lsm_directory.specs.Looking.{AddsLog, AsksSizes, LooksStopped, OnlyLooks, TellsBeside, TellsLogs};
 
 use crate::folder_file::FolderFile;
+use lsm_commands::DirectoryCommand;
 use lsm_folder::{FolderCalls, FolderFault, SystemFolder};
+use lsm_shelf::{FileShelf, SystemShelf};
 use lsm_table::ShelfFault;
 use std::alloc::Global;
 use std::fs::Files;
@@ -148,18 +150,45 @@ pub fn log_files<C: FolderCalls, R: Wait>(
     logs_among(rt, alloc, folder, names)
 }
 
-/// The same of the system's folder of this path. `Device` where it is no folder that can be opened.
-pub fn system_log_files<R: Files + AllocGlobal + Clone + Drop, W: Wait>(
+/// The files beside a folder's tables at which a command looks: a check at those whose names end like a log's, and any other command at
+/// none, so that it asks nothing.
+fn files_beside<C: FolderCalls, R: Wait>(
+    rt: &R,
+    alloc: Global,
+    folder: &mut C,
+    command: &DirectoryCommand,
+) -> Result<Vec<FolderFile>, ShelfFault>
+    ensures told { IfOk result (λ files. TellsBeside command.now files.items (C.calls folder.old) (C.calls folder.new)) }
+    ensures place { C.place folder.new ≡ C.place folder.old }
+    ensures fault { IfErr result NotNamed }
+{
+    match command {
+        DirectoryCommand::Check => log_files(rt, alloc, folder),
+        DirectoryCommand::List | DirectoryCommand::Get(_) | DirectoryCommand::Scan(_) => {
+            Ok(Vec::new(alloc))
+        }
+    }
+}
+
+/// Opens the system's folder of this path for a command: a shelf on it, and the files beside its tables at which the command looks.
+/// `Device` where it is no folder that can be opened, or where it fails.
+pub fn open_folder<R: Files + AllocGlobal + Clone + Drop, W: Wait>(
     waits: &W,
     rt: R,
     path: &str,
-) -> Result<Vec<FolderFile>, ShelfFault>
-    ensures told { IfOk result (λ files. (folder : SystemFolder R R.File R.Dir) × IsAtPath path.now (system_place folder) × TellsLogs files.items (opened ∷ []) (system_calls folder)) }
+    command: &DirectoryCommand,
+) -> Result<(SystemShelf<R>, Vec<FolderFile>), ShelfFault>
+    ensures told { IfOk result (λ o. TellsBeside command.now o.1.items (opened ∷ []) (system_calls (folder_of o.0))) }
+    ensures place { IfOk result (λ o. IsAtPath path.now (system_place (folder_of o.0))) }
+    ensures fresh { IfOk result (λ o. file_told system_place o.0 ≡ fresh (system_place (folder_of o.0))) }
     ensures fault { IfErr result NotNamed }
 {
     let alloc = rt.alloc();
     match SystemFolder::open(rt, path) {
-        Ok(mut folder) => log_files(waits, alloc, &mut folder),
+        Ok(mut folder) => {
+            let files = files_beside(waits, alloc, &mut folder, command)?;
+            Ok((FileShelf::over(folder), files))
+        }
         Err(fault) => Err(device(fault)),
     }
 }

@@ -1,6 +1,6 @@
 //! Refusals of the parts of a directory, as they are printed.
 
-ghost use Rattle.std.specs.Prelude.{◌≡◌, Some};
+ghost use Rattle.std.specs.Prelude.{◌≡◌};
 ghost use Rattle.std.specs.Option.{option_map};
 ghost use Rattle.lsm_commands.specs.FaultText.{refusal_text};
 ghost use Rattle.lsm_directory.specs.DirectoryFault.{check_text, read_text, recover_text, replay_text, shelf_text};

@@ -15,7 +15,7 @@ use Rattle.lsm_manifest.specs.WholeEdit.{placed_at}
 use Rattle.lsm_manifest.proofs.CallerLemmas.{fresh_new, one_file_a_number, pointer_in-none}
 use Rattle.lsm_version.specs.Changes.{changed, levels_after, with_pointer}
 use Rattle.lsm_version.specs.FileNumbers.{AreDistinct}
-use Rattle.lsm_version.specs.Versions.{Levels, level_in, numbers_in}
+use Rattle.lsm_version.specs.Versions.{Levels, level_in}
 use Rattle.lsm_journal.specs.HeldManifest.{HeldManifest}
 use Rattle.lsm_journal.specs.Difference.{Difference, FitsComing, FitsDifference, FitsPlace, Suits, changed_by, deleted_numbers}
 use Rattle.lsm_journal.specs.Recorded.{HasOwnNumbers, IsFileAt, IsStanding, meta_of}

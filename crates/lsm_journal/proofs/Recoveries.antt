@@ -1,5 +1,5 @@
 -- A manifest that was read records each version of its shape.
-use Rattle.std.proofs.Common.{◌≡◌, ℕ, zero, suc, ◌+◌, ◌<◌, ◌≤◌, List, [], ◌∷◌, ◌++◌, None, get_or, length, map, refl, sym, ◌∙◌, ap, subst, inl, inr, arith}
+use Rattle.std.proofs.Common.{◌≡◌, ℕ, suc, ◌+◌, ◌<◌, ◌≤◌, List, [], ◌∷◌, ◌++◌, None, get_or, length, map, refl, sym, ◌∙◌, ap, subst, arith}
 use Rattle.std.specs.List.Sorted.{IsStrictlySortedBy}
 use Rattle.std.proofs.lemmas.List.{length-map, map-append}
 use Rattle.lsm_codec.specs.Lists.{Has}

@@ -15,11 +15,11 @@ use Rattle.lsm_manifest.specs.FileOrder.{TableFile, file_cmp}
 use Rattle.lsm_manifest.specs.Last.{last_by}
 use Rattle.lsm_manifest.specs.Replay.{Placed, pointer_in}
 use Rattle.lsm_manifest.specs.Shape.{Form, IsShape}
-use Rattle.lsm_manifest.specs.WholeEdit.{FitsShape, placed_at, pointers_from, whole_edit}
+use Rattle.lsm_manifest.specs.WholeEdit.{placed_at, pointers_from, whole_edit}
 use Rattle.lsm_manifest.specs.WholeEdit as manifest
 use Rattle.lsm_manifest.proofs.CallerLemmas.{at_files, files_at, fresh_new, innocent_none, last_by-none, pointer_in-none, whole_fits, whole_replays, innocent_push}
 use Rattle.lsm_version.specs.FileNumbers.{AreDistinct}
-use Rattle.lsm_version.specs.Versions.{Levels, files_of, level_in, no_levels, numbers_in}
+use Rattle.lsm_version.specs.Versions.{Levels, files_of, level_in, no_levels}
 use Rattle.lsm_version.specs.Versions as version
 use Rattle.lsm_journal.specs.HeldManifest.{HeldManifest}
 use Rattle.lsm_journal.specs.Difference.{Difference, FitsComing, FitsDifference, FitsPlace}

@@ -4,7 +4,6 @@ use Rattle.lsm_codec.specs.Keys.{InternalKey}
 use Rattle.lsm_codec.specs.Entries.{Entry}
 use Rattle.lsm_block.specs.Building.{last_key}
 use Rattle.lsm_table.specs.Table.{IsTable}
-use Rattle.lsm_table.specs.HeldTable.{entries_in}
 use Rattle.lsm_table.proofs.CallerLemmas.{table_held}
 use Rattle.lsm_merger.specs.Runs.{HasEntries}
 

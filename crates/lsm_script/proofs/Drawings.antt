@@ -1,15 +1,13 @@
 -- Numbers drawn by a merge.
-use Rattle.std.proofs.Common.{◌≡◌, ℕ, suc, ◌-◌, ◌^◌, ◌<◌, ◌==◌, Bool, true, false, cond, List, [], ◌∷◌, ◌++◌, map, refl, sym, ◌∙◌, ap, subst, inl, inr, arith}
-use Rattle.std.specs.Prelude.{Result, Ok, Err}
+use Rattle.std.proofs.Common.{◌≡◌, ℕ, ◌-◌, ◌^◌, ◌==◌, Bool, true, false, cond, List, [], ◌∷◌, map, refl, sym, ◌∙◌, ap, subst, inl, inr, arith}
+use Rattle.std.specs.Prelude.{Ok, Err}
 use Rattle.lsm_codec.specs.Lists.{Has}
 use Rattle.lsm_codec.proofs.CallerLemmas.{has_cases}
 use Rattle.lsm_shelf.specs.Told.{Told}
 use Rattle.lsm_merge.specs.Causes.{AnswersOf, AsksFor, NamesTicket}
-use Rattle.lsm_merge.specs.Outputs.{going}
 use Rattle.lsm_merge.specs.Work.{Done, Work}
 use Rattle.lsm_merge.specs.declared.merge_fault.MergeFault.{MergeFault}
 use Rattle.lsm_merge.specs.declared.merge_fault.MergeFault.TheVariants.{OutOfMemory, ReadFailed, PutFailed, UnknownTicket, NumbersSpent}
-use Rattle.lsm_merge.specs.declared.number_source.NumberFault.{NumberFault}
 use Rattle.lsm_merge.specs.declared.number_source.NumberFault.TheVariants as numbers
 use Rattle.lsm_live.specs.Booked.{Booked, HasTicket, booked, drawing}
 use Rattle.lsm_state.specs.Held.{Held}

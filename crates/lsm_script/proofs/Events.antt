@@ -1,10 +1,8 @@
 -- What each command is to the plain machine, and to the history.
-use Rattle.std.proofs.Common.{◌≡◌, ℕ, suc, ◌+◌, ◌<◌, ◌≤◌, Bool, true, false, cond, List, [], ◌∷◌, ◌++◌, Option, Some, None, length, refl, sym, ◌∙◌, ap, subst, inl, inr, arith, ◌⊎◌}
+use Rattle.std.proofs.Common.{◌≡◌, ℕ, suc, ◌+◌, ◌≤◌, Bool, true, false, cond, List, [], ◌∷◌, ◌++◌, refl, sym, ◌∙◌, ap, subst, inl, inr, arith}
 use Rattle.lsm_codec.specs.Entries.{Entry}
-use Rattle.lsm_codec.specs.Lists.{Has}
-use Rattle.lsm_levels.specs.Files.{all_entries}
-use Rattle.lsm_machine.specs.Plain.{Plain, Spends}
-use Rattle.lsm_machine.specs.Runs.{Event, Ingest, Snapshot, Release, Reserve, Cancel, Draw, Install, Spend, Nothing, ReadsAs, Run, Step, ingested}
+use Rattle.lsm_machine.specs.Plain.{Plain}
+use Rattle.lsm_machine.specs.Runs.{Event, Ingest, Snapshot, Release, Reserve, Cancel, Draw, Install, Spend, Nothing, Run, ingested}
 use Rattle.lsm_shelf.specs.Told.{Told}
 use Rattle.lsm_version.specs.Versions.{files}
 use Rattle.lsm_batch.specs.declared.write.Write.{Write}
@@ -14,10 +12,10 @@ use Rattle.lsm_choice.specs.TablePlans.{plan_of}
 use Rattle.lsm_live.specs.Booked.{without}
 use Rattle.lsm_live.proofs.CallerLemmas.{lives_booked, lives_without}
 use Rattle.lsm_journal.specs.HeldManifest.{is_at_limit}
-use Rattle.lsm_state.specs.Changing.{IsChangeRefusal, IsSlotRefusal, Sought, next_spent}
+use Rattle.lsm_state.specs.Changing.{IsChangeRefusal, Sought, next_spent}
 use Rattle.lsm_state.specs.Held.{Held, plain}
 use Rattle.lsm_state.specs.Ingesting.{IsIngestRefusal}
-use Rattle.lsm_state.specs.Installing.{IsInstallRefusal, IsInstalling, IsRefusedLater}
+use Rattle.lsm_state.specs.Installing.{IsInstallRefusal, IsRefusedLater}
 use Rattle.lsm_state.specs.Reserving.{IsReserving, plan_in, reserved}
 use Rattle.lsm_state.specs.declared.state_fault.StateFault.{StateFault}
 use Rattle.lsm_state.specs.declared.state_fault.StateFault.TheVariants.{OutOfMemory, Shelf, Read, BadLevel, EmptyBatch, KeyOrder, TooLarge, LevelZeroFull, SequencesSpent, Halted, UnknownSnapshot, Conflict, UnknownTicket, NumbersSpent, Stale, SlotsHeld, VersionsSpent, PinsSpent}

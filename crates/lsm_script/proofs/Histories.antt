@@ -1,7 +1,7 @@
 -- Each reply is the history's, and the state goes on as the history says.
-use Rattle.std.proofs.Common.{◌≡◌, ℕ, suc, ◌+◌, ◌<◌, ◌≤◌, Bool, true, false, List, [], ◌∷◌, ◌++◌, Option, Some, None, length, refl, sym, ◌∙◌, ap, subst, inl, inr, arith, ◌⊎◌}
+use Rattle.std.proofs.Common.{◌≡◌, ℕ, suc, ◌+◌, ◌<◌, Bool, true, false, List, [], ◌∷◌, ◌++◌, Option, Some, None, length, refl, sym, ◌∙◌, ap, subst, inl, inr}
 use Rattle.std.specs.Prelude.{MatchBool}
-use Rattle.lsm_codec.specs.Entries.{Entry, answer}
+use Rattle.lsm_codec.specs.Entries.{answer}
 use Rattle.lsm_codec.specs.Keys.{UserKey}
 use Rattle.lsm_codec.specs.Lists.{Has}
 use Rattle.lsm_levels.specs.Files.{Lie, all_entries}
@@ -18,16 +18,14 @@ use Rattle.lsm_batch.specs.Batches.{entries_from}
 use Rattle.lsm_batch.specs.declared.write.Write.{Write}
 use Rattle.lsm_journal.specs.Difference.{Difference, changed_by}
 use Rattle.lsm_merge.specs.Work.{Done, Work}
-use Rattle.lsm_state.specs.Changing.{ChangesVersion}
 use Rattle.lsm_state.specs.Held.{Held, plain}
-use Rattle.lsm_state.specs.Ingesting.{Ingests, coming_in, entries_of, last_of, with_number}
+use Rattle.lsm_state.specs.Ingesting.{Ingests, coming_in, entries_of, last_of}
 use Rattle.lsm_state.specs.Reading.{IsSequence, IsReadRefusal}
 use Rattle.lsm_state.specs.declared.ingest.Ingested as it
 use Rattle.lsm_state.specs.declared.state_fault.StateFault.{StateFault}
 use Rattle.lsm_state.specs.declared.state_fault.StateFault.TheVariants as fault
-use Rattle.lsm_script.specs.Drawing.{AreDrawn}
-use Rattle.lsm_script.specs.History.{History, IsAnswer, IsAnswered, IsAt, IsOf, IsUnknownAt, MayRefuse, history_of}
-use Rattle.lsm_script.specs.Replies.{IsCancelReply, IsCollectReply, IsGetReply, IsIngestReply, IsInstallReply, IsJobReply, IsKeepReply, IsListReply, IsMergeReply, IsPinReply, IsRangeReply, IsReleaseReply, IsReserveReply, IsReserved, IsSnapshotReply, IsUnpinReply, read_reply}
+use Rattle.lsm_script.specs.History.{History, IsAnswer, IsAnswered, IsAt, IsOf, IsUnknownAt, history_of}
+use Rattle.lsm_script.specs.Replies.{IsCancelReply, IsCollectReply, IsGetReply, IsIngestReply, IsInstallReply, IsJobReply, IsKeepReply, IsListReply, IsMergeReply, IsPinReply, IsRangeReply, IsReleaseReply, IsReserveReply, IsSnapshotReply, IsUnpinReply, read_reply}
 use Rattle.lsm_script.specs.Scripts.{AreReplies, ends_list}
 use Rattle.lsm_script.specs.Steps.{IsStep, Stage, stage_of}
 use Rattle.lsm_script.specs.declared.command.Command.{Command}
@@ -37,7 +35,7 @@ use Rattle.lsm_script.specs.declared.refusal.Refusal.TheVariants as why
 use Rattle.lsm_script.specs.declared.reply.Reply.{Reply}
 use Rattle.lsm_script.specs.declared.reply.Reserved.{Reserved}
 use Rattle.lsm_script.specs.declared.reply.Reply.TheVariants as said
-use Rattle.lsm_script.proofs.Events.{Idles, Quiet, ingested_append, ingest_idles, install_idles, looks_idle, quiet_cancelled, quiet_drawn, quiet_idle, quiet_is, quiet_reserved, quiet_same, quiet_then, run_append}
+use Rattle.lsm_script.proofs.Events.{Quiet, ingested_append, ingest_idles, install_idles, looks_idle, quiet_cancelled, quiet_drawn, quiet_idle, quiet_is, quiet_reserved, run_append}
 
 -- what a script begins with: the law of its state, and what every run from there reads
 pub record Ground (H : Type 0) (start : Held) : Type 0 where

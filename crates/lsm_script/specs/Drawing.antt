@@ -1,5 +1,5 @@
 -- Numbers that a merge draws from a state (this project's rule).
-use Rattle.std.specs.Prelude.{◌≡◌, ℕ, suc, ◌-◌, ◌^◌, ◌<◌, ◌⊎◌, List, [], ◌∷◌, map, Option, Some, Result, Ok, Err}
+use Rattle.std.specs.Prelude.{◌≡◌, ℕ, suc, ◌-◌, ◌^◌, ◌<◌, List, [], ◌∷◌, map, Option, Some, Result, Ok, Err}
 use Rattle.lsm_codec.specs.Lists.{Has}
 use Rattle.lsm_live.specs.Booked.{HasTicket, booked}
 use Rattle.lsm_merge.specs.NumberFault.{IsOfTicket, number_of}

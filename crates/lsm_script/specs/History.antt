@@ -14,7 +14,7 @@ use Rattle.lsm_state.specs.declared.state_fault.StateFault.TheVariants as fault
 use Rattle.lsm_script.specs.declared.command.Command.{Command}
 use Rattle.lsm_script.specs.declared.command.Command.TheVariants as asks
 use Rattle.lsm_script.specs.declared.refusal.Refusal.{Refusal}
-use Rattle.lsm_script.specs.declared.refusal.Refusal.TheVariants.{State, Merge}
+use Rattle.lsm_script.specs.declared.refusal.Refusal.TheVariants.{State}
 use Rattle.lsm_script.specs.declared.reply.Reply.{Reply}
 use Rattle.lsm_script.specs.declared.reply.Reply.TheVariants.{Ingested, Value, Absent, Snapshot, Released, Refused}
 

@@ -1,5 +1,5 @@
 -- One command after another on a state and its shelf, with the jobs and the results that a script has (this project's rule).
-use Rattle.std.specs.Prelude.{◌≡◌, ℕ, List, []}
+use Rattle.std.specs.Prelude.{◌≡◌, List, []}
 use Rattle.lsm_shelf.specs.Told.{Told}
 use Rattle.lsm_merge.specs.Work.{Done, Work}
 use Rattle.lsm_state.specs.Held.{Held}

@@ -1,14 +1,13 @@
 -- What words ask for, by their number and their first one.
-use Rattle.std.proofs.Common.{◌≡◌, ◌≢◌, ℕ, ◌+◌, ◌-◌, ◌<◌, ◌≤◌, List, [], ◌∷◌, ◌++◌, length, get_or, take, drop, codes, Option, Some, None, refl, sym, ap, ◌∙◌, subst, add-one, arith}
+use Rattle.std.proofs.Common.{◌≡◌, ◌≢◌, ℕ, ◌+◌, ◌-◌, ◌<◌, ◌≤◌, List, [], ◌∷◌, ◌++◌, length, get_or, take, drop, codes, Option, Some, None, sym, ap, ◌∙◌, subst, arith}
 use Rattle.std.specs.Prelude.{IfNone, IfSome}
 use Rattle.std.proofs.lemmas.List.{take_more, take_all, length-map, length-drop, get_or-map}
 use Rattle.lsm_batch.specs.declared.write.Write.{Write}
-use Rattle.lsm_commands.specs.EntryList.{IsBytesWord}
 use Rattle.lsm_script.specs.declared.command.Command.{Command}
 use Rattle.lsm_script.specs.declared.command.Command.TheVariants.{Ingest, Get, Snapshot, Release, Reserve, ReserveRange, Merge, Install, Cancel, Pin, Unpin, Collect, List as Listing}
 use Rattle.lsm_commands.specs.declared.form.Form.TheVariants.{Hex}
 use Rattle.lsm_writer.specs.BatchText.{AreWriteLines, IsWriteLine}
-use Rattle.lsm_script_lines.specs.CommandLine.{HasNumber, IsBare, IsCommand, IsNumbered, most}
+use Rattle.lsm_script_lines.specs.CommandLine.{HasNumber, IsBare, IsCommand, IsNumbered}
 use Rattle.lsm_script_lines.specs.Words.{IsNumberWord}
 use Rattle.lsm_script_lines.proofs.WordLaws.{Word, blank, more_texts, texts, two_texts}
 

@@ -1,7 +1,7 @@
 mod WordLaws
 mod NumberLaws
-mod StreamLaws
 mod TextLaws
 mod CommandLaws
 mod ScriptLaws
+mod OneScript
 mod Outcomes

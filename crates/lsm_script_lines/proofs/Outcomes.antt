@@ -146,18 +146,24 @@ ended_done (Some text) status old new h zero = elim h [
   | inr cut ↦ absurd (omega (arith, cut.0, zero))
 ]
 
-pub ended_refused : (known : Option (List ℕ)) (status : ℕ) (old new : Option (List ℕ)) → status ≤ 1 → IfSome known (λ text. IsEnded text status old new) → status ≢ 0
-    → (status ≡ 1) × IfSome known (λ text. IsRefused text old new)
-ended_refused None status old new few h other = (omega (arith, few, other), tt)
-ended_refused (Some text) status old new few h other = elim h [
+pub ended_refused : (known : Option (List ℕ)) (failed : Bool) (status : ℕ) (old new : Option (List ℕ)) → status ≤ 1 → IfSome known (λ text. IsEnded text status old new)
+    → status ≢ 0 → (status ≡ 1) × IfSome known (λ text. IsRefused text failed old new)
+ended_refused None failed status old new few h other = (omega (arith, few, other), tt)
+ended_refused (Some text) failed status old new few h other = elim h [
   | inl done ↦ absurd (other done.0)
   | inr cut ↦ (cut.0, inl cut.1)
 ]
 
 pub fault_refused : (known : Option (List ℕ)) (failed : Bool) (e : WriterFault) (old new : Option (List ℕ)) → IfSome known (λ text. IsFault text failed e)
-    → (e ≢ Write → Keeps old new) → IfSome known (λ text. IsRefused text old new)
+    → (e ≢ Write → Keeps old new) → IfSome known (λ text. IsRefused text failed old new)
 fault_refused None failed e old new h kept = tt
-fault_refused (Some text) failed e old new h kept = inr (e, failed, h, kept)
+fault_refused (Some text) failed e old new h kept = inr (e, h, kept)
+
+-- a reader that nobody asks afterwards
+pub unasked : (known : Option (List ℕ)) (failed : Bool) (old new : Option (List ℕ)) → IfSome known (λ text. IsRefused text failed old new)
+    → IfSome known (λ text. (failed : Bool) × IsRefused text failed old new)
+unasked None failed old new h = tt
+unasked (Some text) failed old new h = (failed, h)
 
 -- ---- what is told of a fault
 

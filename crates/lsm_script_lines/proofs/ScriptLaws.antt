@@ -1,13 +1,10 @@
 -- Lines of a script, one after another.
-use Rattle.std.proofs.Common.{◌≡◌, ℕ, suc, ◌+◌, ◌-◌, ◌<◌, ◌≤◌, List, [], ◌∷◌, ◌++◌, length, take, drop, get_or, refl, sym, ap, ◌∙◌, subst, add-one, drop-cons, length-drop, arith}
+use Rattle.std.proofs.Common.{◌≡◌, ℕ, ◌+◌, ◌-◌, ◌<◌, ◌≤◌, List, [], ◌∷◌, ◌++◌, length, take, drop, get_or, refl, sym, ap, ◌∙◌, subst, length-drop, arith}
 use Rattle.std.proofs.lemmas.List.{take_more, take_all}
 use Rattle.lsm_script.specs.declared.command.Command.{Command}
 use Rattle.lsm_commands.specs.EntryList.{lines_of}
+use Rattle.lsm_writer.proofs.CallerLemmas.{goes_on, lines_of-nil, next_is}
 use Rattle.lsm_script_lines.specs.CommandLine.{AreCommandLines, IsScript, IsFirstBadLine, IsCommandLine}
-
-lines_of-nil : lines_of [] ≡ []
-unfolding lines_of
-lines_of-nil = refl
 
 -- So many lines of the text were read, as these commands, and this is left of it.
 pub record HasRead (text : List ℕ) (n : ℕ) (ws : List Command) (rest : List ℕ) : Type 0 where
@@ -20,19 +17,6 @@ lines_snoc [] [] l w h k = (k, tt)
 lines_snoc [] (x ∷ ws) l w h k = absurd h
 lines_snoc (x ∷ ls) [] l w h k = absurd h
 lines_snoc (x ∷ ls) (y ∷ ws) l w h k = (h.0, lines_snoc ls ws l w h.1 k)
-
--- a list that goes on after its first n elements
-goes_on : (ls : List (List ℕ)) (n : ℕ) (l : List ℕ) (more : List (List ℕ)) → drop n ls ≡ l ∷ more → n < length ls
-goes_on ls n l more h = let len : length (drop n ls) ≡ suc (length more) = ap length h in omega (arith, length-drop n ls, len)
-
-next_is : (ls : List (List ℕ)) (n : ℕ) (l : List ℕ) (more : List (List ℕ)) → drop n ls ≡ l ∷ more → (get_or ls n [] ≡ l) × (drop (n + 1) ls ≡ more)
-next_is ls n l more h =
-    let within = goes_on ls n l more h in
-    let front : drop n ls ≡ get_or ls n [] ∷ drop (suc n) ls = drop-cons ls n [] within in
-    let same : get_or ls n [] ∷ drop (suc n) ls ≡ l ∷ more = sym front ∙ h in
-    let first : get_or ls n [] ≡ l = cc in
-    let later : drop (suc n) ls ≡ more = cc in
-    (first, ap (λ k. drop k ls) (add-one n) ∙ later)
 
 pub read_start : (text : List ℕ) → HasRead text 0 [] text
 read_start text = record { front = tt; back = refl; few = omega arith }

@@ -1,7 +1,6 @@
 -- Scripts: one command a line, its name and then its words. This project's rule.
-use Rattle.std.specs.Prelude.{◌≡◌, ℕ, ◌-◌, ◌^◌, ◌<◌, ◌≤◌, ⊤, List, [], ◌∷◌, length, take, get_or, codes, Option, None, Some}
+use Rattle.std.specs.Prelude.{◌≡◌, ℕ, ◌-◌, ◌^◌, ◌<◌, ◌≤◌, ⊤, List, [], ◌∷◌, length, take, get_or, codes, None, Some}
 use Rattle.lsm_commands.specs.EntryList.{IsBytesWord, lines_of}
-use Rattle.lsm_batch.specs.declared.write.Write.{Write}
 use Rattle.lsm_script.specs.declared.command.Command.{Command}
 use Rattle.lsm_script.specs.declared.command.Command.TheVariants.{Ingest, Get, Snapshot, Release, Reserve, ReserveRange, Merge, Install, Cancel, Pin, Unpin, Collect, List as Listing}
 use Rattle.lsm_commands.specs.declared.form.Form.TheVariants.{Hex}

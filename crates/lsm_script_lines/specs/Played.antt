@@ -1,5 +1,5 @@
 -- What a script is answered, and why it is refused (this project's rule).
-use Rattle.std.specs.Prelude.{◌≡◌, ◌≢◌, ℕ, ◌<◌, ◌⊎◌, ⊤, Bool, true, false, List, [], length, Option}
+use Rattle.std.specs.Prelude.{◌≡◌, ◌≢◌, ℕ, ◌<◌, ◌⊎◌, ⊤, Bool, true, List, [], length, Option}
 use Rattle.std.specs.Io.KnownBytes.{Appends, Keeps}
 use Rattle.lsm_codec.specs.Lists.{Has}
 use Rattle.lsm_shelf.specs.Told.{Place, Told, fresh}
@@ -94,6 +94,7 @@ IsPlayFault commands (State fault) = ⊥
 abbrev pub IsFault : List ℕ → Bool → WriterFault → Type 0
 IsFault text failed e = IsInputFault text failed e ⊎ ((commands : List Command) × IsScript text commands × IsPlayFault commands e)
 
--- Why a script ends with status 1: memory ran out within a command; or a fault, and unless a write failed nothing was written.
-abbrev pub IsRefused : List ℕ → Option (List ℕ) → Option (List ℕ) → Type 0
-IsRefused text old new = IsCut text old new ⊎ ((fault : WriterFault) × (failed : Bool) × IsFault text failed fault × (fault ≢ Write → Keeps old new))
+-- Why a script ends with status 1: memory ran out within a command; or a fault, and unless a write failed nothing was written. `failed` says
+-- whether the last read of the input failed.
+abbrev pub IsRefused : List ℕ → Bool → Option (List ℕ) → Option (List ℕ) → Type 0
+IsRefused text failed old new = IsCut text old new ⊎ ((fault : WriterFault) × IsFault text failed fault × (fault ≢ Write → Keeps old new))

@@ -1,42 +1,20 @@
 -- What a script prints: a line a reply, and for a list of files a line each and `end`. This project's rule. Bytes are lower-case hex, `.` for
 -- none.
-use Rattle.std.specs.Prelude.{ℕ, List, [], ◌∷◌, ◌++◌, codes, decimal, Option, None, Some}
+use Rattle.std.specs.Prelude.{ℕ, List, [], ◌∷◌, ◌++◌, codes, decimal}
 use Rattle.std.specs.List.{flat_map}
 use Rattle.lsm_manifest.specs.declared.file_meta.FileMeta.{FileMeta}
-use Rattle.lsm_commands.specs.FaultText.{field_text, refusal_text}
 use Rattle.lsm_commands.specs.EntryPrinting.{bytes_word}
 use Rattle.lsm_commands.specs.ManifestPrinting.{file_words}
-use Rattle.lsm_merge.specs.MergeFault as merge
-use Rattle.lsm_merge.specs.declared.merge_fault.MergeFault.{MergeFault}
-use Rattle.lsm_merge.specs.declared.merge_fault.MergeFault.TheVariants.{OutOfMemory, ReadFailed, PutFailed, UnknownTicket, NumbersSpent}
 use Rattle.lsm_state.specs.declared.ingest.Ingested.{Ingested as Numbers}
 use Rattle.lsm_script.specs.declared.refusal.Refusal.{Refusal}
 use Rattle.lsm_script.specs.declared.refusal.Refusal.TheVariants.{State, Merge}
 use Rattle.lsm_script.specs.declared.reply.Reply.{Reply}
 use Rattle.lsm_script.specs.declared.reply.Reply.TheVariants.{Ingested, Value, Absent, Snapshot, Released, Job, Move, NoJob, Merged, Installed, Cancelled, Pinned, Unpinned, Removed, Files, Refused}
 use Rattle.lsm_script.specs.declared.reply.Reserved.{Reserved}
+use Rattle.lsm_writer.specs.MergeText.{merge_text}
 use Rattle.lsm_writer.specs.WriterFault.{state_text}
 
 -- ---- refusals
-
--- the number of a table or of a ticket that a refused merge names
-abbrev pub merge_field : MergeFault → Option ℕ
-merge_field OutOfMemory = None
-merge_field (ReadFailed number fault) = Some number
-merge_field (PutFailed number fault) = Some number
-merge_field (UnknownTicket ticket) = Some ticket
-merge_field NumbersSpent = None
-
--- the number of the refusal that stands behind it
-abbrev pub cause_of : MergeFault → Option ℕ
-cause_of OutOfMemory = None
-cause_of (ReadFailed number fault) = Some (merge.input_number fault)
-cause_of (PutFailed number fault) = Some (merge.output_number fault)
-cause_of (UnknownTicket ticket) = None
-cause_of NumbersSpent = None
-
-abbrev pub merge_text : MergeFault → List ℕ
-merge_text fault = refusal_text (merge.number_of fault) (merge.name_of fault) (merge_field fault) ++ field_text (cause_of fault)
 
 -- `refused N Name ..`
 abbrev pub refused_text : Refusal → List ℕ

@@ -8,6 +8,7 @@
 // Commands as text.
 mod command_line;
 mod input;
+mod laws;
 mod named;
 mod number;
 mod script_text;
@@ -24,6 +25,7 @@ mod program;
 mod telling;
 
 pub use command_line::command_in;
+pub use laws::one_script;
 pub use program::{script, script_asked};
 pub use reply_text::push_replies;
 pub use script_text::read_script;

@@ -89,22 +89,21 @@ fn perform<R: Wait, I: Read, O: Write>(
 ///
 /// Status 0 where every command was answered; 1 where one was refused for want of memory, and this is the last reply; 1 also where a fault
 /// is one line on `err`, and, unless a write failed, nothing is written on `out`: `bad line I` for the first line that spells no command,
-/// `read fault` where a read fails or there are more than 64 MiB, each of the two with a second line that says what it may mean; `write
-/// fault`; `refused 1 OutOfMemory`.
+/// `read fault` where the last read of the input failed or there are more than 64 MiB, each of the two with a second line that says what
+/// it may mean; `write fault`; `refused 1 OutOfMemory`.
 #[tactic(auto, using(crate::proofs::Outcomes::keeps_itself))]
 pub fn script<R: Wait, I: Read, O: Write, E: Write>(
     rt: &R,
     alloc: Global,
-    input: &mut I,
+    input: &mut Watched<I>,
     out: &mut O,
     err: &mut E,
 ) -> u8
-    ensures done { result ≡ 0 → IfSome (I.remaining input.old) (λ text. IsDone text (O.contents out.old) (O.contents out.new)) }
-    ensures refused { result ≢ 0 → (result ≡ 1) × IfSome (I.remaining input.old) (λ text. IsRefused text (O.contents out.old) (O.contents out.new)) }
+    ensures done { result ≡ 0 → IfSome (I.remaining input.old.inner) (λ text. IsDone text (O.contents out.old) (O.contents out.new)) }
+    ensures refused { result ≢ 0 → (result ≡ 1) × IfSome (I.remaining input.old.inner) (λ text. IsRefused text input.new.failed (O.contents out.old) (O.contents out.new)) }
     ensures quiet { result ≡ 0 → Keeps (E.contents err.old) (E.contents err.new) }
 {
-    let mut input = Watched::new(input);
-    match perform(rt, alloc, &mut input, out) {
+    match perform(rt, alloc, input, out) {
         Ok(status) => status,
         Err(fault) => {
             let _ = tell(err, &fault);

@@ -2,12 +2,11 @@
 
 ghost use Rattle.std.specs.Prelude.{◌≡◌, ◌++◌, OnOk};
 ghost use Rattle.lsm_commands.specs.FaultText.{field_text, refusal_text};
-ghost use Rattle.lsm_script_lines.specs.ReplyText.{cause_of, merge_field, refused_text};
+ghost use Rattle.lsm_script_lines.specs.ReplyText.{refused_text};
 
 use lsm_commands::push_decimal;
-use lsm_merge::MergeFault;
 use lsm_script::Refusal;
-use lsm_writer::of_state;
+use lsm_writer::{cause_of_merge, of_merge, of_state};
 use std::alloc::AllocError;
 
 /// Appends a space and a number, if there is one.
@@ -39,28 +38,6 @@ fn push_refusal(
     push_field(out, field)
 }
 
-/// The number of a table or of a ticket that a refused merge names.
-fn field_of(fault: MergeFault) -> Option<u64>
-    ensures { result ≡ merge_field fault }
-{
-    match fault {
-        MergeFault::ReadFailed(number, _) | MergeFault::PutFailed(number, _) => Some(number),
-        MergeFault::UnknownTicket(ticket) => Some(ticket),
-        MergeFault::OutOfMemory | MergeFault::NumbersSpent => None,
-    }
-}
-
-/// The number of the refusal that stands behind a refused merge.
-fn cause_of(fault: MergeFault) -> Option<u64>
-    ensures { result ≡ cause_of fault }
-{
-    match fault {
-        MergeFault::ReadFailed(_, cause) => Some(u64::from(cause.number())),
-        MergeFault::PutFailed(_, cause) => Some(u64::from(cause.number())),
-        MergeFault::OutOfMemory | MergeFault::UnknownTicket(_) | MergeFault::NumbersSpent => None,
-    }
-}
-
 /// Appends why a command was refused.
 pub(crate) fn push_refused(out: &mut Vec<u8>, refusal: &Refusal) -> Result<(), AllocError>
     ensures { OnOk result (out.new.items ≡ out.old.items ++ refused_text refusal.now) }
@@ -71,8 +48,9 @@ pub(crate) fn push_refused(out: &mut Vec<u8>, refusal: &Refusal) -> Result<(), A
             push_refusal(out, refusal.number, refusal.name, refusal.field)
         }
         Refusal::Merge(fault) => {
-            push_refusal(out, fault.number(), fault.name(), field_of(*fault))?;
-            push_field(out, cause_of(*fault))
+            let refusal = of_merge(*fault);
+            push_refusal(out, refusal.number, refusal.name, refusal.field)?;
+            push_field(out, cause_of_merge(*fault))
         }
     }
 }

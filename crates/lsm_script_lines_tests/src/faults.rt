@@ -34,7 +34,7 @@ impl Write for Full {
 #[test]
 fn a_failed_write_is_told(rt: HostRuntime) -> Result<(), Fail> {
     for room in [0, 1, 21] {
-        let mut input = b"ingest 6b=31".as_slice();
+        let mut input = Watched::new(b"ingest 6b=31".as_slice());
         let mut err = Vec::new(rt.alloc());
         let status = script(&rt, rt.alloc(), &mut input, &mut Full { room }, &mut err);
         assert_eq!(rt; status, 1);
@@ -64,14 +64,10 @@ impl Read for Torn {
 fn a_failed_read_is_told(rt: HostRuntime) -> Result<(), Fail> {
     let mut out = Vec::new(rt.alloc());
     let mut err = Vec::new(rt.alloc());
-    let status = script(
-        &rt,
-        rt.alloc(),
-        &mut Torn { gave: false },
-        &mut out,
-        &mut err,
-    );
+    let mut torn = Watched::new(Torn { gave: false });
+    let status = script(&rt, rt.alloc(), &mut torn, &mut out, &mut err);
     assert_eq!(rt; status, 1);
+    assert!(rt; torn.has_failed());
     assert_eq!(rt; out.as_slice(), b"".as_slice());
     assert_eq!(rt;
         err.as_slice(),

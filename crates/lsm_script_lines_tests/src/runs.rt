@@ -1,6 +1,6 @@
 //! Runs of scripts.
 
-use lsm_script_lines::script;
+use lsm_script_lines::{Watched, script};
 use std::alloc::Global;
 use std::process::Abort;
 use std::sync::Wait;
@@ -16,7 +16,7 @@ pub(crate) struct Answer {
 
 /// A run of the script that a text is.
 pub(crate) fn answer_to<R: Wait>(rt: &R, alloc: Global, text: &[u8]) -> Answer {
-    let mut input = text;
+    let mut input = Watched::new(text);
     let mut out = Vec::new(alloc);
     let mut err = Vec::new(alloc);
     let status = script(rt, alloc, &mut input, &mut out, &mut err);

@@ -1,22 +1,19 @@
 -- What opening a database gives: the next number, the law of the state, and the causes of refusals.
-use Rattle.std.proofs.Common.{◌≡◌, ℕ, zero, suc, ◌+◌, ◌-◌, ◌<◌, ◌≤◌, ◌==◌, max, Bool, false, cond, None, Some, Option, replicate, List, [], ◌∷◌, ◌++◌, length, map, get_or, take, refl, sym, ◌∙◌, ap, subst, inl, inr, arith}
+use Rattle.std.proofs.Common.{◌≡◌, ℕ, zero, suc, ◌+◌, ◌-◌, ◌<◌, ◌≤◌, ◌==◌, max, Bool, false, cond, None, replicate, List, [], ◌∷◌, ◌++◌, length, map, get_or, refl, sym, ◌∙◌, ap, subst, inl, inr, arith}
 use Rattle.std.specs.Prelude.{◌⊎◌}
 use Rattle.std.proofs.lemmas.Bool.{eq-eqb}
-use Rattle.std.proofs.lemmas.List.{take_all, take_more}
 use Rattle.std.proofs.lemmas.List.Sums.{sum_by-cons}
 use Rattle.atomic_table.specs.Seated.{TableId}
-use Rattle.lsm_codec.specs.Entries.{Entry}
 use Rattle.lsm_codec.specs.Lists.{Has}
 use Rattle.lsm_codec.proofs.CallerLemmas.{all_at, flat_has, has_cases, has_left, has_right}
 use Rattle.lsm_pins.specs.Known.{Known}
 use Rattle.lsm_pins.specs.Made.{IsNewPinner}
 use Rattle.lsm_pins.specs.declared.view.View.{View}
-use Rattle.lsm_levels.specs.Files.{File, Lie, all_entries}
+use Rattle.lsm_levels.specs.Files.{File, Lie}
 use Rattle.lsm_version.specs.FileNumbers.{AreDistinct, times}
 use Rattle.lsm_version.specs.Versions.{IsSound, Levels, files, numbers_in}
-use Rattle.lsm_machine.specs.Law.{Books, Law, Meaning}
-use Rattle.lsm_machine.specs.Plain.{Plain}
-use Rattle.lsm_slots.specs.Slots.{Epoch, Slotted, first_slots, numbers_held}
+use Rattle.lsm_machine.specs.Law.{Books, Meaning}
+use Rattle.lsm_slots.specs.Slots.{Slotted, first_slots, numbers_held}
 use Rattle.lsm_slots.specs.Snapshots.{Taken}
 use Rattle.lsm_live.specs.Booked.{Booked}
 use Rattle.lsm_journal.specs.HeldManifest.{HeldManifest}

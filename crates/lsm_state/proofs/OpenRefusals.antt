@@ -1,8 +1,8 @@
 -- What was read of a database, and why it was not.
-use Rattle.std.proofs.Common.{◌≡◌, ℕ, ◌+◌, ◌-◌, ◌^◌, ◌<◌, ◌≤◌, List, [], ◌∷◌, ◌++◌, refl, sym, ◌∙◌, ap, subst, inl, inr, arith}
+use Rattle.std.proofs.Common.{◌≡◌, ℕ, ◌+◌, ◌-◌, ◌^◌, ◌<◌, List, [], ◌∷◌, ◌++◌, ◌∙◌, inl, inr, arith}
 use Rattle.lsm_codec.specs.Lists.{Has}
 use Rattle.lsm_codec.proofs.CallerLemmas.{has_left, has_right}
-use Rattle.lsm_shelf.specs.Told.{Told, Becomes, Counted, NotNamed, TakenIs, finding, listing}
+use Rattle.lsm_shelf.specs.Told.{Told, Becomes, Counted, NotNamed, finding, listing}
 use Rattle.lsm_shelf.specs.declared.shelf_fault.ShelfFault.{ShelfFault}
 use Rattle.lsm_shelf.specs.declared.shelf_fault.ShelfFault.TheVariants.{OutOfMemory, Device, Missing, Taken}
 use Rattle.lsm_table.specs.ReadFault.{ReadCounted}

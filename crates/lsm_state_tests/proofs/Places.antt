@@ -1,17 +1,14 @@
 -- The calls of a state leave a shelf its contents.
-use Rattle.std.proofs.Common.{◌≡◌, ℕ, List, ◌∙◌, refl, ap, inl, inr, true, false, Bool}
+use Rattle.std.proofs.Common.{◌≡◌, ℕ, List, ◌∙◌, ap, inl, inr, true, false, Bool}
 use Rattle.std.specs.Prelude.{MatchBool}
 use Rattle.lsm_shelf.specs.Told.{Place, Told, Becomes, listing}
-use Rattle.lsm_shelf.specs.declared.shelf_fault.ShelfFault.{ShelfFault}
-use Rattle.lsm_shelf.specs.declared.shelf_fault.ShelfFault.TheVariants as shelf
 use Rattle.lsm_version.specs.Versions.{Levels}
 use Rattle.lsm_batch.specs.declared.write.Write.{Write}
 use Rattle.lsm_merge.specs.Work.{Done}
 use Rattle.lsm_journal.specs.Difference.{Difference}
 use Rattle.lsm_journal.specs.HeldManifest.{HeldManifest, is_at_limit}
-use Rattle.lsm_journal.specs.Sending.{Sends}
 use Rattle.lsm_state.specs.Changing.{ChangesVersion}
-use Rattle.lsm_state.specs.Collecting.{AreCollected, IsCollectRefusal, IsStopped, StoppedEarly, outside, removing_all}
+use Rattle.lsm_state.specs.Collecting.{AreCollected, IsCollectRefusal, IsStopped, StoppedEarly}
 use Rattle.lsm_state.specs.Held.{Held}
 use Rattle.lsm_state.specs.Ingesting.{Ingests, IsIngestRefusal, IsPutFault}
 use Rattle.lsm_state.specs.Installing.{Installed}

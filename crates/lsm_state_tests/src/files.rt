@@ -51,19 +51,3 @@ pub(crate) fn shelf_with<R: Wait>(
     shelf.start_manifest(rt, alloc, number, &manifest)?;
     Ok(shelf)
 }
-
-/// Whether the shelf has this manifest: a record whose head (checksum, length, type) and edit are these.
-pub(crate) fn has_manifest<R: Wait>(
-    rt: &R,
-    alloc: Global,
-    shelf: &mut MemoryShelf,
-    number: u64,
-    bytes: &[&[u8]],
-) -> Result<bool, Fail> {
-    let mut wanted = Vec::new(alloc);
-    for part in bytes {
-        wanted.extend_from_slice(part)?;
-    }
-    let (found, held) = shelf.read_manifest(rt, alloc)?;
-    Ok(found == number && held.as_slice() == wanted.as_slice())
-}

@@ -5,7 +5,7 @@ use Rattle.lsm_pins.specs.Known.{Known}
 use Rattle.lsm_pins.specs.Made.{IsNewPinner}
 use Rattle.lsm_journal.specs.HeldManifest.{HeldManifest}
 use Rattle.lsm_pins.specs.View.{after_making}
-use Rattle.lsm_state.specs.Making.{IsNewBoard, created_state}
+use Rattle.lsm_state.specs.Making.{created_state}
 use Rattle.lsm_state.specs.Held.{Held}
 use Rattle.lsm_state.specs.Opening.{opened_state}
 use Rattle.lsm_state.specs.Options.{Fits}

@@ -4,11 +4,10 @@
 //! the words, standard input and output, the folder, and the exit status.
 #![tactic(auto)]
 
-use lsm_commands::{DirectoryCommand, DirectoryLine, directory_asked, refuse_words, run};
+use lsm_commands::{DirectoryLine, directory_asked, refuse_words, run};
 use lsm_compactor::{CompactLine, compacting_asked};
-use lsm_directory::{FolderFile, Request, refuse_shelf, system_log_files};
-use lsm_script_lines::{script, script_asked};
-use lsm_shelf::{FileShelf, ShelfFault};
+use lsm_directory::{Request, open_folder, refuse_shelf};
+use lsm_script_lines::{Watched, script, script_asked};
 use lsm_writer::{WritingLine, writing_asked};
 use std::env::{self, Env};
 use std::io::{self, BufWriter};
@@ -22,27 +21,11 @@ fn words_of(rt: &(impl Env + AllocGlobal)) -> io::Result<Vec<String>> {
     Ok(words)
 }
 
-/// The logs beside the tables of a folder, where a check asks for them.
-fn logs_beside(
-    waits: &impl Wait,
-    rt: HostRuntime,
-    line: &DirectoryLine<'_>,
-) -> Result<Vec<FolderFile>, ShelfFault> {
-    match line.command {
-        DirectoryCommand::Check => system_log_files(waits, rt, line.path),
-        _ => Ok(Vec::new(rt.alloc())),
-    }
-}
-
 /// Does what words ask of a folder.
 fn ask_folder(waits: &impl Wait, rt: HostRuntime, line: &DirectoryLine<'_>) -> io::Result<u8> {
     let mut err = rt.stderr();
-    let mut shelf = match FileShelf::open(rt.clone()?, line.path) {
-        Ok(shelf) => shelf,
-        Err(fault) => return Ok(refuse_shelf(fault, &mut err)),
-    };
-    let files = match logs_beside(waits, rt.clone()?, line) {
-        Ok(files) => files,
+    let (mut shelf, files) = match open_folder(waits, rt.clone()?, line.path, &line.command) {
+        Ok(opened) => opened,
         Err(fault) => return Ok(refuse_shelf(fault, &mut err)),
     };
     let mut out = BufWriter::new(rt.alloc(), rt.stdout())?;
@@ -75,14 +58,10 @@ fn compact_folder<R: Threads + Wait + Sync>(
 
 /// Runs the script on standard input.
 fn play(waits: &impl Wait, rt: HostRuntime) -> io::Result<u8> {
+    let mut input = Watched::new(rt.stdin());
     let mut out = BufWriter::new(rt.alloc(), rt.stdout())?;
-    Ok(script(
-        waits,
-        rt.alloc(),
-        &mut rt.stdin(),
-        &mut out,
-        &mut rt.stderr(),
-    ))
+    let mut err = rt.stderr();
+    Ok(script(waits, rt.alloc(), &mut input, &mut out, &mut err))
 }
 
 /// Does what words ask.

@@ -1,6 +1,6 @@
 -- What a second look at the files that are not settled says of the age order of all.
-use Rattle.std.proofs.Common.{◌≡◌, ℕ, ◌+◌, ◌<◌, ◌≤◌, Bool, true, false, List, [], ◌∷◌, ◌++◌, length, get_or, take, map, Ok, Err, refl, sym, ◌∙◌, ap, subst, inl, inr, arith}
-use Rattle.std.specs.Prelude.{◌⊎◌, ◌==◌, MatchOption, Option, Result, is_ok}
+use Rattle.std.proofs.Common.{◌≡◌, ℕ, ◌+◌, ◌<◌, ◌≤◌, true, List, [], ◌∷◌, ◌++◌, length, get_or, take, map, Ok, Err, refl, sym, ◌∙◌, ap, subst, inl, inr, arith}
+use Rattle.std.specs.Prelude.{◌==◌, MatchOption, Option, Result, is_ok}
 use Rattle.std.specs.List.{filter, list_any}
 use Rattle.std.specs.List.Sorted.{IsBinarySearchResult, IsNonDecreasing}
 use Rattle.std.specs.Ordering.{nat_cmp}
@@ -20,7 +20,7 @@ use Rattle.lsm_version.specs.CheckRefusal.{IsAgainst, IsLeastAgainst}
 use Rattle.lsm_version.specs.Depths.{depth_of}
 use Rattle.lsm_version.specs.Runs.{AreRunsOf, chosen, is_among}
 use Rattle.lsm_version.specs.Settled.{KeepsAge, IsUnsettled, AreUnsettled, IsSettled}
-use Rattle.lsm_version.specs.Versions.{file_of, files_from, level_in}
+use Rattle.lsm_version.specs.Versions.{files_from, level_in}
 use Rattle.lsm_version.proofs.Depths.{shallower_less, less_shallower}
 use Rattle.lsm_version.proofs.Judged.{file_in, in_files}
 use Rattle.lsm_version.proofs.Runs.{level_in-chosen}

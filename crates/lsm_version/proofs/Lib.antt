@@ -16,6 +16,7 @@ pub mod ScanLaws
 pub mod Judged
 pub mod Depths
 pub mod Unsettled
+pub mod Reaching
 pub mod Runs
 pub mod Ages
 pub mod Opening

@@ -1,5 +1,5 @@
 -- The files that are named where tables could not be read together.
-use Rattle.std.proofs.Common.{◌≡◌, ℕ, ◌+◌, true, List, [], ◌∷◌, ◌++◌, map, Option, Some, None, refl, sym, ◌∙◌, ap, subst, inl, inr, append-nil}
+use Rattle.std.proofs.Common.{◌≡◌, ℕ, List, [], ◌∷◌, ◌++◌, map, Option, Some, None, refl, sym, ◌∙◌, ap, subst, inl, inr, append-nil}
 use Rattle.std.specs.Prelude.{◌==◌}
 use Rattle.std.specs.List.{filter, flat_map}
 use Rattle.std.proofs.lemmas.Bool.{eqb-true}
@@ -8,7 +8,6 @@ use Rattle.lsm_codec.specs.Lists.{Has}
 use Rattle.lsm_codec.proofs.CallerLemmas.{any_says, filter_has, has_cases}
 use Rattle.lsm_table.specs.Registry.{Table}
 use Rattle.lsm_table.specs.declared.read_fault.ReadFault.{ReadFault}
-use Rattle.lsm_levels.specs.Files.{File}
 use Rattle.lsm_merger.specs.Runs.{Left, files_at}
 use Rattle.lsm_version.specs.FileRefusal.{NamesOne}
 use Rattle.lsm_version.specs.Runs.{AreNamed, IsNumberIn, IsNumberOf, chosen, is_among, once}

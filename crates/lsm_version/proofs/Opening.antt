@@ -1,10 +1,8 @@
 -- Tables that are opened as the sources of a merge.
-use Rattle.std.proofs.Common.{◌≡◌, ◌≢◌, List, [], ◌∷◌, map, refl, sym, ◌∙◌, ap, subst, inl, inr}
+use Rattle.std.proofs.Common.{List, [], ◌∷◌, map, refl, inl, inr}
 use Rattle.std.specs.List.{All}
 use Rattle.std.proofs.lemmas.List.Elements.{All-nil, All-cons}
-use Rattle.lsm_codec.specs.Lists.{Has}
 use Rattle.lsm_table.specs.Registry.{Table, image_of}
-use Rattle.lsm_table.specs.HeldTable.{entries_in}
 use Rattle.lsm_merger.specs.Runs.{HasEntries}
 use Rattle.lsm_version.specs.Runs.{AreWhole}
 use Rattle.lsm_version.specs.Versions.{IsWhole}

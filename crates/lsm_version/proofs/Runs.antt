@@ -1,22 +1,21 @@
 -- The sources of a merge of all levels.
-use Rattle.std.proofs.Common.{◌≡◌, ℕ, zero, suc, ◌+◌, ◌<◌, ◌≤◌, ◌==◌, Bool, true, false, cond, List, [], ◌∷◌, ◌++◌, length, get_or, take, drop, map, Option, Some, None, refl, sym, ◌∙◌, ap, subst, inl, inr, arith, append_assoc}
+use Rattle.std.proofs.Common.{◌≡◌, ℕ, zero, suc, ◌+◌, ◌<◌, ◌≤◌, ◌==◌, Bool, true, false, cond, List, [], ◌∷◌, ◌++◌, length, get_or, take, drop, Option, Some, None, refl, sym, ◌∙◌, ap, subst, inl, inr, arith, append_assoc}
 use Rattle.std.specs.Prelude.{◌⊎◌}
-use Rattle.std.specs.List.{filter, flat_map}
-use Rattle.std.specs.List.Sorted.{IsSortedBy}
-use Rattle.std.proofs.lemmas.Bool.{cases_eq, eqb-true, eqb-false, eq-eqb}
-use Rattle.std.proofs.lemmas.List.{length-map, take_more, take_all}
+use Rattle.std.specs.List.{filter}
+use Rattle.std.proofs.lemmas.Bool.{cases_eq, eqb-true, eqb-false}
+use Rattle.std.proofs.lemmas.List.{length-map}
 use Rattle.lsm_codec.specs.Lists.{Has}
 use Rattle.lsm_codec.specs.Entries.{Entry}
-use Rattle.lsm_codec.proofs.CallerLemmas.{has_left, has_right, has_cases, has_flat, flat_has, filter_has, contains_from}
+use Rattle.lsm_codec.proofs.CallerLemmas.{has_left, has_right, has_cases, filter_has, contains_from}
 use Rattle.lsm_table.specs.Registry.{Table}
 use Rattle.lsm_table.specs.HeldTable.{entries_in}
 use Rattle.lsm_levels.specs.Files.{File, Before, IsAhead}
-use Rattle.lsm_levels.specs.Merging.{Placed, placed_at, goes_first, IsSorted, IsOrdered, AreOrdered, merge_all}
-use Rattle.lsm_levels.proofs.CallerLemmas.{ascending_sorted, sorted_ordered, before_not_first, merged_from, merged_has}
+use Rattle.lsm_levels.specs.Merging.{Placed, placed_at, goes_first, IsSorted, IsOrdered, AreOrdered}
+use Rattle.lsm_levels.proofs.CallerLemmas.{ascending_sorted, sorted_ordered, before_not_first}
 use Rattle.lsm_version.specs.Depths.{newer_count, depth_of}
 use Rattle.lsm_version.specs.Reads.{IsSoundLevel}
 use Rattle.lsm_version.specs.Runs.{AreMergeable, AreRunsOf, IsAbove, is_number, once, entries_after, is_among, chosen}
-use Rattle.lsm_version.specs.Versions.{IsWhole, file_of, files_of, files_from, level_in, stands_before}
+use Rattle.lsm_version.specs.Versions.{IsWhole, file_of, files_of, files_from, level_in}
 use Rattle.lsm_version.proofs.ChangedFiles.{files_has, has_files}
 use Rattle.lsm_version.proofs.Depths.{depth_more}
 use Rattle.lsm_version.proofs.Finding.{lawful_part}

@@ -1,9 +1,9 @@
 -- Which files' ages ranges and sequences alone do not settle.
-use Rattle.std.proofs.Common.{◌≡◌, ℕ, zero, suc, ◌+◌, ◌<◌, ◌≤◌, Bool, true, false, List, [], ◌∷◌, ◌++◌, length, get_or, take, drop, map, refl, sym, ◌∙◌, ap, subst, inl, inr, arith}
+use Rattle.std.proofs.Common.{◌≡◌, ℕ, zero, suc, ◌+◌, ◌<◌, ◌≤◌, false, List, [], ◌∷◌, ◌++◌, length, get_or, take, map, refl, sym, ◌∙◌, ap, subst, inl, inr, arith}
 use Rattle.std.specs.Prelude.{◌⊎◌}
 use Rattle.std.specs.List.Sorted.{IsPermutation}
 use Rattle.std.proofs.lemmas.Bool.{cases_lt, cases_eq}
-use Rattle.std.proofs.lemmas.List.{take_more, take_all, get_or_default, length-map}
+use Rattle.std.proofs.lemmas.List.{take_more, take_all}
 use Rattle.std.proofs.lemmas.List.Sorted.{Contains-permutation, IsPermutation-sym}
 use Rattle.lsm_codec.specs.Lists.{Has}
 use Rattle.lsm_codec.specs.Keys.{UserKey, UserLe}
@@ -13,10 +13,10 @@ use Rattle.lsm_table.specs.Registry.{Table}
 use Rattle.lsm_table.specs.HeldTable.{entries_in}
 use Rattle.lsm_levels.specs.Files.{File, Fits, Meets, Shallower}
 use Rattle.lsm_version.specs.Reads.{IsRising, begins_by, reaches}
-use Rattle.lsm_version.specs.Settled.{KeepsAge, Reaches, IsUnsettled, IsSettled, AreSequencesOf, AreSequences, AreLevelSequences, Adds, OnePair, OneAgainst, Between, OneBelow, SomeBelow, EachBelow, Both, AreUnsettled}
+use Rattle.lsm_version.specs.Settled.{KeepsAge, Reaches, IsUnsettled, IsSettled, AreSequencesOf, AreSequences, AreLevelSequences, Adds, OnePair, OneAgainst, Between, OneBelow, SomeBelow, EachBelow, Both}
 use Rattle.lsm_version.specs.declared.check.sequences.Sequences.{Sequences}
 use Rattle.lsm_version.specs.Versions.{file_of, files_of, files_from, level_in, user_of}
-use Rattle.lsm_version.proofs.ChangedFiles.{files_has, has_files}
+use Rattle.lsm_version.proofs.ChangedFiles.{has_files}
 use Rattle.lsm_version.proofs.Judged.{file_in, of_level}
 
 -- ---- the law on two files
@@ -185,8 +185,8 @@ against_whole F n ts i a b past q = subst (λ (us : List Table). Adds (OneAgains
 
 -- ---- one level more
 
-pub below_none : (F : File) (m : ℕ) (levels : List (List Table)) (ns : List ℕ) → Adds (OneBelow F m m levels) ns ns
-below_none F m levels ns = adds_none (OneBelow F m m levels) ns (λ X Y q u. (let lo = q.1.1 in let hi = q.1.2 in absurd (omega arith)))
+pub below_start : (F : File) (m k : ℕ) (levels : List (List Table)) (ns : List ℕ) → ((G : File) → Between m k levels G → IsUnsettled F G → ⊥) → Adds (OneBelow F m k levels) ns ns
+below_start F m k levels ns none = adds_none (OneBelow F m k levels) ns (λ X Y q u. none Y q.1 (subst (λ (Z : File). IsUnsettled Z Y) q.0 u))
 
 between_more : (m k : ℕ) (levels : List (List Table)) (Y : File) → Between m (k + 1) levels Y → Between m k levels Y ⊎ Has (files_of k (level_in levels k)) Y
 between_more m k levels Y (n, lo, hi, h) = elim (cases_eq n k) [

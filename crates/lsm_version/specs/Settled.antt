@@ -6,6 +6,7 @@ use Rattle.lsm_codec.specs.Entries.{Entry}
 use Rattle.lsm_table.specs.Registry.{Table}
 use Rattle.lsm_table.specs.HeldTable.{entries_in}
 use Rattle.lsm_levels.specs.Files.{File, Meets, Shallower}
+use Rattle.lsm_version.specs.declared.check.aged.Aged.{Aged}
 use Rattle.lsm_version.specs.declared.check.sequences.Sequences.{Sequences}
 use Rattle.lsm_version.specs.Reads.{IsRising}
 use Rattle.lsm_version.specs.Versions.{files_of, level_in}
@@ -52,6 +53,25 @@ AreLevelSequences [] [] = Unit {0}
 AreLevelSequences [] (ss ∷ rest) = ⊥
 AreLevelSequences (ts ∷ levels) [] = ⊥
 AreLevelSequences (ts ∷ levels) (ss ∷ rest) = AreSequences ts ss × AreLevelSequences levels rest
+
+-- ---- the ages of the tables of level 0
+
+-- the number and the sequences of the file
+pub record IsAged (F : File) (a : Aged) : Type 0 where
+  pub number : a.number ≡ F.number
+  pub sequences : AreSequencesOf F.entries a.sequences
+
+-- each file has its own among these
+abbrev pub AreAged : List File → List Aged → Type 0
+AreAged v ages = (F : File) → Has v F → (a : Aged) × Has ages a × IsAged F a
+
+-- Of these, each has its number here whose least sequence is at most the greatest of one of a lesser number.
+abbrev pub NamesReaching : List Aged → List ℕ → Type 0
+NamesReaching ages numbers = (a b : Aged) → Has ages a → Has ages b → b.number < a.number → a.sequences.least ≤ b.sequences.greatest → Has numbers a.number
+
+-- Of these tables of a level, each has its number here that is not settled with one of them, and lies shallower.
+abbrev pub NamesUnsettled : ℕ → List Table → List ℕ → Type 0
+NamesUnsettled level ts numbers = (F G : File) → Has (files_of level ts) F → Has (files_of level ts) G → IsUnsettled F G → Has numbers F.number
 
 -- ---- how the code looks for such files
 

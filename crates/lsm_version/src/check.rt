@@ -7,6 +7,7 @@ ghost use Rattle.lsm_version.specs.CheckRefusal.{AreTablesOf, IsRefusal};
 ghost use Rattle.lsm_version.specs.Settled.{KeepsAge};
 ghost use Rattle.lsm_version.specs.Versions.{IsSound, files_from};
 
+mod aged;
 mod ages;
 mod check_fault;
 mod checked_table;
@@ -14,6 +15,7 @@ mod file_numbers;
 mod key_word;
 mod layouts;
 mod loading;
+mod reaching;
 mod sequences;
 mod span;
 mod unsettled;
@@ -80,7 +82,9 @@ impl<N: Naming, S: Shelf> Version<N, S> {
     /// project's rule). Beside want of memory a file may be named or not.
     ///
     /// Time: one walk through each table, by its bytes; for each file a search in each deeper level, and a look at the files there that
-    /// its range meets; of level 0 each file is looked at with each other one. A second look is a merge, and takes a merge's time.
+    /// its range meets. The files of level 0 are sorted by number; just those whose least sequence is not above the greatest of all files
+    /// of a lesser number are looked at with each other file of level 0. Of files whose sequences rise with their numbers, as LevelDB
+    /// writes them, there are none. A second look is a merge, and takes a merge's time.
     pub fn check<R: Wait>(
         shelf: &mut S,
         rt: &R,

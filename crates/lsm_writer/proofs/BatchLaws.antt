@@ -20,10 +20,10 @@ lines_snoc form (x ∷ ls) [] l w h k = absurd h
 lines_snoc form (x ∷ ls) (y ∷ ws) l w h k = (h.0, lines_snoc form ls ws l w h.1 k)
 
 -- a list that goes on after its first n elements
-goes_on : (ls : List (List ℕ)) (n : ℕ) (l : List ℕ) (more : List (List ℕ)) → drop n ls ≡ l ∷ more → n < length ls
+pub goes_on : (ls : List (List ℕ)) (n : ℕ) (l : List ℕ) (more : List (List ℕ)) → drop n ls ≡ l ∷ more → n < length ls
 goes_on ls n l more h = let len : length (drop n ls) ≡ suc (length more) = ap length h in omega (arith, length-drop n ls, len)
 
-next_is : (ls : List (List ℕ)) (n : ℕ) (l : List ℕ) (more : List (List ℕ)) → drop n ls ≡ l ∷ more → (get_or ls n [] ≡ l) × (drop (n + 1) ls ≡ more)
+pub next_is : (ls : List (List ℕ)) (n : ℕ) (l : List ℕ) (more : List (List ℕ)) → drop n ls ≡ l ∷ more → (get_or ls n [] ≡ l) × (drop (n + 1) ls ≡ more)
 next_is ls n l more h =
     let within = goes_on ls n l more h in
     let front : drop n ls ≡ get_or ls n [] ∷ drop (suc n) ls = drop-cons ls n [] within in

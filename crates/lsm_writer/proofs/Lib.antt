@@ -2,6 +2,8 @@ mod PartLaws
 mod WordLaws
 mod LineLaws
 mod BatchLaws
+mod OneBatch
 mod StreamLaws
 mod Words
 mod Outcomes
+pub mod CallerLemmas

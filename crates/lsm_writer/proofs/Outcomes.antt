@@ -16,7 +16,7 @@ pub is_refused : {T : Type 0} (r : Result T WriterFault) (status : ℕ) (Stored 
 is_refused (Ok x) status Stored Refused Honest is_new ws was is old new ok err says left other = absurd (other ok)
 is_refused (Err e) status Stored Refused Honest is_new ws was is old new ok err says left other = (err, (e, record { says = says; left = left }))
 
-keeps_itself : (x : Option (List ℕ)) → Keeps x x
+pub keeps_itself : (x : Option (List ℕ)) → Keeps x x
 keeps_itself None = tt
 keeps_itself (Some xs) = refl
 

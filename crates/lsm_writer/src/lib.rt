@@ -12,6 +12,7 @@ mod writing_line;
 // Batches as text.
 mod batch_text;
 mod input;
+mod laws;
 mod parts;
 mod write_line;
 
@@ -21,6 +22,7 @@ mod ingesting;
 mod starting;
 
 // A run, and why it ends with status 1.
+mod merge_text;
 mod program;
 mod refusals;
 mod writer_fault;
@@ -28,6 +30,8 @@ mod writer_fault;
 pub use batch_text::read_batch;
 pub use ends::{Ends, make_ends};
 pub use input::read_input;
+pub use laws::one_batch;
+pub use merge_text::{cause_of_merge, of_merge};
 pub use parts::first_line;
 pub use program::{ingest, open_shelf, run};
 pub use refusals::of_state;

@@ -1,6 +1,7 @@
 //! One run of a command that writes a directory.
 
-ghost use Rattle.std.specs.Prelude.{◌≡◌, ◌≢◌, ◌≤◌, IfErr, OnErr, OnOk};
+ghost use Rattle.std.specs.Prelude.{◌≡◌, ◌≢◌, ◌≤◌, OnErr, OnOk};
+ghost use Rattle.std.specs.Io.KnownBytes.{Keeps};
 ghost use Rattle.lsm_writer.specs.Ingesting.{IsBroughtIn, IsRefused};
 
 use crate::batch_text::read_batch;
@@ -35,9 +36,11 @@ fn tell<E: Write>(err: &mut E, fault: &WriterFault) -> io::Result<()> {
 }
 
 /// The exit status of a command, and the line of its fault.
+#[tactic(auto, using(crate::proofs::Outcomes::keeps_itself))]
 fn status_of<E: Write>(done: Result<(), WriterFault>, err: &mut E) -> u8
     ensures ok { OnOk done (result ≡ 0) }
     ensures err { OnErr done (result ≡ 1) }
+    ensures quiet { result ≡ 0 → Keeps (E.contents err.old) (E.contents err.new) }
 {
     match done {
         Ok(()) => 0,
@@ -61,6 +64,7 @@ pub fn ingest<S: Shelf, R: Wait, O: Write, E: Write>(
 ) -> u8
     ensures done { result ≡ 0 → IsBroughtIn S.honest is_new batch.now (S.told shelf.old) (S.told shelf.new) (O.contents out.old) (O.contents out.new) }
     ensures refused { result ≢ 0 → (result ≡ 1) × ((fault : WriterFault) × IsRefused (λ number image. (r : S.Receipt) × S.is_of (S.told shelf.old).place r × (S.Receipt.number r ≡ number) × (S.Receipt.image r ≡ image)) (S.refuses (S.told shelf.old).place) S.honest is_new batch.now fault (S.told shelf.old) (S.told shelf.new) (O.contents out.old) (O.contents out.new)) }
+    ensures quiet { result ≡ 0 → Keeps (E.contents err.old) (E.contents err.new) }
 {
     let done = bring_in(rt, alloc, shelf, is_new, batch, out);
     status_of(done, err)
@@ -119,7 +123,8 @@ pub fn run<R: Wait, O: Write, E: Write>(
     out: &mut O,
     err: &mut E,
 ) -> u8
-    ensures { result ≤ 1 }
+    ensures status { result ≤ 1 }
+    ensures quiet { result ≡ 0 → Keeps (E.contents err.old) (E.contents err.new) }
 {
     let done = obey(rt, files, line, out);
     status_of(done, err)

@@ -1,6 +1,6 @@
 //! One line of a batch.
 
-ghost use Rattle.std.specs.Prelude.{◌≡◌, ◌∷◌, IfNone, IfOk, IfSome, List, ℕ, codes};
+ghost use Rattle.std.specs.Prelude.{◌∷◌, IfNone, IfOk, IfSome, List, ℕ, codes};
 ghost use Rattle.lsm_batch.specs.declared.write.Write.{Write};
 ghost use Rattle.lsm_commands.specs.Spelling.{IsWord};
 ghost use Rattle.lsm_writer.specs.BatchText.{IsWriteLine, Spell};

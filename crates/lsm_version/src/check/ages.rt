@@ -26,7 +26,7 @@ use lsm_table::{Naming, Registry, Shelf, TableRef};
 use std::alloc::{AllocError, Global};
 
 /// Whether a number is one of ascending ones.
-fn is_among(numbers: &[u64], number: u64) -> bool
+pub(crate) fn is_among(numbers: &[u64], number: u64) -> bool
     requires { IsNonDecreasing numbers.now }
     ensures { result ≡ list_any (λ n. n == number) numbers.now }
 {

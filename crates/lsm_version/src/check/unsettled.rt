@@ -1,13 +1,17 @@
 //! The files of which ranges and sequences alone do not settle the age order.
 
 ghost use Rattle.std.specs.List.Sorted.{IsNonDecreasing};
-ghost use Rattle.std.specs.Prelude.{◌≡◌, ◌++◌, ◌∷◌, ◌≤◌, ◌<◌, ◌↔◌, ◌⊎◌, [], ℕ, IfOk, OnOk, IsTrue, false, get_or, length, map};
+ghost use Rattle.std.specs.Prelude.{◌≡◌, ◌+◌, ◌++◌, ◌∷◌, ◌≤◌, ◌<◌, ◌↔◌, ◌⊎◌, [], ℕ, IfOk, OnOk, IsTrue, false, get_or, length, map};
+ghost use Rattle.lsm_codec.specs.Lists.{Has};
+ghost use Rattle.lsm_levels.specs.Files.{File};
 ghost use Rattle.lsm_table.specs.HeldTable.{entries_in};
 ghost use Rattle.lsm_table.specs.Registry.{Table};
 ghost use Rattle.lsm_version.specs.Reads.{IsRising, reaches};
-ghost use Rattle.lsm_version.specs.Settled.{Adds, AreLevelSequences, AreSequences, AreSequencesOf, AreUnsettled, DeeperRise, EachBelow, IsUnsettled, OneAgainst, OneBelow, OnePair, SomeBelow};
+ghost use Rattle.lsm_version.specs.Settled.{Adds, AreLevelSequences, AreSequences, AreSequencesOf, AreUnsettled, Between, DeeperRise, EachBelow, IsUnsettled, OneAgainst, OneBelow, OnePair, SomeBelow};
 ghost use Rattle.lsm_version.specs.Versions.{file_of, files_from, level_in};
 
+use crate::check::ages::is_among;
+use crate::check::reaching::reaching_tables;
 use crate::check::sequences::Sequences;
 use crate::read::user_range::{begins_by, first_reaching, high, low};
 use lsm_table::{Naming, Registry, Shelf, TableRef};
@@ -134,12 +138,32 @@ fn compare_with_level<N: Naming, S: Shelf>(
     Ok(())
 }
 
-/// Compares a table with those of its level and of the deeper ones. Of a level from 1 on no two files differ in depth.
+/// The first level with whose tables a table is compared: its own where its number is among these, else the next one.
+fn first_level<N: Naming, S: Shelf>(
+    registry: &Registry<S::Receipt>,
+    level: usize,
+    table: &TableRef<N, S>,
+    reaching: &[u64],
+) -> usize
+    requires named { registry.now ≡ N.registry }
+    requires ascending { IsNonDecreasing reaching.now }
+    ensures near { (level ≤ result) × (result ≤ level + 1) }
+    ensures own { Has reaching.now table.now.number → result ≡ level }
+{
+    if is_among(reaching, registry.record(table).number()) {
+        level
+    } else {
+        level.saturating_add(1)
+    }
+}
+
+/// Compares a table with those of the levels from this first one on: with what lies before it, the table is settled.
 fn compare_below<N: Naming, S: Shelf>(
     registry: &Registry<S::Receipt>,
     level: usize,
     table: &TableRef<N, S>,
     own: Sequences,
+    first: usize,
     levels: &[Vec<TableRef<N, S>>],
     sequences: &[Vec<Sequences>],
     numbers: &mut Vec<u64>,
@@ -148,10 +172,11 @@ fn compare_below<N: Naming, S: Shelf>(
     requires own { AreSequencesOf (entries_in table.now.image) own }
     requires beside { AreLevelSequences (map (λ l. l.items) levels.now) (map (λ l. l.items) sequences.now) }
     requires rising { DeeperRise (map (λ l. l.items) levels.now) }
-    requires inside { level ≤ length levels.now }
+    requires first { (level ≤ first) × (first ≤ length levels.now) }
+    requires settled { (G : File) → Between level first (map (λ l. l.items) levels.now) G → IsUnsettled (file_of level table.now) G → ⊥ }
     ensures { OnOk result (Adds (OneBelow (file_of level table.now) level (length levels.now) (map (λ l. l.items) levels.now)) numbers.old.items numbers.new.items) }
 {
-    for deeper in level..levels.len() {
+    for deeper in first..levels.len() {
         let tables = levels[deeper].as_slice();
         let its = sequences[deeper].as_slice();
         compare_with_level(registry, level, table, own, deeper, tables, its, numbers)?;
@@ -159,8 +184,9 @@ fn compare_below<N: Naming, S: Shelf>(
     Ok(())
 }
 
-/// Compares each table of a level with those of its level and of the deeper ones.
+/// Compares each table of a level with those of the deeper ones, and with those of its own level where that may leave it unsettled.
 fn compare_level<N: Naming, S: Shelf>(
+    alloc: Global,
     registry: &Registry<S::Receipt>,
     level: usize,
     levels: &[Vec<TableRef<N, S>>],
@@ -175,10 +201,12 @@ fn compare_level<N: Naming, S: Shelf>(
 {
     let tables = levels[level].as_slice();
     let own = sequences[level].as_slice();
+    let reaching = reaching_tables(alloc, registry, level, tables, own)?;
     for index in 0..tables.len() {
         let table = &tables[index];
+        let first = first_level(registry, level, table, reaching.as_slice());
         compare_below(
-            registry, level, table, own[index], levels, sequences, numbers,
+            registry, level, table, own[index], first, levels, sequences, numbers,
         )?;
     }
     Ok(())
@@ -200,7 +228,7 @@ pub(crate) fn unsettled_files<N: Naming, S: Shelf>(
 {
     let mut numbers = Vec::new(alloc);
     for level in 0..levels.len() {
-        compare_level(registry, level, levels, sequences, &mut numbers)?;
+        compare_level(alloc, registry, level, levels, sequences, &mut numbers)?;
     }
     numbers.sort()?;
     Ok(numbers)

@@ -1,4 +1,4 @@
-use Rattle.std.proofs.Common.{refl, sym, ◌∙◌, subst, inl, ℕ}
+use Rattle.std.proofs.Common.{refl, ◌∙◌, subst, inl, ℕ}
 use Rattle.lsm_state.specs.Installing.{IsInstalling}
 use Rattle.lsm_script.proofs.Elements.{result_out}
 use Rattle.lsm_script.proofs.installing.install.Goals as goal

@@ -1,4 +1,4 @@
-use Rattle.std.proofs.Common.{◌≡◌, List, [], ◌∷◌, ◌++◌, length, refl, sym, ◌∙◌, ap, subst, inl, inr}
+use Rattle.std.proofs.Common.{List, [], ◌∷◌, ◌++◌, length, refl, sym, ◌∙◌, ap, subst, inl, inr}
 use Rattle.lsm_merge.specs.Work.{Done, Work}
 use Rattle.lsm_script.specs.Replies.{IsMerged}
 use Rattle.lsm_script.proofs.Drawings.{drawn_begins, drawn_keeps, merged_from, refused_from}

@@ -1,4 +1,4 @@
-use Rattle.std.proofs.Common.{◌≡◌, ◌∙◌, sym, arith}
+use Rattle.std.proofs.Common.{◌∙◌, sym, arith}
 use Rattle.lsm_script.specs.Steps.{stage_of}
 use Rattle.lsm_script.proofs.Turns.{turn_end, turn_last, turn_more, turn_none}
 use Rattle.lsm_script.proofs.script.answer_all.Goals as goal

@@ -1,4 +1,4 @@
-use Rattle.std.proofs.Common.{◌≡◌, List, sym, subst}
+use Rattle.std.proofs.Common.{List, sym, subst}
 use Rattle.lsm_script.specs.History.{History, IsAnswered, IsOf, history_of}
 use Rattle.lsm_script.specs.Scripts.{AreReplies}
 use Rattle.lsm_script.specs.declared.reply.Reply.{Reply}

@@ -1,5 +1,5 @@
 use Rattle.std.proofs.Common.{◌≤◌, length, rules}
-use Rattle.lsm_script_lines.proofs.StreamLaws.{whole_read}
+use Rattle.lsm_writer.proofs.CallerLemmas.{whole_read}
 use Rattle.lsm_script_lines.proofs.input.text_of.Goals as goal
 
 pub returns-clause-found : goal.returns-clause-found

@@ -1,4 +1,4 @@
-use Rattle.std.proofs.Common.{refl, rules}
+use Rattle.std.proofs.Common.{rules}
 use Rattle.lsm_script_lines.proofs.WordLaws.{parted_other, parted_start, pushed_end, pushed_space}
 use Rattle.lsm_script_lines.proofs.words.words_in.Goals.{then-line-i-eq32+in_ok-push, else-line-i-eq32}
 use Rattle.lsm_script_lines.proofs.words.words_in.Goals as goal

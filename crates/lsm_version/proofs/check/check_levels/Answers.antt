@@ -1,17 +1,15 @@
-use Rattle.std.proofs.Common.{◌≡◌, ◌≤◌, rules, List, ℕ, length, map, sym, ◌∙◌, ap, subst}
+use Rattle.std.proofs.Common.{◌≡◌, rules, List, ℕ, length, map, sym, ◌∙◌, ap, subst}
 use Rattle.std.proofs.lemmas.List.{length-map}
 use Rattle.std.proofs.lemmas.Result.{err_from_is_err_and}
 use Rattle.std.specs.List.Sorted.{IsNonDecreasing}
 use Rattle.lsm_codec.specs.Lists.{Has}
 use Rattle.lsm_table.specs.Registry.{Table}
-use Rattle.lsm_levels.specs.Files.{File}
 use Rattle.lsm_version.specs.CheckRefusal.{AreTablesOf, IsAgeRefusal}
 use Rattle.lsm_version.specs.LevelLayouts.{AreLevelsWhole, IsLayoutRefusal, LieInOrder}
 use Rattle.lsm_version.specs.Loading.{placed_levels}
 use Rattle.lsm_version.specs.Runs.{AreMergeable}
 use Rattle.lsm_version.specs.Settled.{AreLevelSequences, AreUnsettled, DeeperRise, KeepsAge}
 use Rattle.lsm_version.specs.Versions.{files_from}
-use Rattle.lsm_version.specs.declared.check.sequences.Sequences.{Sequences}
 use Rattle.lsm_version.proofs.LevelReads.{same_length}
 use Rattle.lsm_version.proofs.Judged.{length-placed, placed_whole, sound_version, sound_tables, judged_mergeable, judged_rise, placed_fit}
 use Rattle.lsm_version.proofs.Refused.{files_refused, layout_refused, ages_refused}

@@ -1,4 +1,4 @@
-use Rattle.std.proofs.Common.{◌≡◌, ℕ, ◌∷◌, List, refl, sym, ◌∙◌, ap, subst}
+use Rattle.std.proofs.Common.{ℕ, ◌∷◌, List, refl, sym, ◌∙◌, ap, subst}
 use Rattle.lsm_merge.specs.NumberFault.{number_of}
 use Rattle.lsm_script.proofs.Sourced.{after_draw}
 use Rattle.lsm_script.proofs.numbers.NumbersNumberSource.draw.Goals as goal

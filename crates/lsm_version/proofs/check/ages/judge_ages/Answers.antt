@@ -1,9 +1,8 @@
-use Rattle.std.proofs.Common.{◌≡◌, ◌∙◌, List, ℕ, length, map, ap, sym, subst, arith, refl}
+use Rattle.std.proofs.Common.{◌≡◌, ◌∙◌, List, length, map, ap, sym, subst, arith, refl}
 use Rattle.std.proofs.lemmas.Bool.{eqb-true, eqb-false}
 use Rattle.std.proofs.lemmas.List.{length-map}
 use Rattle.lsm_table.specs.Registry.{Table}
-use Rattle.lsm_levels.specs.Ages.{IsAgeOrder, IsLeastAgainstAge}
-use Rattle.lsm_levels.specs.Merging.{Placed, merge_all}
+use Rattle.lsm_levels.specs.Merging.{merge_all}
 use Rattle.lsm_version.specs.Runs.{AreMergeable, IsNumberIn, chosen}
 use Rattle.lsm_version.specs.Settled.{IsOneUnsettled}
 use Rattle.lsm_version.specs.Versions.{files_from}

@@ -5,8 +5,11 @@ use Rattle.lsm_version.specs.Settled.{Adds, AreSequences, OneBelow}
 use Rattle.lsm_version.specs.Versions.{file_of}
 use Rattle.lsm_version.specs.declared.check.sequences.Sequences.{Sequences}
 use Rattle.lsm_version.proofs.LevelRanges.{level_in-map}
-use Rattle.lsm_version.proofs.Unsettled.{below_more, level_sequences_at, levels_long}
+use Rattle.lsm_version.proofs.Unsettled.{below_more, below_start, level_sequences_at, levels_long}
 use Rattle.lsm_version.proofs.check.unsettled.compare_below.Goals as goal
+
+pub loop-deeper-init : goal.loop-deeper-init
+loop-deeper-init g c = below_start (file_of c.args.level c.args.table.now) c.args.level c.args.first (map (λ l. l.items) c.args.levels.now) c.args.numbers.now.items c.requires.settled
 
 pub bounds-sequences-deeper : goal.bounds-sequences-deeper
 bounds-sequences-deeper g c = let long = levels_long (λ l. l.items) (λ l. l.items) c.args.levels.now c.args.sequences.now c.requires.beside in let lt = c.loop-deeper-test.true in omega arith
@@ -26,11 +29,11 @@ compare_with_level-requires-clause-rising g c κs within = λ pos.
 pub loop-deeper-preserved : goal.loop-deeper-preserved
 loop-deeper-preserved g c =
     below_more (file_of c.args.level c.args.table.now) c.args.level c.loop-deeper.deeper (map (λ l. l.items) c.args.levels.now) c.as_slice-tables.result.now
-    c.args.numbers.now.items c.loop-deeper.numbers.items c.compare_with_level.new.numbers.items c.loop-deeper.auto.deeper
+    c.args.numbers.now.items c.loop-deeper.numbers.items c.compare_with_level.new.numbers.items (let le = c.requires.first.0 in let from = c.loop-deeper.auto.deeper in omega arith)
     (level_in-map (λ l. l.items) c.args.levels.now c.loop-deeper.deeper c.index-levels-deeper.result c.loop-deeper-test.true c.index-levels-deeper.is ∙ sym c.as_slice-tables.ensures.value)
     c.loop-deeper.invariant c.in_ok-compare_with_level.ensures
 
 pub returns : goal.returns
 returns g c =
-    let end : c.loop-deeper.deeper ≡ length c.args.levels.now = (let ge = c.loop-deeper-test.false in let le = c.loop-deeper.auto.deeper-end c.requires.inside in omega arith) in
+    let end : c.loop-deeper.deeper ≡ length c.args.levels.now = (let ge = c.loop-deeper-test.false in let le = c.loop-deeper.auto.deeper-end c.requires.first.1 in omega arith) in
     subst (λ (n : ℕ). Adds (OneBelow (file_of c.args.level c.args.table.now) c.args.level n (map (λ l. l.items) c.args.levels.now)) c.args.numbers.now.items c.loop-deeper.numbers.items) end c.loop-deeper.invariant
