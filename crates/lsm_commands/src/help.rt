@@ -8,14 +8,18 @@ const VERSION: &str = "0.1.0 (files of LevelDB 1.23, uncompressed)";
 
 const OVERVIEW: &str =
     "Keys and values are words in hex, two digits a byte (61 is `a`), or with --text
-as text, in which `\\xNN` is a byte that does not print; `.` stands for no
-bytes. Sizes are in bytes. Standard input and FILE may have 64 MiB.
+as text; `.` stands for no bytes. In text a byte that does not print is `\\xNN`,
+and so are `\\` (`\\x5c`), `=` (`\\x3d`), `!` (`\\x21`), `@` (`\\x40`), a blank
+(`\\x20`) and a word that is just a point (`\\x2e`). Sizes are in bytes. Standard
+input and FILE may have 64 MiB.
 
 Options stand last, and a value is the word behind its option, as in
 `lsm scan db --from 61`.
 
 A DIR that is not there is `refused 9 Device`, one without a file CURRENT
-`refused 10 Missing`; but `ingest` begins a database in such a DIR.
+`refused 10 Missing`; but `ingest` begins a database in such a DIR. Where
+CURRENT was lost, write it anew first: one line, the name of the newest MANIFEST
+file.
 
 Tables that are compressed, as LevelDB makes them unless told otherwise, are
 refused: `refused 16 Compressed 1`. No command reads a write-ahead log
@@ -146,8 +150,9 @@ database is begun in it.
 
 FILE has a line a key, `KEY=VALUE` for its new value or `KEY!` where it is
 deleted, ascending by the bytes of the keys, each key once. KEY and VALUE are
-hex, or text with --text, `.` for no bytes: `scan` prints such lines. FILE is
-judged before DIR is opened; the first line of another form is `bad line I`.
+hex, or text with --text, `.` for no bytes: `scan` prints such lines. Lines in
+hex are put in order by `LC_ALL=C sort -t= -k1,1`. FILE is judged before DIR is
+opened; the first line of another form is `bad line I`.
 
 Limits: 64 MiB of FILE, 65536 lines, 4194304 bytes of keys and values together,
 4096 bytes of a key, 1048576 bytes of a value. Past 64 MiB it is a `read fault`,
