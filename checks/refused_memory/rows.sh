@@ -21,7 +21,7 @@ build() {
   mkdir -p "$scratch/crates/rows/src" "$scratch/tmp"
   git -C "$top" ls-files -z crates crates.txt HANDLES | (cd "$top" && xargs -0 cp --parents -t "$scratch")
   cp "$here/rows.rattle" "$scratch/crates/rows/src/main.rt"
-  cp "$top/crates/lsm_state_tests/src/given.rt" "$scratch/crates/rows/src/"
+  cp "$top/checks/more_tests/lsm_state_tests/src/given.rt.txt" "$scratch/crates/rows/src/given.rt"
   echo 'rows: lsm_state lsm_batch lsm_merge lsm_slots lsm_pins lsm_table lsm_shelf lsm_codec boxcar' >> "$scratch/crates.txt"
   (cd "$scratch/crates/rows" && TMPDIR="$scratch/tmp" exec rt try) > "$scratch/tried" 2>&1 &
   copy_module $!

@@ -1,18 +1,15 @@
 -- A board that was just made, and the state that it makes.
-use Rattle.std.proofs.Common.{◌≡◌, ◌≤◌, ℕ, Bool, List, All, length, refl, sym, subst, arith}
+use Rattle.std.proofs.Common.{◌≡◌, ◌≤◌, ℕ, List, All, length, refl, sym, subst, arith}
 use Rattle.atomic_table.specs.Seated.{TableId}
 use Rattle.lsm_pins.specs.Known.{Known}
 use Rattle.lsm_pins.specs.Made.{IsNewPinner}
-use Rattle.lsm_journal.specs.HeldManifest.{HeldManifest}
 use Rattle.lsm_pins.specs.View.{after_making}
 use Rattle.lsm_state.specs.Making.{created_state}
 use Rattle.lsm_state.specs.Held.{Held}
-use Rattle.lsm_state.specs.Opening.{opened_state}
 use Rattle.lsm_state.specs.Options.{Fits}
 use Rattle.lsm_state.specs.declared.options.Options.{Options}
 use Rattle.lsm_store.specs.Readers.{SeatsPinners}
 use Rattle.lsm_store_tests.specs.Parts.{IsMade}
-use Rattle.lsm_version.specs.Versions.{Levels}
 
 pub new_parts : (o : Options) (publisher : Known) (pinners : List Known) → Fits o → publisher.knows ≡ after_making o.versions 0 o.readers
     → All (IsNewPinner publisher.board o.versions 0) pinners → length pinners ≡ o.readers → IsMade publisher.board o publisher pinners
@@ -28,8 +25,3 @@ eq-le m n e = omega (arith, e)
 pub seats_pinners : (board : TableId) (o : Options) (publisher : Known) (pinners : List Known) (h : Held) → h ≡ created_state o publisher pinners
     → IsMade board o publisher pinners → SeatsPinners h
 seats_pinners board o publisher pinners h same made = subst (λ (k : Held). SeatsPinners k) (sym same) (eq-le _ _ made.readers)
-
-pub seats_pinners_again : (board : TableId) (o : Options) (publisher : Known) (pinners : List Known) (v : Levels) (journal : HeldManifest) (next : ℕ)
-    (halted : Bool) (h : Held) → h ≡ opened_state o publisher pinners v journal next halted → IsMade board o publisher pinners → SeatsPinners h
-seats_pinners_again board o publisher pinners v journal next halted h same made =
-    subst (λ (k : Held). SeatsPinners k) (sym same) (eq-le _ _ made.readers)

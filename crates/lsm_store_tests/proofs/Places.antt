@@ -1,16 +1,13 @@
--- The calls of a state leave a shelf its contents.
+-- An ingest leaves a shelf its contents.
 use Rattle.std.proofs.Common.{◌≡◌, ℕ, List, ◌∙◌, ap, inl, inr, true, false, Bool}
 use Rattle.std.specs.Prelude.{MatchBool}
-use Rattle.lsm_shelf.specs.Told.{Place, Told, Becomes, listing}
+use Rattle.lsm_shelf.specs.Told.{Place, Told}
 use Rattle.lsm_batch.specs.declared.write.Write.{Write}
-use Rattle.lsm_merge.specs.Work.{Done}
 use Rattle.lsm_journal.specs.Difference.{Difference}
 use Rattle.lsm_journal.specs.HeldManifest.{is_at_limit}
 use Rattle.lsm_state.specs.Changing.{ChangesVersion}
-use Rattle.lsm_state.specs.Collecting.{AreCollected, IsCollectRefusal, IsStopped, StoppedEarly}
 use Rattle.lsm_state.specs.Held.{Held}
 use Rattle.lsm_state.specs.Ingesting.{Ingests, IsIngestRefusal, IsPutFault}
-use Rattle.lsm_state.specs.Installing.{Installed}
 use Rattle.lsm_state.specs.declared.ingest.Ingested.{Ingested}
 use Rattle.lsm_state.specs.declared.state_fault.StateFault.{StateFault}
 use Rattle.lsm_state.specs.declared.state_fault.StateFault.TheVariants as state
@@ -64,31 +61,4 @@ refused_stays old new ws e was is r = elim r [
       ]
     ]
   ]
-]
-
-pub installed_stays : (old new : Held) (d : Done) (was is : Told) → Installed old new d was is → is.place ≡ was.place
-installed_stays old new d was is i = changed_stays _ _ _ _ was is i.changes
-
-pub becomes_stays : (was is : Told) → Becomes was is → is.place ≡ was.place
-becomes_stays was is b = b.place
-
-pub collected_stays : (h : Held) (removed : List ℕ) (was is : Told) → AreCollected h removed was is → is.place ≡ was.place
-collected_stays h removed was is c = c.told.place
-
-stopped_stays : (ns removed : List ℕ) (was is : Told) → IsStopped ns removed was is → is.place ≡ was.place
-stopped_stays ns removed was is s = elim s.asked [
-  | inl b ↦ b.place
-  | inr b ↦ b.3.place
-]
-
-early_stays : (h : Held) (removed : List ℕ) (was is : Told) → StoppedEarly h removed was is → is.place ≡ was.place
-early_stays h removed was is s = elim s [
-  | inl b ↦ b.1.place
-  | inr b ↦ stopped_stays _ removed (listing b.0 was) is b.3
-]
-
-pub uncollected_stays : (old new : Held) (e : StateFault) (removed : List ℕ) (was is : Told) → IsCollectRefusal old new e removed was is → is.place ≡ was.place
-uncollected_stays old new e removed was is r = elim r [
-  | inl b ↦ b.4.place
-  | inr b ↦ early_stays new removed was is b.2
 ]

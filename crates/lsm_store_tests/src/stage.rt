@@ -8,7 +8,7 @@ ghost use Rattle.lsm_store_tests.specs.Parts.{IsMade};
 use lsm_pins::{Board, Pinner, Publisher};
 use lsm_slots::Boarded;
 use lsm_state::{Options, State};
-use lsm_store::{BeginFault, Reader, Store, View};
+use lsm_store::{Reader, Store};
 use lsm_table::{Registry, Shelf};
 use std::alloc::Global;
 use std::sync::{Arc, Wait};
@@ -74,31 +74,6 @@ impl<N: Boarded, S: Shelf> Stage<N, S> {
         Stage::over(alloc, state, shelf)
     }
 
-    /// A store over the database that is there.
-    #[tactic(auto, using(crate::proofs::Boards::seats_pinners_again))]
-    pub(crate) fn again<R: Wait>(
-        rt: &R,
-        alloc: Global,
-        parts: Parts<S>,
-    ) -> Result<Stage<N, S>, Fail>
-        requires named { arc_value parts.registry ≡ N.registry }
-        requires here { (S.told parts.shelf).place ≡ N.place }
-        requires made { IsMade N.board parts.options parts.board.0 parts.board.1.items }
-        ensures { IfOk result (λ s. (S.told s.shelf).place ≡ N.place) }
-    {
-        let Parts {
-            mut shelf,
-            options,
-            registry,
-            board,
-        } = parts;
-        let opened = State::<N, S>::open(rt, alloc, &mut shelf, options, registry, board);
-        let Ok(state) = opened else {
-            return Err(Fail::new("the database was not opened"));
-        };
-        Stage::over(alloc, state, shelf)
-    }
-
     /// A store over a state, with a fork of the shelf for its readers.
     fn over(alloc: Global, state: State<N, S>, shelf: S) -> Result<Stage<N, S>, Fail>
         requires here { (S.told shelf).place ≡ N.place }
@@ -117,35 +92,5 @@ impl<N: Boarded, S: Shelf> Stage<N, S> {
             readers,
             shelf,
         })
-    }
-}
-
-/// One of the readers.
-pub(crate) fn one_of<N: Boarded, S: Shelf>(
-    readers: &mut Vec<Reader<N, S>>,
-) -> Result<Reader<N, S>, Fail> {
-    match readers.pop() {
-        Some(reader) => Ok(reader),
-        None => Err(Fail::new("there is no reader")),
-    }
-}
-
-/// A view of the current version, which the reader learns first.
-pub(crate) fn begin<N: Boarded, S: Shelf, R: Wait>(
-    rt: &R,
-    store: &Store<N, S>,
-    mut reader: Reader<N, S>,
-) -> Result<View<N, S>, Fail> {
-    reader.refresh(&mut store.lock(rt))?;
-    match reader.begin() {
-        Ok(view) => Ok(view),
-        Err((_reader, fault)) => Err(fail_of(fault)),
-    }
-}
-
-fn fail_of(fault: BeginFault) -> Fail {
-    match fault {
-        BeginFault::Moved(_) => Fail::new("another version is current"),
-        BeginFault::PinsSpent => Fail::new("no pin is left"),
     }
 }
