@@ -15,6 +15,7 @@ pub mod Overlaps
 pub mod ScanLaws
 pub mod Judged
 pub mod Depths
+pub mod Newer
 pub mod Unsettled
 pub mod Reaching
 pub mod Runs

@@ -11,7 +11,7 @@ ghost use Rattle.lsm_version.specs.FileRefusal.{NamesOne};
 ghost use Rattle.lsm_version.specs.Runs.{AreMergeable, AreNamed, AreRunsOf, AreWhole, IsNumberIn, IsNumberOf, entries_after, once};
 ghost use Rattle.lsm_version.specs.Versions.{files_from, files_of, level_in};
 
-use crate::read::depths::newer_count;
+use crate::read::depths::{ascending_numbers, newer_count};
 use crate::read::once::each_once;
 use crate::read::unread::Unread;
 use lsm_merger::Run;
@@ -37,9 +37,10 @@ fn open_shallow<N: Naming, S: Shelf, B: Blocks<S>>(
     ensures loan { B.loan blocks.new ≡ B.loan blocks.old }
     ensures cause { IfErr result (λ e. ReadCounted e.fault (B.told blocks.old) (B.told blocks.new)) }
 {
+    let numbers = ascending_numbers(alloc, registry, level)?;
     let mut runs = Vec::new(alloc);
     for table in level {
-        let depth = newer_count(registry, level, registry.record(table).number());
+        let depth = newer_count(numbers.as_slice(), registry.record(table).number());
         let one = [table.again()];
         let run = match Run::over_by(blocks, alloc, depth, registry, &one) {
             Ok(run) => run,

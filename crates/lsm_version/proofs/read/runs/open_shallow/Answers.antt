@@ -7,7 +7,7 @@ use Rattle.lsm_table.specs.ReadFault.{ReadCounted}
 use Rattle.lsm_table.proofs.CallerLemmas.{becomes_same, becomes_then, read_counted_later}
 use Rattle.lsm_version.specs.declared.read.unread.Unread.{Unread}
 use Rattle.lsm_levels.specs.Merging.{placed_at}
-use Rattle.lsm_version.specs.Depths.{newer_count}
+use Rattle.lsm_version.specs.Depths.{AreNumbersOf, newer_count}
 use Rattle.lsm_version.specs.FileRefusal.{NamesOne}
 use Rattle.lsm_version.specs.Runs.{AreNamed, AreRunsOf, IsNumberOf, entries_after}
 use Rattle.lsm_version.specs.Versions.{IsWhole, files_of}
@@ -28,6 +28,7 @@ loop-table-init g c = record {
 pub loop-table-preserved : goal.loop-table-preserved
 loop-table-preserved g c =
     let x = c.table-item.result in
+    let own : AreNumbersOf c.args.level.now c.as_slice.result.now = subst (AreNumbersOf c.args.level.now) (sym c.as_slice.ensures.value) c.in_ok-numbers.ensures in
     record {
       told = becomes_then _ _ _ c.loop-table.invariant.told c.over_by.ensures.told;
       loan = c.over_by.ensures.loan ∙ c.loop-table.invariant.loan;
@@ -38,7 +39,7 @@ loop-table-preserved g c =
           ap (map (λ r. r.placed)) c.in_ok-push.ensures.items ∙ map-append (λ r. r.placed) c.loop-table.runs.items (c.in-Ok.run' ∷ []) in
           subst (AreRunsOf c.args.level.now (Has (files_of 0 (take (c.loop-table.table-index + 1) c.args.level.now)))) (sym grown)
           (shallow_more c.args.level.now c.args.level.now c.loop-table.table-index x (map (λ r. r.placed) c.loop-table.runs.items) c.in-Ok.run'.placed c.loop-table-test.true c.table-item.is w
-          (c.in-Ok.ensures.entries h ∙ ap (λ (n : ℕ). placed_at n (entries_after (c.again.result ∷ []))) (c.newer_count-depth.ensures ∙ ap (newer_count c.args.level.now) (c.number.ensures ∙ c.record.ensures.number))
+          (c.in-Ok.ensures.entries h ∙ ap (λ (n : ℕ). placed_at n (entries_after (c.again.result ∷ []))) (c.newer_count-depth.ensures c.args.level.now own ∙ ap (newer_count c.args.level.now) (c.number.ensures ∙ c.record.ensures.number))
           ∙ ap (λ (t : Table). placed_at (newer_count c.args.level.now x.number) (entries_after (t ∷ []))) c.again.ensures)
           (c.loop-table.invariant.made h)));
     }
