@@ -1,7 +1,7 @@
 #!/usr/bin/env bash
 # What a version does with hostile tables, its check, a scan and a merge of two levels, beside the check of the tables alone: ever more files
-# of one entry each, at level 0 once all of one sequence and once (the check alone) with sequences that rise with their numbers; and two
-# tables whose one data block spells far more bytes of keys than it has (make.rs), once with ages that are settled and once with open ones.
+# of one entry each, at level 0 once all of one sequence and once with sequences that rise with their numbers; and two tables whose one
+# data block spells far more bytes of keys than it has (make.rs), once with ages that are settled and once with open ones.
 # Prints milliseconds and the peak of memory for sizes that double (FILES, LEVEL0, RISING and SIZES name others): what is linear doubles
 # with them. The merge of the largest blocks writes 2 GB, with blocks of 1 MiB it would write some 30.
 # Needs rt and rustc. Proves the program in a scratch folder first, over what crates/*/out keep.
@@ -12,7 +12,7 @@ scratch=$(mktemp -d)
 trap 'rm -rf "$scratch"' EXIT
 
 program="$scratch/crates/hostile"
-mkdir -p "$program/src" "$program"/proofs/{main,time_files,time_rising,scan_lent,copies_of,job_at}
+mkdir -p "$program/src" "$program"/proofs/{main,time_files,scan_lent,copies_of,job_at}
 source "$top/benches/copy_crates.sh"
 copy_crates lsm_merge "$scratch"
 cp "$here/hostile.rattle" "$program/src/main.rt"
@@ -66,15 +66,6 @@ use Rattle.hostile.proofs.time_files.Given as goal
 -- the registry and the contents that were just made
 abbrev pub ghosts-measured : goal.ghosts-measured
 ghosts-measured g a = record { registry = arc_value a.registry; place = (memory_told a.shelf).place }
-PROOF
-cat > "$program/proofs/time_rising/Invariants.antt" <<'PROOF'
-use Rattle.std.specs.Arc.{arc_value}
-use Rattle.lsm_shelf.specs.MemoryShelf.{memory_told}
-use Rattle.hostile.proofs.time_rising.Given as goal
-
--- the registry and the contents that were just made
-abbrev pub ghosts-check_alone : goal.ghosts-check_alone
-ghosts-check_alone g a = record { registry = arc_value a.registry; place = (memory_told a.shelf).place }
 PROOF
 cat > "$program/proofs/main/Invariants.antt" <<'PROOF'
 use Rattle.std.specs.Arc.{arc_value}
