@@ -5,6 +5,8 @@ use Rattle.lsm_codec.specs.Lists.{Has}
 use Rattle.lsm_levels.specs.Files.{File}
 use Rattle.lsm_version.specs.Versions.{files}
 use Rattle.lsm_shelf.specs.Told.{Told, Becomes, Counted, CountedBy, NotTaken, listing}
+use Rattle.lsm_shelf.specs.declared.shelf_fault.ShelfFault.{ShelfFault}
+use Rattle.lsm_shelf.specs.declared.shelf_fault.ShelfFault.TheVariants as shelf
 use Rattle.lsm_slots.specs.Slots.{Epoch, HasEpoch, Looked, count_to_look_at, looks_of}
 use Rattle.lsm_live.specs.Booked.{Booked}
 -- no count rose
@@ -51,6 +53,21 @@ pub record IsStopped (ns removed : List ℕ) (was is : Told) : Type 0 where
 abbrev pub StoppedEarly : Held → List ℕ → Told → Told → Type 0
 StoppedEarly h removed was is = ((removed ≡ []) × Becomes was is)
     ⊎ ((listed : List ℕ) × (kept : List ℕ) × ((n : ℕ) → Has kept n ↔ IsKeptNumber h n) × IsStopped (outside kept listed) removed (listing listed was) is)
+
+-- no table went but those of the list
+abbrev pub TellsAll : List ℕ → Told → Told → Type 0
+TellsAll removed was is = is.gone ≡ going removed was.gone
+
+-- the shelf was refused memory
+abbrev pub IsRefusedMemory : ShelfFault → Type 0
+IsRefusedMemory shelf.OutOfMemory = Unit {0}
+IsRefusedMemory fault = ⊥
+
+-- memory was refused, to the state or to the shelf
+abbrev pub IsWantOfMemory : StateFault → Type 0
+IsWantOfMemory OutOfMemory = Unit {0}
+IsWantOfMemory (Shelf fault) = IsRefusedMemory fault
+IsWantOfMemory e = ⊥
 
 -- memory was refused, or the shelf refused, with a count that rose
 abbrev pub IsMemoryOrShelf : StateFault → Told → Told → Type 0

@@ -1,8 +1,8 @@
 //! Removing tables that no reader and no job needs.
 
-ghost use Rattle.std.specs.Prelude.{◌≡◌, ℕ, ◌++◌, [], IfErr, IfOk, OnErr, OnOk, false};
+ghost use Rattle.std.specs.Prelude.{◌≡◌, ◌≤◌, ℕ, ◌++◌, [], length, IfErr, IfOk, OnErr, OnOk, false, vec_capacity, vec_len};
 ghost use Rattle.lsm_shelf.specs.Told.{Becomes, Counted, CountedBy, NotTaken};
-ghost use Rattle.lsm_state.specs.Collecting.{AreCollected, HasLookedAround, IsCollectRefusal, IsCountedOnce, IsKeptNumber, IsMemoryOrShelf, IsStopped, SameCounts, StoppedEarly, outside, removing_all};
+ghost use Rattle.lsm_state.specs.Collecting.{AreCollected, HasLookedAround, IsCollectRefusal, IsCountedOnce, IsKeptNumber, IsMemoryOrShelf, IsRefusedMemory, IsStopped, IsWantOfMemory, SameCounts, StoppedEarly, TellsAll, outside, removing_all};
 ghost use Rattle.lsm_state.specs.Held.{plain};
 
 use crate::state::State;
@@ -19,22 +19,26 @@ fn keep_outside(numbers: &mut Vec<u64>, kept: &[u64])
     numbers.retain(|number| !kept.contains(number));
 }
 
-// Removes tables one after another, and notes each that was removed.
+// Removes tables one after another, and notes each that was removed; there is room for that.
 fn remove_all<S: Shelf, R: Wait>(
     shelf: &mut S,
     rt: &R,
     numbers: &[u64],
     removed: &mut Vec<u64>,
 ) -> Result<(), ShelfFault>
-    requires { removed.old.items ≡ [] }
+    requires none { (removed.old.items ≡ []) × (vec_len removed.old ≡ 0) }
+    requires room { length numbers.now ≤ vec_capacity removed.old }
     ensures ok { OnOk result ((removed.new.items ≡ numbers.now) × Becomes (removing_all numbers.now (S.told shelf.old)) (S.told shelf.new)) }
     ensures err { OnErr result (IsStopped numbers.now removed.new.items (S.told shelf.old) (S.told shelf.new)) }
     ensures cause { IfErr result (λ e. NotTaken e × Counted e (S.told shelf.old) (S.told shelf.new)) }
     ensures counts { CountedBy result (S.told shelf.old) (S.told shelf.new) }
+    ensures untold { IfErr result (λ e. IsRefusedMemory e → TellsAll removed.new.items (S.told shelf.old) (S.told shelf.new)) }
 {
     for number in numbers {
         shelf.remove(rt, *number)?;
-        removed.push(*number)?;
+        let Ok(()) = removed.push(*number) else {
+            unreachable!()
+        };
     }
     Ok(())
 }
@@ -48,12 +52,13 @@ impl<N: Boarded, S: Shelf> State<N, S> {
         shelf: &mut S,
         removed: &mut Vec<u64>,
     ) -> Result<(), StateFault>
-        requires { removed.old.items ≡ [] }
+        requires none { (removed.old.items ≡ []) × (vec_len removed.old ≡ 0) }
         ensures ok { OnOk result (AreCollected self.now removed.new.items (S.told shelf.old) (S.told shelf.new)) }
         ensures err { OnErr result (StoppedEarly self.now removed.new.items (S.told shelf.old) (S.told shelf.new)) }
         ensures cause { IfErr result (λ e. IsMemoryOrShelf e (S.told shelf.old) (S.told shelf.new)) }
         ensures counts { OnOk result (SameCounts (S.told shelf.old) (S.told shelf.new)) }
         ensures counts_err { IfErr result (λ e. IsCountedOnce e (S.told shelf.old) (S.told shelf.new)) }
+        ensures untold { IfErr result (λ e. IsWantOfMemory e → TellsAll removed.new.items (S.told shelf.old) (S.told shelf.new)) }
     {
         let kept = self.kept(alloc)?;
         let mut numbers = shelf.list(rt, alloc)?;
@@ -66,7 +71,8 @@ impl<N: Boarded, S: Shelf> State<N, S> {
     /// Looks at the slots that may turn free, and removes the listed tables that are not kept. Answers their numbers, ascending.
     ///
     /// `Halted` where the state is halted; else `OutOfMemory`, and the shelf's refusals. A refusal has the numbers of the tables that
-    /// were removed; the state goes on, and a later call removes the others.
+    /// were removed, but perhaps for one that the shelf refused to remove, other than for want of memory; the state goes on, and a later
+    /// call removes the others.
     pub fn collect<R: Wait>(
         &mut self,
         rt: &R,
@@ -80,6 +86,7 @@ impl<N: Boarded, S: Shelf> State<N, S> {
         ensures refused { IfErr result (λ e. IsCollectRefusal self.old self.new e.0 e.1.items (S.told shelf.old) (S.told shelf.new)) }
         ensures counts { OnOk result (SameCounts (S.told shelf.old) (S.told shelf.new)) }
         ensures counts_err { IfErr result (λ e. IsCountedOnce e.0 (S.told shelf.old) (S.told shelf.new)) }
+        ensures untold { IfErr result (λ e. IsWantOfMemory e.0 → TellsAll e.1.items (S.told shelf.old) (S.told shelf.new)) }
     {
         let mut removed = Vec::new(alloc);
         if self.halted {

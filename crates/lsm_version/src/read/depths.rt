@@ -8,7 +8,7 @@ use lsm_table::{Naming, Registry, Shelf, TableRef};
 use std::alloc::{AllocError, Global};
 
 /// The numbers of the tables of a level, in its order.
-fn numbers_of<N: Naming, S: Shelf>(
+fn table_numbers<N: Naming, S: Shelf>(
     alloc: Global,
     registry: &Registry<S::Receipt>,
     level: &[TableRef<N, S>],
@@ -23,7 +23,7 @@ fn numbers_of<N: Naming, S: Shelf>(
     Ok(numbers)
 }
 
-/// The same, ascending.
+/// The numbers of the tables of a level, ascending: sorted once, so that each depth is a search and no walk over the level.
 pub(crate) fn ascending_numbers<N: Naming, S: Shelf>(
     alloc: Global,
     registry: &Registry<S::Receipt>,
@@ -32,7 +32,7 @@ pub(crate) fn ascending_numbers<N: Naming, S: Shelf>(
     requires { registry.now ≡ N.registry }
     ensures { IfOk result (λ v. AreNumbersOf level.now v.items) }
 {
-    let mut numbers = numbers_of(alloc, registry, level)?;
+    let mut numbers = table_numbers(alloc, registry, level)?;
     numbers.sort_unstable();
     Ok(numbers)
 }

@@ -1,5 +1,4 @@
-use Rattle.std.proofs.Common.{◌+◌, get_or, inr, sym, subst, ◌∙◌}
-use Rattle.lsm_state.specs.Collecting.{IsStopped}
+use Rattle.std.proofs.Common.{◌+◌, get_or, sym, subst, ◌∙◌, arith}
 use Rattle.lsm_state.proofs.Removing.{AreGone, asked_or_not, gone_more, on_err, stopped_at}
 use Rattle.lsm_state.proofs.collect.remove_all.Goals as goal
 
@@ -10,18 +9,8 @@ returns-in_err-remove-clause-err g c =
     let now = g.S.Shelf.told c.loop-number.shelf in
     let is = g.S.Shelf.told c.remove.new.self in
     let i = c.loop-number.number-index in
-    on_err c.from_residual.result (stopped_at ns c.loop-number.removed.items was now is i c.loop-number-test.true c.loop-number.invariant.0
+    on_err c.from_residual.result (stopped_at ns c.loop-number.removed.items was now is i c.loop-number-test.true c.loop-number.invariant.gone
     (asked_or_not c.remove.result c.in_err-remove.field-0.0 (get_or ns i 0) now is c.in_err-remove.was c.remove.ensures.told))
-
-pub returns-in_err-push-clause-err : goal.returns-in_err-push-clause-err
-returns-in_err-push-clause-err g c =
-    let ns = c.args.numbers.now in
-    let was = g.S.Shelf.told c.args.shelf.now in
-    let now = g.S.Shelf.told c.loop-number.shelf in
-    let is = g.S.Shelf.told c.remove.new.self in
-    let i = c.loop-number.number-index in
-    on_err c.from_residual-in_err-push.result (subst (λ l. IsStopped ns l was is) (sym c.in_err-push.ensures.items)
-    (stopped_at ns c.loop-number.removed.items was now is i c.loop-number-test.true c.loop-number.invariant.0 (inr c.in_ok-remove.ensures.told)))
 
 pub loop-number-preserved : goal.loop-number-preserved
 loop-number-preserved g c =
@@ -29,7 +18,9 @@ loop-number-preserved g c =
     let was = g.S.Shelf.told c.args.shelf.now in
     let now = g.S.Shelf.told c.loop-number.shelf in
     let is = g.S.Shelf.told c.remove.new.self in
-    let i = c.loop-number.number-index in (
-      subst (λ l. AreGone ns l was is (i + 1)) (sym c.in_ok-push.ensures.items) (gone_more ns c.loop-number.removed.items was now is i c.loop-number-test.true c.loop-number.invariant.0 c.in_ok-remove.ensures.told),
-      (c.in_ok-remove.ensures.counts.0 ∙ c.loop-number.invariant.1.0, c.in_ok-remove.ensures.counts.1 ∙ c.loop-number.invariant.1.1),
-    )
+    let i = c.loop-number.number-index in record {
+      gone = subst (λ l. AreGone ns l was is (i + 1)) (sym c.in-Ok.ensures.items) (gone_more ns c.loop-number.removed.items was now is i c.loop-number-test.true c.loop-number.invariant.gone c.in_ok-remove.ensures.told);
+      counts = (c.in_ok-remove.ensures.counts.0 ∙ c.loop-number.invariant.counts.0, c.in_ok-remove.ensures.counts.1 ∙ c.loop-number.invariant.counts.1);
+      len = (let longer = c.in-Ok.ensures.len in let before = c.loop-number.invariant.len in omega arith);
+      room = (let wider = c.in-Ok.ensures.capacity in let before = c.loop-number.invariant.room in omega arith);
+    }

@@ -1,6 +1,12 @@
+use Rattle.std.proofs.Common.{◌≡◌, ◌≤◌, length, vec_capacity, vec_len}
 use Rattle.lsm_state.specs.Collecting.{SameCounts}
 use Rattle.lsm_state.proofs.Removing.{AreGone}
 use Rattle.lsm_state.proofs.collect.remove_all.Given as goal
 
 abbrev pub invariant-loop-number : goal.invariant-loop-number
-invariant-loop-number g l = AreGone l.numbers l.removed.items (g.S.Shelf.told l.initial.shelf) (g.S.Shelf.told l.shelf) l.number-index × SameCounts (g.S.Shelf.told l.initial.shelf) (g.S.Shelf.told l.shelf)
+invariant-loop-number g l = record {
+  gone : AreGone l.numbers l.removed.items (g.S.Shelf.told l.initial.shelf) (g.S.Shelf.told l.shelf) l.number-index;
+  counts : SameCounts (g.S.Shelf.told l.initial.shelf) (g.S.Shelf.told l.shelf);
+  len : vec_len l.removed ≡ l.number-index;
+  room : length l.numbers ≤ vec_capacity l.removed;
+}

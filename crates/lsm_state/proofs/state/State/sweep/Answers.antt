@@ -11,7 +11,7 @@ returns-in_err-reserve-clause-err g c =
     let was : Told = listing listed (g.S.Shelf.told c.args.shelf.now) in
     let is : Told = g.S.Shelf.told c.list.new.self in
     let none : IsStopped (outside kept listed) [] was is = record { back = outside kept listed; parts = refl; asked = inl c.in_ok-numbers.ensures.ok } in
-    on_err c.from_residual-in_err-reserve.result (inr (listed, kept, c.in_ok-kept.ensures.numbers, subst (λ l. IsStopped (outside kept listed) l was is) (sym (c.reserve.ensures.items ∙ c.requires)) none))
+    on_err c.from_residual-in_err-reserve.result (inr (listed, kept, c.in_ok-kept.ensures.numbers, subst (λ l. IsStopped (outside kept listed) l was is) (sym (c.reserve.ensures.items ∙ c.requires.none.0)) none))
 
 pub returns-in_err-remove_all-clause-err : goal.returns-in_err-remove_all-clause-err
 returns-in_err-remove_all-clause-err g c =
