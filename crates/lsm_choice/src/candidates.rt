@@ -11,10 +11,9 @@ use crate::conflicts::{conflict, is_taken};
 use crate::plan::Plan;
 use crate::plan_maker::plan_between;
 use crate::reservation::Reservation;
-use crate::table_range::{high_of, low_of};
 use lsm_codec::key_parts;
 use lsm_table::{Naming, Registry, Shelf, TableRef};
-use lsm_version::Version;
+use lsm_version::{Version, high_of, low_of};
 use std::alloc::{AllocError, Global};
 use std::cmp::Ordering;
 

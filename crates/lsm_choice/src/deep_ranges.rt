@@ -3,10 +3,9 @@
 ghost use Rattle.std.specs.Prelude.{◌≡◌, ◌≤◌, ◌++◌, IfOk, OnOk};
 ghost use Rattle.lsm_choice.specs.RangesBelow.{AreRangesBelow, ranges_of};
 
-use crate::table_range::{high_of, low_of};
 use lsm_codec::Bytes;
 use lsm_table::{Naming, Registry, Shelf, TableRef};
-use lsm_version::Version;
+use lsm_version::{Version, high_of, low_of};
 use std::alloc::{AllocError, Global};
 
 /// Appends the ranges of tables.

@@ -10,10 +10,10 @@ ghost use Rattle.lsm_choice.specs.TablePlans.{AreLinked, IsPlanFrom, NoneMeets, 
 
 use crate::linked_tables::linked_tables;
 use crate::plan::Plan;
-use crate::table_range::{high_of, highest, low_of, lowest};
+use crate::table_range::{highest, lowest};
 use lsm_codec::Bytes;
 use lsm_table::{Naming, Registry, Shelf, TableRef};
-use lsm_version::Version;
+use lsm_version::{Version, high_of, low_of};
 use std::alloc::{AllocError, Global};
 
 /// A copy of a key, in memory of its own.

@@ -2,40 +2,11 @@
 
 ghost use Rattle.std.specs.Prelude.{◌≡◌};
 ghost use Rattle.lsm_version.specs.Overlap.{meets};
-ghost use Rattle.lsm_version.specs.Versions.{user_of};
 ghost use Rattle.lsm_choice.specs.TableRanges.{IsGreater, IsHighest, IsLesser, IsLowest};
 
 use lsm_levels::is_at_most;
 use lsm_table::{Naming, Registry, Shelf, TableRef};
-
-/// The user key in the bytes of an internal key.
-fn user_of(key: &[u8]) -> &[u8]
-    ensures { result.now ≡ user_of key.now }
-{
-    &key[..key.len().saturating_sub(8)]
-}
-
-/// The least user key of a table.
-pub(crate) fn low_of<'a, N: Naming, S: Shelf>(
-    registry: &'a Registry<S::Receipt>,
-    table: &TableRef<N, S>,
-) -> &'a [u8]
-    requires { registry.now ≡ N.registry }
-    ensures { result.now ≡ user_of table.now.smallest }
-{
-    user_of(registry.record(table).smallest.as_slice())
-}
-
-/// The greatest user key of a table.
-pub(crate) fn high_of<'a, N: Naming, S: Shelf>(
-    registry: &'a Registry<S::Receipt>,
-    table: &TableRef<N, S>,
-) -> &'a [u8]
-    requires { registry.now ≡ N.registry }
-    ensures { result.now ≡ user_of table.now.largest }
-{
-    user_of(registry.record(table).largest.as_slice())
-}
+use lsm_version::{high_of, low_of};
 
 /// Whether a table's range and the range from `from` to `to` have a user key in common.
 pub(crate) fn meets<N: Naming, S: Shelf>(

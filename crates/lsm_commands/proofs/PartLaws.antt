@@ -135,3 +135,7 @@ only_line_is (c ∷ cs) some h = elim (cases_eq c 10) [
       let none = none_behind c (parts_at 10 cs) (sym (parts_at-other 10 c cs other) ∙ h) in
       lines_of-other c cs other ∙ with_first-only c cs none
 ]
+
+pub parts_none : (separator : ℕ) (text : List ℕ) → HasNo separator text → parts_at separator text ≡ None
+parts_none separator [] h = parts_at-nil separator
+parts_none separator (c ∷ cs) h = parts_at-other separator c cs h.0 ∙ ap (behind (c ∷ [])) (parts_none separator cs h.1)

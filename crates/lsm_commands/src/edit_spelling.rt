@@ -83,8 +83,9 @@ fn push_deleted(out: &mut Vec<u8>, deleted: &DeletedFile) -> Result<(), AllocErr
     Ok(())
 }
 
+/// Appends the words of a file: its number, its size, its smallest and its largest key.
 #[tactic(auto, unfolding(crate::specs::ManifestPrinting::file_words))]
-fn push_file(out: &mut Vec<u8>, file: &FileMeta) -> Result<(), AllocError>
+pub fn push_file_words(out: &mut Vec<u8>, file: &FileMeta) -> Result<(), AllocError>
     ensures { OnOk result (out.new.items ≡ out.old.items ++ file_words file.now) }
 {
     push_decimal(out, file.number)?;
@@ -103,7 +104,7 @@ fn push_added(out: &mut Vec<u8>, added: &AddedFile) -> Result<(), AllocError>
     out.extend_from_slice(b"add ")?;
     push_decimal(out, added.level as u64)?;
     out.push(b' ')?;
-    push_file(out, &added.file)?;
+    push_file_words(out, &added.file)?;
     out.push(b'\n')?;
     Ok(())
 }

@@ -2,7 +2,8 @@
 
 ghost use Rattle.std.specs.Prelude.{◌≡◌, ◌<◌, ◌^◌, IfOk};
 
-use crate::words::{parts, read_bytes, sequence};
+use crate::text_parts::parts;
+use crate::words::{read_bytes, sequence};
 use lsm_codec::{KeyRef, Kind};
 use std::alloc::{AllocError, Global};
 

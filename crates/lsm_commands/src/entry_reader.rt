@@ -1,11 +1,10 @@
 //! The entries of a text list, one after another.
 
-ghost use Rattle.std.specs.Prelude.{◌≡◌, ◌+◌, ◌<◌, ◌^◌, ◌∷◌, length, IfOk, IfErr, None, true};
-ghost use Rattle.lsm_commands.specs.EntryList.{lines_of};
+ghost use Rattle.std.specs.Prelude.{◌≡◌, ◌+◌, ◌<◌, ◌^◌, length, IfOk, IfErr, None, true};
 ghost use Rattle.lsm_commands.specs.declared.entry_reader.LineFault.TheVariants.{OutOfMemory};
 
 use crate::entry_buffer::EntryBuffer;
-use crate::words::parts;
+use crate::text_parts::first_line;
 use std::alloc::{AllocError, Global};
 use std::cmp::Ordering;
 use std::mem;
@@ -74,17 +73,5 @@ impl<'a> EntryReader<'a> {
         self.rest = rest;
         self.line += 1;
         Ok(true)
-    }
-}
-
-/// The first line of a text, and what follows it.
-fn first_line(text: &[u8]) -> (&[u8], &[u8])
-    requires { 0 < length text.now }
-    ensures lines { lines_of text.now ≡ result.0.now ∷ lines_of result.1.now }
-    ensures shorter { length result.1.now < length text.now }
-{
-    match parts(b'\n', text) {
-        Some(found) => found,
-        None => text.split_at(text.len()),
     }
 }

@@ -20,6 +20,7 @@ mod streams;
 // The lists of entries that are read.
 mod entry_buffer;
 mod entry_reader;
+mod text_parts;
 mod words;
 
 // What is printed.
@@ -40,7 +41,7 @@ mod laws;
 pub use command_line::{CommandLine, CommandName};
 pub use directory_command::DirectoryCommand;
 pub use directory_line::{DirectoryLine, directory_asked};
-pub use edit_spelling::{push_key, push_number};
+pub use edit_spelling::{push_file_words, push_key, push_number};
 pub use fault::Fault;
 pub use form::Form;
 pub use key_bounds::KeyBounds;
@@ -48,3 +49,4 @@ pub use laws::{one_list, one_word, printed_list};
 pub use program::{refuse_words, run};
 pub use refusal::Refusal;
 pub use spelling::{push_bytes, push_decimal};
+pub use text_parts::{first_line, parts};

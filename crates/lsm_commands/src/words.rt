@@ -1,24 +1,11 @@
 //! The words of a line.
 
 ghost use Rattle.std.specs.Prelude.{◌≡◌, ℕ, ◌<◌, ◌^◌, List, IfOk, IfSome, Some};
-ghost use Rattle.std.specs.Option.{option_map};
 ghost use Rattle.lsm_commands.specs.EntryList.{IsBytesWord};
-ghost use Rattle.lsm_commands.specs.EntryReading.{parts_at, digits_at, sequence_at, bytes_at, Reads};
+ghost use Rattle.lsm_commands.specs.EntryReading.{digits_at, sequence_at, bytes_at, Reads};
 
 use lsm_codec::{Bytes, MAX_SEQ};
 use std::alloc::{AllocError, Global};
-
-/// What stands before the first separator, and what stands after it.
-pub(crate) fn parts<'a>(separator: u8, text: &'a [u8]) -> Option<(&'a [u8], &'a [u8])>
-    ensures { option_map (λ p. (p.0.now, p.1.now)) result ≡ parts_at separator text.now }
-{
-    for i in 0..text.len() {
-        if text[i] == separator {
-            return Some((&text[..i], &text[i + 1..]));
-        }
-    }
-    None
-}
 
 #[tactic(auto, unfolding(crate::specs::EntryReading::digits_at))]
 fn digits(n: u64, word: &[u8]) -> Option<u64>

@@ -11,6 +11,7 @@ use Rattle.lsm_block.specs.Block.{Ascends}
 use Rattle.lsm_block.specs.Building.{after_last, last_key}
 use Rattle.lsm_block.proofs.CallerLemmas.{ascends-push}
 use Rattle.lsm_table.proofs.CallerLemmas.{key_cmp_total}
+use Rattle.lsm_shelf.proofs.CallerLemmas.{becomes_then}
 use Rattle.lsm_shelf.specs.Told.{Told, Becomes, Counted, putting}
 use Rattle.lsm_shelf.specs.declared.shelf_fault.ShelfFault.{ShelfFault}
 use Rattle.lsm_shelf.specs.declared.shelf_fault.ShelfFault.TheVariants as why
@@ -133,20 +134,10 @@ becomes_putting (n ∷ ns) t u b = becomes_putting ns (putting n t) (putting n u
   manifest = b.manifest;
   sent = b.sent;
   found = b.found;
+  starts = b.starts;
+  written = b.written;
+  forks = b.forks;
 })
-
-pub then_becomes : (a b c : Told) → Becomes a b → Becomes b c → Becomes a c
-then_becomes a b c p q = record {
-  place = q.place ∙ p.place;
-  faults = (let x = p.faults in let y = q.faults in omega arith);
-  misses = (let x = p.misses in let y = q.misses in omega arith);
-  puts = q.puts ∙ p.puts;
-  gone = q.gone ∙ p.gone;
-  listed = q.listed ∙ p.listed;
-  manifest = q.manifest ∙ p.manifest;
-  sent = q.sent ∙ p.sent;
-  found = q.found ∙ p.found;
-}
 
 putting_both : (ns ms : List ℕ) (t : Told) → putting_all (ns ++ ms) t ≡ putting_all ms (putting_all ns t)
 putting_both [] ms t = refl
@@ -159,7 +150,7 @@ pub puts_then : (a b c : List ℕ) (t u v : Told) → PutsMore a b t u → PutsM
 puts_then a b c t u v p q = record {
   more = p.more ++ q.more;
   grown = q.grown ∙ ap (λ (l : List ℕ). l ++ q.more) p.grown ∙ append_assoc a p.more q.more;
-  told = subst (λ (w : Told). Becomes w v) (sym (putting_both p.more q.more t)) (then_becomes (putting_all q.more (putting_all p.more t)) (putting_all q.more u) v (becomes_putting q.more (putting_all p.more t) u p.told) q.told);
+  told = subst (λ (w : Told). Becomes w v) (sym (putting_both p.more q.more t)) (becomes_then (putting_all q.more (putting_all p.more t)) (putting_all q.more u) v (becomes_putting q.more (putting_all p.more t) u p.told) q.told);
 }
 
 -- all that was put from the start

@@ -1,28 +1,15 @@
--- Elements of lists by their places, and lists without one.
-use Rattle.std.proofs.Common.{◌≡◌, ℕ, zero, suc, ◌+◌, ◌<◌, length, get_or, take, drop, List, [], ◌∷◌, ◌++◌, Option, Some, ap, refl, sym, ◌∙◌, subst, inl, inr, arith}
+-- Lists without an element, and the jobs and results of a script by their places.
+use Rattle.std.proofs.Common.{◌≡◌, ℕ, zero, suc, ◌+◌, ◌<◌, length, get_or, take, drop, List, [], ◌∷◌, ◌++◌, Option, Some, ap, refl, sym, ◌∙◌, subst, inl, arith}
 use Rattle.std.specs.Prelude.{IfSome, MatchOption}
 use Rattle.std.specs.List.{insert, remove}
-use Rattle.std.proofs.lemmas.List.{take_more}
 use Rattle.lsm_codec.specs.Lists.{Has}
-use Rattle.lsm_codec.proofs.CallerLemmas.{has_cases, has_right}
+use Rattle.lsm_codec.proofs.CallerLemmas.{has_right}
 use Rattle.lsm_merge.specs.Work.{Done, Work}
+use Rattle.lsm_live.proofs.CallerLemmas.{has_at}
 use Rattle.lsm_live.specs.Booked.{Booked, HasTicket, new_booked}
 use Rattle.lsm_state.specs.Held.{Held}
 use Rattle.lsm_state.specs.Reserving.{reserved}
 use Rattle.lsm_script.specs.Replies.{IsTakenOut}
-
-pub has_at : {X : Type 0} (xs : List X) (i : ℕ) (x : X) → i < length xs → x ≡ get_or xs i x → Has xs x
-has_at [] i x lt is = absurd (omega arith)
-has_at (y ∷ xs) zero x lt is = inl (sym is)
-has_at (y ∷ xs) (suc i) x lt is = inr (has_at xs i x (omega arith) is)
-
--- what holds of each element before a place, and of the one there
-pub each_more : {X : Type 0} (P : X → Type 0) (xs : List X) (i : ℕ) (x : X) → i < length xs → x ≡ get_or xs i x → ((y : X) → Has (take i xs) y → P y) → P x
-    → (y : X) → Has (take (i + 1) xs) y → P y
-each_more P xs i x lt is before here y h = elim (has_cases (take i xs) (get_or xs i x ∷ []) y (subst (λ zs. Has zs y) (take_more xs i x lt) h)) [
-  | inl old ↦ before y old
-  | inr new ↦ elim new [ inl e ↦ subst P (is ∙ e) here | inr none ↦ absurd none ]
-]
 
 -- a list is what stands before a place, the element there, and what stands after it
 pub parted_at : {X : Type 0} (xs : List X) (i : ℕ) (x : X) → i < length xs → x ≡ get_or xs i x → xs ≡ take i xs ++ x ∷ drop (suc i) xs

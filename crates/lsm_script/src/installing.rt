@@ -14,7 +14,7 @@ use std::alloc::Global;
 use std::sync::Wait;
 
 /// Installs the result of this ticket. A refused one is kept.
-#[tactic(auto, using(crate::proofs::Elements::taken_out, crate::proofs::Elements::put_back, crate::proofs::Elements::has_at))]
+#[tactic(auto, using(crate::proofs::Elements::taken_out, crate::proofs::Elements::put_back, lsm_live::proofs::CallerLemmas::has_at))]
 pub(crate) fn install<N: Boarded, S: Shelf, R: Wait>(
     rt: &R,
     alloc: Global,

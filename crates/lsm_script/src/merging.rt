@@ -55,7 +55,7 @@ fn merge_job<M: Noted<State<N, S>>, N: Boarded, S: Shelf, R: Wait>(
 }
 
 /// Merges the job of this ticket. The result is kept in place of the job.
-#[tactic(auto, using(crate::proofs::Elements::taken_out, crate::proofs::Elements::has_at))]
+#[tactic(auto, using(crate::proofs::Elements::taken_out, lsm_live::proofs::CallerLemmas::has_at))]
 pub(crate) fn merge<N: Boarded, S: Shelf, R: Wait>(
     rt: &R,
     alloc: Global,

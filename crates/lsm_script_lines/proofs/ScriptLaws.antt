@@ -3,7 +3,8 @@ use Rattle.std.proofs.Common.{◌≡◌, ℕ, ◌+◌, ◌-◌, ◌<◌, ◌≤�
 use Rattle.std.proofs.lemmas.List.{take_more, take_all}
 use Rattle.lsm_script.specs.declared.command.Command.{Command}
 use Rattle.lsm_commands.specs.EntryList.{lines_of}
-use Rattle.lsm_writer.proofs.CallerLemmas.{goes_on, lines_of-nil, next_is}
+use Rattle.lsm_commands.proofs.CallerLemmas.{lines_of-nil}
+use Rattle.lsm_writer.proofs.CallerLemmas.{goes_on, next_is}
 use Rattle.lsm_script_lines.specs.CommandLine.{AreCommandLines, IsScript, IsFirstBadLine, IsCommandLine}
 
 -- So many lines of the text were read, as these commands, and this is left of it.

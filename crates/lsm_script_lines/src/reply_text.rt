@@ -1,11 +1,10 @@
 //! Replies as text.
 
 ghost use Rattle.std.specs.Prelude.{◌≡◌, ◌++◌, OnOk, decimal};
-ghost use Rattle.lsm_commands.specs.ManifestPrinting.{file_words};
 ghost use Rattle.lsm_script_lines.specs.ReplyText.{ingested_text, line_of, listed_line, listed_lines, numbers_text, replies_text, reply_text, reserved_text, two_numbers};
 
 use crate::refusal_text::push_refused;
-use lsm_commands::{push_bytes, push_decimal, push_key};
+use lsm_commands::{push_bytes, push_decimal, push_file_words};
 use lsm_manifest::FileMeta;
 use lsm_script::{Reply, Reserved};
 use lsm_state::Ingested;
@@ -74,20 +73,6 @@ fn push_reserved(
     push_numbers(out, reserved.inputs.as_slice())
 }
 
-/// Appends the words of a file.
-#[tactic(auto, unfolding(lsm_commands::specs::ManifestPrinting::file_words))]
-fn push_words(out: &mut Vec<u8>, file: &FileMeta) -> Result<(), AllocError>
-    ensures { OnOk result (out.new.items ≡ out.old.items ++ file_words file.now) }
-{
-    push_decimal(out, file.number)?;
-    out.push(b' ')?;
-    push_decimal(out, file.size)?;
-    out.push(b' ')?;
-    push_key(out, file.smallest.as_slice())?;
-    out.push(b' ')?;
-    push_key(out, file.largest.as_slice())
-}
-
 /// Appends the line of a file.
 #[tactic(auto, unfolding(crate::specs::ReplyText::listed_line))]
 fn push_file(out: &mut Vec<u8>, file: &(u8, FileMeta)) -> Result<(), AllocError>
@@ -95,7 +80,7 @@ fn push_file(out: &mut Vec<u8>, file: &(u8, FileMeta)) -> Result<(), AllocError>
 {
     push_decimal(out, u64::from(file.0))?;
     out.push(b' ')?;
-    push_words(out, &file.1)?;
+    push_file_words(out, &file.1)?;
     out.push(b'\n')?;
     Ok(())
 }

@@ -7,8 +7,9 @@ ghost use Rattle.lsm_script_lines.specs.Played.{IsInputFault, IsTextFault};
 use crate::command_line::command_in;
 use crate::input::text_of;
 use crate::watched::Watched;
+use lsm_commands::first_line;
 use lsm_script::Command;
-use lsm_writer::{WriterFault, first_line};
+use lsm_writer::WriterFault;
 use std::alloc::Global;
 use std::io::Read;
 

@@ -20,4 +20,5 @@ pub use check::{CheckFault, shapes_in_order};
 pub use lsm_levels::{KeyRange, Layout, laws, layout_of};
 pub use lsm_merger::{FileFault, Merger, Pair, Run, Scan, against_age};
 pub use lsm_reader::{Blocks, Direct, OpenTable};
+pub use read::{high_of, low_of};
 pub use version::Version;

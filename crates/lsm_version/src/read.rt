@@ -9,3 +9,5 @@ pub(crate) mod runs;
 mod scan;
 pub(crate) mod unread;
 pub(crate) mod user_range;
+
+pub use user_range::{high_of, low_of};

@@ -5,7 +5,7 @@ use Rattle.lsm_batch.specs.declared.write.Write.{Write}
 use Rattle.lsm_commands.specs.EntryList.{lines_of}
 use Rattle.lsm_commands.specs.declared.form.Form.{Form}
 use Rattle.lsm_writer.specs.BatchText.{AreWriteLines, IsBatchText, IsFirstBadLine, IsWriteLine}
-use Rattle.lsm_writer.proofs.PartLaws.{lines_of-nil}
+use Rattle.lsm_commands.proofs.CallerLemmas.{lines_of-nil}
 
 -- So many lines of the text were read, as this batch, and this is left of it.
 pub record HasRead (form : Form) (text : List ℕ) (n : ℕ) (ws : List Write) (rest : List ℕ) : Type 0 where

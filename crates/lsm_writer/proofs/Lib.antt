@@ -1,4 +1,3 @@
-mod PartLaws
 mod WordLaws
 mod LineLaws
 mod BatchLaws

@@ -6,7 +6,7 @@ use Rattle.lsm_commands.specs.EntryReading.{parts_at}
 use Rattle.lsm_commands.specs.Spelling.{IsWord}
 use Rattle.lsm_commands.specs.declared.form.Form.{Form}
 use Rattle.lsm_writer.specs.BatchText.{IsValuePart, IsWriteLine, Spell}
-use Rattle.lsm_writer.proofs.PartLaws.{HasNo-append, parts_again, parts_none, parts_take}
+use Rattle.lsm_commands.proofs.CallerLemmas.{HasNo-append, parts_again, parts_none, parts_take}
 use Rattle.lsm_writer.proofs.WordLaws.{equals_sign, exclamation, word-HasNo}
 
 -- ---- the parts of a line

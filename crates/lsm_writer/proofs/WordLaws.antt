@@ -4,8 +4,7 @@ use Rattle.std.specs.Prelude.{All}
 use Rattle.std.proofs.lemmas.List.Elements.{All-head, All-tail}
 use Rattle.lsm_commands.specs.Spelling.{IsClear, IsWord}
 use Rattle.lsm_commands.specs.declared.form.Form.{Form}
-use Rattle.lsm_commands.proofs.CallerLemmas.{word_clear}
-use Rattle.lsm_writer.proofs.PartLaws.{HasNo}
+use Rattle.lsm_commands.proofs.CallerLemmas.{HasNo, word_clear}
 
 -- it stands between words, and in none
 abbrev pub IsMark : ℕ → Type 0

@@ -4,11 +4,10 @@ ghost use Rattle.std.specs.Prelude.{◌≡◌, ◌++◌, ◌∷◌, ◌≤◌, [
 ghost use Rattle.lsm_writer.specs.BatchText.{IsBatchText, IsTextFault};
 
 use crate::input::read_input;
-use crate::parts::first_line;
 use crate::write_line::write_in;
 use crate::writer_fault::WriterFault;
 use lsm_batch::{Batch, Write};
-use lsm_commands::Form;
+use lsm_commands::{Form, first_line};
 use std::alloc::{AllocError, Global};
 use std::io::Read;
 

@@ -13,7 +13,6 @@ mod writing_line;
 mod batch_text;
 mod input;
 mod laws;
-mod parts;
 mod write_line;
 
 // What is done with a directory.
@@ -32,7 +31,6 @@ pub use ends::{Ends, make_ends};
 pub use input::read_input;
 pub use laws::one_batch;
 pub use merge_text::{cause_of_merge, of_merge};
-pub use parts::first_line;
 pub use program::{ingest, open_shelf, run};
 pub use refusals::of_state;
 pub use write_line::{bytes_in, write_in};

@@ -5,10 +5,9 @@ ghost use Rattle.lsm_batch.specs.declared.write.Write.{Write};
 ghost use Rattle.lsm_commands.specs.Spelling.{IsWord};
 ghost use Rattle.lsm_writer.specs.BatchText.{IsWriteLine, Spell};
 
-use crate::parts::parts;
 use lsm_batch::Write;
 use lsm_codec::Bytes;
-use lsm_commands::Form;
+use lsm_commands::{Form, parts};
 use std::alloc::{AllocError, Global};
 
 /// The bytes that a word spells. None for another word.

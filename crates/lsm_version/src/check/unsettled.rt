@@ -13,7 +13,7 @@ ghost use Rattle.lsm_version.specs.Versions.{file_of, files_from, level_in};
 use crate::check::ages::is_among;
 use crate::check::reaching::reaching_tables;
 use crate::check::sequences::Sequences;
-use crate::read::user_range::{begins_by, first_reaching, high, low};
+use crate::read::user_range::{begins_by, first_reaching, high_of, low_of};
 use lsm_table::{Naming, Registry, Shelf, TableRef};
 use std::alloc::{AllocError, Global};
 
@@ -43,8 +43,8 @@ fn is_unsettled<N: Naming, S: Shelf>(
     let number = registry.record(table).number();
     let its_number = registry.record(other).number();
     let shallower = is_shallower(level, number, deeper, its_number);
-    let begins = begins_by(registry, table, high(registry, other));
-    let ends = begins_by(registry, other, high(registry, table));
+    let begins = begins_by(registry, table, high_of(registry, other));
+    let ends = begins_by(registry, other, high_of(registry, table));
     shallower && begins && ends && own.least <= its.greatest
 }
 
@@ -117,8 +117,8 @@ fn compare_with_level<N: Naming, S: Shelf>(
     requires rising { 1 ≤ deeper → IsRising tables.now }
     ensures { OnOk result (Adds (OneAgainst (file_of level table.now) deeper tables.now) numbers.old.items numbers.new.items) }
 {
-    let first = first_of(registry, deeper, tables, low(registry, table));
-    let end = high(registry, table);
+    let first = first_of(registry, deeper, tables, low_of(registry, table));
+    let end = high_of(registry, table);
     for index in first..tables.len() {
         let other = &tables[index];
         if deeper > 0 && !begins_by(registry, other, end) {

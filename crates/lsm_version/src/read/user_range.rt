@@ -15,7 +15,7 @@ fn user_of(key: &[u8]) -> &[u8]
 }
 
 /// The least user key of a table.
-pub(crate) fn low<'a, N: Naming, S: Shelf>(
+pub fn low_of<'a, N: Naming, S: Shelf>(
     registry: &'a Registry<S::Receipt>,
     table: &TableRef<N, S>,
 ) -> &'a [u8]
@@ -26,7 +26,7 @@ pub(crate) fn low<'a, N: Naming, S: Shelf>(
 }
 
 /// The greatest user key of a table.
-pub(crate) fn high<'a, N: Naming, S: Shelf>(
+pub fn high_of<'a, N: Naming, S: Shelf>(
     registry: &'a Registry<S::Receipt>,
     table: &TableRef<N, S>,
 ) -> &'a [u8]
@@ -45,7 +45,7 @@ pub(crate) fn begins_by<N: Naming, S: Shelf>(
     requires { registry.now ≡ N.registry }
     ensures { result ≡ begins_by table.now user.now }
 {
-    is_at_most(low(registry, table), user)
+    is_at_most(low_of(registry, table), user)
 }
 
 /// Whether the greatest user key of a table is at least this one.
@@ -57,7 +57,7 @@ pub(crate) fn reaches<N: Naming, S: Shelf>(
     requires { registry.now ≡ N.registry }
     ensures { result ≡ reaches table.now user.now }
 {
-    is_at_most(user, high(registry, table))
+    is_at_most(user, high_of(registry, table))
 }
 
 /// How many tables of a level do not reach a user key, where the level's tables rise.

@@ -1,7 +1,8 @@
 use Rattle.std.proofs.Common.{◌<◌, length, arith}
 use Rattle.lsm_merge.specs.Inputs.{files_in, numbers_of, streams}
 use Rattle.lsm_merge.proofs.InputLaws.{cause_more, entries_more, files_more, number_one, one_sorted, whole_one}
-use Rattle.lsm_merge.proofs.PlaceLaws.{becomes_rises, cause_after, then_becomes}
+use Rattle.lsm_shelf.proofs.CallerLemmas.{becomes_then}
+use Rattle.lsm_merge.proofs.PlaceLaws.{becomes_rises, cause_after}
 use Rattle.lsm_merge.proofs.inputs.push_each.Goals as goal
 
 pub push_run-requires-clause-whole : goal.push_run-requires-clause-whole
@@ -22,7 +23,7 @@ pub loop-table-preserved : goal.loop-table-preserved
 loop-table-preserved g c =
     let inside : c.loop-table.table-index < length c.args.tables.now = omega arith in
     record {
-      told = then_becomes (g.S.Shelf.told c.args.shelf.now) (g.S.Shelf.told c.loop-table.shelf) (g.S.Shelf.told c.push_run.new.shelf) c.loop-table.invariant.told c.push_run.ensures.told;
+      told = becomes_then (g.S.Shelf.told c.args.shelf.now) (g.S.Shelf.told c.loop-table.shelf) (g.S.Shelf.told c.push_run.new.shelf) c.loop-table.invariant.told c.push_run.ensures.told;
       entries = λ honest.
           entries_more c.args.tables.now c.loop-table.table-index c.table-item.result c.from_ref.result.now (streams c.args.runs.now.items) (streams c.loop-table.runs.items) (streams c.push_run.new.runs.items)
           inside c.table-item.is c.from_ref.ensures.value (c.loop-table.invariant.entries honest) (c.in-Ok.ensures.entries honest);

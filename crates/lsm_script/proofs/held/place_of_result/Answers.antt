@@ -1,6 +1,6 @@
 use Rattle.std.proofs.Common.{◌≡◌, ◌∙◌, ap}
 use Rattle.lsm_merge.specs.Work.{Done, Work}
-use Rattle.lsm_script.proofs.Elements.{each_more}
+use Rattle.lsm_live.proofs.CallerLemmas.{each_more}
 use Rattle.lsm_script.proofs.held.place_of_result.Goals as goal
 
 pub loop-i-preserved : goal.loop-i-preserved

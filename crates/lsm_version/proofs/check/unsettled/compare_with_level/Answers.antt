@@ -8,12 +8,12 @@ use Rattle.lsm_version.proofs.check.unsettled.compare_with_level.Goals as goal
 
 pub loop-index-init : goal.loop-index-init
 loop-index-init g c = against_start c.args.level c.args.deeper c.args.table.now c.args.tables.now c.first_of-first.result c.args.numbers.now.items
-    (λ j d lt. subst (λ (k : UserKey). reaches (get_or c.args.tables.now j d) k ≡ false) c.low.ensures (c.first_of-first.ensures.before j d lt))
+    (λ j d lt. subst (λ (k : UserKey). reaches (get_or c.args.tables.now j d) k ≡ false) c.low_of.ensures (c.first_of-first.ensures.before j d lt))
 
 pub returns-then-not-begins_by : goal.returns-then-not-begins_by
 returns-then-not-begins_by g c =
     against_rest c.args.level c.args.deeper c.args.table.now c.args.tables.now c.loop-index.index c.index-tables-index.result c.args.numbers.now.items c.loop-index.numbers.items
-    (c.requires.rising (omega arith)) c.loop-index-test.true c.index-tables-index.is (ap (begins_by c.index-tables-index.result) (sym c.high-end.ensures) ∙ sym c.begins_by.ensures ∙ c.if-not-begins_by.true) c.loop-index.invariant
+    (c.requires.rising (omega arith)) c.loop-index-test.true c.index-tables-index.is (ap (begins_by c.index-tables-index.result) (sym c.high_of-end.ensures) ∙ sym c.begins_by.ensures ∙ c.if-not-begins_by.true) c.loop-index.invariant
 
 pub bounds-sequences-index : goal.bounds-sequences-index
 bounds-sequences-index g c = let long = length_beside c.args.tables.now c.args.sequences.now c.requires.beside in let lt = c.loop-index-test.true in omega arith

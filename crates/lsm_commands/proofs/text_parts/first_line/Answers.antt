@@ -1,8 +1,8 @@
 use Rattle.std.proofs.Common.{◌∷◌, length, ap, sym, ◌∙◌, arith, rules}
 use Rattle.std.proofs.lemmas.List.{length-append, take_all, drop_all}
 use Rattle.lsm_commands.specs.EntryList.{lines_of}
-use Rattle.lsm_writer.proofs.PartLaws.{parts_take, first_line_is, only_line_is}
-use Rattle.lsm_writer.proofs.parts.first_line.Goals as goal
+use Rattle.lsm_commands.proofs.PartLaws.{parts_take, first_line_is, only_line_is}
+use Rattle.lsm_commands.proofs.text_parts.first_line.Goals as goal
 
 pub returns-in-Some-clause-lines : goal.returns-in-Some-clause-lines
 returns-in-Some-clause-lines c = first_line_is c.args.text.now (c.in-Some.found.0.now, c.in-Some.found.1.now) (sym c.in-Some.ensures)

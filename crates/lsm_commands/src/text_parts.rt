@@ -6,7 +6,7 @@ ghost use Rattle.lsm_commands.specs.EntryList.{lines_of};
 ghost use Rattle.lsm_commands.specs.EntryReading.{parts_at};
 
 /// What stands before the first separator, and what stands after it.
-pub(crate) fn parts<'a>(separator: u8, text: &'a [u8]) -> Option<(&'a [u8], &'a [u8])>
+pub fn parts<'a>(separator: u8, text: &'a [u8]) -> Option<(&'a [u8], &'a [u8])>
     ensures { option_map (λ p. (p.0.now, p.1.now)) result ≡ parts_at separator text.now }
 {
     for i in 0..text.len() {

@@ -1,7 +1,7 @@
 use Rattle.std.proofs.Common.{◌+◌, ◌∙◌, sym, length, take, drop, ap, arith, rules, ◌-◌, Some, ℕ, List}
 use Rattle.std.proofs.lemmas.List.{take_all, length-drop}
-use Rattle.lsm_writer.proofs.PartLaws.{step_found, step_other, step_end}
-use Rattle.lsm_writer.proofs.parts.parts.Goals as goal
+use Rattle.lsm_commands.proofs.PartLaws.{step_found, step_other, step_end}
+use Rattle.lsm_commands.proofs.text_parts.parts.Goals as goal
 
 pub returns-then-text-i : goal.returns-then-text-i
 returns-then-text-i c =
