@@ -3,7 +3,7 @@ use Rattle.std.specs.Prelude.{◌≡◌, ◌≢◌, ℕ, ◌⊎◌, false, List,
 use Rattle.std.specs.Io.KnownBytes.{Appends, Keeps}
 use Rattle.atomic_table.specs.Seated.{TableId}
 use Rattle.lsm_shelf.specs.declared.shelf_fault.ShelfFault.{ShelfFault}
-use Rattle.lsm_shelf.specs.Told.{Told, Becomes, NotNamed}
+use Rattle.lsm_shelf.specs.Told.{Told, Forked, NotNamed}
 use Rattle.lsm_state.specs.Collecting.{AreCollected, IsCollectRefusal, IsCountedOnce, SameCounts}
 use Rattle.lsm_state.specs.Held.{Held, IsLawfulState}
 use Rattle.lsm_state.specs.Opening.{IsOpenRefusal, IsReadOnce}
@@ -53,7 +53,7 @@ pub record IsOpened (Honest : Type 0) (board : TableId) (was is : Told) : Type 0
   pub mid : Told
   pub opened : IsReopened Honest before was mid
   pub on : before.slots.board.board ≡ board
-  pub forked : Becomes mid is
+  pub forked : Forked mid is
 
 -- The tables that are listed and that a state with this board does not keep were removed. It is a lawful one, which may write.
 pub record IsSwept (Honest : Type 0) (board : TableId) (was is : Told) : Type 0 where

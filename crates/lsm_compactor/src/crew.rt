@@ -1,7 +1,7 @@
 //! The store, and the shelves of its workers.
 
 ghost use Rattle.std.specs.Prelude.{◌≡◌, All, IfErr, IfOk, vec_len};
-ghost use Rattle.lsm_shelf.specs.Told.{Becomes, NotNamed};
+ghost use Rattle.lsm_shelf.specs.Told.{Forked, NotNamed};
 ghost use Rattle.lsm_store.specs.Readers.{SeatsPinners};
 
 use lsm_slots::Boarded;
@@ -11,7 +11,7 @@ use lsm_table::{Shelf, ShelfFault};
 use std::alloc::Global;
 
 /// So many forks of a shelf.
-#[tactic(auto, using(lsm_shelf::proofs::CallerLemmas::becomes_then, lsm_shelf::proofs::CallerLemmas::becomes_same))]
+#[tactic(auto, using(lsm_shelf::proofs::CallerLemmas::forked_then, lsm_shelf::proofs::CallerLemmas::forked_none, lsm_shelf::proofs::CallerLemmas::forked_once, lsm_shelf::proofs::CallerLemmas::forked_same, lsm_shelf::proofs::CallerLemmas::forked_place))]
 fn forks<N: Boarded, S: Shelf>(
     alloc: Global,
     shelf: &mut S,
@@ -20,7 +20,7 @@ fn forks<N: Boarded, S: Shelf>(
     requires { (S.told shelf.old).place ≡ N.place }
     ensures here { IfOk result (λ v. All (λ s. (S.told s).place ≡ N.place) v.items) }
     ensures count { IfOk result (λ v. vec_len v ≡ count) }
-    ensures told { Becomes (S.told shelf.old) (S.told shelf.new) }
+    ensures told { Forked (S.told shelf.old) (S.told shelf.new) }
     ensures cause { IfErr result NotNamed }
 {
     let mut forks = Vec::new(alloc);
@@ -40,6 +40,7 @@ pub(crate) struct Crew<N: Boarded, S: Shelf> {
 
 impl<N: Boarded, S: Shelf> Crew<N, S> {
     /// The store of a state, and so many forks of its shelf.
+    #[tactic(auto, using(lsm_shelf::proofs::CallerLemmas::forked_then, lsm_shelf::proofs::CallerLemmas::forked_once, lsm_shelf::proofs::CallerLemmas::forked_same, lsm_shelf::proofs::CallerLemmas::forked_place))]
     pub(crate) fn new(
         alloc: Global,
         state: State<N, S>,
@@ -50,7 +51,7 @@ impl<N: Boarded, S: Shelf> Crew<N, S> {
         requires seats { SeatsPinners state }
         ensures here { IfOk result (λ c. All (λ s. (S.told s).place ≡ N.place) c.shelves.items) }
         ensures count { IfOk result (λ c. vec_len c.shelves ≡ workers) }
-        ensures told { Becomes (S.told shelf.old) (S.told shelf.new) }
+        ensures told { Forked (S.told shelf.old) (S.told shelf.new) }
         ensures cause { IfErr result NotNamed }
     {
         let shelves = forks::<N, S>(alloc, shelf, workers)?;

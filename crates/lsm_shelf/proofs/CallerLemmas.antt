@@ -1,12 +1,12 @@
 -- Calls of a shelf one after another.
-use Rattle.std.proofs.Common.{◌≡◌, refl, ◌∙◌, arith}
-use Rattle.lsm_shelf.specs.Told.{Told, Becomes, Counted}
+use Rattle.std.proofs.Common.{◌≡◌, ◌+◌, refl, ◌∙◌, arith}
+use Rattle.lsm_shelf.specs.Told.{Told, Becomes, Counted, Forked, forking}
 use Rattle.lsm_shelf.specs.declared.shelf_fault.ShelfFault.{ShelfFault}
 use Rattle.lsm_shelf.specs.declared.shelf_fault.ShelfFault.TheVariants as why
 
 -- no call
 pub becomes_same : (t : Told) → Becomes t t
-becomes_same t = record { place = refl; faults = omega arith; misses = omega arith; puts = refl; gone = refl; listed = refl; manifest = refl; sent = refl; found = refl }
+becomes_same t = record { place = refl; faults = omega arith; misses = omega arith; puts = refl; gone = refl; listed = refl; manifest = refl; sent = refl; found = refl; starts = refl; written = refl; forks = refl }
 
 pub becomes_then : (a b c : Told) → Becomes a b → Becomes b c → Becomes a c
 becomes_then a b c p q = record {
@@ -19,6 +19,9 @@ becomes_then a b c p q = record {
   manifest = q.manifest ∙ p.manifest;
   sent = q.sent ∙ p.sent;
   found = q.found ∙ p.found;
+  starts = q.starts ∙ p.starts;
+  written = q.written ∙ p.written;
+  forks = q.forks ∙ p.forks;
 }
 
 pub place_then : (a b : Told) → Becomes a b → b.place ≡ a.place
@@ -37,3 +40,45 @@ counted_before why.OutOfMemory a b c p q = tt
 counted_before why.Device a b c p q = let x = q.faults in omega arith
 counted_before why.Missing a b c p q = let x = q.misses in omega arith
 counted_before (why.Taken n) a b c p q = let x = q.misses in omega arith
+
+-- ---- forks
+
+pub forked_none : (t : Told) → Forked t t
+forked_none t = (0, record { place = refl; faults = omega arith; misses = omega arith; puts = refl; gone = refl; listed = refl; manifest = refl; sent = refl; found = refl; starts = refl; written = refl; forks = omega arith })
+
+-- one fork
+pub forked_once : (a b : Told) → Becomes (forking 1 a) b → Forked a b
+forked_once a b p = (1, p)
+
+-- other calls give none
+pub forked_same : (a b : Told) → Becomes a b → Forked a b
+forked_same a b p = (0, record { place = p.place; faults = p.faults; misses = p.misses; puts = p.puts; gone = p.gone; listed = p.listed; manifest = p.manifest; sent = p.sent; found = p.found; starts = p.starts; written = p.written; forks = (let x = p.forks in omega arith) })
+
+pub forked_then : (a b c : Told) → Forked a b → Forked b c → Forked a c
+forked_then a b c p q = (
+  p.0 + q.0,
+  record {
+    place = q.1.place ∙ p.1.place;
+    faults = (let x = p.1.faults in let y = q.1.faults in omega arith);
+    misses = (let x = p.1.misses in let y = q.1.misses in omega arith);
+    puts = q.1.puts ∙ p.1.puts;
+    gone = q.1.gone ∙ p.1.gone;
+    listed = q.1.listed ∙ p.1.listed;
+    manifest = q.1.manifest ∙ p.1.manifest;
+    sent = q.1.sent ∙ p.1.sent;
+    found = q.1.found ∙ p.1.found;
+    starts = q.1.starts ∙ p.1.starts;
+    written = q.1.written ∙ p.1.written;
+    forks = (let x = p.1.forks in let y = q.1.forks in omega arith);
+  },
+)
+
+pub forked_place : (a b : Told) → Forked a b → b.place ≡ a.place
+forked_place a b p = p.1.place
+
+-- a refusal after forks
+pub counted_after_forks : (e : ShelfFault) (a b c : Told) → Forked a b → Counted e b c → Counted e a c
+counted_after_forks why.OutOfMemory a b c p q = tt
+counted_after_forks why.Device a b c p q = let x = p.1.faults in omega arith
+counted_after_forks why.Missing a b c p q = let x = p.1.misses in omega arith
+counted_after_forks (why.Taken n) a b c p q = let x = p.1.misses in omega arith

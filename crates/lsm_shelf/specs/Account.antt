@@ -1,5 +1,5 @@
 -- What a shelf keeps of what it was told, and how contracts see it (this project's rule).
-use Rattle.std.specs.Prelude.{ℕ, List, [], ◌∷◌, Option, None, Some, Result, Ok, Err}
+use Rattle.std.specs.Prelude.{ℕ, List, [], ◌∷◌, length, Option, None, Some, Result, Ok, Err}
 use Rattle.lsm_shelf.specs.declared.account.Account.{Account}
 use Rattle.lsm_shelf.specs.declared.shelf_fault.ShelfFault.{ShelfFault}
 use Rattle.lsm_shelf.specs.declared.shelf_fault.ShelfFault.TheVariants.{OutOfMemory, Device, Missing, Taken}
@@ -31,6 +31,9 @@ told_in p a = record {
   manifest = number_in a.manifest.numbers;
   sent = a.sent.numbers;
   found = found_in a.found.numbers;
+  starts = a.starts.numbers;
+  written = a.written.numbers;
+  forks = length a.forks.numbers;
 }
 
 -- the counts after this answer

@@ -24,10 +24,16 @@ pub record Told : Type 0 where
   pub sent : List ℕ
   -- number and bytes of the manifest that it last read
   pub found : Option (ℕ × List ℕ)
+  -- the numbers of the manifests that it started, the last first
+  pub starts : List ℕ
+  -- all bytes that it wrote to manifests, at their start or behind it
+  pub written : List ℕ
+  -- how many forks it gave
+  pub forks : ℕ
 
 -- a value to which nothing was told yet
 abbrev pub fresh : Place → Told
-fresh p = record { place = p; faults = 0; misses = 0; puts = []; gone = []; listed = None; manifest = None; sent = []; found = None }
+fresh p = record { place = p; faults = 0; misses = 0; puts = []; gone = []; listed = None; manifest = None; sent = []; found = None; starts = []; written = []; forks = 0 }
 
 -- the second is the first, but for counts, which do not fall
 pub record Becomes (old new : Told) : Type 0 where
@@ -40,6 +46,9 @@ pub record Becomes (old new : Told) : Type 0 where
   pub manifest : new.manifest ≡ old.manifest
   pub sent : new.sent ≡ old.sent
   pub found : new.found ≡ old.found
+  pub starts : new.starts ≡ old.starts
+  pub written : new.written ≡ old.written
+  pub forks : new.forks ≡ old.forks
 
 -- it put a table of this number
 abbrev pub putting : ℕ → Told → Told
@@ -55,15 +64,23 @@ listing numbers t = record t { listed = Some numbers }
 
 -- it started the manifest of this number, with these bytes
 abbrev pub sending : ℕ → List ℕ → Told → Told
-sending number bytes t = record t { manifest = Some number; sent = bytes }
+sending number bytes t = record t { manifest = Some number; sent = bytes; starts = number ∷ t.starts; written = t.written ++ bytes }
 
 -- it put these bytes behind those of the manifest
 abbrev pub appending : List ℕ → Told → Told
-appending bytes t = record t { sent = t.sent ++ bytes }
+appending bytes t = record t { sent = t.sent ++ bytes; written = t.written ++ bytes }
 
 -- it read the manifest, which has this number and these bytes
 abbrev pub finding : ℕ → List ℕ → Told → Told
 finding number bytes t = record t { manifest = Some number; sent = bytes; found = Some (number, bytes) }
+
+-- it gave so many forks
+abbrev pub forking : ℕ → Told → Told
+forking count t = record t { forks = t.forks + count }
+
+-- it gave forks, and nothing else was told but counts
+abbrev pub Forked : Told → Told → Type 0
+Forked old new = (count : ℕ) × Becomes (forking count old) new
 
 -- What a removal leaves: where memory was refused, nothing was asked yet
 abbrev pub removed_by : {T : Type 0} → Result T ShelfFault → ℕ → Told → Told

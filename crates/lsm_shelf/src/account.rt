@@ -1,6 +1,6 @@
 //! What a shelf's value was told, kept without memory.
 
-ghost use Rattle.std.specs.Prelude.{◌≡◌, ◌≤◌, ◌∷◌, ◌++◌, [], IfErr};
+ghost use Rattle.std.specs.Prelude.{◌≡◌, ◌+◌, ◌≤◌, ◌∷◌, ◌++◌, [], IfErr, length};
 ghost use Rattle.lsm_shelf.specs.Account.{counted_by, told_in};
 ghost use Rattle.lsm_shelf.specs.Told.{Place, Counted, CountedBy};
 
@@ -18,6 +18,9 @@ pub(crate) struct Account {
     pub(crate) manifest: Tag,
     pub(crate) sent: Tag,
     pub(crate) found: Tag,
+    pub(crate) starts: Tag,
+    pub(crate) written: Tag,
+    pub(crate) forks: Tag,
 }
 
 /// One number.
@@ -81,6 +84,13 @@ pub(crate) fn tag_of_both(front: &Tag, back: &Tag) -> Tag
     Tag::of::<Pair, Joined>(&Pair { front, back })
 }
 
+/// A list that is longer by one.
+pub(crate) fn tag_of_more(tag: &Tag) -> Tag
+    ensures { length result.numbers ≡ length tag.now.numbers + 1 }
+{
+    tag_of_both(&tag_of_number(0), tag)
+}
+
 impl Account {
     /// A value to which nothing was told yet.
     pub(crate) fn new() -> Account
@@ -92,6 +102,9 @@ impl Account {
         ensures manifest { result.manifest.numbers ≡ [] }
         ensures sent { result.sent.numbers ≡ [] }
         ensures found { result.found.numbers ≡ [] }
+        ensures starts { result.starts.numbers ≡ [] }
+        ensures written { result.written.numbers ≡ [] }
+        ensures forks { result.forks.numbers ≡ [] }
     {
         Account {
             faults: 0,
@@ -102,6 +115,9 @@ impl Account {
             manifest: Tag::empty(),
             sent: Tag::empty(),
             found: Tag::empty(),
+            starts: Tag::empty(),
+            written: Tag::empty(),
+            forks: Tag::empty(),
         }
     }
 
@@ -117,6 +133,9 @@ impl Account {
         ensures manifest { self.new.manifest ≡ self.old.manifest }
         ensures sent { self.new.sent ≡ self.old.sent }
         ensures found { self.new.found ≡ self.old.found }
+        ensures starts { self.new.starts ≡ self.old.starts }
+        ensures written { self.new.written ≡ self.old.written }
+        ensures forks { self.new.forks ≡ self.old.forks }
         ensures counts { (p : Place) → CountedBy result (told_in p self.old) (told_in p self.new) }
         ensures cause { IfErr result (λ e. (p : Place) → Counted e (told_in p self.old) (told_in p self.new)) }
     {

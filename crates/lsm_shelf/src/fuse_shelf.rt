@@ -4,7 +4,9 @@ ghost use Rattle.std.specs.Prelude.{◌≡◌};
 ghost use Rattle.lsm_shelf.specs.Account.{told_in};
 ghost use Rattle.lsm_shelf.specs.Told.{NotTaken, fresh};
 
-use crate::account::{Account, tag_of_both, tag_of_bytes, tag_of_number, tag_of_numbers};
+use crate::account::{
+    Account, tag_of_both, tag_of_bytes, tag_of_more, tag_of_number, tag_of_numbers,
+};
 use crate::fuse::Fuse;
 use crate::shelf::Shelf;
 use crate::shelf_fault::ShelfFault;
@@ -165,6 +167,8 @@ impl<S: Shelf> Shelf for FuseShelf<S> {
         self.account.count(outcome)?;
         self.account.manifest = tag_of_number(number);
         self.account.sent = tag_of_bytes(bytes);
+        self.account.starts = tag_of_both(&self.account.manifest, &self.account.starts);
+        self.account.written = tag_of_both(&self.account.written, &self.account.sent);
         Ok(())
     }
 
@@ -183,7 +187,9 @@ impl<S: Shelf> Shelf for FuseShelf<S> {
             outcome => outcome,
         };
         self.account.count(outcome)?;
-        self.account.sent = tag_of_both(&self.account.sent, &tag_of_bytes(bytes));
+        let appended = tag_of_bytes(bytes);
+        self.account.sent = tag_of_both(&self.account.sent, &appended);
+        self.account.written = tag_of_both(&self.account.written, &appended);
         Ok(())
     }
 
@@ -194,6 +200,7 @@ impl<S: Shelf> Shelf for FuseShelf<S> {
         }
         let outcome = self.inner.fork(alloc);
         let inner = self.account.count(outcome)?;
+        self.account.forks = tag_of_more(&self.account.forks);
         Ok(FuseShelf {
             inner,
             fuse: Fuse::never(),

@@ -15,7 +15,7 @@ use std::sync::Wait;
 /// `OutOfMemory` with a count that rose (`cause`), and that it counted its answer exactly (`counts`).
 pub trait Shelf: Drop + Send + Sync {
     ghost use Rattle.lsm_shelf.specs.declared.shelf_fault.ShelfFault.{ShelfFault};
-    ghost use Rattle.lsm_shelf.specs.Told.{Place, Told, Becomes, Counted, CountedBy, NotTaken, NotNamed, TakenIs, putting, removed_by, listing, sending, appending, finding, fresh};
+    ghost use Rattle.lsm_shelf.specs.Told.{Place, Told, Becomes, Counted, CountedBy, NotTaken, NotNamed, TakenIs, putting, removed_by, listing, sending, appending, finding, forking, fresh};
 
     /// What stands for an image that was put or loaded.
     type Receipt: Slip;
@@ -127,10 +127,11 @@ pub trait Shelf: Drop + Send + Sync {
         ensures cause { IfErr result (λ e. NotTaken e × Counted e (told self.old) (told self.new)) }
         ensures counts { CountedBy result (told self.old) (told self.new) };
 
-    /// Another value on the same contents, to which nothing was told yet.
+    /// Another value on the same contents, to which nothing was told yet; this one has given one fork more.
     fn fork(&mut self, alloc: Global) -> Result<Self, ShelfFault>
         ensures fork { IfOk result (λ s. told s ≡ fresh (told self.old).place) }
-        ensures told { Becomes (told self.old) (told self.new) }
+        ensures ok { OnOk result (Becomes (forking 1 (told self.old)) (told self.new)) }
+        ensures err { OnErr result (Becomes (told self.old) (told self.new)) }
         ensures cause { IfErr result (λ e. NotNamed e × Counted e (told self.old) (told self.new)) }
         ensures counts { CountedBy result (told self.old) (told self.new) };
 

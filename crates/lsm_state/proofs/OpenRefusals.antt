@@ -45,6 +45,9 @@ then_listed ns a b c x y = record {
   manifest = y.manifest ∙ x.manifest;
   sent = y.sent ∙ x.sent;
   found = y.found ∙ x.found;
+  starts = y.starts ∙ x.starts;
+  written = y.written ∙ x.written;
+  forks = y.forks ∙ x.forks;
 }
 
 -- reading a manifest counts nothing

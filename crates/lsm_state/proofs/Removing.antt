@@ -2,13 +2,11 @@
 use Rattle.std.proofs.Common.{◌≡◌, ℕ, ◌+◌, ◌<◌, ◌≤◌, List, [], ◌∷◌, ◌++◌, length, get_or, take, drop, refl, sym, ◌∙◌, ap, subst, inl, inr, arith}
 use Rattle.std.specs.Prelude.{◌⊎◌, Result, Ok, Err, OnErr}
 use Rattle.std.proofs.lemmas.List.{drop_more, take_more, take-append-drop}
+use Rattle.lsm_shelf.proofs.CallerLemmas.{becomes_same}
 use Rattle.lsm_shelf.specs.Told.{Told, Becomes, Counted, Rose, removed_by, removing}
 use Rattle.lsm_shelf.specs.declared.shelf_fault.ShelfFault.{ShelfFault}
 use Rattle.lsm_shelf.specs.declared.shelf_fault.ShelfFault.TheVariants.{OutOfMemory, Device, Missing, Taken}
 use Rattle.lsm_state.specs.Collecting.{IsStopped, going, removing_all}
-
-pub becomes_same : (t : Told) → Becomes t t
-becomes_same t = record { place = refl; faults = omega arith; misses = omega arith; puts = refl; gone = refl; listed = refl; manifest = refl; sent = refl; found = refl }
 
 -- what was told before numbers were removed
 pub becomes_removing : (ns : List ℕ) (a b c : Told) → Becomes a b → Becomes (removing_all ns b) c → Becomes (removing_all ns a) c
@@ -22,6 +20,9 @@ becomes_removing ns a b c x y = record {
   manifest = y.manifest ∙ x.manifest;
   sent = y.sent ∙ x.sent;
   found = y.found ∙ x.found;
+  starts = y.starts ∙ x.starts;
+  written = y.written ∙ x.written;
+  forks = y.forks ∙ x.forks;
 }
 
 going-push : (ns : List ℕ) (n : ℕ) (gone : List ℕ) → going (ns ++ n ∷ []) gone ≡ n ∷ going ns gone
@@ -40,6 +41,9 @@ removed_more ns n a b c x y = record {
   manifest = y.manifest ∙ x.manifest;
   sent = y.sent ∙ x.sent;
   found = y.found ∙ x.found;
+  starts = y.starts ∙ x.starts;
+  written = y.written ∙ x.written;
+  forks = y.forks ∙ x.forks;
 }
 
 then_same : (ns : List ℕ) (a b c : Told) → Becomes (removing_all ns a) b → Becomes b c → Becomes (removing_all ns a) c
@@ -53,6 +57,9 @@ then_same ns a b c x y = record {
   manifest = y.manifest ∙ x.manifest;
   sent = y.sent ∙ x.sent;
   found = y.found ∙ x.found;
+  starts = y.starts ∙ x.starts;
+  written = y.written ∙ x.written;
+  forks = y.forks ∙ x.forks;
 }
 
 -- How the removal of the first numbers stands.

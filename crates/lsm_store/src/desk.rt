@@ -1,7 +1,7 @@
 //! What a reader has besides its end of the board.
 
 ghost use Rattle.std.specs.Prelude.{◌≡◌, IfErr, IfOk};
-ghost use Rattle.lsm_shelf.specs.Told.{Becomes, Counted, NotNamed};
+ghost use Rattle.lsm_shelf.specs.Told.{Counted, Forked, NotNamed};
 ghost use Rattle.lsm_store.specs.Readers.{desk_at};
 
 use lsm_cache::Cached;
@@ -36,7 +36,7 @@ impl<N: Boarded, S: Shelf> Model for Desk<N, S> {
 
 impl<N: Boarded, S: Shelf> Desk<N, S> {
     /// One at which the state's current version is known, with a fork of the shelf, and an empty cache of so many blocks.
-    #[tactic(auto, using(lsm_shelf::proofs::CallerLemmas::becomes_same))]
+    #[tactic(auto, using(lsm_shelf::proofs::CallerLemmas::forked_none, lsm_shelf::proofs::CallerLemmas::forked_once, lsm_shelf::proofs::CallerLemmas::forked_same))]
     pub(crate) fn new(
         alloc: Global,
         state: &State<N, S>,
@@ -45,7 +45,7 @@ impl<N: Boarded, S: Shelf> Desk<N, S> {
     ) -> Result<Desk<N, S>, ShelfFault>
         requires { (S.told shelf.old).place ≡ N.place }
         ensures desk { IfOk result (λ d. d ≡ desk_at state.now N.place) }
-        ensures told { Becomes (S.told shelf.old) (S.told shelf.new) }
+        ensures told { Forked (S.told shelf.old) (S.told shelf.new) }
         ensures cause { IfErr result (λ e. NotNamed e × Counted e (S.told shelf.old) (S.told shelf.new)) }
     {
         let (id, current) = state.current();

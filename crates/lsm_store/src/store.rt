@@ -1,7 +1,7 @@
 //! The state behind its lock.
 
 ghost use Rattle.std.specs.Prelude.{◌≡◌, ◌≤◌, [], All, IfErr, IfOk, length, map, vec_capacity, vec_len};
-ghost use Rattle.lsm_shelf.specs.Told.{Becomes, Counted, NotNamed};
+ghost use Rattle.lsm_shelf.specs.Told.{Counted, Forked, NotNamed};
 ghost use Rattle.lsm_pins.specs.Known.{Known};
 ghost use Rattle.lsm_store.specs.Readers.{IsFreeEnd, SeatsPinners, desk_at, seated};
 
@@ -16,7 +16,7 @@ use std::num::NonZeroUsize;
 use std::sync::{Mutex, MutexGuard, Wait};
 
 /// A desk for each reader that the options name.
-#[tactic(auto, using(lsm_shelf::proofs::CallerLemmas::becomes_then, lsm_shelf::proofs::CallerLemmas::becomes_same, lsm_shelf::proofs::CallerLemmas::counted_later))]
+#[tactic(auto, using(lsm_shelf::proofs::CallerLemmas::forked_then, lsm_shelf::proofs::CallerLemmas::forked_none, lsm_shelf::proofs::CallerLemmas::forked_place, lsm_shelf::proofs::CallerLemmas::counted_after_forks))]
 fn desks_for<N: Boarded, S: Shelf>(
     alloc: Global,
     state: &State<N, S>,
@@ -25,7 +25,7 @@ fn desks_for<N: Boarded, S: Shelf>(
     requires { (S.told shelf.old).place ≡ N.place }
     ensures desks { IfOk result (λ v. All (λ d. d ≡ desk_at state.now N.place) v.items) }
     ensures len { IfOk result (λ v. vec_len v ≡ state.now.options.readers) }
-    ensures told { Becomes (S.told shelf.old) (S.told shelf.new) }
+    ensures told { Forked (S.told shelf.old) (S.told shelf.new) }
     ensures cause { IfErr result (λ e. NotNamed e × Counted e (S.told shelf.old) (S.told shelf.new)) }
 {
     let options = state.options();
@@ -97,7 +97,7 @@ fn furnish<N: Boarded, S: Shelf>(
     ensures len { IfOk result (λ r. vec_len r.0 ≡ state.now.options.readers) }
     ensures none { IfOk result (λ r. (r.1.items ≡ []) × (vec_len r.1 ≡ 0)) }
     ensures room { IfOk result (λ r. vec_capacity r.1 ≡ state.now.options.readers) }
-    ensures told { Becomes (S.told shelf.old) (S.told shelf.new) }
+    ensures told { Forked (S.told shelf.old) (S.told shelf.new) }
     ensures cause { IfErr result (λ e. NotNamed e × Counted e (S.told shelf.old) (S.told shelf.new)) }
 {
     let readers = Vec::with_capacity(alloc, state.options().readers)?;
@@ -128,7 +128,8 @@ impl<N: Boarded, S: Shelf> Store<N, S> {
     /// The state has no more pinners than its options have readers: so it is after `State::create` and `State::open` with the board
     /// that `Board::new` made for these options.
     ///
-    /// `OutOfMemory`; `Device` where the shelf failed. A refusal hands the state back as it was, and the shelf.
+    /// `OutOfMemory`; `Device` where the shelf failed. A refusal hands the state back as it was, and the shelf, which was asked for
+    /// forks alone.
     pub fn new(
         alloc: Global,
         state: State<N, S>,
@@ -138,7 +139,7 @@ impl<N: Boarded, S: Shelf> Store<N, S> {
         requires seats { SeatsPinners state }
         ensures readers { IfOk result (λ r. r.1.items ≡ map (seated state N.place) state.pinners) }
         ensures len { IfOk result (λ r. vec_len r.1 ≡ length state.pinners) }
-        ensures err { IfErr result (λ e. (e.0 ≡ state) × Becomes (S.told shelf) (S.told e.1)) }
+        ensures err { IfErr result (λ e. (e.0 ≡ state) × Forked (S.told shelf) (S.told e.1)) }
         ensures cause { IfErr result (λ e. NotNamed e.2 × Counted e.2 (S.told shelf) (S.told e.1)) }
     {
         let mut state = state;

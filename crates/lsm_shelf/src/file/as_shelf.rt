@@ -6,9 +6,11 @@ ghost use Rattle.lsm_folder.specs.Calls.{AreHonest, LastIsTrue, read, loaded, li
 ghost use Rattle.lsm_shelf.specs.FileNames.{table_name};
 ghost use Rattle.lsm_shelf.specs.FileShelf.{folder_of, file_told, file_number, mark_of};
 ghost use Rattle.lsm_shelf.specs.Plans.{done, PutStopped, PartUnread, TableUnread, RemoveStopped, AreTablesOf, ListStopped, ReadStopped, StartedFrom, StartStopped, AppendStopped, put_plan, remove_plan, append_plan, manifest_read, manifest_measured};
-ghost use Rattle.lsm_shelf.specs.Told.{Becomes, Counted, CountedBy, NotTaken, NotNamed, TakenIs, putting, removed_by, listing, sending, appending, finding, fresh};
+ghost use Rattle.lsm_shelf.specs.Told.{Becomes, Counted, CountedBy, NotTaken, NotNamed, TakenIs, putting, removed_by, listing, sending, appending, finding, forking, fresh};
 
-use crate::account::{Account, tag_of_both, tag_of_bytes, tag_of_number, tag_of_numbers};
+use crate::account::{
+    Account, tag_of_both, tag_of_bytes, tag_of_more, tag_of_number, tag_of_numbers,
+};
 use crate::file::append::append_manifest;
 use crate::file::current::read_manifest;
 use crate::file::fault::device;
@@ -167,6 +169,8 @@ where
             Ok(()) => {
                 self.account.manifest = tag_of_number(number);
                 self.account.sent = tag_of_bytes(bytes);
+                self.account.starts = tag_of_both(&self.account.manifest, &self.account.starts);
+                self.account.written = tag_of_both(&self.account.written, &self.account.sent);
                 Ok(())
             }
             Err(fault) => Err(fault),
@@ -183,20 +187,26 @@ where
     {
         let outcome = append_manifest(&mut self.folder, rt, bytes);
         let (_, _) = self.account.count(outcome)?;
-        self.account.sent = tag_of_both(&self.account.sent, &tag_of_bytes(bytes));
+        let appended = tag_of_bytes(bytes);
+        self.account.sent = tag_of_both(&self.account.sent, &appended);
+        self.account.written = tag_of_both(&self.account.written, &appended);
         Ok(())
     }
 
     fn fork(&mut self, _alloc: Global) -> Result<FileShelf<C>, ShelfFault>
         ensures fork { IfOk result (λ s. file_told C.place s ≡ fresh (file_told C.place self.old).place) }
-        ensures calls { self.new ≡ self.old }
-        ensures told { Becomes (file_told C.place self.old) (file_told C.place self.new) }
+        ensures calls { C.calls (folder_of self.new) ≡ C.calls (folder_of self.old) }
+        ensures ok { OnOk result (Becomes (forking 1 (file_told C.place self.old)) (file_told C.place self.new)) }
+        ensures err { OnErr result (Becomes (file_told C.place self.old) (file_told C.place self.new)) }
         ensures cause { IfErr result (λ e. NotNamed e × Counted e (file_told C.place self.old) (file_told C.place self.new)) }
         ensures counts { CountedBy result (file_told C.place self.old) (file_told C.place self.new) }
         ensures memory { IfErr result (λ e. e ≡ ShelfFault.OutOfMemory) }
     {
         match self.folder.fork() {
-            Ok(folder) => Ok(FileShelf::over(folder)),
+            Ok(folder) => {
+                self.account.forks = tag_of_more(&self.account.forks);
+                Ok(FileShelf::over(folder))
+            }
             Err(fault) => Err(device(fault)),
         }
     }

@@ -3,9 +3,11 @@
 ghost use Rattle.std.specs.Prelude.{◌≡◌, ◌↔◌, ◌+◌, ◌<◌, ◌≤◌, ◌^◌, length, take, drop, IfOk, IfErr, IsErrOf, OnOk, OnErr, IsTrue};
 ghost use Rattle.std.specs.List.Sorted.{IsStrictlyIncreasing};
 ghost use Rattle.boxcar.specs.Table.{Shows};
-ghost use Rattle.lsm_shelf.specs.Told.{Becomes, Counted, CountedBy, NotDevice, NotNamed, NotTaken, TakenIs, fresh, putting, removing, listing, sending, appending, finding};
+ghost use Rattle.lsm_shelf.specs.Told.{Becomes, Counted, CountedBy, NotDevice, NotNamed, NotTaken, TakenIs, forking, fresh, putting, removing, listing, sending, appending, finding};
 
-use crate::account::{Account, tag_of_both, tag_of_bytes, tag_of_number, tag_of_numbers};
+use crate::account::{
+    Account, tag_of_both, tag_of_bytes, tag_of_more, tag_of_number, tag_of_numbers,
+};
 use crate::memory::contents::Contents;
 use crate::memory::image::Image;
 use crate::memory::memory_receipt::MemoryReceipt;
@@ -179,6 +181,8 @@ impl Shelf for MemoryShelf {
         let outcome = self.contents.directory.lock(rt).start(alloc, number, bytes);
         self.account.sent = self.account.count(outcome)?;
         self.account.manifest = tag_of_number(number);
+        self.account.starts = tag_of_both(&self.account.manifest, &self.account.starts);
+        self.account.written = tag_of_both(&self.account.written, &self.account.sent);
         Ok(())
     }
 
@@ -192,18 +196,22 @@ impl Shelf for MemoryShelf {
         let outcome = self.contents.directory.lock(rt).append(bytes);
         let appended = self.account.count(outcome)?;
         self.account.sent = tag_of_both(&self.account.sent, &appended);
+        self.account.written = tag_of_both(&self.account.written, &appended);
         Ok(())
     }
 
     fn fork(&mut self, _alloc: Global) -> Result<MemoryShelf, ShelfFault>
         ensures fork { IfOk result (λ s. memory_told s ≡ fresh (memory_told self.old).place) }
-        ensures told { Becomes (memory_told self.old) (memory_told self.new) }
+        ensures ok { OnOk result (Becomes (forking 1 (memory_told self.old)) (memory_told self.new)) }
+        ensures err { OnErr result (Becomes (memory_told self.old) (memory_told self.new)) }
         ensures cause { IfErr result (λ e. NotNamed e × Counted e (memory_told self.old) (memory_told self.new)) }
         ensures counts { CountedBy result (memory_told self.old) (memory_told self.new) }
         ensures memory { IfErr result (λ e. e ≡ ShelfFault.OutOfMemory) }
     {
+        let contents = Arc::try_clone(&self.contents)?;
+        self.account.forks = tag_of_more(&self.account.forks);
         Ok(MemoryShelf {
-            contents: Arc::try_clone(&self.contents)?,
+            contents,
             account: Account::new(),
         })
     }
