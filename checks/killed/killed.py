@@ -3,7 +3,7 @@
 
   killed.py LSM LEVELDB KILL FOLDER KILLS SEED
 
-LSM is the program, LEVELDB the helper of checks/leveldb_directories, KILL the library that kill.c makes, FOLDER an empty folder for the
+LSM is the program, LEVELDB the program that checks/leveldb_directories/directory.cc makes, KILL the library that kill.c makes, FOLDER an empty folder for the
 directories. Half of the kills come after a random time, half at a random one of the calls that change files, or half-way in a write.
 After each kill: `lsm check` is done; `lsm scan` gives all that was answered, and of the killed batch all or nothing (all, where its
 reply was printed). After every 20th kill, after each that left a manifest which ends within a record, and at a directory's end, LevelDB

@@ -1,7 +1,7 @@
 #!/usr/bin/env bash
 # Runs tests that are not part of the gate, since their proofs take long, without proofs (`rt try --test`): each folder here is a crate of
 # tests, its files named as a crate's with `.txt` behind, and `lines.txt` has the lines of crates.txt. Those of the store stand on the
-# files of its tests in the gate, or in their place. Names of folders choose among them. Some ten minutes. Needs rt.
+# files of its tests in the gate, or in their place. Names of folders choose among them. Needs rt.
 set -euo pipefail
 here=$(cd "$(dirname "$0")" && pwd)
 top=$(cd "$here/../.." && pwd)
