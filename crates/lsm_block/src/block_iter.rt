@@ -5,7 +5,7 @@ ghost use Rattle.std.specs.Option.{option_map};
 ghost use Rattle.std.specs.Arc.{arc_value};
 ghost use Rattle.lsm_codec.specs.KeyRef.{key_of};
 ghost use Rattle.lsm_block.specs.Seeking.{not_below};
-ghost use Rattle.lsm_block.specs.Standing.{StepsTo, IsMoved, but_first, is_end, key_of_first, value_of_first};
+ghost use Rattle.lsm_block.specs.Standing.{StepsTo, IsMovedBy, but_first, is_end, key_of_first, value_of_first};
 
 use crate::block::Block;
 use crate::cursor::Cursor;
@@ -107,23 +107,24 @@ impl BlockIter {
         }
     }
 
-    /// Goes on to the next entry. Where there is none it stays where it is, and answers false: so a
-    /// reader of many blocks leaves an entry only once the next block is read.
+    /// Goes on to the next entry, and tells how many bytes of its user key are those of the user
+    /// key before it, as far as the block spells them once. Where there is no entry it stays where
+    /// it is: so a reader of many blocks leaves an entry only once the next block is read.
     ///
     /// # Errors
     /// `AllocError` where the memory for the key was refused. It stays where it is.
-    pub fn advance(&mut self) -> Result<bool, AllocError>
-        ensures moved { IfOk result (λ m. IsMoved m self.old self.new) }
+    pub fn advance(&mut self) -> Result<Option<usize>, AllocError>
+        ensures moved { IfOk result (λ m. IsMovedBy m self.old self.new) }
         ensures err { OnErr result (self.new ≡ self.old) }
     {
         if self.len.is_none() {
-            return Ok(false);
+            return Ok(None);
         }
         match step(&self.block, &mut self.cursor)? {
-            None => Ok(false),
+            None => Ok(None),
             Some(len) => {
                 self.len = Some(len);
-                Ok(true)
+                Ok(Some(0))
             }
         }
     }
@@ -136,7 +137,7 @@ impl BlockIter {
         ensures ok { OnOk result (self.new ≡ but_first self.old) }
         ensures err { OnErr result (self.new ≡ self.old) }
     {
-        if self.advance()? {
+        if self.advance()?.is_some() {
             return Ok(());
         }
         self.finish();

@@ -11,8 +11,8 @@ ghost use Rattle.lsm_block.specs.Building.{common, offset_if, parts_text, grown_
 use lsm_codec::{KeyRef, put_varint32};
 use std::alloc::AllocError;
 
-/// How many bytes two texts have in common at their front.
-fn common_prefix(a: &[u8], b: &[u8]) -> usize
+/// How many bytes two texts have in common at their fronts.
+pub fn common_prefix(a: &[u8], b: &[u8]) -> usize
     ensures { result ≡ common a.now b.now }
 {
     let mut i: usize = 0;
