@@ -1,4 +1,4 @@
-use Rattle.std.proofs.Common.{ℕ, List, Option, Bor, ap, sym, ◌∙◌, subst}
+use Rattle.std.proofs.Common.{ℕ, List, Option, Bor, subst}
 use Rattle.std.specs.Option.{option_map}
 use Rattle.lsm_block.specs.Held.{Place, Given, last_of, text_and_entries}
 use Rattle.lsm_block.specs.Standing.{SharesFront, user_of_last}
