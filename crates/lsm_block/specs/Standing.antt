@@ -1,7 +1,7 @@
 -- Where a cursor stands when an entry was given: behind its value, with which an entry's text ends
 -- (LevelDB's `table/block_builder.cc`).
 use Rattle.std.specs.Prelude.{◌≡◌, ℕ, ◌-◌, ◌≤◌, Bool, true, false, List, [], ◌∷◌, length, take, drop, Option, Some, None, IsSome}
-use Rattle.lsm_codec.specs.Keys.{InternalKey}
+use Rattle.lsm_codec.specs.Keys.{UserKey, InternalKey}
 use Rattle.lsm_codec.specs.Entries.{Entry, internal_key}
 use Rattle.lsm_block.specs.Block.{entry_of}
 use Rattle.lsm_block.specs.Held.{HeldBlock, Place, rest_of}
@@ -56,6 +56,11 @@ abbrev pub key_of_first : List Entry → Option InternalKey
 key_of_first [] = None
 key_of_first (e ∷ es) = Some (internal_key e)
 
+-- its user key; no bytes where there is no entry
+abbrev pub user_of_first : List Entry → UserKey
+user_of_first [] = []
+user_of_first (e ∷ es) = e.user
+
 abbrev pub value_of_first : List Entry → List ℕ
 value_of_first [] = []
 value_of_first (e ∷ es) = e.value
@@ -65,6 +70,23 @@ value_of_first (e ∷ es) = e.value
 abbrev pub IsMoved : Bool → List Entry → List Entry → Type 0
 IsMoved true old new = (but_first old ≡ new) × (IsSome (key_of_first new))
 IsMoved false old new = (but_first old ≡ []) × (new ≡ old)
+
+-- the user key of the key before a place; no bytes where there is none
+abbrev pub user_of_last : Option InternalKey → UserKey
+user_of_last None = []
+user_of_last (Some key) = key.user
+
+-- Two user keys have the same bytes at their fronts, so many. They may have more in common.
+pub record SharesFront (count : ℕ) (a b : UserKey) : Type 0 where
+  pub same : take count a ≡ take count b
+  pub first : count ≤ length a
+  pub second : count ≤ length b
+
+-- What a step on answers that also tells how many bytes of its user key are those of the one before
+-- it: it moved, or it stays.
+abbrev pub IsMovedBy : Option ℕ → List Entry → List Entry → Type 0
+IsMovedBy None old new = IsMoved false old new
+IsMovedBy (Some shared) old new = IsMoved true old new × SharesFront shared (user_of_first old) (user_of_first new)
 
 -- A step to the next entry of a block, whose value has this length: the cursor then stands at it;
 -- or it stays.

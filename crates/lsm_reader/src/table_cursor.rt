@@ -1,13 +1,13 @@
 //! A place in a table that is read block by block.
 
-ghost use Rattle.std.specs.Prelude.{◌≡◌, [], ◌∷◌, ℕ, List, false, Ok, IfOk, IfErr, IfSome, MatchBool, OnOk, OnErr};
+ghost use Rattle.std.specs.Prelude.{◌≡◌, [], ◌∷◌, ℕ, List, false, Ok, IfOk, IfErr, IfSome, MatchOption, OnOk, OnErr};
 ghost use Rattle.std.specs.Option.{option_map, IsSome};
 ghost use Rattle.std.specs.Arc.{arc_value};
 ghost use Rattle.lsm_codec.specs.Entries.{Entry};
 ghost use Rattle.lsm_codec.specs.KeyRef.{key_of};
 ghost use Rattle.lsm_block.specs.Held.{HeldBlock};
 ghost use Rattle.lsm_block.specs.Seeking.{not_below};
-ghost use Rattle.lsm_block.specs.Standing.{IsMoved, but_first, is_end, key_of_first, value_of_first};
+ghost use Rattle.lsm_block.specs.Standing.{IsMovedBy, SharesFront, but_first, is_end, key_of_first, user_of_first, value_of_first};
 ghost use Rattle.lsm_reader.specs.Blocks.{Reads, left_at, or_none, IsSought, IsAtEntry};
 ghost use Rattle.lsm_reader.specs.Getting.{entered_there, first_entered, first_named, sought_there, stepped_on, stepped_or_stays};
 ghost use Rattle.lsm_table.specs.Footer.{body_of};
@@ -256,25 +256,27 @@ impl TableCursor {
         ensures cause { IfErr result (λ e. ReadCounted e (B.told blocks.old) (B.told blocks.new)) }
     {
         if let Some(entries) = &mut self.here {
-            if entries.advance()? {
+            if entries.advance()?.is_some() {
                 return Ok(());
             }
         }
         self.next_block_by(blocks, alloc, receipt)
     }
 
-    /// Goes on to the next entry. Where none is left it stays, and the answer is false. An `Err`
-    /// leaves it.
+    /// Goes on to the next entry, and tells how many bytes of its user key are those of the user
+    /// key before it, as far as one data block spells them once. Where none is left it stays. An
+    /// `Err` leaves it.
     pub fn step_by<S: Shelf, B: Blocks<S>>(
         &mut self,
         blocks: &mut B,
         alloc: Global,
         receipt: &S::Receipt,
-    ) -> Result<bool, ReadFault>
+    ) -> Result<Option<usize>, ReadFault>
         requires here { S.is_of (B.told blocks.old).place receipt.now }
-        ensures moved { S.honest → AreNamed (body_of (S.Receipt.image receipt.now)) self.old.index → IfOk result (λ m. AreNamed (body_of (S.Receipt.image receipt.now)) self.new.index × IsMoved m (left_at (S.Receipt.image receipt.now) self.old) (left_at (S.Receipt.image receipt.now) self.new)) }
+        ensures moved { S.honest → AreNamed (body_of (S.Receipt.image receipt.now)) self.old.index → IfOk result (λ m. AreNamed (body_of (S.Receipt.image receipt.now)) self.new.index × IsMovedBy m (left_at (S.Receipt.image receipt.now) self.old) (left_at (S.Receipt.image receipt.now) self.new)) }
         // Whatever the image is.
-        ensures stands { IfOk result (λ m. MatchBool m (IsSome (key_of_first self.new.here)) (self.new ≡ self.old)) }
+        ensures stands { IfOk result (λ m. MatchOption m (self.new ≡ self.old) (λ _. IsSome (key_of_first self.new.here))) }
+        ensures shared { IfOk result (λ m. IfSome m (λ n. SharesFront n (user_of_first self.old.here) (user_of_first self.new.here))) }
         ensures exact { S.honest → Reads (λ _. self.new.here) result (stepped_or_stays (body_of (S.Receipt.image receipt.now)) self.old) }
         ensures sound { S.honest → AreNamed (body_of (S.Receipt.image receipt.now)) self.old.index → IfErr result IsMemoryOrShelf }
         ensures err { OnErr result (self.new ≡ self.old) }
@@ -283,15 +285,16 @@ impl TableCursor {
         ensures cause { IfErr result (λ e. ReadCounted e (B.told blocks.old) (B.told blocks.new)) }
     {
         if let Some(entries) = &mut self.here {
-            if entries.advance()? {
-                return Ok(true);
+            let moved = entries.advance()?;
+            if moved.is_some() {
+                return Ok(moved);
             }
         }
         if self.index.is_at_end() {
-            return Ok(false);
+            return Ok(None);
         }
         match self.next_block_by(blocks, alloc, receipt) {
-            Ok(()) => Ok(true),
+            Ok(()) => Ok(Some(0)),
             Err(fault) => Err(fault),
         }
     }

@@ -1,9 +1,9 @@
 //! A table as a source of a merge.
 
-ghost use Rattle.std.specs.Prelude.{◌≡◌, [], ℕ, List, false, IfOk, IfErr, MatchBool, OnOk, OnErr};
+ghost use Rattle.std.specs.Prelude.{◌≡◌, [], ℕ, List, false, IfOk, IfErr, IfSome, MatchOption, OnOk, OnErr};
 ghost use Rattle.std.specs.Option.{option_map};
 ghost use Rattle.lsm_codec.specs.KeyRef.{key_of};
-ghost use Rattle.lsm_block.specs.Standing.{IsMoved, but_first, is_end, key_of_first, value_of_first};
+ghost use Rattle.lsm_block.specs.Standing.{IsMovedBy, SharesFront, but_first, is_end, key_of_first, user_of_first, value_of_first};
 ghost use Rattle.lsm_codec.specs.Entries.{Entry};
 ghost use Rattle.lsm_table.specs.Table.{IsTable};
 ghost use Rattle.lsm_table.specs.ReadFault.{ReadCounted, IsMemoryOrShelf};
@@ -109,17 +109,19 @@ impl<N: Naming, S: Shelf> TableStream<N, S> {
         self.cursor.advance_by(blocks, alloc, &self.receipt)
     }
 
-    /// Goes on to the next entry. Where none is left it stays, and the answer is false. An `Err`
-    /// leaves it.
+    /// Goes on to the next entry, and tells how many bytes of its user key are those of the user
+    /// key before it, as far as one data block spells them once. Where none is left it stays. An
+    /// `Err` leaves it.
     pub fn step_by<B: Blocks<S>>(
         &mut self,
         blocks: &mut B,
         alloc: Global,
-    ) -> Result<bool, ReadFault>
+    ) -> Result<Option<usize>, ReadFault>
         requires here { (B.told blocks.old).place ≡ N.place }
-        ensures moved { S.honest → IfOk result (λ m. IsMoved m self.old self.new) }
+        ensures moved { S.honest → IfOk result (λ m. IsMovedBy m self.old self.new) }
         // Whatever the image is.
-        ensures stands { IfOk result (λ m. MatchBool m (is_end self.new ≡ false) (self.new ≡ self.old)) }
+        ensures stands { IfOk result (λ m. MatchOption m (self.new ≡ self.old) (λ _. is_end self.new ≡ false)) }
+        ensures shared { IfOk result (λ m. IfSome m (λ n. SharesFront n (user_of_first self.old) (user_of_first self.new))) }
         ensures sound { S.honest → IfErr result IsMemoryOrShelf }
         ensures err { OnErr result (self.new ≡ self.old) }
         ensures told { Becomes (B.told blocks.old) (B.told blocks.new) }

@@ -37,7 +37,7 @@ fn has_one_entry<R: Abort>(rt: &R, alloc: Global, block: Arc<Block>) -> Result<(
     let key = (b"a".as_slice(), 1, Kind::Value);
     expect(rt, parts_of(entries.key()), Some(key));
     expect(rt, entries.value(), b"v".as_slice());
-    expect(rt, entries.advance()?, false);
+    expect(rt, entries.advance()?, None);
     Ok(())
 }
 
