@@ -1,14 +1,11 @@
 -- Laws of batches: their limits, the order of their keys, and their entries.
-use Rattle.std.proofs.Common.{◌≡◌, ℕ, zero, suc, ◌+◌, ◌-◌, ◌<◌, ◌≤◌, List, [], ◌∷◌, ◌++◌, length, get_or, drop, refl, sym, ◌∙◌, ap, subst, inl, inr, arith, append_assoc, Some, None}
-use Rattle.std.specs.Prelude.{◌⊎◌}
-use Rattle.std.proofs.lemmas.List.{at_drop_more, get_or_default}
+use Rattle.std.proofs.Common.{◌≡◌, ℕ, zero, suc, ◌+◌, ◌<◌, List, [], ◌∷◌, ◌++◌, length, get_or, drop, refl, sym, ◌∙◌, ap, subst, inl, inr, arith, append_assoc, Some, None}
+use Rattle.std.proofs.lemmas.List.{at_drop_more}
 use Rattle.lsm_codec.specs.Lists.{Has}
 use Rattle.lsm_codec.specs.Entries.{Entry, entry_cmp, internal_key}
 use Rattle.lsm_block.specs.Block.{Ascends}
 use Rattle.lsm_block.specs.Building.{last_key}
-use Rattle.lsm_codec.specs.Keys.{InternalKey, IsKey}
-use Rattle.lsm_table.specs.Table.{IsTable}
-use Rattle.lsm_batch.specs.Images.{Imaged, IsImage}
+use Rattle.lsm_codec.specs.Keys.{InternalKey}
 use Rattle.lsm_batch.specs.declared.write.Write.{Write}
 use Rattle.lsm_batch.specs.Batches.{IsLess, KeysRise, entries_from, written_at}
 
@@ -20,29 +17,6 @@ has_at (x ∷ xs) zero d lt = inl refl
 has_at (x ∷ xs) (suc i) d lt = inr (has_at xs i d (omega arith))
 
 -- ---- order
-
-pub rise_none : (ws : List Write) → KeysRise 1 ws
-rise_none ws i d lt = absurd (omega arith)
-
-pub rise_more : (ws : List Write) (n : ℕ) (a b : Write) → 0 < n → n < length ws → KeysRise n ws → a ≡ get_or ws (n - 1) a → b ≡ get_or ws n b → IsLess a.key b.key → KeysRise (n + 1) ws
-rise_more ws n a b pos lt rise is_a is_b less i d inside = go (cases (suc i) n (omega arith))
-  where
-    cases : (x y : ℕ) → x < y + 1 → (x < y) ⊎ (x ≡ y)
-    cases x zero h = inr (omega arith)
-    cases zero (suc y) h = inl (omega arith)
-    cases (suc x) (suc y) h = elim (cases x y (omega arith)) [ inl k ↦ inl (omega arith) | inr e ↦ inr (ap suc e) ]
-
-    go : (suc i < n) ⊎ (suc i ≡ n) → IsLess (get_or ws i d).key (get_or ws (suc i) d).key
-    go (inl before) = rise i d before
-    go (inr e) =
-        let same : n - 1 ≡ i = omega arith in
-        let le : i < length ws = omega arith in
-        let left : a ≡ get_or ws i d = subst (λ (k : ℕ). a ≡ get_or ws k a) same is_a ∙ get_or_default ws i a d le in
-        let right : b ≡ get_or ws (suc i) d = subst (λ (k : ℕ). b ≡ get_or ws k b) (sym e) is_b ∙ get_or_default ws (suc i) b d (omega arith) in
-        subst (λ (w : Write). IsLess w.key (get_or ws (suc i) d).key) left (subst (λ (w : Write). IsLess a.key w.key) right less)
-
-pub rise_less : (ws : List Write) (n m : ℕ) → m ≤ n → KeysRise n ws → KeysRise m ws
-rise_less ws n m le rise i d inside = rise i d (omega arith)
 
 pub rise_tail : (w : Write) (ws : List Write) → KeysRise (length (w ∷ ws)) (w ∷ ws) → KeysRise (length ws) ws
 rise_tail w ws rise i d lt = rise (suc i) d (omega arith)
@@ -85,25 +59,6 @@ last_some [] key h = absurd (cc h)
 last_some (e ∷ []) key h = ([], e, refl, (cc h))
 last_some (e ∷ f ∷ es) key h = (let r = last_some (f ∷ es) key h in (e ∷ r.0, r.1, ap (λ (l : List Entry). e ∷ l) r.2, r.3))
 
-pub image_of : (seq : ℕ) (ws : List Write) (w : Write) (i : Imaged) → w ≡ get_or ws 0 w → (ws ≡ [] → ⊥) → IsKey i.smallest (internal_key (written_at seq w)) → IsTable i.bytes (entries_from seq ws)
-    → (front : List Entry) × (last : Entry) × (entries_from seq ws ≡ front ++ last ∷ []) × IsKey i.largest (internal_key last) → IsImage (entries_from seq ws) i
-image_of seq [] w i is some smallest table ends = absurd (some refl)
-image_of seq (x ∷ ws) w i is some smallest table ends = record {
-  first = written_at seq x;
-  rest = entries_from (suc seq) ws;
-  front = ends.0;
-  last = ends.1;
-  table = table;
-  begins = refl;
-  ends = ends.2;
-  smallest_is = subst (λ (u : Write). IsKey i.smallest (internal_key (written_at seq u))) is smallest;
-  largest_is = ends.3;
-}
-
 -- the entries before a place, with that of the place, ascend where all do
 pub ascends_on : (all done : List Entry) (e : Entry) (now rest : List Entry) → Ascends all → done ++ now ≡ all → now ≡ e ∷ rest → Ascends (done ++ e ∷ [])
 ascends_on all done e now rest a is at = ascends_prefix (done ++ e ∷ []) rest (subst Ascends (sym (append_assoc done (e ∷ []) rest ∙ (ap (λ (l : List Entry). done ++ l) (sym at) ∙ is))) a)
-
-pub some_first : (ws : List Write) → (ws ≡ [] → ⊥) → 0 < length ws
-some_first [] some = absurd (some refl)
-some_first (w ∷ ws) some = omega arith

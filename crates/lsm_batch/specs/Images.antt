@@ -1,12 +1,11 @@
 -- The table of a batch, before and after it is put.
-use Rattle.std.specs.Prelude.{◌≡◌, ℕ, ◌^◌, ◌≤◌, ◌⊎◌, length, List, [], ◌∷◌, ◌++◌, Err}
-use Rattle.lsm_codec.specs.Keys.{IsKey}
-use Rattle.lsm_codec.specs.Entries.{Entry, internal_key}
+use Rattle.std.specs.Prelude.{◌≡◌, ℕ, ◌^◌, ◌≤◌, ◌⊎◌, length, List, ◌∷◌, ◌++◌, Err}
+use Rattle.lsm_codec.specs.Entries.{Entry}
 use Rattle.lsm_shelf.specs.Told.{Told, Becomes, CountedBy, TakenIs, putting}
 use Rattle.lsm_shelf.specs.declared.shelf_fault.ShelfFault.{ShelfFault}
 use Rattle.lsm_shelf.specs.declared.shelf_fault.ShelfFault.TheVariants.{OutOfMemory}
 use Rattle.lsm_table.specs.Registry.{Table}
-use Rattle.lsm_table.specs.Table.{IsTable}
+use Rattle.lsm_table.specs.Table as table
 use Rattle.lsm_table.specs.TableBuilding.{PassesLimit, groups_by, index_block}
 use Rattle.lsm_table.specs.declared.table_options.TableOptions.{TableOptions}
 
@@ -16,17 +15,9 @@ pub record Imaged : Type 0 where
   pub largest : List ℕ
   pub bytes : List ℕ
 
--- the table of these entries, of which there is one at least
-pub record IsImage (entries : List Entry) (i : Imaged) : Type 0 where
-  pub first : Entry
-  pub rest : List Entry
-  pub front : List Entry
-  pub last : Entry
-  pub table : IsTable i.bytes entries
-  pub begins : entries ≡ first ∷ rest
-  pub ends : entries ≡ front ++ last ∷ []
-  pub smallest_is : IsKey i.smallest (internal_key first)
-  pub largest_is : IsKey i.largest (internal_key last)
+-- it is the table of these entries, of which there is one at least
+abbrev pub IsImage : List Entry → Imaged → Type 0
+IsImage entries i = table.IsImage entries i.smallest i.largest i.bytes
 
 -- the record of the registry stands for the image that was put under this number
 pub record IsPutAs (i : Imaged) (number : ℕ) (t : Table) : Type 0 where

@@ -1,5 +1,5 @@
 -- The bytes of an internal key split in one way.
-use Rattle.std.proofs.Common.{◌≡◌, ℕ, ◌+◌, ◌-◌, ◌^◌, ◌<◌, List, length, take, drop, refl, sym, ap, ◌∙◌, arith}
+use Rattle.std.proofs.Common.{◌≡◌, ℕ, ◌+◌, ◌-◌, ◌^◌, ◌<◌, List, length, take, drop, sym, ap, ◌∙◌, arith}
 use Rattle.std.specs.Int.{w64, to_le_bytes, from_le_bytes}
 use Rattle.std.proofs.lemmas.Nat.{from_le_bytes-to_le_bytes_8}
 use Rattle.std.proofs.lemmas.List.{length-append, take_at}
@@ -23,9 +23,6 @@ pub drop-key_bytes : (k : InternalKey) → drop (length (key_bytes k) - 8) (key_
 drop-key_bytes k =
     let n : length (key_bytes k) - 8 ≡ length k.user = omega (arith, length-key_bytes k) in
     rw n (drop-append_seam k.user (to_le_bytes w64 (packed k)))
-
-pub key_bytes-is_key : (k : InternalKey) → k.seq < 2 ^ 56 → IsKey (key_bytes k) k
-key_bytes-is_key k fits = record { bytes_are = refl; fits = fits }
 
 pub key_bytes-injective : (a b : InternalKey) → a.seq < 2 ^ 56 → b.seq < 2 ^ 56 → key_bytes a ≡ key_bytes b → a ≡ b
 key_bytes-injective a b a_fits b_fits same =

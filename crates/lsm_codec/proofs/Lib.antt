@@ -11,5 +11,4 @@ mod TableFacts
 mod Blocks
 mod SkipFacts
 mod WordLaws
-mod Masks
 pub mod CallerLemmas

@@ -294,21 +294,6 @@ pub gets_from : (most max : ℕ) (bytes : List ℕ) (result : Result (ℕ × ℕ
 gets_from most max bytes result m fits fault is =
     record { found = found_from most max bytes result m fits is; only = only_from most max bytes result is; cut = cut_from most max bytes result is; too_big = too_big_from most max bytes result m fits is; fault = fault }
 
--- ---- one number, one front
-
--- bytes spell at most one number
-pub IsVarint-number : (most max : ℕ) (bytes : List ℕ) (m n : ℕ) → IsVarint most max bytes m → IsVarint most max bytes n → m ≡ n
-IsVarint-number most max bytes m n v w = sym v.value ∙ w.value
-
--- and at most one front of theirs spells a number
-pub IsVarint-front : (most max : ℕ) (bytes : List ℕ) (i j m n : ℕ) → i ≤ length bytes → j ≤ length bytes → IsVarint most max (take i bytes) m → IsVarint most max (take j bytes) n
-    → (i ≡ j) × (m ≡ n)
-IsVarint-front most max bytes i j m n i_in j_in v w =
-    let first : varint_at most max bytes ≡ done m (drop i bytes) = ap (varint_at most max) (sym (take-append-drop i bytes)) ∙ varint_again most max (take i bytes) (drop i bytes) m v in
-    let second : varint_at most max bytes ≡ done n (drop j bytes) = ap (varint_at most max) (sym (take-append-drop j bytes)) ∙ varint_again most max (take j bytes) (drop j bytes) n w in
-    let both = done_is m n (drop i bytes) (drop j bytes) (sym first ∙ second) in
-    (omega (arith, ap length both.1, length-drop i bytes, length-drop j bytes, i_in, j_in), both.0)
-
 -- ---- the shortest spelling
 
 pub shortest-last : (most n : ℕ) → 0 < most → n < 128 → shortest most n ≡ n ∷ []
@@ -325,13 +310,6 @@ shortest-more (suc (suc most)) n h l b =
     let k : suc (suc most) - 1 ≡ suc most = omega arith in
     let p : n < 128 ^ suc most * 128 = subst (λ (x : ℕ). n < x) (pow-suc 128 (suc most)) b in
     rw (no, k) (refl, omega arith, omega arith)
-
--- fewer groups spell smaller numbers
-value_of-below : (bytes : List ℕ) → value_of bytes < 128 ^ length bytes
-value_of-below [] = omega arith
-value_of-below (b ∷ bs) =
-    let p = pow-suc 128 (length bs) in
-    subst (λ (x : ℕ). value_of (b ∷ bs) < x) (sym p) (omega (arith, value_of-below bs))
 
 groups-shortest : (most n : ℕ) → 0 < most → n < 128 ^ most → AreGroups (shortest most n) × (value_of (shortest most n) ≡ n) × (length (shortest most n) ≤ most)
 unfolding shortest

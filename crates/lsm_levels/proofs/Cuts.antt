@@ -6,7 +6,7 @@ use Rattle.lsm_codec.specs.Entries.{Entry}
 use Rattle.lsm_codec.specs.Keys.{UserKey, UserLe}
 use Rattle.lsm_codec.specs.Lists.{Has}
 use Rattle.lsm_codec.proofs.CallerLemmas.{user_le_trans, user_le_antisym, user_le_refl, has_right, has_cases, filter_has}
-use Rattle.lsm_levels.specs.Files.{File, all_entries, Apart, OneEach, Fits, Before, InOrder}
+use Rattle.lsm_levels.specs.Files.{File, all_entries, Apart, OneEach, Fits, Before}
 use Rattle.lsm_levels.specs.Jobs.{Holds}
 use Rattle.lsm_levels.specs.Kept.{is_hidden, is_void, kept_entries}
 use Rattle.lsm_levels.specs.Streams.{IsAscending, IsMerge, Ends, CutAtKeys, NumbersRise, IsCut}
@@ -137,15 +137,3 @@ finished_holds level merged es f ranges outs m c = record {
   where
     h : Holds level (kept_entries merged f ranges) outs
     h = cut_holds level (kept_entries merged f ranges) outs (ascending_filter (λ (e : Entry). not (is_hidden merged f e) && not (is_void f ranges e)) merged m.ascending) c
-
--- files of a level whose entries, one file after another, ascend, lie in order
-pub level_in_order : (files : List File) → IsAscending (all_entries files) → (F G : File) → Has files F → Has files G → (F.number ≡ G.number → ⊥) → InOrder F G
-level_in_order [] a F G hF hG ne = absurd hF
-level_in_order (H ∷ files) a F G (inl p) (inl q) ne = absurd (ne (ap (λ (D : File). D.number) (sym p ∙ q)))
-level_in_order (H ∷ files) a F G (inl p) (inr q) ne = inl (λ x y hx hy. ascending_halves H.entries (all_entries files) a x y (subst (λ (D : File). Has D.entries x) (sym p) hx) (has_all files G y q hy))
-level_in_order (H ∷ files) a F G (inr p) (inl q) ne = inr (λ y x hy hx. ascending_halves H.entries (all_entries files) a y x (subst (λ (D : File). Has D.entries y) (sym q) hy) (has_all files F x p hx))
-level_in_order (H ∷ files) a F G (inr p) (inr q) ne = level_in_order files (ascending_right H.entries (all_entries files) a) F G p q ne
-
--- and apart where no two neighbours share a key
-pub level_apart : (files : List File) → IsAscending (all_entries files) → CutAtKeys files → ((G : File) → Has files G → Ends G) → (F G : File) → Has files F → Has files G → (F.number ≡ G.number → ⊥) → Apart F G
-level_apart = pieces_apart

@@ -32,16 +32,20 @@ abbrev pub files_at : ℕ → List Listed → List File
 files_at level [] = []
 files_at level (t ∷ ts) = file_at level t ∷ files_at level ts
 
+-- what each of the levels from this one on makes of what stands in it, one after another
+abbrev pub all_from : {A B : Type 0} → (ℕ → List A → List B) → ℕ → List (List A) → List B
+all_from made level [] = []
+all_from made level (xs ∷ levels) = made level xs ++ all_from made (suc level) levels
+
 -- the files of the levels from this one on
 abbrev pub files_from : ℕ → List (List Listed) → List File
-files_from level [] = []
-files_from level (ts ∷ levels) = files_at level ts ++ files_from (suc level) levels
+files_from level levels = all_from files_at level levels
 
--- the tables of a level
-abbrev pub level_in : List (List Listed) → ℕ → List Listed
+-- what stands in a level
+abbrev pub level_in : {A : Type 0} → List (List A) → ℕ → List A
 level_in [] n = []
-level_in (ts ∷ levels) zero = ts
-level_in (ts ∷ levels) (suc n) = level_in levels n
+level_in (xs ∷ levels) zero = xs
+level_in (xs ∷ levels) (suc n) = level_in levels n
 
 -- What is judged of the tables of all levels: each by itself, those of a level from 1 on together, of which no two ranges have in
 -- common what `Meet` says, and all entries, which stand in `placed` with the depths of their files.

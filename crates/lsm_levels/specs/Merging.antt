@@ -1,5 +1,5 @@
 -- The merge of lists in order (LevelDB's `doc/impl.md`, "Compactions": a compaction merges the contents of its files).
-use Rattle.std.specs.Prelude.{ℕ, ◌≡◌, Bool, true, false, ◌&&◌, cond, List, [], ◌∷◌, Option, Some, None}
+use Rattle.std.specs.Prelude.{ℕ, ◌≡◌, Bool, true, false, ◌&&◌, cond, List, [], ◌∷◌}
 use Rattle.std.specs.Ordering.{is_le}
 use Rattle.lsm_codec.specs.Lists.{Has}
 use Rattle.lsm_codec.specs.Entries.{Entry, entry_cmp}
@@ -61,22 +61,3 @@ abbrev pub leads : List Placed → List Placed → Bool
 leads [] m = false
 leads (x ∷ xs) [] = true
 leads (x ∷ xs) (y ∷ ys) = goes_first x.1 y.1
-
--- a first entry in hand, and what is left behind it
-abbrev pub at_head : {X : Type 0} → Option X → List X → List X
-at_head None rest = rest
-at_head (Some x) rest = x ∷ rest
-
--- no entry in hand, and nothing is left
-abbrev pub IsEmptyBehind : {X : Type 0} → Option X → List X → Type 0
-IsEmptyBehind None rest = rest ≡ []
-IsEmptyBehind (Some x) rest = Unit {0}
-
--- the list begins with that entry
-abbrev pub IsHead : Entry → List Entry → Type 0
-IsHead e [] = ⊥
-IsHead e (x ∷ xs) = e ≡ x
-
-abbrev pub IsPlacedHead : Entry → List Placed → Type 0
-IsPlacedHead e [] = ⊥
-IsPlacedHead e (x ∷ xs) = e ≡ x.1

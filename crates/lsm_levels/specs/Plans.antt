@@ -1,5 +1,5 @@
 -- Plans: the files that a job takes, so that none that meets them stays out (LevelDB's `doc/impl.md`, "Compactions").
-use Rattle.std.specs.Prelude.{◌≡◌, ℕ, suc, ◌≤◌, List, ◌++◌}
+use Rattle.std.specs.Prelude.{◌≡◌, ℕ, suc, ◌≤◌, Bool, List, ◌++◌}
 use Rattle.lsm_codec.specs.Lists.{Has}
 use Rattle.lsm_codec.specs.Keys.{UserKey, UserLe}
 use Rattle.lsm_levels.specs.Files.{File, Meets}
@@ -24,6 +24,19 @@ pub record Plan : Type 0 where
   pub lower : List File
   pub low : UserKey
   pub high : UserKey
+
+-- the job of a plan, with this ticket, floor and these ranges, which is a move or none
+abbrev pub job_from : Plan → ℕ → ℕ → List (UserKey × UserKey) → Bool → Job
+job_from plan ticket floor ranges is_move = record {
+  ticket = ticket;
+  level = plan.level;
+  inputs = plan.upper ++ plan.lower;
+  low = plan.low;
+  high = plan.high;
+  floor = floor;
+  ranges = ranges;
+  is_move = is_move;
+}
 
 -- The plan from the starting files: exactly the files that they reach at the level, and at the next level exactly those
 -- that the range of these reaches (this project's rule, wider than LevelDB's boundary files).

@@ -1,5 +1,5 @@
 -- What a scan shows: each user key with its answer, in order (LevelDB's `doc/impl.md` and `include/leveldb/db.h`, iterators).
-use Rattle.std.specs.Prelude.{◌≡◌, ℕ, Bool, false, ◌||◌, not, cond, List, [], ◌∷◌, Option, Some, None, nat_le, ◌<◌, length}
+use Rattle.std.specs.Prelude.{◌≡◌, ℕ, Bool, false, ◌||◌, not, cond, List, [], ◌∷◌, Option, Some, None, nat_le}
 use Rattle.std.specs.Str.{bytes_eq}
 use Rattle.lsm_codec.specs.declared.kind.Kind.{Kind}
 use Rattle.lsm_codec.specs.declared.kind.Kind.TheVariants.{Deletion, Value}
@@ -47,8 +47,3 @@ pairs_of s told (e ∷ es) = cond (is_passed s told e) (pairs_of s told es) (put
 abbrev pub is_head_passed : ℕ → Option UserKey → List Entry → Bool
 is_head_passed s told [] = false
 is_head_passed s told (e ∷ es) = is_passed s told e
-
--- e is shown if it is a value, and then what is shown of the rest
-pub record IsTurn (s : ℕ) (told : Option UserKey) (es : List Entry) (e : Entry) (told' : Option UserKey) (rest : List Entry) : Type 0 where
-  pub same : pairs_of s told es ≡ put_pair e.kind (e.user, e.value) (pairs_of s told' rest)
-  pub fewer : length rest < length es

@@ -2,7 +2,7 @@
 use Rattle.std.proofs.Common.{◌≡◌, ℕ, ◌≤◌, ◌<◌, not, List, [], ◌∷◌, ◌++◌, refl, sym, ◌∙◌, ap, subst, inl, inr, ◌⊎◌, ◌==◌, cond}
 use Rattle.std.proofs.lemmas.Bool.{cases_Bool, both_ways, eqb-true, eq-eqb, not-true}
 use Rattle.lsm_codec.specs.Lists.{Has}
-use Rattle.lsm_codec.proofs.CallerLemmas.{has_cases, has_right, has_filter, filter_has}
+use Rattle.lsm_codec.proofs.CallerLemmas.{has_cases, filter_has}
 use Rattle.lsm_machine.specs.Plain.{Live, without_job, without_snapshot, booking, drawing}
 use Rattle.lsm_machine.specs.Law.{AreRising}
 
@@ -13,12 +13,6 @@ left_job ticket live a h =
     let r = filter_has (λ b. not (b.job.ticket == ticket)) live a h in
     (r.0, λ e. both_ways (a.job.ticket == ticket) (not-true (a.job.ticket == ticket) r.1) (eq-eqb a.job.ticket ticket e))
 
-pub stays_job : (ticket : ℕ) (live : List Live) (a : Live) → Has live a → (a.job.ticket ≡ ticket → ⊥) → Has (without_job ticket live) a
-stays_job ticket live a h ne = has_filter (λ b. not (b.job.ticket == ticket)) live a h (elim (cases_Bool (a.job.ticket == ticket)) [
-  | inl t ↦ absurd (ne (eqb-true a.job.ticket ticket t))
-  | inr f ↦ ap not f
-])
-
 pub left_snapshot : (id : ℕ) (ps : List (ℕ × ℕ)) (p : ℕ × ℕ) → Has (without_snapshot id ps) p → Has ps p
 left_snapshot id ps p h = (filter_has (λ q. not (q.0 == id)) ps p h).0
 
@@ -26,9 +20,6 @@ left_snapshot id ps p h = (filter_has (λ q. not (q.0 == id)) ps p h).0
 
 pub one_more : {X : Type 0} (xs : List X) (q p : X) → Has (xs ++ q ∷ []) p → Has xs p ⊎ (q ≡ p)
 one_more xs q p h = elim (has_cases xs (q ∷ []) p h) [ inl a ↦ inl a | inr b ↦ elim b [ inl e ↦ inr e | inr none ↦ absurd none ] ]
-
-pub last_one : {X : Type 0} (xs : List X) (q : X) → Has (xs ++ q ∷ []) q
-last_one xs q = has_right xs (q ∷ []) q (inl refl)
 
 -- ---- booked
 

@@ -1,7 +1,7 @@
 -- What is written for an edit spells it.
-use Rattle.std.proofs.Common.{◌≡◌, ℕ, ◌+◌, ◌-◌, ◌^◌, ◌<◌, ◌≤◌, List, [], ◌∷◌, ◌++◌, length, take, drop, map, get_or, Option, Some, None, Result, Ok, Err, refl, sym, ap, ◌∙◌, subst, append_assoc, arith}
+use Rattle.std.proofs.Common.{◌≡◌, ℕ, ◌+◌, ◌-◌, ◌^◌, ◌<◌, ◌≤◌, List, [], ◌∷◌, ◌++◌, length, take, drop, map, get_or, Option, Some, None, Result, Ok, Err, refl, sym, ap, ◌∙◌, append_assoc, arith}
 use Rattle.std.specs.Prelude.{OnOk}
-use Rattle.std.proofs.lemmas.List.{append-nil, get_or_default, map_push, take_at, take_more, take_all, take-append-drop}
+use Rattle.std.proofs.lemmas.List.{append-nil, get_or_default, map_push, take_at, take_more, take-append-drop}
 use Rattle.lsm_codec.specs.Varint.{IsVarint32, varint32, varint64}
 use Rattle.lsm_codec.proofs.CallerLemmas.{is_shortest}
 use Rattle.lsm_manifest.specs.declared.parts.CompactPointer.{CompactPointer}
@@ -104,9 +104,6 @@ pub adds_at : {A : Type 0} (make : A → Field) (old : List ℕ) (xs : List A) (
     → new ≡ out ++ field_text (make (get_or xs i d)) → FieldText (make (get_or xs i d)) (field_text (make (get_or xs i d))) → AddsFields old (map make (take (i + 1) xs)) new
 adds_at {A} make old xs i d out new lt a e t =
     adds_next make old xs i (get_or xs i d) out new lt (get_or_default xs i d (get_or xs i d) lt) a e t
-
-pub adds_all : {A : Type 0} (make : A → Field) (old : List ℕ) (xs : List A) (i : ℕ) (new : List ℕ) → length xs ≤ i → AddsFields old (map make (take i xs)) new → AddsFields old (map make xs) new
-adds_all {A} make old xs i new le a = subst (λ (ys : List A). AddsFields old (map make ys) new) (take_all i xs le) a
 
 -- what was there stays in front
 pub adds_front : (old : List ℕ) (fs : List Field) (mid new : List ℕ) (n m : ℕ) → n ≡ length old → m ≡ length mid → AddsFields old fs mid → take m new ≡ mid → take n new ≡ old

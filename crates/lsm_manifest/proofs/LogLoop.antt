@@ -135,15 +135,6 @@ runs_out_over all count i total records rest le g =
     let k : count - i ≡ 0 = omega arith in
     sym g.same ∙ ap (λ (n : ℕ). with_records records (records_at n total rest)) k ∙ alone records (length rest)
 
-pub goes_over_at_first : (text : List ℕ) → GoesOver (records_at (length text) (length text) text) (length text) 0 (length text) [] text
-goes_over_at_first text =
-    let k : length text - 0 ≡ length text = omega arith in
-    record { same = ap (λ (n : ℕ). with_records [] (records_at n (length text) text)) k ∙ nothing (records_at (length text) (length text) text); shorter = omega arith }
-  where
-    nothing : (read : Result Whole LogFault) → with_records [] read ≡ read
-    nothing (Ok w) = refl
-    nothing (Err e) = refl
-
 -- a fragment's type is no zero
 pub some_type : (kind : FragmentType) → type_byte kind ≡ 0 → ⊥
 some_type Full e = absurd (omega arith)

@@ -1,5 +1,5 @@
 -- What the bytes of a manifest spell: one list of edits, one edit more, the first of them.
-use Rattle.std.proofs.Common.{◌≡◌, ℕ, zero, suc, ◌+◌, ◌%◌, ◌<◌, List, [], ◌∷◌, ◌++◌, length, take, refl, ap, subst}
+use Rattle.std.proofs.Common.{◌≡◌, ℕ, zero, suc, ◌+◌, ◌%◌, ◌<◌, List, [], ◌∷◌, ◌++◌, length, take, refl, subst}
 use Rattle.lsm_manifest.specs.declared.edit.Edit.{Edit}
 use Rattle.lsm_manifest.specs.LogWriting.{record_text, Written}
 use Rattle.lsm_manifest.specs.Edit.{IsEdit}
@@ -34,12 +34,6 @@ edits_push [] [] r e a i = (i, tt)
 edits_push [] (f ∷ es) r e a i = absurd a
 edits_push (q ∷ rs) [] r e a i = absurd a
 edits_push (q ∷ rs) (f ∷ es) r e a i = (a.0, edits_push rs es r e a.1 i)
-
-pub edits_length : (rs : List (List ℕ)) (es : List Edit) → AreEdits rs es → length es ≡ length rs
-edits_length [] [] a = refl
-edits_length [] (e ∷ es) a = absurd a
-edits_length (r ∷ rs) [] a = absurd a
-edits_length (r ∷ rs) (e ∷ es) a = ap suc (edits_length rs es a.1)
 
 pub none_spelled : IsManifest [] [] 0
 none_spelled = record { records = []; log = log.done [] [] 0 record { spelled = refl; place_is = refl }; spelled = tt }

@@ -158,9 +158,6 @@ makes_copy k id v live s kept table_at =
     let at = slice_get_from_get_elem s.views id v table_at in
     (kept.0, cut kept.0 s.words s.views id v kept.1 at live v.parts 0 (omega arith) (kept.1.small id v at).few)
 
-pub copy_is : (v c : View) → v.live ≡ true → c ≡ copied_view v → IsCopy c
-copy_is v c live is = subst IsCopy (sym is) (record { live = live; count = refl; parts = refl; held = refl })
-
 before_join : (views : List View) (by other : ℕ) (w c : View) → ¬ (other ≡ by) → get_elem? (set views by w) other ≡ some c → slice_get views other ≡ Some c
 before_join views by other w c apart e = sym (set_else views by other w apart) ∙ slice_get_from_get_elem (set views by w) other c e
 

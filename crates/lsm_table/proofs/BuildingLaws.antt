@@ -64,10 +64,6 @@ pub any-first : (es : List Entry) → First None es
 any-first [] = tt
 any-first (e ∷ es) = tt
 
-pub ascends_front : (x : Entry) (xs ys : List Entry) → Ascends (x ∷ (xs ++ ys)) → Ascends (x ∷ xs)
-ascends_front x [] ys a = tt
-ascends_front x (y ∷ xs) ys a = (a.0, ascends_front y xs ys a.1)
-
 pub ascends_first : (x : Entry) (xs ys : List Entry) → Ascends (x ∷ (xs ++ ys)) → First (Some (internal_key (last_of x xs))) ys
 ascends_first x [] [] a = tt
 ascends_first x [] (y ∷ ys) a = a.0

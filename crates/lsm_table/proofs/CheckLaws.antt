@@ -1,5 +1,5 @@
 -- What a file was judged to be.
-use Rattle.std.proofs.Common.{◌≡◌, ℕ, Bool, true, false, List, Result, Ok, Err, refl, sym, ap, ◌∙◌, subst}
+use Rattle.std.proofs.Common.{◌≡◌, ℕ, Bool, true, false, List, Result, Ok, Err, refl, sym, ap, ◌∙◌}
 use Rattle.lsm_codec.specs.Entries.{Entry}
 use Rattle.lsm_codec.proofs.CallerLemmas.{IsBytes}
 use Rattle.lsm_table.specs.declared.table_fault.TableFault.{TableFault}
@@ -12,7 +12,7 @@ use Rattle.lsm_table.specs.HeldTable.{entries_in, HeldTable}
 use Rattle.lsm_table.specs.OpenTable.{IsOpened}
 use Rattle.lsm_table.proofs.ReadingLaws.{ok_is}
 use Rattle.lsm_table.proofs.FooterLaws.{footer_again}
-use Rattle.lsm_table.proofs.TableLaws.{table_takes, table_again}
+use Rattle.lsm_table.proofs.TableLaws.{table_takes}
 use Rattle.lsm_table.proofs.HeldTableLaws.{entries_in-is}
 use Rattle.lsm_table.proofs.JudgeLaws.{well}
 
@@ -43,9 +43,3 @@ unless_whole false fault (Err e) h = let same : e ≡ fault = cc in ap (λ (x : 
 -- the fault of the whole file
 pub fails_whole : (fault : TableFault) (file : List ℕ) → Fails fault (settled (table_at file)) → Fails fault (table_at file)
 fails_whole fault file h = unless_whole (is_memory fault) fault (table_at file) h
-
-pub only_well : (file : List ℕ) (es : List Entry) → IsTable file es → settled (table_at file) ≡ well → Ok es ≡ table_at file
-only_well file es t h = sym (table_again file es t)
-
-pub fails_only : (fault : TableFault) (file : List ℕ) (es : List Entry) → IsTable file es → Fails fault (table_at file) → Fails {Y = List Entry} fault (Ok es)
-fails_only fault file es t h = subst (λ (r : Result (List Entry) TableFault). Fails fault r) (table_again file es t) h

@@ -23,9 +23,6 @@ offset_read bytes handle h = ap varint64_at h.bytes_are ∙ varint_again 10 (2 ^
 pub size_read : (bytes : List ℕ) (handle : Handle) (h : IsHandle bytes handle) → varint64_at h.size_text ≡ Ok (handle.size, [])
 size_read bytes handle h = ap varint64_at (sym (append-nil h.size_text)) ∙ varint_again 10 (2 ^ 64 - 1) h.size_text [] handle.size h.size_is
 
-pub begins_at : (body : List ℕ) (handle : Handle) (es : List Entry) → BlockAt body handle es → handle.offset ≤ length body
-begins_at body handle es b = (slice_of body handle b.contents b.held).begins
-
 pub ends_at : (body : List ℕ) (handle : Handle) (es : List Entry) → BlockAt body handle es → handle.size ≤ length (drop handle.offset body)
 ends_at body handle es b = (slice_of body handle b.contents b.held).ends
 

@@ -1,5 +1,5 @@
 -- A search by the index finds what a search of all entries finds.
-use Rattle.std.proofs.Common.{◌≡◌, ℕ, ◌^◌, ◌<◌, Bool, true, false, List, [], ◌∷◌, ◌++◌, Option, Some, refl, sym, ap, ◌∙◌, inl, inr, Less}
+use Rattle.std.proofs.Common.{◌≡◌, ℕ, ◌^◌, ◌<◌, true, List, [], ◌∷◌, ◌++◌, Option, Some, refl, ap, ◌∙◌, Less}
 use Rattle.std.specs.List.{AllByRecursion}
 use Rattle.std.specs.Ordering.{is_lt, is_le}
 use Rattle.lsm_codec.specs.Keys.{InternalKey, key_cmp}
@@ -7,19 +7,8 @@ use Rattle.lsm_codec.specs.Entries.{Entry, internal_key, entry_cmp}
 use Rattle.lsm_block.specs.Block.{Spells, Ascends, key_text}
 use Rattle.lsm_block.specs.Seeking.{not_below}
 use Rattle.lsm_table.specs.Table.{DataBlock, DataBlocks, last_of, concat}
-use Rattle.lsm_table.proofs.KeyOrder.{key_cmp_total, le_less_trans, not_less, is_less, self_le}
-use Rattle.lsm_table.proofs.SearchLaws.{below-step, below-stop, below-nothing, either_bool, AllAfter, after_trans, less_le, ascends_after, ascends_tail, after_stays, SeqsFit}
-
-abbrev pub go_if : Bool → List Entry → List Entry → List Entry
-go_if true later here = later
-go_if false later here = here
-
--- The first data block whose index key is not below the key, from its first entry not below the key
--- on, and then all further ones.
-unfoldable pub from_index : InternalKey → List Entry → List (List Entry) → List Entry
-from_index key [] groups = []
-from_index key (i ∷ index) [] = []
-from_index key (i ∷ index) (group ∷ groups) = go_if (is_lt (key_cmp (internal_key i) key)) (from_index key index groups) (not_below key group ++ concat groups)
+use Rattle.lsm_table.proofs.KeyOrder.{key_cmp_total, le_less_trans, self_le}
+use Rattle.lsm_table.proofs.SearchLaws.{below-step, AllAfter, after_trans, less_le, ascends_after, ascends_tail, SeqsFit}
 
 -- ---- lists one after another
 
@@ -34,14 +23,6 @@ below_step_by key e es h = below-step key e es (ap is_lt h)
 pub all_below : (key : InternalKey) (xs ys : List Entry) → AllByRecursion (λ e. key_cmp (internal_key e) key ≡ Less) xs → not_below key (xs ++ ys) ≡ not_below key ys
 all_below key [] ys h = refl
 all_below key (x ∷ xs) ys h = below_step_by key x (xs ++ ys) h.0 ∙ all_below key xs ys h.1
-
-pub append_stays : (key : InternalKey) (xs ys : List Entry) → AllAfter key ys → not_below key (xs ++ ys) ≡ not_below key xs ++ ys
-append_stays key [] ys s = after_stays key ys s ∙ ap (λ (x : List Entry). x ++ ys) (sym (below-nothing key))
-append_stays key (x ∷ xs) ys s =
-    elim (either_bool (is_lt (key_cmp (internal_key x) key))) [
-      | inl below ↦ below-step key x (xs ++ ys) below ∙ append_stays key xs ys s ∙ ap (λ (z : List Entry). z ++ ys) (sym (below-step key x xs below))
-      | inr above ↦ below-stop key x (xs ++ ys) above ∙ ap (λ (z : List Entry). z ++ ys) (sym (below-stop key x xs above))
-    ]
 
 -- ---- data blocks between index keys
 
@@ -77,30 +58,7 @@ data_after body bound (i ∷ index) ((e ∷ es) ∷ groups) a d =
     let later = after_trans (internal_key bound) (internal_key i) (concat groups) (less_le (entry_cmp bound i) a.0) (data_after body i index groups a.1 d.3) in
     all_append (λ x. key_cmp (internal_key bound) (internal_key x) ≡ Less) (e ∷ es) (concat groups) here later
 
-pub index_finds : (key : InternalKey) (body : List ℕ) (bound : Option InternalKey) (index : List Entry) (groups : List (List Entry)) → Ascends index → DataBlocks body bound index groups
-    → not_below key (concat groups) ≡ from_index key index groups
-unfolding from_index
-index_finds key body bound [] [] a d = below-nothing key
-index_finds key body bound [] (group ∷ groups) a d = absurd d
-index_finds key body bound (i ∷ index) [] a d = absurd d
-index_finds key body bound (i ∷ index) ([] ∷ groups) a d = absurd d
-index_finds key body bound (i ∷ index) ((e ∷ es) ∷ groups) a d =
-    elim (either_bool (is_lt (key_cmp (internal_key i) key))) [
-      | inl below ↦
-          all_below key (e ∷ es) (concat groups)
-          (all_less i key (last_of e es) (e ∷ es) (up_to_last e es (block_ascends body i.value (e ∷ es) d.0)) d.2 (is_less (key_cmp (internal_key i) key) below))
-          ∙ index_finds key body (Some (internal_key i)) index groups (ascends_tail i index a) d.3
-          ∙ ap (λ (b : Bool). go_if b (from_index key index groups) (not_below key (e ∷ es) ++ concat groups)) (sym below)
-      | inr above ↦
-          append_stays key (e ∷ es) (concat groups) (after_trans key (internal_key i) (concat groups) (not_less (internal_key i) key above) (data_after body i index groups a d.3))
-          ∙ ap (λ (b : Bool). go_if b (from_index key index groups) (not_below key (e ∷ es) ++ concat groups)) (sym above)
-    ]
-
 -- ---- a table's entries ascend, and their sequences fit
-
-all_last : (P : Entry → Type 0) (e : Entry) (es : List Entry) → AllByRecursion P (e ∷ es) → P (last_of e es)
-all_last P e [] f = f.0
-all_last P e (g ∷ es) f = all_last P g es f.1
 
 -- ascending entries, then ascending entries that come after the last of them
 ascends_join : (e : Entry) (es ys : List Entry) → Ascends (e ∷ es) → AllAfter (internal_key (last_of e es)) ys → Ascends ys → Ascends (e ∷ (es ++ ys))

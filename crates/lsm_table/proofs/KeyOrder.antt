@@ -29,16 +29,6 @@ reverse_le Greater Greater e h = absurd cc
 pub not_less : (a b : InternalKey) → is_lt (key_cmp a b) ≡ false → is_le (key_cmp b a) ≡ true
 not_less a b h = reverse_le (key_cmp b a) (key_cmp a b) (key_cmp_total.antisymm b a) h
 
-reverse_lt : (o p : Ordering) → o ≡ ordering_reverse p → p ≡ Less → is_lt o ≡ false
-reverse_lt Less Less e h = absurd cc
-reverse_lt Less Equal e h = absurd cc
-reverse_lt Less Greater e h = absurd cc
-reverse_lt Equal p e h = refl
-reverse_lt Greater p e h = refl
-
-pub less_not : (a b : InternalKey) → key_cmp a b ≡ Less → is_lt (key_cmp b a) ≡ false
-less_not a b h = reverse_lt (key_cmp b a) (key_cmp a b) (key_cmp_total.antisymm b a) h
-
 pub is_less : (o : Ordering) → is_lt o ≡ true → o ≡ Less
 is_less Less e = refl
 is_less Equal e = absurd cc
@@ -52,11 +42,3 @@ self_le a = le_self (key_cmp a a) (key_cmp_total.antisymm a a)
     le_self Less e = refl
     le_self Equal e = refl
     le_self Greater e = absurd cc
-
-pub self_not : (a : InternalKey) → is_lt (key_cmp a a) ≡ false
-self_not a = not_self (key_cmp a a) (key_cmp_total.antisymm a a)
-  where
-    not_self : (o : Ordering) → o ≡ ordering_reverse o → is_lt o ≡ false
-    not_self Less e = absurd cc
-    not_self Equal e = refl
-    not_self Greater e = refl

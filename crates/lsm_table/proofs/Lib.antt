@@ -12,7 +12,6 @@ mod BuildingLaws
 mod MakingLaws
 mod HeldTableLaws
 mod Telling
-mod FoundLaws
 mod OpenLaws
 mod GetLaws
 mod CloseLaws

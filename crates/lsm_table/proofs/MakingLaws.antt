@@ -223,11 +223,6 @@ written_full options entries front taken index m full =
     let is = ap (λ (g : Grouped). data_text options.restart_interval g.closed) (m.falls ∙ ap (λ (x : Bool). closed_when x m.groups taken.entries) full) ∙ written_when options front m.groups taken.entries m.front_is in
     ap (λ (xs : List ℕ). length xs) is ∙ length-append front (stored block) ∙ ap (λ (n : ℕ). length front + n) (length-stored block)
 
-pub written_open : (options : TableOptions) (entries : List Entry) (front : List ℕ) (taken index : Building) → Made options entries front taken index → is_full options taken.entries ≡ false
-    → length (written_bytes options entries) ≡ length front
-written_open options entries front taken index m full =
-    ap (λ (g : Grouped). length (data_text options.restart_interval g.closed)) (m.falls ∙ ap (λ (x : Bool). closed_when x m.groups taken.entries) full) ∙ ap (λ (xs : List ℕ). length xs) (sym m.front_is)
-
 -- The file of the closed blocks, the last one, and their index.
 pub made_table : (options : TableOptions) (entries : List Entry) (front : List ℕ) (taken index : Building) (m : Made options entries front taken index) → IsBlock (block_bytes options.restart_interval taken.entries) taken.entries
     → IsBlock (index_block options.restart_interval (m.groups ++ last_group taken.entries)) (index_of options.restart_interval 0 (m.groups ++ last_group taken.entries))

@@ -1,7 +1,5 @@
 -- What a table is whose footer and index block were judged.
-use Rattle.std.proofs.Common.{◌≡◌, ℕ, ◌≤◌, Bool, true, false, leb, eqb, List, [], length, Option, None, Result, Ok, Err, refl, sym, ap, ◌∙◌, subst}
-use Rattle.std.specs.Prelude.{IfOk, IfErr}
-use Rattle.std.proofs.lemmas.Bool.{leb-true}
+use Rattle.std.proofs.Common.{◌≡◌, ℕ, Bool, true, false, eqb, List, [], length, Option, None, Result, Ok, Err, refl, sym, ap, ◌∙◌, subst}
 use Rattle.std.proofs.lemmas.List.{append-nil}
 use Rattle.lsm_codec.specs.Keys.{InternalKey}
 use Rattle.lsm_codec.specs.Entries.{Entry}
@@ -9,20 +7,17 @@ use Rattle.lsm_block.specs.Reading.{block_at}
 use Rattle.lsm_block.proofs.CallerLemmas.{block_again}
 use Rattle.lsm_table.specs.declared.table_fault.TableFault.{TableFault}
 use Rattle.lsm_table.specs.declared.table_fault.TableFault.TheVariants.{OutOfMemory, BadRestarts, BadEntry, OutOfOrder, ShortFile, BadMagic, BadHandle, BadChecksum, Compressed, BadBlockType, BadIndex}
-use Rattle.lsm_table.specs.declared.read_fault.ReadFault.{ReadFault}
-use Rattle.lsm_table.specs.declared.read_fault.ReadFault.TheVariants.{Shelf, Table}
 use Rattle.lsm_table.specs.declared.handle.Handle.{Handle}
-use Rattle.lsm_table.specs.declared.footer.Footer.{Footer}
-use Rattle.lsm_table.specs.Reading.{◌>>=◌, guarded, settled, is_memory, FailsUnless, Fails, Gives}
-use Rattle.lsm_table.specs.ReadFault.{IsMemory, IsMemoryOrShelf}
+use Rattle.lsm_table.specs.Reading.{◌>>=◌, guarded, settled, is_memory, FailsUnless, Fails}
+use Rattle.lsm_table.specs.ReadFault.{IsMemory}
 use Rattle.lsm_table.specs.Handle.{handle_at}
 use Rattle.lsm_table.specs.StoredBlock.{Holds, contents_at}
 use Rattle.lsm_table.specs.Footer.{footer_at, body_of}
 use Rattle.lsm_table.specs.Table.{DataBlock, IsTable, concat}
 use Rattle.lsm_table.specs.TableReading.{block_or, are_placed, data_block_at, data_at, table_at}
 use Rattle.lsm_table.specs.HeldTable.{HeldTable, Names, BlockAt}
-use Rattle.lsm_table.specs.OpenTable.{opening_at, IsOpened, Opens, block_named}
-use Rattle.lsm_table.proofs.ReadingLaws.{guard_ok, ok_is}
+use Rattle.lsm_table.specs.OpenTable.{opening_at, IsOpened, block_named}
+use Rattle.lsm_table.proofs.ReadingLaws.{ok_is}
 use Rattle.lsm_table.proofs.HandleLaws.{handle_again}
 use Rattle.lsm_table.proofs.StoredBlockLaws.{contents_again}
 use Rattle.lsm_table.proofs.FooterLaws.{footer_again}
@@ -41,10 +36,6 @@ three_then (Err fault) f g h = refl
 three_then (Ok x) f g h = two_then (f x) g h
 
 -- ---- opening
-
-pub long_enough : (file : List ℕ) (footer : Footer) → footer_at file ≡ Ok footer → 48 ≤ length file
-unfolding footer_at
-long_enough file footer e = leb-true 48 (length file) (guard_ok (leb 48 (length file)) ShortFile _ footer e).0
 
 -- what opening reads, of what is opened
 pub opening_is : (file : List ℕ) (index : Handle) (es : List Entry) → IsOpened file index → BlockAt (body_of file) index es → opening_at file ≡ Ok es
@@ -109,16 +100,6 @@ fails_opening fault file f =
     subst (λ (r : Result (List Entry) TableFault). Fails fault (settled r)) (sym (opens_first file))
     (unless_opened (is_memory fault) fault (opening_at file) (λ index. data_at (body_of file) None index >>= λ groups. Ok (concat groups)) f)
 
--- ---- faults
-
-unless_memory : {X Y : Type 0} (memory : Bool) (fault : TableFault) (x : X) (r : Result Y TableFault) → FailsUnless {Y = X} memory fault (Ok x) → FailsUnless memory fault r
-unless_memory true fault x r h = tt
-unless_memory false fault x r h = absurd cc
-
--- a fault of what is read well is want of memory
-pub fails_any : {X Y : Type 0} (fault : TableFault) (x : X) (r : Result Y TableFault) → Fails {Y = X} fault (Ok x) → Fails fault r
-fails_any fault x r h = unless_memory (is_memory fault) fault x r h
-
 -- ---- the data block that an index entry names
 
 pub named_again : (body place : List ℕ) (es : List Entry) → DataBlock body place es → block_named body place ≡ Ok es
@@ -131,10 +112,6 @@ named_again body place es d =
 
 pub named_there : (body place : List ℕ) (block es : List Entry) → block_named body place ≡ Ok block → DataBlock body place es → block ≡ es
 named_there body place block es e d = ok_is block es (sym e ∙ named_again body place es d)
-
--- a fault of a data block that is one is want of memory
-pub named_fails : {Y : Type 0} (fault : TableFault) (body place : List ℕ) (es : List Entry) (r : Result Y TableFault) → DataBlock body place es → Fails fault (block_named body place) → Fails fault r
-named_fails fault body place es r d f = fails_any fault es r (subst (λ (read : Result (List Entry) TableFault). Fails fault read) (named_again body place es d) f)
 
 pub read_names : (file read body : List ℕ) (es index : List Entry) → IsTable file es → read ≡ file → body ≡ body_of read → opening_at read ≡ Ok index → Names body index es
 read_names file read body es index t same is e =
@@ -176,18 +153,3 @@ memory_only (BadChecksum offset) x f = absurd cc
 memory_only (Compressed kind) x f = absurd cc
 memory_only (BadBlockType kind) x f = absurd cc
 memory_only BadIndex x f = absurd cc
-
--- what a reader returned that reads a value: that value, or want of memory
-pub gives_value : {X Y : Type 0} (see : X → Y) (r : Result X TableFault) (y : Y) → Gives see r (Ok y) → IfOk r (λ x. see x ≡ y)
-gives_value see (Ok x) y g = sym (ok_is y (see x) g)
-gives_value see (Err fault) y g = tt
-
-pub gives_memory : {X Y : Type 0} (see : X → Y) (r : Result X TableFault) (y : Y) → Gives see r (Ok y) → IfErr r IsMemory
-gives_memory see (Ok x) y g = tt
-gives_memory see (Err fault) y g = memory_only fault y g
-
--- A table is opened, unless the shelf refuses or memory runs out.
-pub opens_table : {X : Type 0} (r : Result X ReadFault) (image : List ℕ) (es : List Entry) → IsTable image es → Opens r (opening_at image) → IfErr r IsMemoryOrShelf
-opens_table (Ok x) image es t o = tt
-opens_table (Err (Shelf fault)) image es t o = tt
-opens_table (Err (Table fault)) image es t o = memory_only fault t.index (subst (λ (r : Result (List Entry) TableFault). Fails fault r) (opening_again image es t) o)

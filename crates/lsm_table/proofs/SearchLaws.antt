@@ -14,7 +14,7 @@ use Rattle.lsm_codec.proofs.CallerLemmas.{key_from_test, test_from_key, user_le_
 use Rattle.lsm_block.specs.Block.{Ascends}
 use Rattle.lsm_block.specs.Seeking.{not_below, drop_if}
 use Rattle.lsm_table.specs.Searching.{read_key, of_user}
-use Rattle.lsm_table.proofs.KeyOrder.{le_less_trans, not_less, less_not, is_less}
+use Rattle.lsm_table.proofs.KeyOrder.{le_less_trans, not_less, is_less}
 
 -- ---- the first entry not below a key
 
@@ -54,11 +54,6 @@ ascends_after e (f ∷ es) s = (s.0, after_trans (internal_key e) (internal_key 
 pub ascends_tail : (e : Entry) (es : List Entry) → Ascends (e ∷ es) → Ascends es
 ascends_tail e [] s = tt
 ascends_tail e (f ∷ es) s = s.1
-
--- nothing of what comes after a key is below it
-pub after_stays : (key : InternalKey) (es : List Entry) → AllAfter key es → not_below key es ≡ es
-after_stays key [] s = below-nothing key
-after_stays key (e ∷ es) s = below-stop key e es (less_not key (internal_key e) s.0)
 
 -- ---- keys of one user
 
@@ -150,9 +145,6 @@ not_allowed_below k s e h false t = refl
 not_allowed_below k s e h true t =
     let a = allowed_says k s e t in
     absurd (omega (arith, packed_falls (internal_key e) (read_key k s) h a.key, a.seq, kind_number_le e.kind))
-
-and_not : (b : Bool) → (false && b) ≡ false
-and_not b = refl
 
 other_user : (k : UserKey) (s : ℕ) (e : Entry) → bytes_eq e.user k ≡ false → is_allowed k s e ≡ false
 other_user k s e h = ap (λ (b : Bool). b && nat_le e.seq s) h

@@ -1,6 +1,6 @@
 -- What the builder's steps leave.
-use Rattle.std.proofs.Common.{◌≡◌, ℕ, ◌^◌, ◌<◌, ◌≤◌, true, false, List, [], ◌++◌, length, sym, ap, ◌∙◌, subst, arith}
-use Rattle.std.proofs.lemmas.Bool.{le-leb, lt-leb}
+use Rattle.std.proofs.Common.{◌≡◌, ℕ, ◌^◌, ◌<◌, ◌≤◌, true, List, [], ◌++◌, length, sym, ap, ◌∙◌, subst, arith}
+use Rattle.std.proofs.lemmas.Bool.{le-leb}
 use Rattle.lsm_codec.specs.Entries.{Entry}
 use Rattle.lsm_block.specs.Block.{IsBlock, Ascends}
 use Rattle.lsm_block.specs.Building.{block_bytes, Building}
@@ -31,11 +31,6 @@ pub full_is : (options : TableOptions) (entries : List Entry) (front : List ℕ)
 full_is options entries front taken index size m s h =
     let same : length (block_bytes taken.interval taken.entries) ≡ length (block_bytes options.restart_interval taken.entries) = ap (λ (n : ℕ). length (block_bytes n taken.entries)) m.taken_by in
     le-leb _ _ (omega (arith, same, s, h))
-
-pub not_full_is : (options : TableOptions) (entries : List Entry) (front : List ℕ) (taken index : Building) (size : ℕ) → Made options entries front taken index → size ≡ length (block_bytes taken.interval taken.entries) → size < options.block_size → is_full options taken.entries ≡ false
-not_full_is options entries front taken index size m s h =
-    let same : length (block_bytes taken.interval taken.entries) ≡ length (block_bytes options.restart_interval taken.entries) = ap (λ (n : ℕ). length (block_bytes n taken.entries)) m.taken_by in
-    lt-leb _ _ (omega (arith, same, s, h))
 
 -- ---- closing
 

@@ -9,7 +9,3 @@ use Rattle.lsm_table.specs.declared.read_fault.ReadFault.TheVariants as read
 pub read_counted_later : (e : ReadFault) (a b c : Told) → Becomes a b → ReadCounted e b c → ReadCounted e a c
 read_counted_later (read.Shelf fault) a b c p q = (q.0, counted_later fault a b c p q.1)
 read_counted_later (read.Table fault) a b c p q = tt
-
-pub read_counted_before : (e : ReadFault) (a b c : Told) → ReadCounted e a b → Becomes b c → ReadCounted e a c
-read_counted_before (read.Shelf fault) a b c p q = (p.0, counted_before fault a b c p.1 q)
-read_counted_before (read.Table fault) a b c p q = tt

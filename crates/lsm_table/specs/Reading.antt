@@ -1,5 +1,7 @@
 -- Steps of a reader: each goes on from what the step before it gave, or is the first fault.
-use Rattle.std.specs.Prelude.{◌≡◌, ℕ, Bool, true, false, List, Result, Ok, Err}
+use Rattle.std.specs.Prelude.{ℕ, Bool, true, false, List, Result, Ok, Err}
+use Rattle.lsm_codec.specs.Gives as answer
+pub use Rattle.lsm_codec.specs.Gives.{FailsUnless}
 use Rattle.lsm_codec.specs.declared.fault.CodecFault.{CodecFault}
 use Rattle.lsm_table.specs.declared.table_fault.TableFault.{TableFault}
 use Rattle.lsm_table.specs.declared.table_fault.TableFault.TheVariants.{OutOfMemory}
@@ -30,15 +32,10 @@ abbrev pub is_memory : TableFault → Bool
 is_memory OutOfMemory = true
 is_memory _ = false
 
-abbrev pub FailsUnless : {Y : Type 0} → Bool → TableFault → Result Y TableFault → Type 0
-FailsUnless true fault read = Unit {0}
-FailsUnless false fault read = read ≡ Err fault
-
 -- The fault is the first one, or memory ran out.
 abbrev pub Fails : {Y : Type 0} → TableFault → Result Y TableFault → Type 0
-Fails fault read = FailsUnless (is_memory fault) fault read
+Fails fault read = answer.Fails is_memory fault read
 
 -- What a reader returned is what reading gives, unless memory ran out.
 abbrev pub Gives : {X Y : Type 0} → (X → Y) → Result X TableFault → Result Y TableFault → Type 0
-Gives see (Ok x) read = read ≡ Ok (see x)
-Gives see (Err fault) read = Fails fault read
+Gives see result read = answer.Gives is_memory see result read

@@ -1,5 +1,6 @@
 -- Tables, as contracts see them (this project's rule).
 use Rattle.std.specs.Prelude.{ℕ, List, length}
+use Rattle.std.specs.List.{sum_by}
 
 -- a record of the registry at its index, with the image for which its receipt stands
 pub record Table : Type 0 where
@@ -18,3 +19,7 @@ image_of t = t.image
 -- the size of its file in bytes
 abbrev pub size_of : Table → ℕ
 size_of t = length (image_of t)
+
+-- the sizes of the files of tables, together
+abbrev pub bytes_of : List Table → ℕ
+bytes_of ts = sum_by size_of ts

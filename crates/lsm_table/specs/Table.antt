@@ -4,7 +4,7 @@ use Rattle.std.specs.Prelude.{◌≡◌, ℕ, true, List, [], ◌∷◌, ◌++�
 use Rattle.std.specs.List.{flat_map}
 use Rattle.std.specs.Ordering.{is_le}
 use Rattle.std.specs.declared.cmp.Ordering.TheVariants.{Less}
-use Rattle.lsm_codec.specs.Keys.{InternalKey, key_cmp}
+use Rattle.lsm_codec.specs.Keys.{InternalKey, IsKey, key_cmp}
 use Rattle.lsm_codec.specs.Entries.{Entry, internal_key, entry_cmp}
 use Rattle.lsm_block.specs.Block.{IsBlock}
 use Rattle.lsm_table.specs.declared.handle.Handle.{Handle}
@@ -59,3 +59,15 @@ pub record IsTable (bytes : List ℕ) (entries : List Entry) : Type 0 where
   pub indexed : IsBlock contents index
   pub blocks : DataBlocks body None index groups
   pub entries_are : concat groups ≡ entries
+
+-- a table of these entries, of which there is one at least, and its first and last internal key
+pub record IsImage (entries : List Entry) (smallest largest image : List ℕ) : Type 0 where
+  pub first : Entry
+  pub rest : List Entry
+  pub front : List Entry
+  pub last : Entry
+  pub table : IsTable image entries
+  pub begins : entries ≡ first ∷ rest
+  pub ends : entries ≡ front ++ last ∷ []
+  pub smallest_is : IsKey smallest (internal_key first)
+  pub largest_is : IsKey largest (internal_key last)
