@@ -28,8 +28,8 @@ pub(crate) fn compare_behind(a: &[u8], b: &[u8], front: usize) -> (Ordering, usi
     (own.cmp(other), front + more)
 }
 
-/// Whether a key stands before the other one, or is it; and how many bytes their user keys share, of
-/// which so many are known.
+/// Whether a key stands before the other one, or is it; and how many bytes their user keys share,
+/// of which so many are known.
 fn keys_judged(own: &KeyRef<'_>, other: &KeyRef<'_>, front: usize) -> (bool, usize)
     requires { SharesFront front (key_of own.now).user (key_of other.now).user }
     ensures led { result.0 ≡ is_le (key_cmp (key_of own.now) (key_of other.now)) }

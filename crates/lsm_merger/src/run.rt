@@ -238,8 +238,8 @@ impl<N: Naming, S: Shelf> Run<N, S> {
     }
 
     /// Goes on to the next entry, or to the end, and tells how many bytes of its user key are known
-    /// to be those of the user key before it. The next table is opened before it lets go of the last
-    /// entry of the one before, so an `Err` leaves it.
+    /// to be those of the user key before it. The next table is opened before it lets go of the
+    /// last entry of the one before, so an `Err` leaves it.
     pub fn advance_by<B: Blocks<S>>(
         &mut self,
         blocks: &mut B,

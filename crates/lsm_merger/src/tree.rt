@@ -17,8 +17,8 @@ use lsm_reader::Blocks;
 use lsm_table::{Naming, Shelf};
 use std::alloc::{AllocError, Global};
 
-/// A source, or the merge of two trees, with whether the first of them leads, and with how many bytes
-/// at the fronts of the user keys of their first entries are known to be the same.
+/// A source, or the merge of two trees, with whether the first of them leads, and with how many
+/// bytes at the fronts of the user keys of their first entries are known to be the same.
 #[derive(Drop)]
 pub(crate) enum Tree<X> {
     Leaf(X),

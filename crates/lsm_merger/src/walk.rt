@@ -144,8 +144,8 @@ impl<N: Naming, S: Shelf> Walk<N, S> {
     }
 
     /// The user key at which the merge stands is now the one that is remembered: what stands behind
-    /// the front that both share is copied. Where the merge stands at none, nothing changes. An `Err`
-    /// leaves all.
+    /// the front that both share is copied. Where the merge stands at none, nothing changes. An
+    /// `Err` leaves all.
     pub fn remember(&mut self) -> Result<(), AllocError>
         ensures ok { OnOk result (self.new ≡ record { left = self.old.left; passed = passed_by self.old.passed (first_of self.old.left.placed) }) }
         ensures err { OnErr result (self.new ≡ self.old) }
