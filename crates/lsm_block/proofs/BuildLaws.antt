@@ -5,7 +5,7 @@ use Rattle.std.specs.Prelude.{◌&&◌, Contains}
 use Rattle.std.specs.List.{flat_map, AllByRecursion}
 use Rattle.std.specs.Int.{w32, to_le_bytes}
 use Rattle.std.proofs.lemmas.Bool.{eqb-true, eq-eqb, ne_eqb, lt-ltb}
-use Rattle.std.proofs.lemmas.List.{length-append, append-nil, take-append-drop, drop_all, length-take-le}
+use Rattle.std.proofs.lemmas.List.{length-append, append-nil, take-append-drop, drop_all, drop-drop, length-drop, length-take-le}
 use Rattle.lsm_codec.specs.Varint.{varint32}
 use Rattle.lsm_codec.specs.Keys.{InternalKey, key_bytes}
 use Rattle.lsm_codec.specs.Entries.{Entry, internal_key, entry_cmp}
@@ -270,6 +270,22 @@ common-empty (x ∷ xs) = refl
 
 pub common-end_right : (xs ys : List ℕ) (i : ℕ) → length ys ≤ i → common (drop i xs) (drop i ys) ≡ 0
 common-end_right xs ys i h = ap (common (drop i xs)) (drop_all i ys h) ∙ common-empty (drop i xs)
+
+common-front_on : (n x y : ℕ) (xs ys : List ℕ) → x ≡ y → common xs ys ≡ n + common (drop n xs) (drop n ys) → common (x ∷ xs) (y ∷ ys) ≡ suc n + common (drop n xs) (drop n ys)
+unfolding common
+common-front_on n x y xs ys e h =
+    ap (λ (b : Bool). one_more b (common xs ys)) (eq-eqb x y e) ∙ omega (arith, h)
+
+-- where fronts are the same, what is common goes on behind them
+pub common-front : (n : ℕ) (xs ys : List ℕ) → n ≤ length xs → n ≤ length ys → take n xs ≡ take n ys → common xs ys ≡ n + common (drop n xs) (drop n ys)
+common-front zero xs ys h k e = omega arith
+common-front (suc n) [] ys h k e = absurd (omega (arith, h))
+common-front (suc n) (x ∷ xs) [] h k e = absurd (omega (arith, k))
+common-front (suc n) (x ∷ xs) (y ∷ ys) h k e = common-front_on n x y xs ys (cc) (common-front n xs ys (omega (arith, h)) (omega (arith, k)) (cc))
+
+pub common-further : (n i : ℕ) (xs ys : List ℕ) → i + n ≤ length xs → i + n ≤ length ys → take n (drop i xs) ≡ take n (drop i ys) → common (drop i xs) (drop i ys) ≡ n + common (drop (i + n) xs) (drop (i + n) ys)
+common-further n i xs ys h k e =
+    rw (← drop-drop n i xs, ← drop-drop n i ys) (common-front n (drop i xs) (drop i ys) (omega (arith, h, length-drop i xs)) (omega (arith, k, length-drop i ys)) e)
 
 -- ---- a builder
 

@@ -1,11 +1,14 @@
 -- A cursor that stands at an entry.
-use Rattle.std.proofs.Common.{◌≡◌, ℕ, ◌+◌, ◌-◌, ◌<◌, List, ◌++◌, length, take, drop, Some, refl, sym, ap, ◌∙◌, subst, append_assoc, arith}
+use Rattle.std.proofs.Common.{◌≡◌, ℕ, ◌+◌, ◌-◌, ◌<◌, ◌≤◌, Bool, true, false, min, List, ◌++◌, length, take, drop, Option, Some, None, refl, sym, ap, ◌∙◌, subst, append_assoc, arith}
 use Rattle.std.specs.Option.{option_map}
+use Rattle.lsm_codec.specs.Keys.{InternalKey, is_internal, user_of, key_at}
+use Rattle.lsm_codec.specs.Entries.{Entry}
 use Rattle.lsm_codec.proofs.CallerLemmas.{IsBytes}
-use Rattle.std.proofs.lemmas.List.{take_at, drop_at, length-append, take-append-drop}
+use Rattle.std.proofs.lemmas.List.{take_at, drop_at, take-take, length-take, length-take-le, length-append, take-append-drop}
 use Rattle.lsm_block.specs.Reading.{Piece, entry_at}
 use Rattle.lsm_block.specs.Walking.{seen}
-use Rattle.lsm_block.specs.Standing.{bytes_before, EndsAt}
+use Rattle.lsm_block.specs.Held.{Kept, last_if, last_of}
+use Rattle.lsm_block.specs.Standing.{bytes_before, EndsAt, SharesFront, with_key, user_of_first, user_of_last}
 use Rattle.lsm_block.proofs.EntryLaws.{entry_cut, IsBytes-drop}
 use Rattle.lsm_block.proofs.SeenLaws.{sees, seen_some}
 
@@ -41,3 +44,42 @@ read_ends text before offset shared key value after fits lt e =
     let front = take offset text ++ cut.0 in
     let whole : text ≡ front ++ (s.piece.value ++ after) = sym (take-append-drop offset text) ∙ ap (λ (x : List ℕ). take offset text ++ x) cut.1 ∙ simp append_assoc in
     subst (λ (v : List ℕ). EndsAt text (length text - length after) v) s.value_is (ends_in text front s.piece.value after whole)
+
+-- ---- how many bytes are those of the key before
+
+-- a key that is put together has those bytes of the one before it
+pub shares_joined : (shared : ℕ) (before own : List ℕ) → shared ≤ length before → SharesFront shared before (take shared before ++ own)
+shares_joined shared before own within =
+    let len : length (take shared before) ≡ shared = length-take-le shared before within in
+    record {
+      same = sym (take_at (take shared before) own shared len);
+      first = within;
+      second = omega (arith, len, length-append (take shared before) own);
+    }
+
+-- where keys have bytes in common, their user keys have them as far as they go
+shares_users : (shared n : ℕ) (a b : List ℕ) → SharesFront shared a b → n ≤ shared → n ≤ length a - 8 → n ≤ length b - 8 → SharesFront n (user_of a) (user_of b)
+shares_users shared n a b s within in_a in_b = record {
+  same = take-take n (length a - 8) a in_a ∙ (sym (take-take n shared a within) ∙ ap (take n) s.same ∙ take-take n shared b within) ∙ sym (take-take n (length b - 8) b in_b);
+  first = omega (arith, in_a, length-take (length a - 8) a);
+  second = omega (arith, in_b, length-take (length b - 8) b);
+}
+
+-- the user key of bytes that are kept
+user_kept : (bytes : List ℕ) → Kept (last_of bytes) bytes → user_of_last (last_of bytes) ≡ user_of bytes
+unfolding last_of key_at
+user_kept bytes kept = by_test (is_internal bytes) kept
+  where
+    by_test : (b : Bool) → Kept (last_if b bytes) bytes → user_of_last (last_if b bytes) ≡ user_of bytes
+    by_test true kept = refl
+    by_test false kept = sym (ap user_of kept)
+
+pub shares_kept : (shared n : ℕ) (a b : List ℕ) → SharesFront shared a b → Kept (last_of a) a → Kept (last_of b) b → n ≡ min (min shared (length a - 8)) (length b - 8)
+    → SharesFront n (user_of_last (last_of a)) (user_of_last (last_of b))
+shares_kept shared n a b s kept_a kept_b is =
+    rw (user_kept a kept_a, user_kept b kept_b) (shares_users shared n a b s (omega (arith, is)) (omega (arith, is)) (omega (arith, is)))
+
+-- the user key of the first entry, where a cursor stands at it
+pub user_here : (last : Option InternalKey) (value : List ℕ) (rest : List Entry) → user_of_first (with_key last value rest) ≡ user_of_last last
+user_here None value rest = refl
+user_here (Some key) value rest = refl

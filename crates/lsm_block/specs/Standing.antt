@@ -71,6 +71,11 @@ abbrev pub IsMoved : Bool → List Entry → List Entry → Type 0
 IsMoved true old new = (but_first old ≡ new) × (IsSome (key_of_first new))
 IsMoved false old new = (but_first old ≡ []) × (new ≡ old)
 
+-- the user key of the key before a place; no bytes where there is none
+abbrev pub user_of_last : Option InternalKey → UserKey
+user_of_last None = []
+user_of_last (Some key) = key.user
+
 -- Two user keys have the same bytes at their fronts, so many. They may have more in common.
 pub record SharesFront (count : ℕ) (a b : UserKey) : Type 0 where
   pub same : take count a ≡ take count b

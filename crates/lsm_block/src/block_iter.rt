@@ -1,11 +1,11 @@
 //! A place at an entry of a block that others may hold too.
 
-ghost use Rattle.std.specs.Prelude.{◌≡◌, [], IfOk, OnOk, OnErr};
+ghost use Rattle.std.specs.Prelude.{◌≡◌, [], ℕ, IfOk, IfSome, OnOk, OnErr};
 ghost use Rattle.std.specs.Option.{option_map};
 ghost use Rattle.std.specs.Arc.{arc_value};
 ghost use Rattle.lsm_codec.specs.KeyRef.{key_of};
 ghost use Rattle.lsm_block.specs.Seeking.{not_below};
-ghost use Rattle.lsm_block.specs.Standing.{StepsTo, IsMovedBy, but_first, is_end, key_of_first, value_of_first};
+ghost use Rattle.lsm_block.specs.Standing.{StepsTo, IsMovedBy, SharesFront, but_first, is_end, key_of_first, user_of_last, value_of_first};
 
 use crate::block::Block;
 use crate::cursor::Cursor;
@@ -40,15 +40,27 @@ impl Model for BlockIter {
     ghost invariant = { λ i. IsStanding (arc_value i.block) i.cursor i.len };
 }
 
-/// Goes to the next entry, and tells the length of its value; stays where there is none. An `Err`
-/// leaves the cursor.
-fn step(block: &Block, cursor: &mut Cursor) -> Result<Option<usize>, AllocError>
-    ensures steps { IfOk result (λ len. StepsTo block.now cursor.old cursor.new len) }
+/// Goes to the next entry, and tells the length of its value and how many bytes of its user key are
+/// those of the user key before it; stays where there is none. An `Err` leaves the cursor.
+fn step(block: &Block, cursor: &mut Cursor) -> Result<Option<(usize, usize)>, AllocError>
+    ensures steps { IfOk result (λ r. StepsTo block.now cursor.old cursor.new (option_map (λ p. p.0) r)) }
+    ensures shared { IfOk result (λ r. IfSome r (λ p. SharesFront p.1 (user_of_last cursor.old.last) (user_of_last cursor.new.last))) }
     ensures err { OnErr result (cursor.new ≡ cursor.old) }
 {
-    match cursor.next(block)? {
+    let (value, shared) = block.as_ref().step(cursor)?;
+    match value {
         None => Ok(None),
-        Some(value) => Ok(Some(value.len())),
+        Some(value) => Ok(Some((value.len(), shared))),
+    }
+}
+
+/// The same, without how many bytes are those of the key before.
+fn enter(block: &Block, cursor: &mut Cursor) -> Result<Option<usize>, AllocError>
+    ensures steps { IfOk result (λ len. StepsTo block.now cursor.old cursor.new len) }
+{
+    match step(block, cursor)? {
+        None => Ok(None),
+        Some((len, _)) => Ok(Some(len)),
     }
 }
 
@@ -63,7 +75,7 @@ impl BlockIter {
         let mut cursor = Cursor::start(alloc);
         let held: &Block = &block;
         held.as_ref().rewind(&mut cursor);
-        let len = step(held, &mut cursor)?;
+        let len = enter(held, &mut cursor)?;
         Ok(BlockIter { block, cursor, len })
     }
 
@@ -76,7 +88,7 @@ impl BlockIter {
     {
         let held: &Block = &block;
         let mut cursor = held.seek(alloc, key)?;
-        let len = step(held, &mut cursor)?;
+        let len = enter(held, &mut cursor)?;
         Ok(BlockIter { block, cursor, len })
     }
 
@@ -122,9 +134,9 @@ impl BlockIter {
         }
         match step(&self.block, &mut self.cursor)? {
             None => Ok(None),
-            Some(len) => {
+            Some((len, shared)) => {
                 self.len = Some(len);
-                Ok(Some(0))
+                Ok(Some(shared))
             }
         }
     }

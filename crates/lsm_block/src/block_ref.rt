@@ -10,7 +10,7 @@ ghost use Rattle.lsm_codec.specs.Entries.{Entry};
 ghost use Rattle.lsm_block.specs.Reading.{block_at};
 ghost use Rattle.lsm_codec.specs.Gives.{Gives};
 ghost use Rattle.lsm_block.specs.Held.{Holds, rest_of, last_after, text_and_entries, held, block_in, Given};
-ghost use Rattle.lsm_block.specs.Standing.{Stands, bytes_before};
+ghost use Rattle.lsm_block.specs.Standing.{Stands, SharesFront, bytes_before, user_of_last};
 
 use crate::check::parts;
 use crate::cursor::Cursor;
@@ -106,6 +106,17 @@ impl<'a> BlockRef<'a> {
         ensures err { OnErr result (cursor.new ≡ cursor.old) }
     {
         cursor.next_in(self.text)
+    }
+
+    /// The same, and tells how many bytes of its user key are those of the user key before it, as
+    /// far as the block spells them once.
+    pub(crate) fn step(&self, cursor: &mut Cursor) -> Result<(Option<&'a [u8]>, usize), AllocError>
+        ensures given { IfOk result (λ r. Given self.now cursor.old cursor.new (option_map (λ v. v.now) r.0)) }
+        ensures stands { IfOk result (λ r. Stands self.now.text cursor.old cursor.new (option_map (λ v. v.now) r.0)) }
+        ensures shared { IfOk result (λ r. SharesFront r.1 (user_of_last cursor.old.last) (user_of_last cursor.new.last)) }
+        ensures err { OnErr result (cursor.new ≡ cursor.old) }
+    {
+        cursor.step_in(self.text)
     }
 
     /// The bytes of the text before an offset, so many.

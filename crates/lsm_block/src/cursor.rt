@@ -9,11 +9,12 @@ ghost use Rattle.lsm_block.specs.Seeking.{not_below, Parts};
 ghost use Rattle.lsm_block.specs.Reading.{block_at};
 ghost use Rattle.lsm_codec.specs.Gives.{Fails};
 ghost use Rattle.lsm_block.specs.Held.{rest_of, text_and_entries, last_after, Holds, Given};
-ghost use Rattle.lsm_block.specs.Standing.{Stands, bytes_before};
+ghost use Rattle.lsm_block.specs.Standing.{Stands, SharesFront, bytes_before, user_of_last};
 
 use crate::block::Block;
 use crate::check::check_text;
 use crate::fault::BlockFault;
+use crate::key::shared_by_users;
 use crate::search::{find_restart, scan_to, step};
 use lsm_codec::KeyRef;
 use std::alloc::{AllocError, Global};
@@ -152,8 +153,25 @@ impl Cursor {
         ensures stands { IfOk result (λ r. Stands text.now self.old self.new (option_map (λ v. v.now) r)) }
         ensures err { OnErr result (self.new ≡ self.old) }
     {
-        let (value, offset) = step(text, self.offset, &mut self.before)?;
-        self.offset = offset;
+        let (value, _) = self.step_in(text)?;
         Ok(value)
+    }
+
+    /// The same, and tells how many bytes of its user key are those of the user key before it, as
+    /// far as the text spells them once.
+    pub(crate) fn step_in<'b>(
+        &mut self,
+        text: &'b [u8],
+    ) -> Result<(Option<&'b [u8]>, usize), AllocError>
+        ensures given { IfOk result (λ r. Given (text_and_entries text.now) self.old self.new (option_map (λ v. v.now) r.0)) }
+        ensures stands { IfOk result (λ r. Stands text.now self.old self.new (option_map (λ v. v.now) r.0)) }
+        ensures shared { IfOk result (λ r. SharesFront r.1 (user_of_last self.old.last) (user_of_last self.new.last)) }
+        ensures err { OnErr result (self.new ≡ self.old) }
+    {
+        let before_len = self.before.as_slice().len();
+        let (value, offset, shared) = step(text, self.offset, &mut self.before)?;
+        self.offset = offset;
+        let users = shared_by_users(shared, before_len, self.before.as_slice().len());
+        Ok((value, users))
     }
 }

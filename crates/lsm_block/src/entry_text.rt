@@ -1,7 +1,7 @@
 //! The text of an entry as it is written.
 
-ghost use Rattle.std.specs.Prelude.{◌≡◌, ℕ, ◌+◌, ◌/◌, ◌^◌, ◌<◌, ◌≤◌, ◌++◌, List, length, take, vec_len, OnOk, OnErr};
-ghost use Rattle.std.specs.Int.{w32, to_le_bytes};
+ghost use Rattle.std.specs.Prelude.{◌≡◌, ℕ, ◌+◌, ◌/◌, ◌^◌, ◌<◌, ◌≤◌, ◌++◌, List, length, take, drop, vec_len, OnOk, OnErr};
+ghost use Rattle.std.specs.Int.{w32, w64, to_le_bytes};
 ghost use Rattle.std.specs.List.{flat_map};
 ghost use Rattle.lsm_codec.specs.Varint.{varint32, shortest};
 ghost use Rattle.lsm_codec.specs.Keys.{key_bytes};
@@ -11,11 +11,36 @@ ghost use Rattle.lsm_block.specs.Building.{common, offset_if, parts_text, grown_
 use lsm_codec::{KeyRef, put_varint32};
 use std::alloc::AllocError;
 
+/// The eight bytes at a place of a text, as one number.
+fn eight_at(bytes: &[u8], i: usize) -> u64
+    requires { i + 8 ≤ length bytes.now }
+    ensures { to_le_bytes w64 result ≡ take 8 (drop i bytes.now) }
+{
+    let (_, rest) = bytes.split_at(i);
+    let (eight, _) = rest.split_at(8);
+    u64::from_le_bytes([
+        eight[0], eight[1], eight[2], eight[3], eight[4], eight[5], eight[6], eight[7],
+    ])
+}
+
+/// How far two texts are the same at their fronts, looked at eight bytes at a time.
+fn common_words(a: &[u8], b: &[u8]) -> usize
+    ensures same { common a.now b.now ≡ result + common (drop result a.now) (drop result b.now) }
+    ensures first { result ≤ length a.now }
+    ensures second { result ≤ length b.now }
+{
+    let mut i: usize = 0;
+    while i + 8 <= a.len() && i + 8 <= b.len() && eight_at(a, i) == eight_at(b, i) {
+        i += 8;
+    }
+    i
+}
+
 /// How many bytes two texts have in common at their fronts.
 pub fn common_prefix(a: &[u8], b: &[u8]) -> usize
     ensures { result ≡ common a.now b.now }
 {
-    let mut i: usize = 0;
+    let mut i = common_words(a, b);
     while i < a.len() && i < b.len() && a[i] == b[i] {
         i += 1;
     }

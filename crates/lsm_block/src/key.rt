@@ -1,6 +1,6 @@
 //! Internal keys as they lie in a block.
 
-ghost use Rattle.std.specs.Prelude.{◌≡◌, ◌≤◌, ℕ, List, length, true};
+ghost use Rattle.std.specs.Prelude.{◌≡◌, ◌-◌, ◌≤◌, ℕ, List, length, min, true};
 ghost use Rattle.std.specs.Ordering.{is_lt};
 ghost use Rattle.lsm_codec.specs.Keys.{key_cmp, is_internal, tail_of, key_at};
 ghost use Rattle.lsm_codec.specs.KeyRef.{key_of};
@@ -17,6 +17,16 @@ pub(crate) fn tail(key: &[u8]) -> u64
     u64::from_le_bytes([
         tail[0], tail[1], tail[2], tail[3], tail[4], tail[5], tail[6], tail[7],
     ])
+}
+
+/// How many bytes the user keys of two keys have in common at their fronts, where the keys have so
+/// many in common and are so long: the last eight bytes of a key are none of its user key.
+pub(crate) fn shared_by_users(shared: usize, before_len: usize, len: usize) -> usize
+    ensures { result ≡ min (min shared (before_len - 8)) (len - 8) }
+{
+    shared
+        .min(before_len.saturating_sub(8))
+        .min(len.saturating_sub(8))
 }
 
 /// Whether an internal key stands before the one that is searched for.

@@ -6,7 +6,7 @@ ghost use Rattle.lsm_codec.specs.KeyRef.{key_of};
 ghost use Rattle.lsm_codec.specs.Entries.{Entry};
 ghost use Rattle.lsm_block.specs.Seeking.{readable, not_below, word_of, Parts, starts_below, StartsSearch, Steps};
 ghost use Rattle.lsm_block.specs.Held.{Kept, last_of};
-ghost use Rattle.lsm_block.specs.Standing.{StepStands};
+ghost use Rattle.lsm_block.specs.Standing.{StepStands, SharesFront};
 
 use crate::entry::{RawEntry, first_key};
 use crate::key::is_below;
@@ -94,26 +94,29 @@ pub(crate) fn scan_to(
     Ok(offset)
 }
 
-/// Reads the entry at an offset, whose key goes to `before`, and lends its value; the number is the
-/// next offset. An `Err` leaves `before`.
+/// Reads the entry at an offset, whose key goes to `before`, and lends its value; the numbers are
+/// the next offset and how many bytes the key shares with the key before it. An `Err` leaves
+/// `before`.
 pub(crate) fn step<'b>(
     text: &'b [u8],
     offset: usize,
     before: &mut Vec<u8>,
-) -> Result<(Option<&'b [u8]>, usize), AllocError>
+) -> Result<(Option<&'b [u8]>, usize, usize), AllocError>
     requires { Kept (last_of before.old.items) before.old.items }
     ensures steps { IfOk result (λ r. Steps text.now offset before.old.items r.1 before.new.items (option_map (λ v. v.now) r.0)) }
     ensures stands { IfOk result (λ r. StepStands text.now offset before.old.items r.1 before.new.items (option_map (λ v. v.now) r.0)) }
+    ensures shared { IfOk result (λ r. SharesFront r.2 before.old.items before.new.items) }
     ensures kept { Kept (last_of before.new.items) before.new.items }
     ensures err { OnErr result (before.new.items ≡ before.old.items) }
 {
     if offset >= text.len() {
-        return Ok((None, offset));
+        return Ok((None, offset, 0));
     }
     let rest = rest_from(text, offset);
     let Some(entry) = RawEntry::read(before, rest) else {
-        return Ok((None, offset));
+        return Ok((None, offset, 0));
     };
-    put_together(before, entry.shared as usize, entry.own)?;
-    Ok((Some(entry.value), text.len() - entry.after.len()))
+    let shared = entry.shared as usize;
+    put_together(before, shared, entry.own)?;
+    Ok((Some(entry.value), text.len() - entry.after.len(), shared))
 }
