@@ -185,7 +185,7 @@ pub(crate) fn advance<N: Naming, S: Shelf>(
 {
     let mut direct = Direct::new(shelf);
     match merger.advance_by(&mut direct, alloc) {
-        Ok(()) => Ok(()),
+        Ok(_shared) => Ok(()),
         Err(fault) => Err(MergeFault::of_read(fault.number, fault.fault)),
     }
 }

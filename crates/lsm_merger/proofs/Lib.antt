@@ -1,3 +1,5 @@
+mod FrontLaws
+mod WalkLaws
 mod RunLaws
 mod TreeLaws
 mod ShownLaws

@@ -1,14 +1,15 @@
 -- A tree of merges: its files, and the source that has the first entry.
 use Rattle.std.specs.List.{flat_map}
-use Rattle.std.proofs.Common.{◌≡◌, ◌+◌, ℕ, Bool, true, false, Option, List, [], ◌∷◌, ◌++◌, map, length, arith, refl, sym, ap, ◌∙◌, subst, append_assoc, append-nil, inl, inr}
+use Rattle.std.proofs.Common.{◌≡◌, ◌+◌, ℕ, min, Bool, true, false, Option, List, [], ◌∷◌, ◌++◌, map, length, arith, refl, sym, ap, ◌∙◌, subst, append_assoc, append-nil, inl, inr}
 use Rattle.lsm_codec.specs.Lists.{Has}
 use Rattle.lsm_codec.specs.Keys.{InternalKey}
 use Rattle.lsm_codec.proofs.CallerLemmas.{has_left, has_right, has_cases}
 use Rattle.lsm_levels.specs.Merging.{Placed, goes_first, merge, merge_all, leads}
 use Rattle.lsm_levels.proofs.CallerLemmas.{merge_left, merge_right, merge_empty}
-use Rattle.lsm_merger.specs.Heads.{first_of, after_first, key_in, leads_by, place_in}
+use Rattle.lsm_merger.specs.Heads.{first_of, after_first, key_in, leads_by, place_in, user_in, user_named}
 use Rattle.lsm_merger.specs.Runs.{Left, ReadsNoOther, IsOfFirst}
-use Rattle.lsm_merger.specs.Tree.{IsLed, both, all_left, none_left}
+use Rattle.lsm_merger.specs.Tree.{IsLed, ShareHeads, both, all_left, none_left}
+use Rattle.lsm_merger.proofs.FrontLaws.{shares_both, shares_swapped}
 use Rattle.lsm_merger.proofs.Joining.{merge-merge}
 
 -- ---- where the first leads
@@ -49,6 +50,43 @@ led_by_keys a b led j k t ja kb ja' kb' = record {
   placed = t ∙ rw (ja, kb) refl ∙ leads_keys a.placed b.placed;
   numbered = t ∙ rw (ja', kb') refl ∙ leads_keys a.numbered b.numbered;
 }
+
+-- ---- fronts
+
+-- a user key by the key of the entry
+pub user_by_key : (ps : List Placed) (j : Option InternalKey) → j ≡ key_in (first_of ps) → user_named j ≡ user_in (first_of ps)
+user_by_key [] j e = ap user_named e
+user_by_key (p ∷ ps) j e = ap user_named e
+
+heads_by : (n : ℕ) (a b c d : Left) → first_of a.placed ≡ first_of c.placed → first_of b.placed ≡ first_of d.placed → ShareHeads n c d → ShareHeads n a b
+heads_by n a b c d e f h = rw (e, f) h
+
+-- what the two trees of a fork share where one has moved
+pub known_first : (n moved : ℕ) (a a' b : Left) → ShareHeads n a b → ShareHeads moved a a' → ShareHeads (min n moved) a' b
+known_first n moved a a' b s m =
+    let u = user_in (first_of a.placed) in
+    let v = user_in (first_of a'.placed) in
+    let w = user_in (first_of b.placed) in
+    shares_swapped (min n moved) w v (shares_both n moved w u v (shares_swapped n u w s) m)
+
+pub known_second : (n moved : ℕ) (a b b' : Left) → ShareHeads n a b → ShareHeads moved b b' → ShareHeads (min n moved) a b'
+known_second n moved a b b' s m = shares_both n moved (user_in (first_of a.placed)) (user_in (first_of b.placed)) (user_in (first_of b'.placed)) s m
+
+-- the same one leads as before
+pub first_stays : (n : ℕ) (a a' b : Left) → IsLed true a b → IsLed true a' b → ShareHeads n a a' → ShareHeads n (both a b) (both a' b)
+first_stays n a a' b t u s = heads_by n (both a b) (both a' b) a a' (first_left a.placed b.placed (sym t.placed)) (first_left a'.placed b.placed (sym u.placed)) s
+
+pub second_stays : (n : ℕ) (a b b' : Left) → IsLed false a b → IsLed false a b' → ShareHeads n b b' → ShareHeads n (both a b) (both a b')
+second_stays n a b b' t u s = heads_by n (both a b) (both a b') b b' (first_right a.placed b.placed (sym t.placed)) (first_right a.placed b'.placed (sym u.placed)) s
+
+-- the other one leads now
+pub first_yields : (n : ℕ) (a a' b : Left) → IsLed true a b → IsLed false a' b → ShareHeads n a b → ShareHeads n (both a b) (both a' b)
+first_yields n a a' b t u s = heads_by n (both a b) (both a' b) a b (first_left a.placed b.placed (sym t.placed)) (first_right a'.placed b.placed (sym u.placed)) s
+
+pub second_yields : (n : ℕ) (a b b' : Left) → IsLed false a b → IsLed true a b' → ShareHeads n a b → ShareHeads n (both a b) (both a b')
+second_yields n a b b' t u s =
+    heads_by n (both a b) (both a b') b a (first_right a.placed b.placed (sym t.placed)) (first_left a.placed b'.placed (sym u.placed))
+    (shares_swapped n (user_in (first_of a.placed)) (user_in (first_of b.placed)) s)
 
 -- ---- files
 

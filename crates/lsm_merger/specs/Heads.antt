@@ -1,7 +1,7 @@
 -- The first entry of a list of entries with their places, and what is left behind it.
 use Rattle.std.specs.Prelude.{ℕ, Bool, true, false, List, [], ◌∷◌, Option, Some, None}
 use Rattle.std.specs.Ordering.{is_le}
-use Rattle.lsm_codec.specs.Keys.{InternalKey, key_cmp}
+use Rattle.lsm_codec.specs.Keys.{UserKey, InternalKey, key_cmp}
 use Rattle.lsm_codec.specs.Entries.{internal_key}
 use Rattle.lsm_levels.specs.Merging.{Placed}
 
@@ -23,7 +23,17 @@ abbrev pub key_in : Option Placed → Option InternalKey
 key_in None = None
 key_in (Some p) = Some (internal_key p.1)
 
--- its value; no bytes where there is none
+-- its user key; no bytes where there is none
+abbrev pub user_in : Option Placed → UserKey
+user_in None = []
+user_in (Some p) = p.1.user
+
+-- the user key of a key; no bytes where there is none
+abbrev pub user_named : Option InternalKey → UserKey
+user_named None = []
+user_named (Some key) = key.user
+
+-- the value of an entry; no bytes where there is none
 abbrev pub value_in : Option Placed → List ℕ
 value_in None = []
 value_in (Some p) = p.1.value

@@ -2,6 +2,7 @@ pub mod Heads
 pub mod Runs
 pub mod Tree
 pub mod Shown
+pub mod Walks
 pub mod Followed
 pub use Rattle.lsm_levels.specs.Ages
 pub use Rattle.lsm_levels.specs.Merging

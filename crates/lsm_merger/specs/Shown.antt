@@ -32,29 +32,9 @@ value_shown (Some p) = p.1
 
 -- ---- how the code shows them
 
--- a user key that was answered, and memory for the next one
-pub record Answered : Type 0 where
-  pub told : Option UserKey
-  pub spare : UserKey
-
--- the user key that was answered last, if one was
-abbrev pub told_of : Bool → UserKey → Option UserKey
-told_of false user = None
-told_of true user = Some user
-
 abbrev pub kind_in : Option Placed → Option Kind
 kind_in None = None
 kind_in (Some p) = Some p.1.kind
-
--- The user key is that of the entry, if there is one.
-abbrev pub IsNoted : UserKey → Option Placed → Type 0
-IsNoted user None = Unit {0}
-IsNoted user (Some p) = user ≡ p.1.user
-
--- The user key of the entry, if there is one, was answered.
-abbrev pub IsToldOf : Option UserKey → Option Placed → Type 0
-IsToldOf told None = Unit {0}
-IsToldOf told (Some p) = told ≡ Some p.1.user
 
 -- What is shown of the entries that are left, where the first one answered its user key, by a value
 -- that was shown or by a deletion, or not yet.

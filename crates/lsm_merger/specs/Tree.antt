@@ -1,6 +1,9 @@
--- A tree of merges: what is left of it, and that its forks know which of their two trees leads.
-use Rattle.std.specs.Prelude.{◌≡◌, Bool, false, List, [], ◌∷◌, ◌++◌, Option, Some, None}
+-- A tree of merges: what is left of it, and what its forks know of their two trees: which of them
+-- leads, and a front that the user keys of their first entries share.
+use Rattle.std.specs.Prelude.{◌≡◌, ℕ, Bool, false, List, [], ◌∷◌, ◌++◌, Option, Some, None}
+use Rattle.lsm_block.specs.Standing.{SharesFront}
 use Rattle.lsm_levels.specs.Merging.{merge, leads}
+use Rattle.lsm_merger.specs.Heads.{first_of, user_in}
 use Rattle.lsm_merger.specs.Runs.{Left}
 use Rattle.lsm_merger.specs.declared.tree.Tree.{Tree}
 use Rattle.lsm_merger.specs.declared.tree.Tree.TheVariants.{Leaf, Fork'}
@@ -20,27 +23,36 @@ all_left (l ∷ ls) = both l (all_left ls)
 -- what is left of a tree; `Fork'` has each box in two parts, of which one is the tree
 abbrev pub left_of : Tree Left → Left
 left_of (Leaf source) = source
-left_of (Fork' led p l q r) = both (left_of l) (left_of r)
+left_of (Fork' led front p l q r) = both (left_of l) (left_of r)
 
 -- Whether the first of the two leads, whether by places or by numbers.
 pub record IsLed (led : Bool) (a b : Left) : Type 0 where
   pub placed : led ≡ leads a.placed b.placed
   pub numbered : led ≡ leads a.numbered b.numbered
 
--- each fork knows which of its two trees leads
+-- The user keys of the first entries of the two share this front.
+abbrev pub ShareHeads : ℕ → Left → Left → Type 0
+ShareHeads front a b = SharesFront front (user_in (first_of a.placed)) (user_in (first_of b.placed))
+
+-- each fork knows which of its two trees leads, and a front that both share
 abbrev pub IsReady : Tree Left → Type 0
 IsReady (Leaf source) = Unit {0}
-IsReady (Fork' led p l q r) = IsLed led (left_of l) (left_of r) × IsReady l × IsReady r
+IsReady (Fork' led front p l q r) = IsLed led (left_of l) (left_of r) × ShareHeads front (left_of l) (left_of r) × IsReady l × IsReady r
 
 -- the two trees of a fork are ready
 abbrev pub AreReady : Tree Left → Type 0
 AreReady (Leaf source) = Unit {0}
-AreReady (Fork' led p l q r) = IsReady l × IsReady r
+AreReady (Fork' led front p l q r) = IsReady l × IsReady r
 
 -- Whether the first of the two trees of a fork leads.
 abbrev pub IsLedIn : Bool → Tree Left → Type 0
 IsLedIn now (Leaf source) = now ≡ false
-IsLedIn now (Fork' led p l q r) = IsLed now (left_of l) (left_of r)
+IsLedIn now (Fork' led front p l q r) = IsLed now (left_of l) (left_of r)
+
+-- The two trees of a fork share this front.
+abbrev pub ShareHeadsIn : ℕ → Tree Left → Type 0
+ShareHeadsIn front (Leaf source) = Unit {0}
+ShareHeadsIn front (Fork' led known p l q r) = ShareHeads front (left_of l) (left_of r)
 
 -- the same where there may be no tree
 abbrev pub left_of_any : Option (Tree Left) → Left

@@ -1,76 +1,112 @@
 //! The age order of the entries of several depths.
 
-ghost use Rattle.std.specs.Prelude.{◌≡◌, false, IfOk, IfErr, OnOk, MatchOption, None};
+ghost use Rattle.std.specs.Prelude.{◌≡◌, false, IfOk, IfErr, MatchOption, None};
 ghost use Rattle.lsm_table.specs.ReadFault.{ReadCounted, IsMemoryOrShelf};
 ghost use Rattle.lsm_table.specs.Told.{Becomes};
 ghost use Rattle.lsm_table.specs.declared.read_fault.ReadFault.TheVariants.{Table};
 ghost use Rattle.lsm_table.specs.declared.table_fault.TableFault.TheVariants.{OutOfMemory};
 ghost use Rattle.lsm_levels.specs.Ages.{IsAgeOrder, IsLeastAgainstAge};
 ghost use Rattle.lsm_levels.specs.Merging.{IsOrdered};
-ghost use Rattle.lsm_merger.specs.Heads.{first_of, no_more};
-ghost use Rattle.lsm_merger.specs.Followed.{follows, followed_by, user_in};
+ghost use Rattle.lsm_merger.specs.Heads.{first_of, no_more, user_in};
+ghost use Rattle.lsm_merger.specs.Followed.{stands_after};
 ghost use Rattle.lsm_merger.specs.Runs.{IsOfFiles, IsOfFirst};
 
 use crate::file_fault::FileFault;
-use crate::followed::Followed;
 use crate::merger::Merger;
+use crate::walk::{FirstKey, Walk};
 use lsm_codec::Bytes;
 use lsm_reader::Blocks;
 use lsm_table::{Naming, ReadFault, Shelf, TableFault};
 use std::alloc::{AllocError, Global};
+use std::mem;
 
-/// Whether the entry at which the merge stands may follow the one before it.
-#[tactic(auto, using(crate::proofs::FollowedLaws::follows_none, crate::proofs::FollowedLaws::follows_first))]
-fn may_follow<N: Naming, S: Shelf>(before: &Followed, merger: &Merger<N, S>) -> bool
-    ensures { result ≡ follows before.now (first_of merger.now.placed) }
-{
-    match merger.key() {
-        None => true,
-        Some(key) => before.may_be_followed(merger.place(), &key),
-    }
+/// Place and sequence of an entry.
+#[derive(Clone, Copy)]
+struct Stamp {
+    place: u64,
+    seq: u64,
 }
 
-/// Remembers the entry at which the merge stands.
-#[tactic(auto, using(crate::proofs::FollowedLaws::keyed_none, crate::proofs::FollowedLaws::keyed_first))]
-fn remember<N: Naming, S: Shelf>(
-    before: &mut Followed,
-    merger: &Merger<N, S>,
-) -> Result<(), AllocError>
-    ensures { OnOk result (before.new ≡ followed_by before.old (first_of merger.now.placed)) }
+/// Whether an entry of this place and key may follow the one before it: of one user key it lies no
+/// shallower, and where it lies deeper it is older.
+fn may_follow(before: Stamp, place: u64, key: FirstKey) -> bool
+    ensures { result ≡ stands_after key.is_same before.place before.seq place key.seq }
 {
-    match merger.key() {
-        None => Ok(()),
-        Some(key) => before.remember(merger.place(), &key),
-    }
+    let reached = before.place <= place;
+    let deeper = before.place < place;
+    let older = key.seq < before.seq;
+    !key.is_same || (reached && (!deeper || older))
 }
 
 /// A copy of the user key of the entry at which the merge stands.
 #[tactic(auto, using(crate::proofs::FollowedLaws::user_none, crate::proofs::FollowedLaws::user_first))]
-fn user_of<N: Naming, S: Shelf>(alloc: Global, merger: &Merger<N, S>) -> Result<Bytes, AllocError>
-    ensures { IfOk result (λ b. b ≡ user_in (first_of merger.now.placed)) }
+fn user_of<N: Naming, S: Shelf>(alloc: Global, walk: &Walk<N, S>) -> Result<Bytes, AllocError>
+    ensures { IfOk result (λ b. b ≡ user_in (first_of walk.now.left.placed)) }
 {
-    match merger.key() {
+    match walk.key() {
         None => Ok(Bytes::of(Vec::new(alloc))),
         Some(key) => Ok(Bytes::of(Vec::from_slice(alloc, key.user)?)),
     }
 }
 
 /// Want of memory, with the number of the file in which the merge stands.
-fn want_at<N: Naming, S: Shelf>(merger: &Merger<N, S>) -> FileFault
-    requires { no_more merger.now.placed ≡ false }
-    ensures number { IsOfFirst merger.now result.number }
+fn want_at<N: Naming, S: Shelf>(walk: &Walk<N, S>) -> FileFault
+    requires { no_more walk.now.left.placed ≡ false }
+    ensures number { IsOfFirst walk.now.left result.number }
     ensures fault { result.fault ≡ Table OutOfMemory }
 {
     FileFault {
-        number: merger.number(),
+        number: walk.number(),
         fault: ReadFault::Table(TableFault::OutOfMemory),
     }
+}
+
+/// What `against_age` answers, of a merge along which a walk goes.
+fn found_by<N: Naming, S: Shelf, B: Blocks<S>>(
+    blocks: &mut B,
+    alloc: Global,
+    walk: &mut Walk<N, S>,
+) -> Result<Option<Bytes>, FileFault>
+    requires here { (B.told blocks.old).place ≡ N.place }
+    requires fresh { walk.old.passed ≡ None }
+    ensures judged { S.honest → IsOrdered walk.old.left.placed → IfOk result (λ r. MatchOption r (IsAgeOrder walk.old.left.placed) (λ k. IsLeastAgainstAge walk.old.left.placed k)) }
+    ensures sound { S.honest → IfErr result (λ e. IsMemoryOrShelf e.fault) }
+    ensures number { IfErr result (λ e. IsOfFiles walk.old.left e.number) }
+    ensures told { Becomes (B.told blocks.old) (B.told blocks.new) }
+    ensures loan { B.loan blocks.new ≡ B.loan blocks.old }
+    ensures cause { IfErr result (λ e. ReadCounted e.fault (B.told blocks.old) (B.told blocks.new)) }
+{
+    let mut before = Stamp { place: 0, seq: 0 };
+    for _ in 0..u64::MAX {
+        let Some(key) = walk.first_key() else {
+            return Ok(None);
+        };
+        let place = walk.place();
+        if !may_follow(before, place, key) {
+            return match user_of(alloc, &*walk) {
+                Ok(user) => Ok(Some(user)),
+                Err(AllocError) => Err(want_at(&*walk)),
+            };
+        }
+        match walk.pass_by(blocks, alloc) {
+            Ok(()) => {}
+            Err(fault) => return Err(fault),
+        }
+        before = Stamp {
+            place,
+            seq: key.seq,
+        };
+    }
+    if walk.is_at_end() {
+        return Ok(None);
+    }
+    // Only a shelf that is not honest could give so many.
+    Err(want_at(&*walk))
 }
 
 /// The least user key of which a deeper entry has no lesser sequence than a shallower one, if there
 /// is one. The places of the merge's runs are their depths; it is read to the first such entry. A
 /// refusal names a file of the merge.
-#[tactic(auto, using(crate::proofs::FollowedLaws::goes_on, crate::proofs::FollowedLaws::judged_none, crate::proofs::FollowedLaws::judged_some))]
 pub fn against_age<N: Naming, S: Shelf, B: Blocks<S>>(
     blocks: &mut B,
     alloc: Global,
@@ -84,30 +120,8 @@ pub fn against_age<N: Naming, S: Shelf, B: Blocks<S>>(
     ensures loan { B.loan blocks.new ≡ B.loan blocks.old }
     ensures cause { IfErr result (λ e. ReadCounted e.fault (B.told blocks.old) (B.told blocks.new)) }
 {
-    let mut before = Followed::new(alloc);
-    for _ in 0..u64::MAX {
-        if merger.is_at_end() {
-            return Ok(None);
-        }
-        if !may_follow(&before, &*merger) {
-            let user = match user_of(alloc, &*merger) {
-                Ok(user) => user,
-                Err(AllocError) => return Err(want_at(&*merger)),
-            };
-            return Ok(Some(user));
-        }
-        match remember(&mut before, &*merger) {
-            Ok(()) => {}
-            Err(AllocError) => return Err(want_at(&*merger)),
-        }
-        match merger.advance_by(blocks, alloc) {
-            Ok(()) => {}
-            Err(fault) => return Err(fault),
-        }
-    }
-    if merger.is_at_end() {
-        return Ok(None);
-    }
-    // Only a shelf that is not honest could give so many.
-    Err(want_at(&*merger))
+    let mut walk = Walk::new(alloc, mem::replace(merger, Merger::nothing()));
+    let found = found_by(blocks, alloc, &mut walk);
+    *merger = walk.into_merger();
+    found
 }

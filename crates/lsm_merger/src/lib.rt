@@ -2,20 +2,20 @@
 //! shows of them.
 //!
 //! Stands on `lsm_levels` for what a merge is, and on `lsm_reader` for tables that are read block
-//! by block. Data flows from `run` (the tables of a level, one after another) through `tree` and
-//! `merger` to `scan` and `ages`. Its contract: a merge is its sources in order, and after a fault
-//! what is left is as before.
+//! by block. Data flows from `run` (the tables of a level, one after another) through `tree`,
+//! `merger` and `walk` to `scan` and `ages`. Its contract: a merge is its sources in order, and
+//! after a fault what is left is as before.
 #![tactic(auto)]
 
 mod ages;
-mod answered;
 mod file_fault;
-mod followed;
+mod front;
 mod merger;
 mod pair;
 mod run;
 mod scan;
 mod tree;
+mod walk;
 
 pub use ages::against_age;
 pub use file_fault::FileFault;
@@ -23,3 +23,4 @@ pub use merger::Merger;
 pub use pair::Pair;
 pub use run::Run;
 pub use scan::Scan;
+pub use walk::{FirstKey, Walk};

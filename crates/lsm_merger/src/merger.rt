@@ -4,10 +4,11 @@ ghost use Rattle.std.specs.Prelude.{◌≡◌, false, map, IfOk, IfErr, OnOk, On
 ghost use Rattle.std.specs.Option.{option_map};
 ghost use Rattle.std.specs.List.{flat_map};
 ghost use Rattle.lsm_codec.specs.KeyRef.{key_of};
+ghost use Rattle.lsm_block.specs.Standing.{SharesFront};
 ghost use Rattle.lsm_table.specs.ReadFault.{ReadCounted, IsMemoryOrShelf};
 ghost use Rattle.lsm_table.specs.Told.{Becomes};
 ghost use Rattle.lsm_levels.specs.Merging.{merge_all};
-ghost use Rattle.lsm_merger.specs.Heads.{after_first, first_of, key_in, no_more, place_in, value_in};
+ghost use Rattle.lsm_merger.specs.Heads.{after_first, first_of, key_in, no_more, place_in, user_in, value_in};
 ghost use Rattle.lsm_merger.specs.Runs.{IsOfFirst, ReadsNoOther};
 
 use crate::file_fault::FileFault;
@@ -54,6 +55,11 @@ impl<N: Naming, S: Shelf> Merger<N, S> {
         }
         let tree = of_last(alloc, &mut runs, count)?;
         Ok(Merger { tree: Some(tree) })
+    }
+
+    /// Of no run.
+    pub(crate) fn nothing() -> Merger<N, S> {
+        Merger { tree: None }
     }
 
     /// The key of the entry at which it stands, if it stands at one.
@@ -110,16 +116,18 @@ impl<N: Naming, S: Shelf> Merger<N, S> {
         }
     }
 
-    /// Goes on to the next entry, or to the end. An `Err` leaves it, and names a file of the run
-    /// from which the entry comes at which it stands.
+    /// Goes on to the next entry, or to the end, and tells how many bytes of its user key are known
+    /// to be those of the user key before it. An `Err` leaves it, and names a file of the run from
+    /// which the entry comes at which it stands.
     pub fn advance_by<B: Blocks<S>>(
         &mut self,
         blocks: &mut B,
         alloc: Global,
-    ) -> Result<(), FileFault>
+    ) -> Result<usize, FileFault>
         requires here { (B.told blocks.old).place ≡ N.place }
         ensures ok { S.honest → OnOk result (self.new.placed ≡ after_first self.old.placed) }
         ensures numbered { S.honest → OnOk result (self.new.numbered ≡ after_first self.old.numbered) }
+        ensures shared { IfOk result (λ n. SharesFront n (user_in (first_of self.old.placed)) (user_in (first_of self.new.placed))) }
         ensures files { OnOk result (ReadsNoOther self.old self.new) }
         ensures sound { S.honest → IfErr result (λ e. IsMemoryOrShelf e.fault) }
         ensures err { OnErr result (self.new ≡ self.old) }
@@ -129,7 +137,7 @@ impl<N: Naming, S: Shelf> Merger<N, S> {
         ensures cause { IfErr result (λ e. ReadCounted e.fault (B.told blocks.old) (B.told blocks.new)) }
     {
         match &mut self.tree {
-            None => Ok(()),
+            None => Ok(0),
             Some(tree) => advance_by(tree, blocks, alloc),
         }
     }

@@ -4,13 +4,13 @@ ghost use Rattle.std.specs.Prelude.{◌≡◌, ◌∷◌, ◌<◌, [], ℕ, List
 ghost use Rattle.std.specs.Option.{option_map};
 ghost use Rattle.lsm_codec.specs.KeyRef.{key_of};
 ghost use Rattle.lsm_codec.specs.Lists.{Has};
-ghost use Rattle.lsm_block.specs.Standing.{is_end};
+ghost use Rattle.lsm_block.specs.Standing.{SharesFront, is_end};
 ghost use Rattle.lsm_table.specs.HeldTable.{entries_in};
 ghost use Rattle.lsm_table.specs.Registry.{image_of};
 ghost use Rattle.lsm_table.specs.ReadFault.{ReadCounted, IsMemoryOrShelf};
 ghost use Rattle.lsm_table.specs.Told.{Becomes};
 ghost use Rattle.lsm_levels.specs.Merging.{placed_at};
-ghost use Rattle.lsm_merger.specs.Heads.{after_first, first_of, key_in, no_more, place_in, value_in};
+ghost use Rattle.lsm_merger.specs.Heads.{after_first, first_of, key_in, no_more, place_in, user_in, value_in};
 ghost use Rattle.lsm_merger.specs.Runs.{HasEntries, IsFirstOf, IsOfFirst, ReadsNoOther, entries_of_all, files_at, numbered_all};
 
 use crate::file_fault::FileFault;
@@ -237,16 +237,18 @@ impl<N: Naming, S: Shelf> Run<N, S> {
         self.here.is_at_end()
     }
 
-    /// Goes on to the next entry, or to the end. The next table is opened before it lets go of the
+    /// Goes on to the next entry, or to the end, and tells how many bytes of its user key are known
+    /// to be those of the user key before it. The next table is opened before it lets go of the
     /// last entry of the one before, so an `Err` leaves it.
     pub fn advance_by<B: Blocks<S>>(
         &mut self,
         blocks: &mut B,
         alloc: Global,
-    ) -> Result<(), FileFault>
+    ) -> Result<usize, FileFault>
         requires here { (B.told blocks.old).place ≡ N.place }
         ensures ok { S.honest → OnOk result (self.new.placed ≡ after_first self.old.placed) }
         ensures numbered { S.honest → OnOk result (self.new.numbered ≡ after_first self.old.numbered) }
+        ensures shared { IfOk result (λ n. SharesFront n (user_in (first_of self.old.placed)) (user_in (first_of self.new.placed))) }
         ensures files { OnOk result (ReadsNoOther self.old self.new) }
         ensures sound { S.honest → IfErr result (λ e. IsMemoryOrShelf e.fault) }
         ensures err { OnErr result (self.new ≡ self.old) }
@@ -256,11 +258,11 @@ impl<N: Naming, S: Shelf> Run<N, S> {
         ensures cause { IfErr result (λ e. ReadCounted e.fault (B.told blocks.old) (B.told blocks.new)) }
     {
         if self.here.is_at_end() {
-            return Ok(());
+            return Ok(0);
         }
         match self.here.step_by(blocks, alloc) {
-            Ok(true) => return Ok(()),
-            Ok(false) => {}
+            Ok(Some(shared)) => return Ok(shared),
+            Ok(None) => {}
             Err(fault) => {
                 return Err(FileFault {
                     number: self.number,
@@ -276,12 +278,12 @@ impl<N: Naming, S: Shelf> Run<N, S> {
                 };
                 self.number = receipt.number();
                 self.here = here;
-                return Ok(());
+                return Ok(0);
             }
             Err(fault) => return Err(fault),
         }
         match self.here.advance_by(blocks, alloc) {
-            Ok(()) => Ok(()),
+            Ok(()) => Ok(0),
             Err(fault) => Err(FileFault {
                 number: self.number,
                 fault,

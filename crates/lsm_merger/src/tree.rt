@@ -1,28 +1,28 @@
 //! A tree of merges, each of two, whose heads are lent: a step costs one comparison a fork on the
-//! way to one source, and copies no key and no value.
+//! way to one source, of what stands behind a front that both heads share, and copies no key and no
+//! value.
 
 ghost use Rattle.std.specs.Prelude.{◌≡◌, ℕ, ◌+◌, ◌<◌, ◌≤◌, [], length, IfOk, IfErr, OnOk, OnErr};
-ghost use Rattle.std.specs.Option.{option_map};
-ghost use Rattle.lsm_codec.specs.KeyRef.{key_of};
 ghost use Rattle.lsm_codec.specs.Lists.{Has};
 ghost use Rattle.lsm_table.specs.ReadFault.{ReadCounted, IsMemoryOrShelf};
 ghost use Rattle.lsm_table.specs.Told.{Becomes};
-ghost use Rattle.lsm_merger.specs.Heads.{after_first, first_of, leads_by};
+ghost use Rattle.lsm_merger.specs.Heads.{after_first, first_of};
 ghost use Rattle.lsm_merger.specs.Runs.{IsOfFirst, ReadsNoOther};
-ghost use Rattle.lsm_merger.specs.Tree.{all_left, both, left_of, AreReady, IsLed, IsLedIn, IsReady};
+ghost use Rattle.lsm_merger.specs.Tree.{all_left, both, left_of, AreReady, IsLed, IsLedIn, IsReady, ShareHeads, ShareHeadsIn};
 
 use crate::file_fault::FileFault;
+use crate::front::judged;
 use crate::run::Run;
-use lsm_codec::KeyRef;
 use lsm_reader::Blocks;
 use lsm_table::{Naming, Shelf};
 use std::alloc::{AllocError, Global};
 
-/// A source, or the merge of two trees, with whether the first of them leads.
+/// A source, or the merge of two trees, with whether the first of them leads, and with how many
+/// bytes at the fronts of the user keys of their first entries are known to be the same.
 #[derive(Drop)]
 pub(crate) enum Tree<X> {
     Leaf(X),
-    Fork(bool, Box<Tree<X>>, Box<Tree<X>>),
+    Fork(bool, usize, Box<Tree<X>>, Box<Tree<X>>),
 }
 
 /// The source that has the first entry, or no entry where none has: it goes down by the flags,
@@ -36,65 +36,71 @@ pub(crate) fn head<N: Naming, S: Shelf>(tree: &Tree<Run<N, S>>) -> &Run<N, S>
 {
     match tree {
         Tree::Leaf(source) => source,
-        Tree::Fork(led, first, second) => { if *led { head(first) } else { head(second) } }
+        Tree::Fork(led, _front, first, second) => { if *led { head(first) } else { head(second) } }
     }
 }
 
-/// Whether a key stands before the other one, or is it; where there is no other one it does.
-fn is_first(own: Option<KeyRef<'_>>, other: Option<KeyRef<'_>>) -> bool
-    ensures { result ≡ leads_by (option_map key_of own.entry) (option_map key_of other.entry) }
-{
-    match (own, other) {
-        (None, _) => false,
-        (Some(_own), None) => true,
-        (Some(own), Some(other)) => own.compare(&other).is_le(),
-    }
-}
-
-/// Whether the first tree has an entry, and it may be handed out before the second's.
-fn is_led<N: Naming, S: Shelf>(first: &Tree<Run<N, S>>, second: &Tree<Run<N, S>>) -> bool
+/// Whether the first tree has an entry, and it may be handed out before the second's; and how many
+/// bytes the user keys of both share, of which so many are known.
+fn trees_judged<N: Naming, S: Shelf>(
+    first: &Tree<Run<N, S>>,
+    second: &Tree<Run<N, S>>,
+    front: usize,
+) -> (bool, usize)
     requires first { IsReady first.now }
     requires second { IsReady second.now }
-    ensures { IsLed result (left_of first.now) (left_of second.now) }
+    requires front { ShareHeads front (left_of first.now) (left_of second.now) }
+    ensures led { IsLed result.0 (left_of first.now) (left_of second.now) }
+    ensures shared { ShareHeads result.1 (left_of first.now) (left_of second.now) }
 {
-    is_first(head(first).key(), head(second).key())
+    judged(head(first).key(), head(second).key(), front)
 }
 
-/// Whether the first of a fork's two trees leads.
-fn which<N: Naming, S: Shelf>(tree: &Tree<Run<N, S>>) -> bool
-    requires { AreReady tree.now }
-    ensures { IsLedIn result tree.now }
+/// The same of a fork's two trees.
+fn fork_judged<N: Naming, S: Shelf>(tree: &Tree<Run<N, S>>, front: usize) -> (bool, usize)
+    requires ready { AreReady tree.now }
+    requires front { ShareHeadsIn front tree.now }
+    ensures led { IsLedIn result.0 tree.now }
+    ensures shared { ShareHeadsIn result.1 tree.now }
 {
     match tree {
-        Tree::Leaf(_source) => false,
-        Tree::Fork(_led, first, second) => is_led(first, second),
+        Tree::Leaf(_source) => (false, 0),
+        Tree::Fork(_led, _front, first, second) => trees_judged(first, second, front),
     }
 }
 
-/// Writes down anew which of its two trees leads.
-fn settle<N: Naming, S: Shelf>(tree: &mut Tree<Run<N, S>>)
-    requires { AreReady tree.old }
+/// Writes down anew which of its two trees leads, and what both share, of which so many bytes are
+/// known. Whether the first leads.
+fn settle<N: Naming, S: Shelf>(tree: &mut Tree<Run<N, S>>, known: usize) -> bool
+    requires ready { AreReady tree.old }
+    requires front { ShareHeadsIn known tree.old }
     ensures ready { IsReady tree.new }
     ensures left { left_of tree.new ≡ left_of tree.old }
+    ensures led { IsLedIn result tree.old }
 {
-    let now = which(&*tree);
-    if let Tree::Fork(led, _first, _second) = tree {
+    let (now, shared) = fork_judged(&*tree, known);
+    if let Tree::Fork(led, front, _first, _second) = tree {
         *led = now;
+        *front = shared;
     }
+    now
 }
 
-/// Goes on to the next entry. An `Err` leaves what is left.
+/// Goes on to the next entry, and tells how many bytes of its user key are known to be those of the
+/// user key before it: where the same one of two trees leads as before, what that one tells, and
+/// else what both shared before. An `Err` leaves what is left.
 #[tactic(auto, using(crate::proofs::TreeLaws::fault_first, crate::proofs::TreeLaws::fault_second, crate::proofs::TreeLaws::none_other_first, crate::proofs::TreeLaws::none_other_second, crate::proofs::TreeLaws::step_left, crate::proofs::TreeLaws::step_right))]
 pub(crate) fn advance_by<N: Naming, S: Shelf, B: Blocks<S>>(
     tree: &mut Tree<Run<N, S>>,
     blocks: &mut B,
     alloc: Global,
-) -> Result<(), FileFault>
+) -> Result<usize, FileFault>
     requires ready { IsReady tree.old }
     requires here { (B.told blocks.old).place ≡ N.place }
     ensures ready { IsReady tree.new }
     ensures ok { S.honest → OnOk result ((left_of tree.new).placed ≡ after_first (left_of tree.old).placed) }
     ensures numbered { S.honest → OnOk result ((left_of tree.new).numbered ≡ after_first (left_of tree.old).numbered) }
+    ensures shared { IfOk result (λ n. ShareHeads n (left_of tree.old) (left_of tree.new)) }
     ensures files { OnOk result (ReadsNoOther (left_of tree.old) (left_of tree.new)) }
     ensures sound { S.honest → IfErr result (λ e. IsMemoryOrShelf e.fault) }
     ensures err { OnErr result (left_of tree.new ≡ left_of tree.old) }
@@ -105,21 +111,22 @@ pub(crate) fn advance_by<N: Naming, S: Shelf, B: Blocks<S>>(
 {
     match tree {
         Tree::Leaf(source) => source.advance_by(blocks, alloc),
-        Tree::Fork(led, first, second) => {
+        Tree::Fork(led, front, first, second) => {
+            let between = *front;
             if *led {
-                match advance_by(first, blocks, alloc) {
-                    Ok(()) => {}
+                let moved = match advance_by(first, blocks, alloc) {
+                    Ok(moved) => moved,
                     Err(fault) => return Err(fault),
-                }
-                settle(tree);
-                return Ok(());
+                };
+                let leads = settle(tree, between.min(moved));
+                return Ok(if leads { moved } else { between });
             }
-            match advance_by(second, blocks, alloc) {
-                Ok(()) => {}
+            let moved = match advance_by(second, blocks, alloc) {
+                Ok(moved) => moved,
                 Err(fault) => return Err(fault),
-            }
-            settle(tree);
-            Ok(())
+            };
+            let leads = settle(tree, between.min(moved));
+            Ok(if leads { between } else { moved })
         }
     }
 }
@@ -144,10 +151,10 @@ fn fork<N: Naming, S: Shelf>(
     ensures ready { IfOk result IsReady }
     ensures left { IfOk result (λ t. left_of t ≡ both (left_of first) (left_of second)) }
 {
-    let led = is_led(&first, &second);
+    let (led, front) = trees_judged(&first, &second, 0);
     let first = boxed(alloc, first)?;
     let second = boxed(alloc, second)?;
-    Ok(Tree::Fork(led, first, second))
+    Ok(Tree::Fork(led, front, first, second))
 }
 
 /// The last source, which is taken out.

@@ -81,8 +81,11 @@ const MERGED: &[Tables<'_>] = &[
     (&[(b"", 1, Kind::Value, b"4")], None),
 ];
 
-/// The place, file, user key and sequence of each entry of their merge.
-const IN_ORDER: &[(u64, u64, &[u8], u64)] = &[
+/// Place, file, user key and sequence of an entry.
+type Spot<'a> = (u64, u64, &'a [u8], u64);
+
+/// Of each entry of their merge.
+const IN_ORDER: &[Spot<'_>] = &[
     (4, 40, b"", 1),
     (2, 20, b"a", 4),
     (1, 10, b"a", 3),
@@ -118,7 +121,7 @@ fn goes_on<N: Naming, S: Shelf, B: Blocks<S>>(
     ensures { (B.told blocks.new).place ≡ N.place }
 {
     match merger.advance_by(blocks, alloc) {
-        Ok(()) => Ok(false),
+        Ok(_shared) => Ok(false),
         Err(_fault) => {
             merger.advance_by(blocks, alloc)?;
             Ok(true)
@@ -126,17 +129,18 @@ fn goes_on<N: Naming, S: Shelf, B: Blocks<S>>(
     }
 }
 
-/// Goes through a merge, of which the entries are to be those of `IN_ORDER`: how many calls failed,
-/// or none where another entry comes.
+/// Goes through a merge, of which the entries are to be these: how many calls failed, or none where
+/// another entry comes.
 fn goes_in_order<N: Naming, S: Shelf, B: Blocks<S>>(
     merger: &mut Merger<N, S>,
     blocks: &mut B,
     alloc: Global,
+    wanted: &[Spot<'_>],
 ) -> Result<Option<u64>, FileFault>
     requires { (B.told blocks.old).place ≡ N.place }
 {
     let mut failed = 0u64;
-    for &(place, file, user, seq) in IN_ORDER {
+    for &(place, file, user, seq) in wanted {
         if !stands_at(&*merger, place, file, user, seq) {
             return Ok(None);
         }
@@ -150,23 +154,25 @@ fn goes_in_order<N: Naming, S: Shelf, B: Blocks<S>>(
     Ok(Some(failed))
 }
 
-/// Goes through the merge of `MERGED`.
+/// Goes through the merge of runs of these tables.
 fn merges<N: Naming, S: Shelf, R: Wait>(
     rt: &R,
     alloc: Global,
     shelf: &mut S,
+    inputs: &[Tables<'_>],
+    wanted: &[Spot<'_>],
 ) -> Result<Option<u64>, Fail>
     requires { (S.told shelf.old).place ≡ N.place }
 {
-    let mut merger = merger_of::<N, S, R>(rt, alloc, shelf, MERGED)?;
+    let mut merger = merger_of::<N, S, R>(rt, alloc, shelf, inputs)?;
     let mut direct = Direct::new(shelf);
-    Ok(goes_in_order(&mut merger, &mut direct, alloc)?)
+    Ok(goes_in_order(&mut merger, &mut direct, alloc, wanted)?)
 }
 
 #[test]
 fn merges_in_order(rt: HostRuntime) -> Result<(), Fail> {
     let mut shelf = MemoryShelf::new(rt.alloc())?;
-    let failed = merges::<Brand, MemoryShelf, _>(&rt, rt.alloc(), &mut shelf)?;
+    let failed = merges::<Brand, MemoryShelf, _>(&rt, rt.alloc(), &mut shelf, MERGED, IN_ORDER)?;
     assert!(rt; failed == Some(0));
     Ok(())
 }
@@ -176,7 +182,13 @@ fn goes_on_after_a_fault(rt: HostRuntime) -> Result<(), Fail> {
     // The puts and the reads that open the runs are 17 calls; the merge reads three times more.
     for passes in 17..20u64 {
         let mut shelf = FuseShelf::new(MemoryShelf::new(rt.alloc())?, passes, false, false, 0);
-        let failed = merges::<Brand, FuseShelf<MemoryShelf>, _>(&rt, rt.alloc(), &mut shelf)?;
+        let failed = merges::<Brand, FuseShelf<MemoryShelf>, _>(
+            &rt,
+            rt.alloc(),
+            &mut shelf,
+            MERGED,
+            IN_ORDER,
+        )?;
         assert!(rt; failed == Some(1), "where call {passes} fails");
     }
     Ok(())
@@ -251,17 +263,18 @@ fn shows_just<N: Naming, S: Shelf, B: Blocks<S>>(
     has_shown_all(scan, blocks, alloc)
 }
 
-/// Whether a scan of `SCANNED` at a sequence shows just these pairs.
+/// Whether a scan of runs of these tables at a sequence shows just these pairs.
 fn shows<N: Naming, S: Shelf, R: Wait>(
     rt: &R,
     alloc: Global,
     shelf: &mut S,
+    inputs: &[Tables<'_>],
     seq: u64,
     pairs: &[(&[u8], &[u8])],
 ) -> Result<bool, Fail>
     requires { (S.told shelf.old).place ≡ N.place }
 {
-    let merger = merger_of::<N, S, R>(rt, alloc, shelf, SCANNED)?;
+    let merger = merger_of::<N, S, R>(rt, alloc, shelf, inputs)?;
     let mut scan = Scan::new(alloc, merger, seq);
     let mut direct = Direct::new(shelf);
     Ok(shows_just(&mut scan, &mut direct, alloc, pairs)?)
@@ -271,7 +284,94 @@ fn shows<N: Naming, S: Shelf, R: Wait>(
 fn scans(rt: HostRuntime) -> Result<(), Fail> {
     for &(seq, pairs) in SHOWN {
         let mut shelf = MemoryShelf::new(rt.alloc())?;
-        let shown = shows::<Brand, MemoryShelf, _>(&rt, rt.alloc(), &mut shelf, seq, pairs)?;
+        let shown = shows::<Brand, MemoryShelf, _>(
+            &rt,
+            rt.alloc(),
+            &mut shelf,
+            SCANNED,
+            seq,
+            pairs,
+        )?;
+        assert!(rt; shown, "at {seq}");
+    }
+    Ok(())
+}
+
+/// Two tables of several blocks, of which the user keys share a long front. Two are in both tables.
+const LONG: &[Tables<'_>] = &[
+    (
+        &[
+            (b"a long front of all/1", 5, Kind::Value, b"1 at 5"),
+            (b"a long front of all/11", 3, Kind::Value, b"11 at 3"),
+            (b"a long front of all/2", 9, Kind::Value, b"2 at 9"),
+            (b"a long front of all/2", 4, Kind::Value, b"2 at 4"),
+            (b"a long front of all/3", 1, Kind::Value, b"3 at 1"),
+        ],
+        None,
+    ),
+    (
+        &[
+            (b"a long front of all/", 7, Kind::Value, b"at 7"),
+            (b"a long front of all/1", 6, Kind::Deletion, b""),
+            (b"a long front of all/2", 9, Kind::Value, b"deeper"),
+            (b"a long front of all/2", 5, Kind::Value, b"2 at 5"),
+            (b"a long front of all/31", 2, Kind::Value, b"31 at 2"),
+        ],
+        None,
+    ),
+];
+
+/// Of each entry of their merge.
+const LONG_IN_ORDER: &[Spot<'_>] = &[
+    (2, 20, b"a long front of all/", 7),
+    (2, 20, b"a long front of all/1", 6),
+    (1, 10, b"a long front of all/1", 5),
+    (1, 10, b"a long front of all/11", 3),
+    (1, 10, b"a long front of all/2", 9),
+    (2, 20, b"a long front of all/2", 9),
+    (2, 20, b"a long front of all/2", 5),
+    (1, 10, b"a long front of all/2", 4),
+    (1, 10, b"a long front of all/3", 1),
+    (2, 20, b"a long front of all/31", 2),
+];
+
+#[test]
+fn merges_long_fronts(rt: HostRuntime) -> Result<(), Fail> {
+    let mut shelf = MemoryShelf::new(rt.alloc())?;
+    let failed = merges::<Brand, MemoryShelf, _>(&rt, rt.alloc(), &mut shelf, LONG, LONG_IN_ORDER)?;
+    assert!(rt; failed == Some(0));
+    Ok(())
+}
+
+/// What a scan shows of them.
+const LONG_SHOWN: &[(u64, &[(&[u8], &[u8])])] = &[
+    (
+        9,
+        &[
+            (b"a long front of all/", b"at 7"),
+            (b"a long front of all/11", b"11 at 3"),
+            (b"a long front of all/2", b"2 at 9"),
+            (b"a long front of all/3", b"3 at 1"),
+            (b"a long front of all/31", b"31 at 2"),
+        ],
+    ),
+    (
+        5,
+        &[
+            (b"a long front of all/1", b"1 at 5"),
+            (b"a long front of all/11", b"11 at 3"),
+            (b"a long front of all/2", b"2 at 5"),
+            (b"a long front of all/3", b"3 at 1"),
+            (b"a long front of all/31", b"31 at 2"),
+        ],
+    ),
+];
+
+#[test]
+fn scans_long_fronts(rt: HostRuntime) -> Result<(), Fail> {
+    for &(seq, pairs) in LONG_SHOWN {
+        let mut shelf = MemoryShelf::new(rt.alloc())?;
+        let shown = shows::<Brand, MemoryShelf, _>(&rt, rt.alloc(), &mut shelf, LONG, seq, pairs)?;
         assert!(rt; shown, "at {seq}");
     }
     Ok(())

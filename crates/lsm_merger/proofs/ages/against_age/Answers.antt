@@ -1,10 +1,10 @@
-use Rattle.std.proofs.Common.{rules, ◌≡◌, false}
-use Rattle.lsm_merger.specs.Followed.{follows}
-use Rattle.lsm_merger.specs.Heads.{first_of}
-use Rattle.lsm_merger.proofs.FollowedLaws.{judged_some}
+use Rattle.std.proofs.Common.{rules, ◌≡◌, IfOk, MatchOption, subst}
+use Rattle.lsm_levels.specs.Ages.{IsAgeOrder, IsLeastAgainstAge}
+use Rattle.lsm_levels.specs.Merging.{IsOrdered}
+use Rattle.lsm_merger.specs.Runs.{Left}
 use Rattle.lsm_merger.proofs.ages.against_age.Goals as goal
 
-pub returns-then-not-may_follow-clause-judged : goal.returns-then-not-may_follow-clause-judged
-returns-then-not-may_follow-clause-judged g c honest ordered =
-    let stops : follows c.loop.before (first_of c.loop.merger.placed) ≡ false = search rules in
-    judged_some c.args.merger.now.placed c.loop.merger.placed c.loop.before c.in-Ok.user ordered (c.loop.invariant.same honest) stops c.in-Ok.ensures
+pub returns-clause-judged : goal.returns-clause-judged
+returns-clause-judged g c =
+    let same : c.new-walk.result.left ≡ c.args.merger.now = search rules in
+    subst (λ (l : Left). g.S.Shelf.honest → IsOrdered l.placed → IfOk c.found_by-found.result (λ r. MatchOption r (IsAgeOrder l.placed) (λ k. IsLeastAgainstAge l.placed k))) same c.found_by-found.ensures.judged

@@ -7,5 +7,5 @@ abbrev pub invariant-loop : goal.invariant-loop
 invariant-loop g l = record {
   told : Becomes (g.B.Blocks.told l.fn.blocks) (g.B.Blocks.told l.blocks);
   loan : g.B.Blocks.loan l.blocks ≡ g.B.Blocks.loan l.fn.blocks;
-  same : g.S.Shelf.honest → left_to_show l.seq l.told.told l.is_done l.merger.placed ≡ left_to_show l.seq l.fn.told.told l.fn.is_done l.fn.merger.placed;
+  same : g.S.Shelf.honest → left_to_show l.seq l.walk.passed l.is_done l.walk.left.placed ≡ left_to_show l.seq l.fn.walk.passed l.fn.is_done l.fn.walk.left.placed;
 }

@@ -8,5 +8,6 @@ abbrev pub invariant-loop : goal.invariant-loop
 invariant-loop g l = record {
   told : Becomes (g.B.Blocks.told l.fn.blocks) (g.B.Blocks.told l.blocks);
   loan : g.B.Blocks.loan l.blocks ≡ g.B.Blocks.loan l.fn.blocks;
-  same : g.S.Shelf.honest → pairs_of l.seq l.told.told (entries_of l.merger.placed) ≡ pairs_of l.seq l.told.told (entries_of l.fn.merger.placed);
+  passed : l.walk.passed ≡ l.fn.walk.passed;
+  same : g.S.Shelf.honest → pairs_of l.seq l.fn.walk.passed (entries_of l.walk.left.placed) ≡ pairs_of l.seq l.fn.walk.passed (entries_of l.fn.walk.left.placed);
 }

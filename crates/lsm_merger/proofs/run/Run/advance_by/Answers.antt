@@ -5,13 +5,13 @@ use Rattle.lsm_merger.specs.Runs.{HasEntries, IsOfFirst, Left, entries_of_all}
 use Rattle.lsm_merger.proofs.RunLaws.{last_if_some, of_first}
 use Rattle.lsm_merger.proofs.run.Run.advance_by.Goals as goal
 
-pub invariant_of-self-in-Ok-Some : goal.invariant_of-self-in-Ok-Some
-invariant_of-self-in-Ok-Some g c =
+pub invariant_of-self-in-Ok-Some-open_next_by : goal.invariant_of-self-in-Ok-Some-open_next_by
+invariant_of-self-in-Ok-Some-open_next_by g c =
     let image = g.S.Receipt.Slip.image in
     let later = c.self.inside.later.items in
     let rest = c.pop_front.new.self.items in
     let first : later ≡ c.in-Some.receipt ∷ rest = c.in-Some.ensures.items in (
-      last_if_some c.in-Ok-Some.here (map image rest) (search rules),
+      last_if_some c.in-Ok-Some-open_next_by.here (map image rest) (search rules),
       All-rest (g.S.Shelf.is_of g.N.Naming.place) c.in-Some.receipt rest later first c.self.invariant.1,
       λ honest. All-rest HasEntries (image c.in-Some.receipt) (map image rest) (map image later) (ap (map image) first) (c.self.invariant.2 honest),
     )

@@ -1,13 +1,14 @@
 use Rattle.std.proofs.Common.{◌≡◌, None}
 use Rattle.lsm_table.specs.Told.{Becomes}
 use Rattle.lsm_levels.specs.Ages.{against_age}
+use Rattle.lsm_merger.specs.Followed.{known_if}
 use Rattle.lsm_merger.specs.Runs.{ReadsNoOther}
-use Rattle.lsm_merger.proofs.ages.against_age.Given as goal
+use Rattle.lsm_merger.proofs.ages.found_by.Given as goal
 
 abbrev pub invariant-loop : goal.invariant-loop
 invariant-loop g l = record {
   told : Becomes (g.B.Blocks.told l.fn.blocks) (g.B.Blocks.told l.blocks);
   loan : g.B.Blocks.loan l.blocks ≡ g.B.Blocks.loan l.fn.blocks;
-  files : ReadsNoOther l.fn.merger l.merger;
-  same : g.S.Shelf.honest → against_age None l.fn.merger.placed ≡ against_age l.before l.merger.placed;
+  files : ReadsNoOther l.fn.walk.left l.walk.left;
+  same : g.S.Shelf.honest → against_age None l.fn.walk.left.placed ≡ against_age (known_if l.before.place l.walk.passed l.before.seq) l.walk.left.placed;
 }

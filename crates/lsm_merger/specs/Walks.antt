@@ -1,0 +1,27 @@
+-- A merge that remembers the user key of an entry which it passed.
+use Rattle.std.specs.Prelude.{Bool, true, false, Option, Some, None}
+use Rattle.lsm_codec.specs.Keys.{UserKey}
+use Rattle.lsm_levels.specs.Merging.{Placed}
+use Rattle.lsm_levels.specs.Scanning.{is_answered}
+use Rattle.lsm_merger.specs.Runs.{Left}
+use Rattle.lsm_merger.specs.declared.walk.FirstKey.{FirstKey}
+
+-- what is left of the merge, and the user key that is remembered, if one is
+pub record Walking : Type 0 where
+  pub left : Left
+  pub passed : Option UserKey
+
+abbrev pub passed_if : Bool → UserKey → Option UserKey
+passed_if false user = None
+passed_if true user = Some user
+
+-- What is told of the first entry, if there is one: its sequence, its kind, and whether its user
+-- key is the one that is remembered.
+abbrev pub told_first : Option UserKey → Option Placed → Option FirstKey
+told_first passed None = None
+told_first passed (Some p) = Some (record { seq = p.1.seq; kind = p.1.kind; is_same = is_answered passed p.1.user })
+
+-- what is remembered then: the user key of the entry, if there is one
+abbrev pub passed_by : Option UserKey → Option Placed → Option UserKey
+passed_by passed None = passed
+passed_by passed (Some p) = Some p.1.user
