@@ -9,10 +9,6 @@ use Rattle.lsm_commands.specs.declared.form.Form.{Form}
 use Rattle.lsm_commands.specs.declared.directory_command.DirectoryCommand.{DirectoryCommand}
 use Rattle.lsm_commands.specs.declared.directory_command.DirectoryCommand.TheVariants.{Check, List as ListFiles, Get, Scan}
 
-pub no_words : {X : Type 0} (text : X → List ℕ) (xs : List X) → length xs < 1 → map text xs ≡ []
-no_words text [] h = refl
-no_words text (x ∷ xs) h = absurd (omega (arith, h))
-
 pub one_word : {X : Type 0} (text : X → List ℕ) (xs : List X) (a : X) → a ≡ get_or xs 0 a → 1 ≤ length xs → length xs < 2 → map text xs ≡ text a ∷ []
 one_word text [] a e h k = absurd (omega (arith, h))
 one_word text (x ∷ []) a e h k = ap (λ y. text y ∷ []) (sym e)
@@ -36,12 +32,6 @@ asks_words Check form progress path words asks = (codes "check", asks.0, asks.1)
 asks_words ListFiles form progress path words asks = (codes "list", asks.0, asks.1)
 asks_words (Get key) form progress path words asks = (codes "get", asks.0 ∷ asks.1, asks.2)
 asks_words (Scan bounds) form progress path words asks = (codes "scan", asks.0, asks.2)
-
-pub asks_two : {X : Type 0} (text : X → List ℕ) (xs : List X) (c : DirectoryCommand) (form : Form) (progress : Bool) (path : List ℕ)
-    → AsksOn c form progress path (map text xs) → length xs < 2 → ⊥
-asks_two text [] c form progress path asks h = let w = asks_words c form progress path [] asks in absurd cc
-asks_two text (x ∷ []) c form progress path asks h = let w = asks_words c form progress path (text x ∷ []) asks in absurd cc
-asks_two text (x ∷ y ∷ ys) c form progress path asks h = omega (arith, h)
 
 -- the path is the second word
 pub asks_path : (c : DirectoryCommand) (form : Form) (progress : Bool) (path name second : List ℕ) (rest words : List (List ℕ))

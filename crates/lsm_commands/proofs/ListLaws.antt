@@ -236,9 +236,6 @@ told : (text : List ℕ) (i : ℕ) (r : Result (List Entry) ℕ) → list_at tex
 told text i (Ok es) h b = absurd (b.bad (take i es) (front_is i (lines_of text) es (list_takes text es h)))
 told text i (Err j) h b = ap (λ k. Err k) (one_bad text j i (list_bad text j h) b)
 
-pub bad_again : (text : List ℕ) (i : ℕ) → IsFirstBadLine text i → list_at text ≡ Err i
-bad_again text i b = told text i (list_at text) refl b
-
 pub not_both : (text : List ℕ) (es : List Entry) (i : ℕ) → IsEntryList text es → IsFirstBadLine text i → ⊥
 not_both text es i l b = b.bad (take i es) (front_is i (lines_of text) es l)
 

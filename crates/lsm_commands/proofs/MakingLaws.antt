@@ -31,10 +31,6 @@ pub record IsAt (text : List ℕ) (entries : List Entry) (before : Option Entry)
   pub last : before ≡ last_entry entries
   pub ascends : Ascends entries
 
-joined-nil : (r : Result (List Entry) ℕ) → joined [] r ≡ r
-joined-nil (Ok es) = refl
-joined-nil (Err i) = refl
-
 joined-front : (front : List Entry) (e : Entry) (r : Result (List Entry) ℕ) → joined front (in_front e r) ≡ joined (front ++ e ∷ []) r
 joined-front front e (Ok es) = ap (λ (xs : List Entry). Ok xs) (sym (append_assoc front (e ∷ []) es))
 joined-front front e (Err i) = refl
@@ -48,9 +44,6 @@ pub ascends_push : (es : List Entry) (e : Entry) → Ascends es → may_follow (
 ascends_push [] e a h = tt
 ascends_push (f ∷ []) e a h = (is_less (entry_cmp f e) h, tt)
 ascends_push (f ∷ g ∷ es) e a h = (a.0, ascends_push (g ∷ es) e a.1 h)
-
-pub at_start : (text : List ℕ) (before : Option Entry) (rest : Result (List Entry) ℕ) → rest ≡ list_at text → before ≡ None → IsAt text [] before rest
-at_start text before rest r b = record { whole = sym r ∙ sym (joined-nil rest); last = b; ascends = tt }
 
 pub next_ascends : (text : List ℕ) (es : List Entry) (e : Entry) (before : Option Entry) (rest : Result (List Entry) ℕ)
     → IsAt text es before rest → may_follow before e ≡ true → Ascends (es ++ e ∷ [])

@@ -5,10 +5,6 @@ use Rattle.std.proofs.lemmas.List.{take_more, drop_all}
 use Rattle.lsm_commands.specs.EntryList.{with_first, lines_of}
 use Rattle.lsm_commands.specs.EntryReading.{behind, parts_at}
 
-behind-nil : (o : Option (List ℕ × List ℕ)) → behind [] o ≡ o
-behind-nil None = refl
-behind-nil (Some p) = refl
-
 behind-append : (xs ys : List ℕ) (o : Option (List ℕ × List ℕ)) → behind xs (behind ys o) ≡ behind (xs ++ ys) o
 behind-append xs ys None = refl
 behind-append xs ys (Some p) = simp append_assoc
@@ -41,9 +37,6 @@ step_other separator text i h n =
 pub step_end : (separator : ℕ) (text : List ℕ) (i : ℕ) → length text ≤ i → behind (take i text) (parts_at separator (drop i text)) ≡ None
 unfolding parts_at
 step_end separator text i h = rw (drop_all i text h) refl
-
-pub step_start : (separator : ℕ) (text : List ℕ) → parts_at separator text ≡ behind (take 0 text) (parts_at separator (drop 0 text))
-step_start separator text = sym (behind-nil (parts_at separator text))
 
 -- ---- a text in two parts
 

@@ -105,9 +105,6 @@ pub record HasTaken (word out rest : List ℕ) : Type 0 where
   pub is : word ≡ front ++ rest
   pub parts : AreParts front out
 
-pub taken_none : (word : List ℕ) → HasTaken word [] word
-taken_none word = record { front = []; is = refl; parts = refl }
-
 pub taken_more : (word out rest part after : List ℕ) (b : ℕ) → HasTaken word out rest → rest ≡ part ++ after → IsPart part b
     → HasTaken word (out ++ b ∷ []) after
 taken_more word out rest part after b h e k = record {
@@ -148,13 +145,6 @@ taken_stuck word out rest bytes other h some stuck k =
     let all = subst (λ (l : List ℕ). AreParts l bytes) h.is (word_parts word bytes other k) in
     let later = split_parts h.front rest out bytes h.parts all in
     no_more rest later.0 some stuck later.2
-
-pub empty_stuck : (word bytes : List ℕ) → length word ≡ 0 → IsTextWord word bytes → ⊥
-empty_stuck word [] none h = let one : length word ≡ 1 = ap length h in omega arith
-empty_stuck word (b ∷ bs) none h =
-    let some = part_some h.1.0 b h.1.3 in
-    let whole : length word ≡ length h.1.0 + length h.1.1 = ap length h.1.2 ∙ length-append h.1.0 h.1.1 in
-    omega arith
 
 pub dot_only : (word bytes : List ℕ) → word ≡ codes "." → IsTextWord word bytes → [] ≡ bytes
 dot_only word [] e h = refl

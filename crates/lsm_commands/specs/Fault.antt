@@ -10,7 +10,14 @@ use Rattle.lsm_manifest.specs.declared.edit_fault.EditFault.TheVariants.{OutOfMe
 use Rattle.lsm_commands.specs.declared.entry_reader.LineFault.{LineFault}
 use Rattle.lsm_commands.specs.declared.entry_reader.LineFault.TheVariants.{BadLine as BadLineOfList, OutOfMemory as NoMemoryForList}
 use Rattle.lsm_commands.specs.declared.fault.Fault.{Fault}
-use Rattle.lsm_commands.specs.declared.fault.Fault.TheVariants.{BadLine, OutOfMemory, Table, TooLarge, Log, Edit}
+use Rattle.lsm_commands.specs.declared.fault.Fault.TheVariants.{Read, BadLine, OutOfMemory, Table, TooLarge, Log, Edit}
+use Rattle.lsm_commands.specs.declared.streams.InputFault.{InputFault}
+use Rattle.lsm_commands.specs.declared.streams.InputFault.TheVariants.{Read as ReadOfInput, TooLong, OutOfMemory as NoMemoryForInput}
+
+abbrev pub of_input : InputFault → Fault
+of_input ReadOfInput = Read
+of_input TooLong = Read
+of_input NoMemoryForInput = OutOfMemory
 
 abbrev pub of_line : LineFault → Fault
 of_line (BadLineOfList line) = BadLine line

@@ -1,12 +1,13 @@
 //! Why a command ends with status 1, as the line on standard error says.
 
 ghost use Rattle.std.specs.Prelude.{◌≡◌, Some};
-ghost use Rattle.lsm_commands.specs.Fault.{of_line, of_table, of_build, of_log, of_edit};
+ghost use Rattle.lsm_commands.specs.Fault.{of_input, of_line, of_table, of_build, of_log, of_edit};
 ghost use Rattle.lsm_commands.specs.FaultText.{fault_text};
 ghost use Rattle.lsm_commands.specs.declared.fault.Fault.TheVariants.{OutOfMemory};
 
 use crate::entry_reader::LineFault;
 use crate::refusal::Refusal;
+use crate::streams::InputFault;
 use lsm_manifest::{EditFault, LogFault};
 use lsm_table::{BuildFault, TableFault};
 use std::alloc::AllocError;
@@ -56,6 +57,17 @@ impl From<AllocError> for Fault {
 
     fn from(_error: AllocError) -> Fault {
         Fault::OutOfMemory
+    }
+}
+
+impl From<InputFault> for Fault {
+    ghost from_gives = { λ e f. f ≡ of_input e };
+
+    fn from(error: InputFault) -> Fault {
+        match error {
+            InputFault::Read | InputFault::TooLong => Fault::Read,
+            InputFault::OutOfMemory => Fault::OutOfMemory,
+        }
     }
 }
 

@@ -1,6 +1,6 @@
 //! The two forms of words for bytes.
 
-ghost use Rattle.std.specs.Prelude.{◌≡◌, ◌++◌, IfOk, IfSome, List, OnOk, Some, ℕ};
+ghost use Rattle.std.specs.Prelude.{◌≡◌, ◌++◌, IfNone, IfOk, IfSome, List, OnOk, Some, ℕ};
 
 use crate::spelling::{push_bytes, push_decimal};
 use crate::text_words::{push_text, read_text};
@@ -49,6 +49,7 @@ impl Form {
     pub fn read_bytes(self, alloc: Global, word: &[u8]) -> Result<Option<Bytes>, AllocError>
         ensures only { IfOk result (λ o. IfSome o (IsWord self word.now)) }
         ensures found { (bytes : List ℕ) → IsWord self word.now bytes → IfOk result (λ o. o ≡ Some bytes) }
+        ensures none { IfOk result (λ o. IfNone o ((bytes : List ℕ) → IsWord self word.now bytes → ⊥)) }
     {
         match self {
             Form::Hex => read_hex(alloc, word),

@@ -49,4 +49,5 @@ pub use laws::{one_list, one_word, printed_list};
 pub use program::{refuse_words, run};
 pub use refusal::Refusal;
 pub use spelling::{push_bytes, push_decimal};
+pub use streams::{InputFault, read_input};
 pub use text_parts::{first_line, parts};

@@ -1,30 +1,42 @@
 //! Standard input, read whole, and standard output.
 
-ghost use Rattle.std.specs.Prelude.{◌≡◌, ◌⊎◌, ◌≤◌, length, IfOk, IfErr, IfSome, OnErr, OnOk};
+ghost use Rattle.std.specs.Prelude.{◌≡◌, ◌<◌, ◌≤◌, length, IfOk, IfErr, IfSome, OnErr, OnOk};
 ghost use Rattle.std.specs.Io.{WritesAtMost};
 ghost use Rattle.std.specs.Io.KnownBytes.{Appends, Keeps, WriteAppends};
 ghost use Rattle.lsm_commands.specs.Printing.{Begins};
-ghost use Rattle.lsm_commands.specs.declared.fault.Fault.TheVariants.{Read as ReadFault, Write as WriteFault, OutOfMemory};
+ghost use Rattle.lsm_commands.specs.declared.fault.Fault.TheVariants.{Write as WriteFault};
+ghost use Rattle.lsm_commands.specs.declared.streams.InputFault.TheVariants.{TooLong};
 
 use crate::fault::Fault;
 use std::alloc::Global;
 use std::io::{ErrorKind, Read, Write};
 
 /// The most bytes that are read, 64 MiB.
-pub(crate) const MAX_INPUT: u64 = 67_108_864;
+const MAX_INPUT: u64 = 67_108_864;
 
-/// All bytes of the input. `Read` where a read fails, or where there are more than `MAX_INPUT`.
-pub(crate) fn read_input<R: Read>(alloc: Global, input: &mut R) -> Result<Vec<u8>, Fault>
+/// Why an input was not read.
+#[derive(Clone, Copy, Debug)]
+pub enum InputFault {
+    /// A read failed.
+    Read,
+    /// It has more than 64 MiB.
+    TooLong,
+    /// A growth of memory was refused.
+    OutOfMemory,
+}
+
+/// All bytes of the input, 64 MiB at most. `TooLong` only where there are more; `Read` where a read fails; `OutOfMemory`.
+pub fn read_input<R: Read>(alloc: Global, input: &mut R) -> Result<Vec<u8>, InputFault>
     ensures found { IfOk result (λ bytes. IfSome (R.remaining input.old) (λ text. bytes.items ≡ text)) }
-    ensures limit { IfOk result (λ bytes. length bytes.items ≤ MAX_INPUT) }
-    ensures fault { IfErr result (λ e. (e ≡ ReadFault) ⊎ (e ≡ OutOfMemory)) }
+    ensures limit { IfOk result (λ bytes. length bytes.items ≤ 67108864) }
+    ensures too_long { IfErr result (λ e. e ≡ TooLong → IfSome (R.remaining input.old) (λ text. 67108864 < length text)) }
 {
     let mut bytes = Vec::new(alloc);
     let read = (&mut *input).take(MAX_INPUT + 1).read_to_end(&mut bytes);
     match read {
-        Err(error) if error.kind() == ErrorKind::OutOfMemory => Err(Fault::OutOfMemory),
-        Err(_) => Err(Fault::Read),
-        Ok(_) if bytes.len() as u64 > MAX_INPUT => Err(Fault::Read),
+        Err(error) if error.kind() == ErrorKind::OutOfMemory => Err(InputFault::OutOfMemory),
+        Err(_) => Err(InputFault::Read),
+        Ok(_) if bytes.len() as u64 > MAX_INPUT => Err(InputFault::TooLong),
         Ok(_) => Ok(bytes),
     }
 }
