@@ -2,4 +2,4 @@
 pub use Rattle.lsm_live.proofs.Elements.{each_more, has_at}
 pub use Rattle.lsm_live.proofs.Handing.{result_booked, result_is, result_ticket}
 pub use Rattle.lsm_live.proofs.Machine.{live_has, live_says, lives_added, lives_booked, lives_without}
-pub use Rattle.lsm_live.proofs.Reservations.{reserved_has, reserved_says}
+pub use Rattle.lsm_live.proofs.Reservations.{reserved_has}

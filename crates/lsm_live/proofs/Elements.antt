@@ -16,6 +16,3 @@ each_more P xs i x lt is before here y h = elim (has_cases (take i xs) (get_or x
   | inl old ↦ before y old
   | inr new ↦ elim new [ inl e ↦ subst P (is ∙ e) here | inr none ↦ absurd none ]
 ]
-
-pub each_all : {X : Type 0} (P : X → Type 0) (xs : List X) (i : ℕ) → length xs ≤ i → ((y : X) → Has (take i xs) y → P y) → (y : X) → Has xs y → P y
-each_all P xs i past all y h = all y (subst (λ zs. Has zs y) (sym (take_all i xs past)) h)

@@ -4,7 +4,6 @@ mod Places
 mod Machine
 mod Handing
 mod Reservations
-mod Sharing
 mod Results
 mod Alone
 mod Standing

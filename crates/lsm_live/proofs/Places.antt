@@ -2,10 +2,7 @@
 use Rattle.std.proofs.Common.{◌≡◌, ℕ, zero, suc, ◌<◌, ◌≤◌, true, length, get_or, set, take, List, [], ◌∷◌, Option, None, Some, is_some, refl, ◌∙◌, ap, inl, inr, arith}
 use Rattle.std.specs.Prelude.{◌⊎◌, ◌↔◌, MatchOption, OnErr, OnOk, Result, Ok, Err}
 use Rattle.lsm_codec.specs.Lists.{Has}
-use Rattle.lsm_levels.specs.Jobs.{Conflicts}
-use Rattle.lsm_merge.specs.Work.{Work, job_of}
 use Rattle.lsm_live.specs.Booked.{AreIncreasing, Booked, HasTicket, drawing, tickets_of}
-use Rattle.lsm_live.specs.Conflicting.{HasNoConflict, IsLeastConflict}
 use Rattle.lsm_live.proofs.Elements.{has_at}
 use Rattle.lsm_live.proofs.Tickets.{has_ticket}
 
@@ -27,26 +24,6 @@ pub set_tickets : (live : List Booked) (i : ℕ) (old new : Booked) → old ≡ 
 set_tickets [] i old new is same = refl
 set_tickets (b ∷ live) zero old new is same = ap (λ n. n ∷ tickets_of live) (same ∙ ap (λ (x : Booked). x.work.ticket) is)
 set_tickets (b ∷ live) (suc i) old new is same = ap (λ ns. b.work.ticket ∷ ns) (set_tickets live i old new is same)
-
--- each live job stands before a place, or has no lesser ticket than the one there
-before_or_after : (live : List Booked) (i : ℕ) (x : Booked) → AreIncreasing (tickets_of live) → i < length live → x ≡ get_or live i x → (b : Booked) → Has live b
-    → Has (take i live) b ⊎ (x.work.ticket ≤ b.work.ticket)
-before_or_after [] i x r lt is b h = absurd h
-before_or_after (c ∷ live) zero x r lt is b (inl e) = (let same : x.work.ticket ≡ b.work.ticket = ap (λ (y : Booked). y.work.ticket) (is ∙ e) in inr (omega arith))
-before_or_after (c ∷ live) zero x r lt is b (inr h) = (let after = r.0 b.work.ticket (has_ticket live b h) in let here = ap (λ (y : Booked). y.work.ticket) is in inr (omega arith))
-before_or_after (c ∷ live) (suc i) x r lt is b (inl e) = inl (inl e)
-before_or_after (c ∷ live) (suc i) x r lt is b (inr h) = elim (before_or_after live i x r.1 (omega arith) is b h) [ inl a ↦ inl (inr a) | inr le ↦ inr le ]
-
--- the first job in conflict is that of the least ticket
-pub least_at : (live : List Booked) (w : Work) (i : ℕ) (x : Booked) → AreIncreasing (tickets_of live) → i < length live → x ≡ get_or live i x → HasNoConflict (take i live) w
-    → Conflicts (job_of w) (job_of x.work) → IsLeastConflict live w x.work.ticket
-least_at live w i x r lt is none conflict = record {
-  one = x;
-  is_live = has_at live i x lt is;
-  its = refl;
-  conflict = conflict;
-  least = λ b h k. elim (before_or_after live i x r lt is b h) [ inl before ↦ absurd (none b before k) | inr le ↦ le ];
-}
 
 -- ---- after a draw
 

@@ -27,11 +27,6 @@ reserved_has [] b h = absurd h
 reserved_has (c ∷ live) b (inl e) = inl (ap (λ (x : Booked). reserved_of (job_of x.work)) e)
 reserved_has (c ∷ live) b (inr h) = inr (reserved_has live b h)
 
-pub reserved_says : (live : List Booked) (r : Reserved) → Has (reserved_jobs live) r → (b : Booked) × Has live b × (reserved_of (job_of b.work) ≡ r)
-reserved_says [] r h = absurd h
-reserved_says (c ∷ live) r (inl e) = (c, inl refl, e)
-reserved_says (c ∷ live) r (inr h) = (let s = reserved_says live r h in (s.0, inr s.1, s.2))
-
 abbrev pub reserved : ℕ → ℕ → List ℕ → List ℕ → List ℕ → Reserved
 reserved t l ns k m = record { ticket = t; level = l; inputs = ns; low = k; high = m }
 

@@ -54,15 +54,6 @@ without_rise ticket (b ∷ live) r = elim (cases_Bool (b.work.ticket == ticket))
       (λ m h. r.0 m (left_ticket ticket live m h), without_rise ticket live r.1)
 ]
 
-drawn_ticket : (number : ℕ) (b : Booked) (c : Bool) → (cond c (drawing number b) b).work.ticket ≡ b.work.ticket
-drawn_ticket number b true = refl
-drawn_ticket number b false = refl
-
-pub booked_tickets : (ticket number : ℕ) (live : List Booked) → tickets_of (booked ticket number live) ≡ tickets_of live
-booked_tickets ticket number [] = refl
-booked_tickets ticket number (b ∷ live) =
-    ap (λ n. n ∷ tickets_of (booked ticket number live)) (drawn_ticket number b (b.work.ticket == ticket)) ∙ ap (λ ns. b.work.ticket ∷ ns) (booked_tickets ticket number live)
-
 -- ---- booked at one place
 
 pub booked_none : (ticket number : ℕ) (live : List Booked) → ((b : Booked) → Has live b → b.work.ticket ≡ ticket → ⊥) → live ≡ booked ticket number live

@@ -1,5 +1,4 @@
 pub mod Booked
-pub mod Conflicting
 pub mod Planned
 pub mod Reserving
 pub mod Results
