@@ -1,6 +1,6 @@
 //! What nothing names any more is removed.
 
-ghost use Rattle.std.specs.Prelude.{IfErr, OnOk};
+ghost use Rattle.std.specs.Prelude.{◌≡◌, IfErr, OnOk};
 ghost use Rattle.lsm_compactor.specs.Compacting.{IsSwept, Refuses};
 
 use lsm_slots::Boarded;
@@ -17,6 +17,7 @@ fn sweep_state<N: Boarded, S: Shelf, R: Wait>(
     state: &mut State<N, S>,
     shelf: &mut S,
 ) -> Result<usize, StateFault>
+    requires here { (S.told shelf.old).place ≡ N.place }
     ensures ok { OnOk result (IsSwept S.honest N.board (S.told shelf.old) (S.told shelf.new)) }
     ensures refused { IfErr result (λ e. Refuses S.honest N.board e (S.told shelf.old) (S.told shelf.new)) }
 {
@@ -35,6 +36,7 @@ pub(crate) fn sweep<N: Boarded, S: Shelf, R: Wait>(
     store: &Store<N, S>,
     shelf: &mut S,
 ) -> Result<usize, StateFault>
+    requires here { (S.told shelf.old).place ≡ N.place }
     ensures ok { OnOk result (IsSwept S.honest N.board (S.told shelf.old) (S.told shelf.new)) }
     ensures refused { IfErr result (λ e. Refuses S.honest N.board e (S.told shelf.old) (S.told shelf.new)) }
 {

@@ -79,6 +79,7 @@ impl<N: Boarded, S: Shelf> State<N, S> {
         alloc: Global,
         shelf: &mut S,
     ) -> Result<Vec<u64>, (StateFault, Vec<u64>)>
+        requires here { (S.told shelf.old).place ≡ N.place }
         ensures ok { IfOk result (λ v. (self.old.halted ≡ false) × HasLookedAround self.old self.new × AreCollected self.new v.items (S.told shelf.old) (S.told shelf.new)) }
         ensures event { plain self.new ≡ plain self.old }
         ensures kept { (n : ℕ) → IsKeptNumber self.new n → IsKeptNumber self.old n }

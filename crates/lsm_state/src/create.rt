@@ -34,6 +34,7 @@ impl<N: Boarded, S: Shelf> State<N, S> {
     ) -> Result<State<N, S>, ShelfFault>
         requires fits { Fits options }
         requires named { arc_value registry ≡ N.registry }
+        requires here { (S.told shelf.old).place ≡ N.place }
         requires board { IsNewBoard N.board options board.0 board.1.items }
         ensures created { IfOk result (λ s. s ≡ created_state options board.0 board.1.items) }
         ensures sent { IfOk result (λ s. Becomes (sending 1 s.journal.bytes (S.told shelf.old)) (S.told shelf.new)) }

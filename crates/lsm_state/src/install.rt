@@ -121,6 +121,7 @@ impl<N: Boarded, S: Shelf> State<N, S> {
         shelf: &mut S,
         done: Finished<N, S>,
     ) -> Result<Vec<u64>, (StateFault, Finished<N, S>)>
+        requires here { (S.told shelf.old).place ≡ N.place }
         ensures may { OnOk result (MayInstall self.old done) }
         ensures installed { OnOk result (Installed self.old self.new done (S.told shelf.old) (S.told shelf.new)) }
         ensures numbers { IfOk result (λ v. v.items ≡ map (λ t. t.number) done.outputs) }

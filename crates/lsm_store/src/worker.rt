@@ -37,6 +37,7 @@ fn install<N: Boarded, S: Shelf, R: Wait>(
     shelf: &mut S,
     done: Finished<N, S>,
 ) -> Result<(), StateFault>
+    requires here { (S.told shelf.old).place ≡ N.place }
     ensures place { (S.told shelf.new).place ≡ (S.told shelf.old).place }
     ensures refused { IfErr result IsOfInstalling }
 {
