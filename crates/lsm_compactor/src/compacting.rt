@@ -115,6 +115,7 @@ fn tidy<N: Boarded, S: Shelf, R: Wait, E: Write>(
     progress: bool,
     err: &mut E,
 ) -> Result<(), StateFault>
+    requires here { (S.told shelf.old).place ≡ N.place }
     ensures ok { OnOk result (IsSwept S.honest N.board (S.told shelf.old) (S.told shelf.new)) }
     ensures refused { IfErr result (λ e. Refuses S.honest N.board e (S.told shelf.old) (S.told shelf.new)) }
     ensures quiet { IsFalse progress → Keeps (E.contents err.old) (E.contents err.new) }
