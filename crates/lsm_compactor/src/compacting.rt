@@ -46,6 +46,7 @@ fn man<N: Boarded, S: Shelf, R: Wait, E: Write>(
     requires board { IsNewBoard N.board usual ends.publisher ends.pinners.items }
     requires seats { vec_len ends.pinners ≡ usual.readers }
     ensures here { IfOk result (λ c. All (λ s. (S.told s).place ≡ N.place) c.shelves.items) }
+    ensures shelf { OnOk result ((S.told shelf.new).place ≡ N.place) }
     ensures count { IfOk result (λ c. vec_len c.shelves ≡ options.workers) }
     ensures opened { OnOk result (IsOpened S.honest N.board (S.told shelf.old) (S.told shelf.new)) }
     ensures refused { IfErr result (λ e. IsUnbegun (λ number image. (r : S.Receipt) × S.is_of N.place r × (S.Receipt.number r ≡ number) × (S.Receipt.image r ≡ image)) (S.refuses N.place) S.honest e (S.told shelf.old) (S.told shelf.new)) }
