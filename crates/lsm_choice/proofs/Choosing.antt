@@ -83,26 +83,6 @@ beyond_at v level c b l e = subst (λ (n : ℕ). is_beyond (pointer_at v n) c.ta
 pub both_blocked : (v : Levels) (rs : List Reserved) (level : ℕ) → AllBlockedBeside v rs level true → AllBlockedBeside v rs level false → AllBlocked v rs level
 both_blocked v rs level a b c l f = elim (side_of v rs level c l f) [ inl s ↦ a c s | inr s ↦ b c s ]
 
-pub beyond_chosen : (v : Levels) (rs : List Reserved) (level : ℕ) (p : TablePlan) → IsFirstClear v rs level true p → IsLevelChoice v rs level p
-beyond_chosen v rs level p k = record {
-  start = k.start;
-  level_is = k.on_side.level_is;
-  free = k.on_side.free;
-  planned = k.planned;
-  clear = k.clear;
-  first = first;
-}
-  where
-    own : is_beyond (pointer_at v k.start.level) k.start.table ≡ true
-    own = beyond_at v level k.start true k.on_side.level_is k.on_side.side
-
-    first : (c : Candidate) → c.level ≡ level → IsFree v rs c → IsPlaceBefore v c k.start → IsBlocked v rs c
-    first c l f (inl b) = absurd (cc (own, b.1))
-    first c l f (inr b) = elim (side_of v rs level c l f) [
-      | inl s ↦ k.first c s b.1
-      | inr s ↦ (let other = beyond_at v level c false l s.side in absurd (cc (own, other, b.0)))
-    ]
-
 pub other_chosen : (v : Levels) (rs : List Reserved) (level : ℕ) (p : TablePlan) → AllBlockedBeside v rs level true → IsFirstClear v rs level false p → IsLevelChoice v rs level p
 other_chosen v rs level p a k = record {
   start = k.start;
@@ -136,9 +116,6 @@ abbrev pub IsBest : Levels → List Reserved → ℕ → Option TablePlan → �
 IsBest v rs end None most = (most ≡ 0) × ((l : ℕ) → l < end → IsDue (score v rs l) → AllBlocked v rs l)
 IsBest v rs end (Some p) most = (p.level < end) × IsDue (score v rs p.level) × (weight v rs p.level ≡ most) × IsLevelChoice v rs p.level p
     × ((l : ℕ) → l < end → IsDue (score v rs l) → IsHeavier v rs l most p.level → AllBlocked v rs l)
-
-pub best_start : (v : Levels) (rs : List Reserved) → IsBest v rs 0 None 0
-best_start v rs = (refl, λ l lt. absurd (omega arith))
 
 below_or_at : (l end : ℕ) → l < end + 1 → (l < end) ⊎ (l ≡ end)
 below_or_at l end lt = elim (cases_lt l end) [ inl less ↦ inl less | inr more ↦ inr (omega arith) ]

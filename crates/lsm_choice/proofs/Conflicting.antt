@@ -90,9 +90,6 @@ abbrev pub IsFound : TablePlan → List Reserved → Option ℕ → Type 0
 IsFound p rs None = IsClear p rs
 IsFound p rs (Some ticket) = IsLeastConflict p rs ticket
 
-pub found_none : (p : TablePlan) → IsFound p [] None
-found_none p = λ r h. absurd h
-
 has_more : (rs : List Reserved) (i : ℕ) (x r : Reserved) → i < length rs → x ≡ get_or rs i x → Has (take (i + 1) rs) r → Has (take i rs) r ⊎ (x ≡ r)
 has_more rs i x r lt is h = elim (has_cases (take i rs) (get_or rs i x ∷ []) r (subst (λ (ts : List Reserved). Has ts r) (take_more rs i x lt) h)) [
   | inl old ↦ inl old

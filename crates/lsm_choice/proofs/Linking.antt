@@ -65,7 +65,3 @@ pub linked_from : (v : List File) (level : ℕ) (Start Other : File → Type 0) 
     → (F : File) → IsLinked v level Start F → IsLinked v level Other F
 linked_from v level Start Other reach F (starting _ h at s) = reach F h at s
 linked_from v level Start Other reach F (meeting E _ l h at m) = meeting E F (linked_from v level Start Other reach E l) h at m
-
-pub start_of : (v : List File) (level : ℕ) (Start : File → Type 0) (F : File) → IsLinked v level Start F → (S : File) × Has v S × (S.level ≡ level) × Start S
-start_of v level Start F (starting _ h at s) = (F, h, at, s)
-start_of v level Start F (meeting E _ l h at m) = start_of v level Start E l

@@ -26,9 +26,6 @@ pub record AreRangesTo (v : Levels) (level end : ℕ) (ranges : List (UserKey ×
   pub all : (F : File) → Has (files v) F → suc (suc level) ≤ F.level → F.level < end → Has ranges (F.low, F.high)
   pub only : (r : UserKey × UserKey) → Has ranges r → (F : File) × Has (files v) F × (suc (suc level) ≤ F.level) × ((F.low, F.high) ≡ r)
 
-pub ranges_start : (v : Levels) (level end : ℕ) → end ≡ level + 2 → AreRangesTo v level end []
-ranges_start v level end e = record { deep = omega arith; all = λ F h low lt. absurd (omega arith); only = λ r h. absurd h }
-
 pub ranges_more : (v : Levels) (level end : ℕ) (old new : List (UserKey × UserKey)) → new ≡ old ++ ranges_of (level_in v.tables end) → AreRangesTo v level end old → AreRangesTo v level (end + 1) new
 ranges_more v level end old new is a = record {
   deep = (let d = a.deep in omega arith);

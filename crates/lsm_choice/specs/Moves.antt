@@ -2,7 +2,7 @@
 use Rattle.std.specs.Prelude.{◌≡◌, ℕ, suc, ◌*◌, ◌≤◌, [], length}
 use Rattle.lsm_version.specs.Versions.{Levels}
 use Rattle.lsm_choice.specs.TablePlans.{TablePlan, tables_over}
-use Rattle.lsm_choice.specs.Scores.{bytes_of}
+use Rattle.lsm_table.specs.Registry.{bytes_of}
 
 -- One input, none at the next level, and at most ten target sizes of files that meet the hull two levels down; no file is there where
 -- that level is above 6.

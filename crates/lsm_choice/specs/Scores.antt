@@ -1,18 +1,14 @@
 -- How much a level wants to be compacted (LevelDB's `doc/impl.md`, "Compactions", and `VersionSet::Finalize`; that the inputs of live
 -- jobs are not counted is this project's rule).
-use Rattle.std.specs.Prelude.{ℕ, zero, suc, ◌-◌, ◌*◌, ◌^◌, not, List, length, sum_by}
+use Rattle.std.specs.Prelude.{ℕ, zero, suc, ◌-◌, ◌*◌, ◌^◌, not, List, length}
 use Rattle.std.specs.List.{filter}
-use Rattle.lsm_table.specs.Registry.{Table, size_of}
+use Rattle.lsm_table.specs.Registry.{Table, bytes_of}
 use Rattle.lsm_version.specs.Versions.{Levels, level_in}
 use Rattle.lsm_choice.specs.Reservations.{Reserved, is_taken}
 
 -- the tables of a list that are inputs of no live job
 abbrev pub free_tables : List Reserved → List Table → List Table
 free_tables rs ts = filter (λ t. not (is_taken rs t)) ts
-
--- the sizes of the tables' files, in bytes
-abbrev pub bytes_of : List Table → ℕ
-bytes_of ts = sum_by size_of ts
 
 -- what a level may hold: four files at level 0, ten megabytes at level 1, and at each further level ten times as much
 abbrev pub limit : ℕ → ℕ

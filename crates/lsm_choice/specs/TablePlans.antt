@@ -6,7 +6,7 @@ use Rattle.lsm_codec.specs.Lists.{Has}
 use Rattle.lsm_table.specs.Registry.{Table}
 use Rattle.lsm_levels.specs.Files.{File, Meets}
 use Rattle.lsm_levels.specs.Jobs.{Job}
-use Rattle.lsm_levels.specs.Plans.{IsClosed, IsLinked, Plan}
+use Rattle.lsm_levels.specs.Plans.{IsClosed, IsLinked, Plan, job_from}
 use Rattle.lsm_version.specs.Overlap.{meets}
 use Rattle.lsm_version.specs.Versions.{Levels, files, files_of, level_in}
 
@@ -28,16 +28,7 @@ plan_of p = record { level = p.level; upper = files_of p.level p.upper; lower = 
 
 -- the job that takes the plan's tables
 abbrev pub job_of : TablePlan → ℕ → ℕ → List (UserKey × UserKey) → Bool → Job
-job_of p ticket floor ranges is_move = record {
-  ticket = ticket;
-  level = p.level;
-  inputs = files_of p.level p.upper ++ files_of (suc p.level) p.lower;
-  low = p.low;
-  high = p.high;
-  floor = floor;
-  ranges = ranges;
-  is_move = is_move;
-}
+job_of p ticket floor ranges is_move = job_from (plan_of p) ticket floor ranges is_move
 
 -- some tables of the list, in its order
 abbrev pub ArePicked : List Table → List Table → Type 0

@@ -1,7 +1,8 @@
 //! How much each level wants to be compacted.
 
 ghost use Rattle.std.specs.Prelude.{◌≡◌, ◌≤◌, ◌<◌, ◌^◌, [], ◌∷◌, length};
-ghost use Rattle.lsm_choice.specs.Scores.{bytes_of, free_tables, limit, load, part, score};
+ghost use Rattle.lsm_table.specs.Registry.{bytes_of};
+ghost use Rattle.lsm_choice.specs.Scores.{free_tables, limit, load, part, score};
 
 use crate::conflicts::is_taken;
 use crate::reservation::Reservation;

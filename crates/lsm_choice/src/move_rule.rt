@@ -3,7 +3,7 @@
 ghost use Rattle.std.specs.Prelude.{◌≡◌, ◌↔◌, IsTrue, suc};
 ghost use Rattle.std.specs.List.{filter};
 ghost use Rattle.lsm_choice.specs.Moves.{IsMovable};
-ghost use Rattle.lsm_choice.specs.Scores.{bytes_of};
+ghost use Rattle.lsm_table.specs.Registry.{bytes_of};
 ghost use Rattle.lsm_choice.specs.TablePlans.{tables_over};
 ghost use Rattle.lsm_version.specs.Overlap.{meets};
 

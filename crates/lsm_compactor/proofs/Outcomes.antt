@@ -21,15 +21,6 @@ pub is_refused : {T : Type 0} (r : Result T CompactFault) (status : ℕ) (Stored
 is_refused (Ok x) status Stored Refused Honest workers was is old new ok err says left other = absurd (other ok)
 is_refused (Err e) status Stored Refused Honest workers was is old new ok err says left other = (err, (e, record { says = says; left = left }))
 
-keeps_itself : (x : Option (List ℕ)) → Keeps x x
-keeps_itself None = tt
-keeps_itself (Some xs) = refl
-
--- nothing was written, whatever the answer is
-pub all_keep : {T : Type 0} (r : Result T CompactFault) (x : Option (List ℕ)) → IfErr r (λ e. e ≢ Writer WriteFault → Keeps x x)
-all_keep (Ok v) x = tt
-all_keep (Err e) x = λ n. keeps_itself x
-
 -- ---- after the opening
 
 -- memory ran out before the workers began, or one of them has a fault

@@ -126,8 +126,3 @@ logs_all log prev files i old new all h = subst (λ (l : List FolderFile). Appen
 pub checked_logs : (v : Levels) (rest log prev : ℕ) (files : List FolderFile) (mid new : List ℕ) → mid ≡ check_text v rest → AppendsLogs log prev files mid new
     → IsChecked v rest log prev files new
 checked_logs v rest log prev files mid new is h = subst (λ (t : List ℕ). AppendsLogs log prev files t new) is h
-
-pub checked_printed : {T : Type 0} (r : Result T DirectoryFault) (form : Form) (v : Levels) (rest log prev : ℕ) (files : List FolderFile) (text : List ℕ) (old new : Option (List ℕ))
-    → IsChecked v rest log prev files text → OnOk r (Appends old new text) → OnOk r (Prints form Check v rest log prev files old new)
-checked_printed (Ok x) form v rest log prev files text old new h w = (text, h, w)
-checked_printed (Err e) form v rest log prev files text old new h w = search

@@ -95,9 +95,6 @@ pub record SoFar (left all : List (List ℕ)) (files : List FolderFile) (old new
   pub calls : new ≡ after asked old
   pub told : map named files ≡ sized asked
 
-pub so_far_none : (all : List (List ℕ)) (old : List Call) → SoFar all all [] old old
-so_far_none all old = record { asked = []; logs = λ more these. these; answers = λ a has. absurd has; calls = refl; told = refl }
-
 answers_more : (asked : List Asked) (last a : Asked) → ((b : Asked) → Has asked b → IsSizeOrGone b.answer) → IsSizeOrGone last.answer → Has (asked ++ last ∷ []) a → IsSizeOrGone a.answer
 answers_more [] last a all is (inl same) = subst (λ (b : Asked). IsSizeOrGone b.answer) same is
 answers_more [] last a all is (inr none) = absurd none

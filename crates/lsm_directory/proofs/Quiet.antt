@@ -9,6 +9,3 @@ keeps_same a = Keeps-refl a
 
 pub keeps_then : (a b c : Option (List ℕ)) → Keeps a b → Keeps b c → Keeps a c
 keeps_then a b c p q = Keeps-trans a b c p q
-
-pub quiet_then : (asked : Bool) (a b c : Option (List ℕ)) → (IsFalse asked → Keeps a b) → (IsFalse asked → Keeps b c) → IsFalse asked → Keeps a c
-quiet_then asked a b c p q h = Keeps-trans a b c (p h) (q h)

@@ -2,7 +2,7 @@
 use Rattle.std.specs.Prelude.{ℕ, zero, suc, List, [], ◌∷◌, ◌++◌, length, codes, decimal, Option, Some, None}
 use Rattle.std.specs.List.{flat_map, sum_by}
 use Rattle.lsm_table.specs.HeldTable.{entries_in}
-use Rattle.lsm_table.specs.Registry.{Table, size_of}
+use Rattle.lsm_table.specs.Registry.{Table, bytes_of, size_of}
 use Rattle.lsm_version.specs.Versions.{Levels, level_in}
 use Rattle.lsm_commands.specs.ManifestPrinting.{key_word_in, number_line}
 use Rattle.lsm_commands.specs.Spelling.{spelled}
@@ -39,10 +39,6 @@ answer_text form None = codes "absent\n"
 answer_text form (Some value) = codes "value " ++ (spelled form value ++ (10 ∷ []))
 
 -- ---- `check`
-
--- the bytes of all files
-abbrev pub bytes_of : List Table → ℕ
-bytes_of ts = sum_by size_of ts
 
 -- the entries of all files
 abbrev pub count_of : List Table → ℕ

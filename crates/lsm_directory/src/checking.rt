@@ -3,11 +3,11 @@
 ghost use Rattle.std.specs.Prelude.{◌≡◌, ◌++◌, IfErr, IfOk, IsFalse, OnOk, length};
 ghost use Rattle.std.specs.Io.KnownBytes.{Keeps};
 ghost use Rattle.lsm_codec.specs.Lists.{Has};
-ghost use Rattle.lsm_table.specs.Registry.{Table};
+ghost use Rattle.lsm_table.specs.Registry.{Table, bytes_of};
 ghost use Rattle.lsm_table.specs.ReadFault.{IsMemoryOrShelf, ReadCounted};
 ghost use Rattle.lsm_table.specs.Told.{Becomes};
 ghost use Rattle.lsm_version.specs.Versions.{IsWhole};
-ghost use Rattle.lsm_directory.specs.Listing.{bytes_of, check_text, count_of, counts_line, labelled, level_line};
+ghost use Rattle.lsm_directory.specs.Listing.{check_text, count_of, counts_line, labelled, level_line};
 ghost use Rattle.lsm_directory.specs.ReadFault.{IsReadFault};
 
 use crate::counting::{count_level, size_of_level};

@@ -3,12 +3,12 @@
 ghost use Rattle.std.specs.Prelude.{◌≡◌, ◌+◌, IfErr, IfOk, IsFalse, length};
 ghost use Rattle.std.specs.Io.KnownBytes.{Keeps};
 ghost use Rattle.lsm_codec.specs.Lists.{Has};
-ghost use Rattle.lsm_table.specs.Registry.{Table};
+ghost use Rattle.lsm_table.specs.Registry.{Table, bytes_of};
 ghost use Rattle.lsm_table.specs.HeldTable.{entries_in};
 ghost use Rattle.lsm_table.specs.ReadFault.{IsMemoryOrShelf, ReadCounted};
 ghost use Rattle.lsm_table.specs.Told.{Becomes};
 ghost use Rattle.lsm_version.specs.Versions.{IsWhole};
-ghost use Rattle.lsm_directory.specs.Listing.{bytes_of, count_of};
+ghost use Rattle.lsm_directory.specs.Listing.{count_of};
 
 use crate::progress::Progress;
 use lsm_reader::{Blocks, TableStream};

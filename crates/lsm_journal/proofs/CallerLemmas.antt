@@ -1,4 +1,3 @@
 -- What proofs of the crates above cite beside the public contracts: what is recorded as the next number rises, the keys of a recorded
 -- version, and what is sent.
 pub use Rattle.lsm_journal.proofs.Recording.{later, recorded_fit}
-pub use Rattle.lsm_journal.proofs.Alike.{grows_alike, rolls_alike}

@@ -27,13 +27,6 @@ times_append n xs ys = sum_by-append (λ m. cond (m == n) 1 0) xs ys
 once_same : (a n : ℕ) → a ≡ n → once a n ≡ 1
 once_same a n e = ap (λ (b : Bool). cond b 1 0) (eq-eqb a n e)
 
-once_few : (a n : ℕ) → once a n ≤ 1
-once_few a n = go (a == n)
-  where
-    go : (b : Bool) → cond b 1 0 ≤ 1
-    go true = omega arith
-    go false = omega arith
-
 pub at_once : (n : ℕ) (xs : List ℕ) → Has xs n → 1 ≤ times n xs
 at_once n [] h = absurd h
 at_once n (a ∷ xs) (inl e) = let m = times_more n a xs in let s = once_same a n e in omega arith

@@ -20,11 +20,6 @@ use Rattle.lsm_journal.specs.Recovering.{IsRecordRefusal}
 use Rattle.lsm_journal.specs.Writing.{metas_of}
 use Rattle.lsm_journal.proofs.Wholes.{all_from}
 
-pub map_more : {X Y : Type 0} (f : X → Y) (xs : List X) (i : ℕ) (x : X) (ys after : List Y) (y : Y) → i < length xs → x ≡ get_or xs i x → y ≡ f x → ys ≡ map f (take i xs) → after ≡ ys ++ y ∷ [] → after ≡ map f (take (i + 1) xs)
-map_more f xs i x ys after y lt at is before step =
-    let one : take (i + 1) xs ≡ take i xs ++ x ∷ [] = take_more xs i x lt ∙ ap (λ z. take i xs ++ z ∷ []) (sym at) in
-    step ∙ ap (λ zs. zs ++ y ∷ []) before ∙ ap (λ z. map f (take i xs) ++ z ∷ []) is ∙ sym (map-append f (take i xs) (x ∷ [])) ∙ ap (map f) (sym one)
-
 pub edits_more : (rs : List (List ℕ)) (i : ℕ) (r : List ℕ) (es after : List Change) (e : Change) → i < length rs → r ≡ get_or rs i r → AreEdits (take i rs) es → IsEdit r e → after ≡ es ++ e ∷ [] → AreEdits (take (i + 1) rs) after
 edits_more rs i r es after e lt at before is step =
     let one : take (i + 1) rs ≡ take i rs ++ r ∷ [] = take_more rs i r lt ∙ ap (λ z. take i rs ++ z ∷ []) (sym at) in

@@ -100,16 +100,3 @@ created_recorded limit spelled = record {
   comes = created_comes;
   own = created_own;
 }
-
-pub append_grows : (h : HeldManifest) (e : Change) (bytes own : List ℕ) (len : ℕ) (was is : Told) → len ≡ length h.bytes → bytes ≡ h.bytes ++ record_of h.bytes e → own ≡ drop len bytes
-    → Becomes (appending own was) is → IsEdit (edit_text e) e → Grows e h (record h { bytes = bytes }) was is
-append_grows h e bytes own len was is at grew part told spelled =
-    let own_is : own ≡ record_of h.bytes e = part ∙ rw (at, grew) (drop-append_seam h.bytes (record_of h.bytes e)) in
-    record {
-      held = ap (λ (b : List ℕ). let x : HeldManifest = record h { bytes = b } in x) grew;
-      sent = subst (λ (b : List ℕ). Becomes (appending b was) is) own_is told;
-      spelled = spelled;
-    }
-
-pub cut_back : (old more : List ℕ) (len : ℕ) → len ≡ length old → take len (old ++ more) ≡ old
-cut_back old more len at = rw at (take-append_seam old more)

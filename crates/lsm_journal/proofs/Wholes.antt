@@ -176,9 +176,6 @@ created_own = record { seven = refl; seven_pointers = refl; numbers = λ n. omeg
 short_name : length (codes "leveldb.BytewiseComparator") < 2 ^ 32
 short_name = omega arith
 
-pub created_fits : IsFit first_edit
-created_fits = record { comparator = short_name; pointers = All-nil FitsPointer; deleted = All-nil FitsDeleted; added = All-nil FitsAdded }
-
 pub version_fits : (h : HeldManifest) (v : Levels) (next : ℕ) → length v.tables ≡ 7 → length v.pointers ≡ 7 → FitsLevels v → IsFit (version_edit h v next)
 version_fits h v next seven seven_pointers fits = record {
   comparator = short_name;

@@ -21,11 +21,6 @@ pub fn recovered_is_recorded()
     shapes_in_order();
 }
 
-/// What is recorded stays so as the next file number rises.
-pub fn recorded_later()
-    ensures { (rest : ℕ) (h : HeldManifest) (v : Levels) (n m : ℕ) → IsRecorded rest h v n → n ≤ m → IsRecorded rest h v m }
-{}
-
 /// The keys of a recorded version fit: each is an internal key, and its length fits 32 bits.
 pub fn recorded_keys_fit()
     ensures { (rest : ℕ) (h : HeldManifest) (v : Levels) (next : ℕ) → IsRecorded rest h v next → FitsLevels v }

@@ -5,9 +5,9 @@ use Rattle.std.specs.Str.{bytes_eq}
 use Rattle.lsm_codec.specs.Keys.{InternalKey, IsKey, UserKey}
 use Rattle.lsm_codec.specs.Entries.{Entry, internal_key}
 use Rattle.lsm_block.specs.Building.{last_key}
-use Rattle.lsm_table.specs.Table.{IsTable}
+use Rattle.lsm_table.specs.Table.{IsTable, IsImage}
 use Rattle.lsm_merge.specs.Cuts.{closes, ends_with}
-use Rattle.lsm_merge.specs.Outputs.{IsBegun, IsImage}
+use Rattle.lsm_merge.specs.Outputs.{IsBegun}
 
 pub last_none : (es : List Entry) → last_key es ≡ None → es ≡ []
 last_none [] h = refl

@@ -87,20 +87,3 @@ merge_finished Honest w m work move good sizes kept = record {
   built = λ other t h. subst (λ (o : TableOptions). IsBuilt o t) sizes (good.built t h);
   made = subst (IsMade Honest (record { work = w; outputs = m.tables; put = m.put })) (sym move) (good.numbers, λ honest. merged_kept w m.tables good.whole (kept honest));
 }
-
--- a move hands its one input on
-pub move_finished : (Honest : Type 0) (w : Work) (outputs : List Table) → IsWork Honest w → w.is_move ≡ true → outputs ≡ w.upper
-    → IsFinished Honest (record { work = w; outputs = outputs; put = [] })
-move_finished Honest w outputs work move same = record {
-  low = work.low;
-  whole = λ honest t h. work.whole honest t (left_has w.upper w.lower t (subst (λ (l : List Table). Has l t) same h));
-  put_whole = λ other. absurd (both_ways w.is_move other move);
-  built = λ other. absurd (both_ways w.is_move other move);
-  made = subst (IsMade Honest (record { work = w; outputs = outputs; put = [] })) (sym move)
-      (let one = subst (MovesOne w) move work.moves in (one.0, one.1, one.2, same ∙ one.1, refl));
-}
-  where
-    left_has : (xs ys : List Table) (t : Table) → Has xs t → Has (xs ++ ys) t
-    left_has [] ys t h = absurd h
-    left_has (x ∷ xs) ys t (inl e) = inl e
-    left_has (x ∷ xs) ys t (inr h) = inr (left_has xs ys t h)

@@ -33,17 +33,6 @@ pub size_of_build : (n : ℕ) (f : BuildFault) (P : Type 0) → (f ≡ build.Too
 size_of_build n build.OutOfMemory P h s = absurd s
 size_of_build n build.TooLarge P h s = h refl
 
-pub no_size_of_numbers : (f : NumberFault) → IsSizeFault (of_numbers f) → ⊥
-no_size_of_numbers numbers.OutOfMemory s = s
-no_size_of_numbers (numbers.UnknownTicket t) s = s
-no_size_of_numbers numbers.NumbersSpent s = s
-
-pub no_size_of_put : (n : ℕ) (f : ShelfFault) → IsSizeFault (of_put n f) → ⊥
-no_size_of_put n shelf.OutOfMemory s = s
-no_size_of_put n shelf.Device s = s
-no_size_of_put n shelf.Missing s = s
-no_size_of_put n (shelf.Taken m) s = s
-
 pub no_size_reading : (e : MergeFault) → IsOfReading e → IsSizeFault e → ⊥
 no_size_reading OutOfMemory k s = s
 no_size_reading (ReadFailed n (Read f)) k s = s
@@ -59,9 +48,6 @@ over_next options es e a p = record { some = es ++ e ∷ []; ascends = a; from =
 
 pub over_first : (options : TableOptions) (e : Entry) → PassesLimit options [] e → IsOverLimit options (e ∷ [])
 over_first options e p = over_next options [] e tt p
-
-pub over_index : (options : TableOptions) (es : List Entry) → Ascends es → 2 ^ 32 ≤ length (index_block options.restart_interval (groups_by options es)) → IsOverLimit options es
-over_index options es a p = record { some = es; ascends = a; from = λ x h. h; over = inr p }
 
 pub over_more : (options : TableOptions) (es fs : List Entry) → ((e : Entry) → Has es e → Has fs e) → IsOverLimit options es → IsOverLimit options fs
 over_more options es fs f o = record { some = o.some; ascends = o.ascends; from = λ e h. f e (o.from e h); over = o.over }

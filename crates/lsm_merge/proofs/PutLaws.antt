@@ -6,14 +6,14 @@ use Rattle.lsm_codec.specs.Keys.{IsKey}
 use Rattle.lsm_codec.specs.Entries.{Entry, internal_key}
 use Rattle.lsm_codec.proofs.CallerLemmas.{has_cases}
 use Rattle.lsm_table.specs.Registry.{Table}
-use Rattle.lsm_table.specs.Table.{IsTable}
+use Rattle.lsm_table.specs.Table.{IsTable, IsImage}
 use Rattle.lsm_table.specs.HeldTable.{entries_in}
 use Rattle.lsm_table.specs.declared.table_options.TableOptions.{TableOptions}
 use Rattle.lsm_version.specs.Versions.{IsWhole}
 use Rattle.lsm_merge.specs.Causes.{DrewMore}
 use Rattle.lsm_merge.specs.Cuts.{is_empty}
 use Rattle.lsm_merge.specs.Dropping.{closed}
-use Rattle.lsm_merge.specs.Outputs.{AreGood, Goes, IsImage, IsPut, Unfinished, drawn_of, entries_of_last, going, making_of}
+use Rattle.lsm_merge.specs.Outputs.{AreGood, Goes, IsPut, Unfinished, drawn_of, entries_of_last, going, making_of}
 use Rattle.lsm_merge.specs.Work.{IsBuilt, contents_of}
 
 pub going_snoc : (ns : List ℕ) (n : ℕ) (there : List ℕ) → going (ns ++ n ∷ []) there ≡ n ∷ going ns there

@@ -25,11 +25,6 @@ asks_then ticket a b c p q = record {
   each = λ t h. elim (has_cases q.more p.more t h) [ inl k ↦ q.each t k | inr k ↦ p.each t k ];
 }
 
-pub names_of_numbers : (f : NumberFault) (ticket : ℕ) → IsOfTicket f ticket → NamesTicket (of_numbers f) ticket
-names_of_numbers numbers.OutOfMemory ticket h = tt
-names_of_numbers (numbers.UnknownTicket t) ticket h = h
-names_of_numbers numbers.NumbersSpent ticket h = tt
-
 pub names_of_build : (n : ℕ) (f : BuildFault) (ticket : ℕ) → NamesTicket (of_build n f) ticket
 names_of_build n build.OutOfMemory ticket = tt
 names_of_build n build.TooLarge ticket = tt

@@ -5,7 +5,6 @@ use Rattle.lsm_codec.specs.Entries.{Entry, internal_key}
 use Rattle.lsm_codec.specs.Lists.{Has}
 use Rattle.lsm_shelf.specs.Told.{Told, Becomes, putting}
 use Rattle.lsm_table.specs.Registry.{Table}
-use Rattle.lsm_table.specs.Table.{IsTable}
 use Rattle.lsm_table.specs.HeldTable.{entries_in}
 use Rattle.lsm_table.specs.Options.{AreInRange}
 use Rattle.lsm_table.specs.declared.table_options.TableOptions.{TableOptions}
@@ -23,18 +22,6 @@ pub record Unfinished : Type 0 where
 abbrev pub IsBegun : List ℕ → List Entry → Type 0
 IsBegun smallest [] = ⊥
 IsBegun smallest (e ∷ es) = IsKey smallest (internal_key e)
-
--- a table of these entries, and its first and last internal key
-pub record IsImage (entries : List Entry) (smallest largest image : List ℕ) : Type 0 where
-  pub first : Entry
-  pub rest : List Entry
-  pub front : List Entry
-  pub last : Entry
-  pub table : IsTable image entries
-  pub begins : entries ≡ first ∷ rest
-  pub ends : entries ≡ front ++ last ∷ []
-  pub smallest_is : IsKey smallest (internal_key first)
-  pub largest_is : IsKey largest (internal_key last)
 
 -- the tables that were put, their numbers, and the output in the making, with the sizes of the job
 pub record Made : Type 0 where

@@ -11,6 +11,7 @@ use Rattle.lsm_table.specs.declared.table_options.TableOptions.{TableOptions}
 use Rattle.lsm_levels.specs.Files.{all_entries}
 use Rattle.lsm_levels.specs.Jobs.{Job}
 use Rattle.lsm_levels.specs.Kept.{kept_entries}
+use Rattle.lsm_levels.specs.Plans.{job_from}
 use Rattle.lsm_levels.specs.Streams.{IsMerge, IsCut, NumbersRise}
 use Rattle.lsm_version.specs.Versions.{IsWhole, files_of}
 use Rattle.lsm_merge.specs.Cuts.{IsCutBy}
@@ -31,16 +32,8 @@ pub record Work : Type 0 where
 
 -- the job as laws speak of it
 abbrev pub job_of : Work → Job
-job_of w = record {
-  ticket = w.ticket;
-  level = w.level;
-  inputs = files_of w.level w.upper ++ files_of (suc w.level) w.lower;
-  low = w.low;
-  high = w.high;
-  floor = w.floor;
-  ranges = w.ranges;
-  is_move = w.is_move;
-}
+job_of w =
+    job_from (record { level = w.level; upper = files_of w.level w.upper; lower = files_of (suc w.level) w.lower; low = w.low; high = w.high }) w.ticket w.floor w.ranges w.is_move
 
 -- a job that is a move has one input, of its own level
 abbrev pub MovesOne : Work → Bool → Type 0

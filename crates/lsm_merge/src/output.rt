@@ -7,10 +7,10 @@ ghost use Rattle.lsm_codec.specs.Keys.{IsKey};
 ghost use Rattle.lsm_block.specs.Block.{Ascends, entry_of};
 ghost use Rattle.lsm_block.specs.declared.build_fault.BuildFault.TheVariants.{TooLarge};
 ghost use Rattle.lsm_table.specs.Options.{AreInRange};
+ghost use Rattle.lsm_table.specs.Table.{IsImage};
 ghost use Rattle.lsm_table.specs.TableBuilding.{table_bytes};
 ghost use Rattle.lsm_merge.specs.Cuts.{closes};
 ghost use Rattle.lsm_merge.specs.Limits.{IsOverLimit};
-ghost use Rattle.lsm_merge.specs.Outputs.{IsImage};
 ghost use Rattle.lsm_merge.specs.Work.{finished};
 
 use lsm_codec::{Bytes, KeyRef, push_key};

@@ -103,21 +103,6 @@ pub input_fault : (known : Option (List ℕ)) (failed : Bool) (e : WriterFault) 
 input_fault None failed e h = tt
 input_fault (Some text) failed e h = inl h
 
--- a text that was not read, or is no script
-pub unread_fault : (known : Option (List ℕ)) (failed : Bool) (e : WriterFault) → (e ≡ OutOfMemory) ⊎ ((e ≡ Read) × IfSome known (λ text. IsUnread text failed))
-    → IfSome known (λ text. IsInputFault text failed e)
-unread_fault None failed e h = tt
-unread_fault (Some text) failed e h = elim h [
-  | inl memory ↦ inl (subst (λ f. IsTextFault text f) (sym memory) tt)
-  | inr unread ↦ inr unread
-]
-
-pub spelling_fault : {T : Type 0} (r : Result T WriterFault) (known : Option (List ℕ)) (bytes : List ℕ) (failed : Bool) → IfSome known (λ text. bytes ≡ text) → IfErr r (IsTextFault bytes)
-    → IfErr r (λ e. IfSome known (λ text. IsInputFault text failed e))
-spelling_fault (Ok x) known bytes failed same h = tt
-spelling_fault (Err e) None bytes failed same h = tt
-spelling_fault (Err e) (Some text) bytes failed same h = inl (subst (λ (t : List ℕ). IsTextFault t e) same h)
-
 pub play_fault : (known : Option (List ℕ)) (failed : Bool) (commands : List Command) (e : WriterFault) → IfSome known (λ text. IsScript text commands)
     → (e ≡ OutOfMemory) ⊎ IsUncreated e → IfSome known (λ text. IsFault text failed e)
 play_fault None failed commands e script h = tt
@@ -158,12 +143,6 @@ pub fault_refused : (known : Option (List ℕ)) (failed : Bool) (e : WriterFault
     → (e ≢ Write → Keeps old new) → IfSome known (λ text. IsRefused text failed old new)
 fault_refused None failed e old new h kept = tt
 fault_refused (Some text) failed e old new h kept = inr (e, h, kept)
-
--- a reader that nobody asks afterwards
-pub unasked : (known : Option (List ℕ)) (failed : Bool) (old new : Option (List ℕ)) → IfSome known (λ text. IsRefused text failed old new)
-    → IfSome known (λ text. (failed : Bool) × IsRefused text failed old new)
-unasked None failed old new h = tt
-unasked (Some text) failed old new h = (failed, h)
 
 -- ---- what is told of a fault
 

@@ -14,7 +14,7 @@ use crate::words::words_in;
 use lsm_batch::{Batch, Write};
 use lsm_commands::Form;
 use lsm_script::Command;
-use lsm_writer::{bytes_in, write_in};
+use lsm_writer::write_in;
 use std::alloc::{AllocError, Global};
 
 /// Adds what is written of a key.
@@ -63,7 +63,7 @@ fn get_in(alloc: Global, words: &[&[u8]]) -> Result<Option<Command>, AllocError>
     ensures none { IfOk result (λ o. IfNone o ((key : List ℕ) → IsCommand (map (λ w. w.now) words.now) (Get key None) → ⊥)) }
 {
     match words {
-        [name, key] if *name == b"get".as_slice() => match bytes_in(alloc, Form::Hex, key)? {
+        [name, key] if *name == b"get".as_slice() => match Form::Hex.read_bytes(alloc, key)? {
             Some(key) => Ok(Some(Command::Get(key, None))),
             None => Ok(None),
         },
@@ -81,7 +81,7 @@ fn get_at_in(alloc: Global, words: &[&[u8]]) -> Result<Option<Command>, AllocErr
             let Some(id) = number_in(id, u64::MAX) else {
                 return Ok(None);
             };
-            match bytes_in(alloc, Form::Hex, key)? {
+            match Form::Hex.read_bytes(alloc, key)? {
                 Some(key) => Ok(Some(Command::Get(key, Some(id)))),
                 None => Ok(None),
             }
@@ -100,10 +100,10 @@ fn range_in(alloc: Global, words: &[&[u8]]) -> Result<Option<Command>, AllocErro
             let Some(level) = number_in(level, u64::from(u8::MAX)) else {
                 return Ok(None);
             };
-            let Some(from) = bytes_in(alloc, Form::Hex, from)? else {
+            let Some(from) = Form::Hex.read_bytes(alloc, from)? else {
                 return Ok(None);
             };
-            match bytes_in(alloc, Form::Hex, to)? {
+            match Form::Hex.read_bytes(alloc, to)? {
                 Some(to) => Ok(Some(Command::ReserveRange(level as u8, from, to))),
                 None => Ok(None),
             }

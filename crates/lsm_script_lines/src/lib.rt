@@ -27,6 +27,5 @@ mod telling;
 pub use command_line::command_in;
 pub use laws::one_script;
 pub use program::{script, script_asked};
-pub use reply_text::push_replies;
 pub use script_text::read_script;
 pub use watched::Watched;

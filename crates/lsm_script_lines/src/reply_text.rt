@@ -144,7 +144,7 @@ fn push_reply(out: &mut Vec<u8>, reply: &Reply) -> Result<(), AllocError>
 }
 
 /// Appends replies, one after another: a line each, and for a list of files a line each and `end`.
-pub fn push_replies(out: &mut Vec<u8>, replies: &[Reply]) -> Result<(), AllocError>
+pub(crate) fn push_replies(out: &mut Vec<u8>, replies: &[Reply]) -> Result<(), AllocError>
     ensures { OnOk result (out.new.items ≡ out.old.items ++ replies_text replies.now) }
 {
     for reply in replies {

@@ -86,17 +86,6 @@ looked_freed s k slot found e board looked unheld had pins = record {
   ];
 }
 
--- a look that found nothing
-pub looked_same : (s : Slotted) (k : Known) (slot found : ℕ) → k.board ≡ s.board.board → k.knows ≡ looked_view s.board.knows slot found → Looked s (noted s k)
-looked_same s k slot found board looked = record {
-  board = board;
-  id = ap (λ (v : View). v.id) looked;
-  slot = ap (λ (v : View). v.slot) looked;
-  version = refl;
-  length = refl;
-  each = λ n. inl refl;
-}
-
 pub looked_start : (s : Slotted) → Looked s s
 looked_start s = record { board = refl; id = refl; slot = refl; version = refl; length = refl; each = λ n. inl refl }
 
@@ -188,9 +177,6 @@ gone_all s now slot le g =
     g.looks ∙ ap (λ l. s.board.knows.looks + count_by is_unpinned l) (take_all slot (others s) (omega arith))
 
 -- ---- publications
-
-pub free_for : (s : Slotted) (slot : ℕ) → AreSlots s → IsFreeSlot s slot → IsFree s.board.knows slot
-free_for s slot a free = ap (λ l. slice_get l slot) (sym a.ids) ∙ (slice_get-map id_of s.epochs slot ∙ ap (option_map id_of) free)
 
 -- an id that stands after a publication is the new one in its slot, or stood there before
 pub new_or_was : (ids : List (Option ℕ)) (slot id i n : ℕ) → slice_get (set ids slot (Some id)) i ≡ Some (Some n) → ((i ≡ slot) × (n ≡ id)) ⊎ (slice_get ids i ≡ Some (Some n))

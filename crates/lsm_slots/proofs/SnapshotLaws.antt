@@ -6,9 +6,6 @@ use Rattle.lsm_machine.specs.Plain.{without_snapshot}
 use Rattle.lsm_machine.proofs.CallerLemmas.{left_snapshot, one_more, rising_less, rising_more}
 use Rattle.lsm_slots.specs.Snapshots.{AreSnapshots, Taken}
 
-pub snapshots_none : AreSnapshots record { taken = []; next = 1 }
-snapshots_none = record { rising = tt; ids = λ p h. absurd h }
-
 pub snapshots_more : (s : Taken) (seq : ℕ) → AreSnapshots s → ((p : ℕ × ℕ) → Has s.taken p → p.1 ≤ seq) → AreSnapshots record { taken = s.taken ++ (s.next, seq) ∷ []; next = suc s.next }
 snapshots_more s seq a last = record {
   rising = rising_more s.taken s.next seq a.rising a.ids last;

@@ -48,15 +48,6 @@ sound_after law honest h d out sound whole l fair =
     let m = l.meaning fair in
     law (deleted_numbers d) d.added d.pointer d.last h.slots.version (sound fair) (whole fair) m.lawful (λ F e hF he. m.reached e (has_all (files (changed_by d h.slots.version)) F e hF he))
 
--- the manifest held leads to the version after a change
-pub leads_on : (h : Held) (d : Difference) (w : Levels) → IsJournaled h → h.halted ≡ false → Suits d h.slots.version → w ≡ changed_by d h.slots.version → LeadsTo h.journal d w h.next
-leads_on h d w j going suits is = record {
-  before = h.slots.version;
-  recorded = subst (λ (rest : ℕ). IsRecorded rest h.journal h.slots.version h.next) (j.2 going) j.1;
-  suits = suits;
-  is = is;
-}
-
 -- ---- numbers
 
 number_of : (fs : List File) (n : ℕ) → Has (map (λ (F : File). F.number) fs) n → (F : File) × Has fs F × (F.number ≡ n)
@@ -140,10 +131,6 @@ next_rises d w next after old new was is s = go (is_at_limit old) s
     go : (b : Bool) → MatchBool b ((after ≡ next + 1) × RollsOver w next old new was is) ((after ≡ next) × Grows (change_edit old d next) old new was is) → next ≤ after
     go true x = (let e = x.0 in omega arith)
     go false x = (let e = x.0 in omega arith)
-
--- the journal as it was
-pub lawful_journal : (honest : Type 0) (board : TableId) (h : Held) (j : HeldManifest) → IsLawfulState honest board h → j ≡ h.journal → IsLawfulState honest board (record h { journal = j })
-lawful_journal honest board h j l e = subst (λ (x : HeldManifest). IsLawfulState honest board (record h { journal = x })) (sym e) l
 
 plain_is : (h : Held) (d : Difference) (out : Option ℕ) (s : Slotted) (next : ℕ) (live : List Booked) (j : HeldManifest) → s.version ≡ changed_by d h.slots.version → live ≡ live_after out h.live
     → plain (record h { slots = s; next = next; live = live; journal = j }) ≡ record (plain_after h d out) { next = next }

@@ -221,14 +221,6 @@ suits_grown honest h x es t last d is l version change =
       ];
     })
 
-pub numbers_left : (h x : Held) → h.next + numbers_needed h < 2 ^ 64 → x ≡ with_number h x.slots → is_at_limit x.journal ≡ true → x.next + 1 < 2 ^ 64
-numbers_left h x enough same at =
-    let journal : x.journal ≡ h.journal = ap (λ (y : Held). y.journal) same in
-    let next : x.next ≡ suc h.next = ap (λ (y : Held). y.next) same in
-    let limit : is_at_limit h.journal ≡ true = ap is_at_limit (sym journal) ∙ at in
-    let two : numbers_needed h ≡ 2 = ap (λ (b : Bool). if b then 2 else 1) limit in
-    omega arith
-
 -- the inputs of live jobs stay
 pub inputs_grown : TablesChange → (honest : Type 0) (board : TableId) (h x : Held) (t : Table) (last : ℕ) (d : Difference) → IsLawfulState honest board h → x ≡ with_number h x.slots
     → x.slots.version ≡ h.slots.version → d ≡ coming_in t last → (b : Booked) → Has x.live b → HasInputs (changed_by d x.slots.version) b.work

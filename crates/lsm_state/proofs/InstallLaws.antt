@@ -387,9 +387,6 @@ answers_looked old mid new same k x key q r =
     x key q (subst (λ (p : Plain). IsReadable p q) (sym (ap plain same ∙ looked_plain old mid.slots k)) r)
     ∙ ap (λ (v : Levels). answer (all_entries (files v)) key q) k.version
 
-pub may_looked : (old mid : Held) (d : Done) → mid ≡ record old { slots = mid.slots } → MayInstall old d → MayInstall mid d
-may_looked old mid d same m = subst (λ (h : Held). MayInstall h d) (sym same) record { live = m.live; going = m.going; number = m.number }
-
 -- a refusal is the machine's event of numbers spent
 pub looked_spends : (old mid : Held) → mid ≡ record old { slots = mid.slots } → Looked old.slots mid.slots → Spends (plain old) (plain mid)
 looked_spends old mid same k = (old.next, omega arith, ap plain same ∙ looked_plain old mid.slots k)

@@ -64,10 +64,3 @@ highest_more ts i x key highest new own lt at is l s =
 
 pub highest_done : (ts : List Table) (i : ℕ) (key highest : List ℕ) → length ts ≤ i → IsHighestKey (take i ts) key highest → IsHighestKey ts key highest
 highest_done ts i key highest past l = subst (λ (us : List Table). IsHighestKey us key highest) (take_all i ts past) l
-
--- the greatest of a table's key and all of them is the largest
-pub largest_of : (ts : List Table) (t : Table) (key highest : List ℕ) → Has ts t → t.largest ≡ key → IsHighestKey ts key highest → IsLargestKey ts highest
-largest_of ts t key highest h is k = elim k.met [
-  | inl own ↦ record { table = t; here = h; its = is ∙ sym own; most = k.each }
-  | inr other ↦ record { table = other.0; here = other.1; its = other.2; most = k.each }
-]

@@ -21,6 +21,3 @@ listed_more levels n files all lt e =
   where
     more : (n : ℕ) → n + 1 ≡ suc n
     more n = omega arith
-
-pub listed_end : (levels : List (List Table)) (n : ℕ) (files all : List (ℕ × TableFile)) → length levels ≤ n → files ++ listed_from n (drop n levels) ≡ all → files ≡ all
-listed_end levels n files all le e = sym (append-nil files) ∙ (ap (λ l. files ++ listed_from n l) (sym (drop_all n levels le)) ∙ e)

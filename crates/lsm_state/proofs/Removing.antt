@@ -6,7 +6,8 @@ use Rattle.lsm_shelf.proofs.CallerLemmas.{becomes_same}
 use Rattle.lsm_shelf.specs.Told.{Told, Becomes, Counted, Rose, removed_by, removing}
 use Rattle.lsm_shelf.specs.declared.shelf_fault.ShelfFault.{ShelfFault}
 use Rattle.lsm_shelf.specs.declared.shelf_fault.ShelfFault.TheVariants.{OutOfMemory, Device, Missing, Taken}
-use Rattle.lsm_state.specs.Collecting.{IsStopped, going, removing_all}
+use Rattle.lsm_merge.specs.Outputs.{going}
+use Rattle.lsm_state.specs.Collecting.{IsStopped, removing_all}
 
 -- what was told before numbers were removed
 pub becomes_removing : (ns : List ℕ) (a b c : Told) → Becomes a b → Becomes (removing_all ns b) c → Becomes (removing_all ns a) c
@@ -67,9 +68,6 @@ pub record AreGone (ns removed : List ℕ) (was now : Told) (i : ℕ) : Type 0 w
   pub noted : removed ≡ take i ns
   pub asked : Becomes (removing_all (take i ns) was) now
 
-pub gone_none : (ns removed : List ℕ) (t : Told) → removed ≡ [] → AreGone ns removed t t 0
-gone_none ns removed t e = record { noted = e; asked = becomes_same t }
-
 pub gone_more : (ns removed : List ℕ) (was now is : Told) (i : ℕ) → i < length ns → AreGone ns removed was now i → Becomes (removing (get_or ns i 0) now) is → AreGone ns (removed ++ get_or ns i 0 ∷ []) was is (i + 1)
 gone_more ns removed was now is i lt g y = record {
   noted = ap (λ l. l ++ get_or ns i 0 ∷ []) g.noted ∙ sym (take_more ns i 0 lt);
@@ -99,16 +97,6 @@ asked_or_not {T = T} r e n now is was b = asked_at T e n now is (subst (λ x. Be
 pub on_err : {A E P : Type 0} (r : Result A E) → P → OnErr r P
 on_err (Ok a) p = tt
 on_err (Err e) p = p
-
--- counts that were less before
-pub rose_before : (a b c : ℕ) → a ≤ b → Rose b c → Rose a c
-rose_before a b c le r = omega arith
-
-pub counted_before : (e : ShelfFault) (a b c : Told) → a.faults ≤ b.faults → a.misses ≤ b.misses → Counted e b c → Counted e a c
-counted_before OutOfMemory a b c f m x = tt
-counted_before Device a b c f m x = rose_before a.faults b.faults c.faults f x
-counted_before Missing a b c f m x = rose_before a.misses b.misses c.misses m x
-counted_before (Taken n) a b c f m x = rose_before a.misses b.misses c.misses m x
 
 -- what was told before
 pub stopped_before : (ns removed : List ℕ) (a b c : Told) → Becomes a b → IsStopped ns removed b c → IsStopped ns removed a c

@@ -116,15 +116,6 @@ pub moves_one : (w : Work) (m : Bool) → (m ≡ true → (length w.upper ≡ 1)
 moves_one w true h = (let r = h refl in one_of w w.upper refl r.0 r.1)
 moves_one w false h = tt
 
-pub plan_is : (w : Work) (p : TablePlan) → w.level ≡ p.level → w.upper ≡ p.upper → w.lower ≡ p.lower → w.low ≡ p.low → w.high ≡ p.high → plan_in w ≡ p
-plan_is w p a b c d e = λ i. record { level = a i; upper = b i; lower = c i; low = d i; high = e i }
-
-pub whole_plan : (v : Levels) (p : TablePlan) → StandsIn v p → IsSound v → (t : Table) → Has (p.upper ++ p.lower) t → IsWhole t
-whole_plan v p s sound t h = elim (has_cases p.upper p.lower t h) [
-  | inl up ↦ sound.tables p.level t (s.upper t up)
-  | inr down ↦ sound.tables (suc p.level) t (s.lower t down)
-]
-
 pub whole_parts : (v : Levels) (p : TablePlan) (upper lower : List Table) → upper ≡ p.upper → lower ≡ p.lower → StandsIn v p → IsSound v → (t : Table) → Has (upper ++ lower) t → IsWhole t
 whole_parts v p upper lower a b s sound t h = elim (has_cases upper lower t h) [
   | inl up ↦ sound.tables p.level t (s.upper t (subst (λ (ts : List Table). Has ts t) a up))

@@ -138,11 +138,6 @@ lawful_drawn honest board h live ticket next l is more = record {
   inputs = λ b k. (let r = booked_from ticket h.next h.live b (subst (λ (bs : List Booked). Has bs b) is k) in subst (λ (w : Work). HasInputs h.slots.version w) r.2 (l.inputs r.0 r.1));
 }
 
--- ---- pinners
-
-pub lawful_given : (honest : Type 0) (board : TableId) (h : Held) → IsLawfulState honest board h → IsLawfulState honest board (record h { pinners = [] })
-lawful_given honest board h l = record { law = l.law; journaled = l.journaled; below = l.below; pinners = λ p k. absurd k; fits = l.fits; inputs = l.inputs }
-
 -- ---- a new database
 
 pub lawful_created : (honest : Type 0) (board : TableId) (o : Options) (publisher : Known) (pinners : List Known) → Fits o → IsNewBoard board o publisher pinners → Law honest Lie created

@@ -9,6 +9,7 @@ use Rattle.lsm_shelf.specs.declared.shelf_fault.ShelfFault.{ShelfFault}
 use Rattle.lsm_shelf.specs.declared.shelf_fault.ShelfFault.TheVariants as shelf
 use Rattle.lsm_slots.specs.Slots.{Epoch, HasEpoch, Looked, count_to_look_at, looks_of}
 use Rattle.lsm_live.specs.Booked.{Booked}
+use Rattle.lsm_merge.specs.Outputs.{going}
 -- no count rose
 pub use Rattle.lsm_journal.specs.Recovering.{SameCounts}
 use Rattle.lsm_state.specs.Held.{Held}
@@ -27,11 +28,7 @@ is_in ns n = list_any (λ m. m == n) ns
 abbrev pub outside : List ℕ → List ℕ → List ℕ
 outside kept ns = filter (λ n. not (is_in kept n)) ns
 
--- what was asked to be removed, after these numbers one after another
-abbrev pub going : List ℕ → List ℕ → List ℕ
-going [] gone = gone
-going (n ∷ ns) gone = going ns (n ∷ gone)
-
+-- these numbers were removed one after another
 abbrev pub removing_all : List ℕ → Told → Told
 removing_all ns t = record t { gone = going ns t.gone }
 

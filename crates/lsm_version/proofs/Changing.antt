@@ -1,9 +1,9 @@
 -- A level and a version as they are built.
-use Rattle.std.proofs.Common.{◌≡◌, ℕ, suc, zero, ◌+◌, ◌<◌, ◌≤◌, length, get_or, take, drop, map, List, [], ◌∷◌, ◌++◌, Bool, true, false, cond, refl, ap, sym, subst, ◌∙◌, append_assoc, append-nil, add-one, arith}
+use Rattle.std.proofs.Common.{◌≡◌, ℕ, suc, zero, ◌+◌, ◌<◌, length, get_or, take, drop, map, List, [], ◌∷◌, ◌++◌, Bool, true, false, cond, refl, ap, sym, subst, ◌∙◌, append_assoc, append-nil, add-one, arith}
 use Rattle.std.specs.List.{filter}
 use Rattle.std.specs.List.Sorted.{IsSortedBy}
 use Rattle.std.specs.Prelude.{Option, Some, None}
-use Rattle.std.proofs.lemmas.List.{map-append, length-map, length-set, drop_all}
+use Rattle.std.proofs.lemmas.List.{map-append, length-set}
 use Rattle.std.proofs.lemmas.List.Elements.{filter_more}
 use Rattle.std.proofs.lemmas.List.Kept.{IsSortedBy-filter}
 use Rattle.lsm_table.specs.Registry.{Table}
@@ -61,12 +61,6 @@ level_more f deleted added i out out' x levels whole ts at made is before =
     ∙ ap (λ n. map f out ++ level_after deleted added i ts ∷ levels_after deleted added n (drop (i + 1) levels)) (add-one i)
     ∙ ap (λ ys. map f out ++ levels_after deleted added i ys) (sym at)
     ∙ before
-
-pub levels_done : {X : Type 0} (f : X → List Table) (deleted : List ℕ) (added : List (ℕ × Table)) (i : ℕ) (out xs : List X) → length xs ≤ i
-    → map f out ++ levels_after deleted added i (drop i (map f xs)) ≡ levels_after deleted added 0 (map f xs) → map f out ≡ levels_after deleted added 0 (map f xs)
-levels_done f deleted added i out xs past before =
-    let over : length (map f xs) ≤ i = rw (length-map xs f) past in
-    sym (append-nil (map f out)) ∙ ap (λ ys. map f out ++ levels_after deleted added i ys) (sym (drop_all i (map f xs) over)) ∙ before
 
 pub length-with_pointer : (pointer : Option (ℕ × List ℕ)) (pointers : List (Option (List ℕ))) → length (with_pointer pointer pointers) ≡ length pointers
 length-with_pointer None pointers = refl

@@ -1,5 +1,5 @@
 -- What is found in tables that are looked at one after another.
-use Rattle.std.proofs.Common.{◌≡◌, ℕ, suc, ◌+◌, ◌-◌, ◌^◌, ◌<◌, ◌≤◌, Bool, true, false, List, [], ◌∷◌, ◌++◌, length, get_or, drop, Option, Some, None, refl, sym, ◌∙◌, ap, subst, inl, inr, arith, Ok, Err}
+use Rattle.std.proofs.Common.{◌≡◌, ℕ, suc, ◌+◌, ◌-◌, ◌^◌, ◌<◌, ◌≤◌, Bool, true, false, List, [], ◌∷◌, ◌++◌, length, get_or, drop, Option, Some, None, refl, sym, ◌∙◌, ap, subst, inl, inr, arith}
 use Rattle.std.specs.Prelude.{◌⊎◌, ◌&&◌}
 use Rattle.std.specs.List.{Contains}
 use Rattle.std.proofs.lemmas.Bool.{and_from, and_parts, ltb-false, cases_lt, cases_Bool}
@@ -9,17 +9,8 @@ use Rattle.lsm_codec.proofs.CallerLemmas.{has_left, has_right, has_cases, contai
 use Rattle.lsm_codec.specs.Keys.{UserKey, UserLe}
 use Rattle.lsm_codec.specs.Entries.{Entry, stamp, newest, is_allowed}
 use Rattle.lsm_table.specs.Registry.{Table}
-use Rattle.lsm_table.specs.Table.{IsTable}
 use Rattle.lsm_table.specs.HeldTable.{entries_in}
 use Rattle.lsm_table.specs.Found.{found_in}
-use Rattle.lsm_table.specs.ReadFault.{IsMemory, IsMemoryOrShelf}
-use Rattle.lsm_table.specs.Reading.{Fails}
-use Rattle.lsm_table.specs.OpenTable.{opening_at, Opens}
-use Rattle.lsm_table.specs.declared.table_fault.TableFault.{TableFault}
-use Rattle.lsm_table.specs.declared.table_fault.TableFault.TheVariants as why
-use Rattle.lsm_table.specs.declared.read_fault.ReadFault.{ReadFault}
-use Rattle.lsm_table.specs.declared.read_fault.ReadFault.TheVariants.{Shelf, Table as AtTable}
-use Rattle.lsm_table.proofs.CallerLemmas.{opening_again}
 use Rattle.lsm_levels.specs.Files.{File, Lie, IsLawful, all_entries, Shallower}
 use Rattle.lsm_version.specs.Versions.{file_of, files_of, files_from, user_of}
 use Rattle.lsm_version.specs.Reads.{IsSoundLevel, AreSound, IsRising, IsFirstReaching, is_below, is_candidate, covers, begins_by, reaches, IsYoungest, HasNoCandidate}
@@ -58,18 +49,6 @@ entries_append [] w = refl
 entries_append (F ∷ v) w = ap (λ es. F.entries ++ es) (entries_append v w) ∙ sym (append_assoc F.entries (all_entries v) (all_entries w))
 
 -- ---- one table
-
-fails_memory : {X : Type 0} (fault : TableFault) (x : X) → Fails {Y = X} fault (Ok x) → IsMemory fault
-fails_memory why.OutOfMemory x h = tt
-fails_memory fault x h = absurd (cc h)
-
--- opening a table meets no fault but the shelf's and memory's
-pub open_memory : (image : List ℕ) (es : List Entry) (fault : ReadFault) → IsTable image es → Opens {X = List ℕ} (Err fault) (opening_at image) → IsMemoryOrShelf fault
-open_memory image es (Shelf fault) t h = tt
-open_memory image es (AtTable fault) t h = fails_memory fault t.index (subst (λ r. Fails fault r) (opening_again image es t) h)
-
-pub get_memory : {X : Type 0} (fault : TableFault) (x : X) → Fails {Y = X} fault (Ok x) → IsMemoryOrShelf (AtTable fault)
-get_memory fault x h = fails_memory fault x h
 
 -- an entry for the read lies in the table's range
 allowed_covers : (n : ℕ) (ts : List Table) (u : Table) (k : UserKey) (s : ℕ) (y : Entry) → IsSoundLevel n ts → Has ts u → Has (entries_in u.image) y → IsAllowed k s y → covers u k ≡ true

@@ -13,7 +13,7 @@ use Rattle.lsm_version.specs.CheckedFiles.{IsFileOf}
 use Rattle.lsm_levels.specs.Checking.{Listed}
 use Rattle.lsm_version.specs.FileNumbers.{file_numbers, numbers_of, times, AreDistinct}
 use Rattle.lsm_levels.specs.Files.{File, InOrder, Lie, Fits, Shallower}
-use Rattle.lsm_version.specs.LevelLayouts.{AreWhole, AreLevelsWhole, AreRangesOf, LieInOrder, MeetNowhere}
+use Rattle.lsm_version.specs.LevelLayouts.{AreLevelsWhole, AreRangesOf, LieInOrder, MeetNowhere}
 use Rattle.lsm_version.specs.Settled.{DeeperRise, KeepsAge}
 use Rattle.lsm_version.specs.Runs.{AreMergeable}
 use Rattle.lsm_version.specs.Reads.{IsSoundLevel}
@@ -21,8 +21,8 @@ use Rattle.lsm_version.specs.Loading.{AreFilesOf, AreLevelsOf, placed_levels}
 use Rattle.lsm_levels.specs.Ranges.{Range, EachPair, KeyLe, MeetInKeys, ShareUsers}
 use Rattle.lsm_version.specs.Versions.{AreInOrder, IsSound, IsWhole, file_of, files_of, files_from, level_in, user_of}
 use Rattle.lsm_levels.proofs.CallerLemmas.{file_fits, entries_in_order, key_le_user}
-use Rattle.lsm_version.proofs.ChangedFiles.{files_has, has_files, all_has, has_all}
-use Rattle.lsm_version.proofs.LevelRanges.{order_in, whole_at, whole_in}
+use Rattle.lsm_version.proofs.ChangedFiles.{files_has, has_files, all_has}
+use Rattle.lsm_version.proofs.LevelRanges.{order_in, whole_in}
 use Rattle.lsm_version.proofs.LevelReads.{same_length}
 use Rattle.lsm_version.proofs.Rising.{level_rises, user_of-key}
 
@@ -55,16 +55,8 @@ level_placed [] n t h = absurd h
 level_placed (ts ∷ read) zero t h = elim (all_has ts [] t h) [ inl a ↦ a | inr b ↦ absurd b ]
 level_placed (ts ∷ read) (suc n) t h = level_placed read n t h
 
-placed_level : (read : List (List Table)) (n : ℕ) (t : Table) → Has (level_in read n) t → Has (level_in (placed_levels read) n) t
-placed_level [] n t h = absurd h
-placed_level (ts ∷ read) zero t h = has_all ts [] t (inl h)
-placed_level (ts ∷ read) (suc n) t h = placed_level read n t h
-
 pub files_read : (read : List (List Table)) (F : File) → Has (files_from 0 (placed_levels read)) F → Has (files_from 0 read) F
 files_read read F h = let r = file_in 0 (placed_levels read) F h in subst (Has (files_from 0 read)) r.3 (in_files 0 read r.0 r.1 (level_placed read r.0 r.1 r.2))
-
-pub read_files : (read : List (List Table)) (F : File) → Has (files_from 0 read) F → Has (files_from 0 (placed_levels read)) F
-read_files read F h = let r = file_in 0 read F h in subst (Has (files_from 0 (placed_levels read))) r.3 (in_files 0 (placed_levels read) r.0 r.1 (placed_level read r.0 r.1 r.2))
 
 -- ---- each table is a file's
 
@@ -77,9 +69,6 @@ file_for last [] (u ∷ ts) a t h = absurd a
 file_for last (f ∷ files) [] a t h = absurd h
 file_for last (f ∷ files) (u ∷ ts) a t (inl e) = (f, inl refl, subst (IsFileOf last f) e a.0)
 file_for last (f ∷ files) (u ∷ ts) a t (inr h) = (let r = file_for last files ts a.1 t h in (r.0, inr r.1, r.2))
-
-abbrev shape_level : List (List TableFile) → ℕ → List TableFile
-shape_level shape n = get_or shape n []
 
 level_for : (last : ℕ) (shape : List (List TableFile)) (read : List (List Table)) → AreLevelsOf last shape read → (n : ℕ) (t : Table) → Has (level_in read n) t → FileFor last (get_or shape n []) t
 level_for last [] [] a n t h = absurd h
@@ -97,13 +86,9 @@ whole_of last f t i = record {
   entries = i.image.spanned.spans;
 }
 
-whole_each : (ts : List Table) → ((t : Table) → Has ts t → IsWhole t) → AreWhole ts
-whole_each [] f = tt
-whole_each (t ∷ ts) f = (f t (inl refl), whole_each ts (λ u h. f u (inr h)))
-
 levels_each : (levels : List (List Table)) → ((n : ℕ) (t : Table) → Has (level_in levels n) t → IsWhole t) → AreLevelsWhole levels
 levels_each [] f = tt
-levels_each (ts ∷ levels) f = (whole_each ts (λ t h. f zero t h), levels_each levels (λ n t h. f (suc n) t h))
+levels_each (ts ∷ levels) f = (λ t h. f zero t h, levels_each levels (λ n t h. f (suc n) t h))
 
 pub placed_whole : (last : ℕ) (shape : List (List TableFile)) (read : List (List Table)) → AreLevelsOf last shape read → AreLevelsWhole (placed_levels read)
 placed_whole last shape read a =
@@ -271,7 +256,7 @@ ordered_files levels seven order whole F G hF hG same pos ne =
     ))
 
 pub placed_tables : (last : ℕ) (shape : List (List TableFile)) (read : List (List Table)) → AreLevelsOf last shape read → (n : ℕ) (t : Table) → Has (level_in (placed_levels read) n) t → IsWhole t
-placed_tables last shape read a n t h = whole_at (level_in (placed_levels read) n) t (whole_in (placed_levels read) n (placed_whole last shape read a)) h
+placed_tables last shape read a n t h = whole_in (placed_levels read) n (placed_whole last shape read a) t h
 
 pub files_fit : (last : ℕ) (shape : List (List TableFile)) (read : List (List Table)) → AreLevelsOf last shape read → (F : File) → Has (files_from 0 (placed_levels read)) F → Fits F
 files_fit last shape read a F h = let r = file_in 0 (placed_levels read) F h in subst Fits r.3 (table_fits (0 + r.0) r.1 (placed_tables last shape read a r.0 r.1 r.2))

@@ -16,8 +16,8 @@ use Rattle.lsm_levels.specs.Files.{Before}
 use Rattle.lsm_levels.specs.Streams.{IsAscending}
 use Rattle.lsm_levels.specs.Checking.{IsRangeOf}
 use Rattle.lsm_levels.specs.Ranges.{Range, KeyLe, key_le, EachPair, IsLevel, IsLaidOut}
-use Rattle.lsm_version.specs.Versions.{IsWhole, stands_before, level_in, AreInOrder}
-use Rattle.lsm_version.specs.LevelLayouts.{AreWhole, AreLevelsWhole, AreRangesOf, LieAs, MeetNowhere}
+use Rattle.lsm_version.specs.Versions.{AreWhole, IsWhole, stands_before, level_in, AreInOrder}
+use Rattle.lsm_version.specs.LevelLayouts.{AreLevelsWhole, AreRangesOf, LieAs, MeetNowhere}
 use Rattle.lsm_levels.specs.declared.key_range.Layout.{Layout}
 use Rattle.lsm_levels.specs.declared.key_range.Layout.TheVariants.{Overlap, Shared, Apart}
 use Rattle.lsm_version.proofs.Placing.{EachAfter, each_after}
@@ -34,11 +34,6 @@ pub ranges_more : (ts : List Table) (i : ℕ) (t : Table) (rs : List Range) (r :
     → AreRangesOf (take (i + 1) ts) (rs ++ r ∷ [])
 ranges_more ts i t rs r lt at a s l =
     subst (λ (us : List Table). AreRangesOf us (rs ++ r ∷ [])) (ap (λ (u : Table). take i ts ++ u ∷ []) at ∙ sym (take_more ts i t lt)) (ranges_push (take i ts) rs t r a s l)
-
-pub whole_at : (ts : List Table) (t : Table) → AreWhole ts → Has ts t → IsWhole t
-whole_at [] t a h = absurd h
-whole_at (u ∷ ts) t a (inl e) = subst IsWhole e a.0
-whole_at (u ∷ ts) t a (inr h) = whole_at ts t a.1 h
 
 -- ---- the ranges are those of a level
 
@@ -104,7 +99,7 @@ in_order (t ∷ ts) (q ∷ rs) e a = (
 
 pub is_level : (ts : List Table) (rs : List Range) → AreWhole ts → IsSortedBy stands_before ts → AreRangesOf ts rs → IsLevel rs
 is_level ts rs w o a = record {
-  each = λ r h. (let s = range_from ts rs a r h in own_le s.0 r (whole_at ts s.0 w s.1) s.2 s.3);
+  each = λ r h. (let s = range_from ts rs a r h in own_le s.0 r (w s.0 s.1) s.2 s.3);
   order = in_order ts rs (each_after ts o) a;
 }
 
@@ -121,7 +116,7 @@ level_in-map f (y ∷ ys) zero x lt is = ap f (sym is)
 level_in-map f (y ∷ ys) (suc n) x lt is = level_in-map f ys n x (omega arith) is
 
 pub whole_in : (levels : List (List Table)) (n : ℕ) → AreLevelsWhole levels → AreWhole (level_in levels n)
-whole_in [] n a = tt
+whole_in [] n a = λ t h. absurd h
 whole_in (ts ∷ levels) zero a = a.0
 whole_in (ts ∷ levels) (suc n) a = whole_in levels n a.1
 

@@ -4,8 +4,7 @@ use Rattle.std.specs.List.{All}
 use Rattle.std.proofs.lemmas.List.Elements.{All-nil, All-cons}
 use Rattle.lsm_table.specs.Registry.{Table, image_of}
 use Rattle.lsm_merger.specs.Runs.{HasEntries}
-use Rattle.lsm_version.specs.Runs.{AreWhole}
-use Rattle.lsm_version.specs.Versions.{IsWhole}
+use Rattle.lsm_version.specs.Versions.{AreWhole, IsWhole}
 
 pub has_entries : (t : Table) → IsWhole t → HasEntries t.image
 has_entries t w = record { table = w.table; some = λ e. absurd (cc (e, w.entries.first.2)) }

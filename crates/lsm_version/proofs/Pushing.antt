@@ -1,6 +1,6 @@
 -- Numbers of tables that are appended level by level.
-use Rattle.std.proofs.Common.{◌≡◌, ℕ, suc, ◌+◌, ◌<◌, ◌≤◌, length, get_or, take, drop, map, List, [], ◌∷◌, ◌++◌, refl, ap, sym, ◌∙◌, append_assoc, append-nil, add-one, arith}
-use Rattle.std.proofs.lemmas.List.{map-append, length-map, drop_all, take_all, take-append-le}
+use Rattle.std.proofs.Common.{◌≡◌, ℕ, suc, ◌+◌, ◌<◌, ◌≤◌, length, get_or, drop, map, List, [], ◌∷◌, ◌++◌, refl, ap, sym, ◌∙◌, append_assoc, append-nil, add-one}
+use Rattle.std.proofs.lemmas.List.{map-append, length-map, drop_all}
 use Rattle.lsm_table.specs.Registry.{Table}
 use Rattle.lsm_levels.specs.Files.{File}
 use Rattle.lsm_version.specs.Versions.{files_of, files_from}
@@ -38,6 +38,3 @@ numbers_done f xs i new whole past before =
 
 pub front_more : (a old new : List ℕ) → ((more : List ℕ) × (old ≡ a ++ more)) → ((more : List ℕ) × (new ≡ old ++ more)) → (more : List ℕ) × (new ≡ a ++ more)
 front_more a old new f g = (f.0 ++ g.0, g.1 ∙ ap (λ (ns : List ℕ). ns ++ g.0) f.1 ∙ append_assoc a f.0 g.0)
-
-pub cut_back : (a new : List ℕ) (n : ℕ) → n ≡ length a → ((more : List ℕ) × (new ≡ a ++ more)) → take n new ≡ a
-cut_back a new n e f = ap (λ (ns : List ℕ). take n ns) f.1 ∙ take-append-le n a f.0 (omega arith) ∙ take_all n a (omega arith)

@@ -5,7 +5,7 @@ use Rattle.lsm_table.specs.Registry.{Table}
 use Rattle.lsm_manifest.specs.declared.shape.Shape.{Shape}
 use Rattle.lsm_version.specs.declared.check.check_fault.CheckFault.{CheckFault}
 use Rattle.lsm_version.specs.declared.check.check_fault.CheckFault.TheVariants.{Read, DoubleFile, Overlap, WrongRange, AgeOrder}
-use Rattle.lsm_version.specs.CheckRefusal.{AreTablesOf, IsAgeRefusal, IsNumberRefusal, IsRefusal}
+use Rattle.lsm_version.specs.CheckRefusal.{AreTablesOf, IsAgeRefusal, IsRefusal}
 use Rattle.lsm_version.specs.FileNumbers.{AreDistinct, numbers_of}
 use Rattle.lsm_version.specs.FileRefusal.{IsFilesRefusal}
 use Rattle.lsm_version.specs.LevelLayouts.{IsLayoutRefusal, LieInOrder}
@@ -26,13 +26,6 @@ ages_refused Stored Refused Honest shape tables (DoubleFile number) a l r = absu
 ages_refused Stored Refused Honest shape tables (Overlap level) a l r = absurd r
 ages_refused Stored Refused Honest shape tables (WrongRange number) a l r = absurd r
 ages_refused Stored Refused Honest shape tables (AgeOrder user) a l r = (tables, a, l, r)
-
-pub numbers_refused : (Stored : ℕ → List ℕ → Type 0) (Refused : ℕ → ShelfFault → Type 0) (Honest : Type 0) (shape : Shape) (fault : CheckFault) → IsNumberRefusal (numbers_of shape.levels) fault → IsRefusal Stored Refused Honest shape fault
-numbers_refused Stored Refused Honest shape (Read file fault) r = inl r
-numbers_refused Stored Refused Honest shape (DoubleFile number) r = r
-numbers_refused Stored Refused Honest shape (Overlap level) r = absurd r
-numbers_refused Stored Refused Honest shape (WrongRange number) r = absurd r
-numbers_refused Stored Refused Honest shape (AgeOrder user) r = absurd r
 
 pub files_refused : (Stored : ℕ → List ℕ → Type 0) (Refused : ℕ → ShelfFault → Type 0) (Honest : Type 0) (shape : Shape) (fault : CheckFault) → AreDistinct (numbers_of shape.levels) → IsFilesRefusal Stored Refused shape.last (all_files shape.levels) fault
     → IsRefusal Stored Refused Honest shape fault

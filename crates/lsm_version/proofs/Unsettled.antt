@@ -37,14 +37,6 @@ settled_keeps v fits settled F G x y hF hG s kx ky same = elim (cases_lt y.seq x
 
 -- ---- the test of two tables
 
-pub sequences_reach : (F G : File) (s r : Sequences) → AreSequencesOf F.entries s → AreSequencesOf G.entries r → s.least ≤ r.greatest → Reaches F G
-sequences_reach F G s r a b le =
-    let l = a.least in
-    let g = b.greatest in
-    let x = l.2 in
-    let y = g.2 in
-    (l.0, g.0, l.1, g.1, omega arith)
-
 pub reach_sequences : (F G : File) (s r : Sequences) → AreSequencesOf F.entries s → AreSequencesOf G.entries r → Reaches F G → s.least ≤ r.greatest
 reach_sequences F G s r a b (x, y, hx, hy, le) = let low = a.above x hx in let high = b.below y hy in omega arith
 
@@ -97,9 +89,6 @@ adds_pair F G old new u is = record {
   where
     at : (n : ℕ) → Has ((old ++ F.number ∷ []) ++ G.number ∷ []) n → Has new n
     at n h = subst (λ (ns : List ℕ). Has ns n) (sym is) h
-
-pub pair_settled : (F G : File) (ns : List ℕ) → (IsUnsettled F G → ⊥) → Adds (OnePair F G) ns ns
-pair_settled F G ns not = adds_none (OnePair F G) ns (λ X Y q u. not (subst (λ (Z : File). IsUnsettled Z G) q.0 (subst (IsUnsettled X) q.1 u)))
 
 -- ---- one table more of a level
 
@@ -202,9 +191,6 @@ below_more F m k levels us a b c le is q r = adds_then (OneBelow F m k levels) (
     (λ X Y p. (p.0, (k, le, omega arith, subst (λ (ts : List Table). Has (files_of k ts) Y) (sym is) p.1)))
 
 -- ---- one table more against all below
-
-pub some_none : (m : ℕ) (levels : List (List Table)) (ns : List ℕ) → Adds (SomeBelow m [] levels) ns ns
-some_none m levels ns = adds_none (SomeBelow m [] levels) ns (λ X Y q u. absurd q.0)
 
 pub some_more : (m : ℕ) (ts : List Table) (levels : List (List Table)) (i : ℕ) (x : Table) (a b c : List ℕ) → i < length ts → x ≡ get_or ts i x
     → Adds (SomeBelow m (take i ts) levels) a b → Adds (OneBelow (file_of m x) m (length levels) levels) b c → Adds (SomeBelow m (take (i + 1) ts) levels) a c

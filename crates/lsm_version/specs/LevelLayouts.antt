@@ -3,17 +3,12 @@ use Rattle.std.specs.Prelude.{◌⊎◌, ℕ, ◌<◌, ◌≤◌, List, [], ◌�
 use Rattle.lsm_codec.specs.Keys.{IsKey}
 use Rattle.lsm_table.specs.Registry.{Table}
 use Rattle.lsm_levels.specs.Ranges.{Range, IsLaidOut}
-use Rattle.lsm_version.specs.Versions.{IsWhole, level_in}
+use Rattle.lsm_version.specs.Versions.{AreWhole, level_in}
 use Rattle.lsm_levels.specs.declared.key_range.Layout.{Layout}
 use Rattle.lsm_levels.specs.declared.key_range.Layout.TheVariants as layout
 use Rattle.lsm_version.specs.declared.check.check_fault.CheckFault.{CheckFault}
 use Rattle.lsm_version.specs.declared.check.check_fault.CheckFault.TheVariants.{Read, DoubleFile, Overlap, WrongRange, AgeOrder}
 use Rattle.lsm_version.specs.FileRefusal.{NamesNone}
-
--- each record stands for a table
-abbrev pub AreWhole : List Table → Type 0
-AreWhole [] = Unit {0}
-AreWhole (t ∷ ts) = IsWhole t × AreWhole ts
 
 abbrev pub AreLevelsWhole : List (List Table) → Type 0
 AreLevelsWhole [] = Unit {0}

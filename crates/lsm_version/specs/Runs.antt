@@ -12,9 +12,6 @@ use Rattle.lsm_version.specs.Depths.{depth_of}
 use Rattle.lsm_version.specs.Reads.{IsSoundLevel}
 use Rattle.lsm_version.specs.Versions.{IsWhole, files_of, level_in}
 
-abbrev pub AreWhole : List Table → Type 0
-AreWhole ts = (t : Table) → Has ts t → IsWhole t
-
 -- Each record stands for its table, and the tables of a level from 1 on lie in order.
 pub record AreMergeable (levels : List (List Table)) : Type 0 where
   pub whole : (n : ℕ) (t : Table) → Has (level_in levels n) t → IsWhole t

@@ -1,9 +1,11 @@
 -- Versions, as contracts see them: which tables stand at which level (LevelDB's `doc/impl.md`, "Levels").
-use Rattle.std.specs.Prelude.{ℕ, zero, suc, ◌-◌, ◌≤◌, List, [], ◌∷◌, ◌++◌, length, map, take, Option, None, Bool}
+use Rattle.std.specs.Prelude.{ℕ, ◌≤◌, List, [], ◌∷◌, map, Option, None, Bool}
 use Rattle.std.specs.List.Sorted.{IsSortedBy}
 use Rattle.std.specs.Ordering.{is_lt}
 use Rattle.lsm_codec.specs.Lists.{Has}
-use Rattle.lsm_codec.specs.Keys.{UserKey, IsKey}
+use Rattle.lsm_codec.specs.Keys.{IsKey}
+-- the user key in the bytes of an internal key
+pub use Rattle.lsm_codec.specs.Keys.{user_of}
 use Rattle.lsm_codec.specs.Entries.{Entry}
 use Rattle.lsm_table.specs.Registry.{Table}
 use Rattle.lsm_table.specs.Table.{IsTable}
@@ -11,7 +13,9 @@ use Rattle.lsm_table.specs.HeldTable.{entries_in}
 use Rattle.lsm_manifest.specs.FileOrder.{place_cmp}
 use Rattle.lsm_levels.specs.Files.{File, Lie, IsLawful}
 use Rattle.lsm_levels.specs.Ranges.{Range}
-use Rattle.lsm_levels.specs.Checking.{IsRangeOf}
+use Rattle.lsm_levels.specs.Checking.{IsRangeOf, all_from}
+-- the tables of a level
+pub use Rattle.lsm_levels.specs.Checking.{level_in}
 
 -- the tables of each level, in the level's order; the compaction pointer of each level, an internal key; the last sequence
 pub record Levels : Type 0 where
@@ -19,17 +23,7 @@ pub record Levels : Type 0 where
   pub pointers : List (Option (List ℕ))
   pub last : ℕ
 
--- the tables of a level
-abbrev pub level_in : List (List Table) → ℕ → List Table
-level_in [] n = []
-level_in (ts ∷ levels) zero = ts
-level_in (ts ∷ levels) (suc n) = level_in levels n
-
 -- ---- versions as files
-
--- the user key in the bytes of an internal key
-abbrev pub user_of : List ℕ → UserKey
-user_of key = take (length key - 8) key
 
 -- a table at a level, with the entries of the image for which its record stands
 abbrev pub file_of : ℕ → Table → File
@@ -41,8 +35,7 @@ files_of level (t ∷ ts) = file_of level t ∷ files_of level ts
 
 -- the files of the levels from this one on
 abbrev pub files_from : ℕ → List (List Table) → List File
-files_from level [] = []
-files_from level (ts ∷ levels) = files_of level ts ++ files_from (suc level) levels
+files_from level levels = all_from files_of level levels
 
 -- all files of a version
 abbrev pub files : Levels → List File
@@ -78,6 +71,10 @@ pub record IsWhole (t : Table) : Type 0 where
   pub smallest : IsKey t.smallest range.smallest
   pub largest : IsKey t.largest range.largest
   pub entries : IsRangeOf (entries_in t.image) range
+
+-- each record stands for a table
+abbrev pub AreWhole : List Table → Type 0
+AreWhole ts = (t : Table) → Has ts t → IsWhole t
 
 -- The law of a version and its tables: the files of a level from 1 on lie in order of internal keys, and no entry is above the last
 -- sequence.

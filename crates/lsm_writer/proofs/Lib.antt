@@ -2,7 +2,6 @@ mod WordLaws
 mod LineLaws
 mod BatchLaws
 mod OneBatch
-mod StreamLaws
 mod Words
 mod Outcomes
 pub mod CallerLemmas

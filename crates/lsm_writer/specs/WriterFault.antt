@@ -5,6 +5,8 @@ use Rattle.lsm_table.specs.declared.read_fault.ReadFault.{ReadFault}
 use Rattle.lsm_table.specs.declared.read_fault.ReadFault.TheVariants as read_faults
 use Rattle.lsm_journal.specs.declared.recover_fault.RecoverFault.TheVariants.{Shelf as ShelfOfManifest}
 use Rattle.lsm_commands.specs.FaultText.{refusal_text, table_field}
+use Rattle.lsm_commands.specs.declared.streams.InputFault.{InputFault}
+use Rattle.lsm_commands.specs.declared.streams.InputFault.TheVariants as input_faults
 use Rattle.lsm_directory.specs.DirectoryFault as directory
 use Rattle.lsm_directory.specs.declared.directory_fault.DirectoryFault.TheVariants as directory_faults
 use Rattle.lsm_state.specs.StateFault as state
@@ -16,6 +18,12 @@ use Rattle.lsm_writer.specs.declared.writer_fault.WriterFault.{WriterFault}
 use Rattle.lsm_writer.specs.declared.writer_fault.WriterFault.TheVariants.{OutOfMemory, Read, Write, BadLine, Directory, State}
 
 -- ---- names of refusals
+
+-- a refusal of an input
+abbrev pub of_input : InputFault → WriterFault
+of_input input_faults.Read = Read
+of_input input_faults.TooLong = Read
+of_input input_faults.OutOfMemory = OutOfMemory
 
 abbrev pub of_shelf : ShelfFault → WriterFault
 of_shelf fault = Directory (directory_faults.Manifest (ShelfOfManifest fault))

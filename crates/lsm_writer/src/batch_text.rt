@@ -3,11 +3,10 @@
 ghost use Rattle.std.specs.Prelude.{◌≡◌, ◌++◌, ◌∷◌, ◌≤◌, [], IfErr, IfOk, IfSome, OnOk, length};
 ghost use Rattle.lsm_writer.specs.BatchText.{IsBatchText, IsTextFault};
 
-use crate::input::read_input;
 use crate::write_line::write_in;
 use crate::writer_fault::WriterFault;
 use lsm_batch::{Batch, Write};
-use lsm_commands::{Form, first_line};
+use lsm_commands::{Form, first_line, read_input};
 use std::alloc::{AllocError, Global};
 use std::io::Read;
 

@@ -11,7 +11,6 @@ mod writing_line;
 
 // Batches as text.
 mod batch_text;
-mod input;
 mod laws;
 mod write_line;
 
@@ -28,12 +27,11 @@ mod writer_fault;
 
 pub use batch_text::read_batch;
 pub use ends::{Ends, make_ends};
-pub use input::read_input;
 pub use laws::one_batch;
 pub use merge_text::{cause_of_merge, of_merge};
 pub use program::{ingest, open_shelf, run};
 pub use refusals::of_state;
-pub use write_line::{bytes_in, write_in};
+pub use write_line::write_in;
 pub use writer_fault::WriterFault;
 pub use writing_command::WritingCommand;
 pub use writing_line::{WritingLine, writing_asked};

@@ -1,32 +1,22 @@
 //! One line of a batch.
 
-ghost use Rattle.std.specs.Prelude.{◌∷◌, IfNone, IfOk, IfSome, List, ℕ, codes};
+ghost use Rattle.std.specs.Prelude.{◌∷◌, IfNone, IfOk, IfSome, codes};
 ghost use Rattle.lsm_batch.specs.declared.write.Write.{Write};
-ghost use Rattle.lsm_commands.specs.Spelling.{IsWord};
 ghost use Rattle.lsm_writer.specs.BatchText.{IsWriteLine, Spell};
 
 use lsm_batch::Write;
-use lsm_codec::Bytes;
 use lsm_commands::{Form, parts};
 use std::alloc::{AllocError, Global};
-
-/// The bytes that a word spells. None for another word.
-pub fn bytes_in(alloc: Global, form: Form, word: &[u8]) -> Result<Option<Bytes>, AllocError>
-    ensures some { IfOk result (λ o. IfSome o (IsWord form word.now)) }
-    ensures none { IfOk result (λ o. IfNone o ((bytes : List ℕ) → IsWord form word.now bytes → ⊥)) }
-{
-    form.read_bytes(alloc, word)
-}
 
 /// The key of this word gets the value of that word. None where one of them spells no bytes.
 fn put_in(alloc: Global, form: Form, key: &[u8], value: &[u8]) -> Result<Option<Write>, AllocError>
     ensures some { IfOk result (λ o. IfSome o (Spell form key.now (61 ∷ value.now))) }
     ensures none { IfOk result (λ o. IfNone o ((w : Write) → Spell form key.now (61 ∷ value.now) w → ⊥)) }
 {
-    let Some(key) = bytes_in(alloc, form, key)? else {
+    let Some(key) = form.read_bytes(alloc, key)? else {
         return Ok(None);
     };
-    match bytes_in(alloc, form, value)? {
+    match form.read_bytes(alloc, value)? {
         Some(value) => Ok(Some(Write {
             key,
             value: Some(value),
@@ -40,7 +30,7 @@ fn delete_in(alloc: Global, form: Form, key: &[u8]) -> Result<Option<Write>, All
     ensures some { IfOk result (λ o. IfSome o (Spell form key.now (codes "!"))) }
     ensures none { IfOk result (λ o. IfNone o ((w : Write) → Spell form key.now (codes "!") w → ⊥)) }
 {
-    match bytes_in(alloc, form, key)? {
+    match form.read_bytes(alloc, key)? {
         Some(key) => Ok(Some(Write { key, value: None })),
         None => Ok(None),
     }

@@ -1,11 +1,11 @@
 //! Why a command that writes a directory ends with status 1.
 
 ghost use Rattle.std.specs.Prelude.{◌≡◌};
-ghost use Rattle.lsm_writer.specs.WriterFault.{fault_text, of_open, of_shelf};
+ghost use Rattle.lsm_writer.specs.WriterFault.{fault_text, of_input, of_open, of_shelf};
 ghost use Rattle.lsm_writer.specs.declared.writer_fault.WriterFault.TheVariants.{OutOfMemory, State as StateVariant};
 
 use crate::refusals::of_state;
-use lsm_commands::Refusal;
+use lsm_commands::{InputFault, Refusal};
 use lsm_directory::DirectoryFault;
 use lsm_journal::RecoverFault;
 use lsm_state::{OpenFault, StateFault};
@@ -81,6 +81,17 @@ impl<T: Drop> From<AllocFailed<T>> for WriterFault {
 
     fn from(_error: AllocFailed<T>) -> WriterFault {
         WriterFault::OutOfMemory
+    }
+}
+
+impl From<InputFault> for WriterFault {
+    ghost from_gives = { λ e f. f ≡ of_input e };
+
+    fn from(error: InputFault) -> WriterFault {
+        match error {
+            InputFault::Read | InputFault::TooLong => WriterFault::Read,
+            InputFault::OutOfMemory => WriterFault::OutOfMemory,
+        }
     }
 }
 

@@ -3,8 +3,8 @@
 ghost use Rattle.std.specs.Prelude.{◌≡◌, IfErr, IfOk, OnOk, length, map};
 ghost use Rattle.std.specs.List.Sorted.{IsSortedBy};
 ghost use Rattle.lsm_codec.specs.Keys.{InternalKey, IsKey};
-ghost use Rattle.lsm_version.specs.LevelLayouts.{AreLevelsWhole, AreWhole, IsLayoutRefusal, LieAs, LieInOrder};
-ghost use Rattle.lsm_version.specs.Versions.{AreInOrder, stands_before};
+ghost use Rattle.lsm_version.specs.LevelLayouts.{AreLevelsWhole, IsLayoutRefusal, LieAs, LieInOrder};
+ghost use Rattle.lsm_version.specs.Versions.{AreInOrder, AreWhole, stands_before};
 
 use crate::check::check_fault::CheckFault;
 use lsm_codec::KeyRef;

@@ -8,8 +8,8 @@ ghost use Rattle.lsm_table.specs.Told.{Becomes};
 ghost use Rattle.lsm_levels.specs.Merging.{placed_at};
 ghost use Rattle.lsm_merger.specs.Runs.{files_at};
 ghost use Rattle.lsm_version.specs.FileRefusal.{NamesOne};
-ghost use Rattle.lsm_version.specs.Runs.{AreMergeable, AreNamed, AreRunsOf, AreWhole, IsNumberIn, IsNumberOf, entries_after, once};
-ghost use Rattle.lsm_version.specs.Versions.{files_from, files_of, level_in};
+ghost use Rattle.lsm_version.specs.Runs.{AreMergeable, AreNamed, AreRunsOf, IsNumberIn, IsNumberOf, entries_after, once};
+ghost use Rattle.lsm_version.specs.Versions.{AreWhole, files_from, files_of, level_in};
 
 use crate::read::depths::{ascending_numbers, newer_count};
 use crate::read::once::each_once;

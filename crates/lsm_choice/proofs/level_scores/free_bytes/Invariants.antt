@@ -1,5 +1,6 @@
 use Rattle.std.proofs.Common.{◌≡◌, ◌*◌, ◌^◌, ◌≤◌, take}
-use Rattle.lsm_choice.specs.Scores.{bytes_of, free_tables}
+use Rattle.lsm_table.specs.Registry.{bytes_of}
+use Rattle.lsm_choice.specs.Scores.{free_tables}
 use Rattle.lsm_choice.proofs.level_scores.free_bytes.Given as goal
 
 abbrev pub invariant-loop-table : goal.invariant-loop-table

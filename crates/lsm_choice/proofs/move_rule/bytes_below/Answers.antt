@@ -1,8 +1,7 @@
 use Rattle.std.proofs.Common.{suc, List, ◌≤◌, length, sym, ap, arith}
 use Rattle.std.specs.List.{filter}
-use Rattle.lsm_table.specs.Registry.{Table}
+use Rattle.lsm_table.specs.Registry.{Table, bytes_of}
 use Rattle.lsm_version.specs.Overlap.{meets}
-use Rattle.lsm_choice.specs.Scores.{bytes_of}
 use Rattle.lsm_choice.proofs.LevelFiles.{no_level}
 use Rattle.lsm_choice.proofs.move_rule.bytes_below.Goals as goal
 

@@ -1,7 +1,7 @@
 use Rattle.std.proofs.Common.{◌≡◌, ◌*◌, ◌^◌, ◌≤◌, take}
 use Rattle.std.specs.List.{filter}
 use Rattle.lsm_version.specs.Overlap.{meets}
-use Rattle.lsm_choice.specs.Scores.{bytes_of}
+use Rattle.lsm_table.specs.Registry.{bytes_of}
 use Rattle.lsm_choice.proofs.move_rule.bytes_over.Given as goal
 
 abbrev pub invariant-loop-table : goal.invariant-loop-table

@@ -1,5 +1,5 @@
 use Rattle.std.proofs.Common.{◌≡◌, ◌+◌, drop}
-use Rattle.lsm_directory.specs.Listing.{bytes_of}
+use Rattle.lsm_table.specs.Registry.{bytes_of}
 use Rattle.lsm_directory.proofs.counting.size_of_level.Given as goal
 
 abbrev pub invariant-loop-table : goal.invariant-loop-table

@@ -7,5 +7,5 @@ pub returns-in-Some-clause-some : goal.returns-in-Some-clause-some
 returns-in-Some-clause-some c =
     let words = c.args.words.now in
     let name : (get_or words 0 blank).now ≡ codes "get" = search rules in
-    let key : IsBytesWord (get_or words 1 blank).now c.in-Some.key = rw c.in-Some.is at c.in_ok-key-in-len2.ensures.some in
+    let key : IsBytesWord (get_or words 1 blank).now c.in-Some.key = rw c.in-Some.is at c.in_ok-key-in-len2.ensures.only in
     ((get_or words 1 blank).now, two_texts words c.in-len2.len_at_least c.in-len2.len_below ∙ ap (λ (x : List ℕ). x ∷ (get_or words 1 blank).now ∷ []) name, key)

@@ -1,7 +1,8 @@
 use Rattle.std.proofs.Common.{sym, ◌∙◌, ap, subst}
 use Rattle.std.specs.Option.{option_map}
 use Rattle.lsm_codec.specs.KeyRef.{key_of}
-use Rattle.lsm_merge.specs.Outputs.{IsImage, Unfinished}
+use Rattle.lsm_table.specs.Table.{IsImage}
+use Rattle.lsm_merge.specs.Outputs.{Unfinished}
 use Rattle.lsm_merge.proofs.Begun.{begun_has, image_of, last_none}
 use Rattle.lsm_merge.proofs.output.Output.finish.Goals as goal
 

@@ -1,12 +1,20 @@
 use Rattle.std.proofs.Common.{◌≡◌, List, map, arith, sym, ◌∙◌, subst}
 use Rattle.std.specs.List.Sorted.{IsSortedBy}
 use Rattle.lsm_table.specs.Registry.{Table}
-use Rattle.lsm_version.specs.Versions.{stands_before, level_in}
+use Rattle.lsm_version.specs.Versions.{AreWhole, stands_before, level_in}
 use Rattle.lsm_version.specs.LevelLayouts.{LieAs}
 use Rattle.lsm_levels.specs.declared.key_range.Layout.{Layout}
 use Rattle.lsm_levels.specs.declared.key_range.Layout.TheVariants.{Overlap}
-use Rattle.lsm_version.proofs.LevelRanges.{level_in-map, order_in, layouts_more}
+use Rattle.lsm_version.proofs.LevelRanges.{level_in-map, order_in, layouts_more, whole_in}
 use Rattle.lsm_version.proofs.check.layouts.judge_layouts.Goals as goal
+
+pub level_layout-requires-clause-whole : goal.level_layout-requires-clause-whole
+level_layout-requires-clause-whole g c κs within =
+    let tables : List (List Table) = map (λ l. l.items) c.args.levels.now in
+    let n = c.loop-number.number in
+    let here : level_in tables n ≡ c.as_slice-level.result.now =
+    level_in-map (λ l. l.items) c.args.levels.now n c.index-levels-number.result (omega arith) c.index-levels-number.is ∙ sym c.as_slice-level.ensures.value in
+    subst AreWhole here (whole_in tables n c.requires.whole)
 
 pub level_layout-requires-clause-order : goal.level_layout-requires-clause-order
 level_layout-requires-clause-order g c κs within =

@@ -4,21 +4,21 @@ use Rattle.lsm_levels.specs.Ranges.{Range, IsLevel, IsLaidOut}
 use Rattle.lsm_version.specs.Versions.{IsWhole}
 use Rattle.lsm_version.specs.LevelLayouts.{AreRangesOf}
 use Rattle.lsm_version.proofs.LevelReads.{has_at}
-use Rattle.lsm_version.proofs.LevelRanges.{whole_at, ranges_more, lies_as}
+use Rattle.lsm_version.proofs.LevelRanges.{ranges_more, lies_as}
 use Rattle.lsm_version.proofs.check.layouts.level_layout.Goals as goal
 
 pub range_of-range-requires-clause-first : goal.range_of-range-requires-clause-first
 range_of-range-requires-clause-first g c =
     let level = c.args.level.now in
     let t = c.table-item.result in
-    let w : IsWhole t = whole_at level t c.requires.whole (has_at level c.loop-table.table-index t c.loop-table-test.true c.table-item.is) in
+    let w : IsWhole t = c.requires.whole t (has_at level c.loop-table.table-index t c.loop-table-test.true c.table-item.is) in
     (w.range.smallest, subst (λ (b : List ℕ). IsKey b w.range.smallest) (sym (c.as_slice.ensures ∙ c.record-record.ensures.smallest)) w.smallest)
 
 pub range_of-range-requires-clause-last : goal.range_of-range-requires-clause-last
 range_of-range-requires-clause-last g c =
     let level = c.args.level.now in
     let t = c.table-item.result in
-    let w : IsWhole t = whole_at level t c.requires.whole (has_at level c.loop-table.table-index t c.loop-table-test.true c.table-item.is) in
+    let w : IsWhole t = c.requires.whole t (has_at level c.loop-table.table-index t c.loop-table-test.true c.table-item.is) in
     (w.range.largest, subst (λ (b : List ℕ). IsKey b w.range.largest) (sym (c.as_slice-in-loop-table.ensures ∙ c.record-record.ensures.largest)) w.largest)
 
 pub loop-table-preserved : goal.loop-table-preserved
