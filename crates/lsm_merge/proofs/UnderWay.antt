@@ -88,21 +88,6 @@ pub record IsUnderWay (Honest : Type 0) (w : Work) (whole : List Entry) (was is 
   pub asks : AsksFor w.ticket asked0 asked
   pub way : Honest → IsOnTheWay w.floor w.ranges (finished w.table) w.target_size whole (making_of m) before (entries_of left.placed)
 
-pub under_start : (Honest : Type 0) (w : Work) (was is : Told) (drew0 answers0 asked0 : List ℕ) (m : Made) (left : Left) → AreInRange w.table → m ≡ nothing_of w → Becomes was is
-    → AreInputs left.files (input_numbers w) → IsUnderWay Honest w (entries_of left.placed) was is drew0 drew0 answers0 answers0 asked0 asked0 m None left
-under_start Honest w was is drew0 answers0 asked0 m left range e b files =
-    subst (λ (n : Made). IsUnderWay Honest w (entries_of left.placed) was is drew0 drew0 answers0 answers0 asked0 asked0 n None left) (sym e) (record {
-      sizes = record { ticket = refl; options = refl; target = refl };
-      good = record { in_range = range; whole = λ t h. absurd h; built = λ t h. absurd h; numbers = refl; written = tt };
-      up = λ key h. absurd (cc h);
-      told = puts_none [] was is b;
-      drawn = refl;
-      answered = refl;
-      files = files;
-      asks = asks_none w.ticket asked0 asked0 refl;
-      way = λ honest. way_start w.floor w.ranges (finished w.table) w.target_size (entries_of left.placed);
-    })
-
 pub under_step : (Honest : Type 0) (w : Work) (whole : List Entry) (was is is' : Told) (drew0 drew drew' answers0 answers answers' asked0 asked asked' : List ℕ) (m m' : Made) (before before' : Option Entry) (left left' : Left)
     → IsUnderWay Honest w whole was is drew0 drew answers0 answers asked0 asked m before left
     → no_more left.placed ≡ false
