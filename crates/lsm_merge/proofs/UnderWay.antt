@@ -22,7 +22,7 @@ use Rattle.lsm_merge.specs.Work.{Work, finished, job_of}
 use Rattle.lsm_merge.proofs.Tickets.{asks_none, asks_then}
 use Rattle.lsm_merge.proofs.Limited.{over_more, with_next_from, output_from}
 use Rattle.lsm_merge.specs.Limits.{IsOverLimit}
-use Rattle.lsm_merge.proofs.Dropped.{IsOnTheWay, StreamingKeeps, way_done, way_step}
+use Rattle.lsm_merge.proofs.Dropped.{IsOnTheWay, StreamingKeeps, way_done, way_start, way_step}
 use Rattle.lsm_merge.proofs.PlaceLaws.{puts_none, puts_then, sizes_then, up_to_taken}
 
 -- ---- refusals
