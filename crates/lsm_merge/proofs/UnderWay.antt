@@ -2,8 +2,7 @@
 use Rattle.std.proofs.Common.{◌≡◌, ℕ, true, false, cond, List, [], ◌∷◌, ◌++◌, Option, Some, None, refl, sym, ◌∙◌, ap, subst, inl, inr}
 use Rattle.lsm_codec.specs.Lists.{Has}
 use Rattle.lsm_codec.specs.Entries.{Entry}
-use Rattle.lsm_shelf.specs.Told.{Told, Becomes}
-use Rattle.lsm_table.specs.Options.{AreInRange}
+use Rattle.lsm_shelf.specs.Told.{Told}
 use Rattle.lsm_levels.specs.Files.{all_entries}
 use Rattle.lsm_levels.specs.Merging.{Placed, entries_of}
 use Rattle.lsm_levels.specs.Streams.{IsAscending, IsMerge}
@@ -19,11 +18,11 @@ use Rattle.lsm_merge.specs.Inputs.{AreInputs, IsOfReading, IsOrderFault, IsReada
 use Rattle.lsm_merge.specs.Outputs.{AreGood, Goes, IsWrittenBy, Made, PutsMore, SameSizes, Unfinished, drawn_for, drawn_of, entries_of_last, going, making_of, number_of_last}
 use Rattle.lsm_merge.specs.Remembered.{bare}
 use Rattle.lsm_merge.specs.Work.{Work, finished, job_of}
-use Rattle.lsm_merge.proofs.Tickets.{asks_none, asks_then}
+use Rattle.lsm_merge.proofs.Tickets.{asks_then}
 use Rattle.lsm_merge.proofs.Limited.{over_more, with_next_from, output_from}
 use Rattle.lsm_merge.specs.Limits.{IsOverLimit}
-use Rattle.lsm_merge.proofs.Dropped.{IsOnTheWay, StreamingKeeps, way_done, way_start, way_step}
-use Rattle.lsm_merge.proofs.PlaceLaws.{puts_none, puts_then, sizes_then, up_to_taken}
+use Rattle.lsm_merge.proofs.Dropped.{IsOnTheWay, StreamingKeeps, way_done, way_step}
+use Rattle.lsm_merge.proofs.PlaceLaws.{puts_then, sizes_then, up_to_taken}
 
 -- ---- refusals
 
