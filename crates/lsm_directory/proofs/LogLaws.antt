@@ -1,19 +1,14 @@
 -- Logs among the files of a folder.
-use Rattle.std.proofs.Common.{◌≡◌, ◌≢◌, ℕ, ◌+◌, ◌-◌, ◌<◌, ◌≤◌, ◌^◌, List, [], ◌∷◌, ◌++◌, Bool, true, false, Option, Some, None, OnOk, length, get_or, take, refl, sym, ap, ◌∙◌, subst, append_assoc, append-nil, inl, inr, arith}
+use Rattle.std.proofs.Common.{◌≡◌, ◌≢◌, ℕ, ◌+◌, ◌-◌, ◌<◌, ◌≤◌, ◌^◌, List, [], ◌∷◌, ◌++◌, Bool, true, false, Option, Some, None, length, get_or, take, refl, sym, ap, ◌∙◌, subst, append_assoc, append-nil, inl, inr, arith}
 use Rattle.std.specs.Prelude.{Result, Ok, Err, MatchBool, codes, string_bytes}
 use Rattle.std.specs.Char.{digit_value}
-use Rattle.std.specs.Io.KnownBytes.{Appends}
 use Rattle.std.specs.Str.Parse.{AllDigits, IsNumeral, ParsesUnsigned, digits_value}
 use Rattle.std.proofs.lemmas.Grind.{flat_map-append}
 use Rattle.std.proofs.lemmas.List.{append_cancel_right, take_all, take_more}
 use Rattle.std.proofs.lemmas.Str.Parse.{IsNumeralModel, numerals_by_value, tells_digits, parse_gives, parse_plain}
 use Rattle.lsm_version.specs.Versions.{Levels}
-use Rattle.lsm_commands.specs.declared.directory_command.DirectoryCommand.TheVariants.{Check}
-use Rattle.lsm_commands.specs.declared.form.Form.{Form}
-use Rattle.lsm_directory.specs.Answers.{Prints}
 use Rattle.lsm_directory.specs.Listing.{check_text}
 use Rattle.lsm_directory.specs.Logs.{AppendsLogs, AreThose, IsChecked, IsLogName, IsReached, IsUnread, log_line, log_lines}
-use Rattle.lsm_directory.specs.declared.directory_fault.DirectoryFault.{DirectoryFault}
 use Rattle.lsm_directory.specs.declared.folder_file.FolderFile.{FolderFile}
 
 -- ---- names

@@ -1,6 +1,5 @@
 -- What is written on standard error where no progress is asked for.
-use Rattle.std.proofs.Common.{ℕ, List, Option, Bool}
-use Rattle.std.specs.Prelude.{IsFalse}
+use Rattle.std.proofs.Common.{ℕ, List, Option}
 use Rattle.std.specs.Io.KnownBytes.{Keeps}
 use Rattle.std.proofs.KnownBytes.{Keeps-refl, Keeps-trans}
 

@@ -1,8 +1,7 @@
 -- What the manifest held records before and after a change is sent.
-use Rattle.std.proofs.Common.{◌≡◌, ◌≢◌, ◌==◌, Bool, true, false, ℕ, ◌<◌, ◌≤◌, List, [], ◌∷◌, ◌++◌, Option, Some, None, get_or, length, take, drop, refl, sym, ◌∙◌, ap, subst, inl, inr, arith}
+use Rattle.std.proofs.Common.{◌≡◌, ◌≢◌, ◌==◌, Bool, true, false, ℕ, ◌<◌, ◌≤◌, List, [], ◌∷◌, ◌++◌, Option, Some, None, get_or, length, refl, sym, subst, inl, inr, arith}
 use Rattle.std.specs.Prelude.{IfSome, slice_set}
 use Rattle.std.proofs.lemmas.Bool.{eqb-true, eqb-false}
-use Rattle.std.proofs.Math.Seq.{drop-append_seam, take-append_seam}
 use Rattle.std.proofs.lemmas.List.{get_or-set_other, get_or-set_same}
 use Rattle.lsm_codec.proofs.CallerLemmas.{all_at}
 use Rattle.lsm_manifest.specs.Edit.{IsEdit}
@@ -14,8 +13,6 @@ use Rattle.lsm_version.specs.Versions.{Levels, no_levels}
 use Rattle.lsm_journal.specs.HeldManifest.{HeldManifest}
 use Rattle.lsm_journal.specs.Difference.{Difference, FitsComing, FitsDifference, FitsPlace, LeadsTo, changed_by, deleted_numbers}
 use Rattle.lsm_journal.specs.Recorded.{ComesTo, FitsLevels, HasOwnNumbers, IsRecorded}
-use Rattle.lsm_shelf.specs.Told.{Told, Becomes, appending}
-use Rattle.lsm_journal.specs.Sending.{Grows}
 use Rattle.lsm_journal.specs.Writing.{change_edit, created, first_edit, record_of, version_edit}
 use Rattle.lsm_journal.proofs.Differing.{TablesChange, changed_own, difference_turns, inside, pointers_are, same_length}
 use Rattle.lsm_journal.proofs.StandingKeys.{standing_keys}

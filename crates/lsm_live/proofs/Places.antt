@@ -1,10 +1,8 @@
 -- Live jobs by their places.
-use Rattle.std.proofs.Common.{◌≡◌, ℕ, zero, suc, ◌<◌, ◌≤◌, true, length, get_or, set, take, List, [], ◌∷◌, Option, None, Some, is_some, refl, ◌∙◌, ap, inl, inr, arith}
-use Rattle.std.specs.Prelude.{◌⊎◌, ◌↔◌, MatchOption, OnErr, OnOk, Result, Ok, Err}
+use Rattle.std.proofs.Common.{◌≡◌, ℕ, zero, suc, ◌<◌, true, length, get_or, set, List, [], ◌∷◌, Option, None, Some, is_some, refl, ◌∙◌, ap, inl, inr, arith}
+use Rattle.std.specs.Prelude.{◌↔◌, MatchOption, OnErr, OnOk, Result, Ok, Err}
 use Rattle.lsm_codec.specs.Lists.{Has}
-use Rattle.lsm_live.specs.Booked.{AreIncreasing, Booked, HasTicket, drawing, tickets_of}
-use Rattle.lsm_live.proofs.Elements.{has_at}
-use Rattle.lsm_live.proofs.Tickets.{has_ticket}
+use Rattle.lsm_live.specs.Booked.{Booked, HasTicket, drawing, tickets_of}
 
 -- a place of the ticket makes it live
 pub ticket_at : (live : List Booked) (ticket i : ℕ) → i < length live → ((d : Booked) → (get_or live i d).work.ticket ≡ ticket) → HasTicket live ticket

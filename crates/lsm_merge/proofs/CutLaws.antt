@@ -1,7 +1,6 @@
 -- Tables whose contents stand in the cut are pieces as an install wants them.
-use Rattle.std.proofs.Common.{◌≡◌, ℕ, suc, true, false, List, [], ◌∷◌, ◌++◌, refl, sym, ◌∙◌, ap, subst, inl, inr}
+use Rattle.std.proofs.Common.{◌≡◌, ℕ, suc, false, List, [], ◌∷◌, ◌++◌, refl, sym, ◌∙◌, ap, subst, inl, inr}
 use Rattle.std.specs.List.{flat_map}
-use Rattle.std.proofs.lemmas.Bool.{both_ways}
 use Rattle.lsm_codec.specs.Lists.{Has}
 use Rattle.lsm_codec.specs.Keys.{InternalKey, IsKey}
 use Rattle.lsm_codec.specs.Entries.{Entry}
@@ -16,7 +15,7 @@ use Rattle.lsm_version.specs.Versions.{IsWhole, file_of, files_of, user_of}
 use Rattle.lsm_merge.specs.Compacting.{AreMergedOf}
 use Rattle.lsm_merge.specs.Cuts.{AreRightCuts, IsCutBy}
 use Rattle.lsm_merge.specs.Outputs.{AreGood, Made}
-use Rattle.lsm_merge.specs.Work.{AreKept, IsBuilt, IsFinished, IsMade, IsWork, MovesOne, Work, contents_of, finished}
+use Rattle.lsm_merge.specs.Work.{AreKept, IsBuilt, IsFinished, IsMade, IsWork, Work, contents_of, finished}
 
 user_of_key : (bytes : List ℕ) (key : InternalKey) → IsKey bytes key → user_of bytes ≡ key.user
 user_of_key bytes key k = ap user_of k.bytes_are ∙ take-key_bytes key

@@ -33,9 +33,6 @@ pub record IsOnTheWay (floor : ℕ) (ranges : List (UserKey × UserKey)) (size :
   pub back : IsAscending whole → AscendingAfter before rest
   pub left : (e : Entry) → Has rest e → Has whole e
 
-pub way_start : (floor : ℕ) (ranges : List (UserKey × UserKey)) (size : List Entry → ℕ) (target : ℕ) (whole : List Entry) → IsOnTheWay floor ranges size target whole (record { outputs = []; output = [] }) None whole
-way_start floor ranges size target whole = record { same = refl; ascending = λ a. a.1; back = λ a. (λ e h. tt, a); left = λ e h. h }
-
 -- one entry more
 pub way_step : (floor : ℕ) (ranges : List (UserKey × UserKey)) (size : List Entry → ℕ) (target : ℕ) (whole : List Entry) (m : Making) (before : Option Entry) (e : Entry) (rest : List Entry)
     → IsOnTheWay floor ranges size target whole m before (e ∷ rest) → Follows before e

@@ -1,6 +1,5 @@
 -- Outputs that cannot be built.
 use Rattle.std.proofs.Common.{◌≡◌, ℕ, ◌≤◌, Bool, true, false, cond, List, [], ◌∷◌, ◌++◌, length, Option, Some, None, refl, sym, ◌∙◌, ap, subst, inl, inr}
-use Rattle.std.specs.Prelude.{◌^◌}
 use Rattle.std.specs.List.{flat_map}
 use Rattle.lsm_codec.specs.Lists.{Has}
 use Rattle.lsm_codec.specs.Keys.{UserKey}
@@ -9,13 +8,9 @@ use Rattle.lsm_codec.proofs.CallerLemmas.{has_cases, has_left, has_right}
 use Rattle.lsm_block.specs.Block.{Ascends}
 use Rattle.lsm_block.specs.declared.build_fault.BuildFault.{BuildFault}
 use Rattle.lsm_block.specs.declared.build_fault.BuildFault.TheVariants as build
-use Rattle.lsm_shelf.specs.declared.shelf_fault.ShelfFault.{ShelfFault}
-use Rattle.lsm_shelf.specs.declared.shelf_fault.ShelfFault.TheVariants as shelf
-use Rattle.lsm_table.specs.TableBuilding.{PassesLimit, groups_by, index_block}
+use Rattle.lsm_table.specs.TableBuilding.{PassesLimit}
 use Rattle.lsm_table.specs.declared.table_options.TableOptions.{TableOptions}
 use Rattle.lsm_levels.specs.Streams.{streamed}
-use Rattle.lsm_merge.specs.declared.number_source.NumberFault.{NumberFault}
-use Rattle.lsm_merge.specs.declared.number_source.NumberFault.TheVariants as numbers
 use Rattle.lsm_merge.specs.declared.merge_fault.InputFault.TheVariants.{Read, OutOfOrder}
 use Rattle.lsm_merge.specs.declared.merge_fault.MergeFault.{MergeFault}
 use Rattle.lsm_merge.specs.declared.merge_fault.MergeFault.TheVariants.{OutOfMemory, ReadFailed, PutFailed, UnknownTicket, NumbersSpent}
@@ -23,7 +18,7 @@ use Rattle.lsm_merge.specs.Cuts.{cut_on}
 use Rattle.lsm_merge.specs.Dropping.{Making}
 use Rattle.lsm_merge.specs.Inputs.{IsOfReading}
 use Rattle.lsm_merge.specs.Limits.{IsOverLimit, IsSizeFault}
-use Rattle.lsm_merge.specs.MergeFault.{of_build, of_numbers, of_put}
+use Rattle.lsm_merge.specs.MergeFault.{of_build}
 use Rattle.lsm_merge.proofs.Cutting.{cut_whole}
 use Rattle.lsm_merge.proofs.Dropped.{IsOnTheWay}
 

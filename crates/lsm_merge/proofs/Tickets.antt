@@ -3,14 +3,11 @@ use Rattle.std.proofs.Common.{◌≡◌, ℕ, List, [], ◌∷◌, ◌++◌, sym
 use Rattle.lsm_codec.proofs.CallerLemmas.{has_cases}
 use Rattle.lsm_block.specs.declared.build_fault.BuildFault.{BuildFault}
 use Rattle.lsm_block.specs.declared.build_fault.BuildFault.TheVariants as build
-use Rattle.lsm_merge.specs.declared.number_source.NumberFault.{NumberFault}
-use Rattle.lsm_merge.specs.declared.number_source.NumberFault.TheVariants as numbers
 use Rattle.lsm_merge.specs.declared.merge_fault.MergeFault.{MergeFault}
 use Rattle.lsm_merge.specs.declared.merge_fault.MergeFault.TheVariants.{OutOfMemory, ReadFailed, PutFailed, UnknownTicket, NumbersSpent}
 use Rattle.lsm_merge.specs.Causes.{AnswersOf, AsksFor, NamesTicket}
 use Rattle.lsm_merge.specs.Inputs.{IsOfReading}
-use Rattle.lsm_merge.specs.MergeFault.{of_build, of_numbers}
-use Rattle.lsm_merge.specs.NumberFault.{IsOfTicket}
+use Rattle.lsm_merge.specs.MergeFault.{of_build}
 
 pub asks_none : (ticket : ℕ) (old new : List ℕ) → new ≡ old → AsksFor ticket old new
 asks_none ticket old new e = record { more = []; grown = e; each = λ t h. absurd h }

@@ -2,8 +2,7 @@
 use Rattle.std.proofs.Common.{◌≡◌, ℕ, true, false, cond, List, [], ◌∷◌, ◌++◌, Option, Some, None, refl, sym, ◌∙◌, ap, subst, inl, inr}
 use Rattle.lsm_codec.specs.Lists.{Has}
 use Rattle.lsm_codec.specs.Entries.{Entry}
-use Rattle.lsm_shelf.specs.Told.{Told, Becomes}
-use Rattle.lsm_table.specs.Options.{AreInRange}
+use Rattle.lsm_shelf.specs.Told.{Told}
 use Rattle.lsm_levels.specs.Files.{all_entries}
 use Rattle.lsm_levels.specs.Merging.{Placed, entries_of}
 use Rattle.lsm_levels.specs.Streams.{IsAscending, IsMerge}
@@ -19,11 +18,11 @@ use Rattle.lsm_merge.specs.Inputs.{AreInputs, IsOfReading, IsOrderFault, IsReada
 use Rattle.lsm_merge.specs.Outputs.{AreGood, Goes, IsWrittenBy, Made, PutsMore, SameSizes, Unfinished, drawn_for, drawn_of, entries_of_last, going, making_of, number_of_last}
 use Rattle.lsm_merge.specs.Remembered.{bare}
 use Rattle.lsm_merge.specs.Work.{Work, finished, job_of}
-use Rattle.lsm_merge.proofs.Tickets.{asks_none, asks_then}
+use Rattle.lsm_merge.proofs.Tickets.{asks_then}
 use Rattle.lsm_merge.proofs.Limited.{over_more, with_next_from, output_from}
 use Rattle.lsm_merge.specs.Limits.{IsOverLimit}
-use Rattle.lsm_merge.proofs.Dropped.{IsOnTheWay, StreamingKeeps, way_done, way_start, way_step}
-use Rattle.lsm_merge.proofs.PlaceLaws.{puts_none, puts_then, sizes_then, up_to_taken}
+use Rattle.lsm_merge.proofs.Dropped.{IsOnTheWay, StreamingKeeps, way_done, way_step}
+use Rattle.lsm_merge.proofs.PlaceLaws.{puts_then, sizes_then, up_to_taken}
 
 -- ---- refusals
 
@@ -87,21 +86,6 @@ pub record IsUnderWay (Honest : Type 0) (w : Work) (whole : List Entry) (was is 
   pub files : AreInputs left.files (input_numbers w)
   pub asks : AsksFor w.ticket asked0 asked
   pub way : Honest → IsOnTheWay w.floor w.ranges (finished w.table) w.target_size whole (making_of m) before (entries_of left.placed)
-
-pub under_start : (Honest : Type 0) (w : Work) (was is : Told) (drew0 answers0 asked0 : List ℕ) (m : Made) (left : Left) → AreInRange w.table → m ≡ nothing_of w → Becomes was is
-    → AreInputs left.files (input_numbers w) → IsUnderWay Honest w (entries_of left.placed) was is drew0 drew0 answers0 answers0 asked0 asked0 m None left
-under_start Honest w was is drew0 answers0 asked0 m left range e b files =
-    subst (λ (n : Made). IsUnderWay Honest w (entries_of left.placed) was is drew0 drew0 answers0 answers0 asked0 asked0 n None left) (sym e) (record {
-      sizes = record { ticket = refl; options = refl; target = refl };
-      good = record { in_range = range; whole = λ t h. absurd h; built = λ t h. absurd h; numbers = refl; written = tt };
-      up = λ key h. absurd (cc h);
-      told = puts_none [] was is b;
-      drawn = refl;
-      answered = refl;
-      files = files;
-      asks = asks_none w.ticket asked0 asked0 refl;
-      way = λ honest. way_start w.floor w.ranges (finished w.table) w.target_size (entries_of left.placed);
-    })
 
 pub under_step : (Honest : Type 0) (w : Work) (whole : List Entry) (was is is' : Told) (drew0 drew drew' answers0 answers answers' asked0 asked asked' : List ℕ) (m m' : Made) (before before' : Option Entry) (left left' : Left)
     → IsUnderWay Honest w whole was is drew0 drew answers0 answers asked0 asked m before left

@@ -9,7 +9,7 @@ use Rattle.std.proofs.lemmas.Option.{slice_get_within, slice_get-get_or, slice_g
 use Rattle.lsm_pins.specs.Known.{Known}
 use Rattle.lsm_pins.specs.declared.view.View.{View}
 use Rattle.lsm_pins.specs.SlotRecord.{unused}
-use Rattle.lsm_pins.specs.View.{HasId, IsFree, after_making, is_unheld, looked_view, slot_ids}
+use Rattle.lsm_pins.specs.View.{HasId, after_making, is_unheld, looked_view, slot_ids}
 use Rattle.lsm_slots.proofs.Elements.{both_true, map-replicate, replicate_at, set_else, set_found, set_here, set_same}
 use Rattle.lsm_version.specs.Versions.{Levels}
 use Rattle.lsm_slots.specs.Slots.{AreSlots, Epoch, Freed, HasEpoch, IsFreeSlot, Looked, MayFree, PinsMove, Slotted, current_id, current_slot, first_slots, id_of, is_unpinned, numbers_at, numbers_held}
