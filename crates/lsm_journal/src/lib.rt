@@ -21,9 +21,7 @@ mod send;
 
 pub use journal::Journal;
 pub use keys::added_keys_fit;
-pub use laws::{
-    differences_fit, recorded_keys_fit, recovered_is_recorded, whole_keys_fit,
-};
+pub use laws::{differences_fit, recorded_keys_fit, recovered_is_recorded, whole_keys_fit};
 pub use recover::Recovered;
 pub use recover_fault::RecoverFault;
 pub use version_change::VersionChange;
