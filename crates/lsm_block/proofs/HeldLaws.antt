@@ -12,7 +12,7 @@ use Rattle.lsm_block.specs.declared.fault.BlockFault.TheVariants.{OutOfMemory, B
 use Rattle.lsm_block.specs.Block.{IsBlock, entry_of}
 use Rattle.lsm_codec.specs.Gives.{Fails}
 use Rattle.lsm_block.specs.Reading.{block_at, block_of, parts_at, scan, first_fault, unless, entries_of}
-use Rattle.lsm_block.specs.Seeking.{readable, Parts, Steps}
+use Rattle.lsm_block.specs.Seeking.{readable, ArePartsOf, Steps}
 use Rattle.lsm_block.specs.Standing.{StepStands}
 use Rattle.lsm_block.specs.Held.{Holds, rest_of, text_and_entries, text_or_none, block_in, held, or_none, Kept, last_of, Given}
 use Rattle.lsm_block.proofs.KeyLaws.{kept_bytes, last-key}
@@ -52,7 +52,7 @@ sizes bytes n es h =
     let tail_len = ap (λ (xs : List ℕ). length xs) tail in
     record { within = omega (arith, long, h.text_len_is); tail = omega (arith, tail_len, parts, words, four) }
 
-pub holds_parts : (bytes : List ℕ) (n : ℕ) (es : List Entry) → Holds bytes n es → Parts (take n bytes) (take (length (drop n bytes) - 4) (drop n bytes)) es
+pub holds_parts : (bytes : List ℕ) (n : ℕ) (es : List Entry) → Holds bytes n es → ArePartsOf (take n bytes) (take (length (drop n bytes) - 4) (drop n bytes)) es
 holds_parts bytes n es h =
     let b = h.block in
     let t : take n bytes ≡ b.text = ap (take n) b.bytes_are ∙ take_at b.text (words_of b ++ count_of b) n (sym h.text_len_is) in
@@ -60,7 +60,7 @@ holds_parts bytes n es h =
     let four : length (count_of b) ≡ 4 = refl in
     let k : length (words_of b) ≡ length (words_of b ++ count_of b) - 4 = omega (arith, length-append (words_of b) (count_of b), four) in
     let w : take (length (words_of b ++ count_of b) - 4) (words_of b ++ count_of b) ≡ words_of b = take_at (words_of b) (count_of b) (length (words_of b ++ count_of b) - 4) k in
-    let p : Parts b.text (words_of b) es = record { starts = b.starts; restarts = b.restarts; spelled = b.spelled; ascends = b.ascends; rises = b.rises; fits = b.fits; offsets_are = refl } in
+    let p : ArePartsOf b.text (words_of b) es = record { starts = b.starts; restarts = b.restarts; spelled = b.spelled; ascends = b.ascends; rises = b.rises; fits = b.fits; offsets_are = refl } in
     rw (t, tail, w) p
 
 -- ---- what a check says

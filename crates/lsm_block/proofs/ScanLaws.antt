@@ -8,12 +8,12 @@ use Rattle.lsm_codec.specs.Keys.{key_cmp, key_at}
 use Rattle.lsm_codec.specs.Entries.{Entry, entry_cmp}
 use Rattle.lsm_codec.proofs.CallerLemmas.{IsBytes}
 use Rattle.lsm_block.specs.Block.{Spells, Ascends, start_at, key_text}
-use Rattle.lsm_block.specs.Reading.{Piece, Placed, Scan, nothing, entry_at, scan, entry, entries_of, starts_of, comes_after, if_not, disorder}
+use Rattle.lsm_block.specs.Reading.{Piece, PieceAt, Scan, nothing, entry_at, scan, entry, entries_of, starts_of, comes_after, if_not, disorder}
 use Rattle.lsm_block.proofs.EntryLaws.{sharing, entry_again, entry_again_is, entry_takes, own-some, IsBytes-after}
 
 -- ---- steps of a scan
 
-abbrev pub placed_at : ℕ → Piece → Placed
+abbrev pub placed_at : ℕ → Piece → PieceAt
 placed_at offset p = record { offset = offset; piece = p }
 
 pub scan-empty : (count total : ℕ) (before : List ℕ) → scan count total before [] ≡ nothing None
@@ -36,7 +36,7 @@ scan-none count total before (b ∷ bs) h is = rw is refl
 
 -- pieces that hold the entries
 pub record Holds (scanned : Scan) (starts : List ℕ) (entries : List Entry) : Type 0 where
-  pub placed : List Placed
+  pub placed : List PieceAt
   pub same : scanned ≡ record { placed = placed; stop = None }
   pub starts_are : starts_of placed ≡ starts
   pub entries_are : entries_of placed ≡ entries
@@ -119,33 +119,33 @@ after-key [] b h = absurd (omega arith)
 after-key (x ∷ xs) b h = refl
 
 -- each piece has a key
-abbrev pub HaveKeys : List Placed → Type 0
+abbrev pub HaveKeys : List PieceAt → Type 0
 HaveKeys placed = AllByRecursion (λ p. 0 < length p.piece.key) placed
 
 if_not_none : (b : Bool) (offset : ℕ) (later : Option ℕ) → if_not b offset later ≡ None → (b ≡ true) × (later ≡ None)
 if_not_none true offset later e = (refl, e)
 if_not_none false offset later e = absurd cc
 
-ascends-from : (p : Placed) (ps : List Placed) → HaveKeys (p ∷ ps) → disorder p.piece.key ps ≡ None → Ascends (entries_of (p ∷ ps))
+ascends-from : (p : PieceAt) (ps : List PieceAt) → HaveKeys (p ∷ ps) → disorder p.piece.key ps ≡ None → Ascends (entries_of (p ∷ ps))
 unfolding disorder
 ascends-from p [] k h = tt
 ascends-from p (q ∷ ps) k h =
     let both = if_not_none (comes_after p.piece.key q.piece.key) q.offset (disorder q.piece.key ps) h in
     (is_less (entry_cmp (entry p.piece) (entry q.piece)) (sym (after-key p.piece.key q.piece.key k.0) ∙ both.0), ascends-from q ps k.1 both.1)
 
-pub ascends : (ps : List Placed) → HaveKeys ps → disorder [] ps ≡ None → Ascends (entries_of ps)
+pub ascends : (ps : List PieceAt) → HaveKeys ps → disorder [] ps ≡ None → Ascends (entries_of ps)
 unfolding disorder comes_after
 ascends [] k h = tt
 ascends (p ∷ ps) k h = ascends-from p ps k h
 
-ordered-from : (p : Placed) (ps : List Placed) → HaveKeys (p ∷ ps) → Ascends (entries_of (p ∷ ps)) → disorder p.piece.key ps ≡ None
+ordered-from : (p : PieceAt) (ps : List PieceAt) → HaveKeys (p ∷ ps) → Ascends (entries_of (p ∷ ps)) → disorder p.piece.key ps ≡ None
 unfolding disorder
 ordered-from p [] k h = refl
 ordered-from p (q ∷ ps) k h =
     let yes : comes_after p.piece.key q.piece.key ≡ true = after-key p.piece.key q.piece.key k.0 ∙ less_is (entry_cmp (entry p.piece) (entry q.piece)) h.0 in
     rw yes (ordered-from q ps k.1 h.1)
 
-pub ordered : (ps : List Placed) → HaveKeys ps → Ascends (entries_of ps) → disorder [] ps ≡ None
+pub ordered : (ps : List PieceAt) → HaveKeys ps → Ascends (entries_of ps) → disorder [] ps ≡ None
 unfolding disorder comes_after
 ordered [] k h = refl
 ordered (p ∷ ps) k h = ordered-from p ps k h

@@ -15,7 +15,7 @@ use Rattle.lsm_codec.specs.Entries.{Entry, internal_key}
 use Rattle.lsm_codec.proofs.CallerLemmas.{IsBytes, key_again}
 use Rattle.lsm_block.specs.Block.{entry_of, EntryText, Spells, Rises, start_at, Ascends, key_text}
 use Rattle.lsm_block.specs.Reading.{Piece, numbers_at, entry_at, entry}
-use Rattle.lsm_block.specs.Seeking.{readable, read_on, not_below, word_of, Parts, found_below, starts_below}
+use Rattle.lsm_block.specs.Seeking.{readable, read_on, not_below, word_of, ArePartsOf, found_below, starts_below}
 use Rattle.lsm_block.specs.Walking.{seen}
 use Rattle.lsm_block.proofs.EntryLaws.{sharing, entry_again, entry_again_is, own-some, some_is, leaves, IsBytes-drop}
 use Rattle.lsm_block.proofs.RestartLaws.{Fit, length-spelled}
@@ -171,17 +171,17 @@ word_is (r ∷ rs) (suc i) f h =
     ∙ ap (λ (xs : List ℕ). from_le_bytes w32 (take 4 xs)) d
     ∙ word_is rs i f.1 (omega (arith, h))
 
-restart_of : (text offsets : List ℕ) (es : List Entry) (p : Parts text offsets es) (i : ℕ) → i < length (0 ∷ p.restarts) → Splits text (get_or (0 ∷ p.restarts) i 0) p.starts es
+restart_of : (text offsets : List ℕ) (es : List Entry) (p : ArePartsOf text offsets es) (i : ℕ) → i < length (0 ∷ p.restarts) → Splits text (get_or (0 ∷ p.restarts) i 0) p.starts es
 restart_of text offsets es p zero h = record { front = []; rest = es; later = p.starts; parts = refl; spelled = p.spelled; onto = λ x lt c. c }
 restart_of text offsets es p (suc i) h = splits es 0 (get_or p.restarts i 0) [] text p.starts text p.spelled refl (restart_in p.starts 0 p.restarts i p.rises (omega (arith, h)))
 
-few_restarts : (text offsets : List ℕ) (es : List Entry) (p : Parts text offsets es) (i : ℕ) → i < length offsets / 4 → i < length (0 ∷ p.restarts)
+few_restarts : (text offsets : List ℕ) (es : List Entry) (p : ArePartsOf text offsets es) (i : ℕ) → i < length offsets / 4 → i < length (0 ∷ p.restarts)
 few_restarts text offsets es p i h = omega (arith, ap (λ (xs : List ℕ). length xs) p.offsets_are ∙ length-spelled (0 ∷ p.restarts), h)
 
-restart_at : (text offsets : List ℕ) (es : List Entry) (p : Parts text offsets es) (i : ℕ) → i < length offsets / 4 → word_of offsets i ≡ get_or (0 ∷ p.restarts) i 0
+restart_at : (text offsets : List ℕ) (es : List Entry) (p : ArePartsOf text offsets es) (i : ℕ) → i < length offsets / 4 → word_of offsets i ≡ get_or (0 ∷ p.restarts) i 0
 restart_at text offsets es p i h = ap (λ (xs : List ℕ). word_of xs i) p.offsets_are ∙ word_is (0 ∷ p.restarts) i (omega arith, p.fits) (few_restarts text offsets es p i h)
 
-pub restart_splits : (text offsets : List ℕ) (es : List Entry) (p : Parts text offsets es) (i : ℕ) → i < length offsets / 4 → Splits text (word_of offsets i) p.starts es
+pub restart_splits : (text offsets : List ℕ) (es : List Entry) (p : ArePartsOf text offsets es) (i : ℕ) → i < length offsets / 4 → Splits text (word_of offsets i) p.starts es
 restart_splits text offsets es p i h =
     subst (λ (n : ℕ). Splits text n p.starts es) (sym (restart_at text offsets es p i h)) (restart_of text offsets es p i (few_restarts text offsets es p i h))
 
@@ -197,7 +197,7 @@ below_there key text o front (x ∷ xs) es later p after s is sp e h =
     let below : is_lt (key_cmp (internal_key x) key) ≡ true = ap (λ (k : InternalKey). is_lt (key_cmp k key)) (sym of_key) ∙ h in
     sym (below_front front x xs key (subst Ascends is s) below) ∙ ap (not_below key) (sym is)
 
-pub low_moves : (key : InternalKey) (text offsets : List ℕ) (es : List Entry) (i : ℕ) (p : Piece) (after : List ℕ) → Parts text offsets es → i < length offsets / 4
+pub low_moves : (key : InternalKey) (text offsets : List ℕ) (es : List Entry) (i : ℕ) (p : Piece) (after : List ℕ) → ArePartsOf text offsets es → i < length offsets / 4
     → entry_at [] (drop (word_of offsets i) text) ≡ Some (p, after) → is_lt (key_cmp (key_at p.key) key) ≡ true
     → not_below key (readable (length text) [] (drop (word_of offsets i) text)) ≡ not_below key es
 low_moves key text offsets es i p after parts lt e h =
@@ -206,7 +206,7 @@ low_moves key text offsets es i p after parts lt e h =
     ap (not_below key) (reads_all sp.rest (length text) o [] (drop o text) sp.later sp.spelled (omega (arith, length-drop o text)))
     ∙ below_there key text o sp.front sp.rest es sp.later p after parts.ascends sp.parts sp.spelled e h
 
-pub low_starts : (key : InternalKey) (text offsets : List ℕ) (es : List Entry) → Parts text offsets es → not_below key (readable (length text) [] (drop (word_of offsets 0) text)) ≡ not_below key es
+pub low_starts : (key : InternalKey) (text offsets : List ℕ) (es : List Entry) → ArePartsOf text offsets es → not_below key (readable (length text) [] (drop (word_of offsets 0) text)) ≡ not_below key es
 low_starts key text offsets es p =
     let w : word_of offsets 0 ≡ 0 = ap (λ (xs : List ℕ). word_of xs 0) p.offsets_are ∙ word_is (0 ∷ p.restarts) 0 (omega arith, p.fits) (omega arith) in
     ap (λ (n : ℕ). not_below key (readable (length text) [] (drop n text))) w ∙ ap (not_below key) (reads_all es (length text) 0 [] text p.starts p.spelled (omega arith))
@@ -224,7 +224,7 @@ rises_up starts b rs zero (suc j) r lt h = rises_at starts b rs j r (omega (arit
 rises_up starts b [] (suc i) (suc j) r lt h = absurd (omega (arith, h))
 rises_up starts b (x ∷ rs) (suc i) (suc j) r lt h = rises_up starts x rs i j r.2 (omega (arith, lt)) (omega (arith, h))
 
-pub words_rise : (text offsets : List ℕ) (es : List Entry) → Parts text offsets es → (i j : ℕ) → i < j → j < length offsets / 4 → word_of offsets i < word_of offsets j
+pub words_rise : (text offsets : List ℕ) (es : List Entry) → ArePartsOf text offsets es → (i j : ℕ) → i < j → j < length offsets / 4 → word_of offsets i < word_of offsets j
 words_rise text offsets es p i j lt h =
     let a = restart_at text offsets es p i (omega (arith, lt, h)) in
     let b = restart_at text offsets es p j h in
@@ -254,13 +254,13 @@ ascends_rest : (front rest : List Entry) → Ascends (front ++ rest) → Ascends
 ascends_rest [] rest a = a
 ascends_rest (x ∷ front) rest a = ascends_rest front rest (ascends-tail x (front ++ rest) a)
 
-restart_there : (text offsets : List ℕ) (es : List Entry) (p : Parts text offsets es) (i j : ℕ) → i < j → j < length offsets / 4 → Contains p.starts (word_of offsets j)
+restart_there : (text offsets : List ℕ) (es : List Entry) (p : ArePartsOf text offsets es) (i j : ℕ) → i < j → j < length offsets / 4 → Contains p.starts (word_of offsets j)
 restart_there text offsets es p i zero lt h = absurd (omega (arith, lt))
 restart_there text offsets es p i (suc j) lt h =
     subst (Contains p.starts) (sym (restart_at text offsets es p (suc j) h)) (restart_in p.starts 0 p.restarts j p.rises (omega (arith, few_restarts text offsets es p (suc j) h)))
 
 -- Where the key at a restart is below a key, so are those at all restarts before it.
-pub earlier_below : (key : InternalKey) (text offsets : List ℕ) (es : List Entry) → Parts text offsets es → (i j : ℕ) → i < j → j < length offsets / 4
+pub earlier_below : (key : InternalKey) (text offsets : List ℕ) (es : List Entry) → ArePartsOf text offsets es → (i j : ℕ) → i < j → j < length offsets / 4
     → starts_below text (word_of offsets j) key ≡ true → starts_below text (word_of offsets i) key ≡ true
 earlier_below key text offsets es p i j lt h below =
     let o = word_of offsets i in
@@ -271,7 +271,7 @@ earlier_below key text offsets es p i j lt h below =
     parts_below key o n (drop o text) (drop n text) early.later late.later early.rest late.front late.rest
     (ascends_rest early.front early.rest (subst Ascends early.parts p.ascends)) late.parts early.spelled late.spelled below
 
-pub later_not_below : (key : InternalKey) (text offsets : List ℕ) (es : List Entry) → Parts text offsets es → (i j : ℕ) → i ≤ j → j < length offsets / 4
+pub later_not_below : (key : InternalKey) (text offsets : List ℕ) (es : List Entry) → ArePartsOf text offsets es → (i j : ℕ) → i ≤ j → j < length offsets / 4
     → starts_below text (word_of offsets i) key ≡ false → starts_below text (word_of offsets j) key ≡ false
 later_not_below key text offsets es p i j le h above =
     elim (cases_lt i j) [
@@ -293,7 +293,7 @@ below_read key text o h =
     ]
 
 -- a restart that stands beyond another has a greater index
-pub restart_beyond : (text offsets : List ℕ) (es : List Entry) → Parts text offsets es → (i j : ℕ) → i < length offsets / 4 → word_of offsets i < word_of offsets j → i < j
+pub restart_beyond : (text offsets : List ℕ) (es : List Entry) → ArePartsOf text offsets es → (i j : ℕ) → i < length offsets / 4 → word_of offsets i < word_of offsets j → i < j
 restart_beyond text offsets es p i j h lt =
     elim (cases_lt i j) [
       | inl less ↦ less

@@ -13,7 +13,7 @@ pub record HeldBlock : Type 0 where
   pub entries : List Entry
 
 -- a place in a block: an offset in the text, and the key of the entry before it, if one was read
-pub record Place : Type 0 where
+pub record Position : Type 0 where
   pub offset : ℕ
   pub last : Option InternalKey
 
@@ -22,7 +22,7 @@ bytes_of None = []
 bytes_of (Some key) = key_bytes key
 
 -- the entries of a block from a place on
-abbrev pub rest_of : HeldBlock → Place → List Entry
+abbrev pub rest_of : HeldBlock → Position → List Entry
 rest_of block place = readable (length block.text) (bytes_of place.last) (drop place.offset block.text)
 
 abbrev pub first_of : List Entry → Option Entry
@@ -66,7 +66,7 @@ last_after key (e ∷ es) = last_after (Some (internal_key e)) es
 
 -- What a step hands out: nothing where no entry is left, and the last key stays; and else the value
 -- of the next entry, whose key is then the last.
-abbrev pub Given : HeldBlock → Place → Place → Option (List ℕ) → Type 0
+abbrev pub Given : HeldBlock → Position → Position → Option (List ℕ) → Type 0
 Given block old new None = (rest_of block old ≡ []) × (rest_of block new ≡ []) × (new.last ≡ old.last)
 Given block old new (Some value) = (key : InternalKey) × (new.last ≡ Some key) × (rest_of block old ≡ entry_of key value ∷ rest_of block new)
 

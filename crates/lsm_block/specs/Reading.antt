@@ -62,13 +62,13 @@ unfoldable pub entry_at : List ℕ → List ℕ → Option (Piece × List ℕ)
 entry_at before text = numbers_at text >>= λ n. piece_of before n.0 n.1 n.2 n.3
 
 -- a piece and where it stands
-pub record Placed : Type 0 where
+pub record PieceAt : Type 0 where
   pub offset : ℕ
   pub piece : Piece
 
 -- what is read, and where nothing could be read
 pub record Scan : Type 0 where
-  pub placed : List Placed
+  pub placed : List PieceAt
   pub stop : Option ℕ
 
 abbrev pub nothing : Option ℕ → Scan
@@ -88,12 +88,12 @@ scan (suc count) total before (b ∷ bs) =
     scan_on (total - length (b ∷ bs)) (λ found. scan count total found.0.key found.1) (entry_at before (b ∷ bs))
 
 -- the starts of the pieces that share nothing
-unfoldable pub starts_of : List Placed → List ℕ
+unfoldable pub starts_of : List PieceAt → List ℕ
 starts_of [] = []
 starts_of (p ∷ ps) = start_at p.piece.shared p.offset ++ starts_of ps
 
 -- the entries of pieces
-abbrev pub entries_of : List Placed → List Entry
+abbrev pub entries_of : List PieceAt → List Entry
 entries_of placed = map (λ p. entry p.piece) placed
 
 -- ---- the restarts
@@ -146,7 +146,7 @@ if_not true offset later = later
 if_not false offset later = Some offset
 
 -- where the first entry stands that does not come after the one before it
-unfoldable pub disorder : List ℕ → List Placed → Option ℕ
+unfoldable pub disorder : List ℕ → List PieceAt → Option ℕ
 disorder before [] = None
 disorder before (p ∷ ps) = if_not (comes_after before p.piece.key) p.offset (disorder p.piece.key ps)
 

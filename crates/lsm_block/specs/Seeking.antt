@@ -32,7 +32,7 @@ abbrev pub word_of : List ℕ → ℕ → ℕ
 word_of bytes i = from_le_bytes w32 (take 4 (drop (4 * i) bytes))
 
 -- the text and the restart bytes of a block of the entries
-pub record Parts (text offsets : List ℕ) (entries : List Entry) : Type 0 where
+pub record ArePartsOf (text offsets : List ℕ) (entries : List Entry) : Type 0 where
   pub starts : List ℕ
   pub restarts : List ℕ
   pub spelled : Spells 0 [] text starts entries

@@ -4,7 +4,7 @@ use Rattle.std.specs.Prelude.{◌≡◌, ℕ, ◌-◌, ◌≤◌, Bool, true, fa
 use Rattle.lsm_codec.specs.Keys.{UserKey, InternalKey}
 use Rattle.lsm_codec.specs.Entries.{Entry, internal_key}
 use Rattle.lsm_block.specs.Block.{entry_of}
-use Rattle.lsm_block.specs.Held.{HeldBlock, Place, rest_of}
+use Rattle.lsm_block.specs.Held.{HeldBlock, Position, rest_of}
 
 -- the bytes of a text before an offset, so many
 abbrev pub bytes_before : List ℕ → ℕ → ℕ → List ℕ
@@ -22,7 +22,7 @@ StepStands text offset before offset' before' None = (offset' ≡ offset) × (be
 StepStands text offset before offset' before' (Some value) = EndsAt text offset' value
 
 -- the same of places
-abbrev pub Stands : List ℕ → Place → Place → Option (List ℕ) → Type 0
+abbrev pub Stands : List ℕ → Position → Position → Option (List ℕ) → Type 0
 Stands text old new None = new ≡ old
 Stands text old new (Some value) = EndsAt text new.offset value
 
@@ -35,12 +35,12 @@ with_key (Some key) value rest = entry_of key value ∷ rest
 
 -- The entries from the one on at which a cursor stands, whose value has this length; none where it
 -- stands at no entry.
-abbrev pub from_here : HeldBlock → Place → Option ℕ → List Entry
+abbrev pub from_here : HeldBlock → Position → Option ℕ → List Entry
 from_here block place None = []
 from_here block place (Some len) = with_key place.last (bytes_before block.text place.offset len) (rest_of block place)
 
 -- Where a cursor stands at an entry, it has that entry's key, and its value is in the text.
-abbrev pub IsStanding : HeldBlock → Place → Option ℕ → Type 0
+abbrev pub IsStanding : HeldBlock → Position → Option ℕ → Type 0
 IsStanding block place None = Unit {0}
 IsStanding block place (Some len) = IsSome place.last × (len ≤ place.offset) × (place.offset ≤ length block.text)
 
@@ -90,6 +90,6 @@ IsMovedBy (Some shared) old new = IsMoved true old new × SharesFront shared (us
 
 -- A step to the next entry of a block, whose value has this length: the cursor then stands at it;
 -- or it stays.
-abbrev pub StepsTo : HeldBlock → Place → Place → Option ℕ → Type 0
+abbrev pub StepsTo : HeldBlock → Position → Position → Option ℕ → Type 0
 StepsTo block old new None = (rest_of block old ≡ []) × (new ≡ old)
 StepsTo block old new (Some len) = (from_here block new (Some len) ≡ rest_of block old) × IsStanding block new (Some len)

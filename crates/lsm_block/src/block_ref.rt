@@ -28,14 +28,14 @@ pub struct BlockRef<'a> {
 }
 
 impl<'a> Model for BlockRef<'a> {
-    ghost use Rattle.lsm_block.specs.Seeking.{Parts};
+    ghost use Rattle.lsm_block.specs.Seeking.{ArePartsOf};
     ghost use Rattle.lsm_block.specs.Held.{HeldBlock, text_and_entries};
 
     ghost Value = { HeldBlock };
 
     ghost view = { λ b. text_and_entries b.text.now };
 
-    ghost invariant = { λ b. Parts b.text.now b.offsets.now (text_and_entries b.text.now).entries };
+    ghost invariant = { λ b. ArePartsOf b.text.now b.offsets.now (text_and_entries b.text.now).entries };
 }
 
 impl<'a> BlockRef<'a> {

@@ -5,7 +5,7 @@ ghost use Rattle.std.specs.Option.{option_map};
 ghost use Rattle.lsm_block.specs.Fault.{is_memory};
 ghost use Rattle.lsm_codec.specs.KeyRef.{key_of};
 ghost use Rattle.lsm_codec.specs.Entries.{Entry};
-ghost use Rattle.lsm_block.specs.Seeking.{not_below, Parts};
+ghost use Rattle.lsm_block.specs.Seeking.{not_below, ArePartsOf};
 ghost use Rattle.lsm_block.specs.Reading.{block_at};
 ghost use Rattle.lsm_codec.specs.Gives.{Fails};
 ghost use Rattle.lsm_block.specs.Held.{rest_of, text_and_entries, last_after, Holds, Given};
@@ -29,9 +29,9 @@ pub struct Cursor {
 }
 
 impl Model for Cursor {
-    ghost use Rattle.lsm_block.specs.Held.{Place, Kept, last_of};
+    ghost use Rattle.lsm_block.specs.Held.{Position, Kept, last_of};
 
-    ghost Value = { Place };
+    ghost Value = { Position };
 
     ghost view = { λ c. record { offset = c.offset; last = last_of c.before.items } };
 
@@ -129,7 +129,7 @@ impl Cursor {
         key: &KeyRef<'_>,
     ) -> Result<(), AllocError>
         requires { 4 ≤ length offsets.now }
-        ensures found { OnOk result ((es : List Entry) → Parts text.now offsets.now es → rest_of (text_and_entries text.now) self.new ≡ not_below (key_of key.now) es) }
+        ensures found { OnOk result ((es : List Entry) → ArePartsOf text.now offsets.now es → rest_of (text_and_entries text.now) self.new ≡ not_below (key_of key.now) es) }
         ensures err { OnErr result (self.new ≡ record { offset = 0; last = None }) }
     {
         self.restart();

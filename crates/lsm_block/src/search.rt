@@ -4,7 +4,7 @@ ghost use Rattle.std.specs.Prelude.{◌≡◌, [], ◌*◌, ◌+◌, ◌/◌, �
 ghost use Rattle.std.specs.Option.{option_map};
 ghost use Rattle.lsm_codec.specs.KeyRef.{key_of};
 ghost use Rattle.lsm_codec.specs.Entries.{Entry};
-ghost use Rattle.lsm_block.specs.Seeking.{readable, not_below, word_of, Parts, starts_below, StartsSearch, Steps};
+ghost use Rattle.lsm_block.specs.Seeking.{readable, not_below, word_of, ArePartsOf, starts_below, StartsSearch, Steps};
 ghost use Rattle.lsm_block.specs.Held.{Kept, last_of};
 ghost use Rattle.lsm_block.specs.Standing.{StepStands, SharesFront};
 
@@ -50,8 +50,8 @@ fn starts_below(text: &[u8], restart: usize, key: &KeyRef<'_>) -> bool
 pub(crate) fn find_restart(text: &[u8], offsets: &[u8], key: &KeyRef<'_>) -> usize
     requires { 4 ≤ length offsets.now }
     ensures restart { StartsSearch text.now offsets.now (key_of key.now) result }
-    ensures same { (es : List Entry) → Parts text.now offsets.now es → not_below (key_of key.now) (readable (length text.now) [] (drop result text.now)) ≡ not_below (key_of key.now) es }
-    ensures last { (es : List Entry) → Parts text.now offsets.now es → (i : ℕ) → i < length offsets.now / 4 → result < word_of offsets.now i → starts_below text.now (word_of offsets.now i) (key_of key.now) ≡ false }
+    ensures same { (es : List Entry) → ArePartsOf text.now offsets.now es → not_below (key_of key.now) (readable (length text.now) [] (drop result text.now)) ≡ not_below (key_of key.now) es }
+    ensures last { (es : List Entry) → ArePartsOf text.now offsets.now es → (i : ℕ) → i < length offsets.now / 4 → result < word_of offsets.now i → starts_below text.now (word_of offsets.now i) (key_of key.now) ≡ false }
 {
     let mut low: usize = 0;
     let mut high: usize = offsets.len() / 4 - 1;

@@ -5,20 +5,20 @@ use Rattle.lsm_table.specs.declared.handle.Handle.{Handle}
 use Rattle.lsm_reader.specs.Blocks.{last_part, stored_block}
 
 -- a block of an image: its place, and the entries that were read there
-pub record Part : Type 0 where
+pub record BlockOf : Type 0 where
   pub image : List ℕ
   pub handle : Handle
   pub entries : List Entry
 
 -- the block that stands at that place
-abbrev pub IsPart : Part → Type 0
-IsPart p = stored_block p.image p.handle ≡ Ok p.entries
+abbrev pub IsBlockOf : BlockOf → Type 0
+IsBlockOf p = stored_block p.image p.handle ≡ Ok p.entries
 
 -- the bytes that were read of the end of an image
-pub record End : Type 0 where
+pub record FooterOf : Type 0 where
   pub image : List ℕ
   pub footer : List ℕ
 
 -- its footer
-abbrev pub IsEnd : End → Type 0
-IsEnd e = last_part e.image ≡ Ok e.footer
+abbrev pub IsFooterOf : FooterOf → Type 0
+IsFooterOf e = last_part e.image ≡ Ok e.footer

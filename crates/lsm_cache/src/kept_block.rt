@@ -17,11 +17,11 @@ pub struct KeptBlock<N: Naming, S: Shelf> {
 impl<N: Naming, S: Shelf> Model for KeptBlock<N, S> {
     ghost use Rattle.std.specs.Arc.{arc_value};
     ghost use Rattle.lsm_block.specs.Held.{HeldBlock};
-    ghost use Rattle.lsm_cache.specs.Parts.{Part, IsPart};
+    ghost use Rattle.lsm_cache.specs.Parts.{BlockOf, IsBlockOf};
 
-    ghost Value = { Part };
+    ghost Value = { BlockOf };
 
     ghost view = { λ k. record { image = S.Receipt.image k.receipt; handle = k.handle; entries = (arc_value {X = HeldBlock} k.block).entries } };
 
-    ghost invariant = { λ k. S.is_of N.place k.receipt × (S.honest → IsPart record { image = S.Receipt.image k.receipt; handle = k.handle; entries = (arc_value {X = HeldBlock} k.block).entries }) };
+    ghost invariant = { λ k. S.is_of N.place k.receipt × (S.honest → IsBlockOf record { image = S.Receipt.image k.receipt; handle = k.handle; entries = (arc_value {X = HeldBlock} k.block).entries }) };
 }

@@ -12,13 +12,13 @@ pub struct KeptFooter<N: Naming, S: Shelf> {
 }
 
 impl<N: Naming, S: Shelf> Model for KeptFooter<N, S> {
-    ghost use Rattle.lsm_cache.specs.Parts.{End, IsEnd};
+    ghost use Rattle.lsm_cache.specs.Parts.{FooterOf, IsFooterOf};
 
-    ghost Value = { End };
+    ghost Value = { FooterOf };
 
     ghost view = { λ k. record { image = S.Receipt.image k.receipt; footer = k.footer } };
 
-    ghost invariant = { λ k. S.is_of N.place k.receipt × (S.honest → IsEnd record { image = S.Receipt.image k.receipt; footer = k.footer }) };
+    ghost invariant = { λ k. S.is_of N.place k.receipt × (S.honest → IsFooterOf record { image = S.Receipt.image k.receipt; footer = k.footer }) };
 }
 
 /// Whether a footer names this place as that of its index block.

@@ -10,7 +10,7 @@ use Rattle.lsm_table.specs.Registry.{Table}
 use Rattle.lsm_manifest.specs.EditFit.{Change}
 use Rattle.lsm_manifest.specs.FileOrder.{TableFile}
 use Rattle.lsm_manifest.specs.Last.{last_by}
-use Rattle.lsm_manifest.specs.Replay.{AreApart, AreFresh, Deletion, Placed, deletion_of, pointer_in}
+use Rattle.lsm_manifest.specs.Replay.{AreApart, AreFresh, Deletion, FileAt, deletion_of, pointer_in}
 use Rattle.lsm_manifest.specs.WholeEdit.{placed_at}
 use Rattle.lsm_manifest.proofs.CallerLemmas.{fresh_new, one_file_a_number, pointer_in-none}
 use Rattle.lsm_version.specs.Changes.{changed, levels_after, with_pointer}
@@ -46,10 +46,10 @@ has_map f (y ∷ xs) x (inl e) = inl (ap f e)
 has_map f (y ∷ xs) x (inr h) = inr (has_map f xs x h)
 
 -- files of different numbers are apart
-pub apart_from : (xs : List Placed) → AreDistinct (map (λ a. a.file.number) xs) → AreApart xs
+pub apart_from : (xs : List FileAt) → AreDistinct (map (λ a. a.file.number) xs) → AreApart xs
 apart_from [] d = tt
 apart_from (a ∷ xs) d = (
-  λ b h e. front_alone a.file.number (map (λ x. x.file.number) xs) d (subst (λ (n : ℕ). Has (map (λ (x : Placed). x.file.number) xs) n) (sym e) (has_map (λ (x : Placed). x.file.number) xs b h)),
+  λ b h e. front_alone a.file.number (map (λ x. x.file.number) xs) d (subst (λ (n : ℕ). Has (map (λ (x : FileAt). x.file.number) xs) n) (sym e) (has_map (λ (x : FileAt). x.file.number) xs b h)),
   apart_from xs (tail_distinct a.file.number (map (λ x. x.file.number) xs) d),
 )
 
@@ -119,7 +119,7 @@ deleted_here edits d v c s n t h k =
     let same : placed_at n (meta_of t) ≡ placed_at r.0.level (meta_of there.0) =
     one_file_a_number edits c.innocent (placed_at n (meta_of t)) (placed_at r.0.level (meta_of there.0)) ((c.files n (meta_of t)).0 (t, h, refl)) ((c.files r.0.level (meta_of there.0)).0 (there.0, there.1, refl))
     (sym (there.2 ∙ r.2)) in
-    subst (λ (k : ℕ). Has d.deleted (record { level = k; number = t.number })) (sym (ap (λ (a : Placed). a.level) same))
+    subst (λ (k : ℕ). Has d.deleted (record { level = k; number = t.number })) (sym (ap (λ (a : FileAt). a.level) same))
     (subst (λ (m : ℕ). Has d.deleted (record { level = r.0.level; number = m })) r.2 r.1)
 
 numbered : (ds : List Deletion) (level : ℕ) (file : TableFile) → Has ds (deletion_of (placed_at level file)) → Has (map (λ x. x.number) ds) file.number
@@ -147,7 +147,7 @@ difference_turns law edits h d v next c own fits s = record {
         let x = map_has placed d.added b hb in
         s.fresh x.0.0 a.level x.0.1 f.0 x.1 f.1
         (λ k. gone (subst (λ (m : ℕ). Has d.deleted (record { level = a.level; number = m })) (ap (λ (m : TableFile). m.number) f.2) (deleted_here edits d v c s a.level f.0 f.1 k)))
-        (ap (λ (m : TableFile). m.number) f.2 ∙ e ∙ sym (ap (λ (y : Placed). y.file.number) x.2))
+        (ap (λ (m : TableFile). m.number) f.2 ∙ e ∙ sym (ap (λ (y : FileAt). y.file.number) x.2))
 
     there : (level : ℕ) (file : TableFile) → IsFileAt (changed_by d v) level file
         → (IsFileAt v level file × (Has d.deleted (deletion_of (placed_at level file)) → ⊥)) ⊎ Has (map placed d.added) (placed_at level file)
@@ -172,4 +172,4 @@ difference_turns law edits h d v next c own fits s = record {
         let low = (all_at FitsComing d.added x.0 fits.added x.1).0 in
         let lt : x.0.0 < length v.tables = let seven = own.seven in omega arith in
         let f : IsFileAt (changed_by d v) x.0.0 (meta_of x.0.1) = (x.0.1, (law (deleted_numbers d) d.added d.pointer d.last v x.0.0 x.0.1 lt).1 (inr x.1), refl) in
-        subst (λ (y : Placed). IsFileAt (changed_by d v) y.level y.file) x.2 f
+        subst (λ (y : FileAt). IsFileAt (changed_by d v) y.level y.file) x.2 f

@@ -8,18 +8,18 @@ use Rattle.lsm_codec.proofs.CallerLemmas.{all_at}
 use Rattle.lsm_manifest.specs.declared.parts.CompactPointer.{CompactPointer}
 use Rattle.lsm_manifest.specs.EditFit.{Change, FitsAdded, FitsKey, FitsPointer, IsFit}
 use Rattle.lsm_manifest.specs.Last.{last_by}
-use Rattle.lsm_manifest.specs.Replay.{Placed, Stands, last_pointer, pointer_in}
+use Rattle.lsm_manifest.specs.Replay.{FileAt, Stands, last_pointer, pointer_in}
 use Rattle.lsm_manifest.specs.WholeEdit.{placed_at}
 use Rattle.lsm_version.specs.Versions.{Levels}
 use Rattle.lsm_journal.specs.Recorded.{FitsLevels, IsStanding, meta_of}
 
-stands_added : (es : List Change) (a : Placed) → Stands es a → (e : Change) × Has es e × Has e.added a
+stands_added : (es : List Change) (a : FileAt) → Stands es a → (e : Change) × Has es e × Has e.added a
 stands_added [] a h = absurd h
 stands_added (e ∷ es) a (inl h) = (e, inl refl, h.0)
 stands_added (e ∷ es) a (inr h) = let r = stands_added es a h in (r.0, inr r.1, r.2)
 
 -- what stands fits
-pub standing_fits : (es : List Change) (a : Placed) → All IsFit es → Stands es a → FitsAdded a
+pub standing_fits : (es : List Change) (a : FileAt) → All IsFit es → Stands es a → FitsAdded a
 standing_fits es a all h =
     let r = stands_added es a h in
     all_at FitsAdded r.0.added a (all_at IsFit es r.0 all r.1).added r.2

@@ -13,7 +13,7 @@ use Rattle.lsm_manifest.specs.EditFit.{Change, FitsAdded, FitsDeleted, FitsKey, 
 use Rattle.lsm_manifest.specs.EditWriting.{AreInOrder}
 use Rattle.lsm_manifest.specs.FileOrder.{TableFile, file_cmp}
 use Rattle.lsm_manifest.specs.Last.{last_by}
-use Rattle.lsm_manifest.specs.Replay.{Placed, pointer_in}
+use Rattle.lsm_manifest.specs.Replay.{FileAt, pointer_in}
 use Rattle.lsm_manifest.specs.Shape.{Form, IsShape}
 use Rattle.lsm_manifest.specs.WholeEdit.{placed_at, pointers_from, whole_edit}
 use Rattle.lsm_manifest.specs.WholeEdit as manifest
@@ -46,8 +46,8 @@ placed_numbers level (t ∷ ts) = ap (λ ns. t.number ∷ ns) (placed_numbers le
 whole_numbers : (level : ℕ) (tables : List (List Table)) → map (λ a. a.file.number) (manifest.files_from level (metas_of tables)) ≡ map (λ F. F.number) (version.files_from level tables)
 whole_numbers level [] = refl
 whole_numbers level (ts ∷ tables) =
-    map-append (λ (a : Placed). a.file.number) (map (placed_at level) (map meta_of ts)) (manifest.files_from (suc level) (metas_of tables))
-    ∙ ap (λ ns. ns ++ map (λ (a : Placed). a.file.number) (manifest.files_from (suc level) (metas_of tables))) (placed_numbers level ts)
+    map-append (λ (a : FileAt). a.file.number) (map (placed_at level) (map meta_of ts)) (manifest.files_from (suc level) (metas_of tables))
+    ∙ ap (λ ns. ns ++ map (λ (a : FileAt). a.file.number) (manifest.files_from (suc level) (metas_of tables))) (placed_numbers level ts)
     ∙ ap (λ ns. map (λ F. F.number) (files_of level ts) ++ ns) (whole_numbers (suc level) tables)
     ∙ sym (map-append (λ F. F.number) (files_of level ts) (version.files_from (suc level) tables))
 

@@ -6,7 +6,7 @@ use Rattle.lsm_manifest.specs.declared.parts.CompactPointer.{CompactPointer}
 use Rattle.lsm_manifest.specs.EditFit.{Change}
 use Rattle.lsm_manifest.specs.EditWriting.{edit_text}
 use Rattle.lsm_manifest.specs.LogWriting.{record_text}
-use Rattle.lsm_manifest.specs.Replay.{Placed}
+use Rattle.lsm_manifest.specs.Replay.{FileAt}
 use Rattle.lsm_manifest.specs.Shape.{Form}
 use Rattle.lsm_manifest.specs.WholeEdit.{placed_at, whole_edit}
 use Rattle.lsm_version.specs.Versions.{Levels}
@@ -37,7 +37,7 @@ created limit = record { number = 1; bytes = record_of [] first_edit; log = 0; p
 
 -- ---- a change
 
-abbrev pub placed : ℕ × Table → Placed
+abbrev pub placed : ℕ × Table → FileAt
 placed a = placed_at a.0 (meta_of a.1)
 
 abbrev pub pointers_of : Option (ℕ × List ℕ) → List CompactPointer

@@ -11,7 +11,7 @@ use Rattle.lsm_codec.proofs.CallerLemmas.{IsBytes}
 use Rattle.lsm_manifest.specs.declared.log_fault.LogFault.{LogFault}
 use Rattle.lsm_manifest.specs.declared.log_fault.LogFault.TheVariants.{LogChecksum, LogOrder, LogType}
 use Rattle.lsm_manifest.specs.Log.{left, sum_bytes, fragment, size_of, kind_of, may_follow, IsPiece, IsFiller, IsEnd}
-use Rattle.lsm_manifest.specs.LogReading.{Found, skipped, filler_at, checked_at, framed_at, found_at}
+use Rattle.lsm_manifest.specs.LogReading.{LogPart, skipped, filler_at, checked_at, framed_at, found_at}
 
 -- ---- the bytes of a fragment
 
@@ -79,18 +79,18 @@ pub record Pieced (offset : ℕ) (text : List ℕ) (kind : ℕ) (body rest : Lis
   pub text_is : text ≡ fragment kind body ++ rest
   pub fits : 7 + length body ≤ left offset
 
-abbrev pub IsFound : ℕ → Bool → List ℕ → Found → Type 0
+abbrev pub IsFound : ℕ → Bool → List ℕ → LogPart → Type 0
 IsFound offset begun text None = IsEnd offset begun [] text
 IsFound offset begun text (Some x) = ((x.0 ≡ 0) × Skipped offset begun text x.2) ⊎ ((x.0 ≡ 0 → ⊥) × Pieced offset text x.0 x.1 x.2)
 
-abbrev got : Found → Result Found LogFault
+abbrev got : LogPart → Result LogPart LogFault
 got f = Ok f
 
-got_is : (f g : Found) → got f ≡ got g → f ≡ g
+got_is : (f g : LogPart) → got f ≡ got g → f ≡ g
 got_is f g e = cc
 
 -- a test that a reader makes
-if_ok : (b : Bool) (x y : Result Found LogFault) (f : Found) → cond b x y ≡ Ok f → ((b ≡ true) × (x ≡ Ok f)) ⊎ ((b ≡ false) × (y ≡ Ok f))
+if_ok : (b : Bool) (x y : Result LogPart LogFault) (f : LogPart) → cond b x y ≡ Ok f → ((b ≡ true) × (x ≡ Ok f)) ⊎ ((b ≡ false) × (y ≡ Ok f))
 if_ok true x y f e = inl (refl, e)
 if_ok false x y f e = inr (refl, e)
 
@@ -108,7 +108,7 @@ size_of-front own rest long =
 kind_of-front : (own rest : List ℕ) → 7 ≤ length own → kind_of (own ++ rest) ≡ kind_of own
 kind_of-front own rest long = get_or_append_left own rest 0 6 (omega arith)
 
-filler_takes : (offset : ℕ) (begun : Bool) (text : List ℕ) (f : Found) → 7 ≤ length text → 7 ≤ left offset → size_of text ≡ 0 → kind_of text ≡ 0
+filler_takes : (offset : ℕ) (begun : Bool) (text : List ℕ) (f : LogPart) → 7 ≤ length text → 7 ≤ left offset → size_of text ≡ 0 → kind_of text ≡ 0
     → filler_at offset begun text ≡ Ok f → IsFound offset begun text f
 unfolding filler_at
 filler_takes offset true text f long room size kind e = absurd cc
@@ -132,7 +132,7 @@ filler_takes offset false text f long room size kind e =
           subst (IsFound offset false text) (got_is (skipped offset text) f within.1) (skipped_takes offset false text (omega arith) (inr filler))
     ]
 
-checked_takes : (offset : ℕ) (begun : Bool) (text : List ℕ) (f : Found) → IsBytes text → 7 + size_of text ≤ left offset → 7 + size_of text ≤ length text
+checked_takes : (offset : ℕ) (begun : Bool) (text : List ℕ) (f : LogPart) → IsBytes text → 7 + size_of text ≤ left offset → 7 + size_of text ≤ length text
     → checked_at offset text (size_of text) (kind_of text) ≡ Ok f → IsFound offset begun text f
 unfolding checked_at
 checked_takes offset begun text f fits room long e =
@@ -163,7 +163,7 @@ cut_off size room len le e =
       | inr b ↦ leb-false size len b
     ]
 
-framed_takes : (offset : ℕ) (begun : Bool) (text : List ℕ) (f : Found) → IsBytes text → 7 ≤ length text → 7 ≤ left offset
+framed_takes : (offset : ℕ) (begun : Bool) (text : List ℕ) (f : LogPart) → IsBytes text → 7 ≤ length text → 7 ≤ left offset
     → framed_at offset begun text (size_of text) (kind_of text) ≡ Ok f → IsFound offset begun text f
 unfolding framed_at
 framed_takes offset begun text f fits long room e =
@@ -190,7 +190,7 @@ framed_takes offset begun text f fits long room e =
           ]
     ]
 
-pub found_takes : (offset : ℕ) (begun : Bool) (text : List ℕ) (f : Found) → IsBytes text → found_at offset begun text ≡ Ok f → IsFound offset begun text f
+pub found_takes : (offset : ℕ) (begun : Bool) (text : List ℕ) (f : LogPart) → IsBytes text → found_at offset begun text ≡ Ok f → IsFound offset begun text f
 unfolding found_at
 found_takes offset begun text f fits e =
     let framed = framed_at offset begun text (size_of text) (kind_of text) in

@@ -8,11 +8,11 @@ use Rattle.lsm_manifest.specs.Log.{may_follow, ends}
 use Rattle.lsm_manifest.specs.declared.fragment.FragmentType.{FragmentType}
 use Rattle.lsm_manifest.specs.declared.fragment.FragmentType.TheVariants.{Full, First, Middle, Last}
 use Rattle.lsm_manifest.specs.LogView.{Fails, type_byte}
-use Rattle.lsm_manifest.specs.LogReading.{Found, Next, Whole, on_found, on_next, with_records, found_at, record_at, records_at}
+use Rattle.lsm_manifest.specs.LogReading.{LogPart, Next, Whole, on_found, on_next, with_records, found_at, record_at, records_at}
 
 -- ---- the parts of a record
 
-abbrev got : Found → Result Found LogFault
+abbrev got : LogPart → Result LogPart LogFault
 got f = Ok f
 
 -- What is left to read gives what reading gives from the start.
@@ -20,7 +20,7 @@ pub record Goes (all : Result Next LogFault) (count i total : ℕ) (begun : Bool
   pub same : record_at (count - i) total begun before rest ≡ all
   pub shorter : length rest ≤ count
 
-abbrev stepped : ℕ → ℕ → ℕ → Bool → List ℕ → List ℕ → Result Found LogFault → Result Next LogFault
+abbrev stepped : ℕ → ℕ → ℕ → Bool → List ℕ → List ℕ → Result LogPart LogFault → Result Next LogFault
 stepped count i total begun before rest f = on_found (total - length rest) begun before (record_at (count - (i + 1)) total) f
 
 step : (all : Result Next LogFault) (count i total : ℕ) (begun : Bool) (before rest : List ℕ) → i < count → Goes all count i total begun before rest

@@ -6,7 +6,7 @@ use Rattle.lsm_codec.proofs.CallerLemmas.{IsBytes}
 use Rattle.lsm_manifest.specs.declared.log_fault.LogFault.{LogFault}
 use Rattle.lsm_manifest.specs.declared.log_fault.LogFault.TheVariants.{LogOrder}
 use Rattle.lsm_manifest.specs.Log.{fragment, may_follow, ends, IsPiece, IsFiller, IsEnd, Skips, Adds, Part, Row, IsLast, IsRecord, HoldsNone, LogFrom, IsLog}
-use Rattle.lsm_manifest.specs.LogReading.{Found, Next, Whole, on_found, placed, on_next, with_records, found_at, record_at, records_at, log_at}
+use Rattle.lsm_manifest.specs.LogReading.{LogPart, Next, Whole, on_found, placed, on_next, with_records, found_at, record_at, records_at, log_at}
 use Rattle.lsm_manifest.proofs.FragmentLaws.{Skipped, Pieced, found_takes, piece_again, skip_again, end_again, kind_fits, length-fragment}
 
 pub IsBytes-after : (bytes front rest : List ℕ) → bytes ≡ front ++ rest → IsBytes bytes → IsBytes rest
@@ -93,7 +93,7 @@ on_pieced count total begun before text kind body rest r later fuel within fits 
     ]
 
 on_found_takes : (count total : ℕ) (begun : Bool) (before text : List ℕ) (r : Next) → Later count total → length text ≤ suc count → length text ≤ total → IsBytes text
-    → (f : Result Found LogFault) → found_at (total - length text) begun text ≡ f → on_found (total - length text) begun before (record_at count total) f ≡ Ok r
+    → (f : Result LogPart LogFault) → found_at (total - length text) begun text ≡ f → on_found (total - length text) begun before (record_at count total) f ≡ Ok r
     → NextIs (total - length text) begun before text r
 on_found_takes count total begun before text r later fuel within fits (Err d) is e = absurd cc
 on_found_takes count total begun before text r later fuel within fits (Ok None) is e =
@@ -129,7 +129,7 @@ own_some offset begun before text p = elim p.passes [
   | inr a ↦ omega (arith, ap length a.piece.own_is, length-fragment a.kind a.body)
 ]
 
-abbrev on : ℕ → ℕ → ℕ → Bool → List ℕ → Result Found LogFault → Result Next LogFault
+abbrev on : ℕ → ℕ → ℕ → Bool → List ℕ → Result LogPart LogFault → Result Next LogFault
 on offset count total begun before f = on_found offset begun before (record_at count total) f
 
 -- one part more

@@ -8,28 +8,28 @@ use Rattle.lsm_manifest.specs.Log.{left, sum_bytes, size_of, kind_of, may_follow
 
 -- What stands at a place: nothing whole (None), or kind, data and what follows. Kind 0 is a part
 -- that is skipped.
-abbrev pub Found : Type 0
-Found = Option (ℕ × List ℕ × List ℕ)
+abbrev pub LogPart : Type 0
+LogPart = Option (ℕ × List ℕ × List ℕ)
 
-abbrev pub skipped : ℕ → List ℕ → Found
+abbrev pub skipped : ℕ → List ℕ → LogPart
 skipped offset text = Some (0, [], drop (left offset) text)
 
 -- zeros in a header's place
-unfoldable pub filler_at : ℕ → Bool → List ℕ → Result Found LogFault
+unfoldable pub filler_at : ℕ → Bool → List ℕ → Result LogPart LogFault
 filler_at offset begun text =
     if begun then Err (LogOrder offset)
     else if nat_le (length text) (left offset) then Ok None
     else Ok (skipped offset text)
 
 -- a fragment that lies within its block and the file
-unfoldable pub checked_at : ℕ → List ℕ → ℕ → ℕ → Result Found LogFault
+unfoldable pub checked_at : ℕ → List ℕ → ℕ → ℕ → Result LogPart LogFault
 checked_at offset text size kind =
     if bytes_eq (take 4 text) (sum_bytes kind (take size (drop 7 text)))
     then if kind == 0 || nat_lt 4 kind then Err (LogType offset) else Ok (Some (kind, take size (drop 7 text), drop size (drop 7 text)))
     else Err (LogChecksum offset)
 
 -- a header of this length and kind
-unfoldable pub framed_at : ℕ → Bool → List ℕ → ℕ → ℕ → Result Found LogFault
+unfoldable pub framed_at : ℕ → Bool → List ℕ → ℕ → ℕ → Result LogPart LogFault
 framed_at offset begun text size kind =
     if kind == 0 && size == 0 then filler_at offset begun text
     else if nat_le (7 + size) (left offset) && nat_le (7 + size) (length text) then checked_at offset text size kind
@@ -37,7 +37,7 @@ framed_at offset begun text size kind =
     else Err (LogOrder offset)
 
 -- what stands at a place
-unfoldable pub found_at : ℕ → Bool → List ℕ → Result Found LogFault
+unfoldable pub found_at : ℕ → Bool → List ℕ → Result LogPart LogFault
 found_at offset begun text =
     if nat_lt (length text) 7 then Ok None
     else if nat_lt (left offset) 7 then Ok (skipped offset text)
@@ -52,7 +52,7 @@ abbrev pub placed : ℕ → Bool → List ℕ → ℕ → List ℕ → List ℕ 
 placed offset begun before kind body rest later =
     if may_follow begun before kind then (if ends kind then Ok (Some (before ++ body, rest)) else later) else Err (LogOrder offset)
 
-abbrev pub on_found : ℕ → Bool → List ℕ → (Bool → List ℕ → List ℕ → Result Next LogFault) → Result Found LogFault → Result Next LogFault
+abbrev pub on_found : ℕ → Bool → List ℕ → (Bool → List ℕ → List ℕ → Result Next LogFault) → Result LogPart LogFault → Result Next LogFault
 on_found offset begun before later (Err e) = Err e
 on_found offset begun before later (Ok None) = Ok None
 on_found offset begun before later (Ok (Some x)) =

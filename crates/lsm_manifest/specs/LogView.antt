@@ -8,7 +8,7 @@ use Rattle.lsm_manifest.specs.declared.fragment.FragmentType.TheVariants.{Full, 
 use Rattle.lsm_manifest.specs.declared.log_part.LogPart.{LogPart as Held}
 use Rattle.lsm_manifest.specs.declared.log_part.LogPart.TheVariants as held
 use Rattle.lsm_manifest.specs.declared.log.Log.{Log}
-use Rattle.lsm_manifest.specs.LogReading.{Found}
+use Rattle.lsm_manifest.specs.LogReading.{LogPart}
 
 abbrev pub is_memory : LogFault → Bool
 is_memory OutOfMemory = true
@@ -32,7 +32,7 @@ type_byte Middle = 3
 type_byte Last = 4
 
 -- what stands at a place, without where it lies in memory
-abbrev pub found_of : Held → Found
+abbrev pub found_of : Held → LogPart
 found_of held.End = None
 found_of (held.Skipped rest) = Some (0, [], rest.now)
 found_of (held.Fragment kind body rest) = Some (type_byte kind, body.now, rest.now)

@@ -15,8 +15,8 @@ abbrev pub Deletion : Type 0
 Deletion = DeletedFile
 
 -- a file at a level, under a name that no type of src/ has
-abbrev pub Placed : Type 0
-Placed = AddedFile
+abbrev pub FileAt : Type 0
+FileAt = AddedFile
 
 -- what deletes a file
 abbrev pub deletion_of : AddedFile → DeletedFile

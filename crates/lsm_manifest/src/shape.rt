@@ -3,7 +3,7 @@
 ghost use Rattle.std.specs.Prelude.{◌≡◌, ◌≤◌, ◌↔◌, ◌++◌, ◌∷◌, ℕ, List, [], None, get_or, IfOk, IfErr};
 ghost use Rattle.std.specs.Option.{option_or};
 ghost use Rattle.lsm_manifest.specs.EditFit.{Change};
-ghost use Rattle.lsm_manifest.specs.Replay.{Deletion, Placed, AreNew, AreApart, AreFresh, Stands, StandsIn, IsInnocent, AreInnocent, IsFault, last_log, last_prev_log, last_next, last_sequence, last_pointer, pointer_in};
+ghost use Rattle.lsm_manifest.specs.Replay.{Deletion, FileAt, AreNew, AreApart, AreFresh, Stands, StandsIn, IsInnocent, AreInnocent, IsFault, last_log, last_prev_log, last_next, last_sequence, last_pointer, pointer_in};
 ghost use Rattle.lsm_manifest.specs.Standing.{file_at, Tracks};
 
 use crate::edit::Edit;
@@ -81,13 +81,13 @@ pub fn one_shape()
 
 /// A law: where no edit has a fault, no two files that stand have one number.
 pub fn one_file_a_number()
-    ensures { (es : List Change) → AreInnocent es → (a b : Placed) → Stands es a → Stands es b → a.file.number ≡ b.file.number → a ≡ b }
+    ensures { (es : List Change) → AreInnocent es → (a b : FileAt) → Stands es a → Stands es b → a.file.number ≡ b.file.number → a ≡ b }
 {}
 
 /// A law: additions have new numbers where no two of them have one, and none of the files that
 /// stand when they come has one.
 pub fn fresh_additions()
-    ensures { (es : List Change) (ds : List Deletion) (xs : List Placed) → AreApart xs → AreFresh es ds xs → AreNew es ds xs }
+    ensures { (es : List Change) (ds : List Deletion) (xs : List FileAt) → AreApart xs → AreFresh es ds xs → AreNew es ds xs }
 {}
 
 /// A law: what stands after one edit more, when it has no fault, and the last values then.
@@ -98,7 +98,7 @@ pub fn one_more_edit()
     ensures next { (es : List Change) (e : Change) → last_next (es ++ e ∷ []) ≡ option_or e.next (last_next es) }
     ensures last { (es : List Change) (e : Change) → last_sequence (es ++ e ∷ []) ≡ option_or e.last (last_sequence es) }
     ensures pointer { (level : ℕ) (es : List Change) (e : Change) → last_pointer level (es ++ e ∷ []) ≡ option_or (pointer_in level e.pointers) (last_pointer level es) }
-    ensures stands { (es : List Change) (e : Change) (a : Placed) → Stands (es ++ e ∷ []) a ↔ StandsIn es e.deleted e.added a }
+    ensures stands { (es : List Change) (e : Change) (a : FileAt) → Stands (es ++ e ∷ []) a ↔ StandsIn es e.deleted e.added a }
 {}
 
 /// The files that stand after the edits.

@@ -1,6 +1,7 @@
 pub mod ShelfFault
 pub mod Told
 pub mod Account
+pub mod Asked
 pub mod Directory
 pub mod MemoryShelf
 pub mod FileNames

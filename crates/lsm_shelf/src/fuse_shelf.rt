@@ -2,7 +2,8 @@
 
 ghost use Rattle.std.specs.Prelude.{◌≡◌};
 ghost use Rattle.lsm_shelf.specs.Account.{told_in};
-ghost use Rattle.lsm_shelf.specs.Told.{NotTaken, fresh};
+ghost use Rattle.lsm_shelf.specs.Asked.{MayRefuse};
+ghost use Rattle.lsm_shelf.specs.Told.{fresh};
 
 use crate::account::{
     Account, tag_of_both, tag_of_bytes, tag_of_more, tag_of_number, tag_of_numbers,
@@ -54,7 +55,7 @@ impl<S: Shelf> Shelf for FuseShelf<S> {
 
     ghost is_of = { S.is_of };
 
-    ghost refuses = { λ p number fault. NotTaken fault };
+    ghost refuses = { λ p asked fault. MayRefuse asked fault };
 
     fn put<R: Wait>(
         &mut self,

@@ -15,6 +15,7 @@ use std::sync::Wait;
 /// `OutOfMemory` with a count that rose (`cause`), and that it counted its answer exactly (`counts`).
 pub trait Shelf: Drop + Send + Sync {
     ghost use Rattle.lsm_shelf.specs.declared.shelf_fault.ShelfFault.{ShelfFault};
+    ghost use Rattle.lsm_shelf.specs.Asked.{Asked, Put, ReadAt, Load, Remove, ListTables, ReadManifest, StartManifest, AppendManifest};
     ghost use Rattle.lsm_shelf.specs.Told.{Place, Told, Becomes, Counted, CountedBy, NotTaken, NotNamed, TakenIs, putting, removed_by, listing, sending, appending, finding, forking, fresh};
 
     /// What stands for an image that was put or loaded.
@@ -29,8 +30,9 @@ pub trait Shelf: Drop + Send + Sync {
     /// The receipt is of these contents.
     ghost is_of: { Place → Self.Receipt → Type 0 };
 
-    /// A load of this number was refused with this fault. What is proved for every shelf learns of it by that load alone.
-    ghost refuses: { Place → ℕ → ShelfFault → Type 0 };
+    /// This call was refused with this fault. What is proved for every shelf learns of it by that call alone, so a contract that
+    /// says it tells which call was refused, and with what it was asked.
+    ghost refuses: { Place → Asked → ShelfFault → Type 0 };
 
     /// Puts an image under a number, on the device before it answers Ok.
     ///
@@ -46,6 +48,7 @@ pub trait Shelf: Drop + Send + Sync {
         ensures receipt { IfOk result (λ r. (Self.Receipt.number r ≡ number) × (Self.Receipt.image r ≡ image.now) × is_of (told self.old).place r) }
         ensures ok { OnOk result (Becomes (putting number (told self.old)) (told self.new)) }
         ensures err { OnErr result (Becomes (told self.old) (told self.new)) }
+        ensures refused { IfErr result (refuses (told self.old).place (Put number image.now)) }
         ensures cause { IfErr result (λ e. TakenIs number e × Counted e (told self.old) (told self.new)) }
         ensures counts { CountedBy result (told self.old) (told self.new) };
 
@@ -61,6 +64,7 @@ pub trait Shelf: Drop + Send + Sync {
         requires inside { offset + len ≤ length (Self.Receipt.image receipt.now) }
         ensures bytes { honest → IfOk result (λ v. v.items ≡ take len (drop offset (Self.Receipt.image receipt.now))) }
         ensures told { Becomes (told self.old) (told self.new) }
+        ensures refused { IfErr result (refuses (told self.old).place (ReadAt (Self.Receipt.number receipt.now) offset len)) }
         ensures cause { IfErr result (λ e. NotTaken e × Counted e (told self.old) (told self.new)) }
         ensures counts { CountedBy result (told self.old) (told self.new) };
 
@@ -73,8 +77,8 @@ pub trait Shelf: Drop + Send + Sync {
         number: u64,
     ) -> Result<(Self::Receipt, Vec<u8>), ShelfFault>
         ensures receipt { IfOk result (λ r. (Self.Receipt.number r.0 ≡ number) × (Self.Receipt.image r.0 ≡ r.1.items) × is_of (told self.old).place r.0) }
-        ensures refused { IfErr result (refuses (told self.old).place number) }
         ensures told { Becomes (told self.old) (told self.new) }
+        ensures refused { IfErr result (refuses (told self.old).place (Load number)) }
         ensures cause { IfErr result (λ e. NotTaken e × Counted e (told self.old) (told self.new)) }
         ensures counts { CountedBy result (told self.old) (told self.new) };
 
@@ -82,6 +86,7 @@ pub trait Shelf: Drop + Send + Sync {
     /// refused, nothing was asked of the device, and `gone` has not grown.
     fn remove<R: Wait>(&mut self, rt: &R, number: u64) -> Result<(), ShelfFault>
         ensures told { Becomes (removed_by result number (told self.old)) (told self.new) }
+        ensures refused { IfErr result (refuses (told self.old).place (Remove number)) }
         ensures cause { IfErr result (λ e. NotTaken e × Counted e (told self.old) (told self.new)) }
         ensures counts { CountedBy result (told self.old) (told self.new) };
 
@@ -90,6 +95,7 @@ pub trait Shelf: Drop + Send + Sync {
         ensures ascending { IfOk result (λ v. IsStrictlyIncreasing v.items) }
         ensures ok { IfOk result (λ v. Becomes (listing v.items (told self.old)) (told self.new)) }
         ensures err { OnErr result (Becomes (told self.old) (told self.new)) }
+        ensures refused { IfErr result (refuses (told self.old).place ListTables) }
         ensures cause { IfErr result (λ e. NotNamed e × Counted e (told self.old) (told self.new)) }
         ensures counts { CountedBy result (told self.old) (told self.new) };
 
@@ -101,6 +107,7 @@ pub trait Shelf: Drop + Send + Sync {
     ) -> Result<(u64, Vec<u8>), ShelfFault>
         ensures ok { IfOk result (λ r. Becomes (finding r.0 r.1.items (told self.old)) (told self.new)) }
         ensures err { OnErr result (Becomes (told self.old) (told self.new)) }
+        ensures refused { IfErr result (refuses (told self.old).place ReadManifest) }
         ensures cause { IfErr result (λ e. NotTaken e × Counted e (told self.old) (told self.new)) }
         ensures counts { CountedBy result (told self.old) (told self.new) };
 
@@ -116,6 +123,7 @@ pub trait Shelf: Drop + Send + Sync {
     ) -> Result<(), ShelfFault>
         ensures ok { OnOk result (Becomes (sending number bytes.now (told self.old)) (told self.new)) }
         ensures err { OnErr result (Becomes (told self.old) (told self.new)) }
+        ensures refused { IfErr result (refuses (told self.old).place (StartManifest number bytes.now)) }
         ensures cause { IfErr result (λ e. TakenIs number e × Counted e (told self.old) (told self.new)) }
         ensures counts { CountedBy result (told self.old) (told self.new) };
 
@@ -124,6 +132,7 @@ pub trait Shelf: Drop + Send + Sync {
     fn append_manifest<R: Wait>(&mut self, rt: &R, bytes: &[u8]) -> Result<(), ShelfFault>
         ensures ok { OnOk result (Becomes (appending bytes.now (told self.old)) (told self.new)) }
         ensures err { OnErr result (Becomes (told self.old) (told self.new)) }
+        ensures refused { IfErr result (refuses (told self.old).place (AppendManifest bytes.now)) }
         ensures cause { IfErr result (λ e. NotTaken e × Counted e (told self.old) (told self.new)) }
         ensures counts { CountedBy result (told self.old) (told self.new) };
 

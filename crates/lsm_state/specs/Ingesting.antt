@@ -81,8 +81,8 @@ abbrev pub Takes : Held → List Write → Type 0
 Takes h ws = (h.halted ≡ false) × IsBatch ws
 
 -- level 0 has 11 files at most
-abbrev pub HasPlace : Held → Type 0
-HasPlace h = length (level_in h.slots.version.tables 0) < 12
+abbrev pub HasRoom : Held → Type 0
+HasRoom h = length (level_in h.slots.version.tables 0) < 12
 
 -- no sequence would pass 2^56 - 1
 abbrev pub HasSequences : Held → List Write → Type 0
@@ -95,7 +95,7 @@ HasNumbers h = h.next + numbers_needed h < 2 ^ 64
 -- Nothing that can be tested first stands against the batch.
 pub record IsWelcome (h : Held) (ws : List Write) : Type 0 where
   pub takes : Takes h ws
-  pub place : HasPlace h
+  pub place : HasRoom h
   pub sequences : HasSequences h ws
   pub numbers : HasNumbers h
 
@@ -106,8 +106,8 @@ IsEarlyRefusal h ws EmptyBatch = (h.halted ≡ false) × IsBatchRefusal ws batch
 IsEarlyRefusal h ws TooLarge = (h.halted ≡ false) × IsBatchRefusal ws batch.TooLarge
 IsEarlyRefusal h ws (KeyOrder place) = (h.halted ≡ false) × IsBatchRefusal ws (batch.KeyOrder place)
 IsEarlyRefusal h ws LevelZeroFull = Takes h ws × (12 ≤ length (level_in h.slots.version.tables 0))
-IsEarlyRefusal h ws SequencesSpent = Takes h ws × HasPlace h × (2 ^ 56 ≤ last_of h ws)
-IsEarlyRefusal h ws NumbersSpent = Takes h ws × HasPlace h × HasSequences h ws × (2 ^ 64 ≤ h.next + numbers_needed h)
+IsEarlyRefusal h ws SequencesSpent = Takes h ws × HasRoom h × (2 ^ 56 ≤ last_of h ws)
+IsEarlyRefusal h ws NumbersSpent = Takes h ws × HasRoom h × HasSequences h ws × (2 ^ 64 ≤ h.next + numbers_needed h)
 IsEarlyRefusal h ws e = ⊥
 
 -- ---- refusals after that

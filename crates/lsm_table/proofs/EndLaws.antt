@@ -5,7 +5,7 @@ use Rattle.lsm_codec.specs.Keys.{InternalKey, key_cmp}
 use Rattle.lsm_codec.specs.Entries.{Entry, internal_key}
 use Rattle.std.specs.Prelude.{◌&&◌}
 use Rattle.lsm_block.specs.Block.{entry_of}
-use Rattle.lsm_block.specs.Held.{HeldBlock, Place, rest_of, last_after, Given}
+use Rattle.lsm_block.specs.Held.{HeldBlock, Position, rest_of, last_after, Given}
 use Rattle.lsm_table.specs.Table.{last_of}
 use Rattle.lsm_table.specs.TableReading.{is_after, are_placed}
 use Rattle.lsm_table.specs.Judging.{comes_after}
@@ -58,7 +58,7 @@ late (e ∷ es) bound last key value h g =
     and_no (is_after bound e) (is_le (key_cmp (internal_key (last_of e es)) key)) (not_le (key_cmp (internal_key (last_of e es)) key) (ap (λ (k : InternalKey). is_gt (key_cmp k key)) (sym same) ∙ g))
 
 -- a block whose last key does not
-pub placed_is : (block : HeldBlock) (old new : Place) (o : Option (List ℕ)) (v : List ℕ) (bound : Option InternalKey) (first last key : InternalKey) (value : List ℕ) (r : Bool) → Given block old new o → o ≡ Some v → rest_of block old ≡ block.entries
+pub placed_is : (block : HeldBlock) (old new : Position) (o : Option (List ℕ)) (v : List ℕ) (bound : Option InternalKey) (first last key : InternalKey) (value : List ℕ) (r : Bool) → Given block old new o → o ≡ Some v → rest_of block old ≡ block.entries
     → found_key first ≡ new.last → found_key last ≡ last_after None block.entries → is_gt (key_cmp last key) ≡ false → r ≡ comes_after bound first → r ≡ are_placed bound (entry_of key value) block.entries
 placed_is block old new o v bound first last key value r g is all at ends le after =
     let given = subst (Given block old new) is g in

@@ -3,7 +3,7 @@ use Rattle.std.proofs.Common.{◌≡◌, ℕ, ◌<◌, Bool, true, false, List, 
 use Rattle.lsm_codec.specs.Keys.{InternalKey}
 use Rattle.lsm_codec.specs.Entries.{Entry, internal_key}
 use Rattle.lsm_block.specs.Block.{entry_of}
-use Rattle.lsm_block.specs.Held.{HeldBlock, Place, rest_of, Given}
+use Rattle.lsm_block.specs.Held.{HeldBlock, Position, rest_of, Given}
 use Rattle.lsm_table.specs.declared.table_fault.TableFault.{TableFault}
 use Rattle.lsm_table.specs.Reading.{◌>>=◌, settled, is_memory, FailsUnless, Fails}
 use Rattle.lsm_table.specs.TableReading.{data_block_at, data_at}
@@ -50,13 +50,13 @@ abbrev pub nothing_lent : Option (List ℕ)
 nothing_lent = None
 
 -- the next index entry, whose key was asked for
-pub next_is : (index : HeldBlock) (here after : Place) (o : Option (List ℕ)) (place : List ℕ) (key : InternalKey) → Given index here after o → o ≡ lent place → found_key key ≡ after.last → rest_of index here ≡ entry_of key place ∷ rest_of index after
+pub next_is : (index : HeldBlock) (here after : Position) (o : Option (List ℕ)) (place : List ℕ) (key : InternalKey) → Given index here after o → o ≡ lent place → found_key key ≡ after.last → rest_of index here ≡ entry_of key place ∷ rest_of index after
 next_is index here after o place key g is k =
     let given = subst (Given index here after) is g in
     let same : key ≡ given.0 = some_key key given.0 (k ∙ given.1) in
     given.2 ∙ ap (λ (x : InternalKey). entry_of x place ∷ rest_of index after) (sym same)
 
-pub judged_fails : (fault : TableFault) (body : List ℕ) (index : HeldBlock) (before here after : Place) (o : Option (List ℕ)) (place : List ℕ) (bound : Option InternalKey) (key : InternalKey) → Judged body index before here → Given index here after o → o ≡ lent place
+pub judged_fails : (fault : TableFault) (body : List ℕ) (index : HeldBlock) (before here after : Position) (o : Option (List ℕ)) (place : List ℕ) (bound : Option InternalKey) (key : InternalKey) → Judged body index before here → Given index here after o → o ≡ lent place
     → found_key key ≡ after.last → bound ≡ before.last → Fails fault (settled (data_block_at body bound (entry_of key place))) → Fails fault (settled (data_at body None index.entries))
 judged_fails fault body index before here after o place bound key j g is k b f =
     let parts = next_is index here after o place key g is k in
@@ -64,7 +64,7 @@ judged_fails fault body index before here after o place bound key j g is k b f =
     let there = subst (λ (x : Option InternalKey). Fails fault (settled (data_at body x (entry_of key place ∷ rest_of index after)))) b one in
     subst (Fails fault) j.left (subst (λ (xs : List Entry). Fails fault (settled (data_at body before.last xs))) (sym parts) there)
 
-pub judged_shorter : (index : HeldBlock) (here after : Place) (o : Option (List ℕ)) (place : List ℕ) (key : InternalKey) → Given index here after o → o ≡ lent place → found_key key ≡ after.last → length (rest_of index after) < length (rest_of index here)
+pub judged_shorter : (index : HeldBlock) (here after : Position) (o : Option (List ℕ)) (place : List ℕ) (key : InternalKey) → Given index here after o → o ≡ lent place → found_key key ≡ after.last → length (rest_of index after) < length (rest_of index here)
 judged_shorter index here after o place key g is k = omega (arith, ap (λ (xs : List Entry). length xs) (next_is index here after o place key g is k))
 
 same_key : (k l : InternalKey) (v w : List ℕ) (xs ys : List Entry) → entry_of k v ∷ xs ≡ entry_of l w ∷ ys → k ≡ l
@@ -74,13 +74,13 @@ same_rest : (e f : Entry) (xs ys : List Entry) → e ∷ xs ≡ f ∷ ys → xs 
 same_rest e f xs ys e2 = cc
 
 -- the cursor behind goes on too
-behind : (index : HeldBlock) (before next : Place) (o : Option (List ℕ)) (key : InternalKey) (place : List ℕ) (rest : List Entry) → Given index before next o → rest_of index before ≡ entry_of key place ∷ rest → (next.last ≡ found_key key) × (rest_of index next ≡ rest)
+behind : (index : HeldBlock) (before next : Position) (o : Option (List ℕ)) (key : InternalKey) (place : List ℕ) (rest : List Entry) → Given index before next o → rest_of index before ≡ entry_of key place ∷ rest → (next.last ≡ found_key key) × (rest_of index next ≡ rest)
 behind index before next None key place rest g is = let bad = sym is ∙ g.0 in absurd cc
 behind index before next (Some v) key place rest g is =
     let both = sym g.2 ∙ is in
     (g.1 ∙ ap found_key (same_key g.0 key v place (rest_of index next) rest both), same_rest (entry_of g.0 v) (entry_of key place) (rest_of index next) rest both)
 
-pub judged_on : (body : List ℕ) (index : HeldBlock) (before here next after : Place) (o : Option (List ℕ)) (place : List ℕ) (p : Option (List ℕ)) (bound : Option InternalKey) (key : InternalKey) → Judged body index before here → Given index here after o → o ≡ lent place
+pub judged_on : (body : List ℕ) (index : HeldBlock) (before here next after : Position) (o : Option (List ℕ)) (place : List ℕ) (p : Option (List ℕ)) (bound : Option InternalKey) (key : InternalKey) → Judged body index before here → Given index here after o → o ≡ lent place
     → found_key key ≡ after.last → bound ≡ before.last → settled (data_block_at body bound (entry_of key place)) ≡ well → Given index before next p → Judged body index next after
 judged_on body index before here next after o place p bound key j g is k b w q =
     let parts = next_is index here after o place key g is k in
@@ -91,13 +91,13 @@ judged_on body index before here next after o place p bound key j g is k b w q =
       same = follows.1;
     }
 
-pub judged_first : (body : List ℕ) (index : HeldBlock) (before here : Place) → before.last ≡ None → rest_of index before ≡ index.entries → rest_of index here ≡ index.entries → Judged body index before here
+pub judged_first : (body : List ℕ) (index : HeldBlock) (before here : Position) → before.last ≡ None → rest_of index before ≡ index.entries → rest_of index here ≡ index.entries → Judged body index before here
 judged_first body index before here n a b = record {
   left = ap (λ (x : Option InternalKey). settled (data_at body x (rest_of index here))) n ∙ ap (λ (xs : List Entry). settled (data_at body None xs)) b;
   same = a ∙ sym b;
 }
 
-pub judged_all : (body : List ℕ) (index : HeldBlock) (before here after : Place) (o : Option (List ℕ)) → Judged body index before here → Given index here after o → o ≡ nothing_lent → settled (data_at body None index.entries) ≡ well
+pub judged_all : (body : List ℕ) (index : HeldBlock) (before here after : Position) (o : Option (List ℕ)) → Judged body index before here → Given index here after o → o ≡ nothing_lent → settled (data_at body None index.entries) ≡ well
 judged_all body index before here after o j g is =
     let none = (subst (Given index here after) is g).0 in
     sym j.left ∙ ap (λ (xs : List Entry). settled (data_at body before.last xs)) none ∙ data_none body before.last

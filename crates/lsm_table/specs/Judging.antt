@@ -2,7 +2,7 @@
 use Rattle.std.specs.Prelude.{◌≡◌, ℕ, Bool, true, List, Option, Some, None}
 use Rattle.std.specs.Ordering.{is_lt}
 use Rattle.lsm_codec.specs.Keys.{InternalKey, key_cmp}
-use Rattle.lsm_block.specs.Held.{HeldBlock, Place, rest_of}
+use Rattle.lsm_block.specs.Held.{HeldBlock, Position, rest_of}
 use Rattle.lsm_table.specs.Reading.{settled}
 use Rattle.lsm_table.specs.TableReading.{data_at}
 
@@ -14,6 +14,6 @@ comes_after (Some bound) key = is_lt (key_cmp bound key)
 -- What two cursors over an index tell while its data blocks are judged: one stands at the entry
 -- that comes next, the other is one entry behind when its key is asked for, and else at the same
 -- place.
-pub record Judged (body : List ℕ) (index : HeldBlock) (before here : Place) : Type 0 where
+pub record Judged (body : List ℕ) (index : HeldBlock) (before here : Position) : Type 0 where
   pub left : settled (data_at body before.last (rest_of index here)) ≡ settled (data_at body None index.entries)
   pub same : rest_of index before ≡ rest_of index here

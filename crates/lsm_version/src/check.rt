@@ -1,6 +1,7 @@
 //! The version of a shape: its tables are read and judged.
 
 ghost use Rattle.std.specs.Prelude.{◌≡◌, IfErr, IfOk, List, Option, length, map, ℕ};
+ghost use Rattle.lsm_shelf.specs.Asked.{Load};
 ghost use Rattle.lsm_table.specs.Told.{Becomes};
 ghost use Rattle.lsm_version.specs.CheckFault.{CheckCounted};
 ghost use Rattle.lsm_version.specs.CheckRefusal.{AreTablesOf, IsRefusal};
@@ -47,7 +48,7 @@ fn check_levels<N: Naming, S: Shelf, R: Wait>(
     ensures seven { IfOk result (λ v. length v.items ≡ 7) }
     ensures judged { IfOk result (λ v. (pointers : List (Option (List ℕ))) → KeepsAge (files_from 0 (map (λ l. l.items) v.items)) → IsSound record { tables = map (λ l. l.items) v.items; pointers = pointers; last = shape.now.last }) }
     ensures ages { S.honest → IfOk result (λ v. KeepsAge (files_from 0 (map (λ l. l.items) v.items))) }
-    ensures refused { IfErr result (λ e. IsRefusal (λ number image. (r : S.Receipt) × S.is_of N.place r × (S.Receipt.number r ≡ number) × (S.Receipt.image r ≡ image)) (S.refuses N.place) S.honest shape.now e) }
+    ensures refused { IfErr result (λ e. IsRefusal (λ number image. (r : S.Receipt) × S.is_of N.place r × (S.Receipt.number r ≡ number) × (S.Receipt.image r ≡ image)) (λ number. S.refuses N.place (Load number)) S.honest shape.now e) }
     ensures told { Becomes (S.told shelf.old) (S.told shelf.new) }
     ensures cause { IfErr result (λ e. CheckCounted e (S.told shelf.old) (S.told shelf.new)) }
 {
@@ -100,7 +101,7 @@ impl<N: Naming, S: Shelf> Version<N, S> {
         // Whatever the shelf is.
         ensures settled { IfOk result (λ v. IsSettled (files v) → IsSound v) }
         ensures judged { IfOk result (λ v. KeepsAge (files v) → IsSound v) }
-        ensures refused { IfErr result (λ e. IsRefusal (λ number image. (r : S.Receipt) × S.is_of N.place r × (S.Receipt.number r ≡ number) × (S.Receipt.image r ≡ image)) (S.refuses N.place) S.honest shape.now e) }
+        ensures refused { IfErr result (λ e. IsRefusal (λ number image. (r : S.Receipt) × S.is_of N.place r × (S.Receipt.number r ≡ number) × (S.Receipt.image r ≡ image)) (λ number. S.refuses N.place (Load number)) S.honest shape.now e) }
         ensures told { Becomes (S.told shelf.old) (S.told shelf.new) }
         ensures cause { IfErr result (λ e. CheckCounted e (S.told shelf.old) (S.told shelf.new)) }
     {

@@ -3,6 +3,7 @@
 ghost use Rattle.std.specs.Prelude.{◌≡◌, ◌<◌, ◌+◌, ◌≤◌, ◌^◌, ◌∷◌, ℕ, List, Ok, length, take, drop, IfOk, IfErr, OnOk, OnErr, IsTrue, IsErrOf};
 ghost use Rattle.std.specs.List.Sorted.{IsStrictlyIncreasing};
 ghost use Rattle.lsm_folder.specs.Calls.{AreHonest, LastIsTrue, read, loaded, listed};
+ghost use Rattle.lsm_shelf.specs.Asked.{MayRefuse};
 ghost use Rattle.lsm_shelf.specs.FileNames.{table_name};
 ghost use Rattle.lsm_shelf.specs.FileShelf.{folder_of, file_told, file_number, mark_of};
 ghost use Rattle.lsm_shelf.specs.Plans.{done, PutStopped, PartUnread, TableUnread, RemoveStopped, AreTablesOf, ListStopped, ReadStopped, StartedFrom, StartStopped, AppendStopped, put_plan, remove_plan, append_plan, manifest_read, manifest_measured};
@@ -37,7 +38,7 @@ where
 
     ghost is_of = { λ p r. C.is_of p r.mark };
 
-    ghost refuses = { λ p number fault. NotTaken fault };
+    ghost refuses = { λ p asked fault. MayRefuse asked fault };
 
     fn put<W: Wait>(
         &mut self,
@@ -52,6 +53,7 @@ where
         ensures large { 2 ^ 30 < length image.now → IsErrOf result ShelfFault.Device × (C.calls (folder_of self.new) ≡ C.calls (folder_of self.old)) }
         ensures ok { OnOk result (Becomes (putting number (file_told C.place self.old)) (file_told C.place self.new)) }
         ensures err { OnErr result (Becomes (file_told C.place self.old) (file_told C.place self.new)) }
+        ensures refused { IfErr result (TakenIs number) }
         ensures cause { IfErr result (λ e. TakenIs number e × Counted e (file_told C.place self.old) (file_told C.place self.new)) }
         ensures counts { CountedBy result (file_told C.place self.old) (file_told C.place self.new) }
     {
@@ -75,6 +77,7 @@ where
         ensures calls { IfOk result (λ v. C.calls (folder_of self.new) ≡ read (table_name (file_number receipt.now)) (C.Mark.image (mark_of receipt.now)) offset len (Ok v.items) ∷ C.calls (folder_of self.old)) }
         ensures stopped { IfErr result (λ e. PartUnread (file_number receipt.now) (C.Mark.image (mark_of receipt.now)) offset len e (C.calls (folder_of self.old)) (C.calls (folder_of self.new))) }
         ensures told { Becomes (file_told C.place self.old) (file_told C.place self.new) }
+        ensures refused { IfErr result NotTaken }
         ensures cause { IfErr result (λ e. NotTaken e × Counted e (file_told C.place self.old) (file_told C.place self.new)) }
         ensures counts { CountedBy result (file_told C.place self.old) (file_told C.place self.new) }
     {
@@ -89,10 +92,10 @@ where
         number: u64,
     ) -> Result<(FileReceipt<C::Mark>, Vec<u8>), ShelfFault>
         ensures receipt { IfOk result (λ r. (file_number r.0 ≡ number) × (C.Mark.image (mark_of r.0) ≡ r.1.items) × C.is_of (file_told C.place self.old).place (mark_of r.0)) }
-        ensures refused { IfErr result NotTaken }
         ensures calls { IfOk result (λ r. C.calls (folder_of self.new) ≡ loaded (table_name number) (Ok r.1.items) ∷ C.calls (folder_of self.old)) }
         ensures stopped { IfErr result (λ e. TableUnread number e (C.calls (folder_of self.old)) (C.calls (folder_of self.new))) }
         ensures told { Becomes (file_told C.place self.old) (file_told C.place self.new) }
+        ensures refused { IfErr result NotTaken }
         ensures cause { IfErr result (λ e. NotTaken e × Counted e (file_told C.place self.old) (file_told C.place self.new)) }
         ensures counts { CountedBy result (file_told C.place self.old) (file_told C.place self.new) }
     {
@@ -104,6 +107,7 @@ where
         ensures calls { OnOk result (C.calls (folder_of self.new) ≡ done (remove_plan number) (C.calls (folder_of self.old))) }
         ensures stopped { IfErr result (λ e. RemoveStopped number e (C.calls (folder_of self.old)) (C.calls (folder_of self.new))) }
         ensures told { Becomes (removed_by result number (file_told C.place self.old)) (file_told C.place self.new) }
+        ensures refused { IfErr result NotTaken }
         ensures cause { IfErr result (λ e. NotTaken e × Counted e (file_told C.place self.old) (file_told C.place self.new)) }
         ensures counts { CountedBy result (file_told C.place self.old) (file_told C.place self.new) }
     {
@@ -120,6 +124,7 @@ where
         ensures stopped { IfErr result (λ e. ListStopped e (C.calls (folder_of self.old)) (C.calls (folder_of self.new))) }
         ensures ok { IfOk result (λ v. Becomes (listing v.items (file_told C.place self.old)) (file_told C.place self.new)) }
         ensures err { OnErr result (Becomes (file_told C.place self.old) (file_told C.place self.new)) }
+        ensures refused { IfErr result NotNamed }
         ensures cause { IfErr result (λ e. NotNamed e × Counted e (file_told C.place self.old) (file_told C.place self.new)) }
         ensures counts { CountedBy result (file_told C.place self.old) (file_told C.place self.new) }
     {
@@ -138,6 +143,7 @@ where
         ensures stopped { IfErr result (λ e. ReadStopped e (C.calls (folder_of self.old)) (C.calls (folder_of self.new))) }
         ensures ok { IfOk result (λ r. Becomes (finding r.0 r.1.items (file_told C.place self.old)) (file_told C.place self.new)) }
         ensures err { OnErr result (Becomes (file_told C.place self.old) (file_told C.place self.new)) }
+        ensures refused { IfErr result NotTaken }
         ensures cause { IfErr result (λ e. NotTaken e × Counted e (file_told C.place self.old) (file_told C.place self.new)) }
         ensures counts { CountedBy result (file_told C.place self.old) (file_told C.place self.new) }
     {
@@ -161,6 +167,7 @@ where
         ensures large { 2 ^ 30 < length bytes.now → IsErrOf result ShelfFault.Device × (C.calls (folder_of self.new) ≡ C.calls (folder_of self.old)) }
         ensures ok { OnOk result (Becomes (sending number bytes.now (file_told C.place self.old)) (file_told C.place self.new)) }
         ensures err { OnErr result (Becomes (file_told C.place self.old) (file_told C.place self.new)) }
+        ensures refused { IfErr result (TakenIs number) }
         ensures cause { IfErr result (λ e. TakenIs number e × Counted e (file_told C.place self.old) (file_told C.place self.new)) }
         ensures counts { CountedBy result (file_told C.place self.old) (file_told C.place self.new) }
     {
@@ -182,6 +189,7 @@ where
         ensures stopped { IfErr result (λ e. AppendStopped bytes.now e (C.calls (folder_of self.old)) (C.calls (folder_of self.new))) }
         ensures ok { OnOk result (Becomes (appending bytes.now (file_told C.place self.old)) (file_told C.place self.new)) }
         ensures err { OnErr result (Becomes (file_told C.place self.old) (file_told C.place self.new)) }
+        ensures refused { IfErr result NotTaken }
         ensures cause { IfErr result (λ e. NotTaken e × Counted e (file_told C.place self.old) (file_told C.place self.new)) }
         ensures counts { CountedBy result (file_told C.place self.old) (file_told C.place self.new) }
     {

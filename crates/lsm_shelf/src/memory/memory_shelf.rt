@@ -54,6 +54,7 @@ impl MemoryShelf {
 }
 
 impl Shelf for MemoryShelf {
+    ghost use Rattle.lsm_shelf.specs.Asked.{MemoryRefuses};
     ghost use Rattle.lsm_shelf.specs.MemoryShelf.{IsOfMemory, memory_image, memory_number, memory_told};
 
     type Receipt = MemoryReceipt;
@@ -64,7 +65,7 @@ impl Shelf for MemoryShelf {
 
     ghost is_of = { IsOfMemory };
 
-    ghost refuses = { λ p number fault. NotDevice fault };
+    ghost refuses = { λ p asked fault. MemoryRefuses asked fault };
 
     fn put<R: Wait>(
         &mut self,
@@ -76,6 +77,7 @@ impl Shelf for MemoryShelf {
         ensures receipt { IfOk result (λ r. (memory_number r ≡ number) × (memory_image r ≡ image.now) × IsOfMemory (memory_told self.old).place r) }
         ensures ok { OnOk result (Becomes (putting number (memory_told self.old)) (memory_told self.new)) }
         ensures err { OnErr result (Becomes (memory_told self.old) (memory_told self.new)) }
+        ensures refused { IfErr result (TakenIs number) }
         ensures cause { IfErr result (λ e. TakenIs number e × Counted e (memory_told self.old) (memory_told self.new)) }
         ensures counts { CountedBy result (memory_told self.old) (memory_told self.new) }
         ensures device { IsErrOf result ShelfFault.Device ↔ (2 ^ 30 < length image.now) }
@@ -98,6 +100,7 @@ impl Shelf for MemoryShelf {
         requires inside { offset + len ≤ length (memory_image receipt.now) }
         ensures bytes { IfOk result (λ v. v.items ≡ take len (drop offset (memory_image receipt.now))) }
         ensures told { Becomes (memory_told self.old) (memory_told self.new) }
+        ensures refused { IfErr result NotTaken }
         ensures cause { IfErr result (λ e. NotTaken e × Counted e (memory_told self.old) (memory_told self.new)) }
         ensures counts { CountedBy result (memory_told self.old) (memory_told self.new) }
         ensures memory { IfErr result (λ e. e ≡ ShelfFault.OutOfMemory) }
@@ -124,6 +127,7 @@ impl Shelf for MemoryShelf {
 
     fn remove<R: Wait>(&mut self, rt: &R, number: u64) -> Result<(), ShelfFault>
         ensures told { Becomes (removing number (memory_told self.old)) (memory_told self.new) }
+        ensures refused { IfErr result NotTaken }
         ensures cause { IfErr result (λ e. NotTaken e × Counted e (memory_told self.old) (memory_told self.new)) }
         ensures counts { CountedBy result (memory_told self.old) (memory_told self.new) }
         ensures missing { IfErr result (λ e. e ≡ ShelfFault.Missing) }
@@ -137,6 +141,7 @@ impl Shelf for MemoryShelf {
         ensures ascending { IfOk result (λ v. IsStrictlyIncreasing v.items) }
         ensures ok { IfOk result (λ v. Becomes (listing v.items (memory_told self.old)) (memory_told self.new)) }
         ensures err { OnErr result (Becomes (memory_told self.old) (memory_told self.new)) }
+        ensures refused { IfErr result NotNamed }
         ensures cause { IfErr result (λ e. NotNamed e × Counted e (memory_told self.old) (memory_told self.new)) }
         ensures counts { CountedBy result (memory_told self.old) (memory_told self.new) }
         ensures memory { IfErr result (λ e. e ≡ ShelfFault.OutOfMemory) }
@@ -153,6 +158,7 @@ impl Shelf for MemoryShelf {
     ) -> Result<(u64, Vec<u8>), ShelfFault>
         ensures ok { IfOk result (λ r. Becomes (finding r.0 r.1.items (memory_told self.old)) (memory_told self.new)) }
         ensures err { OnErr result (Becomes (memory_told self.old) (memory_told self.new)) }
+        ensures refused { IfErr result NotTaken }
         ensures cause { IfErr result (λ e. NotTaken e × Counted e (memory_told self.old) (memory_told self.new)) }
         ensures counts { CountedBy result (memory_told self.old) (memory_told self.new) }
         ensures device { IfErr result NotDevice }
@@ -174,6 +180,7 @@ impl Shelf for MemoryShelf {
     ) -> Result<(), ShelfFault>
         ensures ok { OnOk result (Becomes (sending number bytes.now (memory_told self.old)) (memory_told self.new)) }
         ensures err { OnErr result (Becomes (memory_told self.old) (memory_told self.new)) }
+        ensures refused { IfErr result (TakenIs number) }
         ensures cause { IfErr result (λ e. TakenIs number e × Counted e (memory_told self.old) (memory_told self.new)) }
         ensures counts { CountedBy result (memory_told self.old) (memory_told self.new) }
         ensures device { IfErr result NotDevice }
@@ -189,6 +196,7 @@ impl Shelf for MemoryShelf {
     fn append_manifest<R: Wait>(&mut self, rt: &R, bytes: &[u8]) -> Result<(), ShelfFault>
         ensures ok { OnOk result (Becomes (appending bytes.now (memory_told self.old)) (memory_told self.new)) }
         ensures err { OnErr result (Becomes (memory_told self.old) (memory_told self.new)) }
+        ensures refused { IfErr result NotTaken }
         ensures cause { IfErr result (λ e. NotTaken e × Counted e (memory_told self.old) (memory_told self.new)) }
         ensures counts { CountedBy result (memory_told self.old) (memory_told self.new) }
         ensures device { IfErr result NotDevice }

@@ -1,6 +1,7 @@
 //! One file of a shape: its table, read and judged.
 
 ghost use Rattle.std.specs.Prelude.{◌≡◌, IfErr, IfOk, MatchOption, Some};
+ghost use Rattle.lsm_shelf.specs.Asked.{Load};
 ghost use Rattle.lsm_version.specs.declared.check.check_fault.CheckFault.TheVariants.{Read};
 ghost use Rattle.lsm_table.specs.HeldTable.{entries_in};
 ghost use Rattle.lsm_table.specs.Told.{Becomes};
@@ -68,7 +69,7 @@ pub(crate) fn read_table<S: Shelf, R: Wait>(
 ) -> Result<(S::Receipt, Sequences), CheckFault>
     ensures receipt { IfOk result (λ r. (S.Receipt.number r.0 ≡ file.now.number) × S.is_of (S.told shelf.old).place r.0) }
     ensures image { IfOk result (λ r. IsImageOf last file.now (S.Receipt.image r.0) × AreSequencesOf (entries_in (S.Receipt.image r.0)) r.1) }
-    ensures refused { IfErr result (λ e. IsFileRefusal (λ image. (r : S.Receipt) × S.is_of (S.told shelf.old).place r × (S.Receipt.number r ≡ file.now.number) × (S.Receipt.image r ≡ image)) (S.refuses (S.told shelf.old).place file.now.number) last file.now e) }
+    ensures refused { IfErr result (λ e. IsFileRefusal (λ image. (r : S.Receipt) × S.is_of (S.told shelf.old).place r × (S.Receipt.number r ≡ file.now.number) × (S.Receipt.image r ≡ image)) (S.refuses (S.told shelf.old).place (Load file.now.number)) last file.now e) }
     ensures told { Becomes (S.told shelf.old) (S.told shelf.new) }
     ensures cause { IfErr result (λ e. CheckCounted e (S.told shelf.old) (S.told shelf.new)) }
 {

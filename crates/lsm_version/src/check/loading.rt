@@ -2,6 +2,7 @@
 
 ghost use Rattle.std.specs.Prelude.{◌≡◌, IfErr, IfOk, OnOk, List, map};
 ghost use Rattle.std.specs.List.Sorted.{IsSortedBy};
+ghost use Rattle.lsm_shelf.specs.Asked.{Load};
 ghost use Rattle.lsm_table.specs.HeldTable.{entries_in};
 ghost use Rattle.lsm_table.specs.Told.{Becomes};
 ghost use Rattle.lsm_version.specs.Changes.{placed_in};
@@ -36,7 +37,7 @@ fn load_file<N: Naming, S: Shelf, R: Wait>(
     ensures file { IfOk result (λ r. IsFileOf last file.now r.0) }
     ensures stored { IfOk result (λ t. (r : S.Receipt) × S.is_of N.place r × (S.Receipt.number r ≡ t.0.number) × (S.Receipt.image r ≡ t.0.image)) }
     ensures sequences { IfOk result (λ r. AreSequencesOf (entries_in r.0.image) r.1) }
-    ensures refused { IfErr result (λ e. IsFileRefusal (λ image. (r : S.Receipt) × S.is_of N.place r × (S.Receipt.number r ≡ file.now.number) × (S.Receipt.image r ≡ image)) (S.refuses N.place file.now.number) last file.now e) }
+    ensures refused { IfErr result (λ e. IsFileRefusal (λ image. (r : S.Receipt) × S.is_of N.place r × (S.Receipt.number r ≡ file.now.number) × (S.Receipt.image r ≡ image)) (S.refuses N.place (Load file.now.number)) last file.now e) }
     ensures told { Becomes (S.told shelf.old) (S.told shelf.new) }
     ensures cause { IfErr result (λ e. CheckCounted e (S.told shelf.old) (S.told shelf.new)) }
 {
@@ -82,7 +83,7 @@ fn load_level<N: Naming, S: Shelf, R: Wait>(
     requires named { registry.now ≡ N.registry }
     ensures read { IfOk result (λ v. IsLevelRead (λ number image. (r : S.Receipt) × S.is_of N.place r × (S.Receipt.number r ≡ number) × (S.Receipt.image r ≡ image)) last files.now v.0.items v.1.items) }
     ensures order { IfOk result (λ v. IsSortedBy stands_before v.0.items) }
-    ensures refused { IfErr result (λ e. IsFilesRefusal (λ number image. (r : S.Receipt) × S.is_of N.place r × (S.Receipt.number r ≡ number) × (S.Receipt.image r ≡ image)) (S.refuses N.place) last files.now e) }
+    ensures refused { IfErr result (λ e. IsFilesRefusal (λ number image. (r : S.Receipt) × S.is_of N.place r × (S.Receipt.number r ≡ number) × (S.Receipt.image r ≡ image)) (λ number. S.refuses N.place (Load number)) last files.now e) }
     ensures told { Becomes (S.told shelf.old) (S.told shelf.new) }
     ensures cause { IfErr result (λ e. CheckCounted e (S.told shelf.old) (S.told shelf.new)) }
 {
@@ -107,7 +108,7 @@ pub(crate) fn load_levels<N: Naming, S: Shelf, R: Wait>(
     requires named { registry.now ≡ N.registry }
     ensures read { IfOk result (λ v. AreRead (λ number image. (r : S.Receipt) × S.is_of N.place r × (S.Receipt.number r ≡ number) × (S.Receipt.image r ≡ image)) shape.now.last shape.now.levels (map (λ l. l.items) v.0.items) (map (λ l. l.items) v.1.items)) }
     ensures order { IfOk result (λ v. AreInOrder (map (λ l. l.items) v.0.items)) }
-    ensures refused { IfErr result (λ e. IsFilesRefusal (λ number image. (r : S.Receipt) × S.is_of N.place r × (S.Receipt.number r ≡ number) × (S.Receipt.image r ≡ image)) (S.refuses N.place) shape.now.last (all_files shape.now.levels) e) }
+    ensures refused { IfErr result (λ e. IsFilesRefusal (λ number image. (r : S.Receipt) × S.is_of N.place r × (S.Receipt.number r ≡ number) × (S.Receipt.image r ≡ image)) (λ number. S.refuses N.place (Load number)) shape.now.last (all_files shape.now.levels) e) }
     ensures told { Becomes (S.told shelf.old) (S.told shelf.new) }
     ensures cause { IfErr result (λ e. CheckCounted e (S.told shelf.old) (S.told shelf.new)) }
 {

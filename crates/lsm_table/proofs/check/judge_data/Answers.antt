@@ -1,13 +1,13 @@
 use Rattle.std.proofs.Common.{◌≡◌, Some, None, refl, ap}
 use Rattle.std.specs.Option.{option_map}
 use Rattle.lsm_codec.specs.KeyRef.{key_of}
-use Rattle.lsm_block.specs.Held.{Place}
+use Rattle.lsm_block.specs.Held.{Position}
 use Rattle.lsm_table.proofs.JudgeLaws.{judged_first, judged_fails, judged_shorter, judged_on, judged_all}
 use Rattle.lsm_table.proofs.check.judge_data.Goals as goal
 
 pub loop-here-init : goal.loop-here-init
 loop-here-init c =
-    judged_first c.args.body.now c.args.index.now c.rewind.new.cursor c.rewind-2.new.cursor (ap (λ (p : Place). p.last) c.rewind.ensures.front) c.rewind.ensures.rest c.rewind-2.ensures.rest
+    judged_first c.args.body.now c.args.index.now c.rewind.new.cursor c.rewind-2.new.cursor (ap (λ (p : Position). p.last) c.rewind.ensures.front) c.rewind.ensures.rest c.rewind-2.ensures.rest
 
 pub returns-in-Err : goal.returns-in-Err
 returns-in-Err c =

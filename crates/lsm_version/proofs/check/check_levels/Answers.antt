@@ -3,6 +3,7 @@ use Rattle.std.proofs.lemmas.List.{length-map}
 use Rattle.std.proofs.lemmas.Result.{err_from_is_err_and}
 use Rattle.std.specs.List.Sorted.{IsNonDecreasing}
 use Rattle.lsm_codec.specs.Lists.{Has}
+use Rattle.lsm_shelf.specs.Asked.{Load}
 use Rattle.lsm_table.specs.Registry.{Table}
 use Rattle.lsm_version.specs.CheckRefusal.{AreTablesOf, IsAgeRefusal}
 use Rattle.lsm_version.specs.LevelLayouts.{AreLevelsWhole, IsLayoutRefusal, LieInOrder}
@@ -75,7 +76,7 @@ pub returns-in_err-levels-clause-refused : goal.returns-in_err-levels-clause-ref
 returns-in_err-levels-clause-refused g c =
     let Stored : ℕ → List ℕ → Type 0 = λ number image. (r : g.row.S-Receipt.Denot) × g.S.Shelf.is_of g.N.Naming.place r × (g.S.Receipt.Slip.number r ≡ number) × (g.S.Receipt.Slip.image r ≡ image) in
     let p = err_from_is_err_and c.from_residual-in_err-levels.result c.from_residual-in_err-levels.ensures.1 in
-    rw (p.1, p.2) (files_refused Stored (g.S.Shelf.refuses g.N.Naming.place) g.S.Shelf.honest c.args.shape.now c.in_err-levels.field-0.0 c.in_ok-judge_numbers.ensures.ok c.in_err-levels.ensures.refused)
+    rw (p.1, p.2) (files_refused Stored (λ number. g.S.Shelf.refuses g.N.Naming.place (Load number)) g.S.Shelf.honest c.args.shape.now c.in_err-levels.field-0.0 c.in_ok-judge_numbers.ensures.ok c.in_err-levels.ensures.refused)
 
 pub returns-in_err-judge_layouts-clause-refused : goal.returns-in_err-judge_layouts-clause-refused
 returns-in_err-judge_layouts-clause-refused g c =
@@ -87,7 +88,7 @@ returns-in_err-judge_layouts-clause-refused g c =
     let refused : IsLayoutRefusal tables fault =
     subst (λ (ls : List (List Table)). IsLayoutRefusal ls fault) (ap (map (λ l. l.items)) c.deref.ensures.value) c.in_err-judge_layouts.ensures.refused in
     let p = err_from_is_err_and c.from_residual-in_err-judge_layouts.result c.from_residual-in_err-judge_layouts.ensures.1 in
-    rw (p.1, p.2) (layout_refused Stored (g.S.Shelf.refuses g.N.Naming.place) g.S.Shelf.honest c.args.shape.now tables fault are refused)
+    rw (p.1, p.2) (layout_refused Stored (λ number. g.S.Shelf.refuses g.N.Naming.place (Load number)) g.S.Shelf.honest c.args.shape.now tables fault are refused)
 
 pub returns-in_err-judge_ages-clause-refused : goal.returns-in_err-judge_ages-clause-refused
 returns-in_err-judge_ages-clause-refused g c =
@@ -100,7 +101,7 @@ returns-in_err-judge_ages-clause-refused g c =
     let refused : IsAgeRefusal g.S.Shelf.honest (files_from 0 tables) fault =
     subst (λ (ls : List (List Table)). IsAgeRefusal g.S.Shelf.honest (files_from 0 ls) fault) (ap (map (λ l. l.items)) c.deref-4.ensures.value) c.in_err-judge_ages.ensures.refused in
     let p = err_from_is_err_and c.from_residual-in_err-judge_ages.result c.from_residual-in_err-judge_ages.ensures.1 in
-    rw (p.1, p.2) (ages_refused Stored (g.S.Shelf.refuses g.N.Naming.place) g.S.Shelf.honest c.args.shape.now tables fault are apart refused)
+    rw (p.1, p.2) (ages_refused Stored (λ number. g.S.Shelf.refuses g.N.Naming.place (Load number)) g.S.Shelf.honest c.args.shape.now tables fault are apart refused)
 
 pub returns-clause-tables : goal.returns-clause-tables
 returns-clause-tables g c =

@@ -1,5 +1,6 @@
 use Rattle.std.proofs.Common.{◌≡◌, ℕ, List, [], length, arith, ap, sym, subst}
 use Rattle.std.proofs.lemmas.Result.{err_from_is_err_and}
+use Rattle.lsm_shelf.specs.Asked.{Load}
 use Rattle.lsm_table.proofs.CallerLemmas.{becomes_same, becomes_then}
 use Rattle.lsm_table.specs.Registry.{Table}
 use Rattle.lsm_version.specs.Loading.{IsLevelRead}
@@ -21,7 +22,7 @@ pub returns-in_err-table-clause-refused : goal.returns-in_err-table-clause-refus
 returns-in_err-table-clause-refused g c =
     let Stored : ℕ → List ℕ → Type 0 = λ number image. (r : g.row.S-Receipt.Denot) × g.S.Shelf.is_of g.N.Naming.place r × (g.S.Receipt.Slip.number r ≡ number) × (g.S.Receipt.Slip.image r ≡ image) in
     let p = err_from_is_err_and c.from_residual.result c.from_residual.ensures.1 in
-    rw (p.1, p.2) (refused_at Stored (g.S.Shelf.refuses g.N.Naming.place) c.args.last c.args.files.now c.loop-file.file-index c.file-item.result c.in_err-table.field-0.0 c.loop-file.tables.items c.loop-file.sequences.items
+    rw (p.1, p.2) (refused_at Stored (λ number. g.S.Shelf.refuses g.N.Naming.place (Load number)) c.args.last c.args.files.now c.loop-file.file-index c.file-item.result c.in_err-table.field-0.0 c.loop-file.tables.items c.loop-file.sequences.items
     c.loop-file-test.true c.file-item.is c.loop-file.invariant.read c.in_err-table.ensures.refused)
 
 pub loop-file-preserved : goal.loop-file-preserved

@@ -1,6 +1,7 @@
 use Rattle.std.proofs.Common.{◌≡◌, ◌+◌, ℕ, take, List, [], ◌∷◌, ◌++◌, map, ap, sym, ◌∙◌, subst}
 use Rattle.std.proofs.lemmas.List.{map-append}
 use Rattle.std.proofs.lemmas.Result.{err_from_is_err_and}
+use Rattle.lsm_shelf.specs.Asked.{Load}
 use Rattle.lsm_shelf.specs.declared.shelf_fault.ShelfFault.{ShelfFault}
 use Rattle.lsm_manifest.specs.FileOrder.{TableFile}
 use Rattle.lsm_table.specs.Registry.{Table}
@@ -15,7 +16,7 @@ use Rattle.lsm_version.proofs.check.loading.load_levels.Goals as goal
 pub returns-in_err-here-clause-refused : goal.returns-in_err-here-clause-refused
 returns-in_err-here-clause-refused g c =
     let Stored : ℕ → List ℕ → Type 0 = λ number image. (r : g.row.S-Receipt.Denot) × g.S.Shelf.is_of g.N.Naming.place r × (g.S.Receipt.Slip.number r ≡ number) × (g.S.Receipt.Slip.image r ≡ image) in
-    let Refused : ℕ → ShelfFault → Type 0 = g.S.Shelf.refuses g.N.Naming.place in
+    let Refused : ℕ → ShelfFault → Type 0 = λ number. g.S.Shelf.refuses g.N.Naming.place (Load number) in
     let fault = c.in_err-here.field-0.0 in
     let p = err_from_is_err_and c.from_residual.result c.from_residual.ensures.1 in
     rw (p.1, p.2) (refused_in Stored Refused c.args.shape.now.last c.args.shape.now.levels c.loop-level.level-index c.level-item.result fault (map (λ l. l.items) c.loop-level.tables.items) (map (λ l. l.items) c.loop-level.sequences.items)
