@@ -5,20 +5,27 @@
 //! that conflicts with no live job.
 #![tactic(auto)]
 
-mod candidates;
-mod choice;
-mod conflicts;
+// What a choice looks at: live jobs, ranges, and the tables that a range reaches.
 mod deep_ranges;
-pub mod laws;
-mod level_scores;
 mod linked_tables;
-mod move_rule;
 mod plan;
-mod plan_fault;
-mod plan_maker;
-mod range_plan;
 mod reservation;
 mod table_range;
+
+// Plans: closed, and clear of the live jobs.
+mod conflicts;
+mod move_rule;
+mod plan_maker;
+
+// Which plan: by the scores of levels, or by a range that is asked for.
+mod candidates;
+mod choice;
+mod level_scores;
+mod plan_fault;
+mod range_plan;
+
+// What callers learn of plans.
+pub mod laws;
 
 pub use choice::choose;
 pub use conflicts::conflict;

@@ -10,17 +10,22 @@
 //! exactly where it is due.
 #![tactic(auto)]
 
-mod byte_tables;
+// Texts, lists and numbers.
 mod bytes;
-mod bytewise;
-mod checksum;
 mod fault;
+mod list;
+mod varint;
+
+// Keys.
 mod internal_key;
 mod kind;
-mod list;
+
+// Checksums.
+mod byte_tables;
+mod bytewise;
+mod checksum;
 mod stride_tables;
 mod stridewise;
-mod varint;
 mod wordwise;
 
 pub use bytes::Bytes;

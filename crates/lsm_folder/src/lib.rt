@@ -6,24 +6,31 @@
 //! for which it is proved that each read answers the bytes that were written.
 #![tactic(auto)]
 
-mod directory;
-mod file;
+// What a folder is asked, and why it refuses.
 mod folder_calls;
 mod folder_fault;
-mod image;
-mod log;
 mod mark;
+
+// What contracts read of a folder: its calls, in order.
+mod log;
+mod tags;
+
+// A folder in memory.
+mod directory;
+mod file;
+mod image;
 mod memory_calls;
 mod memory_files;
 mod memory_folder;
 mod memory_mark;
 mod stops;
+
+// A folder of the system.
 mod system_calls;
 mod system_fault;
 mod system_files;
 mod system_folder;
 mod system_mark;
-mod tags;
 
 pub use folder_calls::FolderCalls;
 pub use folder_fault::FolderFault;

@@ -5,20 +5,27 @@
 //! user keys, and a refused job comes back with the numbers that were put.
 #![tactic(auto)]
 
-mod compaction;
+// A job, as it is given to a worker.
 mod copies;
-mod finished;
-mod inputs;
 mod job;
 mod job_parts;
-mod merge_fault;
+mod sameness;
+
+// The merge of its inputs.
+mod compaction;
+mod inputs;
+mod remembered;
+
+// Outputs, each under a number of its own.
 mod noted;
 mod number_source;
 mod output;
 mod outputs;
 mod putting;
-mod remembered;
-mod sameness;
+
+// What is handed in.
+mod finished;
+mod merge_fault;
 
 pub use compaction::compact;
 pub use finished::Finished;

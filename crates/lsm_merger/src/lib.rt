@@ -7,14 +7,19 @@
 //! after a fault what is left is as before.
 #![tactic(auto)]
 
-mod ages;
+// Sources, each in the order of keys.
 mod file_fault;
 mod front;
-mod merger;
-mod pair;
 mod run;
-mod scan;
+
+// Their merge.
+mod merger;
 mod tree;
+
+// What goes along the merge.
+mod ages;
+mod pair;
+mod scan;
 mod walk;
 
 pub use ages::against_age;

@@ -5,17 +5,22 @@
 //! faults). Its contract: no slot is free while a view holds it, and each call's result is that of the word at its one step.
 #![tactic(auto)]
 
-mod board;
+// The words of a board, and the steps at it.
 mod head;
-mod laws;
+mod rule;
+mod slot_record;
+mod steps;
+
+// The board, its ends, and what each knows.
+mod board;
 mod pin_fault;
 mod pinner;
 mod publish_fault;
 mod publisher;
-mod rule;
-mod slot_record;
-mod steps;
 mod view;
+
+// What holds between any two steps.
+mod laws;
 
 pub use board::Board;
 pub use laws::{

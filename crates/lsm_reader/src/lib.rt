@@ -6,9 +6,12 @@
 //! honest shelf, what is read is the table's, and each fault is the first one on the way.
 #![tactic(auto)]
 
+// Where blocks come from.
 mod blocks;
 mod direct;
 mod judging;
+
+// An open table, its reads, and going through it.
 mod open_table;
 mod opening;
 mod reads;

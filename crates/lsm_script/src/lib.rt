@@ -5,19 +5,24 @@
 //! from the state's own entries.
 #![tactic(auto)]
 
-mod batches;
+// What is asked and what is answered.
 mod command;
-mod held;
+mod refusal;
+mod reply;
+
+// One command each.
+mod batches;
 mod installing;
 mod merging;
 mod numbers;
 mod pins;
 mod reads;
-mod refusal;
-mod reply;
 mod reserving;
-mod script;
 mod snapshots;
+
+// Lists of commands, and the jobs that they hold.
+mod held;
+mod script;
 
 pub use command::Command;
 pub use refusal::Refusal;

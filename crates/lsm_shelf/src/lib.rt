@@ -4,15 +4,20 @@
 //! for the image that was put, and contracts see of a shelf what its calls told it.
 #![tactic(auto)]
 
+// Every shelf.
 mod account;
-mod count_shelf;
-mod file;
-mod fuse;
-mod fuse_shelf;
-mod memory;
 mod shelf;
 mod shelf_fault;
 mod slip;
+
+// Shelves that keep tables.
+mod file;
+mod memory;
+
+// Shelves for tests.
+mod count_shelf;
+mod fuse;
+mod fuse_shelf;
 
 pub use count_shelf::CountShelf;
 pub use file::{FileReceipt, FileShelf, SystemShelf};

@@ -30,22 +30,31 @@
 //!   speak of states.
 #![tactic(auto)]
 
-mod changing;
-mod collect;
+// The state, and how it begins.
 mod create;
-mod ingest;
-mod install;
-mod install_change;
-mod jobs;
-mod listing;
 mod open;
 mod open_fault;
 mod options;
-mod pins;
-mod reads;
-mod reserve;
 mod state;
 mod state_fault;
+
+// What changes the version.
+mod changing;
+mod ingest;
+mod install;
+mod install_change;
+
+// Compactions under way.
+mod jobs;
+mod reserve;
+
+// Reads, snapshots and pins.
+mod pins;
+mod reads;
+
+// What is kept, and what is removed.
+mod collect;
+mod listing;
 
 pub use ingest::Ingested;
 pub use open_fault::OpenFault;

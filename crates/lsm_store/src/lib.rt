@@ -5,20 +5,27 @@
 //! pin. Its contract: the lock lends a state that keeps its law, and what a view answers is of the version that it holds.
 #![tactic(auto)]
 
+// The state behind its lock, and its readers.
 mod begin_fault;
 mod desk;
-mod drawing;
-mod gate;
-pub mod laws;
-mod number_service;
 mod reader;
 mod store;
-mod ticket_numbers;
 mod view;
+
+// Workers, each in a thread of its own.
+mod gate;
 mod worker;
 mod worker_end;
 mod worker_fault;
 mod workers;
+
+// Numbers for what workers write.
+mod drawing;
+mod number_service;
+mod ticket_numbers;
+
+// What callers learn of both.
+pub mod laws;
 
 pub use begin_fault::BeginFault;
 pub use desk::Desk;

@@ -5,21 +5,28 @@
 //! the registry stands for the image that was put.
 #![tactic(auto)]
 
+// A table on its way out.
 mod builder;
-mod check;
+mod table_options;
+
+// The pieces of a file: blocks with their trailers, where they lie, and the end of the file.
 mod footer;
-mod found;
 mod handle;
+mod stored_block;
+mod table_fault;
+
+// A checked table, its reads, and going through it.
+mod check;
+mod found;
 mod held_block;
+mod search;
+mod table;
+mod table_iter;
+
+// Tables on a shelf: their records, and the names under which they are known.
 mod naming;
 mod read_fault;
 mod registry;
-mod search;
-mod stored_block;
-mod table;
-mod table_fault;
-mod table_iter;
-mod table_options;
 mod table_record;
 mod table_ref;
 
