@@ -1,7 +1,8 @@
-//! A program that keeps a store, as short as one can be: it opens one over a shelf in memory, brings batches in, reads through views,
-//! and compacts with two workers.
+//! A program that keeps a store, as short as one can be: it opens one over a shelf in memory,
+//! brings batches in, reads through views, and compacts with two workers.
 //!
-//! Stands on `lsm_store`. A view answers from the version that it was begun at, whatever is brought in, compacted and collected later.
+//! Stands on `lsm_store`. A view answers from the version that it was begun at, whatever is brought
+//! in, compacted and collected later.
 #![tactic(auto)]
 
 ghost use Rattle.std.specs.Prelude.{◌≡◌, IfOk, length};
@@ -60,7 +61,8 @@ fn bring_in<N: Boarded, S: Shelf, R: Wait + Print>(
     Ok(())
 }
 
-/// A view of the current version, which the reader learns under the lock. No view is begun between the two.
+/// A view of the current version, which the reader learns under the lock. No view is begun between
+/// the two.
 fn view_of<N: Boarded, S: Shelf, R: Wait>(
     rt: &R,
     store: &Store<N, S>,
@@ -170,8 +172,8 @@ fn go_on<N: Boarded, S: Shelf, R: Threads + Wait + Print + Sync>(
     Ok(())
 }
 
-/// The store at work. A view answers as it did before while batches come in, workers compact and tables go; the next one is of what came
-/// in.
+/// The store at work. A view answers as it did before while batches come in, workers compact and
+/// tables go; the next one is of what came in.
 fn work<N: Boarded, S: Shelf, R: Threads + Wait + Print + Sync>(
     rt: &R,
     alloc: Global,
@@ -192,8 +194,9 @@ fn work<N: Boarded, S: Shelf, R: Threads + Wait + Print + Sync>(
     Ok(())
 }
 
-/// A new database, its store and one of its readers. What is generic in `N` is of the registry, the shelf's contents and the board that
-/// the premises name; the caller picks them by `proofs/main/Invariants.antt`.
+/// A new database, its store and one of its readers. What is generic in `N` is of the registry, the
+/// shelf's contents and the board that the premises name; the caller picks them by
+/// `proofs/main/Invariants.antt`.
 fn serve<N: Boarded, S: Shelf, R: Threads + Wait + Print + Sync>(
     rt: &R,
     alloc: Global,

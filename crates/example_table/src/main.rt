@@ -1,7 +1,8 @@
-//! A program that uses tables, as short as one can be: it builds a table of three entries in memory, checks it and reads keys,
-//! then puts it on a shelf and reads it from there.
+//! A program that uses tables, as short as one can be: it builds a table of three entries in
+//! memory, checks it and reads keys, then puts it on a shelf and reads it from there.
 //!
-//! Stands on `lsm_table` and `lsm_reader`. Its contract: what it reads is what the three entries say.
+//! Stands on `lsm_table` and `lsm_reader`. Its contract: what it reads is what the three entries
+//! say.
 #![tactic(auto)]
 
 ghost use Rattle.std.specs.Prelude.{◌≡◌, Some, None, IfOk, codes};

@@ -1,7 +1,8 @@
-//! A program that uses a version, as short as one can be: it puts two tables on a shelf in memory, says at which levels they
-//! stand, has all of it checked, and reads.
+//! A program that uses a version, as short as one can be: it puts two tables on a shelf in memory,
+//! says at which levels they stand, has all of it checked, and reads.
 //!
-//! Stands on `lsm_version`. What is read is what both tables together say: the shallower one answers first.
+//! Stands on `lsm_version`. What is read is what both tables together say: the shallower one
+//! answers first.
 #![tactic(auto)]
 
 ghost use Rattle.std.specs.Prelude.{◌≡◌, ◌≤◌};
@@ -41,7 +42,8 @@ fn key(alloc: Global, user: &[u8], seq: u64, kind: Kind) -> anyhow::Result<Bytes
     Ok(Bytes::of(key))
 }
 
-/// Both tables, as a manifest's first edit adds them: the older one at level 1, the newer one at level 0.
+/// Both tables, as a manifest's first edit adds them: the older one at level 1, the newer one at
+/// level 0.
 fn edit(alloc: Global, older_size: u64, newer_size: u64) -> anyhow::Result<Edit> {
     let older = FileMeta {
         number: 5,
@@ -95,7 +97,8 @@ fn show<N: Naming, S: Shelf>(
     Ok(())
 }
 
-/// Prints the live keys as of sequence 4, each with its value. The shelf is honest, so that the scan comes to its end.
+/// Prints the live keys as of sequence 4, each with its value. The shelf is honest, so that the
+/// scan comes to its end.
 fn scan_all<N: Naming, S: Shelf>(
     rt: &impl Print,
     alloc: Global,
@@ -116,8 +119,8 @@ fn scan_all<N: Naming, S: Shelf>(
     Ok(())
 }
 
-/// The version of both tables, once checked. What is generic in `N` is of the registry and of the shelf's contents that the
-/// premises name; the caller picks them by `proofs/main/Invariants.antt`.
+/// The version of both tables, once checked. What is generic in `N` is of the registry and of the
+/// shelf's contents that the premises name; the caller picks them by `proofs/main/Invariants.antt`.
 fn read_all<N: Naming, S: Shelf, R: Wait + Print>(
     rt: &R,
     alloc: Global,

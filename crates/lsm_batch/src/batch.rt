@@ -72,7 +72,8 @@ impl Batch {
 
     /// Whether it may come in: it has an entry, no limit is passed, and its keys ascend.
     ///
-    /// `EmptyBatch`, then `TooLarge`, then `KeyOrder` with the first key that is not greater than the one before.
+    /// `EmptyBatch`, then `TooLarge`, then `KeyOrder` with the first key that is not greater than
+    /// the one before.
     pub fn check(&self) -> Result<(), BatchFault>
         ensures ok { OnOk result (IsBatch self.now) }
         ensures refused { IfErr result (IsBatchRefusal self.now) }

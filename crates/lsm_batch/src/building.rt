@@ -54,7 +54,8 @@ fn bytes_of(alloc: Global, key: &KeyRef<'_>) -> Result<Bytes, AllocError>
     Ok(Bytes::of(bytes))
 }
 
-// The last internal key and the bytes of the table of what is written, at sequences one after another.
+// The last internal key and the bytes of the table of what is written, at sequences one after
+// another.
 fn table_of(
     alloc: Global,
     options: TableOptions,
@@ -86,9 +87,11 @@ fn table_of(
 }
 
 impl Batch {
-    /// The table of its entries, at sequences one after another from this one. No sequence is above 2^56 - 1.
+    /// The table of its entries, at sequences one after another from this one. No sequence is above
+    /// 2^56 - 1.
     ///
-    /// `OutOfMemory` where a growth was refused. `TooLarge` where a block of the table would pass 2^32 - 1 bytes.
+    /// `OutOfMemory` where a growth was refused. `TooLarge` where a block of the table would pass
+    /// 2^32 - 1 bytes.
     pub fn build(
         &self,
         alloc: Global,

@@ -10,7 +10,8 @@ use std::alloc::Global;
 use std::marker::Model;
 use std::sync::Wait;
 
-/// The table of a batch, not yet put. Contracts see it as its bytes, with its first and last internal key.
+/// The table of a batch, not yet put. Contracts see it as its bytes, with its first and last
+/// internal key.
 #[derive(Debug, Drop)]
 pub struct Image {
     pub(crate) smallest: Bytes,
@@ -29,8 +30,8 @@ impl Model for Image {
 impl Image {
     /// Puts the table under a number, and then its record into the registry.
     ///
-    /// The shelf's refusals: `Taken` where a table of this number is there; `Device`, after which the number may be listed or not;
-    /// `OutOfMemory`, after which the table was put or not.
+    /// The shelf's refusals: `Taken` where a table of this number is there; `Device`, after which
+    /// the number may be listed or not; `OutOfMemory`, after which the table was put or not.
     pub fn put<N: Naming, S: Shelf, R: Wait>(
         self,
         rt: &R,

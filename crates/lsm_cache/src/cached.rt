@@ -16,8 +16,9 @@ use std::marker::{Model, PhantomData};
 use std::num::NonZeroUsize;
 use std::sync::Arc;
 
-/// Gives blocks from those that were used last, and else by a shelf of its own. It keeps so many data blocks at most, so many index
-/// blocks and so many footers: data blocks push out no index block. Contracts see it as its shelf.
+/// Gives blocks from those that were used last, and else by a shelf of its own. It keeps so many
+/// data blocks at most, so many index blocks and so many footers: data blocks push out no index
+/// block. Contracts see it as its shelf.
 #[derive(Drop)]
 pub struct Cached<N: Naming, S: Shelf> {
     shelf: S,
@@ -37,7 +38,8 @@ impl<N: Naming, S: Shelf> Model for Cached<N, S> {
 }
 
 impl<N: Naming, S: Shelf> Cached<N, S> {
-    /// An empty cache of so many data blocks, index blocks and footers, over this shelf. `AllocError` where a growth was refused.
+    /// An empty cache of so many data blocks, index blocks and footers, over this shelf.
+    /// `AllocError` where a growth was refused.
     pub fn new(alloc: Global, shelf: S, blocks: NonZeroUsize) -> Result<Cached<N, S>, AllocError>
         requires { (S.told shelf).place ≡ N.place }
         ensures { IfOk result (λ c. c ≡ S.told shelf) }

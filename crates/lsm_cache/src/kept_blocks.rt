@@ -6,7 +6,8 @@ use lru::LruCache;
 use std::alloc::{AllocError, Global};
 use std::num::NonZeroUsize;
 
-/// The index blocks that were used last, and apart from them the data blocks, so that these push out none of those.
+/// The index blocks that were used last, and apart from them the data blocks, so that these push
+/// out none of those.
 #[derive(Drop)]
 pub struct KeptBlocks<V> {
     index_blocks: LruCache<BlockKey, V>,

@@ -24,7 +24,8 @@ impl Counted for CountShelf<MemoryShelf> {
     }
 }
 
-/// How often the shelf is read for each of these keys of a table, one after another, by a cache of so many blocks.
+/// How often the shelf is read for each of these keys of a table, one after another, by a cache of
+/// so many blocks.
 fn counts_of<N: Naming, S: Shelf + Counted, R: Wait>(
     rt: &R,
     alloc: Global,

@@ -92,7 +92,8 @@ fn clear_plan<N: Naming, S: Shelf>(
     }
 }
 
-/// Whether a table of a level is no input of a live job, and lies on that side of the level's compaction pointer.
+/// Whether a table of a level is no input of a live job, and lies on that side of the level's
+/// compaction pointer.
 fn is_on_side<N: Naming, S: Shelf>(
     registry: &Registry<S::Receipt>,
     version: &Version<N, S>,
@@ -108,7 +109,8 @@ fn is_on_side<N: Naming, S: Shelf>(
     !is_taken(registry, reservations, table) && is_beyond(registry, version, level, table) == beyond
 }
 
-/// The plan of the first of a level's candidates beyond its pointer, or of the first of the others, that conflicts with no live job.
+/// The plan of the first of a level's candidates beyond its pointer, or of the first of the others,
+/// that conflicts with no live job.
 fn first_clear<N: Naming, S: Shelf>(
     alloc: Global,
     registry: &Registry<S::Receipt>,
@@ -137,7 +139,8 @@ fn first_clear<N: Naming, S: Shelf>(
     Ok(None)
 }
 
-/// The plan of the first of a level's candidates that conflicts with no live job: those beyond the pointer are tried first.
+/// The plan of the first of a level's candidates that conflicts with no live job: those beyond the
+/// pointer are tried first.
 pub(crate) fn choose_at<N: Naming, S: Shelf>(
     alloc: Global,
     registry: &Registry<S::Receipt>,

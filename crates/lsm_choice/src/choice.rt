@@ -13,11 +13,13 @@ use lsm_table::{Naming, Registry, Shelf};
 use lsm_version::Version;
 use std::alloc::{AllocError, Global};
 
-/// The next compaction: the plan of the first candidate that conflicts with no live job, none where there is none such.
+/// The next compaction: the plan of the first candidate that conflicts with no live job, none where
+/// there is none such.
 ///
-/// A candidate is a file of a level with a score of at least 1 that is no input of a live job. Levels are tried by their scores, the
-/// greatest first and the lower level on a tie; in a level first the files whose largest key is beyond the level's compaction pointer
-/// (all, where there is none) and then the others, both in the level's order. `AllocError` where a growth was refused.
+/// A candidate is a file of a level with a score of at least 1 that is no input of a live job.
+/// Levels are tried by their scores, the greatest first and the lower level on a tie; in a level
+/// first the files whose largest key is beyond the level's compaction pointer (all, where there is
+/// none) and then the others, both in the level's order. `AllocError` where a growth was refused.
 pub fn choose<N: Naming, S: Shelf>(
     alloc: Global,
     registry: &Registry<S::Receipt>,

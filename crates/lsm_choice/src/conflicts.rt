@@ -71,8 +71,9 @@ fn lesser_ticket(least: Option<u64>, ticket: u64) -> u64
     }
 }
 
-/// The least ticket of the live jobs with which a plan conflicts: those that share an input with it, or have its output level and a
-/// hull that meets its hull. None exactly where it conflicts with none.
+/// The least ticket of the live jobs with which a plan conflicts: those that share an input with
+/// it, or have its output level and a hull that meets its hull. None exactly where it conflicts
+/// with none.
 pub fn conflict<N: Naming, S: Shelf>(
     registry: &Registry<S::Receipt>,
     plan: &Plan<N, S>,

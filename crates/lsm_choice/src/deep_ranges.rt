@@ -26,8 +26,9 @@ fn push_ranges<N: Naming, S: Shelf>(
     Ok(())
 }
 
-/// The ranges of user keys, least and greatest, of all files two or more levels below a level, 0 to 5: a job of that level keeps a
-/// deletion that one of them covers. `AllocError` where a growth was refused.
+/// The ranges of user keys, least and greatest, of all files two or more levels below a level, 0 to
+/// 5: a job of that level keeps a deletion that one of them covers. `AllocError` where a growth was
+/// refused.
 pub fn ranges_below<N: Naming, S: Shelf>(
     alloc: Global,
     registry: &Registry<S::Receipt>,

@@ -47,7 +47,8 @@ fn free_bytes<N: Naming, S: Shelf>(
     bytes
 }
 
-/// What counts of a level's tables: at level 0 their number, at the others their bytes; without the inputs of live jobs.
+/// What counts of a level's tables: at level 0 their number, at the others their bytes; without the
+/// inputs of live jobs.
 pub(crate) fn load<N: Naming, S: Shelf>(
     registry: &Registry<S::Receipt>,
     version: &Version<N, S>,
@@ -83,7 +84,8 @@ pub(crate) fn limit(level: u8) -> u128
     }
 }
 
-/// How often the limit of a level, 0 to 5, goes into that of level 5: loads times this are scores over one denominator.
+/// How often the limit of a level, 0 to 5, goes into that of level 5: loads times this are scores
+/// over one denominator.
 pub(crate) fn part(level: u8) -> u128
     requires { level ≤ 5 }
     ensures part { result ≡ part level }
@@ -100,8 +102,9 @@ pub(crate) fn part(level: u8) -> u128
     }
 }
 
-/// The scores of the levels 0 to 5 as fractions: the number of files over 4 at level 0, and the bytes over 10,485,760 times 10^(n-1)
-/// at level n. Files that are inputs of a live job are not counted. Level 6 has no score.
+/// The scores of the levels 0 to 5 as fractions: the number of files over 4 at level 0, and the
+/// bytes over 10,485,760 times 10^(n-1) at level n. Files that are inputs of a live job are not
+/// counted. Level 6 has no score.
 pub fn scores<N: Naming, S: Shelf>(
     registry: &Registry<S::Receipt>,
     version: &Version<N, S>,

@@ -1,8 +1,10 @@
-//! Which compaction comes next: the scores of levels, the closed plans of files, and the choice among them beside live jobs.
+//! Which compaction comes next: the scores of levels, the closed plans of files, and the choice
+//! among them beside live jobs.
 //!
-//! Stands on `lsm_version` for versions, on `lsm_levels` for plans, jobs and their laws, and on `lsm_table` for the records of tables.
-//! Its contract: a plan is closed, so that its job may stay open whatever comes, and the choice is the first candidate of the ranking
-//! that conflicts with no live job.
+//! Stands on `lsm_version` for versions, on `lsm_levels` for plans, jobs and their laws, and on
+//! `lsm_table` for the records of tables. Its contract: a plan is closed, so that its job may stay
+//! open whatever comes, and the choice is the first candidate of the ranking that conflicts with no
+//! live job.
 #![tactic(auto)]
 
 // What a choice looks at: live jobs, ranges, and the tables that a range reaches.

@@ -13,8 +13,8 @@ use lsm_table::{Naming, Registry, Shelf, TableRef};
 use lsm_version::Version;
 use std::alloc::{AllocError, Global};
 
-/// The tables of a level, 0 to 6, that a range reaches, where each meets it or one before it, in the level's order. The range grows by
-/// the tables that it meets until it meets no other.
+/// The tables of a level, 0 to 6, that a range reaches, where each meets it or one before it, in
+/// the level's order. The range grows by the tables that it meets until it meets no other.
 pub(crate) fn linked_tables<N: Naming, S: Shelf>(
     alloc: Global,
     registry: &Registry<S::Receipt>,

@@ -49,8 +49,9 @@ fn bytes_below<N: Naming, S: Shelf>(
     bytes_over(registry, version.level(below), plan.low(), plan.high())
 }
 
-/// Whether a plan that `choose` gave only moves a file to the next level: it has one input, none at the next level, and the files that
-/// meet its hull two levels down have at most ten target sizes of bytes (none are there where that level is above 6).
+/// Whether a plan that `choose` gave only moves a file to the next level: it has one input, none at
+/// the next level, and the files that meet its hull two levels down have at most ten target sizes
+/// of bytes (none are there where that level is above 6).
 ///
 /// It is no question for the plan of a range: that one is never a move.
 pub fn is_move<N: Naming, S: Shelf>(

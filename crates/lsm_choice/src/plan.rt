@@ -6,8 +6,8 @@ use lsm_codec::Bytes;
 use lsm_table::{Naming, Shelf, TableRef};
 use std::marker::Model;
 
-/// The tables that a compaction of a level, 0 to 5, would take there and at the next level, each list in its level's order, and the
-/// hull: the least and the greatest user key of all of them.
+/// The tables that a compaction of a level, 0 to 5, would take there and at the next level, each
+/// list in its level's order, and the hull: the least and the greatest user key of all of them.
 #[derive(Drop)]
 pub struct Plan<N: Naming, S: Shelf> {
     pub(crate) level: u8,

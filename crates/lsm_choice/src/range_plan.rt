@@ -13,12 +13,13 @@ use lsm_table::{Naming, Registry, Shelf};
 use lsm_version::Version;
 use std::alloc::Global;
 
-/// The closed plan of all files of a level that meet the range of user keys from `from` to `to`, both included; none where no file
-/// does, as where `from` is greater than `to`. The plan of a range is never a move, whatever `is_move` says of it: the caller keeps to
-/// that.
+/// The closed plan of all files of a level that meet the range of user keys from `from` to `to`,
+/// both included; none where no file does, as where `from` is greater than `to`. The plan of a
+/// range is never a move, whatever `is_move` says of it: the caller keeps to that.
 ///
 /// # Errors
-/// `BadLevel` where the level is above 5, whatever the range is; `OutOfMemory` where a growth was refused.
+/// `BadLevel` where the level is above 5, whatever the range is; `OutOfMemory` where a growth was
+/// refused.
 pub fn plan_range<N: Naming, S: Shelf>(
     alloc: Global,
     registry: &Registry<S::Receipt>,

@@ -6,8 +6,8 @@ ghost use Rattle.lsm_choice.specs.Reservations.{has_input};
 use lsm_codec::{Bytes, List};
 use std::marker::Model;
 
-/// A live job, as far as a choice has to know it: its ticket, its level, the numbers of its inputs, and its hull, the least and the
-/// greatest user key of these. Its output level is the next one.
+/// A live job, as far as a choice has to know it: its ticket, its level, the numbers of its inputs,
+/// and its hull, the least and the greatest user key of these. Its output level is the next one.
 #[derive(Drop)]
 pub struct Reservation {
     ticket: u64,

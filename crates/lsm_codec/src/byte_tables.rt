@@ -1,4 +1,5 @@
-//! Eight tables of CRC-32C: entry `b` of table `k` is the register after the byte `b` and `k` bytes of 0.
+//! Eight tables of CRC-32C: entry `b` of table `k` is the register after the byte `b` and `k` bytes
+//! of 0.
 ghost use Rattle.std.specs.Prelude.{◌≡◌};
 ghost use Rattle.lsm_codec.specs.Turns.{turns};
 

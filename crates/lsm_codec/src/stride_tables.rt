@@ -1,5 +1,5 @@
-//! Eight tables of CRC-32C that skip a stride: entry `b` of table `k` is the register after the byte `b` and `24 + k` bytes
-//! of 0.
+//! Eight tables of CRC-32C that skip a stride: entry `b` of table `k` is the register after the
+//! byte `b` and `24 + k` bytes of 0.
 ghost use Rattle.std.specs.Prelude.{◌≡◌};
 ghost use Rattle.lsm_codec.specs.Turns.{turns};
 

@@ -69,7 +69,8 @@ fn asked<S: AsStr>(words: &[S]) -> Option<CommandName>
     }
 }
 
-/// What the words after the program's name ask for. A command is asked for by its one word, and by nothing else.
+/// What the words after the program's name ask for. A command is asked for by its one word, and by
+/// nothing else.
 pub(crate) fn parse<S: AsStr>(alloc: Global, words: &[S]) -> Result<CommandLine, AllocError>
     ensures asked { (name : CommandName) → Asks name (map S.text words.now) → IfOk result (λ line. line ≡ CommandLine.Run name) }
     ensures only { (name : CommandName) → IfOk result (λ line. line ≡ CommandLine.Run name → Asks name (map S.text words.now)) }

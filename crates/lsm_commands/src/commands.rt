@@ -37,8 +37,8 @@ fn make_table(alloc: Global, list: &[u8]) -> Result<Vec<u8>, Fault>
     Ok(builder.finish()?)
 }
 
-/// The next value of a table that was gone through before. The room for its keys is there, so no memory is wanted; as no clause says
-/// that, a want of it is told as one of the writer.
+/// The next value of a table that was gone through before. The room for its keys is there, so no
+/// memory is wanted; as no clause says that, a want of it is told as one of the writer.
 fn next_again<'t>(entries: &mut TableIter<'t>) -> Result<Option<&'t [u8]>, Fault>
     ensures given { IfOk result (λ r. Steps entries.old entries.new (option_map (λ v. v.now) r)) }
     ensures fault { IfErr result (λ e. e ≡ WriteFault) }
@@ -49,7 +49,8 @@ fn next_again<'t>(entries: &mut TableIter<'t>) -> Result<Option<&'t [u8]>, Fault
     }
 }
 
-/// Goes through all entries that are left, so that the room for the longest key is there. The one fault is want of memory.
+/// Goes through all entries that are left, so that the room for the longest key is there. The one
+/// fault is want of memory.
 fn pass_all(entries: &mut TableIter<'_>) -> Result<(), Fault>
     ensures { IfErr result (λ e. e ≡ OutOfMemory) }
 {
@@ -90,7 +91,8 @@ fn write_entries<'t, O: Write>(
     printer.finish(out)
 }
 
-/// Writes the list of a table's entries as it goes through them. All is judged, and all memory is there, before the first byte is written.
+/// Writes the list of a table's entries as it goes through them. All is judged, and all memory is
+/// there, before the first byte is written.
 fn print_table<O: Write>(alloc: Global, file: Vec<u8>, out: &mut O) -> Result<(), Fault>
     ensures written { OnOk result ((output : List ℕ) × Answers Dump file.items output × Appends (O.contents out.old) (O.contents out.new) output) }
     ensures explained { IfErr result (λ e. Explains Dump file.items e) }
@@ -142,8 +144,8 @@ fn write_answer<O: Write>(
     write_output(out, answer.as_slice())
 }
 
-/// Reads all of standard input, and then writes what the command answers; or nothing at all, but for a failed write, which leaves a
-/// beginning of it.
+/// Reads all of standard input, and then writes what the command answers; or nothing at all, but
+/// for a failed write, which leaves a beginning of it.
 pub(crate) fn perform<R: Read, O: Write>(
     alloc: Global,
     name: CommandName,

@@ -105,7 +105,8 @@ fn get_in<S: AsStr>(alloc: Global, words: &[S]) -> Result<Option<Asked>, AllocEr
     }
 }
 
-/// The bound that the word of an option spells: none where there is no option. `None` where the word spells no key.
+/// The bound that the word of an option spells: none where there is no option. `None` where the
+/// word spells no key.
 fn bound_in(
     alloc: Global,
     form: Form,

@@ -49,7 +49,8 @@ impl EntryBuffer {
         }
     }
 
-    /// Takes the entry that a line spells. `false` where it spells none; what is then held is not specified.
+    /// Takes the entry that a line spells. `false` where it spells none; what is then held is not
+    /// specified.
     #[tactic(auto, unfolding(crate::specs::EntryReading::entry_at))]
     pub(crate) fn read(&mut self, line: &[u8]) -> Result<bool, AllocError>
         ensures { IfOk result (λ found. Reads found (entry_of self.new) (entry_at line.now)) }

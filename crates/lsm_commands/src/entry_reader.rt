@@ -52,7 +52,8 @@ impl<'a> EntryReader<'a> {
         }
     }
 
-    /// Reads the next entry into `entry`. `false` at the end. After a fault what is held is not specified.
+    /// Reads the next entry into `entry`. `false` at the end. After a fault what is held is not
+    /// specified.
     #[tactic(auto, unfolding(crate::specs::EntryReading::entries_at))]
     pub(crate) fn next(&mut self) -> Result<bool, LineFault>
         ensures ok { IfOk result (λ more. Advances more self.old self.new) }

@@ -13,8 +13,8 @@ use std::alloc::{AllocError, Global};
 pub enum Form {
     /// Two hex digits a byte, lower case when printed, of either case when read; `.` for no bytes.
     Hex,
-    /// A byte that prints stands for itself, but for `!`, `=`, `@`, `\` and the blank; these and all others, and a lone `.`, are
-    /// `\xNN`, with two lower-case hex digits. `.` for no bytes.
+    /// A byte that prints stands for itself, but for `!`, `=`, `@`, `\` and the blank; these and
+    /// all others, and a lone `.`, are `\xNN`, with two lower-case hex digits. `.` for no bytes.
     Text,
 }
 

@@ -14,8 +14,8 @@ use std::io::Write;
 /// The most bytes of text that are held back, 8 KiB.
 const ROOM: usize = 8192;
 
-/// Holds printed text back until there is some to write, and never more than `ROOM` bytes of it. It takes its memory when it is made,
-/// and none later.
+/// Holds printed text back until there is some to write, and never more than `ROOM` bytes of it. It
+/// takes its memory when it is made, and none later.
 #[derive(Debug, Drop)]
 pub(crate) struct Printer {
     pub(crate) held: Vec<u8>,

@@ -72,8 +72,9 @@ fn explain<E: Write>(err: &mut E, fault: &Fault) -> io::Result<()> {
 }
 
 /// Runs the program on the words after its name, and answers its exit status: 0 where it is done, 1
-/// where it is refused, 2 for a bad command line. A fault is one line on `err`, which for
-/// `read fault` and `bad line I` a second one explains; then nothing is written to `out`, but for a write fault.
+/// where it is refused, 2 for a bad command line. A fault is one line on `err`, which for `read
+/// fault` and `bad line I` a second one explains; then nothing is written to `out`, but for a write
+/// fault.
 ///
 /// `bad line I` names the first bad line of a list, `refused N Name ..` a refusal by its published
 /// number and name (docs/FORMATS.md). A read that fails, or that gives more than 64 MiB, is
@@ -105,7 +106,8 @@ pub fn run<S: AsStr, R: Read, O: Write, E: Write>(
     }
 }
 
-/// What is answered where the words could not be had: 2 where one is no UTF-8, and 1 for want of memory.
+/// What is answered where the words could not be had: 2 where one is no UTF-8, and 1 for want of
+/// memory.
 pub fn refuse_words<E: Write>(error: &io::Error, err: &mut E) -> u8
     ensures memory { error_kind error.now ≡ ErrorKind.OutOfMemory → result ≡ 1 }
     ensures other { error_kind error.now ≢ ErrorKind.OutOfMemory → result ≡ 2 }

@@ -25,7 +25,8 @@ pub enum InputFault {
     OutOfMemory,
 }
 
-/// All bytes of the input, 64 MiB at most. `TooLong` only where there are more; `Read` where a read fails; `OutOfMemory`.
+/// All bytes of the input, 64 MiB at most. `TooLong` only where there are more; `Read` where a read
+/// fails; `OutOfMemory`.
 pub fn read_input<R: Read>(alloc: Global, input: &mut R) -> Result<Vec<u8>, InputFault>
     ensures found { IfOk result (λ bytes. IfSome (R.remaining input.old) (λ text. bytes.items ≡ text)) }
     ensures limit { IfOk result (λ bytes. length bytes.items ≤ 67108864) }
@@ -41,7 +42,8 @@ pub fn read_input<R: Read>(alloc: Global, input: &mut R) -> Result<Vec<u8>, Inpu
     }
 }
 
-/// Writes bytes by one call, and gives how many were taken: none where it was interrupted. `Write` where that fails, or takes none.
+/// Writes bytes by one call, and gives how many were taken: none where it was interrupted. `Write`
+/// where that fails, or takes none.
 fn write_some<W: Write>(out: &mut W, bytes: &[u8]) -> Result<usize, Fault>
     ensures bound { WritesAtMost result bytes.now }
     ensures written { WriteAppends (W.contents out.old) (W.contents out.new) result bytes.now }

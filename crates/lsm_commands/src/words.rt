@@ -40,8 +40,8 @@ pub(crate) fn sequence(word: &[u8]) -> Option<u64>
     digits(0, word)
 }
 
-/// Takes the bytes that a word spells. `false` where it spells none, or more than `most`; what `out` then holds is not
-/// specified.
+/// Takes the bytes that a word spells. `false` where it spells none, or more than `most`; what
+/// `out` then holds is not specified.
 #[tactic(auto, unfolding(crate::specs::EntryReading::bytes_at))]
 pub(crate) fn read_bytes(out: &mut Vec<u8>, most: usize, word: &[u8]) -> Result<bool, AllocError>
     ensures { IfOk result (λ found. Reads found out.new.items (bytes_at most word.now)) }

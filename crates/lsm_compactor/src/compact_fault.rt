@@ -16,7 +16,8 @@ use std::fmt;
 /// What a compaction of a directory could not do. It prints as a text without a newline.
 #[derive(Debug, Drop)]
 pub enum CompactFault {
-    /// Memory ran out, the directory was not opened, a shelf failed to fork, the database refused to collect, or a write failed.
+    /// Memory ran out, the directory was not opened, a shelf failed to fork, the database refused
+    /// to collect, or a write failed.
     Writer(WriterFault),
     /// A worker ended early.
     Worker(WorkerFault),

@@ -109,7 +109,8 @@ fn options_asked<S: AsStr>(words: &[S]) -> Option<CompactOptions>
     }
 }
 
-/// The compaction that words ask for; none exactly where they ask for something else, or are not of the form.
+/// The compaction that words ask for; none exactly where they ask for something else, or are not of
+/// the form.
 pub fn compacting_asked<'a, S: AsStr>(words: &'a [S]) -> Option<CompactLine<'a>>
     ensures only { IfSome result (λ l. AsksToCompact l.options.workers l.options.progress l.path.now (map S.text words.now)) }
     ensures found { (n : ℕ) (progress : Bool) (path : List ℕ) → AsksToCompact n progress path (map S.text words.now)

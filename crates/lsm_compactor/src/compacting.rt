@@ -31,7 +31,8 @@ use std::marker::Brand;
 use std::sync::Wait;
 use std::thread::Threads;
 
-/// Opens the directory of a shelf, says so where that is asked for, and mans it with so many workers.
+/// Opens the directory of a shelf, says so where that is asked for, and mans it with so many
+/// workers.
 #[tactic(auto, using(crate::proofs::Quiet::keeps_same))]
 fn man<N: Boarded, S: Shelf, R: Wait, E: Write>(
     rt: &R,
@@ -60,7 +61,8 @@ fn man<N: Boarded, S: Shelf, R: Wait, E: Write>(
     }
 }
 
-/// Lets workers compact a store, one for each shelf; each job that they begin is said where that is asked for.
+/// Lets workers compact a store, one for each shelf; each job that they begin is said where that is
+/// asked for.
 #[tactic(auto, using(crate::proofs::Quiet::keeps_same))]
 fn set_to_work<N: Boarded, S: Shelf, R: Threads + Wait + Sync, E: Write + Send>(
     rt: &R,
@@ -134,7 +136,8 @@ fn reply<O: Write>(out: &mut O, installed: u128) -> io::Result<()>
     out.flush()
 }
 
-/// Opens the directory of a shelf, lets so many workers compact it, removes what nothing names any more, and writes the reply.
+/// Opens the directory of a shelf, lets so many workers compact it, removes what nothing names any
+/// more, and writes the reply.
 fn compact_as<N: Boarded, S: Shelf, R: Threads + Wait + Sync, O: Write, E: Write + Send>(
     rt: &R,
     alloc: Global,
@@ -162,7 +165,8 @@ fn compact_as<N: Boarded, S: Shelf, R: Threads + Wait + Sync, O: Write, E: Write
     }
 }
 
-/// Opens the directory of a shelf, lets so many workers compact it, removes what nothing names any more, and writes `installed M`.
+/// Opens the directory of a shelf, lets so many workers compact it, removes what nothing names any
+/// more, and writes `installed M`.
 #[tactic(auto, using(crate::proofs::Quiet::keeps_same))]
 pub(crate) fn compact_to<S: Shelf, R: Threads + Wait + Sync, O: Write, E: Write + Send>(
     rt: &R,

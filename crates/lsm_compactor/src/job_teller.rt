@@ -5,7 +5,8 @@ use lsm_store::Gate;
 use std::io::Write;
 use std::sync::{Mutex, Wait};
 
-/// Says on standard error which worker begins which job, a line each, counting workers from 1; workers share it. What can't be written is left out.
+/// Says on standard error which worker begins which job, a line each, counting workers from 1;
+/// workers share it. What can't be written is left out.
 #[derive(Drop)]
 pub(crate) struct JobTeller<'a, R: Wait + Sync, E: Write> {
     rt: &'a R,

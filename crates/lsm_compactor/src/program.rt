@@ -37,13 +37,16 @@ fn status_of<E: Write>(done: Result<(), CompactFault>, err: &mut E) -> u8
     }
 }
 
-/// Opens the database on the shelf, compacts it by so many workers (1 to 8 are meant), each in a thread of its own with a fork of the
-/// shelf, until none of them finds anything left to do, removes the tables that nothing names any more, writes `installed M`, and
-/// answers the exit status: 0 where it is done, and 1 where it is refused. A fault is one line on `err`: that of the first worker, in
-/// their order, that has one, and then nothing is removed; else what refused the opening, the removal or the write.
+/// Opens the database on the shelf, compacts it by so many workers (1 to 8 are meant), each in a
+/// thread of its own with a fork of the shelf, until none of them finds anything left to do,
+/// removes the tables that nothing names any more, writes `installed M`, and answers the exit
+/// status: 0 where it is done, and 1 where it is refused. A fault is one line on `err`: that of the
+/// first worker, in their order, that has one, and then nothing is removed; else what refused the
+/// opening, the removal or the write.
 ///
-/// Where progress is asked for, lines on `err` say what was opened, each job that a worker begins, how many results were installed, and
-/// how many files were removed. A line that can't be written is left out.
+/// Where progress is asked for, lines on `err` say what was opened, each job that a worker begins,
+/// how many results were installed, and how many files were removed. A line that can't be written
+/// is left out.
 ///
 /// Opening begins a new manifest; a database that is not there is not begun.
 #[tactic(auto, using(crate::proofs::Quiet::quietly))]

@@ -59,7 +59,8 @@ fn write_removed<E: Write>(err: &mut E, files: usize) -> io::Result<()>
     writeln!(err, "removed {files} files")
 }
 
-/// Says what the current version of a state has, where that is asked for. What can't be written is left out.
+/// Says what the current version of a state has, where that is asked for. What can't be written is
+/// left out.
 #[tactic(auto, using(crate::proofs::Quiet::keeps_same))]
 pub(crate) fn tell_opened<N: Boarded, S: Shelf, E: Write>(
     state: &State<N, S>,
@@ -75,7 +76,8 @@ pub(crate) fn tell_opened<N: Boarded, S: Shelf, E: Write>(
     }
 }
 
-/// Says how many results workers have installed, where that is asked for. What can't be written is left out.
+/// Says how many results workers have installed, where that is asked for. What can't be written is
+/// left out.
 #[tactic(auto, using(crate::proofs::Quiet::keeps_same))]
 pub(crate) fn tell_installed<E: Write>(results: u128, asked: bool, err: &mut E)
     ensures quiet { IsFalse asked → Keeps (E.contents err.old) (E.contents err.new) }

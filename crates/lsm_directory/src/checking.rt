@@ -117,7 +117,8 @@ fn files_in<N: Naming, S: Shelf>(version: &Version<N, S>) -> u64 {
     count
 }
 
-/// A line for each level, the last sequence, and how many bytes at the end of the manifest hold no whole record.
+/// A line for each level, the last sequence, and how many bytes at the end of the manifest hold no
+/// whole record.
 #[tactic(auto, unfolding(crate::specs::Listing::check_text), using(crate::proofs::ListLaws::level_more, crate::proofs::ListLaws::levels_none, crate::proofs::FaultLaws::read_fault_later, crate::proofs::Quiet::keeps_same, crate::proofs::Quiet::keeps_then))]
 pub(crate) fn describe<N: Naming, S: Shelf, B: Blocks<S>, E: Write>(
     blocks: &mut B,

@@ -144,7 +144,8 @@ fn perform_on<N: Naming, S: Shelf, O: Write, E: Write>(
     write_output(out, text.as_slice())
 }
 
-/// Opens the directory of a shelf to read, and does what a command asks of it. Nothing is written there.
+/// Opens the directory of a shelf to read, and does what a command asks of it. Nothing is written
+/// there.
 #[tactic(auto, using(crate::proofs::Outcomes::reads_none, crate::proofs::Outcomes::reads_later, crate::proofs::Quiet::keeps_same))]
 pub(crate) fn perform<N: Naming, S: Shelf, R: Wait, O: Write, E: Write>(
     rt: &R,

@@ -56,7 +56,8 @@ fn sum_of(a: u64, b: u64) -> Result<u64, ReadFault>
     }
 }
 
-/// How many entries the tables of a level have. Each table that is counted is a file more of the progress.
+/// How many entries the tables of a level have. Each table that is counted is a file more of the
+/// progress.
 #[tactic(auto, using(crate::proofs::ListLaws::sum_more, crate::proofs::ListLaws::sum_all, lsm_table::proofs::CallerLemmas::read_counted_later, crate::proofs::Quiet::keeps_same, crate::proofs::Quiet::keeps_then))]
 pub(crate) fn count_level<N: Naming, S: Shelf, B: Blocks<S>, E: Write>(
     blocks: &mut B,

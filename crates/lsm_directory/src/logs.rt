@@ -94,8 +94,8 @@ fn push_unread(
     Ok(())
 }
 
-/// Appends a line for each log that is not read, in the order of the files. The two numbers are those of the manifest (tags 2 and 9 of
-/// LevelDB's `db/version_edit.cc`).
+/// Appends a line for each log that is not read, in the order of the files. The two numbers are
+/// those of the manifest (tags 2 and 9 of LevelDB's `db/version_edit.cc`).
 #[tactic(auto, using(crate::proofs::LogLaws::logs_all))]
 pub(crate) fn push_logs(
     out: &mut Vec<u8>,

@@ -113,7 +113,8 @@ fn add_log<C: FolderCalls, R: Wait>(
     }
 }
 
-/// The files among these names that end like a log's, with their sizes. One that is gone is left out.
+/// The files among these names that end like a log's, with their sizes. One that is gone is left
+/// out.
 fn logs_among<C: FolderCalls, R: Wait>(
     rt: &R,
     alloc: Global,
@@ -133,8 +134,9 @@ fn logs_among<C: FolderCalls, R: Wait>(
     Ok(files)
 }
 
-/// The files of a folder whose names end like a log's, by name, with their sizes. The folder is asked for its names and for sizes alone: no
-/// file is opened. One that is gone when its size is asked is left out. `Device` where the folder fails.
+/// The files of a folder whose names end like a log's, by name, with their sizes. The folder is
+/// asked for its names and for sizes alone: no file is opened. One that is gone when its size is
+/// asked is left out. `Device` where the folder fails.
 pub fn log_files<C: FolderCalls, R: Wait>(
     rt: &R,
     alloc: Global,
@@ -150,8 +152,8 @@ pub fn log_files<C: FolderCalls, R: Wait>(
     logs_among(rt, alloc, folder, names)
 }
 
-/// The files beside a folder's tables at which a command looks: a check at those whose names end like a log's, and any other command at
-/// none, so that it asks nothing.
+/// The files beside a folder's tables at which a command looks: a check at those whose names end
+/// like a log's, and any other command at none, so that it asks nothing.
 fn files_beside<C: FolderCalls, R: Wait>(
     rt: &R,
     alloc: Global,
@@ -170,8 +172,9 @@ fn files_beside<C: FolderCalls, R: Wait>(
     }
 }
 
-/// Opens the system's folder of this path for a command: a shelf on it, and the files beside its tables at which the command looks.
-/// `Device` where it is no folder that can be opened, or where it fails.
+/// Opens the system's folder of this path for a command: a shelf on it, and the files beside its
+/// tables at which the command looks. `Device` where it is no folder that can be opened, or where
+/// it fails.
 pub fn open_folder<R: Files + AllocGlobal + Clone + Drop, W: Wait>(
     waits: &W,
     rt: R,

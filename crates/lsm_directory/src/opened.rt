@@ -12,8 +12,9 @@ use lsm_version::Version;
 use std::alloc::Global;
 use std::sync::{Arc, Wait};
 
-/// A directory that is opened to be read: its version, how many bytes at the end of its manifest hold no whole record, and the numbers
-/// that the manifest gives of the write-ahead log and of the one before it.
+/// A directory that is opened to be read: its version, how many bytes at the end of its manifest
+/// hold no whole record, and the numbers that the manifest gives of the write-ahead log and of the
+/// one before it.
 #[derive(Drop)]
 pub struct Opened<N: Naming, S: Shelf> {
     pub version: Version<N, S>,
@@ -22,7 +23,8 @@ pub struct Opened<N: Naming, S: Shelf> {
     pub prev_log: u64,
 }
 
-/// Opens the directory of a shelf to read: reads the manifest that it names, and reads and judges every table. Nothing is written.
+/// Opens the directory of a shelf to read: reads the manifest that it names, and reads and judges
+/// every table. Nothing is written.
 ///
 /// The refusals of `Journal::recover`, then those of `Version::check`.
 #[tactic(auto, using(crate::proofs::Outcomes::reads_refused, crate::proofs::Outcomes::reads_found))]

@@ -115,9 +115,9 @@ fn begin<S: Shelf, R: Wait, O: Write, E: Write>(
     perform::<Brand, S, R, O, E>(rt, alloc, shelf, registry, request, out, err)
 }
 
-/// Opens the directory of a shelf to read, does what is asked of it, and answers the exit status: 0 where it is done, and 1 where
-/// it is refused. A fault is one line on `err`; `check` and `scan` name in it the file of which a table is refused. Nothing is written
-/// in the directory.
+/// Opens the directory of a shelf to read, does what is asked of it, and answers the exit status: 0
+/// where it is done, and 1 where it is refused. A fault is one line on `err`; `check` and `scan`
+/// name in it the file of which a table is refused. Nothing is written in the directory.
 #[tactic(auto, using(crate::proofs::Quiet::keeps_same))]
 pub fn run<S: Shelf, R: Wait, O: Write, E: Write>(
     rt: &R,
@@ -142,7 +142,8 @@ pub fn run<S: Shelf, R: Wait, O: Write, E: Write>(
     }
 }
 
-/// What is answered where the shelf of a directory could not be opened: 1, with the line of its refusal on `err`.
+/// What is answered where the shelf of a directory could not be opened: 1, with the line of its
+/// refusal on `err`.
 pub fn refuse_shelf<E: Write>(fault: ShelfFault, err: &mut E) -> u8
     ensures { result ≡ 1 }
 {

@@ -30,7 +30,8 @@ fn write_files<E: Write>(err: &mut E, done: u64, all: u64) -> io::Result<()>
     writeln!(err, "checked {done} of {all} files")
 }
 
-/// Says how many keys were passed, where that is asked for and it is a round number. What can't be written is left out.
+/// Says how many keys were passed, where that is asked for and it is a round number. What can't be
+/// written is left out.
 #[tactic(auto, using(crate::proofs::Quiet::keeps_same))]
 pub(crate) fn tell_keys<E: Write>(err: &mut E, asked: bool, keys: u64)
     ensures quiet { IsFalse asked → Keeps (E.contents err.old) (E.contents err.new) }
@@ -42,7 +43,8 @@ pub(crate) fn tell_keys<E: Write>(err: &mut E, asked: bool, keys: u64)
 }
 
 impl Progress {
-    /// One more file is done; it is said where that is asked for. What can't be written is left out.
+    /// One more file is done; it is said where that is asked for. What can't be written is left
+    /// out.
     #[tactic(auto, using(crate::proofs::Quiet::keeps_same))]
     pub(crate) fn pass_file<E: Write>(&mut self, err: &mut E)
         ensures asked { self.new.asked ≡ self.old.asked }

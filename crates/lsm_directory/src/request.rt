@@ -3,8 +3,9 @@
 use crate::folder_file::FolderFile;
 use lsm_commands::{DirectoryCommand, Form};
 
-/// What is asked of a directory: the command; the form of keys and values; the files beside its tables, as `log_files` gives them, at which only `check` looks, for
-/// logs; and whether `check` and `scan` are to say on standard error how far they are.
+/// What is asked of a directory: the command; the form of keys and values; the files beside its
+/// tables, as `log_files` gives them, at which only `check` looks, for logs; and whether `check`
+/// and `scan` are to say on standard error how far they are.
 #[derive(Clone, Copy, Debug)]
 pub struct Request<'a> {
     pub command: &'a DirectoryCommand,

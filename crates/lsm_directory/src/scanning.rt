@@ -47,7 +47,8 @@ fn print_pair<O: Write>(
     write_bytes(out, line.as_slice())
 }
 
-/// Goes on to the next pair, and prints it where it is within the bounds. `false` where none is left that is.
+/// Goes on to the next pair, and prints it where it is within the bounds. `false` where none is
+/// left that is.
 #[tactic(auto, using(crate::proofs::FaultLaws::answer_fault_later, crate::proofs::FaultLaws::answer_fault_from_output))]
 fn print_next<N: Naming, S: Shelf, B: Blocks<S>, O: Write>(
     scan: &mut Scan<N, S>,

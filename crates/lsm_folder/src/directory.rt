@@ -11,7 +11,8 @@ use boxcar::Pushed;
 use std::alloc::{AllocError, Global};
 use std::collections::BTreeMap;
 
-/// Files by number, also those that no name has; the files of the names; and those of the names that are durable.
+/// Files by number, also those that no name has; the files of the names; and those of the names
+/// that are durable.
 #[derive(Drop)]
 pub(crate) struct Directory {
     pub(crate) files: Vec<File>,

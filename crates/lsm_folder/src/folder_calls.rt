@@ -12,10 +12,11 @@ use std::sync::Wait;
 
 /// The calls on one folder. Files are named by their names in it.
 ///
-/// Each method that takes `&mut self` makes one call and notes it with its answer, the fault where it was refused (`noted`):
-/// exactly one, also where memory was refused before the call acted. `OutOfMemory` can come from each of them; `fault` says
-/// which others can. Nothing is said of what a read answers: that is `AreHonest`, a premise on the type. One value has one user;
-/// `fork` makes another on the same folder.
+/// Each method that takes `&mut self` makes one call and notes it with its answer, the fault where
+/// it was refused (`noted`): exactly one, also where memory was refused before the call acted.
+/// `OutOfMemory` can come from each of them; `fault` says which others can. Nothing is said of what
+/// a read answers: that is `AreHonest`, a premise on the type. One value has one user; `fork` makes
+/// another on the same folder.
 pub trait FolderCalls: Drop {
     /// What stands for a file that was made or read whole.
     type Mark: Mark;
@@ -29,24 +30,27 @@ pub trait FolderCalls: Drop {
     /// The mark is of a file of this folder.
     ghost is_of: { Place → Self.Mark → Type 0 };
 
-    /// What gives memory to the calls that are not passed an allocator, and may give it to the caller's names.
+    /// What gives memory to the calls that are not passed an allocator, and may give it to the
+    /// caller's names.
     fn alloc(&self) -> Global;
 
-    /// Makes a file that was not there, with these bytes. `Exists` where a file has the name. After `Failed` the file may be
-    /// there with a part of the bytes.
+    /// Makes a file that was not there, with these bytes. `Exists` where a file has the name. After
+    /// `Failed` the file may be there with a part of the bytes.
     fn make<R: Wait>(&mut self, rt: &R, name: &str, bytes: &[u8]) -> Result<Self::Mark, FolderFault>
         ensures noted { calls self.new ≡ made name.now bytes.now (answer_of result) ∷ calls self.old }
         ensures place { place self.new ≡ place self.old }
         ensures mark { IfOk result (λ m. (Self.Mark.name m ≡ name.now) × (Self.Mark.image m ≡ bytes.now) × is_of (place self.old) m) }
         ensures fault { IfErr result NotMissing };
 
-    /// Makes or empties a file, and puts these bytes into it. After a refusal it may be there with a part of them.
+    /// Makes or empties a file, and puts these bytes into it. After a refusal it may be there with
+    /// a part of them.
     fn write<R: Wait>(&mut self, rt: &R, name: &str, bytes: &[u8]) -> Result<(), FolderFault>
         ensures noted { calls self.new ≡ wrote name.now bytes.now result ∷ calls self.old }
         ensures place { place self.new ≡ place self.old }
         ensures fault { IfErr result NotNamed };
 
-    /// Puts these bytes behind those of a file. `Missing` where there is none. After `Failed` a front of them may be there.
+    /// Puts these bytes behind those of a file. `Missing` where there is none. After `Failed` a
+    /// front of them may be there.
     fn append<R: Wait>(&mut self, rt: &R, name: &str, bytes: &[u8]) -> Result<(), FolderFault>
         ensures noted { calls self.new ≡ appended name.now bytes.now result ∷ calls self.old }
         ensures place { place self.new ≡ place self.old }
@@ -64,7 +68,8 @@ pub trait FolderCalls: Drop {
         ensures place { place self.new ≡ place self.old }
         ensures fault { IfErr result NotNamed };
 
-    /// Gives the file of the first name the second, in place of the file that has it. `Missing` where no file has the first.
+    /// Gives the file of the first name the second, in place of the file that has it. `Missing`
+    /// where no file has the first.
     fn rename<R: Wait>(&mut self, rt: &R, from: &str, to: &str) -> Result<(), FolderFault>
         ensures noted { calls self.new ≡ renamed from.now to.now result ∷ calls self.old }
         ensures place { place self.new ≡ place self.old }
@@ -84,7 +89,8 @@ pub trait FolderCalls: Drop {
         ensures place { place self.new ≡ place self.old }
         ensures fault { IfErr result NotExists };
 
-    /// Reads `len` bytes at `offset` of a file of which the folder gave a mark. `Missing` where it was removed.
+    /// Reads `len` bytes at `offset` of a file of which the folder gave a mark. `Missing` where it
+    /// was removed.
     fn read_part(
         &mut self,
         alloc: Global,
@@ -125,13 +131,14 @@ pub trait FolderCalls: Drop {
         ensures place { place self.new ≡ place self.old }
         ensures fault { IfErr result NotNamed };
 
-    /// Another value on the same folder, which was asked nothing yet. Refused only by `OutOfMemory`.
+    /// Another value on the same folder, which was asked nothing yet. Refused only by
+    /// `OutOfMemory`.
     fn fork(&self) -> Result<Self, FolderFault>
         ensures fork { IfOk result (λ f. (calls f ≡ []) × (place f ≡ place self.now)) }
         ensures fault { IfErr result (λ e. e ≡ FolderFault.OutOfMemory) };
 
-    /// Whether two marks are one, made by one call and its copies. Marks of different files or calls may have one image and
-    /// are told apart all the same.
+    /// Whether two marks are one, made by one call and its copies. Marks of different files or
+    /// calls may have one image and are told apart all the same.
     fn same(&self, a: &Self::Mark, b: &Self::Mark) -> bool
         requires here { is_of (place self.now) a.now × is_of (place self.now) b.now }
         ensures copy { a.now ≡ b.now → IsTrue result }

@@ -3,7 +3,8 @@
 use std::sync::Arc;
 use std::sync::atomic::AtomicBool;
 
-/// The bytes of a file, which never change: a file that is written or appended to has another image.
+/// The bytes of a file, which never change: a file that is written or appended to has another
+/// image.
 #[derive(Drop)]
 pub struct Image {
     pub(crate) bytes: Vec<u8>,

@@ -1,9 +1,10 @@
-//! The calls on one folder that a LevelDB-like store makes, as a trait: each call is noted with its answer in a list that only
-//! contracts read.
+//! The calls on one folder that a LevelDB-like store makes, as a trait: each call is noted with its
+//! answer in a list that only contracts read.
 //!
-//! Stands on `boxcar` for vectors whose values stay where they are, on `atomic_table` for one proof by hand, and on `thiserror`.
-//! Its contract: a value's list of calls grows by exactly the call that was made. Two folders: the system's, and one in memory
-//! for which it is proved that each read answers the bytes that were written.
+//! Stands on `boxcar` for vectors whose values stay where they are, on `atomic_table` for one proof
+//! by hand, and on `thiserror`. Its contract: a value's list of calls grows by exactly the call
+//! that was made. Two folders: the system's, and one in memory for which it is proved that each
+//! read answers the bytes that were written.
 #![tactic(auto)]
 
 // What a folder is asked, and why it refuses.

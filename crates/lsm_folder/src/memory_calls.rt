@@ -48,17 +48,18 @@ impl MemoryFolder {
         })
     }
 
-    /// Lets so many more calls through, counted over all forks, cuts the next, and fails each after it with `Failed`. The call
-    /// that is cut answers `Failed` too, and has taken effect or not.
+    /// Lets so many more calls through, counted over all forks, cuts the next, and fails each after
+    /// it with `Failed`. The call that is cut answers `Failed` too, and has taken effect or not.
     pub fn stops_after(&self, calls: u64, takes_effect: bool) {
         self.files.stops.after(calls, takes_effect);
     }
 
-    /// The folder as it is found after a crash at this moment, as a folder of its own that does not stop.
+    /// The folder as it is found after a crash at this moment, as a folder of its own that does not
+    /// stop.
     ///
-    /// A file has the bytes that a sync made durable, and the first `keep` of those that were written behind them. The names are
-    /// those of the last sync of the folder, or, where `names_stay`, those of this moment: a disk may do either. Refused only
-    /// by `OutOfMemory`.
+    /// A file has the bytes that a sync made durable, and the first `keep` of those that were
+    /// written behind them. The names are those of the last sync of the folder, or, where
+    /// `names_stay`, those of this moment: a disk may do either. Refused only by `OutOfMemory`.
     pub fn reopen<R: Wait>(
         &self,
         rt: &R,

@@ -16,8 +16,8 @@ use std::sync::{Arc, Mutex, Wait};
 /// The most bytes that a file may have to be read whole: 1 GiB.
 const MAX_LOAD: usize = 1 << 30;
 
-/// What forks share: images, to which images are only added; the files and their names, under a lock; and at which call the
-/// folder stops.
+/// What forks share: images, to which images are only added; the files and their names, under a
+/// lock; and at which call the folder stops.
 #[derive(Drop)]
 pub(crate) struct MemoryFiles {
     pub(crate) images: boxcar::Vec<Image>,
@@ -240,7 +240,8 @@ impl MemoryFiles {
         Ok(self.images.value(&token).bytes.len() as u64)
     }
 
-    /// A part of a file of which a mark was given. No lock is taken: a flag beside the bytes says that the file is gone.
+    /// A part of a file of which a mark was given. No lock is taken: a flag beside the bytes says
+    /// that the file is gone.
     pub(crate) fn part(
         &self,
         alloc: Global,

@@ -8,7 +8,8 @@ use crate::tags::tag_again;
 use boxcar::Pushed;
 use boxcar::tag::Tag;
 
-/// What a folder in memory hands out for a file: its name, for contracts alone, and what shows where its bytes are.
+/// What a folder in memory hands out for a file: its name, for contracts alone, and what shows
+/// where its bytes are.
 #[derive(Drop)]
 pub struct MemoryMark {
     pub(crate) name: Tag,

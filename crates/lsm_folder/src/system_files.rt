@@ -1,5 +1,5 @@
-//! One call of the system for each call on a folder, with what cannot be avoided: a file is opened to be read, written or
-//! synced. No contract says what these do; they are to be read.
+//! One call of the system for each call on a folder, with what cannot be avoided: a file is opened
+//! to be read, written or synced. No contract says what these do; they are to be read.
 
 ghost use Rattle.std.specs.Prelude.{◌≤◌, ◌^◌, length, IfOk};
 

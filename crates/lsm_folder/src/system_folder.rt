@@ -5,8 +5,8 @@ use crate::system_mark::Facts;
 use std::fs::Files;
 use std::sync::Arc;
 
-/// A folder of the system, named by its path. Each method makes one call of `std::fs`, on the file that it notes
-/// (`system_files.rt`): that is to be read, since no contract says what a file has.
+/// A folder of the system, named by its path. Each method makes one call of `std::fs`, on the file
+/// that it notes (`system_files.rt`): that is to be read, since no contract says what a file has.
 #[derive(Drop)]
 pub struct SystemFolder<R: Files + AllocGlobal + Clone + Drop> {
     pub(crate) rt: R,

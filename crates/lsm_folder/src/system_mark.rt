@@ -13,8 +13,8 @@ pub struct Facts {
     pub(crate) image: Tag,
 }
 
-/// What a folder of the system hands out for a file. It is one index among the marks of the folder, so that two marks can be
-/// compared; name and image are read by contracts alone.
+/// What a folder of the system hands out for a file. It is one index among the marks of the folder,
+/// so that two marks can be compared; name and image are read by contracts alone.
 #[derive(Drop)]
 pub struct SystemMark {
     pub(crate) token: Pushed<Facts>,

@@ -14,10 +14,12 @@ use std::alloc::Global;
 use std::sync::Wait;
 
 impl Journal {
-    /// Begins a database where there is none: manifest 1, which records no table, and 2 as the next file number. The limit is in bytes.
+    /// Begins a database where there is none: manifest 1, which records no table, and 2 as the next
+    /// file number. The limit is in bytes.
     ///
-    /// `Taken` with the number of the manifest that is there; then `OutOfMemory`, `Device`, and `Taken` of number 1 where another began
-    /// one meanwhile. A refused call sent nothing that took effect; after `Device` the manifest may be there or not.
+    /// `Taken` with the number of the manifest that is there; then `OutOfMemory`, `Device`, and
+    /// `Taken` of number 1 where another began one meanwhile. A refused call sent nothing that took
+    /// effect; after `Device` the manifest may be there or not.
     pub fn create<S: Shelf, R: Wait>(
         rt: &R,
         alloc: Global,

@@ -5,8 +5,9 @@ ghost use Rattle.lsm_journal.specs.HeldManifest.{is_at_limit};
 
 use std::marker::Model;
 
-/// The manifest that a database holds: its number and bytes, the log numbers that it keeps from the manifest it was read from (tags 2
-/// and 9 of LevelDB's `db/version_edit.cc`), and the size in bytes from which a new manifest is due.
+/// The manifest that a database holds: its number and bytes, the log numbers that it keeps from the
+/// manifest it was read from (tags 2 and 9 of LevelDB's `db/version_edit.cc`), and the size in
+/// bytes from which a new manifest is due.
 #[derive(Debug, Drop)]
 pub struct Journal {
     pub(crate) number: u64,

@@ -8,8 +8,9 @@ ghost use Rattle.lsm_version.specs.Versions.{IsWhole};
 
 use lsm_table::{Naming, Registry, Shelf, Slip, TableRef};
 
-/// The keys of tables that come fit, as `VersionChange::new` asks of its caller: those of each record that stands for a table. A key is
-/// not longer than its table's image, which has at most 1 GiB, as its receipt says.
+/// The keys of tables that come fit, as `VersionChange::new` asks of its caller: those of each
+/// record that stands for a table. A key is not longer than its table's image, which has at most 1
+/// GiB, as its receipt says.
 pub fn added_keys_fit<N: Naming, S: Shelf>(
     registry: &Registry<S::Receipt>,
     added: &[(usize, TableRef<N, S>)],

@@ -33,8 +33,8 @@ pub fn differences_fit()
     changed_tables();
 }
 
-/// The keys of a record that stands for a table fit where its image is not above 1 GiB, as that of each receipt is: a key is not longer
-/// than the table's bytes.
+/// The keys of a record that stands for a table fit where its image is not above 1 GiB, as that of
+/// each receipt is: a key is not longer than the table's bytes.
 pub fn whole_keys_fit()
     ensures { (t : Table) → IsWhole t → length t.image ≤ 2 ^ 30 → FitsKey t.smallest × FitsKey t.largest }
 {}

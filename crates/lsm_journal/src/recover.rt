@@ -38,11 +38,12 @@ fn edits_of(alloc: Global, records: &[Bytes]) -> Result<Vec<Edit>, EditFault>
 }
 
 impl Journal {
-    /// Reads the manifest that the directory names, and what its edits come to. The limit is in bytes.
+    /// Reads the manifest that the directory names, and what its edits come to. The limit is in
+    /// bytes.
     ///
-    /// The shelf's refusals, `Missing` where there is no manifest; then those of the log, of the first record that is no edit, and of the
-    /// edits together. Bytes at the end that hold no whole record are no fault: a journal with such a rest goes on only with a new
-    /// manifest.
+    /// The shelf's refusals, `Missing` where there is no manifest; then those of the log, of the
+    /// first record that is no edit, and of the edits together. Bytes at the end that hold no whole
+    /// record are no fault: a journal with such a rest goes on only with a new manifest.
     pub fn recover<S: Shelf, R: Wait>(
         rt: &R,
         alloc: Global,

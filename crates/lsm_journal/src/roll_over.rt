@@ -13,12 +13,13 @@ use std::alloc::Global;
 use std::sync::Wait;
 
 impl Journal {
-    /// Begins a new manifest, of one edit that spells the version held: comparator, log numbers, next file number, last sequence,
-    /// pointers by level, files by level. Its number is the next file number, so the next one is one more.
+    /// Begins a new manifest, of one edit that spells the version held: comparator, log numbers,
+    /// next file number, last sequence, pointers by level, files by level. Its number is the next
+    /// file number, so the next one is one more.
     ///
-    /// Its bytes are made before anything is sent: after `OutOfMemory` nothing was. `Taken` where the directory's manifest has this
-    /// number, `Device` where the shelf failed; the directory then names the old manifest or the new one whole. After a refusal the
-    /// journal is as before.
+    /// Its bytes are made before anything is sent: after `OutOfMemory` nothing was. `Taken` where
+    /// the directory's manifest has this number, `Device` where the shelf failed; the directory
+    /// then names the old manifest or the new one whole. After a refusal the journal is as before.
     pub fn roll_over<N: Naming, S: Shelf, R: Wait>(
         &mut self,
         rt: &R,

@@ -74,12 +74,14 @@ impl Journal {
         Ok(())
     }
 
-    /// Sends a change, and gives the next file number afterwards. Below the limit the record of its edit is appended. From the limit on a
-    /// new manifest begins, which spells the version after the change; its number is the next file number, so the next one is one more.
+    /// Sends a change, and gives the next file number afterwards. Below the limit the record of its
+    /// edit is appended. From the limit on a new manifest begins, which spells the version after
+    /// the change; its number is the next file number, so the next one is one more.
     ///
-    /// The bytes are made before anything is sent: after `OutOfMemory` nothing was. Of an append `Missing` and `Device`: after `Device`
-    /// the shelf's manifest is the old bytes and a prefix of the new ones. Of a new manifest `Taken` and `Device`: after `Device` the
-    /// directory names the old manifest or the new one whole. After a refusal the journal is as before.
+    /// The bytes are made before anything is sent: after `OutOfMemory` nothing was. Of an append
+    /// `Missing` and `Device`: after `Device` the shelf's manifest is the old bytes and a prefix of
+    /// the new ones. Of a new manifest `Taken` and `Device`: after `Device` the directory names the
+    /// old manifest or the new one whole. After a refusal the journal is as before.
     pub fn send<N: Naming, S: Shelf, R: Wait>(
         &mut self,
         rt: &R,

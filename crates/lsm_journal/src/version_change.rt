@@ -18,8 +18,9 @@ use lsm_version::Version;
 use std::alloc::{AllocError, Global};
 use std::marker::Model;
 
-/// A change of a version: the files that go, the tables that come, the pointer that a level gets, and the last sequence afterwards.
-/// Both the version after it and its edit in the manifest are made from it.
+/// A change of a version: the files that go, the tables that come, the pointer that a level gets,
+/// and the last sequence afterwards. Both the version after it and its edit in the manifest are
+/// made from it.
 #[derive(Drop)]
 pub struct VersionChange<N: Naming, S: Shelf> {
     pub(crate) deleted: Vec<DeletedFile>,
@@ -39,9 +40,10 @@ impl<N: Naming, S: Shelf> Model for VersionChange<N, S> {
 }
 
 impl<N: Naming, S: Shelf> VersionChange<N, S> {
-    /// A change of these parts: files that go, by level, 0 to 6, and number; tables that come, each with its level, 0 to 6; a level, 0
-    /// to 6, with its new pointer, an internal key; the last sequence afterwards. Keys are internal keys shorter than 4 GiB. The
-    /// deletions are put in order, by level, then number.
+    /// A change of these parts: files that go, by level, 0 to 6, and number; tables that come, each
+    /// with its level, 0 to 6; a level, 0 to 6, with its new pointer, an internal key; the last
+    /// sequence afterwards. Keys are internal keys shorter than 4 GiB. The deletions are put in
+    /// order, by level, then number.
     pub fn new(
         deleted: Vec<DeletedFile>,
         added: Vec<(usize, TableRef<N, S>)>,

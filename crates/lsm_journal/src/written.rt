@@ -44,7 +44,8 @@ pub(crate) fn manifest_of(alloc: Global, edit: &Edit) -> Result<Vec<u8>, AllocEr
     Ok(bytes)
 }
 
-/// The first edit of a new database: the name of the comparator, no log, the next file number 2, and no sequence yet.
+/// The first edit of a new database: the name of the comparator, no log, the next file number 2,
+/// and no sequence yet.
 pub(crate) fn first_edit(alloc: Global) -> Result<Edit, AllocError>
     ensures { IfOk result (λ edit. edit ≡ first_edit) }
 {

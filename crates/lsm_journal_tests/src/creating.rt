@@ -4,8 +4,8 @@ use lsm_journal::{Journal, RecoverFault};
 use lsm_table::{MemoryShelf, Shelf, ShelfFault};
 use std::test::Fail;
 
-/// The record of a new database's first edit: checksum, length, type; the comparator's name, log number 0, next file number 2, last
-/// sequence 0.
+/// The record of a new database's first edit: checksum, length, type; the comparator's name, log
+/// number 0, next file number 2, last sequence 0.
 pub(crate) const FIRST: &[u8; 41] =
     b"\x95\x7c\xb9\xc5\x22\x00\x01\x01\x1aleveldb.BytewiseComparator\x02\x00\x03\x02\x04\x00";
 

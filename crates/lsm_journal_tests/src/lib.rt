@@ -1,4 +1,5 @@
-//! Tests of `lsm_journal` by its public names: the bytes of known manifests, worked out by hand, and what a device that fails leaves.
+//! Tests of `lsm_journal` by its public names: the bytes of known manifests, worked out by hand,
+//! and what a device that fails leaves.
 #![tactic(auto)]
 
 #[cfg(test)]

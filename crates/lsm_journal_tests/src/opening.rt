@@ -14,7 +14,8 @@ use std::process::Abort;
 use std::sync::{Arc, Wait};
 use std::test::Fail;
 
-/// The edit that adds table 2 at level 0: 114 bytes, from "k" at 1 to "k" at 1; next file number 3, last sequence 1.
+/// The edit that adds table 2 at level 0: 114 bytes, from "k" at 1 to "k" at 1; next file number 3,
+/// last sequence 1.
 const ADDS_TWO: &[u8] =
     b"\x02\x00\x09\x00\x03\x03\x04\x01\x07\x00\x02\x72\x09k\x01\x01\x00\x00\x00\x00\x00\x00\x09k\x01\x01\x00\x00\x00\x00\x00\x00";
 

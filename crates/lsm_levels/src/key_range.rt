@@ -78,7 +78,8 @@ pub fn is_at_most(a: &[u8], b: &[u8]) -> bool
     a.cmp(b).is_le()
 }
 
-/// How the files of a level lie, of which these are the ranges in the level's order. Each is compared with the next one alone.
+/// How the files of a level lie, of which these are the ranges in the level's order. Each is
+/// compared with the next one alone.
 pub fn layout_of(ranges: &[KeyRange<'_>]) -> Layout
     ensures { IsLevel ranges.now → IsLaidOut ranges.now result }
 {

@@ -15,7 +15,8 @@ ghost use Rattle.lsm_levels.specs.Ranges.{MeetInKeys, ShareUsers};
 ghost use Rattle.lsm_levels.specs.Scanning.{IsScan, pairs_of};
 ghost use Rattle.lsm_levels.specs.Streams.{IsAscending, IsCut, IsMerge, streamed};
 
-/// The laws below hold where the files of a level lie apart in user keys, and where they lie in order of internal keys.
+/// The laws below hold where the files of a level lie apart in user keys, and where they lie in
+/// order of internal keys.
 pub fn levels_are_split()
     ensures apart { IsSplit Apart }
     ensures in_order { IsSplit InOrder }
@@ -81,8 +82,8 @@ pub fn plan_opens_its_job()
     ensures in_order { (v starts : List File) (plan : Plan) (job : Job) → IsLawful InOrder v → IsClosed v (Has starts) plan → IsJobOf v plan job → IsOpenIn v job }
 {}
 
-/// One remembered entry is enough to drop by: over an ascending list the stream keeps just the kept entries. Pieces of them, cut
-/// between user keys, are what the outputs of a merge have to be.
+/// One remembered entry is enough to drop by: over an ascending list the stream keeps just the kept
+/// entries. Pieces of them, cut between user keys, are what the outputs of a merge have to be.
 pub fn streaming_keeps_the_kept()
     ensures stream { (floor : ℕ) (ranges : List (UserKey × UserKey)) (merged : List Entry) → IsAscending merged
         → streamed floor ranges None merged ≡ kept_entries merged floor ranges }
@@ -90,8 +91,9 @@ pub fn streaming_keeps_the_kept()
         → IsCut level (kept_entries merged floor ranges) outs → Holds level (kept_entries es floor ranges) outs }
 {}
 
-/// The merge of sorted lists is in order, has the entries of one user key, sequence and kind just as the lists have them one after
-/// another, and has the lists' entries and no other. Where it ascends it is the merge that installs rest on.
+/// The merge of sorted lists is in order, has the entries of one user key, sequence and kind just
+/// as the lists have them one after another, and has the lists' entries and no other. Where it
+/// ascends it is the merge that installs rest on.
 pub fn merges_are_in_order()
     ensures lists { (place : ℕ) (es : List Entry) → IsSorted es → IsOrdered (placed_at place es) }
     ensures order { (ls : List (List Placed)) → AreOrdered ls → IsSorted (entries_of (merge_all ls)) }
@@ -106,24 +108,26 @@ pub fn scans_show_answers()
     ensures { (s : ℕ) (es : List Entry) → IsSorted es → IsScan s es (pairs_of s None es) }
 {}
 
-/// What is judged of tables one by one, level by level, and along the merge of all their entries makes a lawful version: one whose
-/// files lie apart where no two ranges of a level share a user key, and one whose files lie in order where none share an internal
-/// key.
+/// What is judged of tables one by one, level by level, and along the merge of all their entries
+/// makes a lawful version: one whose files lie apart where no two ranges of a level share a user
+/// key, and one whose files lie in order where none share an internal key.
 pub fn judged_versions_are_lawful()
     ensures apart { (levels : List (List Listed)) (depth : File → ℕ) (placed : List Placed) → IsJudged ShareUsers levels depth placed → IsLawful Apart (files_from 0 levels) }
     ensures in_order { (levels : List (List Listed)) (depth : File → ℕ) (placed : List Placed) → IsJudged MeetInKeys levels depth placed → IsLawful InOrder (files_from 0 levels) }
 {}
 
-/// A read goes by depths: the newest entry of a file is the newest of the version where no file of a lesser depth has an entry that the
-/// read allows, and no other file of its level has a newer one.
+/// A read goes by depths: the newest entry of a file is the newest of the version where no file of
+/// a lesser depth has an entry that the read allows, and no other file of its level has a newer
+/// one.
 pub fn reads_go_by_depth()
     ensures apart { GoesByDepth Apart }
     ensures in_order { GoesByDepth InOrder }
 {}
 
-/// The premises of the laws above can be met: here is a lawful version with a closed plan, its open job, outputs that hold what the
-/// job keeps, and the version after their install; the version after an ingest; and a lawful version with a user key that goes on in
-/// the next file of its level.
+/// The premises of the laws above can be met: here is a lawful version with a closed plan, its open
+/// job, outputs that hold what the job keeps, and the version after their install; the version
+/// after an ingest; and a lawful version with a user key that goes on in the next file of its
+/// level.
 pub fn premises_are_met()
     ensures install { (v : List File) × (starts : List File) × (plan : Plan) × (job : Job) × (outs : List File) × (w : List File) × IsLawful Apart v
         × IsClosed v (Has starts) plan × IsJobOf v plan job × IsOpenIn v job × AreOutputs v job (kept_entries (all_entries job.inputs) job.floor job.ranges) outs × Changed v job outs w }

@@ -8,7 +8,8 @@ use lsm_table::{Naming, Shelf};
 use std::alloc::{AllocError, Global};
 use std::marker::Model;
 
-/// A live job, with the numbers that were drawn for its outputs. Contracts see it as that (`Booked`).
+/// A live job, with the numbers that were drawn for its outputs. Contracts see it as that
+/// (`Booked`).
 #[derive(Drop)]
 pub struct LiveJob<N: Naming, S: Shelf> {
     job: Job<N, S>,

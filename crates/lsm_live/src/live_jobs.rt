@@ -10,7 +10,8 @@ use lsm_table::{Naming, Shelf};
 use std::alloc::{AllocError, Global};
 use std::marker::Model;
 
-/// The live jobs, in the order of their reservations, so that tickets rise. Contracts see them as that list.
+/// The live jobs, in the order of their reservations, so that tickets rise. Contracts see them as
+/// that list.
 #[derive(Drop)]
 pub struct LiveJobs<N: Naming, S: Shelf> {
     pub(crate) jobs: Vec<LiveJob<N, S>>,
@@ -56,7 +57,8 @@ impl<N: Naming, S: Shelf> LiveJobs<N, S> {
         self.jobs.len()
     }
 
-    /// Lends the jobs, in the order of their reservations. What holds of all live jobs is told here too.
+    /// Lends the jobs, in the order of their reservations. What holds of all live jobs is told here
+    /// too.
     pub fn jobs(&self) -> &[LiveJob<N, S>]
         ensures jobs { result.now ≡ self.now }
         ensures rising { AreIncreasing (tickets_of self.now) }
@@ -71,8 +73,8 @@ impl<N: Naming, S: Shelf> LiveJobs<N, S> {
         place_of(self.jobs.as_slice(), ticket).is_some()
     }
 
-    /// Adds a job that was just reserved, under a ticket above those of all live jobs. `AllocError` where a growth was refused; then
-    /// all is as before.
+    /// Adds a job that was just reserved, under a ticket above those of all live jobs. `AllocError`
+    /// where a growth was refused; then all is as before.
     pub fn add(&mut self, alloc: Global, job: Job<N, S>) -> Result<(), AllocError>
         requires newest { (b : Booked) → Has self.old b → b.work.ticket < job.ticket }
         ensures ok { OnOk result (self.new ≡ self.old ++ new_booked job ∷ []) }
@@ -92,8 +94,8 @@ impl<N: Naming, S: Shelf> LiveJobs<N, S> {
         was_live
     }
 
-    /// Books a number under a ticket: it goes to the end of what that job drew. Nothing changes where the ticket is not live, nor
-    /// where a growth was refused, which is the `AllocError`.
+    /// Books a number under a ticket: it goes to the end of what that job drew. Nothing changes
+    /// where the ticket is not live, nor where a growth was refused, which is the `AllocError`.
     pub fn draw(&mut self, ticket: u64, number: u64) -> Result<(), AllocError>
         ensures ok { OnOk result (self.new ≡ booked ticket number self.old) }
         ensures err { OnErr result (self.new ≡ self.old) }
@@ -105,7 +107,8 @@ impl<N: Naming, S: Shelf> LiveJobs<N, S> {
         self.jobs[i].draw(number)
     }
 
-    /// Appends all numbers that live jobs drew, in the order of the jobs. Where a growth was refused the numbers are as before.
+    /// Appends all numbers that live jobs drew, in the order of the jobs. Where a growth was
+    /// refused the numbers are as before.
     pub fn push_drawn(&self, numbers: &mut Vec<u64>) -> Result<(), AllocError>
         ensures ok { OnOk result (numbers.new.items ≡ numbers.old.items ++ drawn_numbers self.now) }
         ensures err { OnErr result (numbers.new.items ≡ numbers.old.items) }

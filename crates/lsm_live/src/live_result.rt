@@ -51,8 +51,9 @@ fn awaits<N: Naming, S: Shelf>(
 }
 
 impl<N: Naming, S: Shelf> LiveJobs<N, S> {
-    /// Whether a result's ticket is live: a live job equals the result's in all parts and has drawn the numbers under which the result
-    /// put its outputs, and these rise. A result for which this is false is stale.
+    /// Whether a result's ticket is live: a live job equals the result's in all parts and has drawn
+    /// the numbers under which the result put its outputs, and these rise. A result for which this
+    /// is false is stale.
     pub fn is_live_result(&self, registry: &Registry<S::Receipt>, done: &Finished<N, S>) -> bool
         requires { registry.now ≡ N.registry }
         ensures { IsTrue result ↔ ((b : Booked) × IsLiveResult self.now done.now b) }

@@ -50,8 +50,8 @@ fn reservation_of<N: Naming, S: Shelf>(
 }
 
 impl<N: Naming, S: Shelf> LiveJobs<N, S> {
-    /// What a choice has to know of the live jobs: a reservation for each, in the order in which they were made. `AllocError` where a
-    /// growth was refused.
+    /// What a choice has to know of the live jobs: a reservation for each, in the order in which
+    /// they were made. `AllocError` where a growth was refused.
     pub fn reservations(
         &self,
         alloc: Global,

@@ -8,13 +8,15 @@ ghost use Rattle.lsm_machine.specs.Runs.{Event, ReadsAs, Run, ingested};
 
 use lsm_shelf::Shelf;
 
-/// Every run from a lawful store leaves it lawful, whatever the order of its events and however many jobs are live.
+/// Every run from a lawful store leaves it lawful, whatever the order of its events and however
+/// many jobs are live.
 pub fn runs_keep_the_law<S: Shelf>()
     ensures apart { (s t : Plain) (events : List Event) → Law S.honest Apart s → Run S.honest s events t → Law S.honest Apart t }
     ensures in_order { (s t : Plain) (events : List Event) → Law S.honest InOrder s → Run S.honest s events t → Law S.honest InOrder t }
 {}
 
-/// After every run each read that is promised gives what it gives over all that was ingested: installs changed nothing.
+/// After every run each read that is promised gives what it gives over all that was ingested:
+/// installs changed nothing.
 pub fn runs_read_all_that_came<S: Shelf>()
     ensures apart { (s t : Plain) (events : List Event) → S.honest → Law S.honest Apart s → Run S.honest s events t → ReadsAs t (ingested events (all_entries s.files)) }
     ensures in_order { (s t : Plain) (events : List Event) → S.honest → Law S.honest InOrder s → Run S.honest s events t → ReadsAs t (ingested events (all_entries s.files)) }

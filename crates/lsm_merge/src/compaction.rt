@@ -163,15 +163,17 @@ fn hand_on<N: Naming, S: Shelf>(
     }
 }
 
-/// Merges the tables of a job into new ones, which hold what the job keeps of their entries (LevelDB's `doc/impl.md`,
-/// "Compactions"). Each is put on the shelf under a number that is drawn for it when it gets its first entry, and then its row is
-/// pushed into the registry. It holds one block a source, the output in the making, and the key of the entry before. A move puts
-/// nothing, and hands its input on.
+/// Merges the tables of a job into new ones, which hold what the job keeps of their entries
+/// (LevelDB's `doc/impl.md`, "Compactions"). Each is put on the shelf under a number that is drawn
+/// for it when it gets its first entry, and then its row is pushed into the registry. It holds one
+/// block a source, the output in the making, and the key of the entry before. A move puts nothing,
+/// and hands its input on.
 ///
 /// # Errors
-/// With every refusal the job comes back, with the numbers of the tables that were put, in the order in which they were put.
-/// `OutOfMemory` where a growth was refused; `ReadFailed` with the number of the input that could not be read or whose next entry
-/// has the internal key of the one before it; `PutFailed` with the number of the output that could not be built or put;
+/// With every refusal the job comes back, with the numbers of the tables that were put, in the
+/// order in which they were put. `OutOfMemory` where a growth was refused; `ReadFailed` with the
+/// number of the input that could not be read or whose next entry has the internal key of the one
+/// before it; `PutFailed` with the number of the output that could not be built or put;
 /// `UnknownTicket` and `NumbersSpent` are the source's.
 pub fn compact<N: Naming, S: Shelf, R: Wait, D: NumberSource>(
     rt: &R,
@@ -203,8 +205,9 @@ pub fn compact<N: Naming, S: Shelf, R: Wait, D: NumberSource>(
     ensures cause { IfErr result (λ e. HasCause (input_numbers job) e.0 (S.told shelf.old) (S.told shelf.new)) }
     ensures sound { S.honest → IfErr result (λ e. IsReadable e.0) }
 
-    // Over an honest shelf inputs that stand in order are refused as out of order only where two of their entries have one internal
-    // key, and are not merged there; and an output is too large only where entries of the inputs make no table.
+    // Over an honest shelf inputs that stand in order are refused as out of order only where two of
+    // their entries have one internal key, and are not merged there; and an output is too large
+    // only where entries of the inputs make no table.
     ensures order { S.honest → StandInOrder job → IfErr result (λ e. IsOrderFault e.0 → HasTwins (all_entries (job_of job).inputs)) }
     ensures apart { S.honest → StandInOrder job → job.is_move ≡ false → OnOk result (HasTwins (all_entries (job_of job).inputs) → ⊥) }
     ensures large { S.honest → IfErr result (λ e. IsSizeFault e.0 → IsOverLimit job.table (all_entries (job_of job).inputs)) }

@@ -108,7 +108,8 @@ fn push_each<N: Naming, S: Shelf>(
     Ok(())
 }
 
-/// Adds the inputs of a job's own level. At level 0, where files may overlap, each is a source of its own.
+/// Adds the inputs of a job's own level. At level 0, where files may overlap, each is a source of
+/// its own.
 fn push_upper<N: Naming, S: Shelf>(
     shelf: &mut S,
     alloc: Global,

@@ -13,11 +13,11 @@ use lsm_table::{Naming, Registry, Shelf, TableOptions, TableRef};
 use std::alloc::{AllocError, Global};
 use std::marker::Model;
 
-/// What a worker has to merge: tables of one level and of the next, with the rule by which entries are dropped and the sizes of the
-/// outputs. Contracts see it as that (`Work`).
+/// What a worker has to merge: tables of one level and of the next, with the rule by which entries
+/// are dropped and the sizes of the outputs. Contracts see it as that (`Work`).
 ///
-/// Its type keeps what a merge needs (`IsWork`): a level that has a next one, sizes in range, and over an honest shelf tables that
-/// are whole.
+/// Its type keeps what a merge needs (`IsWork`): a level that has a next one, sizes in range, and
+/// over an honest shelf tables that are whole.
 #[derive(Drop)]
 pub struct Job<N: Naming, S: Shelf> {
     parts: JobParts<N, S>,
@@ -34,8 +34,8 @@ impl<N: Naming, S: Shelf> Model for Job<N, S> {
 }
 
 impl<N: Naming, S: Shelf> Job<N, S> {
-    /// The job of these parts: its tables are those of a sound version, its sizes in the ranges of the options, and a move has one
-    /// input, of its own level.
+    /// The job of these parts: its tables are those of a sound version, its sizes in the ranges of
+    /// the options, and a move has one input, of its own level.
     pub fn of(parts: JobParts<N, S>) -> Job<N, S>
         requires low { parts.level ≤ 5 }
         requires in_range { AreInRange parts.table }
@@ -119,7 +119,8 @@ impl<N: Naming, S: Shelf> Job<N, S> {
         self.parts.table
     }
 
-    /// An output is closed at the first change of user key after its finished data blocks reach this many bytes.
+    /// An output is closed at the first change of user key after its finished data blocks reach
+    /// this many bytes.
     pub fn target_size(&self) -> u64
         ensures { result ≡ self.now.target_size }
     {
@@ -135,7 +136,8 @@ impl<N: Naming, S: Shelf> Job<N, S> {
         })
     }
 
-    /// Whether two jobs are equal in all parts; tables are equal where they are one record of the registry.
+    /// Whether two jobs are equal in all parts; tables are equal where they are one record of the
+    /// registry.
     pub fn same(&self, registry: &Registry<S::Receipt>, other: &Job<N, S>) -> bool
         requires named { registry.now ≡ N.registry }
         ensures { IsTrue result ↔ (self.now ≡ other.now) }

@@ -1,8 +1,9 @@
 //! Jobs, merges and what comes of them.
 //!
-//! Stands on `lsm_version` for the tables of versions and on `lsm_merger` for their merge.
-//! Its contract: over an honest shelf the outputs of a finished job are just the entries of its inputs that the drop rule keeps, cut between
-//! user keys, and a refused job comes back with the numbers that were put.
+//! Stands on `lsm_version` for the tables of versions and on `lsm_merger` for their merge. Its
+//! contract: over an honest shelf the outputs of a finished job are just the entries of its inputs
+//! that the drop rule keeps, cut between user keys, and a refused job comes back with the numbers
+//! that were put.
 #![tactic(auto)]
 
 // A job, as it is given to a worker.

@@ -16,7 +16,8 @@ pub enum InputFault {
     /// It could not be read.
     #[error("{0}")]
     Read(ReadFault),
-    /// Its next entry does not stand after the entry that was merged before it: over an honest shelf both have one internal key.
+    /// Its next entry does not stand after the entry that was merged before it: over an honest
+    /// shelf both have one internal key.
     #[error("OutOfOrder")]
     OutOfOrder,
 }

@@ -17,8 +17,8 @@ impl<'a> Names<Latest<'a>> for LatestFirst {
     ghost numbers = { λ l. l.number ∷ l.before.now.numbers };
 }
 
-/// A number more in front of others, which clauses alone read and which takes no memory: so a source tells what it drew, refused and was
-/// asked.
+/// A number more in front of others, which clauses alone read and which takes no memory: so a
+/// source tells what it drew, refused and was asked.
 pub fn with_number(number: u64, before: &Tag) -> Tag
     ensures { result.numbers ≡ number ∷ before.now.numbers }
 {

@@ -54,8 +54,8 @@ impl From<AllocError> for NumberFault {
     }
 }
 
-/// Where the numbers of outputs come from. It promises nothing of them: whoever installs the outputs tests their numbers. It
-/// tells only what it answered.
+/// Where the numbers of outputs come from. It promises nothing of them: whoever installs the
+/// outputs tests their numbers. It tells only what it answered.
 pub trait NumberSource {
     ghost use Rattle.std.specs.Prelude.{ℕ, List, IfOk, IfErr, OnOk, OnErr, ◌∷◌};
 
@@ -68,7 +68,8 @@ pub trait NumberSource {
     /// The tickets for which it was asked, the last first.
     ghost asked: { Self → List ℕ };
 
-    /// What has to hold of the source before it is asked; each answer keeps it. A source that asks for nothing says `Unit {0}`.
+    /// What has to hold of the source before it is asked; each answer keeps it. A source that asks
+    /// for nothing says `Unit {0}`.
     ghost ready: { Self → Type 0 };
 
     /// A number for an output of the job of this ticket.

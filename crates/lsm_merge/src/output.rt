@@ -54,7 +54,8 @@ fn bytes_of(alloc: Global, key: &KeyRef<'_>) -> Result<Bytes, AllocError>
     Ok(Bytes::of(bytes))
 }
 
-/// Whether an output may end with the one user key where another one follows: they differ, and it has reached the target.
+/// Whether an output may end with the one user key where another one follows: they differ, and it
+/// has reached the target.
 fn may_close(last: &[u8], user: &[u8], target: u64, written: u64) -> bool
     ensures { result ≡ (not (bytes_eq last.now user.now) && nat_le target written) }
 {
@@ -111,7 +112,8 @@ impl Output {
         self.builder.add(key.user, key.seq, key.kind, value)
     }
 
-    /// Whether it is closed before an entry of this user key: it ends with another one, and its finished data blocks reach the target.
+    /// Whether it is closed before an entry of this user key: it ends with another one, and its
+    /// finished data blocks reach the target.
     pub(crate) fn closes(&self, target: u64, user: &[u8]) -> bool
         ensures { result ≡ closes (finished self.now.options) target self.now.entries user.now }
     {

@@ -23,7 +23,8 @@ use std::alloc::Global;
 use std::marker::Model;
 use std::sync::Wait;
 
-/// What a merge has made so far: the tables that were put, their numbers, and the output in the making.
+/// What a merge has made so far: the tables that were put, their numbers, and the output in the
+/// making.
 #[derive(Drop)]
 pub(crate) struct Outputs<N: Naming, S: Shelf> {
     alloc: Global,

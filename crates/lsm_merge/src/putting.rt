@@ -12,7 +12,8 @@ use lsm_version::tables_are_whole;
 use std::alloc::Global;
 use std::sync::Wait;
 
-/// Puts a table that was built, and then its row into the registry. The memory for its number is there before it is put.
+/// Puts a table that was built, and then its row into the registry. The memory for its number is
+/// there before it is put.
 fn put_image<N: Naming, S: Shelf, R: Wait>(
     rt: &R,
     alloc: Global,

@@ -12,7 +12,8 @@ use lsm_levels::is_at_most;
 use std::alloc::{AllocError, Global};
 use std::marker::Model;
 
-/// Of the entry that a merge came to last as much as it remembers: its key. Contracts see it as an entry without a value.
+/// Of the entry that a merge came to last as much as it remembers: its key. Contracts see it as an
+/// entry without a value.
 #[derive(Drop)]
 pub(crate) struct Remembered {
     is_there: bool,
@@ -73,8 +74,8 @@ impl Remembered {
         own.compare(key).is_lt()
     }
 
-    /// Whether no read from the floor on comes to an entry of this user key: the entry before has its user key, and a sequence at most
-    /// the floor.
+    /// Whether no read from the floor on comes to an entry of this user key: the entry before has
+    /// its user key, and a sequence at most the floor.
     fn shadows(&self, floor: u64, key: &KeyRef<'_>) -> bool
         ensures { result ≡ is_shadowed floor self.now (entry_of (key_of key.now) []) }
     {

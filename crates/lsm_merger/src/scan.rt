@@ -247,8 +247,8 @@ impl<N: Naming, S: Shelf> Scan<N, S> {
         shown_by(&mut self.walk, &mut self.is_done, self.seq, blocks, alloc)
     }
 
-    /// A copy of the next pair, at which it then stands, or none at the end. An `Err` leaves what is
-    /// left to show.
+    /// A copy of the next pair, at which it then stands, or none at the end. An `Err` leaves what
+    /// is left to show.
     pub fn next_by<B: Blocks<S>>(
         &mut self,
         blocks: &mut B,

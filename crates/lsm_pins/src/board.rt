@@ -19,8 +19,8 @@ use std::sync::Arc;
 pub struct Board;
 
 impl Board {
-    /// A board with 1 to 62 readers, and at least two slots more, but at most 64. Its slot 0 is current with id 0, and the
-    /// other slots are free.
+    /// A board with 1 to 62 readers, and at least two slots more, but at most 64. Its slot 0 is
+    /// current with id 0, and the other slots are free.
     pub fn new(
         alloc: Global,
         readers: usize,

@@ -1,5 +1,5 @@
-//! The head word: the current version's slot in the 6 highest bits, its id in the next 28, and in the 30 lowest how many
-//! pins were made of it.
+//! The head word: the current version's slot in the 6 highest bits, its id in the next 28, and in
+//! the 30 lowest how many pins were made of it.
 
 ghost use Rattle.std.specs.Prelude.{◌≡◌, ◌^◌, ◌<◌};
 ghost use Rattle.lsm_pins.specs.Head.{head_of, slot_in, id_in, count_in};

@@ -1,8 +1,10 @@
-//! A board of pins: a reader pins the current version of a value by one atomic step and no lock, and the one publisher
-//! sees by another when a version's slot has no pin left, so that the slot may be used again.
+//! A board of pins: a reader pins the current version of a value by one atomic step and no lock,
+//! and the one publisher sees by another when a version's slot has no pin left, so that the slot
+//! may be used again.
 //!
-//! Stands on `atomic_table`, which keeps the board's rule between any two steps of any threads (and on `thiserror` for its
-//! faults). Its contract: no slot is free while a view holds it, and each call's result is that of the word at its one step.
+//! Stands on `atomic_table`, which keeps the board's rule between any two steps of any threads (and
+//! on `thiserror` for its faults). Its contract: no slot is free while a view holds it, and each
+//! call's result is that of the word at its one step.
 #![tactic(auto)]
 
 // The words of a board, and the steps at it.

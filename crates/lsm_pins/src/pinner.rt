@@ -19,8 +19,8 @@ use std::sync::Arc;
 // How many pins a pinner makes of one id.
 const MOST_PINS: u32 = 1 << 24;
 
-/// A reader's end of a board. It holds at most one pin at a time. One that is let go while it holds a pin keeps the slot
-/// from turning free.
+/// A reader's end of a board. It holds at most one pin at a time. One that is let go while it holds
+/// a pin keeps the slot from turning free.
 #[derive(Drop)]
 pub struct Pinner {
     pub(crate) board: Arc<Words>,
@@ -83,7 +83,8 @@ impl Pinner {
         self.held = None;
     }
 
-    /// Learns the current id and slot, which are the publisher's. A new id starts a new count of pins.
+    /// Learns the current id and slot, which are the publisher's. A new id starts a new count of
+    /// pins.
     pub fn learn(&mut self, publisher: &mut Publisher) -> (u32, u8)
         requires { self.old.board ≡ publisher.old.board }
         ensures boards { (self.new.board ≡ self.old.board) × (publisher.new.board ≡ publisher.old.board) }

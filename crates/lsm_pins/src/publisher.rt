@@ -48,8 +48,8 @@ impl Publisher {
         (self.id, self.slot)
     }
 
-    /// Whether the slot is not current and no view holds it, by one load of the slot's word. Where it is so, the slot is
-    /// free from then on.
+    /// Whether the slot is not current and no view holds it, by one load of the slot's word. Where
+    /// it is so, the slot is free from then on.
     pub fn look(&mut self, slot: u8) -> bool
         requires { slot < length (slot_ids self.old.knows) }
         ensures board { self.new.board ≡ self.old.board }
@@ -112,8 +112,8 @@ impl Publisher {
         Ok(id)
     }
 
-    /// The id and the slot that the pinner holds, none where it holds nothing. The slot has that id for the publisher too,
-    /// so it is not free.
+    /// The id and the slot that the pinner holds, none where it holds nothing. The slot has that id
+    /// for the publisher too, so it is not free.
     pub fn meet(&mut self, pinner: &mut Pinner) -> Option<(u32, u8)>
         requires { self.old.board ≡ pinner.old.board }
         ensures boards { (self.new.board ≡ self.old.board) × (pinner.new.board ≡ pinner.old.board) }

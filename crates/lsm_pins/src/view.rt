@@ -3,8 +3,8 @@
 use crate::slot_record::SlotRecord;
 use std::collections::LinkedList;
 
-/// What a seat at the board knows: the publisher's, a reader's, or a copy of either. It is what contracts speak of, and no
-/// value of it is made.
+/// What a seat at the board knows: the publisher's, a reader's, or a copy of either. It is what
+/// contracts speak of, and no value of it is made.
 pub struct View {
     /// False once the seat was taken in by another.
     pub live: bool,
@@ -12,7 +12,8 @@ pub struct View {
     pub publishes: bool,
     /// How many slots the board has.
     pub slots: u64,
-    /// A reader's is 1, a copy's 0, and the publisher's how many more readers it could make: the parts of all are 62.
+    /// A reader's is 1, a copy's 0, and the publisher's how many more readers it could make: the
+    /// parts of all are 62.
     pub parts: u64,
     /// The id that was current when the seat saw the head last.
     pub id: u64,

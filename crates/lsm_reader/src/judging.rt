@@ -14,8 +14,8 @@ use lsm_table::{FOOTER, Handle, TRAILER, TableFault, unseal};
 use std::alloc::Global;
 use std::sync::Arc;
 
-/// The last 48 bytes of an image, where so many were read; other numbers of bytes, which only a shelf that is not honest
-/// gives, are `ShortFile`.
+/// The last 48 bytes of an image, where so many were read; other numbers of bytes, which only a
+/// shelf that is not honest gives, are `ShortFile`.
 pub fn footer_from(bytes: Vec<u8>) -> Result<[u8; 48], TableFault>
     ensures { length bytes.items ≡ 48 → result ≡ Ok bytes.items }
 {
@@ -68,7 +68,8 @@ fn share(alloc: Global, contents: Vec<u8>) -> Result<Arc<Block>, TableFault>
     }
 }
 
-/// The block that a text is which was read for a place: its contents with their trailer, whose checksum is judged first.
+/// The block that a text is which was read for a place: its contents with their trailer, whose
+/// checksum is judged first.
 #[tactic(auto, unfolding(crate::specs::Blocks::block_of))]
 pub fn judge(alloc: Global, handle: Handle, text: Vec<u8>) -> Result<Arc<Block>, TableFault>
     ensures { length text.items ≡ handle.size + 5 → Gives (λ b. (arc_value {X = HeldBlock} b).entries) result (block_of handle text.items) }

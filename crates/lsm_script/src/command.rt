@@ -16,7 +16,8 @@ pub enum Command {
     Release(u64),
     /// Reserves the compaction that is chosen.
     Reserve,
-    /// Reserves the compaction of the files of this level, 0 to 5, that meet the range of user keys, both included.
+    /// Reserves the compaction of the files of this level, 0 to 5, that meet the range of user
+    /// keys, both included.
     ReserveRange(u8, Bytes, Bytes),
     /// Merges the job of this ticket, which the script reserved.
     Merge(u64),

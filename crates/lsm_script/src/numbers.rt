@@ -12,8 +12,9 @@ use std::alloc::Global;
 use std::marker::{Brand, PhantomData};
 use std::sync::Wait;
 
-/// What holds of a state that gave numbers: of the state, of the numbers, of the published numbers of its refusals, and of the tickets
-/// that it was asked for, each list the last first. A merge picks it.
+/// What holds of a state that gave numbers: of the state, of the numbers, of the published numbers
+/// of its refusals, and of the tickets that it was asked for, each list the last first. A merge
+/// picks it.
 pub(crate) trait Noted<X> {
     ghost use Rattle.std.specs.Prelude.{ℕ, List};
 
@@ -24,8 +25,8 @@ impl<X> Noted<X> for Brand {
     ghost holds = { λ state drew refused asked. Unit {0} };
 }
 
-/// A state, and the function that draws a number from it. It has no bound: a method of an impl may call no function that is bounded by a
-/// shelf, so the function is a value.
+/// A state, and the function that draws a number from it. It has no bound: a method of an impl may
+/// call no function that is bounded by a shelf, so the function is a value.
 #[derive(Drop)]
 pub(crate) struct Numbers<M, X, F> {
     pub(crate) state: Option<X>,

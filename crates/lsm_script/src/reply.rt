@@ -18,7 +18,8 @@ pub struct Reserved {
     pub ticket: u64,
     /// Its level, 0 to 5.
     pub level: usize,
-    /// The numbers of its inputs: those of its level, then those of the next, each in the order of its level. Of a move its one input.
+    /// The numbers of its inputs: those of its level, then those of the next, each in the order of
+    /// its level. Of a move its one input.
     pub inputs: List<u64>,
 }
 
@@ -53,7 +54,8 @@ pub enum Reply {
     Unpinned,
     /// The tables of these numbers were removed, ascending.
     Removed(List<u64>),
-    /// The files of the current version, each with its level, by level, then in the order of the level.
+    /// The files of the current version, each with its level, by level, then in the order of the
+    /// level.
     Files(List<(u8, FileMeta)>),
     /// The command was refused.
     Refused(Refusal),

@@ -138,8 +138,9 @@ fn answer_all<N: Boarded, S: Shelf, R: Wait>(
     state
 }
 
-/// Answers commands one after another, on one thread. The room for all replies is made first. Each refusal is a reply; one for want of
-/// memory is the last, and ends the list. Jobs that it reserved and results that it merged, and did not install, are let go at the end.
+/// Answers commands one after another, on one thread. The room for all replies is made first. Each
+/// refusal is a reply; one for want of memory is the last, and ends the list. Jobs that it reserved
+/// and results that it merged, and did not install, are let go at the end.
 ///
 /// It takes the state, and hands it back with the replies: a merge draws its numbers from it.
 ///
@@ -157,7 +158,8 @@ pub fn run<N: Boarded, S: Shelf, R: Wait>(
     // Each reply, and what it leaves, is as the state's call says.
     ensures replies { IfOk result (λ r. (jobs : List Work) × (results : List Done) × AreReplies (IsStep S.honest) commands.now r.1 (stage_of state (S.told shelf.old)) record { state = r.0; told = S.told shelf.new; jobs = jobs; results = results }) }
 
-    // The replies are those of the history from the state's own entries, and at the end the state is as the history says.
+    // The replies are those of the history from the state's own entries, and at the end the state
+    // is as the history says.
     ensures history { IfOk result (λ r. (t : History) × AreReplies (IsAnswered S.honest) commands.now r.1 (history_of state) t × IsOf S.honest t r.0) }
 
     ensures place { (S.told shelf.new).place ≡ N.place }

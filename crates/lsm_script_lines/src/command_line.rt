@@ -135,8 +135,8 @@ fn command_of(alloc: Global, words: &[&[u8]]) -> Result<Option<Command>, AllocEr
     ingest_in(alloc, words)
 }
 
-/// The command that a line of a script spells: its name, and its words behind that, one space between two. None where it spells none; an
-/// empty line spells none.
+/// The command that a line of a script spells: its name, and its words behind that, one space
+/// between two. None where it spells none; an empty line spells none.
 pub fn command_in(alloc: Global, line: &[u8]) -> Result<Option<Command>, AllocError>
     ensures some { IfOk result (λ o. IfSome o (IsCommandLine line.now)) }
     ensures none { IfOk result (λ o. IfNone o ((c : Command) → IsCommandLine line.now c → ⊥)) }

@@ -10,7 +10,8 @@ use lsm_writer::WriterFault;
 use std::alloc::Global;
 use std::io::Read;
 
-/// All bytes of the input. `Read` only where its last read failed, or where there are more than 64 MiB.
+/// All bytes of the input. `Read` only where its last read failed, or where there are more than 64
+/// MiB.
 pub(crate) fn text_of<I: Read>(
     alloc: Global,
     input: &mut Watched<I>,

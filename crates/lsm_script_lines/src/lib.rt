@@ -1,8 +1,11 @@
-//! The command `script` of `lsm`: commands on standard input, one a line, on a new database in memory; a reply for each on standard output.
+//! The command `script` of `lsm`: commands on standard input, one a line, on a new database in
+//! memory; a reply for each on standard output.
 //!
-//! Stands on `lsm_script` for lists of commands and their replies, and on `lsm_writer` and `lsm_commands` for words and refusals. Data
-//! flows from a text by its lines and words to commands, and from replies to the text that is printed. Its contract: a `script` that ends
-//! with 0 read a list of commands, and printed the replies of a database into which nothing had come before.
+//! Stands on `lsm_script` for lists of commands and their replies, and on `lsm_writer` and
+//! `lsm_commands` for words and refusals. Data flows from a text by its lines and words to
+//! commands, and from replies to the text that is printed. Its contract: a `script` that ends with
+//! 0 read a list of commands, and printed the replies of a database into which nothing had come
+//! before.
 #![tactic(auto)]
 
 // Commands as text.

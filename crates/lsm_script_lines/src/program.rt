@@ -84,13 +84,15 @@ fn perform<R: Wait, I: Read, O: Write>(
     Ok(0)
 }
 
-/// Runs the script that stands on an input on a new database in memory, with LevelDB's sizes, and answers the exit status. All lines are
-/// read before the first command is done. Each reply is written on `out`, also a refusal: `refused N Name ..`.
+/// Runs the script that stands on an input on a new database in memory, with LevelDB's sizes, and
+/// answers the exit status. All lines are read before the first command is done. Each reply is
+/// written on `out`, also a refusal: `refused N Name ..`.
 ///
-/// Status 0 where every command was answered; 1 where one was refused for want of memory, and this is the last reply; 1 also where a fault
-/// is one line on `err`, and, unless a write failed, nothing is written on `out`: `bad line I` for the first line that spells no command,
-/// `read fault` where the last read of the input failed or there are more than 64 MiB, each of the two with a second line that says what
-/// it may mean; `write fault`; `refused 1 OutOfMemory`.
+/// Status 0 where every command was answered; 1 where one was refused for want of memory, and this
+/// is the last reply; 1 also where a fault is one line on `err`, and, unless a write failed,
+/// nothing is written on `out`: `bad line I` for the first line that spells no command, `read
+/// fault` where the last read of the input failed or there are more than 64 MiB, each of the two
+/// with a second line that says what it may mean; `write fault`; `refused 1 OutOfMemory`.
 #[tactic(auto, using(crate::proofs::Outcomes::keeps_itself))]
 pub fn script<R: Wait, I: Read, O: Write, E: Write>(
     rt: &R,

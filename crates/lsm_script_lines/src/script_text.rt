@@ -36,8 +36,8 @@ fn script_of(alloc: Global, text: &[u8]) -> Result<Vec<Command>, WriterFault>
 
 /// The commands that an input spells, one a line.
 ///
-/// `Read` only where the last read of the input failed, or where there are more than 64 MiB; `BadLine` with the number of the first line
-/// of another form; `OutOfMemory`.
+/// `Read` only where the last read of the input failed, or where there are more than 64 MiB;
+/// `BadLine` with the number of the first line of another form; `OutOfMemory`.
 pub fn read_script<I: Read>(
     alloc: Global,
     input: &mut Watched<I>,

@@ -6,7 +6,8 @@ ghost use Rattle.std.specs.Io.KnownBytes.{ReadConsumes};
 
 use std::io::{self, Read};
 
-/// A reader, and whether its last read failed. A fault that is blamed on a reader can so be held against it.
+/// A reader, and whether its last read failed. A fault that is blamed on a reader can so be held
+/// against it.
 #[derive(Drop)]
 pub struct Watched<R> {
     inner: R,

@@ -7,7 +7,8 @@ ghost use Rattle.lsm_shelf.specs.Told.{Place, Counted, CountedBy};
 use crate::shelf_fault::ShelfFault;
 use boxcar::tag::{Names, Tag};
 
-/// What a shelf's value was told: two counts that exist when the program runs, and lists that only contracts read.
+/// What a shelf's value was told: two counts that exist when the program runs, and lists that only
+/// contracts read.
 #[derive(Drop)]
 pub(crate) struct Account {
     pub(crate) faults: u64,

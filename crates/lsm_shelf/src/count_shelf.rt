@@ -8,8 +8,8 @@ use std::alloc::{AllocError, Global};
 use std::sync::atomic::{AtomicU64, Ordering};
 use std::sync::{Arc, Wait};
 
-/// A shelf that does what another one does, and counts the reads of it and of all its forks. How often it counted is told by
-/// tests alone: contracts see of it what they see of the inner shelf.
+/// A shelf that does what another one does, and counts the reads of it and of all its forks. How
+/// often it counted is told by tests alone: contracts see of it what they see of the inner shelf.
 #[derive(Drop)]
 pub struct CountShelf<S: Shelf> {
     inner: S,

@@ -14,10 +14,11 @@ use crate::shelf_fault::ShelfFault;
 use std::alloc::Global;
 use std::sync::Wait;
 
-/// A shelf that does what another one does until its fuse blows: then a call that may answer `Device` answers it.
+/// A shelf that does what another one does until its fuse blows: then a call that may answer
+/// `Device` answers it.
 ///
-/// Its failures are the inner shelf's, with its own faults added to the first number. Contracts see what it was told since it was
-/// made; tests alone say which call fails and what that leaves.
+/// Its failures are the inner shelf's, with its own faults added to the first number. Contracts see
+/// what it was told since it was made; tests alone say which call fails and what that leaves.
 #[derive(Drop)]
 pub struct FuseShelf<S: Shelf> {
     inner: S,
@@ -28,9 +29,10 @@ pub struct FuseShelf<S: Shelf> {
 }
 
 impl<S: Shelf> FuseShelf<S> {
-    /// After `passes` calls that may answer `Device` the next one fails, and with `stays` every later one too. With `does` a put, a
-    /// removal or a start that fails takes effect all the same. An append that fails keeps its first `keep` bytes. Where the inner
-    /// shelf refuses what is to take effect, the answer is that refusal.
+    /// After `passes` calls that may answer `Device` the next one fails, and with `stays` every
+    /// later one too. With `does` a put, a removal or a start that fails takes effect all the same.
+    /// An append that fails keeps its first `keep` bytes. Where the inner shelf refuses what is to
+    /// take effect, the answer is that refusal.
     pub fn new(inner: S, passes: u64, stays: bool, does: bool, keep: usize) -> FuseShelf<S>
         ensures told { told_in (S.told result.inner).place result.account ≡ record (fresh (S.told inner).place) { faults = (S.told inner).faults; misses = (S.told inner).misses } }
     {

@@ -1,7 +1,9 @@
-//! Where the tables and the manifest of a database lie, as LevelDB's `doc/impl.md` describes its folder.
+//! Where the tables and the manifest of a database lie, as LevelDB's `doc/impl.md` describes its
+//! folder.
 //!
-//! Stands on `lsm_folder` for the calls on a folder, and on `boxcar` for images that threads share. Its contract: a receipt stands
-//! for the image that was put, and contracts see of a shelf what its calls told it.
+//! Stands on `lsm_folder` for the calls on a folder, and on `boxcar` for images that threads share.
+//! Its contract: a receipt stands for the image that was put, and contracts see of a shelf what its
+//! calls told it.
 #![tactic(auto)]
 
 // Every shelf.

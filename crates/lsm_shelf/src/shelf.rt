@@ -10,9 +10,10 @@ use std::sync::Wait;
 
 /// A place for tables and one manifest, as LevelDB's `doc/impl.md` describes a database's folder.
 ///
-/// One value has one user; `fork` makes another value on the same contents. Contracts see a value as what its calls
-/// told it (`Told`): each call says what it leaves of that (`told`, or `ok` and `err`), which refusals it has, each other than
-/// `OutOfMemory` with a count that rose (`cause`), and that it counted its answer exactly (`counts`).
+/// One value has one user; `fork` makes another value on the same contents. Contracts see a value
+/// as what its calls told it (`Told`): each call says what it leaves of that (`told`, or `ok` and
+/// `err`), which refusals it has, each other than `OutOfMemory` with a count that rose (`cause`),
+/// and that it counted its answer exactly (`counts`).
 pub trait Shelf: Drop + Send + Sync {
     ghost use Rattle.lsm_shelf.specs.declared.shelf_fault.ShelfFault.{ShelfFault};
     ghost use Rattle.lsm_shelf.specs.Asked.{Asked, Put, ReadAt, Load, Remove, ListTables, ReadManifest, StartManifest, AppendManifest};
@@ -21,7 +22,8 @@ pub trait Shelf: Drop + Send + Sync {
     /// What stands for an image that was put or loaded.
     type Receipt: Slip;
 
-    /// The premise under which reads give the bytes of the image put. One for the type, so the same for all its values.
+    /// The premise under which reads give the bytes of the image put. One for the type, so the same
+    /// for all its values.
     ghost honest: { Type 0 };
 
     /// What the value's calls told it.
@@ -30,14 +32,15 @@ pub trait Shelf: Drop + Send + Sync {
     /// The receipt is of these contents.
     ghost is_of: { Place → Self.Receipt → Type 0 };
 
-    /// This call was refused with this fault. What is proved for every shelf learns of it by that call alone, so a contract that
-    /// says it tells which call was refused, and with what it was asked.
+    /// This call was refused with this fault. What is proved for every shelf learns of it by that
+    /// call alone, so a contract that says it tells which call was refused, and with what it was
+    /// asked.
     ghost refuses: { Place → Asked → ShelfFault → Type 0 };
 
     /// Puts an image under a number, on the device before it answers Ok.
     ///
-    /// `Taken` where a table of this number is there. `Device` where the image has more than 1 GiB or the device fails;
-    /// the number may then be listed or not.
+    /// `Taken` where a table of this number is there. `Device` where the image has more than 1 GiB
+    /// or the device fails; the number may then be listed or not.
     fn put<R: Wait>(
         &mut self,
         rt: &R,
@@ -68,8 +71,9 @@ pub trait Shelf: Drop + Send + Sync {
         ensures cause { IfErr result (λ e. NotTaken e × Counted e (told self.old) (told self.new)) }
         ensures counts { CountedBy result (told self.old) (told self.new) };
 
-    /// Reads a whole image by its number; the receipt stands for the bytes that were read. `Missing` where no table has
-    /// this number, `Device` where it has more than 1 GiB or the device fails.
+    /// Reads a whole image by its number; the receipt stands for the bytes that were read.
+    /// `Missing` where no table has this number, `Device` where it has more than 1 GiB or the
+    /// device fails.
     fn load<R: Wait>(
         &mut self,
         rt: &R,
@@ -82,8 +86,8 @@ pub trait Shelf: Drop + Send + Sync {
         ensures cause { IfErr result (λ e. NotTaken e × Counted e (told self.old) (told self.new)) }
         ensures counts { CountedBy result (told self.old) (told self.new) };
 
-    /// Removes the table of a number. `Missing` where there is none; after `Device` it may be gone or not. Where memory was
-    /// refused, nothing was asked of the device, and `gone` has not grown.
+    /// Removes the table of a number. `Missing` where there is none; after `Device` it may be gone
+    /// or not. Where memory was refused, nothing was asked of the device, and `gone` has not grown.
     fn remove<R: Wait>(&mut self, rt: &R, number: u64) -> Result<(), ShelfFault>
         ensures told { Becomes (removed_by result number (told self.old)) (told self.new) }
         ensures refused { IfErr result (refuses (told self.old).place (Remove number)) }
@@ -111,9 +115,10 @@ pub trait Shelf: Drop + Send + Sync {
         ensures cause { IfErr result (λ e. NotTaken e × Counted e (told self.old) (told self.new)) }
         ensures counts { CountedBy result (told self.old) (told self.new) };
 
-    /// Writes a new manifest and makes it the directory's. `Taken` where the directory's manifest has this number; a file of that
-    /// name which is not the directory's manifest is replaced. No manifest is removed. After `Device` the directory names the old
-    /// manifest or the new one whole.
+    /// Writes a new manifest and makes it the directory's. `Taken` where the directory's manifest
+    /// has this number; a file of that name which is not the directory's manifest is replaced. No
+    /// manifest is removed. After `Device` the directory names the old manifest or the new one
+    /// whole.
     fn start_manifest<R: Wait>(
         &mut self,
         rt: &R,
@@ -127,8 +132,9 @@ pub trait Shelf: Drop + Send + Sync {
         ensures cause { IfErr result (λ e. TakenIs number e × Counted e (told self.old) (told self.new)) }
         ensures counts { CountedBy result (told self.old) (told self.new) };
 
-    /// Appends to the manifest that the directory names, on the device before it answers Ok. `Missing` where there is
-    /// none; after `Device` the manifest is the old bytes and a prefix of the new ones.
+    /// Appends to the manifest that the directory names, on the device before it answers Ok.
+    /// `Missing` where there is none; after `Device` the manifest is the old bytes and a prefix of
+    /// the new ones.
     fn append_manifest<R: Wait>(&mut self, rt: &R, bytes: &[u8]) -> Result<(), ShelfFault>
         ensures ok { OnOk result (Becomes (appending bytes.now (told self.old)) (told self.new)) }
         ensures err { OnErr result (Becomes (told self.old) (told self.new)) }
@@ -136,7 +142,8 @@ pub trait Shelf: Drop + Send + Sync {
         ensures cause { IfErr result (λ e. NotTaken e × Counted e (told self.old) (told self.new)) }
         ensures counts { CountedBy result (told self.old) (told self.new) };
 
-    /// Another value on the same contents, to which nothing was told yet; this one has given one fork more.
+    /// Another value on the same contents, to which nothing was told yet; this one has given one
+    /// fork more.
     fn fork(&mut self, alloc: Global) -> Result<Self, ShelfFault>
         ensures fork { IfOk result (λ s. told s ≡ fresh (told self.old).place) }
         ensures ok { OnOk result (Becomes (forking 1 (told self.old)) (told self.new)) }
@@ -144,7 +151,8 @@ pub trait Shelf: Drop + Send + Sync {
         ensures cause { IfErr result (λ e. NotNamed e × Counted e (told self.old) (told self.new)) }
         ensures counts { CountedBy result (told self.old) (told self.new) };
 
-    /// Whether two receipts are copies of one receipt. `false` tells nothing: other receipts may stand for the same image.
+    /// Whether two receipts are copies of one receipt. `false` tells nothing: other receipts may
+    /// stand for the same image.
     fn same(&self, a: &Self::Receipt, b: &Self::Receipt) -> bool
         requires here { is_of (told self.now).place a.now × is_of (told self.now).place b.now }
         ensures copy { a.now ≡ b.now → IsTrue result }
@@ -154,7 +162,8 @@ pub trait Shelf: Drop + Send + Sync {
     fn copy_receipt(&self, receipt: &Self::Receipt) -> Self::Receipt
         ensures { result ≡ receipt.now };
 
-    /// How often this value answered `Device`, and how often `Missing` or `Taken`. A count at 2^64-1 stays there.
+    /// How often this value answered `Device`, and how often `Missing` or `Taken`. A count at
+    /// 2^64-1 stays there.
     fn failures(&self) -> (u64, u64)
         ensures { result ≡ ((told self.now).faults, (told self.now).misses) };
 }

@@ -5,9 +5,11 @@ ghost use Rattle.std.specs.Prelude.{◌≡◌, ℕ, ◌≤◌, ◌^◌, List, le
 /// The most bytes that an image may have: 1 GiB.
 pub(crate) const MAX_IMAGE: usize = 1 << 30;
 
-/// What a shelf hands out for an image: it has the image's number and length, and stands for its bytes.
+/// What a shelf hands out for an image: it has the image's number and length, and stands for its
+/// bytes.
 ///
-/// LevelDB names a table by the number of its file; that a receipt stands for the bytes put is this project's rule.
+/// LevelDB names a table by the number of its file; that a receipt stands for the bytes put is this
+/// project's rule.
 pub trait Slip: Drop + Send + Sync {
     /// The number of the table's file.
     ghost number: { Self → ℕ };

@@ -5,7 +5,8 @@ ghost use Rattle.std.specs.Prelude.{[]};
 use lsm_table::Naming;
 use std::marker::Brand;
 
-/// Stands for a board of pins too. A program picks it once the board is made, and what is generic in it is of that board.
+/// Stands for a board of pins too. A program picks it once the board is made, and what is generic
+/// in it is of that board.
 pub trait Boarded: Naming {
     ghost use Rattle.atomic_table.specs.Seated.{TableId};
 

@@ -1,7 +1,9 @@
-//! What keeps old versions of a store readable: versions in the slots of a board of pins, and snapshots.
+//! What keeps old versions of a store readable: versions in the slots of a board of pins, and
+//! snapshots.
 //!
-//! Stands on `lsm_version` for versions and on `lsm_pins` for the board. Its contract: a slot turns free only by a look that found
-//! no reader there, where its version is not current and has no pin under the lock.
+//! Stands on `lsm_version` for versions and on `lsm_pins` for the board. Its contract: a slot turns
+//! free only by a look that found no reader there, where its version is not current and has no pin
+//! under the lock.
 #![tactic(auto)]
 
 mod boarded;

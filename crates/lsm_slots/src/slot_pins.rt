@@ -102,7 +102,8 @@ impl<N: Boarded, S: Shelf> Slots<N, S> {
         None
     }
 
-    /// Pins the current version under the lock, and answers its id; none where it has 2^32 - 1 such pins.
+    /// Pins the current version under the lock, and answers its id; none where it has 2^32 - 1 such
+    /// pins.
     pub fn pin(&mut self) -> Option<u32>
         ensures some { IfSome result (λ id. (id ≡ current_id self.old) × ((pins : ℕ) × (pins < 2 ^ 32 - 1) × PinsMove self.old self.new id pins (pins + 1))) }
         ensures none { IfNone result (((e : Held) × HasEpoch self.old (current_slot self.old) e × (e.pins ≡ 2 ^ 32 - 1)) × (self.new ≡ self.old)) }
@@ -134,8 +135,8 @@ impl<N: Boarded, S: Shelf> Slots<N, S> {
         true
     }
 
-    /// Appends the numbers of the tables of all versions that have a slot, slot by slot. `AllocError` where a growth was refused; then
-    /// the numbers are as before.
+    /// Appends the numbers of the tables of all versions that have a slot, slot by slot.
+    /// `AllocError` where a growth was refused; then the numbers are as before.
     pub fn push_numbers(&self, numbers: &mut Vec<u64>) -> Result<(), AllocError>
         ensures { MatchResult result (λ _. numbers.new.items ≡ numbers.old.items ++ numbers_held self.now.epochs) (λ _. numbers.new.items ≡ numbers.old.items) }
     {
@@ -158,8 +159,9 @@ impl<N: Boarded, S: Shelf> Slots<N, S> {
         pinner.learn(&mut self.publisher)
     }
 
-    /// The numbers of the tables of the version that the pinner, which is at the board, holds, level by level; none where it holds
-    /// nothing. Its slot is not free. `AllocError` where a growth was refused.
+    /// The numbers of the tables of the version that the pinner, which is at the board, holds,
+    /// level by level; none where it holds nothing. Its slot is not free. `AllocError` where a
+    /// growth was refused.
     pub fn meet(
         &mut self,
         alloc: Global,

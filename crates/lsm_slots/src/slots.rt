@@ -95,8 +95,9 @@ fn first_epochs<N: Naming, S: Shelf>(
 }
 
 impl<N: Boarded, S: Shelf> Slots<N, S> {
-    /// The slots of a board that was just made with so many slots: the version is current in slot 0, under the board's id, and the
-    /// other slots are free. `AllocError` where a growth was refused.
+    /// The slots of a board that was just made with so many slots: the version is current in slot
+    /// 0, under the board's id, and the other slots are free. `AllocError` where a growth was
+    /// refused.
     pub fn new(
         alloc: Global,
         publisher: Publisher,
@@ -183,8 +184,8 @@ impl<N: Boarded, S: Shelf> Slots<N, S> {
         clear(&mut self.epochs, slot);
     }
 
-    /// Looks at each slot that a look may free: it is not the current one, and its version has no pin under the lock. Those that no
-    /// reader holds are free from then on.
+    /// Looks at each slot that a look may free: it is not the current one, and its version has no
+    /// pin under the lock. Those that no reader holds are free from then on.
     pub fn look_around(&mut self)
         ensures looked { Looked self.old self.new }
         ensures looks { looks_of self.new ≡ looks_of self.old + count_to_look_at self.old }
@@ -196,8 +197,8 @@ impl<N: Boarded, S: Shelf> Slots<N, S> {
         }
     }
 
-    /// A free slot. Where one is known to be free nothing changes; else the slots that may be freed are looked at first, and none is
-    /// answered exactly where no slot is free after that.
+    /// A free slot. Where one is known to be free nothing changes; else the slots that may be freed
+    /// are looked at first, and none is answered exactly where no slot is free after that.
     pub fn find_free(&mut self) -> Option<u8>
         ensures looked { Looked self.old self.new }
         ensures some { IfSome result (λ slot. IsFreeSlot self.new slot) }

@@ -107,7 +107,8 @@ impl Snapshots {
         }
     }
 
-    /// The live snapshots, the oldest first, each an id and a sequence. What holds of all snapshots is told here.
+    /// The live snapshots, the oldest first, each an id and a sequence. What holds of all snapshots
+    /// is told here.
     pub fn live(&self) -> &[(u64, u64)]
         ensures live { result.now ≡ self.now.taken }
         ensures law { AreSnapshots self.now }

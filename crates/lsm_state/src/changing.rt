@@ -53,9 +53,11 @@ fn take_out<N: Naming, S: Shelf>(live: &mut LiveJobs<N, S>, out: Option<u64>)
 }
 
 impl<N: Boarded, S: Shelf> State<N, S> {
-    // A free slot for the next version. Where none is known to be free, those that may turn free are looked at first.
+    // A free slot for the next version. Where none is known to be free, those that may turn free
+    // are looked at first.
     //
-    // `SlotsHeld` where none is free after that; then `VersionsSpent` where the current version's id is the last one.
+    // `SlotsHeld` where none is free after that; then `VersionsSpent` where the current version's
+    // id is the last one.
     pub(crate) fn find_slot(&mut self) -> Result<u8, StateFault>
         ensures sought { Sought self.old.slots self.new.slots }
         ensures rest { self.new ≡ record self.old { slots = self.new.slots } }
@@ -116,11 +118,12 @@ impl<N: Boarded, S: Shelf> State<N, S> {
         self.halted = halts(fault);
     }
 
-    // Makes a change of the current version: in the manifest, and then in a slot that is free. The job of the ticket, if one is named, goes
-    // out with it.
+    // Makes a change of the current version: in the manifest, and then in a slot that is free. The
+    // job of the ticket, if one is named, goes out with it.
     //
-    // All room is made before the manifest is written. `OutOfMemory` where a growth was refused; then all is as before. Then the shelf's
-    // refusals: the number of a new manifest is spent, and the state is halted unless the shelf wanted memory.
+    // All room is made before the manifest is written. `OutOfMemory` where a growth was refused;
+    // then all is as before. Then the shelf's refusals: the number of a new manifest is spent, and
+    // the state is halted unless the shelf wanted memory.
     pub(crate) fn change_version<R: Wait>(
         &mut self,
         rt: &R,

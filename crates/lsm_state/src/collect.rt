@@ -68,11 +68,13 @@ impl<N: Boarded, S: Shelf> State<N, S> {
         Ok(())
     }
 
-    /// Looks at the slots that may turn free, and removes the listed tables that are not kept. Answers their numbers, ascending.
+    /// Looks at the slots that may turn free, and removes the listed tables that are not kept.
+    /// Answers their numbers, ascending.
     ///
-    /// `Halted` where the state is halted; else `OutOfMemory`, and the shelf's refusals. A refusal has the numbers of the tables that
-    /// were removed, but perhaps for one that the shelf refused to remove, other than for want of memory; the state goes on, and a later
-    /// call removes the others.
+    /// `Halted` where the state is halted; else `OutOfMemory`, and the shelf's refusals. A refusal
+    /// has the numbers of the tables that were removed, but perhaps for one that the shelf refused
+    /// to remove, other than for want of memory; the state goes on, and a later call removes the
+    /// others.
     pub fn collect<R: Wait>(
         &mut self,
         rt: &R,

@@ -20,10 +20,12 @@ use std::alloc::Global;
 use std::sync::{Arc, Wait};
 
 impl<N: Boarded, S: Shelf> State<N, S> {
-    /// The state of a new database, on a shelf that has no manifest: no table, no snapshot, no job, and manifest 1. The board was just
-    /// made, with the options' readers and as many slots as they say.
+    /// The state of a new database, on a shelf that has no manifest: no table, no snapshot, no job,
+    /// and manifest 1. The board was just made, with the options' readers and as many slots as they
+    /// say.
     ///
-    /// `Taken` with the number of the manifest that is there; `Device`; `OutOfMemory`. After `Device` manifest 1 may be there or not.
+    /// `Taken` with the number of the manifest that is there; `Device`; `OutOfMemory`. After
+    /// `Device` manifest 1 may be there or not.
     pub fn create<R: Wait>(
         rt: &R,
         alloc: Global,

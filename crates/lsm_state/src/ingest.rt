@@ -98,7 +98,8 @@ impl<N: Boarded, S: Shelf> State<N, S> {
         Ok(())
     }
 
-    // Builds the table of a batch, and puts it under the next file number, which is spent once the put begins.
+    // Builds the table of a batch, and puts it under the next file number, which is spent once the
+    // put begins.
     fn put_batch<R: Wait>(
         &mut self,
         rt: &R,
@@ -149,12 +150,14 @@ impl<N: Boarded, S: Shelf> State<N, S> {
         Ok(VersionChange::new(Vec::new(alloc), added, None, last))
     }
 
-    /// Brings a batch in: its entries, at sequences one after another from the one after the last, are one table at level 0.
+    /// Brings a batch in: its entries, at sequences one after another from the one after the last,
+    /// are one table at level 0.
     ///
-    /// `Halted`, `EmptyBatch`, `TooLarge`, `KeyOrder`, `LevelZeroFull`, `SequencesSpent`, `NumbersSpent`, `SlotsHeld`, `VersionsSpent`,
-    /// `OutOfMemory`, and the shelf's, in this order. A refused call leaves all as it was, but that slots seen free stay free. From the put
-    /// of the table on the file number is spent, and where the start of a new manifest was refused its number too; where the shelf
-    /// refused the append or the start, the state is halted.
+    /// `Halted`, `EmptyBatch`, `TooLarge`, `KeyOrder`, `LevelZeroFull`, `SequencesSpent`,
+    /// `NumbersSpent`, `SlotsHeld`, `VersionsSpent`, `OutOfMemory`, and the shelf's, in this order.
+    /// A refused call leaves all as it was, but that slots seen free stay free. From the put of the
+    /// table on the file number is spent, and where the start of a new manifest was refused its
+    /// number too; where the shelf refused the append or the start, the state is halted.
     pub fn ingest<R: Wait>(
         &mut self,
         rt: &R,

@@ -53,7 +53,8 @@ impl<N: Boarded, S: Shelf> State<N, S> {
         Ok(())
     }
 
-    // Makes the version after the result current, in a slot that is free; the result's job goes out.
+    // Makes the version after the result current, in a slot that is free; the result's job goes
+    // out.
     fn put_in<R: Wait>(
         &mut self,
         rt: &R,
@@ -107,13 +108,15 @@ impl<N: Boarded, S: Shelf> State<N, S> {
         self.put_in(rt, alloc, shelf, done, slot)
     }
 
-    /// Installs the result of a live job: its inputs go out of the version, its outputs come one level down, and the job goes out. Answers
-    /// the numbers of the outputs. No answer to a read that is promised changes.
+    /// Installs the result of a live job: its inputs go out of the version, its outputs come one
+    /// level down, and the job goes out. Answers the numbers of the outputs. No answer to a read
+    /// that is promised changes.
     ///
-    /// `Stale` exactly where the result's job is not live, or did not draw the numbers that were put; then nothing changes. Then `Halted`;
-    /// `NumbersSpent` where a new manifest is due and its number would be 2^64 - 1; `SlotsHeld`; `VersionsSpent`; `OutOfMemory`; and the
-    /// shelf's refusals, after which the state is halted, unless the shelf wanted memory. Every refusal hands the result back, and no live
-    /// job goes out.
+    /// `Stale` exactly where the result's job is not live, or did not draw the numbers that were
+    /// put; then nothing changes. Then `Halted`; `NumbersSpent` where a new manifest is due and its
+    /// number would be 2^64 - 1; `SlotsHeld`; `VersionsSpent`; `OutOfMemory`; and the shelf's
+    /// refusals, after which the state is halted, unless the shelf wanted memory. Every refusal
+    /// hands the result back, and no live job goes out.
     pub fn install<R: Wait>(
         &mut self,
         rt: &R,

@@ -122,8 +122,8 @@ fn placed_at<N: Naming, S: Shelf>(
     Ok(placed)
 }
 
-// The change of a version that a finished job makes: its inputs go, its outputs come one level down, and its level gets the largest key of
-// its inputs there as its pointer.
+// The change of a version that a finished job makes: its inputs go, its outputs come one level
+// down, and its level gets the largest key of its inputs there as its pointer.
 pub(crate) fn change_of<N: Naming, S: Shelf>(
     alloc: Global,
     registry: &Registry<S::Receipt>,

@@ -12,7 +12,8 @@ use lsm_slots::Boarded;
 use lsm_table::Shelf;
 
 impl<N: Boarded, S: Shelf> State<N, S> {
-    /// Gives up the live job of this ticket. Its numbers are kept no longer. `UnknownTicket` where it is not live.
+    /// Gives up the live job of this ticket. Its numbers are kept no longer. `UnknownTicket` where
+    /// it is not live.
     pub fn cancel(&mut self, ticket: u64) -> Result<(), StateFault>
         ensures ok { OnOk result (HasTicket self.old.live ticket × (self.new ≡ record self.old { live = without ticket self.old.live })) }
         ensures event { OnOk result (Cancels (plain self.old) ticket (plain self.new)) }
@@ -28,7 +29,8 @@ impl<N: Boarded, S: Shelf> State<N, S> {
 
     /// The next file number, booked under the ticket of a live job, so that its table is kept.
     ///
-    /// `UnknownTicket` where the ticket is not live; then `NumbersSpent` where the number would be 2^64 - 1; then `OutOfMemory`.
+    /// `UnknownTicket` where the ticket is not live; then `NumbersSpent` where the number would be
+    /// 2^64 - 1; then `OutOfMemory`.
     pub fn new_number(&mut self, ticket: u64) -> Result<u64, StateFault>
         ensures ok { IfOk result (λ n. HasTicket self.old.live ticket × (n ≡ self.old.next) × (n ≡ 2 ^ 64 - 1 → ⊥)
             × (self.new ≡ record self.old { live = booked ticket n self.old.live; next = suc n })) }

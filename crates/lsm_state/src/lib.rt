@@ -1,33 +1,41 @@
 //! The value behind the lock of a database.
 //!
-//! Stands on `lsm_slots` for versions, pins and snapshots, on `lsm_live` for live jobs, on `lsm_journal` for the manifest, and on
-//! `lsm_machine` for the law of the store as a plain machine. Its contract: the law of a state holds after every call, and each call
-//! says all that it leaves.
+//! Stands on `lsm_slots` for versions, pins and snapshots, on `lsm_live` for live jobs, on
+//! `lsm_journal` for the manifest, and on `lsm_machine` for the law of the store as a plain
+//! machine. Its contract: the law of a state holds after every call, and each call says all that it
+//! leaves.
 //!
 //! # What holds
 //!
-//! The law of a state (`IsLawfulState`) is the invariant of its type, so it holds after refused calls too. `State::options` tells it. In
-//! brackets stands the clause that carries what was said, or the field of the law.
+//! The law of a state (`IsLawfulState`) is the invariant of its type, so it holds after refused
+//! calls too. `State::options` tells it. In brackets stands the clause that carries what was said,
+//! or the field of the law.
 //!
-//! - Over an honest shelf the files of each level from 1 on are sorted and share no key of an entry (`split`), and of a user key each
-//!   entry is newer than all that lie deeper (`depth`; both in `meaning` of `law`). Whatever the shelf is, no two files or tickets
-//!   have one number, numbers drawn are no file's, inputs of live jobs are files of the version, no two live jobs conflict, and no floor
-//!   is above the last sequence or a live snapshot's (`books` of `law`).
-//! - The current version is what the edits of the manifest held come to (`journaled`). What is held is what the shelf was sent: as a
-//!   state is made (`sent` of `create`, `begun` of `open`, `found` of `open_to_read`), and at each change of the version (`sends`, in
-//!   `ok` of `ingest` and `installed` of `install`).
-//! - The tables of the current version, of every version whose slot is not free, and those that a live job drew are kept: `State::kept`
-//!   answers just these (`numbers`), a reader's are among them (`kept` of `meet`), and `collect` removes no others than listed ones that
-//!   are not among them (`ok`, `refused`).
-//! - An ingest adds just its batch: one table of the batch's entries, at the sequences after the last, comes in at level 0 (`ok`), so the
-//!   entries of all tables gain just these (`entries`).
-//! - An install changes no answer: over an honest shelf a read at the last sequence, or at a live snapshot's, gives for each key what it
-//!   gave before (`answers`), whatever came since the job was reserved.
-//! - A stale result changes nothing: `install` refuses one whose job is not live, or that has numbers which the job did not draw, leaves
-//!   all as it was (`refused`), and hands the result back (`back`).
-//! - Over an honest shelf a read gives the newest value at or before its sequence (`answer` of `get`).
-//! - What changes entries, snapshots or jobs is an event of the plain machine (`event`), so the laws of `lsm_machine` over whole runs
-//!   speak of states.
+//! - Over an honest shelf the files of each level from 1 on are sorted and share no key of an entry
+//!   (`split`), and of a user key each entry is newer than all that lie deeper (`depth`; both in
+//!   `meaning` of `law`). Whatever the shelf is, no two files or tickets have one number, numbers
+//!   drawn are no file's, inputs of live jobs are files of the version, no two live jobs conflict,
+//!   and no floor is above the last sequence or a live snapshot's (`books` of `law`).
+//! - The current version is what the edits of the manifest held come to (`journaled`). What is held
+//!   is what the shelf was sent: as a state is made (`sent` of `create`, `begun` of `open`, `found`
+//!   of `open_to_read`), and at each change of the version (`sends`, in `ok` of `ingest` and
+//!   `installed` of `install`).
+//! - The tables of the current version, of every version whose slot is not free, and those that a
+//!   live job drew are kept: `State::kept` answers just these (`numbers`), a reader's are among
+//!   them (`kept` of `meet`), and `collect` removes no others than listed ones that are not among
+//!   them (`ok`, `refused`).
+//! - An ingest adds just its batch: one table of the batch's entries, at the sequences after the
+//!   last, comes in at level 0 (`ok`), so the entries of all tables gain just these (`entries`).
+//! - An install changes no answer: over an honest shelf a read at the last sequence, or at a live
+//!   snapshot's, gives for each key what it gave before (`answers`), whatever came since the job
+//!   was reserved.
+//! - A stale result changes nothing: `install` refuses one whose job is not live, or that has
+//!   numbers which the job did not draw, leaves all as it was (`refused`), and hands the result
+//!   back (`back`).
+//! - Over an honest shelf a read gives the newest value at or before its sequence (`answer` of
+//!   `get`).
+//! - What changes entries, snapshots or jobs is an event of the plain machine (`event`), so the
+//!   laws of `lsm_machine` over whole runs speak of states.
 #![tactic(auto)]
 
 // The state, and how it begins.

@@ -29,8 +29,8 @@ fn push_files<N: Naming, S: Shelf>(
 }
 
 impl<N: Boarded, S: Shelf> State<N, S> {
-    /// The files of the current version, each with its level, by level, then in the order of the level. `AllocError` where a growth was
-    /// refused.
+    /// The files of the current version, each with its level, by level, then in the order of the
+    /// level. `AllocError` where a growth was refused.
     pub fn files(&self, alloc: Global) -> Result<Vec<(u8, FileMeta)>, AllocError>
         ensures { IfOk result (λ v. v.items ≡ listed_from 0 self.now.slots.version.tables) }
     {

@@ -20,7 +20,8 @@ use lsm_version::Version;
 use std::alloc::Global;
 use std::sync::{Arc, Wait};
 
-// The least number that is at least the first one and above all of these; `NumbersSpent` where one of them is 2^64 - 1.
+// The least number that is at least the first one and above all of these; `NumbersSpent` where one
+// of them is 2^64 - 1.
 fn next_free(from: u64, taken: &[u64]) -> Result<u64, OpenFault>
     ensures ok { IfOk result (λ n. IsLeastFree from taken.now n) }
     ensures err { IfErr result (λ e. (e ≡ NumbersSpent) × Has taken.now (2 ^ 64 - 1)) }
@@ -35,7 +36,8 @@ fn next_free(from: u64, taken: &[u64]) -> Result<u64, OpenFault>
     Ok(next)
 }
 
-// What is read of a database: its manifest, the version that this records, and the next file number.
+// What is read of a database: its manifest, the version that this records, and the next file
+// number.
 #[derive(Drop)]
 struct Found<N: Boarded, S: Shelf> {
     journal: Journal,
@@ -75,15 +77,18 @@ impl<N: Boarded, S: Shelf> Found<N, S> {
 }
 
 impl<N: Boarded, S: Shelf> State<N, S> {
-    /// The state of the database that is on the shelf: the version that its manifest records, no snapshot and no job. A new manifest
-    /// begins, whose one edit spells that version; its number is the least that is at least the next file number of the manifest found
-    /// and above every table that is listed, every table of the version, and the manifest found. Bytes at the end of the manifest found
-    /// that hold no whole record are left behind. Its log numbers are kept. The board was just made, with the options' readers and as
-    /// many slots as they say.
+    /// The state of the database that is on the shelf: the version that its manifest records, no
+    /// snapshot and no job. A new manifest begins, whose one edit spells that version; its number
+    /// is the least that is at least the next file number of the manifest found and above every
+    /// table that is listed, every table of the version, and the manifest found. Bytes at the end
+    /// of the manifest found that hold no whole record are left behind. Its log numbers are kept.
+    /// The board was just made, with the options' readers and as many slots as they say.
     ///
-    /// The refusals of `Journal::recover`; those of `Version::check`; those of listing the tables; then `NumbersSpent` where one of
-    /// these numbers is 2^64 - 1, or the new manifest's would be; then `OutOfMemory`, and `Device` where the shelf failed, or `Taken`
-    /// where another began that manifest meanwhile. After `Device` the directory names the old manifest or the new one whole.
+    /// The refusals of `Journal::recover`; those of `Version::check`; those of listing the tables;
+    /// then `NumbersSpent` where one of these numbers is 2^64 - 1, or the new manifest's would be;
+    /// then `OutOfMemory`, and `Device` where the shelf failed, or `Taken` where another began that
+    /// manifest meanwhile. After `Device` the directory names the old manifest or the new one
+    /// whole.
     pub fn open<R: Wait>(
         rt: &R,
         alloc: Global,
@@ -124,11 +129,13 @@ impl<N: Boarded, S: Shelf> State<N, S> {
         })
     }
 
-    /// The same state for reading alone: nothing is written, the manifest held is the one that was found, with all its bytes, the next
-    /// number is the one that `open` gives to a new manifest, and the state is halted.
+    /// The same state for reading alone: nothing is written, the manifest held is the one that was
+    /// found, with all its bytes, the next number is the one that `open` gives to a new manifest,
+    /// and the state is halted.
     ///
-    /// The refusals of `Journal::recover`; those of `Version::check`; those of listing the tables; then `NumbersSpent` where a table
-    /// that is listed, or one of the version, or the manifest has the number 2^64 - 1; then `OutOfMemory`.
+    /// The refusals of `Journal::recover`; those of `Version::check`; those of listing the tables;
+    /// then `NumbersSpent` where a table that is listed, or one of the version, or the manifest has
+    /// the number 2^64 - 1; then `OutOfMemory`.
     pub fn open_to_read<R: Wait>(
         rt: &R,
         alloc: Global,

@@ -9,7 +9,8 @@ use lsm_version::CheckFault;
 use std::alloc::{AllocError, AllocFailed};
 use thiserror::Error;
 
-/// Why a database could not be opened. Each of them but the last may stand for a growth that was refused.
+/// Why a database could not be opened. Each of them but the last may stand for a growth that was
+/// refused.
 #[derive(Debug, Drop, Error)]
 pub enum OpenFault {
     /// A growth was refused.
@@ -24,7 +25,8 @@ pub enum OpenFault {
     /// The tables that the manifest names are no version.
     #[error("{0}")]
     Check(CheckFault),
-    /// A table that is listed, or of the version, or the manifest has the number 2^64 - 1, or no number is left for a new manifest.
+    /// A table that is listed, or of the version, or the manifest has the number 2^64 - 1, or no
+    /// number is left for a new manifest.
     #[error("NumbersSpent")]
     NumbersSpent,
 }

@@ -5,14 +5,16 @@ ghost use Rattle.lsm_state.specs.Options.{Fits, HasSizes, SeatsReaders, sizes_of
 
 use lsm_table::TableOptions;
 
-/// The sizes and counts that a database is run with. The first three are LevelDB's (`include/leveldb/options.h`), with its defaults.
+/// The sizes and counts that a database is run with. The first three are LevelDB's
+/// (`include/leveldb/options.h`), with its defaults.
 #[derive(Clone, Copy, Debug, PartialEq, Eq)]
 pub struct Options {
     /// A data block is closed when its size estimate reaches this many bytes: 64 to 1,048,576.
     pub block_size: usize,
     /// A data block has a restart at every so many entries: 1 to 128.
     pub restart_interval: u32,
-    /// An output of a compaction is closed at the next user key after so many bytes of finished blocks: 1,024 to 67,108,864.
+    /// An output of a compaction is closed at the next user key after so many bytes of finished
+    /// blocks: 1,024 to 67,108,864.
     pub target_size: u64,
     /// How many slots for versions the board has: 3 to 64, and two more than readers at least.
     pub versions: usize,

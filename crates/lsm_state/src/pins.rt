@@ -29,7 +29,8 @@ fn ascending(mut numbers: Vec<u64>) -> Result<Vec<u64>, AllocError>
 }
 
 impl<N: Boarded, S: Shelf> State<N, S> {
-    /// Pins the current version under the lock, and answers its id. `PinsSpent` where it has 2^32 - 1 such pins.
+    /// Pins the current version under the lock, and answers its id. `PinsSpent` where it has 2^32 -
+    /// 1 such pins.
     pub fn pin(&mut self) -> Result<u32, StateFault>
         ensures ok { IfOk result (λ id. (id ≡ current_id self.old.slots) × ((pins : ℕ) × (pins < 2 ^ 32 - 1) × PinsMove self.old.slots self.new.slots id pins (pins + 1))) }
         ensures event { plain self.new ≡ plain self.old }
@@ -44,7 +45,8 @@ impl<N: Boarded, S: Shelf> State<N, S> {
         }
     }
 
-    /// Gives back a pin under the lock of the version of this id. `UnknownSnapshot` where no version of this id has one.
+    /// Gives back a pin under the lock of the version of this id. `UnknownSnapshot` where no
+    /// version of this id has one.
     pub fn unpin(&mut self, id: u32) -> Result<(), StateFault>
         ensures ok { OnOk result ((pins : ℕ) × PinsMove self.old.slots self.new.slots id (pins + 1) pins) }
         ensures event { plain self.new ≡ plain self.old }
@@ -59,7 +61,8 @@ impl<N: Boarded, S: Shelf> State<N, S> {
         Ok(())
     }
 
-    /// The numbers of the tables that are kept, ascending: those of each version that has a slot, and those that live jobs drew.
+    /// The numbers of the tables that are kept, ascending: those of each version that has a slot,
+    /// and those that live jobs drew.
     pub fn kept(&self, alloc: Global) -> Result<Vec<u64>, AllocError>
         ensures numbers { IfOk result (λ v. (n : ℕ) → Has v.items n ↔ IsKeptNumber self.now n) }
         ensures ascending { IfOk result (λ v. IsStrictlyIncreasing v.items) }
@@ -90,8 +93,9 @@ impl<N: Boarded, S: Shelf> State<N, S> {
         self.slots.learn(pinner)
     }
 
-    /// The numbers of the tables of the version that the pinner, which is at the state's board, holds, level by level; none where it
-    /// holds nothing. All of them are kept. `AllocError` where a growth was refused.
+    /// The numbers of the tables of the version that the pinner, which is at the state's board,
+    /// holds, level by level; none where it holds nothing. All of them are kept. `AllocError` where
+    /// a growth was refused.
     pub fn meet(
         &mut self,
         alloc: Global,

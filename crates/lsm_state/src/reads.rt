@@ -31,10 +31,11 @@ impl<N: Boarded, S: Shelf> State<N, S> {
         }
     }
 
-    /// The value of a user key, or none: as of the snapshot, or of the last sequence. Only the current version is read.
+    /// The value of a user key, or none: as of the snapshot, or of the last sequence. Only the
+    /// current version is read.
     ///
-    /// `UnknownSnapshot` where the snapshot is not live; then `Read` as `Version::get`, over an honest shelf only where the shelf
-    /// refused or memory ran out.
+    /// `UnknownSnapshot` where the snapshot is not live; then `Read` as `Version::get`, over an
+    /// honest shelf only where the shelf refused or memory ran out.
     pub fn get(
         &self,
         shelf: &mut S,
@@ -53,7 +54,8 @@ impl<N: Boarded, S: Shelf> State<N, S> {
         Ok(value)
     }
 
-    /// A snapshot at the last sequence, under the next id, which it answers. `NumbersSpent` where the next id would be 2^64 - 1.
+    /// A snapshot at the last sequence, under the next id, which it answers. `NumbersSpent` where
+    /// the next id would be 2^64 - 1.
     pub fn snapshot(&mut self) -> Result<u64, StateFault>
         ensures ok { IfOk result (λ id. (id ≡ self.old.snapshots.next) × (self.new ≡ record self.old { snapshots = record { taken = self.old.snapshots.taken ++ (id, self.old.slots.version.last) ∷ []; next = suc id } })) }
         ensures event { OnOk result (TakesSnapshot (plain self.old) (plain self.new)) }

@@ -71,7 +71,8 @@ impl<N: Boarded, S: Shelf> State<N, S> {
         }))
     }
 
-    // Books the job of a plan that conflicts with no live job: it stays among these, and an equal one is handed out.
+    // Books the job of a plan that conflicts with no live job: it stays among these, and an equal
+    // one is handed out.
     fn book(
         &mut self,
         alloc: Global,
@@ -104,11 +105,11 @@ impl<N: Boarded, S: Shelf> State<N, S> {
         Ok(job)
     }
 
-    /// Reserves the next compaction: the job of the chosen plan, under the next ticket. None exactly where there is no choice; then
-    /// nothing changes.
+    /// Reserves the next compaction: the job of the chosen plan, under the next ticket. None
+    /// exactly where there is no choice; then nothing changes.
     ///
-    /// `Halted` where the state is halted; `NumbersSpent` in place of a job whose ticket would be 2^64 - 1; `OutOfMemory`. A refusal
-    /// leaves the state as it was.
+    /// `Halted` where the state is halted; `NumbersSpent` in place of a job whose ticket would be
+    /// 2^64 - 1; `OutOfMemory`. A refusal leaves the state as it was.
     pub fn reserve(&mut self, alloc: Global) -> Result<Option<Job<N, S>>, StateFault>
         ensures choice { S.honest → IfOk result (λ r. MatchOption r (HasNoChoice self.old.slots.version (reserved_jobs self.old.live)) (λ w. IsChosen self.old (plan_in w))) }
         ensures moment { IfOk result (λ r. IfSome r (λ w. IsOfMoment self.old w)) }
@@ -134,12 +135,14 @@ impl<N: Boarded, S: Shelf> State<N, S> {
         Ok(Some(self.book(alloc, plan, moves)?))
     }
 
-    /// Reserves the compaction of all files of a level, 0 to 5, that meet the range of user keys from `from` to `to`, both included,
-    /// with those that they lead to. It is never a move. None exactly where no file meets the range; then nothing changes.
+    /// Reserves the compaction of all files of a level, 0 to 5, that meet the range of user keys
+    /// from `from` to `to`, both included, with those that they lead to. It is never a move. None
+    /// exactly where no file meets the range; then nothing changes.
     ///
-    /// `Halted` where the state is halted; `BadLevel` exactly where the level is above 5; `Conflict` exactly where the plan conflicts
-    /// with a live job, with the least ticket of these; `NumbersSpent` in place of a job whose ticket would be 2^64 - 1;
-    /// `OutOfMemory`. A refusal leaves the state as it was.
+    /// `Halted` where the state is halted; `BadLevel` exactly where the level is above 5;
+    /// `Conflict` exactly where the plan conflicts with a live job, with the least ticket of these;
+    /// `NumbersSpent` in place of a job whose ticket would be 2^64 - 1; `OutOfMemory`. A refusal
+    /// leaves the state as it was.
     pub fn reserve_range(
         &mut self,
         alloc: Global,

@@ -15,7 +15,8 @@ use lsm_version::Version;
 use std::marker::Model;
 use std::sync::Arc;
 
-/// What a database holds behind its lock: versions by slot, snapshots, live jobs, and the manifest. Contracts see it as that (`Held`).
+/// What a database holds behind its lock: versions by slot, snapshots, live jobs, and the manifest.
+/// Contracts see it as that (`Held`).
 #[derive(Drop)]
 pub struct State<N: Boarded, S: Shelf> {
     pub(crate) registry: Arc<Registry<S::Receipt>>,

@@ -14,7 +14,8 @@ use std::marker::Model;
 use std::num::NonZeroUsize;
 use std::sync::Arc;
 
-/// What a reader has besides its end of the board: the version that it has learnt, the version's id, and its blocks.
+/// What a reader has besides its end of the board: the version that it has learnt, the version's
+/// id, and its blocks.
 #[derive(Drop)]
 pub struct Desk<N: Boarded, S: Shelf> {
     pub(crate) id: u32,
@@ -35,7 +36,8 @@ impl<N: Boarded, S: Shelf> Model for Desk<N, S> {
 }
 
 impl<N: Boarded, S: Shelf> Desk<N, S> {
-    /// One at which the state's current version is known, with a fork of the shelf, and an empty cache of so many blocks.
+    /// One at which the state's current version is known, with a fork of the shelf, and an empty
+    /// cache of so many blocks.
     #[tactic(auto, using(lsm_shelf::proofs::CallerLemmas::forked_none, lsm_shelf::proofs::CallerLemmas::forked_once, lsm_shelf::proofs::CallerLemmas::forked_same))]
     pub(crate) fn new(
         alloc: Global,

@@ -9,8 +9,9 @@ ghost use Rattle.lsm_state.specs.declared.options.Options.{Options};
 ghost use Rattle.lsm_store.specs.Readers.{SeatsPinners};
 ghost use Rattle.lsm_version.specs.Versions.{Levels};
 
-/// What `State::create`, `State::open` and `State::open_to_read` make has no more pinners than readers, where the board has as many
-/// as the options say. So it is of a board that `Board::new` made for these options (`pinners` there).
+/// What `State::create`, `State::open` and `State::open_to_read` make has no more pinners than
+/// readers, where the board has as many as the options say. So it is of a board that `Board::new`
+/// made for these options (`pinners` there).
 pub fn made_states_seat_their_pinners()
     ensures created { (o : Options) (publisher : Known) (pinners : List Known) → length pinners ≡ o.readers → SeatsPinners (created_state o publisher pinners) }
     ensures opened { (o : Options) (publisher : Known) (pinners : List Known) (v : Levels) (journal : HeldManifest) (next : ℕ) (halted : Bool) → length pinners ≡ o.readers → SeatsPinners (opened_state o publisher pinners v journal next halted) }

@@ -1,4 +1,5 @@
-//! Numbers for the outputs of merges: workers ask, and the thread that started them draws under the lock.
+//! Numbers for the outputs of merges: workers ask, and the thread that started them draws under the
+//! lock.
 
 ghost use Rattle.std.specs.Prelude.{IfErr};
 ghost use Rattle.lsm_merge.specs.NumberFault.{IsOfTicket};
@@ -16,8 +17,9 @@ struct Question {
 
 /// Where workers ask for numbers, one at a time, and where the thread that started them answers.
 ///
-/// A merge draws its numbers through a trait (`NumberSource`), and the toolchain proves no call in a method of a trait's impl of a
-/// function whose type parameters may be sent to a thread, as those of a state. So a source of numbers asks here.
+/// A merge draws its numbers through a trait (`NumberSource`), and the toolchain proves no call in
+/// a method of a trait's impl of a function whose type parameters may be sent to a thread, as those
+/// of a state. So a source of numbers asks here.
 #[derive(Drop)]
 pub(crate) struct NumberService {
     turn: Mutex<()>,

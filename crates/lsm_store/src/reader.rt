@@ -44,7 +44,8 @@ impl<N: Boarded, S: Shelf> Reader<N, S> {
         self.desk.id
     }
 
-    /// Learns the current version of the state that the lock has lent. `AllocError` where the version's count of owners is at its end.
+    /// Learns the current version of the state that the lock has lent. `AllocError` where the
+    /// version's count of owners is at its end.
     #[tactic(auto, using(crate::proofs::ReaderLaws::same_learnt))]
     pub fn refresh(&mut self, state: &mut State<N, S>) -> Result<(), AllocError>
         ensures ok { OnOk result (self.new ≡ refreshed state.old self.old) }
@@ -59,8 +60,9 @@ impl<N: Boarded, S: Shelf> Reader<N, S> {
         Ok(())
     }
 
-    /// Pins the version that was learnt, by one atomic step and without the lock. Where another one is current, the pin is given back
-    /// (`Moved`); `PinsSpent` where all pins of the id seen last were made.
+    /// Pins the version that was learnt, by one atomic step and without the lock. Where another one
+    /// is current, the pin is given back (`Moved`); `PinsSpent` where all pins of the id seen last
+    /// were made.
     #[tactic(auto, using(crate::proofs::ReaderLaws::begun_at, crate::proofs::ReaderLaws::moved_at))]
     pub fn begin(self) -> Result<View<N, S>, (Reader<N, S>, BeginFault)>
         ensures begun { IfOk result (λ v. IsBegun self v) }

@@ -122,14 +122,15 @@ pub struct Store<N: Boarded, S: Shelf> {
 }
 
 impl<N: Boarded, S: Shelf> Store<N, S> {
-    /// The store of a state, and a reader for each pinner that was not taken yet, in their order. Each has a fork of the shelf and an
-    /// empty cache of blocks, and has learnt the current version. All of that is made before the pinners are taken.
+    /// The store of a state, and a reader for each pinner that was not taken yet, in their order.
+    /// Each has a fork of the shelf and an empty cache of blocks, and has learnt the current
+    /// version. All of that is made before the pinners are taken.
     ///
-    /// The state has no more pinners than its options have readers: so it is after `State::create` and `State::open` with the board
-    /// that `Board::new` made for these options.
+    /// The state has no more pinners than its options have readers: so it is after `State::create`
+    /// and `State::open` with the board that `Board::new` made for these options.
     ///
-    /// `OutOfMemory`; `Device` where the shelf failed. A refusal hands the state back as it was, and the shelf, which was asked for
-    /// forks alone.
+    /// `OutOfMemory`; `Device` where the shelf failed. A refusal hands the state back as it was,
+    /// and the shelf, which was asked for forks alone.
     pub fn new(
         alloc: Global,
         state: State<N, S>,
@@ -156,7 +157,8 @@ impl<N: Boarded, S: Shelf> Store<N, S> {
         Ok((store, readers))
     }
 
-    /// Lends the state, which keeps its law (`State::options` tells it); calls are made on the guard.
+    /// Lends the state, which keeps its law (`State::options` tells it); calls are made on the
+    /// guard.
     pub fn lock<'a, R: Wait>(&'a self, rt: &R) -> MutexGuard<'a, State<N, S>> {
         self.state.lock(rt)
     }

@@ -24,8 +24,8 @@ use lsm_version::{Pair, Scan};
 use std::alloc::{AllocError, Global};
 use std::marker::Model;
 
-/// A reader with a pin of the version that it has learnt. Its answers are of that version, whatever becomes current. It must be
-/// ended, which gives the pin back.
+/// A reader with a pin of the version that it has learnt. Its answers are of that version, whatever
+/// becomes current. It must be ended, which gives the pin back.
 pub struct View<N: Boarded, S: Shelf> {
     pub(crate) pinner: Pinner,
     pub(crate) slot: u8,
@@ -60,11 +60,12 @@ impl<N: Boarded, S: Shelf> View<N, S> {
         self.desk.version.last()
     }
 
-    /// The value of a user key at a sequence, or none: that of the newest entry of its version with a sequence at most `seq`, where it
-    /// is a value. Blocks that its reader keeps are not read again.
+    /// The value of a user key at a sequence, or none: that of the newest entry of its version with
+    /// a sequence at most `seq`, where it is a value. Blocks that its reader keeps are not read
+    /// again.
     ///
-    /// `Shelf` where the shelf refused. `Table` with `OutOfMemory` where a growth was refused, and with another refusal of a table only where
-    /// the shelf's bytes are not those that were put.
+    /// `Shelf` where the shelf refused. `Table` with `OutOfMemory` where a growth was refused, and
+    /// with another refusal of a table only where the shelf's bytes are not those that were put.
     pub fn get(
         &mut self,
         alloc: Global,
@@ -82,7 +83,8 @@ impl<N: Boarded, S: Shelf> View<N, S> {
             .get_by(&mut self.desk.blocks, alloc, user, seq)
     }
 
-    /// A scan of its version at a sequence: each user key that has an answer, with it, ascending. `step` and `next` go on along it.
+    /// A scan of its version at a sequence: each user key that has an answer, with it, ascending.
+    /// `step` and `next` go on along it.
     pub fn scan(&mut self, alloc: Global, seq: u64) -> Result<Scan<N, S>, ReadFault>
         ensures scanned { S.honest → IfOk result (λ s. IsScan seq (all_entries (files self.old.version)) s.left) }
         ensures here { IfOk result (λ s. s.here ≡ None) }
@@ -94,8 +96,8 @@ impl<N: Boarded, S: Shelf> View<N, S> {
         self.desk.version.scan_by(&mut self.desk.blocks, alloc, seq)
     }
 
-    /// Goes on to the next pair of the scan, which then lends it. Where none is left it stands at none, and the answer is false. An
-    /// `Err` leaves what is left to show.
+    /// Goes on to the next pair of the scan, which then lends it. Where none is left it stands at
+    /// none, and the answer is false. An `Err` leaves what is left to show.
     pub fn step(&mut self, alloc: Global, scan: &mut Scan<N, S>) -> Result<bool, ReadFault>
         ensures ok { S.honest → IfOk result (λ m. ShowsNext m scan.old scan.new) }
         ensures err { S.honest → OnErr result (scan.new.left ≡ scan.old.left) }
@@ -107,7 +109,8 @@ impl<N: Boarded, S: Shelf> View<N, S> {
         scan.step_by(&mut self.desk.blocks, alloc)
     }
 
-    /// A copy of the next pair of the scan, or none at the end. An `Err` leaves what is left to show.
+    /// A copy of the next pair of the scan, or none at the end. An `Err` leaves what is left to
+    /// show.
     pub fn next(&mut self, alloc: Global, scan: &mut Scan<N, S>) -> Result<Option<Pair>, ReadFault>
         ensures ok { S.honest → IfOk result (λ r. ShowsPair r scan.old.left scan.new.left) }
         ensures err { S.honest → OnErr result (scan.new.left ≡ scan.old.left) }
@@ -119,8 +122,9 @@ impl<N: Boarded, S: Shelf> View<N, S> {
         scan.next_by(&mut self.desk.blocks, alloc)
     }
 
-    /// The numbers of the tables of the version that its pin holds, level by level: the state has that version in the slot that was
-    /// pinned, under the view's id, and keeps its tables. `AllocError` where a growth was refused.
+    /// The numbers of the tables of the version that its pin holds, level by level: the state has
+    /// that version in the slot that was pinned, under the view's id, and keeps its tables.
+    /// `AllocError` where a growth was refused.
     #[tactic(auto, using(crate::proofs::ReaderLaws::same_learnt, crate::proofs::ReaderLaws::held_so, crate::proofs::ReaderLaws::met_at))]
     pub fn meet(&mut self, alloc: Global, state: &mut State<N, S>) -> Result<Vec<u64>, AllocError>
         ensures met { IfOk result (λ v. IsMet self.old state.new v.items) }

@@ -22,7 +22,8 @@ pub enum WorkerFault {
 }
 
 impl WorkerFault {
-    /// The published number of the refusal. That of a thread that could not be made is 1, as for want of memory.
+    /// The published number of the refusal. That of a thread that could not be made is 1, as for
+    /// want of memory.
     pub fn number(&self) -> u8
         ensures { result ≡ number_of self.now }
     {

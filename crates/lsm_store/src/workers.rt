@@ -108,13 +108,15 @@ fn join_all<S: Shelf, R: Threads + Wait>(
     ends
 }
 
-/// Compacts with one worker for each shelf, each in a thread of its own, until none of them finds anything left to reserve; answers
-/// what each has done, in the order of the shelves. The shelves are forks of the store's, of any number; 1 to 8 are meant. The caller
-/// holds no guard of the store: this thread draws under the lock, and would wait for itself.
+/// Compacts with one worker for each shelf, each in a thread of its own, until none of them finds
+/// anything left to reserve; answers what each has done, in the order of the shelves. The shelves
+/// are forks of the store's, of any number; 1 to 8 are meant. The caller holds no guard of the
+/// store: this thread draws under the lock, and would wait for itself.
 ///
-/// A worker reserves under the lock, merges outside it, and installs under it. The numbers of its outputs are drawn under the lock too,
-/// by this thread. At a fault it cancels its ticket and ends, and the others go on. Before each merge the gate is told. A thread that
-/// cannot be made is that worker's fault, `NoThread`.
+/// A worker reserves under the lock, merges outside it, and installs under it. The numbers of its
+/// outputs are drawn under the lock too, by this thread. At a fault it cancels its ticket and ends,
+/// and the others go on. Before each merge the gate is told. A thread that cannot be made is that
+/// worker's fault, `NoThread`.
 ///
 /// Where there is no memory for the answer nothing is done, and the shelves come back.
 pub fn run_workers<N: Boarded, S: Shelf, G: Gate + Sync, R: Threads + Wait + Sync>(

@@ -140,7 +140,8 @@ fn two_workers_merge_at_once(rt: HostRuntime) -> Result<(), Fail> {
     work_at_once::<Brand, MemoryShelf, _>(&rt, alloc, parts)
 }
 
-/// How many results the only worker has installed, and the number of its fault; none where there is not just one worker.
+/// How many results the only worker has installed, and the number of its fault; none where there is
+/// not just one worker.
 fn said_of(ends: &[WorkerEnd]) -> Option<(u64, Option<u8>)> {
     match ends {
         [end] => Some((end.installed, end.fault.map(|fault| fault.number()))),
@@ -148,7 +149,8 @@ fn said_of(ends: &[WorkerEnd]) -> Option<(u64, Option<u8>)> {
     }
 }
 
-/// A worker whose shelf refuses to read ends with that, and its job is live no more: another one installs both.
+/// A worker whose shelf refuses to read ends with that, and its job is live no more: another one
+/// installs both.
 fn gives_up<N: Boarded, S: Shelf, R: Threads + Wait + Abort + Sync>(
     rt: &R,
     alloc: Global,
@@ -177,7 +179,8 @@ fn gives_up<N: Boarded, S: Shelf, R: Threads + Wait + Abort + Sync>(
 #[test]
 fn a_worker_that_fails_leaves_its_job_to_others(rt: HostRuntime) -> Result<(), Fail> {
     let alloc = rt.alloc();
-    // The shelf of the writer serves two calls for the database, one for the readers, sixteen for the ingests and one for a fork.
+    // The shelf of the writer serves two calls for the database, one for the readers, sixteen for
+    // the ingests and one for a fork.
     let shelf = FuseShelf::new(MemoryShelf::new(alloc)?, 20, true, false, 0);
     let parts = Parts::of(alloc, shelf, Options::usual())?;
     gives_up::<Brand, FuseShelf<MemoryShelf>, _>(&rt, alloc, parts)

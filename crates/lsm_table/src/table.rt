@@ -91,8 +91,8 @@ impl Table {
         TableIter::over(alloc, body, index)
     }
 
-    /// Sets a place in this table, or in another one, before the first entry of this one. The room that it has for keys stays, so
-    /// that a second walk through a table asks for no memory.
+    /// Sets a place in this table, or in another one, before the first entry of this one. The room
+    /// that it has for keys stays, so that a second walk through a table asks for no memory.
     pub fn restart<'t>(&'t self, entries: &mut TableIter<'t>)
         ensures { entries.new.left ≡ self.now }
     {

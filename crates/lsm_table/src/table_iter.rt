@@ -57,7 +57,8 @@ impl<'t> TableIter<'t> {
         }
     }
 
-    /// Before the first entry again, of the data blocks that an index names. The room for keys stays.
+    /// Before the first entry again, of the data blocks that an index names. The room for keys
+    /// stays.
     pub(crate) fn begin_again(&mut self, body: &'t [u8], index: BlockRef<'t>)
         requires { AreNamed body.now index.entries }
         ensures { self.new.left ≡ left_of body.now [] index.entry.entries }

@@ -1,7 +1,8 @@
 //! The program `lsm`: makes LevelDB's files, and shows what is in them and in a folder of them.
 //!
-//! Stands on `lsm_commands`, `lsm_directory`, `lsm_writer`, `lsm_compactor` and `lsm_script_lines`, which do all that it does. Here stand
-//! the words, standard input and output, the folder, and the exit status.
+//! Stands on `lsm_commands`, `lsm_directory`, `lsm_writer`, `lsm_compactor` and `lsm_script_lines`,
+//! which do all that it does. Here stand the words, standard input and output, the folder, and the
+//! exit status.
 #![tactic(auto)]
 
 use lsm_commands::{DirectoryLine, directory_asked, refuse_words, run};

@@ -109,12 +109,13 @@ fn with_pointer(
 }
 
 impl<N: Naming, S: Shelf> Version<N, S> {
-    /// The version without the tables of the deleted numbers and with the added ones, each at its level, 0 to 6, and in its place there;
-    /// the pointer of a level, 0 to 6, is replaced by an internal key, and the last sequence by another one. `AllocError` where a growth
-    /// was refused.
+    /// The version without the tables of the deleted numbers and with the added ones, each at its
+    /// level, 0 to 6, and in its place there; the pointer of a level, 0 to 6, is replaced by an
+    /// internal key, and the last sequence by another one. `AllocError` where a growth was refused.
     ///
-    /// Deletions come before additions: a table that moves to another level is deleted and added under one number. After a refusal
-    /// the version is as before, and the pointer's bytes are given up.
+    /// Deletions come before additions: a table that moves to another level is deleted and added
+    /// under one number. After a refusal the version is as before, and the pointer's bytes are
+    /// given up.
     pub fn change(
         &self,
         alloc: Global,
@@ -152,13 +153,15 @@ ghost use Rattle.lsm_levels.specs.Files.{File};
 ghost use Rattle.lsm_version.specs.Changes.{added_files};
 ghost use Rattle.lsm_version.specs.Versions.{Levels, files, level_in};
 
-/// A law: a file is of the changed version exactly where it is of an added table, or of the version before and its number not deleted.
+/// A law: a file is of the changed version exactly where it is of an added table, or of the version
+/// before and its number not deleted.
 pub fn changed_files()
     ensures { (deleted : List ℕ) (added : List (ℕ × Table)) (pointer : Option (ℕ × List ℕ)) (last : ℕ) (v : Levels) (F : File) → length v.tables ≡ 7 → All (λ a. a.0 ≤ 6) added
         → (Has (files (changed deleted added pointer last v)) F ↔ ((Has (files v) F × (Has deleted F.number → ⊥)) ⊎ Has (added_files added) F)) }
 {}
 
-/// A law: a table stands at a level of the changed version exactly where it was added there, or stood there and its number is not deleted.
+/// A law: a table stands at a level of the changed version exactly where it was added there, or
+/// stood there and its number is not deleted.
 pub fn changed_tables()
     ensures { (deleted : List ℕ) (added : List (ℕ × Table)) (pointer : Option (ℕ × List ℕ)) (last : ℕ) (v : Levels) (n : ℕ) (t : Table) → n < length v.tables
         → (Has (level_in (changed deleted added pointer last v).tables n) t ↔ ((Has (level_in v.tables n) t × (Has deleted t.number → ⊥)) ⊎ Has added (n, t))) }
@@ -170,7 +173,8 @@ ghost use Rattle.lsm_table.specs.Table.{IsTable};
 ghost use Rattle.lsm_levels.specs.Files.{Fits, IsLawful, Lie};
 ghost use Rattle.lsm_version.specs.Versions.{IsWhole, file_of};
 
-/// A law: a record whose keys are the first and the last of a table's entries stands for that table.
+/// A law: a record whose keys are the first and the last of a table's entries stands for that
+/// table.
 pub fn tables_are_whole()
     ensures { (t : Table) (e : Entry) (rest : List Entry) (front : List Entry) (l : Entry) → IsTable t.image (e ∷ rest) → e ∷ rest ≡ front ++ l ∷ []
         → IsKey t.smallest (internal_key e) → IsKey t.largest (internal_key l) → IsWhole t }
@@ -181,7 +185,8 @@ pub fn whole_tables_fit()
     ensures { (n : ℕ) (t : Table) → IsWhole t → Fits (file_of n t) }
 {}
 
-/// A law: a changed version is sound where its files are lawful and below its last sequence, and what is added is whole.
+/// A law: a changed version is sound where its files are lawful and below its last sequence, and
+/// what is added is whole.
 pub fn changed_is_sound()
     ensures { (deleted : List ℕ) (added : List (ℕ × Table)) (pointer : Option (ℕ × List ℕ)) (last : ℕ) (v : Levels) → IsSound v
         → ((n : ℕ) (t : Table) → Has added (n, t) → IsWhole t) → IsLawful Lie (files (changed deleted added pointer last v))

@@ -67,25 +67,31 @@ impl<N: Naming, S: Shelf> Version<N, S> {
     ghost use Rattle.lsm_version.specs.Settled.{IsSettled, KeepsAge};
     ghost use Rattle.lsm_version.specs.Versions.{IsSound, files};
 
-    /// The version of a shape: reads every table of it from the shelf, one image at a time, and judges them. No two of its files have
-    /// one number. Whatever the shelf gives later, the version is sound but for the age order; and sound where the ranges and the
-    /// sequences of its files alone settle that (`IsSettled`): then no table is read again. Else the tables of the files that are not
-    /// settled are read a second time, block by block, and the version is sound as long as the shelf gives the same bytes again, as an
-    /// honest one does.
+    /// The version of a shape: reads every table of it from the shelf, one image at a time, and
+    /// judges them. No two of its files have one number. Whatever the shelf gives later, the
+    /// version is sound but for the age order; and sound where the ranges and the sequences of its
+    /// files alone settle that (`IsSettled`): then no table is read again. Else the tables of the
+    /// files that are not settled are read a second time, block by block, and the version is sound
+    /// as long as the shelf gives the same bytes again, as an honest one does.
     ///
-    /// `DoubleFile` with the least number that two files have; then the files by level, and in a level in the order of the shape: the
-    /// shelf's refusals, those of a table, and want of memory over it, with the file's number, and `WrongRange` where a table has another
-    /// size, another first or last internal key than the shape says, no entries, or an entry above the last sequence; then `Overlap` with
-    /// the least level from 1 on in which two files meet in internal keys (a user key may go on in the next file of a level); then, where
-    /// a second look is needed, the shelf's refusals and those of a table with the number of one of the files that are not settled, or
-    /// `AgeOrder` with the least user key of which a deeper entry has no lesser sequence than a shallower one (that a key's entries are
-    /// newer the shallower they lie is what LevelDB's `doc/impl.md` builds on; that a database which breaks it is refused is this
+    /// `DoubleFile` with the least number that two files have; then the files by level, and in a
+    /// level in the order of the shape: the shelf's refusals, those of a table, and want of memory
+    /// over it, with the file's number, and `WrongRange` where a table has another size, another
+    /// first or last internal key than the shape says, no entries, or an entry above the last
+    /// sequence; then `Overlap` with the least level from 1 on in which two files meet in internal
+    /// keys (a user key may go on in the next file of a level); then, where a second look is
+    /// needed, the shelf's refusals and those of a table with the number of one of the files that
+    /// are not settled, or `AgeOrder` with the least user key of which a deeper entry has no lesser
+    /// sequence than a shallower one (that a key's entries are newer the shallower they lie is what
+    /// LevelDB's `doc/impl.md` builds on; that a database which breaks it is refused is this
     /// project's rule). Beside want of memory a file may be named or not.
     ///
-    /// Time: one walk through each table, by its bytes; for each file a search in each deeper level, and a look at the files there that
-    /// its range meets. The files of level 0 are sorted by number; just those whose least sequence is not above the greatest of all files
-    /// of a lesser number are looked at with each other file of level 0. Of files whose sequences rise with their numbers, as LevelDB
-    /// writes them, there are none. A second look is a merge, and takes a merge's time.
+    /// Time: one walk through each table, by its bytes; for each file a search in each deeper
+    /// level, and a look at the files there that its range meets. The files of level 0 are sorted
+    /// by number; just those whose least sequence is not above the greatest of all files of a
+    /// lesser number are looked at with each other file of level 0. Of files whose sequences rise
+    /// with their numbers, as LevelDB writes them, there are none. A second look is a merge, and
+    /// takes a merge's time.
     pub fn check<R: Wait>(
         shelf: &mut S,
         rt: &R,
@@ -121,8 +127,8 @@ ghost use Rattle.lsm_version.specs.CheckRefusal.{IsOfShape};
 ghost use Rattle.lsm_version.specs.Loading.{AreInFileOrder, AreLevelsOf};
 ghost use Rattle.lsm_version.specs.Versions.{Levels};
 
-/// A law: where the files of each level of a shape stand in the level's order, as those of a replay do, a version of the shape has
-/// a table for each of them in just that order.
+/// A law: where the files of each level of a shape stand in the level's order, as those of a replay
+/// do, a version of the shape has a table for each of them in just that order.
 pub fn shapes_in_order()
     ensures { (shape : Shape) (v : Levels) → IsOfShape shape v → AreInFileOrder shape.levels → AreLevelsOf shape.last shape.levels v.tables }
 {}

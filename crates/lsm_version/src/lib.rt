@@ -1,8 +1,10 @@
-//! Versions: which tables stand at which level, and what they answer. Reads, scans, the judgment of a shape, and changes.
+//! Versions: which tables stand at which level, and what they answer. Reads, scans, the judgment of
+//! a shape, and changes.
 //!
-//! Stands on `lsm_levels` for the laws of plain files and on `lsm_merger` for merges, both of which it lends, on `lsm_reader` for
-//! reads of tables block by block, on `lsm_table` for tables, shelves and the registry, and on `lsm_manifest` for the shape of a
-//! version. Its contract: a sound version answers as its union of entries.
+//! Stands on `lsm_levels` for the laws of plain files and on `lsm_merger` for merges, both of which
+//! it lends, on `lsm_reader` for reads of tables block by block, on `lsm_table` for tables, shelves
+//! and the registry, and on `lsm_manifest` for the shape of a version. Its contract: a sound
+//! version answers as its union of entries.
 #![tactic(auto)]
 
 mod change;

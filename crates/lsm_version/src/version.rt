@@ -11,8 +11,9 @@ use std::alloc::{AllocError, Global};
 use std::marker::Model;
 use std::sync::Arc;
 
-/// The tables of the seven levels, the compaction pointers, and the last sequence. Over an honest shelf it is sound: the levels
-/// are sorted, files of a level from 1 on lie in order of internal keys, and a key's entries are newer the shallower they lie.
+/// The tables of the seven levels, the compaction pointers, and the last sequence. Over an honest
+/// shelf it is sound: the levels are sorted, files of a level from 1 on lie in order of internal
+/// keys, and a key's entries are newer the shallower they lie.
 #[derive(Drop)]
 pub struct Version<N: Naming, S: Shelf> {
     pub(crate) registry: Arc<Registry<S::Receipt>>,
@@ -100,7 +101,8 @@ impl<N: Naming, S: Shelf> Version<N, S> {
         }
     }
 
-    /// A version without tables and pointers, whose last sequence is 0. `AllocError` where a growth was refused.
+    /// A version without tables and pointers, whose last sequence is 0. `AllocError` where a growth
+    /// was refused.
     pub fn empty(
         alloc: Global,
         registry: Arc<Registry<S::Receipt>>,
@@ -128,8 +130,8 @@ impl<N: Naming, S: Shelf> Version<N, S> {
         })
     }
 
-    /// Appends the numbers of all files, level by level, in the order of each level. Where a growth was refused the numbers are as
-    /// before.
+    /// Appends the numbers of all files, level by level, in the order of each level. Where a growth
+    /// was refused the numbers are as before.
     pub fn push_numbers(&self, numbers: &mut Vec<u64>) -> Result<(), AllocError>
         ensures ok { OnOk result (numbers.new.items ≡ numbers.old.items ++ numbers_in self.now) }
         ensures err { OnErr result (numbers.new.items ≡ numbers.old.items) }

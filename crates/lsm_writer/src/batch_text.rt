@@ -42,11 +42,11 @@ pub(crate) fn batch_of(alloc: Global, form: Form, text: &[u8]) -> Result<Batch, 
     Ok(batch)
 }
 
-/// The batch that an input spells: one line a key, `KEY=VALUE` for its new value or `KEY!` where it is deleted, KEY and VALUE words of
-/// this form. Whether it may come in is not judged here.
+/// The batch that an input spells: one line a key, `KEY=VALUE` for its new value or `KEY!` where it
+/// is deleted, KEY and VALUE words of this form. Whether it may come in is not judged here.
 ///
-/// `Read` where a read fails, or where there are more than 64 MiB; `BadLine` with the number of the first line of another form;
-/// `OutOfMemory`.
+/// `Read` where a read fails, or where there are more than 64 MiB; `BadLine` with the number of the
+/// first line of another form; `OutOfMemory`.
 pub fn read_batch<I: Read>(alloc: Global, form: Form, input: &mut I) -> Result<Batch, WriterFault>
     ensures batch { IfOk result (λ b. IfSome (I.remaining input.old) (λ text. IsBatchText form text b)) }
     ensures limit { OnOk result (IfSome (I.remaining input.old) (λ text. length text ≤ 67108864)) }

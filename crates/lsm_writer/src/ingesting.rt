@@ -54,7 +54,8 @@ fn bring_in_as<N: Boarded, S: Shelf, R: Wait, O: Write>(
     }
 }
 
-/// Begins a database on the shelf, or opens the one that is there, brings a batch in, and writes `file N first F last L`.
+/// Begins a database on the shelf, or opens the one that is there, brings a batch in, and writes
+/// `file N first F last L`.
 pub(crate) fn bring_in<S: Shelf, R: Wait, O: Write>(
     rt: &R,
     alloc: Global,

@@ -1,8 +1,8 @@
 //! The command of `lsm` that writes a directory, `ingest`.
 //!
 //! Stands on `lsm_state` for a database that is begun or opened and for what comes into it, and on
-//! `lsm_commands` and `lsm_directory` for words and refusals. Its contract: an `ingest` that ends with 0 brought just the batch of its
-//! file in, and printed its numbers.
+//! `lsm_commands` and `lsm_directory` for words and refusals. Its contract: an `ingest` that ends
+//! with 0 brought just the batch of its file in, and printed its numbers.
 #![tactic(auto)]
 
 // What words ask for.

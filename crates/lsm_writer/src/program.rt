@@ -51,8 +51,9 @@ fn status_of<E: Write>(done: Result<(), WriterFault>, err: &mut E) -> u8
     }
 }
 
-/// Begins a database on the shelf, or opens the one that is there, brings a batch in, writes `file N first F last L`, and answers the
-/// exit status: 0 where it is done, and 1 where it is refused. A fault is one line on `err`.
+/// Begins a database on the shelf, or opens the one that is there, brings a batch in, writes `file
+/// N first F last L`, and answers the exit status: 0 where it is done, and 1 where it is refused. A
+/// fault is one line on `err`.
 pub fn ingest<S: Shelf, R: Wait, O: Write, E: Write>(
     rt: &R,
     alloc: Global,

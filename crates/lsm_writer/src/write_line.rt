@@ -36,8 +36,8 @@ fn delete_in(alloc: Global, form: Form, key: &[u8]) -> Result<Option<Write>, All
     }
 }
 
-/// What a line writes of a key: `KEY=VALUE` for its new value, `KEY!` where it is deleted, both words of this form. None for another
-/// line.
+/// What a line writes of a key: `KEY=VALUE` for its new value, `KEY!` where it is deleted, both
+/// words of this form. None for another line.
 pub fn write_in(alloc: Global, form: Form, word: &[u8]) -> Result<Option<Write>, AllocError>
     ensures some { IfOk result (λ o. IfSome o (IsWriteLine form word.now)) }
     ensures none { IfOk result (λ o. IfNone o ((w : Write) → IsWriteLine form word.now w → ⊥)) }

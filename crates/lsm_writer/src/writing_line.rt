@@ -45,7 +45,8 @@ fn form_in<S: AsStr>(words: &[S]) -> Option<Form>
     Some(Form::Text)
 }
 
-/// What words ask of a directory that is written; none where they ask for something else, or are not of the form.
+/// What words ask of a directory that is written; none where they ask for something else, or are
+/// not of the form.
 pub fn writing_asked<'a, S: AsStr>(words: &'a [S]) -> Option<WritingLine<'a>>
     ensures some { IfSome result (λ l. AsksToWrite l.command l.path.now (map S.text words.now)) }
     ensures none { IfNone result ((c : WritingCommand) (path : List ℕ) → AsksToWrite c path (map S.text words.now) → ⊥) }

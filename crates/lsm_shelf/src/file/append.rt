@@ -38,7 +38,8 @@ fn measure_manifest<C: FolderCalls, W: Wait>(
     }
 }
 
-/// Puts bytes behind those of a manifest's file. A sync that is refused is the device, also for want of memory: the bytes are there.
+/// Puts bytes behind those of a manifest's file. A sync that is refused is the device, also for
+/// want of memory: the bytes are there.
 fn write_behind<C: FolderCalls, W: Wait>(
     folder: &mut C,
     rt: &W,
@@ -60,7 +61,8 @@ fn write_behind<C: FolderCalls, W: Wait>(
     }
 }
 
-/// Appends to the manifest that `CURRENT` names, which stays within 1 GiB. Answers its number and the bytes that it had.
+/// Appends to the manifest that `CURRENT` names, which stays within 1 GiB. Answers its number and
+/// the bytes that it had.
 pub(crate) fn append_manifest<C: FolderCalls, W: Wait>(
     folder: &mut C,
     rt: &W,

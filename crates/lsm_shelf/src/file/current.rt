@@ -61,7 +61,8 @@ pub(crate) fn current<C: FolderCalls, W: Wait>(
     }
 }
 
-/// Whether `CURRENT` names this manifest. A `CURRENT` that is not there or not well-formed names none.
+/// Whether `CURRENT` names this manifest. A `CURRENT` that is not there or not well-formed names
+/// none.
 pub(crate) fn names_manifest<C: FolderCalls, W: Wait>(
     folder: &mut C,
     rt: &W,

@@ -44,7 +44,8 @@ pub(crate) fn text_of_current(alloc: Global, number: u64) -> Result<String, Allo
     format!(in alloc; "MANIFEST-{digits}\n")
 }
 
-/// The number that these digits spell, where they are its name: decimal, with zeros to at least six digits and no more.
+/// The number that these digits spell, where they are its name: decimal, with zeros to at least six
+/// digits and no more.
 fn number_in(alloc: Global, digits: &str) -> Result<Option<u64>, AllocError>
     ensures { IfOk result (IsNumberOf padded digits.now) }
 {

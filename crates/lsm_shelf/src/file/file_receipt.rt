@@ -6,7 +6,8 @@ ghost use Rattle.lsm_shelf.specs.FileNames.{table_name};
 use crate::slip::Slip;
 use lsm_folder::Mark;
 
-/// What a `FileShelf` hands out for an image: the number and size of the table's file, and the mark that the folder gave for it.
+/// What a `FileShelf` hands out for an image: the number and size of the table's file, and the mark
+/// that the folder gave for it.
 #[derive(Drop)]
 pub struct FileReceipt<M: Mark> {
     pub(crate) number: u64,

@@ -13,11 +13,14 @@ use crate::shelf_fault::ShelfFault;
 use lsm_folder::{FolderCalls, SystemFolder};
 use std::fs::Files;
 
-/// Tables and a manifest in a folder, as LevelDB names their files: `N.ldb`, `MANIFEST-N` and `CURRENT`.
+/// Tables and a manifest in a folder, as LevelDB names their files: `N.ldb`, `MANIFEST-N` and
+/// `CURRENT`.
 ///
-/// It is generic in how the folder is asked. Each call says which calls on the folder it makes, in which order (`calls`), and for each
-/// refusal how far it came, and which refusal of which call of the folder it comes from (`stopped`). That reads answer what was written is the premise `Shelf::honest`, that the folders
-/// of the type are honest: proved of the folder in memory, and of the system's a premise. Forks are values on the same folder.
+/// It is generic in how the folder is asked. Each call says which calls on the folder it makes, in
+/// which order (`calls`), and for each refusal how far it came, and which refusal of which call of
+/// the folder it comes from (`stopped`). That reads answer what was written is the premise
+/// `Shelf::honest`, that the folders of the type are honest: proved of the folder in memory, and of
+/// the system's a premise. Forks are values on the same folder.
 #[derive(Drop)]
 pub struct FileShelf<C: FolderCalls> {
     pub(crate) folder: C,

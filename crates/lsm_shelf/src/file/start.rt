@@ -13,7 +13,8 @@ use lsm_folder::FolderCalls;
 use std::alloc::Global;
 use std::sync::Wait;
 
-/// Writes a manifest over what has its name, and makes `CURRENT` name it. The last sync stands apart.
+/// Writes a manifest over what has its name, and makes `CURRENT` name it. The last sync stands
+/// apart.
 fn write_manifest<C: FolderCalls, W: Wait>(
     folder: &mut C,
     rt: &W,

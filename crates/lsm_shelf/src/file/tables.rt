@@ -30,8 +30,8 @@ pub(crate) fn make_durable<C: FolderCalls, W: Wait>(
     folder.sync_folder(rt)
 }
 
-/// Removes a file that was made and could not be made durable, and says why its call is refused: where it could not be removed
-/// either, that is the device.
+/// Removes a file that was made and could not be made durable, and says why its call is refused:
+/// where it could not be removed either, that is the device.
 fn undo<C: FolderCalls, W: Wait>(
     folder: &mut C,
     rt: &W,

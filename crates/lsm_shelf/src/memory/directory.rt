@@ -26,7 +26,8 @@ pub(crate) struct Manifest {
     pub(crate) bytes: Vec<u8>,
 }
 
-/// The tables that are listed, each with the index of its image, and the manifest that was started last.
+/// The tables that are listed, each with the index of its image, and the manifest that was started
+/// last.
 #[derive(Drop)]
 pub(crate) struct Directory {
     pub(crate) tables: BTreeMap<u64, usize>,
@@ -94,7 +95,8 @@ impl Directory {
         })
     }
 
-    /// What is listed under the number. An image that was put under another one is none, nor is an index without an image.
+    /// What is listed under the number. An image that was put under another one is none, nor is an
+    /// index without an image.
     fn find(&self, images: &boxcar::Vec<Image>, number: u64) -> Option<Pushed<Image>>
         ensures index { IfSome result (λ t. get nat_cmp self.now.tables number ≡ Some t.index) }
         ensures shown { IfSome result (λ t. Shows images.now t) }

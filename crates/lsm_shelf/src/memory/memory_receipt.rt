@@ -6,8 +6,8 @@ use crate::memory::image::Image;
 use crate::slip::Slip;
 use boxcar::Pushed;
 
-/// What a `MemoryShelf` hands out for an image. The image stays in memory while any fork of the shelf lasts, whatever is
-/// removed from the directory.
+/// What a `MemoryShelf` hands out for an image. The image stays in memory while any fork of the
+/// shelf lasts, whatever is removed from the directory.
 #[derive(Drop)]
 pub struct MemoryReceipt {
     pub(crate) number: u64,

@@ -23,7 +23,8 @@ pub struct MemoryShelf {
     pub(crate) account: Account,
 }
 
-/// A part of an image. The directory is not asked, so an image that was removed is there all the same.
+/// A part of an image. The directory is not asked, so an image that was removed is there all the
+/// same.
 fn part(
     images: &boxcar::Vec<Image>,
     alloc: Global,

@@ -71,8 +71,9 @@ fn choose<N: Naming, S: Shelf>(
     Ok(chosen)
 }
 
-/// Goes through the tables of all levels in the order of keys, block by block: the least user key of which a deeper entry has no lesser
-/// sequence than a shallower one, if there is one. A refusal names the file of one of these tables, unless memory ran out beside them.
+/// Goes through the tables of all levels in the order of keys, block by block: the least user key
+/// of which a deeper entry has no lesser sequence than a shallower one, if there is one. A refusal
+/// names the file of one of these tables, unless memory ran out beside them.
 fn look_again<N: Naming, S: Shelf, B: Blocks<S>>(
     blocks: &mut B,
     alloc: Global,
@@ -104,9 +105,10 @@ fn look_again<N: Naming, S: Shelf, B: Blocks<S>>(
     }
 }
 
-/// Reads the tables of these numbers a second time, block by block, in the order of keys, and refuses the least user key of which a
-/// deeper entry has no lesser sequence than a shallower one. Where there is no number, it reads nothing. A refusal names a file of one
-/// of these numbers, unless memory ran out beside them.
+/// Reads the tables of these numbers a second time, block by block, in the order of keys, and
+/// refuses the least user key of which a deeper entry has no lesser sequence than a shallower one.
+/// Where there is no number, it reads nothing. A refusal names a file of one of these numbers,
+/// unless memory ran out beside them.
 pub(crate) fn judge_ages<N: Naming, S: Shelf>(
     shelf: &mut S,
     alloc: Global,

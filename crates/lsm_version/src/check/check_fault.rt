@@ -12,8 +12,9 @@ use thiserror::Error;
 /// Why the tables of a shape are no version.
 #[derive(Debug, Drop, Error)]
 pub enum CheckFault {
-    /// The table of the file of this number could not be read: the shelf refused, the bytes are no table, or memory ran out over it. No
-    /// number is named where memory ran out beside the tables: over lists of files, their places in a level, or pointers.
+    /// The table of the file of this number could not be read: the shelf refused, the bytes are no
+    /// table, or memory ran out over it. No number is named where memory ran out beside the tables:
+    /// over lists of files, their places in a level, or pointers.
     #[error("{1}")]
     Read(Option<u64>, ReadFault),
     /// Two files have this number.
@@ -22,8 +23,8 @@ pub enum CheckFault {
     /// Two files of this level, 1 to 6, meet in internal keys.
     #[error("Overlap {0}")]
     Overlap(u8),
-    /// The table of this number is not as the shape says: its size, its first or its last key is another one, or an entry is above
-    /// the last sequence.
+    /// The table of this number is not as the shape says: its size, its first or its last key is
+    /// another one, or an entry is above the last sequence.
     #[error("WrongRange {0}")]
     WrongRange(u64),
     /// Of this user key a deeper entry has no lesser sequence than a shallower one.

@@ -21,7 +21,8 @@ use lsm_table::{Naming, ReadFault, Registry, Shelf, Table, TableFault, TableReco
 use std::alloc::{AllocError, Global};
 use std::sync::Wait;
 
-/// The sequences of a table of this size, if it is the file's: it has the file's size, and begins and ends at the file's keys.
+/// The sequences of a table of this size, if it is the file's: it has the file's size, and begins
+/// and ends at the file's keys.
 fn sequences_in(
     alloc: Global,
     file: &FileMeta,
@@ -58,8 +59,8 @@ pub(crate) fn want(file: &FileMeta) -> CheckFault
     unread(file, ReadFault::Table(TableFault::OutOfMemory))
 }
 
-/// Reads the table of a file, and judges whether it is the file's. Its image is given back before the next one is read: a receipt and
-/// the sequences stay.
+/// Reads the table of a file, and judges whether it is the file's. Its image is given back before
+/// the next one is read: a receipt and the sequences stay.
 pub(crate) fn read_table<S: Shelf, R: Wait>(
     shelf: &mut S,
     rt: &R,

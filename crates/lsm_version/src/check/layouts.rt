@@ -48,7 +48,8 @@ fn level_layout<N: Naming, S: Shelf>(
     Ok(layout_of(&ranges))
 }
 
-/// Refuses the least level from 1 on with two tables that meet in internal keys. A user key may go on in the next table.
+/// Refuses the least level from 1 on with two tables that meet in internal keys. A user key may go
+/// on in the next table.
 pub(crate) fn judge_layouts<N: Naming, S: Shelf>(
     alloc: Global,
     registry: &Registry<S::Receipt>,

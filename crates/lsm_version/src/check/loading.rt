@@ -23,7 +23,8 @@ use lsm_table::{Naming, Registry, Shelf, TableRef};
 use std::alloc::{AllocError, Global};
 use std::sync::Wait;
 
-/// Reads and judges the table of a file, and adds its record. Of the image nothing stays but the receipt.
+/// Reads and judges the table of a file, and adds its record. Of the image nothing stays but the
+/// receipt.
 fn load_file<N: Naming, S: Shelf, R: Wait>(
     shelf: &mut S,
     rt: &R,

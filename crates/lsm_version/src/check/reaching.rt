@@ -63,8 +63,8 @@ fn by_number<N: Naming, S: Shelf>(
     Ok(aged)
 }
 
-/// The numbers, ascending, of those that reach one of a lesser number. One walk tells: of what came before only the greatest sequence
-/// matters.
+/// The numbers, ascending, of those that reach one of a lesser number. One walk tells: of what came
+/// before only the greatest sequence matters.
 fn reaching(alloc: Global, aged: &[Aged]) -> Result<Vec<u64>, AllocError>
     requires { IsNonDecreasingBy (λ (a : Aged). a.number) aged.now }
     ensures ascending { IfOk result (λ v. IsNonDecreasing v.items) }
@@ -81,8 +81,8 @@ fn reaching(alloc: Global, aged: &[Aged]) -> Result<Vec<u64>, AllocError>
     Ok(numbers)
 }
 
-/// The numbers, ascending, of the tables of a level that may lie shallower than another one of it without being settled with that: of
-/// level 0 those that reach an older one, of the others none.
+/// The numbers, ascending, of the tables of a level that may lie shallower than another one of it
+/// without being settled with that: of level 0 those that reach an older one, of the others none.
 pub(crate) fn reaching_tables<N: Naming, S: Shelf>(
     alloc: Global,
     registry: &Registry<S::Receipt>,

@@ -13,7 +13,8 @@ use lsm_codec::KeyRef;
 use lsm_table::{Table, TableIter};
 use std::alloc::{AllocError, Global};
 
-/// Goes to the next entry of a checked table, and lends its value: a table that was checked has no fault but want of memory.
+/// Goes to the next entry of a checked table, and lends its value: a table that was checked has no
+/// fault but want of memory.
 fn step<'t>(entries: &mut TableIter<'t>) -> Result<Option<&'t [u8]>, AllocError>
     ensures given { IfOk result (λ r. Steps entries.old entries.new (option_map (λ v. v.now) r)) }
     ensures err { OnErr result (entries.new.left ≡ entries.old.left) }
@@ -34,8 +35,9 @@ fn ends_at(entries: &TableIter<'_>, end: &KeyRef<'_>) -> bool
     }
 }
 
-/// Walks to the end of a table: the sequences with those of the entries that are left, where the last entry has this key, and none is
-/// above the last sequence. An entry costs its own bytes: of whole keys just the last one is compared.
+/// Walks to the end of a table: the sequences with those of the entries that are left, where the
+/// last entry has this key, and none is above the last sequence. An entry costs its own bytes: of
+/// whole keys just the last one is compared.
 fn walk_on(
     entries: &mut TableIter<'_>,
     end: &KeyRef<'_>,
@@ -86,8 +88,8 @@ fn walk(
     walk_on(&mut entries, end, last, sequences)
 }
 
-/// The sequences of a table, in one walk through it, where it begins and ends at these internal keys and has no entry above the last
-/// sequence; else none.
+/// The sequences of a table, in one walk through it, where it begins and ends at these internal
+/// keys and has no entry above the last sequence; else none.
 pub(crate) fn sequences_of(
     alloc: Global,
     table: &Table,

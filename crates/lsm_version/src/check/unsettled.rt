@@ -24,8 +24,8 @@ fn is_shallower(level: usize, number: u64, deeper: usize, other: u64) -> bool
     level < deeper || (level == 0 && deeper == 0 && other < number)
 }
 
-/// Whether a table lies shallower than another one, their ranges of user keys meet, and the greatest sequence of the deeper one is not
-/// below the least of the shallower one.
+/// Whether a table lies shallower than another one, their ranges of user keys meet, and the
+/// greatest sequence of the deeper one is not below the least of the shallower one.
 fn is_unsettled<N: Naming, S: Shelf>(
     registry: &Registry<S::Receipt>,
     level: usize,
@@ -81,7 +81,8 @@ fn compare<N: Naming, S: Shelf>(
     Ok(())
 }
 
-/// Where the search for tables of a level begins that reach a user key: the level's tables rise from level 1 on.
+/// Where the search for tables of a level begins that reach a user key: the level's tables rise
+/// from level 1 on.
 fn first_of<N: Naming, S: Shelf>(
     registry: &Registry<S::Receipt>,
     level: usize,
@@ -138,7 +139,8 @@ fn compare_with_level<N: Naming, S: Shelf>(
     Ok(())
 }
 
-/// The first level with whose tables a table is compared: its own where its number is among these, else the next one.
+/// The first level with whose tables a table is compared: its own where its number is among these,
+/// else the next one.
 fn first_level<N: Naming, S: Shelf>(
     registry: &Registry<S::Receipt>,
     level: usize,
@@ -157,7 +159,8 @@ fn first_level<N: Naming, S: Shelf>(
     }
 }
 
-/// Compares a table with those of the levels from this first one on: with what lies before it, the table is settled.
+/// Compares a table with those of the levels from this first one on: with what lies before it, the
+/// table is settled.
 fn compare_below<N: Naming, S: Shelf>(
     registry: &Registry<S::Receipt>,
     level: usize,
@@ -184,7 +187,8 @@ fn compare_below<N: Naming, S: Shelf>(
     Ok(())
 }
 
-/// Compares each table of a level with those of the deeper ones, and with those of its own level where that may leave it unsettled.
+/// Compares each table of a level with those of the deeper ones, and with those of its own level
+/// where that may leave it unsettled.
 fn compare_level<N: Naming, S: Shelf>(
     alloc: Global,
     registry: &Registry<S::Receipt>,
@@ -212,8 +216,8 @@ fn compare_level<N: Naming, S: Shelf>(
     Ok(())
 }
 
-/// The numbers of the files of which ranges and sequences alone do not settle the age order, a number once for each such other file,
-/// ascending.
+/// The numbers of the files of which ranges and sequences alone do not settle the age order, a
+/// number once for each such other file, ascending.
 pub(crate) fn unsettled_files<N: Naming, S: Shelf>(
     alloc: Global,
     registry: &Registry<S::Receipt>,

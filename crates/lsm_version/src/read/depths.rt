@@ -23,7 +23,8 @@ fn table_numbers<N: Naming, S: Shelf>(
     Ok(numbers)
 }
 
-/// The numbers of the tables of a level, ascending: sorted once, so that each depth is a search and no walk over the level.
+/// The numbers of the tables of a level, ascending: sorted once, so that each depth is a search and
+/// no walk over the level.
 pub(crate) fn ascending_numbers<N: Naming, S: Shelf>(
     alloc: Global,
     registry: &Registry<S::Receipt>,

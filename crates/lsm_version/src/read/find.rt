@@ -1,4 +1,5 @@
-//! What a read finds in tables (LevelDB's `doc/impl.md`): level by level, and at level 0 the newest file first.
+//! What a read finds in tables (LevelDB's `doc/impl.md`): level by level, and at level 0 the newest
+//! file first.
 
 ghost use Rattle.std.specs.Prelude.{◌≡◌, ◌≤◌, ℕ, IfOk, IfErr, map};
 ghost use Rattle.lsm_codec.specs.Entries.{newest};
@@ -15,7 +16,8 @@ use lsm_reader::Blocks;
 use lsm_table::{Found, Naming, ReadFault, Registry, Shelf, TableRef};
 use std::alloc::Global;
 
-/// What a read finds in one table, of which it takes the footer, the index block, and the data blocks that may have the user key.
+/// What a read finds in one table, of which it takes the footer, the index block, and the data
+/// blocks that may have the user key.
 fn find_in_table<N: Naming, S: Shelf, B: Blocks<S>>(
     blocks: &mut B,
     alloc: Global,
@@ -35,7 +37,8 @@ fn find_in_table<N: Naming, S: Shelf, B: Blocks<S>>(
     lsm_reader::get_by(blocks, alloc, &registry.record(table).receipt, user, seq)
 }
 
-/// What a read finds at level 0: of the tables whose range has the user key that of the greatest number is looked at first.
+/// What a read finds at level 0: of the tables whose range has the user key that of the greatest
+/// number is looked at first.
 fn find_by_number<N: Naming, S: Shelf, B: Blocks<S>>(
     blocks: &mut B,
     alloc: Global,
@@ -62,8 +65,8 @@ fn find_by_number<N: Naming, S: Shelf, B: Blocks<S>>(
     Ok(None)
 }
 
-/// What a read finds at a level from 1 on: in the first table whose range has the user key and that has an entry for it. A user key
-/// may go on in the next table, whose entries of it are older.
+/// What a read finds at a level from 1 on: in the first table whose range has the user key and that
+/// has an entry for it. A user key may go on in the next table, whose entries of it are older.
 fn find_by_range<N: Naming, S: Shelf, B: Blocks<S>>(
     blocks: &mut B,
     alloc: Global,

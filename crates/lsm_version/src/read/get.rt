@@ -15,11 +15,12 @@ use lsm_table::{Found, Naming, ReadFault, Shelf};
 use std::alloc::Global;
 
 impl<N: Naming, S: Shelf> Version<N, S> {
-    /// The value of a user key at a sequence, or none: that of the newest entry with a sequence at most `seq`, where it is a value.
-    /// Of each table that it comes to it reads the footer, the index block, and the data blocks that may have the user key.
+    /// The value of a user key at a sequence, or none: that of the newest entry with a sequence at
+    /// most `seq`, where it is a value. Of each table that it comes to it reads the footer, the
+    /// index block, and the data blocks that may have the user key.
     ///
-    /// `Shelf` where the shelf refused. `Table` with `OutOfMemory` where a growth was refused, and with another refusal of a table only where
-    /// the shelf's bytes are not those that were put.
+    /// `Shelf` where the shelf refused. `Table` with `OutOfMemory` where a growth was refused, and
+    /// with another refusal of a table only where the shelf's bytes are not those that were put.
     pub fn get(
         &self,
         shelf: &mut S,

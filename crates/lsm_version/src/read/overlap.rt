@@ -34,7 +34,8 @@ fn each_over<N: Naming, S: Shelf>(
     Ok(over)
 }
 
-/// The tables of a level that lie over a range, where the level's tables rise: one after another, from the first that reaches it.
+/// The tables of a level that lie over a range, where the level's tables rise: one after another,
+/// from the first that reaches it.
 fn run_over<N: Naming, S: Shelf>(
     alloc: Global,
     registry: &Registry<S::Receipt>,
@@ -59,8 +60,9 @@ fn run_over<N: Naming, S: Shelf>(
 }
 
 impl<N: Naming, S: Shelf> Version<N, S> {
-    /// The tables of a level, 0 to 6, whose ranges of user keys meet the range from `from` to `to`, in the level's order; none where `from` is
-    /// greater than `to`. `AllocError` where a growth was refused.
+    /// The tables of a level, 0 to 6, whose ranges of user keys meet the range from `from` to `to`,
+    /// in the level's order; none where `from` is greater than `to`. `AllocError` where a growth
+    /// was refused.
     pub fn overlapping(
         &self,
         alloc: Global,

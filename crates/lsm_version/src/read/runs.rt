@@ -51,7 +51,8 @@ fn open_shallow<N: Naming, S: Shelf, B: Blocks<S>>(
     Ok(runs)
 }
 
-/// Opens the tables of a deeper level as one source, at its depth, and adds it; nothing where the level has no tables.
+/// Opens the tables of a deeper level as one source, at its depth, and adds it; nothing where the
+/// level has no tables.
 fn open_deeper<N: Naming, S: Shelf, B: Blocks<S>>(
     blocks: &mut B,
     alloc: Global,
@@ -84,8 +85,9 @@ fn open_deeper<N: Naming, S: Shelf, B: Blocks<S>>(
     Ok(())
 }
 
-/// Opens the tables of seven levels as the sources of a merge, each at its depth: of level 0 each table by itself, and of a deeper level
-/// the tables one after another. Of each source the first table is opened.
+/// Opens the tables of seven levels as the sources of a merge, each at its depth: of level 0 each
+/// table by itself, and of a deeper level the tables one after another. Of each source the first
+/// table is opened.
 pub(crate) fn open_runs<N: Naming, S: Shelf, B: Blocks<S>>(
     blocks: &mut B,
     alloc: Global,

@@ -15,12 +15,13 @@ use lsm_table::{Naming, ReadFault, Shelf};
 use std::alloc::Global;
 
 impl<N: Naming, S: Shelf> Version<N, S> {
-    /// A scan of the version at a sequence: each user key that has an answer, with it, ascending. It takes the blocks of tables from
-    /// `blocks`, as each call of the scan does that goes on, and holds an index block and a data block for each table of level 0 and
-    /// for each deeper level, however many entries there are.
+    /// A scan of the version at a sequence: each user key that has an answer, with it, ascending.
+    /// It takes the blocks of tables from `blocks`, as each call of the scan does that goes on, and
+    /// holds an index block and a data block for each table of level 0 and for each deeper level,
+    /// however many entries there are.
     ///
-    /// `Shelf` where the shelf refused. `Table` with `OutOfMemory` where a growth was refused, and with another refusal of a table only where
-    /// the shelf's bytes are not those that were put.
+    /// `Shelf` where the shelf refused. `Table` with `OutOfMemory` where a growth was refused, and
+    /// with another refusal of a table only where the shelf's bytes are not those that were put.
     pub fn scan_by<B: Blocks<S>>(
         &self,
         blocks: &mut B,

@@ -83,7 +83,8 @@ pub(crate) fn first_reaching<N: Naming, S: Shelf>(
     low
 }
 
-/// Whether the table's number is less than the bound, if there is one, and its range has the user key.
+/// Whether the table's number is less than the bound, if there is one, and its range has the user
+/// key.
 fn is_candidate<N: Naming, S: Shelf>(
     registry: &Registry<S::Receipt>,
     table: &TableRef<N, S>,
@@ -116,7 +117,8 @@ fn is_older<N: Naming, S: Shelf>(
     }
 }
 
-/// Of the tables whose range has a user key, and whose number is less than a bound, if there is one, that of the greatest number.
+/// Of the tables whose range has a user key, and whose number is less than a bound, if there is
+/// one, that of the greatest number.
 pub(crate) fn youngest_below<'a, N: Naming, S: Shelf>(
     registry: &Registry<S::Receipt>,
     level: &'a [TableRef<N, S>],
