@@ -1,6 +1,7 @@
 //! The table of a batch, before and after it is put.
 
 ghost use Rattle.std.specs.Prelude.{◌≡◌, IfErr, IfOk, OnOk};
+ghost use Rattle.lsm_shelf.specs.Asked.{IsWantOr, Put};
 ghost use Rattle.lsm_shelf.specs.Told.{Becomes, putting};
 ghost use Rattle.lsm_batch.specs.Images.{IsPutAs, IsPutRefusal};
 
@@ -32,6 +33,7 @@ impl Image {
     ///
     /// The shelf's refusals: `Taken` where a table of this number is there; `Device`, after which
     /// the number may be listed or not; `OutOfMemory`, after which the table was put or not.
+    #[tactic(auto, using(lsm_shelf::proofs::CallerLemmas::want_or))]
     pub fn put<N: Naming, S: Shelf, R: Wait>(
         self,
         rt: &R,
@@ -46,6 +48,7 @@ impl Image {
         ensures told { OnOk result (Becomes (putting number (S.told shelf.old)) (S.told shelf.new)) }
         ensures counts { OnOk result (((S.told shelf.new).faults ≡ (S.told shelf.old).faults) × ((S.told shelf.new).misses ≡ (S.told shelf.old).misses)) }
         ensures refused { IfErr result (λ e. IsPutRefusal number e (S.told shelf.old) (S.told shelf.new)) }
+        ensures asked { IfErr result (IsWantOr (S.refuses (S.told shelf.old).place (Put number self.bytes))) }
     {
         let Image {
             smallest,

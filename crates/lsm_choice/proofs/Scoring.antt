@@ -5,27 +5,27 @@ use Rattle.std.proofs.lemmas.Bool.{cases_lt}
 use Rattle.lsm_version.specs.Versions.{Levels}
 use Rattle.lsm_choice.specs.Choice.{AreEqual, IsGreaterScore}
 use Rattle.lsm_choice.specs.Reservations.{Reserved}
-use Rattle.lsm_choice.specs.Scores.{limit, part, score, weight}
+use Rattle.lsm_choice.specs.Scores.{limit, scale, score, weight}
 
 -- ---- comparison
 
-pub limit_part : (l : ℕ) → l ≤ 5 → limit l * part l ≡ 104857600000
-limit_part zero le = refl
-limit_part (suc zero) le = refl
-limit_part (suc (suc zero)) le = refl
-limit_part (suc (suc (suc zero))) le = refl
-limit_part (suc (suc (suc (suc zero)))) le = refl
-limit_part (suc (suc (suc (suc (suc zero))))) le = refl
-limit_part (suc (suc (suc (suc (suc (suc n)))))) le = absurd (omega arith)
+pub limit_scale : (l : ℕ) → l ≤ 5 → limit l * scale l ≡ 104857600000
+limit_scale zero le = refl
+limit_scale (suc zero) le = refl
+limit_scale (suc (suc zero)) le = refl
+limit_scale (suc (suc (suc zero))) le = refl
+limit_scale (suc (suc (suc (suc zero)))) le = refl
+limit_scale (suc (suc (suc (suc (suc zero))))) le = refl
+limit_scale (suc (suc (suc (suc (suc (suc n)))))) le = absurd (omega arith)
 
-pub part_positive : (l : ℕ) → l ≤ 5 → 0 < part l
-part_positive zero le = omega arith
-part_positive (suc zero) le = omega arith
-part_positive (suc (suc zero)) le = omega arith
-part_positive (suc (suc (suc zero))) le = omega arith
-part_positive (suc (suc (suc (suc zero)))) le = omega arith
-part_positive (suc (suc (suc (suc (suc zero))))) le = omega arith
-part_positive (suc (suc (suc (suc (suc (suc n)))))) le = absurd (omega arith)
+pub scale_positive : (l : ℕ) → l ≤ 5 → 0 < scale l
+scale_positive zero le = omega arith
+scale_positive (suc zero) le = omega arith
+scale_positive (suc (suc zero)) le = omega arith
+scale_positive (suc (suc (suc zero))) le = omega arith
+scale_positive (suc (suc (suc (suc zero)))) le = omega arith
+scale_positive (suc (suc (suc (suc (suc zero))))) le = omega arith
+scale_positive (suc (suc (suc (suc (suc (suc n)))))) le = absurd (omega arith)
 
 positive : (m k : ℕ) → 0 < m → 0 < k → 0 < m * k
 positive m k mp kp = subst (λ (n : ℕ). n < m * k) (zero-mul k) (mul-lt-mul_of_pos_right mp kp)
@@ -46,7 +46,7 @@ parts_less x y p q k m c e f kp mp h =
 
 pub greater_weight : (v : Levels) (rs : List Reserved) (l m : ℕ) → l ≤ 5 → m ≤ 5 → IsGreaterScore (score v rs l) (score v rs m) → weight v rs m < weight v rs l
 greater_weight v rs l m low high h =
-    parts_less (score v rs l).0 (score v rs m).0 (limit l) (limit m) (part l) (part m) 104857600000 (limit_part l low) (limit_part m high) (part_positive l low) (part_positive m high) h
+    parts_less (score v rs l).0 (score v rs m).0 (limit l) (limit m) (scale l) (scale m) 104857600000 (limit_scale l low) (limit_scale m high) (scale_positive l low) (scale_positive m high) h
 
 pub equal_weight : (v : Levels) (rs : List Reserved) (l m : ℕ) → l ≤ 5 → m ≤ 5 → AreEqual (score v rs l) (score v rs m) → weight v rs l ≡ weight v rs m
 equal_weight v rs l m low high h = elim (cases_lt (weight v rs l) (weight v rs m)) [
@@ -61,8 +61,8 @@ equal_weight v rs l m low high h = elim (cases_lt (weight v rs l) (weight v rs m
     scaled a b la lb e =
         let x = (score v rs a).0 in
         let y = (score v rs b).0 in
-        sym (crossed x (limit b) (part a) (part b) 104857600000 (limit_part b lb)) ∙ ap (λ n. n * (part b * part a)) e
-        ∙ ap (λ n. (y * limit a) * n) (mul_comm (part b) (part a)) ∙ crossed y (limit a) (part b) (part a) 104857600000 (limit_part a la)
+        sym (crossed x (limit b) (scale a) (scale b) 104857600000 (limit_scale b lb)) ∙ ap (λ n. n * (scale b * scale a)) e
+        ∙ ap (λ n. (y * limit a) * n) (mul_comm (scale b) (scale a)) ∙ crossed y (limit a) (scale b) (scale a) 104857600000 (limit_scale a la)
 
     unequal : (a b : ℕ) → a ≤ 5 → b ≤ 5 → AreEqual (score v rs a) (score v rs b) → weight v rs b < weight v rs a → ⊥
     unequal a b la lb e less = (let s = scaled a b la lb e in omega arith)
@@ -70,9 +70,9 @@ equal_weight v rs l m low high h = elim (cases_lt (weight v rs l) (weight v rs m
 -- a level that is due has a weight
 pub due_weight : (v : Levels) (rs : List Reserved) (l : ℕ) → l ≤ 5 → limit l ≤ (score v rs l).0 → 0 < weight v rs l
 due_weight v rs l low due =
-    let p = part_positive l low in
+    let p = scale_positive l low in
     let x : 0 < (score v rs l).0 = at l low due in
-    positive (score v rs l).0 (part l) x p
+    positive (score v rs l).0 (scale l) x p
   where
     at : (l : ℕ) → l ≤ 5 → limit l ≤ (score v rs l).0 → 0 < (score v rs l).0
     at zero le d = omega arith

@@ -27,10 +27,10 @@ score v rs level = (load level (free_tables rs (level_in v.tables level)), limit
 -- ---- how the code compares scores
 
 -- how often the limit goes into that of level 5
-abbrev pub part : ℕ → ℕ
-part zero = 26214400000
-part (suc n) = 10 ^ (4 - n)
+abbrev pub scale : ℕ → ℕ
+scale zero = 26214400000
+scale (suc n) = 10 ^ (4 - n)
 
 -- the score over the limit of level 5
 abbrev pub weight : Levels → List Reserved → ℕ → ℕ
-weight v rs level = (score v rs level).0 * part level
+weight v rs level = (score v rs level).0 * scale level

@@ -6,7 +6,7 @@ ghost use Rattle.lsm_choice.specs.Reservations.{IsClear};
 ghost use Rattle.lsm_choice.specs.TablePlans.{StandsIn};
 
 use crate::candidates::choose_at;
-use crate::level_scores::{limit, load, part};
+use crate::level_scores::{limit, load, scale};
 use crate::plan::Plan;
 use crate::reservation::Reservation;
 use lsm_table::{Naming, Registry, Shelf};
@@ -37,7 +37,7 @@ pub fn choose<N: Naming, S: Shelf>(
     let mut most = 0;
     for level in 0..6u8 {
         let load = load(registry, version, level, reservations);
-        let weight = load * part(level);
+        let weight = load * scale(level);
         if load >= limit(level) && weight > most {
             let plan = choose_at(alloc, registry, version, reservations, level)?;
             if plan.is_some() {

@@ -2,7 +2,7 @@
 
 ghost use Rattle.std.specs.Prelude.{◌≡◌, ◌≤◌, ◌<◌, ◌^◌, [], ◌∷◌, length};
 ghost use Rattle.lsm_table.specs.Registry.{bytes_of};
-ghost use Rattle.lsm_choice.specs.Scores.{free_tables, limit, load, part, score};
+ghost use Rattle.lsm_choice.specs.Scores.{free_tables, limit, load, scale, score};
 
 use crate::conflicts::is_taken;
 use crate::reservation::Reservation;
@@ -86,9 +86,9 @@ pub(crate) fn limit(level: u8) -> u128
 
 /// How often the limit of a level, 0 to 5, goes into that of level 5: loads times this are scores
 /// over one denominator.
-pub(crate) fn part(level: u8) -> u128
+pub(crate) fn scale(level: u8) -> u128
     requires { level ≤ 5 }
-    ensures part { result ≡ part level }
+    ensures scale { result ≡ scale level }
     ensures small { result < 2 ^ 35 }
     ensures lower { 1 ≤ level → result ≤ 10000 }
 {

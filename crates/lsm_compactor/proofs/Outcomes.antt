@@ -3,6 +3,7 @@ use Rattle.std.proofs.Common.{◌≡◌, ◌≢◌, ℕ, inl, inr, All, List, Op
 use Rattle.std.specs.Prelude.{◌⊎◌, Result, Ok, Err}
 use Rattle.std.specs.Io.KnownBytes.{Keeps}
 use Rattle.atomic_table.specs.Seated.{TableId}
+use Rattle.lsm_shelf.specs.Asked.{Asked}
 use Rattle.lsm_shelf.specs.declared.shelf_fault.ShelfFault.{ShelfFault}
 use Rattle.lsm_shelf.specs.declared.shelf_fault.ShelfFault.TheVariants.{OutOfMemory}
 use Rattle.lsm_shelf.specs.Told.{Told}
@@ -14,7 +15,7 @@ use Rattle.lsm_compactor.specs.Compacting.{AreEnds, Compacts, IsCompactFault, Is
 use Rattle.lsm_compactor.specs.declared.compact_fault.CompactFault.{CompactFault}
 use Rattle.lsm_compactor.specs.declared.compact_fault.CompactFault.TheVariants.{Writer}
 
-pub is_refused : {T : Type 0} (r : Result T CompactFault) (status : ℕ) (Stored : ℕ → List ℕ → Type 0) (Refused : ℕ → ShelfFault → Type 0) (Honest : Type 0) (workers : ℕ)
+pub is_refused : {T : Type 0} (r : Result T CompactFault) (status : ℕ) (Stored : ℕ → List ℕ → Type 0) (Refused : Asked → ShelfFault → Type 0) (Honest : Type 0) (workers : ℕ)
     (was is : Told) (old new : Option (List ℕ)) → OnOk r (status ≡ 0) → OnErr r (status ≡ 1)
     → IfErr r (λ e. IsCompactFault Stored Refused Honest workers e was is) → IfErr r (λ e. e ≢ Writer WriteFault → Keeps old new) → status ≢ 0
     → (status ≡ 1) × ((fault : CompactFault) × IsRefused Stored Refused Honest workers fault was is old new)
@@ -24,7 +25,7 @@ is_refused (Err e) status Stored Refused Honest workers was is old new ok err sa
 -- ---- after the opening
 
 -- memory ran out before the workers began, or one of them has a fault
-pub unfinished : (Stored : ℕ → List ℕ → Type 0) (Refused : ℕ → ShelfFault → Type 0) (Honest : Type 0) (board : TableId) (workers crew : ℕ) (e : CompactFault) (was is : Told) → crew ≡ workers
+pub unfinished : (Stored : ℕ → List ℕ → Type 0) (Refused : Asked → ShelfFault → Type 0) (Honest : Type 0) (board : TableId) (workers crew : ℕ) (e : CompactFault) (was is : Told) → crew ≡ workers
     → IsOpened Honest board was is → (e ≡ Writer (of_shelf OutOfMemory)) ⊎ IsWorkersFault Honest crew e → IsCompactFault Stored Refused Honest workers e was is
 unfinished Stored Refused Honest board workers crew e was is same opened stops = elim stops [
   | inl memory ↦ inr (inl (inr (OutOfMemory, memory, tt, (board, opened))))
@@ -32,7 +33,7 @@ unfinished Stored Refused Honest board workers crew e was is same opened stops =
 ]
 
 -- the collect was refused
-pub unswept : (Stored : ℕ → List ℕ → Type 0) (Refused : ℕ → ShelfFault → Type 0) (Honest : Type 0) (board : TableId) (workers crew : ℕ) (ends : List WorkerEnd) (fault : StateFault) (was mid is : Told)
+pub unswept : (Stored : ℕ → List ℕ → Type 0) (Refused : Asked → ShelfFault → Type 0) (Honest : Type 0) (board : TableId) (workers crew : ℕ) (ends : List WorkerEnd) (fault : StateFault) (was mid is : Told)
     → crew ≡ workers → IsOpened Honest board was mid → AreEnds Honest crew ends → All IsFaultless ends → Refuses Honest board fault mid is
     → IsCompactFault Stored Refused Honest workers (Writer (State fault)) was is
 unswept Stored Refused Honest board workers crew ends fault was mid is same opened each faultless refuses = inr (inr (inr (inl (

@@ -2,6 +2,7 @@
 use Rattle.std.specs.Prelude.{◌≡◌, ◌≢◌, ℕ, ◌⊎◌, false, List, [], ◌∷◌, ◌++◌, length, codes, decimal, All, sum_by, Option, None, Some}
 use Rattle.std.specs.Io.KnownBytes.{Appends, Keeps}
 use Rattle.atomic_table.specs.Seated.{TableId}
+use Rattle.lsm_shelf.specs.Asked.{Asked}
 use Rattle.lsm_shelf.specs.declared.shelf_fault.ShelfFault.{ShelfFault}
 use Rattle.lsm_shelf.specs.Told.{Told, Forked, NotNamed}
 use Rattle.lsm_state.specs.Collecting.{AreCollected, IsCollectRefusal, IsCountedOnce, SameCounts}
@@ -86,7 +87,7 @@ abbrev pub IsOutOfMemory : CompactFault → Told → Told → Type 0
 IsOutOfMemory e was is = (e ≡ Writer OutOfMemory) × (is ≡ was)
 
 -- The directory was not opened.
-abbrev pub IsUnopened : (ℕ → List ℕ → Type 0) → (ℕ → ShelfFault → Type 0) → Type 0 → CompactFault → Told → Told → Type 0
+abbrev pub IsUnopened : (ℕ → List ℕ → Type 0) → (Asked → ShelfFault → Type 0) → Type 0 → CompactFault → Told → Told → Type 0
 IsUnopened Stored Refused Honest e was is = (fault : OpenFault) × (e ≡ Writer (of_open fault))
     × IsOpenRefusal Stored Refused Honest usual.manifest_limit fault was is × IsReadOnce fault was is
 
@@ -96,7 +97,7 @@ IsUnmanned Honest e was is = (fault : ShelfFault) × (e ≡ Writer (of_shelf fau
     × ((board : TableId) × IsOpened Honest board was is)
 
 -- No worker began.
-abbrev pub IsUnbegun : (ℕ → List ℕ → Type 0) → (ℕ → ShelfFault → Type 0) → Type 0 → CompactFault → Told → Told → Type 0
+abbrev pub IsUnbegun : (ℕ → List ℕ → Type 0) → (Asked → ShelfFault → Type 0) → Type 0 → CompactFault → Told → Told → Type 0
 IsUnbegun Stored Refused Honest e was is = IsUnopened Stored Refused Honest e was is ⊎ IsUnmanned Honest e was is
 
 -- Workers ended, the first one in their order that has a fault with this one.
@@ -133,7 +134,7 @@ abbrev pub IsUnwritten : Type 0 → ℕ → CompactFault → Told → Told → T
 IsUnwritten Honest workers e was is = (e ≡ Writer WriteFault) × ((ends : List WorkerEnd) × Compacts Honest workers ends was is)
 
 -- What a fault says.
-abbrev pub IsCompactFault : (ℕ → List ℕ → Type 0) → (ℕ → ShelfFault → Type 0) → Type 0 → ℕ → CompactFault → Told → Told → Type 0
+abbrev pub IsCompactFault : (ℕ → List ℕ → Type 0) → (Asked → ShelfFault → Type 0) → Type 0 → ℕ → CompactFault → Told → Told → Type 0
 IsCompactFault Stored Refused Honest workers e was is =
     IsOutOfMemory e was is
     ⊎ (IsUnbegun Stored Refused Honest e was is
@@ -142,6 +143,6 @@ IsCompactFault Stored Refused Honest workers e was is =
     ⊎ IsUnwritten Honest workers e was is)))
 
 -- What a refusal is: what the fault says; and, unless a write failed, nothing was written on standard output.
-pub record IsRefused (Stored : ℕ → List ℕ → Type 0) (Refused : ℕ → ShelfFault → Type 0) (Honest : Type 0) (workers : ℕ) (fault : CompactFault) (was is : Told) (old new : Option (List ℕ)) : Type 0 where
+pub record IsRefused (Stored : ℕ → List ℕ → Type 0) (Refused : Asked → ShelfFault → Type 0) (Honest : Type 0) (workers : ℕ) (fault : CompactFault) (was is : Told) (old new : Option (List ℕ)) : Type 0 where
   pub says : IsCompactFault Stored Refused Honest workers fault was is
   pub left : fault ≢ Writer WriteFault → Keeps old new

@@ -3,6 +3,7 @@ use Rattle.std.proofs.Common.{◌≢◌, ℕ, List, Option, IfErr, OnOk, ◌≡�
 use Rattle.std.specs.Prelude.{Result, Ok, Err, Some, None, IfSome, codes}
 use Rattle.std.specs.Io.KnownBytes.{Appends, Keeps}
 use Rattle.std.proofs.KnownBytes.{Appends-kept, Appends-trans, Keeps-refl}
+use Rattle.lsm_shelf.specs.Asked.{Asked}
 use Rattle.lsm_shelf.specs.Told.{Told, Becomes, Counted, finding}
 use Rattle.lsm_shelf.specs.declared.shelf_fault.ShelfFault.{ShelfFault}
 use Rattle.lsm_shelf.specs.declared.shelf_fault.ShelfFault.TheVariants as shelf_faults
@@ -77,7 +78,7 @@ check_counted_from (WrongRange n) number bytes was mid is b c = tt
 check_counted_from (AgeOrder user) number bytes was mid is b c = tt
 
 -- the tables of the shape that was read are refused
-pub tables_refused : (Stored : ℕ → List ℕ → Type 0) (Refused : ℕ → ShelfFault → Type 0) (Honest : Type 0) (e : CheckFault) (h : HeldManifest) (shape : Shape) (rest : ℕ) (was mid is : Told)
+pub tables_refused : (Stored : ℕ → List ℕ → Type 0) (Refused : Asked → ShelfFault → Type 0) (Honest : Type 0) (e : CheckFault) (h : HeldManifest) (shape : Shape) (rest : ℕ) (was mid is : Told)
     → Becomes (finding h.number h.bytes was) mid → IsRecovered h shape rest → IsRefusal Stored Refused Honest shape e → Becomes mid is → CheckCounted e mid is
     → IsOpenRefusal Stored Refused Honest (Tables e) was is
 tables_refused Stored Refused Honest e h shape rest was mid is found r why same cause = (
@@ -95,7 +96,7 @@ tables_refused Stored Refused Honest e h shape rest was mid is found r why same 
   check_counted_from e h.number h.bytes was mid is found cause,
 )
 
-fault_later : (Stored : ℕ → List ℕ → Type 0) (Refused : ℕ → ShelfFault → Type 0) (Honest : Type 0) (was mid is : Told) (v : Levels) (rest log prev : ℕ) (fault : DirectoryFault)
+fault_later : (Stored : ℕ → List ℕ → Type 0) (Refused : Asked → ShelfFault → Type 0) (Honest : Type 0) (was mid is : Told) (v : Levels) (rest log prev : ℕ) (fault : DirectoryFault)
     → Becomes mid is → Holds Honest was mid v rest log prev → IsAnswerFault Honest fault mid is → IsFault Stored Refused Honest fault was is
 fault_later Stored Refused Honest was mid is v rest log prev OutOfMemory b h f = f
 fault_later Stored Refused Honest was mid is v rest log prev Write b h f = (v, (rest, log, prev, holds_later Honest was mid is v rest log prev b h))
@@ -109,13 +110,13 @@ pub is_done : {T : Type 0} (r : Result T DirectoryFault) (form : Form) (command 
 is_done (Ok x) form command others Honest was mid is v rest log prev old new b h w = (v, rest, log, prev, holds_later Honest was mid is v rest log prev b h, w)
 is_done (Err e) form command others Honest was mid is v rest log prev old new b h w = search
 
-pub is_fault : {T : Type 0} (r : Result T DirectoryFault) (Stored : ℕ → List ℕ → Type 0) (Refused : ℕ → ShelfFault → Type 0) (Honest : Type 0) (was mid is : Told) (v : Levels) (rest log prev : ℕ)
+pub is_fault : {T : Type 0} (r : Result T DirectoryFault) (Stored : ℕ → List ℕ → Type 0) (Refused : Asked → ShelfFault → Type 0) (Honest : Type 0) (was mid is : Told) (v : Levels) (rest log prev : ℕ)
     → Becomes mid is → Holds Honest was mid v rest log prev → IfErr r (λ e. IsAnswerFault Honest e mid is) → IfErr r (λ e. IsFault Stored Refused Honest e was is)
 is_fault (Ok x) Stored Refused Honest was mid is v rest log prev b h f = search
 is_fault (Err e) Stored Refused Honest was mid is v rest log prev b h f = fault_later Stored Refused Honest was mid is v rest log prev e b h f
 
 -- where nothing was written, a refusal to open leaves what it may
-pub keeps_leaves : (form : Form) (command : DirectoryCommand) (Honest : Type 0) (Stored : ℕ → List ℕ → Type 0) (Refused : ℕ → ShelfFault → Type 0) (fault : DirectoryFault) (was is : Told) (old : Option (List ℕ))
+pub keeps_leaves : (form : Form) (command : DirectoryCommand) (Honest : Type 0) (Stored : ℕ → List ℕ → Type 0) (Refused : Asked → ShelfFault → Type 0) (fault : DirectoryFault) (was is : Told) (old : Option (List ℕ))
     → IsOpenRefusal Stored Refused Honest fault was is → Leaves form command Honest fault was is old old
 keeps_leaves form command Honest Stored Refused OutOfMemory was is old f = absurd f
 keeps_leaves form command Honest Stored Refused Write was is old f = absurd f
@@ -138,7 +139,7 @@ pub is_left : {T : Type 0} (r : Result T DirectoryFault) (form : Form) (command 
 is_left (Ok x) form command Honest was mid is v rest log prev old new b h f p = search
 is_left (Err e) form command Honest was mid is v rest log prev old new b h f p = leaves_later form command Honest e was mid is v rest log prev old new b h f p
 
-pub is_refused : {T : Type 0} (r : Result T DirectoryFault) (form : Form) (command : DirectoryCommand) (Stored : ℕ → List ℕ → Type 0) (Refused : ℕ → ShelfFault → Type 0) (Honest : Type 0) (was is : Told) (old new : Option (List ℕ))
+pub is_refused : {T : Type 0} (r : Result T DirectoryFault) (form : Form) (command : DirectoryCommand) (Stored : ℕ → List ℕ → Type 0) (Refused : Asked → ShelfFault → Type 0) (Honest : Type 0) (was is : Told) (old new : Option (List ℕ))
     → IfErr r (λ e. IsFault Stored Refused Honest e was is) → IfErr r (λ e. Leaves form command Honest e was is old new) → IfErr r (λ e. IsRefused form command e Stored Refused Honest was is old new)
 is_refused (Ok x) form command Stored Refused Honest was is old new f k = search
 is_refused (Err e) form command Stored Refused Honest was is old new f k = record { says = f; left = k }
@@ -152,7 +153,7 @@ told_kept (Some l) a b c told kept = Appends-kept a b c l told kept
 pub memory_leaves : (form : Form) (command : DirectoryCommand) (Honest : Type 0) (was is : Told) (old : Option (List ℕ)) → Leaves form command Honest OutOfMemory was is old old
 memory_leaves form command Honest was is old = inl (Keeps-refl old)
 
-pub memory_refused : (form : Form) (command : DirectoryCommand) (Stored : ℕ → List ℕ → Type 0) (Refused : ℕ → ShelfFault → Type 0) (Honest : Type 0) (was is : Told) (old : Option (List ℕ))
+pub memory_refused : (form : Form) (command : DirectoryCommand) (Stored : ℕ → List ℕ → Type 0) (Refused : Asked → ShelfFault → Type 0) (Honest : Type 0) (was is : Told) (old : Option (List ℕ))
     → IsRefused form command OutOfMemory Stored Refused Honest was is old old
 memory_refused form command Stored Refused Honest was is old = record { says = tt; left = inl (Keeps-refl old) }
 

@@ -2,6 +2,7 @@
 use Rattle.std.specs.Prelude.{◌⊎◌, ℕ, List, Option, ⊤}
 use Rattle.std.specs.Io.KnownBytes.{Appends, Keeps}
 use Rattle.lsm_codec.specs.Entries.{answer}
+use Rattle.lsm_shelf.specs.Asked.{Asked}
 use Rattle.lsm_shelf.specs.declared.shelf_fault.ShelfFault.{ShelfFault}
 use Rattle.lsm_shelf.specs.Told.{Told}
 use Rattle.lsm_table.specs.ReadFault.{IsMemoryOrShelf, ReadCounted}
@@ -38,7 +39,7 @@ HoldsVersion Honest was is v = (rest : ℕ) × (log : ℕ) × (prev : ℕ) × Ho
 
 -- What a fault says of the directory: the first fault that opening it meets; or it was opened, and a write failed, or the shelf did.
 -- Want of memory says nothing.
-abbrev pub IsFault : (ℕ → List ℕ → Type 0) → (ℕ → ShelfFault → Type 0) → Type 0 → DirectoryFault → Told → Told → Type 0
+abbrev pub IsFault : (ℕ → List ℕ → Type 0) → (Asked → ShelfFault → Type 0) → Type 0 → DirectoryFault → Told → Told → Type 0
 IsFault Stored Refused Honest OutOfMemory was is = ⊤
 IsFault Stored Refused Honest Write was is = (v : Levels) × HoldsVersion Honest was is v
 IsFault Stored Refused Honest (Manifest fault) was is = IsOpenRefusal Stored Refused Honest (Manifest fault) was is
@@ -62,6 +63,6 @@ Leaves form command Honest (Tables fault) was is old new = Keeps old new
 Leaves form command Honest (Read fault) was is old new = (v : Levels) × HoldsVersion Honest was is v × PrintsBefore form command Honest v old new
 
 -- What a refusal is: what the fault says of the directory, and what it leaves on standard output.
-pub record IsRefused (form : Form) (command : DirectoryCommand) (fault : DirectoryFault) (Stored : ℕ → List ℕ → Type 0) (Refused : ℕ → ShelfFault → Type 0) (Honest : Type 0) (was is : Told) (old new : Option (List ℕ)) : Type 0 where
+pub record IsRefused (form : Form) (command : DirectoryCommand) (fault : DirectoryFault) (Stored : ℕ → List ℕ → Type 0) (Refused : Asked → ShelfFault → Type 0) (Honest : Type 0) (was is : Told) (old new : Option (List ℕ)) : Type 0 where
   pub says : IsFault Stored Refused Honest fault was is
   pub left : Leaves form command Honest fault was is old new

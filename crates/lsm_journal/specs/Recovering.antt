@@ -1,5 +1,7 @@
 -- What is read of a manifest, and why it is refused (LevelDB's `VersionSet::Recover`).
 use Rattle.std.specs.Prelude.{◌≡◌, ℕ, List, ◌∷◌, ◌++◌, Err}
+use Rattle.lsm_shelf.specs.Asked.{Asked, ReadManifest}
+use Rattle.lsm_shelf.specs.declared.shelf_fault.ShelfFault.{ShelfFault}
 use Rattle.lsm_shelf.specs.Told.{Told, Becomes, Counted, CountedBy, NotTaken, finding}
 use Rattle.lsm_manifest.specs.declared.edit_fault.EditFault.{EditFault}
 use Rattle.lsm_manifest.specs.declared.replay_fault.ReplayFault.{ReplayFault}
@@ -45,13 +47,13 @@ IsEditRefusal bytes e = (records : List (List ℕ)) × (rest : ℕ) × IsLog byt
 abbrev pub IsReplayRefusal : List ℕ → ReplayFault → Type 0
 IsReplayRefusal bytes e = (edits : List Change) × (rest : ℕ) × IsManifest bytes edits rest × IsRefused edits e
 
--- The shelf refused, with a count that rose; or what it gave is no log; or the log has a record that is no edit; or the edits come to
+-- The shelf refused to give the manifest, with a count that rose; or what it gave is no log; or the log has a record that is no edit; or the edits come to
 -- no shape.
-abbrev pub IsRecoverRefusal : RecoverFault → Told → Told → Type 0
-IsRecoverRefusal (Shelf e) was is = Becomes was is × NotTaken e × Counted e was is
-IsRecoverRefusal (Log e) was is = (bytes : List ℕ) × Gave bytes was is × log_view.Fails e (log_at bytes)
-IsRecoverRefusal (Edit e) was is = (bytes : List ℕ) × Gave bytes was is × IsEditRefusal bytes e
-IsRecoverRefusal (Replay e) was is = (bytes : List ℕ) × Gave bytes was is × IsReplayRefusal bytes e
+abbrev pub IsRecoverRefusal : (Asked → ShelfFault → Type 0) → RecoverFault → Told → Told → Type 0
+IsRecoverRefusal Refused (Shelf e) was is = Becomes was is × NotTaken e × Counted e was is × Refused ReadManifest e
+IsRecoverRefusal Refused (Log e) was is = (bytes : List ℕ) × Gave bytes was is × log_view.Fails e (log_at bytes)
+IsRecoverRefusal Refused (Edit e) was is = (bytes : List ℕ) × Gave bytes was is × IsEditRefusal bytes e
+IsRecoverRefusal Refused (Replay e) was is = (bytes : List ℕ) × Gave bytes was is × IsReplayRefusal bytes e
 
 -- no count rose
 abbrev pub SameCounts : Told → Told → Type 0

@@ -1,8 +1,9 @@
 -- What is sent to the shelf, and what the journal holds then (LevelDB's `VersionSet::LogAndApply`; that a new manifest is due by its size
 -- is this project's rule).
-use Rattle.std.specs.Prelude.{◌≡◌, ℕ, ◌+◌, [], ◌++◌, ◌⊎◌, MatchBool}
+use Rattle.std.specs.Prelude.{◌≡◌, ℕ, ◌+◌, [], ◌++◌, ◌⊎◌, MatchBool, if◌then◌else◌}
 use Rattle.lsm_shelf.specs.declared.shelf_fault.ShelfFault.{ShelfFault}
 use Rattle.lsm_shelf.specs.declared.shelf_fault.ShelfFault.TheVariants.{OutOfMemory, Device, Missing, Taken}
+use Rattle.lsm_shelf.specs.Asked.{Asked, AppendManifest, ReadManifest, StartManifest}
 use Rattle.lsm_shelf.specs.Told.{Told, Becomes, Counted, NotTaken, Rose, TakenIs, appending, finding, next_count, sending}
 use Rattle.lsm_manifest.specs.Edit.{IsEdit}
 use Rattle.lsm_manifest.specs.EditFit.{Change}
@@ -10,7 +11,7 @@ use Rattle.lsm_manifest.specs.EditWriting.{edit_text}
 use Rattle.lsm_version.specs.Versions.{Levels}
 use Rattle.lsm_journal.specs.HeldManifest.{HeldManifest, is_at_limit}
 use Rattle.lsm_journal.specs.Difference.{Difference}
-use Rattle.lsm_journal.specs.Writing.{change_edit, record_of, version_edit}
+use Rattle.lsm_journal.specs.Writing.{change_edit, first_edit, record_of, version_edit}
 
 -- The record of the edit was appended, here and on the shelf. Its bytes spell the edit.
 pub record Grows (edit : Change) (old new : HeldManifest) (was is : Told) : Type 0 where
@@ -28,6 +29,10 @@ pub record Starts (number : ℕ) (edit : Change) (old new : HeldManifest) (was i
 abbrev pub GrowsAlike : HeldManifest → HeldManifest → Told → Told → Type 0
 GrowsAlike old new was is = ((edit : Change) × Grows edit old new was is) ⊎ ((number : ℕ) × (edit : Change) × Starts number edit old new was is)
 
+-- What a new manifest that spells this version asks of the shelf.
+abbrev pub started_by : Levels → ℕ → HeldManifest → Asked
+started_by v number old = StartManifest number (record_of [] (version_edit old v (number + 1)))
+
 -- A new manifest that spells this version; its number is the next file number, which rises by one.
 abbrev pub RollsOver : Levels → ℕ → HeldManifest → HeldManifest → Told → Told → Type 0
 RollsOver v number old new was is = Starts number (version_edit old v (number + 1)) old new was is
@@ -36,6 +41,11 @@ RollsOver v number old new was is = Starts number (version_edit old v (number + 
 -- that spells the version after it.
 abbrev pub Sends : Difference → Levels → ℕ → ℕ → HeldManifest → HeldManifest → Told → Told → Type 0
 Sends d w next after old new was is = MatchBool (is_at_limit old) ((after ≡ next + 1) × RollsOver w next old new was is) ((after ≡ next) × Grows (change_edit old d next) old new was is)
+
+-- What the change asks of the shelf: below the limit to append the record of its edit; from the limit on to start a new manifest that
+-- spells the version after it.
+abbrev pub asked_by : Difference → Levels → ℕ → HeldManifest → Asked
+asked_by d w next old = if is_at_limit old then started_by w next old else AppendManifest (record_of old.bytes (change_edit old d next))
 
 -- why it refuses
 abbrev pub IsSendRefusal : HeldManifest → ℕ → ShelfFault → Told → Told → Type 0
@@ -61,3 +71,10 @@ CreateCounted Device was is = (is.faults ≡ next_count was.faults) × MissedOnc
 CreateCounted Missing was is = ⊥
 CreateCounted (Taken n) was is = (is.faults ≡ was.faults)
     × (((bytes : Rattle.std.specs.Prelude.List ℕ) × Becomes (finding n bytes was) is × (is.misses ≡ was.misses)) ⊎ ((n ≡ 1) × (is.misses ≡ next_count (next_count was.misses))))
+
+-- The shelf refused to give the manifest or to start the first one, with this fault; or a manifest is there.
+abbrev pub IsCreateAsked : (Asked → ShelfFault → Type 0) → ShelfFault → Told → Told → Type 0
+IsCreateAsked Refused OutOfMemory was is = Unit {0}
+IsCreateAsked Refused Device was is = Refused ReadManifest Device ⊎ Refused (StartManifest 1 (record_of [] first_edit)) Device
+IsCreateAsked Refused Missing was is = ⊥
+IsCreateAsked Refused (Taken n) was is = ((bytes : Rattle.std.specs.Prelude.List ℕ) × Becomes (finding n bytes was) is) ⊎ Refused (StartManifest 1 (record_of [] first_edit)) (Taken n)

@@ -53,7 +53,7 @@ impl Journal {
         ensures found { IfOk result (λ r. Becomes (finding r.journal.number r.journal.bytes (S.told shelf.old)) (S.told shelf.new)) }
         ensures recovered { IfOk result (λ r. IsRecovered r.journal r.shape r.rest) }
         ensures limit { IfOk result (λ r. r.journal.limit ≡ limit) }
-        ensures refused { IfErr result (λ e. IsRecoverRefusal e (S.told shelf.old) (S.told shelf.new)) }
+        ensures refused { IfErr result (λ e. IsRecoverRefusal (S.refuses (S.told shelf.old).place) e (S.told shelf.old) (S.told shelf.new)) }
         ensures counts { OnOk result (SameCounts (S.told shelf.old) (S.told shelf.new)) }
         ensures counts_err { IfErr result (λ e. RecoverCounted e (S.told shelf.old) (S.told shelf.new)) }
     {

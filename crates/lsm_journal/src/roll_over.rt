@@ -1,9 +1,10 @@
 //! A new manifest for a version.
 
 ghost use Rattle.std.specs.Prelude.{◌≡◌, ◌+◌, ◌<◌, ◌^◌, ℕ, IfErr, OnErr, OnOk};
+ghost use Rattle.lsm_shelf.specs.Asked.{IsWantOr};
 ghost use Rattle.lsm_shelf.specs.Told.{Becomes, Counted, CountedBy, TakenIs};
 ghost use Rattle.lsm_journal.specs.Recorded.{IsRecorded};
-ghost use Rattle.lsm_journal.specs.Sending.{RollsOver};
+ghost use Rattle.lsm_journal.specs.Sending.{RollsOver, started_by};
 
 use crate::journal::Journal;
 use crate::written::manifest_of;
@@ -37,6 +38,7 @@ impl Journal {
         ensures err { OnErr result (self.new ≡ self.old) }
         ensures unsent { OnErr result (Becomes (S.told shelf.old) (S.told shelf.new)) }
         ensures cause { IfErr result (λ e. TakenIs number e × Counted e (S.told shelf.old) (S.told shelf.new)) }
+        ensures asked { IfErr result (IsWantOr (S.refuses (S.told shelf.old).place (started_by version.now number self.old))) }
         ensures counts { CountedBy result (S.told shelf.old) (S.told shelf.new) }
     {
         self.start(rt, alloc, shelf, registry, version, number)

@@ -1,12 +1,13 @@
 //! What a change sends to the shelf.
 
 ghost use Rattle.std.specs.Prelude.{◌≡◌, ◌+◌, ◌<◌, ◌^◌, IfErr, IfOk, OnErr, OnOk, true};
+ghost use Rattle.lsm_shelf.specs.Asked.{AppendManifest, IsWantOr};
 ghost use Rattle.lsm_shelf.specs.Told.{Becomes, Counted, CountedBy, NotTaken, TakenIs};
 ghost use Rattle.lsm_journal.specs.HeldManifest.{is_at_limit};
 ghost use Rattle.lsm_journal.specs.Recorded.{FitsLevels, IsRecorded};
 ghost use Rattle.lsm_journal.specs.Difference.{LeadsTo};
-ghost use Rattle.lsm_journal.specs.Sending.{Grows, IsSendRefusal, RollsOver, Sends};
-ghost use Rattle.lsm_journal.specs.Writing.{change_edit};
+ghost use Rattle.lsm_journal.specs.Sending.{Grows, IsSendRefusal, RollsOver, Sends, asked_by, started_by};
+ghost use Rattle.lsm_journal.specs.Writing.{change_edit, record_of};
 
 use crate::journal::Journal;
 use crate::version_change::VersionChange;
@@ -18,6 +19,7 @@ use std::sync::Wait;
 
 impl Journal {
     /// Appends the record of a change, here and on the shelf.
+    #[tactic(auto, using(lsm_shelf::proofs::CallerLemmas::want_or))]
     fn append<N: Naming, S: Shelf, R: Wait>(
         &mut self,
         rt: &R,
@@ -32,6 +34,7 @@ impl Journal {
         ensures err { OnErr result (self.new ≡ self.old) }
         ensures unsent { OnErr result (Becomes (S.told shelf.old) (S.told shelf.new)) }
         ensures cause { IfErr result (λ e. NotTaken e × Counted e (S.told shelf.old) (S.told shelf.new)) }
+        ensures asked { IfErr result (IsWantOr (S.refuses (S.told shelf.old).place (AppendManifest (record_of self.old.bytes (change_edit self.old change.now next))))) }
         ensures counts { CountedBy result (S.told shelf.old) (S.told shelf.new) }
     {
         let edit = self.change_edit(alloc, registry, change, next)?;
@@ -48,6 +51,7 @@ impl Journal {
     }
 
     /// Begins a new manifest that spells a version.
+    #[tactic(auto, using(lsm_shelf::proofs::CallerLemmas::want_or))]
     pub(crate) fn start<N: Naming, S: Shelf, R: Wait>(
         &mut self,
         rt: &R,
@@ -64,6 +68,7 @@ impl Journal {
         ensures err { OnErr result (self.new ≡ self.old) }
         ensures unsent { OnErr result (Becomes (S.told shelf.old) (S.told shelf.new)) }
         ensures cause { IfErr result (λ e. TakenIs number e × Counted e (S.told shelf.old) (S.told shelf.new)) }
+        ensures asked { IfErr result (IsWantOr (S.refuses (S.told shelf.old).place (started_by version.now number self.old))) }
         ensures counts { CountedBy result (S.told shelf.old) (S.told shelf.new) }
     {
         let edit = self.version_edit(alloc, registry, version, number + 1)?;
@@ -100,6 +105,7 @@ impl Journal {
         ensures err { OnErr result (self.new ≡ self.old) }
         ensures unsent { OnErr result (Becomes (S.told shelf.old) (S.told shelf.new)) }
         ensures cause { IfErr result (λ e. IsSendRefusal self.old next e (S.told shelf.old) (S.told shelf.new)) }
+        ensures asked { IfErr result (IsWantOr (S.refuses (S.told shelf.old).place (asked_by change.now after.now next self.old))) }
         ensures counts { CountedBy result (S.told shelf.old) (S.told shelf.new) }
     {
         changed_tables();

@@ -1,5 +1,6 @@
 -- Calls of a shelf one after another.
 use Rattle.std.proofs.Common.{◌≡◌, ◌+◌, refl, ◌∙◌, arith}
+use Rattle.lsm_shelf.specs.Asked.{IsWantOr}
 use Rattle.lsm_shelf.specs.Told.{Told, Becomes, Counted, Forked, forking}
 use Rattle.lsm_shelf.specs.declared.shelf_fault.ShelfFault.{ShelfFault}
 use Rattle.lsm_shelf.specs.declared.shelf_fault.ShelfFault.TheVariants as why
@@ -82,3 +83,17 @@ counted_after_forks why.OutOfMemory a b c p q = tt
 counted_after_forks why.Device a b c p q = let x = p.1.faults in omega arith
 counted_after_forks why.Missing a b c p q = let x = p.1.misses in omega arith
 counted_after_forks (why.Taken n) a b c p q = let x = p.1.misses in omega arith
+
+-- a refusal of this kind, told as it is
+pub want_or : (Refused : ShelfFault → Type 0) (e : ShelfFault) → Refused e → IsWantOr Refused e
+want_or Refused why.OutOfMemory r = tt
+want_or Refused why.Device r = r
+want_or Refused why.Missing r = r
+want_or Refused (why.Taken n) r = r
+
+-- a refusal of a kind that is another kind's too
+pub want_more : (Refused More : ShelfFault → Type 0) → ((f : ShelfFault) → Refused f → More f) → (e : ShelfFault) → IsWantOr Refused e → IsWantOr More e
+want_more Refused More each why.OutOfMemory w = tt
+want_more Refused More each why.Device w = each why.Device w
+want_more Refused More each why.Missing w = each why.Missing w
+want_more Refused More each (why.Taken n) w = each (why.Taken n) w

@@ -1,6 +1,7 @@
 -- What a shelf is asked, and which refusals a call may have (this project's rule).
 use Rattle.std.specs.Prelude.{ℕ, List}
 use Rattle.lsm_shelf.specs.declared.shelf_fault.ShelfFault.{ShelfFault}
+use Rattle.lsm_shelf.specs.declared.shelf_fault.ShelfFault.TheVariants.{OutOfMemory, Device, Missing, Taken}
 use Rattle.lsm_shelf.specs.Told.{NotTaken, NotNamed, NotDevice, TakenIs}
 
 -- One call, with all that it hands over: numbers of tables or of a manifest, and bytes. A fork is none: it asks nothing of what lies there.
@@ -36,3 +37,10 @@ MemoryRefuses ListTables fault = NotNamed fault
 MemoryRefuses ReadManifest fault = NotTaken fault
 MemoryRefuses (StartManifest number bytes) fault = TakenIs number fault
 MemoryRefuses (AppendManifest bytes) fault = NotTaken fault
+
+-- Memory ran out; or it is a refusal of this kind.
+abbrev pub IsWantOr : (ShelfFault → Type 0) → ShelfFault → Type 0
+IsWantOr Refused OutOfMemory = Unit {0}
+IsWantOr Refused Device = Refused Device
+IsWantOr Refused Missing = Refused Missing
+IsWantOr Refused (Taken n) = Refused (Taken n)

@@ -2,6 +2,7 @@
 use Rattle.std.proofs.Common.{◌≡◌, ℕ, ◌+◌, ◌-◌, ◌^◌, ◌<◌, List, [], ◌∷◌, ◌++◌, ◌∙◌, inl, inr, arith}
 use Rattle.lsm_codec.specs.Lists.{Has}
 use Rattle.lsm_codec.proofs.CallerLemmas.{has_left, has_right}
+use Rattle.lsm_shelf.specs.Asked.{Asked, IsWantOr, ListTables, Load}
 use Rattle.lsm_shelf.specs.Told.{Told, Becomes, Counted, NotNamed, finding, listing}
 use Rattle.lsm_shelf.specs.declared.shelf_fault.ShelfFault.{ShelfFault}
 use Rattle.lsm_shelf.specs.declared.shelf_fault.ShelfFault.TheVariants.{OutOfMemory, Device, Missing, Taken}
@@ -70,8 +71,8 @@ check_counted_from (AgeOrder user) n bytes was mid is t k = tt
 
 -- ---- refusals
 
-pub no_version : (Stored : ℕ → List ℕ → Type 0) (Refused : ℕ → ShelfFault → Type 0) (honest : Type 0) (e : CheckFault) (rest : ℕ) (h : HeldManifest) (shape : Form) (was mid is : Told) → IsRecovered h shape rest
-    → Becomes (finding h.number h.bytes was) mid → IsRefusal Stored Refused honest shape e → CheckCounted e mid is → Becomes mid is → IsNoVersion Stored Refused honest e was is
+pub no_version : (Stored : ℕ → List ℕ → Type 0) (Refused : Asked → ShelfFault → Type 0) (honest : Type 0) (e : CheckFault) (rest : ℕ) (h : HeldManifest) (shape : Form) (was mid is : Told) → IsRecovered h shape rest
+    → Becomes (finding h.number h.bytes was) mid → IsRefusal Stored (λ number. Refused (Load number)) honest shape e → CheckCounted e mid is → Becomes mid is → IsNoVersion Stored Refused honest e was is
 no_version Stored Refused honest e rest h shape was mid is r t why cause same = record {
   held = h;
   shape = shape;
@@ -82,9 +83,10 @@ no_version Stored Refused honest e rest h shape was mid is r t why cause same = 
   told = becomes_then (finding h.number h.bytes was) mid is t same;
 }
 
-pub unlisted : (honest : Type 0) (e : ShelfFault) (h : HeldManifest) (shape : Form) (v : Levels) (was mid is : Told) → IsLoaded honest h shape v
-    → Becomes (finding h.number h.bytes was) mid → NotNamed e × Counted e mid is → Becomes mid is → IsUnlisted honest e was is
-unlisted honest e h shape v was mid is l t cause same = record {
+pub unlisted : (Refused : Asked → ShelfFault → Type 0) (honest : Type 0) (e : ShelfFault) (h : HeldManifest) (shape : Form) (v : Levels) (was mid is : Told) → IsLoaded honest h shape v
+    → Becomes (finding h.number h.bytes was) mid → NotNamed e × Counted e mid is → IsWantOr (Refused ListTables) e → Becomes mid is → IsUnlisted Refused honest e was is
+unlisted Refused honest e h shape v was mid is l t cause asked same = record {
+  asked = asked;
   held = h;
   shape = shape;
   version = v;

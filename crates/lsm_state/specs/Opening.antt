@@ -3,6 +3,7 @@
 use Rattle.std.specs.Prelude.{◌≡◌, ℕ, ◌+◌, ◌-◌, ◌^◌, ◌<◌, ◌≤◌, ◌⊎◌, Bool, List, [], ◌∷◌, ◌++◌}
 use Rattle.lsm_codec.specs.Lists.{Has}
 use Rattle.lsm_pins.specs.Known.{Known}
+use Rattle.lsm_shelf.specs.Asked.{Asked, IsWantOr, ListTables, Load}
 use Rattle.lsm_shelf.specs.declared.shelf_fault.ShelfFault.{ShelfFault}
 use Rattle.lsm_shelf.specs.Told.{Told, Becomes, Counted, NotNamed, TakenIs, finding, listing}
 use Rattle.lsm_manifest.specs.Shape.{Form}
@@ -15,7 +16,7 @@ use Rattle.lsm_slots.specs.Slots.{first_slots}
 use Rattle.lsm_journal.specs.HeldManifest.{HeldManifest}
 use Rattle.lsm_journal.specs.Recorded.{IsRecorded}
 use Rattle.lsm_journal.specs.Recovering.{IsRecovered, IsRecoverRefusal, RecoverCounted}
-use Rattle.lsm_journal.specs.Sending.{RollsOver}
+use Rattle.lsm_journal.specs.Sending.{RollsOver, started_by}
 use Rattle.lsm_state.specs.Held.{Held}
 use Rattle.lsm_state.specs.declared.options.Options.{Options}
 use Rattle.lsm_state.specs.declared.open_fault.OpenFault.{OpenFault}
@@ -87,22 +88,23 @@ pub record IsBegun (Honest : Type 0) (limit : ℕ) (h : HeldManifest) (v : Level
 -- ---- refusals
 
 -- The manifest was read, and the tables of its shape are no version.
-pub record IsNoVersion (Stored : ℕ → List ℕ → Type 0) (Refused : ℕ → ShelfFault → Type 0) (Honest : Type 0) (e : CheckFault) (was is : Told) : Type 0 where
+pub record IsNoVersion (Stored : ℕ → List ℕ → Type 0) (Refused : Asked → ShelfFault → Type 0) (Honest : Type 0) (e : CheckFault) (was is : Told) : Type 0 where
   pub held : HeldManifest
   pub shape : Form
   pub rest : ℕ
   pub recovered : IsRecovered held shape rest
-  pub why : IsRefusal Stored Refused Honest shape e
+  pub why : IsRefusal Stored (λ number. Refused (Load number)) Honest shape e
   pub cause : CheckCounted e was is
   pub told : Becomes (finding held.number held.bytes was) is
 
 -- There is a version, and the shelf did not list its tables.
-pub record IsUnlisted (Honest : Type 0) (e : ShelfFault) (was is : Told) : Type 0 where
+pub record IsUnlisted (Refused : Asked → ShelfFault → Type 0) (Honest : Type 0) (e : ShelfFault) (was is : Told) : Type 0 where
   pub held : HeldManifest
   pub shape : Form
   pub version : Levels
   pub loaded : IsLoaded Honest held shape version
   pub cause : NotNamed e × Counted e was is
+  pub asked : IsWantOr (Refused ListTables) e
   pub told : Becomes (finding held.number held.bytes was) is
 
 -- A number that is taken is 2^64 - 1.
@@ -125,21 +127,22 @@ pub record IsWithoutRoom (was is : Told) : Type 0 where
 
 -- Why nothing is read, in this order: the manifest could not be read; the tables of its shape are no version; they could not be listed;
 -- a number that is taken is the last. Memory may run out on the way.
-abbrev pub IsFindRefusal : (ℕ → List ℕ → Type 0) → (ℕ → ShelfFault → Type 0) → Type 0 → OpenFault → Told → Told → Type 0
-IsFindRefusal Stored Refused Honest (Recover e) was is = IsRecoverRefusal e was is
+abbrev pub IsFindRefusal : (ℕ → List ℕ → Type 0) → (Asked → ShelfFault → Type 0) → Type 0 → OpenFault → Told → Told → Type 0
+IsFindRefusal Stored Refused Honest (Recover e) was is = IsRecoverRefusal Refused e was is
 IsFindRefusal Stored Refused Honest (Check e) was is = IsNoVersion Stored Refused Honest e was is
-IsFindRefusal Stored Refused Honest (Shelf e) was is = IsUnlisted Honest e was is
+IsFindRefusal Stored Refused Honest (Shelf e) was is = IsUnlisted Refused Honest e was is
 IsFindRefusal Stored Refused Honest NumbersSpent was is = IsTakenLast Honest was is
 IsFindRefusal Stored Refused Honest OutOfMemory was is = IsWithoutRoom was is
 
 -- The new manifest was refused by the shelf, or for want of memory.
-pub record IsUnstarted (Honest : Type 0) (limit : ℕ) (e : ShelfFault) (was is : Told) : Type 0 where
+pub record IsUnstarted (Refused : Asked → ShelfFault → Type 0) (Honest : Type 0) (limit : ℕ) (e : ShelfFault) (was is : Told) : Type 0 where
   pub held : HeldManifest
   pub version : Levels
   pub number : ℕ
   pub read : Told
   pub found : IsFound Honest limit held version number was read
   pub cause : TakenIs number e × Counted e read is
+  pub asked : IsWantOr (Refused (started_by version number held)) e
   pub told : Becomes read is
 
 -- All was read, and no number is left for a new manifest.
@@ -149,16 +152,16 @@ pub record IsNumberless (Honest : Type 0) (limit : ℕ) (was is : Told) : Type 0
   pub found : IsFound Honest limit held version (2 ^ 64 - 1) was is
 
 -- Why no new manifest begins where all was read.
-abbrev pub IsStartRefusal : Type 0 → ℕ → OpenFault → Told → Told → Type 0
-IsStartRefusal Honest limit (Shelf e) was is = IsUnstarted Honest limit e was is
-IsStartRefusal Honest limit NumbersSpent was is = IsNumberless Honest limit was is
-IsStartRefusal Honest limit (Recover e) was is = ⊥
-IsStartRefusal Honest limit (Check e) was is = ⊥
-IsStartRefusal Honest limit OutOfMemory was is = ⊥
+abbrev pub IsStartRefusal : (Asked → ShelfFault → Type 0) → Type 0 → ℕ → OpenFault → Told → Told → Type 0
+IsStartRefusal Refused Honest limit (Shelf e) was is = IsUnstarted Refused Honest limit e was is
+IsStartRefusal Refused Honest limit NumbersSpent was is = IsNumberless Honest limit was is
+IsStartRefusal Refused Honest limit (Recover e) was is = ⊥
+IsStartRefusal Refused Honest limit (Check e) was is = ⊥
+IsStartRefusal Refused Honest limit OutOfMemory was is = ⊥
 
 -- Why no database is opened: it could not be read; or no new manifest could begin.
-abbrev pub IsOpenRefusal : (ℕ → List ℕ → Type 0) → (ℕ → ShelfFault → Type 0) → Type 0 → ℕ → OpenFault → Told → Told → Type 0
-IsOpenRefusal Stored Refused Honest limit e was is = IsFindRefusal Stored Refused Honest e was is ⊎ IsStartRefusal Honest limit e was is
+abbrev pub IsOpenRefusal : (ℕ → List ℕ → Type 0) → (Asked → ShelfFault → Type 0) → Type 0 → ℕ → OpenFault → Told → Told → Type 0
+IsOpenRefusal Stored Refused Honest limit e was is = IsFindRefusal Stored Refused Honest e was is ⊎ IsStartRefusal Refused Honest limit e was is
 
 -- Where the manifest could not be read, the shelf was asked for it once, and a refusal counted once.
 abbrev pub IsReadOnce : OpenFault → Told → Told → Type 0

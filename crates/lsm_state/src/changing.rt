@@ -12,6 +12,7 @@ ghost use Rattle.lsm_slots.specs.Slots.{IsFreeSlot, current_id};
 ghost use Rattle.lsm_live.specs.Booked.{Booked};
 ghost use Rattle.lsm_journal.specs.HeldManifest.{is_at_limit};
 ghost use Rattle.lsm_journal.specs.Difference.{Suits, changed_by};
+ghost use Rattle.lsm_state.specs.Asked.{ChangeRefused, OnShelf};
 ghost use Rattle.lsm_state.specs.Changing.{ChangesVersion, IsChangeRefusal, IsSlotRefusal, Sought, halts, live_after, next_spent, plain_after};
 ghost use Rattle.lsm_state.specs.Collecting.{IsCountedOnce, SameCounts};
 ghost use Rattle.lsm_state.specs.Held.{HasInputs};
@@ -143,6 +144,7 @@ impl<N: Boarded, S: Shelf> State<N, S> {
         requires inputs { (b : Booked) → Has (live_after out self.old.live) b → HasInputs (changed_by change.now self.old.slots.version) b.work }
         ensures ok { OnOk result (ChangesVersion self.old self.new change.now out (S.told shelf.old) (S.told shelf.new)) }
         ensures refused { IfErr result (λ e. IsChangeRefusal self.old self.new e (S.told shelf.old) (S.told shelf.new)) }
+        ensures asked { IfErr result (OnShelf (ChangeRefused (S.refuses (S.told shelf.old).place) self.old change.now)) }
         ensures unsent { OnErr result (Becomes (S.told shelf.old) (S.told shelf.new)) }
         ensures counts { OnOk result (SameCounts (S.told shelf.old) (S.told shelf.new)) }
     {

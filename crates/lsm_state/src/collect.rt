@@ -1,7 +1,10 @@
 //! Removing tables that no reader and no job needs.
 
 ghost use Rattle.std.specs.Prelude.{◌≡◌, ◌≤◌, ℕ, ◌++◌, [], length, IfErr, IfOk, OnErr, OnOk, false, vec_capacity, vec_len};
+ghost use Rattle.lsm_codec.specs.Lists.{Has};
+ghost use Rattle.lsm_shelf.specs.Asked.{Remove};
 ghost use Rattle.lsm_shelf.specs.Told.{Becomes, Counted, CountedBy, NotTaken};
+ghost use Rattle.lsm_state.specs.Asked.{CollectRefused, OnShelf};
 ghost use Rattle.lsm_state.specs.Collecting.{AreCollected, HasLookedAround, IsCollectRefusal, IsCountedOnce, IsKeptNumber, IsMemoryOrShelf, IsRefusedMemory, IsStopped, IsWantOfMemory, SameCounts, StoppedEarly, TellsAll, outside, removing_all};
 ghost use Rattle.lsm_state.specs.Held.{plain};
 
@@ -32,6 +35,7 @@ fn remove_all<S: Shelf, R: Wait>(
     ensures err { OnErr result (IsStopped numbers.now removed.new.items (S.told shelf.old) (S.told shelf.new)) }
     ensures cause { IfErr result (λ e. NotTaken e × Counted e (S.told shelf.old) (S.told shelf.new)) }
     ensures counts { CountedBy result (S.told shelf.old) (S.told shelf.new) }
+    ensures asked { IfErr result (λ e. (n : ℕ) × Has numbers.now n × S.refuses (S.told shelf.old).place (Remove n) e) }
     ensures untold { IfErr result (λ e. IsRefusedMemory e → TellsAll removed.new.items (S.told shelf.old) (S.told shelf.new)) }
 {
     for number in numbers {
@@ -58,6 +62,7 @@ impl<N: Boarded, S: Shelf> State<N, S> {
         ensures cause { IfErr result (λ e. IsMemoryOrShelf e (S.told shelf.old) (S.told shelf.new)) }
         ensures counts { OnOk result (SameCounts (S.told shelf.old) (S.told shelf.new)) }
         ensures counts_err { IfErr result (λ e. IsCountedOnce e (S.told shelf.old) (S.told shelf.new)) }
+        ensures asked { IfErr result (OnShelf (CollectRefused (S.refuses (S.told shelf.old).place) self.now)) }
         ensures untold { IfErr result (λ e. IsWantOfMemory e → TellsAll removed.new.items (S.told shelf.old) (S.told shelf.new)) }
     {
         let kept = self.kept(alloc)?;
@@ -89,6 +94,7 @@ impl<N: Boarded, S: Shelf> State<N, S> {
         ensures refused { IfErr result (λ e. IsCollectRefusal self.old self.new e.0 e.1.items (S.told shelf.old) (S.told shelf.new)) }
         ensures counts { OnOk result (SameCounts (S.told shelf.old) (S.told shelf.new)) }
         ensures counts_err { IfErr result (λ e. IsCountedOnce e.0 (S.told shelf.old) (S.told shelf.new)) }
+        ensures asked { IfErr result (λ e. OnShelf (CollectRefused (S.refuses (S.told shelf.old).place) self.new) e.0) }
         ensures untold { IfErr result (λ e. IsWantOfMemory e.0 → TellsAll e.1.items (S.told shelf.old) (S.told shelf.new)) }
     {
         let mut removed = Vec::new(alloc);

@@ -3,7 +3,7 @@
 ghost use Rattle.std.specs.Prelude.{◌≡◌, ℕ, IfErr, IfOk, OnOk};
 ghost use Rattle.std.specs.Arc.{arc_value};
 ghost use Rattle.lsm_shelf.specs.Told.{Becomes, Rose, next_count, sending};
-ghost use Rattle.lsm_journal.specs.Sending.{CreateCounted, IsCreateRefusal};
+ghost use Rattle.lsm_journal.specs.Sending.{CreateCounted, IsCreateAsked, IsCreateRefusal};
 ghost use Rattle.lsm_state.specs.Making.{IsNewBoard, created_state};
 ghost use Rattle.lsm_state.specs.Options.{Fits};
 
@@ -43,6 +43,7 @@ impl<N: Boarded, S: Shelf> State<N, S> {
         ensures missing { OnOk result (Rose (S.told shelf.old).misses (S.told shelf.new).misses) }
         ensures counts { OnOk result (((S.told shelf.new).faults ≡ (S.told shelf.old).faults) × ((S.told shelf.new).misses ≡ next_count (S.told shelf.old).misses)) }
         ensures refused { IfErr result (λ e. IsCreateRefusal e (S.told shelf.old) (S.told shelf.new)) }
+        ensures asked { IfErr result (λ e. IsCreateAsked (S.refuses (S.told shelf.old).place) e (S.told shelf.old) (S.told shelf.new)) }
         ensures counts_err { IfErr result (λ e. CreateCounted e (S.told shelf.old) (S.told shelf.new)) }
     {
         let (publisher, pinners) = board;

@@ -8,6 +8,7 @@ ghost use Rattle.lsm_shelf.specs.Told.{Becomes, putting};
 ghost use Rattle.lsm_table.specs.TableBuilding.{table_bytes};
 ghost use Rattle.lsm_version.specs.Versions.{IsWhole, files};
 ghost use Rattle.lsm_machine.specs.Plain as machine;
+ghost use Rattle.lsm_state.specs.Asked.{IngestRefused, OnShelf, PutRefused};
 ghost use Rattle.lsm_state.specs.Collecting.{SameCounts};
 ghost use Rattle.lsm_state.specs.Held.{IsLawfulState, plain};
 ghost use Rattle.lsm_state.specs.Ingesting.{FailsToBuild, FailsToPut, Ingests, IsEarlyRefusal, IsIngestRefusal, IsTableOf, IsWelcome, coming_in, entries_of, numbers_needed, of_batch};
@@ -116,6 +117,7 @@ impl<N: Boarded, S: Shelf> State<N, S> {
         ensures counts { OnOk result (SameCounts (S.told shelf.old) (S.told shelf.new)) }
         ensures refused { IfErr result (λ e. FailsToBuild self.old self.new batch.now e (S.told shelf.old) (S.told shelf.new)
             ⊎ FailsToPut self.old self.new e (S.told shelf.old) (S.told shelf.new)) }
+        ensures asked { IfErr result (OnShelf (PutRefused (S.refuses (S.told shelf.old).place) self.old batch.now)) }
         ensures slots { OnErr result (self.new.slots ≡ self.old.slots) }
     {
         tables_are_whole();
@@ -173,6 +175,7 @@ impl<N: Boarded, S: Shelf> State<N, S> {
         ensures entries { OnOk result ((e : Entry) → Has (all_entries (files self.new.slots.version)) e ↔ (Has (entries_of self.old batch.now) e ⊎ Has (all_entries (files self.old.slots.version)) e)) }
         ensures counts { OnOk result (SameCounts (S.told shelf.old) (S.told shelf.new)) }
         ensures refused { IfErr result (λ e. IsIngestRefusal self.old self.new batch.now e (S.told shelf.old) (S.told shelf.new)) }
+        ensures asked { IfErr result (OnShelf (IngestRefused (S.refuses (S.told shelf.old).place) self.old batch.now)) }
     {
         changed_files();
         changed_tables();

@@ -4,6 +4,7 @@ ghost use Rattle.std.specs.Prelude.{◌≡◌, ◌-◌, ◌^◌, ◌<◌, ◌++�
 ghost use Rattle.lsm_shelf.specs.Told.{Becomes};
 ghost use Rattle.lsm_machine.specs.Plain.{Spends};
 ghost use Rattle.lsm_slots.specs.Slots.{IsFreeSlot, current_id};
+ghost use Rattle.lsm_state.specs.Asked.{InstallRefused, OnShelf};
 ghost use Rattle.lsm_state.specs.Changing.{IsChangeRefusal};
 ghost use Rattle.lsm_state.specs.Collecting.{SameCounts};
 ghost use Rattle.lsm_state.specs.Held.{plain};
@@ -72,6 +73,7 @@ impl<N: Boarded, S: Shelf> State<N, S> {
         ensures event { OnOk result (IsInstalling S.honest self.old done.now.work.ticket self.new) }
         ensures counts { OnOk result (SameCounts (S.told shelf.old) (S.told shelf.new)) }
         ensures refused { IfErr result (λ e. IsChangeRefusal self.old self.new e (S.told shelf.old) (S.told shelf.new)) }
+        ensures asked { IfErr result (OnShelf (InstallRefused (S.refuses (S.told shelf.old).place) self.old done.now)) }
         ensures unsent { OnErr result (Becomes (S.told shelf.old) (S.told shelf.new)) }
     {
         changed_files();
@@ -101,6 +103,7 @@ impl<N: Boarded, S: Shelf> State<N, S> {
         ensures event_err { OnErr result (Spends (plain self.old) (plain self.new)) }
         ensures counts { OnOk result (SameCounts (S.told shelf.old) (S.told shelf.new)) }
         ensures refused { IfErr result (λ e. IsInstallRefusal self.old self.new done.now e (S.told shelf.old) (S.told shelf.new)) }
+        ensures asked { IfErr result (OnShelf (InstallRefused (S.refuses (S.told shelf.old).place) self.old done.now)) }
         ensures unsent { OnErr result (Becomes (S.told shelf.old) (S.told shelf.new)) }
     {
         self.admit(done)?;
@@ -134,6 +137,7 @@ impl<N: Boarded, S: Shelf> State<N, S> {
         ensures counts { OnOk result (SameCounts (S.told shelf.old) (S.told shelf.new)) }
         ensures back { IfErr result (λ e. e.1 ≡ done) }
         ensures refused { IfErr result (λ e. IsInstallRefusal self.old self.new done e.0 (S.told shelf.old) (S.told shelf.new)) }
+        ensures asked { IfErr result (λ e. OnShelf (InstallRefused (S.refuses (S.told shelf.old).place) self.old done) e.0) }
         ensures unsent { OnErr result (Becomes (S.told shelf.old) (S.told shelf.new)) }
     {
         match self.try_install(rt, alloc, shelf, &done) {

@@ -2,6 +2,7 @@
 use Rattle.std.proofs.Common.{◌≡◌, ◌≢◌, ℕ, Bool, List, Option, None, Some, IfErr, OnErr, OnOk, refl}
 use Rattle.std.specs.Prelude.{Result, Ok, Err}
 use Rattle.std.specs.Io.KnownBytes.{Keeps}
+use Rattle.lsm_shelf.specs.Asked.{Asked}
 use Rattle.lsm_shelf.specs.declared.shelf_fault.ShelfFault.{ShelfFault}
 use Rattle.lsm_shelf.specs.Told.{Told}
 use Rattle.lsm_batch.specs.declared.write.Write.{Write}
@@ -9,7 +10,7 @@ use Rattle.lsm_writer.specs.Ingesting.{IsIngestFault, IsRefused}
 use Rattle.lsm_writer.specs.declared.writer_fault.WriterFault.{WriterFault}
 use Rattle.lsm_writer.specs.declared.writer_fault.WriterFault.TheVariants.{Write as WriteFault}
 
-pub is_refused : {T : Type 0} (r : Result T WriterFault) (status : ℕ) (Stored : ℕ → List ℕ → Type 0) (Refused : ℕ → ShelfFault → Type 0) (Honest : Type 0) (is_new : Bool) (ws : List Write)
+pub is_refused : {T : Type 0} (r : Result T WriterFault) (status : ℕ) (Stored : ℕ → List ℕ → Type 0) (Refused : Asked → ShelfFault → Type 0) (Honest : Type 0) (is_new : Bool) (ws : List Write)
     (was is : Told) (old new : Option (List ℕ)) → OnOk r (status ≡ 0) → OnErr r (status ≡ 1)
     → IfErr r (λ e. IsIngestFault Stored Refused Honest is_new ws e was is) → IfErr r (λ e. e ≢ WriteFault → Keeps old new) → status ≢ 0
     → (status ≡ 1) × ((fault : WriterFault) × IsRefused Stored Refused Honest is_new ws fault was is old new)

@@ -1,6 +1,7 @@
 -- What an `ingest` leaves, and why it is refused (this project's rule).
 use Rattle.std.specs.Prelude.{◌≡◌, ◌≢◌, ℕ, ◌⊎◌, Bool, List, [], ◌∷◌, ◌++◌, codes, decimal, Option}
 use Rattle.std.specs.Io.KnownBytes.{Appends, Keeps}
+use Rattle.lsm_shelf.specs.Asked.{Asked}
 use Rattle.lsm_shelf.specs.declared.shelf_fault.ShelfFault.{ShelfFault}
 use Rattle.lsm_shelf.specs.Told.{Told}
 use Rattle.lsm_batch.specs.declared.write.Write.{Write}
@@ -38,7 +39,7 @@ pub record StaysOut (Honest : Type 0) (is_new : Bool) (ws : List Write) (fault :
 
 -- What a fault says: memory ran out before the shelf was asked for anything; the directory was not begun or opened; the state refused the
 -- batch; or it came in, and the reply was not written.
-abbrev pub IsIngestFault : (ℕ → List ℕ → Type 0) → (ℕ → ShelfFault → Type 0) → Type 0 → Bool → List Write → WriterFault → Told → Told → Type 0
+abbrev pub IsIngestFault : (ℕ → List ℕ → Type 0) → (Asked → ShelfFault → Type 0) → Type 0 → Bool → List Write → WriterFault → Told → Told → Type 0
 IsIngestFault Stored Refused Honest is_new ws e was is =
     ((e ≡ OutOfMemory) × (is ≡ was))
     ⊎ (IsStartRefusal Stored Refused Honest is_new e was is
@@ -46,6 +47,6 @@ IsIngestFault Stored Refused Honest is_new ws e was is =
     ⊎ ((e ≡ WriteFault) × ((r : Ingested) × ComesIn Honest is_new ws r was is))))
 
 -- What a refusal is: what the fault says; and, unless a write failed, nothing was written on standard output.
-pub record IsRefused (Stored : ℕ → List ℕ → Type 0) (Refused : ℕ → ShelfFault → Type 0) (Honest : Type 0) (is_new : Bool) (ws : List Write) (fault : WriterFault) (was is : Told) (old new : Option (List ℕ)) : Type 0 where
+pub record IsRefused (Stored : ℕ → List ℕ → Type 0) (Refused : Asked → ShelfFault → Type 0) (Honest : Type 0) (is_new : Bool) (ws : List Write) (fault : WriterFault) (was is : Told) (old new : Option (List ℕ)) : Type 0 where
   pub says : IsIngestFault Stored Refused Honest is_new ws fault was is
   pub left : fault ≢ WriteFault → Keeps old new

@@ -1,6 +1,7 @@
 -- The state with which a command that writes begins (this project's rule).
 use Rattle.std.specs.Prelude.{◌≡◌, ℕ, Bool, true, false, List}
 use Rattle.lsm_pins.specs.Known.{Known}
+use Rattle.lsm_shelf.specs.Asked.{Asked}
 use Rattle.lsm_shelf.specs.declared.shelf_fault.ShelfFault.{ShelfFault}
 use Rattle.lsm_shelf.specs.Told.{Told, Becomes, Rose, sending}
 use Rattle.lsm_journal.specs.Sending.{IsCreateRefusal}
@@ -36,6 +37,6 @@ IsStarted Honest true h was is = IsNew h was is
 IsStarted Honest false h was is = IsReopened Honest h was is
 
 -- Why there is no such state. `Stored` says which images the shelf gave for which numbers, `Refused` which loads it refused with which faults.
-abbrev pub IsStartRefusal : (ℕ → List ℕ → Type 0) → (ℕ → ShelfFault → Type 0) → Type 0 → Bool → WriterFault → Told → Told → Type 0
+abbrev pub IsStartRefusal : (ℕ → List ℕ → Type 0) → (Asked → ShelfFault → Type 0) → Type 0 → Bool → WriterFault → Told → Told → Type 0
 IsStartRefusal Stored Refused Honest true e was is = (fault : ShelfFault) × (e ≡ of_shelf fault) × IsCreateRefusal fault was is
 IsStartRefusal Stored Refused Honest false e was is = (fault : OpenFault) × (e ≡ of_open fault) × IsOpenRefusal Stored Refused Honest usual.manifest_limit fault was is

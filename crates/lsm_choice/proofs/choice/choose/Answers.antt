@@ -17,7 +17,7 @@ loop-level-preserved g c =
     let inv = c.loop-level.invariant in
     let few : i ≤ 5 = omega (arith, c.loop-level-test.true) in
     let load_is : c.load-load.result ≡ (score v rs i).0 = c.load-load.ensures.load in
-    let weight_is : c.load-load.result * c.part.result ≡ weight v rs i = ap (λ (n : ℕ). n * c.part.result) load_is ∙ ap (λ (n : ℕ). (score v rs i).0 * n) c.part.ensures.part in
+    let weight_is : c.load-load.result * c.scale.result ≡ weight v rs i = ap (λ (n : ℕ). n * c.scale.result) load_is ∙ ap (λ (n : ℕ). (score v rs i).0 * n) c.scale.ensures.scale in
     elim c.if-load-limit.branch [
       | then-load-limit+then-weight-most+in_ok-plan+then-is_some w ↦ (
           let due : limit i ≤ (score v rs i).0 = subst (λ (n : ℕ). limit i ≤ n) load_is (subst (λ (n : ℕ). n ≤ c.load-load.result) c.limit.ensures w.if-load-limit.true) in
