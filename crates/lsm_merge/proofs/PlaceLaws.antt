@@ -85,29 +85,10 @@ pub up_to_taken : (size : List Entry → ℕ) (target : ℕ) (m : Making) (kept 
 up_to_taken size target m true before e up f = up_to_pushed (shut_before size target m e.user).output e
 up_to_taken size target m false before e up f = up_to_dropped m.output before e up f
 
--- what ascends with one entry more does so where the output before it was put
-pub ascends_shut : (size : List Entry → ℕ) (target : ℕ) (m : Making) (e : Entry) → Ascends (m.output ++ e ∷ []) → Ascends ((shut_before size target m e.user).output ++ e ∷ [])
-ascends_shut size target m e a = go (closes size target m.output e.user)
-  where
-    go : (b : Bool) → Ascends ((cond {A = Making} b (shut m) m).output ++ e ∷ [])
-    go true = tt
-    go false = a
-
 -- ---- steps
 
 pub sizes_then : (a b c : Made) → SameSizes a b → SameSizes b c → SameSizes a c
 sizes_then a b c p q = record { ticket = q.ticket ∙ p.ticket; options = q.options ∙ p.options; target = q.target ∙ p.target }
-
-pub goes_then : (a b c : Made) (m n : Making) → Goes a b m → Goes b c n → Goes a c n
-goes_then a b c m n p q = record { sizes = sizes_then a b c p.sizes q.sizes; good = q.good; is = q.is }
-
-pub place_goes : (a b c : Made) (size : List Entry → ℕ) (target : ℕ) (e : Entry) → Goes a b (shut_before size target (making_of a) e.user) → Goes b c (with_entry e (making_of b))
-    → Goes a c (placed size target (making_of a) e)
-place_goes a b c size target e p q = record { sizes = sizes_then a b c p.sizes q.sizes; good = q.good; is = q.is ∙ ap (with_entry e) p.is }
-
-pub place_ascends : (a b : Made) (size : List Entry → ℕ) (target : ℕ) (e : Entry) → Goes a b (shut_before size target (making_of a) e.user)
-    → Ascends (entries_of_last a.last ++ e ∷ []) → Ascends (entries_of_last b.last ++ e ∷ [])
-place_ascends a b size target e p h = subst (λ (m : Making). Ascends (m.output ++ e ∷ [])) (sym p.is) (ascends_shut size target (making_of a) e h)
 
 -- ---- what the shelf was told
 
@@ -142,9 +123,6 @@ becomes_putting (n ∷ ns) t u b = becomes_putting ns (putting n t) (putting n u
 putting_both : (ns ms : List ℕ) (t : Told) → putting_all (ns ++ ms) t ≡ putting_all ms (putting_all ns t)
 putting_both [] ms t = refl
 putting_both (n ∷ ns) ms t = putting_both ns ms (putting n t)
-
-pub puts_none : (put : List ℕ) (t u : Told) → Becomes t u → PutsMore put put t u
-puts_none put t u b = record { more = []; grown = sym (append-nil put); told = b }
 
 pub puts_then : (a b c : List ℕ) (t u v : Told) → PutsMore a b t u → PutsMore b c u v → PutsMore a c t v
 puts_then a b c t u v p q = record {

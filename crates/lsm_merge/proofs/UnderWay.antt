@@ -54,17 +54,6 @@ order_reading (PutFailed n f) k h = h
 order_reading (UnknownTicket t) k h = h
 order_reading NumbersSpent k h = h
 
-pub readable_put : (e : MergeFault) (t u : Told) → HasCause [] e t u → IsReadable e
-readable_put OutOfMemory t u h = tt
-readable_put (ReadFailed n (Read f)) t u h = absurd h.0
-readable_put (ReadFailed n OutOfOrder) t u h = tt
-readable_put (PutFailed n f) t u h = tt
-readable_put (UnknownTicket k) t u h = tt
-readable_put NumbersSpent t u h = tt
-
-pub answers_along : (e : MergeFault) (first old new : List ℕ) → old ≡ first → AnswersOf e old new → AnswersOf e first new
-answers_along e first old new h a = subst (λ (l : List ℕ). AnswersOf e l new) h a
-
 -- ---- steps
 
 pub some_of : (ps : List Placed) → no_more ps ≡ false → (p : Placed) × (rest : List Placed) × (ps ≡ p ∷ rest)
@@ -145,9 +134,6 @@ under_done Honest w whole was is drew0 drew answers0 answers asked0 asked m n be
       merges = merges honest done.ascending;
       is = subst (IsMerged w.floor w.ranges (finished w.table) w.target_size whole) (sym (ap (λ (k : Making). k.outputs) g.is)) done;
     }
-
-pub drew_all : (m n : Made) (drew drew0 : List ℕ) → drew ≡ drawn_of m drew0 → n.last ≡ None → ((there : List ℕ) → drawn_of n there ≡ drawn_of m there) → drew ≡ going n.put drew0
-drew_all m n drew drew0 d none same = d ∙ sym (same drew0) ∙ ap (λ (l : Option Unfinished). drawn_for n.put (number_of_last l) drew0) none
 
 -- ---- refusals over an honest shelf
 
