@@ -25,10 +25,6 @@ pub record Starts (number : ℕ) (edit : Change) (old new : HeldManifest) (was i
   pub sent : Becomes (sending number (record_of [] edit) was) is
   pub spelled : IsEdit (edit_text edit) edit
 
--- What is held and what the shelf was sent grow by one record, the same, or are one new manifest, the same.
-abbrev pub GrowsAlike : HeldManifest → HeldManifest → Told → Told → Type 0
-GrowsAlike old new was is = ((edit : Change) × Grows edit old new was is) ⊎ ((number : ℕ) × (edit : Change) × Starts number edit old new was is)
-
 -- What a new manifest that spells this version asks of the shelf.
 abbrev pub started_by : Levels → ℕ → HeldManifest → Asked
 started_by v number old = StartManifest number (record_of [] (version_edit old v (number + 1)))
