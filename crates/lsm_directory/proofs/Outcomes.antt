@@ -3,7 +3,7 @@ use Rattle.std.proofs.Common.{◌≢◌, ℕ, List, Option, IfErr, OnOk, ◌≡�
 use Rattle.std.specs.Prelude.{Result, Ok, Err, Some, None, IfSome, codes}
 use Rattle.std.specs.Io.KnownBytes.{Appends, Keeps}
 use Rattle.std.proofs.KnownBytes.{Appends-kept, Appends-trans, Keeps-refl}
-use Rattle.lsm_shelf.specs.Asked.{Asked}
+use Rattle.lsm_shelf.specs.Asked.{Asked, Load}
 use Rattle.lsm_shelf.specs.Told.{Told, Becomes, Counted, finding}
 use Rattle.lsm_shelf.specs.declared.shelf_fault.ShelfFault.{ShelfFault}
 use Rattle.lsm_shelf.specs.declared.shelf_fault.ShelfFault.TheVariants as shelf_faults
@@ -79,7 +79,7 @@ check_counted_from (AgeOrder user) number bytes was mid is b c = tt
 
 -- the tables of the shape that was read are refused
 pub tables_refused : (Stored : ℕ → List ℕ → Type 0) (Refused : Asked → ShelfFault → Type 0) (Honest : Type 0) (e : CheckFault) (h : HeldManifest) (shape : Shape) (rest : ℕ) (was mid is : Told)
-    → Becomes (finding h.number h.bytes was) mid → IsRecovered h shape rest → IsRefusal Stored Refused Honest shape e → Becomes mid is → CheckCounted e mid is
+    → Becomes (finding h.number h.bytes was) mid → IsRecovered h shape rest → IsRefusal Stored (λ number. Refused (Load number)) Honest shape e → Becomes mid is → CheckCounted e mid is
     → IsOpenRefusal Stored Refused Honest (Tables e) was is
 tables_refused Stored Refused Honest e h shape rest was mid is found r why same cause = (
   shape,
@@ -194,11 +194,11 @@ pub reads_found : (number : ℕ) (bytes : List ℕ) (was mid is : Told) → Beco
 reads_found number bytes was mid is b c = inr (number, bytes, becomes_then (finding number bytes was) mid is b c)
 
 -- the manifest was refused
-pub reads_refused : (e : RecoverFault) (was is : Told) → IsRecoverRefusal e was is → OnlyReads was is
-reads_refused (recover_faults.Shelf e) was is r = inl r.0
-reads_refused (recover_faults.Log e) was is r = let gave = r.1 in inr (gave.0, r.0, gave.1)
-reads_refused (recover_faults.Edit e) was is r = let gave = r.1 in inr (gave.0, r.0, gave.1)
-reads_refused (recover_faults.Replay e) was is r = let gave = r.1 in inr (gave.0, r.0, gave.1)
+pub reads_refused : (Refused : Asked → ShelfFault → Type 0) (e : RecoverFault) (was is : Told) → IsRecoverRefusal Refused e was is → OnlyReads was is
+reads_refused Refused (recover_faults.Shelf e) was is r = inl r.0
+reads_refused Refused (recover_faults.Log e) was is r = let gave = r.1 in inr (gave.0, r.0, gave.1)
+reads_refused Refused (recover_faults.Edit e) was is r = let gave = r.1 in inr (gave.0, r.0, gave.1)
+reads_refused Refused (recover_faults.Replay e) was is r = let gave = r.1 in inr (gave.0, r.0, gave.1)
 
 pub reads_later : (was mid is : Told) → OnlyReads was mid → Becomes mid is → OnlyReads was is
 reads_later was mid is (inl b) c = inl (becomes_then was mid is b c)

@@ -6,6 +6,7 @@ mod OpenLaws
 mod OpenRefusals
 mod ReserveLaws
 mod ChangeLaws
+mod AskedLaws
 mod IngestLaws
 mod Inputs
 mod LargestKeys

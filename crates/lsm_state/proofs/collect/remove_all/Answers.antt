@@ -1,4 +1,8 @@
 use Rattle.std.proofs.Common.{◌+◌, get_or, sym, subst, ◌∙◌, arith}
+use Rattle.std.proofs.lemmas.Result.{err_from_is_err_and}
+use Rattle.lsm_shelf.specs.Told.{Place}
+use Rattle.lsm_shelf.specs.Asked.{Remove}
+use Rattle.lsm_live.proofs.CallerLemmas.{has_at}
 use Rattle.lsm_state.proofs.Removing.{AreGone, asked_or_not, gone_more, on_err, stopped_at}
 use Rattle.lsm_state.proofs.collect.remove_all.Goals as goal
 
@@ -11,6 +15,17 @@ returns-in_err-remove-clause-err g c =
     let i = c.loop-number.number-index in
     on_err c.from_residual.result (stopped_at ns c.loop-number.removed.items was now is i c.loop-number-test.true c.loop-number.invariant.gone
     (asked_or_not c.remove.result c.in_err-remove.field-0.0 (get_or ns i 0) now is c.in_err-remove.was c.remove.ensures.told))
+
+pub returns-in_err-remove-clause-asked : goal.returns-in_err-remove-clause-asked
+returns-in_err-remove-clause-asked g c =
+    let p = err_from_is_err_and c.from_residual.result c.from_residual.ensures.1 in
+    let ns = c.args.numbers.now in
+    let n = get_or ns c.loop-number.number-index 0 in
+    rw (p.1, p.2) (
+      n,
+      has_at ns c.loop-number.number-index 0 c.loop-number-test.true,
+      subst (λ (q : Place). g.S.Shelf.refuses q (Remove n) c.in_err-remove.field-0.0) c.loop-number.invariant.gone.asked.place c.in_err-remove.ensures.refused,
+    )
 
 pub loop-number-preserved : goal.loop-number-preserved
 loop-number-preserved g c =

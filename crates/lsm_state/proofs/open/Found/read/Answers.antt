@@ -1,11 +1,24 @@
 use Rattle.std.proofs.Common.{◌≡◌, ◌+◌, ◌-◌, ◌^◌, [], ◌∷◌, ◌++◌, ◌∙◌, ap, subst, arith}
 use Rattle.std.proofs.lemmas.Result.{err_from_is_err_and}
 use Rattle.lsm_codec.specs.Lists.{Has}
+use Rattle.lsm_shelf.specs.Told.{Place}
+use Rattle.lsm_shelf.specs.Asked.{Asked, ListTables}
+use Rattle.lsm_shelf.specs.declared.shelf_fault.ShelfFault.{ShelfFault}
+use Rattle.lsm_shelf.proofs.CallerLemmas.{want_or}
 use Rattle.lsm_table.proofs.CallerLemmas.{becomes_then}
 use Rattle.lsm_version.specs.Versions.{numbers_in}
+use Rattle.lsm_journal.specs.Recovering.{IsRecoverRefusal}
 use Rattle.lsm_state.specs.Opening.{IsLeastFree, taken_numbers}
 use Rattle.lsm_state.proofs.OpenRefusals.{found_there, loaded, no_version, taken_last, unlisted, without_room, without_room_listed}
 use Rattle.lsm_state.proofs.open.Found.read.Goals as goal
+
+pub returns-in_err-recovered-clause-refused : goal.returns-in_err-recovered-clause-refused
+returns-in_err-recovered-clause-refused g c =
+    let p = err_from_is_err_and c.from_residual.result c.from_residual.ensures.1 in
+    let fault = c.in_err-recovered.field-0.0 in
+    let was = g.S.Shelf.told c.args.shelf.now in
+    let is = g.S.Shelf.told c.recover.new.shelf in
+    rw (p.1, p.2) (subst (λ (q : Place). IsRecoverRefusal (g.S.Shelf.refuses q) fault was is) c.requires.here c.in_err-recovered.ensures.refused)
 
 pub returns-in_err-shared-clause-refused : goal.returns-in_err-shared-clause-refused
 returns-in_err-shared-clause-refused g c =
@@ -26,8 +39,12 @@ returns-in_err-taken-clause-refused g c =
     let r = c.in_ok-recovered.recovered in
     let l = loaded g.S.Shelf.honest r.rest r.journal r.shape c.in_ok-version.version c.recovered_is_recorded.ensures c.in_ok-recovered.ensures.recovered c.in_ok-version.ensures.shape c.in_ok-version.ensures.numbers
     c.in_ok-version.ensures.settled c.in_ok-version.ensures.judged c.in_ok-version.ensures.sound in
-    rw (p.1, p.2) (unlisted g.S.Shelf.honest c.in_err-taken.field-0.0 r.journal r.shape c.in_ok-version.version _ (g.S.Shelf.told c.check.new.shelf) _ l
-    (becomes_then _ _ _ c.in_ok-recovered.ensures.found c.check.ensures.told) c.in_err-taken.ensures.cause c.in_err-taken.ensures.err)
+    let fault = c.in_err-taken.field-0.0 in
+    let Refused : Asked → ShelfFault → Type 0 = g.S.Shelf.refuses g.N.Boarded.Naming.place in
+    let place = c.check.ensures.told.place ∙ c.in_ok-recovered.ensures.found.place ∙ c.requires.here in
+    let asked = want_or (Refused ListTables) fault (subst (λ (q : Place). g.S.Shelf.refuses q ListTables fault) place c.in_err-taken.ensures.refused) in
+    rw (p.1, p.2) (unlisted Refused g.S.Shelf.honest fault r.journal r.shape c.in_ok-version.version _ (g.S.Shelf.told c.check.new.shelf) _ l
+    (becomes_then _ _ _ c.in_ok-recovered.ensures.found c.check.ensures.told) c.in_err-taken.ensures.cause asked c.in_err-taken.ensures.err)
 
 pub returns-in_err-push_numbers-clause-refused : goal.returns-in_err-push_numbers-clause-refused
 returns-in_err-push_numbers-clause-refused g c =

@@ -1,12 +1,16 @@
 use Rattle.std.proofs.Common.{sym, ◌∙◌, ap, subst}
 use Rattle.lsm_codec.specs.Lists.{Has}
 use Rattle.lsm_levels.specs.Files.{Lie}
+use Rattle.lsm_shelf.specs.Asked.{Asked, IsWantOr}
+use Rattle.lsm_shelf.specs.declared.shelf_fault.ShelfFault.{ShelfFault}
 use Rattle.lsm_version.specs.Versions.{Levels}
 use Rattle.lsm_machine.specs.Law.{Law}
 use Rattle.lsm_slots.specs.Slots.{Published}
 use Rattle.lsm_live.specs.Booked.{Booked}
 use Rattle.lsm_journal.specs.Difference.{Difference, changed_by}
 use Rattle.lsm_journal.specs.Recorded.{IsRecorded}
+use Rattle.lsm_journal.specs.Sending.{asked_by}
+use Rattle.lsm_state.specs.Asked.{ChangeRefused}
 use Rattle.lsm_state.specs.Held.{HasInputs, Held}
 use Rattle.lsm_state.specs.Changing.{live_after, plain_after}
 use Rattle.lsm_state.proofs.ChangeLaws.{lawful_changed, next_rises}
@@ -27,3 +31,12 @@ invariant_of-self-2 g c =
       lawful_changed g.S.Shelf.honest g.N.Boarded.board h d c.args.out c.publish.new.self c.in-Ok.next c.take_out.new.live c.send-sent.new.self c.self.invariant.1
           after published c.take_out.ensures recorded rises inputs,
     )
+
+pub returns-in-Err-clause-asked : goal.returns-in-Err-clause-asked
+returns-in-Err-clause-asked g c =
+    let h : Held = record { options = c.self.inside.options; slots = c.self.inside.slots; snapshots = c.self.inside.snapshots; next = c.self.inside.next; next_ticket = c.self.inside.next_ticket; live = c.self.inside.live; journal = c.self.inside.journal; halted = c.self.inside.halted; pinners = c.self.inside.pinners.items } in
+    let d : Difference = c.args.change.now in
+    let Refused : Asked → ShelfFault → Type 0 = g.S.Shelf.refuses (g.S.Shelf.told c.args.shelf.now).place in
+    let back = ap (λ (x : Held). changed_by d x.slots.version) (sym c.self.view_is) in
+    let after = c.deref-2.ensures ∙ c.in_ok-first.ensures.first ∙ back in
+    subst (λ (x : Held). IsWantOr (ChangeRefused Refused x d) c.in-Err.fault) c.self.view_is (subst (λ (v : Levels). IsWantOr (Refused (asked_by d v h.next h.journal)) c.in-Err.fault) after c.in-Err.ensures.asked)

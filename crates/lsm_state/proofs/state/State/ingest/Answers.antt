@@ -1,10 +1,15 @@
-use Rattle.std.proofs.Common.{refl, arith}
+use Rattle.std.proofs.Common.{refl, ap, suc, subst, inl, inr, arith}
+use Rattle.lsm_shelf.specs.Told.{Place}
+use Rattle.lsm_shelf.specs.Asked.{Asked}
+use Rattle.lsm_shelf.specs.declared.shelf_fault.ShelfFault.{ShelfFault}
 use Rattle.lsm_shelf.specs.Told.{Told}
 use Rattle.lsm_table.specs.Registry.{Table}
 use Rattle.lsm_batch.specs.declared.write.Write.{Write}
 use Rattle.std.specs.Prelude.{List}
 use Rattle.lsm_state.specs.Held.{Held, plain}
-use Rattle.lsm_state.specs.Ingesting.{IsIngestRefusal, entries_of, last_of}
+use Rattle.lsm_state.specs.Asked.{ChangeRefused, IngestRefused, OnShelf, PutRefused}
+use Rattle.lsm_state.specs.Ingesting.{IsIngestRefusal, coming_in, entries_of, last_of}
+use Rattle.lsm_state.proofs.AskedLaws.{bytes_looked, change_alike, early_asked, on_more, put_looked, slot_asked}
 use Rattle.lsm_state.proofs.IngestLaws.{change_of, change_spent, entries_gained, err_is, event_after, inputs_grown, law_grown, numbered, numbered_spends, put_spends, refused_change, refused_put, slots_spend, suits_grown, table_of, version_stays}
 use Rattle.lsm_state.proofs.Removing.{on_err}
 use Rattle.lsm_state.proofs.state.State.ingest.Goals as goal
@@ -113,3 +118,49 @@ returns-in_err-change_version-clause-event_err g c =
     on_err c.from_residual-in_err-change_version.result
     (change_spent c.args.self.now c.find_slot.new.self c.put_batch.new.self c.change_version.new.self c.in_err-change_version.field-0.0 mid is c.find_slot.ensures.sought c.find_slot.ensures.rest c.in_ok-table.ensures.ok
     c.in_err-change_version.ensures.refused)
+
+pub returns-in_err-may_ingest-clause-asked : goal.returns-in_err-may_ingest-clause-asked
+returns-in_err-may_ingest-clause-asked g c =
+    let R : ShelfFault → Type 0 = IngestRefused (g.S.Shelf.refuses (g.S.Shelf.told c.args.shelf.now).place) c.args.self.now c.args.batch.now in
+    err_is (OnShelf R) c.from_residual.result c.in_err-may_ingest.field-0.0 c.from_residual.ensures.1 (early_asked R c.args.self.now c.args.batch.now c.in_err-may_ingest.field-0.0 c.in_err-may_ingest.ensures.refused)
+
+pub returns-in_err-slot-clause-asked : goal.returns-in_err-slot-clause-asked
+returns-in_err-slot-clause-asked g c =
+    let R : ShelfFault → Type 0 = IngestRefused (g.S.Shelf.refuses (g.S.Shelf.told c.args.shelf.now).place) c.args.self.now c.args.batch.now in
+    err_is (OnShelf R) c.from_residual-in_err-slot.result c.in_err-slot.field-0.0 c.from_residual-in_err-slot.ensures.1
+    (slot_asked R c.args.self.now.slots c.find_slot.new.self.slots c.in_err-slot.field-0.0 c.in_err-slot.ensures.refused)
+
+pub returns-in_err-table-clause-asked : goal.returns-in_err-table-clause-asked
+returns-in_err-table-clause-asked g c =
+    let Refused : Asked → ShelfFault → Type 0 = g.S.Shelf.refuses (g.S.Shelf.told c.args.shelf.now).place in
+    let h : Held = c.args.self.now in
+    let m : Held = c.find_slot.new.self in
+    let ws : List Write = c.args.batch.now in
+    err_is (OnShelf (IngestRefused Refused h ws)) c.from_residual-in_err-table.result c.in_err-table.field-0.0 c.from_residual-in_err-table.ensures.1
+    (on_more (PutRefused Refused m ws) (IngestRefused Refused h ws) (λ f r. inl (put_looked Refused h m ws f c.find_slot.ensures.rest c.find_slot.ensures.sought.looked.version r)) c.in_err-table.field-0.0
+    c.in_err-table.ensures.asked)
+
+pub returns-in_err-change_version-clause-asked : goal.returns-in_err-change_version-clause-asked
+returns-in_err-change_version-clause-asked g c =
+    let Refused : Asked → ShelfFault → Type 0 = g.S.Shelf.refuses (g.S.Shelf.told c.args.shelf.now).place in
+    let After : Asked → ShelfFault → Type 0 = g.S.Shelf.refuses (g.S.Shelf.told c.put_batch.new.shelf).place in
+    let h : Held = c.args.self.now in
+    let m : Held = c.find_slot.new.self in
+    let x : Held = c.put_batch.new.self in
+    let ws : List Write = c.args.batch.now in
+    let t : Table = c.in_ok-table.table in
+    let is = table_of h m ws t c.find_slot.ensures.rest c.find_slot.ensures.sought c.in_ok-table.ensures.table in
+    let version = version_stays h m x c.find_slot.ensures.sought c.in_ok-table.ensures.ok in
+    let same = numbered h m x c.find_slot.ensures.rest c.in_ok-table.ensures.ok in
+    let change = change_of h ws t c.in_ok-change.change c.last-before.result c.len.result c.in_ok-change.ensures c.last-before.ensures.last c.len.ensures in
+    let bytes = bytes_looked h m ws t c.find_slot.ensures.rest c.find_slot.ensures.sought.looked.version c.in_ok-table.ensures.bytes in
+    let place = c.in_ok-table.ensures.told.place in
+    err_is (OnShelf (IngestRefused Refused h ws)) c.from_residual-in_err-change_version.result c.in_err-change_version.field-0.0 c.from_residual-in_err-change_version.ensures.1
+    (on_more (ChangeRefused After x c.in_ok-change.change) (IngestRefused Refused h ws)
+    (λ f r. inr (
+      t,
+      is,
+      bytes,
+      change_alike Refused h x (suc h.next) c.in_ok-change.change (coming_in t (last_of h ws)) f version (ap (λ (z : Held). z.next) same) (ap (λ (z : Held). z.journal) same) change
+          (subst (λ (q : Place). ChangeRefused (g.S.Shelf.refuses q) x c.in_ok-change.change f) place r),
+    )) c.in_err-change_version.field-0.0 c.in_err-change_version.ensures.asked)

@@ -1,10 +1,12 @@
 use Rattle.std.proofs.Common.{◌≡◌, ℕ, ◌+◌, ◌<◌, ap, ◌∙◌, refl, sym, subst, inl, inr, arith}
 use Rattle.std.proofs.lemmas.Result.{err_from_is_err_and}
 use Rattle.lsm_codec.specs.Lists.{Has}
+use Rattle.lsm_shelf.specs.Told.{Place}
+use Rattle.lsm_shelf.specs.Asked.{IsWantOr}
 use Rattle.lsm_version.specs.Versions.{Levels, numbers_in}
 use Rattle.lsm_slots.specs.Slots.{Slotted}
 use Rattle.lsm_journal.specs.Recorded.{IsRecorded}
-use Rattle.lsm_journal.specs.Sending.{RollsOver}
+use Rattle.lsm_journal.specs.Sending.{RollsOver, started_by}
 use Rattle.lsm_state.specs.Opening.{IsBegun}
 use Rattle.lsm_state.proofs.OpenLaws.{lawful_opened, opened_made}
 use Rattle.lsm_state.proofs.OpenRefusals.{found_below, found_recorded, found_without_room}
@@ -40,6 +42,11 @@ pub returns-in_err-roll_over-clause-refused : goal.returns-in_err-roll_over-clau
 returns-in_err-roll_over-clause-refused g c =
     let p = err_from_is_err_and c.from_residual-in_err-roll_over.result c.from_residual-in_err-roll_over.ensures.1 in
     let f = c.in_ok-found.found in
+    let sv : c.in_ok-slots.slots.version ≡ f.version = ap (λ (s : Slotted). s.version) c.in_ok-slots.ensures in
+    let fault = c.in_err-roll_over.field-0.0 in
+    let place = c.in_ok-found.ensures.found.told.place ∙ c.requires.here in
+    let asked = subst (λ (v : Levels). IsWantOr (g.S.Shelf.refuses g.N.Boarded.Naming.place (started_by v f.next f.journal)) fault) (c.version.ensures.version ∙ sv)
+    (subst (λ (q : Place). IsWantOr (g.S.Shelf.refuses q (started_by c.version.result.now f.next f.journal)) fault) place c.in_err-roll_over.ensures.asked) in
     rw (p.1, p.2) (inr record {
       held = f.journal;
       version = f.version;
@@ -47,6 +54,7 @@ returns-in_err-roll_over-clause-refused g c =
       read = g.S.Shelf.told c.read.new.shelf;
       found = c.in_ok-found.ensures.found;
       cause = c.in_err-roll_over.ensures.cause;
+      asked = asked;
       told = c.in_err-roll_over.ensures.unsent;
     })
 

@@ -46,3 +46,11 @@ returns-clause-bytes g c =
       | in-Ok-put w ↦ ok_is (λ (t : Table). t.image ≡ table_bytes (sizes_of c.args.self.now.options) es) c.match-put.result w.in-Ok-put.table w.result-is (w.in-Ok-put.ensures.table.image ∙ bytes)
       | in-Err w ↦ none_ok (λ (t : Table). t.image ≡ table_bytes (sizes_of c.args.self.now.options) es) c.match-put.result _ w.result-is
     ]
+
+pub returns-clause-asked : goal.returns-clause-asked
+returns-clause-asked g c =
+    let last : c.last-first.result ≡ c.args.self.now.slots.version.last = c.last-first.ensures.last
+    ∙ (ap (λ (v : Levels). v.last) c.version.ensures.version ∙ ap (λ (x : Held). x.slots.version.last) c.self.view_is) in
+    let sizes : c.sizes.result ≡ sizes_of c.args.self.now.options = c.sizes.ensures ∙ ap (λ (x : Held). sizes_of x.options) c.self.view_is in
+    let bytes = built_as c.args.self.now c.args.batch.now c.sizes.result c.last-first.result c.in-Ok.image.bytes sizes last c.in-Ok.ensures.bytes in
+    search

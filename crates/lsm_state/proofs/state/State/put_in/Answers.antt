@@ -1,14 +1,19 @@
 use Rattle.std.proofs.Common.{◌≡◌, ℕ, Some, length, ◌∙◌, ap, sym, subst}
 use Rattle.lsm_codec.specs.Lists.{Has}
 use Rattle.lsm_levels.specs.Files.{Lie}
+use Rattle.lsm_shelf.specs.Asked.{Asked}
+use Rattle.lsm_shelf.specs.declared.shelf_fault.ShelfFault.{ShelfFault}
 use Rattle.lsm_machine.specs.Law.{Law}
 use Rattle.lsm_version.specs.Versions.{Levels}
 use Rattle.lsm_live.specs.Booked.{Booked}
 use Rattle.lsm_journal.specs.Difference.{Difference, changed_by}
 use Rattle.lsm_merge.specs.Work.{Done, Work}
+use Rattle.lsm_state.specs.Asked.{ChangeRefused, InstallRefused, OnShelf}
 use Rattle.lsm_state.specs.Changing.{ChangesVersion, live_after, plain_after}
 use Rattle.lsm_state.specs.Held.{HasInputs, Held}
 use Rattle.lsm_state.specs.Installing.{IsInstallChange}
+use Rattle.lsm_state.proofs.AskedLaws.{on_more}
+use Rattle.lsm_state.proofs.IngestLaws.{err_is}
 use Rattle.lsm_state.proofs.InstallLaws.{answers_of, input_keys, inputs_installed, installing, installs, law_installed, same_installed, suits_installed, whole_installed}
 use Rattle.lsm_state.proofs.state.State.put_in.Goals as goal
 
@@ -84,3 +89,14 @@ returns-clause-event g c =
     let new : Held = c.change_version.new.self in
     installing g.S.Shelf.honest h new x d.work.ticket was is (installs c.changed_files.ensures g.S.Shelf.honest h d x b.0 seven b.1 c.job.ensures.finished i)
     (subst (λ (n : ℕ). ChangesVersion h new x (Some n) was is) ticket c.in_ok-change_version.ensures.ok)
+
+pub returns-in_err-change_version-clause-asked : goal.returns-in_err-change_version-clause-asked
+returns-in_err-change_version-clause-asked g c =
+    let Refused : Asked → ShelfFault → Type 0 = g.S.Shelf.refuses (g.S.Shelf.told c.args.shelf.now).place in
+    let h : Held = c.args.self.now in
+    let d : Done = c.args.done.now in
+    let x : Difference = c.in_ok-change.change in
+    let same : c.version.result.now ≡ h.slots.version = c.version.ensures.version ∙ ap (λ (s : Held). s.slots.version) c.self.view_is in
+    let i : IsInstallChange d h.slots.version.last x = subst (λ (n : ℕ). IsInstallChange d n x) (c.last-last.ensures.last ∙ ap (λ (v : Levels). v.last) same) c.in_ok-change.ensures in
+    err_is (OnShelf (InstallRefused Refused h d)) c.from_residual-in_err-change_version.result c.in_err-change_version.field-0.0 c.from_residual-in_err-change_version.ensures.1
+    (on_more (ChangeRefused Refused h x) (InstallRefused Refused h d) (λ f r. (x, i, r)) c.in_err-change_version.field-0.0 c.in_err-change_version.ensures.asked)

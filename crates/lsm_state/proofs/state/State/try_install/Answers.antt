@@ -1,10 +1,15 @@
 use Rattle.std.proofs.Common.{refl, sym, subst, inr, arith}
 use Rattle.std.proofs.lemmas.Result.{IfErr-weaker, on_ok_weaker}
+use Rattle.lsm_shelf.specs.Asked.{Asked}
+use Rattle.lsm_shelf.specs.declared.shelf_fault.ShelfFault.{ShelfFault}
 use Rattle.lsm_merge.specs.Work.{Done}
+use Rattle.lsm_state.specs.Asked.{InstallRefused, OnShelf}
 use Rattle.lsm_state.specs.Held.{Held}
 use Rattle.lsm_state.specs.Changing.{HasSlot, IsChangeRefusal}
 use Rattle.lsm_state.specs.Installing.{IsInstallRefusal}
 use Rattle.lsm_state.specs.declared.state_fault.StateFault.{StateFault}
+use Rattle.lsm_state.proofs.AskedLaws.{at_once_asked, install_looked, on_more, slot_asked}
+use Rattle.lsm_state.proofs.IngestLaws.{err_is}
 use Rattle.lsm_state.proofs.InstallLaws.{answers_looked, installed_looked, installing_looked, later_refused, later_spends, looked_spends, slot_refused}
 use Rattle.lsm_state.proofs.ChangeLaws.{on_err_from}
 use Rattle.lsm_state.proofs.Removing.{on_err}
@@ -66,3 +71,23 @@ returns-clause-event_err g c =
     let is = g.S.Shelf.told c.put_in.new.shelf in
     on_err_from c.put_in.result (λ (e : StateFault). IsChangeRefusal mid new e was is)
     (λ e k. later_spends h mid new e was is c.in_ok-slot.ensures.rest (c.in_ok-slot.ensures.sought).looked k) c.put_in.ensures.refused
+
+pub returns-in_err-admit-clause-asked : goal.returns-in_err-admit-clause-asked
+returns-in_err-admit-clause-asked g c =
+    let R : ShelfFault → Type 0 = InstallRefused (g.S.Shelf.refuses (g.S.Shelf.told c.args.shelf.now).place) c.args.self.now c.args.done.now in
+    err_is (OnShelf R) c.from_residual.result c.in_err-admit.field-0.0 c.from_residual.ensures.1 (at_once_asked R c.args.self.now c.args.done.now c.in_err-admit.field-0.0 c.in_err-admit.ensures.refused)
+
+pub returns-in_err-slot-clause-asked : goal.returns-in_err-slot-clause-asked
+returns-in_err-slot-clause-asked g c =
+    let R : ShelfFault → Type 0 = InstallRefused (g.S.Shelf.refuses (g.S.Shelf.told c.args.shelf.now).place) c.args.self.now c.args.done.now in
+    err_is (OnShelf R) c.from_residual-in_err-slot.result c.in_err-slot.field-0.0 c.from_residual-in_err-slot.ensures.1
+    (slot_asked R c.args.self.now.slots c.find_slot.new.self.slots c.in_err-slot.field-0.0 c.in_err-slot.ensures.refused)
+
+pub returns-clause-asked : goal.returns-clause-asked
+returns-clause-asked g c =
+    let Refused : Asked → ShelfFault → Type 0 = g.S.Shelf.refuses (g.S.Shelf.told c.args.shelf.now).place in
+    let h : Held = c.args.self.now in
+    let mid : Held = c.find_slot.new.self in
+    let d : Done = c.args.done.now in
+    IfErr-weaker c.put_in.result (OnShelf (InstallRefused Refused mid d)) (OnShelf (InstallRefused Refused h d))
+    (λ e k. on_more (InstallRefused Refused mid d) (InstallRefused Refused h d) (λ f r. install_looked Refused h mid d f c.in_ok-slot.ensures.rest (c.in_ok-slot.ensures.sought).looked.version r) e k) c.put_in.ensures.asked
