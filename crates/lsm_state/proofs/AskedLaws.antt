@@ -1,5 +1,7 @@
 -- Which call the shelf refused where a call of the state is refused.
-use Rattle.std.proofs.Common.{◌≡◌, ◌==◌, ◌↔◌, ℕ, suc, true, not, List, subst, ap, refl}
+use Rattle.std.proofs.Common.{◌≡◌, ◌==◌, ◌↔◌, ℕ, suc, true, not, List, subst, sym, ap, refl}
+use Rattle.std.specs.Prelude.{Result, Ok, Err, IfErr}
+use Rattle.std.proofs.lemmas.Bool.{eq-eqb}
 use Rattle.lsm_codec.specs.Lists.{Has}
 use Rattle.lsm_codec.proofs.CallerLemmas.{any_at, filter_has}
 use Rattle.lsm_shelf.specs.Asked.{Asked, Put}
@@ -24,6 +26,15 @@ use Rattle.lsm_state.specs.Installing.{IsInstallChange, IsRefusedAtOnce}
 use Rattle.lsm_state.specs.Options.{sizes_of}
 use Rattle.lsm_state.specs.declared.state_fault.StateFault.{StateFault}
 use Rattle.lsm_state.specs.declared.state_fault.StateFault.TheVariants as state
+
+-- ---- answers
+
+pub ok_asked : {A : Type 0} (P : StateFault → Type 0) (r : Result A StateFault) (x : A) → r ≡ Ok x → IfErr r P
+ok_asked P (Ok y) x is = tt
+ok_asked P (Err e) x is = absurd (cc)
+
+pub err_asked : {A : Type 0} (P : StateFault → Type 0) (r : Result A StateFault) (e : StateFault) → r ≡ Err e → P e → IfErr r P
+err_asked P r e is p = subst (λ x. IfErr x P) (sym is) p
 
 -- ---- refusals that are not the shelf's
 
@@ -99,8 +110,5 @@ install_looked Refused h m d f looked version r = (
 pub outside_free : (h : Held) (kept listed : List ℕ) → ((n : ℕ) → Has kept n ↔ IsKeptNumber h n) → (n : ℕ) → Has (outside kept listed) n → IsKeptNumber h n → ⊥
 outside_free h kept listed are n out k =
     let other = (filter_has (λ m. not (is_in kept m)) listed n out).1 in
-    let found : is_in kept n ≡ true = any_at (λ m. m == n) kept n ((are n).1 k) (same n) in
+    let found : is_in kept n ≡ true = any_at (λ m. m == n) kept n ((are n).1 k) (eq-eqb n n refl) in
     absurd (cc)
-  where
-    same : (m : ℕ) → (m == m) ≡ true
-    same m = search

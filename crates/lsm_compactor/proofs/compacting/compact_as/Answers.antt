@@ -1,4 +1,4 @@
-use Rattle.std.proofs.Common.{◌≡◌, inl, inr, refl, rules}
+use Rattle.std.proofs.Common.{◌≡◌, ℕ, List, inl, inr, refl, rules}
 use Rattle.std.specs.Io.KnownBytes.{Appends}
 use Rattle.std.proofs.lemmas.Result.{err_from_is_err_and}
 use Rattle.lsm_compactor.specs.Compacting.{installed_by, installed_text}
@@ -14,13 +14,15 @@ pub returns-in_err-done-clause-fault : goal.returns-in_err-done-clause-fault
 returns-in_err-done-clause-fault g c =
     let p = err_from_is_err_and c.from_residual-in_err-done.result c.from_residual-in_err-done.ensures.1 in
     let count : c.in_ok-store.field-0.shelves.len ≡ c.args.options.workers = search rules in
-    rw (p.1, p.2) (unfinished _ _ g.S.Shelf.honest g.N.Boarded.board c.args.options.workers c.in_ok-store.field-0.shelves.len c.in_err-done.field-0.0 _ _ count c.in_ok-store.ensures.opened c.in_err-done.ensures.refused)
+    let Stored : ℕ → List ℕ → Type 0 = λ number image. (r : g.row.S-Receipt.Denot) × g.S.Shelf.is_of g.N.Naming.place r × (g.S.Receipt.Slip.number r ≡ number) × (g.S.Receipt.Slip.image r ≡ image) in
+    rw (p.1, p.2) (unfinished Stored (g.S.Shelf.refuses g.N.Naming.place) g.S.Shelf.honest g.N.Boarded.board c.args.options.workers c.in_ok-store.field-0.shelves.len c.in_err-done.field-0.0 _ _ count c.in_ok-store.ensures.opened c.in_err-done.ensures.refused)
 
 pub returns-in_err-tidy-clause-fault : goal.returns-in_err-tidy-clause-fault
 returns-in_err-tidy-clause-fault g c =
     let p = err_from_is_err_and c.from_residual-in_err-tidy.result c.from_residual-in_err-tidy.ensures.1 in
     let count : c.in_ok-store.field-0.shelves.len ≡ c.args.options.workers = search rules in
-    rw (p.1, p.2) (unswept _ _ g.S.Shelf.honest g.N.Boarded.board c.args.options.workers c.in_ok-store.field-0.shelves.len c.in_ok-done.done.items c.in_err-tidy.field-0.0 _ _ _ count c.in_ok-store.ensures.opened
+    let Stored : ℕ → List ℕ → Type 0 = λ number image. (r : g.row.S-Receipt.Denot) × g.S.Shelf.is_of g.N.Naming.place r × (g.S.Receipt.Slip.number r ≡ number) × (g.S.Receipt.Slip.image r ≡ image) in
+    rw (p.1, p.2) (unswept Stored (g.S.Shelf.refuses g.N.Naming.place) g.S.Shelf.honest g.N.Boarded.board c.args.options.workers c.in_ok-store.field-0.shelves.len c.in_ok-done.done.items c.in_err-tidy.field-0.0 _ _ _ count c.in_ok-store.ensures.opened
     c.in_ok-done.ensures.ends c.in_ok-done.ensures.faultless c.in_err-tidy.ensures.refused)
 
 pub returns-clause-fault : goal.returns-clause-fault

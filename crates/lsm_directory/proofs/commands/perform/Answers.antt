@@ -1,3 +1,4 @@
+use Rattle.std.proofs.Common.{◌≡◌, ℕ, List}
 use Rattle.std.proofs.lemmas.Result.{err_from_is_err_and}
 use Rattle.lsm_directory.proofs.Outcomes.{is_done, is_fault, is_left, keeps_leaves, memory_leaves}
 use Rattle.lsm_directory.proofs.commands.perform.Goals as goal
@@ -8,7 +9,8 @@ returns-clause-done g c =
 
 pub returns-clause-fault : goal.returns-clause-fault
 returns-clause-fault g c =
-    is_fault c.perform_on.result _ _ g.S.Shelf.honest _ _ _ _ _ _ _ c.perform_on.ensures.told c.in_ok-opened.ensures.opened c.perform_on.ensures.fault
+    let Stored : ℕ → List ℕ → Type 0 = λ number image. (r : g.row.S-Receipt.Denot) × g.S.Shelf.is_of g.N.Naming.place r × (g.S.Receipt.Slip.number r ≡ number) × (g.S.Receipt.Slip.image r ≡ image) in
+    is_fault c.perform_on.result Stored (g.S.Shelf.refuses g.N.Naming.place) g.S.Shelf.honest _ _ _ _ _ _ _ c.perform_on.ensures.told c.in_ok-opened.ensures.opened c.perform_on.ensures.fault
 
 pub returns-clause-left : goal.returns-clause-left
 returns-clause-left g c =
@@ -18,7 +20,8 @@ returns-clause-left g c =
 pub returns-in_err-opened-clause-left : goal.returns-in_err-opened-clause-left
 returns-in_err-opened-clause-left g c =
     let p = err_from_is_err_and c.from_residual-in_err-opened.result c.from_residual-in_err-opened.ensures.1 in
-    rw (p.1, p.2) (keeps_leaves c.args.request.now.form c.args.request.now.command.now g.S.Shelf.honest _ _ c.in_err-opened.field-0.0 _ _ _ c.in_err-opened.ensures.refused)
+    let Stored : ℕ → List ℕ → Type 0 = λ number image. (r : g.row.S-Receipt.Denot) × g.S.Shelf.is_of g.N.Naming.place r × (g.S.Receipt.Slip.number r ≡ number) × (g.S.Receipt.Slip.image r ≡ image) in
+    rw (p.1, p.2) (keeps_leaves c.args.request.now.form c.args.request.now.command.now g.S.Shelf.honest Stored (g.S.Shelf.refuses g.N.Naming.place) c.in_err-opened.field-0.0 _ _ _ c.in_err-opened.ensures.refused)
 
 pub returns-in_err-shared-clause-left : goal.returns-in_err-shared-clause-left
 returns-in_err-shared-clause-left g c =

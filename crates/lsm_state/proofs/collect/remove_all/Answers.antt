@@ -1,4 +1,5 @@
 use Rattle.std.proofs.Common.{◌+◌, get_or, sym, subst, ◌∙◌, arith}
+use Rattle.std.proofs.lemmas.List.{get_or_default}
 use Rattle.std.proofs.lemmas.Result.{err_from_is_err_and}
 use Rattle.lsm_shelf.specs.Told.{Place}
 use Rattle.lsm_shelf.specs.Asked.{Remove}
@@ -23,7 +24,7 @@ returns-in_err-remove-clause-asked g c =
     let n = get_or ns c.loop-number.number-index 0 in
     rw (p.1, p.2) (
       n,
-      has_at ns c.loop-number.number-index 0 c.loop-number-test.true,
+      has_at ns c.loop-number.number-index n c.loop-number-test.true (get_or_default ns c.loop-number.number-index 0 n c.loop-number-test.true),
       subst (λ (q : Place). g.S.Shelf.refuses q (Remove n) c.in_err-remove.field-0.0) c.loop-number.invariant.gone.asked.place c.in_err-remove.ensures.refused,
     )
 

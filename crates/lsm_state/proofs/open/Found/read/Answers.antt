@@ -40,7 +40,7 @@ returns-in_err-taken-clause-refused g c =
     let l = loaded g.S.Shelf.honest r.rest r.journal r.shape c.in_ok-version.version c.recovered_is_recorded.ensures c.in_ok-recovered.ensures.recovered c.in_ok-version.ensures.shape c.in_ok-version.ensures.numbers
     c.in_ok-version.ensures.settled c.in_ok-version.ensures.judged c.in_ok-version.ensures.sound in
     let fault = c.in_err-taken.field-0.0 in
-    let Refused : Asked → ShelfFault → Type 0 = g.S.Shelf.refuses g.N.Boarded.Naming.place in
+    let Refused : Asked → ShelfFault → Type 0 = g.S.Shelf.refuses g.N.Naming.place in
     let place = c.check.ensures.told.place ∙ c.in_ok-recovered.ensures.found.place ∙ c.requires.here in
     let asked = want_or (Refused ListTables) fault (subst (λ (q : Place). g.S.Shelf.refuses q ListTables fault) place c.in_err-taken.ensures.refused) in
     rw (p.1, p.2) (unlisted Refused g.S.Shelf.honest fault r.journal r.shape c.in_ok-version.version _ (g.S.Shelf.told c.check.new.shelf) _ l

@@ -45,7 +45,7 @@ returns-in_err-roll_over-clause-refused g c =
     let sv : c.in_ok-slots.slots.version ≡ f.version = ap (λ (s : Slotted). s.version) c.in_ok-slots.ensures in
     let fault = c.in_err-roll_over.field-0.0 in
     let place = c.in_ok-found.ensures.found.told.place ∙ c.requires.here in
-    let asked = subst (λ (v : Levels). IsWantOr (g.S.Shelf.refuses g.N.Boarded.Naming.place (started_by v f.next f.journal)) fault) (c.version.ensures.version ∙ sv)
+    let asked = subst (λ (v : Levels). IsWantOr (g.S.Shelf.refuses g.N.Naming.place (started_by v f.next f.journal)) fault) (c.version.ensures.version ∙ sv)
     (subst (λ (q : Place). IsWantOr (g.S.Shelf.refuses q (started_by c.version.result.now f.next f.journal)) fault) place c.in_err-roll_over.ensures.asked) in
     rw (p.1, p.2) (inr record {
       held = f.journal;

@@ -1,15 +1,19 @@
 use Rattle.std.proofs.Common.{◌≡◌, ℕ, refl, ◌∙◌, ap, subst, inl, Err}
 use Rattle.std.specs.Prelude.{List}
 use Rattle.lsm_codec.specs.Entries.{Entry}
+use Rattle.lsm_shelf.specs.Asked.{IsWantOr, Put}
+use Rattle.lsm_shelf.specs.declared.shelf_fault.ShelfFault.{ShelfFault}
 use Rattle.lsm_table.specs.Registry.{Table}
 use Rattle.lsm_table.specs.TableBuilding.{table_bytes}
 use Rattle.lsm_version.specs.Versions.{Levels}
 use Rattle.lsm_block.specs.declared.build_fault.BuildFault.{BuildFault}
 use Rattle.lsm_batch.specs.Images.{IsImage, IsPutAs}
 use Rattle.lsm_batch.specs.Batches.{entries_from}
+use Rattle.lsm_state.specs.Asked.{OnShelf, PutRefused}
 use Rattle.lsm_state.specs.Held.{Held}
 use Rattle.lsm_state.specs.Ingesting.{IsTableOf, entries_of}
 use Rattle.lsm_state.specs.Options.{sizes_of}
+use Rattle.lsm_state.proofs.AskedLaws.{err_asked, ok_asked}
 use Rattle.lsm_state.proofs.IngestLaws.{built_as, next_of, none_ok, ok_is, passes, table_put}
 use Rattle.lsm_state.proofs.state.State.put_batch.Goals.{in-Ok-put, in-Err}
 use Rattle.lsm_state.proofs.state.State.put_batch.Goals as goal
@@ -53,4 +57,12 @@ returns-clause-asked g c =
     ∙ (ap (λ (v : Levels). v.last) c.version.ensures.version ∙ ap (λ (x : Held). x.slots.version.last) c.self.view_is) in
     let sizes : c.sizes.result ≡ sizes_of c.args.self.now.options = c.sizes.ensures ∙ ap (λ (x : Held). sizes_of x.options) c.self.view_is in
     let bytes = built_as c.args.self.now c.args.batch.now c.sizes.result c.last-first.result c.in-Ok.image.bytes sizes last c.in-Ok.ensures.bytes in
-    search
+    let number = ap (λ (x : Held). x.next) c.self.view_is in
+    let R : ShelfFault → Type 0 = PutRefused (g.S.Shelf.refuses (g.S.Shelf.told c.args.shelf.now).place) c.args.self.now c.args.batch.now in
+    elim c.match-put.branch [
+      | in-Ok-put w ↦ ok_asked (OnShelf R) c.match-put.result w.in-Ok-put.table w.result-is
+      | in-Err w ↦ (
+          let asked = subst (λ (n : ℕ). IsWantOr (g.S.Shelf.refuses (g.S.Shelf.told c.args.shelf.now).place (Put n c.in-Ok.image.bytes)) w.in-Err.fault) number w.in-Err.ensures.asked in
+          err_asked (OnShelf R) c.match-put.result _ w.result-is
+          (subst (λ (b : List ℕ). IsWantOr (g.S.Shelf.refuses (g.S.Shelf.told c.args.shelf.now).place (Put c.args.self.now.next b)) w.in-Err.fault) bytes asked))
+    ]
