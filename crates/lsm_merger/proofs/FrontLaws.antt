@@ -1,11 +1,12 @@
 -- User keys that have the same bytes at their fronts.
-use Rattle.std.proofs.Common.{◌≡◌, ℕ, zero, suc, ◌+◌, ◌≤◌, min, Bool, true, false, eqb, List, [], ◌∷◌, ◌++◌, length, take, drop, get_or, Ordering, refl, sym, ap, ◌∙◌, arith}
+use Rattle.std.proofs.Common.{◌≡◌, ℕ, zero, suc, ◌+◌, ◌<◌, ◌≤◌, min, Bool, true, false, cond, eqb, List, [], ◌∷◌, ◌++◌, length, take, drop, get_or, Ordering, Less, Equal, Greater, nat_lt, slice_index, ◌⊎◌, inl, inr, refl, sym, ap, ◌∙◌, subst, arith}
 use Rattle.std.specs.Ordering.{nat_cmp, ordering_then}
 use Rattle.std.specs.Cmp.Lexicographic.{slice_cmp}
-use Rattle.std.proofs.lemmas.Bool.{eqb-true}
+use Rattle.std.proofs.lemmas.Bool.{eqb-true, eq-eqb}
+use Rattle.std.specs.Cmp.{nat_cmp_is}
 use Rattle.std.proofs.lemmas.Cmp.{nat_cmp_total, tied_itself}
 use Rattle.std.proofs.lemmas.List.{take-take, take-append-drop}
-use Rattle.lsm_codec.specs.Keys.{UserKey}
+use Rattle.lsm_codec.specs.Keys.{UserKey, then_by}
 use Rattle.lsm_block.specs.Building.{common, one_more}
 use Rattle.lsm_block.specs.Standing.{SharesFront}
 
@@ -15,7 +16,7 @@ shares_none a b = record { same = refl; first = omega arith; second = omega arit
 pub shares_all : (a : UserKey) → SharesFront (length a) a a
 shares_all a = record { same = refl; first = omega arith; second = omega arith }
 
-shares_less : (m n : ℕ) (a b : UserKey) → m ≤ n → SharesFront n a b → SharesFront m a b
+pub shares_less : (m n : ℕ) (a b : UserKey) → m ≤ n → SharesFront n a b → SharesFront m a b
 shares_less m n a b le s = record {
   same = sym (take-take m n a le) ∙ ap (take m) s.same ∙ take-take m n b le;
   first = (let x = s.first in omega arith);
@@ -25,7 +26,7 @@ shares_less m n a b le s = record {
 pub shares_swapped : (n : ℕ) (a b : UserKey) → SharesFront n a b → SharesFront n b a
 shares_swapped n a b s = record { same = sym s.same; first = s.second; second = s.first }
 
-shares_through : (n : ℕ) (a b c : UserKey) → SharesFront n a b → SharesFront n b c → SharesFront n a c
+pub shares_through : (n : ℕ) (a b c : UserKey) → SharesFront n a b → SharesFront n b c → SharesFront n a c
 shares_through n a b c s t = record { same = s.same ∙ t.same; first = s.first; second = t.second }
 
 -- a key that shares a front with one, and another one with that: the lesser front with both
@@ -76,6 +77,142 @@ cmp_behind (suc n) (x ∷ a) (y ∷ b) s =
     let one : x ≡ y = ap (λ (l : List ℕ). get_or l 0 0) s.same in
     cmp_behind n a b rest
     ∙ sym (ap (λ (z : ℕ). ordering_then (nat_cmp x z) (slice_cmp nat_cmp a b)) (sym one) ∙ ap (λ (o : Ordering). ordering_then o (slice_cmp nat_cmp a b)) (tied_itself nat_cmp_total x))
+
+-- the first bytes tell the order where they differ, or else the lengths where one has none
+pub cmp_lengths : (a b : UserKey) → (length a ≡ 0) ⊎ (length b ≡ 0) → nat_cmp (length a) (length b) ≡ slice_cmp nat_cmp a b
+cmp_lengths [] [] h = refl
+cmp_lengths [] (y ∷ b) h = sym (nat_cmp_is 0 (suc (length b)) Less (omega arith))
+cmp_lengths (x ∷ a) [] h = sym (nat_cmp_is (suc (length a)) 0 Greater (omega arith))
+cmp_lengths (x ∷ a) (y ∷ b) h = elim h [
+  | inl e ↦ absurd (omega (arith, e))
+  | inr e ↦ absurd (omega (arith, e))
+]
+
+apart : (lt eq : Bool) (o : Ordering) → eq ≡ false → ordering_then (cond lt Less (cond eq Equal Greater)) o ≡ cond lt Less (cond eq Equal Greater)
+apart true eq o h = refl
+apart false true o h = absurd cc
+apart false false o h = refl
+
+pub cmp_first : (a b : UserKey) → 0 < length a → 0 < length b → common a b ≡ 0 → nat_cmp (slice_index a 0) (slice_index b 0) ≡ slice_cmp nat_cmp a b
+unfolding common
+cmp_first [] b p q h = absurd (omega (arith, p))
+cmp_first (x ∷ a) [] p q h = absurd (omega (arith, q))
+cmp_first (x ∷ a) (y ∷ b) p q h = sym (apart (nat_lt x y) (eqb x y) (slice_cmp nat_cmp a b) (differ (eqb x y) h))
+  where
+    differ : (t : Bool) → one_more t (common a b) ≡ 0 → t ≡ false
+    differ true e = absurd (omega (arith, e))
+    differ false e = refl
+
+-- what both have in common, by a front that they share
+pub common_behind : (n : ℕ) (a b : UserKey) → SharesFront n a b → common a b ≡ n + common (drop n a) (drop n b)
+unfolding common
+common_behind zero a b s = omega arith
+common_behind (suc n) [] b s = (let x = s.first in absurd (omega arith))
+common_behind (suc n) (x ∷ a) [] s = (let x = s.second in absurd (omega arith))
+common_behind (suc n) (x ∷ a) (y ∷ b) s =
+    let rest : SharesFront n a b = record { same = ap (drop 1) s.same; first = (let x = s.first in omega arith); second = (let x = s.second in omega arith) } in
+    let one : x ≡ y = ap (λ (l : List ℕ). get_or l 0 0) s.same in
+    let behind = common_behind n a b rest in
+    let more : suc (common a b) ≡ suc n + common (drop n a) (drop n b) = omega (arith, behind) in
+    ap (λ (t : Bool). one_more t (common a b)) (eq-eqb x y one) ∙ more
+
+pub common_none_first : (b : UserKey) → 0 ≡ common [] b
+unfolding common
+common_none_first b = refl
+
+pub common_none_second : (a : UserKey) → 0 ≡ common a []
+unfolding common
+common_none_second [] = refl
+common_none_second (x ∷ a) = refl
+
+-- what both have in common is none of what stands behind it
+pub common_no_more : (a b : UserKey) → common (drop (common a b) a) (drop (common a b) b) ≡ 0
+common_no_more a b = (let e = common_behind (common a b) a b (shares_common a b) in omega (arith, e))
+
+-- ---- a key that shares more with the one before it than that has in common with a third: to the
+-- third it stands as the one before it does
+
+first_byte : (n : ℕ) (x y : ℕ) (a b : UserKey) → SharesFront (suc n) (x ∷ a) (y ∷ b) → x ≡ y
+first_byte n x y a b s = ap (λ (l : List ℕ). get_or l 0 0) s.same
+
+behind_byte : (n : ℕ) (x y : ℕ) (a b : UserKey) → SharesFront (suc n) (x ∷ a) (y ∷ b) → SharesFront n a b
+behind_byte n x y a b s = record { same = ap (drop 1) s.same; first = (let x = s.first in omega arith); second = (let x = s.second in omega arith) }
+
+pub common_kept : (n : ℕ) (u v w : UserKey) → SharesFront n u v → common u w < n → common v w ≡ common u w
+unfolding common
+common_kept zero u v w s h = absurd (omega (arith, h))
+common_kept (suc n) [] v w s h = (let x = s.first in absurd (omega arith))
+common_kept (suc n) (x ∷ a) [] w s h = (let x = s.second in absurd (omega arith))
+common_kept (suc n) (x ∷ a) (y ∷ b) [] s h = refl
+common_kept (suc n) (x ∷ a) (y ∷ b) (z ∷ c) s h =
+    subst (λ (first : ℕ). one_more (eqb first z) (common b c) ≡ one_more (eqb x z) (common a c)) (first_byte n x y a b s)
+    (next (eqb x z) h (λ less. common_kept n a b c (behind_byte n x y a b s) less))
+  where
+    next : (t : Bool) → one_more t (common a c) < suc n → (common a c < n → common b c ≡ common a c) → one_more t (common b c) ≡ one_more t (common a c)
+    next true less behind = ap suc (behind (omega (arith, less)))
+    next false less behind = refl
+
+pub common_kept_by : (n : ℕ) (u v w : UserKey) → SharesFront n u v → common w u < n → common w v ≡ common w u
+unfolding common
+common_kept_by zero u v w s h = absurd (omega (arith, h))
+common_kept_by (suc n) [] v w s h = (let x = s.first in absurd (omega arith))
+common_kept_by (suc n) (x ∷ a) [] w s h = (let x = s.second in absurd (omega arith))
+common_kept_by (suc n) (x ∷ a) (y ∷ b) [] s h = refl
+common_kept_by (suc n) (x ∷ a) (y ∷ b) (z ∷ c) s h =
+    subst (λ (first : ℕ). one_more (eqb z first) (common c b) ≡ one_more (eqb z x) (common c a)) (first_byte n x y a b s)
+    (next (eqb z x) h (λ less. common_kept_by n a b c (behind_byte n x y a b s) less))
+  where
+    next : (t : Bool) → one_more t (common c a) < suc n → (common c a < n → common c b ≡ common c a) → one_more t (common c b) ≡ one_more t (common c a)
+    next true less behind = ap suc (behind (omega (arith, less)))
+    next false less behind = refl
+
+tied : (x z : ℕ) (o : Ordering) → eqb x z ≡ true → ordering_then (nat_cmp x z) o ≡ o
+tied x z o h = ap (λ (y : ℕ). ordering_then (nat_cmp x y) o) (sym (eqb-true x z h)) ∙ ap (λ (r : Ordering). ordering_then r o) (tied_itself nat_cmp_total x)
+
+-- an order that bytes tell is none that what stands behind them tells
+told : (lt eq : Bool) (o p s t : Ordering) → eq ≡ false
+    → then_by (ordering_then (cond lt Less (cond eq Equal Greater)) o) s ≡ then_by (ordering_then (cond lt Less (cond eq Equal Greater)) p) t
+told true eq o p s t h = refl
+told false true o p s t h = absurd cc
+told false false o p s t h = refl
+
+pub order_kept : (n : ℕ) (u v w : UserKey) (s t : Ordering) → SharesFront n u v → common u w < n → then_by (slice_cmp nat_cmp v w) t ≡ then_by (slice_cmp nat_cmp u w) s
+unfolding common
+order_kept zero u v w s t f h = absurd (omega (arith, h))
+order_kept (suc n) [] v w s t f h = (let x = f.first in absurd (omega arith))
+order_kept (suc n) (x ∷ a) [] w s t f h = (let x = f.second in absurd (omega arith))
+order_kept (suc n) (x ∷ a) (y ∷ b) [] s t f h = refl
+order_kept (suc n) (x ∷ a) (y ∷ b) (z ∷ c) s t f h =
+    subst (λ (first : ℕ). then_by (ordering_then (nat_cmp first z) (slice_cmp nat_cmp b c)) t ≡ then_by (ordering_then (nat_cmp x z) (slice_cmp nat_cmp a c)) s) (first_byte n x y a b f)
+    (next (eqb x z) refl h (λ less. order_kept n a b c s t (behind_byte n x y a b f) less))
+  where
+    next : (e : Bool) → eqb x z ≡ e → one_more e (common a c) < suc n
+        → (common a c < n → then_by (slice_cmp nat_cmp b c) t ≡ then_by (slice_cmp nat_cmp a c) s)
+        → then_by (ordering_then (nat_cmp x z) (slice_cmp nat_cmp b c)) t ≡ then_by (ordering_then (nat_cmp x z) (slice_cmp nat_cmp a c)) s
+    next true e less behind =
+        ap (λ (o : Ordering). then_by o t) (tied x z (slice_cmp nat_cmp b c) e)
+        ∙ behind (omega (arith, less))
+        ∙ sym (ap (λ (o : Ordering). then_by o s) (tied x z (slice_cmp nat_cmp a c) e))
+    next false e less behind = told (nat_lt x z) (eqb x z) (slice_cmp nat_cmp b c) (slice_cmp nat_cmp a c) t s e
+
+pub order_kept_by : (n : ℕ) (u v w : UserKey) (s t : Ordering) → SharesFront n u v → common w u < n → then_by (slice_cmp nat_cmp w v) t ≡ then_by (slice_cmp nat_cmp w u) s
+unfolding common
+order_kept_by zero u v w s t f h = absurd (omega (arith, h))
+order_kept_by (suc n) [] v w s t f h = (let x = f.first in absurd (omega arith))
+order_kept_by (suc n) (x ∷ a) [] w s t f h = (let x = f.second in absurd (omega arith))
+order_kept_by (suc n) (x ∷ a) (y ∷ b) [] s t f h = refl
+order_kept_by (suc n) (x ∷ a) (y ∷ b) (z ∷ c) s t f h =
+    subst (λ (first : ℕ). then_by (ordering_then (nat_cmp z first) (slice_cmp nat_cmp c b)) t ≡ then_by (ordering_then (nat_cmp z x) (slice_cmp nat_cmp c a)) s) (first_byte n x y a b f)
+    (next (eqb z x) refl h (λ less. order_kept_by n a b c s t (behind_byte n x y a b f) less))
+  where
+    next : (e : Bool) → eqb z x ≡ e → one_more e (common c a) < suc n
+        → (common c a < n → then_by (slice_cmp nat_cmp c b) t ≡ then_by (slice_cmp nat_cmp c a) s)
+        → then_by (ordering_then (nat_cmp z x) (slice_cmp nat_cmp c b)) t ≡ then_by (ordering_then (nat_cmp z x) (slice_cmp nat_cmp c a)) s
+    next true e less behind =
+        ap (λ (o : Ordering). then_by o t) (tied z x (slice_cmp nat_cmp c b) e)
+        ∙ behind (omega (arith, less))
+        ∙ sym (ap (λ (o : Ordering). then_by o s) (tied z x (slice_cmp nat_cmp c a) e))
+    next false e less behind = told (nat_lt z x) (eqb z x) (slice_cmp nat_cmp c b) (slice_cmp nat_cmp c a) t s e
 
 -- a key by a front that it shares, and the rest of it
 pub put_together : (n : ℕ) (a b new : UserKey) → SharesFront n a b → new ≡ (take n a) ++ (drop n b) → new ≡ b

@@ -1,15 +1,20 @@
 -- A tree of merges: its files, and the source that has the first entry.
 use Rattle.std.specs.List.{flat_map}
-use Rattle.std.proofs.Common.{◌≡◌, ◌+◌, ℕ, min, Bool, true, false, Option, List, [], ◌∷◌, ◌++◌, map, length, arith, refl, sym, ap, ◌∙◌, subst, append_assoc, append-nil, inl, inr}
+use Rattle.std.proofs.Common.{◌≡◌, ◌+◌, ◌<◌, ◌≤◌, ℕ, min, Bool, true, false, Option, Some, None, List, [], ◌∷◌, ◌++◌, map, length, arith, refl, sym, ap, ◌∙◌, subst, append_assoc, append-nil, inl, inr}
+use Rattle.std.specs.Ordering.{is_le, nat_cmp}
+use Rattle.lsm_block.specs.Building.{common}
+use Rattle.lsm_block.specs.Standing.{SharesFront}
 use Rattle.lsm_codec.specs.Lists.{Has}
-use Rattle.lsm_codec.specs.Keys.{InternalKey}
+use Rattle.lsm_codec.specs.Keys.{InternalKey, packed}
 use Rattle.lsm_codec.proofs.CallerLemmas.{has_left, has_right, has_cases}
 use Rattle.lsm_levels.specs.Merging.{Placed, goes_first, merge, merge_all, leads}
 use Rattle.lsm_levels.proofs.CallerLemmas.{merge_left, merge_right, merge_empty}
 use Rattle.lsm_merger.specs.Heads.{first_of, after_first, key_in, leads_by, place_in, user_in, user_named}
-use Rattle.lsm_merger.specs.Runs.{Left, ReadsNoOther, IsOfFirst}
-use Rattle.lsm_merger.specs.Tree.{IsLed, ShareHeads, both, all_left, none_left}
-use Rattle.lsm_merger.proofs.FrontLaws.{shares_both, shares_swapped}
+use Rattle.lsm_merger.specs.Runs.{AreAlike, Left, ReadsNoOther, IsOfFirst}
+use Rattle.lsm_merger.specs.declared.tree.Tree.{Tree}
+use Rattle.lsm_merger.specs.declared.tree.Tree.TheVariants.{Leaf, Fork'}
+use Rattle.lsm_merger.specs.Tree.{IsFront, IsLed, IsReady, ShareHeads, both, all_left, left_of, none_left, shared_by_heads}
+use Rattle.lsm_merger.proofs.FrontLaws.{common_kept, common_kept_by, order_kept, order_kept_by, shares_less, shares_swapped, shares_through}
 use Rattle.lsm_merger.proofs.Joining.{merge-merge}
 
 -- ---- where the first leads
@@ -61,16 +66,20 @@ user_by_key (p ∷ ps) j e = ap user_named e
 heads_by : (n : ℕ) (a b c d : Left) → first_of a.placed ≡ first_of c.placed → first_of b.placed ≡ first_of d.placed → ShareHeads n c d → ShareHeads n a b
 heads_by n a b c d e f h = rw (e, f) h
 
--- what the two trees of a fork share where one has moved
-pub known_first : (n moved : ℕ) (a a' b : Left) → ShareHeads n a b → ShareHeads moved a a' → ShareHeads (min n moved) a' b
-known_first n moved a a' b s m =
+-- what the two trees of a fork share where one has moved, and kept no more than both shared
+pub known_first : (n moved : ℕ) (a a' b : Left) → moved ≤ n → ShareHeads n a b → ShareHeads moved a a' → ShareHeads moved a' b
+known_first n moved a a' b le s m =
     let u = user_in (first_of a.placed) in
     let v = user_in (first_of a'.placed) in
     let w = user_in (first_of b.placed) in
-    shares_swapped (min n moved) w v (shares_both n moved w u v (shares_swapped n u w s) m)
+    shares_through moved v u w (shares_swapped moved u v m) (shares_less moved n u w le s)
 
-pub known_second : (n moved : ℕ) (a b b' : Left) → ShareHeads n a b → ShareHeads moved b b' → ShareHeads (min n moved) a b'
-known_second n moved a b b' s m = shares_both n moved (user_in (first_of a.placed)) (user_in (first_of b.placed)) (user_in (first_of b'.placed)) s m
+pub known_second : (n moved : ℕ) (a b b' : Left) → moved ≤ n → ShareHeads n a b → ShareHeads moved b b' → ShareHeads moved a b'
+known_second n moved a b b' le s m =
+    let u = user_in (first_of a.placed) in
+    let v = user_in (first_of b.placed) in
+    let w = user_in (first_of b'.placed) in
+    shares_through moved u v w (shares_less moved n u v le s) m
 
 -- the same one leads as before
 pub first_stays : (n : ℕ) (a a' b : Left) → IsLed true a b → IsLed true a' b → ShareHeads n a a' → ShareHeads n (both a b) (both a' b)
@@ -87,6 +96,69 @@ pub second_yields : (n : ℕ) (a b b' : Left) → IsLed false a b → IsLed true
 second_yields n a b b' t u s =
     heads_by n (both a b) (both a b') b a (first_right a.placed b.placed (sym t.placed)) (first_left a.placed b'.placed (sym u.placed))
     (shares_swapped n (user_in (first_of a.placed)) (user_in (first_of b.placed)) s)
+
+-- ---- a step that leaves the order of a fork
+
+-- by places and by numbers
+pub alike_in : (t : Tree Left) → IsReady t → AreAlike (left_of t)
+alike_in (Leaf source) h = h
+alike_in (Fork' true front p l q r) h =
+    let led : IsLed true (left_of l) (left_of r) = h.0 in
+    ap key_in (first_left (left_of l).placed (left_of r).placed (sym led.placed)) ∙ alike_in l h.2 ∙ sym (ap key_in (first_left (left_of l).numbered (left_of r).numbered (sym led.numbered)))
+alike_in (Fork' false front p l q r) h =
+    let led : IsLed false (left_of l) (left_of r) = h.0 in
+    ap key_in (first_right (left_of l).placed (left_of r).placed (sym led.placed)) ∙ alike_in r h.3 ∙ sym (ap key_in (first_right (left_of l).numbered (left_of r).numbered (sym led.numbered)))
+
+first_led : (n : ℕ) (j i k : Option InternalKey) → SharesFront n (user_named j) (user_named i) → common (user_named j) (user_named k) < n → leads_by i k ≡ leads_by j k
+first_led n None i k s h = (let x = s.first in absurd (omega (arith, h, x)))
+first_led n (Some j) None k s h = (let x = s.second in absurd (omega (arith, h, x)))
+first_led n (Some j) (Some i) None s h = refl
+first_led n (Some j) (Some i) (Some k) s h = ap is_le (order_kept n j.user i.user k.user (nat_cmp (packed k) (packed j)) (nat_cmp (packed k) (packed i)) s h)
+
+second_led : (n : ℕ) (j i k : Option InternalKey) → SharesFront n (user_named j) (user_named i) → common (user_named k) (user_named j) < n → leads_by k i ≡ leads_by k j
+second_led n None i k s h = (let x = s.first in absurd (omega (arith, h, x)))
+second_led n (Some j) None k s h = (let x = s.second in absurd (omega (arith, h, x)))
+second_led n (Some j) (Some i) None s h = refl
+second_led n (Some j) (Some i) (Some k) s h = ap is_le (order_kept_by n j.user i.user k.user (nat_cmp (packed j) (packed k)) (nat_cmp (packed i) (packed k)) s h)
+
+user_of_key : (ps : List Placed) → user_named (key_in (first_of ps)) ≡ user_in (first_of ps)
+user_of_key ps = user_by_key ps (key_in (first_of ps)) refl
+
+pub first_leads_on : (led : Bool) (n front : ℕ) (a a' b : Left) → IsLed led a b → IsFront front a b → AreAlike a' → AreAlike b → ShareHeads n a a' → front < n → IsLed led a' b
+first_leads_on led n front a a' b t f x y s h =
+    let j = key_in (first_of a.placed) in
+    let i = key_in (first_of a'.placed) in
+    let k = key_in (first_of b.placed) in
+    let named : SharesFront n (user_named j) (user_named i) = rw (user_of_key a.placed, user_of_key a'.placed) s in
+    let less : common (user_named j) (user_named k) < n = rw (user_of_key a.placed, user_of_key b.placed) (subst (λ (m : ℕ). m < n) f.all h) in
+    led_by_keys a' b led i k (t.placed ∙ sym (leads_keys a.placed b.placed) ∙ sym (first_led n j i k named less)) refl refl x y
+
+pub second_leads_on : (led : Bool) (n front : ℕ) (a b b' : Left) → IsLed led a b → IsFront front a b → AreAlike a → AreAlike b' → ShareHeads n b b' → front < n → IsLed led a b'
+second_leads_on led n front a b b' t f x y s h =
+    let j = key_in (first_of b.placed) in
+    let i = key_in (first_of b'.placed) in
+    let k = key_in (first_of a.placed) in
+    let named : SharesFront n (user_named j) (user_named i) = rw (user_of_key b.placed, user_of_key b'.placed) s in
+    let less : common (user_named k) (user_named j) < n = rw (user_of_key b.placed, user_of_key a.placed) (subst (λ (m : ℕ). m < n) f.all h) in
+    led_by_keys a b' led k i (t.placed ∙ sym (leads_keys a.placed b.placed) ∙ sym (second_led n j i k named less)) refl refl x y
+
+pub first_front_stays : (n front : ℕ) (a a' b : Left) → IsFront front a b → ShareHeads n a a' → front < n → IsFront front a' b
+first_front_stays n front a a' b f s h =
+    let u = user_in (first_of a.placed) in
+    let v = user_in (first_of a'.placed) in
+    let w = user_in (first_of b.placed) in record {
+      shared = shares_through front v u w (shares_swapped front u v (shares_less front n u v (omega (arith, h)) s)) f.shared;
+      all = f.all ∙ sym (common_kept n u v w s (subst (λ (m : ℕ). m < n) f.all h));
+    }
+
+pub second_front_stays : (n front : ℕ) (a b b' : Left) → IsFront front a b → ShareHeads n b b' → front < n → IsFront front a b'
+second_front_stays n front a b b' f s h =
+    let u = user_in (first_of b.placed) in
+    let v = user_in (first_of b'.placed) in
+    let w = user_in (first_of a.placed) in record {
+      shared = shares_through front w u v f.shared (shares_less front n u v (omega (arith, h)) s);
+      all = f.all ∙ sym (common_kept_by n u v w s (subst (λ (m : ℕ). m < n) f.all h));
+    }
 
 -- ---- files
 

@@ -6,7 +6,7 @@ use Rattle.lsm_codec.specs.Entries.{Entry}
 use Rattle.lsm_table.specs.Table.{IsTable}
 use Rattle.lsm_table.specs.HeldTable.{entries_in}
 use Rattle.lsm_levels.specs.Merging.{Placed, placed_at}
-use Rattle.lsm_merger.specs.Heads.{first_of, place_in}
+use Rattle.lsm_merger.specs.Heads.{first_of, key_in, place_in}
 
 -- what is left: the entries with the places of their sources, and the files that are not yet read
 -- to their ends, each number with the place of its source; and the same entries with the numbers of
@@ -57,6 +57,10 @@ IsFirstOf es (image ∷ images) = es ≡ entries_in image
 -- No file is new.
 abbrev pub ReadsNoOther : Left → Left → Type 0
 ReadsNoOther old new = (f : ℕ × ℕ) → Has new.files f → Has old.files f
+
+-- By places and by numbers the first entry has one key.
+abbrev pub AreAlike : Left → Type 0
+AreAlike left = key_in (first_of left.placed) ≡ key_in (first_of left.numbered)
 
 -- The number is that of a file of the source that has the first entry.
 abbrev pub IsOfFirst : Left → ℕ → Type 0

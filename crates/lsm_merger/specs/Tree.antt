@@ -1,10 +1,11 @@
 -- A tree of merges: what is left of it, and what its forks know of their two trees: which of them
--- leads, and a front that the user keys of their first entries share.
+-- leads, and how many bytes the user keys of their first entries share.
 use Rattle.std.specs.Prelude.{◌≡◌, ℕ, Bool, false, List, [], ◌∷◌, ◌++◌, Option, Some, None}
+use Rattle.lsm_block.specs.Building.{common}
 use Rattle.lsm_block.specs.Standing.{SharesFront}
 use Rattle.lsm_levels.specs.Merging.{merge, leads}
 use Rattle.lsm_merger.specs.Heads.{first_of, user_in}
-use Rattle.lsm_merger.specs.Runs.{Left}
+use Rattle.lsm_merger.specs.Runs.{AreAlike, Left}
 use Rattle.lsm_merger.specs.declared.tree.Tree.{Tree}
 use Rattle.lsm_merger.specs.declared.tree.Tree.TheVariants.{Leaf, Fork'}
 
@@ -34,20 +35,34 @@ pub record IsLed (led : Bool) (a b : Left) : Type 0 where
 abbrev pub ShareHeads : ℕ → Left → Left → Type 0
 ShareHeads front a b = SharesFront front (user_in (first_of a.placed)) (user_in (first_of b.placed))
 
--- each fork knows which of its two trees leads, and a front that both share
+-- how many bytes the user keys of the first entries of the two share in all
+abbrev pub shared_by_heads : Left → Left → ℕ
+shared_by_heads a b = common (user_in (first_of a.placed)) (user_in (first_of b.placed))
+
+-- They share this front, and no more.
+pub record IsFront (front : ℕ) (a b : Left) : Type 0 where
+  pub shared : ShareHeads front a b
+  pub all : front ≡ shared_by_heads a b
+
+-- each fork knows which of its two trees leads, and the front that both share
 abbrev pub IsReady : Tree Left → Type 0
-IsReady (Leaf source) = Unit {0}
-IsReady (Fork' led front p l q r) = IsLed led (left_of l) (left_of r) × ShareHeads front (left_of l) (left_of r) × IsReady l × IsReady r
+IsReady (Leaf source) = AreAlike source
+IsReady (Fork' led front p l q r) = IsLed led (left_of l) (left_of r) × IsFront front (left_of l) (left_of r) × IsReady l × IsReady r
 
 -- the two trees of a fork are ready
 abbrev pub AreReady : Tree Left → Type 0
-AreReady (Leaf source) = Unit {0}
+AreReady (Leaf source) = AreAlike source
 AreReady (Fork' led front p l q r) = IsReady l × IsReady r
 
 -- Whether the first of the two trees of a fork leads.
 abbrev pub IsLedIn : Bool → Tree Left → Type 0
 IsLedIn now (Leaf source) = now ≡ false
 IsLedIn now (Fork' led front p l q r) = IsLed now (left_of l) (left_of r)
+
+-- The two trees of a fork share this front, and no more.
+abbrev pub IsFrontIn : ℕ → Tree Left → Type 0
+IsFrontIn front (Leaf source) = Unit {0}
+IsFrontIn front (Fork' led known p l q r) = IsFront front (left_of l) (left_of r)
 
 -- The two trees of a fork share this front.
 abbrev pub ShareHeadsIn : ℕ → Tree Left → Type 0

@@ -11,7 +11,7 @@ ghost use Rattle.lsm_table.specs.ReadFault.{ReadCounted, IsMemoryOrShelf};
 ghost use Rattle.lsm_table.specs.Told.{Becomes};
 ghost use Rattle.lsm_levels.specs.Merging.{placed_at};
 ghost use Rattle.lsm_merger.specs.Heads.{after_first, first_of, key_in, no_more, place_in, user_in, value_in};
-ghost use Rattle.lsm_merger.specs.Runs.{HasEntries, IsFirstOf, IsOfFirst, ReadsNoOther, entries_of_all, files_at, numbered_all};
+ghost use Rattle.lsm_merger.specs.Runs.{AreAlike, HasEntries, IsFirstOf, IsOfFirst, ReadsNoOther, entries_of_all, files_at, numbered_all};
 
 use crate::file_fault::FileFault;
 use lsm_codec::KeyRef;
@@ -193,6 +193,13 @@ impl<N: Naming, S: Shelf> Run<N, S> {
             }
         };
         Run::open_by(blocks, alloc, place, first, later)
+    }
+
+    /// By places and by numbers its first entry has one key.
+    pub(crate) fn one_key(&self)
+        ensures { AreAlike self.now }
+    {
+        let _here = &self.here;
     }
 
     /// The key of the entry at which it stands, if it stands at one.

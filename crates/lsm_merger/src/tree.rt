@@ -1,6 +1,6 @@
-//! A tree of merges, each of two, whose heads are lent: a step costs one comparison a fork on the
-//! way to one source, of what stands behind a front that both heads share, and copies no key and no
-//! value.
+//! A tree of merges, each of two, whose heads are lent: a step costs at most one comparison a fork
+//! on the way to one source, of what stands behind a front that both heads share, and copies no key
+//! and no value.
 
 ghost use Rattle.std.specs.Prelude.{◌≡◌, ℕ, ◌+◌, ◌<◌, ◌≤◌, [], length, IfOk, IfErr, OnOk, OnErr};
 ghost use Rattle.lsm_codec.specs.Lists.{Has};
@@ -8,7 +8,7 @@ ghost use Rattle.lsm_table.specs.ReadFault.{ReadCounted, IsMemoryOrShelf};
 ghost use Rattle.lsm_table.specs.Told.{Becomes};
 ghost use Rattle.lsm_merger.specs.Heads.{after_first, first_of};
 ghost use Rattle.lsm_merger.specs.Runs.{IsOfFirst, ReadsNoOther};
-ghost use Rattle.lsm_merger.specs.Tree.{all_left, both, left_of, AreReady, IsLed, IsLedIn, IsReady, ShareHeads, ShareHeadsIn};
+ghost use Rattle.lsm_merger.specs.Tree.{all_left, both, left_of, AreReady, IsFront, IsFrontIn, IsLed, IsLedIn, IsReady, ShareHeads, ShareHeadsIn};
 
 use crate::file_fault::FileFault;
 use crate::front::judged;
@@ -18,7 +18,7 @@ use lsm_table::{Naming, Shelf};
 use std::alloc::{AllocError, Global};
 
 /// A source, or the merge of two trees, with whether the first of them leads, and with how many
-/// bytes at the fronts of the user keys of their first entries are known to be the same.
+/// bytes the user keys of their first entries share at their fronts.
 #[derive(Drop)]
 pub(crate) enum Tree<X> {
     Leaf(X),
@@ -51,7 +51,7 @@ fn trees_judged<N: Naming, S: Shelf>(
     requires second { IsReady second.now }
     requires front { ShareHeads front (left_of first.now) (left_of second.now) }
     ensures led { IsLed result.0 (left_of first.now) (left_of second.now) }
-    ensures shared { ShareHeads result.1 (left_of first.now) (left_of second.now) }
+    ensures front { IsFront result.1 (left_of first.now) (left_of second.now) }
 {
     judged(head(first).key(), head(second).key(), front)
 }
@@ -61,7 +61,7 @@ fn fork_judged<N: Naming, S: Shelf>(tree: &Tree<Run<N, S>>, front: usize) -> (bo
     requires ready { AreReady tree.now }
     requires front { ShareHeadsIn front tree.now }
     ensures led { IsLedIn result.0 tree.now }
-    ensures shared { ShareHeadsIn result.1 tree.now }
+    ensures front { IsFrontIn result.1 tree.now }
 {
     match tree {
         Tree::Leaf(_source) => (false, 0),
@@ -88,7 +88,9 @@ fn settle<N: Naming, S: Shelf>(tree: &mut Tree<Run<N, S>>, known: usize) -> bool
 
 /// Goes on to the next entry, and tells how many bytes of its user key are known to be those of the
 /// user key before it: where the same one of two trees leads as before, what that one tells, and
-/// else what both shared before. An `Err` leaves what is left.
+/// else what both shared before. A user key that has more of the one before it than the other tree
+/// had stands to that tree as the one before it did, so nothing is compared. An `Err` leaves what
+/// is left.
 #[tactic(auto, using(crate::proofs::TreeLaws::fault_first, crate::proofs::TreeLaws::fault_second, crate::proofs::TreeLaws::none_other_first, crate::proofs::TreeLaws::none_other_second, crate::proofs::TreeLaws::step_left, crate::proofs::TreeLaws::step_right))]
 pub(crate) fn advance_by<N: Naming, S: Shelf, B: Blocks<S>>(
     tree: &mut Tree<Run<N, S>>,
@@ -110,7 +112,11 @@ pub(crate) fn advance_by<N: Naming, S: Shelf, B: Blocks<S>>(
     ensures cause { IfErr result (λ e. ReadCounted e.fault (B.told blocks.old) (B.told blocks.new)) }
 {
     match tree {
-        Tree::Leaf(source) => source.advance_by(blocks, alloc),
+        Tree::Leaf(source) => {
+            let moved = source.advance_by(blocks, alloc);
+            source.one_key();
+            moved
+        }
         Tree::Fork(led, front, first, second) => {
             let between = *front;
             if *led {
@@ -118,14 +124,20 @@ pub(crate) fn advance_by<N: Naming, S: Shelf, B: Blocks<S>>(
                     Ok(moved) => moved,
                     Err(fault) => return Err(fault),
                 };
-                let leads = settle(tree, between.min(moved));
+                if moved > between {
+                    return Ok(moved);
+                }
+                let leads = settle(tree, moved);
                 return Ok(if leads { moved } else { between });
             }
             let moved = match advance_by(second, blocks, alloc) {
                 Ok(moved) => moved,
                 Err(fault) => return Err(fault),
             };
-            let leads = settle(tree, between.min(moved));
+            if moved > between {
+                return Ok(moved);
+            }
+            let leads = settle(tree, moved);
             Ok(if leads { between } else { moved })
         }
     }
@@ -165,7 +177,10 @@ fn last<N: Naming, S: Shelf>(sources: &mut Vec<Run<N, S>>) -> Tree<Run<N, S>>
     ensures rest { length sources.new.items + 1 ≡ length sources.old.items }
 {
     match sources.pop() {
-        Some(source) => Tree::Leaf(source),
+        Some(source) => {
+            source.one_key();
+            Tree::Leaf(source)
+        }
         None => unreachable!(),
     }
 }
