@@ -2,7 +2,6 @@
 use Rattle.std.proofs.Common.{◌≡◌, ℕ, ◌≤◌, Bool, true, false, cond, List, [], ◌∷◌, ◌++◌, Option, Some, None, Ordering, Less, Equal, Greater, refl, sym, ◌∙◌, ap, subst, arith, append_assoc}
 use Rattle.std.specs.Prelude.{Result, Ok, Err, IfErr}
 use Rattle.std.specs.Ordering.{is_le, is_lt}
-use Rattle.std.proofs.lemmas.List.{append-nil}
 use Rattle.lsm_codec.specs.Lists.{Has}
 use Rattle.lsm_codec.specs.Keys.{InternalKey, key_cmp}
 use Rattle.lsm_codec.specs.Entries.{Entry, internal_key}
@@ -23,7 +22,7 @@ use Rattle.lsm_merge.specs.declared.merge_fault.MergeFault.{MergeFault}
 use Rattle.lsm_merge.specs.declared.merge_fault.MergeFault.TheVariants.{OutOfMemory, ReadFailed, PutFailed, UnknownTicket, NumbersSpent}
 use Rattle.lsm_merge.specs.Causes.{HasCause}
 use Rattle.lsm_merge.specs.Cuts.{closes}
-use Rattle.lsm_merge.specs.Dropping.{Follows, IsAtMost, IsUpTo, Making, placed, shut, shut_before, with_entry}
+use Rattle.lsm_merge.specs.Dropping.{Follows, IsAtMost, IsUpTo, Making, placed, shut, shut_before}
 use Rattle.lsm_merge.specs.Outputs.{Goes, Made, PutsMore, SameSizes, entries_of_last, making_of, putting_all}
 use Rattle.lsm_merge.specs.Remembered.{bare}
 use Rattle.lsm_merge.specs.Inputs.{IsOrderFault}

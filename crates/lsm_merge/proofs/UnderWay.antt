@@ -11,11 +11,11 @@ use Rattle.lsm_merger.specs.Runs.{Left, ReadsNoOther}
 use Rattle.lsm_merge.specs.declared.merge_fault.InputFault.TheVariants.{Read, OutOfOrder}
 use Rattle.lsm_merge.specs.declared.merge_fault.MergeFault.{MergeFault}
 use Rattle.lsm_merge.specs.declared.merge_fault.MergeFault.TheVariants.{OutOfMemory, ReadFailed, PutFailed, UnknownTicket, NumbersSpent}
-use Rattle.lsm_merge.specs.Causes.{AnswersOf, AsksFor, DrewMore, HasCause, Leaves}
+use Rattle.lsm_merge.specs.Causes.{AnswersOf, AsksFor, DrewMore, Leaves}
 use Rattle.lsm_merge.specs.Compacting.{AreMergedOf, nothing_of}
 use Rattle.lsm_merge.specs.Dropping.{Follows, IsMerged, IsUpTo, Making, closed, is_kept, placed}
-use Rattle.lsm_merge.specs.Inputs.{AreInputs, IsOfReading, IsOrderFault, IsReadable, Stepped, input_numbers}
-use Rattle.lsm_merge.specs.Outputs.{AreGood, Goes, IsWrittenBy, Made, PutsMore, SameSizes, Unfinished, drawn_for, drawn_of, entries_of_last, going, making_of, number_of_last}
+use Rattle.lsm_merge.specs.Inputs.{AreInputs, IsOfReading, IsOrderFault, Stepped, input_numbers}
+use Rattle.lsm_merge.specs.Outputs.{AreGood, Goes, IsWrittenBy, Made, PutsMore, SameSizes, Unfinished, drawn_for, drawn_of, entries_of_last, making_of, number_of_last}
 use Rattle.lsm_merge.specs.Remembered.{bare}
 use Rattle.lsm_merge.specs.Work.{Work, finished, job_of}
 use Rattle.lsm_merge.proofs.Tickets.{asks_then}

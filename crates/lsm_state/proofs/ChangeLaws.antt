@@ -19,11 +19,11 @@ use Rattle.lsm_slots.proofs.CallerLemmas.{set_else, set_found}
 use Rattle.lsm_live.specs.Booked.{Booked, lives_of}
 use Rattle.lsm_journal.specs.HeldManifest.{HeldManifest, is_at_limit}
 use Rattle.lsm_journal.specs.Recorded.{IsRecorded}
-use Rattle.lsm_journal.specs.Difference.{Difference, LeadsTo, Suits, changed_by, deleted_numbers}
+use Rattle.lsm_journal.specs.Difference.{Difference, changed_by, deleted_numbers}
 use Rattle.lsm_journal.specs.Sending.{Grows, RollsOver, Sends}
 use Rattle.lsm_journal.specs.Writing.{change_edit}
 use Rattle.lsm_journal.proofs.CallerLemmas.{later}
-use Rattle.lsm_state.specs.Held.{HasInputs, Held, IsJournaled, IsLawfulState, plain}
+use Rattle.lsm_state.specs.Held.{HasInputs, Held, IsLawfulState, plain}
 use Rattle.lsm_state.specs.Changing.{IsChangeRefusal, live_after, next_spent, plain_after}
 use Rattle.lsm_state.specs.declared.state_fault.StateFault.{StateFault}
 use Rattle.lsm_state.specs.declared.state_fault.StateFault.TheVariants.{OutOfMemory, Shelf, Read, BadLevel, EmptyBatch, KeyOrder, TooLarge, LevelZeroFull, SequencesSpent, Halted, UnknownSnapshot, Conflict, UnknownTicket, NumbersSpent, Stale, SlotsHeld, VersionsSpent, PinsSpent}

@@ -1,6 +1,6 @@
 -- What an ingest leaves of the law of a state, and that it is the machine's event.
-use Rattle.std.proofs.Common.{◌≡◌, ℕ, zero, suc, ◌+◌, ◌^◌, ◌<◌, ◌≤◌, ◌↔◌, ◌==◌, Bool, true, false, cond, Option, None, List, [], ◌∷◌, ◌++◌, length, refl, sym, ◌∙◌, ap, subst, inl, inr, arith}
-use Rattle.std.specs.Prelude.{◌⊎◌, if◌then◌else◌, Result, Ok, Err, IfErr, IfOk}
+use Rattle.std.proofs.Common.{◌≡◌, ℕ, zero, suc, ◌+◌, ◌<◌, ◌≤◌, ◌↔◌, ◌==◌, Bool, true, false, cond, Option, None, List, [], ◌∷◌, ◌++◌, length, refl, sym, ◌∙◌, ap, subst, inl, inr, arith}
+use Rattle.std.specs.Prelude.{◌⊎◌, Result, Ok, Err, IfErr, IfOk}
 use Rattle.std.specs.Result.{IsErrAnd}
 use Rattle.std.specs.List.{All}
 use Rattle.std.specs.List.Sorted.{IsPermutation}
@@ -28,7 +28,6 @@ use Rattle.lsm_machine.specs.Plain.{Plain, Spends}
 use Rattle.lsm_machine.specs.Plain as machine
 use Rattle.lsm_machine.specs.Runs.{Ingest}
 use Rattle.lsm_slots.specs.Slots.{Slotted}
-use Rattle.lsm_journal.specs.HeldManifest.{is_at_limit}
 use Rattle.lsm_live.specs.Booked.{Booked}
 use Rattle.lsm_journal.specs.Difference.{Difference, FitsComing, Suits, changed_by}
 use Rattle.lsm_batch.specs.declared.write.Write.{Write}
@@ -38,7 +37,7 @@ use Rattle.lsm_state.specs.Held.{HasInputs, Held, IsLawfulState, plain}
 use Rattle.lsm_state.specs.Options.{sizes_of}
 use Rattle.lsm_state.specs.Collecting.{SameCounts}
 use Rattle.lsm_state.specs.Changing.{ChangesVersion, HasSlot, IsChangeRefusal, Sought, plain_after}
-use Rattle.lsm_state.specs.Ingesting.{FailsToBuild, FailsToPut, IsBuildRefusal, IsIngestRefusal, IsTableOf, IsWelcome, coming_in, entries_of, last_of, numbers_needed, with_number, with_slots}
+use Rattle.lsm_state.specs.Ingesting.{FailsToBuild, FailsToPut, IsBuildRefusal, IsIngestRefusal, IsTableOf, IsWelcome, coming_in, entries_of, last_of, with_number, with_slots}
 use Rattle.lsm_state.specs.declared.state_fault.StateFault.{StateFault}
 use Rattle.lsm_state.specs.declared.state_fault.StateFault.TheVariants.{OutOfMemory, Shelf, Read, BadLevel, EmptyBatch, KeyOrder, TooLarge, LevelZeroFull, SequencesSpent, Halted, UnknownSnapshot, Conflict, UnknownTicket, NumbersSpent, Stale, SlotsHeld, VersionsSpent, PinsSpent}
 use Rattle.lsm_state.proofs.Inputs.{TablesChange, inputs_stay}

@@ -37,7 +37,7 @@ use Rattle.lsm_journal.proofs.CallerLemmas.{recorded_fit}
 use Rattle.lsm_slots.specs.Slots.{Looked, Slotted}
 use Rattle.lsm_state.specs.Held.{HasInputs, Held, IsLawfulState, plain}
 use Rattle.lsm_state.specs.Changing.{ChangesVersion, HasSlot, IsChangeRefusal, IsSlotRefusal, Sought, live_after, plain_after}
-use Rattle.lsm_state.specs.Installing.{IsInstallChange, IsInstalling, IsPutIn, IsRefusedLater, Installed, MayInstall, SameAnswers, added_at, deleted_at, inputs_gone}
+use Rattle.lsm_state.specs.Installing.{IsInstallChange, IsInstalling, IsPutIn, IsRefusedLater, Installed, SameAnswers, added_at, deleted_at, inputs_gone}
 use Rattle.lsm_state.specs.declared.state_fault.StateFault.{StateFault}
 use Rattle.lsm_state.specs.declared.state_fault.StateFault.TheVariants.{OutOfMemory, Shelf, Read, BadLevel, EmptyBatch, KeyOrder, TooLarge, LevelZeroFull, SequencesSpent, Halted, UnknownSnapshot, Conflict, UnknownTicket, NumbersSpent, Stale, SlotsHeld, VersionsSpent, PinsSpent}
 use Rattle.lsm_state.proofs.Inputs.{TablesChange, inputs_stay}

@@ -6,11 +6,9 @@ use Rattle.std.specs.Ordering.{is_gt, ordering_reverse}
 use Rattle.std.proofs.lemmas.Cmp.{nat_list_cmp_total, nat_cmp_total, on_total, back_total, then_total, tied_itself, upto}
 use Rattle.std.proofs.lemmas.List.{take_all, take_more}
 use Rattle.lsm_codec.specs.Keys.{user_part, packed_part}
-use Rattle.lsm_codec.specs.Lists.{Has}
 use Rattle.lsm_codec.proofs.CallerLemmas.{has_cases, has_left, has_right}
 use Rattle.lsm_table.specs.Registry.{Table}
 use Rattle.lsm_choice.specs.Choice.{bytes_cmp}
-use Rattle.lsm_state.specs.Installing.{IsLargestKey}
 use Rattle.lsm_state.specs.LargestKeys.{IsGreaterKey, IsHighestKey, IsUpTo}
 
 bytes_total : IsTotalOrder bytes_cmp

@@ -1,9 +1,8 @@
 -- What removals, one after another, leave of what a shelf was told.
-use Rattle.std.proofs.Common.{◌≡◌, ℕ, ◌+◌, ◌<◌, ◌≤◌, List, [], ◌∷◌, ◌++◌, length, get_or, take, drop, refl, sym, ◌∙◌, ap, subst, inl, inr, arith}
+use Rattle.std.proofs.Common.{◌≡◌, ℕ, ◌+◌, ◌<◌, List, [], ◌∷◌, ◌++◌, length, get_or, take, drop, refl, sym, ◌∙◌, ap, subst, inl, inr, arith}
 use Rattle.std.specs.Prelude.{◌⊎◌, Result, Ok, Err, OnErr}
 use Rattle.std.proofs.lemmas.List.{drop_more, take_more, take-append-drop}
-use Rattle.lsm_shelf.proofs.CallerLemmas.{becomes_same}
-use Rattle.lsm_shelf.specs.Told.{Told, Becomes, Counted, Rose, removed_by, removing}
+use Rattle.lsm_shelf.specs.Told.{Told, Becomes, removed_by, removing}
 use Rattle.lsm_shelf.specs.declared.shelf_fault.ShelfFault.{ShelfFault}
 use Rattle.lsm_shelf.specs.declared.shelf_fault.ShelfFault.TheVariants.{OutOfMemory, Device, Missing, Taken}
 use Rattle.lsm_merge.specs.Outputs.{going}
