@@ -1,16 +1,16 @@
 -- What is read as a block is one, and what is one is read.
 use Rattle.std.proofs.Common.{◌≡◌, ℕ, zero, suc, ◌+◌, Bool, true, false, leb, eqb, List, [], ◌∷◌, ◌++◌, length, take, drop, Option, Some, None, Result, Ok, refl, sym, ap, ◌∙◌, subst, arith, inl, inr}
 use Rattle.std.specs.Prelude.{◌&&◌}
-use Rattle.std.specs.List.{flat_map, AllByRecursion}
-use Rattle.std.specs.Int.{w32, w64, to_le_bytes}
+use Rattle.std.specs.List.{flat_map}
+use Rattle.std.specs.Int.{w32, to_le_bytes}
 use Rattle.std.proofs.lemmas.Bool.{eqb-true, and_parts}
-use Rattle.lsm_codec.specs.Keys.{packed, is_internal}
-use Rattle.lsm_codec.specs.Entries.{Entry, internal_key}
+use Rattle.lsm_codec.specs.Keys.{is_internal}
+use Rattle.lsm_codec.specs.Entries.{Entry}
 use Rattle.lsm_codec.proofs.CallerLemmas.{IsBytes, internal_long}
 use Rattle.lsm_block.specs.declared.fault.BlockFault.{BlockFault}
-use Rattle.lsm_block.specs.Block.{EntryText, Spells, IsBlock, Rises, Ascends, key_text}
+use Rattle.lsm_block.specs.Block.{IsBlock, Rises, Ascends}
 use Rattle.lsm_block.specs.Reading.{Piece, shared_key, numbers_at, piece_of, entry_at, Scan, scan, entries_of, starts_of, restarts_fit, rises, disorder, entry_fault, restart_fault, first_fault, unless, judged, block_of, parts_at, block_at}
-use Rattle.lsm_block.proofs.EntryLaws.{guard_some, IsBytes-front, IsBytes-after, IsBytes-take, IsBytes-append, no_bytes, bind_some}
+use Rattle.lsm_block.proofs.EntryLaws.{guard_some, IsBytes-front, no_bytes, bind_some}
 use Rattle.lsm_block.proofs.ScanLaws.{scan-some, scan-none, scan_again, scan_takes, HaveKeys, ascends, ordered, either}
 use Rattle.lsm_block.proofs.RestartLaws.{Tail, Fit, tail_takes, tail_again, rises_takes, rises_again}
 
@@ -131,33 +131,3 @@ block_again bytes es b =
 -- at most one list of entries fits
 pub one_block : (bytes : List ℕ) (es fs : List Entry) → IsBlock bytes es → IsBlock bytes fs → es ≡ fs
 one_block bytes es fs b c = ok_is es fs (sym (block_again bytes es b) ∙ block_again bytes fs c)
-
--- ---- what a block of bytes says are bytes
-
--- an entry's user key and value are bytes
-pub record HasBytes (e : Entry) : Type 0 where
-  pub user : IsBytes e.user
-  pub value : IsBytes e.value
-
-entry_bytes : (before own : List ℕ) (e : Entry) (shared : ℕ) → IsBytes before → IsBytes own → EntryText before e shared own → HasBytes e × IsBytes (key_text e)
-entry_bytes before own e shared old fits t =
-    let x1 = t.unshared_text ++ (t.length_text ++ (t.unshared ++ e.value)) in
-    let x2 = t.length_text ++ (t.unshared ++ e.value) in
-    let x3 = t.unshared ++ e.value in
-    let f1 = IsBytes-after own t.shared_text x1 t.text_is fits in
-    let f2 = IsBytes-after x1 t.unshared_text x2 refl f1 in
-    let f3 = IsBytes-after x2 t.length_text x3 refl f2 in
-    let new = IsBytes-front x3 t.unshared e.value refl f3 in
-    let value = IsBytes-after x3 t.unshared e.value refl f3 in
-    let key : IsBytes (key_text e) = subst IsBytes t.key_is (IsBytes-append (take shared before) t.unshared (IsBytes-take shared before old) new) in
-    (record { user = IsBytes-front (key_text e) e.user (to_le_bytes w64 (packed (internal_key e))) refl key; value = value }, key)
-
-spelled_bytes : (es : List Entry) (offset : ℕ) (before text starts : List ℕ) → IsBytes before → IsBytes text → Spells offset before text starts es → AllByRecursion HasBytes es
-spelled_bytes [] offset before text starts old fits s = tt
-spelled_bytes (e ∷ es) offset before text starts old fits s =
-    let own = IsBytes-front text s.1 s.2 s.5 fits in
-    let b = entry_bytes before s.1 e s.0 old own s.4 in
-    (b.0, spelled_bytes es (offset + length s.1) (key_text e) s.2 s.3 b.1 (IsBytes-after text s.1 s.2 s.5 fits) s.7)
-
-pub block_values : (bytes : List ℕ) (es : List Entry) → IsBytes bytes → IsBlock bytes es → AllByRecursion HasBytes es
-block_values bytes es fits b = spelled_bytes es 0 [] b.text b.starts no_bytes (IsBytes-front bytes b.text _ b.bytes_are fits) b.spelled

@@ -7,7 +7,7 @@ use Rattle.std.proofs.lemmas.List.{take_all, take_at, drop_at, take-append-drop,
 use Rattle.lsm_codec.specs.declared.fault.CodecFault.{CodecFault}
 use Rattle.lsm_codec.specs.Varint.{AreGroups, IsVarint32, varint_at, varint32_at}
 use Rattle.lsm_codec.specs.Entries.{Entry, internal_key}
-use Rattle.lsm_codec.proofs.CallerLemmas.{Front, varint_takes, varint_again, IsBytes, key_again, internal_again, internal_takes}
+use Rattle.lsm_codec.proofs.CallerLemmas.{Front, varint_takes, varint_again, IsBytes, IsBytes-after, key_again, internal_again, internal_takes}
 use Rattle.lsm_block.specs.Block.{EntryText, key_text}
 use Rattle.lsm_block.specs.Reading.{Piece, ◌>>=◌, found_of, number_at, numbers_at, shared_key, piece_of, entry_at, entry}
 use Rattle.lsm_codec.specs.Keys.{is_internal}
@@ -71,12 +71,6 @@ IsBytes-append xs ys h k i =
       | inl lt ↦ rw (get_or_append_left xs ys 0 i lt) (h i)
       | inr le ↦ rw (get_or-append_right xs ys (length xs) i 0 refl le) (k (i - length xs))
     ]
-
-pub IsBytes-after : (bytes front rest : List ℕ) → bytes ≡ front ++ rest → IsBytes bytes → IsBytes rest
-IsBytes-after bytes front rest e fits i =
-    let d : drop (length front) bytes ≡ rest = ap (drop (length front)) e ∙ drop_at front rest (length front) refl in
-    let f : get_or (drop (length front) bytes) i 0 < 256 = rw get_or-drop (fits (length front + i)) in
-    rw d at f
 
 pub IsBytes-front : (bytes front rest : List ℕ) → bytes ≡ front ++ rest → IsBytes bytes → IsBytes front
 IsBytes-front bytes front rest e fits =

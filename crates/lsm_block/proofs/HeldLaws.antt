@@ -14,7 +14,7 @@ use Rattle.lsm_codec.specs.Gives.{Fails}
 use Rattle.lsm_block.specs.Reading.{block_at, block_of, parts_at, scan, first_fault, unless, entries_of}
 use Rattle.lsm_block.specs.Seeking.{readable, ArePartsOf, Steps}
 use Rattle.lsm_block.specs.Standing.{StepStands}
-use Rattle.lsm_block.specs.Held.{Holds, rest_of, text_and_entries, text_or_none, block_in, held, or_none, Kept, last_of, Given}
+use Rattle.lsm_block.specs.Held.{Holds, text_and_entries, text_or_none, block_in, held, or_none, Kept, last_of, Given}
 use Rattle.lsm_block.proofs.KeyLaws.{kept_bytes, last-key}
 use Rattle.lsm_block.proofs.EntryLaws.{some_is}
 use Rattle.lsm_block.proofs.RestartLaws.{tail_again, length-spelled}
@@ -161,10 +161,3 @@ pub held_block : (bytes : List ℕ) (n : ℕ) (es : List Entry) → Holds bytes 
 held_block bytes n es h =
     ap (λ (m : ℕ). text_and_entries (take m bytes)) h.text_len_is
     ∙ found_block bytes h.block.text (0 ∷ h.block.restarts) es h.block (tail_again bytes h.block.text (0 ∷ h.block.restarts) (tail_of_block bytes es h.block))
-
--- from its front on
-pub front_of_block : (bytes : List ℕ) (es : List Entry) → IsBlock bytes es → rest_of (block_in bytes) (record { offset = 0; last = None }) ≡ es
-unfolding block_in
-front_of_block bytes es b =
-    ap (λ (o : Option (List ℕ × List ℕ)). rest_of (text_and_entries (text_or_none o)) (record { offset = 0; last = None })) (tail_again bytes b.text (0 ∷ b.restarts) (tail_of_block bytes es b))
-    ∙ reads_all es (length b.text) 0 [] b.text b.starts b.spelled (omega arith)

@@ -6,10 +6,10 @@ use Rattle.std.specs.Ordering.{is_lt}
 use Rattle.std.proofs.lemmas.List.{length-append}
 use Rattle.lsm_codec.specs.Keys.{key_cmp, key_at}
 use Rattle.lsm_codec.specs.Entries.{Entry, entry_cmp}
-use Rattle.lsm_codec.proofs.CallerLemmas.{IsBytes}
+use Rattle.lsm_codec.proofs.CallerLemmas.{IsBytes, IsBytes-after}
 use Rattle.lsm_block.specs.Block.{Spells, Ascends, start_at, key_text}
 use Rattle.lsm_block.specs.Reading.{Piece, PieceAt, Scan, nothing, entry_at, scan, entry, entries_of, starts_of, comes_after, if_not, disorder}
-use Rattle.lsm_block.proofs.EntryLaws.{sharing, entry_again, entry_again_is, entry_takes, own-some, IsBytes-after}
+use Rattle.lsm_block.proofs.EntryLaws.{sharing, entry_again, entry_again_is, entry_takes, own-some}
 
 -- ---- steps of a scan
 

@@ -85,7 +85,8 @@ reads_all (e ∷ es) (suc count) offset before text starts s h =
 
 -- ---- from a restart on
 
--- the entries from an offset on, where the first of them shares nothing; the starts beyond it are starts of theirs
+-- the entries from an offset on, where the first of them shares nothing; the starts beyond it are
+-- starts of theirs
 pub record Splits (whole : List ℕ) (o : ℕ) (starts : List ℕ) (es : List Entry) : Type 0 where
   pub front : List Entry
   pub rest : List Entry

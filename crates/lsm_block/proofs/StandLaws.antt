@@ -1,14 +1,13 @@
 -- A cursor that stands at an entry.
-use Rattle.std.proofs.Common.{◌≡◌, ℕ, ◌+◌, ◌-◌, ◌<◌, ◌≤◌, Bool, true, false, min, List, ◌++◌, length, take, drop, Option, Some, None, refl, sym, ap, ◌∙◌, subst, append_assoc, arith}
+use Rattle.std.proofs.Common.{◌≡◌, ℕ, ◌+◌, ◌-◌, ◌<◌, ◌≤◌, Bool, true, false, min, List, ◌++◌, length, take, drop, Some, refl, sym, ap, ◌∙◌, subst, append_assoc, arith}
 use Rattle.std.specs.Option.{option_map}
-use Rattle.lsm_codec.specs.Keys.{InternalKey, is_internal, user_of, key_at}
-use Rattle.lsm_codec.specs.Entries.{Entry}
+use Rattle.lsm_codec.specs.Keys.{is_internal, user_of, key_at}
 use Rattle.lsm_codec.proofs.CallerLemmas.{IsBytes}
 use Rattle.std.proofs.lemmas.List.{take_at, drop_at, take-take, length-take, length-take-le, length-append, take-append-drop}
 use Rattle.lsm_block.specs.Reading.{Piece, entry_at}
 use Rattle.lsm_block.specs.Walking.{seen}
 use Rattle.lsm_block.specs.Held.{Kept, last_if, last_of}
-use Rattle.lsm_block.specs.Standing.{bytes_before, EndsAt, SharesFront, with_key, user_of_first, user_of_last}
+use Rattle.lsm_block.specs.Standing.{bytes_before, EndsAt, SharesFront, user_of_last}
 use Rattle.lsm_block.proofs.EntryLaws.{entry_cut, IsBytes-drop}
 use Rattle.lsm_block.proofs.SeenLaws.{sees, seen_some}
 
@@ -78,8 +77,3 @@ pub shares_kept : (shared n : ℕ) (a b : List ℕ) → SharesFront shared a b �
     → SharesFront n (user_of_last (last_of a)) (user_of_last (last_of b))
 shares_kept shared n a b s kept_a kept_b is =
     rw (user_kept a kept_a, user_kept b kept_b) (shares_users shared n a b s (omega (arith, is)) (omega (arith, is)) (omega (arith, is)))
-
--- the user key of the first entry, where a cursor stands at it
-pub user_here : (last : Option InternalKey) (value : List ℕ) (rest : List Entry) → user_of_first (with_key last value rest) ≡ user_of_last last
-user_here None value rest = refl
-user_here (Some key) value rest = refl

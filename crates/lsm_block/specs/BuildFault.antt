@@ -1,4 +1,4 @@
--- The published numbers and names of a builder's refusals.
+-- The numbers and names of a builder's refusals in docs/FORMATS.md.
 use Rattle.std.specs.Prelude.{ℕ, List, codes}
 use Rattle.lsm_block.specs.declared.build_fault.BuildFault.{BuildFault}
 use Rattle.lsm_block.specs.declared.build_fault.BuildFault.TheVariants.{OutOfMemory, TooLarge}

@@ -1,4 +1,4 @@
--- The published numbers and names of refusals.
+-- The numbers and names of refusals in docs/FORMATS.md.
 use Rattle.std.specs.Prelude.{ℕ, Bool, true, false, List, codes}
 use Rattle.lsm_block.specs.declared.fault.BlockFault.{BlockFault}
 use Rattle.lsm_block.specs.declared.fault.BlockFault.TheVariants.{OutOfMemory, BadRestarts, BadEntry, OutOfOrder}

@@ -1,4 +1,4 @@
--- A block that is held, and a place in it.
+-- A block that is held, and a position in it.
 use Rattle.std.specs.Prelude.{◌≡◌, ℕ, Bool, true, false, List, [], ◌∷◌, length, drop, Option, Some, None, Result, Ok, Err}
 use Rattle.lsm_codec.specs.Keys.{InternalKey, IsKey, key_bytes, is_internal, key_at}
 use Rattle.lsm_codec.specs.Entries.{Entry, internal_key}
@@ -12,7 +12,7 @@ pub record HeldBlock : Type 0 where
   pub text : List ℕ
   pub entries : List Entry
 
--- a place in a block: an offset in the text, and the key of the entry before it, if one was read
+-- a position in a block: an offset in the text, and the key of the entry before it, if one was read
 pub record Position : Type 0 where
   pub offset : ℕ
   pub last : Option InternalKey
@@ -21,7 +21,7 @@ abbrev pub bytes_of : Option InternalKey → List ℕ
 bytes_of None = []
 bytes_of (Some key) = key_bytes key
 
--- the entries of a block from a place on
+-- the entries of a block from a position on
 abbrev pub rest_of : HeldBlock → Position → List Entry
 rest_of block place = readable (length block.text) (bytes_of place.last) (drop place.offset block.text)
 

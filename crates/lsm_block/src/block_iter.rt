@@ -1,4 +1,4 @@
-//! A place at an entry of a block that others may hold too.
+//! A position at an entry of a block that others may hold too.
 
 ghost use Rattle.std.specs.Prelude.{◌≡◌, [], ℕ, IfOk, IfSome, OnOk, OnErr};
 ghost use Rattle.std.specs.Option.{option_map};
@@ -14,10 +14,10 @@ use std::alloc::{AllocError, Global};
 use std::marker::Model;
 use std::sync::Arc;
 
-/// A place at an entry of a block that others may hold too, or behind the last one. Contracts see
-/// it as the entries from that one on. It lends the key and the value of the first of them.
+/// A position at an entry of a block that others may hold too, or behind the last one. Contracts
+/// see it as the entries from that one on. It lends the key and the value of the first of them.
 ///
-/// The place is numbers and a key of its own, so it needs no reference into the block.
+/// The position is numbers and a key of its own, so it needs no reference into the block.
 #[derive(Drop)]
 pub struct BlockIter {
     block: Arc<Block>,

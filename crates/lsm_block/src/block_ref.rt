@@ -84,6 +84,7 @@ impl<'a> BlockRef<'a> {
         ensures front { cursor.new ≡ record { offset = 0; last = None } }
         ensures rest { rest_of self.now cursor.new ≡ self.now.entries }
     {
+        // Reads the field, so that the type's invariant is at hand.
         let _text = self.text;
         cursor.restart();
     }

@@ -20,7 +20,7 @@ pub enum BuildFault {
 impl BuildFault {
     ghost use Rattle.lsm_block.specs.BuildFault.{number_of, name_of};
 
-    /// The published number of the refusal.
+    /// The number of the refusal in docs/FORMATS.md.
     pub fn number(&self) -> u8
         ensures { result ≡ number_of self.now }
     {
@@ -30,7 +30,7 @@ impl BuildFault {
         }
     }
 
-    /// The published name of the refusal.
+    /// The name of the refusal in docs/FORMATS.md.
     pub fn name(&self) -> &'static str
         ensures { result.now ≡ name_of self.now }
     {

@@ -98,6 +98,7 @@ impl BlockBuilder {
         ensures exact { result ≡ after_last (last_key self.now.entries) (key_of key.now) }
         ensures ascends { result ≡ true → (value : List ℕ) → Ascends (self.now.entries ++ entry_of (key_of key.now) value ∷ []) }
     {
+        // Reads the field, so that the type's invariant is at hand.
         let _text = &self.text;
         match self.last_key() {
             Some(last) => last.compare(key).is_lt(),

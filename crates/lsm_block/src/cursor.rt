@@ -1,4 +1,4 @@
-//! A place in a block.
+//! A position in a block.
 
 ghost use Rattle.std.specs.Prelude.{◌≡◌, ◌≤◌, ℕ, List, None, length, take, IfOk, IfErr, OnOk, OnErr};
 ghost use Rattle.std.specs.Option.{option_map};
@@ -20,7 +20,7 @@ use lsm_codec::KeyRef;
 use std::alloc::{AllocError, Global};
 use std::marker::Model;
 
-/// A place in a block: the next entry's offset, and the key before it. Contracts see it so. One
+/// A position in a block: the next entry's offset, and the key before it. Contracts see it so. One
 /// cursor with its memory may go through many blocks, one after another.
 #[derive(Debug, Drop)]
 pub struct Cursor {
@@ -47,16 +47,6 @@ impl Cursor {
             offset: 0,
             before: Vec::new(alloc),
         }
-    }
-
-    /// Another cursor at the same place.
-    pub fn copy(&self, alloc: Global) -> Result<Cursor, AllocError>
-        ensures { IfOk result (λ c. c ≡ self.now) }
-    {
-        Ok(Cursor {
-            offset: self.offset,
-            before: Vec::from_slice(alloc, &self.before)?,
-        })
     }
 
     /// Goes before the first entry.

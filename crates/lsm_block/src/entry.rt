@@ -1,4 +1,10 @@
-//! The entries of a block, one at a time.
+//! The entries of a block, one at a time, as they lie in its text:
+//!
+//! ```text
+//! shared: varint32 | unshared: varint32 | value's length: varint32 | key bytes | value
+//! ```
+//!
+//! The key is `shared` bytes of the key before, then the `unshared` key bytes that stand here.
 
 ghost use Rattle.std.specs.Prelude.{◌≡◌, ◌≤◌, [], ℕ, List, length, IfSome};
 ghost use Rattle.std.specs.Option.{option_map};

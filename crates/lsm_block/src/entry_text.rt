@@ -1,4 +1,9 @@
-//! The text of an entry as it is written.
+//! The text of an entry as it is written: three numbers, each a varint32 in its shortest form, then
+//! the key bytes that the key before does not share, then the value.
+//!
+//! ```text
+//! shared | unshared | value's length | unshared key bytes | value
+//! ```
 
 ghost use Rattle.std.specs.Prelude.{◌≡◌, ℕ, ◌+◌, ◌/◌, ◌^◌, ◌<◌, ◌≤◌, ◌++◌, List, length, take, drop, vec_len, OnOk, OnErr};
 ghost use Rattle.std.specs.Int.{w32, w64, to_le_bytes};

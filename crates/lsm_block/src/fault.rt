@@ -29,7 +29,7 @@ pub enum BlockFault {
 impl BlockFault {
     ghost use Rattle.lsm_block.specs.Fault.{number_of, name_of};
 
-    /// The published number of the refusal.
+    /// The number of the refusal in docs/FORMATS.md.
     pub fn number(&self) -> u8
         ensures { result ≡ number_of self.now }
     {
@@ -41,7 +41,7 @@ impl BlockFault {
         }
     }
 
-    /// The published name of the refusal. The offset is not in it; `Display` adds it.
+    /// The name of the refusal in docs/FORMATS.md. The offset is not in it; `Display` adds it.
     pub fn name(&self) -> &'static str
         ensures { result.now ≡ name_of self.now }
     {

@@ -5,10 +5,7 @@ use Rattle.lsm_codec.specs.declared.stride_tables.TheConstants.{SKIP_0, SKIP_1, 
 use Rattle.std.proofs.lemmas.List.{get_or-map}
 use Rattle.lsm_codec.specs.Turns.{shift, turns}
 use Rattle.lsm_codec.proofs.Shifts.{turns-turns}
-use Rattle.lsm_codec.proofs.TableFacts.{table_7}
-
-lt_len : (i : ℕ) (xs : List ℕ) → i < 256 → length xs ≡ 256 → i < length xs
-lt_len i xs h e = omega arith
+use Rattle.lsm_codec.proofs.TableFacts.{lt_len, table_7}
 
 -- a table made of the one before it by more turns
 next : (more : ℕ) (before after : List ℕ) → after ≡ map (turns more) before → (i count : ℕ) → i < length before → get_or before i 0 ≡ turns count i → get_or after i 0 ≡ turns (count + more) i

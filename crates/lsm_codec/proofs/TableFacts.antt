@@ -19,7 +19,7 @@ get_or-tabulate f start (suc count) (suc i) h =
     let e : suc start + i ≡ start + suc i = omega arith in
     get_or-tabulate f (suc start) count i (omega arith) ∙ ap f e
 
-lt_len : (i : ℕ) (xs : List ℕ) → i < 256 → length xs ≡ 256 → i < length xs
+pub lt_len : (i : ℕ) (xs : List ℕ) → i < 256 → length xs ≡ 256 → i < length xs
 lt_len i xs h e = omega arith
 
 -- a table made of the one before it

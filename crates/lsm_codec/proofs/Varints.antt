@@ -3,7 +3,7 @@ use Rattle.std.proofs.Common.{◌≡◌, ℕ, zero, suc, ◌+◌, ◌-◌, ◌*�
 use Rattle.std.specs.Prelude.{IfOk, IfErr, ◌↔◌}
 use Rattle.std.proofs.Math.Nat.{pow-suc}
 use Rattle.std.proofs.lemmas.Bool.{cases_lt, le-ltb, lt-ltb, le-leb, lt-leb}
-use Rattle.std.proofs.lemmas.List.{take_all, take_at, take-append-drop, length-take-le, length-drop, length-append}
+use Rattle.std.proofs.lemmas.List.{take_all, take_at, drop_at, take-append-drop, length-take-le, length-drop, length-append, get_or-drop}
 use Rattle.lsm_codec.specs.declared.fault.CodecFault.{CodecFault}
 use Rattle.lsm_codec.specs.declared.fault.CodecFault.TheVariants.{Cut, TooBig}
 use Rattle.lsm_codec.specs.Varint.{AreGroups, value_of, IsVarint, IsCut, IsEndless, IsOver, IsTooBig, GetsVarint, Reads, IsShortest, with_low, varint_at, shortest}
@@ -46,6 +46,12 @@ more_ok most max (b ∷ bs) high used h l g is small =
 
 abbrev pub IsBytes : List ℕ → Type 0
 IsBytes bytes = (i : ℕ) → get_or bytes i 0 < 256
+
+pub IsBytes-after : (bytes front rest : List ℕ) → bytes ≡ front ++ rest → IsBytes bytes → IsBytes rest
+IsBytes-after bytes front rest e fits i =
+    let d : drop (length front) bytes ≡ rest = ap (drop (length front)) e ∙ drop_at front rest (length front) refl in
+    let f : get_or (drop (length front) bytes) i 0 < 256 = rw get_or-drop (fits (length front + i)) in
+    rw d at f
 
 groups-cons : (b : ℕ) (bs : List ℕ) → 128 ≤ b → b < 256 → AreGroups bs → AreGroups (b ∷ bs)
 groups-cons b [] h k g = absurd g

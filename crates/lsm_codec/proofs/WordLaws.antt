@@ -61,7 +61,8 @@ after_words-start (x ∷ xs) r =
     (ap (λ (n : ℕ). turns n x) (sym count) ∙ sym (turns-turns (length xs * 64) 64 x) ∙ ap (λ (n : ℕ). turns (length xs * 64) (turns 64 n)) (sym (xor_zero_l x)))
     ∙ sym (after_words-start xs (turns 64 (bit_xor 0 x))))
 
--- One stride: the words so far are moved on by a stride, each by itself, and the new words are added.
+-- One stride: the words so far are moved on by a stride, each by itself, and the new words are
+-- added.
 pub stride : (state block : List ℕ) → length state ≡ length block
     → after_words (after_words 0 state) block ≡ after_words 0 (xor_words (map (turns (length block * 64)) state) block)
 stride state block e =

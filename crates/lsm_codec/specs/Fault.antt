@@ -1,4 +1,4 @@
--- The numbers and names of refusals, under which the program reports them (this project's rule).
+-- The numbers and names of refusals in docs/FORMATS.md (this project's rule).
 use Rattle.std.specs.Prelude.{ℕ, List, codes}
 use Rattle.lsm_codec.specs.declared.fault.CodecFault.{CodecFault}
 use Rattle.lsm_codec.specs.declared.fault.CodecFault.TheVariants.{Cut, TooBig, ShortKey, BadKind}

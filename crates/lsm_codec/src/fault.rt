@@ -24,7 +24,7 @@ pub enum CodecFault {
 }
 
 impl CodecFault {
-    /// The number under which the program reports the refusal.
+    /// The number of the refusal in docs/FORMATS.md.
     pub fn number(&self) -> u8
         ensures { result ≡ number_of self.now }
     {
@@ -36,8 +36,7 @@ impl CodecFault {
         }
     }
 
-    /// The name under which the program reports the refusal. The fields are not in it; `Display`
-    /// adds them.
+    /// The name of the refusal in docs/FORMATS.md. The fields are not in it; `Display` adds them.
     pub fn name(&self) -> &'static str
         ensures { result.now ≡ name_of self.now }
     {

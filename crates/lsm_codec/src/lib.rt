@@ -21,12 +21,16 @@ mod internal_key;
 mod kind;
 
 // Checksums.
-mod byte_tables;
-mod bytewise;
 mod checksum;
-mod stride_tables;
+// In strides of 32 bytes.
 mod stridewise;
+// Word by word.
 mod wordwise;
+// Byte by byte.
+mod bytewise;
+// The tables of all three.
+mod byte_tables;
+mod stride_tables;
 
 pub use bytes::Bytes;
 pub use checksum::{crc_extend, crc32c, mask, unmask};

@@ -19,7 +19,7 @@ pub returns-in_default-clause-found : goal.returns-in_default-clause-found
 returns-in_default-clause-found c =
     let read = rw (c.rest_from-rest.ensures, c.deref.ensures.value) at c.in_default.ensures.reads in
     let none = read_on_none c.args.text.now c.loop-offset.before.items c.loop-offset.offset read in
-    none ∙ below-nothing (key_of c.args.key.now) ∙ ap (not_below (key_of c.args.key.now)) (sym none) ∙ c.loop-offset.invariant.0
+    none ∙ sym (below-nothing (key_of c.args.key.now)) ∙ ap (not_below (key_of c.args.key.now)) (sym none) ∙ c.loop-offset.invariant.0
 
 pub is_below-requires : goal.is_below-requires
 is_below-requires c =
@@ -60,4 +60,4 @@ loop-offset-preserved c =
 pub returns-clause-found : goal.returns-clause-found
 returns-clause-found c =
     let none = scan_ends c.args.text.now c.loop-offset.before.items c.loop-offset.offset (omega (arith, c.loop-offset-test.false)) in
-    none ∙ below-nothing (key_of c.args.key.now) ∙ ap (not_below (key_of c.args.key.now)) (sym none) ∙ c.loop-offset.invariant.0
+    none ∙ sym (below-nothing (key_of c.args.key.now)) ∙ ap (not_below (key_of c.args.key.now)) (sym none) ∙ c.loop-offset.invariant.0
