@@ -1,5 +1,5 @@
 -- Words of a command line, taken apart.
-use Rattle.std.proofs.Common.{◌≡◌, ℕ, Bool, false, Option, Some, None, ◌-◌, ◌<◌, ◌≤◌, List, [], ◌∷◌, codes, length, map, get_or, drop, take, refl, sym, ap, ◌∙◌, subst, arith}
+use Rattle.std.proofs.Common.{◌≡◌, ℕ, Bool, false, Option, Some, None, ◌-◌, ◌≤◌, List, ◌∷◌, codes, length, map, get_or, drop, take, refl, sym, ap, ◌∙◌, subst, arith}
 use Rattle.std.proofs.lemmas.List.{drop_more, take_all, length-drop}
 use Rattle.lsm_commands.specs.DirectoryLine.{AsksOn, Spell}
 use Rattle.lsm_commands.specs.Options.{unbounded}
@@ -8,11 +8,6 @@ use Rattle.lsm_commands.specs.declared.directory_line.Asked.{Asked}
 use Rattle.lsm_commands.specs.declared.form.Form.{Form}
 use Rattle.lsm_commands.specs.declared.directory_command.DirectoryCommand.{DirectoryCommand}
 use Rattle.lsm_commands.specs.declared.directory_command.DirectoryCommand.TheVariants.{Check, List as ListFiles, Get, Scan}
-
-pub one_word : {X : Type 0} (text : X → List ℕ) (xs : List X) (a : X) → a ≡ get_or xs 0 a → 1 ≤ length xs → length xs < 2 → map text xs ≡ text a ∷ []
-one_word text [] a e h k = absurd (omega (arith, h))
-one_word text (x ∷ []) a e h k = ap (λ y. text y ∷ []) (sym e)
-one_word text (x ∷ y ∷ ys) a e h k = absurd (omega (arith, k))
 
 pub two_words : {X : Type 0} (text : X → List ℕ) (xs : List X) (a b : X) → a ≡ get_or xs 0 a → b ≡ get_or xs 1 b → 2 ≤ length xs
     → text a ∷ text b ∷ map text (drop 2 xs) ≡ map text xs

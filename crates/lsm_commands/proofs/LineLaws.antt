@@ -34,7 +34,7 @@ digits-HasNo separator (c ∷ cs) b h =
     let range = digit_from_value c h.0 in
     (λ e. absurd (omega (arith, range.0, b.0)), digits-HasNo separator cs b h.1)
 
-hex_digit-other : (separator c : ℕ) → is_hex_digit separator ≡ false → is_hex_digit c ≡ true → c ≢ separator
+pub hex_digit-other : (separator c : ℕ) → is_hex_digit separator ≡ false → is_hex_digit c ≡ true → c ≢ separator
 hex_digit-other separator c b h e = let bad : true ≡ false = sym h ∙ ap is_hex_digit e ∙ b in absurd cc
 
 hex-HasNo : (separator : ℕ) (cs : List ℕ) → is_hex_digit separator ≡ false → AllPass is_hex_digit cs → HasNo separator cs

@@ -232,10 +232,6 @@ one_bad text i j a b = elim (cases_order i j) [
   ]
 ]
 
-told : (text : List ℕ) (i : ℕ) (r : Result (List Entry) ℕ) → list_at text ≡ r → IsFirstBadLine text i → r ≡ Err i
-told text i (Ok es) h b = absurd (b.bad (take i es) (front_is i (lines_of text) es (list_takes text es h)))
-told text i (Err j) h b = ap (λ k. Err k) (one_bad text j i (list_bad text j h) b)
-
 pub not_both : (text : List ℕ) (es : List Entry) (i : ℕ) → IsEntryList text es → IsFirstBadLine text i → ⊥
 not_both text es i l b = b.bad (take i es) (front_is i (lines_of text) es l)
 

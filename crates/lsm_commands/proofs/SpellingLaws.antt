@@ -12,6 +12,7 @@ use Rattle.lsm_commands.specs.EntryList.{IsBytesWord}
 use Rattle.lsm_commands.specs.Spelling.{AreParts, IsClear, IsPart, IsTextWord, IsWord, escaped, is_plain, lower_digit, spelled, spelled_byte, text_word}
 use Rattle.lsm_commands.specs.declared.form.Form.{Form}
 use Rattle.lsm_commands.specs.declared.form.Form.TheVariants.{Hex, Text}
+use Rattle.lsm_commands.proofs.LineLaws.{hex_digit-other}
 use Rattle.lsm_commands.proofs.PrintLaws.{bytes_word-is}
 
 -- ---- one byte
@@ -241,9 +242,6 @@ part-clear p b (inr x) = rw (x.0) (escaped-clear b x.1)
 parts-clear : (word bytes : List ℕ) → AreParts word bytes → All IsClear word
 parts-clear word [] h = rw h (All-nil IsClear)
 parts-clear word (b ∷ bs) h = rw (h.2) (All-append IsClear h.0 h.1 (part-clear h.0 b h.3) (parts-clear h.1 bs h.4))
-
-hex_digit-other : (separator c : ℕ) → is_hex_digit separator ≡ false → is_hex_digit c ≡ true → c ≢ separator
-hex_digit-other separator c b h e = let bad : true ≡ false = sym h ∙ ap is_hex_digit e ∙ b in absurd cc
 
 digits-clear : (cs : List ℕ) → AllPass is_hex_digit cs → All IsClear cs
 digits-clear [] h = All-nil IsClear

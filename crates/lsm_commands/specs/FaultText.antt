@@ -1,4 +1,4 @@
--- What a fault is called on standard error: this project's rule. Of a refusal its published number and name, and then its field.
+-- What a fault is called on standard error: this project's rule. Of a refusal its number and name, and then its field.
 use Rattle.std.specs.Prelude.{ℕ, List, [], ◌∷◌, ◌++◌, codes, decimal, Option, Some, None}
 use Rattle.lsm_block.specs.declared.build_fault.BuildFault.TheVariants.{TooLarge as TooLargeBlock}
 use Rattle.lsm_block.specs.BuildFault as block

@@ -137,8 +137,8 @@ not read.
 A refusal of a table names its file, as in `refused 15 BadChecksum 0 in
 000005.ldb`.
 
-Exit status: 0 where all was printed, 1 at a fault, where one of the device
-leaves the lines that were printed before it, 2 bad command line.";
+Exit status: 0 where all was printed, 1 at a fault: lines that were printed
+before it stand, 2 bad command line.";
 
 const SCAN_EXAMPLE: &str = "Examples: lsm scan db --from 61 --to 6dff
           lsm scan db --text --progress";

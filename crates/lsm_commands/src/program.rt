@@ -76,8 +76,8 @@ fn explain<E: Write>(err: &mut E, fault: &Fault) -> io::Result<()> {
 /// fault` and `bad line I` a second one explains; then nothing is written to `out`, but for a write
 /// fault.
 ///
-/// `bad line I` names the first bad line of a list, `refused N Name ..` a refusal by its published
-/// number and name (docs/FORMATS.md). A read that fails, or that gives more than 64 MiB, is
+/// `bad line I` names the first bad line of a list, `refused N Name ..` a refusal by its number
+/// and name (docs/FORMATS.md). A read that fails, or that gives more than 64 MiB, is
 /// `read fault`, a write that fails `write fault`.
 pub fn run<S: AsStr, R: Read, O: Write, E: Write>(
     alloc: Global,

@@ -11,7 +11,7 @@ use lsm_manifest::{EditFault, LogFault};
 use lsm_table::{BuildFault, TableFault};
 use std::fmt;
 
-/// A refusal as it is printed: its published number and name, and then its field, if it has one.
+/// A refusal as it is printed: its number and name (docs/FORMATS.md), and its field, if it has one.
 #[derive(Clone, Copy)]
 pub struct Refusal {
     pub number: u8,

@@ -9,11 +9,8 @@ use Rattle.lsm_table.specs.Handle.{handle_text}
 use Rattle.lsm_table.specs.StoredBlock.{stored}
 use Rattle.lsm_table.specs.Table.{last_of}
 use Rattle.lsm_table.specs.TableBuilding.{last_group, data_text, index_of, place}
+use Rattle.lsm_table.proofs.LastLaws.{last-group}
 use Rattle.lsm_table.proofs.MakingLaws.{building, length-none, data_text-one, data_text-none, index_of-one, index_of-none}
-
-last_is : (e : Entry) (es : List Entry) → last_key (e ∷ es) ≡ Some (internal_key (last_of e es))
-last_is e [] = refl
-last_is e (f ∷ es) = last_is f es
 
 some_key_is : (a b : InternalKey) → Some a ≡ Some b → a ≡ b
 some_key_is a b e = cc
@@ -29,7 +26,7 @@ pub record OneGroup (interval offset : ℕ) (es : List Entry) (key : InternalKey
 pub one_group : (interval offset : ℕ) (es : List Entry) (key : InternalKey) → key_if key ≡ last_key es → OneGroup interval offset es key
 one_group interval offset [] key h = absurd cc
 one_group interval offset (e ∷ es) key h =
-    let same : internal_key (last_of e es) ≡ key = some_key_is (internal_key (last_of e es)) key (sym (last_is e es) ∙ sym h) in
+    let same : internal_key (last_of e es) ≡ key = some_key_is (internal_key (last_of e es)) key (sym (last-group e es) ∙ sym h) in
     record {
       text_is = data_text-one interval (e ∷ es);
       index_is = index_of-one interval offset e es ∙ ap (λ (k : InternalKey). entry_of k (handle_text (place offset (block_bytes interval (e ∷ es)))) ∷ []) same;
@@ -55,7 +52,7 @@ no_key = None
 
 pub no_group : (interval offset : ℕ) (es : List Entry) → no_key ≡ last_key es → NoGroup interval offset es
 no_group interval offset [] h = none_group interval offset
-no_group interval offset (e ∷ es) h = let found = h ∙ last_is e es in absurd cc
+no_group interval offset (e ∷ es) h = let found = h ∙ last-group e es in absurd cc
 
 pub same_building : (b : Building) (es : List Entry) → b.entries ≡ es → b ≡ building b.interval es
 same_building b es e = ap (building b.interval) e

@@ -2,8 +2,6 @@
 use Rattle.std.proofs.Common.{◌≡◌, ℕ, ◌+◌, true, eqb, List, [], ◌∷◌, ◌++◌, length, Option, Some, None, Ok, refl, sym, ap, ◌∙◌, subst, arith}
 use Rattle.std.specs.List.{AllByRecursion}
 use Rattle.std.specs.Ordering.{is_lt, is_le}
-use Rattle.std.specs.declared.cmp.Ordering.{Ordering}
-use Rattle.std.specs.declared.cmp.Ordering.TheVariants.{Less, Equal, Greater}
 use Rattle.std.proofs.lemmas.Bool.{eqb-true}
 use Rattle.std.proofs.lemmas.List.{append-nil}
 use Rattle.lsm_codec.specs.Keys.{InternalKey, key_cmp}
@@ -23,6 +21,7 @@ use Rattle.lsm_table.proofs.ByteLists.{and_true}
 use Rattle.lsm_table.proofs.ReadingLaws.{bind_ok, guard_ok, ok_is, block_ok}
 use Rattle.lsm_table.proofs.HandleLaws.{handle_takes, handle_again}
 use Rattle.lsm_table.proofs.StoredBlockLaws.{contents_takes, contents_again}
+use Rattle.lsm_table.proofs.KeyOrder.{is_less}
 
 -- ---- values are bytes
 
@@ -85,11 +84,6 @@ data_block_again body bound i es p d =
     rw (h, c, b, p) refl
 
 -- ---- one after the other
-
-is_less : (o : Ordering) → is_lt o ≡ true → o ≡ Less
-is_less Less e = refl
-is_less Equal e = absurd cc
-is_less Greater e = absurd cc
 
 after_is : (bound : Option InternalKey) (e : Entry) → is_after bound e ≡ true → IsAfter bound e
 after_is None e h = tt

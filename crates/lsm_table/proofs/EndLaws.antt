@@ -37,10 +37,10 @@ not_le Less h = absurd cc
 not_le Equal h = absurd cc
 not_le Greater h = refl
 
-is_less : (o : Ordering) → is_gt o ≡ false → is_le o ≡ true
-is_less Less h = refl
-is_less Equal h = refl
-is_less Greater h = absurd cc
+not_greater : (o : Ordering) → is_gt o ≡ false → is_le o ≡ true
+not_greater Less h = refl
+not_greater Equal h = refl
+not_greater Greater h = absurd cc
 
 and_no : (a b : Bool) → b ≡ false → false ≡ (a && b)
 and_no true b h = sym h
@@ -68,5 +68,5 @@ placed_is block old new o v bound first last key value r g is all at ends le aft
     let same : first ≡ given.0 = some_key first given.0 (at ∙ given.1) in
     let final : last ≡ internal_key (last_of e rest) = some_key last (internal_key (last_of e rest)) (ends ∙ ap (last_after None) parts ∙ last_from e rest) in
     after ∙ ap (comes_after bound) same ∙ after_is_same bound e
-    ∙ and_yes (is_after bound e) (is_le (key_cmp (internal_key (last_of e rest)) key)) (ap (λ (k : InternalKey). is_le (key_cmp k key)) (sym final) ∙ is_less (key_cmp last key) le)
+    ∙ and_yes (is_after bound e) (is_le (key_cmp (internal_key (last_of e rest)) key)) (ap (λ (k : InternalKey). is_le (key_cmp k key)) (sym final) ∙ not_greater (key_cmp last key) le)
     ∙ ap (are_placed bound (entry_of key value)) (sym parts)

@@ -1,5 +1,5 @@
 -- The blocks of a checked table, as they are lent.
-use Rattle.std.proofs.Common.{◌≡◌, ℕ, ◌-◌, ◌^◌, ◌≤◌, List, [], ◌∷◌, length, take, drop, Result, Ok, refl, sym, ap, ◌∙◌, subst, arith}
+use Rattle.std.proofs.Common.{◌≡◌, ℕ, ◌-◌, ◌^◌, List, [], ◌∷◌, take, drop, Result, Ok, refl, sym, ap, ◌∙◌, subst, arith}
 use Rattle.lsm_codec.specs.declared.fault.CodecFault.{CodecFault}
 use Rattle.lsm_codec.specs.Varint.{varint64_at}
 use Rattle.lsm_codec.proofs.CallerLemmas.{done_is, varint_again}
@@ -22,9 +22,6 @@ offset_read bytes handle h = ap varint64_at h.bytes_are ∙ varint_again 10 (2 ^
 
 pub size_read : (bytes : List ℕ) (handle : Handle) (h : IsHandle bytes handle) → varint64_at h.size_text ≡ Ok (handle.size, [])
 size_read bytes handle h = ap varint64_at (sym (append-nil h.size_text)) ∙ varint_again 10 (2 ^ 64 - 1) h.size_text [] handle.size h.size_is
-
-pub ends_at : (body : List ℕ) (handle : Handle) (es : List Entry) → BlockAt body handle es → handle.size ≤ length (drop handle.offset body)
-ends_at body handle es b = (slice_of body handle b.contents b.held).ends
 
 pub held_there : (body : List ℕ) (handle : Handle) (es : List Entry) → BlockAt body handle es → held (take handle.size (drop handle.offset body)) ≡ es
 held_there body handle es b = ap held (slice_of body handle b.contents b.held).is ∙ block_held b.contents es b.block

@@ -17,7 +17,7 @@ last-append [] y ys = refl
 last-append (x ∷ []) y ys = refl
 last-append (x ∷ z ∷ xs) y ys = last-append (z ∷ xs) y ys
 
-last-group : (e : Entry) (es : List Entry) → last_key (e ∷ es) ≡ Some (internal_key (last_of e es))
+pub last-group : (e : Entry) (es : List Entry) → last_key (e ∷ es) ≡ Some (internal_key (last_of e es))
 last-group e [] = refl
 last-group e (f ∷ es) = last-group f es
 

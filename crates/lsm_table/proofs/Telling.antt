@@ -1,7 +1,7 @@
 -- Calls of a shelf one after another, among them those that read a table.
 use Rattle.lsm_shelf.specs.Told.{Told, Becomes}
-use Rattle.lsm_shelf.proofs.CallerLemmas.{counted_later, counted_before}
-pub use Rattle.lsm_shelf.proofs.CallerLemmas.{becomes_same, becomes_then, place_then, counted_later, counted_before}
+use Rattle.lsm_shelf.proofs.CallerLemmas.{counted_later}
+pub use Rattle.lsm_shelf.proofs.CallerLemmas.{becomes_same, becomes_then, counted_later}
 use Rattle.lsm_table.specs.ReadFault.{ReadCounted}
 use Rattle.lsm_table.specs.declared.read_fault.ReadFault.{ReadFault}
 use Rattle.lsm_table.specs.declared.read_fault.ReadFault.TheVariants as read

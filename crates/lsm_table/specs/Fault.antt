@@ -1,4 +1,4 @@
--- The published numbers and names of refusals, and a block's refusal as one of its table.
+-- The numbers and names of refusals in docs/FORMATS.md, and a block's refusal as one of its table.
 use Rattle.std.specs.Prelude.{ℕ, List, codes}
 use Rattle.lsm_block.specs.declared.fault.BlockFault.{BlockFault}
 use Rattle.lsm_block.specs.declared.fault.BlockFault.TheVariants as block

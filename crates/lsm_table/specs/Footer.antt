@@ -11,7 +11,7 @@ use Rattle.lsm_table.specs.Handle.{IsHandle, handle_text, handle_at}
 abbrev pub magic : List ℕ
 magic = 0x57 ∷ 0xfb ∷ 0x80 ∷ 0x8b ∷ 0x24 ∷ 0x75 ∷ 0x47 ∷ 0xdb ∷ []
 
--- the places of the metaindex and of the index, anything up to 40 bytes, and the magic number
+-- the handles of the metaindex and of the index, anything up to 40 bytes, and the magic number
 pub record IsFooter (bytes : List ℕ) (footer : Footer) : Type 0 where
   pub metaindex_text : List ℕ
   pub index_text : List ℕ
@@ -23,7 +23,7 @@ pub record IsFooter (bytes : List ℕ) (footer : Footer) : Type 0 where
 
 -- ---- reading
 
--- the two places
+-- the two handles
 unfoldable pub places_at : List ℕ → Result Footer TableFault
 places_at bytes = do
   metaindex ← handle_at BadHandle bytes
@@ -44,7 +44,7 @@ footer_at bytes =
 
 -- ---- writing
 
--- both places, then zeros up to 40 bytes
+-- both handles, then zeros up to 40 bytes
 abbrev pub padded : List ℕ → List ℕ
 padded places = places ++ replicate (40 - length places) 0
 

@@ -18,8 +18,3 @@ seen found = option_map value_of found
 abbrev pub found_in : Option Entry → Option (Option (List ℕ))
 found_in None = None
 found_in (Some e) = Some (shown e.kind e.value)
-
--- what it answers: a value, and nothing for a deletion too
-abbrev pub answered : Option (Option (List ℕ)) → Option (List ℕ)
-answered None = None
-answered (Some value) = value

@@ -1,11 +1,11 @@
--- The place of a block in a table's file (LevelDB's `doc/table_format.md`, "BlockHandle").
+-- The handle of a block in a table's file (LevelDB's `doc/table_format.md`, "BlockHandle").
 use Rattle.std.specs.Prelude.{◌≡◌, ℕ, List, ◌++◌, Result, Ok}
 use Rattle.lsm_codec.specs.Varint.{IsVarint64, varint64, varint64_at}
 use Rattle.lsm_table.specs.declared.table_fault.TableFault.{TableFault}
 use Rattle.lsm_table.specs.declared.handle.Handle.{Handle}
 use Rattle.lsm_table.specs.Reading.{◌>>=◌, number_or}
 
--- The bytes spell the place: varint64 offset, varint64 size. The size is that of the contents, the
+-- The bytes spell the handle: varint64 offset, varint64 size. The size is that of the contents, the
 -- trailer not counted.
 pub record IsHandle (bytes : List ℕ) (handle : Handle) : Type 0 where
   pub offset_text : List ℕ
@@ -18,7 +18,7 @@ pub record IsHandle (bytes : List ℕ) (handle : Handle) : Type 0 where
 abbrev pub handle_text : Handle → List ℕ
 handle_text handle = varint64 handle.offset ++ varint64 handle.size
 
--- the place at the front, and what follows it
+-- the handle at the front, and what follows it
 unfoldable pub handle_at : TableFault → List ℕ → Result (Handle × List ℕ) TableFault
 handle_at fault bytes = do
   offset ← number_or fault (varint64_at bytes)

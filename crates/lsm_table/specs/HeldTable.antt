@@ -58,7 +58,7 @@ block_there body handle = block_in (take handle.size (drop handle.offset body))
 abbrev pub IsSpelled : List ℕ → Type 0
 IsSpelled bytes = (handle : Handle) × IsHandle bytes handle
 
--- The bytes spell this place and no other one.
+-- The bytes spell this handle and no other one.
 abbrev pub SpellsJust : List ℕ → Handle → Type 0
 SpellsJust bytes handle = (other : Handle) → IsHandle bytes other → handle ≡ other
 

@@ -38,7 +38,7 @@ Opens (Ok t) read = settled read ≡ Ok tt
 Opens (Err (Shelf fault)) read = Unit {0}
 Opens (Err (Table fault)) read = Fails fault read
 
--- the entries of the block that the value of an index entry names, or the first fault of its place
+-- the entries of the block that the value of an index entry names, or the first fault of its handle
 -- and the block
 unfoldable pub block_named : List ℕ → List ℕ → Result (List Entry) TableFault
 block_named body value = do

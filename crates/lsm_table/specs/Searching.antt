@@ -15,12 +15,12 @@ use Rattle.lsm_table.specs.HeldTable.{Names}
 abbrev pub read_key : UserKey → ℕ → InternalKey
 read_key k s = record { user = k; seq = s; kind = Value }
 
--- the first of the entries, if it is the user's
+-- the first of the entries, if it is the user key's
 abbrev pub of_user : UserKey → List Entry → Option Entry
 of_user k [] = None
 of_user k (e ∷ es) = cond (bytes_eq e.user k) (Some e) None
 
--- what a search of one data block tells of a user, where these entries are not below the key
+-- what a search of one data block tells of a user key, where these entries are not below the key
 abbrev pub Tells : UserKey → List Entry → Search → Type 0
 Tells k es GoesOn = es ≡ []
 Tells k [] (Ended found) = ⊥

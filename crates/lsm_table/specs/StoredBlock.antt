@@ -23,7 +23,7 @@ trailer contents = 0 ∷ seal (contents ++ 0 ∷ [])
 abbrev pub stored : List ℕ → List ℕ
 stored contents = contents ++ trailer contents
 
--- The part before the footer holds these contents at that place, with their trailer.
+-- The part before the footer holds these contents at that handle, with their trailer.
 pub record Holds (body : List ℕ) (handle : Handle) (contents : List ℕ) : Type 0 where
   pub before : List ℕ
   pub after : List ℕ
@@ -42,7 +42,7 @@ unsealed offset size text =
     guarded (bytes_eq (drop (size + 1) text) (seal (take (size + 1) text))) (BadChecksum offset)
     (guarded (slice_index text size == 0) (kind_fault (slice_index text size)) (Ok (take size text)))
 
--- the contents of the block at that place
+-- the contents of the block at that handle
 unfoldable pub contents_at : List ℕ → Handle → Result (List ℕ) TableFault
 contents_at body handle =
     guarded (nat_le (handle.offset + handle.size + 5) (length body)) BadHandle

@@ -50,7 +50,7 @@ data_text interval (group ∷ groups) = stored (block_bytes interval group) ++ d
 abbrev pub place : ℕ → List ℕ → Handle
 place offset contents = record { offset = offset; size = length contents }
 
--- the index entry of a data block: its last internal key, and its place
+-- the index entry of a data block: its last internal key, and its handle
 abbrev pub index_entry : Entry → Handle → Entry
 index_entry last handle = entry_of (internal_key last) (handle_text handle)
 

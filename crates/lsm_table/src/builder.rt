@@ -33,7 +33,7 @@ pub struct TableBuilder {
     // then an entry either stands in the open block, or nothing has changed.
     taken: BlockBuilder,
     index: BlockBuilder,
-    // Memory for the place of a block.
+    // Memory for the handle of a block.
     place: Vec<u8>,
 }
 
@@ -46,6 +46,115 @@ impl Model for TableBuilder {
     ghost view = { λ b. record { options = b.options; entries = entries_made b.front.items b.index.entries b.taken.entries } };
 
     ghost invariant = { λ b. Made b.options (entries_made b.front.items b.index.entries b.taken.entries) b.front.items b.taken b.index };
+}
+
+impl TableBuilder {
+    /// A builder of a table without entries.
+    pub fn new(alloc: Global, options: TableOptions) -> TableBuilder
+        requires { AreInRange options }
+        ensures { result ≡ record { options = options; entries = [] } }
+    {
+        TableBuilder {
+            alloc,
+            options,
+            front: Vec::new(alloc),
+            taken: BlockBuilder::new(alloc, options.restart_interval),
+            index: BlockBuilder::new(alloc, 1),
+            place: Vec::new(alloc),
+        }
+    }
+
+    /// The key of the last entry, if there is one.
+    pub fn last_key(&self) -> Option<KeyRef<'_>>
+        ensures key { option_map key_of result ≡ last_key self.now.entries }
+        ensures ascends { Ascends self.now.entries }
+    {
+        match self.taken.last_key() {
+            Some(key) => Some(key),
+            None => self.index.last_key(),
+        }
+    }
+
+    /// Whether an entry of this key may be added: it stands after the last one.
+    pub fn comes_last(&self, key: &KeyRef<'_>) -> bool
+        ensures exact { result ≡ after_last (last_key self.now.entries) (key_of key.now) }
+        ensures ascends { result ≡ true → (value : List ℕ) → Ascends (self.now.entries ++ entry_of (key_of key.now) value ∷ []) }
+    {
+        match self.last_key() {
+            Some(last) => last.compare(key).is_lt(),
+            None => true,
+        }
+    }
+
+    /// Adds an entry after the others. `TooLarge` just where its data block would pass 2^32 - 1
+    /// bytes, or where the entry fills it and the index block would. An `Err` leaves the builder as
+    /// it was.
+    pub fn add(&mut self, user: &[u8], seq: u64, kind: Kind, value: &[u8]) -> Result<(), BuildFault>
+        requires seq { seq ≤ MAX_SEQ }
+        requires ascends { Ascends (self.old.entries ++ record { user = user.now; seq = seq; kind = kind; value = value.now } ∷ []) }
+        ensures ok { OnOk result (self.new ≡ record { options = self.old.options; entries = self.old.entries ++ record { user = user.now; seq = seq; kind = kind; value = value.now } ∷ [] }) }
+        ensures err { OnErr result (self.new ≡ self.old) }
+        ensures large { result ≡ Err TooLarge → PassesLimit self.old.options self.old.entries (record { user = user.now; seq = seq; kind = kind; value = value.now }) }
+        ensures fits { OnOk result (PassesLimit self.old.options self.old.entries (record { user = user.now; seq = seq; kind = kind; value = value.now }) → ⊥) }
+    {
+        let key = KeyRef { user, seq, kind };
+        settle(
+            self.options,
+            &mut self.front,
+            &mut self.taken,
+            &mut self.index,
+            &mut self.place,
+        )?;
+        let offset = self.front.len() as u64;
+        if !has_room(
+            self.options,
+            offset,
+            &self.taken,
+            &self.index,
+            &key,
+            value,
+            &mut self.place,
+        )? {
+            return Err(BuildFault::TooLarge);
+        }
+        self.taken.add(&key, value)
+    }
+
+    /// How many bytes the finished data blocks have, with their trailers.
+    pub fn written(&self) -> u64
+        ensures { result ≡ length (written_bytes self.now.options self.now.entries) }
+    {
+        let open = self.taken.size_estimate();
+        if open < self.options.block_size {
+            self.front.len() as u64
+        } else {
+            self.front.len() as u64 + open as u64 + TRAILER as u64
+        }
+    }
+
+    /// The table of the entries. `TooLarge` where the index block would pass 2^32 - 1 bytes.
+    pub fn finish(self) -> Result<Vec<u8>, BuildFault>
+        ensures bytes { IfOk result (λ v. v.items ≡ table_bytes self.options self.entries) }
+        ensures table { IfOk result (λ v. IsTable v.items self.entries) }
+        ensures large { result ≡ Err TooLarge → 2 ^ 32 ≤ length (index_block self.options.restart_interval (groups_by self.options self.entries)) }
+    {
+        let TableBuilder {
+            alloc,
+            mut front,
+            mut taken,
+            mut index,
+            mut place,
+            ..
+        } = self;
+        match close(&mut front, &mut taken, &mut index, &mut place) {
+            Ok(()) => {}
+            Err(fault) => return Err(fault),
+        }
+        match end(alloc, front, &index) {
+            Ok(file) => Ok(file),
+            Err(_) => Err(BuildFault::OutOfMemory),
+        }
+    }
 }
 
 /// Whether the index block stays below 2^32 bytes with the entry of a data block that ends with
@@ -179,113 +288,4 @@ fn end(alloc: Global, front: Vec<u8>, index: &BlockBuilder) -> Result<Vec<u8>, A
     };
     file.extend_from_slice(&footer.text(alloc)?)?;
     Ok(file)
-}
-
-impl TableBuilder {
-    /// A builder of a table without entries.
-    pub fn new(alloc: Global, options: TableOptions) -> TableBuilder
-        requires { AreInRange options }
-        ensures { result ≡ record { options = options; entries = [] } }
-    {
-        TableBuilder {
-            alloc,
-            options,
-            front: Vec::new(alloc),
-            taken: BlockBuilder::new(alloc, options.restart_interval),
-            index: BlockBuilder::new(alloc, 1),
-            place: Vec::new(alloc),
-        }
-    }
-
-    /// The key of the last entry, if there is one.
-    pub fn last_key(&self) -> Option<KeyRef<'_>>
-        ensures key { option_map key_of result ≡ last_key self.now.entries }
-        ensures ascends { Ascends self.now.entries }
-    {
-        match self.taken.last_key() {
-            Some(key) => Some(key),
-            None => self.index.last_key(),
-        }
-    }
-
-    /// Whether an entry of this key may be added: it stands after the last one.
-    pub fn comes_last(&self, key: &KeyRef<'_>) -> bool
-        ensures exact { result ≡ after_last (last_key self.now.entries) (key_of key.now) }
-        ensures ascends { result ≡ true → (value : List ℕ) → Ascends (self.now.entries ++ entry_of (key_of key.now) value ∷ []) }
-    {
-        match self.last_key() {
-            Some(last) => last.compare(key).is_lt(),
-            None => true,
-        }
-    }
-
-    /// Adds an entry after the others. `TooLarge` just where its data block would pass 2^32 - 1
-    /// bytes, or where the entry fills it and the index block would. An `Err` leaves the builder as
-    /// it was.
-    pub fn add(&mut self, user: &[u8], seq: u64, kind: Kind, value: &[u8]) -> Result<(), BuildFault>
-        requires seq { seq ≤ MAX_SEQ }
-        requires ascends { Ascends (self.old.entries ++ record { user = user.now; seq = seq; kind = kind; value = value.now } ∷ []) }
-        ensures ok { OnOk result (self.new ≡ record { options = self.old.options; entries = self.old.entries ++ record { user = user.now; seq = seq; kind = kind; value = value.now } ∷ [] }) }
-        ensures err { OnErr result (self.new ≡ self.old) }
-        ensures large { result ≡ Err TooLarge → PassesLimit self.old.options self.old.entries (record { user = user.now; seq = seq; kind = kind; value = value.now }) }
-        ensures fits { OnOk result (PassesLimit self.old.options self.old.entries (record { user = user.now; seq = seq; kind = kind; value = value.now }) → ⊥) }
-    {
-        let key = KeyRef { user, seq, kind };
-        settle(
-            self.options,
-            &mut self.front,
-            &mut self.taken,
-            &mut self.index,
-            &mut self.place,
-        )?;
-        let offset = self.front.len() as u64;
-        if !has_room(
-            self.options,
-            offset,
-            &self.taken,
-            &self.index,
-            &key,
-            value,
-            &mut self.place,
-        )? {
-            return Err(BuildFault::TooLarge);
-        }
-        self.taken.add(&key, value)
-    }
-
-    /// How many bytes the finished data blocks have, with their trailers.
-    pub fn written(&self) -> u64
-        ensures { result ≡ length (written_bytes self.now.options self.now.entries) }
-    {
-        let open = self.taken.size_estimate();
-        if open < self.options.block_size {
-            self.front.len() as u64
-        } else {
-            self.front.len() as u64 + open as u64 + TRAILER as u64
-        }
-    }
-
-    /// The table of the entries. `TooLarge` where the index block would pass 2^32 - 1 bytes.
-    pub fn finish(self) -> Result<Vec<u8>, BuildFault>
-        ensures bytes { IfOk result (λ v. v.items ≡ table_bytes self.options self.entries) }
-        ensures table { IfOk result (λ v. IsTable v.items self.entries) }
-        ensures large { result ≡ Err TooLarge → 2 ^ 32 ≤ length (index_block self.options.restart_interval (groups_by self.options self.entries)) }
-    {
-        let TableBuilder {
-            alloc,
-            mut front,
-            mut taken,
-            mut index,
-            mut place,
-            ..
-        } = self;
-        match close(&mut front, &mut taken, &mut index, &mut place) {
-            Ok(()) => {}
-            Err(fault) => return Err(fault),
-        }
-        match end(alloc, front, &index) {
-            Ok(file) => Ok(file),
-            Err(_) => Err(BuildFault::OutOfMemory),
-        }
-    }
 }

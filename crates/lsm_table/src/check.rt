@@ -21,6 +21,22 @@ use lsm_codec::KeyRef;
 use std::alloc::{AllocError, Global};
 use std::cmp::Ordering;
 
+/// Judges a file: its footer, its index block, and its data blocks. What comes back is the handle
+/// of the index block.
+pub(crate) fn judge(alloc: Global, file: &[u8]) -> Result<Handle, TableFault>
+    ensures held { IfOk result (λ index. HeldTable file.now index) }
+    ensures exact { Gives (λ _. entries_in file.now) result (table_at file.now) }
+{
+    let index = match judge_opening(alloc, file) {
+        Ok(index) => index,
+        Err(fault) => return Err(fault),
+    };
+    match judge_rest(alloc, file, index) {
+        Ok(()) => Ok(index),
+        Err(fault) => Err(fault),
+    }
+}
+
 /// Whether a key comes after the index key before it, where there is one.
 fn follows(bound: Option<KeyRef<'_>>, key: &KeyRef<'_>) -> bool
     ensures { result ≡ comes_after (option_map key_of bound.entry) (key_of key.now) }
@@ -87,7 +103,7 @@ fn named_block<'a>(
     }
 }
 
-/// Judges the data block of an index entry: its place, the block, and its keys.
+/// Judges the data block of an index entry: its handle, the block, and its keys.
 fn judge_block(
     body: &[u8],
     bound: Option<KeyRef<'_>>,
@@ -129,7 +145,7 @@ fn judge_data(alloc: Global, body: &[u8], index: &BlockRef<'_>) -> Result<(), Ta
     Ok(())
 }
 
-/// Judges the footer and the index block of a file. What comes back is the place of the index
+/// Judges the footer and the index block of a file. What comes back is the handle of the index
 /// block.
 #[tactic(auto, unfolding(crate::specs::OpenTable::opening_at))]
 fn judge_opening(alloc: Global, file: &[u8]) -> Result<Handle, TableFault>
@@ -160,22 +176,6 @@ fn judge_rest(alloc: Global, file: &[u8], index: Handle) -> Result<(), TableFaul
     let (body, block) = parts(file, index);
     match judge_data(alloc, body, &block) {
         Ok(()) => Ok(()),
-        Err(fault) => Err(fault),
-    }
-}
-
-/// Judges a file: its footer, its index block, and its data blocks. What comes back is the place of
-/// the index block.
-pub(crate) fn judge(alloc: Global, file: &[u8]) -> Result<Handle, TableFault>
-    ensures held { IfOk result (λ index. HeldTable file.now index) }
-    ensures exact { Gives (λ _. entries_in file.now) result (table_at file.now) }
-{
-    let index = match judge_opening(alloc, file) {
-        Ok(index) => index,
-        Err(fault) => return Err(fault),
-    };
-    match judge_rest(alloc, file, index) {
-        Ok(()) => Ok(index),
         Err(fault) => Err(fault),
     }
 }

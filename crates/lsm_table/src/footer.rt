@@ -1,10 +1,14 @@
-//! The end of a table's file.
+//! The end of a table's file, 48 bytes:
+//!
+//! ```text
+//! metaindex handle | index handle | padding up to 40 bytes | magic number, 8 bytes
+//! ```
 
 use crate::handle::Handle;
 use crate::table_fault::TableFault;
 use std::alloc::{AllocError, Global};
 
-/// A footer has 48 bytes: 40 for the two places, 8 for the magic number.
+/// A footer has 48 bytes: 40 for the two handles, 8 for the magic number.
 pub const FOOTER: usize = 48;
 
 const PLACES: usize = 40;
@@ -12,7 +16,7 @@ const PLACES: usize = 40;
 /// The fixed64 0xdb4775248b80fb57.
 const MAGIC: [u8; 8] = [0x57, 0xfb, 0x80, 0x8b, 0x24, 0x75, 0x47, 0xdb];
 
-/// The places of the metaindex block and of the index block (LevelDB's `doc/table_format.md`,
+/// The handles of the metaindex block and of the index block (LevelDB's `doc/table_format.md`,
 /// "footer").
 #[derive(Clone, Copy, Debug, PartialEq, Eq)]
 pub struct Footer {
@@ -34,7 +38,7 @@ impl Footer {
         Ok(Footer { metaindex, index })
     }
 
-    /// Reads the footer of a file: its length, its magic number and both places, in this order.
+    /// Reads the footer of a file: its length, its magic number and both handles, in this order.
     #[tactic(auto, unfolding(crate::specs::Footer::footer_at))]
     pub fn of(file: &[u8]) -> Result<Footer, TableFault>
         ensures reads { Gives (λ x. x) result (footer_at file.now) }

@@ -1,4 +1,4 @@
-//! The place of a block in a table's file.
+//! The handle of a block: where it stands in a table's file.
 
 use crate::table_fault::TableFault;
 use lsm_codec::{get_varint64, put_varint64};
@@ -35,7 +35,7 @@ impl Handle {
         }
     }
 
-    /// Reads the place at the front, and what follows it; this fault where there is none.
+    /// Reads the handle at the front, and what follows it; this fault where there is none.
     #[tactic(auto, unfolding(crate::specs::Handle::handle_at))]
     pub fn get(fault: TableFault, bytes: &[u8]) -> Result<(Handle, &[u8]), TableFault>
         ensures { Gives (λ x. (x.0, x.1.now)) result (handle_at fault bytes.now) }
@@ -51,7 +51,7 @@ impl Handle {
         Ok((Handle { offset, size }, after))
     }
 
-    /// The place that bytes spell which were read before.
+    /// The handle that bytes spell which were read before.
     pub(crate) fn spelled(bytes: &[u8]) -> Handle
         requires { IsSpelled bytes.now }
         ensures { SpellsJust bytes.now result }

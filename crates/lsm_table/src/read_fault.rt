@@ -20,7 +20,7 @@ pub enum ReadFault {
 }
 
 impl ReadFault {
-    /// The published number of the refusal.
+    /// The number of the refusal in docs/FORMATS.md.
     pub fn number(&self) -> u8
         ensures { result ≡ number_of self.now }
     {
@@ -30,7 +30,7 @@ impl ReadFault {
         }
     }
 
-    /// The published name of the refusal, without its fields.
+    /// The name of the refusal in docs/FORMATS.md, without its fields.
     pub fn name(&self) -> &'static str
         ensures { result.now ≡ name_of self.now }
     {

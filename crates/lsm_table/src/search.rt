@@ -17,7 +17,7 @@ use std::alloc::{AllocError, Global};
 pub(crate) enum Search {
     /// All its entries stand before the key.
     GoesOn,
-    /// What the first entry at or after the key says of the user, which ends the read.
+    /// What the first entry at or after the key says of the user key, which ends the read.
     Ended(Option<Found>),
 }
 
@@ -32,7 +32,8 @@ pub fn key_for(user: &[u8], seq: u64) -> KeyRef<'_>
     }
 }
 
-/// What an entry says of a user key: its value or deletion, or nothing where it is another user's.
+/// What an entry says of a user key: its value or deletion, or nothing where it is another user
+/// key's.
 pub fn found_in_entry(
     alloc: Global,
     key: &KeyRef<'_>,

@@ -1,4 +1,8 @@
-//! A block with its trailer, as it stands in a table's file.
+//! A block with its trailer, as it stands in a table's file:
+//!
+//! ```text
+//! contents | type, 1 byte: 0 for contents as they are | masked CRC-32C of both, fixed32
+//! ```
 
 ghost use Rattle.std.specs.Prelude.{◌≡◌, ◌≤◌, ◌+◌, ◌++◌, ℕ, List, length, drop, vec_len, OnOk, OnErr};
 ghost use Rattle.lsm_codec.specs.Crc.{crc_of};
@@ -46,7 +50,7 @@ pub fn unseal(offset: u64, size: usize, text: &[u8]) -> Result<&[u8], TableFault
     Ok(contents)
 }
 
-/// The contents of the block at a place in the part of a file before its footer.
+/// The contents of the block at a handle in the part of a file before its footer.
 #[tactic(auto, unfolding(crate::specs::StoredBlock::contents_at))]
 pub(crate) fn contents_of(body: &[u8], handle: Handle) -> Result<&[u8], TableFault>
     ensures { Gives (λ x. x.now) result (contents_at body.now handle) }

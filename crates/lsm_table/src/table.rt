@@ -1,6 +1,6 @@
 //! A table that was checked.
 
-ghost use Rattle.std.specs.Prelude.{◌≡◌, List, ℕ, IfOk, Ok};
+ghost use Rattle.std.specs.Prelude.{◌≡◌, List, ℕ, None, IfOk, Ok};
 ghost use Rattle.lsm_codec.specs.Entries.{Entry, newest};
 ghost use Rattle.lsm_table.specs.Reading.{Gives};
 ghost use Rattle.lsm_table.specs.Table.{IsTable};
@@ -41,8 +41,8 @@ impl Model for Table {
 
 impl Table {
     /// The table of a file. What is wrong with it is named by the first fault in this order: the
-    /// footer (length, magic number, places), the index block, and then for each index entry its
-    /// value, its data block (place, checksum, type, the block's own rules) and its keys.
+    /// footer (length, magic number, handles), the index block, and then for each index entry its
+    /// value, its data block (handle, checksum, type, the block's own rules) and its keys.
     pub fn check(alloc: Global, file: Vec<u8>) -> Result<Table, TableFault>
         // What is read is the table's.
         ensures found { IfOk result (λ t. IsTable file.items t) }
@@ -83,18 +83,21 @@ impl Table {
         Ok(None)
     }
 
-    /// Before the first entry. Takes no memory.
+    /// Before the first entry: no key was given yet. Takes no memory.
     pub fn iter(&self, alloc: Global) -> TableIter<'_>
-        ensures { result.left ≡ self.now }
+        ensures left { result.left ≡ self.now }
+        ensures last { result.last ≡ None }
     {
         let (body, index) = self.parts();
         TableIter::over(alloc, body, index)
     }
 
-    /// Sets a place in this table, or in another one, before the first entry of this one. The room
-    /// that it has for keys stays, so that a second walk through a table asks for no memory.
+    /// Sets a position in this table, or in another one, before the first entry of this one: no key
+    /// was given yet. The room that it has for keys stays, so that a second walk through a table
+    /// asks for no memory.
     pub fn restart<'t>(&'t self, entries: &mut TableIter<'t>)
-        ensures { entries.new.left ≡ self.now }
+        ensures left { entries.new.left ≡ self.now }
+        ensures last { entries.new.last ≡ None }
     {
         let (body, index) = self.parts();
         entries.begin_again(body, index);

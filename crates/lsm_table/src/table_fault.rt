@@ -30,7 +30,8 @@ pub enum TableFault {
     /// The last eight bytes are not those of a table.
     #[error("BadMagic")]
     BadMagic,
-    /// A place in the footer cannot be decoded, or a block lies outside the part before the footer.
+    /// A handle of the footer cannot be decoded, or a block lies outside the part before the
+    /// footer.
     #[error("BadHandle")]
     BadHandle,
     /// The checksum of the block at this offset is wrong.
@@ -42,14 +43,14 @@ pub enum TableFault {
     /// A block has a type above 2.
     #[error("BadBlockType {0}")]
     BadBlockType(u8),
-    /// The value of an index entry is not one place, a data block has no entry, or its keys do not
+    /// The value of an index entry is not one handle, a data block has no entry, or its keys do not
     /// lie between the index keys.
     #[error("BadIndex")]
     BadIndex,
 }
 
 impl TableFault {
-    /// The published number of the refusal.
+    /// The number of the refusal in docs/FORMATS.md.
     pub fn number(&self) -> u8
         ensures { result ≡ number_of self.now }
     {
@@ -68,7 +69,7 @@ impl TableFault {
         }
     }
 
-    /// The published name of the refusal, without its fields.
+    /// The name of the refusal in docs/FORMATS.md, without its fields.
     pub fn name(&self) -> &'static str
         ensures { result.now ≡ name_of self.now }
     {

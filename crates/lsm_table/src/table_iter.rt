@@ -1,6 +1,6 @@
 //! Going through a table.
 
-ghost use Rattle.std.specs.Prelude.{◌≡◌, [], IfOk, IfErr, OnErr};
+ghost use Rattle.std.specs.Prelude.{◌≡◌, [], None, IfOk, IfErr, OnErr};
 ghost use Rattle.std.specs.Option.{option_map};
 ghost use Rattle.lsm_codec.specs.KeyRef.{key_of};
 ghost use Rattle.lsm_block.specs.Held.{rest_of};
@@ -14,7 +14,7 @@ use lsm_codec::KeyRef;
 use std::alloc::Global;
 use std::marker::Model;
 
-/// A place in a checked table. Contracts see it as the entries that are left, and the key of the
+/// A position in a checked table. Contracts see it as the entries that are left, and the key of the
 /// one given last.
 #[derive(Drop)]
 pub struct TableIter<'t> {
@@ -41,7 +41,8 @@ impl<'t> TableIter<'t> {
     /// Before the first entry of the data blocks that an index names.
     pub(crate) fn over(alloc: Global, body: &'t [u8], index: BlockRef<'t>) -> TableIter<'t>
         requires { AreNamed body.now index.entries }
-        ensures { result.left ≡ left_of body.now [] index.entry.entries }
+        ensures left { result.left ≡ left_of body.now [] index.entry.entries }
+        ensures last { result.last ≡ None }
     {
         let mut next_block = Cursor::start(alloc);
         index.rewind(&mut next_block);
@@ -61,13 +62,15 @@ impl<'t> TableIter<'t> {
     /// stays.
     pub(crate) fn begin_again(&mut self, body: &'t [u8], index: BlockRef<'t>)
         requires { AreNamed body.now index.entries }
-        ensures { self.new.left ≡ left_of body.now [] index.entry.entries }
+        ensures left { self.new.left ≡ left_of body.now [] index.entry.entries }
+        ensures last { self.new.last ≡ None }
     {
         index.rewind(&mut self.next_block);
         self.body = body;
         self.index = index;
-        self.block = no_entries();
-        self.block.rewind(&mut self.here);
+        let block = no_entries();
+        block.rewind(&mut self.here);
+        self.block = block;
     }
 
     /// The key of the entry that was given last, if one was.
