@@ -13,8 +13,9 @@ abbrev pub answer_of : {T : Type 0} → Result T FolderFault → Answer
 answer_of (Ok v) = Ok tt
 answer_of (Err fault) = Err fault
 
--- A call with its answer. Files are named by their names in the folder. A call that only changes the folder answers that it
--- was Ok, and one that reads what it read; or they answer why they were refused
+-- A call with its answer. Files are named by their names in the folder. A call that only changes
+-- the folder answers that it was Ok, and one that reads what it read; or they answer why they were
+-- refused
 pub data Call : Type 0 where
   -- opens the folder
   opened : Call
@@ -46,11 +47,12 @@ abbrev pub IsPart : List ℕ → ℕ → ℕ → Result (List ℕ) FolderFault �
 IsPart image offset len (Err fault) = Unit {0}
 IsPart image offset len (Ok bytes) = bytes ≡ take len (drop offset image)
 
--- The answer of the call is true. Of a part that was read this says that it is the part of the image: the caller knows
--- the image, for which the mark stands, so it can be wrong. Of what was loaded, listed or measured it says nothing: forks and
--- other programs may change the folder between two calls, so there is no text with which a caller could compare the answer;
--- what was loaded is the image of the new mark, and later reads are compared with that. A refusal is always true: it promises
--- nothing
+-- The answer of the call is true. Of a part that was read this says that it is the part of the
+-- image: the caller knows the image, for which the mark stands, so it can be wrong. Of what was
+-- loaded, listed or measured it says nothing: forks and other programs may change the folder
+-- between two calls, so there is no text with which a caller could compare the answer; what was
+-- loaded is the image of the new mark, and later reads are compared with that. A refusal is always
+-- true: it promises nothing
 abbrev pub IsTrueCall : Call → Type 0
 IsTrueCall opened = Unit {0}
 IsTrueCall (made name bytes answer) = Unit {0}

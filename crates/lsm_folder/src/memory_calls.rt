@@ -238,6 +238,8 @@ impl FolderCalls for MemoryFolder {
     }
 }
 
+// `FolderCalls` asks for neither `Send` nor `Sync`: these two functions show that the folder and
+// its marks are both.
 fn crosses_threads<T: Send + Sync>(_: &T) {}
 
 /// A folder in memory and its marks may go to another thread, and be shared by threads.

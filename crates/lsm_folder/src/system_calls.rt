@@ -273,6 +273,8 @@ impl<R: Files + AllocGlobal + Clone + Drop> FolderCalls for SystemFolder<R> {
     }
 }
 
+// `FolderCalls` asks for neither `Send` nor `Sync`: these two functions show that the folder and
+// its marks are both.
 fn crosses_threads<T: Send + Sync>(_: &T) {}
 
 /// A folder of the system and its marks may go to another thread, and be shared by threads.

@@ -1,4 +1,5 @@
--- For the code that searches by depths: what a file has that no lesser depth has is the answer of the whole version.
+-- For the code that searches by depths: what a file has that no lesser depth has is the answer of
+-- the whole version.
 use Rattle.std.proofs.Common.{◌≡◌, ℕ, ◌≤◌, List, Some, sym, ◌∙◌, subst, inl, inr, arith}
 use Rattle.std.proofs.lemmas.Bool.{cases_lt, cases_order}
 use Rattle.lsm_codec.specs.Entries.{Entry, stamp, newest}
@@ -9,7 +10,8 @@ use Rattle.lsm_levels.specs.Files.{File, all_entries, Shallower, IsLawful, IsSpl
 use Rattle.lsm_levels.proofs.Drops.{newest_is}
 use Rattle.lsm_levels.proofs.Installs.{all_has, has_all, one_each}
 
--- e is the newest of its file; no file of a lesser depth has an allowed entry, and no other file of its level has a newer one
+-- e is the newest of its file; no file of a lesser depth has an allowed entry, and no other file of
+-- its level has a newer one
 pub depth_newest : (Split : File → File → Type 0) → IsSplit Split → (v : List File) (F : File) (k : UserKey) (s : ℕ) (e : Entry) → IsLawful Split v → Has v F → IsNewest F.entries k s e
     → ((G : File) (y : Entry) → Has v G → Shallower G F → Has G.entries y → IsAllowed k s y → ⊥)
     → ((G : File) (y : Entry) → Has v G → G.level ≡ F.level → 1 ≤ F.level → Has G.entries y → IsAllowed k s y → stamp y ≤ stamp e)

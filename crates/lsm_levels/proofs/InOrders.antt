@@ -1,4 +1,5 @@
--- Entries of two ranges that have no internal key in common: all of one stand before all of the other.
+-- Entries of two ranges that have no internal key in common: all of one stand before all of the
+-- other.
 use Rattle.std.proofs.Common.{◌≡◌, ◌≤◌, arith, true, false, List, [], ◌∷◌, ◌++◌, refl, sym, ◌∙◌, ap, subst, inl, inr}
 use Rattle.std.specs.Prelude.{◌⊎◌}
 use Rattle.std.proofs.lemmas.Bool.{cases_Bool}
@@ -32,7 +33,8 @@ to_last [] z up x h = elim h [ inl s ↦ subst (λ (y : Entry). goes_first y z �
 to_last (f ∷ front) z up x (inl s) = subst (λ (y : Entry). goes_first y z ≡ true) s (before_first f z (up.0 z (has_end front z)))
 to_last (f ∷ front) z up x (inr h) = to_last front z up.1 x h
 
--- where the first of the ones may not stand before the last of the others, all others stand before all ones
+-- where the first of the ones may not stand before the last of the others, all others stand before
+-- all ones
 behind : (es fs : List Entry) (r s : Range) (a : IsRangeOf es r) (b : IsRangeOf fs s) → goes_first a.first.0 b.last.1 ≡ false → (y x : Entry) → Has fs y → Has es x → Before y x
 behind es fs r s a b late y x hy hx = not_first_says x y (true_or_not (goes_first x y) (λ h.
     absurd (cc (first_trans e x z early (first_trans x y z h last), late))))

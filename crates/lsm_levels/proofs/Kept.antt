@@ -1,4 +1,5 @@
--- A merge that keeps the kept entries of its inputs drops as `Drops` allows, where what stays outside is newer wherever a deletion is dropped.
+-- A merge that keeps the kept entries of its inputs drops as `Drops` allows, where what stays
+-- outside is newer wherever a deletion is dropped.
 use Rattle.std.proofs.Common.{◌≡◌, ℕ, ◌≤◌, ◌<◌, Bool, true, false, List, refl, sym, ◌∙◌, ap, subst, inl, inr, arith}
 use Rattle.std.specs.Prelude.{◌⊎◌, ◌&&◌, not, nat_lt, nat_le}
 use Rattle.std.specs.Str.{bytes_eq}
@@ -96,7 +97,8 @@ pub record Merges (old new es : List Entry) (f : ℕ) (ranges : List (UserKey ×
   pub inputs : (e : Entry) → Has es e → Has old e
   pub left : (e : Entry) → Has old e → Has es e ⊎ Has new e
   pub added : (e : Entry) → Has (kept_entries es f ranges) e → Has new e
-  -- whatever is new is kept, or was there, and is newer than the inputs of its key if no range covers that
+  -- whatever is new is kept, or was there, and is newer than the inputs of its key if no range
+  -- covers that
   pub from : (e : Entry) → Has new e → Has (kept_entries es f ranges) e ⊎ (Has old e × ((x : Entry) → Has es x → e.user ≡ x.user → covers ranges x.user ≡ false → x.seq < e.seq))
 
 pub merges_drops : (old new es : List Entry) (f : ℕ) (ranges : List (UserKey × UserKey)) → Merges old new es f ranges → Drops old new f

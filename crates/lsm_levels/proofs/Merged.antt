@@ -1,4 +1,5 @@
--- The merge of all sources is the merge that the theorems on installs speak of, once it is seen to ascend.
+-- The merge of all sources is the merge that the theorems on installs speak of, once it is seen to
+-- ascend.
 use Rattle.std.proofs.Common.{◌≡◌, ℕ, true, List, [], ◌∷◌, refl, ap, subst, inl, inr}
 use Rattle.std.specs.List.{flat_map}
 use Rattle.lsm_codec.specs.Entries.{Entry}

@@ -1,4 +1,5 @@
--- The order of entries, by its parts; the order in which they are handed out is total and transitive.
+-- The order of entries, by its parts; the order in which they are handed out is total and
+-- transitive.
 use Rattle.std.proofs.Common.{◌≡◌, ℕ, ◌≤◌, ◌<◌, Bool, true, false, Ordering, Less, Equal, Greater, refl, sym, ◌∙◌, ap, subst, inl, inr, arith}
 use Rattle.std.specs.Prelude.{◌⊎◌}
 use Rattle.std.specs.Cmp.{ranks, nat_cmp_is}

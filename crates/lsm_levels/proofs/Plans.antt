@@ -20,7 +20,8 @@ linked_in v level Start F (meeting E _ l h at m) = (h, at)
 pub low_high : (F : File) → Fits F → UserLe F.low F.high
 low_high F fit = (let e = fit.first in subst (λ (k : UserKey). UserLe k F.high) e.2 (fit.below e.0 e.1))
 
--- a file g of the level that reaches down to a linked one, and ends before the range begins, is linked
+-- a file g of the level that reaches down to a linked one, and ends before the range begins, is
+-- linked
 pub linked_left : (v : List File) (level : ℕ) (from to : UserKey) (g : File) → UserLe g.low g.high → Has v g → g.level ≡ level → UserLe g.high from
     → (w : File) → IsLinked v level (λ G. Meets G from to) w → UserLe w.low g.high → IsLinked v level (λ G. Meets G from to) g
 linked_left v level from to g own hg at before w (starting _ h e s) le =

@@ -1,4 +1,5 @@
--- The two ways in which the files of a level may lie: apart in user keys, or in order of internal keys.
+-- The two ways in which the files of a level may lie: apart in user keys, or in order of internal
+-- keys.
 use Rattle.std.proofs.Common.{◌≡◌, sym, subst, inl, inr, arith}
 use Rattle.lsm_codec.specs.Entries.{Entry}
 use Rattle.lsm_codec.specs.Keys.{UserKey, UserLe}

@@ -1,5 +1,6 @@
--- The age of entries: of two entries of a user key at different depths the shallower is newer (LevelDB's `doc/impl.md`
--- reads level by level; that a database which breaks it is refused is this project's rule).
+-- The age of entries: of two entries of a user key at different depths the shallower is newer
+-- (LevelDB's `doc/impl.md` reads level by level; that a database which breaks it is refused is this
+-- project's rule).
 use Rattle.std.specs.Prelude.{◌≡◌, ◌<◌, ◌≤◌, Bool, true, ◌&&◌, ◌||◌, not, cond, List, [], ◌∷◌, Option, Some, None, nat_lt, nat_le}
 use Rattle.std.specs.Str.{bytes_eq}
 use Rattle.lsm_codec.specs.Lists.{Has}
@@ -22,7 +23,8 @@ pub record IsLeastAgainstAge (ps : List Placed) (k : UserKey) : Type 0 where
 
 -- ---- how the code judges: each entry of a list in order against the next one
 
--- where both are of one user key, the later one lies no shallower, and where it lies deeper it is older
+-- where both are of one user key, the later one lies no shallower, and where it lies deeper it is
+-- older
 abbrev pub is_aged : Placed → Placed → Bool
 is_aged p q = not (bytes_eq p.1.user q.1.user) || (nat_le p.0 q.0 && (not (nat_lt p.0 q.0) || nat_lt q.1.seq p.1.seq))
 

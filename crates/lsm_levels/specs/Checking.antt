@@ -1,4 +1,5 @@
--- What is judged of files one by one, level by level, and along all their entries, before they are taken as a version.
+-- What is judged of files one by one, level by level, and along all their entries, before they are
+-- taken as a version.
 use Rattle.std.specs.Prelude.{◌≡◌, ℕ, zero, suc, ◌<◌, ◌≤◌, List, [], ◌∷◌, ◌++◌}
 use Rattle.lsm_codec.specs.Lists.{Has}
 use Rattle.lsm_codec.specs.Entries.{Entry, internal_key}
@@ -47,8 +48,9 @@ level_in [] n = []
 level_in (xs ∷ levels) zero = xs
 level_in (xs ∷ levels) (suc n) = level_in levels n
 
--- What is judged of the tables of all levels: each by itself, those of a level from 1 on together, of which no two ranges have in
--- common what `Meet` says, and all entries, which stand in `placed` with the depths of their files.
+-- What is judged of the tables of all levels: each by itself, those of a level from 1 on together,
+-- of which no two ranges have in common what `Meet` says, and all entries, which stand in `placed`
+-- with the depths of their files.
 pub record IsJudged (Meet : Range → Range → Type 0) (levels : List (List Listed)) (depth : File → ℕ) (placed : List Placed) : Type 0 where
   pub ranges : (n : ℕ) (t : Listed) → Has (level_in levels n) t → IsRangeOf t.entries t.range
   pub numbers : (F G : File) → Has (files_from 0 levels) F → Has (files_from 0 levels) G → F.number ≡ G.number → F ≡ G

@@ -1,5 +1,5 @@
--- Jobs, what a live job may rest on in a version, and what its install changes (LevelDB's `doc/impl.md`, "Compactions";
--- several jobs at a time are this project's).
+-- Jobs, what a live job may rest on in a version, and what its install changes (LevelDB's
+-- `doc/impl.md`, "Compactions"; several jobs at a time are this project's).
 use Rattle.std.specs.Prelude.{◌≡◌, ℕ, suc, ◌<◌, ◌≤◌, Bool, true, false, List, [], ◌∷◌, ◌==◌, ◌⊎◌}
 use Rattle.std.specs.List.{list_any}
 use Rattle.lsm_codec.specs.Lists.{Has}
@@ -8,8 +8,8 @@ use Rattle.lsm_codec.specs.Entries.{Entry}
 use Rattle.lsm_levels.specs.Files.{File, all_entries, Meets, Apart, Fits}
 use Rattle.lsm_levels.specs.Kept.{covers}
 
--- a merge of files of one level and the next; low and high are its hull, floor the least sequence that reads still use,
--- and ranges the user ranges of all files two or more levels below
+-- a merge of files of one level and the next; low and high are its hull, floor the least sequence
+-- that reads still use, and ranges the user ranges of all files two or more levels below
 pub record Job : Type 0 where
   pub ticket : ℕ
   pub level : ℕ
@@ -32,7 +32,8 @@ Shares a b = (F : File) × (G : File) × Has a.inputs F × Has b.inputs G × (F.
 abbrev pub Conflicts : Job → Job → Type 0
 Conflicts a b = Shares a b ⊎ ((a.level ≡ b.level) × UserLe a.low b.high × UserLe b.low a.high)
 
--- What a live job may rest on in the version, whatever came since it was reserved (this project's rule).
+-- What a live job may rest on in the version, whatever came since it was reserved (this project's
+-- rule).
 pub record IsOpenIn (v : List File) (job : Job) : Type 0 where
   -- the inputs lie in the version, at the job's level and the next, within the hull
   pub inputs : (F : File) → Has job.inputs F → Has v F

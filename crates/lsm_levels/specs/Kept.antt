@@ -1,5 +1,5 @@
--- What a merge keeps of its inputs (LevelDB's `doc/impl.md`, "Compactions": overwritten values are dropped, and
--- deletions where no deeper level may have the key).
+-- What a merge keeps of its inputs (LevelDB's `doc/impl.md`, "Compactions": overwritten values are
+-- dropped, and deletions where no deeper level may have the key).
 use Rattle.std.specs.Prelude.{◌≡◌, ℕ, ◌<◌, ◌≤◌, Bool, true, false, ◌&&◌, not, List, nat_lt, nat_le}
 use Rattle.std.specs.List.{list_any, filter}
 use Rattle.std.specs.Str.{bytes_eq}

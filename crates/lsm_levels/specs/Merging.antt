@@ -1,4 +1,5 @@
--- The merge of lists in order (LevelDB's `doc/impl.md`, "Compactions": a compaction merges the contents of its files).
+-- The merge of lists in order (LevelDB's `doc/impl.md`, "Compactions": a compaction merges the
+-- contents of its files).
 use Rattle.std.specs.Prelude.{ℕ, ◌≡◌, Bool, true, false, ◌&&◌, cond, List, [], ◌∷◌}
 use Rattle.std.specs.Ordering.{is_le}
 use Rattle.lsm_codec.specs.Lists.{Has}

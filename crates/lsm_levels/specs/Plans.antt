@@ -1,11 +1,13 @@
--- Plans: the files that a job takes, so that none that meets them stays out (LevelDB's `doc/impl.md`, "Compactions").
+-- Plans: the files that a job takes, so that none that meets them stays out (LevelDB's
+-- `doc/impl.md`, "Compactions").
 use Rattle.std.specs.Prelude.{◌≡◌, ℕ, suc, ◌≤◌, Bool, List, ◌++◌}
 use Rattle.lsm_codec.specs.Lists.{Has}
 use Rattle.lsm_codec.specs.Keys.{UserKey, UserLe}
 use Rattle.lsm_levels.specs.Files.{File, Meets}
 use Rattle.lsm_levels.specs.Jobs.{Job}
 
--- the files of a level that are reached from the starting files, where each meets the one before in user keys
+-- the files of a level that are reached from the starting files, where each meets the one before in
+-- user keys
 pub data IsLinked (v : List File) (level : ℕ) (Start : File → Type 0) : File → Type 0 where
   starting : (F : File) → Has v F → F.level ≡ level → Start F → IsLinked v level Start F
   meeting : (F G : File) → IsLinked v level Start F → Has v G → G.level ≡ level → Meets G F.low F.high → IsLinked v level Start G
@@ -38,8 +40,9 @@ job_from plan ticket floor ranges is_move = record {
   is_move = is_move;
 }
 
--- The plan from the starting files: exactly the files that they reach at the level, and at the next level exactly those
--- that the range of these reaches (this project's rule, wider than LevelDB's boundary files).
+-- The plan from the starting files: exactly the files that they reach at the level, and at the next
+-- level exactly those that the range of these reaches (this project's rule, wider than LevelDB's
+-- boundary files).
 pub record IsClosed (v : List File) (Start : File → Type 0) (plan : Plan) : Type 0 where
   pub upper_from : (F : File) → Has plan.upper F → IsLinked v plan.level Start F
   pub upper_all : (F : File) → IsLinked v plan.level Start F → Has plan.upper F

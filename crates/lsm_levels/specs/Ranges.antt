@@ -1,4 +1,5 @@
--- How the files of a level from 1 on lie, by their smallest and largest internal keys (LevelDB's `doc/impl.md`, "Levels").
+-- How the files of a level from 1 on lie, by their smallest and largest internal keys (LevelDB's
+-- `doc/impl.md`, "Levels").
 use Rattle.std.specs.Prelude.{◌≡◌, Bool, true, cond, List, [], ◌∷◌, ◌⊎◌}
 use Rattle.std.specs.Ordering.{is_le}
 use Rattle.lsm_codec.specs.Lists.{Has}

@@ -1,4 +1,5 @@
--- What a scan shows: each user key with its answer, in order (LevelDB's `doc/impl.md` and `include/leveldb/db.h`, iterators).
+-- What a scan shows: each user key with its answer, in order (LevelDB's `doc/impl.md` and
+-- `include/leveldb/db.h`, iterators).
 use Rattle.std.specs.Prelude.{◌≡◌, ℕ, Bool, false, ◌||◌, not, cond, List, [], ◌∷◌, Option, Some, None, nat_le}
 use Rattle.std.specs.Str.{bytes_eq}
 use Rattle.lsm_codec.specs.declared.kind.Kind.{Kind}

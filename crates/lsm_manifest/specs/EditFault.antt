@@ -1,4 +1,4 @@
--- The published numbers and names of an edit's refusals (this project's rule).
+-- The numbers and names of an edit's refusals in docs/FORMATS.md (this project's rule).
 use Rattle.std.specs.Prelude.{ℕ, List, codes}
 use Rattle.lsm_manifest.specs.declared.edit_fault.EditFault.{EditFault}
 use Rattle.lsm_manifest.specs.declared.edit_fault.EditFault.TheVariants.{OutOfMemory, UnknownTag, BadLevel, EditCut, BadEditKey}

@@ -1,4 +1,4 @@
--- The published numbers and names of a log's refusals (this project's rule).
+-- The numbers and names of a log's refusals in docs/FORMATS.md (this project's rule).
 use Rattle.std.specs.Prelude.{ℕ, List, codes}
 use Rattle.lsm_manifest.specs.declared.log_fault.LogFault.{LogFault}
 use Rattle.lsm_manifest.specs.declared.log_fault.LogFault.TheVariants.{OutOfMemory, LogChecksum, LogOrder, LogType}

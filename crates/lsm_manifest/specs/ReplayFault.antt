@@ -1,4 +1,4 @@
--- The published numbers and names of a replay's refusals (this project's rule).
+-- The numbers and names of a replay's refusals in docs/FORMATS.md (this project's rule).
 use Rattle.std.specs.Prelude.{ℕ, List, codes}
 use Rattle.lsm_manifest.specs.declared.replay_fault.ReplayFault.{ReplayFault}
 use Rattle.lsm_manifest.specs.declared.replay_fault.ReplayFault.TheVariants.{OutOfMemory, NoNextFile, NoLogNumber, NoLastSequence, OtherComparator, DoubleFile}

@@ -24,8 +24,11 @@ pub struct Edit {
     pub next: Option<u64>,
     /// The last sequence.
     pub last: Option<u64>,
+    /// The compaction pointers that it sets.
     pub pointers: List<CompactPointer>,
+    /// The files that it takes out of their levels.
     pub deleted: List<DeletedFile>,
+    /// The files that it puts into levels.
     pub added: List<AddedFile>,
 }
 
@@ -38,7 +41,7 @@ ghost use Rattle.lsm_manifest.specs.EditWriting.{AreInOrder, edit_text};
 impl Edit {
     /// Reads an edit: its fields in any order; of several values of one number field or of the
     /// comparator the last. The first fault from the front is named: `UnknownTag`, `BadLevel`,
-    /// `EditCut` or `BadEditKey`.
+    /// `EditCut` or `BadEditKey`; or `OutOfMemory`, where memory was refused.
     pub fn decode(alloc: Global, bytes: &[u8]) -> Result<Edit, EditFault>
         // What is read is spelled so.
         ensures found { IfOk result (λ edit. IsEdit bytes.now edit) }

@@ -28,7 +28,7 @@ pub enum EditFault {
 }
 
 impl EditFault {
-    /// The published number of the refusal.
+    /// The number of the refusal in docs/FORMATS.md.
     pub fn number(&self) -> u8
         ensures { result ≡ number_of self.now }
     {
@@ -41,7 +41,7 @@ impl EditFault {
         }
     }
 
-    /// The published name of the refusal.
+    /// The name of the refusal in docs/FORMATS.md.
     pub fn name(&self) -> &'static str
         ensures { result.now ≡ name_of self.now }
     {

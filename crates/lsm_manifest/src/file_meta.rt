@@ -6,12 +6,16 @@ use lsm_codec::{Bytes, key_parts};
 use std::alloc::{AllocError, Global};
 use std::cmp::Ordering;
 
-/// A table file: its number, its size in bytes, and its smallest and largest internal key.
+/// A table file.
 #[derive(Debug, Drop)]
 pub struct FileMeta {
+    /// The number in the file's name.
     pub number: u64,
+    /// The size in bytes.
     pub size: u64,
+    /// The smallest internal key.
     pub smallest: Bytes,
+    /// The largest internal key.
     pub largest: Bytes,
 }
 

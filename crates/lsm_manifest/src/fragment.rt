@@ -1,4 +1,8 @@
 //! The fragments of a log: their types, their checksum, and the room that a block has for them.
+//!
+//! ```text
+//! masked CRC-32C of type and data, fixed32 | data's length, fixed16 | type, 1 byte | data
+//! ```
 
 ghost use Rattle.std.specs.Prelude.{◌≡◌, ◌∷◌, ◌==◌, ◌||◌, nat_lt, if◌then◌else◌, Some, None};
 ghost use Rattle.std.specs.Option.{option_map};
@@ -67,7 +71,7 @@ impl FragmentType {
     }
 }
 
-/// How many bytes are left in the block of this place.
+/// How many bytes are left in the block of this offset.
 pub(crate) fn room(offset: u64) -> usize
     ensures { result ≡ left offset }
 {

@@ -78,7 +78,7 @@ fn read(alloc: Global, bytes: &[u8]) -> Result<Log, LogFault>
 
 /// The records of a log, and how many bytes at its end hold no whole record: a torn record and
 /// zeros to the end are dropped without a fault. `LogChecksum`, `LogOrder` and `LogType` name the
-/// offset of the first fragment at fault, in bytes.
+/// offset of the first fragment at fault, in bytes; `OutOfMemory` where memory was refused.
 pub fn read_log(alloc: Global, bytes: &[u8]) -> Result<Log, LogFault>
     // What is read is the log's.
     ensures found { IfOk result (λ log. IsLog bytes.now log.records log.rest) }

@@ -26,7 +26,7 @@ pub enum LogFault {
 }
 
 impl LogFault {
-    /// The published number of the refusal.
+    /// The number of the refusal in docs/FORMATS.md.
     pub fn number(&self) -> u8
         ensures { result ≡ number_of self.now }
     {
@@ -38,7 +38,7 @@ impl LogFault {
         }
     }
 
-    /// The published name of the refusal.
+    /// The name of the refusal in docs/FORMATS.md.
     pub fn name(&self) -> &'static str
         ensures { result.now ≡ name_of self.now }
     {

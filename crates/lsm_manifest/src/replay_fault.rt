@@ -31,7 +31,7 @@ pub enum ReplayFault {
 }
 
 impl ReplayFault {
-    /// The published number of the refusal.
+    /// The number of the refusal in docs/FORMATS.md.
     pub fn number(&self) -> u8
         ensures { result ≡ number_of self.now }
     {
@@ -45,7 +45,7 @@ impl ReplayFault {
         }
     }
 
-    /// The published name of the refusal.
+    /// The name of the refusal in docs/FORMATS.md.
     pub fn name(&self) -> &'static str
         ensures { result.now ≡ name_of self.now }
     {

@@ -14,16 +14,20 @@ use crate::standing::Standing;
 use lsm_codec::{Bytes, List};
 use std::alloc::{AllocError, Global};
 
-/// The files of the seven levels, each level by smallest internal key, then number; the compaction
-/// pointers of the levels, each an internal key; the numbers of the write-ahead log and of the one
-/// before it, the next file number, and the last sequence.
+/// What a row of edits comes to.
 #[derive(Debug, Drop)]
 pub struct Shape {
+    /// The files of the seven levels, each level by smallest internal key, then number.
     pub levels: [List<FileMeta>; 7],
+    /// The compaction pointers of the levels, each an internal key.
     pub pointers: [Option<Bytes>; 7],
+    /// The number of the write-ahead log.
     pub log: u64,
+    /// The number of the write-ahead log before it.
     pub prev_log: u64,
+    /// The next file number.
     pub next: u64,
+    /// The last sequence.
     pub last: u64,
 }
 
@@ -34,6 +38,7 @@ ghost use Rattle.lsm_manifest.specs.Shape.{Form, IsReplayed, IsRefused};
 /// of each number field and pointer; the previous log number is 0 where no edit has it.
 /// `OtherComparator` and `DoubleFile` are those of the first edit that has one of them (the
 /// comparator is judged first); then come `NoNextFile`, `NoLogNumber` and `NoLastSequence`.
+/// `OutOfMemory` where memory was refused.
 pub fn replay(alloc: Global, edits: &[Edit]) -> Result<Shape, ReplayFault>
     // The shape is what the edits come to, and none of them has a fault.
     ensures found { IfOk result (λ shape. IsReplayed edits.now shape) }

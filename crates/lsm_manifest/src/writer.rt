@@ -69,7 +69,7 @@ fn push_record(out: &mut Vec<u8>, place: u64, whole: &[u8]) -> Result<(), AllocE
     push_begun(out, place, whole)
 }
 
-/// Writes records, one after the other. Contracts see it as its place in a block, in bytes.
+/// Writes records, one after the other. Contracts see it as its offset in a block, in bytes.
 #[derive(Debug, Drop)]
 pub struct LogWriter {
     place: u64,

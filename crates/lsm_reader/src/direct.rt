@@ -16,6 +16,7 @@ pub struct Direct<'a, S: Shelf> {
 }
 
 impl<'a, S: Shelf> Direct<'a, S> {
+    /// What gives the blocks of this shelf.
     pub fn new(shelf: &'a mut S) -> Direct<'a, S>
         ensures { result.shelf ≡ shelf.entry }
     {

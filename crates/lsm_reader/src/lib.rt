@@ -2,8 +2,9 @@
 //!
 //! Stands on `lsm_table` for the format of a table, on `lsm_block` for its blocks, and on
 //! `lsm_shelf` for where its image lies. Data flows from `blocks` (what gives a block) through
-//! `opening` and `table_cursor` to `reads`, `open_table` and `table_stream`. Its contract: over an
-//! honest shelf, what is read is the table's, and each fault is the first one on the way.
+//! `opening` and `table_cursor` to `reads`, `open_table`, `table_stream` and `table_reader`. Its
+//! contract: over an honest shelf, what is read is the table's, and each fault is the first one on
+//! the way.
 #![tactic(auto)]
 
 // Where blocks come from.

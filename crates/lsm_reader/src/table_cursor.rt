@@ -1,4 +1,4 @@
-//! A place in a table that is read block by block.
+//! A position in a table that is read block by block.
 
 ghost use Rattle.std.specs.Prelude.{◌≡◌, [], ◌∷◌, ℕ, List, false, Ok, IfOk, IfErr, IfSome, MatchOption, OnOk, OnErr};
 ghost use Rattle.std.specs.Option.{option_map, IsSome};
@@ -26,9 +26,9 @@ use std::alloc::Global;
 use std::marker::Model;
 use std::sync::Arc;
 
-/// A place at an entry of a table, of which it holds the index block and one data block. Contracts
-/// see it as what is left of that data block, the entry at which it stands first, and the index
-/// entries of the data blocks after it.
+/// A position at an entry of a table, of which it holds the index block and one data block.
+/// Contracts see it as what is left of that data block, the entry at which it stands first, and the
+/// index entries of the data blocks after it.
 #[derive(Drop)]
 pub struct TableCursor {
     // At the entry of the data block that comes next.

@@ -4,7 +4,8 @@ use Rattle.lsm_shelf.specs.declared.shelf_fault.ShelfFault.{ShelfFault}
 use Rattle.lsm_shelf.specs.declared.shelf_fault.ShelfFault.TheVariants.{OutOfMemory, Device, Missing, Taken}
 use Rattle.lsm_shelf.specs.Told.{NotTaken, NotNamed, NotDevice, TakenIs}
 
--- One call, with all that it hands over: numbers of tables or of a manifest, and bytes. A fork is none: it asks nothing of what lies there.
+-- One call, with all that it hands over: numbers of tables or of a manifest, and bytes. A fork is
+-- none: it asks nothing of what lies there.
 pub data Asked : Type 0 where
   Put : ℕ → List ℕ → Asked
   -- a table's number, an offset in its image and a length, in bytes

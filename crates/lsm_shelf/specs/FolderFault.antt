@@ -27,8 +27,8 @@ taken_of number folder.Failed = Device
 taken_of number folder.Missing = Device
 taken_of number folder.Exists = Taken number
 
--- Of a call that was to make a file durable, which was then asked to be removed with this answer: where it could not be removed
--- either, that is the device
+-- Of a call that was to make a file durable, which was then asked to be removed with this answer:
+-- where it could not be removed either, that is the device
 abbrev pub undone_of : Answer → FolderFault → ShelfFault
 undone_of (Ok v) fault = device_of fault
 undone_of (Err other) fault = Device

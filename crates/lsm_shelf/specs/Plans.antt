@@ -1,5 +1,5 @@
--- What a shelf asks of its folder, in which order, and what it makes of a refusal (LevelDB's `doc/impl.md`: tables, manifest,
--- `CURRENT`).
+-- What a shelf asks of its folder, in which order, and what it makes of a refusal (LevelDB's
+-- `doc/impl.md`: tables, manifest, `CURRENT`).
 use Rattle.std.specs.Prelude.{◌≡◌, ◌≢◌, ◌⊎◌, ◌↔◌, ℕ, ◌+◌, ◌<◌, ◌≤◌, ◌^◌, List, [], ◌∷◌, length, codes, Result, Ok, Err}
 use Rattle.std.specs.List.{Contains}
 use Rattle.lsm_folder.specs.Calls.{Call, Answer, made, wrote, appended, synced, folder_synced, renamed, removed, measured, read, loaded, listed}
@@ -28,12 +28,13 @@ Refused (s ∷ ss) fault old new = (new ≡ s (Err fault) ∷ old) ⊎ Refused s
 abbrev pub Unasked : ShelfFault → (old new : List Call) → Type 0
 Unasked e old new = (e ≡ OutOfMemory) × (new ≡ old)
 
--- a call on a file that must be there was not Ok: memory was refused before it, or the folder refused it
+-- a call on a file that must be there was not Ok: memory was refused before it, or the folder
+-- refused it
 abbrev pub Unanswered : (FolderFault → Call) → ShelfFault → (old new : List Call) → Type 0
 Unanswered call e old new = Unasked e old new ⊎ ((fault : FolderFault) × (new ≡ call fault ∷ old) × (e ≡ missing_of fault))
 
--- A call and the one that makes it durable were not both Ok: the first was not; or it was, and the second was refused, which is
--- the device however it was refused
+-- A call and the one that makes it durable were not both Ok: the first was not; or it was, and the
+-- second was refused, which is the device however it was refused
 abbrev pub Unsettled : (first second : Step) → ShelfFault → (old new : List Call) → Type 0
 Unsettled first second e old new = Unanswered (λ fault. first (Err fault)) e old new
     ⊎ ((fault : FolderFault) × (new ≡ second (Err fault) ∷ first (Ok tt) ∷ old) × (e ≡ Device))
@@ -46,13 +47,15 @@ durable_plan name = synced name ∷ folder_synced ∷ []
 abbrev pub put_plan : (number : ℕ) (image : List ℕ) → List Step
 put_plan number image = made (table_name number) image ∷ durable_plan (table_name number)
 
--- The file of this name is not durable: what was to make it so was refused; then it was asked to be removed
+-- The file of this name is not durable: what was to make it so was refused; then it was asked to be
+-- removed
 abbrev pub Undone : (name : List ℕ) → ShelfFault → (old new : List Call) → Type 0
 Undone name e old new = (fault : FolderFault) × (mid : List Call) × (answer : Answer)
     × Refused (durable_plan name) fault old mid × (new ≡ removed name answer ∷ mid) × (e ≡ undone_of answer fault)
 
--- A table was not put: nothing was asked, since memory was refused or the image is larger than 1 GiB; or no file was made; or one
--- was, what was to make it durable was refused, and it was asked to be removed
+-- A table was not put: nothing was asked, since memory was refused or the image is larger than 1
+-- GiB; or no file was made; or one was, what was to make it durable was refused, and it was asked
+-- to be removed
 abbrev pub PutStopped : (number : ℕ) (image : List ℕ) → ShelfFault → (old new : List Call) → Type 0
 PutStopped number image e old new = Unasked e old new ⊎ (((new ≡ old) × (e ≡ Device) × (2 ^ 30 < length image))
     ⊎ (((fault : FolderFault) × (new ≡ made (table_name number) image (Err fault) ∷ old) × (e ≡ taken_of number fault))
@@ -106,13 +109,14 @@ NoneIn text e = (e ≡ OutOfMemory) ⊎ ((e ≡ Missing) × NamesNone text)
 abbrev pub CurrentStopped : ShelfFault → (old new : List Call) → Type 0
 CurrentStopped e old new = CurrentUnread e old new ⊎ ((text : List ℕ) × (new ≡ current_read (Ok text) old) × NoneIn text e)
 
--- The manifest of this number is not the one that `CURRENT` names: `CURRENT` holds another text, or is not there. A `CURRENT`
--- that could not be read tells neither
+-- The manifest of this number is not the one that `CURRENT` names: `CURRENT` holds another text, or
+-- is not there. A `CURRENT` that could not be read tells neither
 abbrev pub NamesOther : (number : ℕ) → Result (List ℕ) FolderFault → Type 0
 NamesOther number (Ok text) = text ≢ current_text number
 NamesOther number (Err fault) = fault ≡ folder.Missing
 
--- `CURRENT` is to name the manifest of this number: the new text is durable under another name before it has that one
+-- `CURRENT` is to name the manifest of this number: the new text is durable under another name
+-- before it has that one
 abbrev pub name_plan : (number : ℕ) → List Step
 name_plan number = wrote (temporary_name number) (current_text number) ∷ synced (temporary_name number)
     ∷ renamed (temporary_name number) (codes "CURRENT") ∷ folder_synced ∷ []
@@ -131,15 +135,17 @@ unnamed_plan number bytes = wrote (manifest_name number) bytes ∷ synced (manif
     ∷ wrote (temporary_name number) (current_text number) ∷ synced (temporary_name number)
     ∷ renamed (temporary_name number) (codes "CURRENT") ∷ []
 
--- A manifest was not written, or its name not made `CURRENT`'s for good: memory was refused before; or a front of the plan was made,
--- which stopped before `CURRENT` had its new text; or `CURRENT` has it, and that is not durable, which is the device
+-- A manifest was not written, or its name not made `CURRENT`'s for good: memory was refused before;
+-- or a front of the plan was made, which stopped before `CURRENT` had its new text; or `CURRENT`
+-- has it, and that is not durable, which is the device
 abbrev pub WriteStopped : (number : ℕ) (bytes : List ℕ) → ShelfFault → (old new : List Call) → Type 0
 WriteStopped number bytes e old new = Unasked e old new
     ⊎ (((fault : FolderFault) × Refused (unnamed_plan number bytes) fault old new × (e ≡ device_of fault))
     ⊎ ((fault : FolderFault) × (new ≡ folder_synced (Err fault) ∷ done (unnamed_plan number bytes) old) × (e ≡ Device)))
 
--- No manifest was started: the bytes are larger than 1 GiB, and nothing was asked; or `CURRENT` was asked for alone, since it was
--- refused, memory was, or it names the manifest of this number; or it does not name it, and the plan stopped
+-- No manifest was started: the bytes are larger than 1 GiB, and nothing was asked; or `CURRENT` was
+-- asked for alone, since it was refused, memory was, or it names the manifest of this number; or it
+-- does not name it, and the plan stopped
 abbrev pub StartStopped : (number : ℕ) (bytes : List ℕ) → ShelfFault → (old new : List Call) → Type 0
 StartStopped number bytes e old new = ((new ≡ old) × (e ≡ Device) × (2 ^ 30 < length bytes))
     ⊎ (CurrentStopped e old new
@@ -172,8 +178,8 @@ MeasureStopped e old new = CurrentStopped e old new
 abbrev pub BehindStopped : (number : ℕ) (bytes : List ℕ) → ShelfFault → (old new : List Call) → Type 0
 BehindStopped number bytes e old new = Unsettled (appended (manifest_name number) bytes) (synced (manifest_name number)) e old new
 
--- Nothing was appended for good: no manifest was measured; or one was, and has no room below 1 GiB, which is the device; or it has
--- room, and the plan stopped
+-- Nothing was appended for good: no manifest was measured; or one was, and has no room below 1 GiB,
+-- which is the device; or it has room, and the plan stopped
 abbrev pub AppendStopped : (bytes : List ℕ) → ShelfFault → (old new : List Call) → Type 0
 AppendStopped bytes e old new = MeasureStopped e old new
     ⊎ (((n : ℕ) × (len : ℕ) × (new ≡ manifest_measured n len old) × (e ≡ Device) × (2 ^ 30 < len + length bytes))

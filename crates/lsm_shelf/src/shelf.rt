@@ -94,7 +94,7 @@ pub trait Shelf: Drop + Send + Sync {
         ensures cause { IfErr result (λ e. NotTaken e × Counted e (told self.old) (told self.new)) }
         ensures counts { CountedBy result (told self.old) (told self.new) };
 
-    /// The numbers of the tables that are there, ascending.
+    /// The numbers of the tables that are there, ascending. `Device` where the device fails.
     fn list<R: Wait>(&mut self, rt: &R, alloc: Global) -> Result<Vec<u64>, ShelfFault>
         ensures ascending { IfOk result (λ v. IsStrictlyIncreasing v.items) }
         ensures ok { IfOk result (λ v. Becomes (listing v.items (told self.old)) (told self.new)) }
@@ -103,7 +103,8 @@ pub trait Shelf: Drop + Send + Sync {
         ensures cause { IfErr result (λ e. NotNamed e × Counted e (told self.old) (told self.new)) }
         ensures counts { CountedBy result (told self.old) (told self.new) };
 
-    /// Number and bytes of the manifest. `Missing` where there is none.
+    /// Number and bytes of the manifest. `Missing` where there is none, `Device` where the device
+    /// fails.
     fn read_manifest<R: Wait>(
         &mut self,
         rt: &R,
@@ -117,8 +118,9 @@ pub trait Shelf: Drop + Send + Sync {
 
     /// Writes a new manifest and makes it the directory's. `Taken` where the directory's manifest
     /// has this number; a file of that name which is not the directory's manifest is replaced. No
-    /// manifest is removed. After `Device` the directory names the old manifest or the new one
-    /// whole.
+    /// manifest is removed. `Device` where the device fails, or where a shelf on a folder is handed
+    /// more than 1 GiB; a shelf in memory has no such limit. After `Device` the directory names the
+    /// old manifest or the new one whole.
     fn start_manifest<R: Wait>(
         &mut self,
         rt: &R,
@@ -133,8 +135,9 @@ pub trait Shelf: Drop + Send + Sync {
         ensures counts { CountedBy result (told self.old) (told self.new) };
 
     /// Appends to the manifest that the directory names, on the device before it answers Ok.
-    /// `Missing` where there is none; after `Device` the manifest is the old bytes and a prefix of
-    /// the new ones.
+    /// `Missing` where there is none. `Device` where the device fails, or where the manifest of a
+    /// shelf on a folder would pass 1 GiB; a shelf in memory has no such limit. After `Device` the
+    /// manifest is the old bytes and a prefix of the new ones.
     fn append_manifest<R: Wait>(&mut self, rt: &R, bytes: &[u8]) -> Result<(), ShelfFault>
         ensures ok { OnOk result (Becomes (appending bytes.now (told self.old)) (told self.new)) }
         ensures err { OnErr result (Becomes (told self.old) (told self.new)) }
@@ -143,7 +146,7 @@ pub trait Shelf: Drop + Send + Sync {
         ensures counts { CountedBy result (told self.old) (told self.new) };
 
     /// Another value on the same contents, to which nothing was told yet; this one has given one
-    /// fork more.
+    /// fork more. `Device` where the device fails.
     fn fork(&mut self, alloc: Global) -> Result<Self, ShelfFault>
         ensures fork { IfOk result (λ s. told s ≡ fresh (told self.old).place) }
         ensures ok { OnOk result (Becomes (forking 1 (told self.old)) (told self.new)) }
