@@ -7,7 +7,7 @@ use Rattle.lsm_codec.specs.Entries.{Entry}
 use Rattle.lsm_codec.specs.Keys.{UserKey, UserLe}
 use Rattle.lsm_codec.specs.Lists.{Has}
 use Rattle.lsm_codec.proofs.CallerLemmas.{key_from_test, test_from_key, user_le_total, user_le_antisym, user_le_refl, seq_le}
-use Rattle.lsm_levels.specs.Ages.{is_aged, may_follow, against_age, IsAgeOrder, IsAgainstAge, IsLeastAgainstAge}
+use Rattle.lsm_levels.specs.Ages.{is_aged, against_age, IsAgeOrder, IsAgainstAge, IsLeastAgainstAge}
 use Rattle.lsm_levels.specs.Merging.{Placed, IsOrdered, goes_first}
 use Rattle.lsm_levels.proofs.CallerLemmas.{first_says}
 
@@ -183,11 +183,3 @@ finds_age (p ∷ ps) (Some k) o e = record {
         let below : IsBelow (Some k) (a.0).1.user = subst (IsBelow (Some k)) (sym a.4) (ge, ne) in
         let lt : (a.1).1.seq < (a.0).1.seq = age_below (Some k) p ps o e a.0 a.1 a.2 a.3 (a.4 ∙ sym a.5) below a.6 in
         let le = a.7 in absurd (omega arith)
-
--- the walk stops at an entry that may not follow, or at the end
-pub stops_at : (before : Option Placed) (ps rest : List Placed) (q : Placed) (k : UserKey) → ps ≡ q ∷ rest → may_follow before q ≡ false → k ≡ q.1.user → against_age before ps ≡ Some k
-stops_at before ps rest q k e t same =
-    ap (against_age before) e ∙ ap (λ (b : Bool). cond b (against_age (Some q) rest) (Some q.1.user)) t ∙ ap (λ (w : UserKey). Some w) (sym same)
-
-pub ends_at : (before : Option Placed) (ps : List Placed) → ps ≡ [] → against_age before ps ≡ None
-ends_at before ps e = ap (against_age before) e

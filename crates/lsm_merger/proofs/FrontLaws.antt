@@ -1,20 +1,17 @@
 -- User keys that have the same bytes at their fronts.
-use Rattle.std.proofs.Common.{◌≡◌, ℕ, zero, suc, ◌+◌, ◌<◌, ◌≤◌, min, Bool, true, false, cond, eqb, List, [], ◌∷◌, ◌++◌, length, take, drop, get_or, Ordering, Less, Equal, Greater, nat_lt, slice_index, ◌⊎◌, inl, inr, refl, sym, ap, ◌∙◌, subst, arith}
-use Rattle.std.specs.Ordering.{nat_cmp, ordering_then}
+use Rattle.std.proofs.Common.{◌≡◌, ℕ, zero, suc, ◌+◌, ◌<◌, ◌≤◌, Bool, true, false, cond, eqb, List, [], ◌∷◌, length, take, drop, get_or, Ordering, Less, Equal, Greater, nat_lt, slice_index, ◌⊎◌, inl, inr, refl, sym, ap, ◌∙◌, subst, arith}
+use Rattle.std.specs.Ordering.{nat_cmp, ordering_reverse, ordering_then}
 use Rattle.std.specs.Cmp.Lexicographic.{slice_cmp}
 use Rattle.std.proofs.lemmas.Bool.{eqb-true, eq-eqb}
 use Rattle.std.specs.Cmp.{nat_cmp_is}
-use Rattle.std.proofs.lemmas.Cmp.{nat_cmp_total, tied_itself}
-use Rattle.std.proofs.lemmas.List.{take-take, take-append-drop}
+use Rattle.std.proofs.lemmas.Cmp.{nat_cmp_total, nat_list_cmp_total, tied_itself}
+use Rattle.std.proofs.lemmas.List.{take-take}
 use Rattle.lsm_codec.specs.Keys.{UserKey, then_by}
 use Rattle.lsm_block.specs.Building.{common, one_more}
 use Rattle.lsm_block.specs.Standing.{SharesFront}
 
 pub shares_none : (a b : UserKey) → SharesFront 0 a b
 shares_none a b = record { same = refl; first = omega arith; second = omega arith }
-
-pub shares_all : (a : UserKey) → SharesFront (length a) a a
-shares_all a = record { same = refl; first = omega arith; second = omega arith }
 
 pub shares_less : (m n : ℕ) (a b : UserKey) → m ≤ n → SharesFront n a b → SharesFront m a b
 shares_less m n a b le s = record {
@@ -29,10 +26,12 @@ shares_swapped n a b s = record { same = sym s.same; first = s.second; second = 
 pub shares_through : (n : ℕ) (a b c : UserKey) → SharesFront n a b → SharesFront n b c → SharesFront n a c
 shares_through n a b c s t = record { same = s.same ∙ t.same; first = s.first; second = t.second }
 
--- a key that shares a front with one, and another one with that: the lesser front with both
-pub shares_both : (m n : ℕ) (a b c : UserKey) → SharesFront m a b → SharesFront n b c → SharesFront (min m n) a c
-shares_both m n a b c s t =
-    shares_through (min m n) a b c (shares_less (min m n) m a b (omega arith) s) (shares_less (min m n) n b c (omega arith) t)
+-- the first byte of a front, and what is shared behind it
+first_byte : (n : ℕ) (x y : ℕ) (a b : UserKey) → SharesFront (suc n) (x ∷ a) (y ∷ b) → x ≡ y
+first_byte n x y a b s = ap (λ (l : List ℕ). get_or l 0 0) s.same
+
+behind_byte : (n : ℕ) (x y : ℕ) (a b : UserKey) → SharesFront (suc n) (x ∷ a) (y ∷ b) → SharesFront n a b
+behind_byte n x y a b s = record { same = ap (drop 1) s.same; first = (let x = s.first in omega arith); second = (let x = s.second in omega arith) }
 
 -- the same bytes behind a front are more of it
 more_by : (n m k : ℕ) (a b : UserKey) → k ≡ n + m → SharesFront n a b → SharesFront m (drop n a) (drop n b) → SharesFront k a b
@@ -40,11 +39,10 @@ more_by zero m k a b e s t = (let same : k ≡ m = omega (arith, e) in rw same t
 more_by (suc n) m k [] b e s t = (let x = s.first in absurd (omega arith))
 more_by (suc n) m k (x ∷ a) [] e s t = (let x = s.second in absurd (omega arith))
 more_by (suc n) m k (x ∷ a) (y ∷ b) e s t =
-    let rest : SharesFront n a b = record { same = ap (drop 1) s.same; first = (let x = s.first in omega arith); second = (let x = s.second in omega arith) } in
-    let more = more_by n m (n + m) a b refl rest t in
+    let more = more_by n m (n + m) a b refl (behind_byte n x y a b s) t in
     let next : k ≡ suc (n + m) = omega (arith, e) in
     rw next record {
-      same = ap (λ (z : ℕ). z ∷ take (n + m) a) (ap (λ (l : List ℕ). get_or l 0 0) s.same) ∙ ap (λ (l : List ℕ). y ∷ l) more.same;
+      same = ap (λ (z : ℕ). z ∷ take (n + m) a) (first_byte n x y a b s) ∙ ap (λ (l : List ℕ). y ∷ l) more.same;
       first = (let x = more.first in omega arith);
       second = (let x = more.second in omega arith);
     }
@@ -73,10 +71,8 @@ cmp_behind zero a b s = refl
 cmp_behind (suc n) [] b s = (let x = s.first in absurd (omega arith))
 cmp_behind (suc n) (x ∷ a) [] s = (let x = s.second in absurd (omega arith))
 cmp_behind (suc n) (x ∷ a) (y ∷ b) s =
-    let rest : SharesFront n a b = record { same = ap (drop 1) s.same; first = (let x = s.first in omega arith); second = (let x = s.second in omega arith) } in
-    let one : x ≡ y = ap (λ (l : List ℕ). get_or l 0 0) s.same in
-    cmp_behind n a b rest
-    ∙ sym (ap (λ (z : ℕ). ordering_then (nat_cmp x z) (slice_cmp nat_cmp a b)) (sym one) ∙ ap (λ (o : Ordering). ordering_then o (slice_cmp nat_cmp a b)) (tied_itself nat_cmp_total x))
+    cmp_behind n a b (behind_byte n x y a b s)
+    ∙ sym (ap (λ (z : ℕ). ordering_then (nat_cmp x z) (slice_cmp nat_cmp a b)) (sym (first_byte n x y a b s)) ∙ ap (λ (o : Ordering). ordering_then o (slice_cmp nat_cmp a b)) (tied_itself nat_cmp_total x))
 
 -- the first bytes tell the order where they differ, or else the lengths where one has none
 pub cmp_lengths : (a b : UserKey) → (length a ≡ 0) ⊎ (length b ≡ 0) → nat_cmp (length a) (length b) ≡ slice_cmp nat_cmp a b
@@ -103,6 +99,20 @@ cmp_first (x ∷ a) (y ∷ b) p q h = sym (apart (nat_lt x y) (eqb x y) (slice_c
     differ true e = absurd (omega (arith, e))
     differ false e = refl
 
+same_test : (x y : ℕ) (t e : Bool) → eqb x y ≡ t → eqb y x ≡ e → t ≡ e
+same_test x y true true p q = refl
+same_test x y false false p q = refl
+same_test x y true false p q = sym (eq-eqb y x (sym (eqb-true x y p))) ∙ q
+same_test x y false true p q = sym p ∙ eq-eqb x y (sym (eqb-true y x q))
+
+pub common_swapped : (a b : UserKey) → common a b ≡ common b a
+unfolding common
+common_swapped [] [] = refl
+common_swapped [] (y ∷ b) = refl
+common_swapped (x ∷ a) [] = refl
+common_swapped (x ∷ a) (y ∷ b) =
+    ap (λ (t : Bool). one_more t (common a b)) (same_test x y (eqb x y) (eqb y x) refl refl) ∙ ap (one_more (eqb y x)) (common_swapped a b)
+
 -- what both have in common, by a front that they share
 pub common_behind : (n : ℕ) (a b : UserKey) → SharesFront n a b → common a b ≡ n + common (drop n a) (drop n b)
 unfolding common
@@ -110,11 +120,9 @@ common_behind zero a b s = omega arith
 common_behind (suc n) [] b s = (let x = s.first in absurd (omega arith))
 common_behind (suc n) (x ∷ a) [] s = (let x = s.second in absurd (omega arith))
 common_behind (suc n) (x ∷ a) (y ∷ b) s =
-    let rest : SharesFront n a b = record { same = ap (drop 1) s.same; first = (let x = s.first in omega arith); second = (let x = s.second in omega arith) } in
-    let one : x ≡ y = ap (λ (l : List ℕ). get_or l 0 0) s.same in
-    let behind = common_behind n a b rest in
+    let behind = common_behind n a b (behind_byte n x y a b s) in
     let more : suc (common a b) ≡ suc n + common (drop n a) (drop n b) = omega (arith, behind) in
-    ap (λ (t : Bool). one_more t (common a b)) (eq-eqb x y one) ∙ more
+    ap (λ (t : Bool). one_more t (common a b)) (eq-eqb x y (first_byte n x y a b s)) ∙ more
 
 pub common_none_first : (b : UserKey) → 0 ≡ common [] b
 unfolding common
@@ -132,12 +140,6 @@ common_no_more a b = (let e = common_behind (common a b) a b (shares_common a b)
 -- ---- a key that shares more with the one before it than that has in common with a third: to the
 -- third it stands as the one before it does
 
-first_byte : (n : ℕ) (x y : ℕ) (a b : UserKey) → SharesFront (suc n) (x ∷ a) (y ∷ b) → x ≡ y
-first_byte n x y a b s = ap (λ (l : List ℕ). get_or l 0 0) s.same
-
-behind_byte : (n : ℕ) (x y : ℕ) (a b : UserKey) → SharesFront (suc n) (x ∷ a) (y ∷ b) → SharesFront n a b
-behind_byte n x y a b s = record { same = ap (drop 1) s.same; first = (let x = s.first in omega arith); second = (let x = s.second in omega arith) }
-
 pub common_kept : (n : ℕ) (u v w : UserKey) → SharesFront n u v → common u w < n → common v w ≡ common u w
 unfolding common
 common_kept zero u v w s h = absurd (omega (arith, h))
@@ -152,19 +154,10 @@ common_kept (suc n) (x ∷ a) (y ∷ b) (z ∷ c) s h =
     next true less behind = ap suc (behind (omega (arith, less)))
     next false less behind = refl
 
+-- the same, with the sides exchanged
 pub common_kept_by : (n : ℕ) (u v w : UserKey) → SharesFront n u v → common w u < n → common w v ≡ common w u
-unfolding common
-common_kept_by zero u v w s h = absurd (omega (arith, h))
-common_kept_by (suc n) [] v w s h = (let x = s.first in absurd (omega arith))
-common_kept_by (suc n) (x ∷ a) [] w s h = (let x = s.second in absurd (omega arith))
-common_kept_by (suc n) (x ∷ a) (y ∷ b) [] s h = refl
-common_kept_by (suc n) (x ∷ a) (y ∷ b) (z ∷ c) s h =
-    subst (λ (first : ℕ). one_more (eqb z first) (common c b) ≡ one_more (eqb z x) (common c a)) (first_byte n x y a b s)
-    (next (eqb z x) h (λ less. common_kept_by n a b c (behind_byte n x y a b s) less))
-  where
-    next : (t : Bool) → one_more t (common c a) < suc n → (common c a < n → common c b ≡ common c a) → one_more t (common c b) ≡ one_more t (common c a)
-    next true less behind = ap suc (behind (omega (arith, less)))
-    next false less behind = refl
+common_kept_by n u v w s h =
+    common_swapped w v ∙ common_kept n u v w s (subst (λ (m : ℕ). m < n) (common_swapped w u) h) ∙ common_swapped u w
 
 tied : (x z : ℕ) (o : Ordering) → eqb x z ≡ true → ordering_then (nat_cmp x z) o ≡ o
 tied x z o h = ap (λ (y : ℕ). ordering_then (nat_cmp x y) o) (sym (eqb-true x z h)) ∙ ap (λ (r : Ordering). ordering_then r o) (tied_itself nat_cmp_total x)
@@ -195,25 +188,19 @@ order_kept (suc n) (x ∷ a) (y ∷ b) (z ∷ c) s t f h =
         ∙ sym (ap (λ (o : Ordering). then_by o s) (tied x z (slice_cmp nat_cmp a c) e))
     next false e less behind = told (nat_lt x z) (eqb x z) (slice_cmp nat_cmp b c) (slice_cmp nat_cmp a c) t s e
 
-pub order_kept_by : (n : ℕ) (u v w : UserKey) (s t : Ordering) → SharesFront n u v → common w u < n → then_by (slice_cmp nat_cmp w v) t ≡ then_by (slice_cmp nat_cmp w u) s
-unfolding common
-order_kept_by zero u v w s t f h = absurd (omega (arith, h))
-order_kept_by (suc n) [] v w s t f h = (let x = f.first in absurd (omega arith))
-order_kept_by (suc n) (x ∷ a) [] w s t f h = (let x = f.second in absurd (omega arith))
-order_kept_by (suc n) (x ∷ a) (y ∷ b) [] s t f h = refl
-order_kept_by (suc n) (x ∷ a) (y ∷ b) (z ∷ c) s t f h =
-    subst (λ (first : ℕ). then_by (ordering_then (nat_cmp z first) (slice_cmp nat_cmp c b)) t ≡ then_by (ordering_then (nat_cmp z x) (slice_cmp nat_cmp c a)) s) (first_byte n x y a b f)
-    (next (eqb z x) refl h (λ less. order_kept_by n a b c s t (behind_byte n x y a b f) less))
-  where
-    next : (e : Bool) → eqb z x ≡ e → one_more e (common c a) < suc n
-        → (common c a < n → then_by (slice_cmp nat_cmp c b) t ≡ then_by (slice_cmp nat_cmp c a) s)
-        → then_by (ordering_then (nat_cmp z x) (slice_cmp nat_cmp c b)) t ≡ then_by (ordering_then (nat_cmp z x) (slice_cmp nat_cmp c a)) s
-    next true e less behind =
-        ap (λ (o : Ordering). then_by o t) (tied z x (slice_cmp nat_cmp c b) e)
-        ∙ behind (omega (arith, less))
-        ∙ sym (ap (λ (o : Ordering). then_by o s) (tied z x (slice_cmp nat_cmp c a) e))
-    next false e less behind = told (nat_lt z x) (eqb z x) (slice_cmp nat_cmp c b) (slice_cmp nat_cmp c a) t s e
+reversed : (o t : Ordering) → then_by (ordering_reverse o) t ≡ ordering_reverse (then_by o (ordering_reverse t))
+reversed Less t = refl
+reversed Equal Less = refl
+reversed Equal Equal = refl
+reversed Equal Greater = refl
+reversed Greater t = refl
 
--- a key by a front that it shares, and the rest of it
-pub put_together : (n : ℕ) (a b new : UserKey) → SharesFront n a b → new ≡ (take n a) ++ (drop n b) → new ≡ b
-put_together n a b new s e = e ∙ ap (λ (l : List ℕ). l ++ drop n b) s.same ∙ take-append-drop n b
+order_swapped : (a b : UserKey) (t : Ordering) → then_by (slice_cmp nat_cmp a b) t ≡ ordering_reverse (then_by (slice_cmp nat_cmp b a) (ordering_reverse t))
+order_swapped a b t = ap (λ (o : Ordering). then_by o t) (nat_list_cmp_total.antisymm a b) ∙ reversed (slice_cmp nat_cmp b a) t
+
+-- the same, with the sides exchanged
+pub order_kept_by : (n : ℕ) (u v w : UserKey) (s t : Ordering) → SharesFront n u v → common w u < n → then_by (slice_cmp nat_cmp w v) t ≡ then_by (slice_cmp nat_cmp w u) s
+order_kept_by n u v w s t f h =
+    order_swapped w v t
+    ∙ ap ordering_reverse (order_kept n u v w (ordering_reverse s) (ordering_reverse t) f (subst (λ (m : ℕ). m < n) (common_swapped w u) h))
+    ∙ sym (order_swapped w u s)

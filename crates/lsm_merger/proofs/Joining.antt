@@ -3,7 +3,8 @@ use Rattle.std.proofs.Common.{◌≡◌, zero, suc, ℕ, ◌+◌, ◌≤◌, Boo
 use Rattle.lsm_levels.specs.Merging.{Placed, goes_first, leads, merge}
 use Rattle.lsm_levels.proofs.CallerLemmas.{first_trans, first_total, merge_left, merge_right, merge_empty, leads_merge}
 
--- where the first of the first list goes before the first of the second, and that goes first of the merge of the last two
+-- where the first of the first list goes before the first of the second, and that goes first of the
+-- merge of the last two
 merge_joins : (n : ℕ) (xs ys zs : List Placed) → length xs + length ys + length zs ≤ n → merge (merge xs ys) zs ≡ merge xs (merge ys zs)
 merge_joins n [] ys zs le = refl
 merge_joins n (x ∷ xs) [] zs le = ap (λ (l : List Placed). merge l zs) (merge_empty (x ∷ xs))

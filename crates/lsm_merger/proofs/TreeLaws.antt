@@ -1,6 +1,6 @@
 -- A tree of merges: its files, and the source that has the first entry.
 use Rattle.std.specs.List.{flat_map}
-use Rattle.std.proofs.Common.{◌≡◌, ◌+◌, ◌<◌, ◌≤◌, ℕ, min, Bool, true, false, Option, Some, None, List, [], ◌∷◌, ◌++◌, map, length, arith, refl, sym, ap, ◌∙◌, subst, append_assoc, append-nil, inl, inr}
+use Rattle.std.proofs.Common.{◌≡◌, ◌+◌, ◌<◌, ◌≤◌, ℕ, Bool, true, false, Option, Some, None, List, [], ◌∷◌, ◌++◌, map, length, arith, refl, sym, ap, ◌∙◌, subst, append_assoc, append-nil, inl, inr}
 use Rattle.std.specs.Ordering.{is_le, nat_cmp}
 use Rattle.lsm_block.specs.Building.{common}
 use Rattle.lsm_block.specs.Standing.{SharesFront}
@@ -13,7 +13,7 @@ use Rattle.lsm_merger.specs.Heads.{first_of, after_first, key_in, leads_by, plac
 use Rattle.lsm_merger.specs.Runs.{AreAlike, Left, ReadsNoOther, IsOfFirst}
 use Rattle.lsm_merger.specs.declared.tree.Tree.{Tree}
 use Rattle.lsm_merger.specs.declared.tree.Tree.TheVariants.{Leaf, Fork'}
-use Rattle.lsm_merger.specs.Tree.{IsFront, IsLed, IsReady, ShareHeads, both, all_left, left_of, none_left, shared_by_heads}
+use Rattle.lsm_merger.specs.Tree.{IsFront, IsLed, IsReady, ShareHeads, both, all_left, left_of, none_left}
 use Rattle.lsm_merger.proofs.FrontLaws.{common_kept, common_kept_by, order_kept, order_kept_by, shares_less, shares_swapped, shares_through}
 use Rattle.lsm_merger.proofs.Joining.{merge-merge}
 

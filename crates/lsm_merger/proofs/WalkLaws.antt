@@ -1,5 +1,5 @@
 -- What a walk tells of the first entry, and what it remembers.
-use Rattle.std.proofs.Common.{◌≡◌, ℕ, Bool, true, false, Option, Some, None, List, [], ◌∷◌, refl, ap, ◌∙◌}
+use Rattle.std.proofs.Common.{◌≡◌, ℕ, Bool, true, false, Option, Some, List, [], ◌∷◌, refl, ap, ◌∙◌}
 use Rattle.std.specs.Prelude.{◌&&◌}
 use Rattle.std.specs.Ordering.{is_eq, nat_cmp}
 use Rattle.std.specs.Cmp.Lexicographic.{slice_cmp}
@@ -10,7 +10,7 @@ use Rattle.lsm_levels.specs.Merging.{Placed}
 use Rattle.lsm_levels.specs.Scanning.{is_answered}
 use Rattle.lsm_merger.specs.declared.walk.FirstKey.{FirstKey}
 use Rattle.lsm_merger.specs.Heads.{first_of, key_in, user_in}
-use Rattle.lsm_merger.specs.Walks.{passed_by, passed_if, told_first}
+use Rattle.lsm_merger.specs.Walks.{passed_if, told_first}
 
 pub told_is : (passed : Option UserKey) (p : Placed) (k : FirstKey) → Some k ≡ told_first passed (Some p)
     → k ≡ record { seq = p.1.seq; kind = p.1.kind; is_same = is_answered passed p.1.user }
@@ -32,18 +32,6 @@ told_by has own (p ∷ ps) k first h s d e =
     first_is : (f : FirstKey) (seq : ℕ) (kind : Kind) (is_same : Bool) → f.seq ≡ seq → f.kind ≡ kind → f.is_same ≡ is_same → f ≡ record { seq = seq; kind = kind; is_same = is_same }
     first_is f seq kind is_same a b c = λ i. record { seq = a i; kind = b i; is_same = c i }
 
-pub passed_first : (passed : Option UserKey) (ps : List Placed) (k : InternalKey) → Some k ≡ key_in (first_of ps) → Some k.user ≡ passed_by passed (first_of ps)
-passed_first passed [] k h = absurd cc
-passed_first passed (p ∷ ps) k h = (let at : k ≡ record { user = p.1.user; seq = p.1.seq; kind = p.1.kind } = cc h in ap (λ (x : InternalKey). Some x.user) at)
-
 pub user_is : (ps : List Placed) (k : InternalKey) → Some k ≡ key_in (first_of ps) → k.user ≡ user_in (first_of ps)
 user_is [] k h = absurd cc
 user_is (p ∷ ps) k h = (let at : k ≡ record { user = p.1.user; seq = p.1.seq; kind = p.1.kind } = cc h in ap (λ (x : InternalKey). x.user) at)
-
-pub passed_none : (passed : Option UserKey) (ps : List Placed) → None ≡ key_in (first_of ps) → passed_by passed (first_of ps) ≡ passed
-passed_none passed [] h = refl
-passed_none passed (p ∷ ps) h = absurd cc
-
-pub told_none : (passed : Option UserKey) (ps : List Placed) → None ≡ key_in (first_of ps) → None ≡ told_first passed (first_of ps)
-told_none passed [] h = refl
-told_none passed (p ∷ ps) h = absurd cc

@@ -20,6 +20,28 @@ use lsm_table::{Naming, ReadFault, Shelf, TableFault};
 use std::alloc::{AllocError, Global};
 use std::mem;
 
+/// The least user key of which a deeper entry has no lesser sequence than a shallower one, if there
+/// is one. The places of the merge's runs are their depths; it is read to the first such entry. A
+/// refusal names a file of the merge.
+pub fn against_age<N: Naming, S: Shelf, B: Blocks<S>>(
+    blocks: &mut B,
+    alloc: Global,
+    merger: &mut Merger<N, S>,
+) -> Result<Option<Bytes>, FileFault>
+    requires here { (B.told blocks.old).place ≡ N.place }
+    ensures judged { S.honest → IsOrdered merger.old.placed → IfOk result (λ r. MatchOption r (IsAgeOrder merger.old.placed) (λ k. IsLeastAgainstAge merger.old.placed k)) }
+    ensures sound { S.honest → IfErr result (λ e. IsMemoryOrShelf e.fault) }
+    ensures number { IfErr result (λ e. IsOfFiles merger.old e.number) }
+    ensures told { Becomes (B.told blocks.old) (B.told blocks.new) }
+    ensures loan { B.loan blocks.new ≡ B.loan blocks.old }
+    ensures cause { IfErr result (λ e. ReadCounted e.fault (B.told blocks.old) (B.told blocks.new)) }
+{
+    let mut walk = Walk::new(alloc, mem::replace(merger, Merger::nothing()));
+    let found = found_by(blocks, alloc, &mut walk);
+    *merger = walk.into_merger();
+    found
+}
+
 /// Place and sequence of an entry.
 #[derive(Clone, Copy)]
 struct Stamp {
@@ -102,26 +124,4 @@ fn found_by<N: Naming, S: Shelf, B: Blocks<S>>(
     }
     // Only a shelf that is not honest could give so many.
     Err(want_at(&*walk))
-}
-
-/// The least user key of which a deeper entry has no lesser sequence than a shallower one, if there
-/// is one. The places of the merge's runs are their depths; it is read to the first such entry. A
-/// refusal names a file of the merge.
-pub fn against_age<N: Naming, S: Shelf, B: Blocks<S>>(
-    blocks: &mut B,
-    alloc: Global,
-    merger: &mut Merger<N, S>,
-) -> Result<Option<Bytes>, FileFault>
-    requires here { (B.told blocks.old).place ≡ N.place }
-    ensures judged { S.honest → IsOrdered merger.old.placed → IfOk result (λ r. MatchOption r (IsAgeOrder merger.old.placed) (λ k. IsLeastAgainstAge merger.old.placed k)) }
-    ensures sound { S.honest → IfErr result (λ e. IsMemoryOrShelf e.fault) }
-    ensures number { IfErr result (λ e. IsOfFiles merger.old e.number) }
-    ensures told { Becomes (B.told blocks.old) (B.told blocks.new) }
-    ensures loan { B.loan blocks.new ≡ B.loan blocks.old }
-    ensures cause { IfErr result (λ e. ReadCounted e.fault (B.told blocks.old) (B.told blocks.new)) }
-{
-    let mut walk = Walk::new(alloc, mem::replace(merger, Merger::nothing()));
-    let found = found_by(blocks, alloc, &mut walk);
-    *merger = walk.into_merger();
-    found
 }

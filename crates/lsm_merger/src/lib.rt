@@ -9,18 +9,22 @@
 
 // Sources, each in the order of keys.
 mod file_fault;
-mod front;
 mod run;
 
-// Their merge.
-mod merger;
+// Their merge: the fronts that keys share.
+mod front;
+// The sources that lead.
 mod tree;
+// The merge.
+mod merger;
 
 // What goes along the merge.
-mod ages;
+mod walk;
+// What a scan shows of it.
 mod pair;
 mod scan;
-mod walk;
+// The age order of its entries.
+mod ages;
 
 pub use ages::against_age;
 pub use file_fault::FileFault;

@@ -32,12 +32,14 @@ impl Pair {
         })
     }
 
+    /// The user key.
     pub fn user(&self) -> &[u8]
         ensures { result.now ≡ self.now.0 }
     {
         self.user.as_slice()
     }
 
+    /// Its value.
     pub fn value(&self) -> &[u8]
         ensures { result.now ≡ self.now.1 }
     {

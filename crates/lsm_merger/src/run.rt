@@ -125,7 +125,7 @@ fn copies_of<N: Naming, S: Shelf, B: Blocks<S>>(
 }
 
 impl<N: Naming, S: Shelf> Run<N, S> {
-    /// At the first entry of the first table. The entries get this place, as a depth.
+    /// At the first entry of the first table. The entries get this depth as their place.
     pub fn open_by<B: Blocks<S>>(
         blocks: &mut B,
         alloc: Global,
@@ -199,6 +199,7 @@ impl<N: Naming, S: Shelf> Run<N, S> {
     pub(crate) fn one_key(&self)
         ensures { AreAlike self.now }
     {
+        // Reads the field, so that the type's invariant is at hand.
         let _here = &self.here;
     }
 

@@ -17,6 +17,103 @@ use lsm_table::{Naming, ReadFault, Shelf, TableFault};
 use std::alloc::{AllocError, Global};
 use std::marker::Model;
 
+/// The user keys that have a value at a sequence, with it, ascending. Contracts see what is left to
+/// show, and the pair at which it stands, which it lends.
+#[derive(Drop)]
+pub struct Scan<N: Naming, S: Shelf> {
+    // With the user key that was answered last.
+    walk: Walk<N, S>,
+    // Whether the entry at which the merge stands answered its user key.
+    is_done: bool,
+    seq: u64,
+}
+
+impl<N: Naming, S: Shelf> Model for Scan<N, S> {
+    ghost use Rattle.lsm_merger.specs.Shown.{Showing, showing_of};
+
+    ghost Value = { Showing };
+
+    ghost view = { λ s. showing_of s.seq s.walk.passed s.is_done s.walk.left.placed };
+}
+
+impl<N: Naming, S: Shelf> Scan<N, S> {
+    /// What is left is what the sequence shows of the merge. It stands at no pair yet.
+    pub fn new(alloc: Global, merger: Merger<N, S>, seq: u64) -> Scan<N, S>
+        ensures { result ≡ record { here = None; left = pairs_of seq None (entries_of merger.placed) } }
+    {
+        Scan {
+            walk: Walk::new(alloc, merger),
+            is_done: false,
+            seq,
+        }
+    }
+
+    /// The user key of the pair at which it stands; no bytes where it stands at none.
+    pub fn user(&self) -> &[u8]
+        ensures { result.now ≡ user_shown self.now.here }
+    {
+        user_at(&self.walk, self.is_done)
+    }
+
+    /// The value of the pair at which it stands; no bytes where it stands at none.
+    pub fn value(&self) -> &[u8]
+        ensures { result.now ≡ value_shown self.now.here }
+    {
+        value_at(&self.walk, self.is_done)
+    }
+
+    /// Goes on to the next pair, which it then lends. Where none is left it stands at none, and the
+    /// answer is false. An `Err` leaves what is left to show.
+    pub fn step_by<B: Blocks<S>>(
+        &mut self,
+        blocks: &mut B,
+        alloc: Global,
+    ) -> Result<bool, ReadFault>
+        requires here { (B.told blocks.old).place ≡ N.place }
+        ensures ok { S.honest → IfOk result (λ m. ShowsNext m self.old self.new) }
+        ensures err { S.honest → OnErr result (self.new.left ≡ self.old.left) }
+        ensures sound { S.honest → IfErr result IsMemoryOrShelf }
+        ensures told { Becomes (B.told blocks.old) (B.told blocks.new) }
+        ensures loan { B.loan blocks.new ≡ B.loan blocks.old }
+        ensures cause { IfErr result (λ e. ReadCounted e (B.told blocks.old) (B.told blocks.new)) }
+    {
+        shown_by(&mut self.walk, &mut self.is_done, self.seq, blocks, alloc)
+    }
+
+    /// A copy of the next pair, at which it then stands, or none at the end. An `Err` leaves what
+    /// is left to show.
+    pub fn next_by<B: Blocks<S>>(
+        &mut self,
+        blocks: &mut B,
+        alloc: Global,
+    ) -> Result<Option<Pair>, ReadFault>
+        requires here { (B.told blocks.old).place ≡ N.place }
+        ensures ok { S.honest → IfOk result (λ r. ShowsPair r self.old.left self.new.left) }
+        ensures stands { S.honest → IfOk result (λ r. self.new.here ≡ r) }
+        ensures err { S.honest → OnErr result (self.new.left ≡ self.old.left) }
+        ensures sound { S.honest → IfErr result IsMemoryOrShelf }
+        ensures told { Becomes (B.told blocks.old) (B.told blocks.new) }
+        ensures loan { B.loan blocks.new ≡ B.loan blocks.old }
+        ensures cause { IfErr result (λ e. ReadCounted e (B.told blocks.old) (B.told blocks.new)) }
+    {
+        pair_by(&mut self.walk, &mut self.is_done, self.seq, blocks, alloc)
+    }
+
+    /// The same by the shelf itself.
+    pub fn next(&mut self, shelf: &mut S, alloc: Global) -> Result<Option<Pair>, ReadFault>
+        requires here { (S.told shelf.old).place ≡ N.place }
+        ensures ok { S.honest → IfOk result (λ r. ShowsPair r self.old.left self.new.left) }
+        ensures stands { S.honest → IfOk result (λ r. self.new.here ≡ r) }
+        ensures err { S.honest → OnErr result (self.new.left ≡ self.old.left) }
+        ensures sound { S.honest → IfErr result IsMemoryOrShelf }
+        ensures told { Becomes (S.told shelf.old) (S.told shelf.new) }
+        ensures cause { IfErr result (λ e. ReadCounted e (S.told shelf.old) (S.told shelf.new)) }
+    {
+        let mut direct = Direct::new(shelf);
+        self.next_by(&mut direct, alloc)
+    }
+}
+
 /// Whether nothing is shown for an entry of this key: its user key was answered, or it is too new.
 fn is_passed(key: FirstKey, seq: u64) -> bool
     ensures { result ≡ key.is_same || not (nat_le key.seq seq) }
@@ -181,102 +278,5 @@ fn pair_by<N: Naming, S: Shelf, B: Blocks<S>>(
             *is_done = false;
             Err(ReadFault::Table(TableFault::OutOfMemory))
         }
-    }
-}
-
-/// The user keys that have a value at a sequence, with it, ascending. Contracts see what is left to
-/// show, and the pair at which it stands, which it lends.
-#[derive(Drop)]
-pub struct Scan<N: Naming, S: Shelf> {
-    // With the user key that was answered last.
-    walk: Walk<N, S>,
-    // Whether the entry at which the merge stands answered its user key.
-    is_done: bool,
-    seq: u64,
-}
-
-impl<N: Naming, S: Shelf> Model for Scan<N, S> {
-    ghost use Rattle.lsm_merger.specs.Shown.{Showing, showing_of};
-
-    ghost Value = { Showing };
-
-    ghost view = { λ s. showing_of s.seq s.walk.passed s.is_done s.walk.left.placed };
-}
-
-impl<N: Naming, S: Shelf> Scan<N, S> {
-    /// What is left is what the sequence shows of the merge. It stands at no pair yet.
-    pub fn new(alloc: Global, merger: Merger<N, S>, seq: u64) -> Scan<N, S>
-        ensures { result ≡ record { here = None; left = pairs_of seq None (entries_of merger.placed) } }
-    {
-        Scan {
-            walk: Walk::new(alloc, merger),
-            is_done: false,
-            seq,
-        }
-    }
-
-    /// The user key of the pair at which it stands; no bytes where it stands at none.
-    pub fn user(&self) -> &[u8]
-        ensures { result.now ≡ user_shown self.now.here }
-    {
-        user_at(&self.walk, self.is_done)
-    }
-
-    /// The value of the pair at which it stands; no bytes where it stands at none.
-    pub fn value(&self) -> &[u8]
-        ensures { result.now ≡ value_shown self.now.here }
-    {
-        value_at(&self.walk, self.is_done)
-    }
-
-    /// Goes on to the next pair, which it then lends. Where none is left it stands at none, and the
-    /// answer is false. An `Err` leaves what is left to show.
-    pub fn step_by<B: Blocks<S>>(
-        &mut self,
-        blocks: &mut B,
-        alloc: Global,
-    ) -> Result<bool, ReadFault>
-        requires here { (B.told blocks.old).place ≡ N.place }
-        ensures ok { S.honest → IfOk result (λ m. ShowsNext m self.old self.new) }
-        ensures err { S.honest → OnErr result (self.new.left ≡ self.old.left) }
-        ensures sound { S.honest → IfErr result IsMemoryOrShelf }
-        ensures told { Becomes (B.told blocks.old) (B.told blocks.new) }
-        ensures loan { B.loan blocks.new ≡ B.loan blocks.old }
-        ensures cause { IfErr result (λ e. ReadCounted e (B.told blocks.old) (B.told blocks.new)) }
-    {
-        shown_by(&mut self.walk, &mut self.is_done, self.seq, blocks, alloc)
-    }
-
-    /// A copy of the next pair, at which it then stands, or none at the end. An `Err` leaves what
-    /// is left to show.
-    pub fn next_by<B: Blocks<S>>(
-        &mut self,
-        blocks: &mut B,
-        alloc: Global,
-    ) -> Result<Option<Pair>, ReadFault>
-        requires here { (B.told blocks.old).place ≡ N.place }
-        ensures ok { S.honest → IfOk result (λ r. ShowsPair r self.old.left self.new.left) }
-        ensures stands { S.honest → IfOk result (λ r. self.new.here ≡ r) }
-        ensures err { S.honest → OnErr result (self.new.left ≡ self.old.left) }
-        ensures sound { S.honest → IfErr result IsMemoryOrShelf }
-        ensures told { Becomes (B.told blocks.old) (B.told blocks.new) }
-        ensures loan { B.loan blocks.new ≡ B.loan blocks.old }
-        ensures cause { IfErr result (λ e. ReadCounted e (B.told blocks.old) (B.told blocks.new)) }
-    {
-        pair_by(&mut self.walk, &mut self.is_done, self.seq, blocks, alloc)
-    }
-
-    /// The same by the shelf itself.
-    pub fn next(&mut self, shelf: &mut S, alloc: Global) -> Result<Option<Pair>, ReadFault>
-        requires here { (S.told shelf.old).place ≡ N.place }
-        ensures ok { S.honest → IfOk result (λ r. ShowsPair r self.old.left self.new.left) }
-        ensures stands { S.honest → IfOk result (λ r. self.new.here ≡ r) }
-        ensures err { S.honest → OnErr result (self.new.left ≡ self.old.left) }
-        ensures sound { S.honest → IfErr result IsMemoryOrShelf }
-        ensures told { Becomes (S.told shelf.old) (S.told shelf.new) }
-        ensures cause { IfErr result (λ e. ReadCounted e (S.told shelf.old) (S.told shelf.new)) }
-    {
-        let mut direct = Direct::new(shelf);
-        self.next_by(&mut direct, alloc)
     }
 }

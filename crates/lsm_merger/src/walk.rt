@@ -189,6 +189,7 @@ impl<N: Naming, S: Shelf> Walk<N, S> {
             Err(fault) => Err(fault),
         }
     }
+
     /// Remembers the user key at which the merge stands, and goes on to the next entry, or to the
     /// end. An `Err` leaves what is left, and names a file of the run from which the entry comes at
     /// which the merge stands.
