@@ -16,6 +16,9 @@ files_has n [] F h = absurd h
 files_has n (u ∷ us) F (inl same) = (u, inl refl, same)
 files_has n (u ∷ us) F (inr h) = (let r = files_has n us F h in (r.0, inr r.1, r.2))
 
+pub level_of_files : (n : ℕ) (ts : List Table) (F : File) → Has (files_of n ts) F → F.level ≡ n
+level_of_files n ts F h = (let r = files_has n ts F h in ap (λ (G : File). G.level) (sym r.2))
+
 pub has_files : (n : ℕ) (us : List Table) (t : Table) → Has us t → Has (files_of n us) (file_of n t)
 has_files n [] t h = absurd h
 has_files n (u ∷ us) t (inl same) = inl (ap (file_of n) same)

@@ -15,7 +15,7 @@ use Rattle.lsm_levels.specs.Files.{File, Lie, IsLawful, all_entries, Shallower}
 use Rattle.lsm_version.specs.Versions.{file_of, files_of, files_from, user_of}
 use Rattle.lsm_version.specs.Reads.{IsSoundLevel, AreSound, IsRising, IsFirstReaching, is_below, is_candidate, covers, begins_by, reaches, IsYoungest, HasNoCandidate}
 use Rattle.lsm_levels.proofs.CallerLemmas.{all_has, before_says, depth_newest, has_all, in_order_split, newest_is, one_each, true_or_not}
-use Rattle.lsm_version.proofs.ChangedFiles.{files_has, has_files}
+use Rattle.lsm_version.proofs.ChangedFiles.{files_has, has_files, level_of_files}
 use Rattle.lsm_version.proofs.Rising.{ahead_or_same, has_at}
 
 -- no entry of the table is for the read
@@ -241,9 +241,6 @@ sound_rest n ts rest a = record {
   whole = λ m t h. a.whole (suc m) t h;
   order = a.order.1;
 }
-
-level_of_files : (n : ℕ) (ts : List Table) (F : File) → Has (files_of n ts) F → F.level ≡ n
-level_of_files n ts F h = (let r = files_has n ts F h in ap (λ (G : File). G.level) (sym r.2))
 
 level_from_files : (n : ℕ) (levels : List (List Table)) (F : File) → Has (files_from n levels) F → n ≤ F.level
 level_from_files n [] F h = absurd h

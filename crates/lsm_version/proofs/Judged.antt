@@ -2,7 +2,6 @@
 use Rattle.std.proofs.Common.{◌≡◌, ℕ, zero, suc, ◌+◌, ◌<◌, ◌≤◌, ◌==◌, Bool, true, cond, List, [], ◌∷◌, ◌++◌, length, get_or, Option, refl, sym, ◌∙◌, ap, subst, inl, inr, arith}
 use Rattle.std.specs.Prelude.{◌⊎◌}
 use Rattle.std.proofs.lemmas.Bool.{eq-eqb}
-use Rattle.std.proofs.lemmas.List.Sums.{sum_by-cons}
 use Rattle.lsm_codec.specs.Lists.{Has}
 use Rattle.lsm_codec.specs.Keys.{UserKey, InternalKey, IsKey}
 use Rattle.lsm_codec.proofs.CallerLemmas.{has_left, has_right, has_cases, IsKey-unique}
@@ -24,6 +23,7 @@ use Rattle.lsm_levels.proofs.CallerLemmas.{file_fits, entries_in_order, key_le_u
 use Rattle.lsm_version.proofs.ChangedFiles.{files_has, has_files, all_has}
 use Rattle.lsm_version.proofs.LevelRanges.{order_in, whole_in}
 use Rattle.lsm_version.proofs.LevelReads.{same_length}
+use Rattle.lsm_version.proofs.Numbers.{one_more}
 use Rattle.lsm_version.proofs.Rising.{level_rises, user_of-key}
 
 -- ---- a file of a level, and the table of which it is
@@ -95,9 +95,6 @@ placed_whole last shape read a =
     levels_each (placed_levels read) (λ n t h. (let r = level_for last shape read a n t (level_placed read n t h) in whole_of last r.0 t r.2))
 
 -- ---- no two files have one number
-
-one_more : (n a : ℕ) (ns : List ℕ) → times n (a ∷ ns) ≡ cond (a == n) 1 0 + times n ns
-one_more n a ns = sum_by-cons (λ m. cond (m == n) 1 0) a ns
 
 stands : (n : ℕ) (ns : List ℕ) → Has ns n → 1 ≤ times n ns
 stands n [] h = absurd h
@@ -224,7 +221,7 @@ table_fits n t w =
     ∙ ap (λ (k : UserKey). let F : File = record { level = n; number = t.number; low = user_of t.smallest; high = k; entries = entries_in t.image } in F) (sym (user_of-key t.largest w.range.largest w.largest)))
     (file_fits n (listed t w) w.entries)
 
-inside : (levels : List (List Table)) (n : ℕ) (t : Table) → Has (level_in levels n) t → n < length levels
+pub inside : (levels : List (List Table)) (n : ℕ) (t : Table) → Has (level_in levels n) t → n < length levels
 inside [] n t h = absurd h
 inside (ts ∷ levels) zero t h = omega arith
 inside (ts ∷ levels) (suc n) t h = let lt = inside levels n t h in omega arith

@@ -21,7 +21,7 @@ rises_from (a ∷ xs) h = (
   rises_from xs (λ i j d le lt. h (suc i) (suc j) d (omega arith) (omega arith)),
 )
 
-one_more : (n a : ℕ) (xs : List ℕ) → times n (a ∷ xs) ≡ cond (a == n) 1 0 + times n xs
+pub one_more : (n a : ℕ) (xs : List ℕ) → times n (a ∷ xs) ≡ cond (a == n) 1 0 + times n xs
 one_more n a xs = sum_by-cons (λ m. cond (m == n) 1 0) a xs
 
 yes_more : (n a : ℕ) (xs : List ℕ) → (a == n) ≡ true → times n (a ∷ xs) ≡ 1 + times n xs

@@ -1,6 +1,6 @@
 -- Numbers of tables that are appended level by level.
-use Rattle.std.proofs.Common.{◌≡◌, ℕ, suc, ◌+◌, ◌<◌, ◌≤◌, length, get_or, drop, map, List, [], ◌∷◌, ◌++◌, refl, ap, sym, ◌∙◌, append_assoc, append-nil, add-one}
-use Rattle.std.proofs.lemmas.List.{map-append, length-map, drop_all}
+use Rattle.std.proofs.Common.{◌≡◌, ℕ, suc, ◌+◌, ◌<◌, length, get_or, drop, map, List, [], ◌∷◌, ◌++◌, refl, ap, sym, ◌∙◌, append_assoc, add-one}
+use Rattle.std.proofs.lemmas.List.{map-append}
 use Rattle.lsm_table.specs.Registry.{Table}
 use Rattle.lsm_levels.specs.Files.{File}
 use Rattle.lsm_version.specs.Versions.{files_of, files_from}
@@ -28,11 +28,6 @@ numbers_more f xs i x old new whole lt is made before =
     ∙ ap (λ (ns : List ℕ). old ++ ns) (sym (from_level i (f x) rest))
     ∙ ap (λ (ls : List (List Table)). old ++ numbers_from i ls) (sym (level_at f xs i x lt is))
     ∙ before
-
-pub numbers_done : {X : Type 0} (f : X → List Table) (xs : List X) (i : ℕ) (new whole : List ℕ) → length xs ≤ i → new ++ numbers_from i (drop i (map f xs)) ≡ whole → new ≡ whole
-numbers_done f xs i new whole past before =
-    let over : length (map f xs) ≤ i = rw (length-map xs f) past in
-    sym (append-nil new) ∙ ap (λ (ls : List (List Table)). new ++ numbers_from i ls) (sym (drop_all i (map f xs) over)) ∙ before
 
 -- ---- what was there stays in front
 

@@ -11,7 +11,7 @@ use Rattle.lsm_levels.specs.Files.{File}
 use Rattle.lsm_version.specs.Settled.{AreAged, Between, IsAged, IsUnsettled, NamesReaching, NamesUnsettled}
 use Rattle.lsm_version.specs.Versions.{file_of, files_of, level_in}
 use Rattle.lsm_version.specs.declared.check.aged.Aged.{Aged}
-use Rattle.lsm_version.proofs.ChangedFiles.{files_has}
+use Rattle.lsm_version.proofs.ChangedFiles.{level_of_files}
 use Rattle.lsm_version.proofs.LevelReads.{has_at}
 use Rattle.lsm_version.proofs.Unsettled.{files_push, reach_sequences, took}
 
@@ -121,14 +121,11 @@ walk_end ages k g numbers past ordered w a b ha hb lt le =
 
 -- ---- the tables of a level
 
-same_level : (level : ℕ) (ts : List Table) (F : File) → Has (files_of level ts) F → F.level ≡ level
-same_level level ts F h = let r = files_has level ts F h in sym (ap (λ (G : File). G.level) r.2)
-
 -- of a level from 1 on no two files differ in depth
 pub none_named : (level : ℕ) (ts : List Table) → 0 < level → NamesUnsettled level ts []
 none_named level ts up F G hF hG u =
-    let f = same_level level ts F hF in
-    let g = same_level level ts G hG in
+    let f = level_of_files level ts F hF in
+    let g = level_of_files level ts G hG in
     elim u.0 [
       | inl lt ↦ absurd (omega arith)
       | inr r ↦ (let least = r.0 in absurd (omega arith))
@@ -136,8 +133,8 @@ none_named level ts up F G hF hG u =
 
 pub reaching_named : (level : ℕ) (ts : List Table) (ages : List Aged) (numbers : List ℕ) → AreAged (files_of level ts) ages → NamesReaching ages numbers → NamesUnsettled level ts numbers
 reaching_named level ts ages numbers aged names F G hF hG u =
-    let f = same_level level ts F hF in
-    let g = same_level level ts G hG in
+    let f = level_of_files level ts F hF in
+    let g = level_of_files level ts G hG in
     let a = aged F hF in
     let b = aged G hG in
     let le = reach_sequences F G a.0.sequences b.0.sequences a.2.sequences b.2.sequences u.2 in

@@ -19,7 +19,7 @@ use Rattle.lsm_version.specs.Versions.{IsWhole, file_of, files_of, files_from, l
 use Rattle.lsm_version.proofs.ChangedFiles.{files_has, has_files}
 use Rattle.lsm_version.proofs.Depths.{depth_more}
 use Rattle.lsm_version.proofs.Finding.{lawful_part}
-use Rattle.lsm_version.proofs.Judged.{file_in, of_level}
+use Rattle.lsm_version.proofs.Judged.{file_in, inside, of_level}
 use Rattle.lsm_version.proofs.Placing.{EachAfter, each_after, sorted_after, each_filter}
 use Rattle.lsm_version.proofs.Rising.{ahead_or_same}
 use Rattle.lsm_version.proofs.Unsettled.{files_push, push_left, push_last, took}
@@ -266,11 +266,6 @@ pub runs_shallow : (shallow : List Table) (levels : List (List Table)) (ls : Lis
 runs_shallow shallow levels ls is a = runs_as shallow (Has (files_of 0 shallow)) (IsAbove 1 levels) ls
     (λ F h. elim (above_more 0 levels shallow F is h) [ inl b ↦ (let lt = b.1 in absurd (omega arith)) | inr b ↦ b ])
     (λ F h. (0, omega arith, subst (λ (us : List Table). Has (files_of 0 us) F) (sym is) h)) a
-
-inside : (levels : List (List Table)) (n : ℕ) (t : Table) → Has (level_in levels n) t → n < length levels
-inside [] n t h = absurd h
-inside (ts ∷ levels) zero t h = omega arith
-inside (ts ∷ levels) (suc n) t h = let lt = inside levels n t h in omega arith
 
 pub runs_whole : (shallow : List Table) (k : ℕ) (levels : List (List Table)) (ls : List (List Placed)) → length levels ≤ k → AreRunsOf shallow (IsAbove k levels) ls → AreRunsOf shallow (Has (files_from 0 levels)) ls
 runs_whole shallow k levels ls past a = runs_as shallow (IsAbove k levels) (Has (files_from 0 levels)) ls

@@ -17,7 +17,7 @@ use Rattle.lsm_version.specs.Settled.{KeepsAge, Reaches, IsUnsettled, IsSettled,
 use Rattle.lsm_version.specs.declared.check.sequences.Sequences.{Sequences}
 use Rattle.lsm_version.specs.Versions.{file_of, files_of, files_from, level_in, user_of}
 use Rattle.lsm_version.proofs.ChangedFiles.{has_files}
-use Rattle.lsm_version.proofs.Judged.{file_in, of_level}
+use Rattle.lsm_version.proofs.Judged.{file_in, inside, of_level}
 
 -- ---- the law on two files
 
@@ -215,11 +215,6 @@ each_more k levels a b c q r = adds_then (EachBelow k levels) (SomeBelow k (leve
     ])
     (λ X Y p. (p.0, (let lt = p.1 in omega arith), p.2))
     (λ X Y p. (k, omega arith, p))
-
-inside : (levels : List (List Table)) (n : ℕ) (t : Table) → Has (level_in levels n) t → n < length levels
-inside [] n t h = absurd h
-inside (ts ∷ levels) zero t h = omega arith
-inside (ts ∷ levels) (suc n) t h = let lt = inside levels n t h in omega arith
 
 pub each_whole : (k : ℕ) (levels : List (List Table)) (a b : List ℕ) → length levels ≤ k → Adds (EachBelow k levels) a b → Adds (Both (files_from 0 levels)) a b
 each_whole k levels a b past q = adds_as (EachBelow k levels) (Both (files_from 0 levels)) a b q from to

@@ -25,9 +25,9 @@ still ts i x u lt h = subst (λ (us : List Table). Has us u) (sym (take_more ts 
 now_here : (ts : List Table) (i : ℕ) (x : Table) → i < length ts → x ≡ get_or ts i x → Has (take (i + 1) ts) x
 now_here ts i x lt is = subst (λ (us : List Table). Has us x) (sym (take_more ts i x lt)) (has_right (take i ts) (get_or ts i x ∷ []) x (inl (sym is)))
 
-pub takes : (k : UserKey) (bound : Option ℕ) (ts : List Table) (i : ℕ) (x : Table) (best : Option (Bor Table)) (older : Bool) → i < length ts → x ≡ get_or ts i x → is_candidate k bound x ≡ true
-    → MatchOption best (IsTrue older) (λ b. older ≡ nat_lt b.now.number x.number) → older ≡ true → IsBest k bound (take i ts) best → IsYoungest k bound (take (i + 1) ts) x
-takes k bound ts i x None older lt is cand how aye before = record {
+pub takes : (k : UserKey) (bound : Option ℕ) (ts : List Table) (i : ℕ) (x : Table) (best : Option (Bor Table)) (newer : Bool) → i < length ts → x ≡ get_or ts i x → is_candidate k bound x ≡ true
+    → MatchOption best (IsTrue newer) (λ b. newer ≡ nat_lt b.now.number x.number) → newer ≡ true → IsBest k bound (take i ts) best → IsYoungest k bound (take (i + 1) ts) x
+takes k bound ts i x None newer lt is cand how aye before = record {
   here = now_here ts i x lt is;
   candidate = cand;
   most = λ u h c. elim (one_more ts i x u lt is h) [
@@ -35,7 +35,7 @@ takes k bound ts i x None older lt is cand how aye before = record {
     | inr same ↦ (let e = ap (λ (t : Table). t.number) same in omega arith)
   ];
 }
-takes k bound ts i x (Some b) older lt is cand how aye before =
+takes k bound ts i x (Some b) newer lt is cand how aye before =
     let more = ltb-true b.now.number x.number (sym how ∙ aye) in
     record {
       here = now_here ts i x lt is;
@@ -46,10 +46,10 @@ takes k bound ts i x (Some b) older lt is cand how aye before =
       ];
     }
 
-pub keeps_older : (k : UserKey) (bound : Option ℕ) (ts : List Table) (i : ℕ) (x : Table) (best : Option (Bor Table)) (older : Bool) → i < length ts → x ≡ get_or ts i x
-    → MatchOption best (IsTrue older) (λ b. older ≡ nat_lt b.now.number x.number) → older ≡ false → IsBest k bound (take i ts) best → IsBest k bound (take (i + 1) ts) best
-keeps_older k bound ts i x None older lt is how nay before = absurd (cc (how, nay))
-keeps_older k bound ts i x (Some b) older lt is how nay before =
+pub keeps_newest : (k : UserKey) (bound : Option ℕ) (ts : List Table) (i : ℕ) (x : Table) (best : Option (Bor Table)) (newer : Bool) → i < length ts → x ≡ get_or ts i x
+    → MatchOption best (IsTrue newer) (λ b. newer ≡ nat_lt b.now.number x.number) → newer ≡ false → IsBest k bound (take i ts) best → IsBest k bound (take (i + 1) ts) best
+keeps_newest k bound ts i x None newer lt is how nay before = absurd (cc (how, nay))
+keeps_newest k bound ts i x (Some b) newer lt is how nay before =
     let less = ltb-false b.now.number x.number (sym how ∙ nay) in
     record {
       here = still ts i x b.now lt before.here;

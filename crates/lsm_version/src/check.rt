@@ -8,18 +8,25 @@ ghost use Rattle.lsm_version.specs.CheckRefusal.{AreTablesOf, IsRefusal};
 ghost use Rattle.lsm_version.specs.Settled.{KeepsAge};
 ghost use Rattle.lsm_version.specs.Versions.{IsSound, files_from};
 
-mod aged;
-mod ages;
-mod check_fault;
+// The files of a shape and their tables.
 mod checked_table;
 mod file_numbers;
-mod key_word;
-mod layouts;
 mod loading;
-mod reaching;
 mod sequences;
 mod span;
+
+// How the tables lie, and which files that settles.
+mod aged;
+mod layouts;
+mod reaching;
 mod unsettled;
+
+// A second look at the others.
+mod ages;
+
+// Why they are no version.
+mod check_fault;
+mod hex_key;
 
 use crate::check::ages::judge_ages;
 use crate::check::file_numbers::judge_numbers;

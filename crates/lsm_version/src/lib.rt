@@ -7,12 +7,19 @@
 //! version answers as its union of entries.
 #![tactic(auto)]
 
-mod change;
-mod check;
+// The tables of each level.
 mod copies;
 mod ordered_level;
-mod read;
 mod version;
+
+// A shape that a manifest gives.
+mod check;
+
+// Reads, scans, and the tables that a range meets.
+mod read;
+
+// A version with other tables.
+mod change;
 
 pub use change::{
     changed_files, changed_is_sound, changed_tables, deletions_are_sound, tables_are_whole,

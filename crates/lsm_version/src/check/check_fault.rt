@@ -3,7 +3,7 @@
 ghost use Rattle.std.specs.Prelude.{◌≡◌};
 ghost use Rattle.lsm_version.specs.CheckFault.{number_of, name_of};
 
-use crate::check::key_word::KeyWord;
+use crate::check::hex_key::HexKey;
 use lsm_codec::Bytes;
 use lsm_table::{ReadFault, TableFault};
 use std::alloc::{AllocError, AllocFailed};
@@ -28,12 +28,12 @@ pub enum CheckFault {
     #[error("WrongRange {0}")]
     WrongRange(u64),
     /// Of this user key a deeper entry has no lesser sequence than a shallower one.
-    #[error("AgeOrder {}", KeyWord::of(.0))]
+    #[error("AgeOrder {}", HexKey::of(.0))]
     AgeOrder(Bytes),
 }
 
 impl CheckFault {
-    /// The published number of the refusal.
+    /// The number of the refusal in docs/FORMATS.md.
     pub fn number(&self) -> u8
         ensures { result ≡ number_of self.now }
     {
@@ -46,7 +46,7 @@ impl CheckFault {
         }
     }
 
-    /// The published name of the refusal, without its fields.
+    /// The name of the refusal in docs/FORMATS.md, without its fields.
     pub fn name(&self) -> &'static str
         ensures { result.now ≡ name_of self.now }
     {
@@ -57,17 +57,6 @@ impl CheckFault {
             CheckFault::WrongRange(_) => "WrongRange",
             CheckFault::AgeOrder(_) => "AgeOrder",
         }
-    }
-}
-
-impl From<ReadFault> for CheckFault {
-    ghost use Rattle.std.specs.Prelude.{None};
-    ghost use Rattle.lsm_version.specs.declared.check.check_fault.CheckFault.TheVariants.{Read};
-
-    ghost from_gives = { λ fault e. e ≡ Read None fault };
-
-    fn from(fault: ReadFault) -> CheckFault {
-        CheckFault::Read(None, fault)
     }
 }
 

@@ -102,11 +102,11 @@ fn is_candidate<N: Naming, S: Shelf>(
     below && begins_by(registry, table, user) && reaches(registry, table, user)
 }
 
-/// Whether no table was found yet, or the number of the one that was found is less.
-fn is_older<N: Naming, S: Shelf>(
+/// Whether the number of a table is greater than that of the one that was found, or none was found.
+fn is_newer<N: Naming, S: Shelf>(
     registry: &Registry<S::Receipt>,
-    best: Option<&TableRef<N, S>>,
     table: &TableRef<N, S>,
+    best: Option<&TableRef<N, S>>,
 ) -> bool
     requires { registry.now ≡ N.registry }
     ensures { MatchOption best.entry (IsTrue result) (λ b. result ≡ nat_lt b.now.number table.now.number) }
@@ -130,7 +130,7 @@ pub(crate) fn youngest_below<'a, N: Naming, S: Shelf>(
 {
     let mut best = None;
     for table in level {
-        if is_candidate(registry, table, user, bound) && is_older(registry, best, table) {
+        if is_candidate(registry, table, user, bound) && is_newer(registry, table, best) {
             best = Some(table);
         }
     }

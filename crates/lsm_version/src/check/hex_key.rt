@@ -5,19 +5,19 @@ use std::fmt;
 
 /// A user key as a word of a line: lower-case hex, or `.` for no bytes.
 #[derive(Drop)]
-pub(crate) struct KeyWord<'a> {
+pub(crate) struct HexKey<'a> {
     bytes: &'a [u8],
 }
 
-impl<'a> KeyWord<'a> {
-    pub(crate) fn of(key: &'a Bytes) -> KeyWord<'a> {
-        KeyWord {
+impl<'a> HexKey<'a> {
+    pub(crate) fn of(key: &'a Bytes) -> HexKey<'a> {
+        HexKey {
             bytes: key.as_slice(),
         }
     }
 }
 
-impl<'a> fmt::Display for KeyWord<'a> {
+impl<'a> fmt::Display for HexKey<'a> {
     fn fmt<W: fmt::Write>(&self, f: &mut fmt::Formatter<W>) -> fmt::Result {
         if self.bytes.is_empty() {
             return write!(f, ".");
