@@ -1,5 +1,5 @@
 -- What a change of the current version leaves of the law of a state.
-use Rattle.std.proofs.Common.{◌≡◌, ℕ, suc, ◌+◌, ◌≤◌, Bool, true, false, Option, Some, List, [], ◌∷◌, map, refl, sym, ◌∙◌, ap, subst, inl, inr, arith}
+use Rattle.std.proofs.Common.{◌≡◌, ℕ, suc, ◌+◌, ◌≤◌, Bool, true, false, Option, Some, List, refl, sym, ◌∙◌, ap, subst, inl, inr, arith}
 use Rattle.std.specs.Prelude.{◌⊎◌, MatchBool, Result, Ok, Err, IfErr, OnErr, slice_get, slice_set, if◌then◌else◌}
 use Rattle.std.proofs.lemmas.Bool.{cases_eq}
 use Rattle.atomic_table.specs.Seated.{TableId}
@@ -27,7 +27,7 @@ use Rattle.lsm_state.specs.Held.{HasInputs, Held, IsLawfulState, plain}
 use Rattle.lsm_state.specs.Changing.{IsChangeRefusal, live_after, next_spent, plain_after}
 use Rattle.lsm_state.specs.declared.state_fault.StateFault.{StateFault}
 use Rattle.lsm_state.specs.declared.state_fault.StateFault.TheVariants.{OutOfMemory, Shelf, Read, BadLevel, EmptyBatch, KeyOrder, TooLarge, LevelZeroFull, SequencesSpent, Halted, UnknownSnapshot, Conflict, UnknownTicket, NumbersSpent, Stale, SlotsHeld, VersionsSpent, PinsSpent}
-use Rattle.lsm_state.proofs.Numbers.{held_named, named_held, IsNamed}
+use Rattle.lsm_state.proofs.Numbers.{held_named, map_has, named_held, IsNamed}
 use Rattle.lsm_state.proofs.StateLaws.{stepped}
 
 -- a change of files is one of sound versions (a law of versions)
@@ -49,11 +49,6 @@ sound_after law honest h d out sound whole l fair =
     law (deleted_numbers d) d.added d.pointer d.last h.slots.version (sound fair) (whole fair) m.lawful (λ F e hF he. m.reached e (has_all (files (changed_by d h.slots.version)) F e hF he))
 
 -- ---- numbers
-
-number_of : (fs : List File) (n : ℕ) → Has (map (λ (F : File). F.number) fs) n → (F : File) × Has fs F × (F.number ≡ n)
-number_of [] n h = absurd h
-number_of (F ∷ fs) n (inl e) = (F, inl refl, e)
-number_of (F ∷ fs) n (inr h) = (let r = number_of fs n h in (r.0, inr r.1, r.2))
 
 -- a number of a version in a slot after a publication is one of the new version, or was there before
 pub published_numbers : (old new : Slotted) (w : Levels) (n : ℕ) → Published old new w → Has (numbers_held new.epochs) n → Has (numbers_in w) n ⊎ Has (numbers_held old.epochs) n
@@ -148,7 +143,7 @@ lawful_changed honest board h d out s next live j l after p is recorded le input
   law = subst (λ (q : Plain). Law honest Lie q) (sym (plain_is h d out s next live j p.version_is is)) (spent_law honest (plain_after h d out) next after le);
   journaled = (0, subst (λ (v : Levels). IsRecorded 0 j v next) (sym p.version_is) recorded, λ e. refl);
   below = λ n k. elim (published_numbers h.slots s (changed_by d h.slots.version) n p k) [
-    | inl new ↦ (let f = number_of (files (changed_by d h.slots.version)) n new in let lt = after.books.below_next f.0 f.1 in let e = f.2 in omega arith)
+    | inl new ↦ (let f = map_has (λ (F : File). F.number) (files (changed_by d h.slots.version)) n new in let lt = after.books.below_next f.0 f.1 in let e = f.2 in omega arith)
     | inr old ↦ (let lt = l.below n old in omega arith)
   ];
   pinners = l.pinners;

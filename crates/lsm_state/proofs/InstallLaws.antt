@@ -42,6 +42,7 @@ use Rattle.lsm_state.specs.declared.state_fault.StateFault.{StateFault}
 use Rattle.lsm_state.specs.declared.state_fault.StateFault.TheVariants.{OutOfMemory, Shelf, Read, BadLevel, EmptyBatch, KeyOrder, TooLarge, LevelZeroFull, SequencesSpent, Halted, UnknownSnapshot, Conflict, UnknownTicket, NumbersSpent, Stale, SlotsHeld, VersionsSpent, PinsSpent}
 use Rattle.lsm_state.proofs.Inputs.{TablesChange, inputs_stay}
 use Rattle.lsm_state.proofs.ChangeLaws.{change_spends, looked_plain}
+use Rattle.lsm_state.proofs.Numbers.{has_map, map_has}
 use Rattle.lsm_state.proofs.StateLaws.{stepped}
 
 -- which files a changed version has (a law of versions)
@@ -50,16 +51,6 @@ FilesChange = (deleted : List ℕ) (added : List (ℕ × Table)) (pointer : Opti
     → (Has (files (changed deleted added pointer last v)) F ↔ ((Has (files v) F × (Has deleted F.number → ⊥)) ⊎ Has (added_files added) F))
 
 -- ---- lists
-
-map_has : {X : Type 0} (f : X → ℕ) (xs : List X) (n : ℕ) → Has (map f xs) n → (x : X) × Has xs x × (f x ≡ n)
-map_has f [] n h = absurd h
-map_has f (x ∷ xs) n (inl e) = (x, inl refl, e)
-map_has f (x ∷ xs) n (inr h) = (let r = map_has f xs n h in (r.0, inr r.1, r.2))
-
-has_map : {X : Type 0} (f : X → ℕ) (xs : List X) (x : X) → Has xs x → Has (map f xs) (f x)
-has_map f [] x h = absurd h
-has_map f (y ∷ xs) x (inl e) = inl (ap f e)
-has_map f (y ∷ xs) x (inr h) = inr (has_map f xs x h)
 
 moved_has : {X : Type 0} (xs ys : List X) (x : X) → IsPermutation xs ys → Has xs x → Has ys x
 moved_has xs ys x p h = contains_says ys x (Contains-permutation xs ys x p (contains_from xs x h))

@@ -1,16 +1,22 @@
 -- The numbers that are kept.
-use Rattle.std.proofs.Common.{◌≡◌, ℕ, zero, suc, Option, Some, None, List, [], ◌∷◌, ◌++◌, map, refl, sym, ap, ◌∙◌, subst, inl, inr}
-use Rattle.std.specs.Prelude.{◌↔◌, Result, Ok, Err, IfOk, IfSome, slice_get, slice_set}
-use Rattle.std.proofs.lemmas.Bool.{cases_eq}
+use Rattle.std.proofs.Common.{◌≡◌, ℕ, zero, suc, ◌<◌, ◌≤◌, ◌==◌, Option, Some, None, List, [], ◌∷◌, ◌++◌, length, get_or, map, refl, sym, ap, ◌∙◌, subst, inl, inr, arith}
+use Rattle.std.specs.Prelude.{◌↔◌, Result, Ok, Err, IfOk, IfSome, is_ok, slice_get, slice_set}
+use Rattle.std.specs.List.Sorted.{IsBinarySearchResult, IsStrictlyIncreasing}
+use Rattle.std.specs.Ordering.{nat_cmp}
+use Rattle.std.proofs.lemmas.Bool.{cases_eq, cases_lt, eq-eqb, eqb-true}
+use Rattle.std.proofs.lemmas.List.{get_or_default}
+use Rattle.std.proofs.lemmas.List.Kept.{AllPairs-from_increasing}
+use Rattle.std.proofs.lemmas.List.Sorted.{searched}
 use Rattle.lsm_codec.specs.Lists.{Has}
-use Rattle.lsm_codec.proofs.CallerLemmas.{flat_has, has_cases, has_flat, has_left, has_right}
+use Rattle.lsm_codec.proofs.CallerLemmas.{any_at, any_says, contains_from, contains_says, flat_has, has_cases, has_flat, has_left, has_right}
 use Rattle.lsm_levels.specs.Files.{File}
+use Rattle.lsm_levels.proofs.CallerLemmas.{true_or_not}
 use Rattle.lsm_version.specs.Versions.{files, numbers_in}
 use Rattle.lsm_slots.specs.Slots.{Epoch, HasEpoch, Looked, PinsMove, Slotted, numbers_at, numbers_held}
 use Rattle.lsm_slots.proofs.CallerLemmas.{set_else, set_found}
 use Rattle.lsm_live.specs.Booked.{Booked, drawn_numbers}
 use Rattle.lsm_state.specs.Held.{Held}
-use Rattle.lsm_state.specs.Collecting.{IsKeptNumber}
+use Rattle.lsm_state.specs.Collecting.{IsKeptNumber, is_in}
 
 -- ---- versions in slots
 
@@ -61,26 +67,52 @@ pinned_numbers old new id from to n m h = go (held_named new.epochs n h)
       | inr other ↦ named_held old.epochs r.slot n r.epoch (sym (set_else old.epochs m.slot r.slot after other) ∙ had) r.number
     ])
 
+-- ---- numbers of what a list has
+
+pub map_has : {X : Type 0} (f : X → ℕ) (xs : List X) (n : ℕ) → Has (map f xs) n → (x : X) × Has xs x × (f x ≡ n)
+map_has f [] n h = absurd h
+map_has f (x ∷ xs) n (inl e) = (x, inl refl, e)
+map_has f (x ∷ xs) n (inr h) = (let r = map_has f xs n h in (r.0, inr r.1, r.2))
+
+pub has_map : {X : Type 0} (f : X → ℕ) (xs : List X) (x : X) → Has xs x → Has (map f xs) (f x)
+has_map f [] x h = absurd h
+has_map f (y ∷ xs) x (inl e) = inl (ap f e)
+has_map f (y ∷ xs) x (inr h) = inr (has_map f xs x h)
+
+-- ---- a search in ascending numbers
+
+rises : (ns : List ℕ) → IsStrictlyIncreasing ns → (i j : ℕ) → i ≤ j → j < length ns → get_or ns i 0 ≤ get_or ns j 0
+rises ns up i j le lt = elim (cases_eq i j) [
+  | inl same ↦ (let e = ap (λ k. get_or ns k 0) same in omega arith)
+  | inr other ↦ (let less = AllPairs-from_increasing ns up i j 0 (omega arith) lt in omega arith)
+]
+
+pub found_among : (ns : List ℕ) (n : ℕ) (r : Result ℕ ℕ) → IsBinarySearchResult (λ y. nat_cmp y n) ns r → IsStrictlyIncreasing ns → is_ok r ≡ is_in ns n
+found_among ns n (Ok i) h up =
+    let at = searched ns n (Ok i) h (rises ns up) in
+    sym (any_at (λ m. m == n) ns n (contains_says ns n (i, at.0, get_or_default ns i n 0 at.0 ∙ at.1)) (eq-eqb n n refl))
+found_among ns n (Err i) h up =
+    sym (true_or_not (is_in ns n) (λ t.
+    (let a = any_says (λ m. m == n) ns t in
+    let same : a.0 ≡ n = eqb-true a.0 n a.2 in
+    let at = contains_from ns a.0 a.1 in
+    let value : get_or ns at.0 0 ≡ n = get_or_default ns at.0 0 a.0 at.1 ∙ at.2 ∙ same in
+    let parts = searched ns n (Err i) h (rises ns up) in
+    elim (cases_lt at.0 i) [
+      | inl below ↦ (let lt = parts.1 at.0 below in absurd (omega arith))
+      | inr above ↦ (let lt = parts.2 at.0 above at.1 in absurd (omega arith))
+    ])))
+
 -- ---- what is kept
-
-map_has : (fs : List File) (n : ℕ) → Has (map (λ (F : File). F.number) fs) n → (F : File) × Has fs F × (F.number ≡ n)
-map_has [] n h = absurd h
-map_has (F ∷ fs) n (inl e) = (F, inl refl, e)
-map_has (F ∷ fs) n (inr h) = (let r = map_has fs n h in (r.0, inr r.1, r.2))
-
-has_map : (fs : List File) (F : File) → Has fs F → Has (map (λ (G : File). G.number) fs) F.number
-has_map [] F h = absurd h
-has_map (G ∷ fs) F (inl e) = inl (ap (λ (H : File). H.number) e)
-has_map (G ∷ fs) F (inr h) = inr (has_map fs F h)
 
 pub kept_from : (h : Held) (n : ℕ) → Has (numbers_held h.slots.epochs ++ drawn_numbers h.live) n → IsKeptNumber h n
 kept_from h n k = elim (has_cases (numbers_held h.slots.epochs) (drawn_numbers h.live) n k) [
-  | inl held ↦ (let r = held_named h.slots.epochs n held in let f = map_has (files r.epoch.version) n r.number in inl (r.slot, r.epoch, f.0, r.had, f.1, f.2))
+  | inl held ↦ (let r = held_named h.slots.epochs n held in let f = map_has (λ (F : File). F.number) (files r.epoch.version) n r.number in inl (r.slot, r.epoch, f.0, r.had, f.1, f.2))
   | inr drawn ↦ (let r = flat_has (λ (b : Booked). b.drawn) h.live n drawn in inr (r.0, r.1, r.2))
 ]
 
 pub kept_to : (h : Held) (n : ℕ) → IsKeptNumber h n → Has (numbers_held h.slots.epochs ++ drawn_numbers h.live) n
-kept_to h n (inl r) = has_left (numbers_held h.slots.epochs) (drawn_numbers h.live) n (named_held h.slots.epochs r.0 n r.1 r.3 (subst (λ m. Has (numbers_in r.1.version) m) r.5 (has_map (files r.1.version) r.2 r.4)))
+kept_to h n (inl r) = has_left (numbers_held h.slots.epochs) (drawn_numbers h.live) n (named_held h.slots.epochs r.0 n r.1 r.3 (subst (λ m. Has (numbers_in r.1.version) m) r.5 (has_map (λ (F : File). F.number) (files r.1.version) r.2 r.4)))
 kept_to h n (inr r) = has_right (numbers_held h.slots.epochs) (drawn_numbers h.live) n (has_flat (λ (b : Booked). b.drawn) h.live r.0 n r.1 r.2)
 
 -- the versions in slots stay, and what live jobs drew, so the same is kept
@@ -110,7 +142,7 @@ looked_kept h s l n k = elim (has_cases (numbers_held s.epochs) (drawn_numbers h
 
 -- the tables of a version that has a slot are kept
 pub version_kept : (h : Held) (slot n : ℕ) (e : Epoch) → HasEpoch h.slots slot e → Has (numbers_in e.version) n → IsKeptNumber h n
-version_kept h slot n e had k = (let f = map_has (files e.version) n k in inl (slot, e, f.0, had, f.1, f.2))
+version_kept h slot n e had k = (let f = map_has (λ (F : File). F.number) (files e.version) n k in inl (slot, e, f.0, had, f.1, f.2))
 
 pub kept_if : {V E : Type 0} (items : V → List ℕ) (h : Held) (held : Option (ℕ × ℕ)) (r : Result (Option V) E)
     → IfOk r (λ o. IfSome o (λ v. (slot : ℕ) × (id : ℕ) × (e : Epoch) × (held ≡ Some (id, slot)) × HasEpoch h.slots slot e × (e.id ≡ id) × (items v ≡ numbers_in e.version)))

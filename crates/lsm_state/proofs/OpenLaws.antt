@@ -23,6 +23,7 @@ use Rattle.lsm_state.specs.Making.{IsNewBoard}
 use Rattle.lsm_state.specs.Opening.{IsFree, IsLeastFree, opened_state}
 use Rattle.lsm_state.specs.Options.{Fits}
 use Rattle.lsm_state.specs.declared.options.Options.{Options}
+use Rattle.lsm_state.proofs.Numbers.{has_map}
 
 -- ---- the next number
 
@@ -70,18 +71,13 @@ alone a xs d h = let few = d a in let m = times_more a a xs in let s = same_once
 rest_distinct : (a : ℕ) (xs : List ℕ) → AreDistinct (a ∷ xs) → AreDistinct xs
 rest_distinct a xs d n = let few = d n in let m = times_more n a xs in omega arith
 
-has_number : (fs : List File) (F : File) → Has fs F → Has (map (λ G. G.number) fs) F.number
-has_number [] F h = absurd h
-has_number (G ∷ fs) F (inl e) = inl (ap (λ (H : File). H.number) e)
-has_number (G ∷ fs) F (inr h) = inr (has_number fs F h)
-
 one_number : (fs : List File) → AreDistinct (map (λ G. G.number) fs) → (F G : File) → Has fs F → Has fs G → F.number ≡ G.number → F ≡ G
 one_number [] d F G f g e = absurd f
 one_number (H ∷ fs) d F G (inl f) (inl g) e = sym f ∙ g
 one_number (H ∷ fs) d F G (inl f) (inr g) e = absurd (alone H.number (map (λ K. K.number) fs) d
-    (subst (λ n. Has (map (λ K. K.number) fs) n) (sym e ∙ ap (λ (K : File). K.number) (sym f)) (has_number fs G g)))
+    (subst (λ n. Has (map (λ K. K.number) fs) n) (sym e ∙ ap (λ (K : File). K.number) (sym f)) (has_map (λ (K : File). K.number) fs G g)))
 one_number (H ∷ fs) d F G (inr f) (inl g) e = absurd (alone H.number (map (λ K. K.number) fs) d
-    (subst (λ n. Has (map (λ K. K.number) fs) n) (e ∙ ap (λ (K : File). K.number) (sym g)) (has_number fs F f)))
+    (subst (λ n. Has (map (λ K. K.number) fs) n) (e ∙ ap (λ (K : File). K.number) (sym g)) (has_map (λ (K : File). K.number) fs F f)))
 one_number (H ∷ fs) d F G (inr f) (inr g) e = one_number fs (rest_distinct H.number (map (λ K. K.number) fs) d) F G f g e
 
 -- ---- the law of the state
@@ -90,7 +86,7 @@ opened_books : (o : Options) (publisher : Known) (pinners : List Known) (v : Lev
     → AreDistinct (numbers_in v) → ((n : ℕ) → Has (numbers_in v) n → n < next) → Books (plain (opened_state o publisher pinners v j next halted))
 opened_books o publisher pinners v j next halted own below = record {
   numbers = one_number (files v) own;
-  below_next = λ F h. below F.number (has_number (files v) F h);
+  below_next = λ F h. below F.number (has_map (λ (K : File). K.number) (files v) F h);
   drawn_below = λ a n h k. absurd h;
   drawn_fresh = λ a n F h k i e. absurd h;
   drawn_apart = λ a b n h k i m. absurd h;

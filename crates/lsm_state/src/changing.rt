@@ -14,7 +14,7 @@ ghost use Rattle.lsm_journal.specs.HeldManifest.{is_at_limit};
 ghost use Rattle.lsm_journal.specs.Difference.{Suits, changed_by};
 ghost use Rattle.lsm_state.specs.Asked.{ChangeRefused, OnShelf};
 ghost use Rattle.lsm_state.specs.Changing.{ChangesVersion, IsChangeRefusal, IsSlotRefusal, Sought, halts, live_after, next_spent, plain_after};
-ghost use Rattle.lsm_state.specs.Collecting.{IsCountedOnce, SameCounts};
+ghost use Rattle.lsm_state.specs.Collecting.{SameCounts};
 ghost use Rattle.lsm_state.specs.Held.{HasInputs};
 ghost use Rattle.lsm_state.specs.declared.state_fault.StateFault.TheVariants.{OutOfMemory};
 
@@ -89,6 +89,7 @@ impl<N: Boarded, S: Shelf> State<N, S> {
     {
         changed_is_sound();
         let current = self.slots.version();
+        // That a version over an honest shelf is sound is told by this call.
         let _last = current.last();
         let version = change.apply(alloc, current)?;
         let first = Arc::new(alloc, version)?;

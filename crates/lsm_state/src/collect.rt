@@ -1,11 +1,12 @@
 //! Removing tables that no reader and no job needs.
 
 ghost use Rattle.std.specs.Prelude.{◌≡◌, ◌≤◌, ℕ, ◌++◌, [], length, IfErr, IfOk, OnErr, OnOk, false, vec_capacity, vec_len};
+ghost use Rattle.std.specs.List.Sorted.{IsStrictlyIncreasing};
 ghost use Rattle.lsm_codec.specs.Lists.{Has};
 ghost use Rattle.lsm_shelf.specs.Asked.{Remove};
 ghost use Rattle.lsm_shelf.specs.Told.{Becomes, Counted, CountedBy, NotTaken};
 ghost use Rattle.lsm_state.specs.Asked.{CollectRefused, OnShelf};
-ghost use Rattle.lsm_state.specs.Collecting.{AreCollected, HasLookedAround, IsCollectRefusal, IsCountedOnce, IsKeptNumber, IsMemoryOrShelf, IsRefusedMemory, IsStopped, IsWantOfMemory, SameCounts, StoppedEarly, TellsAll, outside, removing_all};
+ghost use Rattle.lsm_state.specs.Collecting.{AreCollected, HasLookedAround, IsCollectRefusal, IsCountedOnce, IsKeptNumber, IsMemoryOrShelf, IsRefusedMemory, IsStopped, IsWantOfMemory, SameCounts, StoppedEarly, TellsAll, is_in, outside, removing_all};
 ghost use Rattle.lsm_state.specs.Held.{plain};
 
 use crate::state::State;
@@ -15,11 +16,19 @@ use lsm_table::{Shelf, ShelfFault};
 use std::alloc::Global;
 use std::sync::Wait;
 
-// The numbers that are not kept.
+// Whether a number is one of ascending ones.
+fn is_among(numbers: &[u64], number: u64) -> bool
+    ensures { IsStrictlyIncreasing numbers.now → result ≡ is_in numbers.now number }
+{
+    numbers.binary_search(&number).is_ok()
+}
+
+// The numbers that are not kept. Those that are ascend.
 fn keep_outside(numbers: &mut Vec<u64>, kept: &[u64])
+    requires { IsStrictlyIncreasing kept.now }
     ensures { numbers.new.items ≡ outside kept.now numbers.old.items }
 {
-    numbers.retain(|number| !kept.contains(number));
+    numbers.retain(|number| !is_among(kept, *number));
 }
 
 // Removes tables one after another, and notes each that was removed; there is room for that.

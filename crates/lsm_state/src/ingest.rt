@@ -156,10 +156,11 @@ impl<N: Boarded, S: Shelf> State<N, S> {
     /// are one table at level 0.
     ///
     /// `Halted`, `EmptyBatch`, `TooLarge`, `KeyOrder`, `LevelZeroFull`, `SequencesSpent`,
-    /// `NumbersSpent`, `SlotsHeld`, `VersionsSpent`, `OutOfMemory`, and the shelf's, in this order.
-    /// A refused call leaves all as it was, but that slots seen free stay free. From the put of the
-    /// table on the file number is spent, and where the start of a new manifest was refused its
-    /// number too; where the shelf refused the append or the start, the state is halted.
+    /// `NumbersSpent`, `SlotsHeld`, `VersionsSpent`, then `OutOfMemory`, `TooLarge` again where a
+    /// block of the table would pass 2^32 - 1 bytes, and the shelf's, in this order. A refused call
+    /// leaves all as it was, but that slots seen free stay free. From the put of the table on the
+    /// file number is spent, and where the start of a new manifest was refused its number too;
+    /// where the shelf refused the append or the start, the state is halted.
     pub fn ingest<R: Wait>(
         &mut self,
         rt: &R,

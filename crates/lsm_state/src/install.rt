@@ -78,6 +78,7 @@ impl<N: Boarded, S: Shelf> State<N, S> {
     {
         changed_files();
         changed_tables();
+        // The law of the state is told by this call.
         let _options = self.options();
         let ticket = done.job().ticket();
         let last = self.slots.version().last();
@@ -116,10 +117,10 @@ impl<N: Boarded, S: Shelf> State<N, S> {
     /// that is promised changes.
     ///
     /// `Stale` exactly where the result's job is not live, or did not draw the numbers that were
-    /// put; then nothing changes. Then `Halted`; `NumbersSpent` where a new manifest is due and its
-    /// number would be 2^64 - 1; `SlotsHeld`; `VersionsSpent`; `OutOfMemory`; and the shelf's
-    /// refusals, after which the state is halted, unless the shelf wanted memory. Every refusal
-    /// hands the result back, and no live job goes out.
+    /// put, or these do not rise; then nothing changes. Then `Halted`; `NumbersSpent` where a new
+    /// manifest is due and its number would be 2^64 - 1; `SlotsHeld`; `VersionsSpent`;
+    /// `OutOfMemory`; and the shelf's refusals, after which the state is halted, unless the shelf
+    /// wanted memory. Every refusal hands the result back, and no live job goes out.
     pub fn install<R: Wait>(
         &mut self,
         rt: &R,

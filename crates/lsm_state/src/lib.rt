@@ -30,8 +30,8 @@
 //!   snapshot's, gives for each key what it gave before (`answers`), whatever came since the job
 //!   was reserved.
 //! - A stale result changes nothing: `install` refuses one whose job is not live, or that has
-//!   numbers which the job did not draw, leaves all as it was (`refused`), and hands the result
-//!   back (`back`).
+//!   numbers which the job did not draw or which do not rise, leaves all as it was (`refused`), and
+//!   hands the result back (`back`).
 //! - Over an honest shelf a read gives the newest value at or before its sequence (`answer` of
 //!   `get`).
 //! - What changes entries, snapshots or jobs is an event of the plain machine (`event`), so the

@@ -5,7 +5,7 @@ ghost use Rattle.std.specs.List.Sorted.{IsStrictlyIncreasing};
 ghost use Rattle.lsm_codec.specs.Lists.{Has};
 ghost use Rattle.lsm_pins.specs.View.{learnt_view, noted_view, told_view};
 ghost use Rattle.lsm_version.specs.Versions.{numbers_in};
-ghost use Rattle.lsm_slots.specs.Slots.{Epoch as Held, HasEpoch, IsPinned, PinsMove, current_id, current_slot};
+ghost use Rattle.lsm_slots.specs.Slots.{Epoch, HasEpoch, IsPinned, PinsMove, current_id, current_slot};
 ghost use Rattle.lsm_state.specs.Collecting.{IsKeptNumber};
 ghost use Rattle.lsm_state.specs.Held.{plain};
 ghost use Rattle.lsm_state.specs.declared.state_fault.StateFault.TheVariants.{PinsSpent, UnknownSnapshot};
@@ -37,7 +37,7 @@ impl<N: Boarded, S: Shelf> State<N, S> {
         ensures kept { (n : ℕ) → IsKeptNumber self.new n ↔ IsKeptNumber self.old n }
         ensures rest { self.new ≡ record self.old { slots = self.new.slots } }
         ensures err { OnErr result (self.new ≡ self.old) }
-        ensures refused { IfErr result (λ e. (e ≡ PinsSpent) × ((epoch : Held) × HasEpoch self.old.slots (current_slot self.old.slots) epoch × (epoch.pins ≡ 2 ^ 32 - 1))) }
+        ensures refused { IfErr result (λ e. (e ≡ PinsSpent) × ((epoch : Epoch) × HasEpoch self.old.slots (current_slot self.old.slots) epoch × (epoch.pins ≡ 2 ^ 32 - 1))) }
     {
         match self.slots.pin() {
             Some(id) => Ok(id),
@@ -102,7 +102,7 @@ impl<N: Boarded, S: Shelf> State<N, S> {
         pinner: &mut Pinner,
     ) -> Result<Option<Vec<u64>>, AllocError>
         requires { pinner.old.board ≡ N.board }
-        ensures some { IfOk result (λ o. IfSome o (λ v. (slot id : ℕ) × (e : Held) × (pinner.old.knows.held ≡ Some (id, slot)) × HasEpoch self.new.slots slot e × (e.id ≡ id) × (v.items ≡ numbers_in e.version))) }
+        ensures some { IfOk result (λ o. IfSome o (λ v. (slot id : ℕ) × (e : Epoch) × (pinner.old.knows.held ≡ Some (id, slot)) × HasEpoch self.new.slots slot e × (e.id ≡ id) × (v.items ≡ numbers_in e.version))) }
         ensures kept { IfOk result (λ o. IfSome o (λ v. (n : ℕ) → Has v.items n → IsKeptNumber self.new n)) }
         ensures none { IfOk result (λ o. IfNone o (pinner.old.knows.held ≡ None)) }
         ensures board { (self.new.slots.board.board ≡ self.old.slots.board.board) × (self.new.slots.board.knows ≡ (if is_some pinner.old.knows.held then noted_view self.old.slots.board.knows pinner.old.knows else self.old.slots.board.knows)) }

@@ -11,9 +11,7 @@ ghost use Rattle.lsm_state.specs.declared.state_fault.StateFault.TheVariants.{Nu
 
 use crate::state::State;
 use crate::state_fault::StateFault;
-use lsm_choice::laws::{
-    conflicts_are_those_of_jobs, inputs_are_of_the_version, plan_opens_its_job,
-};
+use lsm_choice::laws::{conflicts_are_those_of_jobs, inputs_are_of_the_version};
 use lsm_choice::{Plan, PlanFault, choose, conflict, is_move, plan_range, ranges_below};
 use lsm_live::laws::planned_inputs_stand_in_order;
 use lsm_merge::{Job, JobParts};

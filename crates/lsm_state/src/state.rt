@@ -52,6 +52,7 @@ impl<N: Boarded, S: Shelf> State<N, S> {
         ensures slots { AreSlots self.now.slots }
         ensures board { self.now.slots.board.board ≡ N.board }
     {
+        // What holds of slots is told by this call.
         let _version = self.slots.version();
         &self.options
     }

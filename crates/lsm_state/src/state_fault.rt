@@ -28,10 +28,11 @@ pub enum StateFault {
     /// The key at this place of the batch, from 0, is not greater than the one before.
     #[error("KeyOrder {0}")]
     KeyOrder(u64),
-    /// A key, a value, the count or the sum of the batch is over its limit.
+    /// A key, a value, the count or the sum of the batch is over its limit, or a block of its table
+    /// would pass 2^32 - 1 bytes.
     #[error("TooLarge")]
     TooLarge,
-    /// Level 0 has 12 files.
+    /// Level 0 has 12 files or more.
     #[error("LevelZeroFull")]
     LevelZeroFull,
     /// The last sequence would pass 2^56 - 1.
@@ -52,7 +53,8 @@ pub enum StateFault {
     /// A file number, a ticket or an id would pass 2^64 - 2.
     #[error("NumbersSpent")]
     NumbersSpent,
-    /// The result's ticket is not live.
+    /// The result's ticket is not live, its job did not draw the numbers that were put, or these do
+    /// not rise.
     #[error("Stale")]
     Stale,
     /// Every slot but the current one was seen held.
@@ -67,7 +69,7 @@ pub enum StateFault {
 }
 
 impl StateFault {
-    /// The published number of the refusal.
+    /// The number of the refusal in docs/FORMATS.md.
     pub fn number(&self) -> u8
         ensures { result ≡ number_of self.now }
     {
@@ -93,7 +95,7 @@ impl StateFault {
         }
     }
 
-    /// The published name of the refusal, without its fields.
+    /// The name of the refusal in docs/FORMATS.md, without its fields.
     pub fn name(&self) -> &'static str
         ensures { result.now ≡ name_of self.now }
     {
