@@ -1,5 +1,5 @@
 -- What a compaction answers, by what is done.
-use Rattle.std.proofs.Common.{◌≡◌, ◌≢◌, ℕ, inl, inr, All, List, Option, None, Some, IfErr, OnErr, OnOk, refl, subst}
+use Rattle.std.proofs.Common.{◌≡◌, ◌≢◌, ℕ, inl, inr, All, List, Option, IfErr, OnErr, OnOk, refl, subst}
 use Rattle.std.specs.Prelude.{◌⊎◌, Result, Ok, Err}
 use Rattle.std.specs.Io.KnownBytes.{Keeps}
 use Rattle.atomic_table.specs.Seated.{TableId}
@@ -34,7 +34,7 @@ unfinished Stored Refused Honest board workers crew e was is same opened stops =
 
 -- the collect was refused
 pub unswept : (Stored : ℕ → List ℕ → Type 0) (Refused : Asked → ShelfFault → Type 0) (Honest : Type 0) (board : TableId) (workers crew : ℕ) (ends : List WorkerEnd) (fault : StateFault) (was mid is : Told)
-    → crew ≡ workers → IsOpened Honest board was mid → AreEnds Honest crew ends → All IsFaultless ends → Refuses Honest board fault mid is
+    → crew ≡ workers → IsOpened Honest board was mid → AreEnds Honest crew ends → All IsFaultless ends → Refuses Refused Honest board fault mid is
     → IsCompactFault Stored Refused Honest workers (Writer (State fault)) was is
 unswept Stored Refused Honest board workers crew ends fault was mid is same opened each faultless refuses = inr (inr (inr (inl (
   fault,

@@ -5,6 +5,7 @@ use Rattle.atomic_table.specs.Seated.{TableId}
 use Rattle.lsm_shelf.specs.Asked.{Asked}
 use Rattle.lsm_shelf.specs.declared.shelf_fault.ShelfFault.{ShelfFault}
 use Rattle.lsm_shelf.specs.Told.{Told, Forked, NotNamed}
+use Rattle.lsm_state.specs.Asked.{CollectRefused, OnShelf}
 use Rattle.lsm_state.specs.Collecting.{AreCollected, IsCollectRefusal, IsCountedOnce, SameCounts}
 use Rattle.lsm_state.specs.Held.{Held, IsLawfulState}
 use Rattle.lsm_state.specs.Opening.{IsOpenRefusal, IsReadOnce}
@@ -109,8 +110,9 @@ IsWorkersFault Honest workers e = (fault : WorkerFault) × (e ≡ Worker fault)
 abbrev pub IsUnfinished : Type 0 → ℕ → CompactFault → Told → Told → Type 0
 IsUnfinished Honest workers e was is = IsWorkersFault Honest workers e × ((board : TableId) × IsOpened Honest board was is)
 
--- A lawful state with this board refused to collect; its refusal says what was removed until then.
-pub record Refuses (Honest : Type 0) (board : TableId) (fault : StateFault) (was is : Told) : Type 0 where
+-- A lawful state with this board refused to collect; its refusal says what was removed until then. Where it was the shelf, other than for
+-- want of memory, it refused to list its tables, or to remove one that is not kept.
+pub record Refuses (Refused : Asked → ShelfFault → Type 0) (Honest : Type 0) (board : TableId) (fault : StateFault) (was is : Told) : Type 0 where
   pub before : Held
   pub after : Held
   pub lawful : IsLawfulState Honest board after
@@ -118,16 +120,17 @@ pub record Refuses (Honest : Type 0) (board : TableId) (fault : StateFault) (was
   pub removed : List ℕ
   pub refused : IsCollectRefusal before after fault removed was is
   pub counts : IsCountedOnce fault was is
+  pub asked : OnShelf (CollectRefused Refused after) fault
 
 -- No worker ended with a fault, and the collect was refused.
-pub record IsUnswept (Honest : Type 0) (workers : ℕ) (fault : StateFault) (was is : Told) : Type 0 where
+pub record IsUnswept (Refused : Asked → ShelfFault → Type 0) (Honest : Type 0) (workers : ℕ) (fault : StateFault) (was is : Told) : Type 0 where
   pub board : TableId
   pub mid : Told
   pub opened : IsOpened Honest board was mid
   pub ends : List WorkerEnd
   pub ends_are : AreEnds Honest workers ends
   pub faultless : All IsFaultless ends
-  pub refuses : Refuses Honest board fault mid is
+  pub refuses : Refuses Refused Honest board fault mid is
 
 -- All was done, and the reply was not written.
 abbrev pub IsUnwritten : Type 0 → ℕ → CompactFault → Told → Told → Type 0
@@ -139,7 +142,7 @@ IsCompactFault Stored Refused Honest workers e was is =
     IsOutOfMemory e was is
     ⊎ (IsUnbegun Stored Refused Honest e was is
     ⊎ (IsUnfinished Honest workers e was is
-    ⊎ (((fault : StateFault) × (e ≡ Writer (State fault)) × IsUnswept Honest workers fault was is)
+    ⊎ (((fault : StateFault) × (e ≡ Writer (State fault)) × IsUnswept Refused Honest workers fault was is)
     ⊎ IsUnwritten Honest workers e was is)))
 
 -- What a refusal is: what the fault says; and, unless a write failed, nothing was written on standard output.

@@ -120,7 +120,7 @@ fn tidy<N: Boarded, S: Shelf, R: Wait, E: Write>(
 ) -> Result<(), StateFault>
     requires here { (S.told shelf.old).place ≡ N.place }
     ensures ok { OnOk result (IsSwept S.honest N.board (S.told shelf.old) (S.told shelf.new)) }
-    ensures refused { IfErr result (λ e. Refuses S.honest N.board e (S.told shelf.old) (S.told shelf.new)) }
+    ensures refused { IfErr result (λ e. Refuses (S.refuses N.place) S.honest N.board e (S.told shelf.old) (S.told shelf.new)) }
     ensures quiet { IsFalse progress → Keeps (E.contents err.old) (E.contents err.new) }
 {
     let removed = sweep(rt, alloc, store, shelf)?;

@@ -19,7 +19,7 @@ fn sweep_state<N: Boarded, S: Shelf, R: Wait>(
 ) -> Result<usize, StateFault>
     requires here { (S.told shelf.old).place ≡ N.place }
     ensures ok { OnOk result (IsSwept S.honest N.board (S.told shelf.old) (S.told shelf.new)) }
-    ensures refused { IfErr result (λ e. Refuses S.honest N.board e (S.told shelf.old) (S.told shelf.new)) }
+    ensures refused { IfErr result (λ e. Refuses (S.refuses N.place) S.honest N.board e (S.told shelf.old) (S.told shelf.new)) }
 {
     let collected = state.collect(rt, alloc, shelf);
     let _options = state.options();
@@ -38,7 +38,7 @@ pub(crate) fn sweep<N: Boarded, S: Shelf, R: Wait>(
 ) -> Result<usize, StateFault>
     requires here { (S.told shelf.old).place ≡ N.place }
     ensures ok { OnOk result (IsSwept S.honest N.board (S.told shelf.old) (S.told shelf.new)) }
-    ensures refused { IfErr result (λ e. Refuses S.honest N.board e (S.told shelf.old) (S.told shelf.new)) }
+    ensures refused { IfErr result (λ e. Refuses (S.refuses N.place) S.honest N.board e (S.told shelf.old) (S.told shelf.new)) }
 {
     sweep_state(rt, alloc, &mut store.lock(rt), shelf)
 }

@@ -5,6 +5,7 @@ use Rattle.lsm_shelf.specs.Asked.{Asked}
 use Rattle.lsm_shelf.specs.declared.shelf_fault.ShelfFault.{ShelfFault}
 use Rattle.lsm_shelf.specs.Told.{Told}
 use Rattle.lsm_batch.specs.declared.write.Write.{Write}
+use Rattle.lsm_state.specs.Asked.{IngestRefused, OnShelf}
 use Rattle.lsm_state.specs.Held.{Held}
 use Rattle.lsm_state.specs.Ingesting.{Ingests, IsIngestRefusal}
 use Rattle.lsm_state.specs.declared.ingest.Ingested.{Ingested}
@@ -29,13 +30,15 @@ pub record ComesIn (Honest : Type 0) (is_new : Bool) (ws : List Write) (r : Inge
 abbrev pub IsBroughtIn : Type 0 → Bool → List Write → Told → Told → Option (List ℕ) → Option (List ℕ) → Type 0
 IsBroughtIn Honest is_new ws was is old new = (r : Ingested) × ComesIn Honest is_new ws r was is × Appends old new (ingest_text r)
 
--- The directory was begun or opened, and then the state refused the batch.
-pub record StaysOut (Honest : Type 0) (is_new : Bool) (ws : List Write) (fault : StateFault) (was is : Told) : Type 0 where
+-- The directory was begun or opened, and then the state refused the batch. Where it was the shelf, other than for want of memory, it
+-- refused the put of the batch's table, or the write of the manifest by which that comes in.
+pub record StaysOut (Refused : Asked → ShelfFault → Type 0) (Honest : Type 0) (is_new : Bool) (ws : List Write) (fault : StateFault) (was is : Told) : Type 0 where
   pub before : Held
   pub after : Held
   pub mid : Told
   pub started : IsStarted Honest is_new before was mid
   pub refused : IsIngestRefusal before after ws fault mid is
+  pub asked : OnShelf (IngestRefused Refused before ws) fault
 
 -- What a fault says: memory ran out before the shelf was asked for anything; the directory was not begun or opened; the state refused the
 -- batch; or it came in, and the reply was not written.
@@ -43,7 +46,7 @@ abbrev pub IsIngestFault : (ℕ → List ℕ → Type 0) → (Asked → ShelfFau
 IsIngestFault Stored Refused Honest is_new ws e was is =
     ((e ≡ OutOfMemory) × (is ≡ was))
     ⊎ (IsStartRefusal Stored Refused Honest is_new e was is
-    ⊎ (((fault : StateFault) × (e ≡ State fault) × StaysOut Honest is_new ws fault was is)
+    ⊎ (((fault : StateFault) × (e ≡ State fault) × StaysOut Refused Honest is_new ws fault was is)
     ⊎ ((e ≡ WriteFault) × ((r : Ingested) × ComesIn Honest is_new ws r was is))))
 
 -- What a refusal is: what the fault says; and, unless a write failed, nothing was written on standard output.

@@ -4,10 +4,10 @@ use Rattle.lsm_pins.specs.Known.{Known}
 use Rattle.lsm_shelf.specs.Asked.{Asked}
 use Rattle.lsm_shelf.specs.declared.shelf_fault.ShelfFault.{ShelfFault}
 use Rattle.lsm_shelf.specs.Told.{Told, Becomes, Rose, sending}
-use Rattle.lsm_journal.specs.Sending.{IsCreateRefusal}
+use Rattle.lsm_journal.specs.Sending.{CreateCounted, IsCreateAsked, IsCreateRefusal}
 use Rattle.lsm_state.specs.Held.{Held}
 use Rattle.lsm_state.specs.Making.{created_state}
-use Rattle.lsm_state.specs.Opening.{IsBegun, IsOpenRefusal, opened_state}
+use Rattle.lsm_state.specs.Opening.{IsBegun, IsOpenRefusal, IsReadOnce, opened_state}
 use Rattle.lsm_state.specs.declared.open_fault.OpenFault.{OpenFault}
 use Rattle.lsm_state.specs.declared.options.Options.{Options}
 use Rattle.lsm_writer.specs.WriterFault.{of_open, of_shelf}
@@ -36,7 +36,16 @@ abbrev pub IsStarted : Type 0 → Bool → Held → Told → Told → Type 0
 IsStarted Honest true h was is = IsNew h was is
 IsStarted Honest false h was is = IsReopened Honest h was is
 
--- Why there is no such state. `Stored` says which images the shelf gave for which numbers, `Refused` which loads it refused with which faults.
+-- Why there is no database on the shelf: its refusal, which call that was, and what it counted.
+abbrev pub IsUncreated : (Asked → ShelfFault → Type 0) → WriterFault → Told → Told → Type 0
+IsUncreated Refused e was is = (fault : ShelfFault) × (e ≡ of_shelf fault) × IsCreateRefusal fault was is × IsCreateAsked Refused fault was is × CreateCounted fault was is
+
+-- Why the database that is there was not opened.
+abbrev pub IsUnopened : (ℕ → List ℕ → Type 0) → (Asked → ShelfFault → Type 0) → Type 0 → WriterFault → Told → Told → Type 0
+IsUnopened Stored Refused Honest e was is = (fault : OpenFault) × (e ≡ of_open fault) × IsOpenRefusal Stored Refused Honest usual.manifest_limit fault was is × IsReadOnce fault was is
+
+-- Why there is no such state. `Stored` says which images the shelf gave for which numbers, `Refused` which calls it may refuse with which
+-- faults.
 abbrev pub IsStartRefusal : (ℕ → List ℕ → Type 0) → (Asked → ShelfFault → Type 0) → Type 0 → Bool → WriterFault → Told → Told → Type 0
-IsStartRefusal Stored Refused Honest true e was is = (fault : ShelfFault) × (e ≡ of_shelf fault) × IsCreateRefusal fault was is
-IsStartRefusal Stored Refused Honest false e was is = (fault : OpenFault) × (e ≡ of_open fault) × IsOpenRefusal Stored Refused Honest usual.manifest_limit fault was is
+IsStartRefusal Stored Refused Honest true e was is = IsUncreated Refused e was is
+IsStartRefusal Stored Refused Honest false e was is = IsUnopened Stored Refused Honest e was is

@@ -1,8 +1,15 @@
 //! One run of a command that writes a directory.
 
-ghost use Rattle.std.specs.Prelude.{◌≡◌, ◌≢◌, ◌≤◌, OnErr, OnOk};
+ghost use Rattle.std.specs.Prelude.{◌≡◌, ◌≢◌, ◌≤◌, ◌∷◌, [], IfErr, IfOk, OnErr, OnOk};
 ghost use Rattle.std.specs.Io.KnownBytes.{Keeps};
+ghost use Rattle.lsm_folder.specs.Calls.{opened};
+ghost use Rattle.lsm_folder.specs.Place.{IsAtPath};
+ghost use Rattle.lsm_folder.specs.SystemFolder.{system_calls, system_place};
+ghost use Rattle.lsm_shelf.specs.FileShelf.{file_told, folder_of};
+ghost use Rattle.lsm_shelf.specs.Told.{NotNamed, fresh};
+ghost use Rattle.lsm_shelf.specs.declared.shelf_fault.ShelfFault.{ShelfFault};
 ghost use Rattle.lsm_writer.specs.Ingesting.{IsBroughtIn, IsRefused};
+ghost use Rattle.lsm_writer.specs.WriterFault.{of_shelf};
 
 use crate::batch_text::read_batch;
 use crate::ingesting::bring_in;
@@ -108,8 +115,13 @@ fn obey<R: Wait, O: Write>(
     }
 }
 
-/// The shelf on the folder of this path.
-pub fn open_shelf(files: HostRuntime, path: &str) -> Result<SystemShelf<HostRuntime>, WriterFault> {
+/// A shelf on the system's folder of this path.
+pub fn open_shelf(files: HostRuntime, path: &str) -> Result<SystemShelf<HostRuntime>, WriterFault>
+    ensures calls { IfOk result (λ s. system_calls (folder_of s) ≡ opened ∷ []) }
+    ensures place { IfOk result (λ s. IsAtPath path.now (system_place (folder_of s))) }
+    ensures fresh { IfOk result (λ s. file_told system_place s ≡ fresh (system_place (folder_of s))) }
+    ensures fault { IfErr result (λ e. (fault : ShelfFault) × (e ≡ of_shelf fault) × NotNamed fault) }
+{
     match FileShelf::open(files, path) {
         Ok(shelf) => Ok(shelf),
         Err(fault) => Err(WriterFault::of_shelf(fault)),
