@@ -37,10 +37,7 @@ fn add_all(builder: &mut TableBuilder, first: u64, writes: &[Write]) -> Result<(
     ensures large { result ≡ Err TooLarge → PassesIn builder.old.options (builder.old.entries ++ entries_from first writes.now) }
 {
     for (i, write) in writes.iter().enumerate() {
-        match add(builder, first + i as u64, write) {
-            Ok(()) => {}
-            Err(fault) => return Err(fault),
-        }
+        add(builder, first + i as u64, write)?;
     }
     Ok(())
 }
@@ -72,18 +69,12 @@ fn table_of(
     ensures large { result ≡ Err TooLarge → PassesTable options (entries_from first writes.now) }
 {
     let mut builder = TableBuilder::new(alloc, options);
-    match add_all(&mut builder, first, writes) {
-        Ok(()) => {}
-        Err(fault) => return Err(fault),
-    }
+    add_all(&mut builder, first, writes)?;
     let largest = match builder.last_key() {
         Some(key) => bytes_of(alloc, &key)?,
         None => unreachable!(),
     };
-    match builder.finish() {
-        Ok(bytes) => Ok((largest, bytes)),
-        Err(fault) => Err(fault),
-    }
+    Ok((largest, builder.finish()?))
 }
 
 impl Batch {

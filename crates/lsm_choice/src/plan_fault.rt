@@ -18,7 +18,7 @@ pub enum PlanFault {
 }
 
 impl PlanFault {
-    /// The published number of the refusal.
+    /// The number of the refusal in docs/FORMATS.md.
     pub fn number(&self) -> u8
         ensures { result ≡ number_of self.now }
     {
@@ -28,7 +28,7 @@ impl PlanFault {
         }
     }
 
-    /// The published name of the refusal, without its field.
+    /// The name of the refusal in docs/FORMATS.md, without its field.
     pub fn name(&self) -> &'static str
         ensures { result.now ≡ name_of self.now }
     {

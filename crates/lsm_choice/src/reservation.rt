@@ -26,6 +26,7 @@ impl Model for Reservation {
 }
 
 impl Reservation {
+    /// The live job of a ticket, a level, the numbers of its inputs, and its hull.
     pub fn new(ticket: u64, level: u8, inputs: List<u64>, hull: (Bytes, Bytes)) -> Reservation
         ensures { result ≡ record { ticket = ticket; level = level; inputs = inputs; low = hull.0; high = hull.1 } }
     {
@@ -39,6 +40,7 @@ impl Reservation {
         }
     }
 
+    /// The ticket under which the job is reserved.
     pub fn ticket(&self) -> u64
         ensures { result ≡ self.now.ticket }
     {

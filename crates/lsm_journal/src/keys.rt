@@ -19,6 +19,7 @@ pub fn added_keys_fit<N: Naming, S: Shelf>(
     ensures { (n : ℕ) (t : Table) → Has added.now (n, t) → IsWhole t → FitsKey t.smallest × FitsKey t.largest }
 {
     for one in added {
+        // What holds of the record is told by this call.
         let _size = registry.record(&one.1).receipt.size();
     }
 }

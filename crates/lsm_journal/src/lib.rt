@@ -11,14 +11,18 @@ mod keys;
 mod version_change;
 mod written;
 
-// The manifest held.
+// The manifest held, and how it begins.
 mod create;
 mod journal;
-mod laws;
 mod recover;
 mod recover_fault;
+
+// What is sent at a change.
 mod roll_over;
 mod send;
+
+// What holds of it.
+mod laws;
 
 pub use journal::Journal;
 pub use keys::added_keys_fit;

@@ -25,7 +25,7 @@ pub enum RecoverFault {
 }
 
 impl RecoverFault {
-    /// The published number of the refusal.
+    /// The number of the refusal in docs/FORMATS.md.
     pub fn number(&self) -> u8
         ensures { result ≡ number_of self.now }
     {
@@ -37,7 +37,7 @@ impl RecoverFault {
         }
     }
 
-    /// The published name of the refusal, without its fields.
+    /// The name of the refusal in docs/FORMATS.md, without its fields.
     pub fn name(&self) -> &'static str
         ensures { result.now ≡ name_of self.now }
     {

@@ -109,6 +109,7 @@ impl Journal {
         ensures counts { CountedBy result (S.told shelf.old) (S.told shelf.new) }
     {
         changed_tables();
+        // That the change fits is told by this call.
         let _fits = change.last();
         if self.is_at_limit() {
             self.start(rt, alloc, shelf, registry, after, next)?;

@@ -7,11 +7,16 @@
 //! exactly whether a ticket is live, a result is stale.
 #![tactic(auto)]
 
-pub mod laws;
+// The live jobs, and the numbers that each drew.
 mod live_job;
 mod live_jobs;
+
+// What is taken from a version, and what comes back.
 mod live_result;
 mod reserved;
+
+// What live jobs are to the plain machine.
+pub mod laws;
 
 pub use live_job::LiveJob;
 pub use live_jobs::LiveJobs;

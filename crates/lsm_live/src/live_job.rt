@@ -56,7 +56,8 @@ impl<N: Naming, S: Shelf> LiveJob<N, S> {
         self.drawn.as_slice()
     }
 
-    /// Books one number more. `AllocError` where a growth was refused; then it is as before.
+    /// Appends a number to those that were drawn. `AllocError` where a growth was refused; then it
+    /// is as before.
     pub(crate) fn draw(&mut self, number: u64) -> Result<(), AllocError>
         ensures ok { OnOk result (self.new ≡ drawing number self.old) }
         ensures err { OnErr result (self.new ≡ self.old) }

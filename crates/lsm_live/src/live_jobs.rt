@@ -94,8 +94,8 @@ impl<N: Naming, S: Shelf> LiveJobs<N, S> {
         was_live
     }
 
-    /// Books a number under a ticket: it goes to the end of what that job drew. Nothing changes
-    /// where the ticket is not live, nor where a growth was refused, which is the `AllocError`.
+    /// Appends a number to those that the job of a ticket drew. Nothing changes where the ticket is
+    /// not live, nor where a growth was refused, which is the `AllocError`.
     pub fn draw(&mut self, ticket: u64, number: u64) -> Result<(), AllocError>
         ensures ok { OnOk result (self.new ≡ booked ticket number self.old) }
         ensures err { OnErr result (self.new ≡ self.old) }

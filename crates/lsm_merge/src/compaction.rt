@@ -114,6 +114,7 @@ fn merge<N: Naming, S: Shelf, R: Wait, D: NumberSource>(
     ensures ready { D.ready numbers.new }
 {
     streaming_keeps_the_kept();
+    // What holds of the job is told by this call.
     let _ticket = job.ticket();
     let mut merger = match open_inputs(shelf, alloc, registry, job) {
         Ok(merger) => merger,
@@ -152,6 +153,7 @@ fn hand_on<N: Naming, S: Shelf>(
     ensures put { IfOk result (λ f. f.put ≡ []) }
     ensures refused { IfErr result (λ e. (e.0 ≡ OutOfMemory) × (e.1 ≡ job) × (e.2.items ≡ [])) }
 {
+    // What holds of the job is told by this call.
     let _ticket = job.ticket();
     match again_all(alloc, job.upper()) {
         Ok(outputs) => Ok(Finished {
@@ -224,6 +226,7 @@ pub fn compact<N: Naming, S: Shelf, R: Wait, D: NumberSource>(
     if job.is_move() {
         return hand_on(alloc, job);
     }
+    // What holds of the job is told by this call.
     let _ticket = job.ticket();
     let mut outputs = Outputs::none(alloc, &job);
     let merged = merge(rt, alloc, shelf, registry, &job, numbers, &mut outputs);

@@ -156,6 +156,7 @@ pub(crate) fn open_inputs<N: Naming, S: Shelf>(
     ensures cause { IfErr result (λ e. HasCause (input_numbers job.now) e (S.told shelf.old) (S.told shelf.new)) }
 {
     merges_are_in_order();
+    // What holds of the job is told by this call.
     let _ticket = job.ticket();
     let mut runs = Vec::new(alloc);
     match push_upper(shelf, alloc, registry, job.level(), job.upper(), &mut runs) {

@@ -32,7 +32,8 @@ pub struct JobParts<N: Naming, S: Shelf> {
     pub is_move: bool,
     /// The sizes that its outputs are written with.
     pub table: TableOptions,
-    /// An output is closed once its finished data blocks reach this many bytes.
+    /// An output is closed at the first change of user key after its finished data blocks reach
+    /// this many bytes.
     pub target_size: u64,
 }
 

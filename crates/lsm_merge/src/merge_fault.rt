@@ -23,7 +23,7 @@ pub enum InputFault {
 }
 
 impl InputFault {
-    /// The published number of the refusal.
+    /// The number of the refusal in docs/FORMATS.md.
     pub fn number(&self) -> u8
         ensures { result ≡ input_number self.now }
     {
@@ -46,7 +46,7 @@ pub enum OutputFault {
 }
 
 impl OutputFault {
-    /// The published number of the refusal.
+    /// The number of the refusal in docs/FORMATS.md.
     pub fn number(&self) -> u8
         ensures { result ≡ output_number self.now }
     {
@@ -78,7 +78,7 @@ pub enum MergeFault {
 }
 
 impl MergeFault {
-    /// The published number of the refusal.
+    /// The number of the refusal in docs/FORMATS.md.
     pub fn number(&self) -> u8
         ensures { result ≡ number_of self.now }
     {
@@ -91,7 +91,7 @@ impl MergeFault {
         }
     }
 
-    /// The published name of the refusal, without its fields.
+    /// The name of the refusal in docs/FORMATS.md, without its fields.
     pub fn name(&self) -> &'static str
         ensures { result.now ≡ name_of self.now }
     {

@@ -23,7 +23,7 @@ pub enum NumberFault {
 }
 
 impl NumberFault {
-    /// The published number of the refusal.
+    /// The number of the refusal in docs/FORMATS.md.
     pub fn number(&self) -> u8
         ensures { result ≡ number_of self.now }
     {
@@ -34,7 +34,7 @@ impl NumberFault {
         }
     }
 
-    /// The published name of the refusal, without its fields.
+    /// The name of the refusal in docs/FORMATS.md, without its fields.
     pub fn name(&self) -> &'static str
         ensures { result.now ≡ name_of self.now }
     {
@@ -62,7 +62,7 @@ pub trait NumberSource {
     /// The numbers that it gave, the last first.
     ghost drew: { Self → List ℕ };
 
-    /// The published numbers of its refusals, the last first.
+    /// The numbers of its refusals, the last first.
     ghost refused: { Self → List ℕ };
 
     /// The tickets for which it was asked, the last first.

@@ -294,7 +294,7 @@ impl<N: Naming, S: Shelf> Outputs<N, S> {
         self.place(rt, shelf, registry, numbers, key, value)
     }
 
-    /// The tables and their numbers. No output is in the making.
+    /// The tables and their numbers. An output in the making is let go.
     pub(crate) fn into_parts(self) -> (Vec<TableRef<N, S>>, Vec<u64>)
         ensures tables { result.0.items ≡ self.tables }
         ensures put { result.1.items ≡ self.put }

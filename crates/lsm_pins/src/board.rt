@@ -89,6 +89,8 @@ fn first_words(id: u32) -> [u64; 65]
     words
 }
 
+// What the publisher notes of the slots of a new board: the first has the version of this id, all
+// others are free.
 fn first_records(alloc: Global, slots: usize, id: u32) -> Result<Vec<SlotRecord>, AllocError>
     requires { 0 < slots }
     ensures { IfOk result (λ v. v.items ≡ first_records slots id) }

@@ -13,7 +13,7 @@ pub enum PinFault {
 }
 
 impl PinFault {
-    /// The published number of the refusal.
+    /// The number of the refusal in docs/FORMATS.md.
     pub fn number(&self) -> u8
         ensures { result ≡ 50 }
     {
@@ -22,7 +22,7 @@ impl PinFault {
         }
     }
 
-    /// The published name of the refusal.
+    /// The name of the refusal in docs/FORMATS.md.
     pub fn name(&self) -> &'static str
         ensures { result.now ≡ codes "PinsSpent" }
     {

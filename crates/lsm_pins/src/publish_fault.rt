@@ -13,7 +13,7 @@ pub enum PublishFault {
 }
 
 impl PublishFault {
-    /// The published number of the refusal.
+    /// The number of the refusal in docs/FORMATS.md.
     pub fn number(&self) -> u8
         ensures { result ≡ 49 }
     {
@@ -22,7 +22,7 @@ impl PublishFault {
         }
     }
 
-    /// The published name of the refusal.
+    /// The name of the refusal in docs/FORMATS.md.
     pub fn name(&self) -> &'static str
         ensures { result.now ≡ codes "VersionsSpent" }
     {

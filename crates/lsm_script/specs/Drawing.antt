@@ -37,7 +37,7 @@ abbrev pub ArePairsDrawn : List (ℕ × ℕ) → Held → Held → Type 0
 ArePairsDrawn [] old new = new ≡ old
 ArePairsDrawn (p ∷ ps) old new = (mid : Held) × ArePairsDrawn ps old mid × DrawsOne p.0 p.1 mid new
 
--- What a source of numbers has: a state, the numbers it gave and the published numbers of its refusals, and the tickets that it was asked
+-- What a source of numbers has: a state, the numbers it gave and the numbers of its refusals, and the tickets that it was asked
 -- for, each the last first.
 pub record Source (X : Type 0) : Type 0 where
   pub state : X

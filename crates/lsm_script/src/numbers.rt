@@ -12,9 +12,9 @@ use std::alloc::Global;
 use std::marker::{Brand, PhantomData};
 use std::sync::Wait;
 
-/// What holds of a state that gave numbers: of the state, of the numbers, of the published numbers
-/// of its refusals, and of the tickets that it was asked for, each list the last first. A merge
-/// picks it.
+/// What holds of a state that gave numbers: of the state, of the numbers given, of the
+/// numbers of its refusals, and of the tickets that it was asked for, each list the last first. A
+/// merge picks it.
 pub(crate) trait Noted<X> {
     ghost use Rattle.std.specs.Prelude.{ℕ, List};
 

@@ -5,7 +5,6 @@ ghost use Rattle.lsm_script.specs.Refusal.{name_of, number_of};
 
 use lsm_merge::MergeFault;
 use lsm_state::StateFault;
-use std::alloc::{AllocError, AllocFailed};
 use thiserror::Error;
 
 /// Why a command was refused.
@@ -20,7 +19,7 @@ pub enum Refusal {
 }
 
 impl Refusal {
-    /// The published number of the refusal.
+    /// The number of the refusal in docs/FORMATS.md.
     pub fn number(&self) -> u8
         ensures { result ≡ number_of self.now }
     {
@@ -30,7 +29,7 @@ impl Refusal {
         }
     }
 
-    /// The published name of the refusal, without its fields.
+    /// The name of the refusal in docs/FORMATS.md, without its fields.
     pub fn name(&self) -> &'static str
         ensures { result.now ≡ name_of self.now }
     {

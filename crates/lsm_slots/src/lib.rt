@@ -6,10 +6,13 @@
 //! under the lock.
 #![tactic(auto)]
 
+// A version in a slot, and the pins of its readers.
 mod boarded;
 mod epoch;
 mod slot_pins;
 mod slots;
+
+// Snapshots.
 mod snapshots;
 
 pub use boarded::Boarded;

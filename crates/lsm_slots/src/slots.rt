@@ -65,6 +65,7 @@ fn is_unpinned<N: Naming, S: Shelf>(epochs: &[Option<Epoch<N, S>>], slot: u8) ->
     }
 }
 
+// Frees a slot: its version is let go.
 fn clear<N: Naming, S: Shelf>(epochs: &mut Vec<Option<Epoch<N, S>>>, slot: u8)
     requires { slot < length epochs.old.items }
     ensures { epochs.new.items ≡ slice_set epochs.old.items slot None }
@@ -213,7 +214,9 @@ impl<N: Boarded, S: Shelf> Slots<N, S> {
         self.free()
     }
 
-    /// Makes the version current, in a slot that is free, under the next id, which it answers.
+    /// Makes a version current, in a slot that is free, under the next id, which it answers. Both
+    /// are one version: the first is kept as the current one, the second in the slot. It is shared
+    /// before it is handed over, since room for that may be refused, and a publication is not.
     pub fn publish(
         &mut self,
         slot: u8,

@@ -1,18 +1,9 @@
 -- Readers at their desks.
-use Rattle.std.proofs.Common.{◌≡◌, ℕ, List, [], ◌∷◌, ◌++◌, All, Option, Some, map, option_to_list, ap, sym, ◌∙◌, refl, inl, inr, subst}
+use Rattle.std.proofs.Common.{◌≡◌, List, [], ◌∷◌, ◌++◌, All, Option, map, option_to_list, ap, sym, ◌∙◌, refl, inl, inr, subst}
 use Rattle.std.specs.List.{AllByRecursion}
 use Rattle.std.proofs.lemmas.List.{append_assoc}
 use Rattle.std.proofs.lemmas.List.Elements.{All-from_recursion, All-pop, recursion_from_All}
 use Rattle.lsm_codec.specs.Lists.{Has}
-use Rattle.lsm_pins.specs.Known.{Known}
-use Rattle.lsm_pins.specs.declared.view.View.{View}
-use Rattle.lsm_pins.specs.View.{learnt_view, noted_view, told_view}
-use Rattle.lsm_shelf.specs.Told.{Place, fresh}
-use Rattle.lsm_version.specs.Versions.{Levels}
-use Rattle.lsm_slots.specs.Slots.{current_id, current_slot}
-use Rattle.lsm_state.specs.Held.{Held}
-use Rattle.lsm_store.specs.Readers.{AtDesk, Learnt, desk_at, seated}
-use Rattle.lsm_store.proofs.ReaderLaws.{same_learnt}
 
 each_has : {X : Type 0} (P : X → Type 0) (xs : List X) → ((x : X) → Has xs x → P x) → AllByRecursion P xs
 each_has P [] f = tt

@@ -22,8 +22,8 @@ pub enum WorkerFault {
 }
 
 impl WorkerFault {
-    /// The published number of the refusal. That of a thread that could not be made is 1, as for
-    /// want of memory.
+    /// The number of the refusal in docs/FORMATS.md. That of a thread that could not be made is 1,
+    /// as for want of memory.
     pub fn number(&self) -> u8
         ensures { result ≡ number_of self.now }
     {
@@ -34,7 +34,7 @@ impl WorkerFault {
         }
     }
 
-    /// The published name of the refusal, without its fields.
+    /// The name of the refusal in docs/FORMATS.md, without its fields.
     pub fn name(&self) -> &'static str
         ensures { result.now ≡ name_of self.now }
     {
@@ -53,15 +53,5 @@ impl From<StateFault> for WorkerFault {
 
     fn from(fault: StateFault) -> WorkerFault {
         WorkerFault::State(fault)
-    }
-}
-
-impl From<MergeFault> for WorkerFault {
-    ghost use Rattle.lsm_store.specs.declared.worker_fault.WorkerFault.TheVariants.{Merge};
-
-    ghost from_gives = { λ fault e. e ≡ Merge fault };
-
-    fn from(fault: MergeFault) -> WorkerFault {
-        WorkerFault::Merge(fault)
     }
 }

@@ -17,14 +17,14 @@ add_all-requires-clause-ascends c =
 pub unreachable-requires : goal.unreachable-requires
 unreachable-requires c =
     let es = entries_from c.args.first c.args.writes.now in
-    let made : c.add_all.new.builder.entries ≡ es = ap (λ (m : Making). m.entries) c.in-Ok.ensures.ok ∙ ap (λ (m : Making). m.entries ++ es) c.new-builder.ensures in
+    let made : c.add_all.new.builder.entries ≡ es = ap (λ (m : Making). m.entries) c.in_ok-add_all.ensures.ok ∙ ap (λ (m : Making). m.entries ++ es) c.new-builder.ensures in
     let key : last_key es ≡ None = ap last_key (sym made) ∙ (sym c.last_key.ensures.key ∙ ap (option_map key_of) c.in-None.is) in
     c.requires.some (none_written c.args.first c.args.writes.now (last_none es key))
 
-pub returns-in-Ok-finish-clause-largest : goal.returns-in-Ok-finish-clause-largest
-returns-in-Ok-finish-clause-largest c =
+pub returns-clause-largest : goal.returns-clause-largest
+returns-clause-largest c =
     let es = entries_from c.args.first c.args.writes.now in
-    let made : c.add_all.new.builder.entries ≡ es = ap (λ (m : Making). m.entries) c.in-Ok.ensures.ok ∙ ap (λ (m : Making). m.entries ++ es) c.new-builder.ensures in
+    let made : c.add_all.new.builder.entries ≡ es = ap (λ (m : Making). m.entries) c.in_ok-add_all.ensures.ok ∙ ap (λ (m : Making). m.entries ++ es) c.new-builder.ensures in
     let key : last_key es ≡ Some (key_of c.in-Some.key) = ap last_key (sym made) ∙ (sym c.last_key.ensures.key ∙ ap (option_map key_of) c.in-Some.is) in
     let r = last_some es (key_of c.in-Some.key) key in
     (r.0, r.1, r.2, subst (IsKey c.in_ok-largest-in-Some.largest) (sym r.3) c.in_ok-largest-in-Some.ensures)
