@@ -20,7 +20,7 @@ sys.dont_write_bytecode = True
 import plain
 
 CALLS = ["write", "fsync", "rename", "openat", "unlink"]
-ERRORS = [errno.ENOMEM, errno.ENOSPC, errno.EIO, errno.EINTR]
+ERRORS = [getattr(errno, name) for name in os.environ.get("ERRORS", "ENOMEM ENOSPC EIO EINTR").split()]
 TORN = 5  # bytes that a short write puts there (refuse.c)
 GROUPS = 3  # compactions that are due at once
 # What may be answered where a call was refused: what wants memory, the device, a table that can't be put, a store that was halted.
@@ -150,7 +150,7 @@ class Refuser:
         self.make()
         for call in calls:
             self.each(["ingest", self.db, self.batch], call)
-            for workers in "12":
+            for workers in os.environ.get("WORKERS", "1 2").split():
                 self.each(["compact", self.db, "--workers", workers], call)
 
 
