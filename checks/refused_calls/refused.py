@@ -1,10 +1,11 @@
 #!/usr/bin/env python3
 """Refuses each of the calls by which `lsm` changes files in turn, and looks at the folder after each run.
 
-  refused.py LSM LEVELDB REFUSE FOLDER [CALL..]
+  refused.py LSM LEVELDB REFUSE FOLDER [WORD..]
 
 LSM is the program, LEVELDB the program that checks/leveldb_directories/directory.cc makes, REFUSE the library that refuse.c makes, FOLDER
-an empty folder, CALL one of write, fsync, rename, openat, unlink (none: all). Ends with status 1 at the first difference.
+an empty folder, WORD one of write, fsync, rename, openat, unlink, or ingest or compact (none of a kind: all of it). Ends with status 1 at
+the first difference.
 """
 import collections
 import errno
@@ -20,7 +21,9 @@ sys.dont_write_bytecode = True
 import plain
 
 CALLS = ["write", "fsync", "rename", "openat", "unlink"]
+COMMANDS = ["ingest", "compact"]
 ERRORS = [getattr(errno, name) for name in os.environ.get("ERRORS", "ENOMEM ENOSPC EIO EINTR").split()]
+WORKERS = os.environ.get("WORKERS", "1 2").split()
 TORN = 5  # bytes that a short write puts there (refuse.c)
 GROUPS = 3  # compactions that are due at once
 # What may be answered where a call was refused: what wants memory, the device, a table that can't be put, a store that was halted.
@@ -146,15 +149,16 @@ class Refuser:
         said = ", ".join(f"{count} {what}" for what, count in sorted(self.counts.items()))
         print(f"lsm {' '.join(['DIR' if it == self.db else os.path.basename(it) for it in words])}: {last} calls {call}; of the runs {said}; {time.monotonic() - begun:.0f} s", flush=True)
 
-    def all(self, calls):
+    def all(self, chosen):
         self.make()
-        for call in calls:
-            self.each(["ingest", self.db, self.batch], call)
-            for workers in os.environ.get("WORKERS", "1 2").split():
-                self.each(["compact", self.db, "--workers", workers], call)
+        runs = {"ingest": [["ingest", self.db, self.batch]], "compact": [["compact", self.db, "--workers", it] for it in WORKERS]}
+        for call in [it for it in CALLS if it in chosen] or CALLS:
+            for command in [it for it in COMMANDS if it in chosen] or COMMANDS:
+                for words in runs[command]:
+                    self.each(words, call)
 
 
 if __name__ == "__main__":
-    if len(sys.argv) < 5 or not set(sys.argv[5:]) <= set(CALLS):
+    if len(sys.argv) < 5 or not set(sys.argv[5:]) <= {*CALLS, *COMMANDS}:
         sys.exit(__doc__)
-    Refuser(*sys.argv[1:5]).all(sys.argv[5:] or CALLS)
+    Refuser(*sys.argv[1:5]).all(sys.argv[5:])
