@@ -5,7 +5,7 @@
 #   logs      a log that LevelDB has not flushed: 51, --beside-log, notes on standard error; flushed, all is done
 #   current   CURRENT is lost: 10, and the second line's way back; --begin begins beside the old manifests and tables
 #   links     a symbolic link as DIR
-#   pipes     a FIFO as CURRENT, as the manifest, as a table, as LOCK: refused, no command waits for ever
+#   pipes     a FIFO as CURRENT, as the manifest, as a table, as LOCK, as a log: refused, no command waits for ever
 #   folders   a folder that is named as a table
 #   numbers   a table of the number 2^64 - 1: 46
 #   clean     what `lsm clean` removes, and what stays
@@ -165,8 +165,9 @@ pipes() {
   each_command is_refused_file LOCK
   put_back
   mkfifo db/000099.log
-  each_command is_done
-  rm -rf db
+  for command in "check db" "list db" "get db pear --text" "scan db" "ingest db batch --text"; do
+    is_refused_file 000099.log $command
+  done
 }
 
 is_refused_file() { # NAME WORDS..: `9 Device`, and NAME in one of the lines
@@ -245,6 +246,7 @@ reasons() {
     refuses "refused 15 BadChecksum 0" "in $table" $command
   done
   # lines of FILE
+  put_back
   printf 'a=1\nb c=2\n' > bad
   refuses "bad line 2" 'column 2.*\\x20' ingest db bad --text
   printf 'a=caf\xc3\xa9\n' > bad
