@@ -41,8 +41,8 @@ impl Journal {
     }
 
     /// The same under another number: the manifest has this number, and the next file number is one
-    /// more. It is for a folder in which files of an older database lie: the caller chooses a
-    /// number above all of theirs, so that no file of the new database has the name of one of them.
+    /// more, so the number is below 2^64 - 1. It is for a folder in which files of an older
+    /// database lie: the caller chooses a number above all of theirs.
     ///
     /// The refusals of `create`, with this number in place of 1.
     pub fn create_under<S: Shelf, R: Wait>(

@@ -26,11 +26,11 @@ impl<N: Boarded, S: Shelf> State<N, S> {
     ///
     /// The caller sees to it that no tables and manifests of an older database are there. A shelf
     /// has no manifest where its directory has no well-formed `CURRENT`, or one that names a
-    /// manifest that is gone: a database whose `CURRENT` was lost is begun anew here, over its
-    /// files. Its tables are then no version's, so that the next `State::collect` removes them, and
-    /// a table or a manifest of a number that is drawn again is written over. Where such files are
-    /// there and a new database is wanted all the same, `create_under` keeps their names; their
-    /// tables go at the next `collect` even so.
+    /// manifest that is gone, so a database whose `CURRENT` was lost is begun anew here, among its
+    /// files. No version names its tables then: the next `State::collect` removes them, and until
+    /// then a put under the number of one of them is refused as `Taken`. Its manifest 1 is written
+    /// over. Where such files are there and a new database is wanted all the same, there is
+    /// `create_under`.
     ///
     /// `Taken` with the number of the manifest that is there; `Device`; `OutOfMemory`. After
     /// `Device` manifest 1 may be there or not.
@@ -59,9 +59,9 @@ impl<N: Boarded, S: Shelf> State<N, S> {
 
     /// The same under another number: the manifest has this number, and the next file number is one
     /// more. It is for a folder in which files of an older database lie. The caller chooses a
-    /// number above those of all its tables, manifests and logs, and below 2^64 - 1, so that no
-    /// file of the new database is written over one of them. The next `State::collect` removes the
-    /// old tables all the same; old manifests stay.
+    /// number above those of its tables, manifests and logs, so that no file of the new database
+    /// has a name that one of them has; it is below 2^64 - 1, since a next number has to be left.
+    /// The old tables are no version's all the same: the next `State::collect` removes them.
     ///
     /// The refusals of `create`, with this number in place of 1.
     pub fn create_under<R: Wait>(
