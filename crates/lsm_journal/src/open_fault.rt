@@ -1,9 +1,9 @@
 //! Why a database could not be opened.
 
 ghost use Rattle.std.specs.Prelude.{◌≡◌};
-ghost use Rattle.lsm_state.specs.OpenFault.{name_of, number_of};
+ghost use Rattle.lsm_journal.specs.OpenFault.{name_of, number_of};
 
-use lsm_journal::RecoverFault;
+use crate::recover_fault::RecoverFault;
 use lsm_table::ShelfFault;
 use lsm_version::CheckFault;
 use std::alloc::{AllocError, AllocFailed};
@@ -60,7 +60,7 @@ impl OpenFault {
 }
 
 impl From<AllocError> for OpenFault {
-    ghost use Rattle.lsm_state.specs.declared.open_fault.OpenFault.TheVariants.{OutOfMemory};
+    ghost use Rattle.lsm_journal.specs.declared.open_fault.OpenFault.TheVariants.{OutOfMemory};
 
     ghost from_gives = { λ _ e. e ≡ OutOfMemory };
 
@@ -70,7 +70,7 @@ impl From<AllocError> for OpenFault {
 }
 
 impl<T: Drop> From<AllocFailed<T>> for OpenFault {
-    ghost use Rattle.lsm_state.specs.declared.open_fault.OpenFault.TheVariants.{OutOfMemory};
+    ghost use Rattle.lsm_journal.specs.declared.open_fault.OpenFault.TheVariants.{OutOfMemory};
 
     ghost from_gives = { λ _ e. e ≡ OutOfMemory };
 
@@ -80,7 +80,7 @@ impl<T: Drop> From<AllocFailed<T>> for OpenFault {
 }
 
 impl From<ShelfFault> for OpenFault {
-    ghost use Rattle.lsm_state.specs.declared.open_fault.OpenFault.TheVariants.{Shelf};
+    ghost use Rattle.lsm_journal.specs.declared.open_fault.OpenFault.TheVariants.{Shelf};
 
     ghost from_gives = { λ fault e. e ≡ Shelf fault };
 
@@ -90,7 +90,7 @@ impl From<ShelfFault> for OpenFault {
 }
 
 impl From<RecoverFault> for OpenFault {
-    ghost use Rattle.lsm_state.specs.declared.open_fault.OpenFault.TheVariants.{Recover};
+    ghost use Rattle.lsm_journal.specs.declared.open_fault.OpenFault.TheVariants.{Recover};
 
     ghost from_gives = { λ fault e. e ≡ Recover fault };
 
@@ -100,7 +100,7 @@ impl From<RecoverFault> for OpenFault {
 }
 
 impl From<CheckFault> for OpenFault {
-    ghost use Rattle.lsm_state.specs.declared.open_fault.OpenFault.TheVariants.{Check};
+    ghost use Rattle.lsm_journal.specs.declared.open_fault.OpenFault.TheVariants.{Check};
 
     ghost from_gives = { λ fault e. e ≡ Check fault };
 

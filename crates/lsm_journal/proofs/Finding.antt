@@ -19,18 +19,18 @@ use Rattle.lsm_version.specs.Versions.{IsSound, Levels, files, numbers_in}
 use Rattle.lsm_version.specs.declared.check.check_fault.CheckFault.{CheckFault}
 use Rattle.lsm_version.specs.declared.check.check_fault.CheckFault.TheVariants.{Read, DoubleFile, Overlap, WrongRange, AgeOrder}
 use Rattle.lsm_journal.specs.HeldManifest.{HeldManifest}
-use Rattle.lsm_journal.proofs.CallerLemmas.{later}
 use Rattle.lsm_journal.specs.Recorded.{IsRecorded}
 use Rattle.lsm_journal.specs.Recovering.{IsRecovered}
-use Rattle.lsm_state.specs.Opening.{IsFound, IsLeastFree, IsLoaded, IsNoVersion, IsTakenLast, IsUnlisted, IsWithoutRoom, taken_numbers}
+use Rattle.lsm_journal.specs.Finding.{IsFound, IsLeastFree, IsLoaded, IsNoVersion, IsTakenLast, IsUnlisted, IsWithoutRoom, taken_numbers}
+use Rattle.lsm_journal.proofs.Recording.{later}
 
 -- a manifest that was read records each version of its shape (a law of journals)
 abbrev pub RecoveredIsRecorded : Type 0
 RecoveredIsRecorded = (rest : ℕ) (h : HeldManifest) (shape : Form) (v : Levels) → IsRecovered h shape rest → IsOfShape shape v → AreDistinct (numbers_of shape.levels) → IsRecorded rest h v shape.next
 
 pub loaded : (honest : Type 0) (rest : ℕ) (h : HeldManifest) (shape : Form) (v : Levels) → RecoveredIsRecorded → IsRecovered h shape rest → IsOfShape shape v → AreDistinct (numbers_of shape.levels)
-    → (IsSettled (files v) → IsSound v) → (KeepsAge (files v) → IsSound v) → (honest → IsSound v) → IsLoaded honest h shape v
-loaded honest rest h shape v law r of own settled judged sound = record { rest = rest; recovered = r; of_shape = of; recorded = law rest h shape v r of own; settled = settled; judged = judged; sound = sound }
+    → (IsSettled (files v) → IsSound v) → (KeepsAge (files v) → IsSound v) → (honest → IsSound v) → IsLoaded honest h shape rest v
+loaded honest rest h shape v law r of own settled judged sound = record { recovered = r; of_shape = of; numbers = own; recorded = law rest h shape v r of own; settled = settled; judged = judged; sound = sound }
 
 -- ---- what was told
 
@@ -83,23 +83,25 @@ no_version Stored Refused honest e rest h shape was mid is r t why cause same = 
   told = becomes_then (finding h.number h.bytes was) mid is t same;
 }
 
-pub unlisted : (Refused : Asked → ShelfFault → Type 0) (honest : Type 0) (e : ShelfFault) (h : HeldManifest) (shape : Form) (v : Levels) (was mid is : Told) → IsLoaded honest h shape v
+pub unlisted : (Refused : Asked → ShelfFault → Type 0) (honest : Type 0) (e : ShelfFault) (rest : ℕ) (h : HeldManifest) (shape : Form) (v : Levels) (was mid is : Told) → IsLoaded honest h shape rest v
     → Becomes (finding h.number h.bytes was) mid → NotNamed e × Counted e mid is → IsWantOr (Refused ListTables) e → Becomes mid is → IsUnlisted Refused honest e was is
-unlisted Refused honest e h shape v was mid is l t cause asked same = record {
+unlisted Refused honest e rest h shape v was mid is l t cause asked same = record {
   asked = asked;
   held = h;
   shape = shape;
+  rest = rest;
   version = v;
   loaded = l;
   cause = (cause.0, counted_from e h.number h.bytes was is (counted_later e (finding h.number h.bytes was) mid is t cause.1));
   told = becomes_then (finding h.number h.bytes was) mid is t same;
 }
 
-pub taken_last : (honest : Type 0) (h : HeldManifest) (shape : Form) (v : Levels) (listed : List ℕ) (was mid is : Told) → IsLoaded honest h shape v → Has (taken_numbers listed v h.number) (2 ^ 64 - 1)
+pub taken_last : (honest : Type 0) (rest : ℕ) (h : HeldManifest) (shape : Form) (v : Levels) (listed : List ℕ) (was mid is : Told) → IsLoaded honest h shape rest v → Has (taken_numbers listed v h.number) (2 ^ 64 - 1)
     → Becomes (finding h.number h.bytes was) mid → Becomes (listing listed mid) is → IsTakenLast honest was is
-taken_last honest h shape v listed was mid is l spent t same = record {
+taken_last honest rest h shape v listed was mid is l spent t same = record {
   held = h;
   shape = shape;
+  rest = rest;
   version = v;
   listed = listed;
   loaded = l;
@@ -107,9 +109,9 @@ taken_last honest h shape v listed was mid is l spent t same = record {
   told = then_listed listed (finding h.number h.bytes was) mid is t same;
 }
 
-pub found_there : (honest : Type 0) (limit : ℕ) (h : HeldManifest) (shape : Form) (v : Levels) (listed : List ℕ) (next : ℕ) (was mid is : Told) → IsLoaded honest h shape v → h.limit ≡ limit
-    → IsLeastFree shape.next (taken_numbers listed v h.number) next → next < 2 ^ 64 → Becomes (finding h.number h.bytes was) mid → Becomes (listing listed mid) is → IsFound honest limit h v next was is
-found_there honest limit h shape v listed next was mid is l limit_is least fits t same = record {
+pub found_there : (honest : Type 0) (limit rest : ℕ) (h : HeldManifest) (shape : Form) (v : Levels) (listed : List ℕ) (next : ℕ) (was mid is : Told) → IsLoaded honest h shape rest v → h.limit ≡ limit
+    → IsLeastFree shape.next (taken_numbers listed v h.number) next → next < 2 ^ 64 → Becomes (finding h.number h.bytes was) mid → Becomes (listing listed mid) is → IsFound honest limit h v rest next was is
+found_there honest limit rest h shape v listed next was mid is l limit_is least fits t same = record {
   shape = shape;
   listed = listed;
   loaded = l;
@@ -133,15 +135,15 @@ without_room_listed rest h shape listed was mid is r t same = record {
 }
 
 -- memory ran out where all was read
-pub found_without_room : (honest : Type 0) (limit : ℕ) (h : HeldManifest) (v : Levels) (next : ℕ) (was is : Told) → IsFound honest limit h v next was is → IsWithoutRoom was is
-found_without_room honest limit h v next was is f =
-    record { held = h; shape = f.shape; rest = f.loaded.rest; recovered = f.loaded.recovered; told = inr (f.listed, f.told) }
+pub found_without_room : (honest : Type 0) (limit : ℕ) (h : HeldManifest) (v : Levels) (rest next : ℕ) (was is : Told) → IsFound honest limit h v rest next was is → IsWithoutRoom was is
+found_without_room honest limit h v rest next was is f =
+    record { held = h; shape = f.shape; rest = rest; recovered = f.loaded.recovered; told = inr (f.listed, f.told) }
 
--- ---- what the law of a state needs of what was read
+-- ---- what callers need of what was read
 
-pub found_recorded : (honest : Type 0) (limit : ℕ) (h : HeldManifest) (v : Levels) (next : ℕ) (was is : Told) → IsFound honest limit h v next was is → (rest : ℕ) × IsRecorded rest h v next
-found_recorded honest limit h v next was is f = (f.loaded.rest, later f.loaded.rest h v f.shape.next next f.loaded.recorded f.least.0.0)
+pub found_recorded : (honest : Type 0) (limit : ℕ) (h : HeldManifest) (v : Levels) (rest next : ℕ) (was is : Told) → IsFound honest limit h v rest next was is → IsRecorded rest h v next
+found_recorded honest limit h v rest next was is f = later rest h v f.shape.next next f.loaded.recorded f.least.0.0
 
-pub found_below : (honest : Type 0) (limit : ℕ) (h : HeldManifest) (v : Levels) (next : ℕ) (was is : Told) → IsFound honest limit h v next was is → (n : ℕ) → Has (numbers_in v) n → n < next
+pub found_below : (honest : Type 0) (limit : ℕ) (h : HeldManifest) (v : Levels) (rest next : ℕ) (was is : Told) → IsFound honest limit h v rest next was is → (n : ℕ) → Has (numbers_in v) n → n < next
 found_below honest limit h v next was is f n k = f.least.0.1 n
     (has_left (f.listed ++ numbers_in v) (h.number ∷ []) n (has_right f.listed (numbers_in v) n k))

@@ -1,9 +1,9 @@
 use Rattle.std.proofs.Common.{◌≡◌, ◌-◌, ◌^◌, [], ◌∷◌, ◌++◌, get_or, take, refl, sym, subst, arith}
 use Rattle.std.proofs.lemmas.List.{take_all, take_more}
 use Rattle.lsm_codec.specs.Lists.{Has}
-use Rattle.lsm_state.specs.Opening.{IsLeastFree}
-use Rattle.lsm_state.proofs.OpenLaws.{at_has, free_more, free_none}
-use Rattle.lsm_state.proofs.open.next_free.Goals as goal
+use Rattle.lsm_journal.specs.Finding.{IsLeastFree}
+use Rattle.lsm_journal.proofs.FreeNumbers.{at_has, free_more, free_none}
+use Rattle.lsm_journal.proofs.found.next_free.Goals as goal
 
 pub loop-number-init : goal.loop-number-init
 loop-number-init c = free_none c.args.from

@@ -8,9 +8,9 @@ use Rattle.lsm_shelf.proofs.CallerLemmas.{want_or}
 use Rattle.lsm_table.proofs.CallerLemmas.{becomes_then}
 use Rattle.lsm_version.specs.Versions.{numbers_in}
 use Rattle.lsm_journal.specs.Recovering.{IsRecoverRefusal}
-use Rattle.lsm_state.specs.Opening.{IsLeastFree, taken_numbers}
-use Rattle.lsm_state.proofs.OpenRefusals.{found_there, loaded, no_version, taken_last, unlisted, without_room, without_room_listed}
-use Rattle.lsm_state.proofs.open.Found.read.Goals as goal
+use Rattle.lsm_journal.specs.Finding.{IsLeastFree, taken_numbers}
+use Rattle.lsm_journal.proofs.Finding.{found_there, loaded, no_version, taken_last, unlisted, without_room, without_room_listed}
+use Rattle.lsm_journal.proofs.found.Found.read.Goals as goal
 
 pub returns-in_err-recovered-clause-refused : goal.returns-in_err-recovered-clause-refused
 returns-in_err-recovered-clause-refused g c =
@@ -43,7 +43,7 @@ returns-in_err-taken-clause-refused g c =
     let Refused : Asked → ShelfFault → Type 0 = g.S.Shelf.refuses g.N.Naming.place in
     let place = c.check.ensures.told.place ∙ c.in_ok-recovered.ensures.found.place ∙ c.requires.here in
     let asked = want_or (Refused ListTables) fault (subst (λ (q : Place). g.S.Shelf.refuses q ListTables fault) place c.in_err-taken.ensures.refused) in
-    rw (p.1, p.2) (unlisted Refused g.S.Shelf.honest fault r.journal r.shape c.in_ok-version.version _ (g.S.Shelf.told c.check.new.shelf) _ l
+    rw (p.1, p.2) (unlisted Refused g.S.Shelf.honest fault r.rest r.journal r.shape c.in_ok-version.version _ (g.S.Shelf.told c.check.new.shelf) _ l
     (becomes_then _ _ _ c.in_ok-recovered.ensures.found c.check.ensures.told) c.in_err-taken.ensures.cause asked c.in_err-taken.ensures.err)
 
 pub returns-in_err-push_numbers-clause-refused : goal.returns-in_err-push_numbers-clause-refused
@@ -70,7 +70,7 @@ returns-in_err-next-clause-refused g c =
     let listed = c.in_ok-taken.taken.items in
     let all : c.deref.result.now ≡ taken_numbers listed v r.journal.number = c.deref.ensures.value ∙ (c.in_ok-push.ensures.items
     ∙ (ap (λ xs. xs ++ c.number.result ∷ []) c.in_ok-push_numbers.ensures.ok ∙ ap (λ n. (listed ++ numbers_in v) ++ n ∷ []) c.number.ensures)) in
-    rw (p.1, p.2, c.in_err-next.ensures.err.0) (taken_last g.S.Shelf.honest r.journal r.shape v listed _ (g.S.Shelf.told c.check.new.shelf) _ l (subst (λ xs. Has xs (2 ^ 64 - 1)) all c.in_err-next.ensures.err.1)
+    rw (p.1, p.2, c.in_err-next.ensures.err.0) (taken_last g.S.Shelf.honest r.rest r.journal r.shape v listed _ (g.S.Shelf.told c.check.new.shelf) _ l (subst (λ xs. Has xs (2 ^ 64 - 1)) all c.in_err-next.ensures.err.1)
     (becomes_then _ _ _ c.in_ok-recovered.ensures.found c.check.ensures.told) c.in_ok-taken.ensures.ok)
 
 pub returns-clause-found : goal.returns-clause-found
@@ -82,5 +82,5 @@ returns-clause-found g c =
     let listed = c.in_ok-taken.taken.items in
     let all : c.deref.result.now ≡ taken_numbers listed v r.journal.number = c.deref.ensures.value ∙ (c.in_ok-push.ensures.items
     ∙ (ap (λ xs. xs ++ c.number.result ∷ []) c.in_ok-push_numbers.ensures.ok ∙ ap (λ n. (listed ++ numbers_in v) ++ n ∷ []) c.number.ensures)) in
-    found_there g.S.Shelf.honest c.args.limit r.journal r.shape v listed c.in_ok-next.next _ (g.S.Shelf.told c.check.new.shelf) _ l c.in_ok-recovered.ensures.limit
+    found_there g.S.Shelf.honest c.args.limit r.rest r.journal r.shape v listed c.in_ok-next.next _ (g.S.Shelf.told c.check.new.shelf) _ l c.in_ok-recovered.ensures.limit
     (subst (λ xs. IsLeastFree r.shape.next xs c.in_ok-next.next) all c.in_ok-next.ensures.ok) (omega arith) (becomes_then _ _ _ c.in_ok-recovered.ensures.found c.check.ensures.told) c.in_ok-taken.ensures.ok
