@@ -1,5 +1,6 @@
 -- Write-ahead logs beside the tables (LevelDB's `doc/impl.md`, "Log files", and `DBImpl::Recover` of `db/db_impl.cc`).
-use Rattle.std.specs.Prelude.{◌≡◌, ◌⊎◌, ℕ, ◌<◌, ◌≤◌, List, [], ◌∷◌, ◌++◌, codes, decimal, string_bytes}
+use Rattle.std.specs.Prelude.{◌≡◌, ◌⊎◌, ℕ, ◌<◌, ◌≤◌, List, [], ◌∷◌, ◌++◌, codes, decimal, string_bytes, Option}
+use Rattle.std.specs.Io.KnownBytes.{Appends}
 use Rattle.std.specs.List.{flat_map}
 use Rattle.lsm_codec.specs.Lists.{Has}
 use Rattle.lsm_version.specs.Versions.{Levels}
@@ -61,6 +62,10 @@ log_lines line files = flat_map line files
 -- To a text such a line was added for each log among these files that is not read.
 abbrev pub AppendsLogs : (FolderFile → List ℕ) → (log prev : ℕ) → List FolderFile → (old new : List ℕ) → Type 0
 AppendsLogs line log prev files old new = (logs : List FolderFile) × AreThose (IsUnread log prev) files logs × (new ≡ old ++ log_lines line logs)
+
+-- A note was written for each log among these files that is not read.
+abbrev pub WritesNotes : (log prev : ℕ) → List FolderFile → Option (List ℕ) → Option (List ℕ) → Type 0
+WritesNotes log prev files old new = (logs : List FolderFile) × AreThose (IsUnread log prev) files logs × Appends old new (log_lines note_line logs)
 
 -- what `check` prints of a version, of a manifest with so many bytes at its end that hold no whole record and with these log numbers, and
 -- of the files beside it

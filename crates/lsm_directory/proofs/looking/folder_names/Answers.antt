@@ -1,5 +1,5 @@
 use Rattle.lsm_directory.proofs.LookLaws.{list_refused, looks_listed, memory_stopped, names_listed}
-use Rattle.lsm_directory.proofs.looking.names_in.Goals as goal
+use Rattle.lsm_directory.proofs.looking.folder_names.Goals as goal
 
 pub returns-in-Ok-clause-listed : goal.returns-in-Ok-clause-listed
 returns-in-Ok-clause-listed g c = names_listed c.in_order.result _ _ _ c.in-Ok.ensures.noted c.in_order.ensures.same
