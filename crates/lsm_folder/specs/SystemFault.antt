@@ -1,7 +1,7 @@
 -- Why the system refused a call, as a folder takes it (this project's rule).
 use Rattle.std.specs.IoError.{error_kind}
-use Rattle.std_io.specs.declared.io.kind.ErrorKind.{ErrorKind}
-use Rattle.std_io.specs.declared.io.kind.ErrorKind.TheVariants.{Other}
+use Rattle.std.specs.declared.io.ErrorKind.{ErrorKind}
+use Rattle.std.specs.declared.io.ErrorKind.TheVariants.{Other}
 use Rattle.lsm_folder.specs.declared.system_fault.SystemFault.{SystemFault}
 use Rattle.lsm_folder.specs.declared.system_fault.SystemFault.TheVariants.{Unacted, Acted}
 
