@@ -1,5 +1,6 @@
 -- Logs among the files of a folder.
 use Rattle.std.proofs.Common.{◌≡◌, ◌≢◌, ℕ, ◌+◌, ◌-◌, ◌<◌, ◌≤◌, ◌^◌, List, [], ◌∷◌, ◌++◌, Bool, true, false, Option, Some, None, length, get_or, take, drop, drop-cons, add-one, refl, sym, ap, ◌∙◌, subst, append_assoc, append-nil, inl, inr, arith}
+use Rattle.std.specs.Bool.{◌==◌}
 use Rattle.std.specs.Prelude.{MatchBool, string_bytes}
 use Rattle.std.proofs.lemmas.Grind.{flat_map-append}
 use Rattle.std.proofs.lemmas.List.{take-append-drop, take_all, take_more}
@@ -113,6 +114,15 @@ pub none_those : (log prev : ℕ) (files logs : List FolderFile) → NoneUnread 
 none_those log prev [] logs none is = is
 none_those log prev (x ∷ xs) logs none (inl (unread, more)) = absurd (none x (inl refl) unread)
 none_those log prev (x ∷ xs) logs none (inr (other, those)) = none_those log prev xs logs (λ file has. none file (inr has)) those
+
+pub none_text : (line : FolderFile → List ℕ) (log prev : ℕ) (files : List FolderFile) (old new : List ℕ) → NoneUnread log prev files → AppendsLogs line log prev files old new → new ≡ old
+unfolding log_lines
+none_text line log prev files old new none (logs, those, text) =
+    let same : logs ≡ [] = none_those log prev files logs none those in
+    text ∙ ap (λ (l : List FolderFile). old ++ log_lines line l) same ∙ append-nil old
+
+pub not_empty : (answer : Bool) (text : List ℕ) → answer ≡ (length text == 0) → answer ≡ false → text ≡ [] → ⊥
+not_empty answer text is some empty = let none : answer ≡ true = is ∙ ap (λ (t : List ℕ). length t == 0) empty in absurd cc
 
 -- ---- what a check prints
 

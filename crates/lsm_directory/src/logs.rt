@@ -27,8 +27,13 @@ fn number_unread(file: &FolderFile, log: u64, prev_log: u64) -> Option<u64>
         return None;
     }
     match number_before(".log", file.name.as_str()) {
-        Some(number) if is_reached(number, log, prev_log) => Some(number),
-        _ => None,
+        None => None,
+        Some(number) => {
+            if is_reached(number, log, prev_log) {
+                return Some(number);
+            }
+            None
+        }
     }
 }
 

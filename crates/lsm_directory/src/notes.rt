@@ -26,10 +26,11 @@ fn write_notes<E: Write>(
 {
     let mut text = Vec::new(alloc);
     push_logs(&mut text, Wording::Noted, files, log, prev_log)?;
-    if text.is_empty() {
+    let notes = text.as_slice();
+    if notes.is_empty() {
         return Ok(());
     }
-    err.write_all(&text)?;
+    err.write_all(notes)?;
     err.flush()
 }
 
