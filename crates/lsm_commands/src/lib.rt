@@ -33,6 +33,7 @@ mod spelling;
 
 // Words for bytes, in hex or as text.
 mod form;
+mod slip;
 mod text_words;
 
 // What holds of lists.
@@ -48,6 +49,7 @@ pub use key_bounds::KeyBounds;
 pub use laws::{one_list, one_word, printed_list};
 pub use program::{refuse_words, run};
 pub use refusal::Refusal;
+pub use slip::{Slip, slip_in};
 pub use spelling::{push_bytes, push_decimal};
 pub use streams::{InputFault, read_input};
 pub use text_parts::{first_line, parts};
