@@ -36,7 +36,7 @@ one_digit word after c h k = record {
   front = h.front ++ c ∷ [];
   is = h.is ∙ sym (append_assoc h.front (c ∷ []) after);
   begun = All-append (λ (x : ℕ). is_hex_digit x ≡ true) h.front (c ∷ []) h.begun
-  (All-cons (λ (x : ℕ). is_hex_digit x ≡ true) c [] k (All-nil (λ (x : ℕ). is_hex_digit x ≡ true)));
+      (All-cons (λ (x : ℕ). is_hex_digit x ≡ true) c [] k (All-nil (λ (x : ℕ). is_hex_digit x ≡ true)));
 }
 
 pub one_part : (word rest part after : List ℕ) (b : ℕ) → GoesOn Text word rest → rest ≡ part ++ after → IsPart part b → GoesOn Text word after

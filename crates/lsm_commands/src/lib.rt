@@ -14,8 +14,10 @@ mod directory_line;
 mod help;
 mod key_bounds;
 mod options;
+mod pages;
 mod program;
 mod streams;
+mod word_fault;
 
 // The lists of entries that are read.
 mod entry_buffer;
