@@ -81,14 +81,10 @@ fn no_value<'a>(form: Form, name: &str, word: &'a str) -> Option<WordFault<'a>> 
 
 /// The first word that is no KEY of its option or no number of workers.
 fn wrong_value<'a, S: AsStr>(form: Form, words: &'a [S]) -> Option<WordFault<'a>> {
-    let mut rest = words;
-    'words: while let [name, after @ ..] = rest {
-        if let [word, ..] = after {
-            if let Some(fault) = no_value(form, name.as_str(), word.as_str()) {
-                return Some(fault);
-            }
+    for i in 1..words.len() {
+        if let Some(fault) = no_value(form, words[i - 1].as_str(), words[i].as_str()) {
+            return Some(fault);
         }
-        rest = after;
     }
     None
 }
