@@ -145,5 +145,5 @@ pub found_recorded : (honest : Type 0) (limit : ℕ) (h : HeldManifest) (v : Lev
 found_recorded honest limit h v rest next was is f = later rest h v f.shape.next next f.loaded.recorded f.least.0.0
 
 pub found_below : (honest : Type 0) (limit : ℕ) (h : HeldManifest) (v : Levels) (rest next : ℕ) (was is : Told) → IsFound honest limit h v rest next was is → (n : ℕ) → Has (numbers_in v) n → n < next
-found_below honest limit h v next was is f n k = f.least.0.1 n
+found_below honest limit h v rest next was is f n k = f.least.0.1 n
     (has_left (f.listed ++ numbers_in v) (h.number ∷ []) n (has_right f.listed (numbers_in v) n k))
