@@ -3,5 +3,8 @@ mod LineLaws
 mod BatchLaws
 mod OneBatch
 mod Words
+mod NameLaws
 mod Outcomes
+mod Numbers
+mod SpareLaws
 pub mod CallerLemmas

@@ -78,6 +78,12 @@ IsUnremoved name e old new before after =
     ((fault : FolderFault) × (e ≡ of_shelf (device_of fault)) × (new ≡ removed name (Err fault) ∷ old) × Keeps before after)
     ⊎ ((e ≡ WriteFault) × (new ≡ removed name (Ok tt) ∷ old))
 
+-- The file of this name was removed and printed if it is a spare one, and else nothing was asked for.
+abbrev pub Removes : ℕ → List ℕ → List ℕ → List Call → List Call → Option (List ℕ) → Option (List ℕ) → Type 0
+Removes manifest tables name old new before after =
+    (IsSpare manifest tables name × (new ≡ removed name (Ok tt) ∷ old) × Appends before after (name ++ 10 ∷ []))
+    ⊎ ((IsSpare manifest tables name → ⊥) × (new ≡ old) × (after ≡ before))
+
 -- Just the spare ones before this one were removed and printed.
 pub record StopsRemoving (manifest : ℕ) (tables : List ℕ) (names : List (List ℕ)) (e : WriterFault) (old new : List Call) (before after : Option (List ℕ)) : Type 0 where
   pub front : List (List ℕ)

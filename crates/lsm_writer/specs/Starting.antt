@@ -65,9 +65,13 @@ IsUnflushed Refused logs e was is =
 
 -- ---- a start
 
--- A database was opened beside logs that are flushed, or begun.
+-- The database that was there was opened, beside logs that are flushed.
+abbrev pub OpensBeside : Type 0 → List FolderFile → Held → Told → Told → Type 0
+OpensBeside Honest logs h was is = (mid : Told) × IsFlushed logs was mid × IsReopened Honest h mid is
+
+-- It was opened so, or one was begun.
 abbrev pub IsStarted : Type 0 → Start → List FolderFile → Held → Told → Told → Type 0
-IsStarted Honest Open logs h was is = (mid : Told) × IsFlushed logs was mid × IsReopened Honest h mid is
+IsStarted Honest Open logs h was is = OpensBeside Honest logs h was is
 IsStarted Honest (Begin number) logs h was is = IsNew number h was is
 
 -- Why there is no database on the shelf: no number is left; or its refusal, which call that was, and what it counted.
@@ -81,9 +85,13 @@ IsUncreated number Refused e was is =
 abbrev pub IsUnopened : (ℕ → List ℕ → Type 0) → (Asked → ShelfFault → Type 0) → Type 0 → WriterFault → Told → Told → Type 0
 IsUnopened Stored Refused Honest e was is = (fault : OpenFault) × (e ≡ of_open fault) × IsOpenRefusal Stored Refused Honest usual.manifest_limit fault was is × IsReadOnce fault was is
 
+-- Why it was not, with what the logs beside it may have to do with that.
+abbrev pub IsNotOpened : (ℕ → List ℕ → Type 0) → (Asked → ShelfFault → Type 0) → Type 0 → List FolderFile → WriterFault → Told → Told → Type 0
+IsNotOpened Stored Refused Honest logs e was is =
+    IsUnflushed Refused logs e was is ⊎ ((mid : Told) × IsFlushed logs was mid × IsUnopened Stored Refused Honest e mid is)
+
 -- Why there is no such state. `Stored` says which images the shelf gave for which numbers, `Refused` which calls it may refuse with which
 -- faults.
 abbrev pub IsStartRefusal : (ℕ → List ℕ → Type 0) → (Asked → ShelfFault → Type 0) → Type 0 → Start → List FolderFile → WriterFault → Told → Told → Type 0
-IsStartRefusal Stored Refused Honest Open logs e was is =
-    IsUnflushed Refused logs e was is ⊎ ((mid : Told) × IsFlushed logs was mid × IsUnopened Stored Refused Honest e mid is)
+IsStartRefusal Stored Refused Honest Open logs e was is = IsNotOpened Stored Refused Honest logs e was is
 IsStartRefusal Stored Refused Honest (Begin number) logs e was is = IsUncreated number Refused e was is

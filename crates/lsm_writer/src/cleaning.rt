@@ -4,7 +4,7 @@ ghost use Rattle.std.specs.Prelude.{◌≡◌, ◌++◌, ◌∷◌, [], Ok, IfEr
 ghost use Rattle.std.specs.Io.KnownBytes.{Appends};
 ghost use Rattle.lsm_folder.specs.Calls.{AreHonest, removed};
 ghost use Rattle.lsm_shelf.specs.FolderFault.{device_of};
-ghost use Rattle.lsm_writer.specs.Cleaning.{AreRemoved, AreSparesGone, IsCleaned, IsTidied, IsUncleaned, IsUnremoved, IsUntidied, StopsCleaning, StopsRemoving};
+ghost use Rattle.lsm_writer.specs.Cleaning.{AreRemoved, AreSparesGone, IsCleaned, IsTidied, IsSpare, IsUncleaned, IsUnremoved, IsUntidied, Removes, StopsCleaning, StopsRemoving};
 ghost use Rattle.lsm_writer.specs.WriterFault.{of_shelf};
 
 use crate::kept::Kept;
@@ -55,6 +55,27 @@ fn remove_file<C: FolderCalls, R: Wait, O: Write>(
     }
 }
 
+/// Removes the file of this name, if the database does not need it, and writes its line.
+fn remove_spare<C: FolderCalls, R: Wait, O: Write>(
+    rt: &R,
+    folder: &mut C,
+    kept: &Kept,
+    name: &str,
+    out: &mut O,
+) -> Result<(), WriterFault>
+    ensures removed { OnOk result (Removes kept.now.manifest kept.now.tables.items name.now (C.calls folder.old) (C.calls folder.new) (O.contents out.old) (O.contents out.new)) }
+    ensures spare { IfErr result (λ _. IsSpare kept.now.manifest kept.now.tables.items name.now) }
+    ensures refused { IfErr result (λ e. IsUnremoved name.now e (C.calls folder.old) (C.calls folder.new) (O.contents out.old) (O.contents out.new)) }
+{
+    if !kept.spares(name) {
+        return Ok(());
+    }
+    match remove_file(rt, folder, name, out) {
+        Ok(()) => Ok(()),
+        Err(fault) => Err(fault),
+    }
+}
+
 /// Removes the files of those of these names that the database does not need, and writes a line for
 /// each.
 fn remove_spares<C: FolderCalls, R: Wait, O: Write>(
@@ -68,9 +89,7 @@ fn remove_spares<C: FolderCalls, R: Wait, O: Write>(
     ensures refused { IfErr result (λ e. StopsRemoving kept.now.manifest kept.now.tables.items (map string_bytes names.now) e (C.calls folder.old) (C.calls folder.new) (O.contents out.old) (O.contents out.new)) }
 {
     for name in names {
-        if kept.spares(name.as_str()) {
-            remove_file(rt, folder, name.as_str(), out)?;
-        }
+        remove_spare(rt, folder, kept, name.as_str(), out)?;
     }
     Ok(())
 }

@@ -46,6 +46,7 @@ pub use preparing::prepare;
 pub use program::{clean, ingest, run};
 pub use refusals::of_state;
 pub use start::{Prepared, Start};
+pub use telling::explain;
 pub use write_line::write_in;
 pub use writer_fault::WriterFault;
 pub use writing_command::WritingCommand;

@@ -3,7 +3,7 @@
 ghost use Rattle.std.specs.Prelude.{◌≡◌, IfErr, IfOk, OnOk};
 ghost use Rattle.std.specs.Arc.{arc_value};
 ghost use Rattle.lsm_state.specs.Making.{IsNewBoard};
-ghost use Rattle.lsm_writer.specs.Starting.{IsFlushed, IsNew, IsReopened, IsStarted, IsStartRefusal, IsUncreated, IsUnflushed, IsUnopened, usual};
+ghost use Rattle.lsm_writer.specs.Starting.{IsFlushed, IsNew, IsNotOpened, IsReopened, IsStarted, IsStartRefusal, IsUncreated, IsUnflushed, IsUnopened, OpensBeside, usual};
 
 use crate::ends::Ends;
 use crate::start::{Prepared, Start};
@@ -99,6 +99,28 @@ fn reopen<N: Boarded, S: Shelf, R: Wait>(
     }
 }
 
+/// The state of the database that is on the shelf, if none of these logs is one that is not
+/// flushed.
+fn open_beside<N: Boarded, S: Shelf, R: Wait>(
+    rt: &R,
+    alloc: Global,
+    shelf: &mut S,
+    logs: &[FolderFile],
+    ends: Ends<S>,
+) -> Result<State<N, S>, WriterFault>
+    requires here { (S.told shelf.old).place ≡ N.place }
+    requires named { arc_value ends.registry ≡ N.registry }
+    requires board { IsNewBoard N.board usual ends.publisher ends.pinners.items }
+    ensures opened { IfOk result (λ s. OpensBeside S.honest logs.now s (S.told shelf.old) (S.told shelf.new)) }
+    ensures refused { IfErr result (λ e. IsNotOpened (λ number image. (r : S.Receipt) × S.is_of N.place r × (S.Receipt.number r ≡ number) × (S.Receipt.image r ≡ image)) (S.refuses N.place) S.honest logs.now e (S.told shelf.old) (S.told shelf.new)) }
+{
+    refuse_unflushed(rt, alloc, shelf, logs)?;
+    match reopen(rt, alloc, shelf, ends) {
+        Ok(state) => Ok(state),
+        Err(fault) => Err(fault),
+    }
+}
+
 /// The state of a new database on the shelf, or of the one that is there, with the usual options.
 /// One that is there is not opened beside a log that is not flushed, if that was looked at.
 pub(crate) fn start<N: Boarded, S: Shelf, R: Wait>(
@@ -115,10 +137,7 @@ pub(crate) fn start<N: Boarded, S: Shelf, R: Wait>(
     ensures refused { IfErr result (λ e. IsStartRefusal (λ number image. (r : S.Receipt) × S.is_of N.place r × (S.Receipt.number r ≡ number) × (S.Receipt.image r ≡ image)) (S.refuses N.place) S.honest prepared.now.start prepared.now.logs.items e (S.told shelf.old) (S.told shelf.new)) }
 {
     match prepared.start {
-        Start::Open => {
-            refuse_unflushed(rt, alloc, shelf, &prepared.logs)?;
-            reopen(rt, alloc, shelf, ends)
-        }
+        Start::Open => open_beside(rt, alloc, shelf, &prepared.logs, ends),
         Start::Begin(number) => create(rt, alloc, shelf, number, ends),
     }
 }

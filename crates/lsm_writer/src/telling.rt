@@ -74,8 +74,13 @@ fn explain_state<E: Write>(
     }
 }
 
-/// Writes what a fault means, on a line of its own, where there is more to say.
-fn explain<E: Write>(err: &mut E, fault: &WriterFault, writes: &[KeyWrite]) -> io::Result<()> {
+/// Writes what a fault means, on a line of its own, where there is more to say than what the system
+/// answered.
+fn write_meaning<E: Write>(
+    err: &mut E,
+    fault: &WriterFault,
+    writes: &[KeyWrite],
+) -> io::Result<()> {
     match fault {
         WriterFault::Read => writeln!(err, "the file could not be read, or has more than 64 MiB"),
         WriterFault::BadLine(line, Some(slip)) => writeln!(err, "line {line}, {slip}"),
@@ -94,7 +99,7 @@ fn explain<E: Write>(err: &mut E, fault: &WriterFault, writes: &[KeyWrite]) -> i
 }
 
 /// Writes what the system answered, where the refusal may come from that.
-fn explain_refusal<E: Write>(
+fn write_reason_of<E: Write>(
     err: &mut E,
     fault: &WriterFault,
     reasons: &Reasons,
@@ -109,6 +114,30 @@ fn explain_refusal<E: Write>(
     }
 }
 
+/// Writes what a fault means, on lines of its own, where there is more to say.
+fn explain_of<E: Write>(
+    err: &mut E,
+    fault: &WriterFault,
+    circumstances: Circumstances<'_>,
+) -> io::Result<()> {
+    write_meaning(err, fault, circumstances.writes)?;
+    match circumstances.reasons {
+        Some(reasons) => write_reason_of(err, fault, reasons),
+        None => Ok(()),
+    }
+}
+
+/// Writes what a fault means, on lines of its own, where there is more to say: of what the system
+/// answered too, where that was kept. Nothing is flushed.
+pub fn explain<E: Write>(
+    err: &mut E,
+    fault: &WriterFault,
+    reasons: Option<&Reasons>,
+) -> io::Result<()> {
+    let writes = &[];
+    explain_of(err, fault, Circumstances { writes, reasons })
+}
+
 /// Writes the line of a fault, and lines that say what it means; and flushes.
 pub(crate) fn tell<E: Write>(
     err: &mut E,
@@ -116,9 +145,6 @@ pub(crate) fn tell<E: Write>(
     circumstances: Circumstances<'_>,
 ) -> io::Result<()> {
     writeln!(err, "{fault}")?;
-    explain(err, fault, circumstances.writes)?;
-    if let Some(reasons) = circumstances.reasons {
-        explain_refusal(err, fault, reasons)?;
-    }
+    explain_of(err, fault, circumstances)?;
     err.flush()
 }
