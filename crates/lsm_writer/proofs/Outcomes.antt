@@ -27,3 +27,8 @@ keeps_itself (Some xs) = refl
 pub all_keep : {T : Type 0} (r : Result T WriterFault) (x : Option (List ℕ)) → IfErr r (λ e. e ≢ WriteFault → Keeps x x)
 all_keep (Ok v) x = tt
 all_keep (Err e) x = λ n. keeps_itself x
+
+pub is_stopped : {T : Type 0} (r : Result T WriterFault) (status : ℕ) (Says : WriterFault → Type 0) → OnOk r (status ≡ 0) → OnErr r (status ≡ 1) → IfErr r Says → status ≢ 0
+    → (status ≡ 1) × ((fault : WriterFault) × Says fault)
+is_stopped (Ok x) status Says ok err says other = absurd (other ok)
+is_stopped (Err e) status Says ok err says other = (err, (e, says))

@@ -7,7 +7,7 @@ ghost use Rattle.lsm_shelf.specs.FolderFault.{device_of};
 ghost use Rattle.lsm_writer.specs.Cleaning.{AreRemoved, AreSparesGone, IsCleaned, IsTidied, IsSpare, IsUncleaned, IsUnremoved, IsUntidied, Removes, StopsCleaning, StopsRemoving};
 ghost use Rattle.lsm_writer.specs.WriterFault.{of_shelf};
 
-use crate::kept::Kept;
+use crate::kept::{Kept, kept_in};
 use crate::writer_fault::WriterFault;
 use lsm_directory::{folder_names, hold};
 use lsm_folder::{FolderCalls, FolderFault, LockKind};
@@ -126,7 +126,7 @@ where
     ensures cleaned { OnOk result (AreSparesGone (AreHonest C.calls) (C.place folder.old) (C.calls folder.old) (C.calls folder.new) (O.contents out.old) (O.contents out.new)) }
     ensures refused { IfErr result (λ e. StopsCleaning (AreHonest C.calls) (C.place folder.old) e (C.calls folder.old) (C.calls folder.new) (O.contents out.old) (O.contents out.new)) }
 {
-    let kept = Kept::of(rt, alloc, &*folder)?;
+    let kept = kept_in(rt, alloc, &*folder)?;
     tidy(rt, alloc, folder, &kept, out)
 }
 

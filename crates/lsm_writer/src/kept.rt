@@ -5,8 +5,7 @@ ghost use Rattle.std.specs.Arc.{arc_value};
 ghost use Rattle.std.specs.List.Sorted.{IsStrictlyIncreasing};
 ghost use Rattle.lsm_codec.specs.Lists.{Has};
 ghost use Rattle.lsm_folder.specs.Calls.{AreHonest};
-ghost use Rattle.lsm_shelf.specs.Told.{Told, fresh};
-ghost use Rattle.lsm_writer.specs.Cleaning.{IsKept, IsSpare, IsUnkept, IsUnopened};
+ghost use Rattle.lsm_writer.specs.Cleaning.{IsKept, IsSpare, IsUnkept, IsUnopened, Needs};
 
 use crate::writer_fault::WriterFault;
 use lsm_directory::FileKind;
@@ -61,61 +60,62 @@ impl Kept {
             | FileKind::Other => false,
         }
     }
+}
 
-    /// What the database on the shelf needs.
-    fn find<N: Naming, S: Shelf, R: Wait>(
-        rt: &R,
-        alloc: Global,
-        shelf: &mut S,
-        registry: &Arc<Registry<S::Receipt>>,
-    ) -> Result<Kept, WriterFault>
-        requires here { (S.told shelf.old).place ≡ N.place }
-        requires named { arc_value registry.now ≡ N.registry }
-        ensures kept { IfOk result (λ k. IsKept S.honest k.manifest k.tables.items (S.told shelf.old) (S.told shelf.new)) }
-        ensures refused { IfErr result (λ e. IsUnkept (λ number image. (r : S.Receipt) × S.is_of N.place r × (S.Receipt.number r ≡ number) × (S.Receipt.image r ≡ image)) (S.refuses N.place) S.honest e (S.told shelf.old) (S.told shelf.new)) }
-    {
-        // A journal that nothing is sent through has no use for its limit.
-        let found = Found::<N, S>::read(rt, alloc, shelf, registry, u64::MAX)?;
-        let mut numbers = Vec::new(alloc);
-        found.version.push_numbers(&mut numbers)?;
-        let tables = ascending(numbers)?;
-        Ok(Kept {
-            manifest: found.journal.number(),
-            tables,
-        })
-    }
+/// What the database on the shelf needs.
+fn find_kept<N: Naming, S: Shelf, R: Wait>(
+    rt: &R,
+    alloc: Global,
+    shelf: &mut S,
+    registry: Arc<Registry<S::Receipt>>,
+) -> Result<Kept, WriterFault>
+    requires here { (S.told shelf.old).place ≡ N.place }
+    requires named { arc_value registry ≡ N.registry }
+    ensures kept { IfOk result (λ k. IsKept S.honest k.manifest k.tables.items (S.told shelf.old) (S.told shelf.new)) }
+    ensures refused { IfErr result (λ e. IsUnkept (λ number image. (r : S.Receipt) × S.is_of N.place r × (S.Receipt.number r ≡ number) × (S.Receipt.image r ≡ image)) (S.refuses N.place) S.honest e (S.told shelf.old) (S.told shelf.new)) }
+{
+    // A journal that nothing is sent through has no use for its limit.
+    let found = Found::<N, S>::read(rt, alloc, shelf, &registry, u64::MAX)?;
+    let mut numbers = Vec::new(alloc);
+    found.version.push_numbers(&mut numbers)?;
+    let tables = ascending(numbers)?;
+    Ok(Kept {
+        manifest: found.journal.number(),
+        tables,
+    })
+}
 
-    /// The same, with a registry of its own.
-    pub(crate) fn read<S: Shelf, R: Wait>(
-        rt: &R,
-        alloc: Global,
-        shelf: &mut S,
-    ) -> Result<Kept, WriterFault>
-        ensures kept { IfOk result (λ k. IsKept S.honest k.manifest k.tables.items (S.told shelf.old) (S.told shelf.new)) }
-        ensures refused { IfErr result (λ e. IsUnkept (λ number image. (r : S.Receipt) × S.is_of (S.told shelf.old).place r × (S.Receipt.number r ≡ number) × (S.Receipt.image r ≡ image)) (S.refuses (S.told shelf.old).place) S.honest e (S.told shelf.old) (S.told shelf.new)) }
-    {
-        let registry = Arc::new(alloc, Registry::new(alloc)?)?;
-        Kept::find::<Brand, S, R>(rt, alloc, shelf, &registry)
-    }
+/// The same, with a registry of its own.
+fn read_kept<S: Shelf, R: Wait>(
+    rt: &R,
+    alloc: Global,
+    shelf: &mut S,
+) -> Result<Kept, WriterFault>
+    ensures kept { IfOk result (λ k. IsKept S.honest k.manifest k.tables.items (S.told shelf.old) (S.told shelf.new)) }
+    ensures refused { IfErr result (λ e. IsUnkept (λ number image. (r : S.Receipt) × S.is_of (S.told shelf.old).place r × (S.Receipt.number r ≡ number) × (S.Receipt.image r ≡ image)) (S.refuses (S.told shelf.old).place) S.honest e (S.told shelf.old) (S.told shelf.new)) }
+    ensures fault { IfErr result IsUnopened }
+{
+    let registry = Arc::new(alloc, Registry::new(alloc)?)?;
+    find_kept::<Brand, S, R>(rt, alloc, shelf, registry)
+}
 
-    /// What the database in a folder needs. The folder's value is asked for nothing but a fork.
-    pub(crate) fn of<C: FolderCalls + Send + Sync, R: Wait>(
-        rt: &R,
-        alloc: Global,
-        folder: &C,
-    ) -> Result<Kept, WriterFault>
-    where
-        C::Mark: Send + Sync,
-        ensures kept { IfOk result (λ k. (is : Told) × IsKept (AreHonest C.calls) k.manifest k.tables.items (fresh (C.place folder.now)) is) }
-        ensures refused { IfErr result IsUnopened }
-    {
-        let Ok(fork) = folder.fork() else {
-            return Err(WriterFault::OutOfMemory);
-        };
-        let mut shelf = FileShelf::over(fork);
-        match Kept::read(rt, alloc, &mut shelf) {
-            Ok(kept) => Ok(kept),
-            Err(fault) => Err(fault),
-        }
+/// What the database in a folder needs. The folder's value is asked for nothing but a fork.
+pub(crate) fn kept_in<C: FolderCalls + Send + Sync, R: Wait>(
+    rt: &R,
+    alloc: Global,
+    folder: &C,
+) -> Result<Kept, WriterFault>
+where
+    C::Mark: Send + Sync,
+    ensures kept { IfOk result (λ k. Needs (AreHonest C.calls) (C.place folder.now) k.manifest k.tables.items) }
+    ensures fault { IfErr result IsUnopened }
+{
+    let Ok(fork) = folder.fork() else {
+        return Err(WriterFault::OutOfMemory);
+    };
+    let mut shelf = FileShelf::over(fork);
+    match read_kept(rt, alloc, &mut shelf) {
+        Ok(kept) => Ok(kept),
+        Err(fault) => Err(fault),
     }
 }
