@@ -7,8 +7,8 @@ ghost use Rattle.lsm_codec.specs.Lists.{Has};
 ghost use Rattle.lsm_folder.specs.Calls.{AreHonest};
 ghost use Rattle.lsm_writer.specs.Cleaning.{IsKept, IsSpare, IsUnkept, IsUnopened, Needs};
 
+use crate::names::{is_temporary, manifest_in, table_in};
 use crate::writer_fault::WriterFault;
-use lsm_directory::FileKind;
 use lsm_folder::FolderCalls;
 use lsm_journal::Found;
 use lsm_shelf::FileShelf;
@@ -49,16 +49,13 @@ impl Kept {
     pub(crate) fn spares(&self, name: &str) -> bool
         ensures { MatchBool result (IsSpare self.now.manifest self.now.tables.items name.now) (IsSpare self.now.manifest self.now.tables.items name.now → ⊥) }
     {
-        match FileKind::of(name) {
-            FileKind::Manifest(number) => number != self.manifest,
-            FileKind::Temporary(_) => true,
-            FileKind::Table(number) => !is_among(&self.tables, number),
-            FileKind::OldTable(_)
-            | FileKind::Log(_)
-            | FileKind::Current
-            | FileKind::Lock
-            | FileKind::Other => false,
+        if let Some(number) = manifest_in(name) {
+            return number != self.manifest;
         }
+        if let Some(number) = table_in(name) {
+            return !is_among(&self.tables, number);
+        }
+        is_temporary(name)
     }
 }
 

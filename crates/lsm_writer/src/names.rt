@@ -1,6 +1,9 @@
 //! What the names in a folder say of the database there.
 
-ghost use Rattle.std.specs.Prelude.{◌≡◌, ◌++◌, ◌∷◌, [], ◌-◌, ◌^◌, List, ℕ, IfErr, IfNone, IfOk, IfSome, MatchBool, MatchOption, codes, map, max, string_bytes, true};
+ghost use Rattle.std.specs.Prelude.{◌≡◌, ◌≢◌, ◌++◌, ◌∷◌, [], ◌-◌, ◌^◌, List, ℕ, IfErr, IfNone, IfOk, IfSome, MatchBool, MatchOption, codes, map, max, string_bytes, false, true};
+ghost use Rattle.lsm_directory.specs.FileNames.{IsFileName};
+ghost use Rattle.lsm_directory.specs.declared.file_kind.FileKind.{FileKind};
+ghost use Rattle.lsm_directory.specs.declared.file_kind.FileKind.TheVariants.{Other, Table, Temporary};
 ghost use Rattle.lsm_writer.specs.Names.{Among, HasCurrent, IsHighestManifest, IsLeastUnused, IsManifestName, IsNumbered, IsOfDatabase, Leads, LeadsNowhere};
 
 use crate::start::Start;
@@ -26,11 +29,19 @@ fn has_current(names: &[String]) -> bool
     false
 }
 
+/// The file of a database that this name is of.
+fn kind_of(name: &str) -> FileKind
+    ensures known { result ≢ Other → IsFileName name.now result }
+    ensures found { (kind : FileKind) → IsFileName name.now kind → result ≡ kind }
+{
+    FileKind::of(name)
+}
+
 /// Whether a name is a manifest's or a table's.
 fn is_of_database(name: &str) -> bool
     ensures { MatchBool result (IsOfDatabase name.now) (IsOfDatabase name.now → ⊥) }
 {
-    FileKind::of(name).is_of_database()
+    kind_of(name).is_of_database()
 }
 
 /// Whether a manifest or a table is there.
@@ -50,7 +61,7 @@ fn number_in(name: &str) -> Option<u64>
     ensures only { IfSome result (λ n. IsNumbered n name.now) }
     ensures found { (n : ℕ) → IsNumbered n name.now → result ≡ Some n }
 {
-    FileKind::of(name).number()
+    kind_of(name).number()
 }
 
 /// The least number that is unused where a file of this name is added to those among which this one
@@ -80,14 +91,33 @@ fn least_unused(names: &[String]) -> Option<u64>
 }
 
 /// The number of the manifest of this name.
-fn manifest_in(name: &str) -> Option<u64>
+pub(crate) fn manifest_in(name: &str) -> Option<u64>
     ensures only { IfSome result (λ n. IsManifestName n name.now) }
     ensures found { (n : ℕ) → IsManifestName n name.now → result ≡ Some n }
 {
-    match FileKind::of(name) {
+    match kind_of(name) {
         FileKind::Manifest(number) => Some(number),
         _ => None,
     }
+}
+
+/// The number of the table of this name.
+pub(crate) fn table_in(name: &str) -> Option<u64>
+    ensures only { IfSome result (λ n. IsFileName name.now (Table n)) }
+    ensures found { (n : ℕ) → IsFileName name.now (Table n) → result ≡ Some n }
+{
+    match kind_of(name) {
+        FileKind::Table(number) => Some(number),
+        _ => None,
+    }
+}
+
+/// Whether a name is a temporary file's.
+pub(crate) fn is_temporary(name: &str) -> bool
+    ensures yes { result ≡ true → (n : ℕ) × IsFileName name.now (Temporary n) }
+    ensures no { result ≡ false → (n : ℕ) → IsFileName name.now (Temporary n) → ⊥ }
+{
+    matches!(kind_of(name), FileKind::Temporary(_))
 }
 
 /// The higher one of a number, if there is one yet, and another.

@@ -70,5 +70,8 @@ pub fn prepare<C: FolderCalls, R: Wait>(
     ensures place { C.place folder.new ≡ C.place folder.old }
 {
     hold(rt, folder, LockKind::Exclusive)?;
-    look(rt, alloc, folder, options)
+    match look(rt, alloc, folder, options) {
+        Ok(prepared) => Ok(prepared),
+        Err(fault) => Err(fault),
+    }
 }
