@@ -12,7 +12,8 @@ use Rattle.lsm_table.specs.ReadFault.{ReadCounted}
 use Rattle.lsm_table.specs.declared.read_fault.ReadFault.{ReadFault}
 use Rattle.lsm_table.specs.declared.read_fault.ReadFault.TheVariants.{Shelf as ShelfOfRead, Table as TableOfRead}
 use Rattle.lsm_table.proofs.CallerLemmas.{read_counted_later}
-use Rattle.lsm_journal.specs.Finding.{IsFindRefusal}
+use Rattle.lsm_journal.specs.Finding.{IsFindRefusal, IsFound}
+use Rattle.lsm_journal.specs.HeldManifest.{HeldManifest}
 use Rattle.lsm_journal.specs.Recovering.{IsRecoverRefusal}
 use Rattle.lsm_journal.specs.declared.open_fault.OpenFault.{OpenFault}
 use Rattle.lsm_journal.specs.declared.open_fault.OpenFault.TheVariants as open_faults
@@ -211,16 +212,21 @@ reads_refused Stored Refused Honest (open_faults.Recover e) was is r = recover_r
 reads_refused Stored Refused Honest (open_faults.Check e) was is r = inr (r.held.number, r.held.bytes, inl r.told)
 reads_refused Stored Refused Honest open_faults.NumbersSpent was is r = inr (r.held.number, r.held.bytes, inr (r.listed, r.told))
 
-pub reads_held : (Honest : Type 0) (was is : Told) (v : Levels) (rest log prev : ℕ) → Holds Honest was is v rest log prev → OnlyReads was is
-reads_held Honest was is v rest log prev h = inr (h.held.number, h.held.bytes, inr (h.found.listed, h.found.told))
+-- a directory that was found
+pub found_held : (Honest : Type 0) (limit : ℕ) (h : HeldManifest) (v : Levels) (rest next log prev : ℕ) (was is : Told) → IsFound Honest limit h v rest next was is → log ≡ h.log → prev ≡ h.prev_log
+    → Holds Honest was is v rest log prev
+found_held Honest limit h v rest next log prev was is f logs previous = record { held = h; limit = limit; next = next; found = f; logs = sym logs; previous = sym previous }
+
+pub reads_found : (Honest : Type 0) (limit : ℕ) (h : HeldManifest) (v : Levels) (rest next : ℕ) (was is : Told) → IsFound Honest limit h v rest next was is → OnlyReads was is
+reads_found Honest limit h v rest next was is f = inr (h.number, h.bytes, inr (f.listed, f.told))
 
 pub reads_later : (was mid is : Told) → OnlyReads was mid → Becomes mid is → OnlyReads was is
 reads_later was mid is (inl b) c = inl (becomes_then was mid is b c)
-reads_later was mid is (inr (number, (bytes, inl b))) c = inr (number, bytes, inl (becomes_then (finding number bytes was) mid is b c))
-reads_later was mid is (inr (number, (bytes, inr (listed, b)))) c = inr (number, bytes, inr (listed, becomes_then (listing listed (finding number bytes was)) mid is b c))
+reads_later was mid is (inr (number, bytes, inl b)) c = inr (number, bytes, inl (becomes_then (finding number bytes was) mid is b c))
+reads_later was mid is (inr (number, bytes, inr (listed, b))) c = inr (number, bytes, inr (listed, becomes_then (listing listed (finding number bytes was)) mid is b c))
 
 -- the same contents
 pub reads_place : (was is : Told) → OnlyReads was is → is.place ≡ was.place
 reads_place was is (inl b) = b.place
-reads_place was is (inr (number, (bytes, inl b))) = b.place
-reads_place was is (inr (number, (bytes, inr (listed, b)))) = b.place
+reads_place was is (inr (number, bytes, inl b)) = b.place
+reads_place was is (inr (number, bytes, inr (listed, b))) = b.place

@@ -28,7 +28,6 @@ pub struct Opened<N: Naming, S: Shelf> {
 ///
 /// The refusals of `Found::read`: those of `Journal::recover`, then those of `Version::check`, those
 /// of listing the tables, and `NumbersSpent`.
-#[tactic(auto, using(crate::proofs::Outcomes::reads_refused, crate::proofs::Outcomes::reads_found))]
 pub fn open<N: Naming, S: Shelf, R: Wait>(
     rt: &R,
     alloc: Global,
