@@ -1,0 +1,6 @@
+pub mod Disk
+pub mod Crash
+pub mod Versions
+pub mod Known
+pub mod Operations
+pub mod Among
