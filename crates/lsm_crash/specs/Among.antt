@@ -1,11 +1,11 @@
 -- Operations on the manifest among calls of other threads, which put their tables meanwhile.
 use Rattle.std.specs.Prelude.{◌≡◌, ◌⊎◌, ℕ, ◌^◌, ◌<◌, List, [], ◌∷◌, Ok, Err, Option, Some}
 use Rattle.lsm_codec.specs.Lists.{Has}
-use Rattle.lsm_folder.specs.Calls.{Call, opened, made, wrote, appended, synced, folder_synced, renamed, removed, measured, read, loaded, listed}
+use Rattle.lsm_folder.specs.Calls.{Call, opened, made, wrote, appended, synced, folder_synced, renamed, removed, measured, read, loaded, listed, locked}
 use Rattle.lsm_folder.specs.declared.folder_fault.FolderFault.{FolderFault}
 use Rattle.lsm_folder.specs.declared.folder_fault.FolderFault.TheVariants as folder
-use Rattle.lsm_shelf.specs.FileNames.{table_name, manifest_name, temporary_name, current_text}
-use Rattle.lsm_shelf.specs.Plans.{Step as Asked}
+use Rattle.lsm_shelf.specs.FileNames.{table_name, manifest_name, temporary_name}
+use Rattle.lsm_shelf.specs.Plans.{Step as Asked, unnamed_plan}
 use Rattle.lsm_crash.specs.Disk.{Disk, Step, set}
 use Rattle.lsm_crash.specs.Versions.{Tables}
 use Rattle.lsm_crash.specs.Known.{Stands, World, current_name}
@@ -25,6 +25,7 @@ Avoids q (measured name answer) = Unit {0}
 Avoids q (read name image offset len answer) = Unit {0}
 Avoids q (loaded name answer) = Unit {0}
 Avoids q (listed answer) = Unit {0}
+Avoids q (locked name kind answer) = name ≡ q → ⊥
 
 -- A call of another thread, whatever its answer: it touches neither `CURRENT` nor a manifest nor
 -- what becomes `CURRENT`, and no table that is counted on. A call that only reads is one of these.
@@ -52,11 +53,6 @@ DoneAmong tables (s ∷ ss) d e = (m : Disk) × IsGap tables d m × ((mid : Disk
 abbrev pub CutAmong : Tables → List Asked → Disk → Disk → Type 0
 CutAmong tables [] d e = IsGap tables d e
 CutAmong tables (s ∷ ss) d e = (m : Disk) × IsGap tables d m × ((e ≡ m) ⊎ (((fault : FolderFault) × Step m (s (Err fault)) e) ⊎ ((mid : Disk) × Step m (s (Ok tt)) mid × CutAmong tables ss mid e)))
-
--- a new manifest's plan before the call that gives `CURRENT` its new text
-abbrev pub unnamed_plan : (number : ℕ) (bytes : List ℕ) → List Asked
-unnamed_plan number bytes = wrote (manifest_name number) bytes ∷ synced (manifest_name number) ∷ folder_synced
-    ∷ wrote (temporary_name number) (current_text number) ∷ synced (temporary_name number) ∷ []
 
 -- A refusal after which the database goes on: a table was put or not, or removed or not, and is not
 -- counted on; of a record nothing was appended, since memory was refused; of a new manifest a call

@@ -2,7 +2,7 @@
 -- durable, `fsync` of the folder its names; a rename is atomic).
 use Rattle.std.specs.Prelude.{◌≡◌, ◌⊎◌, ℕ, suc, ◌==◌, cond, List, [], ◌∷◌, ◌++◌, length, take, Option, None, Some, Ok, Err}
 use Rattle.std.specs.Str.{bytes_eq}
-use Rattle.lsm_folder.specs.Calls.{Call, opened, made, wrote, appended, synced, folder_synced, renamed, removed, measured, read, loaded, listed}
+use Rattle.lsm_folder.specs.Calls.{Call, opened, made, wrote, appended, synced, folder_synced, renamed, removed, measured, read, loaded, listed, locked}
 use Rattle.lsm_folder.specs.declared.folder_fault.FolderFault.TheVariants as folder
 
 -- which file a name has, if any; files are told apart by numbers
@@ -83,7 +83,7 @@ Shows d name bytes = (i : ℕ) × (d.names name ≡ Some i) × (d.bytes i ≡ by
 
 -- What an answered call left. One that was refused, or was cut by a crash, has acted or not; a
 -- write, with a beginning of its bytes. An append for which memory was refused has not. What is
--- loaded is what the file has now.
+-- loaded is what the file has now. A lock may make its file.
 abbrev pub Step : Disk → Call → Disk → Type 0
 Step d opened e = e ≡ d
 Step d (made name bytes (Ok v)) e = Makes d name bytes e
@@ -105,6 +105,7 @@ Step d (read name image offset len answer) e = e ≡ d
 Step d (loaded name (Ok bytes)) e = (e ≡ d) × Shows d name bytes
 Step d (loaded name (Err f)) e = e ≡ d
 Step d (listed answer) e = e ≡ d
+Step d (locked name kind answer) e = (e ≡ d) ⊎ Makes d name [] e
 
 -- The disk after a list of calls, the newest of which stands first.
 abbrev pub After : Disk → List Call → Disk → Type 0
