@@ -108,11 +108,12 @@ pub record Recovers (known : Known) (found : Found) : Type 0 where
   pub bytes : List ℕ
   pub version : Version
   pub one : Has known.manifests manifest
+  pub small : manifest < 2 ^ 64
   pub good : Has known.versions version
   pub current : found current_name ≡ Some (current_text manifest)
   pub its : found (manifest_name manifest) ≡ Some bytes
   pub comes : ComesTo bytes version
-  pub tables : (number : ℕ) (image : List ℕ) → known.tables number ≡ Some image → found (table_name number) ≡ Some image
+  pub tables : (number : ℕ) (image : List ℕ) → known.tables number ≡ Some image → (number < 2 ^ 64) × (found (table_name number) ≡ Some image)
   pub there : AreThere version known.tables
 
 -- the world that is read from a folder

@@ -40,7 +40,7 @@ pub record MayStart (known : Known) (number : ℕ) (bytes : List ℕ) (version :
 -- what the version does not name, and appends or starts what names only tables that were put.
 abbrev pub Allows : World → Operation → Type 0
 Allows w (Put number image) = (number < 2 ^ 64) × (w.tables number ≡ None)
-Allows w (Remove number) = IsNamed w.version number → ⊥
+Allows w (Remove number) = (number < 2 ^ 64) × (IsNamed w.version number → ⊥)
 Allows w (Append text version) = LeadsTo w.bytes text w.version version × AreThere version w.tables
 Allows w (Start number bytes version) = MayStart (known_of w) number bytes version
 
