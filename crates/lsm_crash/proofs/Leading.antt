@@ -1,9 +1,12 @@
 -- A record behind a manifest, cut anywhere.
 use Rattle.std.proofs.Common.{◌≡◌, ℕ, zero, suc, ◌+◌, ◌-◌, ◌<◌, ◌≤◌, ◌%◌, List, [], ◌∷◌, ◌++◌, length, take, sym, ◌∙◌, ap, subst, inl, inr, arith, ◌⊎◌, length-append}
 use Rattle.std.proofs.lemmas.List.{take_all}
+use Rattle.lsm_manifest.specs.Edit.{IsEdit}
 use Rattle.lsm_manifest.specs.Manifest.{IsManifest}
+use Rattle.lsm_manifest.specs.Shape.{IsShape}
+use Rattle.lsm_manifest.specs.WholeEdit.{whole_edit}
 use Rattle.lsm_manifest.specs.LogWriting.{record_text}
-use Rattle.lsm_manifest.proofs.CallerLemmas.{grown, torn}
+use Rattle.lsm_manifest.proofs.CallerLemmas.{grown, none_spelled, torn, whole_replays}
 use Rattle.lsm_crash.specs.Versions.{ComesTo, LeadsTo, Version}
 use Rattle.lsm_crash.proofs.Standing.{take_past}
 
@@ -39,3 +42,8 @@ leads_cut bytes text old new l k le = elim (less_or (k - length bytes) (length t
       (leads_torn bytes text old new l (k - length bytes) short))
   | inr long ↦ inr (subst (λ x. ComesTo x new) (sym (take_all k (bytes ++ text) (omega (arith, length-append bytes text)))) (leads_whole bytes text old new l))
 ]
+
+-- ---- a manifest's first record
+
+pub whole_comes : (v : Version) (own : List ℕ) → IsShape v → IsEdit own (whole_edit v) → ComesTo (record_text 0 own) v
+whole_comes v own shape spelled = record { edits = whole_edit v ∷ []; rest = 0; manifest = grown [] own [] (whole_edit v) none_spelled spelled; replayed = whole_replays v shape }

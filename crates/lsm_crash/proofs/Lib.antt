@@ -6,3 +6,8 @@ mod Leading
 mod Appending
 mod Tables
 mod Starting
+mod Runs
+mod Calls
+mod Instances
+mod Histories
+mod Asides

@@ -85,3 +85,17 @@ table_manifest a b p e = not_m (padded a) (108 ∷ 100 ∷ 98 ∷ []) (all_digit
 
 pub temporary_manifest : (a b : ℕ) → a < 2 ^ 64 → temporary_name a ≡ manifest_name b → ⊥
 temporary_manifest a b p e = not_m (padded a) (100 ∷ 98 ∷ 116 ∷ 109 ∷ 112 ∷ []) (all_digits-padded a p) (ap first e)
+
+-- the lock file's
+
+pub lock_current : codes "LOCK" ≡ current_name → ⊥
+lock_current e = less_apart (first current_name) (first (codes "LOCK")) 67 76 refl refl (omega arith) (sym (ap first e))
+
+pub lock_manifest : (a : ℕ) → codes "LOCK" ≡ manifest_name a → ⊥
+lock_manifest a e = less_apart (first (codes "LOCK")) (first (manifest_name a)) 76 77 refl refl (omega arith) (ap first e)
+
+pub lock_table : (a : ℕ) → codes "LOCK" ≡ table_name a → ⊥
+lock_table a e = less_apart (last_from 0 (codes "LOCK")) (last_from 0 (table_name a)) 75 98 refl (table_last a) (omega arith) (ap (last_from 0) e)
+
+pub lock_temporary : (a : ℕ) → codes "LOCK" ≡ temporary_name a → ⊥
+lock_temporary a e = less_apart (last_from 0 (codes "LOCK")) (last_from 0 (temporary_name a)) 75 112 refl (temporary_last a) (omega arith) (ap (last_from 0) e)

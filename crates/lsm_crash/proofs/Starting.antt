@@ -34,14 +34,14 @@ module _ (k : Known) (number : ℕ) (bytes : List ℕ) (v : Version) (ok : MaySt
   other_manifest : (d : Disk) → IsHeld d k → (m : ℕ) → Has k.manifests m → M ≡ manifest_name m → ⊥
   other_manifest d i m h e = ok.other (subst (Has k.manifests) (sym (manifests_apart number m ok.small (i.small m h) e)) h)
 
-  clear_m : (d : Disk) (c : Call) → IsHeld d k → ((q : List ℕ) → (M ≡ q → ⊥) → Avoids q c) → IsClear k.manifests k.tables c
+  pub clear_m : (d : Disk) (c : Call) → IsHeld d k → ((q : List ℕ) → (M ≡ q → ⊥) → Avoids q c) → IsClear k.manifests k.tables c
   clear_m d c i avoids = record {
     current = avoids current_name (manifest_current number);
     its = λ m h. avoids (manifest_name m) (other_manifest d i m h);
     others = λ n image is. avoids (table_name n) (λ e. table_manifest n number (i.tables n image is).0 (sym e));
   }
 
-  clear_t : (c : Call) → ((q : List ℕ) → (T ≡ q → ⊥) → Avoids q c) → IsClear k.manifests k.tables c
+  pub clear_t : (c : Call) → ((q : List ℕ) → (T ≡ q → ⊥) → Avoids q c) → IsClear k.manifests k.tables c
   clear_t c avoids = record {
     current = avoids current_name (temporary_current number);
     its = λ m h. avoids (manifest_name m) (temporary_manifest number m ok.small);

@@ -38,7 +38,7 @@ clear_table d w tables number c small below none avoids = record {
   others = λ n image is. avoids (table_name n) (λ e. none_is image (sym none ∙ (ap tables (tables_apart number n small (below n image is) e) ∙ is)));
 }
 
-clear_folder : (manifests : List ℕ) (tables : Tables) (a : Answer) → IsClear manifests tables (folder_synced a)
+pub clear_folder : (manifests : List ℕ) (tables : Tables) (a : Answer) → IsClear manifests tables (folder_synced a)
 clear_folder manifests tables a = record { current = tt; its = λ m h. tt; others = λ n image is. tt }
 
 -- ---- a table more

@@ -4,3 +4,4 @@ pub mod Versions
 pub mod Known
 pub mod Operations
 pub mod Among
+pub mod History

@@ -1,5 +1,5 @@
 -- What a manifest's bytes come to, and how a record leads from one version to the next.
-use Rattle.std.specs.Prelude.{◌≡◌, ℕ, ◌%◌, ◌≤◌, List, [], ◌∷◌, ◌++◌, length, get_or, Option, Some}
+use Rattle.std.specs.Prelude.{◌≡◌, ℕ, ◌%◌, ◌^◌, ◌<◌, ◌≤◌, List, [], ◌∷◌, ◌++◌, length, get_or, Option, Some}
 use Rattle.lsm_codec.specs.Lists.{Has}
 use Rattle.lsm_manifest.specs.Edit.{IsEdit}
 use Rattle.lsm_manifest.specs.EditFit.{Change}
@@ -38,6 +38,10 @@ pub record LeadsTo (bytes text : List ℕ) (old new : Version) : Type 0 where
 -- the images of the tables that are counted on, by number
 abbrev pub Tables : Type 0
 Tables = ℕ → Option (List ℕ)
+
+-- their numbers fit 64 bits
+abbrev pub AreSmall : Tables → Type 0
+AreSmall tables = (number : ℕ) (image : List ℕ) → tables number ≡ Some image → number < 2 ^ 64
 
 -- each file of the version is one of the tables
 abbrev pub AreThere : Version → Tables → Type 0

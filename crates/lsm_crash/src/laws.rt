@@ -1,14 +1,161 @@
-//! Laws.
+//! Laws of what a crash leaves of a database. Each function's contract is one law, or a few that
+//! belong together; its body is empty.
 
-ghost use Rattle.std.specs.Prelude.{◌≡◌};
-ghost use Rattle.lsm_crash.specs.Disk.{Disk};
-ghost use Rattle.lsm_crash.specs.Crash.{IsLeft};
-ghost use Rattle.lsm_crash.specs.Versions.{Version};
-ghost use Rattle.lsm_crash.specs.Known.{Known};
-ghost use Rattle.lsm_crash.specs.Operations.{Allows};
-ghost use Rattle.lsm_crash.specs.Among.{Goes};
+ghost use Rattle.std.specs.Prelude.{◌≡◌, ◌<◌, ◌≤◌, ◌^◌, ◌⊎◌, ◌%◌, ℕ, List, [], ◌∷◌, ◌++◌, length, take, Bool, true, None, Result, Ok, codes};
+ghost use Rattle.lsm_codec.specs.Lists.{Has};
+ghost use Rattle.lsm_folder.specs.Calls.{Answer, Call, made, synced, folder_synced, removed, loaded, locked};
+ghost use Rattle.lsm_folder.specs.declared.folder_fault.FolderFault as folder_fault;
+ghost use Rattle.lsm_folder.specs.declared.lock_kind.LockKind.{LockKind};
+ghost use Rattle.lsm_shelf.specs.FileNames.{table_name, manifest_name, current_text};
+ghost use Rattle.lsm_shelf.specs.Plans.{Step as Asked, Refused, done, start_plan};
+ghost use Rattle.lsm_manifest.specs.Edit.{IsEdit};
+ghost use Rattle.lsm_manifest.specs.LogWriting.{record_text};
+ghost use Rattle.lsm_manifest.specs.Shape.{IsShape};
+ghost use Rattle.lsm_manifest.specs.WholeEdit.{whole_edit};
+ghost use Rattle.lsm_crash.specs.Disk.{After, Disk, Shows, Step, empty_disk};
+ghost use Rattle.lsm_crash.specs.Crash.{Found, IsFresh, IsLeft};
+ghost use Rattle.lsm_crash.specs.Versions.{AreSmall, ComesTo, LeadsTo, Tables, Version};
+ghost use Rattle.lsm_crash.specs.Known.{IsHeld, IsSettled, IsSound, IsVacant, Known, Recovers, Stands, World, current_name, known_of, nothing, world_of};
+ghost use Rattle.lsm_crash.specs.Operations.{Allows, MayStart, Operation, after, either, plan_of, started, starting};
+ghost use Rattle.lsm_crash.specs.Among.{CutAmong, DoneAmong, Event, Goes, IsAside, Spares};
+ghost use Rattle.lsm_crash.specs.History.{History, IsPhase, IsRead, Move, Phase};
 
-/// One.
-pub fn one()
-    ensures { (d : Disk) → d ≡ d }
+/// A crash in any call of an operation, after any run of operations, among calls of other threads:
+/// `CURRENT` names the manifest from before that operation or the one from after it, the whole
+/// records of which come to the version of before or of after, and each table is there, whole.
+pub fn crashes_leave_before_or_after()
+    ensures { (es : List Event) (o : Operation) (d mid e : Disk) (w u : World) (found : Found)
+        → IsSettled d w → Goes w es u d mid
+        → Allows u o → CutAmong (after u o).tables (plan_of u o) mid e → IsLeft e found
+        → Recovers (either u o) found }
+{}
+
+/// After a run of operations, each answered Ok or refused so that the database goes on, all that
+/// it counts on is durable; so it is after one more that was answered Ok.
+pub fn runs_are_durable()
+    ensures run { (es : List Event) (d e : Disk) (w u : World) → IsSettled d w → Goes w es u d e → IsSettled e u }
+    ensures done { (o : Operation) (d e : Disk) (w : World) → IsSettled d w → Allows w o
+        → DoneAmong (after w o).tables (plan_of w o) d e → IsSettled e (after w o) }
+{}
+
+/// What is found after a crash is settled once the folder is used again, so the first law holds of
+/// as many crashes as there are.
+pub fn found_folders_are_settled()
+    ensures settled { (known : Known) (found : Found) (d : Disk) → (r : Recovers known found)
+        → IsFresh found d → IsSettled d (world_of known found r) }
+    ensures vacant { (found : Found) (d : Disk) → found current_name ≡ None → IsFresh found d → IsVacant d }
+{}
+
+/// A table that was made, synced, and the folder synced, stands, whatever other calls came in
+/// between that do not touch it.
+pub fn tables_stand_once_put()
+    ensures { (d d1 d2 d3 d4 d5 : Disk) (name image : List ℕ) (cs more : List Call) → IsSound d
+        → Step d (made name image (Ok tt)) d1 → Spares name cs d1 d2
+        → Step d2 (synced name (Ok tt)) d3 → Spares name more d3 d4
+        → Step d4 (folder_synced (Ok tt)) d5 → Stands d5 name image }
+{}
+
+/// An operation that was refused in any call leaves no more in doubt than a crash there would: so
+/// much is known, and all else that follows may start from that.
+pub fn refused_operations_leave_before_or_after()
+    ensures refused { (o : Operation) (d e : Disk) (w : World) → IsSettled d w → Allows w o
+        → CutAmong (after w o).tables (plan_of w o) d e → IsHeld e (either w o) }
+    ensures settled { (d : Disk) (w : World) → IsSettled d w → IsHeld d (known_of w) }
+{}
+
+/// A manifest that is started over whatever is known, as where a folder is opened again without a
+/// crash after the device failed: once that was answered Ok, it alone is known. Cut or refused in
+/// any call, all is known as before; or `CURRENT` shows the new name, which may be lost.
+pub fn starts_settle_what_is_known()
+    ensures done { (known : Known) (number : ℕ) (bytes : List ℕ) (v : Version) (d e : Disk)
+        → IsHeld d known → MayStart known number bytes v
+        → DoneAmong known.tables (start_plan number bytes) d e → IsSettled e (started known number bytes v) }
+    ensures cut { (known : Known) (number : ℕ) (bytes : List ℕ) (v : Version) (d e : Disk)
+        → IsHeld d known → MayStart known number bytes v
+        → CutAmong known.tables (start_plan number bytes) d e
+        → IsHeld e known ⊎ (IsHeld e (starting known number v) × Shows e current_name (current_text number)) }
+{}
+
+/// What a crash finds is one of what is known.
+pub fn crashes_leave_what_is_known()
+    ensures { (known : Known) (d : Disk) (found : Found) → IsHeld d known → IsLeft d found
+        → ((known.may_miss ≡ true) × (found current_name ≡ None)) ⊎ Recovers known found }
+{}
+
+/// So is what is read without a crash.
+pub fn reads_show_what_is_known()
+    ensures current { (known : Known) (number : ℕ) (d e : Disk) → IsHeld d known → number < 2 ^ 64
+        → Step d (loaded current_name (Ok (current_text number))) e → Has known.manifests number }
+    ensures manifest { (known : Known) (number : ℕ) (bytes : List ℕ) (d mid e : Disk)
+        → IsHeld d known → number < 2 ^ 64
+        → Step d (loaded current_name (Ok (current_text number))) mid
+        → Step mid (loaded (manifest_name number) (Ok bytes)) e
+        → (v : Version) × Has known.versions v × ComesTo bytes v }
+{}
+
+/// Through any history of runs, operations that were cut or refused, crashes, and starts over what
+/// is known, as many of each as one likes, what is known stays true of the disk. So a history may
+/// begin in an empty folder, and whatever it ends with may be followed by a crash.
+pub fn histories_keep_what_is_known()
+    ensures kept { (moves : List Move) (p q : Phase) (d e : Disk) → IsPhase p d → History p moves q d e → IsPhase q e }
+    ensures read { (known : Known) (found : Found) (w : World) → (r : Recovers known found) → IsRead known found w
+        → w ≡ world_of known found r }
+    ensures one { (bytes : List ℕ) (u v : Version) → ComesTo bytes u → ComesTo bytes v → u ≡ v }
+{}
+
+/// The first manifest in a folder without `CURRENT`: a crash in any of its calls leaves no
+/// `CURRENT`, or the new database whole; once it was answered Ok it is durable.
+pub fn a_new_database_is_there_or_not()
+    ensures cut { (number : ℕ) (bytes : List ℕ) (v : Version) (d e : Disk) (found : Found)
+        → IsVacant d → MayStart nothing number bytes v
+        → CutAmong nothing.tables (start_plan number bytes) d e → IsLeft e found
+        → (found current_name ≡ None) ⊎ Recovers (starting nothing number v) found }
+    ensures done { (number : ℕ) (bytes : List ℕ) (v : Version) (d e : Disk)
+        → IsVacant d → MayStart nothing number bytes v
+        → DoneAmong nothing.tables (start_plan number bytes) d e → IsSettled e (started nothing number bytes v) }
+    ensures vacant { (d : Disk) → IsVacant d → IsHeld d nothing }
+{}
+
+/// The record of one edit more leads from one version to the next, wherever it is cut.
+pub fn records_lead()
+    ensures whole { (bytes text : List ℕ) (old new : Version) → LeadsTo bytes text old new → ComesTo (bytes ++ text) new }
+    ensures cut { (bytes text : List ℕ) (old new : Version) → LeadsTo bytes text old new → (k : ℕ) → length bytes ≤ k
+        → ComesTo (take k (bytes ++ text)) old ⊎ ComesTo (take k (bytes ++ text)) new }
+{}
+
+/// The list of calls of a shelf that made a plan, or was refused in it, is the plan done on the
+/// disk, or cut.
+pub fn calls_of_plans()
+    ensures done { (tables : Tables) (plan : List Asked) (calls : List Call) (d e : Disk) → After d (done plan calls) e
+        → (mid : Disk) × After d calls mid × DoneAmong tables plan mid e }
+    ensures refused { (tables : Tables) (plan : List Asked) (fault : folder_fault.FolderFault) (old new : List Call) (d e : Disk)
+        → Refused plan fault old new → After d new e
+        → (mid : Disk) × After d old mid × CutAmong tables plan mid e }
+{}
+
+/// Other threads may make, sync and remove tables that are not counted on, whatever is answered,
+/// and sync the folder and lock it.
+pub fn calls_of_other_threads_are_aside()
+    ensures made { (tables : Tables) (number : ℕ) (image : List ℕ) (answer : Answer) → AreSmall tables → number < 2 ^ 64
+        → tables number ≡ None → IsAside tables (made (table_name number) image answer) }
+    ensures synced { (tables : Tables) (number : ℕ) (answer : Answer) → AreSmall tables → number < 2 ^ 64
+        → tables number ≡ None → IsAside tables (synced (table_name number) answer) }
+    ensures removed { (tables : Tables) (number : ℕ) (answer : Answer) → AreSmall tables → number < 2 ^ 64
+        → tables number ≡ None → IsAside tables (removed (table_name number) answer) }
+    ensures folder { (tables : Tables) (answer : Answer) → IsAside tables (folder_synced answer) }
+    ensures locked { (tables : Tables) (kind : LockKind) (answer : Result Bool folder_fault.FolderFault)
+        → IsAside tables (locked (codes "LOCK") kind answer) }
+{}
+
+/// The laws are not empty: on a disk without files `CURRENT` is not there; on each disk a start can
+/// be answered Ok; and each sound disk may crash, and what is found may be used again.
+pub fn premises_are_met()
+    ensures vacant { IsVacant empty_disk }
+    ensures start { (tables : Tables) (number : ℕ) (bytes : List ℕ) (d : Disk) → (e : Disk) × DoneAmong tables (start_plan number bytes) d e }
+    ensures crash { (d : Disk) → IsSound d → (found : Found) × (e : Disk) × IsLeft d found × IsFresh found e }
+{}
+
+/// The record of the one edit that spells a shape, at the start of a manifest, comes to the shape.
+pub fn whole_manifests_come_to_their_version()
+    ensures { (v : Version) (own : List ℕ) → IsShape v → IsEdit own (whole_edit v) → ComesTo (record_text 0 own) v }
 {}
