@@ -28,14 +28,19 @@ one_version bytes u v a b =
     let same = one_manifest bytes a.edits b.edits a.rest b.rest a.manifest b.manifest in
     one_shape b.edits u v (subst (λ (es : List Change). IsReplayed es u) same.0 a.replayed) b.replayed
 
+abbrev world : ℕ → List ℕ → Version → Tables → World
+world manifest bytes version tables = record { manifest = manifest; bytes = bytes; version = version; tables = tables }
+
+same_world : (a b : ℕ) (x y : List ℕ) (u v : Version) (s t : Tables) → a ≡ b → x ≡ y → u ≡ v → s ≡ t → world a x u s ≡ world b y v t
+same_world a b x y u v s t p q r e = ap (λ z. world z x u s) p ∙ (ap (λ z. world b z u s) q ∙ (ap (λ z. world b y z s) r ∙ ap (λ z. world b y v z) e))
+
 -- what is read is what the crash left
 pub read_is : (known : Known) (found : Found) (r : Recovers known found) (w : World) → IsRead known found w → w ≡ world_of known found r
 read_is known found r w i =
     let number : w.manifest ≡ r.manifest = texts_apart w.manifest r.manifest i.small r.small (text_is (current_text w.manifest) (current_text r.manifest) (sym i.current ∙ r.current)) in
     let bytes : w.bytes ≡ r.bytes = text_is w.bytes r.bytes (sym i.its ∙ (ap (λ m. found (manifest_name m)) number ∙ r.its)) in
     let version : w.version ≡ r.version = one_version r.bytes w.version r.version (subst (λ b. ComesTo b w.version) bytes i.comes) r.comes in
-    let tables : w.tables ≡ known.tables = i.tables in
-    cc
+    same_world w.manifest r.manifest w.bytes r.bytes w.version r.version w.tables known.tables number bytes version i.tables
 
 crashed : (d e : Disk) (known : Known) (found : Found) (w : World) → IsHeld d known → IsLeft d found → IsFresh found e → IsRead known found w → IsSettled e w
 crashed d e known found w h l f i = elim (held_recovers d known found h l) [

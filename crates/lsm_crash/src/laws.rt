@@ -1,20 +1,20 @@
 //! Laws of what a crash leaves of a database. Each function's contract is one law, or a few that
 //! belong together; its body is empty.
 
-ghost use Rattle.std.specs.Prelude.{◌≡◌, ◌<◌, ◌≤◌, ◌^◌, ◌⊎◌, ◌%◌, ℕ, List, [], ◌∷◌, ◌++◌, length, take, Bool, true, None, Result, Ok, codes};
+ghost use Rattle.std.specs.Prelude.{◌≡◌, ◌<◌, ◌≤◌, ◌^◌, ◌⊎◌, ◌%◌, ℕ, List, [], ◌∷◌, ◌++◌, length, take, Bool, true, Some, None, Result, Ok, codes};
 ghost use Rattle.lsm_codec.specs.Lists.{Has};
-ghost use Rattle.lsm_folder.specs.Calls.{Answer, Call, made, synced, folder_synced, removed, loaded, locked};
+ghost use Rattle.lsm_folder.specs.Calls.{Answer, Call, made, wrote, appended, synced, folder_synced, removed, loaded, locked};
 ghost use Rattle.lsm_folder.specs.declared.folder_fault.FolderFault as folder_fault;
 ghost use Rattle.lsm_folder.specs.declared.lock_kind.LockKind.{LockKind};
 ghost use Rattle.lsm_shelf.specs.FileNames.{table_name, manifest_name, current_text};
-ghost use Rattle.lsm_shelf.specs.Plans.{Step as Asked, Refused, done, start_plan};
+ghost use Rattle.lsm_shelf.specs.Plans.{Step as Asked, Refused, append_plan, done, name_plan, put_plan, remove_plan, start_plan};
 ghost use Rattle.lsm_manifest.specs.Edit.{IsEdit};
 ghost use Rattle.lsm_manifest.specs.LogWriting.{record_text};
 ghost use Rattle.lsm_manifest.specs.Shape.{IsShape};
 ghost use Rattle.lsm_manifest.specs.WholeEdit.{whole_edit};
 ghost use Rattle.lsm_crash.specs.Disk.{After, Disk, Shows, Step, empty_disk};
 ghost use Rattle.lsm_crash.specs.Crash.{Found, IsFresh, IsLeft};
-ghost use Rattle.lsm_crash.specs.Versions.{AreSmall, ComesTo, LeadsTo, Tables, Version};
+ghost use Rattle.lsm_crash.specs.Versions.{AreSmall, ComesTo, IsNamed, LeadsTo, Tables, Version};
 ghost use Rattle.lsm_crash.specs.Known.{IsHeld, IsSettled, IsSound, IsVacant, Known, Recovers, Stands, World, current_name, known_of, nothing, world_of};
 ghost use Rattle.lsm_crash.specs.Operations.{Allows, MayStart, Operation, after, either, plan_of, started, starting};
 ghost use Rattle.lsm_crash.specs.Among.{CutAmong, DoneAmong, Event, Goes, IsAside, Spares};
@@ -147,12 +147,42 @@ pub fn calls_of_other_threads_are_aside()
         → IsAside tables (locked (codes "LOCK") kind answer) }
 {}
 
-/// The laws are not empty: on a disk without files `CURRENT` is not there; on each disk a start can
-/// be answered Ok; and each sound disk may crash, and what is found may be used again.
+/// The laws are not empty: on a disk without files `CURRENT` is not there; each plan can be answered
+/// Ok; where no file has the table's name, one is put; some disk is settled; and each sound disk may
+/// crash, and what is found may be used again.
 pub fn premises_are_met()
     ensures vacant { IsVacant empty_disk }
-    ensures start { (tables : Tables) (number : ℕ) (bytes : List ℕ) (d : Disk) → (e : Disk) × DoneAmong tables (start_plan number bytes) d e }
+    ensures start { (tables : Tables) (number : ℕ) (bytes : List ℕ) (d : Disk)
+        → (e : Disk) × DoneAmong tables (start_plan number bytes) d e }
+    ensures put { (tables : Tables) (number : ℕ) (image : List ℕ) (d : Disk) → d.names (table_name number) ≡ None
+        → (e : Disk) × DoneAmong tables (put_plan number image) d e }
+    ensures append { (tables : Tables) (number : ℕ) (text : List ℕ) (d : Disk) (i : ℕ) → d.names (manifest_name number) ≡ Some i
+        → (e : Disk) × DoneAmong tables (append_plan number text) d e }
+    ensures remove { (tables : Tables) (number : ℕ) (d : Disk)
+        → (e : Disk) × DoneAmong tables (remove_plan number) d e }
+    ensures settled { (v : Version) (own : List ℕ) → IsShape v → IsEdit own (whole_edit v) → ((number : ℕ) → IsNamed v number → ⊥)
+        → (d : Disk) × IsSettled d (started nothing 1 (record_text 0 own) v) }
     ensures crash { (d : Disk) → IsSound d → (found : Found) × (e : Disk) × IsLeft d found × IsFresh found e }
+{}
+
+/// Other orders are not safe, so the laws say something of these: a table that is not synced may be
+/// found empty, and where the folder is not synced, not at all; a record that is not synced may be
+/// lost; and where a manifest gets its name before it is synced, `CURRENT` may name an empty one.
+pub fn other_orders_lose()
+    ensures table { (tables : Tables) (number : ℕ) (image : List ℕ) (d : Disk) → d.names (table_name number) ≡ None
+        → (e : Disk) × (found : Found) × DoneAmong tables (made (table_name number) image ∷ folder_synced ∷ []) d e
+        × IsLeft e found × (found (table_name number) ≡ Some []) }
+    ensures name { (tables : Tables) (number : ℕ) (image : List ℕ)
+        → (e : Disk) × (found : Found)
+        × DoneAmong tables (made (table_name number) image ∷ synced (table_name number) ∷ []) empty_disk e
+        × IsLeft e found × (found (table_name number) ≡ None) }
+    ensures unsynced { (tables : Tables) (w : World) (text : List ℕ) (d : Disk) → IsSettled d w
+        → (e : Disk) × (found : Found) × DoneAmong tables (appended (manifest_name w.manifest) text ∷ []) d e
+        × IsLeft e found × (found (manifest_name w.manifest) ≡ Some w.bytes) }
+    ensures manifest { (tables : Tables) (number : ℕ) (bytes : List ℕ) (d : Disk) → IsSound d → number < 2 ^ 64
+        → (e : Disk) × (found : Found)
+        × DoneAmong tables (wrote (manifest_name number) bytes ∷ folder_synced ∷ name_plan number) d e
+        × IsLeft e found × (found current_name ≡ Some (current_text number)) × (found (manifest_name number) ≡ Some []) }
 {}
 
 /// The record of the one edit that spells a shape, at the start of a manifest, comes to the shape.
