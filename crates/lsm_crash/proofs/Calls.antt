@@ -15,7 +15,7 @@ use Rattle.lsm_crash.proofs.Disks.{some_is, none_is}
 use Rattle.lsm_crash.proofs.Standing.{sure}
 use Rattle.lsm_crash.proofs.Names.{texts_apart}
 
-no_gap : (tables : Tables) (d : Disk) → IsGap tables d d
+pub no_gap : (tables : Tables) (d : Disk) → IsGap tables d d
 no_gap tables d = ([], refl)
 
 pub done_after : (tables : Tables) (ss : List Asked) (calls : List Call) (d e : Disk) → After d (done ss calls) e → (mid : Disk) × After d calls mid × DoneAmong tables ss mid e

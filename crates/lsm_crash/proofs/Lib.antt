@@ -11,3 +11,4 @@ mod Calls
 mod Instances
 mod Histories
 mod Asides
+mod Shelves

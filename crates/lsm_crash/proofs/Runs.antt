@@ -59,7 +59,7 @@ fails_settled d e w (Start number bytes v) i ok h = clear_cut w (unnamed_plan nu
 
 -- ---- cut anywhere
 
-cut_start : (d : Disk) (w : World) (number : ℕ) (bytes : List ℕ) (v : Version) → Allows w (Start number bytes v) → IsHeld d (known_of w) → IsHeld d (either w (Start number bytes v))
+pub cut_start : (d : Disk) (w : World) (number : ℕ) (bytes : List ℕ) (v : Version) → Allows w (Start number bytes v) → IsHeld d (known_of w) → IsHeld d (either w (Start number bytes v))
 cut_start d w number bytes v ok i = held_wider d (known_of w) (either w (Start number bytes v)) record {
   may_miss = λ e. e;
   manifests = only w.manifest (Has (number ∷ w.manifest ∷ [])) (inr (inl refl));

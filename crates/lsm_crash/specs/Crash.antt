@@ -1,5 +1,6 @@
--- What a crash may leave of a disk. POSIX allows no more: each name for itself, so a rename may be
--- lost in half, and names may come back in any mixture.
+-- What a crash may leave of a disk (this project's rule). Each name for itself, so a rename may be
+-- lost in half, and names may come back in any mixture; of bytes that are not durable any beginning.
+-- That what stands behind the durable bytes is such a beginning, and no other bytes, is a premise.
 use Rattle.std.specs.Prelude.{◌≡◌, ℕ, ◌<◌, ◌≤◌, List, [], ◌∷◌, length, take, Option, None, Some}
 use Rattle.lsm_codec.specs.Lists.{Has}
 use Rattle.lsm_crash.specs.Disk.{Disk, Names}

@@ -111,3 +111,7 @@ Step d (locked name kind answer) e = (e ≡ d) ⊎ Makes d name [] e
 abbrev pub After : Disk → List Call → Disk → Type 0
 After d [] e = e ≡ d
 After d (c ∷ cs) e = (mid : Disk) × After d cs mid × Step mid c e
+
+-- P holds of each disk that the calls may leave
+abbrev pub Leaves : Disk → List Call → (Disk → Type 0) → Type 0
+Leaves d calls P = (e : Disk) → After d calls e → P e

@@ -7,16 +7,18 @@ ghost use Rattle.lsm_folder.specs.Calls.{Answer, Call, made, wrote, appended, sy
 ghost use Rattle.lsm_folder.specs.declared.folder_fault.FolderFault as folder_fault;
 ghost use Rattle.lsm_folder.specs.declared.lock_kind.LockKind.{LockKind};
 ghost use Rattle.lsm_shelf.specs.FileNames.{table_name, manifest_name, current_text};
-ghost use Rattle.lsm_shelf.specs.Plans.{Step as Asked, Refused, append_plan, done, name_plan, put_plan, remove_plan, start_plan};
+ghost use Rattle.lsm_shelf.specs.Plans.{Step as Asked, AppendStopped, PutStopped, Refused, RemoveStopped, StartStopped, StartedFrom, append_plan, done, manifest_measured, name_plan, put_plan, remove_plan, start_plan};
+ghost use Rattle.lsm_shelf.specs.declared.shelf_fault.ShelfFault.{ShelfFault};
+ghost use Rattle.lsm_shelf.specs.declared.shelf_fault.ShelfFault.TheVariants.{OutOfMemory};
 ghost use Rattle.lsm_manifest.specs.Edit.{IsEdit};
 ghost use Rattle.lsm_manifest.specs.LogWriting.{record_text};
 ghost use Rattle.lsm_manifest.specs.Shape.{IsShape};
 ghost use Rattle.lsm_manifest.specs.WholeEdit.{whole_edit};
-ghost use Rattle.lsm_crash.specs.Disk.{After, Disk, Shows, Step, empty_disk};
+ghost use Rattle.lsm_crash.specs.Disk.{After, Disk, Leaves, Shows, Step, empty_disk};
 ghost use Rattle.lsm_crash.specs.Crash.{Found, IsFresh, IsLeft};
 ghost use Rattle.lsm_crash.specs.Versions.{AreSmall, ComesTo, IsNamed, LeadsTo, Tables, Version};
 ghost use Rattle.lsm_crash.specs.Known.{IsHeld, IsSettled, IsSound, IsVacant, Known, Recovers, Stands, World, current_name, known_of, nothing, world_of};
-ghost use Rattle.lsm_crash.specs.Operations.{Allows, MayStart, Operation, after, either, plan_of, started, starting};
+ghost use Rattle.lsm_crash.specs.Operations.{Allows, Append, MayStart, Operation, Put, Remove, Start, after, either, plan_of, started, starting};
 ghost use Rattle.lsm_crash.specs.Among.{CutAmong, DoneAmong, Event, Goes, IsAside, Spares};
 ghost use Rattle.lsm_crash.specs.History.{History, IsPhase, IsRead, Move, Phase};
 
@@ -131,6 +133,54 @@ pub fn calls_of_plans()
     ensures refused { (tables : Tables) (plan : List Asked) (fault : folder_fault.FolderFault) (old new : List Call) (d e : Disk)
         → Refused plan fault old new → After d new e
         → (mid : Disk) × After d old mid × CutAmong tables plan mid e }
+{}
+
+/// What a shelf's calls leave that were answered Ok, by the shelf's own words: where all that is
+/// counted on was durable after the calls so far, so it is after these. The manifest that an append
+/// goes to is the one that the database means, as `CURRENT` was read.
+pub fn answered_calls_of_a_shelf_are_durable()
+    ensures put { (d : Disk) (old : List Call) (w : World) (number : ℕ) (image : List ℕ)
+        → Leaves d old (λ e. IsSettled e w) → Allows w (Put number image)
+        → Leaves d (done (put_plan number image) old) (λ e. IsSettled e (after w (Put number image))) }
+    ensures removed { (d : Disk) (old : List Call) (w : World) (number : ℕ)
+        → Leaves d old (λ e. IsSettled e w) → Allows w (Remove number)
+        → Leaves d (done (remove_plan number) old) (λ e. IsSettled e (after w (Remove number))) }
+    ensures appended { (d : Disk) (old : List Call) (w : World) (n len : ℕ) (text : List ℕ) (v : Version)
+        → Leaves d old (λ e. IsSettled e w) → Allows w (Append text v)
+        → Leaves d (done (append_plan n text) (manifest_measured n len old)) (λ e. IsSettled e (after w (Append text v))) }
+    ensures started { (d : Disk) (old new : List Call) (w : World) (number : ℕ) (bytes : List ℕ) (v : Version)
+        → Leaves d old (λ e. IsSettled e w) → Allows w (Start number bytes v) → StartedFrom number bytes old new
+        → Leaves d new (λ e. IsSettled e (after w (Start number bytes v))) }
+{}
+
+/// What a shelf's calls leave that were refused, by the shelf's own words. A table that was not put
+/// or not removed changes nothing that is counted on, nor does want of memory in an append or a
+/// start. Any other refusal of these, and a crash in any call of a plan, leaves the version of
+/// before or the one of after.
+pub fn refused_calls_of_a_shelf_leave_before_or_after()
+    ensures put { (d : Disk) (old new : List Call) (w : World) (number : ℕ) (image : List ℕ) (fault : ShelfFault)
+        → Leaves d old (λ e. IsSettled e w) → Allows w (Put number image) → PutStopped number image fault old new
+        → Leaves d new (λ e. IsSettled e w) }
+    ensures removed { (d : Disk) (old new : List Call) (w : World) (number : ℕ) (fault : ShelfFault)
+        → Leaves d old (λ e. IsSettled e w) → Allows w (Remove number) → RemoveStopped number fault old new
+        → Leaves d new (λ e. IsSettled e (after w (Remove number))) }
+    ensures appended { (d : Disk) (old new : List Call) (w : World) (text : List ℕ) (v : Version) (fault : ShelfFault)
+        → Leaves d old (λ e. IsSettled e w) → Allows w (Append text v) → AppendStopped text fault old new
+        → Leaves d new (λ e. IsHeld e (either w (Append text v))) }
+    ensures append_memory { (d : Disk) (old new : List Call) (w : World) (text : List ℕ) (v : Version)
+        → Leaves d old (λ e. IsSettled e w) → Allows w (Append text v) → AppendStopped text OutOfMemory old new
+        → Leaves d new (λ e. IsSettled e w) }
+    ensures started { (d : Disk) (old new : List Call) (w : World) (number : ℕ) (bytes : List ℕ) (v : Version) (fault : ShelfFault)
+        → Leaves d old (λ e. IsSettled e w) → Allows w (Start number bytes v) → StartStopped number bytes fault old new
+        → Leaves d new (λ e. IsHeld e (either w (Start number bytes v))) }
+    ensures start_memory { (d : Disk) (old new : List Call) (w : World) (number : ℕ) (bytes : List ℕ) (v : Version)
+        → Leaves d old (λ e. IsSettled e w) → Allows w (Start number bytes v) → StartStopped number bytes OutOfMemory old new
+        → Leaves d new (λ e. IsSettled e w) }
+    ensures cut { (d : Disk) (old new : List Call) (w : World) (o : Operation) (fault : folder_fault.FolderFault)
+        → Leaves d old (λ e. IsSettled e w) → Allows w o → Refused (plan_of w o) fault old new
+        → Leaves d new (λ e. IsHeld e (either w o)) }
+    ensures read { (d : Disk) (old : List Call) (w : World) (name : List ℕ) (answer : Result (List ℕ) folder_fault.FolderFault)
+        → Leaves d old (λ e. IsSettled e w) → Leaves d (loaded name answer ∷ old) (λ e. IsSettled e w) }
 {}
 
 /// Other threads may make, sync and remove tables that are not counted on, whatever is answered,
