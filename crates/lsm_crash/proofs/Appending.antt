@@ -3,14 +3,13 @@ use Rattle.std.proofs.Common.{◌≡◌, ℕ, ◌≤◌, ◌<◌, ◌^◌, List,
 use Rattle.std.specs.Prelude.{Ok, Err}
 use Rattle.lsm_codec.specs.Lists.{Has}
 use Rattle.lsm_folder.specs.Calls.{Answer, appended, synced}
-use Rattle.lsm_folder.specs.declared.folder_fault.FolderFault.TheVariants as folder
 use Rattle.lsm_shelf.specs.FileNames.{manifest_name, current_text, table_name}
 use Rattle.lsm_shelf.specs.Plans.{append_plan}
 use Rattle.lsm_crash.specs.Disk.{Disk, Step, Appends, Syncs}
 use Rattle.lsm_crash.specs.Versions.{AreThere, ComesTo, Version}
 use Rattle.lsm_crash.specs.Known.{AllStand, Holds, Is, IsHeld, IsSettled, IsSound, NamesOne, Stands, Tells, World, current_name, known_of}
 use Rattle.lsm_crash.specs.Operations.{Allows, Append, after, either}
-use Rattle.lsm_crash.specs.Among.{DoneAmong, CutAmong, FailsAmong, IsAside, IsGap}
+use Rattle.lsm_crash.specs.Among.{DoneAmong, CutAmong, FailsAmong, IsGap}
 use Rattle.lsm_crash.proofs.Names.{manifest_current, table_manifest}
 use Rattle.lsm_crash.proofs.Disks.{step_sound, step_holds}
 use Rattle.lsm_crash.proofs.Standing.{IsGrown, stands_step, holds_grown, holds_durable, cut_text, weaken}

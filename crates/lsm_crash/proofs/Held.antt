@@ -3,10 +3,10 @@ use Rattle.std.proofs.Common.{◌≡◌, ℕ, ◌<◌, ◌≤◌, ◌^◌, List,
 use Rattle.std.specs.Prelude.{Option, Ok, Err}
 use Rattle.std.proofs.lemmas.List.{take_all}
 use Rattle.lsm_codec.specs.Lists.{Has}
-use Rattle.lsm_folder.specs.Calls.{Call, folder_synced}
+use Rattle.lsm_folder.specs.Calls.{Call}
 use Rattle.lsm_shelf.specs.FileNames.{table_name, manifest_name, current_text}
 use Rattle.lsm_crash.specs.Disk.{Disk, Step}
-use Rattle.lsm_crash.specs.Crash.{Found, IsLeft, IsFileLeft, IsFresh, May}
+use Rattle.lsm_crash.specs.Crash.{Found, IsLeft, IsFileLeft, IsFresh}
 use Rattle.lsm_crash.specs.Versions.{AreThere, ComesTo, Tables, Version}
 use Rattle.lsm_crash.specs.Known.{AllStand, Holds, Is, IsFile, IsHeld, IsSettled, IsSound, IsVacant, Known, NamesOne, Recovers, Stands, Tells, World, current_name, known_of, nothing, world_of}
 use Rattle.lsm_crash.specs.Among.{Avoids, IsAside, Gap, IsGap}

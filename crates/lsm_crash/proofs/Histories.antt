@@ -1,16 +1,15 @@
 -- What is known stays true through every history.
-use Rattle.std.proofs.Common.{◌≡◌, ℕ, ◌<◌, ◌^◌, List, [], ◌∷◌, refl, sym, ◌∙◌, ap, subst, inl, inr, ◌⊎◌, Some, None}
-use Rattle.lsm_codec.specs.Lists.{Has}
+use Rattle.std.proofs.Common.{◌≡◌, ℕ, ◌<◌, ◌^◌, List, [], ◌∷◌, sym, ◌∙◌, ap, subst, inl, inr, Some, None}
 use Rattle.lsm_manifest.specs.EditFit.{Change}
 use Rattle.lsm_manifest.specs.Shape.{IsReplayed}
 use Rattle.lsm_manifest.proofs.CallerLemmas.{one_manifest, one_shape}
 use Rattle.lsm_shelf.specs.FileNames.{manifest_name, current_text}
-use Rattle.lsm_crash.specs.Disk.{Disk, Shows}
+use Rattle.lsm_crash.specs.Disk.{Disk}
 use Rattle.lsm_crash.specs.Crash.{Found, IsFresh, IsLeft}
 use Rattle.lsm_crash.specs.Versions.{AreThere, ComesTo, Tables, Version}
-use Rattle.lsm_crash.specs.Known.{IsHeld, IsSettled, Known, Recovers, World, current_name, world_of}
+use Rattle.lsm_crash.specs.Known.{IsHeld, IsSettled, Known, Recovers, World, world_of}
 use Rattle.lsm_crash.specs.Operations.{MayStart, starting}
-use Rattle.lsm_crash.specs.History.{Breaks, Crashes, Empties, History, IsPhase, IsRead, Move, Passes, Phase, Rests, Runs, Starts, Stops, StopsUnseen, Sure, Unsure, before, behind}
+use Rattle.lsm_crash.specs.History.{Breaks, Crashes, Empties, History, IsPhase, IsRead, Move, Passes, Phase, Rests, Runs, Starts, Stops, StopsUnseen, before, behind}
 use Rattle.lsm_crash.proofs.Names.{texts_apart}
 use Rattle.lsm_crash.proofs.Held.{fresh_settled, fresh_vacant, held_recovers, held_wider, settled_held, vacant_held}
 use Rattle.lsm_crash.proofs.Starting.{start_cut, start_done}

@@ -1,5 +1,5 @@
 -- What meets the laws' premises, and what wrong orders lose.
-use Rattle.std.proofs.Common.{◌≡◌, ℕ, zero, suc, ◌+◌, ◌<◌, ◌≤◌, ◌^◌, List, [], ◌∷◌, ◌++◌, length, take, refl, sym, ◌∙◌, ap, inl, inr, arith, Some, None, false}
+use Rattle.std.proofs.Common.{◌≡◌, ℕ, ◌+◌, ◌<◌, ◌^◌, List, [], ◌∷◌, ◌++◌, length, take, refl, sym, ◌∙◌, ap, inl, inr, arith, Some, None}
 use Rattle.std.specs.Prelude.{Option, Ok}
 use Rattle.std.proofs.lemmas.List.{take_all}
 use Rattle.lsm_codec.specs.Lists.{Has}
@@ -72,14 +72,18 @@ shown_some d (Some i) bytes e = let h : d.bytes i ≡ bytes = cc in (i, refl, h,
 
 pub crash_can : (d : Disk) → IsSound d → (found : Found) × (e : Disk) × IsLeft d found × IsFresh found e
 crash_can d s =
-    let e : Disk = record d { kept = λ i. length (d.bytes i); past = d.names ∷ [] } in
-    (λ name. shown d (d.names name), e, record { each = λ name. (d.names name, (d.names, s.now, refl), shown_left d (d.names name)) }, record {
-      none = λ name h. shown_none d (d.names name) h;
-      some = λ name bytes h. shown_some d (d.names name) bytes h;
-      only = refl;
-      below = s.below;
-      one = s.one;
-    })
+    let e : Disk = record d { kept = λ i. length (d.bytes i); past = d.names ∷ [] } in (
+      λ name. shown d (d.names name),
+      e,
+      record { each = λ name. (d.names name, (d.names, s.now, refl), shown_left d (d.names name)) },
+      record {
+        none = λ name h. shown_none d (d.names name) h;
+        some = λ name bytes h. shown_some d (d.names name) bytes h;
+        only = refl;
+        below = s.below;
+        one = s.one;
+      },
+    )
 
 -- ---- operations that can be done
 
@@ -149,8 +153,7 @@ name_unsynced tables number image =
     let Q = table_name number in
     let d1 = with_file Q image empty_disk in
     let a1 = at_makes empty_disk d1 Q image (refl, refl) in
-    let d2 = filled a1.0 (d1.bytes a1.0) (length (d1.bytes a1.0)) d1 in
-    (
+    let d2 = filled a1.0 (d1.bytes a1.0) (length (d1.bytes a1.0)) d1 in (
       d2,
       λ name. None,
       (empty_disk, no_gap tables empty_disk, (d1, (refl, refl), (d1, no_gap tables d1, (d2, (a1.0, a1.1.names, refl), no_gap tables d2)))),
@@ -169,8 +172,7 @@ append_unsynced tables w text d s =
       names = h.1;
       bytes_are = set_at d.bytes i (d.bytes i ++ text) ∙ ap (λ b. b ++ text) h.4.1;
       kept_is = set_at d.kept i (d.kept i) ∙ h.4.2;
-    } in
-    (
+    } in (
       d1,
       least_of d1,
       (d, no_gap tables d, (d1, (i, h.1, refl), no_gap tables d1)),
@@ -212,8 +214,7 @@ manifest_unsynced tables number bytes d s small =
     let m5 = at_step d4 d5 (renamed T current_name (Ok tt)) M a1.0 bytes 0 s4 (apart, λ e. manifest_current number (sym e)) h5 m4 in
     let d6 : Disk = record d5 { past = d5.names ∷ [] } in
     let c6 = at_step d5 d6 (folder_synced (Ok tt)) current_name a3.0 text (length text) s5 tt refl c5 in
-    let m6 = at_step d5 d6 (folder_synced (Ok tt)) M a1.0 bytes 0 s5 tt refl m5 in
-    (
+    let m6 = at_step d5 d6 (folder_synced (Ok tt)) M a1.0 bytes 0 s5 tt refl m5 in (
       d6,
       least_of d6,
       (d, no_gap tables d, (d1, inl refl, (d1, no_gap tables d1, (d2, refl, (d2, no_gap tables d2, (d3, inl refl, (d3, no_gap tables d3, (d4, h4, (d4, no_gap tables d4, (d5, h5, (d5, no_gap tables d5, (d6, refl, no_gap tables d6)))))))))))),

@@ -1,16 +1,16 @@
 -- Operations one after another, among calls of other threads.
-use Rattle.std.proofs.Common.{◌≡◌, ℕ, ◌<◌, ◌^◌, List, [], ◌∷◌, refl, sym, subst, inl, inr, ◌⊎◌, Some, None, false}
+use Rattle.std.proofs.Common.{◌≡◌, ℕ, ◌<◌, ◌^◌, List, [], ◌∷◌, refl, sym, subst, inl, inr, ◌⊎◌, None}
 use Rattle.std.specs.Prelude.{Ok, Err}
 use Rattle.lsm_codec.specs.Lists.{Has}
-use Rattle.lsm_folder.specs.Calls.{Answer, wrote, synced, folder_synced}
+use Rattle.lsm_folder.specs.Calls.{Answer, wrote, synced}
 use Rattle.lsm_shelf.specs.FileNames.{manifest_name, temporary_name, current_text}
 use Rattle.lsm_shelf.specs.Plans.{Step as Asked, start_plan, unnamed_plan}
-use Rattle.lsm_crash.specs.Disk.{Disk, Step}
+use Rattle.lsm_crash.specs.Disk.{Disk}
 use Rattle.lsm_crash.specs.Crash.{Found, IsLeft}
-use Rattle.lsm_crash.specs.Versions.{AreThere, Tables, Version}
-use Rattle.lsm_crash.specs.Known.{IsHeld, IsSettled, IsVacant, Known, Recovers, World, current_name, known_of, nothing}
-use Rattle.lsm_crash.specs.Operations.{Allows, Append, MayStart, Operation, Put, Remove, Start, after, either, plan_of, started, starting}
-use Rattle.lsm_crash.specs.Among.{CutAmong, Counts, Does, DoneAmong, Event, FailsAmong, Goes, IsGap, counting, failed}
+use Rattle.lsm_crash.specs.Versions.{AreThere, Version}
+use Rattle.lsm_crash.specs.Known.{IsHeld, IsSettled, IsVacant, Recovers, World, current_name, known_of, nothing}
+use Rattle.lsm_crash.specs.Operations.{Allows, Append, MayStart, Operation, Put, Remove, Start, after, either, plan_of, starting}
+use Rattle.lsm_crash.specs.Among.{CutAmong, Counts, Does, DoneAmong, Event, FailsAmong, Goes, counting, failed}
 use Rattle.lsm_crash.proofs.Held.{IsClear, held_recovers, held_wider, only, settled_gap, settled_held, settled_step, surely_recovers, vacant_held}
 use Rattle.lsm_crash.proofs.Appending.{append_cut, append_done, append_fails, pair}
 use Rattle.lsm_crash.proofs.Tables.{clear_folder, count_settled, put_cut, put_done, put_fails, remove_cut, remove_done, settled_either}

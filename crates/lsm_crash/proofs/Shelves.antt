@@ -1,28 +1,27 @@
 -- What the calls of a shelf leave, by its plans, each answered Ok or refused.
-use Rattle.std.proofs.Common.{◌≡◌, ℕ, ◌<◌, ◌^◌, List, [], ◌∷◌, ◌++◌, refl, sym, ◌∙◌, ap, subst, inl, inr, ◌⊎◌, Some, None, false}
+use Rattle.std.proofs.Common.{◌≡◌, ℕ, List, [], ◌∷◌, ◌++◌, refl, sym, ◌∙◌, ap, subst, inl, inr}
 use Rattle.std.specs.Prelude.{Ok, Err, Result}
 use Rattle.std.proofs.lemmas.List.{append_cancel_right}
-use Rattle.lsm_codec.specs.Lists.{Has}
 use Rattle.lsm_folder.specs.Calls.{Call, appended, loaded, made, measured, removed, synced}
 use Rattle.lsm_folder.specs.declared.folder_fault.FolderFault.{FolderFault}
 use Rattle.lsm_folder.specs.declared.folder_fault.FolderFault.TheVariants as folder
 use Rattle.lsm_shelf.specs.FileNames.{manifest_name, table_name, temporary_name, current_text}
 use Rattle.lsm_shelf.specs.FolderFault.{missing_of}
-use Rattle.lsm_shelf.specs.Plans.{Step as Asked, AppendStopped, CurrentStopped, MeasureStopped, PutStopped, Refused, RemoveStopped, StartStopped, StartedFrom, WriteStopped, append_plan, current_plan, current_read, done, durable_plan, manifest_measured, put_plan, start_plan, unnamed_plan}
+use Rattle.lsm_shelf.specs.Plans.{Step as Asked, AppendStopped, CurrentStopped, MeasureStopped, PutStopped, Refused, RemoveStopped, StartStopped, StartedFrom, append_plan, current_plan, current_read, done, durable_plan, manifest_measured, unnamed_plan}
 use Rattle.lsm_shelf.specs.declared.shelf_fault.ShelfFault.{ShelfFault}
 use Rattle.lsm_shelf.specs.declared.shelf_fault.ShelfFault.TheVariants as why
-use Rattle.lsm_crash.specs.Disk.{After, Disk, Leaves, Shows, Step}
-use Rattle.lsm_crash.specs.Versions.{Tables, Version}
-use Rattle.lsm_crash.specs.Known.{Is, IsHeld, IsSettled, World, current_name, known_of}
+use Rattle.lsm_crash.specs.Disk.{After, Disk, Leaves, Step}
+use Rattle.lsm_crash.specs.Versions.{Version}
+use Rattle.lsm_crash.specs.Known.{IsHeld, IsSettled, World, current_name}
 use Rattle.lsm_crash.specs.Operations.{Allows, Append, Operation, Put, Remove, Start, after, either, plan_of}
-use Rattle.lsm_crash.specs.Among.{CutAmong, DoneAmong, FailsAmong, IsGap, failed}
+use Rattle.lsm_crash.specs.Among.{CutAmong, DoneAmong}
 use Rattle.lsm_crash.proofs.Disks.{some_is}
 use Rattle.lsm_crash.proofs.Standing.{stands_shows}
-use Rattle.lsm_crash.proofs.Held.{settled_aside, settled_held}
+use Rattle.lsm_crash.proofs.Held.{settled_aside}
 use Rattle.lsm_crash.proofs.Tables.{lessen}
 use Rattle.lsm_crash.proofs.Asides.{aside_removed}
 use Rattle.lsm_crash.proofs.Calls.{done_after, no_gap, refused_after}
-use Rattle.lsm_crash.proofs.Runs.{cut_held, cut_start, done_settled, fails_settled}
+use Rattle.lsm_crash.proofs.Runs.{cut_held, done_settled, fails_settled}
 
 module _ (s : Disk) (old : List Call) (w : World) (was : Leaves s old (λ d. IsSettled d w)) where
   -- ---- plans

@@ -7,7 +7,7 @@ use Rattle.lsm_crash.specs.Crash.{May}
 use Rattle.lsm_crash.specs.Disk.{Disk, Names, Step, Shows, moved, with_names, Makes, Writes, Appends, Syncs, SyncsFolder, Renames, set, named, with_file, filled}
 use Rattle.lsm_crash.specs.Known.{IsSound, Holds, IsFile, Is, Stands}
 use Rattle.lsm_crash.specs.Among.{Avoids}
-use Rattle.lsm_crash.proofs.Disks.{along, some_is, set_at, set_else, step_sound, named_at, named_else, moved_cases, step_holds}
+use Rattle.lsm_crash.proofs.Disks.{along, some_is, set_at, set_else, named_at, named_else, moved_cases, step_holds}
 
 -- the name has this file now, with these bytes, so many of which are durable
 pub record At (d : Disk) (q : List ℕ) (i : ℕ) (bytes : List ℕ) (kept : ℕ) : Type 0 where

@@ -1,13 +1,13 @@
 -- A new manifest, over whatever is known: durable with its name before `CURRENT` names it.
-use Rattle.std.proofs.Common.{◌≡◌, ℕ, ◌<◌, ◌^◌, List, [], ◌∷◌, length, refl, sym, ◌∙◌, ap, subst, inl, inr, ◌⊎◌, Some, true, false}
+use Rattle.std.proofs.Common.{◌≡◌, ℕ, ◌<◌, ◌^◌, List, [], ◌∷◌, length, refl, sym, ◌∙◌, ap, subst, inl, inr, ◌⊎◌, true, false}
 use Rattle.std.specs.Prelude.{Ok, Err}
 use Rattle.lsm_codec.specs.Lists.{Has}
 use Rattle.lsm_folder.specs.Calls.{Call, Answer, wrote, synced, folder_synced, renamed}
 use Rattle.lsm_shelf.specs.FileNames.{table_name, manifest_name, temporary_name, current_text}
 use Rattle.lsm_shelf.specs.Plans.{Step as Asked, start_plan, unnamed_plan}
 use Rattle.lsm_crash.specs.Disk.{Disk, Step, Shows, SyncsFolder, Renames}
-use Rattle.lsm_crash.specs.Versions.{AreThere, ComesTo, Tables, Version}
-use Rattle.lsm_crash.specs.Known.{AllStand, Holds, Is, IsHeld, IsSettled, IsSound, Known, NamesOne, Stands, Tells, current_name, known_of}
+use Rattle.lsm_crash.specs.Versions.{AreThere, Version}
+use Rattle.lsm_crash.specs.Known.{Is, IsHeld, IsSettled, IsSound, Known, NamesOne, Stands, Tells, current_name, known_of}
 use Rattle.lsm_crash.specs.Operations.{MayStart, started, starting}
 use Rattle.lsm_crash.specs.Among.{Avoids, DoneAmong, CutAmong, IsAside, IsGap}
 use Rattle.lsm_crash.proofs.Names.{manifest_current, manifests_apart, table_current, table_manifest, table_temporary, temporary_current, temporary_manifest}

@@ -1,5 +1,5 @@
 -- A table is put, or removed.
-use Rattle.std.proofs.Common.{◌≡◌, ℕ, ◌<◌, ◌^◌, List, [], ◌∷◌, length, refl, sym, ◌∙◌, ap, subst, inl, inr, ◌⊎◌, Some, None, cond, ◌==◌}
+use Rattle.std.proofs.Common.{◌≡◌, ℕ, ◌<◌, ◌^◌, List, [], ◌∷◌, length, sym, ◌∙◌, ap, subst, inl, inr, ◌⊎◌, Some, None, cond, ◌==◌}
 use Rattle.std.specs.Prelude.{Ok, Err}
 use Rattle.std.proofs.lemmas.Bool.{cases_Bool, eqb-true, eq-eqb}
 use Rattle.lsm_codec.specs.Lists.{Has}
@@ -7,12 +7,12 @@ use Rattle.lsm_folder.specs.Calls.{Call, Answer, made, synced, folder_synced, re
 use Rattle.lsm_shelf.specs.FileNames.{table_name, manifest_name}
 use Rattle.lsm_shelf.specs.Plans.{Step as Asked, put_plan, remove_plan}
 use Rattle.lsm_crash.specs.Disk.{Disk, Step, set}
-use Rattle.lsm_crash.specs.Versions.{AreThere, IsNamed, Tables, Version}
+use Rattle.lsm_crash.specs.Versions.{AreThere, IsNamed, Tables}
 use Rattle.lsm_crash.specs.Known.{IsHeld, IsSettled, IsSound, Stands, World, current_name, known_of}
 use Rattle.lsm_crash.specs.Operations.{Allows, Put, Remove, Operation, after, either, sure}
 use Rattle.lsm_crash.specs.Among.{Avoids, CutAmong, DoneAmong, IsAside, IsGap, Spares, counting}
 use Rattle.lsm_crash.proofs.Names.{table_current, table_manifest, tables_apart}
-use Rattle.lsm_crash.proofs.Disks.{set_at, set_else, step_sound}
+use Rattle.lsm_crash.proofs.Disks.{set_at, step_sound}
 use Rattle.lsm_crash.proofs.Standing.{At, at_makes, at_step, at_syncs, stands_settled}
 use Rattle.lsm_crash.proofs.Held.{IsClear, gap_keeps, held_wider, only, settled_aside, settled_gap, settled_held, settled_step}
 use Rattle.lsm_crash.proofs.Appending.{pair}

@@ -1,6 +1,5 @@
 -- Operations on the manifest among calls of other threads, which put their tables meanwhile.
-use Rattle.std.specs.Prelude.{◌≡◌, ◌⊎◌, ℕ, ◌^◌, ◌<◌, List, [], ◌∷◌, Ok, Err, Option, Some}
-use Rattle.lsm_codec.specs.Lists.{Has}
+use Rattle.std.specs.Prelude.{◌≡◌, ◌⊎◌, ℕ, ◌^◌, ◌<◌, List, [], ◌∷◌, Ok, Err, Some}
 use Rattle.lsm_folder.specs.Calls.{Call, opened, made, wrote, appended, synced, folder_synced, renamed, removed, measured, read, loaded, listed, locked}
 use Rattle.lsm_folder.specs.declared.folder_fault.FolderFault.{FolderFault}
 use Rattle.lsm_folder.specs.declared.folder_fault.FolderFault.TheVariants as folder
