@@ -13,7 +13,7 @@ use Rattle.lsm_crash.specs.Among.{DoneAmong, CutAmong, FailsAmong, IsGap}
 use Rattle.lsm_crash.proofs.Names.{manifest_current, table_manifest}
 use Rattle.lsm_crash.proofs.Disks.{step_sound, step_holds}
 use Rattle.lsm_crash.proofs.Standing.{IsGrown, stands_step, holds_grown, holds_durable, cut_text, weaken}
-use Rattle.lsm_crash.proofs.Held.{all_stand_step, gap_keeps, held_wider, only, settled_gap, settled_held}
+use Rattle.lsm_crash.proofs.Held.{all_stand_step, gap_keeps, held_gap, held_wider, only, settled_gap, settled_held}
 use Rattle.lsm_crash.proofs.Leading.{leads_cut, leads_whole}
 
 -- one of two
@@ -125,10 +125,10 @@ module _ (w : World) (text : List ℕ) (v : Version) (ok : Allows w (Append text
 
   pub append_cut : (d e : Disk) → IsSettled d w → CutAmong w.tables (append_plan w.manifest text) d e → IsHeld e (either w (Append text v))
   append_cut d e i (m, g, inl same) = subst (λ x. IsHeld x (either w (Append text v))) (sym same) (before m (settled_gap w d m g i))
-  append_cut d e i (m, g, inr (inl r)) = (let j = settled_gap w d m g i in elim r.1 [
+  append_cut d e i (m, g, inr (inl (fault, x, step, rest))) = (let j = settled_gap w d m g i in held_gap (either w (Append text v)) x e rest (elim step [
     | inl same ↦ subst (λ x. IsHeld x (either w (Append text v))) (sym same) (before m j)
-    | inr p ↦ growing_held e (take p.1 text) (grow m e (take p.1 text) (Err r.0) j r.1 p.2) (λ n le. cut_text w.bytes text p.1 n le)
-  ])
+    | inr p ↦ growing_held x (take p.1 text) (grow m x (take p.1 text) (Err fault) j (inr p) p.2) (λ n le. cut_text w.bytes text p.1 n le)
+  ]))
   append_cut d e i (m, g, inr (inr (d1, h1, (m2, g2, rest)))) =
       let j = settled_gap w d m g i in
       let s = growing_gap text d1 m2 g2 (grow m d1 text (Ok tt) j h1 h1) in
@@ -136,10 +136,10 @@ module _ (w : World) (text : List ℕ) (v : Version) (ok : Allows w (Append text
       elim rest [
         | inl same ↦ subst (λ x. IsHeld x (either w (Append text v))) (sym same) held
         | inr r ↦ elim r [
-          | inl x ↦ elim x.1 [
+          | inl x ↦ held_gap (either w (Append text v)) x.1 e x.3 (elim x.2 [
             | inl same ↦ subst (λ x. IsHeld x (either w (Append text v))) (sym same) held
-            | inr y ↦ afterwards e j.there (grown_settled m2 e s y)
-          ]
+            | inr y ↦ afterwards x.1 j.there (grown_settled m2 x.1 s y)
+          ])
           | inr x ↦ afterwards e j.there (settled_gap (after w (Append text v)) x.0 e x.2 (grown_settled m2 x.0 s x.1))
         ]
       ]

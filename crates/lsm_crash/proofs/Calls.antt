@@ -28,7 +28,7 @@ pub refused_after : (tables : Tables) (ss : List Asked) (fault : FolderFault) (o
 refused_after tables [] fault old new d e r h = absurd r
 refused_after tables (s ∷ ss) fault old new d e (inl is) h =
     let a = subst (λ x. After d x e) is h in
-    (a.0, a.1, (a.0, no_gap tables a.0, inr (inl (fault, a.2))))
+    (a.0, a.1, (a.0, no_gap tables a.0, inr (inl (fault, e, a.2, no_gap tables e))))
 refused_after tables (s ∷ ss) fault old new d e (inr later) h =
     let r = refused_after tables ss fault (s (Ok tt) ∷ old) new d e later h in
     (r.1.0, r.1.1, (r.1.0, no_gap tables r.1.0, inr (inr (r.0, r.1.2, r.2))))

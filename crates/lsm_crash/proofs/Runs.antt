@@ -32,7 +32,7 @@ AllClear w (s ∷ ss) = ((d : Disk) (a : Answer) → IsSettled d w → IsClear (
 clear_cut : (w : World) (ss : List Asked) (d e : Disk) → AllClear w ss → IsSettled d w → CutAmong w.tables ss d e → IsSettled e w
 clear_cut w [] d e c i h = settled_gap w d e h i
 clear_cut w (s ∷ ss) d e c i (m, g, inl same) = subst (λ x. IsSettled x w) (sym same) (settled_gap w d m g i)
-clear_cut w (s ∷ ss) d e c i (m, g, inr (inl r)) = (let j = settled_gap w d m g i in settled_step m e w (s (Err r.0)) (c.0 m (Err r.0) j) r.1 j)
+clear_cut w (s ∷ ss) d e c i (m, g, inr (inl r)) = (let j = settled_gap w d m g i in settled_gap w r.1 e r.3 (settled_step m r.1 w (s (Err r.0)) (c.0 m (Err r.0) j) r.2 j))
 clear_cut w (s ∷ ss) d e c i (m, g, inr (inr r)) = (let j = settled_gap w d m g i in clear_cut w ss r.0 e c.1 (settled_step m r.0 w (s (Ok tt)) (c.0 m (Ok tt) j) r.1 j) r.2)
 
 unnamed_clear : (w : World) (number : ℕ) (bytes : List ℕ) (v : Version) → Allows w (Start number bytes v) → AllClear w (unnamed_plan number bytes)

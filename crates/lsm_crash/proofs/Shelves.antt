@@ -51,7 +51,7 @@ module _ (s : Disk) (old : List Call) (w : World) (was : Leaves s old (λ d. IsS
   put_stopped number image f new ok (inr (inl large)) = same_leaves new large.0
   put_stopped number image f new ok (inr (inr (inl (fault, is, why)))) = λ e h.
       let a = subst (λ x. After s x e) is h in
-      fails_settled a.0 e w (Put number image) (was a.0 a.1) ok (a.0, no_gap w.tables a.0, inr (inl (fault, a.2)))
+      fails_settled a.0 e w (Put number image) (was a.0 a.1) ok (a.0, no_gap w.tables a.0, inr (inl (fault, e, a.2, no_gap w.tables e)))
   put_stopped number image f new ok (inr (inr (inr (fault, mid, answer, r, is, why)))) = λ e h.
       let a = subst (λ x. After s x e) is h in
       let c = refused_after w.tables (durable_plan (table_name number)) fault (made (table_name number) image (Ok tt) ∷ old) mid s a.0 r a.1 in
@@ -65,7 +65,7 @@ module _ (s : Disk) (old : List Call) (w : World) (was : Leaves s old (λ d. IsS
   remove_stopped number f new ok (inl unasked) e h = lessen w number ok e (was e (subst (λ x. After s x e) unasked.1 h))
   remove_stopped number f new ok (inr (fault, is, why)) e h =
       let a = subst (λ x. After s x e) is h in
-      fails_settled a.0 e w (Remove number) (was a.0 a.1) ok (a.0, no_gap (after w (Remove number)).tables a.0, inr (inl (fault, a.2)))
+      fails_settled a.0 e w (Remove number) (was a.0 a.1) ok (a.0, no_gap (after w (Remove number)).tables a.0, inr (inl (fault, e, a.2, no_gap (after w (Remove number)).tables e)))
 
   -- ---- `CURRENT` is read
 
@@ -122,7 +122,7 @@ module _ (s : Disk) (old : List Call) (w : World) (was : Leaves s old (λ d. IsS
   append_stopped text v f new ok (inr (inr (n, len, le, inl (inr (fault, is, why))))) = λ e h.
       let a = subst (λ x. After s x e) is h in
       let name = same_name n len a.0 a.1 in
-      cut_held a.0 e w (Append text v) (measure n len a.0 a.1) ok (a.0, no_gap w.tables a.0, inr (inl (fault, subst (λ name. Step a.0 (appended name text (Err fault)) e) name a.2)))
+      cut_held a.0 e w (Append text v) (measure n len a.0 a.1) ok (a.0, no_gap w.tables a.0, inr (inl (fault, e, subst (λ name. Step a.0 (appended name text (Err fault)) e) name a.2, no_gap w.tables e)))
   append_stopped text v f new ok (inr (inr (n, len, le, inr (fault, is, why)))) = λ e h.
       let a = subst (λ x. After s x e) is h in
       let b = a.1 in
@@ -130,7 +130,7 @@ module _ (s : Disk) (old : List Call) (w : World) (was : Leaves s old (λ d. IsS
       cut_held b.0 e w (Append text v) (measure n len b.0 b.1) ok (
         b.0,
         no_gap w.tables b.0,
-        inr (inr (a.0, subst (λ name. Step b.0 (appended name text (Ok tt)) a.0) name b.2, (a.0, no_gap w.tables a.0, inr (inl (fault, subst (λ name. Step a.0 (synced name (Err fault)) e) name a.2))))),
+        inr (inr (a.0, subst (λ name. Step b.0 (appended name text (Ok tt)) a.0) name b.2, (a.0, no_gap w.tables a.0, inr (inl (fault, e, subst (λ name. Step a.0 (synced name (Err fault)) e) name a.2, no_gap w.tables e))))),
       )
 
   -- memory was refused

@@ -254,3 +254,8 @@ at_shows d q i bytes kept a = (i, a.names, a.bytes_are)
 
 pub stands_shows : (d : Disk) (q bytes : List ℕ) → IsSound d → Stands d q bytes → Shows d q bytes
 stands_shows d q bytes s (one, H) = (let h = sure (Is one bytes) d q H (d.names q) (d.names, s.now, refl) in (h.0, h.1, h.4.1))
+
+pub shows_step : (d e : Disk) (c : Call) (q bytes : List ℕ) → IsSound d → Avoids q c → Step d c e → Shows d q bytes → Shows e q bytes
+shows_step d e c q bytes s a h shown =
+    let at = at_step d e c q shown.0 bytes (d.kept shown.0) s a h record { names = shown.1; bytes_are = shown.2; kept_is = refl } in
+    (shown.0, at.names, at.bytes_are)

@@ -12,7 +12,7 @@ use Rattle.lsm_crash.specs.Operations.{MayStart, started, starting}
 use Rattle.lsm_crash.specs.Among.{Avoids, DoneAmong, CutAmong, IsAside, IsGap}
 use Rattle.lsm_crash.proofs.Names.{manifest_current, manifests_apart, table_current, table_manifest, table_temporary, temporary_current, temporary_manifest}
 use Rattle.lsm_crash.proofs.Disks.{step_sound}
-use Rattle.lsm_crash.proofs.Standing.{At, at_renamed, at_shows, at_step, at_syncs, at_writes, holds_renamed, stands_settled, stands_shows, stands_step, weaken}
+use Rattle.lsm_crash.proofs.Standing.{At, at_renamed, at_shows, at_step, at_syncs, at_writes, holds_renamed, shows_step, stands_settled, stands_shows, stands_step, weaken}
 use Rattle.lsm_crash.proofs.Held.{IsClear, all_stand_step, gap_keeps, held_aside, held_gap, held_step, held_wider, only, settled_gap, settled_held, stands_tells, tells_step}
 use Rattle.lsm_crash.proofs.Tables.{clear_folder}
 
@@ -202,6 +202,14 @@ module _ (k : Known) (number : ℕ) (bytes : List ℕ) (v : Version) (ok : MaySt
   either_at : (d e : Disk) → e ≡ d → Either d → Either e
   either_at d e same = subst Either (sym same)
 
+  shows_gap : (d e : Disk) → IsGap k.tables d e → IsSound d → Shows d current_name text → Shows e current_name text
+  shows_gap d e g s shown = (gap_keeps k.tables (λ x. IsSound x × Shows x current_name text)
+      (λ a b c o h p. (step_sound a b c p.0 h, shows_step a b c current_name text p.0 o.current h p.1)) g.0 d e g.1 (s, shown)).1
+
+  either_gap : (d e : Disk) → IsGap k.tables d e → Either d → Either e
+  either_gap d e g (inl same) = inl (held_gap k d e g same)
+  either_gap d e g (inr turned) = inr (held_gap l d e g turned.0, shows_gap d e g turned.0.sound turned.1)
+
   turned_either : (d : Disk) → IsTurned d → Either d
   turned_either d t = inr (t.held, at_shows d current_name t.file text (length text) t.at)
 
@@ -220,18 +228,18 @@ module _ (k : Known) (number : ℕ) (bytes : List ℕ) (v : Version) (ok : MaySt
 
   last_call : (d e : Disk) → ((m : ℕ) → Has k.manifests m → m < 2 ^ 64) → ((u : Version) → Has k.versions u → AreThere u k.tables) → IsTurned d → CutAmong k.tables (folder_synced ∷ []) d e → Either e
   last_call d e small there t (m, g, inl same) = either_at m e same (turned_either m (turned_gap d m g t))
-  last_call d e small there t (m, g, inr (inl r)) = elim r.1 [
-    | inl same ↦ either_at m e same (turned_either m (turned_gap d m g t))
-    | inr h ↦ settled_either e small there (seven m e (turned_gap d m g t) h)
-  ]
+  last_call d e small there t (m, g, inr (inl r)) = either_gap r.1 e r.3 (elim r.2 [
+    | inl same ↦ either_at m r.1 same (turned_either m (turned_gap d m g t))
+    | inr h ↦ settled_either r.1 small there (seven m r.1 (turned_gap d m g t) h)
+  ])
   last_call d e small there t (m, g, inr (inr r)) = settled_either e small there (settled_gap (started k number bytes v) r.0 e r.2 (seven m r.0 (turned_gap d m g t) r.1))
 
   rename_call : (d e : Disk) → IsTexted d (length text) → CutAmong k.tables (renamed T current_name ∷ folder_synced ∷ []) d e → Either e
   rename_call d e t (m, g, inl same) = either_at m e same (inl (texted_gap (length text) d m g t).ready.held)
-  rename_call d e t (m, g, inr (inl r)) = (let x = texted_gap (length text) d m g t in elim r.1 [
-    | inl same ↦ either_at m e same (inl x.ready.held)
-    | inr h ↦ turned_either e (six m e (Err r.0) x r.1 h)
-  ])
+  rename_call d e t (m, g, inr (inl r)) = (let x = texted_gap (length text) d m g t in either_gap r.1 e r.3 (elim r.2 [
+    | inl same ↦ either_at m r.1 same (inl x.ready.held)
+    | inr h ↦ turned_either r.1 (six m r.1 (Err r.0) x r.2 h)
+  ]))
   rename_call d e t (m, g, inr (inr r)) =
       let x = texted_gap (length text) d m g t in
       last_call r.0 e x.ready.held.small x.ready.held.there (six m r.0 (Ok tt) x r.1 r.1) r.2
@@ -241,7 +249,7 @@ module _ (k : Known) (number : ℕ) (bytes : List ℕ) (v : Version) (ok : MaySt
       → ((a b : Disk) → IsGap k.tables a b → P a → P b) → ((a : Disk) → P a → IsHeld a k) → P d
       → ((m mid : Disk) → P m → Step m (s (Ok tt)) mid → CutAmong k.tables ss mid e → Good e) → CutAmong k.tables (s ∷ ss) d e → Good e
   go_on Good good s ss P d e c keep held p next (m, g, inl same) = subst Good (sym same) (good m (held m (keep d m g p)))
-  go_on Good good s ss P d e c keep held p next (m, g, inr (inl r)) = (let i = held m (keep d m g p) in good e (held_step m e k (s (Err r.0)) (c m (Err r.0) i) r.1 i))
+  go_on Good good s ss P d e c keep held p next (m, g, inr (inl r)) = (let i = held m (keep d m g p) in good e (held_gap k r.1 e r.3 (held_step m r.1 k (s (Err r.0)) (c m (Err r.0) i) r.2 i)))
   go_on Good good s ss P d e c keep held p next (m, g, inr (inr r)) = next m r.0 (keep d m g p) r.1 r.2
 
   -- what is left of the plan before the renaming, and then

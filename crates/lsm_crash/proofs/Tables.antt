@@ -130,7 +130,7 @@ module _ (w : World) (number : ℕ) (image : List ℕ) (ok : Allows w (Put numbe
   cut_call : (tables : Tables) → ((d e : Disk) → IsGap tables d e → IsSettled d w → IsSettled e w) → (s : Asked) (ss : List Asked) (d e : Disk) → Kept tables s
       → ((mid : Disk) → IsSettled mid w → CutAmong tables ss mid e → IsSettled e w) → IsSettled d w → CutAmong tables (s ∷ ss) d e → IsSettled e w
   cut_call tables gap s ss d e keep next i (m, g, inl same) = subst (λ x. IsSettled x w) (sym same) (gap d m g i)
-  cut_call tables gap s ss d e keep next i (m, g, inr (inl r)) = keep m e (Err r.0) (gap d m g i) r.1
+  cut_call tables gap s ss d e keep next i (m, g, inr (inl r)) = gap r.1 e r.3 (keep m r.1 (Err r.0) (gap d m g i) r.2)
   cut_call tables gap s ss d e keep next i (m, g, inr (inr r)) = next r.0 (keep m r.0 (Ok tt) (gap d m g i) r.1) r.2
 
   put_cut_by : (tables : Tables) → ((d e : Disk) → IsGap tables d e → IsSettled d w → IsSettled e w) → (d e : Disk) → IsSettled d w → CutAmong tables (put_plan number image) d e → IsSettled e w
@@ -173,7 +173,7 @@ module _ (w : World) (number : ℕ) (ok : Allows w (Remove number)) where
 
   pub remove_cut : (d e : Disk) → IsSettled d w → CutAmong u.tables (remove_plan number) d e → IsSettled e u
   remove_cut d e i (m, g, inl same) = subst (λ x. IsSettled x u) (sym same) (settled_gap u d m g (lessen d i))
-  remove_cut d e i (m, g, inr (inl r)) = remove_call m e (Err r.0) (settled_gap u d m g (lessen d i)) r.1
+  remove_cut d e i (m, g, inr (inl r)) = settled_gap u r.1 e r.3 (remove_call m r.1 (Err r.0) (settled_gap u d m g (lessen d i)) r.2)
   remove_cut d e i (m, g, inr (inr r)) = settled_gap u r.0 e r.2 (remove_call m r.0 (Ok tt) (settled_gap u d m g (lessen d i)) r.1)
 
 -- ---- where that is all that is known

@@ -32,7 +32,8 @@ pub record IsAside (tables : Tables) (c : Call) : Type 0 where
   pub current : Avoids current_name c
   pub manifests : (m : ℕ) → m < 2 ^ 64 → Avoids (manifest_name m) c
   pub temporaries : (m : ℕ) → m < 2 ^ 64 → Avoids (temporary_name m) c
-  pub others : (number : ℕ) (image : List ℕ) → tables number ≡ Some image → Avoids (table_name number) c
+  pub others : (number : ℕ) (image : List ℕ) → tables number ≡ Some image
+      → Avoids (table_name number) c
 
 -- such calls, as many as there are
 abbrev pub Gap : Tables → List Call → Disk → Disk → Type 0
@@ -45,13 +46,16 @@ IsGap tables d e = (cs : List Call) × Gap tables cs d e
 -- all calls of the plan were Ok, among others
 abbrev pub DoneAmong : Tables → List Asked → Disk → Disk → Type 0
 DoneAmong tables [] d e = IsGap tables d e
-DoneAmong tables (s ∷ ss) d e = (m : Disk) × IsGap tables d m × ((mid : Disk) × Step m (s (Ok tt)) mid × DoneAmong tables ss mid e)
+DoneAmong tables (s ∷ ss) d e = (m : Disk) × IsGap tables d m
+    × ((mid : Disk) × Step m (s (Ok tt)) mid × DoneAmong tables ss mid e)
 
 -- A front of the plan was Ok, among others; then nothing, or a call that was refused, or cut by a
--- crash.
+-- crash, and others.
 abbrev pub CutAmong : Tables → List Asked → Disk → Disk → Type 0
 CutAmong tables [] d e = IsGap tables d e
-CutAmong tables (s ∷ ss) d e = (m : Disk) × IsGap tables d m × ((e ≡ m) ⊎ (((fault : FolderFault) × Step m (s (Err fault)) e) ⊎ ((mid : Disk) × Step m (s (Ok tt)) mid × CutAmong tables ss mid e)))
+CutAmong tables (s ∷ ss) d e = (m : Disk) × IsGap tables d m
+    × ((e ≡ m) ⊎ (((fault : FolderFault) × (x : Disk) × Step m (s (Err fault)) x × IsGap tables x e)
+    ⊎ ((mid : Disk) × Step m (s (Ok tt)) mid × CutAmong tables ss mid e)))
 
 -- A refusal after which the database goes on: a table was put or not, or removed or not, and is not
 -- counted on; of a record nothing was appended, since memory was refused; of a new manifest a call
@@ -59,7 +63,8 @@ CutAmong tables (s ∷ ss) d e = (m : Disk) × IsGap tables d m × ((e ≡ m) �
 abbrev pub FailsAmong : World → Operation → Disk → Disk → Type 0
 FailsAmong w (Put number image) d e = CutAmong w.tables (plan_of w (Put number image)) d e
 FailsAmong w (Remove number) d e = CutAmong (after w (Remove number)).tables (plan_of w (Remove number)) d e
-FailsAmong w (Append text version) d e = (m : Disk) × IsGap w.tables d m × Step m (appended (manifest_name w.manifest) text (Err folder.OutOfMemory)) e
+FailsAmong w (Append text version) d e = (m : Disk) × IsGap w.tables d m
+    × Step m (appended (manifest_name w.manifest) text (Err folder.OutOfMemory)) e
 FailsAmong w (Start number bytes version) d e = CutAmong w.tables (unnamed_plan number bytes) d e
 
 -- what the database counts on then
@@ -81,7 +86,9 @@ counting number image w = record w { tables = set w.tables number (Some image) }
 -- events one after another, among calls of other threads
 abbrev pub Goes : World → List Event → World → Disk → Disk → Type 0
 Goes w [] u d e = (u ≡ w) × IsGap w.tables d e
-Goes w (Counts number image ∷ es) u d e = (number < 2 ^ 64) × ((m : Disk) × IsGap w.tables d m × Stands m (table_name number) image × Goes (counting number image w) es u m e)
+Goes w (Counts number image ∷ es) u d e = (number < 2 ^ 64)
+    × ((m : Disk) × IsGap w.tables d m × Stands m (table_name number) image
+    × Goes (counting number image w) es u m e)
 Goes w (Does o ∷ es) u d e = Allows w o × ((mid : Disk) × ((DoneAmong (after w o).tables (plan_of w o) d mid × Goes (after w o) es u mid e)
     ⊎ (FailsAmong w o d mid × Goes (failed w o) es u mid e)))
 

@@ -1,6 +1,7 @@
 -- What a crash may leave of a disk (this project's rule). Each name for itself, so a rename may be
--- lost in half, and names may come back in any mixture; of bytes that are not durable any beginning.
--- That what stands behind the durable bytes is such a beginning, and no other bytes, is a premise.
+-- lost in half, and names may come back in any mixture; of bytes that are not durable any
+-- beginning. That what stands behind the durable bytes is such a beginning, and no other bytes, is
+-- a premise.
 use Rattle.std.specs.Prelude.{◌≡◌, ℕ, ◌<◌, ◌≤◌, List, [], ◌∷◌, length, take, Option, None, Some}
 use Rattle.lsm_codec.specs.Lists.{Has}
 use Rattle.lsm_crash.specs.Disk.{Disk, Names}
@@ -28,7 +29,8 @@ pub record IsLeft (d : Disk) (found : Found) : Type 0 where
 -- The disk of a folder that was found and is used again: what was found is durable.
 pub record IsFresh (found : Found) (d : Disk) : Type 0 where
   pub none : (name : List ℕ) → found name ≡ None → d.names name ≡ None
-  pub some : (name bytes : List ℕ) → found name ≡ Some bytes → (i : ℕ) × (d.names name ≡ Some i) × (d.bytes i ≡ bytes) × (d.kept i ≡ length bytes)
+  pub some : (name bytes : List ℕ) → found name ≡ Some bytes → (i : ℕ) × (d.names name ≡ Some i)
+      × (d.bytes i ≡ bytes) × (d.kept i ≡ length bytes)
   pub only : d.past ≡ d.names ∷ []
   pub below : (name : List ℕ) (i : ℕ) → d.names name ≡ Some i → i < d.next
   pub one : (p q : List ℕ) (i : ℕ) → d.names p ≡ Some i → d.names q ≡ Some i → p ≡ q

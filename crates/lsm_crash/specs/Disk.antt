@@ -60,19 +60,23 @@ Makes d name bytes e = (d.names name ≡ None) × (e ≡ with_file name bytes d)
 -- A file that is emptied and written may show its old bytes after a crash: that is as if the name
 -- had got another file.
 abbrev pub Writes : Disk → List ℕ → List ℕ → Disk → Type 0
-Writes d name bytes e = (e ≡ with_file name bytes d) ⊎ ((i : ℕ) × (d.names name ≡ Some i) × (e ≡ filled i bytes 0 d))
+Writes d name bytes e = (e ≡ with_file name bytes d)
+    ⊎ ((i : ℕ) × (d.names name ≡ Some i) × (e ≡ filled i bytes 0 d))
 
 abbrev pub Appends : Disk → List ℕ → List ℕ → Disk → Type 0
-Appends d name bytes e = (i : ℕ) × (d.names name ≡ Some i) × (e ≡ filled i (d.bytes i ++ bytes) (d.kept i) d)
+Appends d name bytes e = (i : ℕ) × (d.names name ≡ Some i)
+    × (e ≡ filled i (d.bytes i ++ bytes) (d.kept i) d)
 
 abbrev pub Syncs : Disk → List ℕ → Disk → Type 0
-Syncs d name e = (i : ℕ) × (d.names name ≡ Some i) × (e ≡ filled i (d.bytes i) (length (d.bytes i)) d)
+Syncs d name e = (i : ℕ) × (d.names name ≡ Some i)
+    × (e ≡ filled i (d.bytes i) (length (d.bytes i)) d)
 
 abbrev pub SyncsFolder : Disk → Disk → Type 0
 SyncsFolder d e = e ≡ record d { past = d.names ∷ [] }
 
 abbrev pub Renames : Disk → List ℕ → List ℕ → Disk → Type 0
-Renames d from to e = (i : ℕ) × (d.names from ≡ Some i) × (e ≡ with_names (moved d.names from to i) d)
+Renames d from to e = (i : ℕ) × (d.names from ≡ Some i)
+    × (e ≡ with_names (moved d.names from to i) d)
 
 abbrev pub Removes : Disk → List ℕ → Disk → Type 0
 Removes d name e = e ≡ with_names (named d.names name None) d

@@ -8,10 +8,10 @@ use Rattle.lsm_crash.specs.Crash.{Found, IsFresh, IsLeft}
 use Rattle.lsm_crash.specs.Versions.{ComesTo, Version}
 use Rattle.lsm_crash.specs.Known.{IsHeld, IsSettled, Known, World, current_name, known_of, nothing}
 use Rattle.lsm_crash.specs.Operations.{Allows, MayStart, Operation, after, either, plan_of, started, starting}
-use Rattle.lsm_crash.specs.Among.{CutAmong, DoneAmong, Event, Goes}
+use Rattle.lsm_crash.specs.Among.{CutAmong, DoneAmong, Event, Goes, IsGap}
 
--- The world that is read from a folder: `CURRENT` names its manifest, which has its bytes, and these
--- come to its version.
+-- The world that is read from a folder: `CURRENT` names its manifest, which has its bytes, and
+-- these come to its version.
 pub record IsRead (known : Known) (found : Found) (w : World) : Type 0 where
   pub small : w.manifest < 2 ^ 64
   pub current : found current_name ≡ Some (current_text w.manifest)
@@ -41,6 +41,8 @@ pub data Move : Type 0 where
   Stops : (known : Known) (number : ℕ) (bytes : List ℕ) (version : Version) → Move
   -- and `CURRENT` does not show it
   StopsUnseen : (known : Known) (number : ℕ) (bytes : List ℕ) (version : Version) → Move
+  -- calls of other threads
+  Others : (known : Known) → Move
   -- a crash, after which this world is read
   Crashes : (known : Known) (found : Found) (w : World) → Move
   -- a crash, after which there is no `CURRENT`
@@ -53,6 +55,7 @@ before (Rests w) = Sure w
 before (Starts known number bytes version) = Unsure known
 before (Stops known number bytes version) = Unsure known
 before (StopsUnseen known number bytes version) = Unsure known
+before (Others known) = Unsure known
 before (Crashes known found w) = Unsure known
 before (Empties known found) = Unsure known
 
@@ -63,6 +66,7 @@ behind (Rests w) = Unsure (known_of w)
 behind (Starts known number bytes version) = Sure (started known number bytes version)
 behind (Stops known number bytes version) = Unsure (starting known number version)
 behind (StopsUnseen known number bytes version) = Unsure known
+behind (Others known) = Unsure known
 behind (Crashes known found w) = Sure w
 behind (Empties known found) = Unsure nothing
 
@@ -71,13 +75,18 @@ abbrev pub Passes : Move → Disk → Disk → Type 0
 Passes (Runs w events u) d e = Goes w events u d e
 Passes (Breaks w o) d e = Allows w o × CutAmong (after w o).tables (plan_of w o) d e
 Passes (Rests w) d e = e ≡ d
-Passes (Starts known number bytes version) d e = MayStart known number bytes version × DoneAmong known.tables (start_plan number bytes) d e
-Passes (Stops known number bytes version) d e = MayStart known number bytes version × CutAmong known.tables (start_plan number bytes) d e
-Passes (StopsUnseen known number bytes version) d e = MayStart known number bytes version × CutAmong known.tables (start_plan number bytes) d e
+Passes (Starts known number bytes version) d e = MayStart known number bytes version
+    × DoneAmong known.tables (start_plan number bytes) d e
+Passes (Stops known number bytes version) d e = MayStart known number bytes version
+    × CutAmong known.tables (start_plan number bytes) d e
+Passes (StopsUnseen known number bytes version) d e = MayStart known number bytes version
+    × CutAmong known.tables (start_plan number bytes) d e
     × (Shows e current_name (current_text number) → ⊥)
+Passes (Others known) d e = IsGap known.tables d e
 Passes (Crashes known found w) d e = IsLeft d found × IsFresh found e × IsRead known found w
 Passes (Empties known found) d e = IsLeft d found × IsFresh found e × (found current_name ≡ None)
 
 abbrev pub History : Phase → List Move → Phase → Disk → Disk → Type 0
 History p [] q d e = (q ≡ p) × (e ≡ d)
-History p (m ∷ ms) q d e = (before m ≡ p) × ((mid : Disk) × Passes m d mid × History (behind m) ms q mid e)
+History p (m ∷ ms) q d e = (before m ≡ p)
+    × ((mid : Disk) × Passes m d mid × History (behind m) ms q mid e)

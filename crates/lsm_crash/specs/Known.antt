@@ -21,10 +21,12 @@ pub record IsSound (d : Disk) : Type 0 where
 -- P holds of this file: its number, its bytes, and how many of them are durable. No other name has
 -- it now
 abbrev pub IsFile : Disk → List ℕ → (ℕ → List ℕ → ℕ → Type 0) → Option ℕ → Type 0
-IsFile d q P o = (i : ℕ) × (o ≡ Some i) × (i < d.next) × ((p : List ℕ) → d.names p ≡ Some i → p ≡ q) × P i (d.bytes i) (d.kept i)
+IsFile d q P o = (i : ℕ) × (o ≡ Some i) × (i < d.next)
+    × ((p : List ℕ) → d.names p ≡ Some i → p ≡ q) × P i (d.bytes i) (d.kept i)
 
 -- Whatever a crash leaves of the name: it has a file of which P holds, or none, where that may be.
-pub record Holds (may_miss : Bool) (d : Disk) (q : List ℕ) (P : ℕ → List ℕ → ℕ → Type 0) : Type 0 where
+pub record Holds (may_miss : Bool) (d : Disk) (q : List ℕ) (P : ℕ → List ℕ → ℕ
+    → Type 0) : Type 0 where
   pub each : (o : Option ℕ) → May d q o → ((may_miss ≡ true) × (o ≡ None)) ⊎ IsFile d q P o
 
 -- this file, with these bytes, all of them durable
@@ -36,7 +38,8 @@ abbrev pub Stands : Disk → List ℕ → List ℕ → Type 0
 Stands d q bytes = (one : ℕ) × Holds false d q (Is one bytes)
 
 abbrev pub AllStand : Disk → Tables → Type 0
-AllStand d tables = (number : ℕ) (image : List ℕ) → tables number ≡ Some image → (number < 2 ^ 64) × Stands d (table_name number) image
+AllStand d tables = (number : ℕ) (image : List ℕ) → tables number ≡ Some image → (number < 2 ^ 64)
+    × Stands d (table_name number) image
 
 -- ---- between two operations
 
@@ -74,7 +77,8 @@ Tells versions i b k = (m : ℕ) → k ≤ m → (v : Version) × Has versions v
 
 -- a durable text that names one of the manifests, which tells one of the versions
 abbrev pub NamesOne : Known → Disk → ℕ → List ℕ → ℕ → Type 0
-NamesOne known d i b k = (k ≡ length b) × (number : ℕ) × Has known.manifests number × (b ≡ current_text number) × Holds false d (manifest_name number) (Tells known.versions)
+NamesOne known d i b k = (k ≡ length b) × (number : ℕ) × Has known.manifests number
+    × (b ≡ current_text number) × Holds false d (manifest_name number) (Tells known.versions)
 
 -- Each `CURRENT` that a crash may leave names one of the manifests, or it may be missing; each of
 -- the manifests that it names comes to one of the versions, wherever it is cut; the tables are
@@ -113,7 +117,8 @@ pub record Recovers (known : Known) (found : Found) : Type 0 where
   pub current : found current_name ≡ Some (current_text manifest)
   pub its : found (manifest_name manifest) ≡ Some bytes
   pub comes : ComesTo bytes version
-  pub tables : (number : ℕ) (image : List ℕ) → known.tables number ≡ Some image → (number < 2 ^ 64) × (found (table_name number) ≡ Some image)
+  pub tables : (number : ℕ) (image : List ℕ) → known.tables number ≡ Some image
+      → (number < 2 ^ 64) × (found (table_name number) ≡ Some image)
   pub there : AreThere version known.tables
 
 -- the world that is read from a folder

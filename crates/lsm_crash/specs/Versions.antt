@@ -21,7 +21,8 @@ pub record ComesTo (bytes : List ℕ) (v : Version) : Type 0 where
 
 -- a file of this number lies at a level of the version
 abbrev pub IsNamed : Version → ℕ → Type 0
-IsNamed v number = (level : ℕ) × (file : TableFile) × (level ≤ 6) × Has (get_or v.levels level []) file × (file.number ≡ number)
+IsNamed v number = (level : ℕ) × (file : TableFile) × (level ≤ 6)
+    × Has (get_or v.levels level []) file × (file.number ≡ number)
 
 -- The text is the record of one edit more, behind a manifest that no torn record ends: with it the
 -- edits come to the new version.
@@ -45,4 +46,5 @@ AreSmall tables = (number : ℕ) (image : List ℕ) → tables number ≡ Some i
 
 -- each file of the version is one of the tables
 abbrev pub AreThere : Version → Tables → Type 0
-AreThere v tables = (number : ℕ) → IsNamed v number → (image : List ℕ) × (tables number ≡ Some image)
+AreThere v tables = (number : ℕ) → IsNamed v number → (image : List ℕ)
+    × (tables number ≡ Some image)
