@@ -70,8 +70,8 @@ fn write_named<E: Write>(err: &mut E, fault: &DirectoryFault, names_files: bool)
     }
 }
 
-/// Writes the line of a fault, and what stands behind it: the file whose table is refused, where the
-/// line did not name it, and what the system answered; and flushes.
+/// Writes the line of a fault, and what stands behind it: the file whose table is refused, where
+/// the line did not name it, and what the system answered; and flushes.
 fn tell<E: Write>(
     err: &mut E,
     fault: &DirectoryFault,
@@ -117,10 +117,10 @@ fn begin<S: Shelf, R: Wait, O: Write, E: Write>(
 }
 
 /// Opens the directory of a shelf to read, does what is asked of it, and answers the exit status: 0
-/// where it is done, and 1 where it is refused. `list`, `get` and `scan` note on `err` each log that
-/// is not read. A fault is one line on `err`; `check` and `scan` name in it the file of which a
-/// table is refused, and `list` and `get` in a second one. Where it is `9 Device` or `10 Missing`,
-/// what the system answered stands behind it. Nothing is written in the directory.
+/// where it is done, and 1 where it is refused. `list`, `get` and `scan` note on `err` each log
+/// that is not read. A fault is one line on `err`; `check` and `scan` name in it the file of which
+/// a table is refused, and `list` and `get` in a second one. Where it is `9 Device` or
+/// `10 Missing`, what the system answered stands behind it. Nothing is written in the directory.
 pub fn run<S: Shelf, R: Wait, O: Write, E: Write>(
     rt: &R,
     alloc: Global,
