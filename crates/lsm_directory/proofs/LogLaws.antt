@@ -1,10 +1,9 @@
 -- Logs among the files of a folder.
-use Rattle.std.proofs.Common.{◌≡◌, ◌≢◌, ℕ, ◌+◌, ◌-◌, ◌<◌, ◌≤◌, ◌^◌, List, [], ◌∷◌, ◌++◌, Bool, true, false, Option, Some, None, length, get_or, take, drop, drop-cons, add-one, refl, sym, ap, ◌∙◌, subst, append_assoc, append-nil, inl, inr, arith}
+use Rattle.std.proofs.Common.{◌≡◌, ◌≢◌, ℕ, ◌+◌, ◌<◌, ◌≤◌, List, [], ◌∷◌, ◌++◌, Bool, true, false, Some, None, length, get_or, take, drop, drop-cons, add-one, refl, sym, ap, ◌∙◌, subst, append_assoc, append-nil, inl, inr, arith}
 use Rattle.std.specs.Bool.{◌==◌}
-use Rattle.std.specs.Prelude.{MatchBool, string_bytes}
+use Rattle.std.specs.Prelude.{string_bytes}
 use Rattle.std.proofs.lemmas.Grind.{flat_map-append}
 use Rattle.std.proofs.lemmas.List.{take-append-drop, take_all, take_more}
-use Rattle.lsm_codec.specs.Lists.{Has}
 use Rattle.lsm_version.specs.Versions.{Levels}
 use Rattle.lsm_directory.specs.Listing.{check_text}
 use Rattle.lsm_directory.specs.Logs.{AppendsLogs, AreThose, IsChecked, IsFirstUnread, IsLogName, IsReached, IsUnread, NoneUnread, log_line, log_lines}

@@ -1,5 +1,5 @@
 -- How a command holds the lock of a folder (this project's rule; the file `LOCK` is LevelDB's, `LockFileName` of `db/filename.cc`).
-use Rattle.std.specs.Prelude.{◌≡◌, ◌⊎◌, Bool, true, false, List, ◌∷◌, Result, Ok, Err, codes}
+use Rattle.std.specs.Prelude.{◌≡◌, Bool, true, false, List, ◌∷◌, Result, Ok, Err, codes}
 use Rattle.lsm_folder.specs.Calls.{Call, locked}
 use Rattle.lsm_folder.specs.declared.folder_fault.FolderFault.{FolderFault}
 use Rattle.lsm_folder.specs.declared.folder_fault.FolderFault.TheVariants.{Missing}

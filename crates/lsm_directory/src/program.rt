@@ -10,7 +10,7 @@ ghost use Rattle.lsm_directory.specs.DirectoryFault.{fault_line, fault_text, fil
 use crate::commands::perform;
 use crate::directory_fault::DirectoryFault;
 use crate::request::Request;
-use crate::second_lines::{write_file_of, write_reason_of, write_table};
+use crate::second_lines::{write_meaning, write_reason_of, write_table};
 use lsm_commands::DirectoryCommand;
 use lsm_folder::Reasons;
 use lsm_table::{Registry, Shelf};
@@ -70,8 +70,8 @@ fn write_named<E: Write>(err: &mut E, fault: &DirectoryFault, names_files: bool)
     }
 }
 
-/// Writes the line of a fault, and what stands behind it: the file whose table is refused, where the
-/// line did not name it, and what the system answered; and flushes.
+/// Writes the line of a fault, and what stands behind it: what it means, where the line did not name
+/// the file whose table is refused, and what the system answered; and flushes.
 fn tell<E: Write>(
     err: &mut E,
     fault: &DirectoryFault,
@@ -80,7 +80,7 @@ fn tell<E: Write>(
 ) -> io::Result<()> {
     write_named(err, fault, names_files)?;
     if !names_files {
-        write_file_of(err, fault)?;
+        write_meaning(err, fault)?;
     }
     if let Some(reasons) = reasons {
         write_reason_of(err, fault, reasons)?;
@@ -117,10 +117,10 @@ fn begin<S: Shelf, R: Wait, O: Write, E: Write>(
 }
 
 /// Opens the directory of a shelf to read, does what is asked of it, and answers the exit status: 0
-/// where it is done, and 1 where it is refused. `list`, `get` and `scan` note on `err` each log that
-/// is not read. A fault is one line on `err`; `check` and `scan` name in it the file of which a
-/// table is refused, and `list` and `get` in a second one. Where it is `9 Device` or `10 Missing`,
-/// what the system answered stands behind it. Nothing is written in the directory.
+/// where it is done, and 1 where it is refused. `list`, `get` and `scan` note on `err` each log
+/// that is not read. A fault is one line on `err`; `check` and `scan` name in it the file of which
+/// a table is refused, and `list` and `get` in a second one. Where it is `9 Device` or
+/// `10 Missing`, what the system answered stands behind it. Nothing is written in the directory.
 pub fn run<S: Shelf, R: Wait, O: Write, E: Write>(
     rt: &R,
     alloc: Global,

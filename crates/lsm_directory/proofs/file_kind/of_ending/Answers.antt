@@ -1,5 +1,3 @@
-use Rattle.std.proofs.Common.{◌≡◌}
-use Rattle.lsm_directory.specs.FileNames.{HasNoEnding}
 use Rattle.lsm_directory.proofs.file_kind.of_ending.Goals as goal
 
 pub returns-in-None-clause-other : goal.returns-in-None-clause-other

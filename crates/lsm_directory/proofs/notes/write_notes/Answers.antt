@@ -1,4 +1,4 @@
-use Rattle.std.proofs.Common.{◌≡◌, ◌∙◌, ℕ, List, [], sym}
+use Rattle.std.proofs.Common.{◌≡◌, ◌∙◌, []}
 use Rattle.lsm_directory.specs.Logs.{note_line}
 use Rattle.lsm_directory.proofs.LogLaws.{none_text, not_empty}
 use Rattle.lsm_directory.proofs.notes.write_notes.Goals as goal

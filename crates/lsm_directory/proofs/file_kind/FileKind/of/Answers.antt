@@ -1,4 +1,3 @@
-use Rattle.std.proofs.Common.{◌≡◌}
 use Rattle.lsm_directory.proofs.KindLaws.{no_name, not_same}
 use Rattle.lsm_directory.proofs.file_kind.FileKind.of.Goals as goal
 
