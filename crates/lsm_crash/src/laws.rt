@@ -179,10 +179,10 @@ pub fn answered_calls_of_a_shelf_are_durable()
         → Leaves d new (λ e. IsSettled e (after w (Start number bytes v))) }
 {}
 
-/// What a shelf's calls leave that were refused, by the shelf's own words. A table that was not put
-/// or not removed changes nothing that is counted on, nor does want of memory in an append or a
-/// start. Any other refusal of these, and a crash in any call of a plan, leaves the version of
-/// before or the one of after.
+/// What a shelf's calls leave that were refused, by the shelf's own words. A put that was refused
+/// changes nothing that is counted on, nor does want of memory in an append or a start; nor does a
+/// removal that was refused, but that the table is no more counted on. Any other refusal of these,
+/// and a crash in any call of a plan, leaves the version of before or the one of after.
 pub fn refused_calls_of_a_shelf_leave_before_or_after()
     ensures put { (d : Disk) (old new : List Call) (w : World) (number : ℕ) (image : List ℕ)
         (fault : ShelfFault)
