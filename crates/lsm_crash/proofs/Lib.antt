@@ -12,3 +12,4 @@ mod Instances
 mod Histories
 mod Asides
 mod Shelves
+mod Spoilt

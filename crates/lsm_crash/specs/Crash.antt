@@ -26,6 +26,19 @@ Found = List ℕ → Option (List ℕ)
 pub record IsLeft (d : Disk) (found : Found) : Type 0 where
   pub each : (name : List ℕ) → (o : Option ℕ) × May d name o × IsFileLeft d o (found name)
 
+-- A crash of a worse disk: of a file its durable bytes are left, and behind them anything, up to
+-- its length.
+abbrev pub IsFileSpoilt : Disk → Option ℕ → Option (List ℕ) → Type 0
+IsFileSpoilt d None None = Unit {0}
+IsFileSpoilt d None (Some bytes) = ⊥
+IsFileSpoilt d (Some i) None = ⊥
+IsFileSpoilt d (Some i) (Some bytes) = (d.kept i ≤ length bytes)
+    × (length bytes ≤ length (d.bytes i))
+    × (take (d.kept i) bytes ≡ take (d.kept i) (d.bytes i))
+
+pub record IsSpoilt (d : Disk) (found : Found) : Type 0 where
+  pub each : (name : List ℕ) → (o : Option ℕ) × May d name o × IsFileSpoilt d o (found name)
+
 -- The disk of a folder that was found and is used again: what was found is durable.
 pub record IsFresh (found : Found) (d : Disk) : Type 0 where
   pub none : (name : List ℕ) → found name ≡ None → d.names name ≡ None

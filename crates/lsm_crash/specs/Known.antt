@@ -121,6 +121,23 @@ pub record Recovers (known : Known) (found : Found) : Type 0 where
       → (number < 2 ^ 64) × (found (table_name number) ≡ Some image)
   pub there : AreThere version known.tables
 
+-- `CURRENT` names one of the manifests, and its first bytes, so many, come to one of the versions;
+-- each table is there, whole, those of the version among them.
+pub record KeepsFront (known : Known) (found : Found) : Type 0 where
+  pub manifest : ℕ
+  pub bytes : List ℕ
+  pub front : ℕ
+  pub version : Version
+  pub one : Has known.manifests manifest
+  pub good : Has known.versions version
+  pub current : found current_name ≡ Some (current_text manifest)
+  pub its : found (manifest_name manifest) ≡ Some bytes
+  pub short : front ≤ length bytes
+  pub comes : ComesTo (take front bytes) version
+  pub tables : (number : ℕ) (image : List ℕ) → known.tables number ≡ Some image
+      → found (table_name number) ≡ Some image
+  pub there : AreThere version known.tables
+
 -- the world that is read from a folder
 abbrev pub world_of : (known : Known) (found : Found) → Recovers known found → World
 world_of known found r = record { manifest = r.manifest; bytes = r.bytes; version = r.version; tables = known.tables }

@@ -15,9 +15,9 @@ ghost use Rattle.lsm_manifest.specs.LogWriting.{record_text};
 ghost use Rattle.lsm_manifest.specs.Shape.{IsShape};
 ghost use Rattle.lsm_manifest.specs.WholeEdit.{whole_edit};
 ghost use Rattle.lsm_crash.specs.Disk.{After, Disk, Leaves, Shows, Step, empty_disk};
-ghost use Rattle.lsm_crash.specs.Crash.{Found, IsFresh, IsLeft};
+ghost use Rattle.lsm_crash.specs.Crash.{Found, IsFresh, IsLeft, IsSpoilt};
 ghost use Rattle.lsm_crash.specs.Versions.{AreSmall, ComesTo, IsNamed, LeadsTo, Tables, Version};
-ghost use Rattle.lsm_crash.specs.Known.{IsHeld, IsSettled, IsSound, IsVacant, Known, Recovers, Stands, World, current_name, known_of, nothing, world_of};
+ghost use Rattle.lsm_crash.specs.Known.{IsHeld, IsSettled, IsSound, IsVacant, KeepsFront, Known, Recovers, Stands, World, current_name, known_of, nothing, world_of};
 ghost use Rattle.lsm_crash.specs.Operations.{Allows, Append, MayStart, Operation, Put, Remove, Start, after, either, plan_of, started, starting};
 ghost use Rattle.lsm_crash.specs.Among.{CutAmong, DoneAmong, Event, Goes, IsAside, IsGap, Spares};
 ghost use Rattle.lsm_crash.specs.History.{History, IsPhase, IsRead, Move, Phase};
@@ -101,6 +101,14 @@ pub fn reads_show_what_is_known()
         → (v : Version) × Has known.versions v × ComesTo bytes v }
 {}
 
+/// On a worse disk, where anything may stand behind the durable bytes of a file, `CURRENT` and the
+/// tables are spared, and a front of the manifest, its durable bytes, comes to one of the versions
+/// that are known. What its reader makes of the bytes behind that is not said.
+pub fn garbage_spares_what_is_durable()
+    ensures { (known : Known) (d : Disk) (found : Found) → IsHeld d known → IsSpoilt d found
+        → ((known.may_miss ≡ true) × (found current_name ≡ None)) ⊎ KeepsFront known found }
+{}
+
 /// Through any history of runs, operations that were cut or refused, crashes, and starts over what
 /// is known, as many of each as one likes, what is known stays true of the disk. So a history may
 /// begin in an empty folder, and whatever it ends with may be followed by a crash.
@@ -171,10 +179,10 @@ pub fn answered_calls_of_a_shelf_are_durable()
         → Leaves d new (λ e. IsSettled e (after w (Start number bytes v))) }
 {}
 
-/// What a shelf's calls leave that were refused, by the shelf's own words. A table that was not put
-/// or not removed changes nothing that is counted on, nor does want of memory in an append or a
-/// start. Any other refusal of these, and a crash in any call of a plan, leaves the version of
-/// before or the one of after.
+/// What a shelf's calls leave that were refused, by the shelf's own words. A put that was refused
+/// changes nothing that is counted on, nor does want of memory in an append or a start; nor does a
+/// removal that was refused, but that the table is no more counted on. Any other refusal of these,
+/// and a crash in any call of a plan, leaves the version of before or the one of after.
 pub fn refused_calls_of_a_shelf_leave_before_or_after()
     ensures put { (d : Disk) (old new : List Call) (w : World) (number : ℕ) (image : List ℕ)
         (fault : ShelfFault)
