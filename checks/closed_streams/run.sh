@@ -65,7 +65,7 @@ judge() { # READS INPUT WORDS..: 1 where the command reads standard input; all p
   run "$@"
   if [[ $closed == *1* || ($reads == 1 && $closed == *0*) ]]; then wanted=1; fi
   [[ $status == "$wanted" ]] || stop "status $wanted is wanted"
-  [[ $closed == *2* || $status == 0 || $(head -n 1 err) =~ ^(read|write)\ fault$ ]] || stop "no such refusal"
+  [[ $closed == *2* || $status == 0 ]] || grep -q -x -E '(read|write) fault' err || stop "no such refusal"
   case $2 in
     ingest) same_content new.list ;;
     compact) same_content old.list ;;
@@ -74,13 +74,14 @@ judge() { # READS INPUT WORDS..: 1 where the command reads standard input; all p
 }
 
 : > nothing
+echo "get 61" > script
 make_folder
 "$program" mktable < "$top/examples/fruit.txt" > table
 for closed in "" 0 1 2 01 02 12 012; do
   judge 1 "$top/examples/fruit.txt" mktable
   judge 1 table dump
   judge 1 "db.old/$(cat db.old/CURRENT)" manifest
-  judge 1 nothing script
+  judge 1 script script
   judge 0 nothing help
   judge 0 nothing --version
   judge 0 nothing check db

@@ -25,7 +25,7 @@ COMMANDS = ["ingest", "compact"]
 ERRORS = [getattr(errno, name) for name in os.environ.get("ERRORS", "ENOMEM ENOSPC EIO EINTR").split()]
 WORKERS = os.environ.get("WORKERS", "1 2").split()
 TORN = 5  # bytes that a short write puts there (refuse.c)
-GROUPS = 3  # compactions that are due at once
+GROUPS = 4  # of tables whose keys lie apart
 # What may be answered where a call was refused: what wants memory, the device, a table that can't be put, a store that was halted.
 REFUSAL = re.compile(r"refused (1 OutOfMemory|9 Device|36 PutFailed \d+ (1|9)|42 Halted)( in \d{6}\.ldb)?\n")
 
@@ -33,7 +33,7 @@ REFUSAL = re.compile(r"refused (1 OutOfMemory|9 Device|36 PutFailed \d+ (1|9)|42
 class Refuser:
     def __init__(self, lsm, leveldb, library, folder):
         self.lsm, self.leveldb, self.library, self.folder = lsm, leveldb, library, folder
-        self.db, self.old, self.batch = f"{folder}/db", f"{folder}/old", f"{folder}/batch"
+        self.db, self.batch, self.begun = f"{folder}/db", f"{folder}/batch", {}
         self.what = "the first folder"
 
     # ---- one run
@@ -54,22 +54,27 @@ class Refuser:
     # ---- the folder
 
     def make(self):
-        """A folder in which GROUPS compactions apart are due, a batch that writes over, deletes and adds, and what they come to."""
+        """What each command begins with, a folder and its content, and what an ingest comes to."""
         os.mkdir(self.db)
-        self.content = {}
+        content = {}
         for turn in range(3):
             for group in range(GROUPS):
-                pairs = {b"%d-%03d" % (group, i): b"%d" % turn for i in range(turn, 40, 2)}
-                self.come_in({key: value.hex() for key, value in pairs.items()})
-        os.rename(self.db, self.old)
-        batch = {key: None if i % 3 else "6e6577" for i, key in enumerate(sorted(self.content)[::5])} | {b"9-new": "31"}
+                batch = {b"%d-%03d" % (group, i): (b"%d" % turn).hex() for i in range(turn, 40, 2)}
+                self.write_batch(batch)
+                self.done("ingest", self.db, self.batch)
+                content = plain.apply(content, batch)
+            if turn == 1:
+                self.keep("ingest", content)
+        # twelve tables, in groups apart: three compactions are due
+        self.keep("compact", content)
+        content = self.begun["ingest"][1]
+        batch = {key: None if i % 3 else "6e6577" for i, key in enumerate(sorted(content)[::5])} | {b"9-new": "31"}
         self.write_batch(batch)
-        self.after = plain.apply(self.content, batch)
+        self.after = plain.apply(content, batch)
 
-    def come_in(self, batch):
-        self.write_batch(batch)
-        self.done("ingest", self.db, self.batch)
-        self.content = plain.apply(self.content, batch)
+    def keep(self, command, content):
+        shutil.copytree(self.db, f"{self.folder}/{command}")
+        self.begun[command] = f"{self.folder}/{command}", content
 
     def write_batch(self, batch):
         with open(self.batch, "w") as file:
@@ -108,7 +113,7 @@ class Refuser:
     def refuse(self, words, call, at, error, more, short):
         """Whether the run met the call of this number; the folder is judged then."""
         shutil.rmtree(self.db, ignore_errors=True)
-        shutil.copytree(self.old, self.db)
+        shutil.copytree(self.begun[words[0]][0], self.db)
         mark = f"{self.folder}/mark"
         if os.path.exists(mark):
             os.remove(mark)
@@ -127,8 +132,9 @@ class Refuser:
             self.stop(f"status {status}, answers {out[:100]!r}, says: {err[:300]}")
         self.counts["refused" if status else "done"] += 1
         self.look_at_manifest()
-        after = self.after if command == "ingest" else self.content
-        found = self.look(after) if status == 0 else self.look(self.content, after)
+        before = self.begun[command][1]
+        after = self.after if command == "ingest" else before
+        found = self.look(after) if status == 0 else self.look(before, after)
         if command == "ingest" and status == 1:
             self.counts["whole batch in all the same"] += found is self.after
         # it goes on, and LevelDB too
