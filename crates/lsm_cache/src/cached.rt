@@ -6,10 +6,11 @@ use crate::block_key::BlockKey;
 use crate::kept_block::KeptBlock;
 use crate::kept_blocks::KeptBlocks;
 use crate::kept_footer::{KeptFooter, names};
+use crate::parts::{block_there, share};
 use crate::recent::keep;
 use lru::LruCache;
 use lsm_block::Block;
-use lsm_reader::{Blocks, footer_from, is_inside, judge};
+use lsm_reader::{Blocks, footer_from, is_inside};
 use lsm_table::{FOOTER, Handle, Naming, ReadFault, Shelf, Slip, TRAILER, TableFault};
 use std::alloc::{AllocError, Global};
 use std::marker::{Model, PhantomData};
@@ -93,29 +94,33 @@ impl<N: Naming, S: Shelf> Blocks<S> for Cached<N, S> {
         offset: u64,
         size: u64,
     ) -> Result<Arc<Block>, ReadFault> {
+        let Cached {
+            shelf,
+            footers,
+            blocks,
+        } = self;
         let handle = Handle { offset, size };
         let key = BlockKey {
             number: receipt.number(),
             offset,
         };
-        let is_index = match self.footers.peek(&key.number) {
+        let is_index = match footers.peek(&key.number) {
             Some(kept) => names(&kept.footer, handle),
             None => false,
         };
-        if let Some(kept) = self.blocks.get(is_index, &key) {
-            if kept.handle == handle && self.shelf.same(&kept.receipt, receipt) {
-                return Ok(Arc::try_clone(&kept.block)?);
+        if let Some(kept) = blocks.get(is_index, &key) {
+            if kept.handle == handle && shelf.same(&kept.receipt, receipt) {
+                return share(&kept.block);
             }
         }
-        if !is_inside(handle, receipt.size()) {
+        let image = receipt.size();
+        if !is_inside(handle, image) {
             return Err(ReadFault::Table(TableFault::BadHandle));
         }
-        let text = self
-            .shelf
-            .read_at(alloc, receipt, offset, size as usize + TRAILER)?;
-        let block = match judge(alloc, handle, text) {
+        let text = shelf.read_at(alloc, receipt, offset, size as usize + TRAILER)?;
+        let block = match block_there(alloc, handle, image, text) {
             Ok(block) => block,
-            Err(fault) => return Err(ReadFault::Table(fault)),
+            Err(fault) => return Err(fault),
         };
         let shared = match Arc::try_clone(&block) {
             Ok(shared) => shared,
@@ -123,12 +128,12 @@ impl<N: Naming, S: Shelf> Blocks<S> for Cached<N, S> {
             Err(_) => return Ok(block),
         };
         let kept = KeptBlock {
-            receipt: self.shelf.copy_receipt(receipt),
+            receipt: shelf.copy_receipt(receipt),
             handle,
             block: shared,
             of: PhantomData,
         };
-        self.blocks.put(is_index, key, kept);
+        blocks.put(is_index, key, kept);
         Ok(block)
     }
 
