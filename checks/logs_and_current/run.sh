@@ -97,6 +97,17 @@ logs() {
   is_done ingest db batch --beside-log
   is_done compact db
   cmp -s "db.old/$log.log" "db/$log.log" || stop "the log changed"
+  # LevelDB would read it into a database that is begun beside it, too
+  put_back
+  rm db/CURRENT
+  refuses "refused 10 Missing" "" ingest db batch
+  refuses "refused 51 UnflushedLog $number" "$log\.log .*--beside-log" ingest db batch --begin
+  rm -r db
+  mkdir db
+  cp "db.old/$log.log" db
+  refuses "refused 51 UnflushedLog $number" "$log\.log .*--beside-log" ingest db batch
+  [[ $(ls db) == "$log.log" || $(ls db) == "$log.log"$'\n'LOCK ]] || stop "it began a database"
+  is_done ingest db batch --beside-log
   # the way that the second line names
   put_back
   "$work/leveldb" scan db > list
