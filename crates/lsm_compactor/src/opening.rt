@@ -26,10 +26,7 @@ use std::sync::Wait;
 /// A shelf on a folder of which the lock is held, exclusively.
 ///
 /// `Locked` where another program has the folder open; the refusals of taking the lock.
-pub fn held_shelf<C: FolderCalls, R: Wait>(
-    rt: &R,
-    folder: C,
-) -> Result<FileShelf<C>, CompactFault>
+pub fn held_shelf<C: FolderCalls, R: Wait>(rt: &R, folder: C) -> Result<FileShelf<C>, CompactFault>
     ensures held { IfOk result (λ s. IsHeld Exclusive (C.calls folder) (C.calls (folder_of s))) }
     ensures fresh { IfOk result (λ s. file_told C.place s ≡ fresh (C.place folder)) }
     ensures refused { IfErr result (λ e. NoLock (C.calls folder) e) }

@@ -20,11 +20,7 @@ use std::thread::Threads;
 
 /// The exit status of a compaction, and the lines of its fault.
 #[tactic(auto, using(crate::proofs::Quiet::keeps_same))]
-fn status_of<E: Write>(
-    done: Result<(), CompactFault>,
-    reasons: Option<&Reasons>,
-    err: &mut E,
-) -> u8
+fn status_of<E: Write>(done: Result<(), CompactFault>, reasons: Option<&Reasons>, err: &mut E) -> u8
     ensures ok { OnOk done (result ≡ 0) }
     ensures err { OnErr done (result ≡ 1) }
     ensures quiet { result ≡ 0 → Keeps (E.contents err.old) (E.contents err.new) }
