@@ -129,7 +129,10 @@ where
     ensures refused { IfErr result (λ e. StopsCleaning (AreHonest C.calls) (C.place folder.old) e (C.calls folder.old) (C.calls folder.new) (O.contents out.old) (O.contents out.new)) }
 {
     let kept = kept_in(rt, alloc, &*folder)?;
-    tidy(rt, alloc, folder, &kept, out)
+    match tidy(rt, alloc, folder, &kept, out) {
+        Ok(()) => Ok(()),
+        Err(fault) => Err(fault),
+    }
 }
 
 /// Takes the lock of a folder, opens its database to read, removes the files that this does not
@@ -146,5 +149,8 @@ where
     ensures refused { IfErr result (λ e. IsUncleaned (AreHonest C.calls) (C.place folder.old) e (C.calls folder.old) (C.calls folder.new) (O.contents out.old) (O.contents out.new)) }
 {
     hold(rt, folder, LockKind::Exclusive)?;
-    clean_held(rt, alloc, folder, out)
+    match clean_held(rt, alloc, folder, out) {
+        Ok(()) => Ok(()),
+        Err(fault) => Err(fault),
+    }
 }

@@ -66,6 +66,7 @@ fn create<N: Boarded, S: Shelf, R: Wait>(
     requires named { arc_value ends.registry ≡ N.registry }
     requires board { IsNewBoard N.board usual ends.publisher ends.pinners.items }
     ensures created { IfOk result (λ s. IsNew number s (S.told shelf.old) (S.told shelf.new)) }
+    ensures place { OnOk result ((S.told shelf.new).place ≡ N.place) }
     ensures refused { IfErr result (λ e. IsUncreated number (S.refuses N.place) e (S.told shelf.old) (S.told shelf.new)) }
 {
     if number == u64::MAX {
@@ -116,6 +117,7 @@ fn reopen<N: Boarded, S: Shelf, R: Wait>(
     requires named { arc_value ends.registry ≡ N.registry }
     requires board { IsNewBoard N.board usual ends.publisher ends.pinners.items }
     ensures opened { IfOk result (λ s. IsReopened S.honest s (S.told shelf.old) (S.told shelf.new)) }
+    ensures place { OnOk result ((S.told shelf.new).place ≡ N.place) }
     ensures refused { IfErr result (λ e. IsUnopened (λ number image. (r : S.Receipt) × S.is_of N.place r × (S.Receipt.number r ≡ number) × (S.Receipt.image r ≡ image)) (S.refuses N.place) S.honest e (S.told shelf.old) (S.told shelf.new)) }
 {
     let options = Options::usual();
@@ -139,6 +141,7 @@ fn open_beside<N: Boarded, S: Shelf, R: Wait>(
     requires named { arc_value ends.registry ≡ N.registry }
     requires board { IsNewBoard N.board usual ends.publisher ends.pinners.items }
     ensures opened { IfOk result (λ s. OpensBeside S.honest logs.now s (S.told shelf.old) (S.told shelf.new)) }
+    ensures place { OnOk result ((S.told shelf.new).place ≡ N.place) }
     ensures refused { IfErr result (λ e. IsNotOpened (λ number image. (r : S.Receipt) × S.is_of N.place r × (S.Receipt.number r ≡ number) × (S.Receipt.image r ≡ image)) (S.refuses N.place) S.honest logs.now e (S.told shelf.old) (S.told shelf.new)) }
 {
     refuse_unflushed(rt, alloc, shelf, logs)?;
@@ -161,6 +164,7 @@ pub(crate) fn start<N: Boarded, S: Shelf, R: Wait>(
     requires named { arc_value ends.registry ≡ N.registry }
     requires board { IsNewBoard N.board usual ends.publisher ends.pinners.items }
     ensures started { IfOk result (λ s. IsStarted S.honest prepared.now.start prepared.now.logs.items s (S.told shelf.old) (S.told shelf.new)) }
+    ensures place { OnOk result ((S.told shelf.new).place ≡ N.place) }
     ensures refused { IfErr result (λ e. IsStartRefusal (λ number image. (r : S.Receipt) × S.is_of N.place r × (S.Receipt.number r ≡ number) × (S.Receipt.image r ≡ image)) (S.refuses N.place) S.honest prepared.now.start prepared.now.logs.items e (S.told shelf.old) (S.told shelf.new)) }
 {
     match prepared.start {

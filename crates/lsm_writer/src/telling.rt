@@ -133,8 +133,9 @@ pub fn explain<E: Write>(
     fault: &WriterFault,
     reasons: Option<&Reasons>,
 ) -> io::Result<()> {
-    let writes = &[];
-    explain_of(err, fault, Circumstances { writes, reasons })
+    let mut circumstances = Circumstances::none();
+    circumstances.reasons = reasons;
+    explain_of(err, fault, circumstances)
 }
 
 /// Writes the line of a fault, and lines that say what it means; and flushes.
