@@ -1,8 +1,4 @@
-use Rattle.std.proofs.Common.{inr}
 use Rattle.lsm_writer.proofs.cleaning.clean_held.Goals as goal
 
 pub returns-in-Ok-clause-cleaned : goal.returns-in-Ok-clause-cleaned
 returns-in-Ok-clause-cleaned g c = (_, _, c.in_ok-kept.ensures.kept, c.in-Ok.ensures.tidied)
-
-pub returns-in-Err-clause-refused : goal.returns-in-Err-clause-refused
-returns-in-Err-clause-refused g c = inr (_, _, c.in_ok-kept.ensures.kept, c.in-Err.ensures.refused)
