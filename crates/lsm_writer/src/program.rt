@@ -57,8 +57,8 @@ fn status_of<E: Write>(
 /// where it is refused. A fault is one line on `err`, and may have more behind it that say what it
 /// means.
 ///
-/// A database that is there is not opened beside a log that LevelDB has not flushed, if such logs
-/// were looked at: `UnflushedLog` with the number of the first one.
+/// Neither is done beside a log that LevelDB would read when it opens the folder, if logs were
+/// looked at: `UnflushedLog` with the number of the first one.
 pub fn ingest<S: Shelf, R: Wait, O: Write, E: Write>(
     rt: &R,
     alloc: Global,
