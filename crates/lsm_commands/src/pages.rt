@@ -29,10 +29,11 @@ A DIR that is not there is `refused 9 Device`, one without a file CURRENT
 manifest and no table either. A DIR that is a symbolic link is the folder that
 it leads to; what is no regular file is not read.
 
-`ingest`, `compact` and `clean` hold LevelDB's lock file, DIR/LOCK, alone; the
-other commands share it where it is there. Where another program holds it, also
-a LevelDB, it is `refused 52 Locked`, and nothing is read or written. A LevelDB
-is noticed where the system has the file /proc/locks.
+`ingest`, `compact` and `clean` hold LevelDB's lock file, DIR/LOCK, alone, and
+make it where it is not there; the other commands share it where it is there.
+Where another program holds it, also a LevelDB, it is `refused 52 Locked`, and
+nothing is read or written. A LevelDB is noticed where the system has the file
+/proc/locks; it does not notice `lsm`: do not open DIR while `lsm` writes there.
 
 No command reads a write-ahead log (`N.log`). Of each one that LevelDB has not
 flushed, `list`, `get` and `scan` say on standard error how many bytes are not
@@ -249,18 +250,19 @@ keys out of order are `refused 38 KeyOrder I`, where I counts from 0.
 Where DIR has no file CURRENT, a database is begun in it. But where it has a
 manifest or a table, CURRENT was lost, and it is `refused 10 Missing`; a second
 line says how CURRENT is written anew. With --begin a database is begun there
-all the same: what the old one holds is then not read any more, and `compact`
-and `clean` remove its tables.
+all the same: what the old one's tables hold is then not read any more, and
+`compact` and `clean` remove them (`N.ldb`).
 
 A write-ahead log (`N.log`) that LevelDB has not flushed is `refused 51
-UnflushedLog N`: open and close DIR once with the program that wrote it, which
-flushes its log. With --beside-log the batch comes in all the same; what stands
-in the log may then win over it in LevelDB, and be newer or older than it.
+UnflushedLog N`, also where a database would be begun beside it: open and close
+DIR once with the program that wrote it, which flushes its log. With
+--beside-log the batch comes in all the same; what stands in the log may then
+win over it in LevelDB, and be newer or older than it.
 
-Another program that has DIR open is `refused 52 Locked`. Each run begins a new
-manifest, also where the batch is then refused; old manifests stay until
-`lsm clean DIR`. At 12 tables in level 0 the batch is `refused 40
-LevelZeroFull`: run `lsm compact DIR`, and then ingest again.
+Another program that has DIR open is `refused 52 Locked`. Each run that opens or
+begins a database begins a new manifest, also where the batch is then refused;
+old manifests stay until `lsm clean DIR`. At 12 tables in level 0 the batch is
+`refused 40 LevelZeroFull`: run `lsm compact DIR`, and then ingest again.
 
 Exit status: 0 the batch came in, 1 refused, 2 bad command line. After a `write
 fault` the batch is in; after `refused 9 Device` it may be.",
