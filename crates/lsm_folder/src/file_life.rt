@@ -3,7 +3,7 @@
 use crate::lock_kind::LockKind;
 use std::sync::atomic::{AtomicBool, AtomicUsize, Ordering};
 
-/// Who holds an exclusive lock is told so.
+/// The count that stands for one exclusive lock.
 const EXCLUSIVE: usize = usize::MAX;
 
 /// Whether a file in memory is gone, and how many share its lock.

@@ -23,7 +23,8 @@ use std::sync::Wait;
 /// makes another on the same folder.
 ///
 /// A file is a regular one: another thing of its name, such as a pipe or a folder, is `Failed` to
-/// each call that is passed the name of a file that must be there.
+/// each call that reads, writes, syncs, measures or locks it. `rename` and `remove` take a pipe as
+/// they take a file.
 pub trait FolderCalls: Drop {
     /// What stands for a file that was made or read whole.
     type Mark: Mark;
@@ -49,8 +50,9 @@ pub trait FolderCalls: Drop {
         ensures mark { IfOk result (λ m. (Self.Mark.name m ≡ name.now) × (Self.Mark.image m ≡ bytes.now) × is_of (place self.old) m) }
         ensures fault { IfErr result NotMissing };
 
-    /// Makes or empties a file, and puts these bytes into it. After `Failed` it may be there with a
-    /// part of them; after `OutOfMemory` it is as it was.
+    /// Makes a file in place of what has the name, and puts these bytes into it: nothing is written
+    /// through a link. After `Failed` it may be there with a part of them, or gone; after
+    /// `OutOfMemory` it is as it was.
     fn write<R: Wait>(&mut self, rt: &R, name: &str, bytes: &[u8]) -> Result<(), FolderFault>
         ensures noted { calls self.new ≡ wrote name.now bytes.now result ∷ calls self.old }
         ensures place { place self.new ≡ place self.old }
@@ -90,11 +92,11 @@ pub trait FolderCalls: Drop {
         ensures place { place self.new ≡ place self.old }
         ensures fault { IfErr result NotExists };
 
-    /// Locks a file, unless another holds a lock of it that forbids this one: an exclusive lock
-    /// forbids each other, and is forbidden by each other. True where it is held now: until the
-    /// value is let go, or locks once more with the answer true. Forks do not hold it. `Missing`
-    /// where there is no such file, which an exclusive lock makes; after `Failed` it may be made,
-    /// and no lock was taken.
+    /// Locks a file, unless a lock of it that is held forbids this one, be it the value's own: an
+    /// exclusive lock forbids each other, and is forbidden by each other. True where it is held
+    /// now: until the value is let go, or locks once more with the answer true; after each other
+    /// answer it holds what it held before. Forks do not hold it. `Missing` where there is no such
+    /// file, which an exclusive lock makes; after `Failed` it may be made, and no lock was taken.
     fn lock<R: Wait>(&mut self, rt: &R, name: &str, kind: LockKind) -> Result<bool, FolderFault>
         ensures noted { calls self.new ≡ locked name.now kind result ∷ calls self.old }
         ensures place { place self.new ≡ place self.old }

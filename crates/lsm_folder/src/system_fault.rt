@@ -2,7 +2,9 @@
 
 ghost use Rattle.std.specs.Prelude.{◌≡◌, ◌≢◌, ◌↔◌};
 ghost use Rattle.lsm_folder.specs.FolderFault.{NotMissing, NotExists, NotNamed};
+ghost use Rattle.std.specs.IoError.{error_kind};
 ghost use Rattle.lsm_folder.specs.SystemFault.{fault_kind};
+ghost use Rattle.lsm_folder.specs.declared.system_fault.SystemFault.TheVariants.{Unacted, Acted};
 
 use crate::folder_fault::FolderFault;
 use std::alloc::AllocError;
@@ -20,7 +22,9 @@ pub enum SystemFault {
 impl SystemFault {
     /// A refusal of a call that acts. One for want of memory does not say that it did not.
     pub(crate) fn asked(error: io::Error) -> SystemFault
-        ensures { fault_kind result ≢ ErrorKind.OutOfMemory }
+        ensures never { fault_kind result ≢ ErrorKind.OutOfMemory }
+        ensures acted { error_kind error ≡ ErrorKind.OutOfMemory → result ≡ Acted error }
+        ensures unacted { error_kind error ≢ ErrorKind.OutOfMemory → result ≡ Unacted error }
     {
         match error.kind() {
             ErrorKind::OutOfMemory => SystemFault::Acted(error),
@@ -84,12 +88,21 @@ impl SystemFault {
 }
 
 impl From<io::Error> for SystemFault {
+    ghost use Rattle.lsm_folder.specs.declared.system_fault.SystemFault.TheVariants.{Unacted};
+
+    ghost from_gives = { λ error f. f ≡ Unacted error };
+
     fn from(error: io::Error) -> SystemFault {
         SystemFault::Unacted(error)
     }
 }
 
 impl From<AllocError> for SystemFault {
+    ghost use Rattle.std.specs.declared.io.ErrorKind.TheVariants.{OutOfMemory};
+    ghost use Rattle.lsm_folder.specs.SystemFault.{fault_kind};
+
+    ghost from_gives = { λ _ f. fault_kind f ≡ OutOfMemory };
+
     fn from(error: AllocError) -> SystemFault {
         SystemFault::Unacted(io::Error::from(error))
     }

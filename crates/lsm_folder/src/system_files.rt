@@ -56,10 +56,23 @@ pub(crate) fn write<R: Files<File = File> + AllocGlobal>(
     name: &str,
     bytes: &[u8],
 ) -> Result<(), SystemFault> {
-    let mut options = OpenOptions::new();
-    options.write(true).create(true).truncate(true);
-    let mut file = open_regular(rt, folder, name, &options)?;
+    let path = path_of(rt.alloc(), folder, name)?;
+    clear(rt, path.as_str())?;
+    let mut file = File::create_new(rt, path.as_str()).map_err(|e| SystemFault::asked(e))?;
     file.write_all(bytes).map_err(|e| SystemFault::Acted(e))
+}
+
+/// Takes the name from the file or the link that has it, so that nothing is written through a link:
+/// `CURRENT`, a table, or a file of another folder may have the same bytes.
+fn clear<R: Files<File = File>>(rt: &R, path: &str) -> Result<(), SystemFault> {
+    match fs::metadata(rt, path) {
+        Ok(found) if !found.is_file() => return Err(irregular()),
+        _ => {}
+    }
+    match fs::remove_file(rt, path) {
+        Err(error) if error.kind() != io::ErrorKind::NotFound => Err(SystemFault::asked(error)),
+        _ => Ok(()),
+    }
 }
 
 pub(crate) fn append<R: Files<File = File> + AllocGlobal>(
