@@ -4,7 +4,7 @@
 #
 #   logs      a log that LevelDB has not flushed: 51, --beside-log, notes on standard error; flushed, all is done
 #   current   CURRENT is lost: 10, and the second line's way back; --begin begins beside the old manifests and tables
-#   links     a symbolic link as DIR
+#   links     a symbolic link as DIR; links under the names that are written next
 #   pipes     a FIFO as CURRENT, as the manifest, as a table, as LOCK, as a log: refused, no command waits for ever
 #   folders   a folder that is named as a table
 #   numbers   a table of the number 2^64 - 1: 46
@@ -154,10 +154,22 @@ current() {
 }
 
 links() {
+  local number table
   make_folder
   mv db real
   ln -s real db
   each_command is_done
+  # links under the names that are written next: nothing is written through them
+  rm -r real db
+  make_folder
+  table=$(cd db && ls -- *.ldb | head -n 1)
+  for number in 0000{01..20}; do
+    ln -s CURRENT "db/$number.dbtmp"
+    [[ -e db/MANIFEST-$number ]] || ln -s "$table" "db/MANIFEST-$number"
+  done
+  is_done compact db
+  is_done scan db
+  cmp -s list out || stop "other content"
 }
 
 pipes() {
