@@ -35,12 +35,13 @@ fn ask_folder(waits: &impl Wait, rt: HostRuntime, line: &DirectoryLine<'_>) -> i
         Err(fault) => return Ok(refuse(&fault, &reasons, &mut err)),
     };
     let mut out = BufWriter::new(rt.alloc(), rt.stdout())?;
+    let reasons = Some(&reasons);
     let request = Request {
         command: &line.command,
         form: line.form,
         files: &files,
         progress: line.progress,
-        reasons: Some(&reasons),
+        reasons,
     };
     Ok(lsm_directory::run(waits, rt.alloc(), &mut shelf, &request, &mut out, &mut err))
 }
