@@ -6,10 +6,11 @@ use crate::block_key::BlockKey;
 use crate::kept_block::KeptBlock;
 use crate::kept_blocks::KeptBlocks;
 use crate::kept_footer::{KeptFooter, names};
+use crate::parts::{block_there, share};
 use crate::recent::keep;
 use lru::LruCache;
 use lsm_block::Block;
-use lsm_reader::{Blocks, footer_from, is_inside, judge};
+use lsm_reader::{Blocks, footer_from, is_inside};
 use lsm_table::{FOOTER, Handle, Naming, ReadFault, Shelf, Slip, TRAILER, TableFault};
 use std::alloc::{AllocError, Global};
 use std::marker::{Model, PhantomData};
@@ -104,18 +105,19 @@ impl<N: Naming, S: Shelf> Blocks<S> for Cached<N, S> {
         };
         if let Some(kept) = self.blocks.get(is_index, &key) {
             if kept.handle == handle && self.shelf.same(&kept.receipt, receipt) {
-                return Ok(Arc::try_clone(&kept.block)?);
+                return share(&kept.block);
             }
         }
-        if !is_inside(handle, receipt.size()) {
+        let image = receipt.size();
+        if !is_inside(handle, image) {
             return Err(ReadFault::Table(TableFault::BadHandle));
         }
         let text = self
             .shelf
             .read_at(alloc, receipt, offset, size as usize + TRAILER)?;
-        let block = match judge(alloc, handle, text) {
+        let block = match block_there(alloc, handle, image, text) {
             Ok(block) => block,
-            Err(fault) => return Err(ReadFault::Table(fault)),
+            Err(fault) => return Err(fault),
         };
         let shared = match Arc::try_clone(&block) {
             Ok(shared) => shared,

@@ -12,6 +12,7 @@ mod cached;
 mod kept_block;
 mod kept_blocks;
 mod kept_footer;
+mod parts;
 mod recent;
 
 pub use block_key::BlockKey;

@@ -1,5 +1,5 @@
 use Rattle.std.specs.Prelude.{◌≡◌, length}
-use Rattle.example_version.proofs.scan_all.Given as goal
+use Rattle.example.proofs.version.show_rest.Given as goal
 
 abbrev pub invariant-loop-scan : goal.invariant-loop-scan
 invariant-loop-scan g l = record { here : (g.S.Shelf.told l.shelf).place ≡ g.N.Naming.place }
