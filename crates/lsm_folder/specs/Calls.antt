@@ -1,8 +1,9 @@
 -- The calls on a folder with their answers, and when the answers are true (this project's rule).
-use Rattle.std.specs.Prelude.{◌≡◌, ℕ, List, [], ◌∷◌, take, drop, Result, Ok, Err}
+use Rattle.std.specs.Prelude.{◌≡◌, ℕ, Bool, List, [], ◌∷◌, take, drop, Result, Ok, Err}
 use Rattle.std.specs.Coded.{Unit-prop}
 use denote.Struct.Props as logic
 use Rattle.lsm_folder.specs.declared.folder_fault.FolderFault.{FolderFault}
+use Rattle.lsm_folder.specs.declared.lock_kind.LockKind.{LockKind}
 
 -- what a call that only changes the folder answers: that it was Ok, or why it was refused
 abbrev pub Answer : Type 0
@@ -41,6 +42,8 @@ pub data Call : Type 0 where
   loaded : (name : List ℕ) → Result (List ℕ) FolderFault → Call
   -- the names of the folder's files
   listed : Result (List (List ℕ)) FolderFault → Call
+  -- locks the file, and tells whether the lock is held now, or another has one that forbids it
+  locked : (name : List ℕ) (kind : LockKind) → Result Bool FolderFault → Call
 
 -- an answer is a part of the image
 abbrev pub IsPart : List ℕ → ℕ → ℕ → Result (List ℕ) FolderFault → Type 0
@@ -52,7 +55,7 @@ IsPart image offset len (Ok bytes) = bytes ≡ take len (drop offset image)
 -- loaded, listed or measured it says nothing: forks and other programs may change the folder
 -- between two calls, so there is no text with which a caller could compare the answer; what was
 -- loaded is the image of the new mark, and later reads are compared with that. A refusal is always
--- true: it promises nothing
+-- true: it promises nothing. Who else locked a file is known to the others
 abbrev pub IsTrueCall : Call → Type 0
 IsTrueCall opened = Unit {0}
 IsTrueCall (made name bytes answer) = Unit {0}
@@ -66,6 +69,7 @@ IsTrueCall (measured name answer) = Unit {0}
 IsTrueCall (read name image offset len answer) = IsPart image offset len answer
 IsTrueCall (loaded name answer) = Unit {0}
 IsTrueCall (listed answer) = Unit {0}
+IsTrueCall (locked name kind answer) = Unit {0}
 
 -- the last call of the list, which stands first, was answered with the truth
 abbrev pub LastIsTrue : List Call → Type 0
@@ -95,3 +99,4 @@ LastIsTrue-prop (measured name answer ∷ cs) = Unit-prop
 LastIsTrue-prop (read name image offset len answer ∷ cs) = IsPart-prop image offset len answer
 LastIsTrue-prop (loaded name answer ∷ cs) = Unit-prop
 LastIsTrue-prop (listed answer ∷ cs) = Unit-prop
+LastIsTrue-prop (locked name kind answer ∷ cs) = Unit-prop

@@ -7,11 +7,11 @@ use Rattle.lsm_folder.specs.Place.{Place, in_memory, at_path}
 use Rattle.lsm_folder.specs.declared.system_folder.SystemFolder.{SystemFolder}
 use Rattle.lsm_folder.specs.declared.system_mark.SystemMark.{SystemMark}
 
-abbrev pub system_calls : {R F D : Type 0} → SystemFolder R F D → List Call
+abbrev pub system_calls : {R D : Type 0} → SystemFolder R D → List Call
 system_calls f = f.log.calls
 
 -- the folder is named by its path, and by the marks that it handed out
-abbrev pub system_place : {R F D : Type 0} → SystemFolder R F D → Place
+abbrev pub system_place : {R D : Type 0} → SystemFolder R D → Place
 system_place f = at_path (string_bytes f.path) (arc_value f.marks)
 
 -- the folder handed the mark out

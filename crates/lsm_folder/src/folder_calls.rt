@@ -3,9 +3,10 @@
 ghost use Rattle.std.specs.Prelude.{◌≡◌, ℕ, ◌+◌, ◌≤◌, ◌^◌, List, [], ◌∷◌, Ok, Err, length, map, IfOk, IfErr, IsTrue, MatchResult, string_bytes};
 ghost use Rattle.lsm_folder.specs.Place.{Place};
 ghost use Rattle.lsm_folder.specs.FolderFault.{NotMissing, NotExists, NotNamed};
-ghost use Rattle.lsm_folder.specs.Calls.{Call, answer_of, made, wrote, appended, synced, folder_synced, renamed, removed, measured, read, loaded, listed};
+ghost use Rattle.lsm_folder.specs.Calls.{Call, answer_of, made, wrote, appended, synced, folder_synced, renamed, removed, measured, read, loaded, listed, locked};
 
 use crate::folder_fault::FolderFault;
+use crate::lock_kind::LockKind;
 use crate::mark::Mark;
 use std::alloc::Global;
 use std::sync::Wait;
@@ -14,9 +15,15 @@ use std::sync::Wait;
 ///
 /// Each method that takes `&mut self` makes one call and notes it with its answer, the fault where
 /// it was refused (`noted`): exactly one, also where memory was refused before the call acted.
-/// `OutOfMemory` can come from each of them; `fault` says which others can. Nothing is said of what
-/// a read answers: that is `AreHonest`, a premise on the type. One value has one user; `fork` makes
-/// another on the same folder.
+/// `OutOfMemory` can come from each of them, and means that the call did not act: nothing was made,
+/// emptied, written, synced, renamed, removed or locked. A folder that wants memory once a file is
+/// open for such a call, or once it asked for the change of a name, answers `Failed`, after which
+/// the call may have acted or not. `fault` says which other refusals can come. Nothing is said of
+/// what a read answers: that is `AreHonest`, a premise on the type. One value has one user; `fork`
+/// makes another on the same folder.
+///
+/// A file is a regular one: another thing of its name, such as a pipe or a folder, is `Failed` to
+/// each call that is passed the name of a file that must be there.
 pub trait FolderCalls: Drop {
     /// What stands for a file that was made or read whole.
     type Mark: Mark;
@@ -35,49 +42,61 @@ pub trait FolderCalls: Drop {
     fn alloc(&self) -> Global;
 
     /// Makes a file that was not there, with these bytes. `Exists` where a file has the name. After
-    /// `Failed` the file may be there with a part of the bytes.
+    /// `Failed` the file may be there with a part of the bytes; after `OutOfMemory` there is none.
     fn make<R: Wait>(&mut self, rt: &R, name: &str, bytes: &[u8]) -> Result<Self::Mark, FolderFault>
         ensures noted { calls self.new ≡ made name.now bytes.now (answer_of result) ∷ calls self.old }
         ensures place { place self.new ≡ place self.old }
         ensures mark { IfOk result (λ m. (Self.Mark.name m ≡ name.now) × (Self.Mark.image m ≡ bytes.now) × is_of (place self.old) m) }
         ensures fault { IfErr result NotMissing };
 
-    /// Makes or empties a file, and puts these bytes into it. After a refusal it may be there with
-    /// a part of them.
+    /// Makes or empties a file, and puts these bytes into it. After `Failed` it may be there with a
+    /// part of them; after `OutOfMemory` it is as it was.
     fn write<R: Wait>(&mut self, rt: &R, name: &str, bytes: &[u8]) -> Result<(), FolderFault>
         ensures noted { calls self.new ≡ wrote name.now bytes.now result ∷ calls self.old }
         ensures place { place self.new ≡ place self.old }
         ensures fault { IfErr result NotNamed };
 
     /// Puts these bytes behind those of a file. `Missing` where there is none. After `Failed` a
-    /// front of them may be there.
+    /// front of them may be there; after `OutOfMemory` and `Missing` none is.
     fn append<R: Wait>(&mut self, rt: &R, name: &str, bytes: &[u8]) -> Result<(), FolderFault>
         ensures noted { calls self.new ≡ appended name.now bytes.now result ∷ calls self.old }
         ensures place { place self.new ≡ place self.old }
         ensures fault { IfErr result NotExists };
 
-    /// Makes a file's bytes durable. `Missing` where there is none.
+    /// Makes a file's bytes durable. `Missing` where there is none. After `OutOfMemory` it was not
+    /// tried; after `Failed` it may be that they never will be.
     fn sync<R: Wait>(&mut self, rt: &R, name: &str) -> Result<(), FolderFault>
         ensures noted { calls self.new ≡ synced name.now result ∷ calls self.old }
         ensures place { place self.new ≡ place self.old }
         ensures fault { IfErr result NotExists };
 
-    /// Makes the folder's names durable.
+    /// Makes the folder's names durable. After `OutOfMemory` it was not tried.
     fn sync_folder<R: Wait>(&mut self, rt: &R) -> Result<(), FolderFault>
         ensures noted { calls self.new ≡ folder_synced result ∷ calls self.old }
         ensures place { place self.new ≡ place self.old }
         ensures fault { IfErr result NotNamed };
 
     /// Gives the file of the first name the second, in place of the file that has it. `Missing`
-    /// where no file has the first.
+    /// where no file has the first. After `Failed` it may have it; after `OutOfMemory` not.
     fn rename<R: Wait>(&mut self, rt: &R, from: &str, to: &str) -> Result<(), FolderFault>
         ensures noted { calls self.new ≡ renamed from.now to.now result ∷ calls self.old }
         ensures place { place self.new ≡ place self.old }
         ensures fault { IfErr result NotExists };
 
-    /// Takes a file out of the folder. `Missing` where there is none.
+    /// Takes a file out of the folder. `Missing` where there is none. After `Failed` it may be
+    /// gone; after `OutOfMemory` it is there.
     fn remove<R: Wait>(&mut self, rt: &R, name: &str) -> Result<(), FolderFault>
         ensures noted { calls self.new ≡ removed name.now result ∷ calls self.old }
+        ensures place { place self.new ≡ place self.old }
+        ensures fault { IfErr result NotExists };
+
+    /// Locks a file, unless another holds a lock of it that forbids this one: an exclusive lock
+    /// forbids each other, and is forbidden by each other. True where it is held now: until the
+    /// value is let go, or locks once more with the answer true. Forks do not hold it. `Missing`
+    /// where there is no such file, which an exclusive lock makes; after `Failed` it may be made,
+    /// and no lock was taken.
+    fn lock<R: Wait>(&mut self, rt: &R, name: &str, kind: LockKind) -> Result<bool, FolderFault>
+        ensures noted { calls self.new ≡ locked name.now kind result ∷ calls self.old }
         ensures place { place self.new ≡ place self.old }
         ensures fault { IfErr result NotExists };
 
@@ -123,7 +142,8 @@ pub trait FolderCalls: Drop {
         ensures limit { IfOk result (λ r. length r.1.items ≤ 2 ^ 30) }
         ensures fault { IfErr result NotExists };
 
-    /// The names of the folder's files, in no order. A name that is no text is left out.
+    /// The names of the folder's files, in no order. A folder in it, and a name that is no text, is
+    /// left out.
     fn list<R: Wait>(&mut self, rt: &R, alloc: Global) -> Result<Vec<String>, FolderFault>
         ensures noted { MatchResult result
             (λ v. calls self.new ≡ listed (Ok (map string_bytes v.items)) ∷ calls self.old)

@@ -10,6 +10,7 @@
 // What a folder is asked, and why it refuses.
 mod folder_calls;
 mod folder_fault;
+mod lock_kind;
 mod mark;
 
 // What contracts read of a folder: its calls, in order.
@@ -19,25 +20,31 @@ mod tags;
 // A folder in memory.
 mod directory;
 mod file;
+mod file_life;
 mod image;
 mod memory_calls;
 mod memory_files;
 mod memory_folder;
+mod memory_lock;
 mod memory_mark;
 mod stops;
 
 // A folder of the system.
+mod reasons;
 mod system_calls;
 mod system_fault;
 mod system_files;
 mod system_folder;
+mod system_locks;
 mod system_mark;
 
 pub use folder_calls::FolderCalls;
 pub use folder_fault::FolderFault;
+pub use lock_kind::LockKind;
 pub use mark::Mark;
 pub use memory_calls::memory_is_honest;
 pub use memory_folder::MemoryFolder;
 pub use memory_mark::MemoryMark;
+pub use reasons::Reasons;
 pub use system_folder::SystemFolder;
 pub use system_mark::SystemMark;

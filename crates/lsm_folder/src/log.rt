@@ -2,9 +2,10 @@
 
 ghost use Rattle.std.specs.Prelude.{◌≡◌, ℕ, Ok, Err, List, [], ◌∷◌, map, string_bytes};
 ghost use Rattle.std.specs.Borrow.{ftrue};
-ghost use Rattle.lsm_folder.specs.Calls.{Call, Answer, answer_of, opened, made, wrote, appended, synced, folder_synced, renamed, removed, measured, read, loaded, listed};
+ghost use Rattle.lsm_folder.specs.Calls.{Call, Answer, answer_of, opened, made, wrote, appended, synced, folder_synced, renamed, removed, measured, read, loaded, listed, locked};
 
 use crate::folder_fault::FolderFault;
+use crate::lock_kind::LockKind;
 use boxcar::tag::Tag;
 use std::marker::{Model, PhantomData};
 
@@ -189,6 +190,21 @@ impl<'a> Tells<Refusal<'a>> for ListFailed {
     ghost calls = { λ a. listed (Err a.fault) ∷ a.older.now.calls };
 }
 
+/// A lock that was asked for, with the calls before it.
+#[derive(Drop)]
+struct Locking<'a> {
+    older: &'a Log,
+    name: &'a [u8],
+    kind: LockKind,
+    answer: &'a Result<bool, FolderFault>,
+}
+
+struct Locked;
+
+impl<'a> Tells<Locking<'a>> for Locked {
+    ghost calls = { λ a. locked a.name.now a.kind a.answer.now ∷ a.older.now.calls };
+}
+
 /// What was to be read, with the calls before it.
 #[derive(Drop)]
 struct Reading<'a> {
@@ -350,6 +366,23 @@ impl Log {
             older: self,
             name,
             fault,
+        })
+    }
+
+    /// A lock more that was asked for.
+    pub(crate) fn with_lock(
+        &self,
+        name: &[u8],
+        kind: LockKind,
+        answer: &Result<bool, FolderFault>,
+    ) -> Log
+        ensures { result.calls ≡ locked name.now kind answer.now ∷ self.now.calls }
+    {
+        Log::of::<Locking, Locked>(&Locking {
+            older: self,
+            name,
+            kind,
+            answer,
         })
     }
 

@@ -7,6 +7,7 @@ ghost use Rattle.lsm_folder.specs.Calls.{AreHonest};
 
 use crate::folder_calls::FolderCalls;
 use crate::folder_fault::FolderFault;
+use crate::lock_kind::LockKind;
 use crate::log::{Appended, FolderSynced, Log, Made, Removed, Renamed, Synced, Wrote, answered};
 use crate::memory_files::MemoryFiles;
 use crate::memory_folder::MemoryFolder;
@@ -44,6 +45,7 @@ impl MemoryFolder {
         Ok(MemoryFolder {
             alloc,
             files: Arc::new(alloc, MemoryFiles::new(alloc)?)?,
+            held: None,
             log: Log::empty(),
         })
     }
@@ -73,6 +75,7 @@ impl MemoryFolder {
         Ok(MemoryFolder {
             alloc: self.alloc,
             files: Arc::new(self.alloc, files)?,
+            held: None,
             log: Log::empty(),
         })
     }
@@ -146,6 +149,23 @@ impl FolderCalls for MemoryFolder {
         let answer = self.files.remove(rt, name);
         self.log = self.log.with::<Removed>(name.as_bytes(), &[], &answer);
         answer
+    }
+
+    fn lock<R: Wait>(&mut self, rt: &R, name: &str, kind: LockKind) -> Result<bool, FolderFault> {
+        match self.files.lock(rt, self.alloc, name, kind) {
+            Ok(taken) => {
+                let held = taken.is_some();
+                self.log = self.log.with_lock(name.as_bytes(), kind, &Ok(held));
+                if held {
+                    self.held = taken;
+                }
+                Ok(held)
+            }
+            Err(fault) => {
+                self.log = self.log.with_lock(name.as_bytes(), kind, &Err(fault));
+                Err(fault)
+            }
+        }
     }
 
     fn length<R: Wait>(&mut self, rt: &R, name: &str) -> Result<u64, FolderFault> {
@@ -225,6 +245,7 @@ impl FolderCalls for MemoryFolder {
         Ok(MemoryFolder {
             alloc: self.alloc,
             files: Arc::try_clone(&self.files)?,
+            held: None,
             log: Log::empty(),
         })
     }

@@ -5,12 +5,15 @@ ghost use Rattle.boxcar.specs.Table.{Shows};
 ghost use Rattle.lsm_folder.specs.FolderFault.{NotMissing, NotExists, NotNamed};
 
 use crate::directory::Directory;
+use crate::file_life::FileLife;
 use crate::folder_fault::FolderFault;
 use crate::image::Image;
+use crate::lock_kind::LockKind;
+use crate::memory_lock::MemoryLock;
 use crate::stops::Stops;
 use boxcar::Pushed;
 use std::alloc::{AllocError, Global};
-use std::sync::atomic::{AtomicBool, Ordering};
+use std::sync::atomic::Ordering;
 use std::sync::{Arc, Mutex, Wait};
 
 /// The most bytes that a file may have to be read whole: 1 GiB.
@@ -39,12 +42,12 @@ impl MemoryFiles {
         &self,
         rt: &R,
         bytes: Vec<u8>,
-        gone: Arc<AtomicBool>,
+        life: Arc<FileLife>,
     ) -> Result<Pushed<Image>, FolderFault>
         ensures ok { IfOk result (λ t. (t.value.bytes ≡ bytes) × Shows self.now.images t) }
         ensures err { IfErr result (λ e. e ≡ FolderFault.OutOfMemory) }
     {
-        match self.images.push_shown(rt, Image { bytes, gone }) {
+        match self.images.push_shown(rt, Image { bytes, life }) {
             Ok(token) => Ok(token),
             Err(_) => Err(FolderFault::OutOfMemory),
         }
@@ -61,8 +64,8 @@ impl MemoryFiles {
         ensures err { IfErr result (λ e. e ≡ FolderFault.OutOfMemory) }
     {
         let bytes = Vec::from_slice(alloc, bytes)?;
-        let gone = Arc::new(alloc, AtomicBool::new(false))?;
-        self.push(rt, bytes, gone)
+        let life = Arc::new(alloc, FileLife::new())?;
+        self.push(rt, bytes, life)
     }
 
     /// What shows the image of a file.
@@ -89,7 +92,11 @@ impl MemoryFiles {
             return;
         };
         if let Ok(token) = self.shown(directory, number) {
-            self.images.value(&token).gone.store(true, Ordering::SeqCst);
+            self.images
+                .value(&token)
+                .life
+                .gone
+                .store(true, Ordering::SeqCst);
         }
     }
 
@@ -170,8 +177,8 @@ impl MemoryFiles {
         let image = self.images.value(token);
         let mut all = Vec::from_slice(alloc, image.bytes.as_slice())?;
         all.extend_from_slice(bytes)?;
-        let gone = Arc::try_clone(&image.gone)?;
-        self.push(rt, all, gone)
+        let life = Arc::try_clone(&image.life)?;
+        self.push(rt, all, life)
     }
 
     pub(crate) fn sync<R: Wait>(&self, rt: &R, name: &str) -> Result<(), FolderFault>
@@ -256,7 +263,7 @@ impl MemoryFiles {
     {
         let turn = self.stops.begin()?;
         let image = self.images.value(token);
-        if image.gone.load(Ordering::SeqCst) {
+        if image.life.gone.load(Ordering::SeqCst) {
             return Err(FolderFault::Missing);
         }
         turn.end()?;
@@ -294,6 +301,48 @@ impl MemoryFiles {
         let names = self.directory.lock(rt).listed(alloc)?;
         turn.end()?;
         Ok(names)
+    }
+
+    /// What shows the image of a file that is to be locked, which an exclusive lock makes.
+    fn lockable<R: Wait>(
+        &self,
+        rt: &R,
+        alloc: Global,
+        directory: &mut Directory,
+        name: &str,
+        kind: LockKind,
+    ) -> Result<Pushed<Image>, FolderFault>
+        ensures ok { IfOk result (λ t. Shows self.now.images t) }
+        ensures err { IfErr result NotExists }
+    {
+        match directory.find(name) {
+            Some(number) => self.shown(directory, number),
+            None if kind == LockKind::Shared => Err(FolderFault::Missing),
+            None => {
+                let token = self.image(rt, alloc, &[])?;
+                directory.add(String::from_str(alloc, name)?, token.again(), 0)?;
+                Ok(token)
+            }
+        }
+    }
+
+    /// `None` where another holds the lock.
+    pub(crate) fn lock<R: Wait>(
+        &self,
+        rt: &R,
+        alloc: Global,
+        name: &str,
+        kind: LockKind,
+    ) -> Result<Option<MemoryLock>, FolderFault>
+        ensures { IfErr result NotExists }
+    {
+        let turn = self.stops.begin()?;
+        let mut directory = self.directory.lock(rt);
+        let token = self.lockable(rt, alloc, &mut directory, name, kind)?;
+        let life = Arc::try_clone(&self.images.value(&token).life)?;
+        let held = MemoryLock::take(life, kind);
+        turn.end()?;
+        Ok(held)
     }
 
     /// Leaves a file to another folder: its durable bytes, and `keep` of those behind them.

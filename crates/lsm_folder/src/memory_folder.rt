@@ -4,6 +4,7 @@ ghost use Rattle.lsm_folder.specs.Calls.{LastIsTrue, LastIsTrue-prop};
 
 use crate::log::Log;
 use crate::memory_files::MemoryFiles;
+use crate::memory_lock::MemoryLock;
 use std::alloc::Global;
 use std::sync::Arc;
 
@@ -12,6 +13,7 @@ use std::sync::Arc;
 pub struct MemoryFolder {
     pub(crate) alloc: Global,
     pub(crate) files: Arc<MemoryFiles>,
+    pub(crate) held: Option<MemoryLock>,
     pub(crate) log: Log,
     ghost honest: { LastIsTrue log.calls } by { LastIsTrue-prop log.calls },
 }

@@ -10,15 +10,18 @@ ghost use Rattle.lsm_folder.specs.SystemFolder.{system_calls, system_place, syst
 
 use crate::folder_calls::FolderCalls;
 use crate::folder_fault::FolderFault;
+use crate::lock_kind::LockKind;
 use crate::log::{Appended, FolderSynced, Log, Made, Removed, Renamed, Synced, Wrote, answered};
-use crate::system_fault::{exists, failed, missing};
-use crate::system_files;
+use crate::reasons::Reasons;
+use crate::system_fault::SystemFault;
+use crate::system_files::{self, path_of};
 use crate::system_folder::SystemFolder;
+use crate::system_locks;
 use crate::system_mark::{Facts, SystemMark};
 use crate::tags::tag_of;
 use boxcar::tag::{Names, Tag};
 use std::alloc::Global;
-use std::fs::Files;
+use std::fs::{self, File, Files};
 use std::sync::{Arc, Wait};
 
 /// The image of a mark, for contracts alone.
@@ -58,21 +61,60 @@ fn marked<W: Wait>(
     }
 }
 
-impl<R: Files + AllocGlobal + Clone + Drop> SystemFolder<R> {
-    /// The folder of this path. `Failed` where it is no folder that can be opened.
+impl<R: Files<File = File> + AllocGlobal + Clone + Drop> SystemFolder<R> {
+    /// The folder of this path, or the one to which it is a link. `Failed` where it is no folder
+    /// that can be opened.
     pub fn open(rt: R, path: &str) -> Result<SystemFolder<R>, FolderFault>
         ensures calls { IfOk result (λ f. system_calls f ≡ opened ∷ []) }
         ensures place { IfOk result (λ f. IsAtPath path.now (system_place f)) }
         ensures err { IfErr result NotNamed }
     {
-        let _opened = rt.open_dir(path).map_err(|e| failed(e))?;
+        let reasons = Reasons::new(rt.alloc())?;
+        SystemFolder::open_noting(rt, path, &reasons)
+    }
+
+    /// As `open`. What the system answers where it refuses a call of the folder or of its forks is
+    /// kept in `reasons`.
+    pub fn open_noting(rt: R, path: &str, reasons: &Reasons) -> Result<SystemFolder<R>, FolderFault>
+        ensures calls { IfOk result (λ f. system_calls f ≡ opened ∷ []) }
+        ensures place { IfOk result (λ f. IsAtPath path.now (system_place f)) }
+        ensures err { IfErr result NotNamed }
+    {
         let alloc = rt.alloc();
+        if let Err(error) = fs::read_dir(&rt, path) {
+            reasons.note("open", String::from_str(alloc, path), error);
+            return Err(SystemFault::from(error).failed());
+        }
         Ok(SystemFolder {
             path: String::from_str(alloc, path)?,
             marks: Arc::new(alloc, boxcar::Vec::new(alloc)?)?,
+            held: None,
+            reasons: reasons.again()?,
             rt,
             log: Log::opened(),
         })
+    }
+
+    /// Keeps why the system refused a call.
+    fn note(&self, call: &'static str, name: &str, fault: SystemFault) {
+        let path = path_of(self.rt.alloc(), self.path.as_str(), name);
+        self.reasons.note(call, path, fault.error());
+    }
+
+    /// A refusal of a call that needs no name.
+    fn failed(&self, call: &'static str, name: &str, fault: SystemFault) -> FolderFault
+        ensures { NotNamed result }
+    {
+        self.note(call, name, fault);
+        fault.failed()
+    }
+
+    /// A refusal of a call on a file that must be there.
+    fn missing(&self, call: &'static str, name: &str, fault: SystemFault) -> FolderFault
+        ensures { NotExists result }
+    {
+        self.note(call, name, fault);
+        fault.missing()
     }
 
     /// Makes a file. What its mark needs is taken before.
@@ -85,7 +127,10 @@ impl<R: Files + AllocGlobal + Clone + Drop> SystemFolder<R> {
         let mark = marked(rt, &self.marks, name, bytes)?;
         match system_files::make(&self.rt, self.path.as_str(), name, bytes) {
             Ok(()) => Ok(mark),
-            Err(error) => Err(exists(error)),
+            Err(fault) => {
+                self.note("make", name, fault);
+                Err(fault.exists())
+            }
         }
     }
 
@@ -106,12 +151,28 @@ impl<R: Files + AllocGlobal + Clone + Drop> SystemFolder<R> {
                 let mark = marked(rt, &self.marks, name, bytes.as_slice())?;
                 Ok((mark, bytes))
             }
-            Err(error) => Err(missing(error)),
+            Err(fault) => Err(self.missing("read", name, fault)),
+        }
+    }
+
+    /// Locks a file, and holds it where no other does.
+    fn try_lock(&mut self, name: &str, kind: LockKind) -> Result<bool, FolderFault>
+        ensures log { self.new.log ≡ self.old.log }
+        ensures place { system_place self.new ≡ system_place self.old }
+        ensures err { IfErr result NotExists }
+    {
+        match system_locks::lock(&self.rt, self.path.as_str(), name, kind) {
+            Ok(None) => Ok(false),
+            Ok(held) => {
+                self.held = held;
+                Ok(true)
+            }
+            Err(fault) => Err(self.missing("lock", name, fault)),
         }
     }
 }
 
-impl<R: Files + AllocGlobal + Clone + Drop> FolderCalls for SystemFolder<R> {
+impl<R: Files<File = File> + AllocGlobal + Clone + Drop> FolderCalls for SystemFolder<R> {
     ghost use Rattle.lsm_folder.specs.SystemFolder.{system_calls, system_place, IsOfSystem};
 
     type Mark = SystemMark;
@@ -141,35 +202,35 @@ impl<R: Files + AllocGlobal + Clone + Drop> FolderCalls for SystemFolder<R> {
 
     fn write<W: Wait>(&mut self, _rt: &W, name: &str, bytes: &[u8]) -> Result<(), FolderFault> {
         let outcome = system_files::write(&self.rt, self.path.as_str(), name, bytes);
-        let answer = outcome.map_err(|e| failed(e));
+        let answer = outcome.map_err(|e| self.failed("write", name, e));
         self.log = self.log.with::<Wrote>(name.as_bytes(), bytes, &answer);
         answer
     }
 
     fn append<W: Wait>(&mut self, _rt: &W, name: &str, bytes: &[u8]) -> Result<(), FolderFault> {
         let outcome = system_files::append(&self.rt, self.path.as_str(), name, bytes);
-        let answer = outcome.map_err(|e| missing(e));
+        let answer = outcome.map_err(|e| self.missing("append", name, e));
         self.log = self.log.with::<Appended>(name.as_bytes(), bytes, &answer);
         answer
     }
 
     fn sync<W: Wait>(&mut self, _rt: &W, name: &str) -> Result<(), FolderFault> {
         let outcome = system_files::sync(&self.rt, self.path.as_str(), name);
-        let answer = outcome.map_err(|e| missing(e));
+        let answer = outcome.map_err(|e| self.missing("sync", name, e));
         self.log = self.log.with::<Synced>(name.as_bytes(), &[], &answer);
         answer
     }
 
     fn sync_folder<W: Wait>(&mut self, _rt: &W) -> Result<(), FolderFault> {
         let outcome = system_files::sync_folder(&self.rt, self.path.as_str());
-        let answer = outcome.map_err(|e| failed(e));
+        let answer = outcome.map_err(|e| self.failed("sync", "", e));
         self.log = self.log.with::<FolderSynced>(&[], &[], &answer);
         answer
     }
 
     fn rename<W: Wait>(&mut self, _rt: &W, from: &str, to: &str) -> Result<(), FolderFault> {
         let outcome = system_files::rename(&self.rt, self.path.as_str(), from, to);
-        let answer = outcome.map_err(|e| missing(e));
+        let answer = outcome.map_err(|e| self.missing("rename", from, e));
         self.log = self
             .log
             .with::<Renamed>(from.as_bytes(), to.as_bytes(), &answer);
@@ -178,8 +239,14 @@ impl<R: Files + AllocGlobal + Clone + Drop> FolderCalls for SystemFolder<R> {
 
     fn remove<W: Wait>(&mut self, _rt: &W, name: &str) -> Result<(), FolderFault> {
         let outcome = system_files::remove(&self.rt, self.path.as_str(), name);
-        let answer = outcome.map_err(|e| missing(e));
+        let answer = outcome.map_err(|e| self.missing("remove", name, e));
         self.log = self.log.with::<Removed>(name.as_bytes(), &[], &answer);
+        answer
+    }
+
+    fn lock<W: Wait>(&mut self, _rt: &W, name: &str, kind: LockKind) -> Result<bool, FolderFault> {
+        let answer = self.try_lock(name, kind);
+        self.log = self.log.with_lock(name.as_bytes(), kind, &answer);
         answer
     }
 
@@ -190,7 +257,7 @@ impl<R: Files + AllocGlobal + Clone + Drop> FolderCalls for SystemFolder<R> {
                 Ok(length)
             }
             Err(error) => {
-                let fault = missing(error);
+                let fault = self.missing("read", name, error);
                 self.log = self.log.with_failed_length(name.as_bytes(), fault);
                 Err(fault)
             }
@@ -214,7 +281,7 @@ impl<R: Files + AllocGlobal + Clone + Drop> FolderCalls for SystemFolder<R> {
                 Ok(bytes)
             }
             Err(error) => {
-                let fault = missing(error);
+                let fault = self.missing("read", name, error);
                 self.log = self
                     .log
                     .with_failed_read(name.as_bytes(), &image, offset, len, fault);
@@ -248,7 +315,7 @@ impl<R: Files + AllocGlobal + Clone + Drop> FolderCalls for SystemFolder<R> {
                 Ok(names)
             }
             Err(error) => {
-                let fault = failed(error);
+                let fault = self.failed("list", "", error);
                 self.log = self.log.with_failed_list(fault);
                 Err(fault)
             }
@@ -260,6 +327,8 @@ impl<R: Files + AllocGlobal + Clone + Drop> FolderCalls for SystemFolder<R> {
             rt: self.rt.clone()?,
             path: self.path.clone()?,
             marks: Arc::try_clone(&self.marks)?,
+            held: None,
+            reasons: self.reasons.again()?,
             log: Log::empty(),
         })
     }
@@ -278,7 +347,7 @@ impl<R: Files + AllocGlobal + Clone + Drop> FolderCalls for SystemFolder<R> {
 fn crosses_threads<T: Send + Sync>(_: &T) {}
 
 /// A folder of the system and its marks may go to another thread, and be shared by threads.
-fn is_sent<R: Files + AllocGlobal + Clone + Drop + Send + Sync>(
+fn is_sent<R: Files<File = File> + AllocGlobal + Clone + Drop + Send + Sync>(
     folder: &SystemFolder<R>,
     mark: &SystemMark,
 ) {

@@ -1,45 +1,96 @@
 //! What a refusal of the system means to a folder.
 
-ghost use Rattle.std.specs.Prelude.{◌≡◌, ◌↔◌};
-ghost use Rattle.std.specs.IoError.{error_kind};
+ghost use Rattle.std.specs.Prelude.{◌≡◌, ◌≢◌, ◌↔◌};
 ghost use Rattle.lsm_folder.specs.FolderFault.{NotMissing, NotExists, NotNamed};
+ghost use Rattle.lsm_folder.specs.SystemFault.{fault_kind};
 
 use crate::folder_fault::FolderFault;
+use std::alloc::AllocError;
 use std::io::{self, ErrorKind};
 
-/// A refusal of a call that needs no name.
-pub(crate) fn failed(error: io::Error) -> FolderFault
-    ensures fault { NotNamed result }
-    ensures memory { (result ≡ FolderFault.OutOfMemory) ↔ (error_kind error ≡ ErrorKind.OutOfMemory) }
-{
-    match error.kind() {
-        ErrorKind::OutOfMemory => FolderFault::OutOfMemory,
-        _ => FolderFault::Failed,
+/// A refusal of the system.
+#[derive(Clone, Copy, Drop)]
+pub enum SystemFault {
+    /// Nothing was made, written, renamed or removed.
+    Unacted(io::Error),
+    /// A part of it may have been.
+    Acted(io::Error),
+}
+
+impl SystemFault {
+    /// A refusal of a call that acts. One for want of memory does not say that it did not.
+    pub(crate) fn asked(error: io::Error) -> SystemFault
+        ensures { fault_kind result ≢ ErrorKind.OutOfMemory }
+    {
+        match error.kind() {
+            ErrorKind::OutOfMemory => SystemFault::Acted(error),
+            _ => SystemFault::Unacted(error),
+        }
+    }
+
+    /// What the system answered.
+    pub(crate) fn error(self) -> io::Error {
+        match self {
+            SystemFault::Unacted(error) | SystemFault::Acted(error) => error,
+        }
+    }
+
+    /// Why the call did not act; `Other` where it may have.
+    fn kind(self) -> ErrorKind
+        ensures { result ≡ fault_kind self }
+    {
+        match self {
+            SystemFault::Unacted(error) => error.kind(),
+            SystemFault::Acted(_) => ErrorKind::Other,
+        }
+    }
+
+    /// A refusal of a call that needs no name.
+    pub(crate) fn failed(self) -> FolderFault
+        ensures fault { NotNamed result }
+        ensures memory { (result ≡ FolderFault.OutOfMemory) ↔ (fault_kind self ≡ ErrorKind.OutOfMemory) }
+    {
+        match self.kind() {
+            ErrorKind::OutOfMemory => FolderFault::OutOfMemory,
+            _ => FolderFault::Failed,
+        }
+    }
+
+    /// A refusal of a call on a file that must be there.
+    pub(crate) fn missing(self) -> FolderFault
+        ensures fault { NotExists result }
+        ensures memory { (result ≡ FolderFault.OutOfMemory) ↔ (fault_kind self ≡ ErrorKind.OutOfMemory) }
+        ensures missing { (result ≡ FolderFault.Missing) ↔ (fault_kind self ≡ ErrorKind.NotFound) }
+    {
+        match self.kind() {
+            ErrorKind::NotFound => FolderFault::Missing,
+            ErrorKind::OutOfMemory => FolderFault::OutOfMemory,
+            _ => FolderFault::Failed,
+        }
+    }
+
+    /// A refusal of a call that makes a file.
+    pub(crate) fn exists(self) -> FolderFault
+        ensures fault { NotMissing result }
+        ensures memory { (result ≡ FolderFault.OutOfMemory) ↔ (fault_kind self ≡ ErrorKind.OutOfMemory) }
+        ensures exists { (result ≡ FolderFault.Exists) ↔ (fault_kind self ≡ ErrorKind.AlreadyExists) }
+    {
+        match self.kind() {
+            ErrorKind::AlreadyExists => FolderFault::Exists,
+            ErrorKind::OutOfMemory => FolderFault::OutOfMemory,
+            _ => FolderFault::Failed,
+        }
     }
 }
 
-/// A refusal of a call on a file that must be there.
-pub(crate) fn missing(error: io::Error) -> FolderFault
-    ensures fault { NotExists result }
-    ensures memory { (result ≡ FolderFault.OutOfMemory) ↔ (error_kind error ≡ ErrorKind.OutOfMemory) }
-    ensures missing { (result ≡ FolderFault.Missing) ↔ (error_kind error ≡ ErrorKind.NotFound) }
-{
-    match error.kind() {
-        ErrorKind::NotFound => FolderFault::Missing,
-        ErrorKind::OutOfMemory => FolderFault::OutOfMemory,
-        _ => FolderFault::Failed,
+impl From<io::Error> for SystemFault {
+    fn from(error: io::Error) -> SystemFault {
+        SystemFault::Unacted(error)
     }
 }
 
-/// A refusal of a call that makes a file.
-pub(crate) fn exists(error: io::Error) -> FolderFault
-    ensures fault { NotMissing result }
-    ensures memory { (result ≡ FolderFault.OutOfMemory) ↔ (error_kind error ≡ ErrorKind.OutOfMemory) }
-    ensures exists { (result ≡ FolderFault.Exists) ↔ (error_kind error ≡ ErrorKind.AlreadyExists) }
-{
-    match error.kind() {
-        ErrorKind::AlreadyExists => FolderFault::Exists,
-        ErrorKind::OutOfMemory => FolderFault::OutOfMemory,
-        _ => FolderFault::Failed,
+impl From<AllocError> for SystemFault {
+    fn from(error: AllocError) -> SystemFault {
+        SystemFault::Unacted(io::Error::from(error))
     }
 }

@@ -1,144 +1,187 @@
-//! One call of the system for each call on a folder, with what cannot be avoided: a file is opened
-//! to be read, written or synced. No contract says what these do; they are to be read.
+//! One call of the system for each call on a folder, with what cannot be avoided: a file is looked
+//! at and opened to be read, written or synced. No contract says what these do; they are to be
+//! read.
 
 ghost use Rattle.std.specs.Prelude.{◌≤◌, ◌^◌, length, IfOk};
 
+use crate::system_fault::SystemFault;
 use std::alloc::{AllocError, Global};
-use std::fs::{File, Files, OpenFile, OpenOptions};
-use std::io::{Read, Seek, SeekFrom, Write};
-use std::{fs, io};
+use std::fs::{self, File, Files, OpenFile, OpenOptions};
+use std::io::{self, Read, Seek, SeekFrom, Write};
 
 /// The most bytes that a file may have to be read whole: 1 GiB.
 const MAX_LOAD: usize = 1 << 30;
 
 /// The path of a file in a folder.
-fn path_of(alloc: Global, folder: &str, name: &str) -> Result<String, AllocError> {
+pub(crate) fn path_of(alloc: Global, folder: &str, name: &str) -> Result<String, AllocError> {
     format!(in alloc; "{folder}/{name}")
 }
 
-pub(crate) fn make<R: Files + AllocGlobal>(
+/// Why a file that is not a regular one is refused.
+fn irregular() -> SystemFault {
+    SystemFault::Unacted(io::Error::other("not a regular file"))
+}
+
+/// Opens a file. What has its name is looked at before, links followed: the opening of a pipe would
+/// wait.
+pub(crate) fn open_regular<R: Files<File = File> + AllocGlobal>(
+    rt: &R,
+    folder: &str,
+    name: &str,
+    options: &OpenOptions,
+) -> Result<File, SystemFault> {
+    let path = path_of(rt.alloc(), folder, name)?;
+    match fs::metadata(rt, path.as_str()) {
+        Ok(found) if !found.is_file() => Err(irregular()),
+        _ => options
+            .open(rt, path.as_str())
+            .map_err(|e| SystemFault::asked(e)),
+    }
+}
+
+pub(crate) fn make<R: Files<File = File> + AllocGlobal>(
     rt: &R,
     folder: &str,
     name: &str,
     bytes: &[u8],
-) -> io::Result<()> {
+) -> Result<(), SystemFault> {
     let path = path_of(rt.alloc(), folder, name)?;
-    File::create_new(rt, path.as_str())?.write_all(bytes)
+    let mut file = File::create_new(rt, path.as_str()).map_err(|e| SystemFault::asked(e))?;
+    file.write_all(bytes).map_err(|e| SystemFault::Acted(e))
 }
 
-pub(crate) fn write<R: Files + AllocGlobal>(
+pub(crate) fn write<R: Files<File = File> + AllocGlobal>(
     rt: &R,
     folder: &str,
     name: &str,
     bytes: &[u8],
-) -> io::Result<()> {
-    let path = path_of(rt.alloc(), folder, name)?;
-    fs::create(rt, path.as_str())?.write_all(bytes)
+) -> Result<(), SystemFault> {
+    let mut options = OpenOptions::new();
+    options.write(true).create(true).truncate(true);
+    let mut file = open_regular(rt, folder, name, &options)?;
+    file.write_all(bytes).map_err(|e| SystemFault::Acted(e))
 }
 
-pub(crate) fn append<R: Files + AllocGlobal>(
+pub(crate) fn append<R: Files<File = File> + AllocGlobal>(
     rt: &R,
     folder: &str,
     name: &str,
     bytes: &[u8],
-) -> io::Result<()> {
-    let path = path_of(rt.alloc(), folder, name)?;
-    OpenOptions::new()
-        .append(true)
-        .open(rt, path.as_str())?
-        .write_all(bytes)
+) -> Result<(), SystemFault> {
+    let mut options = OpenOptions::new();
+    options.append(true);
+    let mut file = open_regular(rt, folder, name, &options)?;
+    file.write_all(bytes).map_err(|e| SystemFault::Acted(e))
 }
 
-pub(crate) fn sync<R: Files + AllocGlobal>(rt: &R, folder: &str, name: &str) -> io::Result<()> {
-    let path = path_of(rt.alloc(), folder, name)?;
-    OpenOptions::new()
-        .append(true)
-        .open(rt, path.as_str())?
-        .sync_all()
+pub(crate) fn sync<R: Files<File = File> + AllocGlobal>(
+    rt: &R,
+    folder: &str,
+    name: &str,
+) -> Result<(), SystemFault> {
+    let mut options = OpenOptions::new();
+    options.append(true);
+    let file = open_regular(rt, folder, name, &options)?;
+    file.sync_all().map_err(|e| SystemFault::Acted(e))
 }
 
-pub(crate) fn sync_folder<R: Files>(rt: &R, folder: &str) -> io::Result<()> {
-    fs::open(rt, folder)?.sync_all()
+pub(crate) fn sync_folder<R: Files<File = File>>(rt: &R, folder: &str) -> Result<(), SystemFault> {
+    let opened = fs::open(rt, folder)?;
+    opened.sync_all().map_err(|e| SystemFault::Acted(e))
 }
 
-pub(crate) fn rename<R: Files + AllocGlobal>(
+pub(crate) fn rename<R: Files<File = File> + AllocGlobal>(
     rt: &R,
     folder: &str,
     from: &str,
     to: &str,
-) -> io::Result<()> {
+) -> Result<(), SystemFault> {
     let from = path_of(rt.alloc(), folder, from)?;
     let to = path_of(rt.alloc(), folder, to)?;
-    fs::rename(rt, from.as_str(), to.as_str())
+    fs::rename(rt, from.as_str(), to.as_str()).map_err(|e| SystemFault::asked(e))
 }
 
-pub(crate) fn remove<R: Files + AllocGlobal>(rt: &R, folder: &str, name: &str) -> io::Result<()> {
+pub(crate) fn remove<R: Files<File = File> + AllocGlobal>(
+    rt: &R,
+    folder: &str,
+    name: &str,
+) -> Result<(), SystemFault> {
     let path = path_of(rt.alloc(), folder, name)?;
-    fs::remove_file(rt, path.as_str())
+    fs::remove_file(rt, path.as_str()).map_err(|e| SystemFault::asked(e))
 }
 
-pub(crate) fn length<R: Files + AllocGlobal>(rt: &R, folder: &str, name: &str) -> io::Result<u64> {
+pub(crate) fn length<R: Files<File = File> + AllocGlobal>(
+    rt: &R,
+    folder: &str,
+    name: &str,
+) -> Result<u64, SystemFault> {
     let path = path_of(rt.alloc(), folder, name)?;
-    Ok(fs::metadata(rt, path.as_str())?.len())
+    let found = fs::metadata(rt, path.as_str())?;
+    if !found.is_file() {
+        return Err(irregular());
+    }
+    Ok(found.len())
 }
 
-pub(crate) fn read_part<R: Files + AllocGlobal>(
+pub(crate) fn read_part<R: Files<File = File> + AllocGlobal>(
     rt: &R,
     alloc: Global,
     folder: &str,
     name: &str,
     offset: u64,
     len: usize,
-) -> io::Result<Vec<u8>> {
-    let path = path_of(rt.alloc(), folder, name)?;
+) -> Result<Vec<u8>, SystemFault> {
     let mut bytes = vec![in alloc; 0u8; len]?;
-    let mut file = fs::open(rt, path.as_str())?;
+    let mut file = open_regular(rt, folder, name, OpenOptions::new().read(true))?;
     file.seek(SeekFrom::Start(offset))?;
     file.read_exact(bytes.as_mut_slice())?;
     Ok(bytes)
 }
 
 /// Reads at most one byte more than 1 GiB, and refuses a file that has it.
-pub(crate) fn load<R: Files + AllocGlobal>(
+pub(crate) fn load<R: Files<File = File> + AllocGlobal>(
     rt: &R,
     alloc: Global,
     folder: &str,
     name: &str,
-) -> io::Result<Vec<u8>>
+) -> Result<Vec<u8>, SystemFault>
     ensures { IfOk result (λ v. length v.items ≤ 2 ^ 30) }
 {
-    let path = path_of(rt.alloc(), folder, name)?;
     let mut bytes = Vec::new(alloc);
-    fs::open(rt, path.as_str())?
+    open_regular(rt, folder, name, OpenOptions::new().read(true))?
         .take(MAX_LOAD as u64 + 1)
         .read_to_end(&mut bytes)?;
     if bytes.len() > MAX_LOAD {
-        return Err(io::Error::from(io::ErrorKind::FileTooLarge));
+        return Err(SystemFault::Unacted(io::Error::other("larger than 1 GiB")));
     }
     Ok(bytes)
 }
 
-/// The name of an entry. One that is no text is left out.
-fn name_of<R: Files + Drop>(
+/// The name of an entry. A folder, and one whose name is no text, is left out.
+fn name_of<R: Files<File = File> + Drop>(
+    rt: &R,
     alloc: Global,
     entry: io::Result<fs::DirEntry<R, Global>>,
 ) -> io::Result<Option<String>> {
     match entry {
-        Ok(entry) => Ok(Some(String::from_str(alloc, entry.file_name())?)),
+        Ok(entry) => match fs::metadata(rt, entry.path()) {
+            Ok(found) if found.is_dir() => Ok(None),
+            _ => Ok(Some(String::from_str(alloc, entry.file_name())?)),
+        },
         Err(error) if error.kind() == io::ErrorKind::InvalidFilename => Ok(None),
         Err(error) => Err(error),
     }
 }
 
-pub(crate) fn list<R: Files + AllocGlobal + Clone + Drop>(
+pub(crate) fn list<R: Files<File = File> + AllocGlobal + Clone + Drop>(
     rt: &R,
     alloc: Global,
     folder: &str,
-) -> io::Result<Vec<String>> {
+) -> Result<Vec<String>, SystemFault> {
     let mut names = Vec::new(alloc);
     for entry in fs::read_dir(rt, folder)? {
-        if let Some(name) = name_of(alloc, entry)? {
-            names.push(name)?;
+        if let Some(name) = name_of(rt, alloc, entry)? {
+            names.push(name).map_err(|e| AllocError::from(e))?;
         }
     }
     Ok(names)

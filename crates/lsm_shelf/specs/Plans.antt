@@ -69,13 +69,13 @@ PartUnread number image offset len e old new = Unanswered (λ fault. read (table
 abbrev pub TableUnread : (number : ℕ) → ShelfFault → (old new : List Call) → Type 0
 TableUnread number e old new = Unanswered (λ fault. loaded (table_name number) (Err fault)) e old new
 
--- a table is removed, and then the folder's names are made durable
+-- a table is removed; the removal is durable once the folder's names are, after another call
 abbrev pub remove_plan : (number : ℕ) → List Step
-remove_plan number = removed (table_name number) ∷ folder_synced ∷ []
+remove_plan number = removed (table_name number) ∷ []
 
--- a table was not removed for good
+-- a table was not removed
 abbrev pub RemoveStopped : (number : ℕ) → ShelfFault → (old new : List Call) → Type 0
-RemoveStopped number e old new = Unsettled (removed (table_name number)) folder_synced e old new
+RemoveStopped number e old new = Unanswered (λ fault. removed (table_name number) (Err fault)) e old new
 
 -- the numbers are those of the names that are tables'
 pub record AreTablesOf (names : List (List ℕ)) (numbers : List ℕ) : Type 0 where
@@ -115,11 +115,14 @@ abbrev pub NamesOther : (number : ℕ) → Result (List ℕ) FolderFault → Typ
 NamesOther number (Ok text) = text ≢ current_text number
 NamesOther number (Err fault) = fault ≡ folder.Missing
 
+-- a file gets the name `CURRENT`, and that is made durable
+abbrev pub current_plan : (name : List ℕ) → List Step
+current_plan name = renamed name (codes "CURRENT") ∷ folder_synced ∷ []
+
 -- `CURRENT` is to name the manifest of this number: the new text is durable under another name
 -- before it has that one
 abbrev pub name_plan : (number : ℕ) → List Step
-name_plan number = wrote (temporary_name number) (current_text number) ∷ synced (temporary_name number)
-    ∷ renamed (temporary_name number) (codes "CURRENT") ∷ folder_synced ∷ []
+name_plan number = wrote (temporary_name number) (current_text number) ∷ synced (temporary_name number) ∷ current_plan (temporary_name number)
 
 -- a manifest is durable, and its name, before `CURRENT` names it
 abbrev pub start_plan : (number : ℕ) (bytes : List ℕ) → List Step
@@ -129,19 +132,19 @@ start_plan number bytes = wrote (manifest_name number) bytes ∷ synced (manifes
 abbrev pub StartedFrom : (number : ℕ) (bytes : List ℕ) (old new : List Call) → Type 0
 StartedFrom number bytes old new = (answer : Result (List ℕ) FolderFault) × NamesOther number answer × (new ≡ done (start_plan number bytes) (current_read answer old))
 
--- the plan up to the call that gives `CURRENT` its new text
+-- the plan before the call that gives `CURRENT` its new text
 abbrev pub unnamed_plan : (number : ℕ) (bytes : List ℕ) → List Step
 unnamed_plan number bytes = wrote (manifest_name number) bytes ∷ synced (manifest_name number) ∷ folder_synced
-    ∷ wrote (temporary_name number) (current_text number) ∷ synced (temporary_name number)
-    ∷ renamed (temporary_name number) (codes "CURRENT") ∷ []
+    ∷ wrote (temporary_name number) (current_text number) ∷ synced (temporary_name number) ∷ []
 
 -- A manifest was not written, or its name not made `CURRENT`'s for good: memory was refused before;
--- or a front of the plan was made, which stopped before `CURRENT` had its new text; or `CURRENT`
--- has it, and that is not durable, which is the device
+-- or a front of the plan was made, which stopped before `CURRENT` was to have its new text; or it
+-- was to have it, and that was refused, or is not durable: which is the device however it was
+-- refused, as `CURRENT` may have the text
 abbrev pub WriteStopped : (number : ℕ) (bytes : List ℕ) → ShelfFault → (old new : List Call) → Type 0
 WriteStopped number bytes e old new = Unasked e old new
     ⊎ (((fault : FolderFault) × Refused (unnamed_plan number bytes) fault old new × (e ≡ device_of fault))
-    ⊎ ((fault : FolderFault) × (new ≡ folder_synced (Err fault) ∷ done (unnamed_plan number bytes) old) × (e ≡ Device)))
+    ⊎ ((fault : FolderFault) × Refused (current_plan (temporary_name number)) fault (done (unnamed_plan number bytes) old) new × (e ≡ Device)))
 
 -- No manifest was started: the bytes are larger than 1 GiB, and nothing was asked; or `CURRENT` was
 -- asked for alone, since it was refused, memory was, or it names the manifest of this number; or it

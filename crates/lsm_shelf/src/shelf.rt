@@ -88,6 +88,11 @@ pub trait Shelf: Drop + Send + Sync {
 
     /// Removes the table of a number. `Missing` where there is none; after `Device` it may be gone
     /// or not. Where memory was refused, nothing was asked of the device, and `gone` has not grown.
+    ///
+    /// The removal of a table in a folder is not durable before the folder's names are, which the
+    /// next call that puts a table or starts a manifest makes them: a crash before that may leave
+    /// the table there. So a caller removes what it does not need, and removes it again where it is
+    /// listed once more.
     fn remove<R: Wait>(&mut self, rt: &R, number: u64) -> Result<(), ShelfFault>
         ensures told { Becomes (removed_by result number (told self.old)) (told self.new) }
         ensures refused { IfErr result (refuses (told self.old).place (Remove number)) }
@@ -120,7 +125,7 @@ pub trait Shelf: Drop + Send + Sync {
     /// has this number; a file of that name which is not the directory's manifest is replaced. No
     /// manifest is removed. `Device` where the device fails, or where a shelf on a folder is handed
     /// more than 1 GiB; a shelf in memory has no such limit. After `Device` the directory names the
-    /// old manifest or the new one whole.
+    /// old manifest or the new one whole, and after any other refusal the old one.
     fn start_manifest<R: Wait>(
         &mut self,
         rt: &R,
@@ -137,7 +142,8 @@ pub trait Shelf: Drop + Send + Sync {
     /// Appends to the manifest that the directory names, on the device before it answers Ok.
     /// `Missing` where there is none. `Device` where the device fails, or where the manifest of a
     /// shelf on a folder would pass 1 GiB; a shelf in memory has no such limit. After `Device` the
-    /// manifest is the old bytes and a prefix of the new ones.
+    /// manifest is the old bytes and a prefix of the new ones, and after any other refusal the old
+    /// bytes alone.
     fn append_manifest<R: Wait>(&mut self, rt: &R, bytes: &[u8]) -> Result<(), ShelfFault>
         ensures ok { OnOk result (Becomes (appending bytes.now (told self.old)) (told self.new)) }
         ensures err { OnErr result (Becomes (told self.old) (told self.new)) }

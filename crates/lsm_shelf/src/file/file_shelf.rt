@@ -11,7 +11,7 @@ use crate::account::Account;
 use crate::file::fault::device;
 use crate::shelf_fault::ShelfFault;
 use lsm_folder::{FolderCalls, SystemFolder};
-use std::fs::Files;
+use std::fs::{File, Files};
 
 /// Tables and a manifest in a folder, as LevelDB names their files: `N.ldb`, `MANIFEST-N` and
 /// `CURRENT`.
@@ -43,7 +43,7 @@ impl<C: FolderCalls> FileShelf<C> {
     }
 }
 
-impl<R: Files + AllocGlobal + Clone + Drop> FileShelf<SystemFolder<R>> {
+impl<R: Files<File = File> + AllocGlobal + Clone + Drop> FileShelf<SystemFolder<R>> {
     /// A shelf on the folder of this path. `Device` where it is no folder that can be opened.
     pub fn open(rt: R, path: &str) -> Result<FileShelf<SystemFolder<R>>, ShelfFault>
         ensures calls { IfOk result (λ s. system_calls (folder_of s) ≡ opened ∷ []) }

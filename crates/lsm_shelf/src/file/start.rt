@@ -1,7 +1,7 @@
 //! How a manifest is started in a folder.
 
 ghost use Rattle.std.specs.Prelude.{◌≡◌, ◌<◌, ◌^◌, length, IfErr, OnOk, IsErrOf};
-ghost use Rattle.lsm_shelf.specs.Plans.{done, StartedFrom, StartStopped, WriteStopped, start_plan};
+ghost use Rattle.lsm_shelf.specs.Plans.{done, Refused, StartedFrom, StartStopped, WriteStopped, current_plan, start_plan};
 ghost use Rattle.lsm_shelf.specs.Told.{NotNamed, TakenIs};
 
 use crate::file::current::names_manifest;
@@ -9,12 +9,26 @@ use crate::file::fault::device;
 use crate::file::file_names::{manifest_file, temporary_file, text_of_current};
 use crate::shelf_fault::ShelfFault;
 use crate::slip::MAX_IMAGE;
-use lsm_folder::FolderCalls;
+use lsm_folder::{FolderCalls, FolderFault};
 use std::alloc::Global;
 use std::sync::Wait;
 
-/// Writes a manifest over what has its name, and makes `CURRENT` name it. The last sync stands
-/// apart.
+/// Gives a file the name `CURRENT`, and makes that durable.
+fn make_current<C: FolderCalls, W: Wait>(
+    folder: &mut C,
+    rt: &W,
+    name: &str,
+) -> Result<(), FolderFault>
+    ensures ok { OnOk result (C.calls folder.new ≡ done (current_plan name.now) (C.calls folder.old)) }
+    ensures err { IfErr result (λ f. Refused (current_plan name.now) f (C.calls folder.old) (C.calls folder.new)) }
+    ensures place { C.place folder.new ≡ C.place folder.old }
+{
+    folder.rename(rt, name, "CURRENT")?;
+    folder.sync_folder(rt)
+}
+
+/// Writes a manifest over what has its name, and makes `CURRENT` name it. Where the last step is
+/// refused, `CURRENT` may name it all the same: that is the device, also for want of memory.
 fn write_manifest<C: FolderCalls, W: Wait>(
     folder: &mut C,
     rt: &W,
@@ -39,10 +53,7 @@ fn write_manifest<C: FolderCalls, W: Wait>(
         .write(rt, temporary.as_str(), text.as_bytes())
         .map_err(|e| device(e))?;
     folder.sync(rt, temporary.as_str()).map_err(|e| device(e))?;
-    folder
-        .rename(rt, temporary.as_str(), "CURRENT")
-        .map_err(|e| device(e))?;
-    match folder.sync_folder(rt) {
+    match make_current(folder, rt, temporary.as_str()) {
         Ok(()) => Ok(()),
         Err(_) => Err(ShelfFault::Device),
     }

@@ -131,7 +131,7 @@ pub(crate) fn load_table<C: FolderCalls, W: Wait>(
     Ok((receipt, bytes))
 }
 
-/// Removes a table. `OutOfMemory` comes before it is removed.
+/// Removes a table. The removal is not made durable.
 pub(crate) fn remove_table<C: FolderCalls, W: Wait>(
     folder: &mut C,
     rt: &W,
@@ -143,9 +143,5 @@ pub(crate) fn remove_table<C: FolderCalls, W: Wait>(
     ensures fault { IfErr result NotTaken }
 {
     let name = table_file(folder.alloc(), number)?;
-    folder.remove(rt, name.as_str()).map_err(|e| missing(e))?;
-    match folder.sync_folder(rt) {
-        Ok(()) => Ok(()),
-        Err(_) => Err(ShelfFault::Device),
-    }
+    folder.remove(rt, name.as_str()).map_err(|e| missing(e))
 }
