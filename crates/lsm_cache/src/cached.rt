@@ -94,17 +94,22 @@ impl<N: Naming, S: Shelf> Blocks<S> for Cached<N, S> {
         offset: u64,
         size: u64,
     ) -> Result<Arc<Block>, ReadFault> {
+        let Cached {
+            shelf,
+            footers,
+            blocks,
+        } = self;
         let handle = Handle { offset, size };
         let key = BlockKey {
             number: receipt.number(),
             offset,
         };
-        let is_index = match self.footers.peek(&key.number) {
+        let is_index = match footers.peek(&key.number) {
             Some(kept) => names(&kept.footer, handle),
             None => false,
         };
-        if let Some(kept) = self.blocks.get(is_index, &key) {
-            if kept.handle == handle && self.shelf.same(&kept.receipt, receipt) {
+        if let Some(kept) = blocks.get(is_index, &key) {
+            if kept.handle == handle && shelf.same(&kept.receipt, receipt) {
                 return share(&kept.block);
             }
         }
@@ -112,9 +117,7 @@ impl<N: Naming, S: Shelf> Blocks<S> for Cached<N, S> {
         if !is_inside(handle, image) {
             return Err(ReadFault::Table(TableFault::BadHandle));
         }
-        let text = self
-            .shelf
-            .read_at(alloc, receipt, offset, size as usize + TRAILER)?;
+        let text = shelf.read_at(alloc, receipt, offset, size as usize + TRAILER)?;
         let block = match block_there(alloc, handle, image, text) {
             Ok(block) => block,
             Err(fault) => return Err(fault),
@@ -125,12 +128,12 @@ impl<N: Naming, S: Shelf> Blocks<S> for Cached<N, S> {
             Err(_) => return Ok(block),
         };
         let kept = KeptBlock {
-            receipt: self.shelf.copy_receipt(receipt),
+            receipt: shelf.copy_receipt(receipt),
             handle,
             block: shared,
             of: PhantomData,
         };
-        self.blocks.put(is_index, key, kept);
+        blocks.put(is_index, key, kept);
         Ok(block)
     }
 
