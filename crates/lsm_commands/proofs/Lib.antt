@@ -12,6 +12,7 @@ pub mod MakingLaws
 pub mod ManifestLaws
 pub mod LineLists
 pub mod SpellingLaws
+pub mod SlipLaws
 pub mod CallerLemmas
 mod DirectoryLines
 mod LineCases

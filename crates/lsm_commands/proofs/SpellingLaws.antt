@@ -90,7 +90,7 @@ parts_one word a (b ∷ bs) h k =
     let none : later.0 ≡ [] = parts_none [] later.0 refl later.2 in
     sym (later.1 ∙ ap (λ (l : List ℕ). a ++ l) none ∙ append-nil a)
 
-parts_snoc : (front part out : List ℕ) (b : ℕ) → AreParts front out → IsPart part b → AreParts (front ++ part) (out ++ b ∷ [])
+pub parts_snoc : (front part out : List ℕ) (b : ℕ) → AreParts front out → IsPart part b → AreParts (front ++ part) (out ++ b ∷ [])
 parts_snoc front part [] b h k = (part, [], ap (λ (l : List ℕ). l ++ part) h ∙ sym (append-nil part), k, refl)
 parts_snoc front part (a ∷ al) b h k =
     (h.0, h.1 ++ part, ap (λ (l : List ℕ). l ++ part) h.2 ∙ append_assoc h.0 h.1 part, h.3, parts_snoc h.1 part al b h.4 k)

@@ -4,6 +4,7 @@ pub mod KeyBounds
 pub mod EntryPrinting
 pub mod Printing
 pub mod Spelling
+pub mod Slip
 pub mod Options
 pub mod DirectoryLine
 pub mod EntryView

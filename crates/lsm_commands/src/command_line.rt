@@ -4,10 +4,12 @@ ghost use Rattle.std.specs.Prelude.{◌≡◌, ◌≢◌, IfOk, IfSome, Some, ma
 ghost use Rattle.lsm_commands.specs.Commands.{word_of, Asks};
 
 use crate::help::command;
+use crate::pages::usage_of;
+use crate::word_fault::fault_in;
 use clap::error::ErrorKind;
 use std::alloc::{AllocError, Global};
 use std::convert::AsStr;
-use std::io::Write;
+use std::io::{self, Write};
 
 /// A command of the program.
 #[derive(Clone, Copy, Debug)]
@@ -30,12 +32,38 @@ pub enum CommandLine {
     Bad(Vec<u8>),
 }
 
-const MORE_WORDS: &[u8] =
-    b"error: a command on standard input takes no words; of a folder, DIR comes first, then KEY or FILE, and options come last, each once;\nKEY is hex, or with --text text, `.` for no bytes; DIR and FILE do not begin with `-`; N is 1 to 8\n\nUsage: lsm <COMMAND>\n\nFor more information, try '--help'.\n";
+/// What is said where words ask for nothing and no one of them is seen to be wrong.
+const NO_COMMAND: &str =
+    "the words ask for no command: DIR comes first, then KEY or FILE, and options last, each once";
 
 fn text_of(alloc: Global, error: &clap::Error) -> Result<Vec<u8>, AllocError> {
     let mut text = Vec::new(alloc);
     match write!(text, "{error}") {
+        Ok(()) => Ok(text),
+        Err(_) => Err(AllocError),
+    }
+}
+
+/// Writes what is wrong with words that `clap` takes, and how their command is used.
+fn write_wrong<W: Write, S: AsStr>(out: &mut W, words: &[S]) -> io::Result<()> {
+    match fault_in(words) {
+        Some(fault) => writeln!(out, "error: {fault}")?,
+        None => writeln!(out, "error: {NO_COMMAND}")?,
+    }
+    let usage = match words {
+        [name, ..] => usage_of(name.as_str()),
+        [] => usage_of(""),
+    };
+    writeln!(
+        out,
+        "\nUsage: {usage}\n\nFor more information, try '--help'."
+    )
+}
+
+/// What is wrong with words that `clap` takes.
+fn wrong<S: AsStr>(alloc: Global, words: &[S]) -> Result<Vec<u8>, AllocError> {
+    let mut text = Vec::new(alloc);
+    match write_wrong(&mut text, words) {
         Ok(()) => Ok(text),
         Err(_) => Err(AllocError),
     }
@@ -86,7 +114,7 @@ fn told<S: AsStr>(alloc: Global, words: &[S]) -> Result<CommandLine, AllocError>
     ensures { (name : CommandName) → IfOk result (λ line. line ≢ CommandLine.Run name) }
 {
     match command(alloc)?.try_get_matches_from(words) {
-        Ok(_matches) => Ok(CommandLine::Bad(Vec::from_slice(alloc, MORE_WORDS)?)),
+        Ok(_matches) => Ok(CommandLine::Bad(wrong(alloc, words)?)),
         Err(error) if error.kind() == ErrorKind::OutOfMemory => Err(AllocError),
         Err(error) if error.use_stderr() => Ok(CommandLine::Bad(text_of(alloc, &error)?)),
         Err(error) => Ok(CommandLine::Help(text_of(alloc, &error)?)),

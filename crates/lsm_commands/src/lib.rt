@@ -14,8 +14,10 @@ mod directory_line;
 mod help;
 mod key_bounds;
 mod options;
+mod pages;
 mod program;
 mod streams;
+mod word_fault;
 
 // The lists of entries that are read.
 mod entry_buffer;
@@ -33,6 +35,7 @@ mod spelling;
 
 // Words for bytes, in hex or as text.
 mod form;
+mod slip;
 mod text_words;
 
 // What holds of lists.
@@ -48,6 +51,7 @@ pub use key_bounds::KeyBounds;
 pub use laws::{one_list, one_word, printed_list};
 pub use program::{refuse_words, run};
 pub use refusal::Refusal;
+pub use slip::{Slip, slip_in};
 pub use spelling::{push_bytes, push_decimal};
 pub use streams::{InputFault, read_input};
 pub use text_parts::{first_line, parts};

@@ -117,7 +117,7 @@ pub fn refuse_words<E: Write>(error: &io::Error, err: &mut E) -> u8
     } else {
         (
             2,
-            b"error: a word of the command line is not UTF-8\n".as_slice(),
+            b"error: a word of the command line is not UTF-8\na byte of a key is spelled in hex, or with --text as `\\xNN`\n".as_slice(),
         )
     };
     let _ = write_output(err, text);

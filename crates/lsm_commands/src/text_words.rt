@@ -86,7 +86,7 @@ fn first_escaped(text: &[u8]) -> Option<(u8, &[u8])>
 }
 
 /// The first byte of a text, and what follows its part. None where no part stands there.
-fn first_part(text: &[u8]) -> Option<(u8, &[u8])>
+pub(crate) fn first_part(text: &[u8]) -> Option<(u8, &[u8])>
     ensures some { IfSome result (λ p. (part : List ℕ) × (text.now ≡ part ++ p.1.now) × IsPart part p.0) }
     ensures none { IfNone result ((b : ℕ) (part rest : List ℕ) → text.now ≡ part ++ rest → IsPart part b → ⊥) }
 {

@@ -6,3 +6,5 @@ mod Padding
 mod Quiet
 mod LogLaws
 mod LookLaws
+mod NumberLaws
+mod KindLaws

@@ -15,13 +15,26 @@ use Rattle.lsm_manifest.specs.EditFault as edit
 use Rattle.lsm_manifest.specs.ReplayFault as replay
 use Rattle.lsm_manifest.specs.declared.replay_fault.ReplayFault.{ReplayFault}
 use Rattle.lsm_manifest.specs.declared.replay_fault.ReplayFault.TheVariants as replay_faults
+use Rattle.lsm_table.specs.ReadFault as read
+use Rattle.lsm_version.specs.CheckFault as check
+use Rattle.lsm_journal.specs.RecoverFault as recover
 use Rattle.lsm_journal.specs.declared.recover_fault.RecoverFault.{RecoverFault}
 use Rattle.lsm_journal.specs.declared.recover_fault.RecoverFault.TheVariants as recover_faults
+use Rattle.lsm_journal.specs.declared.open_fault.OpenFault.{OpenFault}
+use Rattle.lsm_journal.specs.declared.open_fault.OpenFault.TheVariants as open_faults
 use Rattle.lsm_version.specs.declared.check.check_fault.CheckFault.{CheckFault}
 use Rattle.lsm_version.specs.declared.check.check_fault.CheckFault.TheVariants as check_faults
 use Rattle.lsm_commands.specs.FaultText.{refusal_text, table_field, log_field, edit_field}
 use Rattle.lsm_directory.specs.declared.directory_fault.DirectoryFault.{DirectoryFault}
-use Rattle.lsm_directory.specs.declared.directory_fault.DirectoryFault.TheVariants.{OutOfMemory, Write, Manifest, Tables, Read}
+use Rattle.lsm_directory.specs.declared.directory_fault.DirectoryFault.TheVariants.{OutOfMemory, Write, Shelf, Manifest, Tables, Read, NumbersSpent, Locked}
+
+-- a directory that could not be opened
+abbrev pub of_open : OpenFault → DirectoryFault
+of_open open_faults.OutOfMemory = OutOfMemory
+of_open (open_faults.Shelf fault) = Shelf fault
+of_open (open_faults.Recover fault) = Manifest fault
+of_open (open_faults.Check fault) = Tables fault
+of_open open_faults.NumbersSpent = NumbersSpent
 
 -- the number that a refusal of a shelf names
 abbrev pub shelf_field : ShelfFault → Option ℕ
@@ -66,9 +79,23 @@ check_text (check_faults.AgeOrder user) = None
 abbrev pub fault_text : DirectoryFault → Option (List ℕ)
 fault_text OutOfMemory = Some (refusal_text 1 (codes "OutOfMemory") None)
 fault_text Write = Some (codes "write fault")
+fault_text (Shelf fault) = Some (shelf_text fault)
 fault_text (Manifest fault) = Some (recover_text fault)
 fault_text (Tables fault) = check_text fault
 fault_text (Read fault) = Some (read_text fault)
+fault_text NumbersSpent = Some (refusal_text 46 (codes "NumbersSpent") None)
+fault_text Locked = Some (refusal_text 52 (codes "Locked") None)
+
+-- the number of a refusal; none of a write that failed
+abbrev pub number_of : DirectoryFault → Option ℕ
+number_of OutOfMemory = Some 1
+number_of Write = None
+number_of (Shelf fault) = Some (shelf.number_of fault)
+number_of (Manifest fault) = Some (recover.number_of fault)
+number_of (Tables fault) = Some (check.number_of fault)
+number_of (Read fault) = Some (read.number_of fault)
+number_of NumbersSpent = Some 46
+number_of Locked = Some 52
 
 -- the number of the file that a refusal of its table names
 abbrev pub file_in : CheckFault → Option ℕ
@@ -81,9 +108,12 @@ file_in (check_faults.AgeOrder user) = None
 abbrev pub file_of : DirectoryFault → Option ℕ
 file_of OutOfMemory = None
 file_of Write = None
+file_of (Shelf fault) = None
 file_of (Manifest fault) = None
 file_of (Tables fault) = file_in fault
 file_of (Read fault) = None
+file_of NumbersSpent = None
+file_of Locked = None
 
 -- a command whose refusals name the file of a table
 abbrev pub names_files : DirectoryCommand → Bool
@@ -96,6 +126,10 @@ names_files (Scan bounds) = true
 abbrev pub named_in : Bool → Option ℕ → Option ℕ
 named_in true file = file
 named_in false file = None
+
+-- the line that names the file of a table: `in 000005.ldb`
+abbrev pub file_line : ℕ → List ℕ
+file_line number = codes "in " ++ (table_name number ++ (10 ∷ []))
 
 -- the line of a text, with the file that it names: `TEXT in 000005.ldb`
 abbrev pub line_of : Option ℕ → List ℕ → List ℕ

@@ -1,6 +1,8 @@
 pub mod Directory
+pub mod Holding
 pub mod Looking
 pub mod Listing
+pub mod FileNames
 pub mod Logs
 pub mod Scanned
 pub mod DirectoryFault

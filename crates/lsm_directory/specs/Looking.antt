@@ -5,15 +5,17 @@ use Rattle.std.specs.List.Sorted.{IsPermutation, IsSorted}
 use Rattle.std.specs.Cmp.Lexicographic.{slice_cmp}
 use Rattle.std.specs.Ordering.{nat_cmp}
 use Rattle.lsm_codec.specs.Lists.{Has}
-use Rattle.lsm_folder.specs.Calls.{Call, opened, made, wrote, appended, synced, folder_synced, renamed, removed, measured, read, loaded, listed}
+use Rattle.lsm_folder.specs.Calls.{Call, opened, made, wrote, appended, synced, folder_synced, renamed, removed, measured, read, loaded, listed, locked}
 use Rattle.lsm_folder.specs.declared.folder_fault.FolderFault.{FolderFault}
 use Rattle.lsm_folder.specs.declared.folder_fault.FolderFault.TheVariants.{Missing}
 use Rattle.lsm_shelf.specs.FolderFault.{device_of}
 use Rattle.lsm_shelf.specs.declared.shelf_fault.ShelfFault.{ShelfFault}
 use Rattle.lsm_shelf.specs.declared.shelf_fault.ShelfFault.TheVariants.{OutOfMemory}
-use Rattle.lsm_commands.specs.declared.directory_command.DirectoryCommand.{DirectoryCommand}
-use Rattle.lsm_commands.specs.declared.directory_command.DirectoryCommand.TheVariants.{Check, List as ListFiles, Get, Scan}
+use Rattle.lsm_folder.specs.declared.lock_kind.LockKind.TheVariants.{Shared}
+use Rattle.lsm_directory.specs.Holding.{IsHeld, IsUnheld}
 use Rattle.lsm_directory.specs.Logs.{AreThose}
+use Rattle.lsm_directory.specs.declared.directory_fault.DirectoryFault.{DirectoryFault}
+use Rattle.lsm_directory.specs.declared.directory_fault.DirectoryFault.TheVariants.{Shelf}
 use Rattle.lsm_directory.specs.declared.folder_file.FolderFile.{FolderFile}
 
 -- it asks for the folder's names, or how many bytes a file has
@@ -30,6 +32,7 @@ IsLook (measured name answer) = Unit {0}
 IsLook (read name image offset len answer) = ⊥
 IsLook (loaded name answer) = ⊥
 IsLook (listed answer) = Unit {0}
+IsLook (locked name kind answer) = ⊥
 
 -- Between these moments a folder was asked for nothing else. The newest call stands first.
 abbrev pub OnlyLooks : List Call → List Call → Type 0
@@ -93,12 +96,9 @@ pub record TellsLogs (files : List FolderFile) (old new : List Call) : Type 0 wh
   pub ascending : IsSorted (slice_cmp nat_cmp) ordered
   pub sizes : AsksSizes ordered files (listed (Ok names) ∷ old) new
 
--- What a command looks at beside the tables: a check at the logs, and any other command at nothing.
-abbrev pub TellsBeside : DirectoryCommand → List FolderFile → List Call → List Call → Type 0
-TellsBeside Check files old new = TellsLogs files old new
-TellsBeside ListFiles files old new = (files ≡ []) × (new ≡ old)
-TellsBeside (Get key) files old new = (files ≡ []) × (new ≡ old)
-TellsBeside (Scan bounds) files old new = (files ≡ []) × (new ≡ old)
+-- What a command that only reads asks of a folder before its tables: it holds the lock, and then looks for logs.
+abbrev pub TellsBeside : List FolderFile → List Call → List Call → Type 0
+TellsBeside files old new = (mid : List Call) × IsHeld Shared old mid × TellsLogs files mid new
 
 -- ---- refusals
 
@@ -111,3 +111,8 @@ IsRefusedLook e old new =
 -- memory was refused, or a look
 abbrev pub LooksStopped : ShelfFault → List Call → List Call → Type 0
 LooksStopped e old new = (e ≡ OutOfMemory) ⊎ IsRefusedLook e old new
+
+-- the lock was not held, or a look beside the tables was refused
+abbrev pub BesideStopped : DirectoryFault → List Call → List Call → Type 0
+BesideStopped e old new =
+    IsUnheld Shared e old new ⊎ ((mid : List Call) × IsHeld Shared old mid × ((fault : ShelfFault) × (e ≡ Shelf fault) × LooksStopped fault mid new))

@@ -19,10 +19,12 @@ use crate::checking::describe;
 use crate::directory_fault::DirectoryFault;
 use crate::listing::list_files;
 use crate::logs::push_logs;
+use crate::notes::tell_notes;
 use crate::opened::{Opened, open};
 use crate::output::write_output;
 use crate::request::Request;
 use crate::scanning::print_scan;
+use crate::wording::Wording;
 use lsm_commands::{DirectoryCommand, Form};
 use lsm_reader::Direct;
 use lsm_table::{Naming, Registry, Shelf};
@@ -94,7 +96,13 @@ fn checked<N: Naming, S: Shelf, E: Write>(
     ensures quiet { IsFalse request.now.progress → Keeps (E.contents err.old) (E.contents err.new) }
 {
     let mut text = description_of(shelf, alloc, registry, opened, request.progress, err)?;
-    push_logs(&mut text, request.files, opened.log, opened.prev_log)?;
+    push_logs(
+        &mut text,
+        Wording::Listed,
+        request.files,
+        opened.log,
+        opened.prev_log,
+    )?;
     Ok(text)
 }
 
@@ -144,27 +152,33 @@ fn perform_on<N: Naming, S: Shelf, O: Write, E: Write>(
     write_output(out, text.as_slice())
 }
 
-/// Opens the directory of a shelf to read, and does what a command asks of it. Nothing is written
-/// there.
+/// Opens the directory of a shelf to read, notes the logs that are not read, and does what a
+/// command asks of it. Nothing is written there.
 #[tactic(auto, using(crate::proofs::Outcomes::reads_none, crate::proofs::Outcomes::reads_later, crate::proofs::Quiet::keeps_same))]
 pub(crate) fn perform<N: Naming, S: Shelf, R: Wait, O: Write, E: Write>(
     rt: &R,
     alloc: Global,
     shelf: &mut S,
-    registry: Arc<Registry<S::Receipt>>,
+    registry: &Arc<Registry<S::Receipt>>,
     request: &Request<'_>,
     out: &mut O,
     err: &mut E,
 ) -> Result<(), DirectoryFault>
     requires here { (S.told shelf.old).place ≡ N.place }
-    requires named { arc_value registry ≡ N.registry }
-    ensures done { OnOk result (IsDone request.now.form request.now.command.now request.now.files.now S.honest (S.told shelf.old) (S.told shelf.new) (O.contents out.old) (O.contents out.new)) }
+    requires named { arc_value registry.now ≡ N.registry }
+    ensures done { OnOk result (IsDone request.now.form request.now.command.now request.now.files.now request.now.progress S.honest (S.told shelf.old) (S.told shelf.new) (O.contents out.old) (O.contents out.new) (E.contents err.old) (E.contents err.new)) }
     ensures fault { IfErr result (λ e. IsFault (λ number image. (r : S.Receipt) × S.is_of N.place r × (S.Receipt.number r ≡ number) × (S.Receipt.image r ≡ image)) (S.refuses N.place) S.honest e (S.told shelf.old) (S.told shelf.new)) }
     ensures left { IfErr result (λ e. Leaves request.now.form request.now.command.now S.honest e (S.told shelf.old) (S.told shelf.new) (O.contents out.old) (O.contents out.new)) }
     ensures reads { OnlyReads (S.told shelf.old) (S.told shelf.new) }
-    ensures quiet { IsFalse request.now.progress → Keeps (E.contents err.old) (E.contents err.new) }
 {
-    let shared = Arc::try_clone(&registry)?;
-    let opened: Opened<N, S> = open(rt, alloc, shelf, shared)?;
-    perform_on(shelf, alloc, &registry, &opened, request, out, err)
+    let opened: Opened<N, S> = open(rt, alloc, shelf, registry)?;
+    tell_notes(
+        alloc,
+        request.command,
+        request.files,
+        opened.log,
+        opened.prev_log,
+        err,
+    );
+    perform_on(shelf, alloc, registry, &opened, request, out, err)
 }

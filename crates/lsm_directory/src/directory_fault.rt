@@ -1,13 +1,13 @@
 //! Why a command on a directory ends with status 1.
 
 ghost use Rattle.std.specs.Prelude.{◌≡◌};
-ghost use Rattle.lsm_directory.specs.DirectoryFault.{fault_text, file_of};
-ghost use Rattle.lsm_directory.specs.declared.directory_fault.DirectoryFault.TheVariants.{OutOfMemory, Manifest, Tables, Read};
+ghost use Rattle.lsm_directory.specs.DirectoryFault.{fault_text, file_of, number_of, of_open};
+ghost use Rattle.lsm_directory.specs.declared.directory_fault.DirectoryFault.TheVariants.{OutOfMemory, Shelf, Manifest, Tables, Read};
 
-use crate::refusals::{of_manifest, of_read, of_tables};
+use crate::refusals::{of_locked, of_manifest, of_read, of_shelf, of_spent, of_tables};
 use lsm_commands::Refusal;
-use lsm_journal::RecoverFault;
-use lsm_table::{ReadFault, TableFault};
+use lsm_journal::{OpenFault, RecoverFault};
+use lsm_table::{ReadFault, ShelfFault, TableFault};
 use lsm_version::CheckFault;
 use std::alloc::{AllocError, AllocFailed};
 use std::fmt;
@@ -19,15 +19,37 @@ pub enum DirectoryFault {
     OutOfMemory,
     /// A write failed.
     Write,
+    /// The folder could not be opened, locked or looked at, or its tables could not be listed.
+    Shelf(ShelfFault),
     /// The manifest could not be read.
     Manifest(RecoverFault),
     /// The tables that it names are no version.
     Tables(CheckFault),
     /// A table could not be read again.
     Read(ReadFault),
+    /// A table that is listed, or of the version, or the manifest has the number 2^64 - 1.
+    NumbersSpent,
+    /// Another program holds the lock of the folder.
+    Locked,
 }
 
 impl DirectoryFault {
+    /// The number of the refusal in docs/FORMATS.md; none of a write that failed.
+    pub fn number(&self) -> Option<u8>
+        ensures { result ≡ number_of self.now }
+    {
+        match self {
+            DirectoryFault::OutOfMemory => Some(1),
+            DirectoryFault::Write => None,
+            DirectoryFault::Shelf(fault) => Some(fault.number()),
+            DirectoryFault::Manifest(fault) => Some(fault.number()),
+            DirectoryFault::Tables(fault) => Some(fault.number()),
+            DirectoryFault::Read(fault) => Some(fault.number()),
+            DirectoryFault::NumbersSpent => Some(46),
+            DirectoryFault::Locked => Some(52),
+        }
+    }
+
     /// The number of the file that a refusal of its table is about.
     pub fn file(&self) -> Option<u64>
         ensures { result ≡ file_of self.now }
@@ -46,8 +68,11 @@ impl fmt::Display for DirectoryFault {
         let refusal = match self {
             DirectoryFault::Write => return f.write_str("write fault"),
             DirectoryFault::OutOfMemory => Refusal::of_table(TableFault::OutOfMemory),
+            DirectoryFault::Shelf(fault) => of_shelf(*fault),
             DirectoryFault::Manifest(fault) => of_manifest(*fault),
             DirectoryFault::Read(fault) => of_read(*fault),
+            DirectoryFault::NumbersSpent => of_spent(),
+            DirectoryFault::Locked => of_locked(),
             DirectoryFault::Tables(fault) => match of_tables(fault) {
                 Some(refusal) => refusal,
                 None => return write!(f, "refused 33 {fault}"),
@@ -70,6 +95,28 @@ impl<T: Drop> From<AllocFailed<T>> for DirectoryFault {
 
     fn from(_error: AllocFailed<T>) -> DirectoryFault {
         DirectoryFault::OutOfMemory
+    }
+}
+
+impl From<ShelfFault> for DirectoryFault {
+    ghost from_gives = { λ e f. f ≡ Shelf e };
+
+    fn from(error: ShelfFault) -> DirectoryFault {
+        DirectoryFault::Shelf(error)
+    }
+}
+
+impl From<OpenFault> for DirectoryFault {
+    ghost from_gives = { λ e f. f ≡ of_open e };
+
+    fn from(error: OpenFault) -> DirectoryFault {
+        match error {
+            OpenFault::OutOfMemory => DirectoryFault::OutOfMemory,
+            OpenFault::Shelf(fault) => DirectoryFault::Shelf(fault),
+            OpenFault::Recover(fault) => DirectoryFault::Manifest(fault),
+            OpenFault::Check(fault) => DirectoryFault::Tables(fault),
+            OpenFault::NumbersSpent => DirectoryFault::NumbersSpent,
+        }
     }
 }
 

@@ -19,10 +19,15 @@ mod checking;
 mod counting;
 mod listing;
 mod logs;
+mod notes;
 mod scanning;
+mod wording;
 
-// A folder of the system, and what a folder tells of logs.
+// A folder of the system: its lock, what it tells of names and logs, and which file a name is of.
+mod file_kind;
+mod file_names;
 mod folder_file;
+mod holding;
 mod looking;
 
 // What is written, and why it is not.
@@ -30,10 +35,15 @@ mod directory_fault;
 mod output;
 mod progress;
 mod refusals;
+mod second_lines;
 
 pub use directory_fault::DirectoryFault;
+pub use file_kind::FileKind;
 pub use folder_file::FolderFile;
-pub use looking::{log_files, open_folder};
+pub use holding::{hold, open_held};
+pub use logs::first_unread;
+pub use looking::{files_beside, folder_names, log_files, logs_among, open_folder};
 pub use opened::{Opened, open};
-pub use program::{refuse_shelf, run};
+pub use program::{refuse, run};
 pub use request::Request;
+pub use second_lines::{write_file_line, write_reason, write_second_lines};

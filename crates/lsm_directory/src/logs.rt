@@ -1,48 +1,13 @@
 //! The write-ahead logs beside the tables, which no command reads.
 
-ghost use Rattle.std.specs.Prelude.{◌≡◌, ◌≢◌, ◌<◌, ◌^◌, ◌++◌, ◌∷◌, [], ℕ, Some, get_or, MatchBool, OnOk};
-ghost use Rattle.std.specs.Str.Parse.{IsNumeral, digits_value};
-ghost use Rattle.lsm_directory.specs.Logs.{AppendsLogs, IsLogName, IsReached, IsUnread, log_line};
+ghost use Rattle.std.specs.Prelude.{◌≡◌, ◌≢◌, ◌<◌, ◌++◌, ◌∷◌, [], MatchBool, MatchOption, OnOk, decimal, string_bytes};
+ghost use Rattle.lsm_directory.specs.Logs.{AppendsLogs, IsFirstUnread, IsLogName, IsReached, IsUnread, NoneUnread, line_in, log_line, note_line};
 
+use crate::file_names::number_before;
 use crate::folder_file::FolderFile;
+use crate::wording::Wording;
 use lsm_commands::push_decimal;
 use std::alloc::AllocError;
-
-/// Whether a text begins with a plus.
-fn begins_with_plus(text: &str) -> bool
-    ensures { MatchBool result (get_or text.now 0 0 ≡ 43) (get_or text.now 0 0 ≢ 43) }
-{
-    match text.as_bytes() {
-        [first, ..] => *first == b'+',
-        [] => false,
-    }
-}
-
-/// The number that decimal digits spell.
-fn number_in(digits: &str) -> Option<u64>
-    ensures only { (n : ℕ) → result ≡ Some n → IsNumeral 10 digits.now × (digits_value 10 digits.now ≡ n) × (n < 2 ^ 64) }
-    ensures found { (n : ℕ) → IsNumeral 10 digits.now → digits_value 10 digits.now ≡ n → n < 2 ^ 64 → result ≡ Some n }
-{
-    // A number in Rust may begin with a plus, and one in LevelDB may not.
-    if begins_with_plus(digits) {
-        return None;
-    }
-    match digits.parse::<u64>() {
-        Ok(number) => Some(number),
-        Err(_) => None,
-    }
-}
-
-/// The number of the log of this name. Other names are no log's.
-fn log_in(name: &str) -> Option<u64>
-    ensures only { (n : ℕ) → result ≡ Some n → IsLogName name.now n }
-    ensures found { (n : ℕ) → IsLogName name.now n → result ≡ Some n }
-{
-    match name.strip_suffix(".log") {
-        Some(digits) => number_in(digits),
-        None => None,
-    }
-}
 
 /// Whether LevelDB reads the log of this number.
 fn is_reached(number: u64, log: u64, prev_log: u64) -> bool
@@ -51,18 +16,54 @@ fn is_reached(number: u64, log: u64, prev_log: u64) -> bool
     log <= number || number == prev_log
 }
 
-/// Whether a file is a log that is not empty, and that LevelDB reads when it opens the directory.
-#[tactic(auto, using(crate::proofs::LogLaws::unread_empty))]
-fn is_unread(file: &FolderFile, log: u64, prev_log: u64) -> bool
-    ensures { MatchBool result (IsUnread log prev_log file.now) (IsUnread log prev_log file.now → ⊥) }
+/// The number of a file that is a log, is not empty, and that LevelDB reads when it opens the
+/// directory.
+fn number_unread(file: &FolderFile, log: u64, prev_log: u64) -> Option<u64>
+    ensures { MatchOption result
+        (IsUnread log prev_log file.now → ⊥)
+        (λ n. IsUnread log prev_log file.now × IsLogName (string_bytes file.now.name) n) }
 {
     if file.size == 0 {
-        return false;
+        return None;
     }
-    match log_in(file.name.as_str()) {
-        Some(number) => is_reached(number, log, prev_log),
-        None => false,
+    match number_before(".log", file.name.as_str()) {
+        None => None,
+        Some(number) => {
+            if is_reached(number, log, prev_log) {
+                return Some(number);
+            }
+            None
+        }
     }
+}
+
+/// The number of the first log that is not read, in the order of the files: of the first that a
+/// check names. The two numbers are those of the manifest (tags 2 and 9 of LevelDB's
+/// `db/version_edit.cc`).
+pub fn first_unread(files: &[FolderFile], log: u64, prev_log: u64) -> Option<u64>
+    ensures { MatchOption result (NoneUnread log prev_log files.now) (IsFirstUnread log prev_log files.now) }
+{
+    for file in files {
+        if let Some(number) = number_unread(file, log, prev_log) {
+            return Some(number);
+        }
+    }
+    None
+}
+
+/// Appends the name of a file and its size, each behind these words.
+fn push_file(
+    out: &mut Vec<u8>,
+    before: &[u8],
+    file: &FolderFile,
+    between: &[u8],
+) -> Result<(), AllocError>
+    ensures { OnOk result (out.new.items ≡ out.old.items ++ (before.now ++ (string_bytes file.now.name ++ (between.now ++ decimal file.now.size)))) }
+{
+    out.extend_from_slice(before)?;
+    out.extend_from_slice(file.name.as_bytes())?;
+    out.extend_from_slice(between)?;
+    push_decimal(out, file.size)
 }
 
 /// Appends the line of a log.
@@ -70,11 +71,18 @@ fn is_unread(file: &FolderFile, log: u64, prev_log: u64) -> bool
 fn push_log(out: &mut Vec<u8>, file: &FolderFile) -> Result<(), AllocError>
     ensures { OnOk result (out.new.items ≡ out.old.items ++ log_line file.now) }
 {
-    out.extend_from_slice(b"log ")?;
-    out.extend_from_slice(file.name.as_bytes())?;
-    out.push(b' ')?;
-    push_decimal(out, file.size)?;
+    push_file(out, b"log ", file, b" ")?;
     out.push(b'\n')?;
+    Ok(())
+}
+
+/// Appends the note of a log.
+#[tactic(auto, unfolding(crate::specs::Logs::note_line))]
+fn push_note(out: &mut Vec<u8>, file: &FolderFile) -> Result<(), AllocError>
+    ensures { OnOk result (out.new.items ≡ out.old.items ++ note_line file.now) }
+{
+    push_file(out, b"note: ", file, b" is not flushed: its ")?;
+    out.extend_from_slice(b" bytes are not read\n")?;
     Ok(())
 }
 
@@ -82,31 +90,36 @@ fn push_log(out: &mut Vec<u8>, file: &FolderFile) -> Result<(), AllocError>
 #[tactic(auto, using(crate::proofs::LogLaws::one_log, crate::proofs::LogLaws::no_log))]
 fn push_unread(
     out: &mut Vec<u8>,
+    wording: Wording,
     file: &FolderFile,
     log: u64,
     prev_log: u64,
 ) -> Result<(), AllocError>
-    ensures { OnOk result (AppendsLogs log prev_log (file.now ∷ []) out.old.items out.new.items) }
+    ensures { OnOk result (AppendsLogs (line_in wording) log prev_log (file.now ∷ []) out.old.items out.new.items) }
 {
-    if is_unread(file, log, prev_log) {
-        return push_log(out, file);
+    if number_unread(file, log, prev_log).is_none() {
+        return Ok(());
     }
-    Ok(())
+    match wording {
+        Wording::Listed => push_log(out, file),
+        Wording::Noted => push_note(out, file),
+    }
 }
 
-/// Appends a line for each log that is not read, in the order of the files. The two numbers are
-/// those of the manifest (tags 2 and 9 of LevelDB's `db/version_edit.cc`).
+/// Appends a line in these words for each log that is not read, in the order of the files. The two
+/// numbers are those of the manifest.
 #[tactic(auto, using(crate::proofs::LogLaws::logs_all))]
 pub(crate) fn push_logs(
     out: &mut Vec<u8>,
+    wording: Wording,
     files: &[FolderFile],
     log: u64,
     prev_log: u64,
 ) -> Result<(), AllocError>
-    ensures { OnOk result (AppendsLogs log prev_log files.now out.old.items out.new.items) }
+    ensures { OnOk result (AppendsLogs (line_in wording) log prev_log files.now out.old.items out.new.items) }
 {
     for file in files {
-        push_unread(out, file, log, prev_log)?;
+        push_unread(out, wording, file, log, prev_log)?;
     }
     Ok(())
 }

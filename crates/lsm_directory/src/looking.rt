@@ -1,4 +1,4 @@
-//! Which logs a folder has, as it tells their names and sizes, and the folder opened for a command.
+//! What a folder tells of its names and logs, and the folder opened for a command that only reads.
 
 ghost use Rattle.std.specs.Prelude.{◌≡◌, ◌∷◌, [], List, ℕ, Err, Ok, IfErr, IfOk, MatchOption, OnOk, map, string_bytes};
 ghost use Rattle.std.specs.Cmp.Lexicographic.{slice_cmp};
@@ -9,30 +9,20 @@ ghost use Rattle.lsm_folder.specs.Place.{IsAtPath};
 ghost use Rattle.lsm_folder.specs.SystemFolder.{system_calls, system_place};
 ghost use Rattle.lsm_folder.specs.declared.folder_fault.FolderFault.TheVariants.{Missing};
 ghost use Rattle.lsm_shelf.specs.FileShelf.{file_told, folder_of};
-ghost use Rattle.lsm_shelf.specs.FolderFault.{device_of};
 ghost use Rattle.lsm_shelf.specs.Told.{NotNamed, fresh};
 ghost use Rattle.lsm_shelf.specs.declared.shelf_fault.ShelfFault.TheVariants.{OutOfMemory};
-ghost use Rattle.lsm_directory.specs.Looking.{AddsLog, AsksSizes, LooksStopped, OnlyLooks, TellsBeside, TellsLogs};
+ghost use Rattle.lsm_directory.specs.Holding.{IsFolderFault};
+ghost use Rattle.lsm_directory.specs.Looking.{AddsLog, AsksSizes, BesideStopped, LooksStopped, OnlyLooks, TellsBeside, TellsLogs};
 
+use crate::directory_fault::DirectoryFault;
 use crate::folder_file::FolderFile;
-use lsm_commands::DirectoryCommand;
-use lsm_folder::{FolderCalls, FolderFault, SystemFolder};
+use crate::holding::{device, hold};
+use lsm_folder::{FolderCalls, FolderFault, LockKind, Reasons, SystemFolder};
 use lsm_shelf::{FileShelf, SystemShelf};
 use lsm_table::ShelfFault;
 use std::alloc::Global;
-use std::fs::Files;
+use std::fs::{File, Files};
 use std::sync::Wait;
-
-/// What a refusal of a folder means to one that asks it.
-fn device(fault: FolderFault) -> ShelfFault
-    ensures device { result ≡ device_of fault }
-    ensures fault { NotNamed result }
-{
-    match fault {
-        FolderFault::OutOfMemory => ShelfFault::OutOfMemory,
-        FolderFault::Failed | FolderFault::Missing | FolderFault::Exists => ShelfFault::Device,
-    }
-}
 
 /// The names, ascending.
 fn in_order(mut names: Vec<String>) -> Result<Vec<String>, ShelfFault>
@@ -46,8 +36,9 @@ fn in_order(mut names: Vec<String>) -> Result<Vec<String>, ShelfFault>
     }
 }
 
-/// The names of the folder's files, ascending.
-fn names_in<C: FolderCalls, R: Wait>(
+/// The names of a folder's files, ascending. The folder is asked for them once. A name that is no
+/// text is left out. `Device` where the folder fails.
+pub fn folder_names<C: FolderCalls, R: Wait>(
     rt: &R,
     alloc: Global,
     folder: &mut C,
@@ -113,9 +104,10 @@ fn add_log<C: FolderCalls, R: Wait>(
     }
 }
 
-/// The files among these names that end like a log's, with their sizes. One that is gone is left
-/// out.
-fn logs_among<C: FolderCalls, R: Wait>(
+/// The files among these names that end like a log's, with their sizes, in the order of the names.
+/// The folder is asked for sizes alone: no file is opened. One that is gone when its size is asked
+/// is left out. `Device` where the folder fails.
+pub fn logs_among<C: FolderCalls, R: Wait>(
     rt: &R,
     alloc: Global,
     folder: &mut C,
@@ -148,50 +140,56 @@ pub fn log_files<C: FolderCalls, R: Wait>(
     ensures place { C.place folder.new ≡ C.place folder.old }
     ensures fault { IfErr result NotNamed }
 {
-    let names = names_in(rt, alloc, folder)?;
+    let names = folder_names(rt, alloc, folder)?;
     logs_among(rt, alloc, folder, names)
 }
 
-/// The files beside a folder's tables at which a command looks: a check at those whose names end
-/// like a log's, and any other command at none, so that it asks nothing.
-fn files_beside<C: FolderCalls, R: Wait>(
+/// What a command that only reads asks of a folder before its tables: it holds the lock of the
+/// folder, shared, and looks for logs, as `log_files` does.
+///
+/// The refusals of `hold`, and then those of `log_files`, as `Shelf`.
+pub fn files_beside<C: FolderCalls, R: Wait>(
     rt: &R,
     alloc: Global,
     folder: &mut C,
-    command: &DirectoryCommand,
-) -> Result<Vec<FolderFile>, ShelfFault>
-    ensures told { IfOk result (λ files. TellsBeside command.now files.items (C.calls folder.old) (C.calls folder.new)) }
+) -> Result<Vec<FolderFile>, DirectoryFault>
+    ensures told { IfOk result (λ files. TellsBeside files.items (C.calls folder.old) (C.calls folder.new)) }
+    ensures refused { IfErr result (λ e. BesideStopped e (C.calls folder.old) (C.calls folder.new)) }
     ensures place { C.place folder.new ≡ C.place folder.old }
-    ensures fault { IfErr result NotNamed }
+    ensures fault { IfErr result IsFolderFault }
 {
-    match command {
-        DirectoryCommand::Check => log_files(rt, alloc, folder),
-        DirectoryCommand::List | DirectoryCommand::Get(_) | DirectoryCommand::Scan(_) => {
-            Ok(Vec::new(alloc))
-        }
+    hold(rt, folder, LockKind::Shared)?;
+    match log_files(rt, alloc, folder) {
+        Ok(files) => Ok(files),
+        Err(fault) => Err(DirectoryFault::Shelf(fault)),
     }
 }
 
-/// Opens the system's folder of this path for a command: a shelf on it, and the files beside its
-/// tables at which the command looks. `Device` where it is no folder that can be opened, or where
-/// it fails.
-pub fn open_folder<R: Files + AllocGlobal + Clone + Drop, W: Wait>(
+/// Opens the system's folder of this path for a command that only reads: a shelf on it, whose lock
+/// is held as long as the shelf is, and the files that `files_beside` finds there. What the system
+/// answers where it refuses a call of that folder is kept in `reasons`.
+///
+/// `Shelf` of `Device` where it is no folder that can be opened; then the refusals of
+/// `files_beside`.
+pub fn open_folder<R: Files<File = File> + AllocGlobal + Clone + Drop, W: Wait>(
     waits: &W,
     rt: R,
     path: &str,
-    command: &DirectoryCommand,
-) -> Result<(SystemShelf<R>, Vec<FolderFile>), ShelfFault>
-    ensures told { IfOk result (λ o. TellsBeside command.now o.1.items (opened ∷ []) (system_calls (folder_of o.0))) }
+    reasons: &Reasons,
+) -> Result<(SystemShelf<R>, Vec<FolderFile>), DirectoryFault>
+    ensures told { IfOk result (λ o. TellsBeside o.1.items (opened ∷ []) (system_calls (folder_of o.0))) }
     ensures place { IfOk result (λ o. IsAtPath path.now (system_place (folder_of o.0))) }
     ensures fresh { IfOk result (λ o. file_told system_place o.0 ≡ fresh (system_place (folder_of o.0))) }
-    ensures fault { IfErr result NotNamed }
+    ensures fault { IfErr result IsFolderFault }
 {
     let alloc = rt.alloc();
-    match SystemFolder::open(rt, path) {
-        Ok(mut folder) => {
-            let files = files_beside(waits, alloc, &mut folder, command)?;
-            Ok((FileShelf::over(folder), files))
-        }
-        Err(fault) => Err(device(fault)),
-    }
+    let mut folder = match SystemFolder::open_noting(rt, path, reasons) {
+        Ok(folder) => folder,
+        Err(fault) => return Err(DirectoryFault::Shelf(device(fault))),
+    };
+    let files = files_beside(waits, alloc, &mut folder)?;
+
+    // That a file was not there to be locked, or is gone, is no reason of a later refusal.
+    reasons.forget();
+    Ok((FileShelf::over(folder), files))
 }

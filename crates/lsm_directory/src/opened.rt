@@ -6,7 +6,7 @@ ghost use Rattle.lsm_directory.specs.Directory.{Holds, OnlyReads};
 ghost use Rattle.lsm_directory.specs.Opening.{IsOpenRefusal};
 
 use crate::directory_fault::DirectoryFault;
-use lsm_journal::Journal;
+use lsm_journal::Found;
 use lsm_table::{Naming, Registry, Shelf};
 use lsm_version::Version;
 use std::alloc::Global;
@@ -23,31 +23,30 @@ pub struct Opened<N: Naming, S: Shelf> {
     pub prev_log: u64,
 }
 
-/// Opens the directory of a shelf to read: reads the manifest that it names, and reads and judges
-/// every table. Nothing is written.
+/// Opens the directory of a shelf to read, as `Found::read` does: reads the manifest that it names,
+/// reads and judges every table, and lists those that are there. Nothing is written.
 ///
-/// The refusals of `Journal::recover`, then those of `Version::check`.
-#[tactic(auto, using(crate::proofs::Outcomes::reads_refused, crate::proofs::Outcomes::reads_found))]
+/// The refusals of `Found::read`: those of `Journal::recover`, then those of `Version::check`,
+/// those of listing the tables, and `NumbersSpent`.
 pub fn open<N: Naming, S: Shelf, R: Wait>(
     rt: &R,
     alloc: Global,
     shelf: &mut S,
-    registry: Arc<Registry<S::Receipt>>,
+    registry: &Arc<Registry<S::Receipt>>,
 ) -> Result<Opened<N, S>, DirectoryFault>
     requires here { (S.told shelf.old).place ≡ N.place }
-    requires named { arc_value registry ≡ N.registry }
+    requires named { arc_value registry.now ≡ N.registry }
     ensures opened { IfOk result (λ o. Holds S.honest (S.told shelf.old) (S.told shelf.new) o.version o.rest o.log o.prev_log) }
     ensures refused { IfErr result (λ e. IsOpenRefusal (λ number image. (r : S.Receipt) × S.is_of N.place r × (S.Receipt.number r ≡ number) × (S.Receipt.image r ≡ image)) (S.refuses N.place) S.honest e (S.told shelf.old) (S.told shelf.new)) }
     ensures reads { OnlyReads (S.told shelf.old) (S.told shelf.new) }
     ensures place { (S.told shelf.new).place ≡ N.place }
 {
     // A journal that nothing is sent through has no use for its limit.
-    let found = Journal::recover(rt, alloc, shelf, u64::MAX)?;
-    let version = Version::check(shelf, rt, alloc, &found.shape, registry)?;
+    let found = Found::read(rt, alloc, shelf, registry, u64::MAX)?;
     Ok(Opened {
-        version,
+        version: found.version,
         rest: found.rest,
-        log: found.shape.log,
-        prev_log: found.shape.prev_log,
+        log: found.journal.log(),
+        prev_log: found.journal.prev_log(),
     })
 }

@@ -1,8 +1,8 @@
 //! One run of a command on a directory.
 
-ghost use Rattle.std.specs.Prelude.{◌≡◌, ◌≢◌, ◌++◌, [], ◌∷◌, IfErr, IfSome, IsFalse, OnOk, codes};
-ghost use Rattle.std.specs.Io.KnownBytes.{Appends, Keeps};
-ghost use Rattle.lsm_shelf.specs.FileNames.{padded, table_name};
+ghost use Rattle.std.specs.Prelude.{◌≡◌, ◌≢◌, ◌++◌, [], ◌∷◌, IfErr, IfSome, OnOk, codes};
+ghost use Rattle.std.specs.Io.KnownBytes.{Appends};
+ghost use Rattle.lsm_shelf.specs.FileNames.{table_name};
 ghost use Rattle.lsm_directory.specs.Answers.{IsDone, IsRefused};
 ghost use Rattle.lsm_directory.specs.Directory.{OnlyReads};
 ghost use Rattle.lsm_directory.specs.DirectoryFault.{fault_line, fault_text, file_of, named_in, names_files};
@@ -10,9 +10,10 @@ ghost use Rattle.lsm_directory.specs.DirectoryFault.{fault_line, fault_text, fil
 use crate::commands::perform;
 use crate::directory_fault::DirectoryFault;
 use crate::request::Request;
+use crate::second_lines::{write_file_of, write_reason_of, write_table};
 use lsm_commands::DirectoryCommand;
-use lsm_journal::RecoverFault;
-use lsm_table::{Registry, Shelf, ShelfFault};
+use lsm_folder::Reasons;
+use lsm_table::{Registry, Shelf};
 use std::alloc::Global;
 use std::io::{self, Write};
 use std::marker::Brand;
@@ -32,20 +33,12 @@ fn write_text<E: Write>(err: &mut E, fault: &DirectoryFault) -> io::Result<()>
     write!(err, "{fault}")
 }
 
-/// Writes the number of a file, with zeros in front to at least six digits.
-fn write_number<E: Write>(err: &mut E, number: u64) -> io::Result<()>
-    ensures { OnOk result (Appends (E.contents err.old) (E.contents err.new) (padded number)) }
-{
-    write!(err, "{number:06}")
-}
-
 /// Ends the line of a fault of this file's table.
 fn write_file<E: Write>(err: &mut E, number: u64) -> io::Result<()>
     ensures { OnOk result (Appends (E.contents err.old) (E.contents err.new) (codes " in " ++ (table_name number ++ (10 ∷ [])))) }
 {
     err.write_all(b" in ")?;
-    write_number(err, number)?;
-    err.write_all(b".ldb\n")
+    write_table(err, number)
 }
 
 /// Writes the line of a fault of this file's table.
@@ -77,12 +70,21 @@ fn write_named<E: Write>(err: &mut E, fault: &DirectoryFault, names_files: bool)
     }
 }
 
-/// The same, and flushes.
-#[tactic(auto, using(crate::proofs::Outcomes::told_kept))]
-fn tell<E: Write>(err: &mut E, fault: &DirectoryFault, names_files: bool) -> io::Result<()>
-    ensures told { OnOk result (IfSome (fault_line names_files fault.now) (λ line. Appends (E.contents err.old) (E.contents err.new) line)) }
-{
+/// Writes the line of a fault, and what stands behind it: the file whose table is refused, where
+/// the line did not name it, and what the system answered; and flushes.
+fn tell<E: Write>(
+    err: &mut E,
+    fault: &DirectoryFault,
+    names_files: bool,
+    reasons: Option<&Reasons>,
+) -> io::Result<()> {
     write_named(err, fault, names_files)?;
+    if !names_files {
+        write_file_of(err, fault)?;
+    }
+    if let Some(reasons) = reasons {
+        write_reason_of(err, fault, reasons)?;
+    }
     err.flush()
 }
 
@@ -97,7 +99,7 @@ fn names_files(command: &DirectoryCommand) -> bool
 }
 
 /// Does what a command asks, with a registry of its own.
-#[tactic(auto, using(crate::proofs::Outcomes::memory_refused, crate::proofs::Outcomes::reads_none, crate::proofs::Quiet::keeps_same))]
+#[tactic(auto, using(crate::proofs::Outcomes::memory_refused, crate::proofs::Outcomes::reads_none))]
 fn begin<S: Shelf, R: Wait, O: Write, E: Write>(
     rt: &R,
     alloc: Global,
@@ -106,19 +108,19 @@ fn begin<S: Shelf, R: Wait, O: Write, E: Write>(
     out: &mut O,
     err: &mut E,
 ) -> Result<(), DirectoryFault>
-    ensures done { OnOk result (IsDone request.now.form request.now.command.now request.now.files.now S.honest (S.told shelf.old) (S.told shelf.new) (O.contents out.old) (O.contents out.new)) }
+    ensures done { OnOk result (IsDone request.now.form request.now.command.now request.now.files.now request.now.progress S.honest (S.told shelf.old) (S.told shelf.new) (O.contents out.old) (O.contents out.new) (E.contents err.old) (E.contents err.new)) }
     ensures refused { IfErr result (λ e. IsRefused request.now.form request.now.command.now e (λ number image. (r : S.Receipt) × S.is_of (S.told shelf.old).place r × (S.Receipt.number r ≡ number) × (S.Receipt.image r ≡ image)) (S.refuses (S.told shelf.old).place) S.honest (S.told shelf.old) (S.told shelf.new) (O.contents out.old) (O.contents out.new)) }
     ensures reads { OnlyReads (S.told shelf.old) (S.told shelf.new) }
-    ensures quiet { IsFalse request.now.progress → Keeps (E.contents err.old) (E.contents err.new) }
 {
     let registry = Arc::new(alloc, Registry::new(alloc)?)?;
-    perform::<Brand, S, R, O, E>(rt, alloc, shelf, registry, request, out, err)
+    perform::<Brand, S, R, O, E>(rt, alloc, shelf, &registry, request, out, err)
 }
 
 /// Opens the directory of a shelf to read, does what is asked of it, and answers the exit status: 0
-/// where it is done, and 1 where it is refused. A fault is one line on `err`; `check` and `scan`
-/// name in it the file of which a table is refused. Nothing is written in the directory.
-#[tactic(auto, using(crate::proofs::Quiet::keeps_same))]
+/// where it is done, and 1 where it is refused. `list`, `get` and `scan` note on `err` each log
+/// that is not read. A fault is one line on `err`; `check` and `scan` name in it the file of which
+/// a table is refused, and `list` and `get` in a second one. Where it is `9 Device` or
+/// `10 Missing`, what the system answered stands behind it. Nothing is written in the directory.
 pub fn run<S: Shelf, R: Wait, O: Write, E: Write>(
     rt: &R,
     alloc: Global,
@@ -127,27 +129,25 @@ pub fn run<S: Shelf, R: Wait, O: Write, E: Write>(
     out: &mut O,
     err: &mut E,
 ) -> u8
-    ensures done { result ≡ 0 → IsDone request.now.form request.now.command.now request.now.files.now S.honest (S.told shelf.old) (S.told shelf.new) (O.contents out.old) (O.contents out.new) }
+    ensures done { result ≡ 0 → IsDone request.now.form request.now.command.now request.now.files.now request.now.progress S.honest (S.told shelf.old) (S.told shelf.new) (O.contents out.old) (O.contents out.new) (E.contents err.old) (E.contents err.new) }
     ensures refused { result ≢ 0 → (result ≡ 1) × ((fault : DirectoryFault) × IsRefused request.now.form request.now.command.now fault (λ number image. (r : S.Receipt) × S.is_of (S.told shelf.old).place r × (S.Receipt.number r ≡ number) × (S.Receipt.image r ≡ image)) (S.refuses (S.told shelf.old).place) S.honest (S.told shelf.old) (S.told shelf.new) (O.contents out.old) (O.contents out.new)) }
     ensures reads { OnlyReads (S.told shelf.old) (S.told shelf.new) }
-    ensures quiet { result ≡ 0 → IsFalse request.now.progress → Keeps (E.contents err.old) (E.contents err.new) }
 {
     let done = begin(rt, alloc, shelf, request, out, err);
     match done {
         Ok(()) => 0,
         Err(fault) => {
-            let _ = tell(err, &fault, names_files(request.command));
+            let _ = tell(err, &fault, names_files(request.command), request.reasons);
             1
         }
     }
 }
 
-/// What is answered where the shelf of a directory could not be opened: 1, with the line of its
-/// refusal on `err`.
-pub fn refuse_shelf<E: Write>(fault: ShelfFault, err: &mut E) -> u8
+/// What is answered where the folder of a directory could not be opened, locked or looked at: 1,
+/// with the line of its refusal on `err`, and what the system answered behind it.
+pub fn refuse<E: Write>(fault: &DirectoryFault, reasons: &Reasons, err: &mut E) -> u8
     ensures { result ≡ 1 }
 {
-    let fault = DirectoryFault::Manifest(RecoverFault::Shelf(fault));
-    let _ = tell(err, &fault, false);
+    let _ = tell(err, fault, false, Some(reasons));
     1
 }

@@ -1,6 +1,6 @@
 //! Refusals of the parts of a directory, as they are printed.
 
-ghost use Rattle.std.specs.Prelude.{◌≡◌};
+ghost use Rattle.std.specs.Prelude.{◌≡◌, None, codes};
 ghost use Rattle.std.specs.Option.{option_map};
 ghost use Rattle.lsm_commands.specs.FaultText.{refusal_text};
 ghost use Rattle.lsm_directory.specs.DirectoryFault.{check_text, read_text, recover_text, replay_text, shelf_text};
@@ -12,7 +12,7 @@ use lsm_table::{ReadFault, ShelfFault};
 use lsm_version::CheckFault;
 
 /// A refusal of a shelf.
-fn of_shelf(fault: ShelfFault) -> Refusal
+pub(crate) fn of_shelf(fault: ShelfFault) -> Refusal
     ensures { refusal_text result.number result.name.now result.field ≡ shelf_text fault }
 {
     Refusal {
@@ -80,4 +80,26 @@ pub(crate) fn of_tables(fault: &CheckFault) -> Option<Refusal>
         name: fault.name(),
         field: Some(field),
     })
+}
+
+/// The refusal where a number is the last one.
+pub(crate) fn of_spent() -> Refusal
+    ensures { refusal_text result.number result.name.now result.field ≡ refusal_text 46 (codes "NumbersSpent") None }
+{
+    Refusal {
+        number: 46,
+        name: "NumbersSpent",
+        field: None,
+    }
+}
+
+/// The refusal where another program holds the lock.
+pub(crate) fn of_locked() -> Refusal
+    ensures { refusal_text result.number result.name.now result.field ≡ refusal_text 52 (codes "Locked") None }
+{
+    Refusal {
+        number: 52,
+        name: "Locked",
+        field: None,
+    }
 }

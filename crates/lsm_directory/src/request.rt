@@ -2,14 +2,17 @@
 
 use crate::folder_file::FolderFile;
 use lsm_commands::{DirectoryCommand, Form};
+use lsm_folder::Reasons;
 
 /// What is asked of a directory: the command; the form of keys and values; the files beside its
-/// tables, as `log_files` gives them, at which only `check` looks, for logs; and whether `check`
-/// and `scan` are to say on standard error how far they are.
+/// tables, as `log_files` gives them, among which are the logs that are not read; whether `check`
+/// and `scan` are to say on standard error how far they are; and where the system's answers are
+/// kept of which a refusal tells.
 #[derive(Clone, Copy, Debug)]
 pub struct Request<'a> {
     pub command: &'a DirectoryCommand,
     pub form: Form,
     pub files: &'a [FolderFile],
     pub progress: bool,
+    pub reasons: Option<&'a Reasons>,
 }

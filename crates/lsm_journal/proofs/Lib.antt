@@ -8,4 +8,6 @@ mod Recoveries
 mod Loops
 mod Alike
 mod Recording
+mod FreeNumbers
+mod Finding
 pub mod CallerLemmas

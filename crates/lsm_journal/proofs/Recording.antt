@@ -1,5 +1,5 @@
 -- What the manifest held records before and after a change is sent.
-use Rattle.std.proofs.Common.{◌≡◌, ◌≢◌, ◌==◌, Bool, true, false, ℕ, ◌<◌, ◌≤◌, List, [], ◌∷◌, ◌++◌, Option, Some, None, get_or, length, refl, sym, subst, inl, inr, arith}
+use Rattle.std.proofs.Common.{◌≡◌, ◌≢◌, ◌==◌, Bool, true, false, ℕ, ◌+◌, ◌<◌, ◌≤◌, List, [], ◌∷◌, ◌++◌, Option, Some, None, get_or, length, refl, sym, subst, inl, inr, arith}
 use Rattle.std.specs.Prelude.{IfSome, slice_set}
 use Rattle.std.proofs.lemmas.Bool.{eqb-true, eqb-false}
 use Rattle.std.proofs.lemmas.List.{get_or-set_other, get_or-set_same}
@@ -13,7 +13,7 @@ use Rattle.lsm_version.specs.Versions.{Levels, no_levels}
 use Rattle.lsm_journal.specs.HeldManifest.{HeldManifest}
 use Rattle.lsm_journal.specs.Difference.{Difference, FitsComing, FitsDifference, FitsPlace, LeadsTo, changed_by, deleted_numbers}
 use Rattle.lsm_journal.specs.Recorded.{ComesTo, FitsLevels, HasOwnNumbers, IsRecorded}
-use Rattle.lsm_journal.specs.Writing.{change_edit, created, first_edit, record_of, version_edit}
+use Rattle.lsm_journal.specs.Writing.{change_edit, created_under, first_edit_under, record_of, version_edit}
 use Rattle.lsm_journal.proofs.Differing.{TablesChange, changed_own, difference_turns, inside, pointers_are, same_length}
 use Rattle.lsm_journal.proofs.StandingKeys.{standing_keys}
 use Rattle.lsm_journal.proofs.Standing.{comes_more}
@@ -88,12 +88,12 @@ started_recorded h i number v next own is spelled =
       own = own;
     }
 
-pub created_recorded : (limit : ℕ) → IsEdit (edit_text first_edit) first_edit → IsRecorded 0 (created limit) no_levels 2
-created_recorded limit spelled = record {
-  edits = first_edit ∷ [];
-  manifest = grown [] (edit_text first_edit) [] first_edit none_spelled spelled;
-  written = 2;
+pub created_recorded : (number limit : ℕ) → IsEdit (edit_text (first_edit_under number)) (first_edit_under number) → IsRecorded 0 (created_under number limit) no_levels (number + 1)
+created_recorded number limit spelled = record {
+  edits = first_edit_under number ∷ [];
+  manifest = grown [] (edit_text (first_edit_under number)) [] (first_edit_under number) none_spelled spelled;
+  written = number + 1;
   upto = omega arith;
-  comes = created_comes;
+  comes = created_comes number;
   own = created_own;
 }

@@ -24,7 +24,7 @@ use Rattle.lsm_version.specs.Versions as version
 use Rattle.lsm_journal.specs.HeldManifest.{HeldManifest}
 use Rattle.lsm_journal.specs.Difference.{Difference, FitsComing, FitsDifference, FitsPlace}
 use Rattle.lsm_journal.specs.Recorded.{ComesTo, FitsLevels, HasOwnNumbers, IsFileAt, IsStanding, meta_of}
-use Rattle.lsm_journal.specs.Writing.{change_edit, first_edit, metas_of, placed, pointers_of, shape_of, version_edit}
+use Rattle.lsm_journal.specs.Writing.{change_edit, first_edit_under, metas_of, placed, pointers_of, shape_of, version_edit}
 use Rattle.lsm_journal.proofs.Differing.{apart_from, has_map, map_has}
 use Rattle.lsm_journal.proofs.Standing.{Turns, comes_more}
 
@@ -135,17 +135,17 @@ version_comes h v next own = comes_more [] (version_edit h v next) nothing v h.l
 
 -- ---- a new database's edit
 
-pub created_comes : ComesTo (first_edit ∷ []) no_levels 0 0 2
-created_comes = record {
+pub created_comes : (number : ℕ) → ComesTo (first_edit_under number ∷ []) no_levels 0 0 (number + 1)
+created_comes number = record {
   standing = record {
-    innocent = innocent_push [] first_edit innocent_none record { comparator = λ other. other refl; added = fresh_new [] [] [] tt (λ a b st. absurd st) };
+    innocent = innocent_push [] (first_edit_under number) innocent_none record { comparator = λ other. other refl; added = fresh_new [] [] [] tt (λ a b st. absurd st) };
     files = λ level file. (λ f. absurd (none level f.0 f.1), λ st. absurd (elim st [ inl a ↦ a.0 | inr b ↦ b ]));
-    pointers = λ level low. no_pointer level ∙ sym (last_alone (λ (x : Change). pointer_in level x.pointers) first_edit ∙ pointer_in-none level);
+    pointers = λ level low. no_pointer level ∙ sym (last_alone (λ (x : Change). pointer_in level x.pointers) (first_edit_under number) ∙ pointer_in-none level);
   };
-  log_is = last_alone (λ (x : Change). x.log) first_edit;
-  prev_log_is = ap (λ o. Rattle.std.specs.Prelude.unwrap_or o 0) (last_alone (λ (x : Change). x.prev_log) first_edit);
-  next_is = last_alone (λ (x : Change). x.next) first_edit;
-  last_is = last_alone (λ (x : Change). x.last) first_edit;
+  log_is = last_alone (λ (x : Change). x.log) (first_edit_under number);
+  prev_log_is = ap (λ o. Rattle.std.specs.Prelude.unwrap_or o 0) (last_alone (λ (x : Change). x.prev_log) (first_edit_under number));
+  next_is = last_alone (λ (x : Change). x.next) (first_edit_under number);
+  last_is = last_alone (λ (x : Change). x.last) (first_edit_under number);
 }
   where
     none : (level : ℕ) (t : Table) → Has (level_in no_levels.tables level) t → ⊥

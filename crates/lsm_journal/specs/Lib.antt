@@ -5,3 +5,5 @@ pub mod Writing
 pub mod Sending
 pub mod Recovering
 pub mod RecoverFault
+pub mod OpenFault
+pub mod Finding

@@ -1,6 +1,6 @@
 -- What is sent to the shelf, and what the journal holds then (LevelDB's `VersionSet::LogAndApply`; that a new manifest is due by its size
 -- is this project's rule).
-use Rattle.std.specs.Prelude.{◌≡◌, ℕ, ◌+◌, [], ◌++◌, ◌⊎◌, MatchBool, if◌then◌else◌}
+use Rattle.std.specs.Prelude.{◌≡◌, ℕ, ◌+◌, List, [], ◌++◌, ◌⊎◌, MatchBool, if◌then◌else◌}
 use Rattle.lsm_shelf.specs.declared.shelf_fault.ShelfFault.{ShelfFault}
 use Rattle.lsm_shelf.specs.declared.shelf_fault.ShelfFault.TheVariants.{OutOfMemory, Device, Missing, Taken}
 use Rattle.lsm_shelf.specs.Asked.{Asked, AppendManifest, ReadManifest, StartManifest}
@@ -11,7 +11,7 @@ use Rattle.lsm_manifest.specs.EditWriting.{edit_text}
 use Rattle.lsm_version.specs.Versions.{Levels}
 use Rattle.lsm_journal.specs.HeldManifest.{HeldManifest, is_at_limit}
 use Rattle.lsm_journal.specs.Difference.{Difference}
-use Rattle.lsm_journal.specs.Writing.{change_edit, first_edit, record_of, version_edit}
+use Rattle.lsm_journal.specs.Writing.{change_edit, first_edit_under, record_of, version_edit}
 
 -- The record of the edit was appended, here and on the shelf. Its bytes spell the edit.
 pub record Grows (edit : Change) (old new : HeldManifest) (was is : Told) : Type 0 where
@@ -47,13 +47,13 @@ asked_by d w next old = if is_at_limit old then started_by w next old else Appen
 abbrev pub IsSendRefusal : HeldManifest → ℕ → ShelfFault → Told → Told → Type 0
 IsSendRefusal old next e was is = MatchBool (is_at_limit old) (TakenIs next e) (NotTaken e) × Counted e was is
 
--- Why no database was created: one is there, as its manifest was read; or the shelf refused, and a name taken by another was the second
--- of its refusals that say what is there.
-abbrev pub IsCreateRefusal : ShelfFault → Told → Told → Type 0
-IsCreateRefusal OutOfMemory was is = Becomes was is
-IsCreateRefusal Device was is = Becomes was is × Rose was.faults is.faults
-IsCreateRefusal Missing was is = ⊥
-IsCreateRefusal (Taken n) was is = ((bytes : Rattle.std.specs.Prelude.List ℕ) × Becomes (finding n bytes was) is) ⊎ ((n ≡ 1) × Becomes was is × Rose (next_count was.misses) is.misses)
+-- Why no database was created under this number: one is there, as its manifest was read; or the shelf refused, and a name taken by another
+-- was the second of its refusals that say what is there.
+abbrev pub IsCreateRefusalUnder : ℕ → ShelfFault → Told → Told → Type 0
+IsCreateRefusalUnder number OutOfMemory was is = Becomes was is
+IsCreateRefusalUnder number Device was is = Becomes was is × Rose was.faults is.faults
+IsCreateRefusalUnder number Missing was is = ⊥
+IsCreateRefusalUnder number (Taken n) was is = ((bytes : List ℕ) × Becomes (finding n bytes was) is) ⊎ ((n ≡ number) × Becomes was is × Rose (next_count was.misses) is.misses)
 
 -- the shelf answered once at most that something is missing
 abbrev pub MissedOnce : Told → Told → Type 0
@@ -61,16 +61,26 @@ MissedOnce was is = (is.misses ≡ was.misses) ⊎ (is.misses ≡ next_count was
 
 -- What a refused creation counted. Before the refusal that it tells, the shelf may have answered once that no manifest is there; for want of
 -- memory, and where a manifest was read, no failure more was counted, for `Device` just one, and for a name taken by another just that.
-abbrev pub CreateCounted : ShelfFault → Told → Told → Type 0
-CreateCounted OutOfMemory was is = (is.faults ≡ was.faults) × MissedOnce was is
-CreateCounted Device was is = (is.faults ≡ next_count was.faults) × MissedOnce was is
-CreateCounted Missing was is = ⊥
-CreateCounted (Taken n) was is = (is.faults ≡ was.faults)
-    × (((bytes : Rattle.std.specs.Prelude.List ℕ) × Becomes (finding n bytes was) is × (is.misses ≡ was.misses)) ⊎ ((n ≡ 1) × (is.misses ≡ next_count (next_count was.misses))))
+abbrev pub CreateCountedUnder : ℕ → ShelfFault → Told → Told → Type 0
+CreateCountedUnder number OutOfMemory was is = (is.faults ≡ was.faults) × MissedOnce was is
+CreateCountedUnder number Device was is = (is.faults ≡ next_count was.faults) × MissedOnce was is
+CreateCountedUnder number Missing was is = ⊥
+CreateCountedUnder number (Taken n) was is = (is.faults ≡ was.faults)
+    × (((bytes : List ℕ) × Becomes (finding n bytes was) is × (is.misses ≡ was.misses)) ⊎ ((n ≡ number) × (is.misses ≡ next_count (next_count was.misses))))
 
 -- The shelf refused to give the manifest or to start the first one, with this fault; or a manifest is there.
+abbrev pub IsCreateAskedUnder : ℕ → (Asked → ShelfFault → Type 0) → ShelfFault → Told → Told → Type 0
+IsCreateAskedUnder number Refused OutOfMemory was is = Unit {0}
+IsCreateAskedUnder number Refused Device was is = Refused ReadManifest Device ⊎ Refused (StartManifest number (record_of [] (first_edit_under number))) Device
+IsCreateAskedUnder number Refused Missing was is = ⊥
+IsCreateAskedUnder number Refused (Taken n) was is = ((bytes : List ℕ) × Becomes (finding n bytes was) is) ⊎ Refused (StartManifest number (record_of [] (first_edit_under number))) (Taken n)
+
+-- the same of manifest 1
+abbrev pub IsCreateRefusal : ShelfFault → Told → Told → Type 0
+IsCreateRefusal e was is = IsCreateRefusalUnder 1 e was is
+
+abbrev pub CreateCounted : ShelfFault → Told → Told → Type 0
+CreateCounted e was is = CreateCountedUnder 1 e was is
+
 abbrev pub IsCreateAsked : (Asked → ShelfFault → Type 0) → ShelfFault → Told → Told → Type 0
-IsCreateAsked Refused OutOfMemory was is = Unit {0}
-IsCreateAsked Refused Device was is = Refused ReadManifest Device ⊎ Refused (StartManifest 1 (record_of [] first_edit)) Device
-IsCreateAsked Refused Missing was is = ⊥
-IsCreateAsked Refused (Taken n) was is = ((bytes : Rattle.std.specs.Prelude.List ℕ) × Becomes (finding n bytes was) is) ⊎ Refused (StartManifest 1 (record_of [] first_edit)) (Taken n)
+IsCreateAsked Refused e was is = IsCreateAskedUnder 1 Refused e was is

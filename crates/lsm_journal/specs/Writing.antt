@@ -1,6 +1,6 @@
 -- The edits that a journal writes, and their bytes (LevelDB's `db/version_set.cc`; that each edit but a new database's first has all
 -- four numbers is this project's rule).
-use Rattle.std.specs.Prelude.{ℕ, ◌%◌, List, [], ◌∷◌, length, map, Option, Some, None, codes}
+use Rattle.std.specs.Prelude.{ℕ, ◌+◌, ◌%◌, List, [], ◌∷◌, length, map, Option, Some, None, codes}
 use Rattle.lsm_table.specs.Registry.{Table}
 use Rattle.lsm_manifest.specs.declared.parts.CompactPointer.{CompactPointer}
 use Rattle.lsm_manifest.specs.EditFit.{Change}
@@ -20,20 +20,26 @@ record_of bytes edit = record_text (length bytes % 32768) (edit_text edit)
 
 -- ---- a new database
 
-abbrev pub first_edit : Change
-first_edit = record {
+-- the edit of a new database whose manifest has this number, so that the next file number is one more
+abbrev pub first_edit_under : ℕ → Change
+first_edit_under number = record {
   comparator = Some (codes "leveldb.BytewiseComparator");
   log = Some 0;
   prev_log = None;
-  next = Some 2;
+  next = Some (number + 1);
   last = Some 0;
   pointers = [];
   deleted = [];
   added = [];
 }
 
+-- its manifest
+abbrev pub created_under : ℕ → ℕ → HeldManifest
+created_under number limit = record { number = number; bytes = record_of [] (first_edit_under number); log = 0; prev_log = 0; limit = limit }
+
+-- that of manifest 1, so that 2 is the next number
 abbrev pub created : ℕ → HeldManifest
-created limit = record { number = 1; bytes = record_of [] first_edit; log = 0; prev_log = 0; limit = limit }
+created limit = created_under 1 limit
 
 -- ---- a change
 

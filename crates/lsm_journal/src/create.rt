@@ -1,11 +1,11 @@
 //! A new database's manifest.
 
-ghost use Rattle.std.specs.Prelude.{◌≡◌, IfErr, IfOk, OnOk};
+ghost use Rattle.std.specs.Prelude.{◌≡◌, ◌+◌, ◌<◌, ◌^◌, IfErr, IfOk, OnOk};
 ghost use Rattle.lsm_shelf.specs.Told.{Becomes, Rose, next_count, sending};
 ghost use Rattle.lsm_version.specs.Versions.{no_levels};
 ghost use Rattle.lsm_journal.specs.Recorded.{IsRecorded};
-ghost use Rattle.lsm_journal.specs.Sending.{CreateCounted, IsCreateAsked, IsCreateRefusal};
-ghost use Rattle.lsm_journal.specs.Writing.{created};
+ghost use Rattle.lsm_journal.specs.Sending.{CreateCounted, CreateCountedUnder, IsCreateAsked, IsCreateAskedUnder, IsCreateRefusal, IsCreateRefusalUnder};
+ghost use Rattle.lsm_journal.specs.Writing.{created, created_under};
 
 use crate::journal::Journal;
 use crate::written::{first_edit, manifest_of};
@@ -37,16 +37,43 @@ impl Journal {
         ensures asked { IfErr result (λ e. IsCreateAsked (S.refuses (S.told shelf.old).place) e (S.told shelf.old) (S.told shelf.new)) }
         ensures counts_err { IfErr result (λ e. CreateCounted e (S.told shelf.old) (S.told shelf.new)) }
     {
+        Journal::create_under(rt, alloc, shelf, limit, 1)
+    }
+
+    /// The same under another number: the manifest has this number, and the next file number is one
+    /// more, so the number is below 2^64 - 1. It is for a folder in which files of an older
+    /// database lie: the caller chooses a number above all of theirs.
+    ///
+    /// The refusals of `create`, with this number in place of 1.
+    pub fn create_under<S: Shelf, R: Wait>(
+        rt: &R,
+        alloc: Global,
+        shelf: &mut S,
+        limit: u64,
+        number: u64,
+    ) -> Result<Journal, ShelfFault>
+        requires numbers { number + 1 < 2 ^ 64 }
+        ensures created { IfOk result (λ j. j ≡ created_under number limit) }
+        ensures recorded { IfOk result (λ j. IsRecorded 0 j no_levels (number + 1)) }
+        ensures sent { IfOk result (λ j. Becomes (sending j.number j.bytes (S.told shelf.old)) (S.told shelf.new)) }
+
+        // No manifest was there: the shelf said so.
+        ensures missing { OnOk result (Rose (S.told shelf.old).misses (S.told shelf.new).misses) }
+        ensures counts { OnOk result (((S.told shelf.new).faults ≡ (S.told shelf.old).faults) × ((S.told shelf.new).misses ≡ next_count (S.told shelf.old).misses)) }
+        ensures refused { IfErr result (λ e. IsCreateRefusalUnder number e (S.told shelf.old) (S.told shelf.new)) }
+        ensures asked { IfErr result (λ e. IsCreateAskedUnder number (S.refuses (S.told shelf.old).place) e (S.told shelf.old) (S.told shelf.new)) }
+        ensures counts_err { IfErr result (λ e. CreateCountedUnder number e (S.told shelf.old) (S.told shelf.new)) }
+    {
         match shelf.read_manifest(rt, alloc) {
-            Ok((number, _)) => return Err(ShelfFault::Taken(number)),
+            Ok((taken, _)) => return Err(ShelfFault::Taken(taken)),
             Err(ShelfFault::Missing) => {}
             Err(fault) => return Err(fault),
         }
-        let edit = first_edit(alloc)?;
+        let edit = first_edit(alloc, number)?;
         let bytes = manifest_of(alloc, &edit)?;
-        shelf.start_manifest(rt, alloc, 1, &bytes)?;
+        shelf.start_manifest(rt, alloc, number, &bytes)?;
         Ok(Journal {
-            number: 1,
+            number,
             bytes,
             log: 0,
             prev_log: 0,

@@ -42,6 +42,21 @@ impl Journal {
         self.bytes.as_slice()
     }
 
+    /// The number of the write-ahead log, as the manifest had it when it was read: logs below it are
+    /// flushed (but for the one before it).
+    pub fn log(&self) -> u64
+        ensures { result ≡ self.now.log }
+    {
+        self.log
+    }
+
+    /// The number of the log before that one, as the manifest had it; 0 where there is none.
+    pub fn prev_log(&self) -> u64
+        ensures { result ≡ self.now.prev_log }
+    {
+        self.prev_log
+    }
+
     /// Whether a new manifest is due: the manifest held has as many bytes as the limit, or more.
     pub fn is_at_limit(&self) -> bool
         ensures { result ≡ is_at_limit self.now }

@@ -4,6 +4,7 @@
 //! Stands on `lsm_version` for versions and their changes, on `lsm_manifest` for the bytes of a
 //! manifest, and on `lsm_table` and `lsm_shelf` for tables and shelves. Its contract: the manifest
 //! held records the current version, and what is held and what the shelf was sent grow alike.
+//! `Found` is what every command that opens a database begins with.
 #![tactic(auto)]
 
 // A change, and the edits that are written.
@@ -17,6 +18,10 @@ mod journal;
 mod recover;
 mod recover_fault;
 
+// A database that is there.
+mod found;
+mod open_fault;
+
 // What is sent at a change.
 mod roll_over;
 mod send;
@@ -24,9 +29,11 @@ mod send;
 // What holds of it.
 mod laws;
 
+pub use found::Found;
 pub use journal::Journal;
 pub use keys::added_keys_fit;
 pub use laws::{differences_fit, recorded_keys_fit, recovered_is_recorded, whole_keys_fit};
+pub use open_fault::OpenFault;
 pub use recover::Recovered;
 pub use recover_fault::RecoverFault;
 pub use version_change::VersionChange;

@@ -1,6 +1,6 @@
 //! The edits that a journal writes.
 
-ghost use Rattle.std.specs.Prelude.{◌≡◌, ◌≤◌, ◌<◌, ◌++◌, [], length, map, get_or, None, IfOk, IfSome, OnErr, OnOk, vec_len, codes};
+ghost use Rattle.std.specs.Prelude.{◌≡◌, ◌+◌, ◌^◌, ◌≤◌, ◌<◌, ◌++◌, [], length, map, get_or, None, IfOk, IfSome, OnErr, OnOk, vec_len, codes};
 ghost use Rattle.std.specs.List.{All};
 ghost use Rattle.lsm_manifest.specs.Edit.{IsEdit};
 ghost use Rattle.lsm_manifest.specs.EditFit.{IsFit};
@@ -8,7 +8,7 @@ ghost use Rattle.lsm_manifest.specs.EditWriting.{AreInOrder, edit_text};
 ghost use Rattle.lsm_version.specs.Versions.{level_in};
 ghost use Rattle.lsm_journal.specs.Recorded.{FitsLevels, meta_of};
 ghost use Rattle.lsm_journal.specs.Difference.{FitsComing, FitsPlace};
-ghost use Rattle.lsm_journal.specs.Writing.{change_edit, first_edit, metas_of, placed, pointers_of, record_of, shape_of, version_edit};
+ghost use Rattle.lsm_journal.specs.Writing.{change_edit, first_edit_under, metas_of, placed, pointers_of, record_of, shape_of, version_edit};
 
 use crate::journal::Journal;
 use crate::version_change::VersionChange;
@@ -44,17 +44,18 @@ pub(crate) fn manifest_of(alloc: Global, edit: &Edit) -> Result<Vec<u8>, AllocEr
     Ok(bytes)
 }
 
-/// The first edit of a new database: the name of the comparator, no log, the next file number 2,
-/// and no sequence yet.
-pub(crate) fn first_edit(alloc: Global) -> Result<Edit, AllocError>
-    ensures { IfOk result (λ edit. edit ≡ first_edit) }
+/// The first edit of a new database whose manifest has this number: the name of the comparator, no
+/// log, one more as the next file number, and no sequence yet.
+pub(crate) fn first_edit(alloc: Global, number: u64) -> Result<Edit, AllocError>
+    requires { number + 1 < 2 ^ 64 }
+    ensures { IfOk result (λ edit. edit ≡ first_edit_under number) }
 {
     let name = Vec::from_slice(alloc, b"leveldb.BytewiseComparator".as_slice())?;
     Ok(Edit {
         comparator: Some(Bytes::of(name)),
         log: Some(0),
         prev_log: None,
-        next: Some(2),
+        next: Some(number + 1),
         last: Some(0),
         pointers: List::of(Vec::new(alloc)),
         deleted: List::of(Vec::new(alloc)),

@@ -3,7 +3,6 @@ mod StateLaws
 mod Removing
 mod Listed
 mod OpenLaws
-mod OpenRefusals
 mod ReserveLaws
 mod ChangeLaws
 mod AskedLaws

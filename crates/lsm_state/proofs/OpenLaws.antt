@@ -1,4 +1,4 @@
--- What opening a database gives: the next number, the law of the state, and the causes of refusals.
+-- What opening a database gives: the law of the state.
 use Rattle.std.proofs.Common.{◌≡◌, ℕ, zero, suc, ◌+◌, ◌-◌, ◌<◌, ◌≤◌, ◌==◌, max, Bool, false, cond, None, replicate, List, [], ◌∷◌, ◌++◌, length, map, get_or, refl, sym, ◌∙◌, ap, subst, inl, inr, arith}
 use Rattle.std.specs.Prelude.{◌⊎◌}
 use Rattle.std.proofs.lemmas.Bool.{eq-eqb}
@@ -20,37 +20,10 @@ use Rattle.lsm_journal.specs.HeldManifest.{HeldManifest}
 use Rattle.lsm_journal.specs.Recorded.{IsRecorded}
 use Rattle.lsm_state.specs.Held.{Held, IsLawfulState, plain}
 use Rattle.lsm_state.specs.Making.{IsNewBoard}
-use Rattle.lsm_state.specs.Opening.{IsFree, IsLeastFree, opened_state}
+use Rattle.lsm_state.specs.Opening.{opened_state}
 use Rattle.lsm_state.specs.Options.{Fits}
 use Rattle.lsm_state.specs.declared.options.Options.{Options}
 use Rattle.lsm_state.proofs.Numbers.{has_map}
-
--- ---- the next number
-
-pub free_none : (from : ℕ) → IsLeastFree from [] from
-free_none from = ((omega arith, λ m h. absurd h), λ m f. f.0)
-
-pub free_more : (from next number : ℕ) (xs : List ℕ) → IsLeastFree from xs next → IsLeastFree from (xs ++ number ∷ []) (max next (number + 1))
-free_more from next number xs l = ((bound, λ m h. above m (has_cases xs (number ∷ []) m h)), λ m f. least m f)
-  where
-    bound : from ≤ max next (number + 1)
-    bound = (let a = l.0.0 in omega arith)
-
-    above : (m : ℕ) → Has xs m ⊎ Has (number ∷ []) m → m < max next (number + 1)
-    above m (inl h) = (let a = l.0.1 m h in omega arith)
-    above m (inr (inl e)) = (let a : number ≡ m = e in omega arith)
-    above m (inr (inr h)) = absurd h
-
-    least : (m : ℕ) → IsFree from (xs ++ number ∷ []) m → max next (number + 1) ≤ m
-    least m f =
-        let a = f.1 number (has_right xs (number ∷ []) number (inl refl)) in
-        let b = l.1 m (f.0, λ k h. f.1 k (has_left xs (number ∷ []) k h)) in
-        omega arith
-
-pub at_has : (xs : List ℕ) (i : ℕ) → i < length xs → Has xs (get_or xs i 0)
-at_has [] i lt = absurd (omega arith)
-at_has (x ∷ xs) zero lt = inl refl
-at_has (x ∷ xs) (suc i) lt = inr (at_has xs i (omega arith))
 
 -- ---- numbers that stand once
 

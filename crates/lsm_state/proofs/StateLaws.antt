@@ -1,5 +1,5 @@
 -- What the smaller calls leave of the law of a state.
-use Rattle.std.proofs.Common.{◌≡◌, ℕ, zero, suc, ◌-◌, ◌==◌, Bool, true, false, cond, not, inl, inr, None, replicate, List, [], ◌∷◌, ◌++◌, refl, sym, ◌∙◌, ap, subst, arith}
+use Rattle.std.proofs.Common.{◌≡◌, ℕ, zero, suc, ◌+◌, ◌-◌, ◌==◌, Bool, true, false, cond, not, inl, inr, None, replicate, List, [], ◌∷◌, ◌++◌, refl, sym, ◌∙◌, ap, subst, arith}
 use Rattle.atomic_table.specs.Seated.{TableId}
 use Rattle.lsm_codec.specs.Lists.{Has}
 use Rattle.lsm_codec.proofs.CallerLemmas.{all_at, filter_has}
@@ -20,9 +20,9 @@ use Rattle.lsm_live.specs.Booked.{Booked, booked, drawing, without}
 use Rattle.lsm_live.proofs.CallerLemmas.{lives_booked, lives_without}
 use Rattle.lsm_journal.specs.HeldManifest.{HeldManifest}
 use Rattle.lsm_journal.specs.Recorded.{IsRecorded}
-use Rattle.lsm_journal.specs.Writing.{created as first_manifest}
+use Rattle.lsm_journal.specs.Writing.{created_under}
 use Rattle.lsm_journal.proofs.CallerLemmas.{later}
-use Rattle.lsm_state.specs.Making.{IsNewBoard, created_state}
+use Rattle.lsm_state.specs.Making.{IsNewBoard, created_state_under}
 use Rattle.lsm_state.specs.Options.{Fits}
 use Rattle.lsm_state.specs.declared.options.Options.{Options}
 use Rattle.lsm_state.specs.Held.{HasInputs, Held, IsLawfulState, plain}
@@ -140,10 +140,32 @@ lawful_drawn honest board h live ticket next l is more = record {
 
 -- ---- a new database
 
-pub lawful_created : (honest : Type 0) (board : TableId) (o : Options) (publisher : Known) (pinners : List Known) → Fits o → IsNewBoard board o publisher pinners → Law honest Lie created
-    → IsRecorded 0 (first_manifest o.manifest_limit) no_levels 2 → IsLawfulState honest board (created_state o publisher pinners)
-lawful_created honest board o publisher pinners fits new law recorded = record {
-  law = law;
+-- the machine's law over no file, snapshot or job does not rest on the next number
+law_under : (number : ℕ) (honest : Type 0) → Law honest Lie created → Law honest Lie (record created { next = number + 1 })
+law_under number honest law = record {
+  books = record {
+    numbers = law.books.numbers;
+    below_next = λ F h. absurd h;
+    drawn_below = λ a n h k. absurd h;
+    drawn_fresh = law.books.drawn_fresh;
+    drawn_apart = law.books.drawn_apart;
+    inputs = law.books.inputs;
+    levels = law.books.levels;
+    tickets = law.books.tickets;
+    one_each = law.books.one_each;
+    clear = law.books.clear;
+    floors = law.books.floors;
+    rising = law.books.rising;
+    ids = law.books.ids;
+    snapshots = law.books.snapshots;
+  };
+  meaning = λ is. (let m = law.meaning is in record { lawful = m.lawful; reached = m.reached; are_open = m.are_open });
+}
+
+pub lawful_created : (number : ℕ) (honest : Type 0) (board : TableId) (o : Options) (publisher : Known) (pinners : List Known) → Fits o → IsNewBoard board o publisher pinners → Law honest Lie created
+    → IsRecorded 0 (created_under number o.manifest_limit) no_levels (number + 1) → IsLawfulState honest board (created_state_under number o publisher pinners)
+lawful_created number honest board o publisher pinners fits new law recorded = record {
+  law = law_under number honest law;
   journaled = (0, recorded, λ e. refl);
   below = λ n k. absurd (none_held (o.versions - 1) n k);
   pinners = λ p k. (let one = all_at (IsNewPinner board o.versions new.id) pinners p new.readers k in (one.at, ap (λ (v : View). v.held) one.knows));
@@ -156,11 +178,11 @@ lawful_created honest board o publisher pinners fits new law recorded = record {
     none_held (suc m) n h = none_held m n h
 
 -- the same of its parts, as they were made
-pub lawful_made : (honest : Type 0) (board : TableId) (o : Options) (publisher : Known) (pinners : List Known) (s : Slotted) (taken : Taken) (live : List Booked) (j : HeldManifest)
-    → s ≡ first_slots publisher o.versions no_levels → taken ≡ record { taken = []; next = 1 } → live ≡ [] → j ≡ first_manifest o.manifest_limit → IsLawfulState honest board (created_state o publisher pinners)
-    → IsLawfulState honest board (record { options = o; slots = s; snapshots = taken; next = 2; next_ticket = 1; live = live; journal = j; halted = false; pinners = pinners })
-lawful_made honest board o publisher pinners s taken live j a b c d l =
-    let h : Held = created_state o publisher pinners in
+pub lawful_made : (number : ℕ) (honest : Type 0) (board : TableId) (o : Options) (publisher : Known) (pinners : List Known) (s : Slotted) (taken : Taken) (live : List Booked) (j : HeldManifest)
+    → s ≡ first_slots publisher o.versions no_levels → taken ≡ record { taken = []; next = 1 } → live ≡ [] → j ≡ created_under number o.manifest_limit → IsLawfulState honest board (created_state_under number o publisher pinners)
+    → IsLawfulState honest board (record { options = o; slots = s; snapshots = taken; next = number + 1; next_ticket = 1; live = live; journal = j; halted = false; pinners = pinners })
+lawful_made number honest board o publisher pinners s taken live j a b c d l =
+    let h : Held = created_state_under number o publisher pinners in
     subst (λ (x : Slotted). IsLawfulState honest board (record h { slots = x; snapshots = taken; live = live; journal = j })) (sym a)
     (subst (λ (x : Taken). IsLawfulState honest board (record h { snapshots = x; live = live; journal = j })) (sym b)
     (subst (λ (x : List Booked). IsLawfulState honest board (record h { live = x; journal = j })) (sym c)

@@ -5,7 +5,6 @@ pub mod Reading
 pub mod Collecting
 pub mod Making
 pub mod Listing
-pub mod OpenFault
 pub mod Opening
 pub mod Reserving
 pub mod Changing

@@ -1,5 +1,5 @@
 -- What a state is made with, and a new one (this project's rule; the first manifest is LevelDB's `DBImpl::NewDB`).
-use Rattle.std.specs.Prelude.{◌≡◌, ℕ, false, List, []}
+use Rattle.std.specs.Prelude.{◌≡◌, ℕ, ◌+◌, false, List, []}
 use Rattle.std.specs.List.{All}
 use Rattle.atomic_table.specs.Seated.{TableId}
 use Rattle.lsm_pins.specs.Known.{Known}
@@ -7,7 +7,7 @@ use Rattle.lsm_pins.specs.Made.{IsNewPinner}
 use Rattle.lsm_pins.specs.View.{after_making}
 use Rattle.lsm_version.specs.Versions.{no_levels}
 use Rattle.lsm_slots.specs.Slots.{first_slots}
-use Rattle.lsm_journal.specs.Writing.{created}
+use Rattle.lsm_journal.specs.Writing.{created_under}
 use Rattle.lsm_state.specs.Held.{Held}
 use Rattle.lsm_state.specs.declared.options.Options.{Options}
 
@@ -18,16 +18,20 @@ pub record IsNewBoard (board : TableId) (o : Options) (publisher : Known) (pinne
   pub made : publisher.knows ≡ after_making o.versions id o.readers
   pub readers : All (IsNewPinner board o.versions id) pinners
 
--- no table, no snapshot, no job; manifest 1, so 2 is the next number
-abbrev pub created_state : Options → Known → List Known → Held
-created_state o publisher pinners = record {
+-- no table, no snapshot, no job; the manifest has this number, and the next number is one more
+abbrev pub created_state_under : ℕ → Options → Known → List Known → Held
+created_state_under number o publisher pinners = record {
   options = o;
   slots = first_slots publisher o.versions no_levels;
   snapshots = record { taken = []; next = 1 };
-  next = 2;
+  next = number + 1;
   next_ticket = 1;
   live = [];
-  journal = created o.manifest_limit;
+  journal = created_under number o.manifest_limit;
   halted = false;
   pinners = pinners;
 }
+
+-- the same with manifest 1, so 2 is the next number
+abbrev pub created_state : Options → Known → List Known → Held
+created_state o publisher pinners = created_state_under 1 o publisher pinners

@@ -1,10 +1,10 @@
 //! A new database.
 
-ghost use Rattle.std.specs.Prelude.{◌≡◌, ℕ, IfErr, IfOk, OnOk};
+ghost use Rattle.std.specs.Prelude.{◌≡◌, ℕ, ◌+◌, ◌<◌, ◌^◌, IfErr, IfOk, OnOk};
 ghost use Rattle.std.specs.Arc.{arc_value};
 ghost use Rattle.lsm_shelf.specs.Told.{Becomes, Rose, next_count, sending};
-ghost use Rattle.lsm_journal.specs.Sending.{CreateCounted, IsCreateAsked, IsCreateRefusal};
-ghost use Rattle.lsm_state.specs.Making.{IsNewBoard, created_state};
+ghost use Rattle.lsm_journal.specs.Sending.{CreateCounted, CreateCountedUnder, IsCreateAsked, IsCreateAskedUnder, IsCreateRefusal, IsCreateRefusalUnder};
+ghost use Rattle.lsm_state.specs.Making.{IsNewBoard, created_state, created_state_under};
 ghost use Rattle.lsm_state.specs.Options.{Fits};
 
 use crate::options::Options;
@@ -23,6 +23,14 @@ impl<N: Boarded, S: Shelf> State<N, S> {
     /// The state of a new database, on a shelf that has no manifest: no table, no snapshot, no job,
     /// and manifest 1. The board was just made, with the options' readers and as many slots as they
     /// say.
+    ///
+    /// The caller sees to it that no tables and manifests of an older database are there. A shelf
+    /// has no manifest where its directory has no well-formed `CURRENT`, or one that names a
+    /// manifest that is gone, so a database whose `CURRENT` was lost is begun anew here, among its
+    /// files. No version names its tables then: the next `State::collect` removes them, and until
+    /// then a put under the number of one of them is refused as `Taken`. Its manifest 1 is written
+    /// over. Where such files are there and a new database is wanted all the same, there is
+    /// `create_under`.
     ///
     /// `Taken` with the number of the manifest that is there; `Device`; `OutOfMemory`. After
     /// `Device` manifest 1 may be there or not.
@@ -46,17 +54,49 @@ impl<N: Boarded, S: Shelf> State<N, S> {
         ensures asked { IfErr result (λ e. IsCreateAsked (S.refuses (S.told shelf.old).place) e (S.told shelf.old) (S.told shelf.new)) }
         ensures counts_err { IfErr result (λ e. CreateCounted e (S.told shelf.old) (S.told shelf.new)) }
     {
+        State::create_under(rt, alloc, shelf, options, registry, board, 1)
+    }
+
+    /// The same under another number: the manifest has this number, and the next file number is one
+    /// more. It is for a folder in which files of an older database lie. The caller chooses a
+    /// number above those of its tables, manifests and logs, so that no file of the new database
+    /// has a name that one of them has; it is below 2^64 - 1, since a next number has to be left.
+    /// The old tables are no version's all the same: the next `State::collect` removes them.
+    ///
+    /// The refusals of `create`, with this number in place of 1.
+    pub fn create_under<R: Wait>(
+        rt: &R,
+        alloc: Global,
+        shelf: &mut S,
+        options: Options,
+        registry: Arc<Registry<S::Receipt>>,
+        board: (Publisher, Vec<Pinner>),
+        number: u64,
+    ) -> Result<State<N, S>, ShelfFault>
+        requires fits { Fits options }
+        requires named { arc_value registry ≡ N.registry }
+        requires here { (S.told shelf.old).place ≡ N.place }
+        requires board { IsNewBoard N.board options board.0 board.1.items }
+        requires numbers { number + 1 < 2 ^ 64 }
+        ensures created { IfOk result (λ s. s ≡ created_state_under number options board.0 board.1.items) }
+        ensures sent { IfOk result (λ s. Becomes (sending number s.journal.bytes (S.told shelf.old)) (S.told shelf.new)) }
+        ensures missing { OnOk result (Rose (S.told shelf.old).misses (S.told shelf.new).misses) }
+        ensures counts { OnOk result (((S.told shelf.new).faults ≡ (S.told shelf.old).faults) × ((S.told shelf.new).misses ≡ next_count (S.told shelf.old).misses)) }
+        ensures refused { IfErr result (λ e. IsCreateRefusalUnder number e (S.told shelf.old) (S.told shelf.new)) }
+        ensures asked { IfErr result (λ e. IsCreateAskedUnder number (S.refuses (S.told shelf.old).place) e (S.told shelf.old) (S.told shelf.new)) }
+        ensures counts_err { IfErr result (λ e. CreateCountedUnder number e (S.told shelf.old) (S.told shelf.new)) }
+    {
         let (publisher, pinners) = board;
         let empty = Version::empty(alloc, Arc::try_clone(&registry)?)?;
         let slots = Slots::new(alloc, publisher, options.versions, empty)?;
-        let journal = Journal::create(rt, alloc, shelf, options.manifest_limit)?;
+        let journal = Journal::create_under(rt, alloc, shelf, options.manifest_limit, number)?;
         created_stores_are_lawful::<S>();
         Ok(State {
             registry,
             options,
             slots,
             snapshots: Snapshots::new(alloc),
-            next: 2,
+            next: number + 1,
             next_ticket: 1,
             live: LiveJobs::new(alloc),
             journal,

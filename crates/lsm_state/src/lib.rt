@@ -41,7 +41,6 @@
 // The state, and how it begins.
 mod create;
 mod open;
-mod open_fault;
 mod options;
 mod state;
 mod state_fault;
@@ -65,7 +64,7 @@ mod collect;
 mod listing;
 
 pub use ingest::Ingested;
-pub use open_fault::OpenFault;
+pub use lsm_journal::OpenFault;
 pub use options::Options;
 pub use state::State;
 pub use state_fault::StateFault;

@@ -5,6 +5,8 @@
 //! exit status.
 #![tactic(auto)]
 
+mod streams;
+
 use lsm_commands::{DirectoryLine, directory_asked, refuse_words, run};
 use lsm_compactor::{CompactLine, compacting_asked};
 use lsm_directory::{Request, open_folder, refuse_shelf};
@@ -15,6 +17,7 @@ use std::io::{self, BufWriter};
 use std::process::ExitCode;
 use std::sync::Wait;
 use std::thread::Threads;
+use streams::hold_streams;
 
 /// The program's name, and the words after it.
 fn words_of(rt: &(impl Env + AllocGlobal)) -> io::Result<Vec<String>> {
@@ -93,6 +96,7 @@ fn start<R: Threads + Wait + Sync>(waits: &R, rt: HostRuntime) -> io::Result<u8>
 }
 
 fn main(rt: HostRuntime) -> ExitCode {
+    hold_streams(&rt);
     let mut err = rt.stderr();
     let host: Result<HostRuntime, _> = rt.clone();
     let done = match host {

@@ -2,15 +2,12 @@ use Rattle.std.proofs.Common.{◌≡◌, ◌-◌, ◌≤◌, ◌∷◌, [], ℕ,
 use Rattle.std.specs.Prelude.{IfSome}
 use Rattle.std.proofs.lemmas.List.{take_all}
 use Rattle.lsm_commands.specs.Spelling.{escaped}
+use Rattle.lsm_commands.proofs.SlipLaws.{front_is}
 use Rattle.lsm_commands.proofs.text_words.first_part.Goals as goal
 
 some_so : {X : Type 0} (o : Option X) (P Q : X → Type 0) → ((x : X) → P x → Q x) → IfSome o P → IfSome o Q
 some_so None P Q f h = tt
 some_so (Some x) P Q f h = f x h
-
-front_is : (text : List ℕ) → 1 ≤ length text → text ≡ get_or text 0 0 ∷ take (length text - 1) (drop 1 text)
-front_is text some =
-    drop-cons text 0 0 (omega arith) ∙ ap (λ (l : List ℕ). get_or text 0 0 ∷ l) (sym (take_all (length text - 1) (drop 1 text) (omega (arith, length-drop 1 text))))
 
 pub returns-then-is_plain-clause-some : goal.returns-then-is_plain-clause-some
 returns-then-is_plain-clause-some c =

@@ -2,9 +2,9 @@ use Rattle.std.proofs.Common.{◌≡◌, ap, sym, subst}
 use Rattle.std.proofs.lemmas.Result.{err_from_is_err_and}
 use Rattle.lsm_version.specs.Versions.{Levels}
 use Rattle.lsm_slots.specs.Slots.{Slotted}
-use Rattle.lsm_state.specs.Opening.{IsFound}
+use Rattle.lsm_journal.specs.Finding.{IsFound}
+use Rattle.lsm_journal.proofs.CallerLemmas.{found_below, found_recorded, found_without_room}
 use Rattle.lsm_state.proofs.OpenLaws.{lawful_opened, opened_made}
-use Rattle.lsm_state.proofs.OpenRefusals.{found_below, found_recorded, found_without_room}
 use Rattle.lsm_state.proofs.state.State.open_to_read.Goals as goal
 
 pub invariant_of-result : goal.invariant_of-result
@@ -12,20 +12,20 @@ invariant_of-result g c =
     let o = c.args.options in
     let f = c.in_ok-found.found in
     let is = c.in_ok-found.ensures.found in
-    let r = found_recorded _ _ f.journal f.version f.next _ _ is in (
+    let r = found_recorded _ _ f.journal f.version f.rest f.next _ _ is in (
       c.requires.named,
       opened_made g.S.Shelf.honest g.N.Boarded.board o c.args.board.0 c.args.board.1.items f.version f.journal f.next _ c.in_ok-slots.slots c.new-2.result c.new-3.result c.in_ok-slots.ensures c.new-2.ensures c.new-3.ensures
-          (lawful_opened g.S.Shelf.honest g.N.Boarded.board o c.args.board.0 c.args.board.1.items f.version f.journal f.next _ r.0 c.requires.fits c.requires.board is.loaded.sound r.1 (λ e. absurd (cc)) (found_below _ _ f.journal f.version f.next _ _ is)),
+          (lawful_opened g.S.Shelf.honest g.N.Boarded.board o c.args.board.0 c.args.board.1.items f.version f.journal f.next _ f.rest c.requires.fits c.requires.board is.loaded.sound r (λ e. absurd (cc)) (found_below _ _ f.journal f.version f.rest f.next _ _ is)),
     )
 
 pub returns-in_err-slots-clause-refused : goal.returns-in_err-slots-clause-refused
 returns-in_err-slots-clause-refused g c =
     let p = err_from_is_err_and c.from_residual-in_err-slots.result c.from_residual-in_err-slots.ensures.1 in
     let f = c.in_ok-found.found in
-    rw (p.1, p.2) (found_without_room _ _ f.journal f.version f.next _ _ c.in_ok-found.ensures.found)
+    rw (p.1, p.2) (found_without_room _ _ f.journal f.version f.rest f.next _ _ c.in_ok-found.ensures.found)
 
 pub returns-clause-found : goal.returns-clause-found
 returns-clause-found g c =
     let f = c.in_ok-found.found in
     let sv : c.in_ok-slots.slots.version ≡ f.version = ap (λ (s : Slotted). s.version) c.in_ok-slots.ensures in
-    subst (λ (v : Levels). IsFound g.S.Shelf.honest c.args.options.manifest_limit f.journal v f.next (g.S.Shelf.told c.args.shelf.now) (g.S.Shelf.told c.read.new.shelf)) (sym sv) c.in_ok-found.ensures.found
+    (f.rest, subst (λ (v : Levels). IsFound g.S.Shelf.honest c.args.options.manifest_limit f.journal v f.rest f.next (g.S.Shelf.told c.args.shelf.now) (g.S.Shelf.told c.read.new.shelf)) (sym sv) c.in_ok-found.ensures.found)

@@ -1,0 +1,325 @@
+//! The texts of the commands' help.
+
+/// A command as its help shows it.
+#[derive(Clone, Copy)]
+pub(crate) struct Page {
+    pub(crate) name: &'static str,
+    pub(crate) usage: &'static str,
+    /// What it does, in a line.
+    pub(crate) about: &'static str,
+    pub(crate) text: &'static str,
+    pub(crate) example: &'static str,
+}
+
+/// The program's version, and of what version of LevelDB the files are.
+pub(crate) const VERSION: &str = "0.1.0 (files of LevelDB 1.23, uncompressed)";
+
+pub(crate) const OVERVIEW: &str =
+    "Keys and values are words in hex, two digits a byte (61 is `a`), or with --text
+as text; `.` stands for no bytes. In text a byte that does not print is `\\xNN`,
+and so are `\\` (`\\x5c`), `=` (`\\x3d`), `!` (`\\x21`), `@` (`\\x40`), a blank
+(`\\x20`) and a word that is just a point (`\\x2e`). Sizes are in bytes. Standard
+input and FILE may have 64 MiB.
+
+Options stand last, and a value is the word behind its option, as in
+`lsm scan db --from 61`.
+
+A DIR that is not there is `refused 9 Device`, one without a file CURRENT
+`refused 10 Missing`; but `ingest` begins a database in a DIR that has no
+manifest and no table either. A DIR that is a symbolic link is the folder that
+it leads to; what is no regular file is not read.
+
+`ingest`, `compact` and `clean` hold LevelDB's lock file, DIR/LOCK, alone; the
+other commands share it where it is there. Where another program holds it, also
+a LevelDB, it is `refused 52 Locked`, and nothing is read or written. A LevelDB
+is noticed where the system has the file /proc/locks.
+
+No command reads a write-ahead log (`N.log`). Of each one that LevelDB has not
+flushed, `list`, `get` and `scan` say on standard error how many bytes are not
+read, and `check` prints a line; `ingest` is `refused 51 UnflushedLog N`.
+
+Tables that are compressed, as LevelDB makes them unless told otherwise, are
+refused: `refused 16 Compressed 1`.
+
+Exit status:
+  0  done
+  1  refused; standard error says why: `refused N Name ..`, `write fault`,
+     `read fault` or `bad line I`. A second line may say more: the call that the
+     system refused, with its path and the system's reason, the file of a fault,
+     the place in a line, or what is to be done
+  2  bad command line
+
+Example: lsm check db";
+
+pub(crate) const MAKE_TABLE: Page = Page {
+    name: "mktable",
+    usage: "lsm mktable",
+    about: "Makes a table of the entries on standard input",
+    text: "Reads a list of entries on standard input and writes them as one LevelDB table
+on standard output.
+
+A line is `KEY SEQ put VALUE` or `KEY SEQ del`: KEY and VALUE in hex, `.` for no
+bytes, SEQ a decimal number up to 72057594037927935. Lines ascend by key; of one
+key the greatest SEQ comes first. The first line of another form, or out of
+order, is reported as `bad line I`.
+
+Limits: 64 MiB of input, 4096 bytes of a key, 1048576 bytes of a value.
+
+Exit status: 0 done, 1 refused, and then nothing was written but by a write that
+failed, 2 bad command line.",
+    example: "Example: printf '61 1 put 76\\n' | lsm mktable > a.ldb",
+};
+
+pub(crate) const DUMP: Page = Page {
+    name: "dump",
+    usage: "lsm dump",
+    about: "Prints the entries of the table on standard input",
+    text: "Reads a LevelDB table on standard input and prints its entries on standard
+output, as lines that `mktable` reads: `KEY SEQ put VALUE` or `KEY SEQ del`.
+
+Every checksum, block and key is judged before the first line. Other bytes are
+refused by number and name, as in `refused 13 BadMagic`; a compressed table is
+`refused 16 Compressed 1`.
+
+Lines are printed as the table is gone through, in memory that does not grow
+with them. A table may spell far more than it has: keys that share nearly all of
+a huge one are each printed whole.
+
+Limit: 64 MiB of input.
+
+Exit status: 0 done, 1 refused, and then nothing was written but by a write that
+failed, 2 bad command line.",
+    example: "Example: lsm dump < db/000005.ldb",
+};
+
+pub(crate) const MANIFEST: Page = Page {
+    name: "manifest",
+    usage: "lsm manifest",
+    about: "Prints the edits of the manifest on standard input",
+    text: "Reads a LevelDB manifest on standard input and prints its edits on standard
+output: for each `edit I` and then its fields, with keys as `KEY@SEQ+` for a
+value and `KEY@SEQ-` for a deletion. The last line, `rest B`, counts the bytes
+at the end that hold no whole record: above 0 the last record was cut off, or
+the bytes are no manifest. The edits are not replayed.
+
+Other bytes are refused by number and name, as in `refused 19 LogChecksum 0`.
+
+Limit: 64 MiB of input.
+
+Exit status: 0 done, 1 refused, and then nothing was written but by a write that
+failed, 2 bad command line.",
+    example: "Example: lsm manifest < db/MANIFEST-000001",
+};
+
+pub(crate) const SCRIPT: Page = Page {
+    name: "script",
+    usage: "lsm script",
+    about: "Runs the commands on standard input on a database in memory",
+    text: "Reads commands on standard input, one a line, runs them on a new database in
+memory, and prints a reply for each on standard output. No folder is touched.
+
+  ingest W W ..      W is KEY=VALUE or KEY!      file N first F last L
+  get KEY            the newest                  value V, or absent
+  get KEY ID         at the snapshot ID          value V, or absent
+  snapshot                                       snapshot ID seq S
+  release ID                                     released
+  reserve            the compaction that is due  job T level L inputs N N ..,
+                                                 move T level L input N, or none
+  reserve L FROM TO  of level L, of the tables   the same
+                     that meet these keys
+  merge T            the job of the ticket T     merged T tables M
+  install T          what it made                installed N N ..
+  cancel T                                       cancelled
+  pin, unpin ID      the current version         pin ID, unpinned
+  collect            tables not needed any more  removed N N ..
+  list               LEVEL NUMBER SIZE SMALLEST LARGEST a table, then end
+
+KEY, VALUE, FROM and TO are hex, `.` for no bytes. A refusal is a reply too,
+`refused N Name ..`, and the script goes on, but after `refused 1 OutOfMemory`.
+The first line of another form is `bad line I`, and then nothing is done.
+
+Limit: 64 MiB of input.
+
+Exit status: 0 done, 1 refused for want of memory, a bad line, or a fault of a
+read or a write, 2 bad command line.",
+    example: "Example: printf 'ingest 6b=31\\nget 6b\\n' | lsm script",
+};
+
+pub(crate) const CHECK: Page = Page {
+    name: "check",
+    usage: "lsm check <DIR> [--progress]",
+    about: "Verifies a folder, and counts what is in it",
+    text: "Verifies all that a read of the LevelDB folder DIR can reach: every block of
+every table that its manifest names, and how the tables lie in their levels.
+Nothing is written there. One table at a time is held in memory.
+
+Prints a line a level, `level L files F bytes B entries E` for the levels 0 to
+6, then `last S`, the last sequence, and `rest B`, how many bytes at the
+manifest's end hold no whole record: above 0 the last record was cut off, which
+is no fault. At the end comes `log NAME BYTES` for each write-ahead log
+(`N.log`) that is not empty and that LevelDB would read: what stands there no
+command reads.
+
+The first fault is refused by number and name; that of a table names its file,
+as in `refused 15 BadChecksum 0 in 000005.ldb`.
+
+Exit status: 0 where all is well, 1 at a fault, 2 bad command line.",
+    example: "Example: lsm check db --progress",
+};
+
+pub(crate) const LIST: Page = Page {
+    name: "list",
+    usage: "lsm list <DIR> [--text]",
+    about: "Prints the tables of a folder, level by level",
+    text: "Prints the tables of the LevelDB folder DIR, levels 0 to 6 and in a level by
+smallest key, `LEVEL NUMBER SIZE SMALLEST LARGEST` for each, and then `end`.
+Keys are `KEY@SEQ+` for a value and `KEY@SEQ-` for a deletion; SIZE is in bytes.
+KEY is hex, or text with --text, `.` for no bytes.
+
+Every table is verified first. Nothing is written in DIR. A line on standard
+error names each write-ahead log (`N.log`) that is not read.
+
+Exit status: 0 done, 1 refused, 2 bad command line.",
+    example: "Example: lsm list db --text",
+};
+
+pub(crate) const GET: Page = Page {
+    name: "get",
+    usage: "lsm get <DIR> <KEY> [--text]",
+    about: "Prints the value of a key in a folder",
+    text: "Prints what the LevelDB folder DIR answers for KEY: `value V`, or `absent`. KEY
+and V are hex, or text with --text, `.` for no bytes.
+
+Every table is verified first. Nothing is written in DIR. A line on standard
+error names each write-ahead log (`N.log`) that is not read: what was written
+last may stand there.
+
+Exit status: 0 done, also where the key is absent, 1 refused, 2 bad command
+line.",
+    example: "Examples: lsm get db 6170706c65
+          lsm get db apple --text",
+};
+
+pub(crate) const SCAN: Page = Page {
+    name: "scan",
+    usage: "lsm scan <DIR> [--from <KEY>] [--to <KEY>] [--text] [--progress]",
+    about: "Prints the live keys of a folder and their values",
+    text: "Prints the live keys of the LevelDB folder DIR with their values, a line
+`KEY=VALUE` each, ascending by the bytes of the keys, from the key of --from to
+that of --to, both included; without them from the first to the last. KEY and
+VALUE are hex, or text with --text, `.` for no bytes: the lines that `ingest`
+reads, within its limits.
+
+Every table is verified before the first line. Lines are printed as the folder
+is read, in memory that does not grow with it; what is before --from is read
+too. Nothing is written in DIR. A line on standard error names each write-ahead
+log (`N.log`) that is not read: what was written last may stand there.
+
+A refusal of a table names its file, as in `refused 15 BadChecksum 0 in
+000005.ldb`.
+
+Exit status: 0 where all was printed, 1 at a fault: lines that were printed
+before it stand, 2 bad command line.",
+    example: "Examples: lsm scan db --from 61 --to 6dff
+          lsm scan db --text --progress",
+};
+
+pub(crate) const INGEST: Page = Page {
+    name: "ingest",
+    usage: "lsm ingest <DIR> <FILE> [--text] [--begin] [--beside-log]",
+    about: "Brings keys into a folder, or begins a database there",
+    text: "Brings the keys of FILE into the LevelDB folder DIR, as one table at level 0,
+and prints `file N first F last L`: the table's number, and the first and the
+last of its sequences. DIR has to be there.
+
+FILE has a line a key, `KEY=VALUE` for its new value or `KEY!` where it is
+deleted, ascending by the bytes of the keys, each key once. KEY and VALUE are
+hex, or text with --text, `.` for no bytes: `scan` prints such lines. In text a
+blank is `\\x20`, `=` is `\\x3d`, `!` `\\x21`, `@` `\\x40` and `\\` `\\x5c`, and
+each byte that does not print or is not ASCII is `\\xNN`. Lines in hex are put in
+order by `LC_ALL=C sort -t= -k1,1`. FILE is judged before DIR is opened; the
+first line of another form is `bad line I`, and a second line says where it is
+wrong.
+
+Limits: 64 MiB of FILE, 65536 lines, 4194304 bytes of keys and values together,
+4096 bytes of a key, 1048576 bytes of a value. Past 64 MiB it is a `read fault`,
+past the others `refused 39 TooLarge`; no line is `refused 37 EmptyBatch`, and
+keys out of order are `refused 38 KeyOrder I`, where I counts from 0.
+
+Where DIR has no file CURRENT, a database is begun in it. But where it has a
+manifest or a table, CURRENT was lost, and it is `refused 10 Missing`; a second
+line says how CURRENT is written anew. With --begin a database is begun there
+all the same: what the old one holds is then not read any more, and `compact`
+and `clean` remove its tables.
+
+A write-ahead log (`N.log`) that LevelDB has not flushed is `refused 51
+UnflushedLog N`: open and close DIR once with the program that wrote it, which
+flushes its log. With --beside-log the batch comes in all the same; what stands
+in the log may then win over it in LevelDB, and be newer or older than it.
+
+Another program that has DIR open is `refused 52 Locked`. Each run begins a new
+manifest, also where the batch is then refused; old manifests stay until
+`lsm clean DIR`. At 12 tables in level 0 the batch is `refused 40
+LevelZeroFull`: run `lsm compact DIR`, and then ingest again.
+
+Exit status: 0 the batch came in, 1 refused, 2 bad command line. After a `write
+fault` the batch is in; after `refused 9 Device` it may be.",
+    example: "Example: printf 'apple=red\\nbanana!\\n' > batch; lsm ingest db batch --text",
+};
+
+pub(crate) const COMPACT: Page = Page {
+    name: "compact",
+    usage: "lsm compact <DIR> [--workers <N>] [--progress]",
+    about: "Compacts a folder until no level is too large",
+    text: "Compacts the LevelDB folder DIR until no level is too large: tables of such a
+level, and those of the next one that they meet, are written anew one level
+down. Level 0 is too large from 4 tables on, level 1 from 10 MiB, and each
+deeper one from ten times as much as the one above it. No answer of a read
+changes. Then the tables that are not needed any more are removed. Prints
+`installed M`, the number of compactions.
+
+--workers is how many threads compact at a time, 1 to 8; 2 if it is not said.
+
+What stands in a write-ahead log (`N.log`) is not read, and stays there. Another
+program that has DIR open is `refused 52 Locked`. Each run begins a new
+manifest; old manifests stay until `lsm clean DIR`. Run this after an `ingest`
+that is `refused 40 LevelZeroFull`.
+
+Exit status: 0 done, 1 refused, 2 bad command line. After a refusal what was
+installed before it stands, and no table was removed, but by a removal that then
+failed.",
+    example: "Example: lsm compact db --workers 4 --progress",
+};
+
+pub(crate) const CLEAN: Page = Page {
+    name: "clean",
+    usage: "lsm clean <DIR>",
+    about: "Removes old files that a folder does not need",
+    text: "Removes the files of the LevelDB folder DIR that no reader of it needs: the
+manifests (`MANIFEST-N`) that CURRENT does not name, what a stopped program left
+(`N.dbtmp`), and the tables (`N.ldb`) that the database does not list. Prints
+the name of each file that was removed, a line each, ascending.
+
+DIR is read first: where that is refused nothing is removed. Logs (`N.log`),
+`N.sst` and all other files stay. A removal that is refused ends it with
+`refused 9 Device`. Another program that has DIR open is `refused 52 Locked`.
+
+Exit status: 0 done, 1 refused: what was printed before it is removed, 2 bad
+command line.",
+    example: "Example: lsm clean db",
+};
+
+/// The pages of the commands.
+const PAGES: [Page; 11] = [
+    MAKE_TABLE, DUMP, MANIFEST, SCRIPT, CHECK, LIST, GET, SCAN, INGEST, COMPACT, CLEAN,
+];
+
+/// How the command of this name is used.
+pub(crate) fn usage_of(name: &str) -> &'static str {
+    for page in &PAGES {
+        if page.name == name {
+            return page.usage;
+        }
+    }
+    "lsm <COMMAND>"
+}

@@ -1,0 +1,149 @@
+-- What was read of a database, and why it was not.
+use Rattle.std.proofs.Common.{◌≡◌, ℕ, ◌-◌, ◌^◌, ◌<◌, List, [], ◌∷◌, ◌++◌, ◌∙◌, inl, inr, arith}
+use Rattle.lsm_codec.specs.Lists.{Has}
+use Rattle.lsm_codec.proofs.CallerLemmas.{has_left, has_right}
+use Rattle.lsm_shelf.specs.Asked.{Asked, IsWantOr, ListTables, Load}
+use Rattle.lsm_shelf.specs.Told.{Told, Becomes, Counted, NotNamed, finding, listing}
+use Rattle.lsm_shelf.specs.declared.shelf_fault.ShelfFault.{ShelfFault}
+use Rattle.lsm_shelf.specs.declared.shelf_fault.ShelfFault.TheVariants.{OutOfMemory, Device, Missing, Taken}
+use Rattle.lsm_table.specs.ReadFault.{ReadCounted}
+use Rattle.lsm_table.specs.declared.read_fault.ReadFault.{ReadFault}
+use Rattle.lsm_table.specs.declared.read_fault.ReadFault.TheVariants as read
+use Rattle.lsm_table.proofs.CallerLemmas.{becomes_then, counted_later, read_counted_later}
+use Rattle.lsm_manifest.specs.Shape.{Form}
+use Rattle.lsm_version.specs.CheckFault.{CheckCounted}
+use Rattle.lsm_version.specs.CheckRefusal.{IsOfShape, IsRefusal}
+use Rattle.lsm_version.specs.FileNumbers.{AreDistinct, numbers_of}
+use Rattle.lsm_version.specs.Settled.{IsSettled, KeepsAge}
+use Rattle.lsm_version.specs.Versions.{IsSound, Levels, files, numbers_in}
+use Rattle.lsm_version.specs.declared.check.check_fault.CheckFault.{CheckFault}
+use Rattle.lsm_version.specs.declared.check.check_fault.CheckFault.TheVariants.{Read, DoubleFile, Overlap, WrongRange, AgeOrder}
+use Rattle.lsm_journal.specs.HeldManifest.{HeldManifest}
+use Rattle.lsm_journal.specs.Recorded.{IsRecorded}
+use Rattle.lsm_journal.specs.Recovering.{IsRecovered}
+use Rattle.lsm_journal.specs.Finding.{IsFound, IsLeastFree, IsLoaded, IsNoVersion, IsTakenLast, IsUnlisted, IsWithoutRoom, taken_numbers}
+use Rattle.lsm_journal.proofs.Recording.{later}
+
+-- a manifest that was read records each version of its shape (a law of journals)
+abbrev pub RecoveredIsRecorded : Type 0
+RecoveredIsRecorded = (rest : ℕ) (h : HeldManifest) (shape : Form) (v : Levels) → IsRecovered h shape rest → IsOfShape shape v → AreDistinct (numbers_of shape.levels) → IsRecorded rest h v shape.next
+
+pub loaded : (honest : Type 0) (rest : ℕ) (h : HeldManifest) (shape : Form) (v : Levels) → RecoveredIsRecorded → IsRecovered h shape rest → IsOfShape shape v → AreDistinct (numbers_of shape.levels)
+    → (IsSettled (files v) → IsSound v) → (KeepsAge (files v) → IsSound v) → (honest → IsSound v) → IsLoaded honest h shape rest v
+loaded honest rest h shape v law r of own settled judged sound = record { recovered = r; of_shape = of; numbers = own; recorded = law rest h shape v r of own; settled = settled; judged = judged; sound = sound }
+
+-- ---- what was told
+
+-- the tables were listed after what was told before
+pub then_listed : (ns : List ℕ) (a b c : Told) → Becomes a b → Becomes (listing ns b) c → Becomes (listing ns a) c
+then_listed ns a b c x y = record {
+  place = y.place ∙ x.place;
+  faults = (let p = x.faults in let q = y.faults in omega arith);
+  misses = (let p = x.misses in let q = y.misses in omega arith);
+  puts = y.puts ∙ x.puts;
+  gone = y.gone ∙ x.gone;
+  listed = y.listed;
+  manifest = y.manifest ∙ x.manifest;
+  sent = y.sent ∙ x.sent;
+  found = y.found ∙ x.found;
+  starts = y.starts ∙ x.starts;
+  written = y.written ∙ x.written;
+  forks = y.forks ∙ x.forks;
+}
+
+-- reading a manifest counts nothing
+counted_from : (e : ShelfFault) (n : ℕ) (bytes : List ℕ) (was is : Told) → Counted e (finding n bytes was) is → Counted e was is
+counted_from OutOfMemory n bytes was is k = tt
+counted_from Device n bytes was is k = k
+counted_from Missing n bytes was is k = k
+counted_from (Taken m) n bytes was is k = k
+
+read_counted_from : (e : ReadFault) (n : ℕ) (bytes : List ℕ) (was is : Told) → ReadCounted e (finding n bytes was) is → ReadCounted e was is
+read_counted_from (read.Shelf fault) n bytes was is k = (k.0, counted_from fault n bytes was is k.1)
+read_counted_from (read.Table fault) n bytes was is k = tt
+
+check_counted_from : (e : CheckFault) (n : ℕ) (bytes : List ℕ) (was mid is : Told) → Becomes (finding n bytes was) mid → CheckCounted e mid is → CheckCounted e was is
+check_counted_from (Read file fault) n bytes was mid is t k = read_counted_from fault n bytes was is (read_counted_later fault (finding n bytes was) mid is t k)
+check_counted_from (DoubleFile number) n bytes was mid is t k = tt
+check_counted_from (Overlap level) n bytes was mid is t k = tt
+check_counted_from (WrongRange number) n bytes was mid is t k = tt
+check_counted_from (AgeOrder user) n bytes was mid is t k = tt
+
+-- ---- refusals
+
+pub no_version : (Stored : ℕ → List ℕ → Type 0) (Refused : Asked → ShelfFault → Type 0) (honest : Type 0) (e : CheckFault) (rest : ℕ) (h : HeldManifest) (shape : Form) (was mid is : Told) → IsRecovered h shape rest
+    → Becomes (finding h.number h.bytes was) mid → IsRefusal Stored (λ number. Refused (Load number)) honest shape e → CheckCounted e mid is → Becomes mid is → IsNoVersion Stored Refused honest e was is
+no_version Stored Refused honest e rest h shape was mid is r t why cause same = record {
+  held = h;
+  shape = shape;
+  rest = rest;
+  recovered = r;
+  why = why;
+  cause = check_counted_from e h.number h.bytes was mid is t cause;
+  told = becomes_then (finding h.number h.bytes was) mid is t same;
+}
+
+pub unlisted : (Refused : Asked → ShelfFault → Type 0) (honest : Type 0) (e : ShelfFault) (rest : ℕ) (h : HeldManifest) (shape : Form) (v : Levels) (was mid is : Told) → IsLoaded honest h shape rest v
+    → Becomes (finding h.number h.bytes was) mid → NotNamed e × Counted e mid is → IsWantOr (Refused ListTables) e → Becomes mid is → IsUnlisted Refused honest e was is
+unlisted Refused honest e rest h shape v was mid is l t cause asked same = record {
+  asked = asked;
+  held = h;
+  shape = shape;
+  rest = rest;
+  version = v;
+  loaded = l;
+  cause = (cause.0, counted_from e h.number h.bytes was is (counted_later e (finding h.number h.bytes was) mid is t cause.1));
+  told = becomes_then (finding h.number h.bytes was) mid is t same;
+}
+
+pub taken_last : (honest : Type 0) (rest : ℕ) (h : HeldManifest) (shape : Form) (v : Levels) (listed : List ℕ) (was mid is : Told) → IsLoaded honest h shape rest v → Has (taken_numbers listed v h.number) (2 ^ 64 - 1)
+    → Becomes (finding h.number h.bytes was) mid → Becomes (listing listed mid) is → IsTakenLast honest was is
+taken_last honest rest h shape v listed was mid is l spent t same = record {
+  held = h;
+  shape = shape;
+  rest = rest;
+  version = v;
+  listed = listed;
+  loaded = l;
+  spent = spent;
+  told = then_listed listed (finding h.number h.bytes was) mid is t same;
+}
+
+pub found_there : (honest : Type 0) (limit rest : ℕ) (h : HeldManifest) (shape : Form) (v : Levels) (listed : List ℕ) (next : ℕ) (was mid is : Told) → IsLoaded honest h shape rest v → h.limit ≡ limit
+    → IsLeastFree shape.next (taken_numbers listed v h.number) next → next < 2 ^ 64 → Becomes (finding h.number h.bytes was) mid → Becomes (listing listed mid) is → IsFound honest limit h v rest next was is
+found_there honest limit rest h shape v listed next was mid is l limit_is least fits t same = record {
+  shape = shape;
+  listed = listed;
+  loaded = l;
+  limit_is = limit_is;
+  least = least;
+  fits = fits;
+  told = then_listed listed (finding h.number h.bytes was) mid is t same;
+}
+
+pub without_room : (rest : ℕ) (h : HeldManifest) (shape : Form) (was is : Told) → IsRecovered h shape rest → Becomes (finding h.number h.bytes was) is → IsWithoutRoom was is
+without_room rest h shape was is r t = record { held = h; shape = shape; rest = rest; recovered = r; told = inl t }
+
+pub without_room_listed : (rest : ℕ) (h : HeldManifest) (shape : Form) (listed : List ℕ) (was mid is : Told) → IsRecovered h shape rest → Becomes (finding h.number h.bytes was) mid
+    → Becomes (listing listed mid) is → IsWithoutRoom was is
+without_room_listed rest h shape listed was mid is r t same = record {
+  held = h;
+  shape = shape;
+  rest = rest;
+  recovered = r;
+  told = inr (listed, then_listed listed (finding h.number h.bytes was) mid is t same);
+}
+
+-- memory ran out where all was read
+pub found_without_room : (honest : Type 0) (limit : ℕ) (h : HeldManifest) (v : Levels) (rest next : ℕ) (was is : Told) → IsFound honest limit h v rest next was is → IsWithoutRoom was is
+found_without_room honest limit h v rest next was is f =
+    record { held = h; shape = f.shape; rest = rest; recovered = f.loaded.recovered; told = inr (f.listed, f.told) }
+
+-- ---- what callers need of what was read
+
+pub found_recorded : (honest : Type 0) (limit : ℕ) (h : HeldManifest) (v : Levels) (rest next : ℕ) (was is : Told) → IsFound honest limit h v rest next was is → IsRecorded rest h v next
+found_recorded honest limit h v rest next was is f = later rest h v f.shape.next next f.loaded.recorded f.least.0.0
+
+pub found_below : (honest : Type 0) (limit : ℕ) (h : HeldManifest) (v : Levels) (rest next : ℕ) (was is : Told) → IsFound honest limit h v rest next was is → (n : ℕ) → Has (numbers_in v) n → n < next
+found_below honest limit h v rest next was is f n k = f.least.0.1 n
+    (has_left (f.listed ++ numbers_in v) (h.number ∷ []) n (has_right f.listed (numbers_in v) n k))

@@ -1,6 +1,0 @@
-use Rattle.std.proofs.Common.{take}
-use Rattle.lsm_state.specs.Opening.{IsLeastFree}
-use Rattle.lsm_state.proofs.open.next_free.Given as goal
-
-abbrev pub invariant-loop-number : goal.invariant-loop-number
-invariant-loop-number l = IsLeastFree l.from (take l.number-index l.taken) l.next

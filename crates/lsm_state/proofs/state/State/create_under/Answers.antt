@@ -1,0 +1,17 @@
+use Rattle.std.proofs.Common.{◌+◌, ap, ◌∙◌, subst}
+use Rattle.lsm_version.specs.Versions.{Levels, no_levels}
+use Rattle.lsm_slots.specs.Slots.{first_slots}
+use Rattle.lsm_journal.specs.HeldManifest.{HeldManifest}
+use Rattle.lsm_journal.specs.Recorded.{IsRecorded}
+use Rattle.lsm_state.proofs.StateLaws.{lawful_created, lawful_made}
+use Rattle.lsm_state.proofs.state.State.create_under.Goals as goal
+
+pub invariant_of-result : goal.invariant_of-result
+invariant_of-result g c =
+    let o = c.args.options in
+    let slots = c.in_ok-slots.ensures ∙ ap (λ (v : Levels). first_slots c.args.board.0 o.versions v) c.in_ok-empty.ensures in
+    let recorded = subst (λ (j : HeldManifest). IsRecorded 0 j no_levels (c.args.number + 1)) c.in_ok-journal.ensures.created c.in_ok-journal.ensures.recorded in (
+      c.requires.named,
+      lawful_made c.args.number g.S.Shelf.honest g.N.Boarded.board o c.args.board.0 c.args.board.1.items c.in_ok-slots.slots c.new-2.result c.new-3.result c.in_ok-journal.journal slots c.new-2.ensures c.new-3.ensures c.in_ok-journal.ensures.created
+          (lawful_created c.args.number g.S.Shelf.honest g.N.Boarded.board o c.args.board.0 c.args.board.1.items c.requires.fits c.requires.board c.created_stores_are_lawful.ensures.in_order recorded),
+    )
