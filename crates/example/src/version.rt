@@ -129,7 +129,22 @@ fn show_rest<N: Naming, S: Shelf>(
     Ok(())
 }
 
-/// Reads keys of the version, and prints the live ones as of its last sequence.
+/// Prints the live keys as of a sequence, each with its value.
+fn scan<N: Naming, S: Shelf>(
+    rt: &impl Print,
+    alloc: Global,
+    version: &Version<N, S>,
+    shelf: &mut S,
+    seq: u64,
+) -> anyhow::Result<()>
+    requires place { (S.told shelf.old).place ≡ N.place }
+    requires honest { S.honest }
+{
+    let mut scan = version.scan(shelf, alloc, seq)?;
+    show_rest(rt, alloc, &mut scan, shelf)
+}
+
+/// Reads one key as of its last sequence and of two before it, and then all.
 fn read<N: Naming, S: Shelf>(
     rt: &impl Print,
     alloc: Global,
@@ -141,11 +156,10 @@ fn read<N: Naming, S: Shelf>(
 {
     let last = version.last();
     println!(rt; "a version whose last sequence is {last}")?;
-    show(rt, alloc, version, shelf, "apple", last)?;
-    show(rt, alloc, version, shelf, "apple", 4)?;
-    show(rt, alloc, version, shelf, "apple", 2)?;
-    let mut scan = version.scan(shelf, alloc, last)?;
-    show_rest(rt, alloc, &mut scan, shelf)
+    for seq in [last, 4, 2] {
+        show(rt, alloc, version, shelf, "apple", seq)?;
+    }
+    scan(rt, alloc, version, shelf, last)
 }
 
 /// The version of this shape, once checked. What is generic in `N` is of the registry and of the
