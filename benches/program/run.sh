@@ -6,10 +6,10 @@ lines=${1:-1000000}
 top=$(cd "$(dirname "$0")/../.." && pwd)
 work=$(mktemp -d)
 trap 'rm -rf "$work"' EXIT
-"$top/lsm" --help > "$work/help"
 rustc --edition 2021 -O -o "$work/peer" "$top/benches/program/peer.rs"
 awk -v n="$lines" 'BEGIN { for (i = 0; i < n; i++) printf "%016x %d put %016x%016x\n", i * 4001, i + 1, i * 2654435761 % 4294967296, i }' > "$work/list"
-program="$top/crates/lsm_tool/out/lsm_tool"
+program=$("$top/tools/program")
+[[ $program != */unproved/* ]] || echo "this is the unproved build: ./prove makes the program that is to be timed"
 TIMEFORMAT='%U user %S sys %R real'
 for turn in 1 2 3; do
   for name in mktable dump; do

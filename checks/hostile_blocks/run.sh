@@ -1,14 +1,13 @@
 #!/usr/bin/env bash
 # Runs `lsm dump` on tables whose blocks spell far more bytes of keys than they have (make.rs). Each is refused, once all of its
 # bytes were read, as OutOfOrder at its last entry; the seconds that this takes are printed beside the size, and double with
-# it. Needs rustc and a built program (./lsm builds it; LSM=/path/to/lsm_tool names another).
+# it. Needs rustc. LSM=/path/to/lsm names a built program.
 set -euo pipefail
 here=$(cd "$(dirname "$0")" && pwd)
 top=$(cd "$here/../.." && pwd)
 work=$(mktemp -d)
 trap 'rm -rf "$work"' EXIT
-program=${LSM:-$top/crates/lsm_tool/out/lsm_tool}
-[[ -x $program ]] || { "$top/lsm" --help > "$work/help"; }
+program=${LSM:-$("$top/tools/program")}
 rustc -O -o "$work/make" "$here/make.rs"
 
 for block in data index; do

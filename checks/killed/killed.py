@@ -98,7 +98,7 @@ class Killer:
     def look(self, *contents):
         """Which of these contents the directory has."""
         status, out, err = self.run(["check", self.path])
-        if status == 1 and err == "refused 10 Missing\n" and not self.is_begun:
+        if status == 1 and err.startswith("refused 10 Missing\n") and not self.is_begun:
             return 0
         if status != 0 or err:
             self.stop(f"lsm check: status {status}, says: {err[:300]}")
@@ -148,10 +148,12 @@ class Killer:
         with open(f"{self.folder}/batch", "w") as file:
             file.writelines(f"{line}\n" for line in plain.batch_lines(batch))
         after = plain.apply(self.content, batch)
-        status, out, err = self.run(["ingest", self.path, f"{self.folder}/batch"], kills)
+        # a first ingest that was killed may have left a manifest without CURRENT
+        begin = [] if self.is_begun else ["--begin"]
+        status, out, err = self.run(["ingest", self.path, f"{self.folder}/batch", *begin], kills)
         replied = re.fullmatch(r"file \d+ first \d+ last \d+\n", out)
         self.counts["ingests"] += 1
-        if status == 1 and err == "refused 40 LevelZeroFull\n" and not out:
+        if status == 1 and err.startswith("refused 40 LevelZeroFull\n") and not out:
             self.look(self.content)
             return self.compact(False)
         if status not in (0, None) or err or (status == 0 and not replied):
@@ -174,7 +176,7 @@ class Killer:
         words = ["compact", self.path, "--workers", str(self.rng.randrange(1, 9))]
         status, out, err = self.run(words, kills)
         self.counts["compactions"] += 1
-        if status == 1 and err == "refused 10 Missing\n" and not self.is_begun:
+        if status == 1 and err.startswith("refused 10 Missing\n") and not self.is_begun:
             return False
         if status not in (0, None) or err or (status == 0 and not re.fullmatch(r"installed \d+\n", out)):
             self.stop(f"lsm compact {' '.join(words[2:])}: status {status}, answers {out[:100]!r}, says: {err[:300]}")

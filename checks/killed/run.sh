@@ -6,8 +6,7 @@ set -euo pipefail
 here=$(cd "$(dirname "$0")" && pwd)
 top=$(cd "$here/../.." && pwd)
 scratch=$(mktemp -d)
-[[ -n ${LSM:-} ]] || "$top/lsm" --help > "$scratch/help"
-program=$(readlink -f "${LSM:-$top/crates/lsm_tool/out/lsm_tool}")
+program=$(readlink -f "${LSM:-$("$top/tools/program")}")
 seed=${2:-$RANDOM$RANDOM}
 echo "seed $seed"
 g++ -O2 -Wall -o "$scratch/leveldb" "$here/../leveldb_directories/directory.cc" -lleveldb

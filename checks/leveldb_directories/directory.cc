@@ -9,6 +9,7 @@
 //   directory same DIR KIND LIST  opens DIR with the kind's options: whether it holds just the pairs of LIST (lines as `scan` prints
 //                            them), forwards, backwards, and by a `Get` of each key and of one beside it
 //   directory write DIR KIND COUNT  writes and deletes so many keys more, and compacts all; its log is empty then
+//   directory put DIR KEY VALUE  writes one pair (hex), which stands in the log then
 #include <cstdio>
 #include <cstdlib>
 #include <cstring>
@@ -278,6 +279,11 @@ void WriteMore(const Kind& kind, const std::string& folder, int count) {
   delete Open(kind, folder);
 }
 
+void PutOne(const std::string& folder, const std::string& key, const std::string& value) {
+  std::unique_ptr<leveldb::DB> database(Open(kKinds[0], folder));
+  Check(database->Put(leveldb::WriteOptions(), key, value));
+}
+
 const Kind& Named(const char* name) {
   for (const Kind& kind : kKinds) {
     if (std::strcmp(kind.name, name) == 0) return kind;
@@ -323,6 +329,10 @@ int main(int count, char** words) {
     WriteMore(Named(words[3]), words[2], std::atoi(words[4]));
     return 0;
   }
-  std::fprintf(stderr, "usage: directory kinds | make DIR KIND | scan DIR | get DIR KEY.. | spans DIR | edits FILE | same DIR KIND LIST | write DIR KIND COUNT\n");
+  if (what == "put" && count == 5) {
+    PutOne(words[2], Bytes(words[3]), Bytes(words[4]));
+    return 0;
+  }
+  std::fprintf(stderr, "usage: directory kinds | make DIR KIND | scan DIR | get DIR KEY.. | spans DIR | edits FILE | same DIR KIND LIST | write DIR KIND COUNT | put DIR KEY VALUE\n");
   return 2;
 }

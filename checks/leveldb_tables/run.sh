@@ -6,7 +6,7 @@
 set -euo pipefail
 here=$(cd "$(dirname "$0")" && pwd)
 top=$(cd "$here/../.." && pwd)
-lsm=${LSM:-$top/lsm}
+lsm=${LSM:-$("$top/tools/program")}
 work=$(mktemp -d)
 trap 'rm -rf "$work"' EXIT
 g++ -O2 -o "$work/table" "$here/table_of_list.cc" -lleveldb

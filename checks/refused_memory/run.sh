@@ -14,15 +14,14 @@
 # - script: the replies up to that of want of memory, `refused 1 OutOfMemory`, and status 1; or as the first point says.
 #
 # Parts are singles, reads, ingest, compact, script and rows; words of the command line choose among them (all). Rows run a Rattle program
-# on the state itself (rows.sh). Takes a quarter of an hour. Needs gcc, rt for rows, and a built program (./lsm builds it;
-# LSM=/path/to/lsm_tool names another).
+# on the state itself (rows.sh). Takes a quarter of an hour. Needs gcc, and rt for rows. LSM=/path/to/lsm names
+# a built program.
 set -euo pipefail
 here=$(cd "$(dirname "$0")" && pwd)
 top=$(cd "$here/../.." && pwd)
 work=$(mktemp -d)
 trap 'rm -rf "$work"' EXIT
-program=${LSM:-$top/crates/lsm_tool/out/lsm_tool}
-[[ -x $program ]] || { "$top/lsm" --help > "$work/help"; }
+program=${LSM:-$("$top/tools/program")}
 program=$(realpath "$program")
 gcc -O1 -shared -fPIC -o "$work/refuse.so" "$here/refuse.c" -ldl
 : > "$work/nothing"
@@ -53,8 +52,12 @@ is_undisturbed() {
   [[ $status == "$wanted" ]] && cmp -s wanted.out out && cmp -s wanted.err err
 }
 
+said() { # a second line is for people
+  head -n 1 err
+}
+
 is_out_of_memory() {
-  [[ $status == 1 && ! -s out && $(cat err) == "refused 1 OutOfMemory" ]]
+  [[ $status == 1 && ! -s out && $(said) == "refused 1 OutOfMemory" ]]
 }
 
 is_whole_lines() { # whether standard output is whole lines of what is wanted, from the first on, and not all
@@ -90,7 +93,7 @@ judge_read() {
   if is_undisturbed; then :; elif [[ ! -e mark ]]; then
     stop "no such answer"
   elif ! is_out_of_memory; then
-    [[ $status == 1 && ($1 == check || $1 == scan) && $(cat err) =~ ^refused\ 1\ OutOfMemory(\ in\ [0-9]{6}\.ldb)?$ ]] || stop "no such answer"
+    [[ $status == 1 && ($1 == check || $1 == scan) && $(said) =~ ^refused\ 1\ OutOfMemory(\ in\ [0-9]{6}\.ldb)?$ ]] || stop "no such answer"
     [[ ! -s out ]] || { [[ $1 == scan ]] && is_whole_lines; } || stop "other lines"
   fi
   diff -r "$2.old" "$2" > differences || stop "the folder changed: $(head -n 1 differences)"
@@ -121,8 +124,8 @@ again() { # WORDS..: the same with memory
 judge_ingest() {
   local told=0
   is_undisturbed || told=1
-  [[ $told == 0 || ($status == 1 && ! -s out && $(cat err) =~ ^refused\ (1\ OutOfMemory|9\ Device)$ && -e mark) ]] || stop "no such answer"
-  if [[ $told == 1 ]] && diff -rq "$2.old" "$2" > differences; then
+  [[ $told == 0 || ($status == 1 && ! -s out && $(said) =~ ^refused\ (1\ OutOfMemory|9\ Device)$ && -e mark) ]] || stop "no such answer"
+  if [[ $told == 1 ]] && diff -rq -x LOCK "$2.old" "$2" > differences; then
     same=$((same + 1))
     return 0
   fi
@@ -131,10 +134,10 @@ judge_ingest() {
     cmp -s "$2.new.scan" now || stop "the batch did not come in"
   elif cmp -s "$2.new.scan" now; then
     whole=$((whole + 1))
-    [[ $(cat err) != *Device ]] || device=$((device + 1))
+    [[ $(said) != *Device ]] || device=$((device + 1))
   elif cmp -s "$2.old.scan" now; then
     kept=$((kept + 1))
-    [[ $(cat err) != *Device ]] || device=$((device + 1))
+    [[ $(said) != *Device ]] || device=$((device + 1))
   else
     stop "half a batch came in"
   fi
@@ -151,13 +154,13 @@ judge_compact() {
   if [[ $status == 0 ]]; then
     [[ ! -s err && $(cat out) =~ ^installed\ [0-9]+$ ]] || stop "no such answer"
   else
-    [[ -e mark && $status == 1 && ! -s out && $(cat err) =~ ^refused\ (1\ OutOfMemory|9\ Device|36\ PutFailed\ [0-9]+\ 9|42\ Halted)$ ]] || stop "no such answer"
-    if diff -rq "$2.old" "$2" > differences; then
+    [[ -e mark && $status == 1 && ! -s out && $(said) =~ ^refused\ (1\ OutOfMemory|9\ Device|36\ PutFailed\ [0-9]+\ 9|42\ Halted)$ ]] || stop "no such answer"
+    if diff -rq -x LOCK "$2.old" "$2" > differences; then
       same=$((same + 1))
       return 0
     fi
     kept=$((kept + 1))
-    case $(cat err) in
+    case $(said) in
       *Device | *9) device=$((device + 1)) ;;
       *Halted) halted=$((halted + 1)) ;;
     esac
@@ -255,7 +258,8 @@ ingests() { # over two levels, and where nothing is there
   each judge_ingest nothing ingest full brought
   mkdir fresh.old
   : > fresh.old.scan
-  each judge_ingest nothing ingest fresh brought
+  # where a run made the manifest and no CURRENT, only --begin goes on
+  each judge_ingest nothing ingest fresh brought --begin
 }
 
 compacts() { # two jobs whose keys lie apart

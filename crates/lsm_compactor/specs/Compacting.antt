@@ -9,7 +9,7 @@ use Rattle.lsm_state.specs.Asked.{CollectRefused, OnShelf}
 use Rattle.lsm_state.specs.Collecting.{AreCollected, IsCollectRefusal, IsCountedOnce, SameCounts}
 use Rattle.lsm_state.specs.Held.{Held, IsLawfulState}
 use Rattle.lsm_state.specs.Opening.{IsOpenRefusal, IsReadOnce}
-use Rattle.lsm_state.specs.declared.open_fault.OpenFault.{OpenFault}
+use Rattle.lsm_journal.specs.declared.open_fault.OpenFault.{OpenFault}
 use Rattle.lsm_state.specs.declared.state_fault.StateFault.{StateFault}
 use Rattle.lsm_store.specs.Workers.{IsWorkersEnd}
 use Rattle.lsm_store.specs.declared.worker_end.WorkerEnd.{WorkerEnd}

@@ -2,10 +2,11 @@
 
 ghost use Rattle.std.specs.Prelude.{◌≡◌};
 ghost use Rattle.lsm_writer.specs.WriterFault.{of_shelf};
-ghost use Rattle.lsm_writer.specs.declared.writer_fault.WriterFault.TheVariants.{OutOfMemory, State as StateVariant};
+ghost use Rattle.lsm_writer.specs.declared.writer_fault.WriterFault.TheVariants.{Directory as DirectoryVariant, OutOfMemory, State as StateVariant};
 ghost use Rattle.lsm_compactor.specs.CompactFault.{fault_text};
 ghost use Rattle.lsm_compactor.specs.declared.compact_fault.CompactFault.TheVariants.{Writer as WriterVariant, Worker as WorkerVariant};
 
+use lsm_directory::DirectoryFault;
 use lsm_state::StateFault;
 use lsm_store::WorkerFault;
 use lsm_table::ShelfFault;
@@ -16,7 +17,7 @@ use std::fmt;
 /// What a compaction of a directory could not do. It prints as a text without a newline.
 #[derive(Debug, Drop)]
 pub enum CompactFault {
-    /// Memory ran out, the directory was not opened, a shelf failed to fork, the database refused
+    /// Memory ran out, the directory was not locked or opened, a shelf failed to fork, the database refused
     /// to collect, or a write failed.
     Writer(WriterFault),
     /// A worker ended early.
@@ -83,5 +84,13 @@ impl From<WorkerFault> for CompactFault {
 
     fn from(error: WorkerFault) -> CompactFault {
         CompactFault::Worker(error)
+    }
+}
+
+impl From<DirectoryFault> for CompactFault {
+    ghost from_gives = { λ e f. f ≡ WriterVariant (DirectoryVariant e) };
+
+    fn from(error: DirectoryFault) -> CompactFault {
+        CompactFault::Writer(WriterFault::Directory(error))
     }
 }

@@ -1,7 +1,7 @@
 //! The command of `lsm` that compacts a directory, `compact`.
 //!
-//! Stands on `lsm_store` for the workers, and on `lsm_writer` and `lsm_commands` for the opening,
-//! words and refusals. Its contract: a `compact` that ends with 0 opened the directory, had so many
+//! Stands on `lsm_store` for the workers, and on `lsm_writer`, `lsm_directory` and `lsm_commands`
+//! for the opening, the lock, words and refusals. Its contract: a `compact` that ends with 0 opened the directory, had so many
 //! workers end without a fault, removed what nothing names any more, and printed the sum of the
 //! counts that they answered; without `--progress` it wrote nothing on standard error.
 #![tactic(auto)]
@@ -24,6 +24,7 @@ mod progress;
 // A run, and why it ends with status 1.
 mod compact_fault;
 mod program;
+mod telling;
 
 pub use compact_fault::CompactFault;
 pub use compact_line::{CompactLine, compacting_asked};

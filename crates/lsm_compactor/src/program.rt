@@ -8,22 +8,23 @@ use crate::compact_fault::CompactFault;
 use crate::compact_line::CompactLine;
 use crate::compact_options::CompactOptions;
 use crate::compacting::compact_to;
+use crate::telling::tell;
+use lsm_directory::open_held;
+use lsm_folder::{LockKind, Reasons};
+use lsm_shelf::FileShelf;
 use lsm_table::Shelf;
-use lsm_writer::open_shelf;
 use std::alloc::Global;
-use std::io::{self, Write};
+use std::io::Write;
 use std::sync::Wait;
 use std::thread::Threads;
 
-/// Writes the line of a fault, and flushes.
-fn tell<E: Write>(err: &mut E, fault: &CompactFault) -> io::Result<()> {
-    writeln!(err, "{fault}")?;
-    err.flush()
-}
-
-/// The exit status of a compaction, and the line of its fault.
+/// The exit status of a compaction, and the lines of its fault.
 #[tactic(auto, using(crate::proofs::Quiet::keeps_same))]
-fn status_of<E: Write>(done: Result<(), CompactFault>, err: &mut E) -> u8
+fn status_of<E: Write>(
+    done: Result<(), CompactFault>,
+    reasons: Option<&Reasons>,
+    err: &mut E,
+) -> u8
     ensures ok { OnOk done (result ≡ 0) }
     ensures err { OnErr done (result ≡ 1) }
     ensures quiet { result ≡ 0 → Keeps (E.contents err.old) (E.contents err.new) }
@@ -31,7 +32,7 @@ fn status_of<E: Write>(done: Result<(), CompactFault>, err: &mut E) -> u8
     match done {
         Ok(()) => 0,
         Err(fault) => {
-            let _ = tell(err, &fault);
+            let _ = tell(err, &fault, reasons);
             1
         }
     }
@@ -63,26 +64,29 @@ pub fn compact<S: Shelf, R: Threads + Wait + Sync, O: Write, E: Write + Send>(
     ensures quiet { result ≡ 0 → IsFalse options.progress → Keeps (E.contents err.old) (E.contents err.new) }
 {
     let done = compact_to(rt, alloc, shelf, options, out, err);
-    status_of(done, err)
+    status_of(done, None, err)
 }
 
-/// Compacts a folder of the system.
+/// Compacts a folder of the system, under its lock.
 #[tactic(auto, using(crate::proofs::Quiet::keeps_same))]
 fn obey<R: Threads + Wait + Sync, O: Write, E: Write + Send>(
     rt: &R,
     files: HostRuntime,
     line: &CompactLine<'_>,
+    reasons: &Reasons,
     out: &mut O,
     err: &mut E,
 ) -> Result<(), CompactFault>
     ensures quiet { IsFalse line.now.options.progress → Keeps (E.contents err.old) (E.contents err.new) }
 {
     let alloc = files.alloc();
-    let mut shelf = open_shelf(files, line.path)?;
+    let folder = open_held(rt, files, line.path, LockKind::Exclusive, reasons)?;
+    let mut shelf = FileShelf::over(folder);
     compact_to(rt, alloc, &mut shelf, line.options, out, err)
 }
 
-/// Does what a line asks of a folder of the system, and answers the exit status.
+/// Does what a line asks of a folder of the system, and answers the exit status. `Locked` where
+/// another program has the folder open.
 #[tactic(auto, using(crate::proofs::Quiet::quietly))]
 pub fn run<R: Threads + Wait + Sync, O: Write, E: Write + Send>(
     rt: &R,
@@ -94,6 +98,10 @@ pub fn run<R: Threads + Wait + Sync, O: Write, E: Write + Send>(
     ensures status { result ≤ 1 }
     ensures quiet { result ≡ 0 → IsFalse line.now.options.progress → Keeps (E.contents err.old) (E.contents err.new) }
 {
-    let done = obey(rt, files, line, out, err);
-    status_of(done, err)
+    let reasons = match Reasons::new(files.alloc()) {
+        Ok(reasons) => reasons,
+        Err(fault) => return status_of(Err(CompactFault::from(fault)), None, err),
+    };
+    let done = obey(rt, files, line, &reasons, out, err);
+    status_of(done, Some(&reasons), err)
 }

@@ -10,7 +10,7 @@ ghost use Rattle.lsm_directory.specs.DirectoryFault.{fault_line, fault_text, fil
 use crate::commands::perform;
 use crate::directory_fault::DirectoryFault;
 use crate::request::Request;
-use crate::second_lines::{write_file_of, write_reason_of, write_table};
+use crate::second_lines::{write_meaning, write_reason_of, write_table};
 use lsm_commands::DirectoryCommand;
 use lsm_folder::Reasons;
 use lsm_table::{Registry, Shelf};
@@ -70,8 +70,8 @@ fn write_named<E: Write>(err: &mut E, fault: &DirectoryFault, names_files: bool)
     }
 }
 
-/// Writes the line of a fault, and what stands behind it: the file whose table is refused, where
-/// the line did not name it, and what the system answered; and flushes.
+/// Writes the line of a fault, and what stands behind it: what it means, where the line did not name
+/// the file whose table is refused, and what the system answered; and flushes.
 fn tell<E: Write>(
     err: &mut E,
     fault: &DirectoryFault,
@@ -80,7 +80,7 @@ fn tell<E: Write>(
 ) -> io::Result<()> {
     write_named(err, fault, names_files)?;
     if !names_files {
-        write_file_of(err, fault)?;
+        write_meaning(err, fault)?;
     }
     if let Some(reasons) = reasons {
         write_reason_of(err, fault, reasons)?;

@@ -55,21 +55,25 @@ pub(crate) fn write_reason_of<E: Write>(
     }
 }
 
-/// Writes the line that names the file whose table is refused, if that is one's.
-pub(crate) fn write_file_of<E: Write>(err: &mut E, fault: &DirectoryFault) -> io::Result<()> {
+/// Writes what a fault means, on a line of its own, where there is more to say: that another program
+/// has the folder open, or the file whose table is refused.
+pub(crate) fn write_meaning<E: Write>(err: &mut E, fault: &DirectoryFault) -> io::Result<()> {
+    if let DirectoryFault::Locked = fault {
+        return err.write_all(b"another program has the folder open\n");
+    }
     match fault.file() {
         Some(number) => write_file_line(err, number),
         None => Ok(()),
     }
 }
 
-/// Writes what stands behind the line of a fault: the file whose table is refused, and what the
-/// system last answered where the refusal is 9 or 10.
+/// Writes what stands behind the line of a fault: what it means, and what the system last answered
+/// where the refusal is 9 or 10.
 pub fn write_second_lines<E: Write>(
     err: &mut E,
     fault: &DirectoryFault,
     reasons: &Reasons,
 ) -> io::Result<()> {
-    write_file_of(err, fault)?;
+    write_meaning(err, fault)?;
     write_reason_of(err, fault, reasons)
 }

@@ -56,7 +56,7 @@ none_left rs i h cut = subst (λ (ys : List Reply). Has ys cut.0) (drop_all i rs
 created_history : (publisher : Known) (pinners : List Known) → history_of (created_state usual publisher pinners) ≡ nothing
 created_history publisher pinners = refl
 
-pub is_played : (honest : Type 0) (commands : List Command) (replies : List Reply) (was mid now : Told) (before after : Held) → IsNew before was mid
+pub is_played : (honest : Type 0) (commands : List Command) (replies : List Reply) (was mid now : Told) (before after : Held) → IsNew 1 before was mid
     → ((jobs : List Work) × (results : List Done) × AreReplies (IsStep honest) commands replies (stage_of before mid) record { state = after; told = now; jobs = jobs; results = results })
     → ((t : History) × AreReplies (IsAnswered honest) commands replies (history_of before) t × IsOf honest t after)
     → ArePlayed honest commands replies was

@@ -14,7 +14,7 @@ use Rattle.lsm_script.specs.declared.reply.Reply.{Reply}
 use Rattle.lsm_writer.specs.Starting.{IsNew}
 use Rattle.lsm_writer.specs.WriterFault.{of_shelf}
 use Rattle.lsm_writer.specs.declared.writer_fault.WriterFault.{WriterFault}
-use Rattle.lsm_writer.specs.declared.writer_fault.WriterFault.TheVariants.{OutOfMemory, Read, Write, BadLine, Directory, State}
+use Rattle.lsm_writer.specs.declared.writer_fault.WriterFault.TheVariants.{OutOfMemory, Read, Write, BadLine, Directory, LostCurrent, UnflushedLog, State}
 use Rattle.lsm_script_lines.specs.CommandLine.{IsFirstBadLine, IsScript}
 use Rattle.lsm_script_lines.specs.ReplyText.{replies_text}
 
@@ -27,7 +27,7 @@ nothing = record { entries = []; last = 0; snapshots = [] }
 pub record ArePlayed (honest : Type 0) (commands : List Command) (replies : List Reply) (was : Told) : Type 0 where
   pub before : Held
   pub mid : Told
-  pub created : IsNew before was mid
+  pub created : IsNew 1 before was mid
   pub after : Stage
   pub steps : AreReplies (IsStep honest) commands replies (stage_of before mid) after
   pub history : History
@@ -69,8 +69,10 @@ abbrev pub IsTextFault : List ℕ → WriterFault → Type 0
 IsTextFault text OutOfMemory = ⊤
 IsTextFault text Read = ⊥
 IsTextFault text Write = ⊥
-IsTextFault text (BadLine i) = IsFirstBadLine text i
+IsTextFault text (BadLine i slip) = IsFirstBadLine text i
 IsTextFault text (Directory fault) = ⊥
+IsTextFault text (LostCurrent highest) = ⊥
+IsTextFault text (UnflushedLog n) = ⊥
 IsTextFault text (State fault) = ⊥
 
 -- why a text is not read: the last read of its stream failed, or it has more than 64 MiB
@@ -86,8 +88,10 @@ abbrev pub IsPlayFault : List Command → WriterFault → Type 0
 IsPlayFault commands OutOfMemory = ⊤
 IsPlayFault commands Read = ⊥
 IsPlayFault commands Write = (replies : List Reply) × ArePlayedInMemory commands replies
-IsPlayFault commands (BadLine i) = ⊥
+IsPlayFault commands (BadLine i slip) = ⊥
 IsPlayFault commands (Directory fault) = IsUncreated (Directory fault)
+IsPlayFault commands (LostCurrent highest) = ⊥
+IsPlayFault commands (UnflushedLog n) = ⊥
 IsPlayFault commands (State fault) = ⊥
 
 -- What a fault says: the text is no script, or is not read; or it is one.

@@ -25,7 +25,7 @@ fn script_of(alloc: Global, text: &[u8]) -> Result<Vec<Command>, WriterFault>
     'lines: while !rest.is_empty() {
         let (line, after) = first_line(rest);
         let Some(command) = command_in(alloc, line)? else {
-            return Err(WriterFault::BadLine(count + 1));
+            return Err(WriterFault::BadLine(count + 1, None));
         };
         commands.push(command)?;
         rest = after;

@@ -21,13 +21,15 @@ fn explain<E: Write>(err: &mut E, fault: &WriterFault) -> io::Result<()>
 {
     match fault {
         WriterFault::Read => writeln!(err, "the input could not be read, or has more than 64 MiB"),
-        WriterFault::BadLine(line) => writeln!(
+        WriterFault::BadLine(line, _) => writeln!(
             err,
             "line {line} is none of the commands that `lsm script --help` lists, with one space between words, and keys and values in hex; `.` stands for no bytes"
         ),
         WriterFault::OutOfMemory
         | WriterFault::Write
         | WriterFault::Directory(_)
+        | WriterFault::LostCurrent(_)
+        | WriterFault::UnflushedLog(_)
         | WriterFault::State(_) => Ok(()),
     }
 }

@@ -9,7 +9,8 @@ mod streams;
 
 use lsm_commands::{DirectoryLine, directory_asked, refuse_words, run};
 use lsm_compactor::{CompactLine, compacting_asked};
-use lsm_directory::{Request, open_folder, refuse_shelf};
+use lsm_directory::{Request, open_folder, refuse};
+use lsm_folder::Reasons;
 use lsm_script_lines::{Watched, script, script_asked};
 use lsm_writer::{WritingLine, writing_asked};
 use std::env::{self, Env};
@@ -28,9 +29,10 @@ fn words_of(rt: &(impl Env + AllocGlobal)) -> io::Result<Vec<String>> {
 /// Does what words ask of a folder.
 fn ask_folder(waits: &impl Wait, rt: HostRuntime, line: &DirectoryLine<'_>) -> io::Result<u8> {
     let mut err = rt.stderr();
-    let (mut shelf, files) = match open_folder(waits, rt.clone()?, line.path, &line.command) {
+    let reasons = Reasons::new(rt.alloc())?;
+    let (mut shelf, files) = match open_folder(waits, rt.clone()?, line.path, &reasons) {
         Ok(opened) => opened,
-        Err(fault) => return Ok(refuse_shelf(fault, &mut err)),
+        Err(fault) => return Ok(refuse(&fault, &reasons, &mut err)),
     };
     let mut out = BufWriter::new(rt.alloc(), rt.stdout())?;
     let request = Request {
@@ -38,6 +40,7 @@ fn ask_folder(waits: &impl Wait, rt: HostRuntime, line: &DirectoryLine<'_>) -> i
         form: line.form,
         files: &files,
         progress: line.progress,
+        reasons: Some(&reasons),
     };
     Ok(lsm_directory::run(waits, rt.alloc(), &mut shelf, &request, &mut out, &mut err))
 }

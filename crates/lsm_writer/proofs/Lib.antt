@@ -3,5 +3,11 @@ mod LineLaws
 mod BatchLaws
 mod OneBatch
 mod Words
+mod KindLaws
+mod NameLaws
+mod Looked
 mod Outcomes
+mod Numbers
+mod SpareFiles
+mod SpareLaws
 pub mod CallerLemmas

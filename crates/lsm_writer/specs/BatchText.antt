@@ -6,7 +6,7 @@ use Rattle.lsm_commands.specs.EntryList.{lines_of}
 use Rattle.lsm_commands.specs.Spelling.{IsWord}
 use Rattle.lsm_commands.specs.declared.form.Form.{Form}
 use Rattle.lsm_writer.specs.declared.writer_fault.WriterFault.{WriterFault}
-use Rattle.lsm_writer.specs.declared.writer_fault.WriterFault.TheVariants.{OutOfMemory, Read, Write as WriteFault, BadLine, Directory, State}
+use Rattle.lsm_writer.specs.declared.writer_fault.WriterFault.TheVariants.{OutOfMemory, Read, Write as WriteFault, BadLine, Directory, LostCurrent, UnflushedLog, State}
 
 -- what stands after the key: `=` (61) and the new value, or `!`
 abbrev pub IsValuePart : Form → List ℕ → Option (List ℕ) → Type 0
@@ -47,6 +47,8 @@ abbrev pub IsTextFault : Form → List ℕ → WriterFault → Type 0
 IsTextFault form text OutOfMemory = ⊤
 IsTextFault form text Read = ⊤
 IsTextFault form text WriteFault = ⊥
-IsTextFault form text (BadLine i) = IsFirstBadLine form text i
+IsTextFault form text (BadLine i slip) = IsFirstBadLine form text i
 IsTextFault form text (Directory fault) = ⊥
+IsTextFault form text (LostCurrent highest) = ⊥
+IsTextFault form text (UnflushedLog n) = ⊥
 IsTextFault form text (State fault) = ⊥

@@ -1,6 +1,9 @@
 pub mod WritingLine
 pub mod BatchText
+pub mod Names
+pub mod Preparing
 pub mod WriterFault
 pub mod MergeText
 pub mod Starting
 pub mod Ingesting
+pub mod Cleaning

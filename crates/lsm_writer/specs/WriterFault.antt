@@ -3,19 +3,18 @@ use Rattle.std.specs.Prelude.{ℕ, List, ◌++◌, codes, decimal, Option, None,
 use Rattle.lsm_shelf.specs.declared.shelf_fault.ShelfFault.{ShelfFault}
 use Rattle.lsm_table.specs.declared.read_fault.ReadFault.{ReadFault}
 use Rattle.lsm_table.specs.declared.read_fault.ReadFault.TheVariants as read_faults
-use Rattle.lsm_journal.specs.declared.recover_fault.RecoverFault.TheVariants.{Shelf as ShelfOfManifest}
+use Rattle.lsm_journal.specs.declared.open_fault.OpenFault.{OpenFault}
+use Rattle.lsm_journal.specs.declared.recover_fault.RecoverFault.{RecoverFault}
 use Rattle.lsm_commands.specs.FaultText.{refusal_text, table_field}
 use Rattle.lsm_commands.specs.declared.streams.InputFault.{InputFault}
 use Rattle.lsm_commands.specs.declared.streams.InputFault.TheVariants as input_faults
 use Rattle.lsm_directory.specs.DirectoryFault as directory
 use Rattle.lsm_directory.specs.declared.directory_fault.DirectoryFault.TheVariants as directory_faults
 use Rattle.lsm_state.specs.StateFault as state
-use Rattle.lsm_state.specs.declared.open_fault.OpenFault.{OpenFault}
-use Rattle.lsm_state.specs.declared.open_fault.OpenFault.TheVariants as open_faults
 use Rattle.lsm_state.specs.declared.state_fault.StateFault.{StateFault}
 use Rattle.lsm_state.specs.declared.state_fault.StateFault.TheVariants as state_faults
 use Rattle.lsm_writer.specs.declared.writer_fault.WriterFault.{WriterFault}
-use Rattle.lsm_writer.specs.declared.writer_fault.WriterFault.TheVariants.{OutOfMemory, Read, Write, BadLine, Directory, State}
+use Rattle.lsm_writer.specs.declared.writer_fault.WriterFault.TheVariants.{OutOfMemory, Read, Write, BadLine, Directory, LostCurrent, UnflushedLog, State}
 
 -- ---- names of refusals
 
@@ -26,14 +25,13 @@ of_input input_faults.TooLong = Read
 of_input input_faults.OutOfMemory = OutOfMemory
 
 abbrev pub of_shelf : ShelfFault → WriterFault
-of_shelf fault = Directory (directory_faults.Manifest (ShelfOfManifest fault))
+of_shelf fault = Directory (directory_faults.Shelf fault)
+
+abbrev pub of_manifest : RecoverFault → WriterFault
+of_manifest fault = Directory (directory_faults.Manifest fault)
 
 abbrev pub of_open : OpenFault → WriterFault
-of_open open_faults.OutOfMemory = Directory directory_faults.OutOfMemory
-of_open (open_faults.Shelf fault) = of_shelf fault
-of_open (open_faults.Recover fault) = Directory (directory_faults.Manifest fault)
-of_open (open_faults.Check fault) = Directory (directory_faults.Tables fault)
-of_open open_faults.NumbersSpent = State state_faults.NumbersSpent
+of_open fault = Directory (directory.of_open fault)
 
 -- ---- what is printed
 
@@ -70,6 +68,8 @@ abbrev pub fault_text : WriterFault → Option (List ℕ)
 fault_text OutOfMemory = Some (refusal_text 1 (codes "OutOfMemory") None)
 fault_text Read = Some (codes "read fault")
 fault_text Write = Some (codes "write fault")
-fault_text (BadLine line) = Some (codes "bad line " ++ decimal line)
+fault_text (BadLine line slip) = Some (codes "bad line " ++ decimal line)
 fault_text (Directory fault) = directory.fault_text fault
+fault_text (LostCurrent highest) = Some (refusal_text 10 (codes "Missing") None)
+fault_text (UnflushedLog number) = Some (refusal_text 51 (codes "UnflushedLog") (Some number))
 fault_text (State fault) = Some (state_text fault)

@@ -3,6 +3,7 @@
 ghost use Rattle.std.specs.Prelude.{◌≡◌, ◌++◌, ◌∷◌, ◌≤◌, [], IfErr, IfOk, IfSome, OnOk, length};
 ghost use Rattle.lsm_writer.specs.BatchText.{IsBatchText, IsTextFault};
 
+use crate::line_slip::LineSlip;
 use crate::write_line::write_in;
 use crate::writer_fault::WriterFault;
 use lsm_batch::{Batch, Write};
@@ -21,7 +22,8 @@ fn push(batch: &mut Batch, write: Write) -> Result<(), AllocError>
     }
 }
 
-/// The batch that a text spells. `BadLine` with the number of the first line that spells no write.
+/// The batch that a text spells. `BadLine` with the number of the first line that spells no write,
+/// and where it stops being one.
 #[tactic(auto, using(crate::proofs::BatchLaws::read_start, crate::proofs::BatchLaws::read_more, crate::proofs::BatchLaws::read_all, crate::proofs::BatchLaws::read_bad))]
 pub(crate) fn batch_of(alloc: Global, form: Form, text: &[u8]) -> Result<Batch, WriterFault>
     ensures batch { IfOk result (λ b. IsBatchText form text.now b) }
@@ -33,7 +35,7 @@ pub(crate) fn batch_of(alloc: Global, form: Form, text: &[u8]) -> Result<Batch, 
     'lines: while !rest.is_empty() {
         let (line, after) = first_line(rest);
         let Some(write) = write_in(alloc, form, line)? else {
-            return Err(WriterFault::BadLine(count + 1));
+            return Err(WriterFault::BadLine(count + 1, LineSlip::of(form, line)));
         };
         push(&mut batch, write)?;
         rest = after;
@@ -46,7 +48,7 @@ pub(crate) fn batch_of(alloc: Global, form: Form, text: &[u8]) -> Result<Batch, 
 /// is deleted, KEY and VALUE words of this form. Whether it may come in is not judged here.
 ///
 /// `Read` where a read fails, or where there are more than 64 MiB; `BadLine` with the number of the
-/// first line of another form; `OutOfMemory`.
+/// first line of another form, and where that is seen; `OutOfMemory`.
 pub fn read_batch<I: Read>(alloc: Global, form: Form, input: &mut I) -> Result<Batch, WriterFault>
     ensures batch { IfOk result (λ b. IfSome (I.remaining input.old) (λ text. IsBatchText form text b)) }
     ensures limit { OnOk result (IfSome (I.remaining input.old) (λ text. length text ≤ 67108864)) }

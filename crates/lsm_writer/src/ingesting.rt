@@ -9,6 +9,7 @@ ghost use Rattle.lsm_writer.specs.Starting.{usual};
 ghost use Rattle.lsm_writer.specs.declared.writer_fault.WriterFault.TheVariants.{Write as WriteFault};
 
 use crate::ends::{Ends, make_ends};
+use crate::start::Prepared;
 use crate::starting::start;
 use crate::writer_fault::WriterFault;
 use lsm_batch::Batch;
@@ -34,7 +35,7 @@ fn bring_in_as<N: Boarded, S: Shelf, R: Wait, O: Write>(
     rt: &R,
     alloc: Global,
     shelf: &mut S,
-    is_new: bool,
+    prepared: &Prepared,
     ends: Ends<S>,
     batch: &Batch,
     out: &mut O,
@@ -42,11 +43,11 @@ fn bring_in_as<N: Boarded, S: Shelf, R: Wait, O: Write>(
     requires here { (S.told shelf.old).place ≡ N.place }
     requires named { arc_value ends.registry ≡ N.registry }
     requires board { IsNewBoard N.board usual ends.publisher ends.pinners.items }
-    ensures done { OnOk result (IsBroughtIn S.honest is_new batch.now (S.told shelf.old) (S.told shelf.new) (O.contents out.old) (O.contents out.new)) }
-    ensures fault { IfErr result (λ e. IsIngestFault (λ number image. (r : S.Receipt) × S.is_of N.place r × (S.Receipt.number r ≡ number) × (S.Receipt.image r ≡ image)) (S.refuses N.place) S.honest is_new batch.now e (S.told shelf.old) (S.told shelf.new)) }
+    ensures done { OnOk result (IsBroughtIn S.honest prepared.now.start prepared.now.logs.items batch.now (S.told shelf.old) (S.told shelf.new) (O.contents out.old) (O.contents out.new)) }
+    ensures fault { IfErr result (λ e. IsIngestFault (λ number image. (r : S.Receipt) × S.is_of N.place r × (S.Receipt.number r ≡ number) × (S.Receipt.image r ≡ image)) (S.refuses N.place) S.honest prepared.now.start prepared.now.logs.items batch.now e (S.told shelf.old) (S.told shelf.new)) }
     ensures left { IfErr result (λ e. e ≢ WriteFault → Keeps (O.contents out.old) (O.contents out.new)) }
 {
-    let mut state: State<N, S> = start(rt, alloc, shelf, is_new, ends)?;
+    let mut state: State<N, S> = start(rt, alloc, shelf, prepared, ends)?;
     let ingested = state.ingest(rt, alloc, shelf, batch)?;
     match reply(out, ingested) {
         Ok(()) => Ok(()),
@@ -60,14 +61,14 @@ pub(crate) fn bring_in<S: Shelf, R: Wait, O: Write>(
     rt: &R,
     alloc: Global,
     shelf: &mut S,
-    is_new: bool,
+    prepared: &Prepared,
     batch: &Batch,
     out: &mut O,
 ) -> Result<(), WriterFault>
-    ensures done { OnOk result (IsBroughtIn S.honest is_new batch.now (S.told shelf.old) (S.told shelf.new) (O.contents out.old) (O.contents out.new)) }
-    ensures fault { IfErr result (λ e. IsIngestFault (λ number image. (r : S.Receipt) × S.is_of (S.told shelf.old).place r × (S.Receipt.number r ≡ number) × (S.Receipt.image r ≡ image)) (S.refuses (S.told shelf.old).place) S.honest is_new batch.now e (S.told shelf.old) (S.told shelf.new)) }
+    ensures done { OnOk result (IsBroughtIn S.honest prepared.now.start prepared.now.logs.items batch.now (S.told shelf.old) (S.told shelf.new) (O.contents out.old) (O.contents out.new)) }
+    ensures fault { IfErr result (λ e. IsIngestFault (λ number image. (r : S.Receipt) × S.is_of (S.told shelf.old).place r × (S.Receipt.number r ≡ number) × (S.Receipt.image r ≡ image)) (S.refuses (S.told shelf.old).place) S.honest prepared.now.start prepared.now.logs.items batch.now e (S.told shelf.old) (S.told shelf.new)) }
     ensures left { IfErr result (λ e. e ≢ WriteFault → Keeps (O.contents out.old) (O.contents out.new)) }
 {
     let ends = make_ends(alloc)?;
-    bring_in_as::<Brand, S, R, O>(rt, alloc, shelf, is_new, ends, batch, out)
+    bring_in_as::<Brand, S, R, O>(rt, alloc, shelf, prepared, ends, batch, out)
 }

@@ -1,50 +1,39 @@
 //! One run of a command that writes a directory.
 
-ghost use Rattle.std.specs.Prelude.{◌≡◌, ◌≢◌, ◌≤◌, ◌∷◌, [], IfErr, IfOk, OnErr, OnOk};
+ghost use Rattle.std.specs.Prelude.{◌≡◌, ◌≢◌, ◌≤◌, OnErr, OnOk};
 ghost use Rattle.std.specs.Io.KnownBytes.{Keeps};
-ghost use Rattle.lsm_folder.specs.Calls.{opened};
-ghost use Rattle.lsm_folder.specs.Place.{IsAtPath};
-ghost use Rattle.lsm_folder.specs.SystemFolder.{system_calls, system_place};
-ghost use Rattle.lsm_shelf.specs.FileShelf.{file_told, folder_of};
-ghost use Rattle.lsm_shelf.specs.Told.{NotNamed, fresh};
-ghost use Rattle.lsm_shelf.specs.declared.shelf_fault.ShelfFault.{ShelfFault};
+ghost use Rattle.lsm_folder.specs.Calls.{AreHonest};
+ghost use Rattle.lsm_writer.specs.Cleaning.{IsCleaned, IsUncleaned};
 ghost use Rattle.lsm_writer.specs.Ingesting.{IsBroughtIn, IsRefused};
-ghost use Rattle.lsm_writer.specs.WriterFault.{of_shelf};
+ghost use Rattle.lsm_writer.specs.declared.writer_fault.WriterFault.{WriterFault};
 
 use crate::batch_text::read_batch;
+use crate::cleaning::{clean_folder, refused_by};
+use crate::ingest_options::IngestOptions;
 use crate::ingesting::bring_in;
+use crate::preparing::prepare;
+use crate::start::Prepared;
+use crate::telling::{Circumstances, tell};
 use crate::writer_fault::WriterFault;
 use crate::writing_command::WritingCommand;
 use crate::writing_line::WritingLine;
 use lsm_batch::Batch;
 use lsm_commands::Form;
-use lsm_shelf::{FileShelf, SystemShelf};
+use lsm_folder::{FolderCalls, Reasons, SystemFolder};
+use lsm_shelf::FileShelf;
 use lsm_table::Shelf;
 use std::alloc::Global;
 use std::fs;
 use std::io::{self, Write};
 use std::sync::Wait;
 
-/// Writes the line of a fault, and on a second line what it may mean of the file; and flushes.
-fn tell<E: Write>(err: &mut E, fault: &WriterFault) -> io::Result<()> {
-    writeln!(err, "{fault}")?;
-    match fault {
-        WriterFault::Read => writeln!(err, "the file could not be read, or has more than 64 MiB")?,
-        WriterFault::BadLine(line) => writeln!(
-            err,
-            "line {line} is not of the form KEY=VALUE or KEY!, in hex, or as text with --text; `.` stands for no bytes"
-        )?,
-        WriterFault::OutOfMemory
-        | WriterFault::Write
-        | WriterFault::Directory(_)
-        | WriterFault::State(_) => {}
-    }
-    err.flush()
-}
-
-/// The exit status of a command, and the line of its fault.
+/// The exit status of a command, and the lines of its fault.
 #[tactic(auto, using(crate::proofs::Outcomes::keeps_itself))]
-fn status_of<E: Write>(done: Result<(), WriterFault>, err: &mut E) -> u8
+fn status_of<E: Write>(
+    done: Result<(), WriterFault>,
+    circumstances: Circumstances<'_>,
+    err: &mut E,
+) -> u8
     ensures ok { OnOk done (result ≡ 0) }
     ensures err { OnErr done (result ≡ 1) }
     ensures quiet { result ≡ 0 → Keeps (E.contents err.old) (E.contents err.new) }
@@ -52,30 +41,62 @@ fn status_of<E: Write>(done: Result<(), WriterFault>, err: &mut E) -> u8
     match done {
         Ok(()) => 0,
         Err(fault) => {
-            let _ = tell(err, &fault);
+            let _ = tell(err, &fault, circumstances);
             1
         }
     }
 }
 
-/// Begins a database on the shelf, or opens the one that is there, brings a batch in, writes `file
-/// N first F last L`, and answers the exit status: 0 where it is done, and 1 where it is refused. A
-/// fault is one line on `err`.
+/// Begins a database on the shelf, or opens the one that is there, as `prepare` found it, brings a
+/// batch in, writes `file N first F last L`, and answers the exit status: 0 where it is done, and 1
+/// where it is refused. A fault is one line on `err`, and may have more behind it that say what it
+/// means.
+///
+/// A database that is there is not opened beside a log that LevelDB has not flushed, if such logs
+/// were looked at: `UnflushedLog` with the number of the first one.
 pub fn ingest<S: Shelf, R: Wait, O: Write, E: Write>(
     rt: &R,
     alloc: Global,
     shelf: &mut S,
-    is_new: bool,
+    prepared: &Prepared,
     batch: &Batch,
     out: &mut O,
     err: &mut E,
 ) -> u8
-    ensures done { result ≡ 0 → IsBroughtIn S.honest is_new batch.now (S.told shelf.old) (S.told shelf.new) (O.contents out.old) (O.contents out.new) }
-    ensures refused { result ≢ 0 → (result ≡ 1) × ((fault : WriterFault) × IsRefused (λ number image. (r : S.Receipt) × S.is_of (S.told shelf.old).place r × (S.Receipt.number r ≡ number) × (S.Receipt.image r ≡ image)) (S.refuses (S.told shelf.old).place) S.honest is_new batch.now fault (S.told shelf.old) (S.told shelf.new) (O.contents out.old) (O.contents out.new)) }
+    ensures done { result ≡ 0 → IsBroughtIn S.honest prepared.now.start prepared.now.logs.items batch.now (S.told shelf.old) (S.told shelf.new) (O.contents out.old) (O.contents out.new) }
+    ensures refused { result ≢ 0 → (result ≡ 1) × ((fault : WriterFault) × IsRefused (λ number image. (r : S.Receipt) × S.is_of (S.told shelf.old).place r × (S.Receipt.number r ≡ number) × (S.Receipt.image r ≡ image)) (S.refuses (S.told shelf.old).place) S.honest prepared.now.start prepared.now.logs.items batch.now fault (S.told shelf.old) (S.told shelf.new) (O.contents out.old) (O.contents out.new)) }
     ensures quiet { result ≡ 0 → Keeps (E.contents err.old) (E.contents err.new) }
 {
-    let done = bring_in(rt, alloc, shelf, is_new, batch, out);
-    status_of(done, err)
+    let done = bring_in(rt, alloc, shelf, prepared, batch, out);
+    let circumstances = Circumstances {
+        writes: batch.writes(),
+        reasons: None,
+    };
+    status_of(done, circumstances, err)
+}
+
+/// Takes the lock of a folder, opens its database to read, removes the files that no version needs
+/// any more, and answers the exit status: manifests other than the one that `CURRENT` names,
+/// temporary files, and tables that the version does not have. The name of each is written as a
+/// line, in the order of names. A fault is one line on `err`, and may have more behind it.
+///
+/// `Locked` where another program has the folder open; the refusals of opening it, and then nothing
+/// is removed; a removal that the folder refuses is the last one.
+pub fn clean<C: FolderCalls + Send + Sync, R: Wait, O: Write, E: Write>(
+    rt: &R,
+    alloc: Global,
+    folder: &mut C,
+    out: &mut O,
+    err: &mut E,
+) -> u8
+where
+    C::Mark: Send + Sync,
+    ensures done { result ≡ 0 → IsCleaned (AreHonest C.calls) (C.place folder.old) (C.calls folder.old) (C.calls folder.new) (O.contents out.old) (O.contents out.new) }
+    ensures refused { result ≢ 0 → (result ≡ 1) × ((fault : WriterFault) × IsUncleaned (AreHonest C.calls) (C.place folder.old) fault (C.calls folder.old) (C.calls folder.new) (O.contents out.old) (O.contents out.new)) }
+    ensures quiet { result ≡ 0 → Keeps (E.contents err.old) (E.contents err.new) }
+{
+    let done = clean_folder(rt, alloc, folder, out);
+    status_of(done, Circumstances::none(), err)
 }
 
 /// The batch of the file of this path, in this form. `Read` where it cannot be opened.
@@ -87,45 +108,74 @@ fn batch_at(files: &HostRuntime, form: Form, path: &str) -> Result<Batch, Writer
     }
 }
 
-/// Whether no file `CURRENT` is found in the folder of this path.
-fn is_without_current(files: &HostRuntime, path: &str) -> Result<bool, WriterFault> {
-    let current = format!(in files.alloc(); "{path}/CURRENT")?;
-    match fs::exists(files, current.as_str()) {
-        Ok(is_there) => Ok(!is_there),
-        Err(error) if error.kind() == io::ErrorKind::OutOfMemory => Err(WriterFault::OutOfMemory),
-        Err(_) => Ok(false),
+/// The system's folder of this path. What the system answers where it refuses a call of it is kept
+/// in `reasons`.
+fn open_noting(
+    files: HostRuntime,
+    path: &str,
+    reasons: &Reasons,
+) -> Result<SystemFolder<HostRuntime>, WriterFault> {
+    match SystemFolder::open_noting(files, path, reasons) {
+        Ok(folder) => Ok(folder),
+        Err(fault) => Err(refused_by(fault)),
     }
 }
 
-/// Does what a line asks of a folder of the system.
-fn obey<R: Wait, O: Write>(
+/// Brings a batch into the system's folder of this path.
+fn ingest_at<R: Wait, O: Write>(
     rt: &R,
     files: HostRuntime,
-    line: &WritingLine<'_>,
+    path: &str,
+    options: IngestOptions,
+    batch: &Batch,
+    reasons: &Reasons,
     out: &mut O,
 ) -> Result<(), WriterFault> {
     let alloc = files.alloc();
-    match line.command {
-        WritingCommand::Ingest(file, form) => {
-            let batch = batch_at(&files, form, file)?;
-            let is_new = is_without_current(&files, line.path)?;
-            let mut shelf = open_shelf(files, line.path)?;
-            bring_in(rt, alloc, &mut shelf, is_new, &batch, out)
-        }
-    }
+    let mut folder = open_noting(files, path, reasons)?;
+    let prepared = prepare(rt, alloc, &mut folder, options)?;
+    let mut shelf = FileShelf::over(folder);
+    bring_in(rt, alloc, &mut shelf, &prepared, batch, out)
 }
 
-/// A shelf on the system's folder of this path.
-pub fn open_shelf(files: HostRuntime, path: &str) -> Result<SystemShelf<HostRuntime>, WriterFault>
-    ensures calls { IfOk result (λ s. system_calls (folder_of s) ≡ opened ∷ []) }
-    ensures place { IfOk result (λ s. IsAtPath path.now (system_place (folder_of s))) }
-    ensures fresh { IfOk result (λ s. file_told system_place s ≡ fresh (system_place (folder_of s))) }
-    ensures fault { IfErr result (λ e. (fault : ShelfFault) × (e ≡ of_shelf fault) × NotNamed fault) }
+/// Brings the batch of the file of this path into the system's folder of that path, and answers the
+/// exit status.
+fn run_ingest<R: Wait, O: Write, E: Write>(
+    rt: &R,
+    files: HostRuntime,
+    path: &str,
+    file: &str,
+    options: IngestOptions,
+    reasons: &Reasons,
+    out: &mut O,
+    err: &mut E,
+) -> u8
+    ensures status { result ≤ 1 }
+    ensures quiet { result ≡ 0 → Keeps (E.contents err.old) (E.contents err.new) }
 {
-    match FileShelf::open(files, path) {
-        Ok(shelf) => Ok(shelf),
-        Err(fault) => Err(WriterFault::of_shelf(fault)),
-    }
+    let batch = match batch_at(&files, options.form, file) {
+        Ok(batch) => batch,
+        Err(fault) => return status_of(Err(fault), Circumstances::none(), err),
+    };
+    let done = ingest_at(rt, files, path, options, &batch, reasons, out);
+    let circumstances = Circumstances {
+        writes: batch.writes(),
+        reasons: Some(reasons),
+    };
+    status_of(done, circumstances, err)
+}
+
+/// Cleans the system's folder of this path.
+fn clean_at<R: Wait, O: Write>(
+    rt: &R,
+    files: HostRuntime,
+    path: &str,
+    reasons: &Reasons,
+    out: &mut O,
+) -> Result<(), WriterFault> {
+    let alloc = files.alloc();
+    let mut folder = open_noting(files, path, reasons)?;
+    clean_folder(rt, alloc, &mut folder, out)
 }
 
 /// Does what a line asks of a folder of the system, and answers the exit status.
@@ -139,6 +189,17 @@ pub fn run<R: Wait, O: Write, E: Write>(
     ensures status { result ≤ 1 }
     ensures quiet { result ≡ 0 → Keeps (E.contents err.old) (E.contents err.new) }
 {
-    let done = obey(rt, files, line, out);
-    status_of(done, err)
+    let reasons = match Reasons::new(files.alloc()) {
+        Ok(reasons) => reasons,
+        Err(_) => return status_of(Err(WriterFault::OutOfMemory), Circumstances::none(), err),
+    };
+    match line.command {
+        WritingCommand::Ingest(file, options) => {
+            run_ingest(rt, files, line.path, file, options, &reasons, out, err)
+        }
+        WritingCommand::Clean => {
+            let done = clean_at(rt, files, line.path, &reasons, out);
+            status_of(done, Circumstances::with(&reasons), err)
+        }
+    }
 }

@@ -1,44 +1,143 @@
 //! The state that a command begins with.
 
-ghost use Rattle.std.specs.Prelude.{◌≡◌, IfErr, IfOk};
+ghost use Rattle.std.specs.Prelude.{◌≡◌, IfErr, IfOk, OnOk};
 ghost use Rattle.std.specs.Arc.{arc_value};
 ghost use Rattle.lsm_state.specs.Making.{IsNewBoard};
-ghost use Rattle.lsm_writer.specs.Starting.{IsStarted, IsStartRefusal, usual};
+ghost use Rattle.lsm_writer.specs.Starting.{IsFlushed, IsNew, IsNotOpened, IsReopened, IsStarted, IsStartRefusal, IsUncreated, IsUnflushed, IsUnopened, OpensBeside, usual};
 
 use crate::ends::Ends;
+use crate::start::{Prepared, Start};
 use crate::writer_fault::WriterFault;
+use lsm_directory::{DirectoryFault, FolderFile, first_unread};
+use lsm_journal::Journal;
 use lsm_slots::Boarded;
 use lsm_state::{Options, State};
 use lsm_table::Shelf;
 use std::alloc::Global;
 use std::sync::Wait;
 
-/// The state of a new database on the shelf, or of the one that is there, with the usual options.
-pub(crate) fn start<N: Boarded, S: Shelf, R: Wait>(
+/// Reads the manifest, and refuses the first log among these that LevelDB would read.
+fn judge_logs<S: Shelf, R: Wait>(
     rt: &R,
     alloc: Global,
     shelf: &mut S,
-    is_new: bool,
+    logs: &[FolderFile],
+) -> Result<(), WriterFault>
+    ensures flushed { OnOk result (IsFlushed logs.now (S.told shelf.old) (S.told shelf.new)) }
+    ensures refused { IfErr result (λ e. IsUnflushed (S.refuses (S.told shelf.old).place) logs.now e (S.told shelf.old) (S.told shelf.new)) }
+    ensures place { OnOk result ((S.told shelf.new).place ≡ (S.told shelf.old).place) }
+{
+    // A journal that nothing is sent through has no use for its limit.
+    let found = Journal::recover(rt, alloc, shelf, u64::MAX)?;
+    match first_unread(logs, found.shape.log, found.shape.prev_log) {
+        Some(number) => Err(WriterFault::UnflushedLog(number)),
+        None => Ok(()),
+    }
+}
+
+/// Refuses the first log among these that is not flushed. Where there is none, the shelf is asked
+/// for nothing.
+fn refuse_unflushed<S: Shelf, R: Wait>(
+    rt: &R,
+    alloc: Global,
+    shelf: &mut S,
+    logs: &[FolderFile],
+) -> Result<(), WriterFault>
+    ensures flushed { OnOk result (IsFlushed logs.now (S.told shelf.old) (S.told shelf.new)) }
+    ensures refused { IfErr result (λ e. IsUnflushed (S.refuses (S.told shelf.old).place) logs.now e (S.told shelf.old) (S.told shelf.new)) }
+    ensures place { OnOk result ((S.told shelf.new).place ≡ (S.told shelf.old).place) }
+{
+    if logs.is_empty() {
+        return Ok(());
+    }
+    judge_logs(rt, alloc, shelf, logs)
+}
+
+/// The state of a new database on the shelf, whose manifest has this number.
+fn create<N: Boarded, S: Shelf, R: Wait>(
+    rt: &R,
+    alloc: Global,
+    shelf: &mut S,
+    number: u64,
     ends: Ends<S>,
 ) -> Result<State<N, S>, WriterFault>
     requires here { (S.told shelf.old).place ≡ N.place }
     requires named { arc_value ends.registry ≡ N.registry }
     requires board { IsNewBoard N.board usual ends.publisher ends.pinners.items }
-    ensures started { IfOk result (λ s. IsStarted S.honest is_new s (S.told shelf.old) (S.told shelf.new)) }
-    ensures refused { IfErr result (λ e. IsStartRefusal (λ number image. (r : S.Receipt) × S.is_of N.place r × (S.Receipt.number r ≡ number) × (S.Receipt.image r ≡ image)) (S.refuses N.place) S.honest is_new e (S.told shelf.old) (S.told shelf.new)) }
+    ensures created { IfOk result (λ s. IsNew number s (S.told shelf.old) (S.told shelf.new)) }
+    ensures refused { IfErr result (λ e. IsUncreated number (S.refuses N.place) e (S.told shelf.old) (S.told shelf.new)) }
+{
+    if number == u64::MAX {
+        return Err(WriterFault::Directory(DirectoryFault::NumbersSpent));
+    }
+    let options = Options::usual();
+    let board = (ends.publisher, ends.pinners);
+    match State::create_under(rt, alloc, shelf, options, ends.registry, board, number) {
+        Ok(state) => Ok(state),
+        Err(fault) => Err(WriterFault::of_shelf(fault)),
+    }
+}
+
+/// The state of the database that is on the shelf.
+fn reopen<N: Boarded, S: Shelf, R: Wait>(
+    rt: &R,
+    alloc: Global,
+    shelf: &mut S,
+    ends: Ends<S>,
+) -> Result<State<N, S>, WriterFault>
+    requires here { (S.told shelf.old).place ≡ N.place }
+    requires named { arc_value ends.registry ≡ N.registry }
+    requires board { IsNewBoard N.board usual ends.publisher ends.pinners.items }
+    ensures opened { IfOk result (λ s. IsReopened S.honest s (S.told shelf.old) (S.told shelf.new)) }
+    ensures refused { IfErr result (λ e. IsUnopened (λ number image. (r : S.Receipt) × S.is_of N.place r × (S.Receipt.number r ≡ number) × (S.Receipt.image r ≡ image)) (S.refuses N.place) S.honest e (S.told shelf.old) (S.told shelf.new)) }
 {
     let options = Options::usual();
-    let registry = ends.registry;
     let board = (ends.publisher, ends.pinners);
-    if is_new {
-        match State::create(rt, alloc, shelf, options, registry, board) {
-            Ok(state) => Ok(state),
-            Err(fault) => Err(WriterFault::of_shelf(fault)),
-        }
-    } else {
-        match State::open(rt, alloc, shelf, options, registry, board) {
-            Ok(state) => Ok(state),
-            Err(fault) => Err(WriterFault::of_open(fault)),
-        }
+    match State::open(rt, alloc, shelf, options, ends.registry, board) {
+        Ok(state) => Ok(state),
+        Err(fault) => Err(WriterFault::of_open(fault)),
+    }
+}
+
+/// The state of the database that is on the shelf, if none of these logs is one that is not
+/// flushed.
+fn open_beside<N: Boarded, S: Shelf, R: Wait>(
+    rt: &R,
+    alloc: Global,
+    shelf: &mut S,
+    logs: &[FolderFile],
+    ends: Ends<S>,
+) -> Result<State<N, S>, WriterFault>
+    requires here { (S.told shelf.old).place ≡ N.place }
+    requires named { arc_value ends.registry ≡ N.registry }
+    requires board { IsNewBoard N.board usual ends.publisher ends.pinners.items }
+    ensures opened { IfOk result (λ s. OpensBeside S.honest logs.now s (S.told shelf.old) (S.told shelf.new)) }
+    ensures refused { IfErr result (λ e. IsNotOpened (λ number image. (r : S.Receipt) × S.is_of N.place r × (S.Receipt.number r ≡ number) × (S.Receipt.image r ≡ image)) (S.refuses N.place) S.honest logs.now e (S.told shelf.old) (S.told shelf.new)) }
+{
+    refuse_unflushed(rt, alloc, shelf, logs)?;
+    match reopen(rt, alloc, shelf, ends) {
+        Ok(state) => Ok(state),
+        Err(fault) => Err(fault),
+    }
+}
+
+/// The state of a new database on the shelf, or of the one that is there, with the usual options.
+/// One that is there is not opened beside a log that is not flushed, if that was looked at.
+pub(crate) fn start<N: Boarded, S: Shelf, R: Wait>(
+    rt: &R,
+    alloc: Global,
+    shelf: &mut S,
+    prepared: &Prepared,
+    ends: Ends<S>,
+) -> Result<State<N, S>, WriterFault>
+    requires here { (S.told shelf.old).place ≡ N.place }
+    requires named { arc_value ends.registry ≡ N.registry }
+    requires board { IsNewBoard N.board usual ends.publisher ends.pinners.items }
+    ensures started { IfOk result (λ s. IsStarted S.honest prepared.now.start prepared.now.logs.items s (S.told shelf.old) (S.told shelf.new)) }
+    ensures refused { IfErr result (λ e. IsStartRefusal (λ number image. (r : S.Receipt) × S.is_of N.place r × (S.Receipt.number r ≡ number) × (S.Receipt.image r ≡ image)) (S.refuses N.place) S.honest prepared.now.start prepared.now.logs.items e (S.told shelf.old) (S.told shelf.new)) }
+{
+    match prepared.start {
+        Start::Open => open_beside(rt, alloc, shelf, &prepared.logs, ends),
+        Start::Begin(number) => create(rt, alloc, shelf, number, ends),
     }
 }

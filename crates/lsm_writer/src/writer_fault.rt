@@ -1,14 +1,16 @@
 //! Why a command that writes a directory ends with status 1.
 
-ghost use Rattle.std.specs.Prelude.{◌≡◌};
-ghost use Rattle.lsm_writer.specs.WriterFault.{fault_text, of_input, of_open, of_shelf};
-ghost use Rattle.lsm_writer.specs.declared.writer_fault.WriterFault.TheVariants.{OutOfMemory, State as StateVariant};
+ghost use Rattle.std.specs.Prelude.{◌≡◌, None, Some, codes};
+ghost use Rattle.lsm_commands.specs.FaultText.{refusal_text};
+ghost use Rattle.lsm_writer.specs.WriterFault.{fault_text, of_input, of_manifest, of_open, of_shelf};
+ghost use Rattle.lsm_writer.specs.declared.writer_fault.WriterFault.TheVariants.{Directory as DirectoryVariant, OutOfMemory, State as StateVariant};
 
+use crate::line_slip::LineSlip;
 use crate::refusals::of_state;
 use lsm_commands::{InputFault, Refusal};
 use lsm_directory::DirectoryFault;
-use lsm_journal::RecoverFault;
-use lsm_state::{OpenFault, StateFault};
+use lsm_journal::{OpenFault, RecoverFault};
+use lsm_state::StateFault;
 use lsm_table::{ShelfFault, TableFault};
 use std::alloc::{AllocError, AllocFailed};
 use std::fmt;
@@ -22,33 +24,53 @@ pub enum WriterFault {
     Read,
     /// A write failed on standard output.
     Write,
-    /// The number of the first bad line, from 1.
-    BadLine(usize),
-    /// The directory could not be begun or opened.
+    /// The number of the first bad line, from 1, and where it stops being one of a batch.
+    BadLine(usize, Option<LineSlip>),
+    /// The directory could not be locked, looked at, begun, opened or cleaned.
     Directory(DirectoryFault),
-    /// The database refused; or no file number was left to open it.
+    /// The folder has no `CURRENT`, but files of a database; its highest manifest, if it has one.
+    LostCurrent(Option<u64>),
+    /// The log of this number is not flushed.
+    UnflushedLog(u64),
+    /// The database refused.
     State(StateFault),
 }
 
 impl WriterFault {
-    /// A refusal of the shelf.
+    /// A refusal of the shelf or of its folder.
     pub fn of_shelf(fault: ShelfFault) -> WriterFault
         ensures { result ≡ of_shelf fault }
     {
-        WriterFault::Directory(DirectoryFault::Manifest(RecoverFault::Shelf(fault)))
+        WriterFault::Directory(DirectoryFault::Shelf(fault))
     }
 
     /// A directory that could not be opened.
     pub fn of_open(fault: OpenFault) -> WriterFault
         ensures { result ≡ of_open fault }
     {
-        match fault {
-            OpenFault::OutOfMemory => WriterFault::Directory(DirectoryFault::OutOfMemory),
-            OpenFault::Shelf(fault) => WriterFault::of_shelf(fault),
-            OpenFault::Recover(fault) => WriterFault::Directory(DirectoryFault::Manifest(fault)),
-            OpenFault::Check(fault) => WriterFault::Directory(DirectoryFault::Tables(fault)),
-            OpenFault::NumbersSpent => WriterFault::State(StateFault::NumbersSpent),
-        }
+        WriterFault::Directory(DirectoryFault::from(fault))
+    }
+}
+
+/// The refusal `10 Missing`.
+fn missing() -> Refusal
+    ensures { refusal_text result.number result.name.now result.field ≡ refusal_text 10 (codes "Missing") None }
+{
+    Refusal {
+        number: 10,
+        name: "Missing",
+        field: None,
+    }
+}
+
+/// The refusal `51 UnflushedLog`.
+fn unflushed(number: u64) -> Refusal
+    ensures { refusal_text result.number result.name.now result.field ≡ refusal_text 51 (codes "UnflushedLog") (Some number) }
+{
+    Refusal {
+        number: 51,
+        name: "UnflushedLog",
+        field: Some(number),
     }
 }
 
@@ -59,9 +81,11 @@ impl fmt::Display for WriterFault {
         let refusal = match self {
             WriterFault::Read => return f.write_str("read fault"),
             WriterFault::Write => return f.write_str("write fault"),
-            WriterFault::BadLine(line) => return write!(f, "bad line {line}"),
+            WriterFault::BadLine(line, _) => return write!(f, "bad line {line}"),
             WriterFault::Directory(fault) => return write!(f, "{fault}"),
             WriterFault::OutOfMemory => Refusal::of_table(TableFault::OutOfMemory),
+            WriterFault::LostCurrent(_) => missing(),
+            WriterFault::UnflushedLog(number) => unflushed(*number),
             WriterFault::State(fault) => of_state(*fault),
         };
         write!(f, "{refusal}")
@@ -100,5 +124,37 @@ impl From<StateFault> for WriterFault {
 
     fn from(error: StateFault) -> WriterFault {
         WriterFault::State(error)
+    }
+}
+
+impl From<DirectoryFault> for WriterFault {
+    ghost from_gives = { λ e f. f ≡ DirectoryVariant e };
+
+    fn from(error: DirectoryFault) -> WriterFault {
+        WriterFault::Directory(error)
+    }
+}
+
+impl From<ShelfFault> for WriterFault {
+    ghost from_gives = { λ e f. f ≡ of_shelf e };
+
+    fn from(error: ShelfFault) -> WriterFault {
+        WriterFault::of_shelf(error)
+    }
+}
+
+impl From<RecoverFault> for WriterFault {
+    ghost from_gives = { λ e f. f ≡ of_manifest e };
+
+    fn from(error: RecoverFault) -> WriterFault {
+        WriterFault::Directory(DirectoryFault::Manifest(error))
+    }
+}
+
+impl From<OpenFault> for WriterFault {
+    ghost from_gives = { λ e f. f ≡ of_open e };
+
+    fn from(error: OpenFault) -> WriterFault {
+        WriterFault::of_open(error)
     }
 }

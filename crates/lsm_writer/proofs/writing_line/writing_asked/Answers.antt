@@ -1,19 +1,22 @@
-use Rattle.std.proofs.Common.{◌≡◌, ◌-◌, ℕ, List, codes, drop, length, map, rules, subst, take}
-use Rattle.lsm_commands.specs.DirectoryLine.{IsOptionWord}
-use Rattle.lsm_writer.specs.WritingLine.{form_option}
-use Rattle.lsm_writer.proofs.Words.{line_is, three_words}
+use Rattle.std.proofs.Common.{◌≡◌, ◌-◌, ◌∷◌, IfSome, codes, drop, length, map, rules, subst, take, ap, sym, ◌∙◌}
+use Rattle.lsm_writer.specs.WritingLine.{AsksToWrite}
+use Rattle.lsm_writer.proofs.Words.{first_word}
 use Rattle.lsm_writer.proofs.writing_line.writing_asked.Goals as goal
 
-pub returns-clause-some : goal.returns-clause-some
-returns-clause-some g c =
+pub returns-then-eq-clause-some : goal.returns-then-eq-clause-some
+returns-then-eq-clause-some g c =
     let text = g.S.AsStr.text in
     let xs = c.args.words.now in
-    let whole = three_words text xs c.name-item.result c.path-item.result c.file-item.result c.name-item.is c.path-item.is c.file-item.is c.in-len3-up.len_at_least in
-    let name : c.as_str.result.now ≡ codes "ingest" = search rules in
-    let options : map text (take (length xs - 3) (drop 3 xs)) ≡ form_option c.in_ok-form.form = c.in_ok-form.ensures.some in (
-      line_is (map text xs) (text c.name-item.result) (text c.path-item.result) (text c.file-item.result) c.as_str.result.now c.as_str-path.result.now
-          c.as_str-file.result.now (codes "ingest") (map text (take (length xs - 3) (drop 3 xs))) (form_option c.in_ok-form.form) whole c.as_str.ensures
-          c.as_str-path.ensures c.as_str-file.ensures name options,
-      subst (λ (w : List ℕ). IsOptionWord w → ⊥) c.as_bytes.ensures.value (c.is_option.ensures.no c.if-is_option.false),
-      subst (λ (w : List ℕ). IsOptionWord w → ⊥) c.as_bytes-2.ensures.value (c.is_option-2.ensures.no c.if-is_option-2.false),
-    )
+    let name : c.as_str-name.result.now ≡ codes "ingest" = search rules in
+    let whole = first_word text xs c.name-item.result c.as_str-name.result.now c.name-item.is c.in-len1-up.len_at_least c.as_str-name.ensures in
+    subst (λ ws. IfSome c.ingest_asked.result (λ l. AsksToWrite l.command l.path.now ws))
+    (ap (λ w. w ∷ map text (take (length xs - 1) (drop 1 xs))) (sym name) ∙ whole) c.ingest_asked.ensures.some
+
+pub returns-then-eq-2-clause-some : goal.returns-then-eq-2-clause-some
+returns-then-eq-2-clause-some g c =
+    let text = g.S.AsStr.text in
+    let xs = c.args.words.now in
+    let name : c.as_str-name.result.now ≡ codes "clean" = search rules in
+    let whole = first_word text xs c.name-item.result c.as_str-name.result.now c.name-item.is c.in-len1-up.len_at_least c.as_str-name.ensures in
+    subst (λ ws. IfSome c.clean_asked.result (λ l. AsksToWrite l.command l.path.now ws))
+    (ap (λ w. w ∷ map text (take (length xs - 1) (drop 1 xs))) (sym name) ∙ whole) c.clean_asked.ensures.some

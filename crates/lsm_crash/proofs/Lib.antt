@@ -1,0 +1,15 @@
+mod Names
+mod Disks
+mod Standing
+mod Held
+mod Leading
+mod Appending
+mod Tables
+mod Starting
+mod Runs
+mod Calls
+mod Instances
+mod Histories
+mod Asides
+mod Shelves
+mod Spoilt

@@ -1,0 +1,7 @@
+pub mod Disk
+pub mod Crash
+pub mod Versions
+pub mod Known
+pub mod Operations
+pub mod Among
+pub mod History
