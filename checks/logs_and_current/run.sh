@@ -5,7 +5,7 @@
 #   logs      a log that LevelDB has not flushed: 51, --beside-log, notes on standard error; flushed, all is done
 #   current   CURRENT is lost: 10, and the second line's way back; --begin begins beside the old manifests and tables
 #   links     a symbolic link as DIR
-#   pipes     a FIFO as CURRENT, as the manifest, as a table, as LOCK: refused, no command waits for ever
+#   pipes     a FIFO as CURRENT, as the manifest, as a table, as LOCK, as a log: refused, no command waits for ever
 #   folders   a folder that is named as a table
 #   numbers   a table of the number 2^64 - 1: 46
 #   clean     what `lsm clean` removes, and what stays
@@ -97,6 +97,17 @@ logs() {
   is_done ingest db batch --beside-log
   is_done compact db
   cmp -s "db.old/$log.log" "db/$log.log" || stop "the log changed"
+  # LevelDB would read it into a database that is begun beside it, too
+  put_back
+  rm db/CURRENT
+  refuses "refused 10 Missing" "" ingest db batch
+  refuses "refused 51 UnflushedLog $number" "$log\.log .*--beside-log" ingest db batch --begin
+  rm -r db
+  mkdir db
+  cp "db.old/$log.log" db
+  refuses "refused 51 UnflushedLog $number" "$log\.log .*--beside-log" ingest db batch
+  [[ $(ls db) == "$log.log" || $(ls db) == "$log.log"$'\n'LOCK ]] || stop "it began a database"
+  is_done ingest db batch --beside-log
   # the way that the second line names
   put_back
   "$work/leveldb" scan db > list
@@ -165,8 +176,9 @@ pipes() {
   each_command is_refused_file LOCK
   put_back
   mkfifo db/000099.log
-  each_command is_done
-  rm -rf db
+  for command in "check db" "list db" "get db pear --text" "scan db" "ingest db batch --text"; do
+    is_refused_file 000099.log $command
+  done
 }
 
 is_refused_file() { # NAME WORDS..: `9 Device`, and NAME in one of the lines
@@ -245,6 +257,7 @@ reasons() {
     refuses "refused 15 BadChecksum 0" "in $table" $command
   done
   # lines of FILE
+  put_back
   printf 'a=1\nb c=2\n' > bad
   refuses "bad line 2" 'column 2.*\\x20' ingest db bad --text
   printf 'a=caf\xc3\xa9\n' > bad

@@ -26,8 +26,8 @@ ERRORS = [getattr(errno, name) for name in os.environ.get("ERRORS", "ENOMEM ENOS
 WORKERS = os.environ.get("WORKERS", "1 2").split()
 TORN = 5  # bytes that a short write puts there (refuse.c)
 GROUPS = 4  # of tables whose keys lie apart
-# What may be answered where a call was refused: what wants memory, the device, a table that can't be put, a store that was halted.
-REFUSAL = re.compile(r"refused (1 OutOfMemory|9 Device|36 PutFailed \d+ (1|9)|42 Halted)( in \d{6}\.ldb)?\n")
+# What may be answered where a call was refused: want of memory, the device, a table that can't be read or put, a store that was halted.
+REFUSAL = re.compile(r"refused (1 OutOfMemory|9 Device|3[56] (Read|Put)Failed \d+ (1|9)|42 Halted)\n")
 
 
 class Refuser:

@@ -4,6 +4,8 @@
 #
 # - mktable, dump, manifest, list, get, help: `refused 1 OutOfMemory` on standard error, nothing on standard output, status 1; or the
 #   program asked again for less, and answers as an undisturbed run does.
+#   Once DIR/LOCK is open, want of memory is `refused 9 Device` too; its second line says `lock ..: out of memory`, where there is memory
+#   for that.
 # - check and scan may say `refused 1 OutOfMemory in 000005.ldb`; of a scan whole lines from the first on may stand on standard output.
 #   Check, list, get and scan leave the folder byte for byte as it was.
 # - ingest, each time in a folder as it was: also `refused 9 Device`, where it can't be undone (docs/DECISIONS.md). `lsm check` then takes
@@ -57,7 +59,12 @@ said() { # a second line is for people
 }
 
 is_out_of_memory() {
-  [[ $status == 1 && ! -s out && $(said) == "refused 1 OutOfMemory" ]]
+  [[ $status == 1 && ! -s out ]] || return 1
+  case $(said) in
+    "refused 1 OutOfMemory") ;;
+    "refused 9 Device") grep -q '^lock .*: out of memory$' err || [[ -n ${LATER:-} && $(wc -l < err) == 1 ]] ;;
+    *) return 1 ;;
+  esac
 }
 
 is_whole_lines() { # whether standard output is whole lines of what is wanted, from the first on, and not all

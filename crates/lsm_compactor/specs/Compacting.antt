@@ -2,6 +2,8 @@
 use Rattle.std.specs.Prelude.{◌≡◌, ◌≢◌, ℕ, ◌⊎◌, false, List, [], ◌∷◌, ◌++◌, length, codes, decimal, All, sum_by, Option, None, Some}
 use Rattle.std.specs.Io.KnownBytes.{Appends, Keeps}
 use Rattle.atomic_table.specs.Seated.{TableId}
+use Rattle.lsm_folder.specs.Calls.{Call}
+use Rattle.lsm_folder.specs.declared.lock_kind.LockKind.TheVariants.{Exclusive}
 use Rattle.lsm_shelf.specs.Asked.{Asked}
 use Rattle.lsm_shelf.specs.declared.shelf_fault.ShelfFault.{ShelfFault}
 use Rattle.lsm_shelf.specs.Told.{Told, Forked, NotNamed}
@@ -14,9 +16,11 @@ use Rattle.lsm_state.specs.declared.state_fault.StateFault.{StateFault}
 use Rattle.lsm_store.specs.Workers.{IsWorkersEnd}
 use Rattle.lsm_store.specs.declared.worker_end.WorkerEnd.{WorkerEnd}
 use Rattle.lsm_store.specs.declared.worker_fault.WorkerFault.{WorkerFault}
+use Rattle.lsm_directory.specs.Holding.{IsUnheld}
+use Rattle.lsm_directory.specs.declared.directory_fault.DirectoryFault.{DirectoryFault}
 use Rattle.lsm_writer.specs.Starting.{IsReopened, usual}
 use Rattle.lsm_writer.specs.WriterFault.{of_open, of_shelf}
-use Rattle.lsm_writer.specs.declared.writer_fault.WriterFault.TheVariants.{OutOfMemory, Write as WriteFault, State}
+use Rattle.lsm_writer.specs.declared.writer_fault.WriterFault.TheVariants.{OutOfMemory, Write as WriteFault, Directory, State}
 use Rattle.lsm_compactor.specs.declared.compact_fault.CompactFault.{CompactFault}
 use Rattle.lsm_compactor.specs.declared.compact_fault.CompactFault.TheVariants.{Writer, Worker}
 
@@ -82,6 +86,10 @@ IsCompacted Honest workers was is old new =
     (ends : List WorkerEnd) × Compacts Honest workers ends was is × Appends old new (installed_text (installed_by ends))
 
 -- ---- refusals
+
+-- The lock was asked for, and not held: another has it, or the folder refused.
+abbrev pub NoLock : List Call → CompactFault → Type 0
+NoLock calls e = (fault : DirectoryFault) × (after : List Call) × (e ≡ Writer (Directory fault)) × IsUnheld Exclusive fault calls after
 
 -- Memory ran out before the shelf was asked for anything.
 abbrev pub IsOutOfMemory : CompactFault → Told → Told → Type 0

@@ -2,11 +2,10 @@
 
 ghost use Rattle.std.specs.Prelude.{◌≡◌};
 ghost use Rattle.lsm_writer.specs.WriterFault.{of_shelf};
-ghost use Rattle.lsm_writer.specs.declared.writer_fault.WriterFault.TheVariants.{Directory as DirectoryVariant, OutOfMemory, State as StateVariant};
+ghost use Rattle.lsm_writer.specs.declared.writer_fault.WriterFault.TheVariants.{OutOfMemory, State as StateVariant};
 ghost use Rattle.lsm_compactor.specs.CompactFault.{fault_text};
 ghost use Rattle.lsm_compactor.specs.declared.compact_fault.CompactFault.TheVariants.{Writer as WriterVariant, Worker as WorkerVariant};
 
-use lsm_directory::DirectoryFault;
 use lsm_state::StateFault;
 use lsm_store::WorkerFault;
 use lsm_table::ShelfFault;
@@ -84,13 +83,5 @@ impl From<WorkerFault> for CompactFault {
 
     fn from(error: WorkerFault) -> CompactFault {
         CompactFault::Worker(error)
-    }
-}
-
-impl From<DirectoryFault> for CompactFault {
-    ghost from_gives = { λ e f. f ≡ WriterVariant (DirectoryVariant e) };
-
-    fn from(error: DirectoryFault) -> CompactFault {
-        CompactFault::Writer(WriterFault::Directory(error))
     }
 }

@@ -29,4 +29,5 @@ mod telling;
 pub use compact_fault::CompactFault;
 pub use compact_line::{CompactLine, compacting_asked};
 pub use compact_options::CompactOptions;
+pub use opening::held_shelf;
 pub use program::{compact, run};

@@ -2,12 +2,19 @@
 
 ghost use Rattle.std.specs.Prelude.{◌≡◌, IfErr, IfOk, vec_len};
 ghost use Rattle.std.specs.Arc.{arc_value};
+ghost use Rattle.lsm_folder.specs.declared.lock_kind.LockKind.TheVariants.{Exclusive};
+ghost use Rattle.lsm_shelf.specs.FileShelf.{file_told, folder_of};
+ghost use Rattle.lsm_shelf.specs.Told.{fresh};
 ghost use Rattle.lsm_state.specs.Making.{IsNewBoard};
 ghost use Rattle.lsm_store.specs.Readers.{SeatsPinners};
 ghost use Rattle.lsm_writer.specs.Starting.{IsReopened, usual};
-ghost use Rattle.lsm_compactor.specs.Compacting.{IsUnopened};
+ghost use Rattle.lsm_directory.specs.Holding.{IsHeld};
+ghost use Rattle.lsm_compactor.specs.Compacting.{IsUnopened, NoLock};
 
 use crate::compact_fault::CompactFault;
+use lsm_directory::hold;
+use lsm_folder::{FolderCalls, LockKind};
+use lsm_shelf::FileShelf;
 use lsm_slots::Boarded;
 use lsm_state::{Options, State};
 use lsm_store::laws::made_states_seat_their_pinners;
@@ -15,6 +22,21 @@ use lsm_table::Shelf;
 use lsm_writer::{Ends, WriterFault};
 use std::alloc::Global;
 use std::sync::Wait;
+
+/// A shelf on a folder of which the lock is held, exclusively.
+///
+/// `Locked` where another program has the folder open; the refusals of taking the lock.
+pub fn held_shelf<C: FolderCalls, R: Wait>(rt: &R, folder: C) -> Result<FileShelf<C>, CompactFault>
+    ensures held { IfOk result (λ s. IsHeld Exclusive (C.calls folder) (C.calls (folder_of s))) }
+    ensures fresh { IfOk result (λ s. file_told C.place s ≡ fresh (C.place folder)) }
+    ensures refused { IfErr result (λ e. NoLock (C.calls folder) e) }
+{
+    let mut folder = folder;
+    match hold(rt, &mut folder, LockKind::Exclusive) {
+        Ok(()) => Ok(FileShelf::over(folder)),
+        Err(fault) => Err(CompactFault::Writer(WriterFault::Directory(fault))),
+    }
+}
 
 /// The state of the database that is on the shelf, with the usual options.
 pub(crate) fn open<N: Boarded, S: Shelf, R: Wait>(

@@ -8,11 +8,11 @@ use crate::compact_fault::CompactFault;
 use crate::compact_line::CompactLine;
 use crate::compact_options::CompactOptions;
 use crate::compacting::compact_to;
+use crate::opening::held_shelf;
 use crate::telling::tell;
-use lsm_directory::open_held;
-use lsm_folder::{LockKind, Reasons};
-use lsm_shelf::FileShelf;
+use lsm_folder::Reasons;
 use lsm_table::Shelf;
+use lsm_writer::open_noting;
 use std::alloc::Global;
 use std::io::Write;
 use std::sync::Wait;
@@ -20,11 +20,7 @@ use std::thread::Threads;
 
 /// The exit status of a compaction, and the lines of its fault.
 #[tactic(auto, using(crate::proofs::Quiet::keeps_same))]
-fn status_of<E: Write>(
-    done: Result<(), CompactFault>,
-    reasons: Option<&Reasons>,
-    err: &mut E,
-) -> u8
+fn status_of<E: Write>(done: Result<(), CompactFault>, reasons: Option<&Reasons>, err: &mut E) -> u8
     ensures ok { OnOk done (result ≡ 0) }
     ensures err { OnErr done (result ≡ 1) }
     ensures quiet { result ≡ 0 → Keeps (E.contents err.old) (E.contents err.new) }
@@ -80,8 +76,8 @@ fn obey<R: Threads + Wait + Sync, O: Write, E: Write + Send>(
     ensures quiet { IsFalse line.now.options.progress → Keeps (E.contents err.old) (E.contents err.new) }
 {
     let alloc = files.alloc();
-    let folder = open_held(rt, files, line.path, LockKind::Exclusive, reasons)?;
-    let mut shelf = FileShelf::over(folder);
+    let folder = open_noting(files, line.path, reasons)?;
+    let mut shelf = held_shelf(rt, folder)?;
     compact_to(rt, alloc, &mut shelf, line.options, out, err)
 }
 

@@ -86,10 +86,10 @@ unused_more front word n k next least says only is =
         above = λ m h. above_split front word next m (λ j g. higher j (least.0.above j g)) (among_split front word (IsNumbered m) h) (its m);
       },
       λ m h. (
-        let before : n ≤ m = least.1 m (record { from_one = h.from_one; above = λ j g. h.above j (among_front front word (IsNumbered j) g) }) in
-        let here : k < m = h.above k (among_last front word (IsNumbered k) says) in
-        omega (arith, is, before, here)
-      ),
+          let before : n ≤ m = least.1 m (record { from_one = h.from_one; above = λ j g. h.above j (among_front front word (IsNumbered j) g) }) in
+          let here : k < m = h.above k (among_last front word (IsNumbered k) says) in
+          omega (arith, is, before, here)
+          ),
     )
 
 -- ---- the highest manifest

@@ -43,5 +43,5 @@ spare_table false n manifest tables name lacks here = inr (inr (n, here, lacks))
 pub spare_other : (temporary : Bool) (manifest : ℕ) (tables name : List ℕ) → ((n : ℕ) → IsFileName name (Manifest n) → None ≡ Some n)
     → ((n : ℕ) → IsFileName name (Table n) → None ≡ Some n) → (temporary ≡ true → (n : ℕ) × IsFileName name (Temporary n))
     → (temporary ≡ false → (n : ℕ) → IsFileName name (Temporary n) → ⊥) → MatchBool temporary (IsSpare manifest tables name) (IsSpare manifest tables name → ⊥)
-spare_other true manifest tables name manifests lacks yes other = inr (inl (yes refl))
-spare_other false manifest tables name manifests lacks yes other = λ h. neither manifest tables name manifests lacks (other refl) h
+spare_other true manifest tables name manifests lacks shown other = inr (inl (shown refl))
+spare_other false manifest tables name manifests lacks shown other = λ h. neither manifest tables name manifests lacks (other refl) h

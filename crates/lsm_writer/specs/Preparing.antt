@@ -1,6 +1,8 @@
 -- What comes before a batch: a folder is locked, and looked at (this project's rule).
 use Rattle.std.specs.Prelude.{◌≡◌, ◌⊎◌, ℕ, Bool, true, false, List, [], ◌∷◌, Result, Ok, codes}
-use Rattle.std.specs.List.Sorted.{IsPermutation}
+use Rattle.std.specs.Cmp.Lexicographic.{slice_cmp}
+use Rattle.std.specs.List.Sorted.{IsPermutation, IsSorted}
+use Rattle.std.specs.Ordering.{nat_cmp}
 use Rattle.lsm_folder.specs.Calls.{Call, listed, locked}
 use Rattle.lsm_folder.specs.declared.folder_fault.FolderFault.{FolderFault}
 use Rattle.lsm_folder.specs.declared.lock_kind.LockKind.TheVariants.{Exclusive}
@@ -13,24 +15,22 @@ use Rattle.lsm_writer.specs.Names.{Leads, LeadsNowhere}
 use Rattle.lsm_writer.specs.WriterFault.{of_shelf}
 use Rattle.lsm_writer.specs.declared.ingest_options.IngestOptions.{IngestOptions}
 use Rattle.lsm_writer.specs.declared.start.Start.{Start}
-use Rattle.lsm_writer.specs.declared.start.Start.TheVariants.{Open, Begin}
 use Rattle.lsm_writer.specs.declared.writer_fault.WriterFault.{WriterFault}
 use Rattle.lsm_writer.specs.declared.writer_fault.WriterFault.TheVariants.{Directory}
 
--- At which logs is looked, by their sizes: where a database is opened, and the batch may not come in beside a log, at all that these names
--- name; and else at none.
-abbrev pub LooksAtLogs : Start → Bool → List (List ℕ) → List FolderFile → List Call → List Call → Type 0
-LooksAtLogs Open false names files old new = AsksSizes names files old new
-LooksAtLogs Open true names files old new = (files ≡ []) × (new ≡ old)
-LooksAtLogs (Begin n) beside_log names files old new = (files ≡ []) × (new ≡ old)
+-- At which logs is looked, by their sizes: where the batch may not come in beside a log, at all that these names name; and else at none.
+abbrev pub LooksAtLogs : Bool → List (List ℕ) → List FolderFile → List Call → List Call → Type 0
+LooksAtLogs false names files old new = AsksSizes names files old new
+LooksAtLogs true names files old new = (files ≡ []) × (new ≡ old)
 
--- The folder told its names; these, in order, lead to this start, and these are the logs.
+-- The folder told its names; these lead to this start, and these are the logs, in the order of names.
 pub record IsLookedAt (o : IngestOptions) (start : Start) (files : List FolderFile) (old new : List Call) : Type 0 where
   pub names : List (List ℕ)
   pub ordered : List (List ℕ)
   pub same : IsPermutation names ordered
+  pub ascending : IsSorted (slice_cmp nat_cmp) ordered
   pub leads : Leads o.begins ordered start
-  pub logs : LooksAtLogs start o.beside_log ordered files (listed (Ok names) ∷ old) new
+  pub logs : LooksAtLogs o.beside_log ordered files (listed (Ok names) ∷ old) new
 
 -- The folder told its names, which lead to no start, and was asked for nothing else.
 pub record IsUnstartable (o : IngestOptions) (e : WriterFault) (old new : List Call) : Type 0 where

@@ -69,10 +69,10 @@ IsUnflushed Refused logs e was is =
 abbrev pub OpensBeside : Type 0 → List FolderFile → Held → Told → Told → Type 0
 OpensBeside Honest logs h was is = (mid : Told) × IsFlushed logs was mid × IsReopened Honest h mid is
 
--- It was opened so, or one was begun.
+-- It was opened so, or one was begun beside no log but empty ones: LevelDB would read each.
 abbrev pub IsStarted : Type 0 → Start → List FolderFile → Held → Told → Told → Type 0
 IsStarted Honest Open logs h was is = OpensBeside Honest logs h was is
-IsStarted Honest (Begin number) logs h was is = IsNew number h was is
+IsStarted Honest (Begin number) logs h was is = NoneUnread 0 0 logs × IsNew number h was is
 
 -- Why there is no database on the shelf: no number is left; or its refusal, which call that was, and what it counted.
 abbrev pub IsUncreated : ℕ → (Asked → ShelfFault → Type 0) → WriterFault → Told → Told → Type 0
@@ -80,6 +80,11 @@ IsUncreated number Refused e was is =
     ((e ≡ Directory NumbersSpent) × (number ≡ 2 ^ 64 - 1) × (is ≡ was))
     ⊎ ((fault : ShelfFault) × (e ≡ of_shelf fault) × IsCreateRefusalUnder number fault was is × IsCreateAskedUnder number Refused fault was is
     × CreateCountedUnder number fault was is)
+
+-- Why none is begun: this is the first of the logs that LevelDB would read in a new database, and the shelf was asked for nothing; or that.
+abbrev pub IsUnbegun : ℕ → List FolderFile → (Asked → ShelfFault → Type 0) → WriterFault → Told → Told → Type 0
+IsUnbegun number logs Refused e was is =
+    ((n : ℕ) × (e ≡ UnflushedLog n) × IsFirstUnread 0 0 logs n × (is ≡ was)) ⊎ IsUncreated number Refused e was is
 
 -- Why the database that is there was not opened.
 abbrev pub IsUnopened : (ℕ → List ℕ → Type 0) → (Asked → ShelfFault → Type 0) → Type 0 → WriterFault → Told → Told → Type 0
@@ -94,4 +99,4 @@ IsNotOpened Stored Refused Honest logs e was is =
 -- faults.
 abbrev pub IsStartRefusal : (ℕ → List ℕ → Type 0) → (Asked → ShelfFault → Type 0) → Type 0 → Start → List FolderFile → WriterFault → Told → Told → Type 0
 IsStartRefusal Stored Refused Honest Open logs e was is = IsNotOpened Stored Refused Honest logs e was is
-IsStartRefusal Stored Refused Honest (Begin number) logs e was is = IsUncreated number Refused e was is
+IsStartRefusal Stored Refused Honest (Begin number) logs e was is = IsUnbegun number logs Refused e was is

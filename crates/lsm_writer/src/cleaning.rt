@@ -4,6 +4,7 @@ ghost use Rattle.std.specs.Prelude.{◌≡◌, ◌++◌, ◌∷◌, [], Ok, IfEr
 ghost use Rattle.std.specs.Io.KnownBytes.{Appends};
 ghost use Rattle.lsm_folder.specs.Calls.{AreHonest, removed};
 ghost use Rattle.lsm_shelf.specs.FolderFault.{device_of};
+ghost use Rattle.lsm_shelf.specs.Told.{NotNamed};
 ghost use Rattle.lsm_writer.specs.Cleaning.{AreRemoved, AreSparesGone, IsCleaned, IsTidied, IsSpare, IsUncleaned, IsUnremoved, IsUntidied, Removes, StopsCleaning, StopsRemoving};
 ghost use Rattle.lsm_writer.specs.WriterFault.{of_shelf};
 
@@ -18,7 +19,8 @@ use std::sync::Wait;
 
 /// A refusal of a folder.
 pub(crate) fn refused_by(fault: FolderFault) -> WriterFault
-    ensures { result ≡ of_shelf (device_of fault) }
+    ensures fault { result ≡ of_shelf (device_of fault) }
+    ensures named { NotNamed (device_of fault) }
 {
     match fault {
         FolderFault::OutOfMemory => WriterFault::of_shelf(ShelfFault::OutOfMemory),
@@ -127,7 +129,10 @@ where
     ensures refused { IfErr result (λ e. StopsCleaning (AreHonest C.calls) (C.place folder.old) e (C.calls folder.old) (C.calls folder.new) (O.contents out.old) (O.contents out.new)) }
 {
     let kept = kept_in(rt, alloc, &*folder)?;
-    tidy(rt, alloc, folder, &kept, out)
+    match tidy(rt, alloc, folder, &kept, out) {
+        Ok(()) => Ok(()),
+        Err(fault) => Err(fault),
+    }
 }
 
 /// Takes the lock of a folder, opens its database to read, removes the files that this does not
@@ -144,5 +149,8 @@ where
     ensures refused { IfErr result (λ e. IsUncleaned (AreHonest C.calls) (C.place folder.old) e (C.calls folder.old) (C.calls folder.new) (O.contents out.old) (O.contents out.new)) }
 {
     hold(rt, folder, LockKind::Exclusive)?;
-    clean_held(rt, alloc, folder, out)
+    match clean_held(rt, alloc, folder, out) {
+        Ok(()) => Ok(()),
+        Err(fault) => Err(fault),
+    }
 }

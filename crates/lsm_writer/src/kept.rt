@@ -83,11 +83,7 @@ fn find_kept<N: Naming, S: Shelf, R: Wait>(
 }
 
 /// The same, with a registry of its own.
-fn read_kept<S: Shelf, R: Wait>(
-    rt: &R,
-    alloc: Global,
-    shelf: &mut S,
-) -> Result<Kept, WriterFault>
+fn read_kept<S: Shelf, R: Wait>(rt: &R, alloc: Global, shelf: &mut S) -> Result<Kept, WriterFault>
     ensures kept { IfOk result (λ k. IsKept S.honest k.manifest k.tables.items (S.told shelf.old) (S.told shelf.new)) }
     ensures refused { IfErr result (λ e. IsUnkept (λ number image. (r : S.Receipt) × S.is_of (S.told shelf.old).place r × (S.Receipt.number r ≡ number) × (S.Receipt.image r ≡ image)) (S.refuses (S.told shelf.old).place) S.honest e (S.told shelf.old) (S.told shelf.new)) }
     ensures fault { IfErr result IsUnopened }

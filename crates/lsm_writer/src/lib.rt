@@ -43,7 +43,7 @@ pub use laws::one_batch;
 pub use line_slip::LineSlip;
 pub use merge_text::{cause_of_merge, of_merge};
 pub use preparing::prepare;
-pub use program::{clean, ingest, run};
+pub use program::{clean, ingest, open_noting, run};
 pub use refusals::of_state;
 pub use start::{Prepared, Start};
 pub use telling::explain;

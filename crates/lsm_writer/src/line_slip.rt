@@ -86,7 +86,9 @@ impl LineSlip {
 /// What is wrong.
 fn write_mistake<W: fmt::Write>(f: &mut fmt::Formatter<W>, mistake: Mistake) -> fmt::Result {
     match mistake {
-        Mistake::Unparted => f.write_str("neither `=` nor `!` stands in the line, which is KEY=VALUE or KEY!"),
+        Mistake::Unparted => f.write_str(
+            "neither `=` nor `!` stands in the line, which is KEY=VALUE or KEY!",
+        ),
         Mistake::Behind => f.write_str("something stands behind the `!` of KEY!"),
         Mistake::Word(slip) => write!(f, "{slip}"),
     }

@@ -5,8 +5,11 @@ use std::io::{self, Write};
 
 /// The most entries of a batch, the most bytes of its keys and values, and of one of them.
 const MOST_ENTRIES: usize = 65_536;
+
 const MOST_BYTES: usize = 4_194_304;
+
 const MOST_KEY: usize = 4_096;
+
 const MOST_VALUE: usize = 1_048_576;
 
 /// How many bytes the value has.
@@ -25,11 +28,17 @@ fn write_limit_of_line<E: Write>(
     value: usize,
 ) -> io::Result<bool> {
     if key > MOST_KEY {
-        writeln!(err, "line {line}: the key has {key} bytes, and may have {MOST_KEY}")?;
+        writeln!(
+            err,
+            "line {line}: the key has {key} bytes, and may have {MOST_KEY}"
+        )?;
         return Ok(true);
     }
     if value > MOST_VALUE {
-        writeln!(err, "line {line}: the value has {value} bytes, and may have {MOST_VALUE}")?;
+        writeln!(
+            err,
+            "line {line}: the value has {value} bytes, and may have {MOST_VALUE}"
+        )?;
         return Ok(true);
     }
     Ok(false)
@@ -40,7 +49,10 @@ fn write_limit_of_line<E: Write>(
 pub(crate) fn write_limit<E: Write>(err: &mut E, writes: &[KeyWrite]) -> io::Result<()> {
     let entries = writes.len();
     if entries > MOST_ENTRIES {
-        return writeln!(err, "the file has {entries} lines, and may have {MOST_ENTRIES}");
+        return writeln!(
+            err,
+            "the file has {entries} lines, and may have {MOST_ENTRIES}"
+        );
     }
     let mut bytes = 0usize;
     let mut line = 0usize;

@@ -6,7 +6,7 @@ ghost use Rattle.lsm_writer.specs.Preparing.{IsLookedAt, IsPrepared, IsUnprepare
 
 use crate::ingest_options::IngestOptions;
 use crate::names::start_among;
-use crate::start::{Prepared, Start};
+use crate::start::Prepared;
 use crate::writer_fault::WriterFault;
 use lsm_directory::{FolderFile, folder_names, hold, logs_among};
 use lsm_folder::{FolderCalls, LockKind};
@@ -14,22 +14,21 @@ use lsm_table::ShelfFault;
 use std::alloc::Global;
 use std::sync::Wait;
 
-/// The files that may be logs beside the database, in the order of these names; none where a
-/// database is begun, or the batch may come in beside a log.
+/// The files that may be logs beside the database, in the order of these names; none where the
+/// batch may come in beside a log.
 fn logs_for<C: FolderCalls, R: Wait>(
     rt: &R,
     alloc: Global,
     folder: &mut C,
-    start: Start,
     beside_log: bool,
     names: Vec<String>,
 ) -> Result<Vec<FolderFile>, ShelfFault>
-    ensures told { IfOk result (λ files. LooksAtLogs start beside_log (map string_bytes names.items) files.items (C.calls folder.old) (C.calls folder.new)) }
+    ensures told { IfOk result (λ files. LooksAtLogs beside_log (map string_bytes names.items) files.items (C.calls folder.old) (C.calls folder.new)) }
     ensures refused { IfErr result (λ e. LooksStopped e (C.calls folder.old) (C.calls folder.new)) }
     ensures looked { OnlyLooks (C.calls folder.old) (C.calls folder.new) }
     ensures place { C.place folder.new ≡ C.place folder.old }
 {
-    if beside_log || start != Start::Open {
+    if beside_log {
         return Ok(Vec::new(alloc));
     }
     logs_among(rt, alloc, folder, names)
@@ -49,7 +48,7 @@ fn look<C: FolderCalls, R: Wait>(
 {
     let names = folder_names(rt, alloc, folder)?;
     let start = start_among(&names, options.begins)?;
-    let logs = logs_for(rt, alloc, folder, start, options.beside_log, names)?;
+    let logs = logs_for(rt, alloc, folder, options.beside_log, names)?;
     Ok(Prepared { start, logs })
 }
 

@@ -1,10 +1,15 @@
 //! One run of a command that writes a directory.
 
-ghost use Rattle.std.specs.Prelude.{◌≡◌, ◌≢◌, ◌≤◌, OnErr, OnOk};
+ghost use Rattle.std.specs.Prelude.{◌≡◌, ◌≢◌, ◌≤◌, ◌∷◌, [], IfErr, IfOk, OnErr, OnOk};
 ghost use Rattle.std.specs.Io.KnownBytes.{Keeps};
-ghost use Rattle.lsm_folder.specs.Calls.{AreHonest};
+ghost use Rattle.lsm_folder.specs.Calls.{AreHonest, opened};
+ghost use Rattle.lsm_folder.specs.Place.{IsAtPath};
+ghost use Rattle.lsm_folder.specs.SystemFolder.{system_calls, system_place};
+ghost use Rattle.lsm_shelf.specs.Told.{NotNamed};
+ghost use Rattle.lsm_shelf.specs.declared.shelf_fault.ShelfFault.{ShelfFault};
 ghost use Rattle.lsm_writer.specs.Cleaning.{IsCleaned, IsUncleaned};
 ghost use Rattle.lsm_writer.specs.Ingesting.{IsBroughtIn, IsRefused};
+ghost use Rattle.lsm_writer.specs.WriterFault.{of_shelf};
 ghost use Rattle.lsm_writer.specs.declared.writer_fault.WriterFault.{WriterFault};
 
 use crate::batch_text::read_batch;
@@ -52,8 +57,8 @@ fn status_of<E: Write>(
 /// where it is refused. A fault is one line on `err`, and may have more behind it that say what it
 /// means.
 ///
-/// A database that is there is not opened beside a log that LevelDB has not flushed, if such logs
-/// were looked at: `UnflushedLog` with the number of the first one.
+/// Neither is done beside a log that LevelDB would read when it opens the folder, if logs were
+/// looked at: `UnflushedLog` with the number of the first one.
 pub fn ingest<S: Shelf, R: Wait, O: Write, E: Write>(
     rt: &R,
     alloc: Global,
@@ -109,12 +114,16 @@ fn batch_at(files: &HostRuntime, form: Form, path: &str) -> Result<Batch, Writer
 }
 
 /// The system's folder of this path. What the system answers where it refuses a call of it is kept
-/// in `reasons`.
-fn open_noting(
+/// in `reasons`. `Device` where it is no folder that can be opened.
+pub fn open_noting(
     files: HostRuntime,
     path: &str,
     reasons: &Reasons,
-) -> Result<SystemFolder<HostRuntime>, WriterFault> {
+) -> Result<SystemFolder<HostRuntime>, WriterFault>
+    ensures calls { IfOk result (λ f. system_calls f ≡ opened ∷ []) }
+    ensures place { IfOk result (λ f. IsAtPath path.now (system_place f)) }
+    ensures fault { IfErr result (λ e. (fault : ShelfFault) × (e ≡ of_shelf fault) × NotNamed fault) }
+{
     match SystemFolder::open_noting(files, path, reasons) {
         Ok(folder) => Ok(folder),
         Err(fault) => Err(refused_by(fault)),

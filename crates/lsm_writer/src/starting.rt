@@ -2,8 +2,9 @@
 
 ghost use Rattle.std.specs.Prelude.{◌≡◌, IfErr, IfOk, OnOk};
 ghost use Rattle.std.specs.Arc.{arc_value};
+ghost use Rattle.lsm_directory.specs.Logs.{NoneUnread};
 ghost use Rattle.lsm_state.specs.Making.{IsNewBoard};
-ghost use Rattle.lsm_writer.specs.Starting.{IsFlushed, IsNew, IsNotOpened, IsReopened, IsStarted, IsStartRefusal, IsUncreated, IsUnflushed, IsUnopened, OpensBeside, usual};
+ghost use Rattle.lsm_writer.specs.Starting.{IsFlushed, IsNew, IsNotOpened, IsReopened, IsStarted, IsStartRefusal, IsUnbegun, IsUncreated, IsUnflushed, IsUnopened, OpensBeside, usual};
 
 use crate::ends::Ends;
 use crate::start::{Prepared, Start};
@@ -65,6 +66,7 @@ fn create<N: Boarded, S: Shelf, R: Wait>(
     requires named { arc_value ends.registry ≡ N.registry }
     requires board { IsNewBoard N.board usual ends.publisher ends.pinners.items }
     ensures created { IfOk result (λ s. IsNew number s (S.told shelf.old) (S.told shelf.new)) }
+    ensures place { OnOk result ((S.told shelf.new).place ≡ N.place) }
     ensures refused { IfErr result (λ e. IsUncreated number (S.refuses N.place) e (S.told shelf.old) (S.told shelf.new)) }
 {
     if number == u64::MAX {
@@ -75,6 +77,32 @@ fn create<N: Boarded, S: Shelf, R: Wait>(
     match State::create_under(rt, alloc, shelf, options, ends.registry, board, number) {
         Ok(state) => Ok(state),
         Err(fault) => Err(WriterFault::of_shelf(fault)),
+    }
+}
+
+/// The state of a new database on the shelf, if each of these logs is empty: its manifest names no
+/// log, and so LevelDB would read them all.
+fn create_beside<N: Boarded, S: Shelf, R: Wait>(
+    rt: &R,
+    alloc: Global,
+    shelf: &mut S,
+    number: u64,
+    logs: &[FolderFile],
+    ends: Ends<S>,
+) -> Result<State<N, S>, WriterFault>
+    requires here { (S.told shelf.old).place ≡ N.place }
+    requires named { arc_value ends.registry ≡ N.registry }
+    requires board { IsNewBoard N.board usual ends.publisher ends.pinners.items }
+    ensures flushed { OnOk result (NoneUnread 0 0 logs.now) }
+    ensures created { IfOk result (λ s. IsNew number s (S.told shelf.old) (S.told shelf.new)) }
+    ensures refused { IfErr result (λ e. IsUnbegun number logs.now (S.refuses N.place) e (S.told shelf.old) (S.told shelf.new)) }
+{
+    if let Some(log) = first_unread(logs, 0, 0) {
+        return Err(WriterFault::UnflushedLog(log));
+    }
+    match create(rt, alloc, shelf, number, ends) {
+        Ok(state) => Ok(state),
+        Err(fault) => Err(fault),
     }
 }
 
@@ -89,6 +117,7 @@ fn reopen<N: Boarded, S: Shelf, R: Wait>(
     requires named { arc_value ends.registry ≡ N.registry }
     requires board { IsNewBoard N.board usual ends.publisher ends.pinners.items }
     ensures opened { IfOk result (λ s. IsReopened S.honest s (S.told shelf.old) (S.told shelf.new)) }
+    ensures place { OnOk result ((S.told shelf.new).place ≡ N.place) }
     ensures refused { IfErr result (λ e. IsUnopened (λ number image. (r : S.Receipt) × S.is_of N.place r × (S.Receipt.number r ≡ number) × (S.Receipt.image r ≡ image)) (S.refuses N.place) S.honest e (S.told shelf.old) (S.told shelf.new)) }
 {
     let options = Options::usual();
@@ -112,6 +141,7 @@ fn open_beside<N: Boarded, S: Shelf, R: Wait>(
     requires named { arc_value ends.registry ≡ N.registry }
     requires board { IsNewBoard N.board usual ends.publisher ends.pinners.items }
     ensures opened { IfOk result (λ s. OpensBeside S.honest logs.now s (S.told shelf.old) (S.told shelf.new)) }
+    ensures place { OnOk result ((S.told shelf.new).place ≡ N.place) }
     ensures refused { IfErr result (λ e. IsNotOpened (λ number image. (r : S.Receipt) × S.is_of N.place r × (S.Receipt.number r ≡ number) × (S.Receipt.image r ≡ image)) (S.refuses N.place) S.honest logs.now e (S.told shelf.old) (S.told shelf.new)) }
 {
     refuse_unflushed(rt, alloc, shelf, logs)?;
@@ -122,7 +152,7 @@ fn open_beside<N: Boarded, S: Shelf, R: Wait>(
 }
 
 /// The state of a new database on the shelf, or of the one that is there, with the usual options.
-/// One that is there is not opened beside a log that is not flushed, if that was looked at.
+/// Neither is done beside a log that LevelDB would then read, if logs were looked at.
 pub(crate) fn start<N: Boarded, S: Shelf, R: Wait>(
     rt: &R,
     alloc: Global,
@@ -134,10 +164,11 @@ pub(crate) fn start<N: Boarded, S: Shelf, R: Wait>(
     requires named { arc_value ends.registry ≡ N.registry }
     requires board { IsNewBoard N.board usual ends.publisher ends.pinners.items }
     ensures started { IfOk result (λ s. IsStarted S.honest prepared.now.start prepared.now.logs.items s (S.told shelf.old) (S.told shelf.new)) }
+    ensures place { OnOk result ((S.told shelf.new).place ≡ N.place) }
     ensures refused { IfErr result (λ e. IsStartRefusal (λ number image. (r : S.Receipt) × S.is_of N.place r × (S.Receipt.number r ≡ number) × (S.Receipt.image r ≡ image)) (S.refuses N.place) S.honest prepared.now.start prepared.now.logs.items e (S.told shelf.old) (S.told shelf.new)) }
 {
     match prepared.start {
         Start::Open => open_beside(rt, alloc, shelf, &prepared.logs, ends),
-        Start::Begin(number) => create(rt, alloc, shelf, number, ends),
+        Start::Begin(number) => create_beside(rt, alloc, shelf, number, &prepared.logs, ends),
     }
 }

@@ -59,16 +59,15 @@ fn explain_directory<E: Write>(err: &mut E, fault: &DirectoryFault) -> io::Resul
 }
 
 /// Writes what a fault of the database means.
-fn explain_state<E: Write>(
-    err: &mut E,
-    fault: StateFault,
-    writes: &[KeyWrite],
-) -> io::Result<()> {
+fn explain_state<E: Write>(err: &mut E, fault: StateFault, writes: &[KeyWrite]) -> io::Result<()> {
     match fault {
         StateFault::TooLarge => write_limit(err, writes),
         StateFault::KeyOrder(place) => {
             let line = place.saturating_add(1);
-            writeln!(err, "line {line}: its key is not above that of the line before")
+            writeln!(
+                err,
+                "line {line}: its key is not above that of the line before"
+            )
         }
         _ => Ok(()),
     }
@@ -134,8 +133,9 @@ pub fn explain<E: Write>(
     fault: &WriterFault,
     reasons: Option<&Reasons>,
 ) -> io::Result<()> {
-    let writes = &[];
-    explain_of(err, fault, Circumstances { writes, reasons })
+    let mut circumstances = Circumstances::none();
+    circumstances.reasons = reasons;
+    explain_of(err, fault, circumstances)
 }
 
 /// Writes the line of a fault, and lines that say what it means; and flushes.

@@ -23,7 +23,7 @@ returns-clause-fault g c = inr (inr (inr (
 pub returns-in_err-ingested-clause-fault : goal.returns-in_err-ingested-clause-fault
 returns-in_err-ingested-clause-fault g c =
     let p = err_from_is_err_and c.from_residual-in_err-ingested.result c.from_residual-in_err-ingested.ensures.1 in
-    let here : (g.S.Shelf.told c.start.new.shelf).place ≡ g.N.Naming.place = search rules in
+    let here : (g.S.Shelf.told c.start.new.shelf).place ≡ g.N.Naming.place = c.in_ok-state.ensures.place in
     let fault = c.in_err-ingested.field-0.0 in
     rw (p.1, p.2) (inr (inr (inl (
       fault,

@@ -6,10 +6,10 @@ use Rattle.lsm_writer.proofs.kept.find_kept.Goals as goal
 
 pub returns-clause-kept : goal.returns-clause-kept
 returns-clause-kept g c =
-    let numbers : c.push_numbers.new.numbers.items ≡ numbers_in c.in_ok-found.field-0.version = search rules in
+    let numbers : c.push_numbers.new.numbers.items ≡ numbers_in c.in_ok-found.found.version = search rules in
     record {
       held = _;
-      version = c.in_ok-found.field-0.version;
+      version = c.in_ok-found.found.version;
       rest = _;
       next = _;
       found = c.in_ok-found.ensures.found;

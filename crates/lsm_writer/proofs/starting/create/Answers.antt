@@ -1,3 +1,4 @@
+use Rattle.std.proofs.Common.{◌∙◌}
 use Rattle.lsm_writer.proofs.starting.create.Goals as goal
 
 pub returns-in-Ok-clause-created : goal.returns-in-Ok-clause-created
@@ -8,3 +9,6 @@ returns-in-Ok-clause-created g c = record {
   sent = c.in-Ok.ensures.sent;
   missing = c.in-Ok.ensures.missing;
 }
+
+pub returns-in-Ok-clause-place : goal.returns-in-Ok-clause-place
+returns-in-Ok-clause-place g c = c.in-Ok.ensures.sent.place ∙ c.requires.here

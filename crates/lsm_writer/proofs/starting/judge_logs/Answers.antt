@@ -14,13 +14,3 @@ returns-in-Some-clause-refused g c = inr (
     holds = c.in-Some.ensures;
   },
 )
-
-pub returns-in-None-clause-flushed : goal.returns-in-None-clause-flushed
-returns-in-None-clause-flushed g c = inr record {
-  held = _;
-  shape = _;
-  rest = _;
-  recovered = c.in_ok-found.ensures.recovered;
-  told = c.in_ok-found.ensures.found;
-  holds = c.in-None.ensures;
-}

@@ -1,4 +1,6 @@
-use Rattle.std.proofs.Common.{refl}
+use Rattle.std.proofs.Common.{ℕ, List, refl, subst}
+use Rattle.std.specs.Prelude.{MatchBool}
+use Rattle.lsm_codec.specs.Lists.{Has}
 use Rattle.lsm_writer.proofs.SpareFiles.{spare_manifest, spare_other, spare_table}
 use Rattle.lsm_writer.proofs.kept.Kept.spares.Goals as goal
 
@@ -7,7 +9,9 @@ returns-in-Some c = spare_manifest _ c.in-Some.number c.args.self.now.manifest c
 
 pub returns-in-Some-table_in : goal.returns-in-Some-table_in
 returns-in-Some-table_in c =
-    spare_table c.is_among.result c.in-Some-table_in.number c.args.self.now.manifest c.args.self.now.tables.items c.args.name.now c.is_among.ensures c.in-Some-table_in.ensures.only
+    spare_table c.is_among.result c.in-Some-table_in.number c.args.self.now.manifest c.args.self.now.tables.items c.args.name.now
+    (subst (λ (ts : List ℕ). MatchBool c.is_among.result (Has ts c.in-Some-table_in.number) (Has ts c.in-Some-table_in.number → ⊥)) c.deref.ensures.value c.is_among.ensures)
+    c.in-Some-table_in.ensures.only
 
 pub returns : goal.returns
 returns c =
