@@ -1,14 +1,9 @@
-//! A program that uses tables, as short as one can be: it builds a table of three entries in
-//! memory, checks it and reads keys, then puts it on a shelf and reads it from there.
-//!
-//! Stands on `lsm_table` and `lsm_reader`. Its contract: what it reads is what the three entries
-//! say.
-#![tactic(auto)]
+//! A table: it is built in memory, checked and read, then put on a shelf and read from there.
 
 ghost use Rattle.std.specs.Prelude.{◌≡◌, Some, None, IfOk, codes};
 ghost use Rattle.lsm_table.specs.Table.{IsTable};
 ghost use Rattle.lsm_table.specs.Found.{seen};
-ghost use Rattle.example_table.specs.Fruit.{fruit};
+ghost use Rattle.example.specs.Fruit.{fruit};
 
 use lsm_codec::Kind;
 use lsm_reader::get;
@@ -17,9 +12,10 @@ use lsm_table::{
 };
 use std::alloc::Global;
 use std::io::Print;
+use std::sync::Wait;
 
 /// The table of the three entries.
-fn fruit_table(alloc: Global) -> Result<Vec<u8>, BuildFault>
+pub fn fruit_table(alloc: Global) -> Result<Vec<u8>, BuildFault>
     ensures { IfOk result (λ file. IsTable file.items fruit) }
 {
     let mut table = TableBuilder::new(alloc, TableOptions::usual());
@@ -46,16 +42,32 @@ fn show(rt: &impl Print, read: &str, found: &Option<Found>) -> anyhow::Result<()
     Ok(())
 }
 
-fn main(rt: HostRuntime) -> anyhow::Result<()> {
-    let alloc = rt.alloc();
+/// Reads the table in memory.
+fn read(rt: &impl Print, alloc: Global, table: &Table) -> anyhow::Result<()>
+    requires { table.now ≡ fruit }
+{
+    show(rt, "apple at 2", &older_apple(alloc, table)?)?;
+    show(rt, "cherry at 9", &table.get(alloc, b"cherry", 9)?)?;
+    show(rt, "plum at 9", &table.get(alloc, b"plum", 9)?)
+}
+
+/// Puts the table on a shelf, in memory or in a folder, and reads one key from there.
+fn read_from<S: Shelf, R: Print + Wait>(
+    rt: &R,
+    alloc: Global,
+    shelf: &mut S,
+    file: &[u8],
+) -> anyhow::Result<()> {
+    let receipt = shelf.put(rt, alloc, 7, file)?;
+    let found = get(shelf, alloc, &receipt, b"apple", 9)?;
+    show(rt, "apple at 9, from the shelf", &found)
+}
+
+/// What a program does with a table.
+pub fn show_table<R: Print + Wait>(rt: &R, alloc: Global) -> anyhow::Result<()> {
     let file = fruit_table(alloc)?;
     println!(rt; "a table of {} bytes", file.len())?;
-    let mut shelf = MemoryShelf::new(alloc)?;
-    let receipt = shelf.put(&rt, alloc, 7, &file)?;
+    read_from(rt, alloc, &mut MemoryShelf::new(alloc)?, &file)?;
     let table = Table::check(alloc, file)?;
-    show(&rt, "apple at 2", &older_apple(alloc, &table)?)?;
-    show(&rt, "cherry at 9", &table.get(alloc, b"cherry", 9)?)?;
-    show(&rt, "plum at 9", &table.get(alloc, b"plum", 9)?)?;
-    let found = get(&mut shelf, alloc, &receipt, b"apple", 9)?;
-    show(&rt, "apple at 9, from the shelf", &found)
+    read(rt, alloc, &table)
 }

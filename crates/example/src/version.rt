@@ -1,0 +1,189 @@
+//! A version: two tables are put on a shelf in memory, an edit says at which levels they stand, and
+//! what is read is what both say together, of one key the newest entry first.
+
+ghost use Rattle.std.specs.Prelude.{◌≡◌, ◌≤◌};
+ghost use Rattle.std.specs.Arc.{arc_value};
+
+use crate::table::fruit_table;
+use lsm_codec::{Bytes, Kind, List, MAX_SEQ, push_key};
+use lsm_manifest::{AddedFile, Edit, FileMeta, Shape, replay};
+use lsm_table::{BuildFault, MemoryShelf, Naming, Registry, Shelf, TableBuilder, TableOptions};
+use lsm_version::{Pair, Scan, Version};
+use std::alloc::{AllocError, Global};
+use std::io::Print;
+use std::marker::Brand;
+use std::sync::{Arc, Wait};
+
+/// A newer table than the one of `fruit_table`: no apples any more, and sweet cherries.
+fn newer_table(alloc: Global) -> Result<Vec<u8>, BuildFault> {
+    let mut table = TableBuilder::new(alloc, TableOptions::usual());
+    table.add(b"apple", 5, Kind::Deletion, b"")?;
+    table.add(b"cherry", 4, Kind::Value, b"sweet")?;
+    table.finish()
+}
+
+/// The bytes of an internal key, as a manifest has them.
+fn key(alloc: Global, user: &[u8], seq: u64, kind: Kind) -> Result<Bytes, AllocError>
+    requires { seq ≤ MAX_SEQ }
+{
+    let mut key = Vec::new(alloc);
+    push_key(&mut key, user, seq, kind)?;
+    Ok(Bytes::of(key))
+}
+
+/// The older table, which is added to level 1.
+fn older_file(alloc: Global, size: u64) -> Result<AddedFile, AllocError> {
+    let smallest = key(alloc, b"apple", 3, Kind::Value)?;
+    let largest = key(alloc, b"cherry", 2, Kind::Deletion)?;
+    Ok(AddedFile {
+        level: 1,
+        file: FileMeta {
+            number: 5,
+            size,
+            smallest,
+            largest,
+        },
+    })
+}
+
+/// The newer table, which is added to level 0.
+fn newer_file(alloc: Global, size: u64) -> Result<AddedFile, AllocError> {
+    let smallest = key(alloc, b"apple", 5, Kind::Deletion)?;
+    let largest = key(alloc, b"cherry", 4, Kind::Value)?;
+    Ok(AddedFile {
+        level: 0,
+        file: FileMeta {
+            number: 6,
+            size,
+            smallest,
+            largest,
+        },
+    })
+}
+
+/// Both tables, as a manifest's first edit adds them.
+fn edit(alloc: Global, older_size: u64, newer_size: u64) -> Result<Edit, AllocError> {
+    let mut added = Vec::new(alloc);
+    added.push(older_file(alloc, older_size)?)?;
+    added.push(newer_file(alloc, newer_size)?)?;
+    Ok(Edit {
+        comparator: None,
+        log: Some(0),
+        prev_log: None,
+        next: Some(7),
+        last: Some(5),
+        pointers: List::of(Vec::new(alloc)),
+        deleted: List::of(Vec::new(alloc)),
+        added: List::of(added),
+    })
+}
+
+/// Puts both tables on the shelf: what the edit that adds them comes to.
+fn put_tables<S: Shelf, R: Wait>(rt: &R, alloc: Global, shelf: &mut S) -> anyhow::Result<Shape> {
+    let older = fruit_table(alloc)?;
+    let newer = newer_table(alloc)?;
+    shelf.put(rt, alloc, 5, &older)?;
+    shelf.put(rt, alloc, 6, &newer)?;
+    let edits = [edit(alloc, older.len() as u64, newer.len() as u64)?];
+    Ok(replay(alloc, &edits)?)
+}
+
+/// Prints the answer for a key as of a sequence.
+fn show<N: Naming, S: Shelf>(
+    rt: &impl Print,
+    alloc: Global,
+    version: &Version<N, S>,
+    shelf: &mut S,
+    user: &str,
+    seq: u64,
+) -> anyhow::Result<()>
+    requires { (S.told shelf.old).place ≡ N.place }
+    ensures { (S.told shelf.new).place ≡ (S.told shelf.old).place }
+{
+    match version.get(shelf, alloc, user.as_bytes(), seq)? {
+        Some(value) => println!(rt; "{user} at {seq}: {}", str::from_utf8(&value)?)?,
+        None => println!(rt; "{user} at {seq}: absent")?,
+    }
+    Ok(())
+}
+
+fn show_pair(rt: &impl Print, pair: &Pair) -> anyhow::Result<()> {
+    let user = str::from_utf8(pair.user())?;
+    let value = str::from_utf8(pair.value())?;
+    Ok(println!(rt; "scan: {user} {value}")?)
+}
+
+/// Prints what is left of a scan. The shelf is honest, so that it comes to its end.
+fn show_rest<N: Naming, S: Shelf>(
+    rt: &impl Print,
+    alloc: Global,
+    scan: &mut Scan<N, S>,
+    shelf: &mut S,
+) -> anyhow::Result<()>
+    requires place { (S.told shelf.old).place ≡ N.place }
+    requires honest { S.honest }
+{
+    while let Some(pair) = scan.next(shelf, alloc)? {
+        show_pair(rt, &pair)?;
+    }
+    Ok(())
+}
+
+/// Prints the live keys as of a sequence, each with its value.
+fn scan<N: Naming, S: Shelf>(
+    rt: &impl Print,
+    alloc: Global,
+    version: &Version<N, S>,
+    shelf: &mut S,
+    seq: u64,
+) -> anyhow::Result<()>
+    requires place { (S.told shelf.old).place ≡ N.place }
+    requires honest { S.honest }
+{
+    let mut scan = version.scan(shelf, alloc, seq)?;
+    show_rest(rt, alloc, &mut scan, shelf)
+}
+
+/// Reads one key as of its last sequence and of two before it, and then all.
+fn read<N: Naming, S: Shelf>(
+    rt: &impl Print,
+    alloc: Global,
+    version: &Version<N, S>,
+    shelf: &mut S,
+) -> anyhow::Result<()>
+    requires place { (S.told shelf.old).place ≡ N.place }
+    requires honest { S.honest }
+{
+    let last = version.last();
+    println!(rt; "a version whose last sequence is {last}")?;
+    for seq in [last, 4, 2] {
+        show(rt, alloc, version, shelf, "apple", seq)?;
+    }
+    scan(rt, alloc, version, shelf, last)
+}
+
+/// The version of this shape, once checked. What is generic in `N` is of the registry and of the
+/// shelf's contents that the premises name; the caller picks them by
+/// `proofs/version/show_version/Invariants.antt`.
+fn check_and_read<N: Naming, S: Shelf, R: Wait + Print>(
+    rt: &R,
+    alloc: Global,
+    registry: Arc<Registry<S::Receipt>>,
+    shelf: &mut S,
+    shape: &Shape,
+) -> anyhow::Result<()>
+    requires registry { arc_value registry ≡ N.registry }
+    requires shelf { (S.told shelf.old).place ≡ N.place }
+    requires honest { S.honest }
+{
+    let version = Version::<N, S>::check(shelf, rt, alloc, shape, registry)?;
+    read(rt, alloc, &version, shelf)
+}
+
+/// What a program does with a version.
+pub fn show_version<R: Wait + Print>(rt: &R, alloc: Global) -> anyhow::Result<()> {
+    let registry = Arc::new(alloc, Registry::new(alloc)?)?;
+    let mut shelf = MemoryShelf::new(alloc)?;
+    let shape = put_tables(rt, alloc, &mut shelf)?;
+    check_and_read::<Brand, MemoryShelf, _>(rt, alloc, registry, &mut shelf, &shape)
+}
