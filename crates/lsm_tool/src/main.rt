@@ -9,7 +9,7 @@ mod streams;
 
 use lsm_commands::{DirectoryLine, directory_asked, refuse_words, run};
 use lsm_compactor::{CompactLine, compacting_asked};
-use lsm_directory::{Request, open_folder, refuse};
+use lsm_directory::{FolderFile, Request, open_folder, refuse};
 use lsm_folder::Reasons;
 use lsm_script_lines::{Watched, script, script_asked};
 use lsm_writer::{WritingLine, writing_asked};
@@ -26,6 +26,21 @@ fn words_of(rt: &(impl Env + AllocGlobal)) -> io::Result<Vec<String>> {
     Ok(words)
 }
 
+/// What a line asks of a folder with these files beside its tables.
+fn request_of<'a>(
+    line: &'a DirectoryLine<'_>,
+    files: &'a [FolderFile],
+    reasons: &'a Reasons,
+) -> Request<'a> {
+    Request {
+        command: &line.command,
+        form: line.form,
+        files,
+        progress: line.progress,
+        reasons: Some(reasons),
+    }
+}
+
 /// Does what words ask of a folder.
 fn ask_folder(waits: &impl Wait, rt: HostRuntime, line: &DirectoryLine<'_>) -> io::Result<u8> {
     let mut err = rt.stderr();
@@ -35,13 +50,7 @@ fn ask_folder(waits: &impl Wait, rt: HostRuntime, line: &DirectoryLine<'_>) -> i
         Err(fault) => return Ok(refuse(&fault, &reasons, &mut err)),
     };
     let mut out = BufWriter::new(rt.alloc(), rt.stdout())?;
-    let request = Request {
-        command: &line.command,
-        form: line.form,
-        files: &files,
-        progress: line.progress,
-        reasons: Some(&reasons),
-    };
+    let request = request_of(line, &files, &reasons);
     Ok(lsm_directory::run(waits, rt.alloc(), &mut shelf, &request, &mut out, &mut err))
 }
 
