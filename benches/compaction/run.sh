@@ -53,7 +53,7 @@ of-requires-3-clause-whole g c = λ lts lives honest.
 PROOF
 cat > "$bench/proofs/time/Invariants.antt" <<'PROOF'
 use Rattle.std.specs.Arc.{arc_value}
-use Rattle.lsm_shelf.specs.MemoryShelf.{memory_told}
+use Rattle.lsm_storage.specs.MemoryShelf.{memory_told}
 use Rattle.bench_compaction.proofs.time.Given as goal
 
 -- the registry and the contents that were just made
@@ -63,14 +63,14 @@ PROOF
 cat > "$bench/proofs/main/Invariants.antt" <<'PROOF'
 use Rattle.std.specs.Arc.{arc_value}
 use Rattle.lsm_folder.specs.SystemFolder.{system_place}
-use Rattle.lsm_shelf.specs.FileShelf.{folder_of}
+use Rattle.lsm_storage.specs.FileShelf.{folder_of}
 use Rattle.bench_compaction.proofs.main.Given as goal
 
 -- the registry and the contents that were just made
 abbrev pub ghosts-measured : goal.ghosts-measured
 ghosts-measured g a = record { registry = arc_value a.registry; place = system_place (folder_of a.shelf) }
 PROOF
-echo 'bench_compaction: lsm_merge lsm_version lsm_merger lsm_reader lsm_table lsm_shelf lsm_folder lsm_block lsm_manifest lsm_levels lsm_codec boxcar' >> "$scratch/crates.txt"
+echo 'bench_compaction: lsm_merge lsm_version lsm_merger lsm_reader lsm_table lsm_storage lsm_shelf lsm_folder lsm_block lsm_manifest lsm_levels lsm_codec boxcar' >> "$scratch/crates.txt"
 (cd "$bench" && rt run > "$scratch/first" 2> "$scratch/log" || [[ -x out/bench_compaction ]]) || { cat "$scratch/log" >&2; exit 1; }
 if g++ -O2 -o "$scratch/leveldb" "$here/leveldb.cc" -lleveldb 2> "$scratch/log"; then leveldb=yes; else leveldb=no; fi
 

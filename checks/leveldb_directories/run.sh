@@ -17,7 +17,7 @@ cp "$here/directory.rattle" "$program/src/main.rt"
 cat > "$program/proofs/main/Invariants.antt" <<'END'
 use Rattle.std.specs.Arc.{arc_value}
 use Rattle.lsm_folder.specs.SystemFolder.{system_place}
-use Rattle.lsm_shelf.specs.FileShelf.{folder_of}
+use Rattle.lsm_storage.specs.FileShelf.{folder_of}
 use Rattle.directory.proofs.main.Given as goal
 
 -- the registry and the contents that were just made
@@ -31,7 +31,7 @@ use Rattle.directory.proofs.print_all.Given as goal
 abbrev pub invariant-loop : goal.invariant-loop
 invariant-loop g l = (g.S.Shelf.told l.shelf).place ≡ g.N.Naming.place
 END
-echo 'directory: lsm_version lsm_table lsm_shelf lsm_folder lsm_block lsm_manifest lsm_codec boxcar' >> "$scratch/crates.txt"
+echo 'directory: lsm_version lsm_table lsm_storage lsm_shelf lsm_folder lsm_block lsm_manifest lsm_codec boxcar' >> "$scratch/crates.txt"
 (cd "$program" && rt run > "$scratch/first" 2> "$scratch/log" || [[ -x out/directory ]]) || { cat "$scratch/log" >&2; exit 1; }
 g++ -O2 -Wall -o "$scratch/leveldb" "$here/directory.cc" -lleveldb
 

@@ -7,9 +7,8 @@ ghost use Rattle.example.specs.Fruit.{fruit};
 
 use lsm_codec::Kind;
 use lsm_reader::get;
-use lsm_table::{
-    BuildFault, Found, MemoryShelf, Shelf, Table, TableBuilder, TableFault, TableOptions,
-};
+use lsm_storage::MemoryShelf;
+use lsm_table::{BuildFault, Found, Shelf, Table, TableBuilder, TableFault, TableOptions};
 use std::alloc::Global;
 use std::io::Print;
 use std::sync::Wait;

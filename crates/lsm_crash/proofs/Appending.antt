@@ -3,8 +3,8 @@ use Rattle.std.proofs.Common.{◌≡◌, ℕ, ◌≤◌, ◌<◌, ◌^◌, List,
 use Rattle.std.specs.Prelude.{Ok, Err}
 use Rattle.lsm_codec.specs.Lists.{Has}
 use Rattle.lsm_folder.specs.Calls.{Answer, appended, synced}
-use Rattle.lsm_shelf.specs.FileNames.{manifest_name, current_text, table_name}
-use Rattle.lsm_shelf.specs.Plans.{append_plan}
+use Rattle.lsm_storage.specs.FileNames.{manifest_name, current_text, table_name}
+use Rattle.lsm_storage.specs.Plans.{append_plan}
 use Rattle.lsm_crash.specs.Disk.{Disk, Step, Appends, Syncs}
 use Rattle.lsm_crash.specs.Versions.{AreThere, ComesTo, Version}
 use Rattle.lsm_crash.specs.Known.{AllStand, Holds, Is, IsHeld, IsSettled, IsSound, NamesOne, Stands, Tells, World, current_name, known_of}

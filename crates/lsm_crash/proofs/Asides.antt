@@ -4,7 +4,7 @@ use Rattle.std.specs.Prelude.{Bool, Result, codes}
 use Rattle.lsm_folder.specs.Calls.{Answer, Call, folder_synced, locked, made, removed, synced}
 use Rattle.lsm_folder.specs.declared.folder_fault.FolderFault.{FolderFault}
 use Rattle.lsm_folder.specs.declared.lock_kind.LockKind.{LockKind}
-use Rattle.lsm_shelf.specs.FileNames.{manifest_name, table_name, temporary_name}
+use Rattle.lsm_storage.specs.FileNames.{manifest_name, table_name, temporary_name}
 use Rattle.lsm_crash.specs.Versions.{Tables}
 use Rattle.lsm_crash.specs.Known.{current_name}
 use Rattle.lsm_crash.specs.Among.{Avoids, IsAside}

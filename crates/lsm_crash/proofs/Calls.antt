@@ -5,8 +5,8 @@ use Rattle.std.proofs.lemmas.List.{take_all}
 use Rattle.lsm_codec.specs.Lists.{Has}
 use Rattle.lsm_folder.specs.Calls.{Call, loaded}
 use Rattle.lsm_folder.specs.declared.folder_fault.FolderFault.{FolderFault}
-use Rattle.lsm_shelf.specs.FileNames.{manifest_name, current_text}
-use Rattle.lsm_shelf.specs.Plans.{Step as Asked, done, Refused}
+use Rattle.lsm_storage.specs.FileNames.{manifest_name, current_text}
+use Rattle.lsm_storage.specs.Plans.{Step as Asked, done, Refused}
 use Rattle.lsm_crash.specs.Disk.{After, Disk, Shows, Step}
 use Rattle.lsm_crash.specs.Versions.{ComesTo, Tables, Version}
 use Rattle.lsm_crash.specs.Known.{IsHeld, Known, NamesOne, Tells, current_name}

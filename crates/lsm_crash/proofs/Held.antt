@@ -4,7 +4,7 @@ use Rattle.std.specs.Prelude.{Option, Ok, Err}
 use Rattle.std.proofs.lemmas.List.{take_all}
 use Rattle.lsm_codec.specs.Lists.{Has}
 use Rattle.lsm_folder.specs.Calls.{Call}
-use Rattle.lsm_shelf.specs.FileNames.{table_name, manifest_name, current_text}
+use Rattle.lsm_storage.specs.FileNames.{table_name, manifest_name, current_text}
 use Rattle.lsm_crash.specs.Disk.{Disk, Step}
 use Rattle.lsm_crash.specs.Crash.{Found, IsLeft, IsFileLeft, IsFresh}
 use Rattle.lsm_crash.specs.Versions.{AreThere, ComesTo, Tables, Version}

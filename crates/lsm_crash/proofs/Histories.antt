@@ -3,7 +3,7 @@ use Rattle.std.proofs.Common.{◌≡◌, ℕ, ◌<◌, ◌^◌, List, [], ◌∷
 use Rattle.lsm_manifest.specs.EditFit.{Change}
 use Rattle.lsm_manifest.specs.Shape.{IsReplayed}
 use Rattle.lsm_manifest.proofs.CallerLemmas.{one_manifest, one_shape}
-use Rattle.lsm_shelf.specs.FileNames.{manifest_name, current_text}
+use Rattle.lsm_storage.specs.FileNames.{manifest_name, current_text}
 use Rattle.lsm_crash.specs.Disk.{Disk}
 use Rattle.lsm_crash.specs.Crash.{Found, IsFresh, IsLeft}
 use Rattle.lsm_crash.specs.Versions.{AreThere, ComesTo, Tables, Version}

@@ -8,8 +8,8 @@ use Rattle.lsm_manifest.specs.Edit.{IsEdit}
 use Rattle.lsm_manifest.specs.LogWriting.{record_text}
 use Rattle.lsm_manifest.specs.Shape.{IsShape}
 use Rattle.lsm_manifest.specs.WholeEdit.{whole_edit}
-use Rattle.lsm_shelf.specs.FileNames.{table_name, manifest_name, temporary_name, current_text}
-use Rattle.lsm_shelf.specs.Plans.{append_plan, name_plan, put_plan, remove_plan, start_plan}
+use Rattle.lsm_storage.specs.FileNames.{table_name, manifest_name, temporary_name, current_text}
+use Rattle.lsm_storage.specs.Plans.{append_plan, name_plan, put_plan, remove_plan, start_plan}
 use Rattle.lsm_crash.specs.Disk.{Disk, Names, Step, empty_disk, filled, moved, named, with_file, with_names}
 use Rattle.lsm_crash.specs.Crash.{Found, IsFileLeft, IsFresh, IsLeft}
 use Rattle.lsm_crash.specs.Versions.{IsNamed, Tables, Version}

@@ -5,7 +5,7 @@ use Rattle.std.specs.Char.{digit_value}
 use Rattle.std.specs.Str.Parse.{AllDigits, digits_value}
 use Rattle.std.proofs.lemmas.Fmt.{decimal_is_IsNumeral}
 use Rattle.std.proofs.lemmas.List.{append_cancel_left, append_cancel_right}
-use Rattle.lsm_shelf.specs.FileNames.{padded, table_name, manifest_name, temporary_name, current_text}
+use Rattle.lsm_storage.specs.FileNames.{padded, table_name, manifest_name, temporary_name, current_text}
 use Rattle.lsm_crash.specs.Known.{current_name}
 
 -- ---- numbers with zeros in front

@@ -3,8 +3,8 @@ use Rattle.std.proofs.Common.{◌≡◌, ℕ, ◌<◌, ◌^◌, List, [], ◌∷
 use Rattle.std.specs.Prelude.{Ok, Err}
 use Rattle.lsm_codec.specs.Lists.{Has}
 use Rattle.lsm_folder.specs.Calls.{Answer, wrote, synced}
-use Rattle.lsm_shelf.specs.FileNames.{manifest_name, temporary_name, current_text}
-use Rattle.lsm_shelf.specs.Plans.{Step as Asked, start_plan, unnamed_plan}
+use Rattle.lsm_storage.specs.FileNames.{manifest_name, temporary_name, current_text}
+use Rattle.lsm_storage.specs.Plans.{Step as Asked, start_plan, unnamed_plan}
 use Rattle.lsm_crash.specs.Disk.{Disk}
 use Rattle.lsm_crash.specs.Crash.{Found, IsLeft}
 use Rattle.lsm_crash.specs.Versions.{AreThere, Version}

@@ -5,9 +5,9 @@ use Rattle.std.proofs.lemmas.List.{append_cancel_right}
 use Rattle.lsm_folder.specs.Calls.{Call, appended, loaded, made, measured, removed, synced}
 use Rattle.lsm_folder.specs.declared.folder_fault.FolderFault.{FolderFault}
 use Rattle.lsm_folder.specs.declared.folder_fault.FolderFault.TheVariants as folder
-use Rattle.lsm_shelf.specs.FileNames.{manifest_name, table_name, temporary_name, current_text}
-use Rattle.lsm_shelf.specs.FolderFault.{missing_of}
-use Rattle.lsm_shelf.specs.Plans.{Step as Asked, AppendStopped, CurrentStopped, MeasureStopped, PutStopped, Refused, RemoveStopped, StartStopped, StartedFrom, append_plan, current_plan, current_read, done, durable_plan, manifest_measured, unnamed_plan}
+use Rattle.lsm_storage.specs.FileNames.{manifest_name, table_name, temporary_name, current_text}
+use Rattle.lsm_storage.specs.FolderFault.{missing_of}
+use Rattle.lsm_storage.specs.Plans.{Step as Asked, AppendStopped, CurrentStopped, MeasureStopped, PutStopped, Refused, RemoveStopped, StartStopped, StartedFrom, append_plan, current_plan, current_read, done, durable_plan, manifest_measured, unnamed_plan}
 use Rattle.lsm_shelf.specs.declared.shelf_fault.ShelfFault.{ShelfFault}
 use Rattle.lsm_shelf.specs.declared.shelf_fault.ShelfFault.TheVariants as why
 use Rattle.lsm_crash.specs.Disk.{After, Disk, Leaves, Step}

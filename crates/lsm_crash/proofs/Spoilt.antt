@@ -2,7 +2,7 @@
 use Rattle.std.proofs.Common.{◌≡◌, ℕ, ◌≤◌, List, length, take, refl, sym, ◌∙◌, ap, subst, inl, inr, arith, ◌⊎◌, Some, None, true}
 use Rattle.std.specs.Prelude.{Option}
 use Rattle.std.proofs.lemmas.List.{take_all}
-use Rattle.lsm_shelf.specs.FileNames.{table_name, manifest_name, current_text}
+use Rattle.lsm_storage.specs.FileNames.{table_name, manifest_name, current_text}
 use Rattle.lsm_crash.specs.Disk.{Disk}
 use Rattle.lsm_crash.specs.Crash.{Found, IsFileSpoilt, IsSpoilt}
 use Rattle.lsm_crash.specs.Versions.{ComesTo}

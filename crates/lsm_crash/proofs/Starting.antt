@@ -3,8 +3,8 @@ use Rattle.std.proofs.Common.{◌≡◌, ℕ, ◌<◌, ◌^◌, List, [], ◌∷
 use Rattle.std.specs.Prelude.{Ok, Err}
 use Rattle.lsm_codec.specs.Lists.{Has}
 use Rattle.lsm_folder.specs.Calls.{Call, Answer, wrote, synced, folder_synced, renamed}
-use Rattle.lsm_shelf.specs.FileNames.{table_name, manifest_name, temporary_name, current_text}
-use Rattle.lsm_shelf.specs.Plans.{Step as Asked, start_plan, unnamed_plan}
+use Rattle.lsm_storage.specs.FileNames.{table_name, manifest_name, temporary_name, current_text}
+use Rattle.lsm_storage.specs.Plans.{Step as Asked, start_plan, unnamed_plan}
 use Rattle.lsm_crash.specs.Disk.{Disk, Step, Shows, SyncsFolder, Renames}
 use Rattle.lsm_crash.specs.Versions.{AreThere, Version}
 use Rattle.lsm_crash.specs.Known.{Is, IsHeld, IsSettled, IsSound, Known, NamesOne, Stands, Tells, current_name, known_of}

@@ -4,8 +4,8 @@ use Rattle.std.specs.Prelude.{Ok, Err}
 use Rattle.std.proofs.lemmas.Bool.{cases_Bool, eqb-true, eq-eqb}
 use Rattle.lsm_codec.specs.Lists.{Has}
 use Rattle.lsm_folder.specs.Calls.{Call, Answer, made, synced, folder_synced, removed}
-use Rattle.lsm_shelf.specs.FileNames.{table_name, manifest_name}
-use Rattle.lsm_shelf.specs.Plans.{Step as Asked, put_plan, remove_plan}
+use Rattle.lsm_storage.specs.FileNames.{table_name, manifest_name}
+use Rattle.lsm_storage.specs.Plans.{Step as Asked, put_plan, remove_plan}
 use Rattle.lsm_crash.specs.Disk.{Disk, Step, set}
 use Rattle.lsm_crash.specs.Versions.{AreThere, IsNamed, Tables}
 use Rattle.lsm_crash.specs.Known.{IsHeld, IsSettled, IsSound, Stands, World, current_name, known_of}

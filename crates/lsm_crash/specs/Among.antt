@@ -3,8 +3,8 @@ use Rattle.std.specs.Prelude.{◌≡◌, ◌⊎◌, ℕ, ◌^◌, ◌<◌, List,
 use Rattle.lsm_folder.specs.Calls.{Call, opened, made, wrote, appended, synced, folder_synced, renamed, removed, measured, read, loaded, listed, locked}
 use Rattle.lsm_folder.specs.declared.folder_fault.FolderFault.{FolderFault}
 use Rattle.lsm_folder.specs.declared.folder_fault.FolderFault.TheVariants as folder
-use Rattle.lsm_shelf.specs.FileNames.{table_name, manifest_name, temporary_name}
-use Rattle.lsm_shelf.specs.Plans.{Step as Asked, unnamed_plan}
+use Rattle.lsm_storage.specs.FileNames.{table_name, manifest_name, temporary_name}
+use Rattle.lsm_storage.specs.Plans.{Step as Asked, unnamed_plan}
 use Rattle.lsm_crash.specs.Disk.{Disk, Step, set}
 use Rattle.lsm_crash.specs.Versions.{Tables}
 use Rattle.lsm_crash.specs.Known.{Stands, World, current_name}

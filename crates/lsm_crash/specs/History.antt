@@ -1,8 +1,8 @@
 -- What may come to pass of a database: runs, operations that were cut or refused, crashes, starts
 -- over what is known, in any order and as often as one likes.
 use Rattle.std.specs.Prelude.{◌≡◌, ℕ, ◌^◌, ◌<◌, List, [], ◌∷◌, Some, None}
-use Rattle.lsm_shelf.specs.FileNames.{manifest_name, current_text}
-use Rattle.lsm_shelf.specs.Plans.{start_plan}
+use Rattle.lsm_storage.specs.FileNames.{manifest_name, current_text}
+use Rattle.lsm_storage.specs.Plans.{start_plan}
 use Rattle.lsm_crash.specs.Disk.{Disk, Shows}
 use Rattle.lsm_crash.specs.Crash.{Found, IsFresh, IsLeft}
 use Rattle.lsm_crash.specs.Versions.{ComesTo, Version}

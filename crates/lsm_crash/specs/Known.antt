@@ -1,7 +1,7 @@
 -- What is known of a disk: between two operations, and where one was cut or refused.
 use Rattle.std.specs.Prelude.{◌≡◌, ◌⊎◌, ℕ, ◌^◌, ◌<◌, ◌≤◌, Bool, true, false, List, [], ◌∷◌, length, take, codes, Option, Some, None}
 use Rattle.lsm_codec.specs.Lists.{Has}
-use Rattle.lsm_shelf.specs.FileNames.{table_name, manifest_name, current_text}
+use Rattle.lsm_storage.specs.FileNames.{table_name, manifest_name, current_text}
 use Rattle.lsm_crash.specs.Disk.{Disk}
 use Rattle.lsm_crash.specs.Crash.{Found, May}
 use Rattle.lsm_crash.specs.Versions.{AreThere, ComesTo, Tables, Version}

@@ -1,7 +1,7 @@
 -- What a database asks of its shelf, by the shelf's plans, and when it may.
 use Rattle.std.specs.Prelude.{◌≡◌, ℕ, ◌^◌, ◌<◌, List, [], ◌∷◌, ◌++◌, Some, None, false}
 use Rattle.lsm_codec.specs.Lists.{Has}
-use Rattle.lsm_shelf.specs.Plans.{Step as Asked, put_plan, remove_plan, append_plan, start_plan}
+use Rattle.lsm_storage.specs.Plans.{Step as Asked, put_plan, remove_plan, append_plan, start_plan}
 use Rattle.lsm_crash.specs.Disk.{set}
 use Rattle.lsm_crash.specs.Versions.{AreThere, ComesTo, IsNamed, LeadsTo, Tables, Version}
 use Rattle.lsm_crash.specs.Known.{Known, World, known_of}

@@ -12,7 +12,7 @@ use Rattle.lsm_folder.specs.Calls.{Call, listed, measured}
 use Rattle.lsm_folder.specs.FolderFault.{NotNamed}
 use Rattle.lsm_folder.specs.declared.folder_fault.FolderFault.{FolderFault}
 use Rattle.lsm_folder.specs.declared.folder_fault.FolderFault.TheVariants as folder
-use Rattle.lsm_shelf.specs.FolderFault.{device_of}
+use Rattle.lsm_storage.specs.FolderFault.{device_of}
 use Rattle.lsm_shelf.specs.declared.shelf_fault.ShelfFault.{ShelfFault}
 use Rattle.lsm_shelf.specs.declared.shelf_fault.ShelfFault.TheVariants as shelf
 use Rattle.lsm_directory.specs.Logs.{AreThose}

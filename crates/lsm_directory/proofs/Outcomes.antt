@@ -22,7 +22,7 @@ use Rattle.lsm_journal.specs.declared.recover_fault.RecoverFault.TheVariants as 
 use Rattle.lsm_version.specs.Versions.{Levels}
 use Rattle.lsm_commands.specs.declared.directory_command.DirectoryCommand.{DirectoryCommand}
 use Rattle.std.specs.Option.{option_map}
-use Rattle.lsm_shelf.specs.FileNames.{padded, table_name}
+use Rattle.lsm_storage.specs.FileNames.{padded, table_name}
 use Rattle.lsm_directory.specs.DirectoryFault.{line_of, of_open}
 use Rattle.lsm_directory.specs.Answers.{HasNoNote, IsDone, IsFault, IsRefused, Leaves, Prints, PrintsBefore}
 use Rattle.lsm_commands.specs.declared.form.Form.{Form}

@@ -9,7 +9,7 @@ use Rattle.lsm_table.specs.Fault as table
 use Rattle.lsm_shelf.specs.declared.shelf_fault.ShelfFault.{ShelfFault}
 use Rattle.lsm_shelf.specs.declared.shelf_fault.ShelfFault.TheVariants as shelf_faults
 use Rattle.lsm_shelf.specs.ShelfFault as shelf
-use Rattle.lsm_shelf.specs.FileNames.{table_name}
+use Rattle.lsm_storage.specs.FileNames.{table_name}
 use Rattle.lsm_manifest.specs.LogFault as log
 use Rattle.lsm_manifest.specs.EditFault as edit
 use Rattle.lsm_manifest.specs.ReplayFault as replay

@@ -5,7 +5,7 @@ use Rattle.lsm_folder.specs.declared.folder_fault.FolderFault.{FolderFault}
 use Rattle.lsm_folder.specs.declared.folder_fault.FolderFault.TheVariants.{Missing}
 use Rattle.lsm_folder.specs.declared.lock_kind.LockKind.{LockKind}
 use Rattle.lsm_folder.specs.declared.lock_kind.LockKind.TheVariants.{Shared, Exclusive}
-use Rattle.lsm_shelf.specs.FolderFault.{device_of}
+use Rattle.lsm_storage.specs.FolderFault.{device_of}
 use Rattle.lsm_shelf.specs.Told.{NotNamed}
 use Rattle.lsm_directory.specs.declared.directory_fault.DirectoryFault.{DirectoryFault}
 use Rattle.lsm_directory.specs.declared.directory_fault.DirectoryFault.TheVariants.{OutOfMemory, Write, Shelf, Manifest, Tables, Read, NumbersSpent, Locked}

@@ -2,9 +2,9 @@
 
 ghost use Rattle.std.specs.Prelude.{◌≡◌, ◌∷◌, [], IfErr, IfOk, OnOk};
 ghost use Rattle.lsm_folder.specs.Calls.{opened};
-ghost use Rattle.lsm_folder.specs.Place.{IsAtPath};
+ghost use Rattle.lsm_shelf.specs.Place.{IsAtPath};
 ghost use Rattle.lsm_folder.specs.SystemFolder.{system_calls, system_place};
-ghost use Rattle.lsm_shelf.specs.FolderFault.{device_of};
+ghost use Rattle.lsm_storage.specs.FolderFault.{device_of};
 ghost use Rattle.lsm_shelf.specs.Told.{NotNamed};
 ghost use Rattle.lsm_directory.specs.Holding.{IsFolderFault, IsHeld, IsUnheld};
 

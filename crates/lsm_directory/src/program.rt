@@ -2,7 +2,7 @@
 
 ghost use Rattle.std.specs.Prelude.{◌≡◌, ◌≢◌, ◌++◌, [], ◌∷◌, IfErr, IfSome, OnOk, codes};
 ghost use Rattle.std.specs.Io.KnownBytes.{Appends};
-ghost use Rattle.lsm_shelf.specs.FileNames.{table_name};
+ghost use Rattle.lsm_storage.specs.FileNames.{table_name};
 ghost use Rattle.lsm_directory.specs.Answers.{IsDone, IsRefused};
 ghost use Rattle.lsm_directory.specs.Directory.{OnlyReads};
 ghost use Rattle.lsm_directory.specs.DirectoryFault.{fault_line, fault_text, file_of, named_in, names_files};

@@ -2,7 +2,7 @@
 
 ghost use Rattle.std.specs.Prelude.{◌≡◌, ◌≢◌, ◌++◌, ◌∷◌, [], OnOk, codes};
 ghost use Rattle.std.specs.Io.KnownBytes.{Appends, Keeps};
-ghost use Rattle.lsm_shelf.specs.FileNames.{padded, table_name};
+ghost use Rattle.lsm_storage.specs.FileNames.{padded, table_name};
 ghost use Rattle.lsm_directory.specs.DirectoryFault.{file_line};
 
 use crate::directory_fault::DirectoryFault;

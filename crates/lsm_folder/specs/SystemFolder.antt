@@ -3,7 +3,7 @@ use Rattle.std.specs.Prelude.{List, ℕ, string_bytes}
 use Rattle.std.specs.Arc.{arc_value}
 use Rattle.boxcar.specs.Table.{Shows}
 use Rattle.lsm_folder.specs.Calls.{Call}
-use Rattle.lsm_folder.specs.Place.{Place, in_memory, at_path}
+use Rattle.lsm_shelf.specs.Place.{Place, in_memory, at_path}
 use Rattle.lsm_folder.specs.declared.system_folder.SystemFolder.{SystemFolder}
 use Rattle.lsm_folder.specs.declared.system_mark.SystemMark.{SystemMark}
 

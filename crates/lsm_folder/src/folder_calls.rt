@@ -1,7 +1,7 @@
 //! What a shelf asks of a folder.
 
 ghost use Rattle.std.specs.Prelude.{◌≡◌, ℕ, ◌+◌, ◌≤◌, ◌^◌, List, [], ◌∷◌, Ok, Err, length, map, IfOk, IfErr, IsTrue, MatchResult, string_bytes};
-ghost use Rattle.lsm_folder.specs.Place.{Place};
+ghost use Rattle.lsm_shelf.specs.Place.{Place};
 ghost use Rattle.lsm_folder.specs.FolderFault.{NotMissing, NotExists, NotNamed};
 ghost use Rattle.lsm_folder.specs.Calls.{Call, answer_of, made, wrote, appended, synced, folder_synced, renamed, removed, measured, read, loaded, listed, locked};
 

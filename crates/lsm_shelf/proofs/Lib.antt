@@ -1,5 +1,1 @@
 pub mod CallerLemmas
-mod Padding
-mod Ascending
-mod Tables
-mod Receipts

@@ -1,10 +1,4 @@
+pub mod Place
 pub mod ShelfFault
 pub mod Told
-pub mod Account
 pub mod Asked
-pub mod Directory
-pub mod MemoryShelf
-pub mod FileNames
-pub mod FolderFault
-pub mod Plans
-pub mod FileShelf

@@ -1,6 +1,6 @@
 -- What contracts see of a shelf's value, and what a call leaves of it (this project's rule).
 use Rattle.std.specs.Prelude.{◌≡◌, ℕ, ◌+◌, ◌-◌, ◌^◌, ◌≤◌, min, List, [], ◌∷◌, ◌++◌, Option, None, Some, Result, Ok, Err}
-pub use Rattle.lsm_folder.specs.Place.{Place, in_memory, at_path}
+pub use Rattle.lsm_shelf.specs.Place.{Place, in_memory, at_path}
 use Rattle.lsm_shelf.specs.declared.shelf_fault.ShelfFault.{ShelfFault}
 use Rattle.lsm_shelf.specs.declared.shelf_fault.ShelfFault.TheVariants.{OutOfMemory, Device, Missing, Taken}
 

@@ -1,9 +1,5 @@
 pub use Rattle.lsm_shelf.specs.ShelfFault
 pub use Rattle.lsm_shelf.specs.Told
-pub use Rattle.lsm_shelf.specs.MemoryShelf
-pub use Rattle.lsm_shelf.specs.FileNames
-pub use Rattle.lsm_shelf.specs.FileShelf
-pub use Rattle.lsm_shelf.specs.Plans
 pub mod Options
 pub mod Fault
 pub mod Reading

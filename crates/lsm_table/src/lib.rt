@@ -35,10 +35,7 @@ pub use footer::{FOOTER, Footer};
 pub use found::Found;
 pub use handle::Handle;
 pub use lsm_block::BuildFault;
-pub use lsm_shelf::{
-    CountShelf, FileReceipt, FileShelf, FuseShelf, MemoryReceipt, MemoryShelf, Shelf, ShelfFault,
-    Slip, SystemShelf,
-};
+pub use lsm_shelf::{Shelf, ShelfFault, Slip};
 pub use naming::Naming;
 pub use read_fault::ReadFault;
 pub use registry::Registry;

@@ -4,7 +4,8 @@ ghost use Rattle.std.specs.Prelude.{◌≡◌};
 
 use crate::expectation::expect;
 use lsm_codec::Bytes;
-use lsm_table::{MemoryShelf, Naming, Registry, Shelf, ShelfFault, TableRecord, TableRef};
+use lsm_storage::MemoryShelf;
+use lsm_table::{Naming, Registry, Shelf, ShelfFault, TableRecord, TableRef};
 use std::alloc::Global;
 use std::marker::Brand;
 use std::process::Abort;

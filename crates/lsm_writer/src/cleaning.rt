@@ -3,7 +3,7 @@
 ghost use Rattle.std.specs.Prelude.{◌≡◌, ◌++◌, ◌∷◌, [], Ok, IfErr, OnOk, map, string_bytes};
 ghost use Rattle.std.specs.Io.KnownBytes.{Appends};
 ghost use Rattle.lsm_folder.specs.Calls.{AreHonest, removed};
-ghost use Rattle.lsm_shelf.specs.FolderFault.{device_of};
+ghost use Rattle.lsm_storage.specs.FolderFault.{device_of};
 ghost use Rattle.lsm_shelf.specs.Told.{NotNamed};
 ghost use Rattle.lsm_writer.specs.Cleaning.{AreRemoved, AreSparesGone, IsCleaned, IsTidied, IsSpare, IsUncleaned, IsUnremoved, IsUntidied, Removes, StopsCleaning, StopsRemoving};
 ghost use Rattle.lsm_writer.specs.WriterFault.{of_shelf};

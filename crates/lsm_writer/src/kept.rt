@@ -11,7 +11,7 @@ use crate::names::{is_temporary, manifest_in, table_in};
 use crate::writer_fault::WriterFault;
 use lsm_folder::FolderCalls;
 use lsm_journal::Found;
-use lsm_shelf::FileShelf;
+use lsm_storage::FileShelf;
 use lsm_table::{Naming, Registry, Shelf};
 use std::alloc::{AllocError, Global};
 use std::marker::Brand;

@@ -3,7 +3,7 @@
 ghost use Rattle.std.specs.Prelude.{◌≡◌, ◌≢◌, ◌≤◌, ◌∷◌, [], IfErr, IfOk, OnErr, OnOk};
 ghost use Rattle.std.specs.Io.KnownBytes.{Keeps};
 ghost use Rattle.lsm_folder.specs.Calls.{AreHonest, opened};
-ghost use Rattle.lsm_folder.specs.Place.{IsAtPath};
+ghost use Rattle.lsm_shelf.specs.Place.{IsAtPath};
 ghost use Rattle.lsm_folder.specs.SystemFolder.{system_calls, system_place};
 ghost use Rattle.lsm_shelf.specs.Told.{NotNamed};
 ghost use Rattle.lsm_shelf.specs.declared.shelf_fault.ShelfFault.{ShelfFault};
@@ -25,7 +25,7 @@ use crate::writing_line::WritingLine;
 use lsm_batch::Batch;
 use lsm_commands::Form;
 use lsm_folder::{FolderCalls, Reasons, SystemFolder};
-use lsm_shelf::FileShelf;
+use lsm_storage::FileShelf;
 use lsm_table::Shelf;
 use std::alloc::Global;
 use std::fs;

@@ -1,5 +1,5 @@
 use Rattle.std.specs.Arc.{arc_value}
-use Rattle.lsm_shelf.specs.MemoryShelf.{memory_told}
+use Rattle.lsm_storage.specs.MemoryShelf.{memory_told}
 use Rattle.example.proofs.store.show_store.Given as goal
 
 -- the name stands for the registry and the contents that were just made

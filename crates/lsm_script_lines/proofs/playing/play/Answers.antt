@@ -1,4 +1,4 @@
-use Rattle.lsm_shelf.specs.MemoryShelf.{memory_told}
+use Rattle.lsm_storage.specs.MemoryShelf.{memory_told}
 use Rattle.lsm_script_lines.proofs.Outcomes.{in_memory, uncreated}
 use Rattle.lsm_script_lines.proofs.playing.play.Goals as goal
 

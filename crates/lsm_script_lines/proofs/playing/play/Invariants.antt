@@ -1,5 +1,5 @@
 use Rattle.std.specs.Arc.{arc_value}
-use Rattle.lsm_shelf.specs.MemoryShelf.{memory_told}
+use Rattle.lsm_storage.specs.MemoryShelf.{memory_told}
 use Rattle.lsm_script_lines.proofs.playing.play.Given as goal
 
 -- the name stands for the registry and the board that were just made, and for the contents of the new shelf

@@ -1,7 +1,0 @@
-use Rattle.std.proofs.Common.{rules}
-use Rattle.std.specs.Prelude.{decimal}
-use Rattle.lsm_shelf.proofs.Padding.{padded_integral-six}
-use Rattle.lsm_shelf.proofs.file.file_names.digits_of.Goals as goal
-
-pub returns : goal.returns
-returns c = search (rules, padded_integral-six (decimal c.args.number))

@@ -1,0 +1,4 @@
+mod Padding
+mod Ascending
+mod Tables
+mod Receipts

@@ -1,0 +1,7 @@
+pub mod Account
+pub mod Directory
+pub mod MemoryShelf
+pub mod FileNames
+pub mod FolderFault
+pub mod Plans
+pub mod FileShelf

@@ -1,0 +1,86 @@
+//! How a manifest is started in a folder.
+
+ghost use Rattle.std.specs.Prelude.{◌≡◌, ◌<◌, ◌^◌, length, IfErr, OnOk, IsErrOf};
+ghost use Rattle.lsm_storage.specs.Plans.{done, Refused, StartedFrom, StartStopped, WriteStopped, current_plan, start_plan};
+ghost use Rattle.lsm_shelf.specs.Told.{NotNamed, TakenIs};
+
+use crate::file::current::names_manifest;
+use crate::file::fault::device;
+use crate::file::file_names::{manifest_file, temporary_file, text_of_current};
+use lsm_shelf::ShelfFault;
+use crate::slip::MAX_IMAGE;
+use lsm_folder::{FolderCalls, FolderFault};
+use std::alloc::Global;
+use std::sync::Wait;
+
+/// Gives a file the name `CURRENT`, and makes that durable.
+fn make_current<C: FolderCalls, W: Wait>(
+    folder: &mut C,
+    rt: &W,
+    name: &str,
+) -> Result<(), FolderFault>
+    ensures ok { OnOk result (C.calls folder.new ≡ done (current_plan name.now) (C.calls folder.old)) }
+    ensures err { IfErr result (λ f. Refused (current_plan name.now) f (C.calls folder.old) (C.calls folder.new)) }
+    ensures place { C.place folder.new ≡ C.place folder.old }
+{
+    folder.rename(rt, name, "CURRENT")?;
+    folder.sync_folder(rt)
+}
+
+/// Writes a manifest over what has its name, and makes `CURRENT` name it. Where the last step is
+/// refused, `CURRENT` may name it all the same: that is the device, also for want of memory.
+fn write_manifest<C: FolderCalls, W: Wait>(
+    folder: &mut C,
+    rt: &W,
+    alloc: Global,
+    number: u64,
+    bytes: &[u8],
+) -> Result<(), ShelfFault>
+    ensures ok { OnOk result (C.calls folder.new ≡ done (start_plan number bytes.now) (C.calls folder.old)) }
+    ensures err { IfErr result (λ e. WriteStopped number bytes.now e (C.calls folder.old) (C.calls folder.new)) }
+    ensures place { C.place folder.new ≡ C.place folder.old }
+    ensures fault { IfErr result NotNamed }
+{
+    let manifest = manifest_file(alloc, number)?;
+    let temporary = temporary_file(alloc, number)?;
+    let text = text_of_current(alloc, number)?;
+    folder
+        .write(rt, manifest.as_str(), bytes)
+        .map_err(|e| device(e))?;
+    folder.sync(rt, manifest.as_str()).map_err(|e| device(e))?;
+    folder.sync_folder(rt).map_err(|e| device(e))?;
+    folder
+        .write(rt, temporary.as_str(), text.as_bytes())
+        .map_err(|e| device(e))?;
+    folder.sync(rt, temporary.as_str()).map_err(|e| device(e))?;
+    match make_current(folder, rt, temporary.as_str()) {
+        Ok(()) => Ok(()),
+        Err(_) => Err(ShelfFault::Device),
+    }
+}
+
+/// Starts a manifest, where `CURRENT` does not name one of this number.
+pub(crate) fn start_manifest<C: FolderCalls, W: Wait>(
+    folder: &mut C,
+    rt: &W,
+    alloc: Global,
+    number: u64,
+    bytes: &[u8],
+) -> Result<(), ShelfFault>
+    ensures ok { OnOk result (StartedFrom number bytes.now (C.calls folder.old) (C.calls folder.new)) }
+    ensures err { IfErr result (λ e. StartStopped number bytes.now e (C.calls folder.old) (C.calls folder.new)) }
+    ensures large { 2 ^ 30 < length bytes.now → IsErrOf result ShelfFault.Device × (C.calls folder.new ≡ C.calls folder.old) }
+    ensures place { C.place folder.new ≡ C.place folder.old }
+    ensures fault { IfErr result (TakenIs number) }
+{
+    if bytes.len() > MAX_IMAGE {
+        return Err(ShelfFault::Device);
+    }
+    if names_manifest(folder, rt, alloc, number)? {
+        return Err(ShelfFault::Taken(number));
+    }
+    match write_manifest(folder, rt, alloc, number, bytes) {
+        Ok(()) => Ok(()),
+        Err(fault) => Err(fault),
+    }
+}
