@@ -32,6 +32,7 @@ pub mod laws;
 pub use begin_fault::BeginFault;
 pub use desk::Desk;
 pub use gate::{Gate, NoGate};
+pub use lsm_storage::{FileReceipt, FileShelf, MemoryReceipt, MemoryShelf, SystemShelf};
 pub use reader::Reader;
 pub use store::Store;
 pub use view::View;
