@@ -12,4 +12,4 @@ mod slip;
 
 pub use shelf::Shelf;
 pub use shelf_fault::ShelfFault;
-pub use slip::Slip;
+pub use slip::{MAX_IMAGE, Slip};

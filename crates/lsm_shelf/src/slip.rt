@@ -3,7 +3,7 @@
 ghost use Rattle.std.specs.Prelude.{◌≡◌, ℕ, ◌≤◌, ◌^◌, List, length};
 
 /// The most bytes that an image may have: 1 GiB.
-pub(crate) const MAX_IMAGE: usize = 1 << 30;
+pub const MAX_IMAGE: usize = 1 << 30;
 
 /// What a shelf hands out for an image: it has the image's number and length, and stands for its
 /// bytes.

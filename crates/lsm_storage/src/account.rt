@@ -4,8 +4,8 @@ ghost use Rattle.std.specs.Prelude.{◌≡◌, ◌+◌, ◌≤◌, ◌∷◌, �
 ghost use Rattle.lsm_storage.specs.Account.{counted_by, told_in};
 ghost use Rattle.lsm_shelf.specs.Told.{Place, Counted, CountedBy};
 
-use lsm_shelf::ShelfFault;
 use boxcar::tag::{Names, Tag};
+use lsm_shelf::ShelfFault;
 
 /// What a shelf's value was told: two counts that exist when the program runs, and lists that only
 /// contracts read.

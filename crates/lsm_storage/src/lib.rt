@@ -13,9 +13,7 @@ mod account;
 mod file;
 mod memory;
 
-pub use account::{
-    Account, tag_of_both, tag_of_bytes, tag_of_more, tag_of_number, tag_of_numbers,
-};
+pub use account::{Account, tag_of_both, tag_of_bytes, tag_of_more, tag_of_number, tag_of_numbers};
 pub use file::{FileReceipt, FileShelf, SystemShelf};
 pub use lsm_shelf::{Shelf, ShelfFault, Slip};
 pub use memory::{MemoryReceipt, MemoryShelf};

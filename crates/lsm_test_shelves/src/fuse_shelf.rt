@@ -5,11 +5,9 @@ ghost use Rattle.lsm_storage.specs.Account.{told_in};
 ghost use Rattle.lsm_shelf.specs.Asked.{MayRefuse};
 ghost use Rattle.lsm_shelf.specs.Told.{fresh};
 
-use lsm_storage::{
-    Account, tag_of_both, tag_of_bytes, tag_of_more, tag_of_number, tag_of_numbers,
-};
 use crate::fuse::Fuse;
 use lsm_shelf::{Shelf, ShelfFault};
+use lsm_storage::{Account, tag_of_both, tag_of_bytes, tag_of_more, tag_of_number, tag_of_numbers};
 use std::alloc::Global;
 use std::sync::Wait;
 

@@ -7,9 +7,8 @@ ghost use Rattle.lsm_shelf.specs.Told.{NotTaken};
 use crate::file::current::current;
 use crate::file::fault::missing;
 use crate::file::file_names::manifest_file;
-use lsm_shelf::ShelfFault;
-use crate::slip::MAX_IMAGE;
 use lsm_folder::FolderCalls;
+use lsm_shelf::{MAX_IMAGE, ShelfFault};
 use std::sync::Wait;
 
 /// Whether a file of this length stays within 1 GiB with so many bytes more.

@@ -20,8 +20,8 @@ use crate::file::file_shelf::FileShelf;
 use crate::file::listing::list_tables;
 use crate::file::start::start_manifest;
 use crate::file::tables::{load_table, put_table, read_table, remove_table};
-use lsm_shelf::{Shelf, ShelfFault};
 use lsm_folder::FolderCalls;
+use lsm_shelf::{Shelf, ShelfFault};
 use std::alloc::Global;
 use std::sync::Wait;
 

@@ -8,8 +8,8 @@ ghost use Rattle.lsm_shelf.specs.Told.{NotNamed, NotTaken};
 
 use crate::file::fault::missing;
 use crate::file::file_names::{manifest_file, manifest_in};
-use lsm_shelf::ShelfFault;
 use lsm_folder::FolderCalls;
+use lsm_shelf::ShelfFault;
 use std::alloc::Global;
 use std::sync::Wait;
 

@@ -3,8 +3,8 @@
 ghost use Rattle.std.specs.Prelude.{◌≡◌};
 ghost use Rattle.lsm_storage.specs.FolderFault.{device_of, missing_of, taken_of};
 
-use lsm_shelf::ShelfFault;
 use lsm_folder::FolderFault;
+use lsm_shelf::ShelfFault;
 
 /// A refusal of a call that needs no name.
 pub(crate) fn device(fault: FolderFault) -> ShelfFault

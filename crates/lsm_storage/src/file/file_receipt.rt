@@ -3,8 +3,8 @@
 ghost use Rattle.std.specs.Prelude.{◌≡◌, ◌≤◌, ◌^◌, length};
 ghost use Rattle.lsm_storage.specs.FileNames.{table_name};
 
-use lsm_shelf::Slip;
 use lsm_folder::Mark;
+use lsm_shelf::Slip;
 
 /// What a `FileShelf` hands out for an image: the number and size of the table's file, and the mark
 /// that the folder gave for it.

@@ -9,8 +9,8 @@ ghost use Rattle.lsm_storage.specs.FileShelf.{folder_of, file_told};
 
 use crate::account::Account;
 use crate::file::fault::device;
-use lsm_shelf::ShelfFault;
 use lsm_folder::{FolderCalls, SystemFolder};
+use lsm_shelf::ShelfFault;
 use std::fs::{File, Files};
 
 /// Tables and a manifest in a folder, as LevelDB names their files: `N.ldb`, `MANIFEST-N` and

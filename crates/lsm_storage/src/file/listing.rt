@@ -9,8 +9,8 @@ ghost use Rattle.lsm_shelf.specs.Told.{NotNamed};
 
 use crate::file::fault::device;
 use crate::file::file_names::table_in;
-use lsm_shelf::ShelfFault;
 use lsm_folder::FolderCalls;
+use lsm_shelf::ShelfFault;
 use std::alloc::{AllocError, Global};
 use std::sync::Wait;
 

@@ -7,9 +7,8 @@ ghost use Rattle.lsm_shelf.specs.Told.{NotNamed, TakenIs};
 use crate::file::current::names_manifest;
 use crate::file::fault::device;
 use crate::file::file_names::{manifest_file, temporary_file, text_of_current};
-use lsm_shelf::ShelfFault;
-use crate::slip::MAX_IMAGE;
 use lsm_folder::{FolderCalls, FolderFault};
+use lsm_shelf::{MAX_IMAGE, ShelfFault};
 use std::alloc::Global;
 use std::sync::Wait;
 

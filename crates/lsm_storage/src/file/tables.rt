@@ -10,9 +10,8 @@ ghost use Rattle.lsm_shelf.specs.Told.{NotNamed, NotTaken, TakenIs};
 use crate::file::fault::{device, missing, taken};
 use crate::file::file_names::table_file;
 use crate::file::file_receipt::FileReceipt;
-use lsm_shelf::ShelfFault;
-use crate::slip::MAX_IMAGE;
 use lsm_folder::{FolderCalls, FolderFault};
+use lsm_shelf::{MAX_IMAGE, ShelfFault};
 use std::alloc::Global;
 use std::sync::Wait;
 

@@ -3,8 +3,8 @@
 ghost use Rattle.std.specs.Prelude.{◌≡◌, ◌≤◌, ◌^◌, length};
 
 use crate::memory::image::Image;
-use lsm_shelf::Slip;
 use boxcar::Pushed;
+use lsm_shelf::Slip;
 
 /// What a `MemoryShelf` hands out for an image. The image stays in memory while any fork of the
 /// shelf lasts, whatever is removed from the directory.
