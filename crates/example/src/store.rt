@@ -3,7 +3,6 @@
 //! compacted and collected later.
 
 ghost use Rattle.std.specs.Prelude.{◌≡◌, All, IfOk, length};
-ghost use Rattle.std.specs.Arc.{arc_value};
 ghost use Rattle.std.specs.Option.{option_map};
 ghost use Rattle.lsm_codec.specs.Entries.{answer};
 ghost use Rattle.lsm_levels.specs.Files.{all_entries};
@@ -20,7 +19,7 @@ use lsm_state::{Options, State};
 use lsm_storage::MemoryShelf;
 use lsm_store::laws::made_states_seat_their_pinners;
 use lsm_store::{NoGate, Reader, Store, View, WorkerEnd, WorkerFault, run_workers};
-use lsm_table::{ReadFault, Registry, Shelf, ShelfFault};
+use lsm_table::{ReadFault, Records, Registry, Shelf, ShelfFault};
 use std::alloc::{AllocError, Global};
 use std::io::Print;
 use std::marker::Brand;
@@ -258,11 +257,10 @@ fn create<N: Boarded, S: Shelf, R: Wait>(
     alloc: Global,
     mut shelf: S,
     options: Options,
-    registry: Arc<Registry<S::Receipt>>,
+    registry: Arc<Registry<N, S>>,
     board: (Publisher, Vec<Pinner>),
 ) -> Result<(Store<N, S>, Vec<Reader<N, S>>), ShelfFault>
     requires fits { Fits options }
-    requires named { arc_value registry ≡ N.registry }
     requires here { (S.told shelf).place ≡ N.place }
     requires board { IsNewBoard N.board options board.0 board.1.items }
     requires seats { length board.1.items ≡ options.readers }
@@ -283,16 +281,17 @@ fn serve<N: Boarded, S: Shelf, R: Threads + Wait + Print + Sync>(
     alloc: Global,
     mut shelf: S,
     options: Options,
-    registry: Arc<Registry<S::Receipt>>,
+    records: Records<S::Receipt>,
     board: (Publisher, Vec<Pinner>),
 ) -> anyhow::Result<()>
     requires fits { Fits options }
-    requires named { arc_value registry ≡ N.registry }
+    requires records { records ≡ N.registry }
     requires here { (S.told shelf).place ≡ N.place }
     requires board { IsNewBoard N.board options board.0 board.1.items }
     requires seats { length board.1.items ≡ options.readers }
 {
     let mut writer = shelf.fork(alloc)?;
+    let registry = Registry::shared(alloc, records)?;
     let (store, mut readers) = create::<N, S, R>(rt, alloc, shelf, options, registry, board)?;
     work(rt, alloc, &store, &mut readers, &mut writer)
 }
@@ -300,8 +299,8 @@ fn serve<N: Boarded, S: Shelf, R: Threads + Wait + Print + Sync>(
 /// What a program does with a store.
 pub fn show_store<R: Threads + Wait + Print + Sync>(rt: &R, alloc: Global) -> anyhow::Result<()> {
     let options = Options::usual();
-    let registry = Arc::new(alloc, Registry::new(alloc)?)?;
+    let records = Records::new(alloc)?;
     let board = Board::new(alloc, options.readers, options.versions)?;
     let shelf = MemoryShelf::new(alloc)?;
-    serve::<Brand, MemoryShelf, _>(rt, alloc, shelf, options, registry, board)
+    serve::<Brand, MemoryShelf, _>(rt, alloc, shelf, options, records, board)
 }

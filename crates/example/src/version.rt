@@ -2,18 +2,17 @@
 //! what is read is what both say together, of one key the newest entry first.
 
 ghost use Rattle.std.specs.Prelude.{◌≡◌, ◌≤◌};
-ghost use Rattle.std.specs.Arc.{arc_value};
 
 use crate::table::fruit_table;
 use lsm_codec::{Bytes, Kind, List, MAX_SEQ, push_key};
 use lsm_manifest::{AddedFile, Edit, FileMeta, Shape, replay};
 use lsm_storage::MemoryShelf;
-use lsm_table::{BuildFault, Naming, Registry, Shelf, TableBuilder, TableOptions};
+use lsm_table::{BuildFault, Naming, Records, Registry, Shelf, TableBuilder, TableOptions};
 use lsm_version::{Pair, Scan, Version};
 use std::alloc::{AllocError, Global};
 use std::io::Print;
 use std::marker::Brand;
-use std::sync::{Arc, Wait};
+use std::sync::Wait;
 
 /// A newer table than the one of `fruit_table`: no apples any more, and sweet cherries.
 fn newer_table(alloc: Global) -> Result<Vec<u8>, BuildFault> {
@@ -169,22 +168,23 @@ fn read<N: Naming, S: Shelf>(
 fn check_and_read<N: Naming, S: Shelf, R: Wait + Print>(
     rt: &R,
     alloc: Global,
-    registry: Arc<Registry<S::Receipt>>,
+    records: Records<S::Receipt>,
     shelf: &mut S,
     shape: &Shape,
 ) -> anyhow::Result<()>
-    requires registry { arc_value registry ≡ N.registry }
+    requires records { records ≡ N.registry }
     requires shelf { (S.told shelf.old).place ≡ N.place }
     requires honest { S.honest }
 {
+    let registry = Registry::shared(alloc, records)?;
     let version = Version::<N, S>::check(shelf, rt, alloc, shape, registry)?;
     read(rt, alloc, &version, shelf)
 }
 
 /// What a program does with a version.
 pub fn show_version<R: Wait + Print>(rt: &R, alloc: Global) -> anyhow::Result<()> {
-    let registry = Arc::new(alloc, Registry::new(alloc)?)?;
+    let records = Records::new(alloc)?;
     let mut shelf = MemoryShelf::new(alloc)?;
     let shape = put_tables(rt, alloc, &mut shelf)?;
-    check_and_read::<Brand, MemoryShelf, _>(rt, alloc, registry, &mut shelf, &shape)
+    check_and_read::<Brand, MemoryShelf, _>(rt, alloc, records, &mut shelf, &shape)
 }

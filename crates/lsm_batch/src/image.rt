@@ -39,10 +39,9 @@ impl Image {
         rt: &R,
         alloc: Global,
         shelf: &mut S,
-        registry: &Registry<S::Receipt>,
+        registry: &Registry<N, S>,
         number: u64,
     ) -> Result<TableRef<N, S>, ShelfFault>
-        requires named { registry.now ≡ N.registry }
         requires here { (S.told shelf.old).place ≡ N.place }
         ensures table { IfOk result (IsPutAs self number) }
         ensures told { OnOk result (Becomes (putting number (S.told shelf.old)) (S.told shelf.new)) }

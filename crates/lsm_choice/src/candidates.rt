@@ -28,12 +28,11 @@ fn compare_keys(a: &[u8], b: &[u8]) -> Ordering
 
 /// Whether a table's largest key is beyond the compaction pointer of a level, or there is none.
 fn is_beyond<N: Naming, S: Shelf>(
-    registry: &Registry<S::Receipt>,
+    registry: &Registry<N, S>,
     version: &Version<N, S>,
     level: u8,
     table: &TableRef<N, S>,
 ) -> bool
-    requires named { registry.now ≡ N.registry }
     requires level { level ≤ 5 }
     ensures { result ≡ is_beyond (pointer_at version.now level) table.now }
 {
@@ -46,12 +45,11 @@ fn is_beyond<N: Naming, S: Shelf>(
 /// The plan that starts from a table of a level.
 fn plan_from<N: Naming, S: Shelf>(
     alloc: Global,
-    registry: &Registry<S::Receipt>,
+    registry: &Registry<N, S>,
     version: &Version<N, S>,
     level: u8,
     table: &TableRef<N, S>,
 ) -> Result<Option<Plan<N, S>>, AllocError>
-    requires named { registry.now ≡ N.registry }
     requires level { level ≤ 5 }
     requires stands { Has (level_in version.now.tables level) table.now }
     ensures level { IfOk result (λ r. IfSome r (λ p. p.level ≡ level)) }
@@ -68,13 +66,12 @@ fn plan_from<N: Naming, S: Shelf>(
 /// The plan that starts from a table of a level, unless it conflicts with a live job.
 fn clear_plan<N: Naming, S: Shelf>(
     alloc: Global,
-    registry: &Registry<S::Receipt>,
+    registry: &Registry<N, S>,
     version: &Version<N, S>,
     reservations: &[Reservation],
     level: u8,
     table: &TableRef<N, S>,
 ) -> Result<Option<Plan<N, S>>, AllocError>
-    requires named { registry.now ≡ N.registry }
     requires level { level ≤ 5 }
     requires stands { Has (level_in version.now.tables level) table.now }
     ensures level { IfOk result (λ r. IfSome r (λ p. p.level ≡ level)) }
@@ -95,14 +92,13 @@ fn clear_plan<N: Naming, S: Shelf>(
 /// Whether a table of a level is no input of a live job, and lies on that side of the level's
 /// compaction pointer.
 fn is_on_side<N: Naming, S: Shelf>(
-    registry: &Registry<S::Receipt>,
+    registry: &Registry<N, S>,
     version: &Version<N, S>,
     reservations: &[Reservation],
     level: u8,
     beyond: bool,
     table: &TableRef<N, S>,
 ) -> bool
-    requires named { registry.now ≡ N.registry }
     requires level { level ≤ 5 }
     ensures { IsTrue result ↔ ((is_taken reservations.now table.now ≡ false) × (is_beyond (pointer_at version.now level) table.now ≡ beyond)) }
 {
@@ -113,13 +109,12 @@ fn is_on_side<N: Naming, S: Shelf>(
 /// that conflicts with no live job.
 fn first_clear<N: Naming, S: Shelf>(
     alloc: Global,
-    registry: &Registry<S::Receipt>,
+    registry: &Registry<N, S>,
     version: &Version<N, S>,
     reservations: &[Reservation],
     level: u8,
     beyond: bool,
 ) -> Result<Option<Plan<N, S>>, AllocError>
-    requires named { registry.now ≡ N.registry }
     requires level { level ≤ 5 }
     ensures level { IfOk result (λ r. IfSome r (λ p. p.level ≡ level)) }
     ensures stands { IfOk result (λ r. IfSome r (λ p. StandsIn version.now p)) }
@@ -143,12 +138,11 @@ fn first_clear<N: Naming, S: Shelf>(
 /// pointer are tried first.
 pub(crate) fn choose_at<N: Naming, S: Shelf>(
     alloc: Global,
-    registry: &Registry<S::Receipt>,
+    registry: &Registry<N, S>,
     version: &Version<N, S>,
     reservations: &[Reservation],
     level: u8,
 ) -> Result<Option<Plan<N, S>>, AllocError>
-    requires named { registry.now ≡ N.registry }
     requires level { level ≤ 5 }
     ensures level { IfOk result (λ r. IfSome r (λ p. p.level ≡ level)) }
     ensures stands { IfOk result (λ r. IfSome r (λ p. StandsIn version.now p)) }

@@ -22,11 +22,10 @@ use std::alloc::{AllocError, Global};
 /// none) and then the others, both in the level's order. `AllocError` where a growth was refused.
 pub fn choose<N: Naming, S: Shelf>(
     alloc: Global,
-    registry: &Registry<S::Receipt>,
+    registry: &Registry<N, S>,
     version: &Version<N, S>,
     reservations: &[Reservation],
 ) -> Result<Option<Plan<N, S>>, AllocError>
-    requires { registry.now ≡ N.registry }
     // Whatever the shelf is.
     ensures stands { IfOk result (λ r. IfSome r (λ p. StandsIn version.now p)) }
     ensures clear { IfOk result (λ r. IfSome r (λ p. IsClear p reservations.now)) }

@@ -10,11 +10,10 @@ use lsm_table::{Naming, Registry, Shelf, TableRef};
 
 /// Whether a table is an input of a live job.
 pub(crate) fn is_taken<N: Naming, S: Shelf>(
-    registry: &Registry<S::Receipt>,
+    registry: &Registry<N, S>,
     reservations: &[Reservation],
     table: &TableRef<N, S>,
 ) -> bool
-    requires { registry.now ≡ N.registry }
     ensures { result ≡ is_taken reservations.now table.now }
 {
     let number = registry.record(table).number();
@@ -23,11 +22,10 @@ pub(crate) fn is_taken<N: Naming, S: Shelf>(
 
 /// Whether one of the tables is an input of a live job.
 fn shares<N: Naming, S: Shelf>(
-    registry: &Registry<S::Receipt>,
+    registry: &Registry<N, S>,
     tables: &[TableRef<N, S>],
     job: &Reservation,
 ) -> bool
-    requires { registry.now ≡ N.registry }
     ensures { result ≡ shares tables.now job.now }
 {
     for table in tables {
@@ -49,11 +47,10 @@ fn hulls_meet<N: Naming, S: Shelf>(plan: &Plan<N, S>, job: &Reservation) -> bool
 
 /// Whether a plan conflicts with a live job.
 fn conflicts<N: Naming, S: Shelf>(
-    registry: &Registry<S::Receipt>,
+    registry: &Registry<N, S>,
     plan: &Plan<N, S>,
     job: &Reservation,
 ) -> bool
-    requires { registry.now ≡ N.registry }
     ensures { result ≡ conflicts plan.now job.now }
 {
     hulls_meet(plan, job)
@@ -75,11 +72,10 @@ fn lesser_ticket(least: Option<u64>, ticket: u64) -> u64
 /// it, or have its output level and a hull that meets its hull. None exactly where it conflicts
 /// with none.
 pub fn conflict<N: Naming, S: Shelf>(
-    registry: &Registry<S::Receipt>,
+    registry: &Registry<N, S>,
     plan: &Plan<N, S>,
     reservations: &[Reservation],
 ) -> Option<u64>
-    requires { registry.now ≡ N.registry }
     ensures { MatchOption result (IsClear plan.now reservations.now) (λ ticket. IsLeastConflict plan.now reservations.now ticket) }
 {
     let mut least = None;

@@ -11,11 +11,10 @@ use std::alloc::{AllocError, Global};
 /// Appends the ranges of tables.
 fn push_ranges<N: Naming, S: Shelf>(
     alloc: Global,
-    registry: &Registry<S::Receipt>,
+    registry: &Registry<N, S>,
     tables: &[TableRef<N, S>],
     ranges: &mut Vec<(Bytes, Bytes)>,
 ) -> Result<(), AllocError>
-    requires { registry.now ≡ N.registry }
     ensures { OnOk result (ranges.new.items ≡ ranges.old.items ++ ranges_of tables.now) }
 {
     for table in tables {
@@ -31,11 +30,10 @@ fn push_ranges<N: Naming, S: Shelf>(
 /// refused.
 pub fn ranges_below<N: Naming, S: Shelf>(
     alloc: Global,
-    registry: &Registry<S::Receipt>,
+    registry: &Registry<N, S>,
     version: &Version<N, S>,
     level: u8,
 ) -> Result<Vec<(Bytes, Bytes)>, AllocError>
-    requires named { registry.now ≡ N.registry }
     requires level { level ≤ 5 }
     ensures { IfOk result (λ ranges. AreRangesBelow version.now level ranges.items) }
 {

@@ -11,11 +11,10 @@ use lsm_version::Version;
 
 /// How many of the tables are inputs of no live job.
 fn free_count<N: Naming, S: Shelf>(
-    registry: &Registry<S::Receipt>,
+    registry: &Registry<N, S>,
     tables: &[TableRef<N, S>],
     reservations: &[Reservation],
 ) -> u128
-    requires { registry.now ≡ N.registry }
     ensures count { result ≡ length (free_tables reservations.now tables.now) }
     ensures small { result < 2 ^ 64 }
 {
@@ -30,11 +29,10 @@ fn free_count<N: Naming, S: Shelf>(
 
 /// The bytes of the tables that are inputs of no live job.
 fn free_bytes<N: Naming, S: Shelf>(
-    registry: &Registry<S::Receipt>,
+    registry: &Registry<N, S>,
     tables: &[TableRef<N, S>],
     reservations: &[Reservation],
 ) -> u128
-    requires { registry.now ≡ N.registry }
     ensures bytes { result ≡ bytes_of (free_tables reservations.now tables.now) }
     ensures small { result < 2 ^ 94 }
 {
@@ -50,12 +48,11 @@ fn free_bytes<N: Naming, S: Shelf>(
 /// What counts of a level's tables: at level 0 their number, at the others their bytes; without the
 /// inputs of live jobs.
 pub(crate) fn load<N: Naming, S: Shelf>(
-    registry: &Registry<S::Receipt>,
+    registry: &Registry<N, S>,
     version: &Version<N, S>,
     level: u8,
     reservations: &[Reservation],
 ) -> u128
-    requires named { registry.now ≡ N.registry }
     requires level { level ≤ 5 }
     ensures load { result ≡ (score version.now reservations.now level).0 }
     ensures small { result < 2 ^ 94 }
@@ -106,11 +103,10 @@ pub(crate) fn scale(level: u8) -> u128
 /// bytes over 10,485,760 times 10^(n-1) at level n. Files that are inputs of a live job are not
 /// counted. Level 6 has no score.
 pub fn scores<N: Naming, S: Shelf>(
-    registry: &Registry<S::Receipt>,
+    registry: &Registry<N, S>,
     version: &Version<N, S>,
     reservations: &[Reservation],
 ) -> [(u128, u128); 6]
-    requires { registry.now ≡ N.registry }
     ensures { let s = score version.now reservations.now in result ≡ s 0 ∷ s 1 ∷ s 2 ∷ s 3 ∷ s 4 ∷ s 5 ∷ [] }
 {
     [

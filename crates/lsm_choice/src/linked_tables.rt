@@ -17,13 +17,12 @@ use std::alloc::{AllocError, Global};
 /// the level's order. The range grows by the tables that it meets until it meets no other.
 pub(crate) fn linked_tables<N: Naming, S: Shelf>(
     alloc: Global,
-    registry: &Registry<S::Receipt>,
+    registry: &Registry<N, S>,
     version: &Version<N, S>,
     level: usize,
     from: &[u8],
     to: &[u8],
 ) -> Result<Vec<TableRef<N, S>>, AllocError>
-    requires named { registry.now ≡ N.registry }
     requires level { level ≤ 6 }
     ensures linked { S.honest → IsSound version.now → UserLe from.now to.now → IfOk result (λ ts. AreLinked version.now level (λ F. Meets F from.now to.now) ts.items) }
     ensures of_level { IfOk result (λ ts. (t : Table) → Has ts.items t → Has (level_in version.now.tables level) t) }

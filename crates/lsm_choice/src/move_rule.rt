@@ -14,12 +14,11 @@ use lsm_version::Version;
 
 /// The bytes of the tables that meet a range.
 fn bytes_over<N: Naming, S: Shelf>(
-    registry: &Registry<S::Receipt>,
+    registry: &Registry<N, S>,
     tables: &[TableRef<N, S>],
     from: &[u8],
     to: &[u8],
 ) -> u128
-    requires { registry.now ≡ N.registry }
     ensures { result ≡ bytes_of (filter (meets from.now to.now) tables.now) }
 {
     let mut bytes = 0;
@@ -33,11 +32,10 @@ fn bytes_over<N: Naming, S: Shelf>(
 
 /// The bytes of the files that meet a plan's hull two levels down.
 fn bytes_below<N: Naming, S: Shelf>(
-    registry: &Registry<S::Receipt>,
+    registry: &Registry<N, S>,
     version: &Version<N, S>,
     plan: &Plan<N, S>,
 ) -> u128
-    requires { registry.now ≡ N.registry }
     ensures { result ≡ bytes_of (tables_over version.now (suc (suc plan.now.level)) plan.now.low plan.now.high) }
 {
     // That a version has seven levels is told by this call.
@@ -55,12 +53,11 @@ fn bytes_below<N: Naming, S: Shelf>(
 ///
 /// It is no question for the plan of a range: that one is never a move.
 pub fn is_move<N: Naming, S: Shelf>(
-    registry: &Registry<S::Receipt>,
+    registry: &Registry<N, S>,
     version: &Version<N, S>,
     plan: &Plan<N, S>,
     target_size: u64,
 ) -> bool
-    requires { registry.now ≡ N.registry }
     ensures { IsTrue result ↔ IsMovable version.now plan.now target_size }
 {
     plan.upper().len() == 1

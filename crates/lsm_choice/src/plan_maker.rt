@@ -26,12 +26,11 @@ fn copy_of(alloc: Global, key: &[u8]) -> Result<Bytes, AllocError>
 /// The plan of the tables that are linked at a level, of which there is one at least.
 fn plan_of_linked<N: Naming, S: Shelf>(
     alloc: Global,
-    registry: &Registry<S::Receipt>,
+    registry: &Registry<N, S>,
     version: &Version<N, S>,
     level: u8,
     upper: Vec<TableRef<N, S>>,
 ) -> Result<Plan<N, S>, AllocError>
-    requires named { registry.now ≡ N.registry }
     requires level { level ≤ 5 }
     requires filled { 0 < length upper.items }
     requires of_level { (t : Table) → Has upper.items t → Has (level_in version.now.tables level) t }
@@ -58,13 +57,12 @@ fn plan_of_linked<N: Naming, S: Shelf>(
 /// The plan of the tables of a level, 0 to 5, that meet a range; none where no table does.
 pub(crate) fn plan_between<N: Naming, S: Shelf>(
     alloc: Global,
-    registry: &Registry<S::Receipt>,
+    registry: &Registry<N, S>,
     version: &Version<N, S>,
     level: u8,
     from: &[u8],
     to: &[u8],
 ) -> Result<Option<Plan<N, S>>, AllocError>
-    requires named { registry.now ≡ N.registry }
     requires level { level ≤ 5 }
     ensures level { IfOk result (λ r. IfSome r (λ p. p.level ≡ level)) }
     ensures stands { IfOk result (λ r. IfSome r (λ p. StandsIn version.now p)) }

@@ -22,13 +22,12 @@ use std::alloc::Global;
 /// refused.
 pub fn plan_range<N: Naming, S: Shelf>(
     alloc: Global,
-    registry: &Registry<S::Receipt>,
+    registry: &Registry<N, S>,
     version: &Version<N, S>,
     level: u8,
     from: &[u8],
     to: &[u8],
 ) -> Result<Option<Plan<N, S>>, PlanFault>
-    requires { registry.now ≡ N.registry }
     ensures bad_level { 5 < level → IsErrOf result (BadLevel level) }
     ensures refused { IfErr result (λ e. (e ≡ OutOfMemory) ⊎ ((e ≡ BadLevel level) × (5 < level))) }
     // Whatever the shelf is.

@@ -10,12 +10,11 @@ use lsm_version::{high_of, low_of};
 
 /// Whether a table's range and the range from `from` to `to` have a user key in common.
 pub(crate) fn meets<N: Naming, S: Shelf>(
-    registry: &Registry<S::Receipt>,
+    registry: &Registry<N, S>,
     table: &TableRef<N, S>,
     from: &[u8],
     to: &[u8],
 ) -> bool
-    requires { registry.now ≡ N.registry }
     ensures { result ≡ meets from.now to.now table.now }
 {
     is_at_most(from, to)
@@ -39,11 +38,10 @@ fn greater<'a>(a: &'a [u8], b: &'a [u8]) -> &'a [u8]
 
 /// The least of a key and the least user keys of the tables.
 pub(crate) fn lowest<'a, N: Naming, S: Shelf>(
-    registry: &'a Registry<S::Receipt>,
+    registry: &'a Registry<N, S>,
     tables: &[TableRef<N, S>],
     from: &'a [u8],
 ) -> &'a [u8]
-    requires { registry.now ≡ N.registry }
     ensures { IsLowest tables.now from.now result.now }
 {
     let mut low = from;
@@ -55,11 +53,10 @@ pub(crate) fn lowest<'a, N: Naming, S: Shelf>(
 
 /// The greatest of a key and the greatest user keys of the tables.
 pub(crate) fn highest<'a, N: Naming, S: Shelf>(
-    registry: &'a Registry<S::Receipt>,
+    registry: &'a Registry<N, S>,
     tables: &[TableRef<N, S>],
     to: &'a [u8],
 ) -> &'a [u8]
-    requires { registry.now ≡ N.registry }
     ensures { IsHighest tables.now to.now result.now }
 {
     let mut high = to;

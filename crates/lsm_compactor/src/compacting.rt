@@ -1,7 +1,6 @@
 //! A directory is compacted.
 
 ghost use Rattle.std.specs.Prelude.{◌≡◌, ◌≢◌, ◌⊎◌, All, IfErr, IfOk, IsFalse, OnOk, vec_len};
-ghost use Rattle.std.specs.Arc.{arc_value};
 ghost use Rattle.std.specs.Io.KnownBytes.{Appends, Keeps};
 ghost use Rattle.lsm_shelf.specs.declared.shelf_fault.ShelfFault.TheVariants.{OutOfMemory};
 ghost use Rattle.lsm_state.specs.Making.{IsNewBoard};
@@ -24,7 +23,7 @@ use lsm_slots::Boarded;
 use lsm_state::StateFault;
 use lsm_store::{NoGate, Store, WorkerEnd, run_workers};
 use lsm_table::{Shelf, ShelfFault};
-use lsm_writer::{Ends, WriterFault, make_ends};
+use lsm_writer::{NewParts, Parts, WriterFault};
 use std::alloc::{AllocFailed, Global};
 use std::io::{self, Write};
 use std::marker::Brand;
@@ -39,13 +38,10 @@ fn man<N: Boarded, S: Shelf, R: Wait, E: Write>(
     alloc: Global,
     shelf: &mut S,
     options: CompactOptions,
-    ends: Ends<S>,
+    parts: Parts<N, S>,
     err: &mut E,
 ) -> Result<Crew<N, S>, CompactFault>
     requires here { (S.told shelf.old).place ≡ N.place }
-    requires named { arc_value ends.registry ≡ N.registry }
-    requires board { IsNewBoard N.board usual ends.publisher ends.pinners.items }
-    requires seats { vec_len ends.pinners ≡ usual.readers }
     ensures here { IfOk result (λ c. All (λ s. (S.told s).place ≡ N.place) c.shelves.items) }
     ensures shelf { OnOk result ((S.told shelf.new).place ≡ N.place) }
     ensures count { IfOk result (λ c. vec_len c.shelves ≡ options.workers) }
@@ -53,7 +49,7 @@ fn man<N: Boarded, S: Shelf, R: Wait, E: Write>(
     ensures refused { IfErr result (λ e. IsUnbegun (λ number image. (r : S.Receipt) × S.is_of N.place r × (S.Receipt.number r ≡ number) × (S.Receipt.image r ≡ image)) (S.refuses N.place) S.honest e (S.told shelf.old) (S.told shelf.new)) }
     ensures quiet { IsFalse options.progress → Keeps (E.contents err.old) (E.contents err.new) }
 {
-    let state = open(rt, alloc, shelf, ends)?;
+    let state = open(rt, alloc, shelf, parts)?;
     tell_opened(&state, options.progress, err);
     match Crew::new(alloc, state, shelf, options.workers) {
         Ok(crew) => Ok(crew),
@@ -143,20 +139,21 @@ fn compact_as<N: Boarded, S: Shelf, R: Threads + Wait + Sync, O: Write, E: Write
     alloc: Global,
     shelf: &mut S,
     options: CompactOptions,
-    ends: Ends<S>,
+    parts: NewParts<S>,
     out: &mut O,
     err: &mut E,
 ) -> Result<(), CompactFault>
     requires here { (S.told shelf.old).place ≡ N.place }
-    requires named { arc_value ends.registry ≡ N.registry }
-    requires board { IsNewBoard N.board usual ends.publisher ends.pinners.items }
-    requires seats { vec_len ends.pinners ≡ usual.readers }
+    requires records { parts.records ≡ N.registry }
+    requires board { IsNewBoard N.board usual parts.publisher parts.pinners.items }
+    requires seats { vec_len parts.pinners ≡ usual.readers }
     ensures done { OnOk result (IsCompacted S.honest options.workers (S.told shelf.old) (S.told shelf.new) (O.contents out.old) (O.contents out.new)) }
     ensures fault { IfErr result (λ e. IsCompactFault (λ number image. (r : S.Receipt) × S.is_of N.place r × (S.Receipt.number r ≡ number) × (S.Receipt.image r ≡ image)) (S.refuses N.place) S.honest options.workers e (S.told shelf.old) (S.told shelf.new)) }
     ensures left { IfErr result (λ e. e ≢ WriterVariant WriteFault → Keeps (O.contents out.old) (O.contents out.new)) }
     ensures quiet { IsFalse options.progress → Keeps (E.contents err.old) (E.contents err.new) }
 {
-    let Crew { store, shelves } = man::<N, S, R, E>(rt, alloc, shelf, options, ends, err)?;
+    let parts = parts.named(alloc)?;
+    let Crew { store, shelves } = man::<N, S, R, E>(rt, alloc, shelf, options, parts, err)?;
     let done = work(rt, alloc, &store, shelves, options.progress, err)?;
     tidy(rt, alloc, &store, shelf, options.progress, err)?;
     match reply(out, installed_by(&done)) {
@@ -181,6 +178,6 @@ pub(crate) fn compact_to<S: Shelf, R: Threads + Wait + Sync, O: Write, E: Write 
     ensures left { IfErr result (λ e. e ≢ WriterVariant WriteFault → Keeps (O.contents out.old) (O.contents out.new)) }
     ensures quiet { IsFalse options.progress → Keeps (E.contents err.old) (E.contents err.new) }
 {
-    let ends = make_ends(alloc)?;
-    compact_as::<Brand, S, R, O, E>(rt, alloc, shelf, options, ends, out, err)
+    let parts = NewParts::make(alloc)?;
+    compact_as::<Brand, S, R, O, E>(rt, alloc, shelf, options, parts, out, err)
 }

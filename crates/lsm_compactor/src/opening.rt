@@ -1,7 +1,6 @@
 //! The database that is compacted.
 
 ghost use Rattle.std.specs.Prelude.{◌≡◌, IfErr, IfOk, vec_len};
-ghost use Rattle.std.specs.Arc.{arc_value};
 ghost use Rattle.lsm_folder.specs.declared.lock_kind.LockKind.TheVariants.{Exclusive};
 ghost use Rattle.lsm_storage.specs.FileShelf.{file_told, folder_of};
 ghost use Rattle.lsm_shelf.specs.Told.{fresh};
@@ -19,7 +18,7 @@ use lsm_state::{Options, State};
 use lsm_storage::FileShelf;
 use lsm_store::laws::made_states_seat_their_pinners;
 use lsm_table::Shelf;
-use lsm_writer::{Ends, WriterFault};
+use lsm_writer::{Parts, WriterFault};
 use std::alloc::Global;
 use std::sync::Wait;
 
@@ -43,12 +42,9 @@ pub(crate) fn open<N: Boarded, S: Shelf, R: Wait>(
     rt: &R,
     alloc: Global,
     shelf: &mut S,
-    ends: Ends<S>,
+    parts: Parts<N, S>,
 ) -> Result<State<N, S>, CompactFault>
     requires here { (S.told shelf.old).place ≡ N.place }
-    requires named { arc_value ends.registry ≡ N.registry }
-    requires board { IsNewBoard N.board usual ends.publisher ends.pinners.items }
-    requires seats { vec_len ends.pinners ≡ usual.readers }
     ensures opened { IfOk result (λ s. IsReopened S.honest s (S.told shelf.old) (S.told shelf.new)) }
     ensures board { IfOk result (λ s. s.slots.board.board ≡ N.board) }
     ensures seats { IfOk result (λ s. SeatsPinners s) }
@@ -56,8 +52,8 @@ pub(crate) fn open<N: Boarded, S: Shelf, R: Wait>(
 {
     made_states_seat_their_pinners();
     let options = Options::usual();
-    let board = (ends.publisher, ends.pinners);
-    match State::open(rt, alloc, shelf, options, ends.registry, board) {
+    let board = (parts.publisher, parts.pinners);
+    match State::open(rt, alloc, shelf, options, parts.registry, board) {
         Ok(state) => {
             let _options = state.options();
             Ok(state)

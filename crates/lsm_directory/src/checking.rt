@@ -54,13 +54,12 @@ fn push_counts(out: &mut Vec<u8>, level: usize, counts: Counts) -> Result<(), Al
 fn counts_of<N: Naming, S: Shelf, B: Blocks<S>, E: Write>(
     blocks: &mut B,
     alloc: Global,
-    registry: &Registry<S::Receipt>,
+    registry: &Registry<N, S>,
     tables: &[TableRef<N, S>],
     progress: &mut Progress,
     err: &mut E,
 ) -> Result<Counts, ReadFault>
     requires here { (B.told blocks.old).place ≡ N.place }
-    requires named { registry.now ≡ N.registry }
     requires whole { S.honest → (t : Table) → Has tables.now t → IsWhole t }
     ensures files { IfOk result (λ c. c.files ≡ length tables.now) }
     ensures bytes { IfOk result (λ c. c.bytes ≡ bytes_of tables.now) }
@@ -87,14 +86,13 @@ fn push_level<N: Naming, S: Shelf, B: Blocks<S>, E: Write>(
     out: &mut Vec<u8>,
     blocks: &mut B,
     alloc: Global,
-    registry: &Registry<S::Receipt>,
+    registry: &Registry<N, S>,
     level: usize,
     tables: &[TableRef<N, S>],
     progress: &mut Progress,
     err: &mut E,
 ) -> Result<(), DirectoryFault>
     requires here { (B.told blocks.old).place ≡ N.place }
-    requires named { registry.now ≡ N.registry }
     requires whole { S.honest → (t : Table) → Has tables.now t → IsWhole t }
     ensures line { S.honest → OnOk result (out.new.items ≡ out.old.items ++ level_line level tables.now) }
     ensures fault { IfErr result (λ e. IsReadFault S.honest e (B.told blocks.old) (B.told blocks.new)) }
@@ -123,14 +121,13 @@ fn files_in<N: Naming, S: Shelf>(version: &Version<N, S>) -> u64 {
 pub(crate) fn describe<N: Naming, S: Shelf, B: Blocks<S>, E: Write>(
     blocks: &mut B,
     alloc: Global,
-    registry: &Registry<S::Receipt>,
+    registry: &Registry<N, S>,
     version: &Version<N, S>,
     rest: u64,
     asked: bool,
     err: &mut E,
 ) -> Result<Vec<u8>, DirectoryFault>
     requires here { (B.told blocks.old).place ≡ N.place }
-    requires named { registry.now ≡ N.registry }
     ensures text { S.honest → IfOk result (λ text. text.items ≡ check_text version.now rest) }
     ensures fault { IfErr result (λ e. IsReadFault S.honest e (B.told blocks.old) (B.told blocks.new)) }
     ensures told { Becomes (B.told blocks.old) (B.told blocks.new) }

@@ -2,7 +2,6 @@
 
 ghost use Rattle.std.specs.Prelude.{◌≡◌, ◌≢◌, IfErr, IfOk, IsFalse, OnOk};
 ghost use Rattle.std.specs.Io.KnownBytes.{Keeps};
-ghost use Rattle.std.specs.Arc.{arc_value};
 ghost use Rattle.lsm_codec.specs.Entries.{answer};
 ghost use Rattle.lsm_table.specs.Told.{Becomes};
 ghost use Rattle.lsm_levels.specs.Files.{all_entries};
@@ -27,11 +26,11 @@ use crate::scanning::print_scan;
 use crate::wording::Wording;
 use lsm_commands::{DirectoryCommand, Form};
 use lsm_reader::Direct;
-use lsm_table::{Naming, Registry, Shelf};
+use lsm_table::{Naming, Records, Registry, Shelf};
 use lsm_version::Version;
 use std::alloc::Global;
 use std::io::Write;
-use std::sync::{Arc, Wait};
+use std::sync::Wait;
 
 /// The line of what a version answers for a key.
 fn answer_of<N: Naming, S: Shelf>(
@@ -54,13 +53,12 @@ fn answer_of<N: Naming, S: Shelf>(
 fn description_of<N: Naming, S: Shelf, E: Write>(
     shelf: &mut S,
     alloc: Global,
-    registry: &Registry<S::Receipt>,
+    registry: &Registry<N, S>,
     opened: &Opened<N, S>,
     progress: bool,
     err: &mut E,
 ) -> Result<Vec<u8>, DirectoryFault>
     requires here { (S.told shelf.old).place ≡ N.place }
-    requires named { registry.now ≡ N.registry }
     ensures text { S.honest → IfOk result (λ text. text.items ≡ check_text opened.now.version opened.now.rest) }
     ensures fault { IfErr result (λ e. IsReadFault S.honest e (S.told shelf.old) (S.told shelf.new)) }
     ensures told { Becomes (S.told shelf.old) (S.told shelf.new) }
@@ -83,13 +81,12 @@ fn description_of<N: Naming, S: Shelf, E: Write>(
 fn checked<N: Naming, S: Shelf, E: Write>(
     shelf: &mut S,
     alloc: Global,
-    registry: &Registry<S::Receipt>,
+    registry: &Registry<N, S>,
     opened: &Opened<N, S>,
     request: &Request<'_>,
     err: &mut E,
 ) -> Result<Vec<u8>, DirectoryFault>
     requires here { (S.told shelf.old).place ≡ N.place }
-    requires named { registry.now ≡ N.registry }
     ensures text { S.honest → IfOk result (λ text. IsChecked opened.now.version opened.now.rest opened.now.log opened.now.prev_log request.now.files.now text.items) }
     ensures fault { IfErr result (λ e. IsReadFault S.honest e (S.told shelf.old) (S.told shelf.new)) }
     ensures told { Becomes (S.told shelf.old) (S.told shelf.new) }
@@ -111,14 +108,13 @@ fn checked<N: Naming, S: Shelf, E: Write>(
 fn perform_on<N: Naming, S: Shelf, O: Write, E: Write>(
     shelf: &mut S,
     alloc: Global,
-    registry: &Registry<S::Receipt>,
+    registry: &Registry<N, S>,
     opened: &Opened<N, S>,
     request: &Request<'_>,
     out: &mut O,
     err: &mut E,
 ) -> Result<(), DirectoryFault>
     requires here { (S.told shelf.old).place ≡ N.place }
-    requires named { registry.now ≡ N.registry }
     ensures done { S.honest → OnOk result (Prints request.now.form request.now.command.now opened.now.version opened.now.rest opened.now.log opened.now.prev_log request.now.files.now (O.contents out.old) (O.contents out.new)) }
     ensures left { IfErr result (λ e. e ≢ WriteFault → PrintsBefore request.now.form request.now.command.now S.honest opened.now.version (O.contents out.old) (O.contents out.new)) }
     ensures fault { IfErr result (λ e. IsAnswerFault S.honest e (S.told shelf.old) (S.told shelf.new)) }
@@ -159,19 +155,20 @@ pub(crate) fn perform<N: Naming, S: Shelf, R: Wait, O: Write, E: Write>(
     rt: &R,
     alloc: Global,
     shelf: &mut S,
-    registry: &Arc<Registry<S::Receipt>>,
+    records: Records<S::Receipt>,
     request: &Request<'_>,
     out: &mut O,
     err: &mut E,
 ) -> Result<(), DirectoryFault>
     requires here { (S.told shelf.old).place ≡ N.place }
-    requires named { arc_value registry.now ≡ N.registry }
+    requires named { records ≡ N.registry }
     ensures done { OnOk result (IsDone request.now.form request.now.command.now request.now.files.now request.now.progress S.honest (S.told shelf.old) (S.told shelf.new) (O.contents out.old) (O.contents out.new) (E.contents err.old) (E.contents err.new)) }
     ensures fault { IfErr result (λ e. IsFault (λ number image. (r : S.Receipt) × S.is_of N.place r × (S.Receipt.number r ≡ number) × (S.Receipt.image r ≡ image)) (S.refuses N.place) S.honest e (S.told shelf.old) (S.told shelf.new)) }
     ensures left { IfErr result (λ e. Leaves request.now.form request.now.command.now S.honest e (S.told shelf.old) (S.told shelf.new) (O.contents out.old) (O.contents out.new)) }
     ensures reads { OnlyReads (S.told shelf.old) (S.told shelf.new) }
 {
-    let opened: Opened<N, S> = open(rt, alloc, shelf, registry)?;
+    let registry = Registry::shared(alloc, records)?;
+    let opened: Opened<N, S> = open(rt, alloc, shelf, &registry)?;
     tell_notes(
         alloc,
         request.command,
@@ -180,5 +177,5 @@ pub(crate) fn perform<N: Naming, S: Shelf, R: Wait, O: Write, E: Write>(
         opened.prev_log,
         err,
     );
-    perform_on(shelf, alloc, registry, &opened, request, out, err)
+    perform_on(shelf, alloc, &registry, &opened, request, out, err)
 }

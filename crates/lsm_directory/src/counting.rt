@@ -21,11 +21,10 @@ use std::io::Write;
 fn count_entries<N: Naming, S: Shelf, B: Blocks<S>>(
     blocks: &mut B,
     alloc: Global,
-    registry: &Registry<S::Receipt>,
+    registry: &Registry<N, S>,
     table: &TableRef<N, S>,
 ) -> Result<u64, ReadFault>
     requires here { (B.told blocks.old).place ≡ N.place }
-    requires named { registry.now ≡ N.registry }
     requires whole { S.honest → IsWhole table.now }
     ensures counted { S.honest → IfOk result (λ n. n ≡ length (entries_in table.now.image)) }
     ensures sound { S.honest → IfErr result IsMemoryOrShelf }
@@ -62,13 +61,12 @@ fn sum_of(a: u64, b: u64) -> Result<u64, ReadFault>
 pub(crate) fn count_level<N: Naming, S: Shelf, B: Blocks<S>, E: Write>(
     blocks: &mut B,
     alloc: Global,
-    registry: &Registry<S::Receipt>,
+    registry: &Registry<N, S>,
     tables: &[TableRef<N, S>],
     progress: &mut Progress,
     err: &mut E,
 ) -> Result<u64, ReadFault>
     requires here { (B.told blocks.old).place ≡ N.place }
-    requires named { registry.now ≡ N.registry }
     requires whole { S.honest → (t : Table) → Has tables.now t → IsWhole t }
     ensures counted { S.honest → IfOk result (λ n. n ≡ count_of tables.now) }
     ensures sound { S.honest → IfErr result IsMemoryOrShelf }
@@ -89,10 +87,9 @@ pub(crate) fn count_level<N: Naming, S: Shelf, B: Blocks<S>, E: Write>(
 /// How many bytes the tables of a level have.
 #[tactic(auto, using(crate::proofs::ListLaws::sum_more, crate::proofs::ListLaws::sum_all))]
 pub(crate) fn size_of_level<N: Naming, S: Shelf>(
-    registry: &Registry<S::Receipt>,
+    registry: &Registry<N, S>,
     tables: &[TableRef<N, S>],
 ) -> Result<u64, ReadFault>
-    requires named { registry.now ≡ N.registry }
     ensures size { IfOk result (λ n. n ≡ bytes_of tables.now) }
     ensures fault { IfErr result (λ e. e ≡ ReadFault.Table TableFault.OutOfMemory) }
 {

@@ -23,11 +23,10 @@ fn push_word(out: &mut Vec<u8>, number: u64) -> Result<(), AllocError>
 fn push_file<N: Naming, S: Shelf>(
     out: &mut Vec<u8>,
     form: Form,
-    registry: &Registry<S::Receipt>,
+    registry: &Registry<N, S>,
     level: usize,
     table: &TableRef<N, S>,
 ) -> Result<(), AllocError>
-    requires named { registry.now ≡ N.registry }
     ensures { OnOk result (out.new.items ≡ out.old.items ++ file_line form level table.now) }
 {
     let record = registry.record(table);
@@ -46,11 +45,10 @@ fn push_file<N: Naming, S: Shelf>(
 fn push_files<N: Naming, S: Shelf>(
     out: &mut Vec<u8>,
     form: Form,
-    registry: &Registry<S::Receipt>,
+    registry: &Registry<N, S>,
     level: usize,
     tables: &[TableRef<N, S>],
 ) -> Result<(), AllocError>
-    requires named { registry.now ≡ N.registry }
     ensures { OnOk result (out.new.items ≡ out.old.items ++ file_lines form level tables.now) }
 {
     for table in tables {
@@ -64,10 +62,9 @@ fn push_files<N: Naming, S: Shelf>(
 pub(crate) fn list_files<N: Naming, S: Shelf>(
     alloc: Global,
     form: Form,
-    registry: &Registry<S::Receipt>,
+    registry: &Registry<N, S>,
     version: &Version<N, S>,
 ) -> Result<Vec<u8>, AllocError>
-    requires named { registry.now ≡ N.registry }
     ensures { IfOk result (λ text. text.items ≡ list_text form version.now) }
 {
     let mut text = Vec::new(alloc);

@@ -1,7 +1,6 @@
 //! A directory that is opened to be read.
 
 ghost use Rattle.std.specs.Prelude.{◌≡◌, IfErr, IfOk};
-ghost use Rattle.std.specs.Arc.{arc_value};
 ghost use Rattle.lsm_directory.specs.Directory.{Holds, OnlyReads};
 ghost use Rattle.lsm_directory.specs.Opening.{IsOpenRefusal};
 
@@ -32,10 +31,9 @@ pub fn open<N: Naming, S: Shelf, R: Wait>(
     rt: &R,
     alloc: Global,
     shelf: &mut S,
-    registry: &Arc<Registry<S::Receipt>>,
+    registry: &Arc<Registry<N, S>>,
 ) -> Result<Opened<N, S>, DirectoryFault>
     requires here { (S.told shelf.old).place ≡ N.place }
-    requires named { arc_value registry.now ≡ N.registry }
     ensures opened { IfOk result (λ o. Holds S.honest (S.told shelf.old) (S.told shelf.new) o.version o.rest o.log o.prev_log) }
     ensures refused { IfErr result (λ e. IsOpenRefusal (λ number image. (r : S.Receipt) × S.is_of N.place r × (S.Receipt.number r ≡ number) × (S.Receipt.image r ≡ image)) (S.refuses N.place) S.honest e (S.told shelf.old) (S.told shelf.new)) }
     ensures reads { OnlyReads (S.told shelf.old) (S.told shelf.new) }

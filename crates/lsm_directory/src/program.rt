@@ -13,11 +13,11 @@ use crate::request::Request;
 use crate::second_lines::{write_meaning, write_reason_of, write_table};
 use lsm_commands::DirectoryCommand;
 use lsm_folder::Reasons;
-use lsm_table::{Registry, Shelf};
+use lsm_table::{Records, Shelf};
 use std::alloc::Global;
 use std::io::{self, Write};
 use std::marker::Brand;
-use std::sync::{Arc, Wait};
+use std::sync::Wait;
 
 /// Writes the line of a fault.
 fn write_fault<E: Write>(err: &mut E, fault: &DirectoryFault) -> io::Result<()>
@@ -98,7 +98,7 @@ fn names_files(command: &DirectoryCommand) -> bool
     }
 }
 
-/// Does what a command asks, with a registry of its own.
+/// Does what a command asks, with records of its own.
 #[tactic(auto, using(crate::proofs::Outcomes::memory_refused, crate::proofs::Outcomes::reads_none))]
 fn begin<S: Shelf, R: Wait, O: Write, E: Write>(
     rt: &R,
@@ -112,8 +112,8 @@ fn begin<S: Shelf, R: Wait, O: Write, E: Write>(
     ensures refused { IfErr result (λ e. IsRefused request.now.form request.now.command.now e (λ number image. (r : S.Receipt) × S.is_of (S.told shelf.old).place r × (S.Receipt.number r ≡ number) × (S.Receipt.image r ≡ image)) (S.refuses (S.told shelf.old).place) S.honest (S.told shelf.old) (S.told shelf.new) (O.contents out.old) (O.contents out.new)) }
     ensures reads { OnlyReads (S.told shelf.old) (S.told shelf.new) }
 {
-    let registry = Arc::new(alloc, Registry::new(alloc)?)?;
-    perform::<Brand, S, R, O, E>(rt, alloc, shelf, &registry, request, out, err)
+    let records = Records::new(alloc)?;
+    perform::<Brand, S, R, O, E>(rt, alloc, shelf, records, request, out, err)
 }
 
 /// Opens the directory of a shelf to read, does what is asked of it, and answers the exit status: 0

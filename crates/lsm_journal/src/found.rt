@@ -1,7 +1,6 @@
 //! A database that is there, as it is found.
 
 ghost use Rattle.std.specs.Prelude.{◌≡◌, ℕ, ◌-◌, ◌^◌, IfErr, IfOk};
-ghost use Rattle.std.specs.Arc.{arc_value};
 ghost use Rattle.lsm_codec.specs.Lists.{Has};
 ghost use Rattle.lsm_journal.specs.Finding.{IsFindRefusal, IsFound, IsLeastFree, IsReadOnce};
 ghost use Rattle.lsm_journal.specs.declared.open_fault.OpenFault.TheVariants.{NumbersSpent};
@@ -56,11 +55,10 @@ impl<N: Naming, S: Shelf> Found<N, S> {
         rt: &R,
         alloc: Global,
         shelf: &mut S,
-        registry: &Arc<Registry<S::Receipt>>,
+        registry: &Arc<Registry<N, S>>,
         limit: u64,
     ) -> Result<Found<N, S>, OpenFault>
         requires here { (S.told shelf.old).place ≡ N.place }
-        requires named { arc_value registry.now ≡ N.registry }
         ensures found { IfOk result (λ f. IsFound S.honest limit f.journal f.version f.rest f.next (S.told shelf.old) (S.told shelf.new)) }
         ensures refused { IfErr result (λ e. IsFindRefusal (λ number image. (r : S.Receipt) × S.is_of N.place r × (S.Receipt.number r ≡ number) × (S.Receipt.image r ≡ image)) (S.refuses N.place) S.honest e (S.told shelf.old) (S.told shelf.new)) }
         ensures counts_err { IfErr result (λ e. IsReadOnce e (S.told shelf.old) (S.told shelf.new)) }

@@ -12,10 +12,9 @@ use lsm_table::{Naming, Registry, Shelf, Slip, TableRef};
 /// record that stands for a table. A key is not longer than its table's image, which has at most 1
 /// GiB, as its receipt says.
 pub fn added_keys_fit<N: Naming, S: Shelf>(
-    registry: &Registry<S::Receipt>,
+    registry: &Registry<N, S>,
     added: &[(usize, TableRef<N, S>)],
 )
-    requires { registry.now ≡ N.registry }
     ensures { (n : ℕ) (t : Table) → Has added.now (n, t) → IsWhole t → FitsKey t.smallest × FitsKey t.largest }
 {
     for one in added {

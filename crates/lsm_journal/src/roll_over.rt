@@ -26,11 +26,10 @@ impl Journal {
         rt: &R,
         alloc: Global,
         shelf: &mut S,
-        registry: &Registry<S::Receipt>,
+        registry: &Registry<N, S>,
         version: &Version<N, S>,
         number: u64,
     ) -> Result<(), ShelfFault>
-        requires named { registry.now ≡ N.registry }
         requires recorded { (rest : ℕ) × IsRecorded rest self.old version.now number }
         requires numbers { number + 1 < 2 ^ 64 }
         ensures rolls { OnOk result (RollsOver version.now number self.old self.new (S.told shelf.old) (S.told shelf.new)) }

@@ -25,11 +25,10 @@ impl Journal {
         rt: &R,
         alloc: Global,
         shelf: &mut S,
-        registry: &Registry<S::Receipt>,
+        registry: &Registry<N, S>,
         change: &VersionChange<N, S>,
         next: u64,
     ) -> Result<(), ShelfFault>
-        requires named { registry.now ≡ N.registry }
         ensures grows { OnOk result (Grows (change_edit self.old change.now next) self.old self.new (S.told shelf.old) (S.told shelf.new)) }
         ensures err { OnErr result (self.new ≡ self.old) }
         ensures unsent { OnErr result (Becomes (S.told shelf.old) (S.told shelf.new)) }
@@ -57,11 +56,10 @@ impl Journal {
         rt: &R,
         alloc: Global,
         shelf: &mut S,
-        registry: &Registry<S::Receipt>,
+        registry: &Registry<N, S>,
         version: &Version<N, S>,
         number: u64,
     ) -> Result<(), ShelfFault>
-        requires named { registry.now ≡ N.registry }
         requires keys { FitsLevels version.now }
         requires numbers { number + 1 < 2 ^ 64 }
         ensures rolls { OnOk result (RollsOver version.now number self.old self.new (S.told shelf.old) (S.told shelf.new)) }
@@ -92,12 +90,11 @@ impl Journal {
         rt: &R,
         alloc: Global,
         shelf: &mut S,
-        registry: &Registry<S::Receipt>,
+        registry: &Registry<N, S>,
         change: &VersionChange<N, S>,
         after: &Version<N, S>,
         next: u64,
     ) -> Result<u64, ShelfFault>
-        requires named { registry.now ≡ N.registry }
         requires leads { LeadsTo self.old change.now after.now next }
         requires numbers { is_at_limit self.old ≡ true → next + 1 < 2 ^ 64 }
         ensures sends { IfOk result (λ n. Sends change.now after.now next n self.old self.new (S.told shelf.old) (S.told shelf.new)) }

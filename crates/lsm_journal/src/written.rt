@@ -66,10 +66,9 @@ pub(crate) fn first_edit(alloc: Global, number: u64) -> Result<Edit, AllocError>
 /// A table as the manifest names it. `AllocError` where memory for its keys was refused.
 pub fn meta_of<N: Naming, S: Shelf>(
     alloc: Global,
-    registry: &Registry<S::Receipt>,
+    registry: &Registry<N, S>,
     table: &TableRef<N, S>,
 ) -> Result<FileMeta, AllocError>
-    requires { registry.now ≡ N.registry }
     ensures { IfOk result (λ file. file ≡ meta_of table.now) }
 {
     let record = registry.record(table);
@@ -84,10 +83,9 @@ pub fn meta_of<N: Naming, S: Shelf>(
 /// The tables that come, as the manifest names them.
 fn added_files<N: Naming, S: Shelf>(
     alloc: Global,
-    registry: &Registry<S::Receipt>,
+    registry: &Registry<N, S>,
     added: &[(usize, TableRef<N, S>)],
 ) -> Result<List<AddedFile>, AllocError>
-    requires named { registry.now ≡ N.registry }
     requires levels { All FitsComing added.now }
     ensures { IfOk result (λ files. files ≡ map placed added.now) }
 {
@@ -124,10 +122,9 @@ fn pointers_of(
 /// The tables of a level, as the manifest names them.
 fn metas_of<N: Naming, S: Shelf>(
     alloc: Global,
-    registry: &Registry<S::Receipt>,
+    registry: &Registry<N, S>,
     level: &[TableRef<N, S>],
 ) -> Result<List<FileMeta>, AllocError>
-    requires { registry.now ≡ N.registry }
     ensures { IfOk result (λ files. files ≡ map meta_of level.now) }
 {
     let mut files = Vec::new(alloc);
@@ -140,10 +137,9 @@ fn metas_of<N: Naming, S: Shelf>(
 /// The tables of all levels, as the manifest names them.
 fn levels_of<N: Naming, S: Shelf>(
     alloc: Global,
-    registry: &Registry<S::Receipt>,
+    registry: &Registry<N, S>,
     version: &Version<N, S>,
 ) -> Result<[List<FileMeta>; 7], AllocError>
-    requires named { registry.now ≡ N.registry }
     requires seven { length version.now.tables ≡ 7 }
     ensures { IfOk result (λ levels. levels ≡ metas_of version.now.tables) }
 {
@@ -197,11 +193,10 @@ impl Journal {
     pub(crate) fn change_edit<N: Naming, S: Shelf>(
         &self,
         alloc: Global,
-        registry: &Registry<S::Receipt>,
+        registry: &Registry<N, S>,
         change: &VersionChange<N, S>,
         next: u64,
     ) -> Result<Edit, AllocError>
-        requires { registry.now ≡ N.registry }
         ensures edit { IfOk result (λ edit. edit ≡ change_edit self.now change.now next) }
         ensures fit { IfOk result (λ edit. IsFit edit × AreInOrder edit.deleted) }
     {
@@ -225,11 +220,10 @@ impl Journal {
     pub(crate) fn version_edit<N: Naming, S: Shelf>(
         &self,
         alloc: Global,
-        registry: &Registry<S::Receipt>,
+        registry: &Registry<N, S>,
         version: &Version<N, S>,
         next: u64,
     ) -> Result<Edit, AllocError>
-        requires named { registry.now ≡ N.registry }
         requires keys { FitsLevels version.now }
         ensures edit { IfOk result (λ edit. edit ≡ version_edit self.now version.now next) }
         ensures fit { IfOk result (λ edit. IsFit edit × AreInOrder edit.deleted) }

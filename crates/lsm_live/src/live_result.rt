@@ -40,11 +40,10 @@ fn are_among(numbers: &[u64], others: &[u64]) -> bool
 
 /// Whether the live job is the result's, and has drawn the numbers that the result put.
 fn awaits<N: Naming, S: Shelf>(
-    registry: &Registry<S::Receipt>,
+    registry: &Registry<N, S>,
     one: &LiveJob<N, S>,
     done: &Finished<N, S>,
 ) -> bool
-    requires { registry.now ≡ N.registry }
     ensures { IsTrue result ↔ Awaits one.now done.now }
 {
     one.job().same(registry, done.job()) && are_among(done.put_numbers(), one.drawn())
@@ -54,8 +53,7 @@ impl<N: Naming, S: Shelf> LiveJobs<N, S> {
     /// Whether a result's ticket is live: a live job equals the result's in all parts and has drawn
     /// the numbers under which the result put its outputs, and these rise. A result for which this
     /// is false is stale.
-    pub fn is_live_result(&self, registry: &Registry<S::Receipt>, done: &Finished<N, S>) -> bool
-        requires { registry.now ≡ N.registry }
+    pub fn is_live_result(&self, registry: &Registry<N, S>, done: &Finished<N, S>) -> bool
         ensures { IsTrue result ↔ ((b : Booked) × IsLiveResult self.now done.now b) }
     {
         if !are_increasing(done.put_numbers()) {

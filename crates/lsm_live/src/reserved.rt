@@ -14,11 +14,10 @@ use std::alloc::{AllocError, Global};
 
 /// Appends the numbers of tables.
 fn push_numbers<N: Naming, S: Shelf>(
-    registry: &Registry<S::Receipt>,
+    registry: &Registry<N, S>,
     tables: &[TableRef<N, S>],
     numbers: &mut Vec<u64>,
 ) -> Result<(), AllocError>
-    requires { registry.now ≡ N.registry }
     ensures { OnOk result (numbers.new.items ≡ numbers.old.items ++ map (λ t. t.number) tables.now) }
 {
     for table in tables {
@@ -30,10 +29,9 @@ fn push_numbers<N: Naming, S: Shelf>(
 /// The reservation of a job.
 fn reservation_of<N: Naming, S: Shelf>(
     alloc: Global,
-    registry: &Registry<S::Receipt>,
+    registry: &Registry<N, S>,
     job: &Job<N, S>,
 ) -> Result<Reservation, AllocError>
-    requires { registry.now ≡ N.registry }
     ensures { IfOk result (λ r. r ≡ reserved_of (job_of job.now)) }
 {
     let mut inputs = Vec::new(alloc);
@@ -55,9 +53,8 @@ impl<N: Naming, S: Shelf> LiveJobs<N, S> {
     pub fn reservations(
         &self,
         alloc: Global,
-        registry: &Registry<S::Receipt>,
+        registry: &Registry<N, S>,
     ) -> Result<Vec<Reservation>, AllocError>
-        requires { registry.now ≡ N.registry }
         ensures { IfOk result (λ v. v.items ≡ reserved_jobs self.now) }
     {
         let mut reservations = Vec::with_capacity(alloc, self.jobs.len())?;

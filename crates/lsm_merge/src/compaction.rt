@@ -35,7 +35,7 @@ fn step<N: Naming, S: Shelf, R: Wait, D: NumberSource>(
     rt: &R,
     alloc: Global,
     shelf: &mut S,
-    registry: &Registry<S::Receipt>,
+    registry: &Registry<N, S>,
     job: &Job<N, S>,
     numbers: &mut D,
     outputs: &mut Outputs<N, S>,
@@ -44,7 +44,6 @@ fn step<N: Naming, S: Shelf, R: Wait, D: NumberSource>(
 ) -> Result<(), MergeFault>
     requires ready { D.ready numbers.old }
     requires good { AreGood outputs.old }
-    requires named { registry.now ≡ N.registry }
     requires here { (S.told shelf.old).place ≡ N.place }
     requires some { no_more merger.old.placed ≡ false }
     requires up { IsUpTo (entries_of_last outputs.old.last) before.old }
@@ -87,13 +86,12 @@ fn merge<N: Naming, S: Shelf, R: Wait, D: NumberSource>(
     rt: &R,
     alloc: Global,
     shelf: &mut S,
-    registry: &Registry<S::Receipt>,
+    registry: &Registry<N, S>,
     job: &Job<N, S>,
     numbers: &mut D,
     outputs: &mut Outputs<N, S>,
 ) -> Result<(), MergeFault>
     requires ready { D.ready numbers.old }
-    requires named { registry.now ≡ N.registry }
     requires here { (S.told shelf.old).place ≡ N.place }
     requires fresh { outputs.old ≡ nothing_of job.now }
     ensures good { OnOk result (AreGood outputs.new × (outputs.new.last ≡ None)) }
@@ -181,12 +179,11 @@ pub fn compact<N: Naming, S: Shelf, R: Wait, D: NumberSource>(
     rt: &R,
     alloc: Global,
     shelf: &mut S,
-    registry: &Registry<S::Receipt>,
+    registry: &Registry<N, S>,
     job: Job<N, S>,
     numbers: &mut D,
 ) -> Result<Finished<N, S>, (MergeFault, Job<N, S>, Vec<u64>)>
     requires ready { D.ready numbers.old }
-    requires named { registry.now ≡ N.registry }
     requires here { (S.told shelf.old).place ≡ N.place }
 
     // What a finished job has, its type says (`Finished::job`).

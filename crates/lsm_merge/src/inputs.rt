@@ -30,12 +30,11 @@ use std::slice;
 fn open_run<N: Naming, S: Shelf>(
     shelf: &mut S,
     alloc: Global,
-    registry: &Registry<S::Receipt>,
+    registry: &Registry<N, S>,
     place: u64,
     tables: &[TableRef<N, S>],
 ) -> Result<Run<N, S>, MergeFault>
     requires here { (S.told shelf.old).place ≡ N.place }
-    requires named { registry.now ≡ N.registry }
     requires some { 0 < length tables.now }
     requires whole { S.honest → (t : Table) → Has tables.now t → IsWhole t }
     ensures entries { S.honest → IfOk result (λ r. r.placed ≡ placed_at place (entries_of_tables tables.now)) }
@@ -56,12 +55,11 @@ fn open_run<N: Naming, S: Shelf>(
 fn push_run<N: Naming, S: Shelf>(
     shelf: &mut S,
     alloc: Global,
-    registry: &Registry<S::Receipt>,
+    registry: &Registry<N, S>,
     tables: &[TableRef<N, S>],
     runs: &mut Vec<Run<N, S>>,
 ) -> Result<(), MergeFault>
     requires here { (S.told shelf.old).place ≡ N.place }
-    requires named { registry.now ≡ N.registry }
     requires whole { S.honest → (t : Table) → Has tables.now t → IsWhole t }
     ensures entries { S.honest → OnOk result (streams runs.new.items ≡ streams runs.old.items ++ entries_of_tables tables.now) }
     ensures ordered { S.honest → IsSorted (entries_of_tables tables.now) → OnOk result (AreOrdered (map (λ r. r.placed) runs.old.items) → AreOrdered (map (λ r. r.placed) runs.new.items)) }
@@ -84,12 +82,11 @@ fn push_run<N: Naming, S: Shelf>(
 fn push_each<N: Naming, S: Shelf>(
     shelf: &mut S,
     alloc: Global,
-    registry: &Registry<S::Receipt>,
+    registry: &Registry<N, S>,
     tables: &[TableRef<N, S>],
     runs: &mut Vec<Run<N, S>>,
 ) -> Result<(), MergeFault>
     requires here { (S.told shelf.old).place ≡ N.place }
-    requires named { registry.now ≡ N.registry }
     requires whole { S.honest → (t : Table) → Has tables.now t → IsWhole t }
     ensures entries { S.honest → OnOk result (streams runs.new.items ≡ streams runs.old.items ++ entries_of_tables tables.now) }
     ensures ordered { S.honest → OnOk result (AreOrdered (map (λ r. r.placed) runs.old.items) → AreOrdered (map (λ r. r.placed) runs.new.items)) }
@@ -113,13 +110,12 @@ fn push_each<N: Naming, S: Shelf>(
 fn push_upper<N: Naming, S: Shelf>(
     shelf: &mut S,
     alloc: Global,
-    registry: &Registry<S::Receipt>,
+    registry: &Registry<N, S>,
     level: usize,
     tables: &[TableRef<N, S>],
     runs: &mut Vec<Run<N, S>>,
 ) -> Result<(), MergeFault>
     requires here { (S.told shelf.old).place ≡ N.place }
-    requires named { registry.now ≡ N.registry }
     requires whole { S.honest → (t : Table) → Has tables.now t → IsWhole t }
     ensures entries { S.honest → OnOk result (streams runs.new.items ≡ streams runs.old.items ++ entries_of_tables tables.now) }
     ensures ordered { S.honest → (1 ≤ level → IsSorted (entries_of_tables tables.now)) → OnOk result (AreOrdered (map (λ r. r.placed) runs.old.items) → AreOrdered (map (λ r. r.placed) runs.new.items)) }
@@ -140,11 +136,10 @@ fn push_upper<N: Naming, S: Shelf>(
 pub(crate) fn open_inputs<N: Naming, S: Shelf>(
     shelf: &mut S,
     alloc: Global,
-    registry: &Registry<S::Receipt>,
+    registry: &Registry<N, S>,
     job: &Job<N, S>,
 ) -> Result<Merger<N, S>, MergeFault>
     requires here { (S.told shelf.old).place ≡ N.place }
-    requires named { registry.now ≡ N.registry }
     ensures merges { S.honest → IfOk result (λ m. IsAscending (entries_of m.placed) → IsMerge (entries_of m.placed) (all_entries (job_of job.now).inputs)) }
     ensures from { S.honest → IfOk result (λ m. (e : Entry) → Has (entries_of m.placed) e → Has (all_entries (job_of job.now).inputs) e) }
     ensures order { S.honest → StandInOrder job.now → IfOk result (λ m. (IsAscending (entries_of m.placed) → ⊥) → HasTwins (all_entries (job_of job.now).inputs)) }

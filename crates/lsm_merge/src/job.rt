@@ -138,8 +138,7 @@ impl<N: Naming, S: Shelf> Job<N, S> {
 
     /// Whether two jobs are equal in all parts; tables are equal where they are one record of the
     /// registry.
-    pub fn same(&self, registry: &Registry<S::Receipt>, other: &Job<N, S>) -> bool
-        requires named { registry.now ≡ N.registry }
+    pub fn same(&self, registry: &Registry<N, S>, other: &Job<N, S>) -> bool
         ensures { IsTrue result ↔ (self.now ≡ other.now) }
     {
         self.parts.same(registry, &other.parts)

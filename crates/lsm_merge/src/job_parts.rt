@@ -81,8 +81,7 @@ impl<N: Naming, S: Shelf> JobParts<N, S> {
     }
 
     /// Whether all parts are equal; tables are equal where they are one record of the registry.
-    pub(crate) fn same(&self, registry: &Registry<S::Receipt>, other: &JobParts<N, S>) -> bool
-        requires named { registry.now ≡ N.registry }
+    pub(crate) fn same(&self, registry: &Registry<N, S>, other: &JobParts<N, S>) -> bool
         ensures { IsTrue result ↔ (self.now ≡ other.now) }
     {
         self.same_but_inputs(other)

@@ -125,10 +125,9 @@ impl<N: Naming, S: Shelf> Outputs<N, S> {
         &mut self,
         rt: &R,
         shelf: &mut S,
-        registry: &Registry<S::Receipt>,
+        registry: &Registry<N, S>,
     ) -> Result<(), MergeFault>
         requires good { AreGood self.old }
-        requires named { registry.now ≡ N.registry }
         requires here { (S.told shelf.old).place ≡ N.place }
         ensures ok { OnOk result (Goes self.old self.new record { outputs = closed (making_of self.old); output = [] }) }
         ensures drawn { OnOk result ((there : List ℕ) → drawn_of self.new there ≡ drawn_of self.old there) }
@@ -168,11 +167,10 @@ impl<N: Naming, S: Shelf> Outputs<N, S> {
         &mut self,
         rt: &R,
         shelf: &mut S,
-        registry: &Registry<S::Receipt>,
+        registry: &Registry<N, S>,
         user: &[u8],
     ) -> Result<(), MergeFault>
         requires good { AreGood self.old }
-        requires named { registry.now ≡ N.registry }
         requires here { (S.told shelf.old).place ≡ N.place }
         ensures ok { OnOk result (Goes self.old self.new (shut_before (finished self.old.options) self.old.target (making_of self.old) user.now)) }
         ensures drawn { OnOk result ((there : List ℕ) → drawn_of self.new there ≡ drawn_of self.old there) }
@@ -231,14 +229,13 @@ impl<N: Naming, S: Shelf> Outputs<N, S> {
         &mut self,
         rt: &R,
         shelf: &mut S,
-        registry: &Registry<S::Receipt>,
+        registry: &Registry<N, S>,
         numbers: &mut D,
         key: &KeyRef<'_>,
         value: &[u8],
     ) -> Result<(), MergeFault>
         requires ready { D.ready numbers.old }
         requires good { AreGood self.old }
-        requires named { registry.now ≡ N.registry }
         requires here { (S.told shelf.old).place ≡ N.place }
         requires ascends { Ascends (entries_of_last self.old.last ++ entry_of (key_of key.now) value.now ∷ []) }
         ensures ok { OnOk result (Goes self.old self.new (placed (finished self.old.options) self.old.target (making_of self.old) (entry_of (key_of key.now) value.now))) }
@@ -265,7 +262,7 @@ impl<N: Naming, S: Shelf> Outputs<N, S> {
         &mut self,
         rt: &R,
         shelf: &mut S,
-        registry: &Registry<S::Receipt>,
+        registry: &Registry<N, S>,
         numbers: &mut D,
         kept: bool,
         key: &KeyRef<'_>,
@@ -273,7 +270,6 @@ impl<N: Naming, S: Shelf> Outputs<N, S> {
     ) -> Result<(), MergeFault>
         requires ready { D.ready numbers.old }
         requires good { AreGood self.old }
-        requires named { registry.now ≡ N.registry }
         requires here { (S.told shelf.old).place ≡ N.place }
         requires ascends { Ascends (entries_of_last self.old.last ++ entry_of (key_of key.now) value.now ∷ []) }
         ensures ok { OnOk result (Goes self.old self.new (cond kept (placed (finished self.old.options) self.old.target (making_of self.old) (entry_of (key_of key.now) value.now)) (making_of self.old))) }

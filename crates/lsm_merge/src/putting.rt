@@ -18,11 +18,10 @@ fn put_image<N: Naming, S: Shelf, R: Wait>(
     rt: &R,
     alloc: Global,
     shelf: &mut S,
-    registry: &Registry<S::Receipt>,
+    registry: &Registry<N, S>,
     image: Image,
     put: &mut Vec<u64>,
 ) -> Result<TableRef<N, S>, MergeFault>
-    requires named { registry.now ≡ N.registry }
     requires here { (S.told shelf.old).place ≡ N.place }
     ensures number { IfOk result (λ t. t.number ≡ image.number) }
     ensures smallest { IfOk result (λ t. t.smallest ≡ image.smallest) }
@@ -66,12 +65,11 @@ pub(crate) fn put_output<N: Naming, S: Shelf, R: Wait>(
     rt: &R,
     alloc: Global,
     shelf: &mut S,
-    registry: &Registry<S::Receipt>,
+    registry: &Registry<N, S>,
     output: Output,
     tables: &mut Vec<TableRef<N, S>>,
     put: &mut Vec<u64>,
 ) -> Result<(), MergeFault>
-    requires named { registry.now ≡ N.registry }
     requires here { (S.told shelf.old).place ≡ N.place }
     ensures ok { OnOk result (IsPut output tables.old.items tables.new.items put.old.items put.new.items) }
     ensures told { PutsMore put.old.items put.new.items (S.told shelf.old) (S.told shelf.new) }

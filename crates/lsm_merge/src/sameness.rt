@@ -7,11 +7,10 @@ use lsm_table::{Naming, Registry, Shelf, TableRef};
 
 /// Whether both are the same records one after another.
 pub(crate) fn same_tables<N: Naming, S: Shelf>(
-    registry: &Registry<S::Receipt>,
+    registry: &Registry<N, S>,
     first: &[TableRef<N, S>],
     second: &[TableRef<N, S>],
 ) -> bool
-    requires { registry.now ≡ N.registry }
     ensures { IsTrue result ↔ (first.now ≡ second.now) }
 {
     let mut one = first;

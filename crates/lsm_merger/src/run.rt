@@ -108,10 +108,9 @@ fn open_next_by<N: Naming, S: Shelf, B: Blocks<S>>(
 fn copies_of<N: Naming, S: Shelf, B: Blocks<S>>(
     blocks: &B,
     alloc: Global,
-    registry: &Registry<S::Receipt>,
+    registry: &Registry<N, S>,
     tables: &[TableRef<N, S>],
 ) -> Result<VecDeque<S::Receipt>, AllocError>
-    requires { registry.now ≡ N.registry }
     ensures named { IfOk result (λ v. All (S.is_of N.place) v.items) }
     ensures numbers { IfOk result (λ v. map S.Receipt.number v.items ≡ map (λ t. t.number) tables.now) }
     ensures images { IfOk result (λ v. map S.Receipt.image v.items ≡ map image_of tables.now) }
@@ -162,11 +161,10 @@ impl<N: Naming, S: Shelf> Run<N, S> {
         blocks: &mut B,
         alloc: Global,
         place: u64,
-        registry: &Registry<S::Receipt>,
+        registry: &Registry<N, S>,
         tables: &[TableRef<N, S>],
     ) -> Result<Run<N, S>, FileFault>
         requires here { (B.told blocks.old).place ≡ N.place }
-        requires registry { registry.now ≡ N.registry }
         requires some { 0 < length tables.now }
         requires tables { S.honest → All HasEntries (map image_of tables.now) }
         ensures entries { S.honest → IfOk result (λ r. r.placed ≡ placed_at place (entries_of_all (map image_of tables.now))) }

@@ -23,12 +23,11 @@ fn merge_job<M: Noted<State<N, S>>, N: Boarded, S: Shelf, R: Wait>(
     alloc: Global,
     state: State<N, S>,
     shelf: &mut S,
-    registry: &Registry<S::Receipt>,
+    registry: &Registry<N, S>,
     job: Job<N, S>,
 ) -> (State<N, S>, Result<Finished<N, S>, MergeFault>)
     requires begins { M.holds state [] [] [] }
     requires keeps { Keeps GivesNumber M.holds }
-    requires named { registry.now ≡ N.registry }
     requires here { (S.told shelf.old).place ≡ N.place }
     ensures ok { IfOk result.1 (λ d. IsMergedBy S.honest M.holds job d result.0 (S.told shelf.old) (S.told shelf.new)) }
     ensures err { IfErr result.1 (λ e. IsRefusedBy S.honest M.holds job e result.0 (S.told shelf.old) (S.told shelf.new)) }
@@ -61,12 +60,11 @@ pub(crate) fn merge<N: Boarded, S: Shelf, R: Wait>(
     alloc: Global,
     state: State<N, S>,
     shelf: &mut S,
-    registry: &Registry<S::Receipt>,
+    registry: &Registry<N, S>,
     jobs: &mut Vec<Job<N, S>>,
     results: &mut Vec<Finished<N, S>>,
     ticket: u64,
 ) -> (State<N, S>, Reply)
-    requires named { registry.now ≡ N.registry }
     requires here { (S.told shelf.old).place ≡ N.place }
     ensures reply { IsMergeReply S.honest ticket result.1 state result.0 jobs.old.items jobs.new.items results.old.items results.new.items (S.told shelf.old) (S.told shelf.new) }
     ensures place { (S.told shelf.new).place ≡ N.place }

@@ -15,11 +15,10 @@ use std::alloc::{AllocError, Global};
 
 /// Appends the numbers of tables.
 fn push_numbers<N: Naming, S: Shelf>(
-    registry: &Registry<S::Receipt>,
+    registry: &Registry<N, S>,
     tables: &[TableRef<N, S>],
     numbers: &mut Vec<u64>,
 ) -> Result<(), AllocError>
-    requires { registry.now ≡ N.registry }
     ensures { OnOk result (numbers.new.items ≡ numbers.old.items ++ numbers_of tables.now) }
 {
     for table in tables {
@@ -31,10 +30,9 @@ fn push_numbers<N: Naming, S: Shelf>(
 /// The numbers of a job's inputs, those of its level first.
 fn inputs_of<N: Naming, S: Shelf>(
     alloc: Global,
-    registry: &Registry<S::Receipt>,
+    registry: &Registry<N, S>,
     job: &Job<N, S>,
 ) -> Result<List<u64>, AllocError>
-    requires { registry.now ≡ N.registry }
     ensures { IfOk result (λ v. v ≡ input_numbers job.now) }
 {
     let mut numbers = Vec::new(alloc);
@@ -64,11 +62,10 @@ fn said<N: Naming, S: Shelf>(job: &Job<N, S>, inputs: List<u64>) -> Reply
 fn keep<N: Boarded, S: Shelf>(
     alloc: Global,
     state: &mut State<N, S>,
-    registry: &Registry<S::Receipt>,
+    registry: &Registry<N, S>,
     jobs: &mut Vec<Job<N, S>>,
     job: Job<N, S>,
 ) -> Reply
-    requires named { registry.now ≡ N.registry }
     requires room { vec_len jobs.old < vec_capacity jobs.old }
     requires live { HasTicket state.old.live job.ticket }
     ensures kept { IsKeepReply job result state.old state.new jobs.old.items jobs.new.items }
@@ -90,10 +87,9 @@ fn keep<N: Boarded, S: Shelf>(
 pub(crate) fn reserve<N: Boarded, S: Shelf>(
     alloc: Global,
     state: &mut State<N, S>,
-    registry: &Registry<S::Receipt>,
+    registry: &Registry<N, S>,
     jobs: &mut Vec<Job<N, S>>,
 ) -> Reply
-    requires named { registry.now ≡ N.registry }
     ensures { IsReserveReply S.honest result state.old state.new jobs.old.items jobs.new.items }
 {
     if jobs.reserve(1).is_err() {
@@ -114,13 +110,12 @@ pub(crate) fn reserve<N: Boarded, S: Shelf>(
 pub(crate) fn reserve_range<N: Boarded, S: Shelf>(
     alloc: Global,
     state: &mut State<N, S>,
-    registry: &Registry<S::Receipt>,
+    registry: &Registry<N, S>,
     jobs: &mut Vec<Job<N, S>>,
     level: u8,
     from: &[u8],
     to: &[u8],
 ) -> Reply
-    requires named { registry.now ≡ N.registry }
     ensures { IsRangeReply S.honest level from.now to.now result state.old state.new jobs.old.items jobs.new.items }
 {
     if jobs.reserve(1).is_err() {

@@ -31,12 +31,11 @@ fn answer_call<N: Boarded, S: Shelf, R: Wait>(
     alloc: Global,
     state: &mut State<N, S>,
     shelf: &mut S,
-    registry: &Registry<S::Receipt>,
+    registry: &Registry<N, S>,
     jobs: &mut Vec<Job<N, S>>,
     results: &mut Vec<Finished<N, S>>,
     command: &Command,
 ) -> Reply
-    requires named { registry.now ≡ N.registry }
     requires here { (S.told shelf.old).place ≡ N.place }
     requires other { (ticket : ℕ) → command.now ≡ Merge ticket → ⊥ }
     ensures step { IsStep S.honest command.now result record { state = state.old; told = S.told shelf.old; jobs = jobs.old.items; results = results.old.items } record { state = state.new; told = S.told shelf.new; jobs = jobs.new.items; results = results.new.items } }
@@ -75,12 +74,11 @@ fn answer<N: Boarded, S: Shelf, R: Wait>(
     alloc: Global,
     state: State<N, S>,
     shelf: &mut S,
-    registry: &Registry<S::Receipt>,
+    registry: &Registry<N, S>,
     jobs: &mut Vec<Job<N, S>>,
     results: &mut Vec<Finished<N, S>>,
     command: &Command,
 ) -> (State<N, S>, Reply)
-    requires named { registry.now ≡ N.registry }
     requires here { (S.told shelf.old).place ≡ N.place }
     ensures step { IsStep S.honest command.now result.1 record { state = state; told = S.told shelf.old; jobs = jobs.old.items; results = results.old.items } record { state = result.0; told = S.told shelf.new; jobs = jobs.new.items; results = results.new.items } }
     ensures place { (S.told shelf.new).place ≡ N.place }
@@ -101,11 +99,10 @@ fn answer_all<N: Boarded, S: Shelf, R: Wait>(
     alloc: Global,
     state: State<N, S>,
     shelf: &mut S,
-    registry: &Registry<S::Receipt>,
+    registry: &Registry<N, S>,
     commands: &[Command],
     replies: &mut Vec<Reply>,
 ) -> State<N, S>
-    requires named { registry.now ≡ N.registry }
     requires here { (S.told shelf.old).place ≡ N.place }
     requires none { (replies.old.items ≡ []) × (vec_len replies.old ≡ 0) }
     requires room { length commands.now ≤ vec_capacity replies.old }

@@ -1,7 +1,6 @@
 //! A new database.
 
 ghost use Rattle.std.specs.Prelude.{◌≡◌, ℕ, ◌+◌, ◌<◌, ◌^◌, IfErr, IfOk, OnOk};
-ghost use Rattle.std.specs.Arc.{arc_value};
 ghost use Rattle.lsm_shelf.specs.Told.{Becomes, Rose, next_count, sending};
 ghost use Rattle.lsm_journal.specs.Sending.{CreateCounted, CreateCountedUnder, IsCreateAsked, IsCreateAskedUnder, IsCreateRefusal, IsCreateRefusalUnder};
 ghost use Rattle.lsm_state.specs.Making.{IsNewBoard, created_state, created_state_under};
@@ -39,11 +38,10 @@ impl<N: Boarded, S: Shelf> State<N, S> {
         alloc: Global,
         shelf: &mut S,
         options: Options,
-        registry: Arc<Registry<S::Receipt>>,
+        registry: Arc<Registry<N, S>>,
         board: (Publisher, Vec<Pinner>),
     ) -> Result<State<N, S>, ShelfFault>
         requires fits { Fits options }
-        requires named { arc_value registry ≡ N.registry }
         requires here { (S.told shelf.old).place ≡ N.place }
         requires board { IsNewBoard N.board options board.0 board.1.items }
         ensures created { IfOk result (λ s. s ≡ created_state options board.0 board.1.items) }
@@ -69,12 +67,11 @@ impl<N: Boarded, S: Shelf> State<N, S> {
         alloc: Global,
         shelf: &mut S,
         options: Options,
-        registry: Arc<Registry<S::Receipt>>,
+        registry: Arc<Registry<N, S>>,
         board: (Publisher, Vec<Pinner>),
         number: u64,
     ) -> Result<State<N, S>, ShelfFault>
         requires fits { Fits options }
-        requires named { arc_value registry ≡ N.registry }
         requires here { (S.told shelf.old).place ≡ N.place }
         requires board { IsNewBoard N.board options board.0 board.1.items }
         requires numbers { number + 1 < 2 ^ 64 }

@@ -23,10 +23,9 @@ use std::sync::Wait;
 // The numbers of tables.
 fn numbers_of<N: Naming, S: Shelf>(
     alloc: Global,
-    registry: &Registry<S::Receipt>,
+    registry: &Registry<N, S>,
     tables: &[TableRef<N, S>],
 ) -> Result<Vec<u64>, AllocError>
-    requires { registry.now ≡ N.registry }
     ensures { IfOk result (λ v. v.items ≡ map (λ t. t.number) tables.now) }
 {
     let mut numbers = Vec::new(alloc);

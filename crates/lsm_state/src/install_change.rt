@@ -33,11 +33,7 @@ fn greater_key<'a>(a: &'a [u8], b: &'a [u8]) -> &'a [u8]
 }
 
 // The largest key of a table.
-fn key_of<'a, N: Naming, S: Shelf>(
-    registry: &'a Registry<S::Receipt>,
-    table: &TableRef<N, S>,
-) -> &'a [u8]
-    requires { registry.now ≡ N.registry }
+fn key_of<'a, N: Naming, S: Shelf>(registry: &'a Registry<N, S>, table: &TableRef<N, S>) -> &'a [u8]
     ensures { result.now ≡ table.now.largest }
 {
     registry.record(table).largest.as_slice()
@@ -45,11 +41,10 @@ fn key_of<'a, N: Naming, S: Shelf>(
 
 // The greatest of a key and the largest keys of tables.
 fn highest_key<'a, N: Naming, S: Shelf>(
-    registry: &'a Registry<S::Receipt>,
+    registry: &'a Registry<N, S>,
     tables: &[TableRef<N, S>],
     key: &'a [u8],
 ) -> &'a [u8]
-    requires { registry.now ≡ N.registry }
     ensures { IsHighestKey tables.now key.now result.now }
 {
     let mut highest = key;
@@ -61,10 +56,9 @@ fn highest_key<'a, N: Naming, S: Shelf>(
 
 // The largest key of tables, none where there is none.
 fn largest_key<'a, N: Naming, S: Shelf>(
-    registry: &'a Registry<S::Receipt>,
+    registry: &'a Registry<N, S>,
     tables: &[TableRef<N, S>],
 ) -> Option<&'a [u8]>
-    requires { registry.now ≡ N.registry }
     ensures { MatchOption result (tables.now ≡ []) (λ key. IsLargestKey tables.now key.now) }
 {
     if tables.is_empty() {
@@ -77,11 +71,10 @@ fn largest_key<'a, N: Naming, S: Shelf>(
 // A level with the largest key of tables as its pointer.
 fn pointer_of<N: Naming, S: Shelf>(
     alloc: Global,
-    registry: &Registry<S::Receipt>,
+    registry: &Registry<N, S>,
     level: usize,
     tables: &[TableRef<N, S>],
 ) -> Result<Option<(usize, Bytes)>, AllocError>
-    requires { registry.now ≡ N.registry }
     ensures { IfOk result (λ p. IsPointer level tables.now p) }
 {
     match largest_key(registry, tables) {
@@ -92,12 +85,11 @@ fn pointer_of<N: Naming, S: Shelf>(
 
 // Appends tables as files that go from a level.
 fn push_deleted<N: Naming, S: Shelf>(
-    registry: &Registry<S::Receipt>,
+    registry: &Registry<N, S>,
     level: u8,
     tables: &[TableRef<N, S>],
     deleted: &mut Vec<DeletedFile>,
 ) -> Result<(), AllocError>
-    requires { registry.now ≡ N.registry }
     ensures { OnOk result (deleted.new.items ≡ deleted.old.items ++ deleted_at level tables.now) }
 {
     for table in tables {
@@ -126,11 +118,10 @@ fn placed_at<N: Naming, S: Shelf>(
 // down, and its level gets the largest key of its inputs there as its pointer.
 pub(crate) fn change_of<N: Naming, S: Shelf>(
     alloc: Global,
-    registry: &Registry<S::Receipt>,
+    registry: &Registry<N, S>,
     done: &Finished<N, S>,
     last: u64,
 ) -> Result<VersionChange<N, S>, AllocError>
-    requires named { registry.now ≡ N.registry }
     requires keys { (t : Table) → Has done.now.work.upper t → FitsKey t.smallest × FitsKey t.largest }
     ensures { IfOk result (λ c. IsInstallChange done.now last c) }
 {

@@ -13,12 +13,11 @@ use std::alloc::{AllocError, Global};
 // Appends the files of a level.
 fn push_files<N: Naming, S: Shelf>(
     alloc: Global,
-    registry: &Registry<S::Receipt>,
+    registry: &Registry<N, S>,
     level: u8,
     tables: &[TableRef<N, S>],
     files: &mut Vec<(u8, FileMeta)>,
 ) -> Result<(), AllocError>
-    requires { registry.now ≡ N.registry }
     ensures { OnOk result (files.new.items ≡ files.old.items ++ listed_at level tables.now) }
 {
     for table in tables {

@@ -1,7 +1,6 @@
 //! A database that is there.
 
 ghost use Rattle.std.specs.Prelude.{◌≡◌, ℕ, false, true, IfErr, IfOk};
-ghost use Rattle.std.specs.Arc.{arc_value};
 ghost use Rattle.lsm_journal.specs.Finding.{IsFindRefusal, IsFound, IsReadOnce};
 ghost use Rattle.lsm_state.specs.Making.{IsNewBoard};
 ghost use Rattle.lsm_state.specs.Opening.{IsBegun, IsOpenRefusal, opened_state};
@@ -35,12 +34,11 @@ impl<N: Boarded, S: Shelf> State<N, S> {
         alloc: Global,
         shelf: &mut S,
         options: Options,
-        registry: Arc<Registry<S::Receipt>>,
+        registry: Arc<Registry<N, S>>,
         board: (Publisher, Vec<Pinner>),
     ) -> Result<State<N, S>, OpenFault>
         requires fits { Fits options }
         requires here { (S.told shelf.old).place ≡ N.place }
-        requires named { arc_value registry ≡ N.registry }
         requires board { IsNewBoard N.board options board.0 board.1.items }
         ensures begun { IfOk result (λ s. IsBegun S.honest options.manifest_limit s.journal s.slots.version s.next (S.told shelf.old) (S.told shelf.new)) }
         ensures opened { IfOk result (λ s. s ≡ opened_state options board.0 board.1.items s.slots.version s.journal s.next false) }
@@ -82,12 +80,11 @@ impl<N: Boarded, S: Shelf> State<N, S> {
         alloc: Global,
         shelf: &mut S,
         options: Options,
-        registry: Arc<Registry<S::Receipt>>,
+        registry: Arc<Registry<N, S>>,
         board: (Publisher, Vec<Pinner>),
     ) -> Result<State<N, S>, OpenFault>
         requires fits { Fits options }
         requires here { (S.told shelf.old).place ≡ N.place }
-        requires named { arc_value registry ≡ N.registry }
         requires board { IsNewBoard N.board options board.0 board.1.items }
         ensures found { IfOk result (λ s. (rest : ℕ) × IsFound S.honest options.manifest_limit s.journal s.slots.version rest s.next (S.told shelf.old) (S.told shelf.new)) }
         ensures opened { IfOk result (λ s. s ≡ opened_state options board.0 board.1.items s.slots.version s.journal s.next true) }

@@ -19,7 +19,7 @@ use std::sync::Arc;
 /// Contracts see it as that (`Held`).
 #[derive(Drop)]
 pub struct State<N: Boarded, S: Shelf> {
-    pub(crate) registry: Arc<Registry<S::Receipt>>,
+    pub(crate) registry: Arc<Registry<N, S>>,
     pub(crate) options: Options,
     pub(crate) slots: Slots<N, S>,
     pub(crate) snapshots: Snapshots,
@@ -40,8 +40,7 @@ impl<N: Boarded, S: Shelf> Model for State<N, S> {
 
     ghost view = { λ s. record { options = s.options; slots = s.slots; snapshots = s.snapshots; next = s.next; next_ticket = s.next_ticket; live = s.live; journal = s.journal; halted = s.halted; pinners = s.pinners.items } };
 
-    ghost invariant = { λ s. (arc_value s.registry ≡ N.registry)
-        × IsLawfulState S.honest N.board record { options = s.options; slots = s.slots; snapshots = s.snapshots; next = s.next; next_ticket = s.next_ticket; live = s.live; journal = s.journal; halted = s.halted; pinners = s.pinners.items } };
+    ghost invariant = { λ s. IsLawfulState S.honest N.board record { options = s.options; slots = s.slots; snapshots = s.snapshots; next = s.next; next_ticket = s.next_ticket; live = s.live; journal = s.journal; halted = s.halted; pinners = s.pinners.items } };
 }
 
 impl<N: Boarded, S: Shelf> State<N, S> {
@@ -58,9 +57,7 @@ impl<N: Boarded, S: Shelf> State<N, S> {
     }
 
     /// The registry of its tables.
-    pub fn registry(&self) -> &Arc<Registry<S::Receipt>>
-        ensures { arc_value result.now ≡ N.registry }
-    {
+    pub fn registry(&self) -> &Arc<Registry<N, S>> {
         &self.registry
     }
 

@@ -1,7 +1,6 @@
 //! What a worker does in its thread.
 
 ghost use Rattle.std.specs.Prelude.{◌≡◌, IfErr, IfOk};
-ghost use Rattle.std.specs.Arc.{arc_value};
 ghost use Rattle.lsm_live.specs.Booked.{HasTicket, without};
 ghost use Rattle.lsm_store.specs.Workers.{IsOfInstalling, IsOfReserving, IsOfTurn, IsWorkersEnd};
 
@@ -70,12 +69,11 @@ fn finish<N: Boarded, S: Shelf, R: Wait>(
     rt: &R,
     alloc: Global,
     store: &Store<N, S>,
-    registry: &Registry<S::Receipt>,
+    registry: &Registry<N, S>,
     service: &NumberService,
     shelf: &mut S,
     job: Job<N, S>,
 ) -> Result<(), WorkerFault>
-    requires named { registry.now ≡ N.registry }
     requires here { (S.told shelf.old).place ≡ N.place }
     ensures place { (S.told shelf.new).place ≡ (S.told shelf.old).place }
     ensures refused { IfErr result (IsOfTurn S.honest) }
@@ -92,13 +90,12 @@ fn turn<N: Boarded, S: Shelf, G: Gate, R: Wait>(
     rt: &R,
     alloc: Global,
     store: &Store<N, S>,
-    registry: &Registry<S::Receipt>,
+    registry: &Registry<N, S>,
     service: &NumberService,
     shelf: &mut S,
     gate: &G,
     worker: usize,
 ) -> Result<bool, WorkerFault>
-    requires named { registry.now ≡ N.registry }
     requires here { (S.told shelf.old).place ≡ N.place }
     ensures place { (S.told shelf.new).place ≡ (S.told shelf.old).place }
     ensures refused { IfErr result (IsOfTurn S.honest) }
@@ -121,9 +118,7 @@ fn turn<N: Boarded, S: Shelf, G: Gate, R: Wait>(
 fn registry_of<N: Boarded, S: Shelf, R: Wait>(
     rt: &R,
     store: &Store<N, S>,
-) -> Result<Arc<Registry<S::Receipt>>, AllocError>
-    ensures { IfOk result (λ r. arc_value r ≡ N.registry) }
-{
+) -> Result<Arc<Registry<N, S>>, AllocError> {
     Arc::try_clone(store.lock(rt).registry())
 }
 

@@ -1,7 +1,6 @@
 //! A store, its readers, and a shelf for whoever writes.
 
 ghost use Rattle.std.specs.Prelude.{◌≡◌, IfOk};
-ghost use Rattle.std.specs.Arc.{arc_value};
 ghost use Rattle.lsm_store.specs.Readers.{SeatsPinners};
 ghost use Rattle.lsm_store_tests.specs.Parts.{IsMade};
 
@@ -9,9 +8,9 @@ use lsm_pins::{Board, Pinner, Publisher};
 use lsm_slots::Boarded;
 use lsm_state::{Options, State};
 use lsm_store::{Reader, Store};
-use lsm_table::{Registry, Shelf};
+use lsm_table::{Records, Registry, Shelf};
 use std::alloc::Global;
-use std::sync::{Arc, Wait};
+use std::sync::Wait;
 use std::test::Fail;
 
 /// What a stage is made of.
@@ -19,12 +18,12 @@ use std::test::Fail;
 pub(crate) struct Parts<S: Shelf> {
     pub(crate) shelf: S,
     pub(crate) options: Options,
-    pub(crate) registry: Arc<Registry<S::Receipt>>,
+    pub(crate) records: Records<S::Receipt>,
     pub(crate) board: (Publisher, Vec<Pinner>),
 }
 
 impl<S: Shelf> Parts<S> {
-    /// A shelf and options with a new registry and a new board.
+    /// A shelf and options with new records and a new board.
     #[tactic(auto, using(crate::proofs::Boards::new_parts))]
     pub(crate) fn of(alloc: Global, shelf: S, options: Options) -> Result<Parts<S>, Fail>
         ensures shelf { IfOk result (λ p. p.shelf ≡ shelf) }
@@ -33,12 +32,12 @@ impl<S: Shelf> Parts<S> {
         if !options.fits() {
             return Err(Fail::new("the options do not fit"));
         }
-        let registry = Arc::new(alloc, Registry::new(alloc)?)?;
+        let records = Records::new(alloc)?;
         let board = Board::new(alloc, options.readers, options.versions)?;
         Ok(Parts {
             shelf,
             options,
-            registry,
+            records,
             board,
         })
     }
@@ -56,7 +55,7 @@ impl<N: Boarded, S: Shelf> Stage<N, S> {
     /// A store over a new database.
     #[tactic(auto, using(crate::proofs::Boards::seats_pinners))]
     pub(crate) fn of<R: Wait>(rt: &R, alloc: Global, parts: Parts<S>) -> Result<Stage<N, S>, Fail>
-        requires named { arc_value parts.registry ≡ N.registry }
+        requires records { parts.records ≡ N.registry }
         requires here { (S.told parts.shelf).place ≡ N.place }
         requires made { IsMade N.board parts.options parts.board.0 parts.board.1.items }
         ensures { IfOk result (λ s. (S.told s.shelf).place ≡ N.place) }
@@ -64,9 +63,10 @@ impl<N: Boarded, S: Shelf> Stage<N, S> {
         let Parts {
             mut shelf,
             options,
-            registry,
+            records,
             board,
         } = parts;
+        let registry = Registry::shared(alloc, records)?;
         let created = State::<N, S>::create(rt, alloc, &mut shelf, options, registry, board);
         let Ok(state) = created else {
             return Err(Fail::new("the database was not created"));

@@ -108,7 +108,7 @@ fn work_at_once<N: Boarded, S: Shelf, R: Threads + Wait + Abort + Sync>(
     alloc: Global,
     parts: Parts<S>,
 ) -> Result<(), Fail>
-    requires named { arc_value parts.registry ≡ N.registry }
+    requires records { parts.records ≡ N.registry }
     requires here { (S.told parts.shelf).place ≡ N.place }
     requires made { IsMade N.board parts.options parts.board.0 parts.board.1.items }
 {
@@ -158,7 +158,7 @@ fn gives_up<N: Boarded, S: Shelf, R: Threads + Wait + Abort + Sync>(
     alloc: Global,
     parts: Parts<S>,
 ) -> Result<(), Fail>
-    requires named { arc_value parts.registry ≡ N.registry }
+    requires records { parts.records ≡ N.registry }
     requires here { (S.told parts.shelf).place ≡ N.place }
     requires made { IsMade N.board parts.options parts.board.0 parts.board.1.items }
 {

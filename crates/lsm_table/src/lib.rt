@@ -26,6 +26,7 @@ mod table_iter;
 // Tables on a shelf: their records, and the names under which they are known.
 mod naming;
 mod read_fault;
+mod records;
 mod registry;
 mod table_record;
 mod table_ref;
@@ -38,6 +39,7 @@ pub use lsm_block::BuildFault;
 pub use lsm_shelf::{Shelf, ShelfFault, Slip};
 pub use naming::Naming;
 pub use read_fault::ReadFault;
+pub use records::Records;
 pub use registry::Registry;
 pub use search::{found_in_entry, key_for};
 pub use stored_block::{TRAILER, unseal};

@@ -5,7 +5,7 @@ ghost use Rattle.std.specs.Prelude.{◌≡◌};
 use crate::expectation::expect;
 use lsm_codec::Bytes;
 use lsm_storage::MemoryShelf;
-use lsm_table::{Naming, Registry, Shelf, ShelfFault, TableRecord, TableRef};
+use lsm_table::{Naming, Records, Registry, Shelf, ShelfFault, TableRecord, TableRef};
 use std::alloc::Global;
 use std::marker::Brand;
 use std::process::Abort;
@@ -14,9 +14,9 @@ use std::test::Fail;
 
 #[test]
 fn a_registry_gives_the_records_pushed(rt: HostRuntime) -> Result<(), Fail> {
-    let registry = Registry::new(rt.alloc())?;
+    let records = Records::new(rt.alloc())?;
     let mut shelf = MemoryShelf::new(rt.alloc())?;
-    keeps_records::<Brand, MemoryShelf, _>(&rt, rt.alloc(), &registry, &mut shelf)?;
+    keeps_records::<Brand, MemoryShelf, _>(&rt, rt.alloc(), records, &mut shelf)?;
     Ok(())
 }
 
@@ -24,11 +24,10 @@ fn a_registry_gives_the_records_pushed(rt: HostRuntime) -> Result<(), Fail> {
 fn pushed<N: Naming, S: Shelf, R: Wait>(
     rt: &R,
     alloc: Global,
-    registry: &Registry<S::Receipt>,
+    registry: &Registry<N, S>,
     shelf: &mut S,
     number: u64,
 ) -> Result<TableRef<N, S>, ShelfFault>
-    requires registry { registry.now ≡ N.registry }
     requires shelf { (S.told shelf.old).place ≡ N.place }
     ensures shelf { (S.told shelf.new).place ≡ N.place }
 {
@@ -40,20 +39,16 @@ fn pushed<N: Naming, S: Shelf, R: Wait>(
         largest,
         receipt,
     };
-    registry
-        .push::<N, S, R>(rt, row)
-        .map_err(|_| ShelfFault::OutOfMemory)
+    registry.push(rt, row).map_err(|_| ShelfFault::OutOfMemory)
 }
 
 /// Compares the record of a reference with what `pushed` pushed under this number.
 fn expect_record<N: Naming, S: Shelf, R: Abort>(
     rt: &R,
-    registry: &Registry<S::Receipt>,
+    registry: &Registry<N, S>,
     table: &TableRef<N, S>,
     number: u64,
-)
-    requires { registry.now ≡ N.registry }
-{
+) {
     let row = registry.record(table);
     expect(rt, (row.number(), row.size()), (number, 5));
     expect(rt, row.smallest.as_slice(), b"first".as_slice());
@@ -63,12 +58,10 @@ fn expect_record<N: Naming, S: Shelf, R: Abort>(
 /// Tells references apart.
 fn tells_references_apart<N: Naming, S: Shelf, R: Abort>(
     rt: &R,
-    registry: &Registry<S::Receipt>,
+    registry: &Registry<N, S>,
     first: &TableRef<N, S>,
     second: &TableRef<N, S>,
-)
-    requires { registry.now ≡ N.registry }
-{
+) {
     expect(rt, registry.same(second, &second.again()), true);
     expect(rt, registry.same(first, second), false);
 }
@@ -76,12 +69,13 @@ fn tells_references_apart<N: Naming, S: Shelf, R: Abort>(
 fn keeps_records<N: Naming, S: Shelf, R: Wait + Abort>(
     rt: &R,
     alloc: Global,
-    registry: &Registry<S::Receipt>,
+    records: Records<S::Receipt>,
     shelf: &mut S,
 ) -> Result<(), ShelfFault>
-    requires registry { registry.now ≡ N.registry }
+    requires records { records ≡ N.registry }
     requires shelf { (S.told shelf.old).place ≡ N.place }
 {
+    let registry = &Registry::of(records);
     let first = pushed::<N, S, R>(rt, alloc, registry, shelf, 2)?;
     let second = pushed::<N, S, R>(rt, alloc, registry, shelf, 3)?;
     expect_record::<N, S, R>(rt, registry, &first, 2);

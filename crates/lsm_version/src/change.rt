@@ -17,11 +17,10 @@ use std::sync::Arc;
 /// The tables of a level whose numbers are not deleted.
 fn kept<N: Naming, S: Shelf>(
     alloc: Global,
-    registry: &Registry<S::Receipt>,
+    registry: &Registry<N, S>,
     level: &[TableRef<N, S>],
     deleted: &[u64],
 ) -> Result<Vec<TableRef<N, S>>, AllocError>
-    requires { registry.now ≡ N.registry }
     ensures { IfOk result (λ v. v.items ≡ filter (is_kept deleted.now) level.now) }
 {
     let mut kept = Vec::new(alloc);
@@ -35,12 +34,11 @@ fn kept<N: Naming, S: Shelf>(
 
 /// Puts the tables that come to a level into it.
 fn place_all<N: Naming, S: Shelf>(
-    registry: &Registry<S::Receipt>,
+    registry: &Registry<N, S>,
     level: &mut Vec<TableRef<N, S>>,
     number: usize,
     added: &[(usize, TableRef<N, S>)],
 ) -> Result<(), AllocError>
-    requires named { registry.now ≡ N.registry }
     requires order { IsSortedBy stands_before level.old.items }
     ensures ok { OnOk result (level.new.items ≡ placed_all (coming number added.now) level.old.items) }
     ensures order { IsSortedBy stands_before level.new.items }
@@ -57,13 +55,12 @@ fn place_all<N: Naming, S: Shelf>(
 #[tactic(auto, unfolding(crate::specs::Changes::level_after))]
 fn level_after<N: Naming, S: Shelf>(
     alloc: Global,
-    registry: &Registry<S::Receipt>,
+    registry: &Registry<N, S>,
     number: usize,
     level: &[TableRef<N, S>],
     deleted: &[u64],
     added: &[(usize, TableRef<N, S>)],
 ) -> Result<Vec<TableRef<N, S>>, AllocError>
-    requires named { registry.now ≡ N.registry }
     requires order { IsSortedBy stands_before level.now }
     ensures { IfOk result (λ v. v.items ≡ level_after deleted.now added.now number level.now) }
 {
@@ -75,12 +72,11 @@ fn level_after<N: Naming, S: Shelf>(
 /// All levels without the deleted tables and with the added ones.
 fn levels_after<N: Naming, S: Shelf>(
     alloc: Global,
-    registry: &Registry<S::Receipt>,
+    registry: &Registry<N, S>,
     levels: &[Vec<TableRef<N, S>>],
     deleted: &[u64],
     added: &[(usize, TableRef<N, S>)],
 ) -> Result<Vec<Vec<TableRef<N, S>>>, AllocError>
-    requires named { registry.now ≡ N.registry }
     requires order { AreInOrder (map (λ l. l.items) levels.now) }
     ensures { IfOk result (λ v. map (λ l. l.items) v.items ≡ levels_after deleted.now added.now 0 (map (λ l. l.items) levels.now)) }
 {

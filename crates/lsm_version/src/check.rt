@@ -46,11 +46,10 @@ fn check_levels<N: Naming, S: Shelf, R: Wait>(
     shelf: &mut S,
     rt: &R,
     alloc: Global,
-    registry: &Registry<S::Receipt>,
+    registry: &Registry<N, S>,
     shape: &Shape,
 ) -> Result<Vec<Vec<TableRef<N, S>>>, CheckFault>
     requires here { (S.told shelf.old).place ≡ N.place }
-    requires named { registry.now ≡ N.registry }
     ensures tables { IfOk result (λ v. AreTablesOf (λ number image. (r : S.Receipt) × S.is_of N.place r × (S.Receipt.number r ≡ number) × (S.Receipt.image r ≡ image)) shape.now (map (λ l. l.items) v.items)) }
     ensures seven { IfOk result (λ v. length v.items ≡ 7) }
     ensures judged { IfOk result (λ v. (pointers : List (Option (List ℕ))) → KeepsAge (files_from 0 (map (λ l. l.items) v.items)) → IsSound record { tables = map (λ l. l.items) v.items; pointers = pointers; last = shape.now.last }) }
@@ -68,7 +67,6 @@ fn check_levels<N: Naming, S: Shelf, R: Wait>(
 }
 
 impl<N: Naming, S: Shelf> Version<N, S> {
-    ghost use Rattle.std.specs.Arc.{arc_value};
     ghost use Rattle.lsm_version.specs.CheckRefusal.{IsOfShape, IsRefusal};
     ghost use Rattle.lsm_version.specs.FileNumbers.{AreDistinct, numbers_of};
     ghost use Rattle.lsm_version.specs.Settled.{IsSettled, KeepsAge};
@@ -104,10 +102,9 @@ impl<N: Naming, S: Shelf> Version<N, S> {
         rt: &R,
         alloc: Global,
         shape: &Shape,
-        registry: Arc<Registry<S::Receipt>>,
+        registry: Arc<Registry<N, S>>,
     ) -> Result<Version<N, S>, CheckFault>
         requires here { (S.told shelf.old).place ≡ N.place }
-        requires named { arc_value registry ≡ N.registry }
         ensures shape { IfOk result (λ v. IsOfShape shape.now v) }
         ensures numbers { IfOk result (λ _. AreDistinct (numbers_of shape.now.levels)) }
         ensures sound { S.honest → IfOk result (λ v. IsSound v) }

@@ -13,11 +13,10 @@ use std::alloc::AllocError;
 /// Whether the first table stands before the second in a level.
 #[tactic(auto, unfolding(crate::specs::Versions::stands_before))]
 fn stands_before<N: Naming, S: Shelf>(
-    registry: &Registry<S::Receipt>,
+    registry: &Registry<N, S>,
     first: &TableRef<N, S>,
     second: &TableRef<N, S>,
 ) -> bool
-    requires { registry.now ≡ N.registry }
     ensures { result ≡ stands_before first.now second.now }
 {
     let first = registry.record(first);
@@ -34,11 +33,10 @@ fn stands_before<N: Naming, S: Shelf>(
 /// How many tables of a level in order the table does not stand before. It is looked for from the
 /// back, so that tables which come in order cost one comparison each.
 pub(crate) fn place_in<N: Naming, S: Shelf>(
-    registry: &Registry<S::Receipt>,
+    registry: &Registry<N, S>,
     level: &[TableRef<N, S>],
     table: &TableRef<N, S>,
 ) -> usize
-    requires named { registry.now ≡ N.registry }
     requires order { IsSortedBy stands_before level.now }
     ensures inside { result ≤ length level.now }
     ensures before { take result level.now ≡ filter (λ u. not (stands_before table.now u)) level.now }
@@ -53,11 +51,10 @@ pub(crate) fn place_in<N: Naming, S: Shelf>(
 
 /// Puts a table into its place in a level.
 pub(crate) fn insert<N: Naming, S: Shelf>(
-    registry: &Registry<S::Receipt>,
+    registry: &Registry<N, S>,
     level: &mut Vec<TableRef<N, S>>,
     table: TableRef<N, S>,
 ) -> Result<(), AllocError>
-    requires named { registry.now ≡ N.registry }
     requires order { IsSortedBy stands_before level.old.items }
     ensures ok { OnOk result (level.new.items ≡ placed_in table level.old.items) }
     ensures order { IsSortedBy stands_before level.new.items }

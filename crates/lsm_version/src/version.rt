@@ -2,7 +2,6 @@
 
 ghost use Rattle.std.specs.Prelude.{◌≡◌, ◌≤◌, ◌++◌, ℕ, List, length, map, get_or, None, IfOk, OnErr, OnOk};
 ghost use Rattle.std.specs.Option.{option_map};
-ghost use Rattle.std.specs.Arc.{arc_value};
 ghost use Rattle.lsm_version.specs.Versions.{IsSound, files_from, level_in, no_levels, numbers_in};
 
 use lsm_codec::Bytes;
@@ -16,7 +15,7 @@ use std::sync::Arc;
 /// keys, and a key's entries are newer the shallower they lie.
 #[derive(Drop)]
 pub struct Version<N: Naming, S: Shelf> {
-    pub(crate) registry: Arc<Registry<S::Receipt>>,
+    pub(crate) registry: Arc<Registry<N, S>>,
     pub(crate) levels: Vec<Vec<TableRef<N, S>>>,
     pub(crate) pointers: Vec<Option<Bytes>>,
     pub(crate) last: u64,
@@ -24,25 +23,23 @@ pub struct Version<N: Naming, S: Shelf> {
 
 impl<N: Naming, S: Shelf> Model for Version<N, S> {
     ghost use Rattle.std.specs.Prelude.{◌≡◌, map, length};
-    ghost use Rattle.std.specs.Arc.{arc_value};
     ghost use Rattle.lsm_version.specs.Versions.{AreInOrder, IsSound, Levels};
 
     ghost Value = { Levels };
 
     ghost view = { λ v. record { tables = map (λ l. l.items) v.levels.items; pointers = v.pointers.items; last = v.last } };
 
-    ghost invariant = { λ v. (arc_value v.registry ≡ N.registry) × (length v.levels.items ≡ 7) × (length v.pointers.items ≡ 7)
+    ghost invariant = { λ v. (length v.levels.items ≡ 7) × (length v.pointers.items ≡ 7)
         × AreInOrder (map (λ l. l.items) v.levels.items)
         × (S.honest → IsSound record { tables = map (λ l. l.items) v.levels.items; pointers = v.pointers.items; last = v.last }) };
 }
 
 /// Appends the numbers of the tables of a level; where a growth was refused, of those before it.
 fn push_level<N: Naming, S: Shelf>(
-    registry: &Registry<S::Receipt>,
+    registry: &Registry<N, S>,
     level: &[TableRef<N, S>],
     numbers: &mut Vec<u64>,
 ) -> Result<(), AllocError>
-    requires { registry.now ≡ N.registry }
     ensures ok { OnOk result (numbers.new.items ≡ numbers.old.items ++ map (λ t. t.number) level.now) }
     ensures front { (more : List ℕ) × (numbers.new.items ≡ numbers.old.items ++ more) }
 {
@@ -54,11 +51,10 @@ fn push_level<N: Naming, S: Shelf>(
 
 /// The same for the tables of all levels.
 fn push_levels<N: Naming, S: Shelf>(
-    registry: &Registry<S::Receipt>,
+    registry: &Registry<N, S>,
     levels: &[Vec<TableRef<N, S>>],
     numbers: &mut Vec<u64>,
 ) -> Result<(), AllocError>
-    requires { registry.now ≡ N.registry }
     ensures ok { OnOk result (numbers.new.items ≡ numbers.old.items ++ map (λ F. F.number) (files_from 0 (map (λ l. l.items) levels.now))) }
     ensures front { (more : List ℕ) × (numbers.new.items ≡ numbers.old.items ++ more) }
 {
@@ -103,11 +99,7 @@ impl<N: Naming, S: Shelf> Version<N, S> {
 
     /// A version without tables and pointers, whose last sequence is 0. `AllocError` where a growth
     /// was refused.
-    pub fn empty(
-        alloc: Global,
-        registry: Arc<Registry<S::Receipt>>,
-    ) -> Result<Version<N, S>, AllocError>
-        requires { arc_value registry ≡ N.registry }
+    pub fn empty(alloc: Global, registry: Arc<Registry<N, S>>) -> Result<Version<N, S>, AllocError>
         ensures { IfOk result (λ v. v ≡ no_levels) }
     {
         let levels = [

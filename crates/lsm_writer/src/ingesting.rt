@@ -1,14 +1,13 @@
 //! A batch comes into a directory.
 
-ghost use Rattle.std.specs.Prelude.{◌≡◌, ◌≢◌, IfErr, OnOk};
-ghost use Rattle.std.specs.Arc.{arc_value};
+ghost use Rattle.std.specs.Prelude.{◌≡◌, ◌≢◌, IfErr, OnOk, vec_len};
 ghost use Rattle.std.specs.Io.KnownBytes.{Appends, Keeps};
 ghost use Rattle.lsm_state.specs.Making.{IsNewBoard};
 ghost use Rattle.lsm_writer.specs.Ingesting.{IsBroughtIn, IsIngestFault, ingest_text};
 ghost use Rattle.lsm_writer.specs.Starting.{usual};
 ghost use Rattle.lsm_writer.specs.declared.writer_fault.WriterFault.TheVariants.{Write as WriteFault};
 
-use crate::ends::{Ends, make_ends};
+use crate::parts::NewParts;
 use crate::start::Prepared;
 use crate::starting::start;
 use crate::writer_fault::WriterFault;
@@ -36,18 +35,20 @@ fn bring_in_as<N: Boarded, S: Shelf, R: Wait, O: Write>(
     alloc: Global,
     shelf: &mut S,
     prepared: &Prepared,
-    ends: Ends<S>,
+    parts: NewParts<S>,
     batch: &Batch,
     out: &mut O,
 ) -> Result<(), WriterFault>
     requires here { (S.told shelf.old).place ≡ N.place }
-    requires named { arc_value ends.registry ≡ N.registry }
-    requires board { IsNewBoard N.board usual ends.publisher ends.pinners.items }
+    requires records { parts.records ≡ N.registry }
+    requires board { IsNewBoard N.board usual parts.publisher parts.pinners.items }
+    requires seats { vec_len parts.pinners ≡ usual.readers }
     ensures done { OnOk result (IsBroughtIn S.honest prepared.now.start prepared.now.logs.items batch.now (S.told shelf.old) (S.told shelf.new) (O.contents out.old) (O.contents out.new)) }
     ensures fault { IfErr result (λ e. IsIngestFault (λ number image. (r : S.Receipt) × S.is_of N.place r × (S.Receipt.number r ≡ number) × (S.Receipt.image r ≡ image)) (S.refuses N.place) S.honest prepared.now.start prepared.now.logs.items batch.now e (S.told shelf.old) (S.told shelf.new)) }
     ensures left { IfErr result (λ e. e ≢ WriteFault → Keeps (O.contents out.old) (O.contents out.new)) }
 {
-    let mut state: State<N, S> = start(rt, alloc, shelf, prepared, ends)?;
+    let parts = parts.named(alloc)?;
+    let mut state: State<N, S> = start(rt, alloc, shelf, prepared, parts)?;
     let ingested = state.ingest(rt, alloc, shelf, batch)?;
     match reply(out, ingested) {
         Ok(()) => Ok(()),
@@ -69,6 +70,6 @@ pub(crate) fn bring_in<S: Shelf, R: Wait, O: Write>(
     ensures fault { IfErr result (λ e. IsIngestFault (λ number image. (r : S.Receipt) × S.is_of (S.told shelf.old).place r × (S.Receipt.number r ≡ number) × (S.Receipt.image r ≡ image)) (S.refuses (S.told shelf.old).place) S.honest prepared.now.start prepared.now.logs.items batch.now e (S.told shelf.old) (S.told shelf.new)) }
     ensures left { IfErr result (λ e. e ≢ WriteFault → Keeps (O.contents out.old) (O.contents out.new)) }
 {
-    let ends = make_ends(alloc)?;
-    bring_in_as::<Brand, S, R, O>(rt, alloc, shelf, prepared, ends, batch, out)
+    let parts = NewParts::make(alloc)?;
+    bring_in_as::<Brand, S, R, O>(rt, alloc, shelf, prepared, parts, batch, out)
 }

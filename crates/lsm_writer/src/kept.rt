@@ -1,7 +1,6 @@
 //! Which files of a folder its database needs.
 
 ghost use Rattle.std.specs.Prelude.{◌≡◌, ◌↔◌, ℕ, IfErr, IfOk, MatchBool};
-ghost use Rattle.std.specs.Arc.{arc_value};
 ghost use Rattle.std.specs.List.Sorted.{IsStrictlyIncreasing};
 ghost use Rattle.lsm_codec.specs.Lists.{Has};
 ghost use Rattle.lsm_folder.specs.Calls.{AreHonest};
@@ -12,10 +11,10 @@ use crate::writer_fault::WriterFault;
 use lsm_folder::FolderCalls;
 use lsm_journal::Found;
 use lsm_storage::FileShelf;
-use lsm_table::{Naming, Registry, Shelf};
+use lsm_table::{Naming, Records, Registry, Shelf};
 use std::alloc::{AllocError, Global};
 use std::marker::Brand;
-use std::sync::{Arc, Wait};
+use std::sync::Wait;
 
 /// The numbers, each once, ascending.
 fn ascending(mut numbers: Vec<u64>) -> Result<Vec<u64>, AllocError>
@@ -64,13 +63,14 @@ fn find_kept<N: Naming, S: Shelf, R: Wait>(
     rt: &R,
     alloc: Global,
     shelf: &mut S,
-    registry: Arc<Registry<S::Receipt>>,
+    records: Records<S::Receipt>,
 ) -> Result<Kept, WriterFault>
     requires here { (S.told shelf.old).place ≡ N.place }
-    requires named { arc_value registry ≡ N.registry }
+    requires named { records ≡ N.registry }
     ensures kept { IfOk result (λ k. IsKept S.honest k.manifest k.tables.items (S.told shelf.old) (S.told shelf.new)) }
     ensures refused { IfErr result (λ e. IsUnkept (λ number image. (r : S.Receipt) × S.is_of N.place r × (S.Receipt.number r ≡ number) × (S.Receipt.image r ≡ image)) (S.refuses N.place) S.honest e (S.told shelf.old) (S.told shelf.new)) }
 {
+    let registry = Registry::shared(alloc, records)?;
     // A journal that nothing is sent through has no use for its limit.
     let found = Found::<N, S>::read(rt, alloc, shelf, &registry, u64::MAX)?;
     let mut numbers = Vec::new(alloc);
@@ -82,14 +82,14 @@ fn find_kept<N: Naming, S: Shelf, R: Wait>(
     })
 }
 
-/// The same, with a registry of its own.
+/// The same, with records of its own.
 fn read_kept<S: Shelf, R: Wait>(rt: &R, alloc: Global, shelf: &mut S) -> Result<Kept, WriterFault>
     ensures kept { IfOk result (λ k. IsKept S.honest k.manifest k.tables.items (S.told shelf.old) (S.told shelf.new)) }
     ensures refused { IfErr result (λ e. IsUnkept (λ number image. (r : S.Receipt) × S.is_of (S.told shelf.old).place r × (S.Receipt.number r ≡ number) × (S.Receipt.image r ≡ image)) (S.refuses (S.told shelf.old).place) S.honest e (S.told shelf.old) (S.told shelf.new)) }
     ensures fault { IfErr result IsUnopened }
 {
-    let registry = Arc::new(alloc, Registry::new(alloc)?)?;
-    find_kept::<Brand, S, R>(rt, alloc, shelf, registry)
+    let records = Records::new(alloc)?;
+    find_kept::<Brand, S, R>(rt, alloc, shelf, records)
 }
 
 /// What the database in a folder needs. The folder's value is asked for nothing but a fork.

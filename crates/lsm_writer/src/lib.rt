@@ -23,9 +23,9 @@ mod start;
 
 // What is done with a directory.
 mod cleaning;
-mod ends;
 mod ingesting;
 mod kept;
+mod parts;
 mod starting;
 
 // A run, and why it ends with status 1.
@@ -37,11 +37,11 @@ mod telling;
 mod writer_fault;
 
 pub use batch_text::read_batch;
-pub use ends::{Ends, make_ends};
 pub use ingest_options::IngestOptions;
 pub use laws::one_batch;
 pub use line_slip::LineSlip;
 pub use merge_text::{cause_of_merge, of_merge};
+pub use parts::{NewParts, Parts};
 pub use preparing::prepare;
 pub use program::{clean, ingest, open_noting, run};
 pub use refusals::of_state;

@@ -1,12 +1,10 @@
 //! The state that a command begins with.
 
 ghost use Rattle.std.specs.Prelude.{◌≡◌, IfErr, IfOk, OnOk};
-ghost use Rattle.std.specs.Arc.{arc_value};
 ghost use Rattle.lsm_directory.specs.Logs.{NoneUnread};
-ghost use Rattle.lsm_state.specs.Making.{IsNewBoard};
-ghost use Rattle.lsm_writer.specs.Starting.{IsFlushed, IsNew, IsNotOpened, IsReopened, IsStarted, IsStartRefusal, IsUnbegun, IsUncreated, IsUnflushed, IsUnopened, OpensBeside, usual};
+ghost use Rattle.lsm_writer.specs.Starting.{IsFlushed, IsNew, IsNotOpened, IsReopened, IsStarted, IsStartRefusal, IsUnbegun, IsUncreated, IsUnflushed, IsUnopened, OpensBeside};
 
-use crate::ends::Ends;
+use crate::parts::Parts;
 use crate::start::{Prepared, Start};
 use crate::writer_fault::WriterFault;
 use lsm_directory::{DirectoryFault, FolderFile, first_unread};
@@ -60,11 +58,9 @@ fn create<N: Boarded, S: Shelf, R: Wait>(
     alloc: Global,
     shelf: &mut S,
     number: u64,
-    ends: Ends<S>,
+    parts: Parts<N, S>,
 ) -> Result<State<N, S>, WriterFault>
     requires here { (S.told shelf.old).place ≡ N.place }
-    requires named { arc_value ends.registry ≡ N.registry }
-    requires board { IsNewBoard N.board usual ends.publisher ends.pinners.items }
     ensures created { IfOk result (λ s. IsNew number s (S.told shelf.old) (S.told shelf.new)) }
     ensures place { OnOk result ((S.told shelf.new).place ≡ N.place) }
     ensures refused { IfErr result (λ e. IsUncreated number (S.refuses N.place) e (S.told shelf.old) (S.told shelf.new)) }
@@ -73,8 +69,8 @@ fn create<N: Boarded, S: Shelf, R: Wait>(
         return Err(WriterFault::Directory(DirectoryFault::NumbersSpent));
     }
     let options = Options::usual();
-    let board = (ends.publisher, ends.pinners);
-    match State::create_under(rt, alloc, shelf, options, ends.registry, board, number) {
+    let board = (parts.publisher, parts.pinners);
+    match State::create_under(rt, alloc, shelf, options, parts.registry, board, number) {
         Ok(state) => Ok(state),
         Err(fault) => Err(WriterFault::of_shelf(fault)),
     }
@@ -88,11 +84,9 @@ fn create_beside<N: Boarded, S: Shelf, R: Wait>(
     shelf: &mut S,
     number: u64,
     logs: &[FolderFile],
-    ends: Ends<S>,
+    parts: Parts<N, S>,
 ) -> Result<State<N, S>, WriterFault>
     requires here { (S.told shelf.old).place ≡ N.place }
-    requires named { arc_value ends.registry ≡ N.registry }
-    requires board { IsNewBoard N.board usual ends.publisher ends.pinners.items }
     ensures flushed { OnOk result (NoneUnread 0 0 logs.now) }
     ensures created { IfOk result (λ s. IsNew number s (S.told shelf.old) (S.told shelf.new)) }
     ensures refused { IfErr result (λ e. IsUnbegun number logs.now (S.refuses N.place) e (S.told shelf.old) (S.told shelf.new)) }
@@ -100,7 +94,7 @@ fn create_beside<N: Boarded, S: Shelf, R: Wait>(
     if let Some(log) = first_unread(logs, 0, 0) {
         return Err(WriterFault::UnflushedLog(log));
     }
-    match create(rt, alloc, shelf, number, ends) {
+    match create(rt, alloc, shelf, number, parts) {
         Ok(state) => Ok(state),
         Err(fault) => Err(fault),
     }
@@ -111,18 +105,16 @@ fn reopen<N: Boarded, S: Shelf, R: Wait>(
     rt: &R,
     alloc: Global,
     shelf: &mut S,
-    ends: Ends<S>,
+    parts: Parts<N, S>,
 ) -> Result<State<N, S>, WriterFault>
     requires here { (S.told shelf.old).place ≡ N.place }
-    requires named { arc_value ends.registry ≡ N.registry }
-    requires board { IsNewBoard N.board usual ends.publisher ends.pinners.items }
     ensures opened { IfOk result (λ s. IsReopened S.honest s (S.told shelf.old) (S.told shelf.new)) }
     ensures place { OnOk result ((S.told shelf.new).place ≡ N.place) }
     ensures refused { IfErr result (λ e. IsUnopened (λ number image. (r : S.Receipt) × S.is_of N.place r × (S.Receipt.number r ≡ number) × (S.Receipt.image r ≡ image)) (S.refuses N.place) S.honest e (S.told shelf.old) (S.told shelf.new)) }
 {
     let options = Options::usual();
-    let board = (ends.publisher, ends.pinners);
-    match State::open(rt, alloc, shelf, options, ends.registry, board) {
+    let board = (parts.publisher, parts.pinners);
+    match State::open(rt, alloc, shelf, options, parts.registry, board) {
         Ok(state) => Ok(state),
         Err(fault) => Err(WriterFault::of_open(fault)),
     }
@@ -135,17 +127,15 @@ fn open_beside<N: Boarded, S: Shelf, R: Wait>(
     alloc: Global,
     shelf: &mut S,
     logs: &[FolderFile],
-    ends: Ends<S>,
+    parts: Parts<N, S>,
 ) -> Result<State<N, S>, WriterFault>
     requires here { (S.told shelf.old).place ≡ N.place }
-    requires named { arc_value ends.registry ≡ N.registry }
-    requires board { IsNewBoard N.board usual ends.publisher ends.pinners.items }
     ensures opened { IfOk result (λ s. OpensBeside S.honest logs.now s (S.told shelf.old) (S.told shelf.new)) }
     ensures place { OnOk result ((S.told shelf.new).place ≡ N.place) }
     ensures refused { IfErr result (λ e. IsNotOpened (λ number image. (r : S.Receipt) × S.is_of N.place r × (S.Receipt.number r ≡ number) × (S.Receipt.image r ≡ image)) (S.refuses N.place) S.honest logs.now e (S.told shelf.old) (S.told shelf.new)) }
 {
     refuse_unflushed(rt, alloc, shelf, logs)?;
-    match reopen(rt, alloc, shelf, ends) {
+    match reopen(rt, alloc, shelf, parts) {
         Ok(state) => Ok(state),
         Err(fault) => Err(fault),
     }
@@ -158,17 +148,15 @@ pub(crate) fn start<N: Boarded, S: Shelf, R: Wait>(
     alloc: Global,
     shelf: &mut S,
     prepared: &Prepared,
-    ends: Ends<S>,
+    parts: Parts<N, S>,
 ) -> Result<State<N, S>, WriterFault>
     requires here { (S.told shelf.old).place ≡ N.place }
-    requires named { arc_value ends.registry ≡ N.registry }
-    requires board { IsNewBoard N.board usual ends.publisher ends.pinners.items }
     ensures started { IfOk result (λ s. IsStarted S.honest prepared.now.start prepared.now.logs.items s (S.told shelf.old) (S.told shelf.new)) }
     ensures place { OnOk result ((S.told shelf.new).place ≡ N.place) }
     ensures refused { IfErr result (λ e. IsStartRefusal (λ number image. (r : S.Receipt) × S.is_of N.place r × (S.Receipt.number r ≡ number) × (S.Receipt.image r ≡ image)) (S.refuses N.place) S.honest prepared.now.start prepared.now.logs.items e (S.told shelf.old) (S.told shelf.new)) }
 {
     match prepared.start {
-        Start::Open => open_beside(rt, alloc, shelf, &prepared.logs, ends),
-        Start::Begin(number) => create_beside(rt, alloc, shelf, number, &prepared.logs, ends),
+        Start::Open => open_beside(rt, alloc, shelf, &prepared.logs, parts),
+        Start::Begin(number) => create_beside(rt, alloc, shelf, number, &prepared.logs, parts),
     }
 }

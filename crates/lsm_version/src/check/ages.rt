@@ -36,11 +36,10 @@ pub(crate) fn is_among(numbers: &[u64], number: u64) -> bool
 /// The tables of these numbers of a level.
 fn choose_level<N: Naming, S: Shelf>(
     alloc: Global,
-    registry: &Registry<S::Receipt>,
+    registry: &Registry<N, S>,
     level: &[TableRef<N, S>],
     numbers: &[u64],
 ) -> Result<Vec<TableRef<N, S>>, AllocError>
-    requires named { registry.now ≡ N.registry }
     requires ascending { IsNonDecreasing numbers.now }
     ensures { IfOk result (λ v. v.items ≡ filter (is_among numbers.now) level.now) }
 {
@@ -56,11 +55,10 @@ fn choose_level<N: Naming, S: Shelf>(
 /// The same of all levels.
 fn choose<N: Naming, S: Shelf>(
     alloc: Global,
-    registry: &Registry<S::Receipt>,
+    registry: &Registry<N, S>,
     levels: &[Vec<TableRef<N, S>>],
     numbers: &[u64],
 ) -> Result<Vec<Vec<TableRef<N, S>>>, AllocError>
-    requires named { registry.now ≡ N.registry }
     requires ascending { IsNonDecreasing numbers.now }
     ensures { IfOk result (λ v. map (λ l. l.items) v.items ≡ chosen numbers.now (map (λ l. l.items) levels.now)) }
 {
@@ -77,11 +75,10 @@ fn choose<N: Naming, S: Shelf>(
 fn look_again<N: Naming, S: Shelf, B: Blocks<S>>(
     blocks: &mut B,
     alloc: Global,
-    registry: &Registry<S::Receipt>,
+    registry: &Registry<N, S>,
     levels: &[Vec<TableRef<N, S>>],
 ) -> Result<Option<Bytes>, Unread>
     requires here { (B.told blocks.old).place ≡ N.place }
-    requires named { registry.now ≡ N.registry }
     requires seven { length levels.now ≡ 7 }
     requires mergeable { S.honest → AreMergeable (map (λ l. l.items) levels.now) }
     ensures judged { S.honest → IfOk result (λ r. (ls : List (List Placed)) × AreRunsOf (level_in (map (λ l. l.items) levels.now) 0) (Has (files_from 0 (map (λ l. l.items) levels.now))) ls × MatchOption r (IsAgeOrder (merge_all ls)) (λ k. IsLeastAgainstAge (merge_all ls) k)) }
@@ -112,12 +109,11 @@ fn look_again<N: Naming, S: Shelf, B: Blocks<S>>(
 pub(crate) fn judge_ages<N: Naming, S: Shelf>(
     shelf: &mut S,
     alloc: Global,
-    registry: &Registry<S::Receipt>,
+    registry: &Registry<N, S>,
     levels: &[Vec<TableRef<N, S>>],
     unsettled: &[u64],
 ) -> Result<(), CheckFault>
     requires here { (S.told shelf.old).place ≡ N.place }
-    requires named { registry.now ≡ N.registry }
     requires seven { length levels.now ≡ 7 }
     requires mergeable { AreMergeable (map (λ l. l.items) levels.now) }
     requires fits { (F : File) → Has (files_from 0 (map (λ l. l.items) levels.now)) F → Fits F }

@@ -94,11 +94,10 @@ pub(crate) fn read_table<S: Shelf, R: Wait>(
 pub(crate) fn record_table<N: Naming, S: Shelf, R: Wait>(
     rt: &R,
     alloc: Global,
-    registry: &Registry<S::Receipt>,
+    registry: &Registry<N, S>,
     file: &FileMeta,
     receipt: S::Receipt,
 ) -> Result<TableRef<N, S>, AllocError>
-    requires named { registry.now ≡ N.registry }
     requires here { S.is_of N.place receipt }
     ensures number { IfOk result (λ t. t.number ≡ S.Receipt.number receipt) }
     ensures smallest { IfOk result (λ t. t.smallest ≡ file.now.smallest) }

@@ -31,10 +31,9 @@ fn range_of<'a>(smallest: &'a [u8], largest: &'a [u8]) -> KeyRange<'a>
 /// How the tables of a level lie.
 fn level_layout<N: Naming, S: Shelf>(
     alloc: Global,
-    registry: &Registry<S::Receipt>,
+    registry: &Registry<N, S>,
     level: &[TableRef<N, S>],
 ) -> Result<Layout, AllocError>
-    requires named { registry.now ≡ N.registry }
     requires whole { AreWhole level.now }
     requires order { IsSortedBy stands_before level.now }
     ensures { IfOk result (λ layout. LieAs level.now layout) }
@@ -52,10 +51,9 @@ fn level_layout<N: Naming, S: Shelf>(
 /// on in the next table.
 pub(crate) fn judge_layouts<N: Naming, S: Shelf>(
     alloc: Global,
-    registry: &Registry<S::Receipt>,
+    registry: &Registry<N, S>,
     levels: &[Vec<TableRef<N, S>>],
 ) -> Result<(), CheckFault>
-    requires named { registry.now ≡ N.registry }
     requires seven { length levels.now ≡ 7 }
     requires whole { AreLevelsWhole (map (λ l. l.items) levels.now) }
     requires order { AreInOrder (map (λ l. l.items) levels.now) }

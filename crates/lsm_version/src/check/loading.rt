@@ -29,12 +29,11 @@ fn load_file<N: Naming, S: Shelf, R: Wait>(
     shelf: &mut S,
     rt: &R,
     alloc: Global,
-    registry: &Registry<S::Receipt>,
+    registry: &Registry<N, S>,
     file: &FileMeta,
     last: u64,
 ) -> Result<(TableRef<N, S>, Sequences), CheckFault>
     requires here { (S.told shelf.old).place ≡ N.place }
-    requires named { registry.now ≡ N.registry }
     ensures file { IfOk result (λ r. IsFileOf last file.now r.0) }
     ensures stored { IfOk result (λ t. (r : S.Receipt) × S.is_of N.place r × (S.Receipt.number r ≡ t.0.number) × (S.Receipt.image r ≡ t.0.image)) }
     ensures sequences { IfOk result (λ r. AreSequencesOf (entries_in r.0.image) r.1) }
@@ -51,13 +50,12 @@ fn load_file<N: Naming, S: Shelf, R: Wait>(
 
 /// Puts a table into its place in a level, and its sequences into the same place.
 fn place<N: Naming, S: Shelf>(
-    registry: &Registry<S::Receipt>,
+    registry: &Registry<N, S>,
     tables: &mut Vec<TableRef<N, S>>,
     sequences: &mut Vec<Sequences>,
     table: TableRef<N, S>,
     own: Sequences,
 ) -> Result<(), AllocError>
-    requires named { registry.now ≡ N.registry }
     requires order { IsSortedBy stands_before tables.old.items }
     requires own { AreSequencesOf (entries_in table.image) own }
     requires beside { AreSequences tables.old.items sequences.old.items }
@@ -76,12 +74,11 @@ fn load_level<N: Naming, S: Shelf, R: Wait>(
     shelf: &mut S,
     rt: &R,
     alloc: Global,
-    registry: &Registry<S::Receipt>,
+    registry: &Registry<N, S>,
     files: &[FileMeta],
     last: u64,
 ) -> Result<(Vec<TableRef<N, S>>, Vec<Sequences>), CheckFault>
     requires here { (S.told shelf.old).place ≡ N.place }
-    requires named { registry.now ≡ N.registry }
     ensures read { IfOk result (λ v. IsLevelRead (λ number image. (r : S.Receipt) × S.is_of N.place r × (S.Receipt.number r ≡ number) × (S.Receipt.image r ≡ image)) last files.now v.0.items v.1.items) }
     ensures order { IfOk result (λ v. IsSortedBy stands_before v.0.items) }
     ensures refused { IfErr result (λ e. IsFilesRefusal (λ number image. (r : S.Receipt) × S.is_of N.place r × (S.Receipt.number r ≡ number) × (S.Receipt.image r ≡ image)) (λ number. S.refuses N.place (Load number)) last files.now e) }
@@ -102,11 +99,10 @@ pub(crate) fn load_levels<N: Naming, S: Shelf, R: Wait>(
     shelf: &mut S,
     rt: &R,
     alloc: Global,
-    registry: &Registry<S::Receipt>,
+    registry: &Registry<N, S>,
     shape: &Shape,
 ) -> Result<(Vec<Vec<TableRef<N, S>>>, Vec<Vec<Sequences>>), CheckFault>
     requires here { (S.told shelf.old).place ≡ N.place }
-    requires named { registry.now ≡ N.registry }
     ensures read { IfOk result (λ v. AreRead (λ number image. (r : S.Receipt) × S.is_of N.place r × (S.Receipt.number r ≡ number) × (S.Receipt.image r ≡ image)) shape.now.last shape.now.levels (map (λ l. l.items) v.0.items) (map (λ l. l.items) v.1.items)) }
     ensures order { IfOk result (λ v. AreInOrder (map (λ l. l.items) v.0.items)) }
     ensures refused { IfErr result (λ e. IsFilesRefusal (λ number image. (r : S.Receipt) × S.is_of N.place r × (S.Receipt.number r ≡ number) × (S.Receipt.image r ≡ image)) (λ number. S.refuses N.place (Load number)) shape.now.last (all_files shape.now.levels) e) }

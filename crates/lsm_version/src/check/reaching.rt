@@ -13,11 +13,10 @@ use std::alloc::{AllocError, Global};
 
 /// The number and the sequences of a table.
 fn age_of<N: Naming, S: Shelf>(
-    registry: &Registry<S::Receipt>,
+    registry: &Registry<N, S>,
     table: &TableRef<N, S>,
     sequences: Sequences,
 ) -> Aged
-    requires named { registry.now ≡ N.registry }
     requires own { AreSequencesOf (entries_in table.now.image) sequences }
     ensures { (level : ℕ) → IsAged (file_of level table.now) result }
 {
@@ -30,11 +29,10 @@ fn age_of<N: Naming, S: Shelf>(
 /// Those of each table.
 fn aged_tables<N: Naming, S: Shelf>(
     alloc: Global,
-    registry: &Registry<S::Receipt>,
+    registry: &Registry<N, S>,
     tables: &[TableRef<N, S>],
     sequences: &[Sequences],
 ) -> Result<Vec<Aged>, AllocError>
-    requires named { registry.now ≡ N.registry }
     requires beside { AreSequences tables.now sequences.now }
     ensures { IfOk result (λ v. (level : ℕ) → AreAged (files_of level tables.now) v.items) }
 {
@@ -49,11 +47,10 @@ fn aged_tables<N: Naming, S: Shelf>(
 /// The same by number.
 fn by_number<N: Naming, S: Shelf>(
     alloc: Global,
-    registry: &Registry<S::Receipt>,
+    registry: &Registry<N, S>,
     tables: &[TableRef<N, S>],
     sequences: &[Sequences],
 ) -> Result<Vec<Aged>, AllocError>
-    requires named { registry.now ≡ N.registry }
     requires beside { AreSequences tables.now sequences.now }
     ensures ordered { IfOk result (λ v. IsNonDecreasingBy (λ a. a.number) v.items) }
     ensures aged { IfOk result (λ v. (level : ℕ) → AreAged (files_of level tables.now) v.items) }
@@ -85,12 +82,11 @@ fn reaching(alloc: Global, aged: &[Aged]) -> Result<Vec<u64>, AllocError>
 /// without being settled with that: of level 0 those that reach an older one, of the others none.
 pub(crate) fn reaching_tables<N: Naming, S: Shelf>(
     alloc: Global,
-    registry: &Registry<S::Receipt>,
+    registry: &Registry<N, S>,
     level: usize,
     tables: &[TableRef<N, S>],
     sequences: &[Sequences],
 ) -> Result<Vec<u64>, AllocError>
-    requires named { registry.now ≡ N.registry }
     requires beside { AreSequences tables.now sequences.now }
     ensures ascending { IfOk result (λ v. IsNonDecreasing v.items) }
     ensures named { IfOk result (λ v. NamesUnsettled level tables.now v.items) }

@@ -27,7 +27,7 @@ fn is_shallower(level: usize, number: u64, deeper: usize, other: u64) -> bool
 /// Whether a table lies shallower than another one, their ranges of user keys meet, and the
 /// greatest sequence of the deeper one is not below the least of the shallower one.
 fn is_unsettled<N: Naming, S: Shelf>(
-    registry: &Registry<S::Receipt>,
+    registry: &Registry<N, S>,
     level: usize,
     table: &TableRef<N, S>,
     own: Sequences,
@@ -35,7 +35,6 @@ fn is_unsettled<N: Naming, S: Shelf>(
     other: &TableRef<N, S>,
     its: Sequences,
 ) -> bool
-    requires named { registry.now ≡ N.registry }
     requires own { AreSequencesOf (entries_in table.now.image) own }
     requires its { AreSequencesOf (entries_in other.now.image) its }
     ensures { IsTrue result ↔ IsUnsettled (file_of level table.now) (file_of deeper other.now) }
@@ -59,7 +58,7 @@ fn push_both(numbers: &mut Vec<u64>, first: u64, second: u64) -> Result<(), Allo
 
 /// Adds the numbers of two files where the order of their ages is not settled.
 fn compare<N: Naming, S: Shelf>(
-    registry: &Registry<S::Receipt>,
+    registry: &Registry<N, S>,
     level: usize,
     table: &TableRef<N, S>,
     own: Sequences,
@@ -68,7 +67,6 @@ fn compare<N: Naming, S: Shelf>(
     its: Sequences,
     numbers: &mut Vec<u64>,
 ) -> Result<(), AllocError>
-    requires named { registry.now ≡ N.registry }
     requires own { AreSequencesOf (entries_in table.now.image) own }
     requires its { AreSequencesOf (entries_in other.now.image) its }
     ensures { OnOk result (Adds (OnePair (file_of level table.now) (file_of deeper other.now)) numbers.old.items numbers.new.items) }
@@ -84,12 +82,11 @@ fn compare<N: Naming, S: Shelf>(
 /// Where the search for tables of a level begins that reach a user key: the level's tables rise
 /// from level 1 on.
 fn first_of<N: Naming, S: Shelf>(
-    registry: &Registry<S::Receipt>,
+    registry: &Registry<N, S>,
     level: usize,
     tables: &[TableRef<N, S>],
     user: &[u8],
 ) -> usize
-    requires named { registry.now ≡ N.registry }
     requires rising { 1 ≤ level → IsRising tables.now }
     ensures inside { result ≤ length tables.now }
     ensures before { (i : ℕ) (d : Table) → i < result → reaches (get_or tables.now i d) user.now ≡ false }
@@ -103,7 +100,7 @@ fn first_of<N: Naming, S: Shelf>(
 
 /// Compares a table with those of one level that its range meets.
 fn compare_with_level<N: Naming, S: Shelf>(
-    registry: &Registry<S::Receipt>,
+    registry: &Registry<N, S>,
     level: usize,
     table: &TableRef<N, S>,
     own: Sequences,
@@ -112,7 +109,6 @@ fn compare_with_level<N: Naming, S: Shelf>(
     sequences: &[Sequences],
     numbers: &mut Vec<u64>,
 ) -> Result<(), AllocError>
-    requires named { registry.now ≡ N.registry }
     requires own { AreSequencesOf (entries_in table.now.image) own }
     requires beside { AreSequences tables.now sequences.now }
     requires rising { 1 ≤ deeper → IsRising tables.now }
@@ -142,12 +138,11 @@ fn compare_with_level<N: Naming, S: Shelf>(
 /// The first level with whose tables a table is compared: its own where its number is among these,
 /// else the next one.
 fn first_level<N: Naming, S: Shelf>(
-    registry: &Registry<S::Receipt>,
+    registry: &Registry<N, S>,
     level: usize,
     table: &TableRef<N, S>,
     reaching: &[u64],
 ) -> usize
-    requires named { registry.now ≡ N.registry }
     requires ascending { IsNonDecreasing reaching.now }
     ensures near { (level ≤ result) × (result ≤ level + 1) }
     ensures own { Has reaching.now table.now.number → result ≡ level }
@@ -162,7 +157,7 @@ fn first_level<N: Naming, S: Shelf>(
 /// Compares a table with those of the levels from this first one on: with what lies before it, the
 /// table is settled.
 fn compare_below<N: Naming, S: Shelf>(
-    registry: &Registry<S::Receipt>,
+    registry: &Registry<N, S>,
     level: usize,
     table: &TableRef<N, S>,
     own: Sequences,
@@ -171,7 +166,6 @@ fn compare_below<N: Naming, S: Shelf>(
     sequences: &[Vec<Sequences>],
     numbers: &mut Vec<u64>,
 ) -> Result<(), AllocError>
-    requires named { registry.now ≡ N.registry }
     requires own { AreSequencesOf (entries_in table.now.image) own }
     requires beside { AreLevelSequences (map (λ l. l.items) levels.now) (map (λ l. l.items) sequences.now) }
     requires rising { DeeperRise (map (λ l. l.items) levels.now) }
@@ -191,13 +185,12 @@ fn compare_below<N: Naming, S: Shelf>(
 /// where that may leave it unsettled.
 fn compare_level<N: Naming, S: Shelf>(
     alloc: Global,
-    registry: &Registry<S::Receipt>,
+    registry: &Registry<N, S>,
     level: usize,
     levels: &[Vec<TableRef<N, S>>],
     sequences: &[Vec<Sequences>],
     numbers: &mut Vec<u64>,
 ) -> Result<(), AllocError>
-    requires named { registry.now ≡ N.registry }
     requires beside { AreLevelSequences (map (λ l. l.items) levels.now) (map (λ l. l.items) sequences.now) }
     requires rising { DeeperRise (map (λ l. l.items) levels.now) }
     requires inside { level < length levels.now }
@@ -220,11 +213,10 @@ fn compare_level<N: Naming, S: Shelf>(
 /// number once for each such other file, ascending.
 pub(crate) fn unsettled_files<N: Naming, S: Shelf>(
     alloc: Global,
-    registry: &Registry<S::Receipt>,
+    registry: &Registry<N, S>,
     levels: &[Vec<TableRef<N, S>>],
     sequences: &[Vec<Sequences>],
 ) -> Result<Vec<u64>, AllocError>
-    requires named { registry.now ≡ N.registry }
     requires beside { AreLevelSequences (map (λ l. l.items) levels.now) (map (λ l. l.items) sequences.now) }
     requires rising { DeeperRise (map (λ l. l.items) levels.now) }
     ensures unsettled { IfOk result (λ v. AreUnsettled (files_from 0 (map (λ l. l.items) levels.now)) v.items) }

@@ -10,10 +10,9 @@ use std::alloc::{AllocError, Global};
 /// The numbers of the tables of a level, in its order.
 fn table_numbers<N: Naming, S: Shelf>(
     alloc: Global,
-    registry: &Registry<S::Receipt>,
+    registry: &Registry<N, S>,
     level: &[TableRef<N, S>],
 ) -> Result<Vec<u64>, AllocError>
-    requires { registry.now ≡ N.registry }
     ensures { IfOk result (λ v. v.items ≡ map (λ t. t.number) level.now) }
 {
     let mut numbers = Vec::with_capacity(alloc, level.len())?;
@@ -27,10 +26,9 @@ fn table_numbers<N: Naming, S: Shelf>(
 /// no walk over the level.
 pub(crate) fn ascending_numbers<N: Naming, S: Shelf>(
     alloc: Global,
-    registry: &Registry<S::Receipt>,
+    registry: &Registry<N, S>,
     level: &[TableRef<N, S>],
 ) -> Result<Vec<u64>, AllocError>
-    requires { registry.now ≡ N.registry }
     ensures { IfOk result (λ v. AreNumbersOf level.now v.items) }
 {
     let mut numbers = table_numbers(alloc, registry, level)?;

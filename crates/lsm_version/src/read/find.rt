@@ -21,13 +21,12 @@ use std::alloc::Global;
 fn find_in_table<N: Naming, S: Shelf, B: Blocks<S>>(
     blocks: &mut B,
     alloc: Global,
-    registry: &Registry<S::Receipt>,
+    registry: &Registry<N, S>,
     table: &TableRef<N, S>,
     user: &[u8],
     seq: u64,
 ) -> Result<Option<Found>, ReadFault>
     requires here { (B.told blocks.old).place ≡ N.place }
-    requires named { registry.now ≡ N.registry }
     ensures found { S.honest → IsWhole table.now → IfOk result (λ f. seen f ≡ found_in (newest user.now seq (entries_in table.now.image))) }
     ensures sound { S.honest → IsWhole table.now → IfErr result IsMemoryOrShelf }
     ensures told { Becomes (B.told blocks.old) (B.told blocks.new) }
@@ -42,13 +41,12 @@ fn find_in_table<N: Naming, S: Shelf, B: Blocks<S>>(
 fn find_by_number<N: Naming, S: Shelf, B: Blocks<S>>(
     blocks: &mut B,
     alloc: Global,
-    registry: &Registry<S::Receipt>,
+    registry: &Registry<N, S>,
     level: &[TableRef<N, S>],
     user: &[u8],
     seq: u64,
 ) -> Result<Option<Found>, ReadFault>
     requires here { (B.told blocks.old).place ≡ N.place }
-    requires named { registry.now ≡ N.registry }
     ensures found { S.honest → IsSoundLevel 0 level.now → IfOk result (λ f. seen f ≡ found_in (newest user.now seq (all_entries (files_of 0 level.now)))) }
     ensures sound { S.honest → IsSoundLevel 0 level.now → IfErr result IsMemoryOrShelf }
     ensures told { Becomes (B.told blocks.old) (B.told blocks.new) }
@@ -70,13 +68,12 @@ fn find_by_number<N: Naming, S: Shelf, B: Blocks<S>>(
 fn find_by_range<N: Naming, S: Shelf, B: Blocks<S>>(
     blocks: &mut B,
     alloc: Global,
-    registry: &Registry<S::Receipt>,
+    registry: &Registry<N, S>,
     level: &[TableRef<N, S>],
     user: &[u8],
     seq: u64,
 ) -> Result<Option<Found>, ReadFault>
     requires here { (B.told blocks.old).place ≡ N.place }
-    requires named { registry.now ≡ N.registry }
     ensures found { (n : ℕ) → 1 ≤ n → S.honest → IsSoundLevel n level.now → IfOk result (λ f. seen f ≡ found_in (newest user.now seq (all_entries (files_of n level.now)))) }
     ensures sound { (n : ℕ) → S.honest → IsSoundLevel n level.now → IfErr result IsMemoryOrShelf }
     ensures told { Becomes (B.told blocks.old) (B.told blocks.new) }
@@ -100,14 +97,13 @@ fn find_by_range<N: Naming, S: Shelf, B: Blocks<S>>(
 fn find_at_level<N: Naming, S: Shelf, B: Blocks<S>>(
     blocks: &mut B,
     alloc: Global,
-    registry: &Registry<S::Receipt>,
+    registry: &Registry<N, S>,
     number: usize,
     level: &[TableRef<N, S>],
     user: &[u8],
     seq: u64,
 ) -> Result<Option<Found>, ReadFault>
     requires here { (B.told blocks.old).place ≡ N.place }
-    requires named { registry.now ≡ N.registry }
     ensures found { S.honest → IsSoundLevel number level.now → IfOk result (λ f. seen f ≡ found_in (newest user.now seq (all_entries (files_of number level.now)))) }
     ensures sound { S.honest → IsSoundLevel number level.now → IfErr result IsMemoryOrShelf }
     ensures told { Becomes (B.told blocks.old) (B.told blocks.new) }
@@ -125,13 +121,12 @@ fn find_at_level<N: Naming, S: Shelf, B: Blocks<S>>(
 pub(crate) fn find<N: Naming, S: Shelf, B: Blocks<S>>(
     blocks: &mut B,
     alloc: Global,
-    registry: &Registry<S::Receipt>,
+    registry: &Registry<N, S>,
     levels: &[Vec<TableRef<N, S>>],
     user: &[u8],
     seq: u64,
 ) -> Result<Option<Found>, ReadFault>
     requires here { (B.told blocks.old).place ≡ N.place }
-    requires named { registry.now ≡ N.registry }
     ensures found { S.honest → AreSound 0 (map (λ l. l.items) levels.now) → IfOk result (λ f. seen f ≡ found_in (newest user.now seq (all_entries (files_from 0 (map (λ l. l.items) levels.now))))) }
     ensures sound { S.honest → AreSound 0 (map (λ l. l.items) levels.now) → IfErr result IsMemoryOrShelf }
     ensures told { Becomes (B.told blocks.old) (B.told blocks.new) }

@@ -19,10 +19,9 @@ fn is_number(last: Option<u64>, number: u64) -> bool
 /// The tables of a level in order, each once.
 pub(crate) fn each_once<N: Naming, S: Shelf>(
     alloc: Global,
-    registry: &Registry<S::Receipt>,
+    registry: &Registry<N, S>,
     level: &[TableRef<N, S>],
 ) -> Result<Vec<TableRef<N, S>>, AllocError>
-    requires { registry.now ≡ N.registry }
     ensures { IfOk result (λ v. v.items ≡ once None level.now) }
 {
     let mut tables = Vec::new(alloc);

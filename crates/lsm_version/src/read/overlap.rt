@@ -17,12 +17,11 @@ use std::alloc::{AllocError, Global};
 /// The tables of a level that lie over a range: each is looked at.
 fn each_over<N: Naming, S: Shelf>(
     alloc: Global,
-    registry: &Registry<S::Receipt>,
+    registry: &Registry<N, S>,
     level: &[TableRef<N, S>],
     from: &[u8],
     to: &[u8],
 ) -> Result<Vec<TableRef<N, S>>, AllocError>
-    requires { registry.now ≡ N.registry }
     ensures { IfOk result (λ v. v.items ≡ filter (lies_over from.now to.now) level.now) }
 {
     let mut over = Vec::new(alloc);
@@ -38,12 +37,11 @@ fn each_over<N: Naming, S: Shelf>(
 /// from the first that reaches it.
 fn run_over<N: Naming, S: Shelf>(
     alloc: Global,
-    registry: &Registry<S::Receipt>,
+    registry: &Registry<N, S>,
     level: &[TableRef<N, S>],
     from: &[u8],
     to: &[u8],
 ) -> Result<Vec<TableRef<N, S>>, AllocError>
-    requires { registry.now ≡ N.registry }
     ensures tables { IsRising level.now → IfOk result (λ v. v.items ≡ filter (lies_over from.now to.now) level.now) }
     ensures of_level { IfOk result (λ v. (t : Table) → Has v.items t → Has level.now t) }
 {

@@ -23,11 +23,10 @@ use std::alloc::Global;
 fn open_shallow<N: Naming, S: Shelf, B: Blocks<S>>(
     blocks: &mut B,
     alloc: Global,
-    registry: &Registry<S::Receipt>,
+    registry: &Registry<N, S>,
     level: &[TableRef<N, S>],
 ) -> Result<Vec<Run<N, S>>, Unread>
     requires here { (B.told blocks.old).place ≡ N.place }
-    requires named { registry.now ≡ N.registry }
     requires whole { S.honest → AreWhole level.now }
     ensures runs { S.honest → IfOk result (λ v. AreRunsOf level.now (Has (files_of 0 level.now)) (map (λ r. r.placed) v.items)) }
     ensures files { IfOk result (λ v. AreNamed (IsNumberOf level.now) (flat_map (λ r. r.files) v.items)) }
@@ -56,13 +55,12 @@ fn open_shallow<N: Naming, S: Shelf, B: Blocks<S>>(
 fn open_deeper<N: Naming, S: Shelf, B: Blocks<S>>(
     blocks: &mut B,
     alloc: Global,
-    registry: &Registry<S::Receipt>,
+    registry: &Registry<N, S>,
     depth: u64,
     level: &[TableRef<N, S>],
     runs: &mut Vec<Run<N, S>>,
 ) -> Result<(), Unread>
     requires here { (B.told blocks.old).place ≡ N.place }
-    requires named { registry.now ≡ N.registry }
     requires whole { S.honest → AreWhole level.now }
     ensures files { OnOk result (flat_map (λ r. r.files) runs.new.items ≡ flat_map (λ r. r.files) runs.old.items ++ files_at depth (map (λ t. t.number) (once None level.now))) }
     ensures number { IfErr result (λ e. NamesOne (IsNumberOf level.now) e.file e.fault) }
@@ -91,11 +89,10 @@ fn open_deeper<N: Naming, S: Shelf, B: Blocks<S>>(
 pub(crate) fn open_runs<N: Naming, S: Shelf, B: Blocks<S>>(
     blocks: &mut B,
     alloc: Global,
-    registry: &Registry<S::Receipt>,
+    registry: &Registry<N, S>,
     levels: &[Vec<TableRef<N, S>>],
 ) -> Result<Vec<Run<N, S>>, Unread>
     requires here { (B.told blocks.old).place ≡ N.place }
-    requires named { registry.now ≡ N.registry }
     requires seven { length levels.now ≡ 7 }
     requires mergeable { S.honest → AreMergeable (map (λ l. l.items) levels.now) }
     ensures runs { S.honest → IfOk result (λ v. AreRunsOf (level_in (map (λ l. l.items) levels.now) 0) (Has (files_from 0 (map (λ l. l.items) levels.now))) (map (λ r. r.placed) v.items)) }

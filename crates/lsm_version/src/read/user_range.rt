@@ -16,10 +16,9 @@ fn user_of(key: &[u8]) -> &[u8]
 
 /// The least user key of a table.
 pub fn low_of<'a, N: Naming, S: Shelf>(
-    registry: &'a Registry<S::Receipt>,
+    registry: &'a Registry<N, S>,
     table: &TableRef<N, S>,
 ) -> &'a [u8]
-    requires { registry.now ≡ N.registry }
     ensures { result.now ≡ user_of table.now.smallest }
 {
     user_of(registry.record(table).smallest.as_slice())
@@ -27,10 +26,9 @@ pub fn low_of<'a, N: Naming, S: Shelf>(
 
 /// The greatest user key of a table.
 pub fn high_of<'a, N: Naming, S: Shelf>(
-    registry: &'a Registry<S::Receipt>,
+    registry: &'a Registry<N, S>,
     table: &TableRef<N, S>,
 ) -> &'a [u8]
-    requires { registry.now ≡ N.registry }
     ensures { result.now ≡ user_of table.now.largest }
 {
     user_of(registry.record(table).largest.as_slice())
@@ -38,11 +36,10 @@ pub fn high_of<'a, N: Naming, S: Shelf>(
 
 /// Whether the least user key of a table is at most this one.
 pub(crate) fn begins_by<N: Naming, S: Shelf>(
-    registry: &Registry<S::Receipt>,
+    registry: &Registry<N, S>,
     table: &TableRef<N, S>,
     user: &[u8],
 ) -> bool
-    requires { registry.now ≡ N.registry }
     ensures { result ≡ begins_by table.now user.now }
 {
     is_at_most(low_of(registry, table), user)
@@ -50,11 +47,10 @@ pub(crate) fn begins_by<N: Naming, S: Shelf>(
 
 /// Whether the greatest user key of a table is at least this one.
 pub(crate) fn reaches<N: Naming, S: Shelf>(
-    registry: &Registry<S::Receipt>,
+    registry: &Registry<N, S>,
     table: &TableRef<N, S>,
     user: &[u8],
 ) -> bool
-    requires { registry.now ≡ N.registry }
     ensures { result ≡ reaches table.now user.now }
 {
     is_at_most(user, high_of(registry, table))
@@ -62,11 +58,10 @@ pub(crate) fn reaches<N: Naming, S: Shelf>(
 
 /// How many tables of a level do not reach a user key, where the level's tables rise.
 pub(crate) fn first_reaching<N: Naming, S: Shelf>(
-    registry: &Registry<S::Receipt>,
+    registry: &Registry<N, S>,
     level: &[TableRef<N, S>],
     user: &[u8],
 ) -> usize
-    requires { registry.now ≡ N.registry }
     ensures inside { result ≤ length level.now }
     ensures first { IsRising level.now → IsFirstReaching user.now level.now result }
 {
@@ -86,12 +81,11 @@ pub(crate) fn first_reaching<N: Naming, S: Shelf>(
 /// Whether the table's number is less than the bound, if there is one, and its range has the user
 /// key.
 fn is_candidate<N: Naming, S: Shelf>(
-    registry: &Registry<S::Receipt>,
+    registry: &Registry<N, S>,
     table: &TableRef<N, S>,
     user: &[u8],
     bound: Option<u64>,
 ) -> bool
-    requires { registry.now ≡ N.registry }
     ensures { result ≡ is_candidate user.now bound table.now }
 {
     let number = registry.record(table).number();
@@ -104,11 +98,10 @@ fn is_candidate<N: Naming, S: Shelf>(
 
 /// Whether the number of a table is greater than that of the one that was found, or none was found.
 fn is_newer<N: Naming, S: Shelf>(
-    registry: &Registry<S::Receipt>,
+    registry: &Registry<N, S>,
     table: &TableRef<N, S>,
     best: Option<&TableRef<N, S>>,
 ) -> bool
-    requires { registry.now ≡ N.registry }
     ensures { MatchOption best.entry (IsTrue result) (λ b. result ≡ nat_lt b.now.number table.now.number) }
 {
     match best {
@@ -120,12 +113,11 @@ fn is_newer<N: Naming, S: Shelf>(
 /// Of the tables whose range has a user key, and whose number is less than a bound, if there is
 /// one, that of the greatest number.
 pub(crate) fn youngest_below<'a, N: Naming, S: Shelf>(
-    registry: &Registry<S::Receipt>,
+    registry: &Registry<N, S>,
     level: &'a [TableRef<N, S>],
     user: &[u8],
     bound: Option<u64>,
 ) -> Option<&'a TableRef<N, S>>
-    requires { registry.now ≡ N.registry }
     ensures { MatchOption result (HasNoCandidate user.now bound level.now) (λ t. IsYoungest user.now bound level.now t.now) }
 {
     let mut best = None;

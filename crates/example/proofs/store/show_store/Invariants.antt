@@ -1,11 +1,10 @@
-use Rattle.std.specs.Arc.{arc_value}
 use Rattle.lsm_storage.specs.MemoryShelf.{memory_told}
 use Rattle.example.proofs.store.show_store.Given as goal
 
--- the name stands for the registry and the contents that were just made
+-- the name stands for the records and the contents that were just made
 abbrev pub ghosts-serve-N-Naming : goal.ghosts-serve-N-Naming
 ghosts-serve-N-Naming g a =
-    record { registry = arc_value a.registry; place = (memory_told a.shelf).place }
+    record { registry = a.records; place = (memory_told a.shelf).place }
 
 -- and for the board
 abbrev pub ghosts-serve-N-Boarded : goal.ghosts-serve-N-Boarded

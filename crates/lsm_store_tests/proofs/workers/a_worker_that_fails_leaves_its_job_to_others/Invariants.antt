@@ -2,9 +2,9 @@ use Rattle.std.specs.Arc.{arc_value}
 use Rattle.lsm_shelf.specs.Told.{in_memory}
 use Rattle.lsm_store_tests.proofs.workers.a_worker_that_fails_leaves_its_job_to_others.Given as goal
 
--- the registry and the contents that were just made
+-- the records and the contents that were just made
 abbrev pub ghosts-gives_up-N-Naming : goal.ghosts-gives_up-N-Naming
-ghosts-gives_up-N-Naming g a = record { registry = arc_value a.parts.registry; place = in_memory (arc_value a.parts.shelf.inner.contents).images }
+ghosts-gives_up-N-Naming g a = record { registry = a.parts.records; place = in_memory (arc_value a.parts.shelf.inner.contents).images }
 
 -- so the board
 abbrev pub ghosts-gives_up-N-Boarded : goal.ghosts-gives_up-N-Boarded

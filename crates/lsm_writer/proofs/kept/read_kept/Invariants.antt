@@ -1,6 +1,5 @@
-use Rattle.std.specs.Arc.{arc_value}
 use Rattle.lsm_writer.proofs.kept.read_kept.Given as goal
 
--- the name stands for the registry that was just made, and for the contents of the shelf
+-- the name stands for the records that were just made, and for the contents of the shelf
 abbrev pub ghosts-find_kept : goal.ghosts-find_kept
-ghosts-find_kept g a = record { registry = arc_value a.registry; place = (g.S.Shelf.told a.shelf.now).place }
+ghosts-find_kept g a = record { registry = a.records; place = (g.S.Shelf.told a.shelf.now).place }
