@@ -48,7 +48,7 @@ impl<N: Naming, S: Shelf> Registry<N, S> {
     ) -> Result<Arc<Registry<N, S>>, AllocError>
         requires named { records ≡ N.registry }
     {
-        Arc::new(alloc, Registry::of(records))
+        Ok(Arc::new(alloc, Registry::of(records))?)
     }
 
     /// Adds a record, and gives it back where a growth was refused.
