@@ -2,6 +2,7 @@
 
 ghost use Rattle.std.specs.Prelude.{◌≡◌, ◌≢◌, ◌⊎◌, All, IfErr, IfOk, IsFalse, OnOk, vec_len};
 ghost use Rattle.std.specs.Io.KnownBytes.{Appends, Keeps};
+ghost use Rattle.lsm_shelf.specs.Stored.{Stored};
 ghost use Rattle.lsm_shelf.specs.declared.shelf_fault.ShelfFault.TheVariants.{OutOfMemory};
 ghost use Rattle.lsm_state.specs.Making.{IsNewBoard};
 ghost use Rattle.lsm_store.specs.Workers.{IsWorkersEnd};
@@ -46,7 +47,7 @@ fn man<N: Boarded, S: Shelf, R: Wait, E: Write>(
     ensures shelf { OnOk result ((S.told shelf.new).place ≡ N.place) }
     ensures count { IfOk result (λ c. vec_len c.shelves ≡ options.workers) }
     ensures opened { OnOk result (IsOpened S.honest N.board (S.told shelf.old) (S.told shelf.new)) }
-    ensures refused { IfErr result (λ e. IsUnbegun (λ number image. (r : S.Receipt) × S.is_of N.place r × (S.Receipt.number r ≡ number) × (S.Receipt.image r ≡ image)) (S.refuses N.place) S.honest e (S.told shelf.old) (S.told shelf.new)) }
+    ensures refused { IfErr result (λ e. IsUnbegun (Stored S.Receipt (S.is_of N.place) S.Receipt.number S.Receipt.image) (S.refuses N.place) S.honest e (S.told shelf.old) (S.told shelf.new)) }
     ensures quiet { IsFalse options.progress → Keeps (E.contents err.old) (E.contents err.new) }
 {
     let state = open(rt, alloc, shelf, parts)?;
@@ -148,7 +149,7 @@ fn compact_as<N: Boarded, S: Shelf, R: Threads + Wait + Sync, O: Write, E: Write
     requires board { IsNewBoard N.board usual parts.publisher parts.pinners.items }
     requires seats { vec_len parts.pinners ≡ usual.readers }
     ensures done { OnOk result (IsCompacted S.honest options.workers (S.told shelf.old) (S.told shelf.new) (O.contents out.old) (O.contents out.new)) }
-    ensures fault { IfErr result (λ e. IsCompactFault (λ number image. (r : S.Receipt) × S.is_of N.place r × (S.Receipt.number r ≡ number) × (S.Receipt.image r ≡ image)) (S.refuses N.place) S.honest options.workers e (S.told shelf.old) (S.told shelf.new)) }
+    ensures fault { IfErr result (λ e. IsCompactFault (Stored S.Receipt (S.is_of N.place) S.Receipt.number S.Receipt.image) (S.refuses N.place) S.honest options.workers e (S.told shelf.old) (S.told shelf.new)) }
     ensures left { IfErr result (λ e. e ≢ WriterVariant WriteFault → Keeps (O.contents out.old) (O.contents out.new)) }
     ensures quiet { IsFalse options.progress → Keeps (E.contents err.old) (E.contents err.new) }
 {
@@ -174,7 +175,7 @@ pub(crate) fn compact_to<S: Shelf, R: Threads + Wait + Sync, O: Write, E: Write 
     err: &mut E,
 ) -> Result<(), CompactFault>
     ensures done { OnOk result (IsCompacted S.honest options.workers (S.told shelf.old) (S.told shelf.new) (O.contents out.old) (O.contents out.new)) }
-    ensures fault { IfErr result (λ e. IsCompactFault (λ number image. (r : S.Receipt) × S.is_of (S.told shelf.old).place r × (S.Receipt.number r ≡ number) × (S.Receipt.image r ≡ image)) (S.refuses (S.told shelf.old).place) S.honest options.workers e (S.told shelf.old) (S.told shelf.new)) }
+    ensures fault { IfErr result (λ e. IsCompactFault (Stored S.Receipt (S.is_of (S.told shelf.old).place) S.Receipt.number S.Receipt.image) (S.refuses (S.told shelf.old).place) S.honest options.workers e (S.told shelf.old) (S.told shelf.new)) }
     ensures left { IfErr result (λ e. e ≢ WriterVariant WriteFault → Keeps (O.contents out.old) (O.contents out.new)) }
     ensures quiet { IsFalse options.progress → Keeps (E.contents err.old) (E.contents err.new) }
 {

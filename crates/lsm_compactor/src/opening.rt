@@ -2,6 +2,7 @@
 
 ghost use Rattle.std.specs.Prelude.{◌≡◌, IfErr, IfOk, vec_len};
 ghost use Rattle.lsm_folder.specs.declared.lock_kind.LockKind.TheVariants.{Exclusive};
+ghost use Rattle.lsm_shelf.specs.Stored.{Stored};
 ghost use Rattle.lsm_storage.specs.FileShelf.{file_told, folder_of};
 ghost use Rattle.lsm_shelf.specs.Told.{fresh};
 ghost use Rattle.lsm_state.specs.Making.{IsNewBoard};
@@ -48,7 +49,7 @@ pub(crate) fn open<N: Boarded, S: Shelf, R: Wait>(
     ensures opened { IfOk result (λ s. IsReopened S.honest s (S.told shelf.old) (S.told shelf.new)) }
     ensures board { IfOk result (λ s. s.slots.board.board ≡ N.board) }
     ensures seats { IfOk result (λ s. SeatsPinners s) }
-    ensures refused { IfErr result (λ e. IsUnopened (λ number image. (r : S.Receipt) × S.is_of N.place r × (S.Receipt.number r ≡ number) × (S.Receipt.image r ≡ image)) (S.refuses N.place) S.honest e (S.told shelf.old) (S.told shelf.new)) }
+    ensures refused { IfErr result (λ e. IsUnopened (Stored S.Receipt (S.is_of N.place) S.Receipt.number S.Receipt.image) (S.refuses N.place) S.honest e (S.told shelf.old) (S.told shelf.new)) }
 {
     made_states_seat_their_pinners();
     let options = Options::usual();

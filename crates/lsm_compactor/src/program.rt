@@ -3,6 +3,7 @@
 ghost use Rattle.std.specs.Prelude.{◌≡◌, ◌≢◌, ◌≤◌, IsFalse, OnErr, OnOk};
 ghost use Rattle.std.specs.Io.KnownBytes.{Keeps};
 ghost use Rattle.lsm_compactor.specs.Compacting.{IsCompacted, IsRefused};
+ghost use Rattle.lsm_shelf.specs.Stored.{Stored};
 
 use crate::compact_fault::CompactFault;
 use crate::compact_line::CompactLine;
@@ -56,7 +57,7 @@ pub fn compact<S: Shelf, R: Threads + Wait + Sync, O: Write, E: Write + Send>(
     err: &mut E,
 ) -> u8
     ensures done { result ≡ 0 → IsCompacted S.honest options.workers (S.told shelf.old) (S.told shelf.new) (O.contents out.old) (O.contents out.new) }
-    ensures refused { result ≢ 0 → (result ≡ 1) × ((fault : CompactFault) × IsRefused (λ number image. (r : S.Receipt) × S.is_of (S.told shelf.old).place r × (S.Receipt.number r ≡ number) × (S.Receipt.image r ≡ image)) (S.refuses (S.told shelf.old).place) S.honest options.workers fault (S.told shelf.old) (S.told shelf.new) (O.contents out.old) (O.contents out.new)) }
+    ensures refused { result ≢ 0 → (result ≡ 1) × ((fault : CompactFault) × IsRefused (Stored S.Receipt (S.is_of (S.told shelf.old).place) S.Receipt.number S.Receipt.image) (S.refuses (S.told shelf.old).place) S.honest options.workers fault (S.told shelf.old) (S.told shelf.new) (O.contents out.old) (O.contents out.new)) }
     ensures quiet { result ≡ 0 → IsFalse options.progress → Keeps (E.contents err.old) (E.contents err.new) }
 {
     let done = compact_to(rt, alloc, shelf, options, out, err);

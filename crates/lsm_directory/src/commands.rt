@@ -12,6 +12,7 @@ ghost use Rattle.lsm_directory.specs.Listing.{answer_text, check_text};
 ghost use Rattle.lsm_directory.specs.Logs.{IsChecked};
 ghost use Rattle.lsm_directory.specs.ReadFault.{IsAnswerFault, IsReadFault};
 ghost use Rattle.lsm_directory.specs.declared.directory_fault.DirectoryFault.TheVariants.{Write as WriteFault};
+ghost use Rattle.lsm_shelf.specs.Stored.{Stored};
 
 use crate::answering::answer_line;
 use crate::checking::describe;
@@ -163,7 +164,7 @@ pub(crate) fn perform<N: Naming, S: Shelf, R: Wait, O: Write, E: Write>(
     requires here { (S.told shelf.old).place ≡ N.place }
     requires named { records ≡ N.registry }
     ensures done { OnOk result (IsDone request.now.form request.now.command.now request.now.files.now request.now.progress S.honest (S.told shelf.old) (S.told shelf.new) (O.contents out.old) (O.contents out.new) (E.contents err.old) (E.contents err.new)) }
-    ensures fault { IfErr result (λ e. IsFault (λ number image. (r : S.Receipt) × S.is_of N.place r × (S.Receipt.number r ≡ number) × (S.Receipt.image r ≡ image)) (S.refuses N.place) S.honest e (S.told shelf.old) (S.told shelf.new)) }
+    ensures fault { IfErr result (λ e. IsFault (Stored S.Receipt (S.is_of N.place) S.Receipt.number S.Receipt.image) (S.refuses N.place) S.honest e (S.told shelf.old) (S.told shelf.new)) }
     ensures left { IfErr result (λ e. Leaves request.now.form request.now.command.now S.honest e (S.told shelf.old) (S.told shelf.new) (O.contents out.old) (O.contents out.new)) }
     ensures reads { OnlyReads (S.told shelf.old) (S.told shelf.new) }
 {

@@ -3,6 +3,7 @@
 ghost use Rattle.std.specs.Prelude.{◌≡◌, IfErr, IfOk};
 ghost use Rattle.lsm_directory.specs.Directory.{Holds, OnlyReads};
 ghost use Rattle.lsm_directory.specs.Opening.{IsOpenRefusal};
+ghost use Rattle.lsm_shelf.specs.Stored.{Stored};
 
 use crate::directory_fault::DirectoryFault;
 use lsm_journal::Found;
@@ -35,7 +36,7 @@ pub fn open<N: Naming, S: Shelf, R: Wait>(
 ) -> Result<Opened<N, S>, DirectoryFault>
     requires here { (S.told shelf.old).place ≡ N.place }
     ensures opened { IfOk result (λ o. Holds S.honest (S.told shelf.old) (S.told shelf.new) o.version o.rest o.log o.prev_log) }
-    ensures refused { IfErr result (λ e. IsOpenRefusal (λ number image. (r : S.Receipt) × S.is_of N.place r × (S.Receipt.number r ≡ number) × (S.Receipt.image r ≡ image)) (S.refuses N.place) S.honest e (S.told shelf.old) (S.told shelf.new)) }
+    ensures refused { IfErr result (λ e. IsOpenRefusal (Stored S.Receipt (S.is_of N.place) S.Receipt.number S.Receipt.image) (S.refuses N.place) S.honest e (S.told shelf.old) (S.told shelf.new)) }
     ensures reads { OnlyReads (S.told shelf.old) (S.told shelf.new) }
     ensures place { (S.told shelf.new).place ≡ N.place }
 {

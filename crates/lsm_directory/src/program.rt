@@ -2,6 +2,7 @@
 
 ghost use Rattle.std.specs.Prelude.{◌≡◌, ◌≢◌, ◌++◌, [], ◌∷◌, IfErr, IfSome, OnOk, codes};
 ghost use Rattle.std.specs.Io.KnownBytes.{Appends};
+ghost use Rattle.lsm_shelf.specs.Stored.{Stored};
 ghost use Rattle.lsm_storage.specs.FileNames.{table_name};
 ghost use Rattle.lsm_directory.specs.Answers.{IsDone, IsRefused};
 ghost use Rattle.lsm_directory.specs.Directory.{OnlyReads};
@@ -109,7 +110,7 @@ fn begin<S: Shelf, R: Wait, O: Write, E: Write>(
     err: &mut E,
 ) -> Result<(), DirectoryFault>
     ensures done { OnOk result (IsDone request.now.form request.now.command.now request.now.files.now request.now.progress S.honest (S.told shelf.old) (S.told shelf.new) (O.contents out.old) (O.contents out.new) (E.contents err.old) (E.contents err.new)) }
-    ensures refused { IfErr result (λ e. IsRefused request.now.form request.now.command.now e (λ number image. (r : S.Receipt) × S.is_of (S.told shelf.old).place r × (S.Receipt.number r ≡ number) × (S.Receipt.image r ≡ image)) (S.refuses (S.told shelf.old).place) S.honest (S.told shelf.old) (S.told shelf.new) (O.contents out.old) (O.contents out.new)) }
+    ensures refused { IfErr result (λ e. IsRefused request.now.form request.now.command.now e (Stored S.Receipt (S.is_of (S.told shelf.old).place) S.Receipt.number S.Receipt.image) (S.refuses (S.told shelf.old).place) S.honest (S.told shelf.old) (S.told shelf.new) (O.contents out.old) (O.contents out.new)) }
     ensures reads { OnlyReads (S.told shelf.old) (S.told shelf.new) }
 {
     let records = Records::new(alloc)?;
@@ -130,7 +131,7 @@ pub fn run<S: Shelf, R: Wait, O: Write, E: Write>(
     err: &mut E,
 ) -> u8
     ensures done { result ≡ 0 → IsDone request.now.form request.now.command.now request.now.files.now request.now.progress S.honest (S.told shelf.old) (S.told shelf.new) (O.contents out.old) (O.contents out.new) (E.contents err.old) (E.contents err.new) }
-    ensures refused { result ≢ 0 → (result ≡ 1) × ((fault : DirectoryFault) × IsRefused request.now.form request.now.command.now fault (λ number image. (r : S.Receipt) × S.is_of (S.told shelf.old).place r × (S.Receipt.number r ≡ number) × (S.Receipt.image r ≡ image)) (S.refuses (S.told shelf.old).place) S.honest (S.told shelf.old) (S.told shelf.new) (O.contents out.old) (O.contents out.new)) }
+    ensures refused { result ≢ 0 → (result ≡ 1) × ((fault : DirectoryFault) × IsRefused request.now.form request.now.command.now fault (Stored S.Receipt (S.is_of (S.told shelf.old).place) S.Receipt.number S.Receipt.image) (S.refuses (S.told shelf.old).place) S.honest (S.told shelf.old) (S.told shelf.new) (O.contents out.old) (O.contents out.new)) }
     ensures reads { OnlyReads (S.told shelf.old) (S.told shelf.new) }
 {
     let done = begin(rt, alloc, shelf, request, out, err);

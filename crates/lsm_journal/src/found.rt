@@ -4,6 +4,7 @@ ghost use Rattle.std.specs.Prelude.{◌≡◌, ℕ, ◌-◌, ◌^◌, IfErr, IfO
 ghost use Rattle.lsm_codec.specs.Lists.{Has};
 ghost use Rattle.lsm_journal.specs.Finding.{IsFindRefusal, IsFound, IsLeastFree, IsReadOnce};
 ghost use Rattle.lsm_journal.specs.declared.open_fault.OpenFault.TheVariants.{NumbersSpent};
+ghost use Rattle.lsm_shelf.specs.Stored.{Stored};
 
 use crate::journal::Journal;
 use crate::laws::recovered_is_recorded;
@@ -60,7 +61,7 @@ impl<N: Naming, S: Shelf> Found<N, S> {
     ) -> Result<Found<N, S>, OpenFault>
         requires here { (S.told shelf.old).place ≡ N.place }
         ensures found { IfOk result (λ f. IsFound S.honest limit f.journal f.version f.rest f.next (S.told shelf.old) (S.told shelf.new)) }
-        ensures refused { IfErr result (λ e. IsFindRefusal (λ number image. (r : S.Receipt) × S.is_of N.place r × (S.Receipt.number r ≡ number) × (S.Receipt.image r ≡ image)) (S.refuses N.place) S.honest e (S.told shelf.old) (S.told shelf.new)) }
+        ensures refused { IfErr result (λ e. IsFindRefusal (Stored S.Receipt (S.is_of N.place) S.Receipt.number S.Receipt.image) (S.refuses N.place) S.honest e (S.told shelf.old) (S.told shelf.new)) }
         ensures counts_err { IfErr result (λ e. IsReadOnce e (S.told shelf.old) (S.told shelf.new)) }
     {
         recovered_is_recorded();

@@ -2,3 +2,4 @@ pub mod Place
 pub mod ShelfFault
 pub mod Told
 pub mod Asked
+pub mod Stored

@@ -2,6 +2,7 @@
 
 ghost use Rattle.std.specs.Prelude.{◌≡◌, ℕ, false, true, IfErr, IfOk};
 ghost use Rattle.lsm_journal.specs.Finding.{IsFindRefusal, IsFound, IsReadOnce};
+ghost use Rattle.lsm_shelf.specs.Stored.{Stored};
 ghost use Rattle.lsm_state.specs.Making.{IsNewBoard};
 ghost use Rattle.lsm_state.specs.Opening.{IsBegun, IsOpenRefusal, opened_state};
 ghost use Rattle.lsm_state.specs.Options.{Fits};
@@ -42,7 +43,7 @@ impl<N: Boarded, S: Shelf> State<N, S> {
         requires board { IsNewBoard N.board options board.0 board.1.items }
         ensures begun { IfOk result (λ s. IsBegun S.honest options.manifest_limit s.journal s.slots.version s.next (S.told shelf.old) (S.told shelf.new)) }
         ensures opened { IfOk result (λ s. s ≡ opened_state options board.0 board.1.items s.slots.version s.journal s.next false) }
-        ensures refused { IfErr result (λ e. IsOpenRefusal (λ number image. (r : S.Receipt) × S.is_of N.place r × (S.Receipt.number r ≡ number) × (S.Receipt.image r ≡ image)) (S.refuses N.place) S.honest options.manifest_limit e (S.told shelf.old) (S.told shelf.new)) }
+        ensures refused { IfErr result (λ e. IsOpenRefusal (Stored S.Receipt (S.is_of N.place) S.Receipt.number S.Receipt.image) (S.refuses N.place) S.honest options.manifest_limit e (S.told shelf.old) (S.told shelf.new)) }
         ensures counts_err { IfErr result (λ e. IsReadOnce e (S.told shelf.old) (S.told shelf.new)) }
     {
         let (publisher, pinners) = board;
@@ -88,7 +89,7 @@ impl<N: Boarded, S: Shelf> State<N, S> {
         requires board { IsNewBoard N.board options board.0 board.1.items }
         ensures found { IfOk result (λ s. (rest : ℕ) × IsFound S.honest options.manifest_limit s.journal s.slots.version rest s.next (S.told shelf.old) (S.told shelf.new)) }
         ensures opened { IfOk result (λ s. s ≡ opened_state options board.0 board.1.items s.slots.version s.journal s.next true) }
-        ensures refused { IfErr result (λ e. IsFindRefusal (λ number image. (r : S.Receipt) × S.is_of N.place r × (S.Receipt.number r ≡ number) × (S.Receipt.image r ≡ image)) (S.refuses N.place) S.honest e (S.told shelf.old) (S.told shelf.new)) }
+        ensures refused { IfErr result (λ e. IsFindRefusal (Stored S.Receipt (S.is_of N.place) S.Receipt.number S.Receipt.image) (S.refuses N.place) S.honest e (S.told shelf.old) (S.told shelf.new)) }
         ensures counts_err { IfErr result (λ e. IsReadOnce e (S.told shelf.old) (S.told shelf.new)) }
     {
         let (publisher, pinners) = board;

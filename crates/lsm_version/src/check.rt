@@ -50,11 +50,11 @@ fn check_levels<N: Naming, S: Shelf, R: Wait>(
     shape: &Shape,
 ) -> Result<Vec<Vec<TableRef<N, S>>>, CheckFault>
     requires here { (S.told shelf.old).place ≡ N.place }
-    ensures tables { IfOk result (λ v. AreTablesOf (λ number image. (r : S.Receipt) × S.is_of N.place r × (S.Receipt.number r ≡ number) × (S.Receipt.image r ≡ image)) shape.now (map (λ l. l.items) v.items)) }
+    ensures tables { IfOk result (λ v. AreTablesOf (Stored S.Receipt (S.is_of N.place) S.Receipt.number S.Receipt.image) shape.now (map (λ l. l.items) v.items)) }
     ensures seven { IfOk result (λ v. length v.items ≡ 7) }
     ensures judged { IfOk result (λ v. (pointers : List (Option (List ℕ))) → KeepsAge (files_from 0 (map (λ l. l.items) v.items)) → IsSound record { tables = map (λ l. l.items) v.items; pointers = pointers; last = shape.now.last }) }
     ensures ages { S.honest → IfOk result (λ v. KeepsAge (files_from 0 (map (λ l. l.items) v.items))) }
-    ensures refused { IfErr result (λ e. IsRefusal (λ number image. (r : S.Receipt) × S.is_of N.place r × (S.Receipt.number r ≡ number) × (S.Receipt.image r ≡ image)) (λ number. S.refuses N.place (Load number)) S.honest shape.now e) }
+    ensures refused { IfErr result (λ e. IsRefusal (Stored S.Receipt (S.is_of N.place) S.Receipt.number S.Receipt.image) (λ number. S.refuses N.place (Load number)) S.honest shape.now e) }
     ensures told { Becomes (S.told shelf.old) (S.told shelf.new) }
     ensures cause { IfErr result (λ e. CheckCounted e (S.told shelf.old) (S.told shelf.new)) }
 {
@@ -111,7 +111,7 @@ impl<N: Naming, S: Shelf> Version<N, S> {
         // Whatever the shelf is.
         ensures settled { IfOk result (λ v. IsSettled (files v) → IsSound v) }
         ensures judged { IfOk result (λ v. KeepsAge (files v) → IsSound v) }
-        ensures refused { IfErr result (λ e. IsRefusal (λ number image. (r : S.Receipt) × S.is_of N.place r × (S.Receipt.number r ≡ number) × (S.Receipt.image r ≡ image)) (λ number. S.refuses N.place (Load number)) S.honest shape.now e) }
+        ensures refused { IfErr result (λ e. IsRefusal (Stored S.Receipt (S.is_of N.place) S.Receipt.number S.Receipt.image) (λ number. S.refuses N.place (Load number)) S.honest shape.now e) }
         ensures told { Becomes (S.told shelf.old) (S.told shelf.new) }
         ensures cause { IfErr result (λ e. CheckCounted e (S.told shelf.old) (S.told shelf.new)) }
     {
@@ -130,6 +130,7 @@ ghost use Rattle.lsm_manifest.specs.declared.shape.Shape.{Shape};
 ghost use Rattle.lsm_version.specs.CheckRefusal.{IsOfShape};
 ghost use Rattle.lsm_version.specs.Loading.{AreInFileOrder, AreLevelsOf};
 ghost use Rattle.lsm_version.specs.Versions.{Levels};
+ghost use Rattle.lsm_shelf.specs.Stored.{Stored};
 
 /// A law: where the files of each level of a shape stand in the level's order, as those of a replay
 /// do, a version of the shape has a table for each of them in just that order.

@@ -2,6 +2,7 @@
 
 ghost use Rattle.std.specs.Prelude.{◌≡◌, ◌≢◌, IfErr, OnOk, vec_len};
 ghost use Rattle.std.specs.Io.KnownBytes.{Appends, Keeps};
+ghost use Rattle.lsm_shelf.specs.Stored.{Stored};
 ghost use Rattle.lsm_state.specs.Making.{IsNewBoard};
 ghost use Rattle.lsm_writer.specs.Ingesting.{IsBroughtIn, IsIngestFault, ingest_text};
 ghost use Rattle.lsm_writer.specs.Starting.{usual};
@@ -44,7 +45,7 @@ fn bring_in_as<N: Boarded, S: Shelf, R: Wait, O: Write>(
     requires board { IsNewBoard N.board usual parts.publisher parts.pinners.items }
     requires seats { vec_len parts.pinners ≡ usual.readers }
     ensures done { OnOk result (IsBroughtIn S.honest prepared.now.start prepared.now.logs.items batch.now (S.told shelf.old) (S.told shelf.new) (O.contents out.old) (O.contents out.new)) }
-    ensures fault { IfErr result (λ e. IsIngestFault (λ number image. (r : S.Receipt) × S.is_of N.place r × (S.Receipt.number r ≡ number) × (S.Receipt.image r ≡ image)) (S.refuses N.place) S.honest prepared.now.start prepared.now.logs.items batch.now e (S.told shelf.old) (S.told shelf.new)) }
+    ensures fault { IfErr result (λ e. IsIngestFault (Stored S.Receipt (S.is_of N.place) S.Receipt.number S.Receipt.image) (S.refuses N.place) S.honest prepared.now.start prepared.now.logs.items batch.now e (S.told shelf.old) (S.told shelf.new)) }
     ensures left { IfErr result (λ e. e ≢ WriteFault → Keeps (O.contents out.old) (O.contents out.new)) }
 {
     let parts = parts.named(alloc)?;
@@ -67,7 +68,7 @@ pub(crate) fn bring_in<S: Shelf, R: Wait, O: Write>(
     out: &mut O,
 ) -> Result<(), WriterFault>
     ensures done { OnOk result (IsBroughtIn S.honest prepared.now.start prepared.now.logs.items batch.now (S.told shelf.old) (S.told shelf.new) (O.contents out.old) (O.contents out.new)) }
-    ensures fault { IfErr result (λ e. IsIngestFault (λ number image. (r : S.Receipt) × S.is_of (S.told shelf.old).place r × (S.Receipt.number r ≡ number) × (S.Receipt.image r ≡ image)) (S.refuses (S.told shelf.old).place) S.honest prepared.now.start prepared.now.logs.items batch.now e (S.told shelf.old) (S.told shelf.new)) }
+    ensures fault { IfErr result (λ e. IsIngestFault (Stored S.Receipt (S.is_of (S.told shelf.old).place) S.Receipt.number S.Receipt.image) (S.refuses (S.told shelf.old).place) S.honest prepared.now.start prepared.now.logs.items batch.now e (S.told shelf.old) (S.told shelf.new)) }
     ensures left { IfErr result (λ e. e ≢ WriteFault → Keeps (O.contents out.old) (O.contents out.new)) }
 {
     let parts = NewParts::make(alloc)?;

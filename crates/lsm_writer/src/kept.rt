@@ -5,6 +5,7 @@ ghost use Rattle.std.specs.List.Sorted.{IsStrictlyIncreasing};
 ghost use Rattle.lsm_codec.specs.Lists.{Has};
 ghost use Rattle.lsm_folder.specs.Calls.{AreHonest};
 ghost use Rattle.lsm_writer.specs.Cleaning.{IsKept, IsSpare, IsUnkept, IsUnopened, Needs};
+ghost use Rattle.lsm_shelf.specs.Stored.{Stored};
 
 use crate::names::{is_temporary, manifest_in, table_in};
 use crate::writer_fault::WriterFault;
@@ -68,7 +69,7 @@ fn find_kept<N: Naming, S: Shelf, R: Wait>(
     requires here { (S.told shelf.old).place ≡ N.place }
     requires named { records ≡ N.registry }
     ensures kept { IfOk result (λ k. IsKept S.honest k.manifest k.tables.items (S.told shelf.old) (S.told shelf.new)) }
-    ensures refused { IfErr result (λ e. IsUnkept (λ number image. (r : S.Receipt) × S.is_of N.place r × (S.Receipt.number r ≡ number) × (S.Receipt.image r ≡ image)) (S.refuses N.place) S.honest e (S.told shelf.old) (S.told shelf.new)) }
+    ensures refused { IfErr result (λ e. IsUnkept (Stored S.Receipt (S.is_of N.place) S.Receipt.number S.Receipt.image) (S.refuses N.place) S.honest e (S.told shelf.old) (S.told shelf.new)) }
 {
     let registry = Registry::shared(alloc, records)?;
     // A journal that nothing is sent through has no use for its limit.
@@ -85,7 +86,7 @@ fn find_kept<N: Naming, S: Shelf, R: Wait>(
 /// The same, with records of its own.
 fn read_kept<S: Shelf, R: Wait>(rt: &R, alloc: Global, shelf: &mut S) -> Result<Kept, WriterFault>
     ensures kept { IfOk result (λ k. IsKept S.honest k.manifest k.tables.items (S.told shelf.old) (S.told shelf.new)) }
-    ensures refused { IfErr result (λ e. IsUnkept (λ number image. (r : S.Receipt) × S.is_of (S.told shelf.old).place r × (S.Receipt.number r ≡ number) × (S.Receipt.image r ≡ image)) (S.refuses (S.told shelf.old).place) S.honest e (S.told shelf.old) (S.told shelf.new)) }
+    ensures refused { IfErr result (λ e. IsUnkept (Stored S.Receipt (S.is_of (S.told shelf.old).place) S.Receipt.number S.Receipt.image) (S.refuses (S.told shelf.old).place) S.honest e (S.told shelf.old) (S.told shelf.new)) }
     ensures fault { IfErr result IsUnopened }
 {
     let records = Records::new(alloc)?;

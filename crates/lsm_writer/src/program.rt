@@ -5,6 +5,7 @@ ghost use Rattle.std.specs.Io.KnownBytes.{Keeps};
 ghost use Rattle.lsm_folder.specs.Calls.{AreHonest, opened};
 ghost use Rattle.lsm_shelf.specs.Place.{IsAtPath};
 ghost use Rattle.lsm_folder.specs.SystemFolder.{system_calls, system_place};
+ghost use Rattle.lsm_shelf.specs.Stored.{Stored};
 ghost use Rattle.lsm_shelf.specs.Told.{NotNamed};
 ghost use Rattle.lsm_shelf.specs.declared.shelf_fault.ShelfFault.{ShelfFault};
 ghost use Rattle.lsm_writer.specs.Cleaning.{IsCleaned, IsUncleaned};
@@ -69,7 +70,7 @@ pub fn ingest<S: Shelf, R: Wait, O: Write, E: Write>(
     err: &mut E,
 ) -> u8
     ensures done { result ≡ 0 → IsBroughtIn S.honest prepared.now.start prepared.now.logs.items batch.now (S.told shelf.old) (S.told shelf.new) (O.contents out.old) (O.contents out.new) }
-    ensures refused { result ≢ 0 → (result ≡ 1) × ((fault : WriterFault) × IsRefused (λ number image. (r : S.Receipt) × S.is_of (S.told shelf.old).place r × (S.Receipt.number r ≡ number) × (S.Receipt.image r ≡ image)) (S.refuses (S.told shelf.old).place) S.honest prepared.now.start prepared.now.logs.items batch.now fault (S.told shelf.old) (S.told shelf.new) (O.contents out.old) (O.contents out.new)) }
+    ensures refused { result ≢ 0 → (result ≡ 1) × ((fault : WriterFault) × IsRefused (Stored S.Receipt (S.is_of (S.told shelf.old).place) S.Receipt.number S.Receipt.image) (S.refuses (S.told shelf.old).place) S.honest prepared.now.start prepared.now.logs.items batch.now fault (S.told shelf.old) (S.told shelf.new) (O.contents out.old) (O.contents out.new)) }
     ensures quiet { result ≡ 0 → Keeps (E.contents err.old) (E.contents err.new) }
 {
     let done = bring_in(rt, alloc, shelf, prepared, batch, out);

@@ -3,6 +3,7 @@
 ghost use Rattle.std.specs.Prelude.{◌≡◌, IfErr, IfOk, OnOk};
 ghost use Rattle.lsm_directory.specs.Logs.{NoneUnread};
 ghost use Rattle.lsm_writer.specs.Starting.{IsFlushed, IsNew, IsNotOpened, IsReopened, IsStarted, IsStartRefusal, IsUnbegun, IsUncreated, IsUnflushed, IsUnopened, OpensBeside};
+ghost use Rattle.lsm_shelf.specs.Stored.{Stored};
 
 use crate::parts::Parts;
 use crate::start::{Prepared, Start};
@@ -110,7 +111,7 @@ fn reopen<N: Boarded, S: Shelf, R: Wait>(
     requires here { (S.told shelf.old).place ≡ N.place }
     ensures opened { IfOk result (λ s. IsReopened S.honest s (S.told shelf.old) (S.told shelf.new)) }
     ensures place { OnOk result ((S.told shelf.new).place ≡ N.place) }
-    ensures refused { IfErr result (λ e. IsUnopened (λ number image. (r : S.Receipt) × S.is_of N.place r × (S.Receipt.number r ≡ number) × (S.Receipt.image r ≡ image)) (S.refuses N.place) S.honest e (S.told shelf.old) (S.told shelf.new)) }
+    ensures refused { IfErr result (λ e. IsUnopened (Stored S.Receipt (S.is_of N.place) S.Receipt.number S.Receipt.image) (S.refuses N.place) S.honest e (S.told shelf.old) (S.told shelf.new)) }
 {
     let options = Options::usual();
     let board = (parts.publisher, parts.pinners);
@@ -132,7 +133,7 @@ fn open_beside<N: Boarded, S: Shelf, R: Wait>(
     requires here { (S.told shelf.old).place ≡ N.place }
     ensures opened { IfOk result (λ s. OpensBeside S.honest logs.now s (S.told shelf.old) (S.told shelf.new)) }
     ensures place { OnOk result ((S.told shelf.new).place ≡ N.place) }
-    ensures refused { IfErr result (λ e. IsNotOpened (λ number image. (r : S.Receipt) × S.is_of N.place r × (S.Receipt.number r ≡ number) × (S.Receipt.image r ≡ image)) (S.refuses N.place) S.honest logs.now e (S.told shelf.old) (S.told shelf.new)) }
+    ensures refused { IfErr result (λ e. IsNotOpened (Stored S.Receipt (S.is_of N.place) S.Receipt.number S.Receipt.image) (S.refuses N.place) S.honest logs.now e (S.told shelf.old) (S.told shelf.new)) }
 {
     refuse_unflushed(rt, alloc, shelf, logs)?;
     match reopen(rt, alloc, shelf, parts) {
@@ -153,7 +154,7 @@ pub(crate) fn start<N: Boarded, S: Shelf, R: Wait>(
     requires here { (S.told shelf.old).place ≡ N.place }
     ensures started { IfOk result (λ s. IsStarted S.honest prepared.now.start prepared.now.logs.items s (S.told shelf.old) (S.told shelf.new)) }
     ensures place { OnOk result ((S.told shelf.new).place ≡ N.place) }
-    ensures refused { IfErr result (λ e. IsStartRefusal (λ number image. (r : S.Receipt) × S.is_of N.place r × (S.Receipt.number r ≡ number) × (S.Receipt.image r ≡ image)) (S.refuses N.place) S.honest prepared.now.start prepared.now.logs.items e (S.told shelf.old) (S.told shelf.new)) }
+    ensures refused { IfErr result (λ e. IsStartRefusal (Stored S.Receipt (S.is_of N.place) S.Receipt.number S.Receipt.image) (S.refuses N.place) S.honest prepared.now.start prepared.now.logs.items e (S.told shelf.old) (S.told shelf.new)) }
 {
     match prepared.start {
         Start::Open => open_beside(rt, alloc, shelf, &prepared.logs, parts),

@@ -12,6 +12,7 @@ ghost use Rattle.lsm_version.specs.FileRefusal.{IsFileRefusal, IsFilesRefusal};
 ghost use Rattle.lsm_version.specs.Loading.{AreRead, IsLevelRead, all_files};
 ghost use Rattle.lsm_version.specs.Settled.{AreSequences, AreSequencesOf};
 ghost use Rattle.lsm_version.specs.Versions.{AreInOrder, stands_before};
+ghost use Rattle.lsm_shelf.specs.Stored.{Stored};
 
 use crate::check::check_fault::CheckFault;
 use crate::check::checked_table::{read_table, record_table, want};
@@ -79,9 +80,9 @@ fn load_level<N: Naming, S: Shelf, R: Wait>(
     last: u64,
 ) -> Result<(Vec<TableRef<N, S>>, Vec<Sequences>), CheckFault>
     requires here { (S.told shelf.old).place ≡ N.place }
-    ensures read { IfOk result (λ v. IsLevelRead (λ number image. (r : S.Receipt) × S.is_of N.place r × (S.Receipt.number r ≡ number) × (S.Receipt.image r ≡ image)) last files.now v.0.items v.1.items) }
+    ensures read { IfOk result (λ v. IsLevelRead (Stored S.Receipt (S.is_of N.place) S.Receipt.number S.Receipt.image) last files.now v.0.items v.1.items) }
     ensures order { IfOk result (λ v. IsSortedBy stands_before v.0.items) }
-    ensures refused { IfErr result (λ e. IsFilesRefusal (λ number image. (r : S.Receipt) × S.is_of N.place r × (S.Receipt.number r ≡ number) × (S.Receipt.image r ≡ image)) (λ number. S.refuses N.place (Load number)) last files.now e) }
+    ensures refused { IfErr result (λ e. IsFilesRefusal (Stored S.Receipt (S.is_of N.place) S.Receipt.number S.Receipt.image) (λ number. S.refuses N.place (Load number)) last files.now e) }
     ensures told { Becomes (S.told shelf.old) (S.told shelf.new) }
     ensures cause { IfErr result (λ e. CheckCounted e (S.told shelf.old) (S.told shelf.new)) }
 {
@@ -103,9 +104,9 @@ pub(crate) fn load_levels<N: Naming, S: Shelf, R: Wait>(
     shape: &Shape,
 ) -> Result<(Vec<Vec<TableRef<N, S>>>, Vec<Vec<Sequences>>), CheckFault>
     requires here { (S.told shelf.old).place ≡ N.place }
-    ensures read { IfOk result (λ v. AreRead (λ number image. (r : S.Receipt) × S.is_of N.place r × (S.Receipt.number r ≡ number) × (S.Receipt.image r ≡ image)) shape.now.last shape.now.levels (map (λ l. l.items) v.0.items) (map (λ l. l.items) v.1.items)) }
+    ensures read { IfOk result (λ v. AreRead (Stored S.Receipt (S.is_of N.place) S.Receipt.number S.Receipt.image) shape.now.last shape.now.levels (map (λ l. l.items) v.0.items) (map (λ l. l.items) v.1.items)) }
     ensures order { IfOk result (λ v. AreInOrder (map (λ l. l.items) v.0.items)) }
-    ensures refused { IfErr result (λ e. IsFilesRefusal (λ number image. (r : S.Receipt) × S.is_of N.place r × (S.Receipt.number r ≡ number) × (S.Receipt.image r ≡ image)) (λ number. S.refuses N.place (Load number)) shape.now.last (all_files shape.now.levels) e) }
+    ensures refused { IfErr result (λ e. IsFilesRefusal (Stored S.Receipt (S.is_of N.place) S.Receipt.number S.Receipt.image) (λ number. S.refuses N.place (Load number)) shape.now.last (all_files shape.now.levels) e) }
     ensures told { Becomes (S.told shelf.old) (S.told shelf.new) }
     ensures cause { IfErr result (λ e. CheckCounted e (S.told shelf.old) (S.told shelf.new)) }
 {
