@@ -6,9 +6,10 @@ ghost use Rattle.std.specs.Prelude.{◌≡◌, ◌≤◌};
 use crate::table::fruit_table;
 use lsm_codec::{Bytes, Kind, List, MAX_SEQ, push_key};
 use lsm_manifest::{AddedFile, Edit, FileMeta, Shape, replay};
+use lsm_reads::{Pair, Scan};
 use lsm_storage::MemoryShelf;
 use lsm_table::{BuildFault, Naming, Records, Registry, Shelf, TableBuilder, TableOptions};
-use lsm_version::{Pair, Scan, Version};
+use lsm_version::Version;
 use std::alloc::{AllocError, Global};
 use std::io::Print;
 use std::marker::Brand;
@@ -100,7 +101,7 @@ fn show<N: Naming, S: Shelf>(
     requires { (S.told shelf.old).place ≡ N.place }
     ensures { (S.told shelf.new).place ≡ (S.told shelf.old).place }
 {
-    match version.get(shelf, alloc, user.as_bytes(), seq)? {
+    match lsm_reads::get(version, shelf, alloc, user.as_bytes(), seq)? {
         Some(value) => println!(rt; "{user} at {seq}: {}", str::from_utf8(&value)?)?,
         None => println!(rt; "{user} at {seq}: absent")?,
     }
@@ -140,7 +141,7 @@ fn scan<N: Naming, S: Shelf>(
     requires place { (S.told shelf.old).place ≡ N.place }
     requires honest { S.honest }
 {
-    let mut scan = version.scan(shelf, alloc, seq)?;
+    let mut scan = lsm_reads::scan(version, shelf, alloc, seq)?;
     show_rest(rt, alloc, &mut scan, shelf)
 }
 
@@ -177,7 +178,7 @@ fn check_and_read<N: Naming, S: Shelf, R: Wait + Print>(
     requires honest { S.honest }
 {
     let registry = Registry::shared(alloc, records)?;
-    let version = Version::<N, S>::check(shelf, rt, alloc, shape, registry)?;
+    let version = lsm_check::check::<N, S, R>(shelf, rt, alloc, shape, registry)?;
     read(rt, alloc, &version, shelf)
 }
 

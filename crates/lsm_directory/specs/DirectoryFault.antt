@@ -16,14 +16,14 @@ use Rattle.lsm_manifest.specs.ReplayFault as replay
 use Rattle.lsm_manifest.specs.declared.replay_fault.ReplayFault.{ReplayFault}
 use Rattle.lsm_manifest.specs.declared.replay_fault.ReplayFault.TheVariants as replay_faults
 use Rattle.lsm_table.specs.ReadFault as read
-use Rattle.lsm_version.specs.CheckFault as check
+use Rattle.lsm_check.specs.CheckFault as check
 use Rattle.lsm_journal.specs.RecoverFault as recover
 use Rattle.lsm_journal.specs.declared.recover_fault.RecoverFault.{RecoverFault}
 use Rattle.lsm_journal.specs.declared.recover_fault.RecoverFault.TheVariants as recover_faults
 use Rattle.lsm_journal.specs.declared.open_fault.OpenFault.{OpenFault}
 use Rattle.lsm_journal.specs.declared.open_fault.OpenFault.TheVariants as open_faults
-use Rattle.lsm_version.specs.declared.check.check_fault.CheckFault.{CheckFault}
-use Rattle.lsm_version.specs.declared.check.check_fault.CheckFault.TheVariants as check_faults
+use Rattle.lsm_check.specs.declared.check_fault.CheckFault.{CheckFault}
+use Rattle.lsm_check.specs.declared.check_fault.CheckFault.TheVariants as check_faults
 use Rattle.lsm_commands.specs.FaultText.{refusal_text, table_field, log_field, edit_field}
 use Rattle.lsm_directory.specs.declared.directory_fault.DirectoryFault.{DirectoryFault}
 use Rattle.lsm_directory.specs.declared.directory_fault.DirectoryFault.TheVariants.{OutOfMemory, Write, Shelf, Manifest, Tables, Read, NumbersSpent, Locked}

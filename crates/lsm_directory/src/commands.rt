@@ -46,7 +46,7 @@ fn answer_of<N: Naming, S: Shelf>(
     ensures fault { IfErr result (λ e. IsReadFault S.honest e (S.told shelf.old) (S.told shelf.new)) }
     ensures told { Becomes (S.told shelf.old) (S.told shelf.new) }
 {
-    let answer = version.get(shelf, alloc, key, version.last())?;
+    let answer = lsm_reads::get(version, shelf, alloc, key, version.last())?;
     Ok(answer_line(alloc, form, answer)?)
 }
 

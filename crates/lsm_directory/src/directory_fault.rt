@@ -5,10 +5,10 @@ ghost use Rattle.lsm_directory.specs.DirectoryFault.{fault_text, file_of, number
 ghost use Rattle.lsm_directory.specs.declared.directory_fault.DirectoryFault.TheVariants.{OutOfMemory, Shelf, Manifest, Tables, Read};
 
 use crate::refusals::{of_locked, of_manifest, of_read, of_shelf, of_spent, of_tables};
+use lsm_check::CheckFault;
 use lsm_commands::Refusal;
 use lsm_journal::{OpenFault, RecoverFault};
 use lsm_table::{ReadFault, ShelfFault, TableFault};
-use lsm_version::CheckFault;
 use std::alloc::{AllocError, AllocFailed};
 use std::fmt;
 

@@ -26,7 +26,7 @@ pub struct Opened<N: Naming, S: Shelf> {
 /// Opens the directory of a shelf to read, as `Found::read` does: reads the manifest that it names,
 /// reads and judges every table, and lists those that are there. Nothing is written.
 ///
-/// The refusals of `Found::read`: those of `Journal::recover`, then those of `Version::check`,
+/// The refusals of `Found::read`: those of `Journal::recover`, then those of `lsm_check::check`,
 /// those of listing the tables, and `NumbersSpent`.
 pub fn open<N: Naming, S: Shelf, R: Wait>(
     rt: &R,

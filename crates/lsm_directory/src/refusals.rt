@@ -5,11 +5,11 @@ ghost use Rattle.std.specs.Option.{option_map};
 ghost use Rattle.lsm_commands.specs.FaultText.{refusal_text};
 ghost use Rattle.lsm_directory.specs.DirectoryFault.{check_text, read_text, recover_text, replay_text, shelf_text};
 
+use lsm_check::CheckFault;
 use lsm_commands::Refusal;
 use lsm_journal::RecoverFault;
 use lsm_manifest::ReplayFault;
 use lsm_table::{ReadFault, ShelfFault};
-use lsm_version::CheckFault;
 
 /// A refusal of a shelf.
 pub(crate) fn of_shelf(fault: ShelfFault) -> Refusal

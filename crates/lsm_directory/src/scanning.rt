@@ -13,8 +13,9 @@ use crate::output::{flush, write_bytes};
 use crate::progress::tell_keys;
 use lsm_commands::{Form, KeyBounds};
 use lsm_reader::{Blocks, Direct};
+use lsm_reads::Scan;
 use lsm_table::{Naming, Shelf};
-use lsm_version::{Scan, Version};
+use lsm_version::Version;
 use std::alloc::{AllocError, Global};
 use std::io::Write;
 
@@ -158,6 +159,6 @@ pub(crate) fn print_scan<N: Naming, S: Shelf, O: Write, E: Write>(
     ensures told { Becomes (S.told shelf.old) (S.told shelf.new) }
     ensures quiet { IsFalse progress → Keeps (E.contents err.old) (E.contents err.new) }
 {
-    let mut scan = version.scan(shelf, alloc, version.last())?;
+    let mut scan = lsm_reads::scan(version, shelf, alloc, version.last())?;
     print_open(shelf, alloc, &mut scan, form, bounds, progress, out, err)
 }

@@ -49,7 +49,7 @@ impl<N: Naming, S: Shelf> Found<N, S> {
     /// and lists those that are there. Nothing is written. The limit, in bytes, is that from which
     /// a new manifest is due.
     ///
-    /// The refusals of `Journal::recover`; those of `Version::check`; those of listing the tables;
+    /// The refusals of `Journal::recover`; those of `lsm_check::check`; those of listing the tables;
     /// then `NumbersSpent` where a table that is listed, or one of the version, or the manifest has
     /// the number 2^64 - 1; `OutOfMemory` on the way.
     pub fn read<R: Wait>(
@@ -67,7 +67,7 @@ impl<N: Naming, S: Shelf> Found<N, S> {
         recovered_is_recorded();
         let recovered = Journal::recover(rt, alloc, shelf, limit)?;
         let shared = Arc::try_clone(registry)?;
-        let version = Version::check(shelf, rt, alloc, &recovered.shape, shared)?;
+        let version = lsm_check::check(shelf, rt, alloc, &recovered.shape, shared)?;
         let mut taken = shelf.list(rt, alloc)?;
         version.push_numbers(&mut taken)?;
         taken.push(recovered.journal.number())?;

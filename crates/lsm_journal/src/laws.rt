@@ -4,7 +4,7 @@ ghost use Rattle.std.specs.Prelude.{◌≡◌, ◌≤◌, ◌^◌, ℕ, List, le
 ghost use Rattle.lsm_table.specs.Registry.{Table};
 ghost use Rattle.lsm_manifest.specs.EditFit.{FitsKey};
 ghost use Rattle.lsm_manifest.specs.Shape.{Form};
-ghost use Rattle.lsm_version.specs.CheckRefusal.{IsOfShape};
+ghost use Rattle.lsm_check.specs.CheckRefusal.{IsOfShape};
 ghost use Rattle.lsm_version.specs.FileNumbers.{AreDistinct, numbers_of};
 ghost use Rattle.lsm_version.specs.Versions.{IsWhole, Levels};
 ghost use Rattle.lsm_journal.specs.HeldManifest.{HeldManifest};
@@ -12,7 +12,8 @@ ghost use Rattle.lsm_journal.specs.Recorded.{FitsLevels, IsRecorded};
 ghost use Rattle.lsm_journal.specs.Difference.{Difference, FitsDifference, LeadsTo};
 ghost use Rattle.lsm_journal.specs.Recovering.{IsRecovered};
 
-use lsm_version::{changed_tables, shapes_in_order};
+use lsm_check::shapes_in_order;
+use lsm_version::changed_tables;
 
 /// The manifest that was read records each version of its shape.
 pub fn recovered_is_recorded()

@@ -25,7 +25,7 @@ impl<N: Boarded, S: Shelf> State<N, S> {
     /// of the manifest found that hold no whole record are left behind. Its log numbers are kept.
     /// The board was just made, with the options' readers and as many slots as they say.
     ///
-    /// The refusals of `Journal::recover`; those of `Version::check`; those of listing the tables;
+    /// The refusals of `Journal::recover`; those of `lsm_check::check`; those of listing the tables;
     /// then `NumbersSpent` where one of these numbers is 2^64 - 1, or the new manifest's would be;
     /// then `OutOfMemory`, and `Device` where the shelf failed, or `Taken` where another began that
     /// manifest meanwhile. After `Device` the directory names the old manifest or the new one
@@ -73,7 +73,7 @@ impl<N: Boarded, S: Shelf> State<N, S> {
     /// found, with all its bytes, the next number is the one that `open` gives to a new manifest,
     /// and the state is halted.
     ///
-    /// The refusals of `Journal::recover`; those of `Version::check`; those of listing the tables;
+    /// The refusals of `Journal::recover`; those of `lsm_check::check`; those of listing the tables;
     /// then `NumbersSpent` where a table that is listed, or one of the version, or the manifest has
     /// the number 2^64 - 1; then `OutOfMemory`.
     pub fn open_to_read<R: Wait>(

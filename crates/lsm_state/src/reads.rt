@@ -50,7 +50,7 @@ impl<N: Boarded, S: Shelf> State<N, S> {
         ensures told { Becomes (S.told shelf.old) (S.told shelf.new) }
     {
         let seq = self.sequence_at(at)?;
-        let value = self.slots.version().get(shelf, alloc, user, seq)?;
+        let value = lsm_reads::get(self.slots.version(), shelf, alloc, user, seq)?;
         Ok(value)
     }
 

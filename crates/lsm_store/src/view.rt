@@ -17,10 +17,10 @@ ghost use Rattle.lsm_version.specs.Versions.{files};
 use crate::desk::Desk;
 use crate::reader::Reader;
 use lsm_pins::Pinner;
+use lsm_reads::{Pair, Scan};
 use lsm_slots::Boarded;
 use lsm_state::State;
 use lsm_table::{ReadFault, Shelf};
-use lsm_version::{Pair, Scan};
 use std::alloc::{AllocError, Global};
 use std::marker::Model;
 
@@ -78,9 +78,13 @@ impl<N: Boarded, S: Shelf> View<N, S> {
         ensures told { Becomes self.old.told self.new.told }
         ensures cause { IfErr result (λ e. ReadCounted e self.old.told self.new.told) }
     {
-        self.desk
-            .version
-            .get_by(&mut self.desk.blocks, alloc, user, seq)
+        lsm_reads::get_by(
+            &self.desk.version,
+            &mut self.desk.blocks,
+            alloc,
+            user,
+            seq,
+        )
     }
 
     /// A scan of its version at a sequence: each user key that has an answer, with it, ascending.
@@ -93,7 +97,7 @@ impl<N: Boarded, S: Shelf> View<N, S> {
         ensures told { Becomes self.old.told self.new.told }
         ensures cause { IfErr result (λ e. ReadCounted e self.old.told self.new.told) }
     {
-        self.desk.version.scan_by(&mut self.desk.blocks, alloc, seq)
+        lsm_reads::scan_by(&self.desk.version, &mut self.desk.blocks, alloc, seq)
     }
 
     /// Goes on to the next pair of the scan, which then lends it. Where none is left it stands at

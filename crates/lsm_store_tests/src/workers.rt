@@ -1,7 +1,6 @@
 //! Workers merge at once, and leave nothing behind.
 
 ghost use Rattle.std.specs.Prelude.{◌≡◌, All, IfOk};
-ghost use Rattle.std.specs.Arc.{arc_value};
 ghost use Rattle.lsm_store_tests.specs.Parts.{IsMade};
 
 use crate::stage::{Parts, Stage};

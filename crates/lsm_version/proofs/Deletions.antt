@@ -8,7 +8,7 @@ use Rattle.lsm_levels.specs.Files.{File}
 use Rattle.lsm_version.specs.Versions.{Levels, IsSound, files, level_in}
 use Rattle.lsm_version.specs.Changes.{is_kept, level_after, levels_after, changed}
 use Rattle.lsm_version.proofs.ChangedFiles.{changed_has}
-use Rattle.lsm_version.proofs.Finding.{lawful_part}
+use Rattle.lsm_version.proofs.Parts.{lawful_part}
 
 level_part : (deleted : List ℕ) (m : ℕ) (ts : List Table) (t : Table) → Has (level_after deleted [] m ts) t → Has ts t
 unfolding level_after

@@ -13,7 +13,14 @@ use Rattle.lsm_version.specs.Reads.{AreSound, IsRising, IsFirstReaching, begins_
 use Rattle.lsm_version.specs.Overlap.{lies_over, meets}
 use Rattle.lsm_levels.proofs.CallerLemmas.{true_or_not}
 use Rattle.lsm_version.proofs.Rising.{level_rises}
-use Rattle.lsm_version.proofs.Finding.{and_false_left, and_false_right, sound_level, sound_rest}
+use Rattle.lsm_version.proofs.Parts.{sound_level, sound_rest}
+
+pub and_false_left : (a b : Bool) → a ≡ false → (a && b) ≡ false
+and_false_left a b h = rw h refl
+
+pub and_false_right : (a b : Bool) → b ≡ false → (a && b) ≡ false
+and_false_right true b h = h
+and_false_right false b h = refl
 
 -- what the test takes is the run from p on of length m, where it holds of just these
 filter_run : (q : Table → Bool) (ts : List Table) (p m : ℕ) → ((i : ℕ) (d : Table) → i < p → i < length ts → q (get_or ts i d) ≡ false)

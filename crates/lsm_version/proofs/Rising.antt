@@ -1,22 +1,38 @@
 -- The tables of a level from 1 on rise: what stands later in the level stands later in internal keys.
-use Rattle.std.proofs.Common.{◌≡◌, ℕ, zero, suc, ◌+◌, ◌<◌, ◌≤◌, true, false, List, [], ◌∷◌, length, get_or, refl, sym, ◌∙◌, ap, subst, inl, inr, arith}
+use Rattle.std.proofs.Common.{◌≡◌, ℕ, zero, suc, ◌+◌, ◌<◌, ◌≤◌, true, false, List, [], ◌∷◌, length, get_or, refl, sym, ◌∙◌, ap, subst, inl, inr, arith, Ordering, Less, Equal, Greater}
 use Rattle.std.specs.Prelude.{◌⊎◌}
 use Rattle.std.proofs.lemmas.Bool.{cases_eq}
 use Rattle.std.proofs.lemmas.List.{get_or_default}
 use Rattle.std.proofs.lemmas.List.Sorted.{sorted_far}
 use Rattle.lsm_codec.specs.Entries.{Entry, internal_key}
 use Rattle.lsm_codec.specs.Lists.{Has}
-use Rattle.lsm_codec.specs.Keys.{UserKey, UserLe, InternalKey, IsKey}
-use Rattle.lsm_codec.proofs.CallerLemmas.{user_le_trans, user_le_refl, take-key_bytes}
+use Rattle.lsm_codec.specs.Keys.{UserKey, UserLe, InternalKey, IsKey, key_cmp, then_by}
+use Rattle.lsm_codec.proofs.CallerLemmas.{user_le_trans, user_le_refl, take-key_bytes, key_cmp-swapped}
 use Rattle.lsm_table.specs.Registry.{Table}
 use Rattle.lsm_levels.specs.Files.{File, Fits, IsAhead}
-use Rattle.lsm_levels.specs.Ranges.{KeyLe}
+use Rattle.lsm_levels.specs.Ranges.{KeyLe, key_le}
 use Rattle.lsm_levels.proofs.CallerLemmas.{before_not_first, before_says, first_is_le, key_le_user, true_or_not}
 use Rattle.lsm_version.specs.Versions.{IsWhole, file_of, files_of, stands_before, user_of}
 use Rattle.lsm_version.specs.Reads.{IsSoundLevel, IsRising, reaches}
-use Rattle.lsm_version.proofs.LevelRanges.{begins_later}
 use Rattle.lsm_version.proofs.Placing.{places_rank}
 use Rattle.lsm_version.proofs.ChangedFiles.{has_files}
+use Rattle.std.specs.Ordering.{nat_cmp, is_lt, is_le, ordering_reverse}
+use Rattle.lsm_manifest.specs.FileOrder.{TableFile}
+use Rattle.lsm_manifest.proofs.CallerLemmas.{order_is}
+
+not_less : (o p : Ordering) → is_lt (then_by o p) ≡ false → is_le (ordering_reverse o) ≡ true
+not_less Less p h = absurd (cc h)
+not_less Equal p h = refl
+not_less Greater p h = refl
+
+place_of : Table → TableFile
+place_of t = record { number = t.number; size = 0; smallest = t.smallest; largest = t.largest }
+
+-- a table that does not stand before another one begins no earlier
+pub begins_later : (t u : Table) (k l : InternalKey) → IsKey t.smallest k → IsKey u.smallest l → stands_before u t ≡ false → KeyLe k l
+unfolding stands_before key_le place_of
+begins_later t u k l kt ku late =
+    ap is_le (key_cmp-swapped k l) ∙ not_less (key_cmp l k) (nat_cmp u.number t.number) (ap is_lt (sym (order_is (place_of u) (place_of t) l k ku kt)) ∙ late)
 
 pub user_of-key : (bytes : List ℕ) (key : InternalKey) → IsKey bytes key → user_of bytes ≡ key.user
 user_of-key bytes key is = ap user_of is.bytes_are ∙ take-key_bytes key

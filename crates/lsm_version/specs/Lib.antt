@@ -1,15 +1,6 @@
 pub mod Versions
-pub mod CheckFault
-pub mod CheckedFiles
-pub mod FileRefusal
 pub mod Changes
 pub mod FileNumbers
-pub mod CheckRefusal
-pub mod Loading
-pub mod LevelLayouts
-pub mod Settled
-pub mod Depths
-pub mod Runs
 pub mod Reads
 pub mod Overlap
 pub use Rattle.lsm_levels.specs.Files

@@ -6,7 +6,7 @@ use lsm_codec::Bytes;
 use std::alloc::{AllocError, Global};
 
 /// A copy of a key, in memory of its own.
-pub(crate) fn copy_of(alloc: Global, key: &[u8]) -> Result<Bytes, AllocError>
+pub fn copy_of(alloc: Global, key: &[u8]) -> Result<Bytes, AllocError>
     ensures { IfOk result (λ b. b ≡ key.now) }
 {
     let mut bytes = Vec::new(alloc);
@@ -15,7 +15,7 @@ pub(crate) fn copy_of(alloc: Global, key: &[u8]) -> Result<Bytes, AllocError>
 }
 
 /// Copies of keys, where there are any.
-pub(crate) fn copies_of(
+pub fn copies_of(
     alloc: Global,
     pointers: &[Option<Bytes>],
 ) -> Result<Vec<Option<Bytes>>, AllocError>

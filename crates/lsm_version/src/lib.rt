@@ -1,10 +1,10 @@
-//! Versions: which tables stand at which level, and what they answer. Reads, scans, the judgment of
-//! a shape, and changes.
+//! Versions: which tables stand at which level, which of them a range of user keys meets, and
+//! changes.
 //!
-//! Stands on `lsm_levels` for the laws of plain files and on `lsm_merger` for merges, both of which
-//! it lends, on `lsm_reader` for reads of tables block by block, on `lsm_table` for tables, shelves
-//! and the registry, and on `lsm_manifest` for the shape of a version. Its contract: a sound
-//! version answers as its union of entries.
+//! Stands on `lsm_levels` for the laws of plain files, which it lends, on `lsm_table` for tables
+//! and the registry, and on `lsm_manifest` for the order of a level. It reads no table: reads of a
+//! version are in `lsm_reads`, and the judgment of a shape in `lsm_check`. Its contract: a sound
+//! version's tables lie as the law of levels says, and so do those of a changed one.
 #![tactic(auto)]
 
 // The tables of each level.
@@ -12,11 +12,9 @@ mod copies;
 mod ordered_level;
 mod version;
 
-// A shape that a manifest gives.
-mod check;
-
-// Reads, scans, and the tables that a range meets.
-mod read;
+// Which tables a key or a range meets.
+mod overlap;
+mod user_range;
 
 // A version with other tables.
 mod change;
@@ -25,9 +23,8 @@ pub use change::{
     changed_files, changed_is_sound, changed_tables, deletions_are_sound, tables_are_whole,
     whole_tables_fit,
 };
-pub use check::{CheckFault, shapes_in_order};
+pub use copies::{copies_of, copy_of};
 pub use lsm_levels::{KeyRange, Layout, laws, layout_of};
-pub use lsm_merger::{FileFault, Merger, Pair, Run, Scan, against_age};
-pub use lsm_reader::{Blocks, Direct, OpenTable};
-pub use read::{high_of, low_of};
+pub use ordered_level::place_in;
+pub use user_range::{begins_by, first_reaching, high_of, low_of, youngest_below};
 pub use version::Version;

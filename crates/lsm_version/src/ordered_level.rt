@@ -32,7 +32,7 @@ fn stands_before<N: Naming, S: Shelf>(
 
 /// How many tables of a level in order the table does not stand before. It is looked for from the
 /// back, so that tables which come in order cost one comparison each.
-pub(crate) fn place_in<N: Naming, S: Shelf>(
+pub fn place_in<N: Naming, S: Shelf>(
     registry: &Registry<N, S>,
     level: &[TableRef<N, S>],
     table: &TableRef<N, S>,

@@ -86,6 +86,22 @@ impl<N: Naming, S: Shelf> Version<N, S> {
         self.levels[level].as_slice()
     }
 
+    /// The tables of the seven levels, each level as `level` gives it. What holds of every version
+    /// is told here too.
+    pub fn levels(&self) -> &[Vec<TableRef<N, S>>]
+        ensures tables { map (λ l. l.items) result.now ≡ self.now.tables }
+        ensures seven { length result.now ≡ 7 }
+        ensures order { AreInOrder self.now.tables }
+        ensures sound { S.honest → IsSound self.now }
+    {
+        self.levels.as_slice()
+    }
+
+    /// The registry, which has a record for each of the tables.
+    pub fn registry(&self) -> &Registry<N, S> {
+        &self.registry
+    }
+
     /// The compaction pointer of a level, 0 to 6: an internal key, or none.
     pub fn pointer(&self, level: usize) -> Option<&[u8]>
         requires { level ≤ 6 }
@@ -94,6 +110,28 @@ impl<N: Naming, S: Shelf> Version<N, S> {
         match &self.pointers[level] {
             None => None,
             Some(key) => Some(key.as_slice()),
+        }
+    }
+
+    /// The version of these tables, the levels 0 to 6, of the compaction pointers of these levels,
+    /// and of this last sequence.
+    pub fn of(
+        registry: Arc<Registry<N, S>>,
+        levels: Vec<Vec<TableRef<N, S>>>,
+        pointers: Vec<Option<Bytes>>,
+        last: u64,
+    ) -> Version<N, S>
+        requires levels { length levels.items ≡ 7 }
+        requires pointers { length pointers.items ≡ 7 }
+        requires order { AreInOrder (map (λ l. l.items) levels.items) }
+        requires sound { S.honest → IsSound record { tables = map (λ l. l.items) levels.items; pointers = pointers.items; last = last } }
+        ensures { result ≡ record { tables = map (λ l. l.items) levels.items; pointers = pointers.items; last = last } }
+    {
+        Version {
+            registry,
+            levels,
+            pointers,
+            last,
         }
     }
 

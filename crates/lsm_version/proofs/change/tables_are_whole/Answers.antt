@@ -7,7 +7,7 @@ use Rattle.lsm_table.proofs.CallerLemmas.{table_held}
 use Rattle.lsm_levels.specs.Ranges.{Range}
 use Rattle.lsm_levels.specs.Checking.{IsRangeOf}
 use Rattle.lsm_version.specs.Versions.{IsWhole}
-use Rattle.lsm_version.proofs.Spans.{table_ascends}
+use Rattle.lsm_version.proofs.Ascending.{table_ascends}
 use Rattle.lsm_version.proofs.change.tables_are_whole.Goals as goal
 
 is_whole : (t : Table) (e : Entry) (rest front : List Entry) (l : Entry) → IsTable t.image (e ∷ rest) → e ∷ rest ≡ front ++ l ∷ [] → IsKey t.smallest (internal_key e) → IsKey t.largest (internal_key l) → IsWhole t

@@ -1,4 +1,4 @@
-use Rattle.lsm_version.proofs.Judged.{table_fits}
+use Rattle.lsm_version.proofs.LevelFiles.{table_fits}
 use Rattle.lsm_version.proofs.change.whole_tables_fit.Goals as goal
 
 pub returns : goal.returns

@@ -1,0 +1,26 @@
+-- One file of a shape: whether its table is the file's.
+use Rattle.std.proofs.Common.{◌≡◌, ℕ, List, length, sym, ◌∙◌, subst}
+use Rattle.lsm_codec.specs.Entries.{Entry}
+use Rattle.lsm_table.specs.Table.{IsTable}
+use Rattle.lsm_table.specs.HeldTable.{entries_in}
+use Rattle.lsm_table.proofs.CallerLemmas.{table_held}
+use Rattle.lsm_manifest.specs.FileOrder.{TableFile}
+use Rattle.lsm_check.specs.CheckedFiles.{IsSpanned, IsImageOf}
+
+pub held_as : (image : List ℕ) (es : List Entry) → IsTable image es → es ≡ entries_in image
+held_as image es t = sym (table_held image es t)
+
+pub is_table : (image : List ℕ) (es : List Entry) → IsTable image es → IsTable image (entries_in image)
+is_table image es t = subst (IsTable image) (held_as image es t) t
+
+pub image_says : (last : ℕ) (file : TableFile) (image : List ℕ) (es : List Entry) (size : ℕ) → IsTable image es → size ≡ length image
+    → size ≡ file.size → IsSpanned last file.smallest file.largest es → IsImageOf last file image
+image_says last file image es size t long same spanned = record {
+  table = is_table image es t;
+  size = sym long ∙ same;
+  spanned = subst (IsSpanned last file.smallest file.largest) (held_as image es t) spanned;
+}
+
+pub image_not : (last : ℕ) (file : TableFile) (image : List ℕ) (es : List Entry) (size : ℕ) → IsTable image es → size ≡ length image
+    → ((size ≡ file.size) × IsSpanned last file.smallest file.largest es → ⊥) → IsImageOf last file image → ⊥
+image_not last file image es size t long fails i = fails (long ∙ i.size, subst (IsSpanned last file.smallest file.largest) (sym (held_as image es t)) i.spanned)

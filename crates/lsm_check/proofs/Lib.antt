@@ -1,0 +1,12 @@
+pub mod Spans
+pub mod CheckedFiles
+pub mod FileOrder
+pub mod Numbers
+pub mod LevelReads
+pub mod LevelRanges
+pub mod Judged
+pub mod Unsettled
+pub mod Reaching
+pub mod Chosen
+pub mod Ages
+pub mod Refused

@@ -1,0 +1,14 @@
+use Rattle.std.proofs.Common.{◌≡◌, take}
+use Rattle.std.specs.List.Sorted.{IsSortedBy}
+use Rattle.lsm_table.specs.Told.{Becomes}
+use Rattle.lsm_check.specs.Loading.{IsLevelRead}
+use Rattle.lsm_version.specs.Versions.{stands_before}
+use Rattle.lsm_check.proofs.loading.load_level.Given as goal
+
+abbrev pub invariant-loop-file : goal.invariant-loop-file
+invariant-loop-file g l = record {
+  told : Becomes (g.S.Shelf.told l.fn.shelf) (g.S.Shelf.told l.shelf);
+  order : IsSortedBy stands_before l.tables.items;
+  read : IsLevelRead (λ number image. (r : g.row.S-Receipt.Denot) × g.S.Shelf.is_of g.N.Naming.place r × (g.S.Receipt.Slip.number r ≡ number) × (g.S.Receipt.Slip.image r ≡ image))
+      l.last (take l.file-index l.files) l.tables.items l.sequences.items;
+}

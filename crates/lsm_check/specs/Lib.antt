@@ -1,0 +1,8 @@
+pub mod CheckFault
+pub mod CheckedFiles
+pub mod FileRefusal
+pub mod CheckRefusal
+pub mod Loading
+pub mod LevelLayouts
+pub mod Settled
+pub mod Chosen

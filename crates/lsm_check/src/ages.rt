@@ -1,0 +1,137 @@
+//! The age order of the files that ranges and sequences alone do not settle.
+
+ghost use Rattle.std.specs.Prelude.{◌≡◌, ◌==◌, IfErr, IfOk, List, MatchOption, OnOk, length, map};
+ghost use Rattle.std.specs.List.{filter, list_any};
+ghost use Rattle.std.specs.List.Sorted.{IsNonDecreasing};
+ghost use Rattle.lsm_codec.specs.Lists.{Has};
+ghost use Rattle.lsm_table.specs.ReadFault.{IsMemoryOrShelf, ReadCounted};
+ghost use Rattle.lsm_table.specs.Told.{Becomes};
+ghost use Rattle.lsm_levels.specs.Ages.{IsAgeOrder, IsLeastAgainstAge};
+ghost use Rattle.lsm_levels.specs.Files.{File, Fits};
+ghost use Rattle.lsm_levels.specs.Merging.{Placed, merge_all};
+ghost use Rattle.lsm_check.specs.CheckFault.{CheckCounted};
+ghost use Rattle.lsm_check.specs.CheckRefusal.{IsAgeRefusal};
+ghost use Rattle.lsm_reads.specs.Unread.{NamesOne};
+ghost use Rattle.lsm_reads.specs.Runs.{AreMergeable, AreRunsOf, IsNumberIn};
+ghost use Rattle.lsm_check.specs.Chosen.{chosen, is_among};
+ghost use Rattle.lsm_check.specs.Settled.{AreUnsettled, KeepsAge};
+ghost use Rattle.lsm_version.specs.Versions.{files_from, level_in};
+
+use crate::check_fault::CheckFault;
+use lsm_codec::Bytes;
+use lsm_merger::{Merger, against_age};
+use lsm_reader::{Blocks, Direct};
+use lsm_reads::{Unread, open_runs};
+use lsm_table::{Naming, Registry, Shelf, TableRef};
+use std::alloc::{AllocError, Global};
+
+/// Whether a number is one of ascending ones.
+pub(crate) fn is_among(numbers: &[u64], number: u64) -> bool
+    requires { IsNonDecreasing numbers.now }
+    ensures { result ≡ list_any (λ n. n == number) numbers.now }
+{
+    numbers.binary_search(&number).is_ok()
+}
+
+/// The tables of these numbers of a level.
+fn choose_level<N: Naming, S: Shelf>(
+    alloc: Global,
+    registry: &Registry<N, S>,
+    level: &[TableRef<N, S>],
+    numbers: &[u64],
+) -> Result<Vec<TableRef<N, S>>, AllocError>
+    requires ascending { IsNonDecreasing numbers.now }
+    ensures { IfOk result (λ v. v.items ≡ filter (is_among numbers.now) level.now) }
+{
+    let mut tables = Vec::new(alloc);
+    for table in level {
+        if is_among(numbers, registry.record(table).number()) {
+            tables.push(table.again())?;
+        }
+    }
+    Ok(tables)
+}
+
+/// The same of all levels.
+fn choose<N: Naming, S: Shelf>(
+    alloc: Global,
+    registry: &Registry<N, S>,
+    levels: &[Vec<TableRef<N, S>>],
+    numbers: &[u64],
+) -> Result<Vec<Vec<TableRef<N, S>>>, AllocError>
+    requires ascending { IsNonDecreasing numbers.now }
+    ensures { IfOk result (λ v. map (λ l. l.items) v.items ≡ chosen numbers.now (map (λ l. l.items) levels.now)) }
+{
+    let mut chosen = Vec::new(alloc);
+    for level in levels {
+        chosen.push(choose_level(alloc, registry, level.as_slice(), numbers)?)?;
+    }
+    Ok(chosen)
+}
+
+/// Goes through the tables of all levels in the order of keys, block by block: the least user key
+/// of which a deeper entry has no lesser sequence than a shallower one, if there is one. A refusal
+/// names the file of one of these tables, unless memory ran out beside them.
+fn look_again<N: Naming, S: Shelf, B: Blocks<S>>(
+    blocks: &mut B,
+    alloc: Global,
+    registry: &Registry<N, S>,
+    levels: &[Vec<TableRef<N, S>>],
+) -> Result<Option<Bytes>, Unread>
+    requires here { (B.told blocks.old).place ≡ N.place }
+    requires seven { length levels.now ≡ 7 }
+    requires mergeable { S.honest → AreMergeable (map (λ l. l.items) levels.now) }
+    ensures judged { S.honest → IfOk result (λ r. (ls : List (List Placed)) × AreRunsOf (level_in (map (λ l. l.items) levels.now) 0) (Has (files_from 0 (map (λ l. l.items) levels.now))) ls × MatchOption r (IsAgeOrder (merge_all ls)) (λ k. IsLeastAgainstAge (merge_all ls) k)) }
+    ensures sound { S.honest → IfErr result (λ e. IsMemoryOrShelf e.fault) }
+    ensures number { IfErr result (λ e. NamesOne (IsNumberIn (map (λ l. l.items) levels.now)) e.file e.fault) }
+    ensures told { Becomes (B.told blocks.old) (B.told blocks.new) }
+    ensures loan { B.loan blocks.new ≡ B.loan blocks.old }
+    ensures cause { IfErr result (λ e. ReadCounted e.fault (B.told blocks.old) (B.told blocks.new)) }
+{
+    let runs = match open_runs(blocks, alloc, registry, levels) {
+        Ok(runs) => runs,
+        Err(unread) => return Err(unread),
+    };
+    let mut merger = Merger::new(alloc, runs)?;
+    match against_age(blocks, alloc, &mut merger) {
+        Ok(user) => Ok(user),
+        Err(fault) => Err(Unread {
+            file: Some(fault.number),
+            fault: fault.fault,
+        }),
+    }
+}
+
+/// Reads the tables of these numbers a second time, block by block, in the order of keys, and
+/// refuses the least user key of which a deeper entry has no lesser sequence than a shallower one.
+/// Where there is no number, it reads nothing. A refusal names a file of one of these numbers,
+/// unless memory ran out beside them.
+pub(crate) fn judge_ages<N: Naming, S: Shelf>(
+    shelf: &mut S,
+    alloc: Global,
+    registry: &Registry<N, S>,
+    levels: &[Vec<TableRef<N, S>>],
+    unsettled: &[u64],
+) -> Result<(), CheckFault>
+    requires here { (S.told shelf.old).place ≡ N.place }
+    requires seven { length levels.now ≡ 7 }
+    requires mergeable { AreMergeable (map (λ l. l.items) levels.now) }
+    requires fits { (F : File) → Has (files_from 0 (map (λ l. l.items) levels.now)) F → Fits F }
+    requires ascending { IsNonDecreasing unsettled.now }
+    requires unsettled { AreUnsettled (files_from 0 (map (λ l. l.items) levels.now)) unsettled.now }
+    ensures ok { S.honest → OnOk result (KeepsAge (files_from 0 (map (λ l. l.items) levels.now))) }
+    ensures refused { IfErr result (λ e. IsAgeRefusal S.honest (files_from 0 (map (λ l. l.items) levels.now)) e) }
+    ensures told { Becomes (S.told shelf.old) (S.told shelf.new) }
+    ensures cause { IfErr result (λ e. CheckCounted e (S.told shelf.old) (S.told shelf.new)) }
+{
+    if unsettled.is_empty() {
+        return Ok(());
+    }
+    let chosen = choose(alloc, registry, levels, unsettled)?;
+    let mut direct = Direct::new(shelf);
+    match look_again(&mut direct, alloc, registry, &chosen) {
+        Ok(None) => Ok(()),
+        Ok(Some(user)) => Err(CheckFault::AgeOrder(user)),
+        Err(unread) => Err(CheckFault::Read(unread.file, unread.fault)),
+    }
+}

@@ -1,0 +1,63 @@
+//! Scans of a version.
+
+ghost use Rattle.std.specs.Prelude.{◌≡◌, None, IfOk, IfErr};
+ghost use Rattle.lsm_table.specs.ReadFault.{IsMemoryOrShelf, ReadCounted};
+ghost use Rattle.lsm_table.specs.Told.{Becomes};
+ghost use Rattle.lsm_levels.specs.Files.{all_entries};
+ghost use Rattle.lsm_levels.specs.Scanning.{IsScan};
+ghost use Rattle.lsm_version.specs.Versions.{files};
+
+use crate::runs::open_runs;
+use lsm_merger::{Merger, Scan};
+use lsm_reader::{Blocks, Direct};
+use lsm_table::{Naming, ReadFault, Shelf};
+use lsm_version::Version;
+use std::alloc::Global;
+
+/// A scan of the version at a sequence: each user key that has an answer, with it, ascending.
+/// It takes the blocks of tables from `blocks`, as each call of the scan does that goes on, and
+/// holds an index block and a data block for each table of level 0 and for each deeper level,
+/// however many entries there are.
+///
+/// `Shelf` where the shelf refused. `Table` with `OutOfMemory` where a growth was refused, and
+/// with another refusal of a table only where the shelf's bytes are not those that were put.
+pub fn scan_by<N: Naming, S: Shelf, B: Blocks<S>>(
+    version: &Version<N, S>,
+    blocks: &mut B,
+    alloc: Global,
+    seq: u64,
+) -> Result<Scan<N, S>, ReadFault>
+    requires { (B.told blocks.old).place ≡ N.place }
+    ensures scanned { S.honest → IfOk result (λ s. IsScan seq (all_entries (files version.now)) s.left) }
+    ensures here { IfOk result (λ s. s.here ≡ None) }
+    ensures sound { S.honest → IfErr result IsMemoryOrShelf }
+    ensures told { Becomes (B.told blocks.old) (B.told blocks.new) }
+    ensures loan { B.loan blocks.new ≡ B.loan blocks.old }
+    ensures cause { IfErr result (λ e. ReadCounted e (B.told blocks.old) (B.told blocks.new)) }
+{
+    let levels = version.levels();
+    let runs = match open_runs(blocks, alloc, version.registry(), levels) {
+        Ok(runs) => runs,
+        Err(unread) => return Err(unread.fault),
+    };
+    let merger = Merger::new(alloc, runs)?;
+    Ok(Scan::new(alloc, merger, seq))
+}
+
+/// The same by the shelf itself.
+pub fn scan<N: Naming, S: Shelf>(
+    version: &Version<N, S>,
+    shelf: &mut S,
+    alloc: Global,
+    seq: u64,
+) -> Result<Scan<N, S>, ReadFault>
+    requires { (S.told shelf.old).place ≡ N.place }
+    ensures scanned { S.honest → IfOk result (λ s. IsScan seq (all_entries (files version.now)) s.left) }
+    ensures here { IfOk result (λ s. s.here ≡ None) }
+    ensures sound { S.honest → IfErr result IsMemoryOrShelf }
+    ensures told { Becomes (S.told shelf.old) (S.told shelf.new) }
+    ensures cause { IfErr result (λ e. ReadCounted e (S.told shelf.old) (S.told shelf.new)) }
+{
+    let mut direct = Direct::new(shelf);
+    scan_by(version, &mut direct, alloc, seq)
+}

@@ -1,5 +1,0 @@
-use Rattle.lsm_version.proofs.Reaching.{Walked}
-use Rattle.lsm_version.proofs.check.reaching.reaching.Given as goal
-
-abbrev pub invariant-loop-table : goal.invariant-loop-table
-invariant-loop-table l = Walked l.aged l.table-index l.greatest l.numbers.items
