@@ -12,7 +12,7 @@ mod compact_options;
 
 // What is done with a directory.
 mod compacting;
-mod crew;
+mod compaction;
 mod opening;
 mod sweeping;
 mod tally;

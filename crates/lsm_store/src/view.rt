@@ -14,8 +14,8 @@ ghost use Rattle.lsm_store.specs.Readers.{IsMet, IsPinning, informed, unpinned};
 ghost use Rattle.lsm_table.specs.ReadFault.{IsMemoryOrShelf, ReadCounted};
 ghost use Rattle.lsm_version.specs.Versions.{files};
 
-use crate::desk::Desk;
 use crate::reader::Reader;
+use crate::reader_cache::ReaderCache;
 use lsm_pins::Pinner;
 use lsm_reads::{Pair, Scan};
 use lsm_slots::Boarded;
@@ -29,7 +29,7 @@ use std::marker::Model;
 pub struct View<N: Boarded, S: Shelf> {
     pub(crate) pinner: Pinner,
     pub(crate) slot: u8,
-    pub(crate) desk: Desk<N, S>,
+    pub(crate) cache: ReaderCache<N, S>,
 }
 
 impl<N: Boarded, S: Shelf> Model for View<N, S> {
@@ -38,9 +38,9 @@ impl<N: Boarded, S: Shelf> Model for View<N, S> {
 
     ghost Value = { Learnt };
 
-    ghost view = { λ v. record { id = v.desk.id; version = v.desk.version; pinner = v.pinner; told = v.desk.told } };
+    ghost view = { λ v. record { id = v.cache.id; version = v.cache.version; pinner = v.pinner; told = v.cache.told } };
 
-    ghost invariant = { λ v. (v.pinner.board ≡ N.board) × (v.pinner.knows.held ≡ Some (v.desk.id, v.slot)) };
+    ghost invariant = { λ v. (v.pinner.board ≡ N.board) × (v.pinner.knows.held ≡ Some (v.cache.id, v.slot)) };
 }
 
 impl<N: Boarded, S: Shelf> View<N, S> {
@@ -50,14 +50,14 @@ impl<N: Boarded, S: Shelf> View<N, S> {
         ensures pinning { IsPinning self.now }
         ensures board { self.now.pinner.board ≡ N.board }
     {
-        self.desk.id
+        self.cache.id
     }
 
     /// The last sequence of its version.
     pub fn last(&self) -> u64
         ensures { result ≡ self.now.version.last }
     {
-        self.desk.version.last()
+        self.cache.version.last()
     }
 
     /// The value of a user key at a sequence, or none: that of the newest entry of its version with
@@ -79,8 +79,8 @@ impl<N: Boarded, S: Shelf> View<N, S> {
         ensures cause { IfErr result (λ e. ReadCounted e self.old.told self.new.told) }
     {
         lsm_reads::get_by(
-            &self.desk.version,
-            &mut self.desk.blocks,
+            &self.cache.version,
+            &mut self.cache.blocks,
             alloc,
             user,
             seq,
@@ -97,7 +97,7 @@ impl<N: Boarded, S: Shelf> View<N, S> {
         ensures told { Becomes self.old.told self.new.told }
         ensures cause { IfErr result (λ e. ReadCounted e self.old.told self.new.told) }
     {
-        lsm_reads::scan_by(&self.desk.version, &mut self.desk.blocks, alloc, seq)
+        lsm_reads::scan_by(&self.cache.version, &mut self.cache.blocks, alloc, seq)
     }
 
     /// Goes on to the next pair of the scan, which then lends it. Where none is left it stands at
@@ -110,7 +110,7 @@ impl<N: Boarded, S: Shelf> View<N, S> {
         ensures told { Becomes self.old.told self.new.told }
         ensures cause { IfErr result (λ e. ReadCounted e self.old.told self.new.told) }
     {
-        scan.step_by(&mut self.desk.blocks, alloc)
+        scan.step_by(&mut self.cache.blocks, alloc)
     }
 
     /// A copy of the next pair of the scan, or none at the end. An `Err` leaves what is left to
@@ -123,7 +123,7 @@ impl<N: Boarded, S: Shelf> View<N, S> {
         ensures told { Becomes self.old.told self.new.told }
         ensures cause { IfErr result (λ e. ReadCounted e self.old.told self.new.told) }
     {
-        scan.next_by(&mut self.desk.blocks, alloc)
+        scan.next_by(&mut self.cache.blocks, alloc)
     }
 
     /// The numbers of the tables of the version that its pin holds, level by level: the state has
@@ -152,9 +152,9 @@ impl<N: Boarded, S: Shelf> View<N, S> {
         let View {
             mut pinner,
             slot: _,
-            desk,
+            cache,
         } = self;
         pinner.unpin();
-        Reader { pinner, desk }
+        Reader { pinner, cache }
     }
 }

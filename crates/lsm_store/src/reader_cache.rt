@@ -2,7 +2,7 @@
 
 ghost use Rattle.std.specs.Prelude.{◌≡◌, IfErr, IfOk};
 ghost use Rattle.lsm_shelf.specs.Told.{Counted, Forked, NotNamed};
-ghost use Rattle.lsm_store.specs.Readers.{desk_at};
+ghost use Rattle.lsm_store.specs.Readers.{known_at};
 
 use lsm_cache::Cached;
 use lsm_slots::Boarded;
@@ -17,25 +17,25 @@ use std::sync::Arc;
 /// What a reader has besides its end of the board: the version that it has learnt, the version's
 /// id, and its blocks.
 #[derive(Drop)]
-pub struct Desk<N: Boarded, S: Shelf> {
+pub struct ReaderCache<N: Boarded, S: Shelf> {
     pub(crate) id: u32,
     pub(crate) version: Arc<Version<N, S>>,
     pub(crate) blocks: Cached<N, S>,
 }
 
-impl<N: Boarded, S: Shelf> Model for Desk<N, S> {
+impl<N: Boarded, S: Shelf> Model for ReaderCache<N, S> {
     ghost use Rattle.std.specs.Prelude.{◌≡◌};
     ghost use Rattle.std.specs.Arc.{arc_value};
-    ghost use Rattle.lsm_store.specs.Readers.{AtDesk};
+    ghost use Rattle.lsm_store.specs.Readers.{KnownVersion};
 
-    ghost Value = { AtDesk };
+    ghost Value = { KnownVersion };
 
     ghost view = { λ d. record { id = d.id; version = arc_value d.version; told = d.blocks } };
 
     ghost invariant = { λ d. d.blocks.place ≡ N.place };
 }
 
-impl<N: Boarded, S: Shelf> Desk<N, S> {
+impl<N: Boarded, S: Shelf> ReaderCache<N, S> {
     /// One at which the state's current version is known, with a fork of the shelf, and an empty
     /// cache of so many blocks.
     #[tactic(auto, using(lsm_shelf::proofs::CallerLemmas::forked_none, lsm_shelf::proofs::CallerLemmas::forked_once, lsm_shelf::proofs::CallerLemmas::forked_same))]
@@ -44,9 +44,9 @@ impl<N: Boarded, S: Shelf> Desk<N, S> {
         state: &State<N, S>,
         shelf: &mut S,
         blocks: NonZeroUsize,
-    ) -> Result<Desk<N, S>, ShelfFault>
+    ) -> Result<ReaderCache<N, S>, ShelfFault>
         requires { (S.told shelf.old).place ≡ N.place }
-        ensures desk { IfOk result (λ d. d ≡ desk_at state.now N.place) }
+        ensures cache { IfOk result (λ d. d ≡ known_at state.now N.place) }
         ensures told { Forked (S.told shelf.old) (S.told shelf.new) }
         ensures cause { IfErr result (λ e. NotNamed e × Counted e (S.told shelf.old) (S.told shelf.new)) }
     {
@@ -54,7 +54,7 @@ impl<N: Boarded, S: Shelf> Desk<N, S> {
         let version = Arc::try_clone(current)?;
         let fork = shelf.fork(alloc)?;
         let blocks = Cached::new(alloc, fork, blocks)?;
-        Ok(Desk {
+        Ok(ReaderCache {
             id,
             version,
             blocks,

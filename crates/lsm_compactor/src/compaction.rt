@@ -33,12 +33,12 @@ fn forks<N: Boarded, S: Shelf>(
 
 /// A store that is to be compacted, and a shelf for each worker.
 #[derive(Drop)]
-pub(crate) struct Crew<N: Boarded, S: Shelf> {
+pub(crate) struct Compaction<N: Boarded, S: Shelf> {
     pub(crate) store: Store<N, S>,
     pub(crate) shelves: Vec<S>,
 }
 
-impl<N: Boarded, S: Shelf> Crew<N, S> {
+impl<N: Boarded, S: Shelf> Compaction<N, S> {
     /// The store of a state, and so many forks of its shelf.
     #[tactic(auto, using(lsm_shelf::proofs::CallerLemmas::forked_then, lsm_shelf::proofs::CallerLemmas::forked_once, lsm_shelf::proofs::CallerLemmas::forked_same, lsm_shelf::proofs::CallerLemmas::forked_place))]
     pub(crate) fn new(
@@ -46,7 +46,7 @@ impl<N: Boarded, S: Shelf> Crew<N, S> {
         state: State<N, S>,
         shelf: &mut S,
         workers: usize,
-    ) -> Result<Crew<N, S>, ShelfFault>
+    ) -> Result<Compaction<N, S>, ShelfFault>
         requires here { (S.told shelf.old).place ≡ N.place }
         requires seats { SeatsPinners state }
         ensures here { IfOk result (λ c. All (λ s. (S.told s).place ≡ N.place) c.shelves.items) }
@@ -57,7 +57,7 @@ impl<N: Boarded, S: Shelf> Crew<N, S> {
         let shelves = forks::<N, S>(alloc, shelf, workers)?;
         let reading = shelf.fork(alloc)?;
         match Store::new(alloc, state, reading) {
-            Ok((store, _readers)) => Ok(Crew { store, shelves }),
+            Ok((store, _readers)) => Ok(Compaction { store, shelves }),
             Err((_state, _shelf, fault)) => Err(fault),
         }
     }

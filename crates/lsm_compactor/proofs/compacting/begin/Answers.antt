@@ -1,5 +1,5 @@
 use Rattle.std.proofs.Common.{inr}
-use Rattle.lsm_compactor.proofs.compacting.man.Goals as goal
+use Rattle.lsm_compactor.proofs.compacting.begin.Goals as goal
 
 pub returns-in-Err-clause-refused : goal.returns-in-Err-clause-refused
 returns-in-Err-clause-refused g c = inr (

@@ -2,7 +2,7 @@ use Rattle.std.proofs.Common.{◌≡◌, ◌+◌, ap, ◌∙◌}
 use Rattle.std.proofs.lemmas.List.Elements.{All-push, All-same}
 use Rattle.lsm_shelf.specs.Told.{Told}
 use Rattle.lsm_shelf.proofs.CallerLemmas.{forked_once, forked_place, forked_then}
-use Rattle.lsm_compactor.proofs.crew.forks.Goals as goal
+use Rattle.lsm_compactor.proofs.compaction.forks.Goals as goal
 
 pub returns-in_err-push-clause-told : goal.returns-in_err-push-clause-told
 returns-in_err-push-clause-told g c = forked_then _ _ _ c.loop.invariant.told (forked_once _ _ c.in_ok-fork.ensures.ok)

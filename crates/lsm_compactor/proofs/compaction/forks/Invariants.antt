@@ -1,6 +1,6 @@
 use Rattle.std.proofs.Common.{◌≡◌, All, vec_len}
 use Rattle.lsm_shelf.specs.Told.{Forked}
-use Rattle.lsm_compactor.proofs.crew.forks.Given as goal
+use Rattle.lsm_compactor.proofs.compaction.forks.Given as goal
 
 abbrev pub invariant-loop : goal.invariant-loop
 invariant-loop g l = record {
