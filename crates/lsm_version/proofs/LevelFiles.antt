@@ -46,6 +46,9 @@ of_level levels n X h =
     let here : 0 + n ≡ n = omega arith in
     subst (Has (files_from 0 levels)) (ap (λ (m : ℕ). file_of m r.0) here ∙ r.2) (in_files 0 levels n r.0 r.1)
 
+listed : (t : Table) → IsWhole t → Listed
+listed t w = record { number = t.number; range = w.range; entries = entries_in t.image }
+
 pub table_fits : (n : ℕ) (t : Table) → IsWhole t → Fits (file_of n t)
 unfolding listed
 table_fits n t w =
@@ -53,9 +56,6 @@ table_fits n t w =
     (ap (λ (k : UserKey). let F : File = record { level = n; number = t.number; low = k; high = w.range.largest.user; entries = entries_in t.image } in F) (sym (user_of-key t.smallest w.range.smallest w.smallest))
     ∙ ap (λ (k : UserKey). let F : File = record { level = n; number = t.number; low = user_of t.smallest; high = k; entries = entries_in t.image } in F) (sym (user_of-key t.largest w.range.largest w.largest)))
     (file_fits n (listed t w) w.entries)
-
-listed : (t : Table) → IsWhole t → Listed
-listed t w = record { number = t.number; range = w.range; entries = entries_in t.image }
 
 pub files_push : (n : ℕ) (ts : List Table) (x : Table) (Y : File) → Has (files_of n (ts ++ x ∷ [])) Y → Has (files_of n ts) Y ⊎ (file_of n x ≡ Y)
 files_push n [] x Y (inl e) = inr e

@@ -21,9 +21,9 @@ pub returns-else-level-eq0-clause-tables : goal.returns-else-level-eq0-clause-ta
 returns-else-level-eq0-clause-tables g c = λ h.
     let v = c.args.self.now in
     let n = c.args.level in
-    let seven = subst (λ (w : Levels). length w.tables ≡ 7) c.self.view_is (length-map c.self.inside.levels.items (λ l. l.items) ∙ c.self.invariant.1) in
-    let order = subst (λ (w : Levels). AreInOrder w.tables) c.self.view_is c.self.invariant.3 in
-    let rises = version_rises v n (subst IsSound c.self.view_is (c.self.invariant.4 h)) order (omega (arith, c.if-level-eq0.false)) (omega arith) in
+    let seven = subst (λ (w : Levels). length w.tables ≡ 7) c.self.view_is (length-map c.self.inside.levels.items (λ l. l.items) ∙ c.self.invariant.0) in
+    let order = subst (λ (w : Levels). AreInOrder w.tables) c.self.view_is c.self.invariant.2 in
+    let rises = version_rises v n (subst IsSound c.self.view_is (c.self.invariant.3 h)) order (omega (arith, c.if-level-eq0.false)) (omega arith) in
     IfOk-weaker c.run_over.result _ _
     (λ w e. e ∙ ap (filter (lies_over c.args.from.now c.args.to.now)) c.level-tables.ensures ∙ meets_over c.args.from.now c.args.to.now (level_in v.tables n) (sym c.is_at_most.ensures ∙ c.if-not-is_at_most.false))
     (c.run_over.ensures.tables (subst (λ (ts : List Table). IsRising ts) (sym c.level-tables.ensures) rises))
