@@ -15,9 +15,9 @@ ghost use Rattle.lsm_batch.specs.Images.{IsImage, PassesIn, PassesTable};
 use crate::batch::Batch;
 use crate::image::Image;
 use crate::write::Write;
-use lsm_codec::{Bytes, KeyRef, push_key};
+use lsm_codec::{Bytes, KeyRef};
 use lsm_table::{BuildFault, TableBuilder, TableOptions};
-use std::alloc::{AllocError, Global};
+use std::alloc::Global;
 
 // Adds what is written of a key, at a sequence.
 fn add(builder: &mut TableBuilder, seq: u64, write: &Write) -> Result<(), BuildFault>
@@ -42,15 +42,6 @@ fn add_all(builder: &mut TableBuilder, first: u64, writes: &[Write]) -> Result<(
     Ok(())
 }
 
-// The bytes of a key.
-fn bytes_of(alloc: Global, key: &KeyRef<'_>) -> Result<Bytes, AllocError>
-    ensures { IfOk result (λ b. IsKey b (key_of key.now)) }
-{
-    let mut bytes = Vec::new(alloc);
-    push_key(&mut bytes, key.user, key.seq, key.kind)?;
-    Ok(Bytes::of(bytes))
-}
-
 // The last internal key and the bytes of the table of what is written, at sequences one after
 // another.
 fn table_of(
@@ -71,7 +62,7 @@ fn table_of(
     let mut builder = TableBuilder::new(alloc, options);
     add_all(&mut builder, first, writes)?;
     let largest = match builder.last_key() {
-        Some(key) => bytes_of(alloc, &key)?,
+        Some(key) => key.to_bytes(alloc)?,
         None => unreachable!(),
     };
     Ok((largest, builder.finish()?))
@@ -102,7 +93,7 @@ impl Batch {
             seq: first,
             kind: one.kind(),
         };
-        let smallest = bytes_of(alloc, &key)?;
+        let smallest = key.to_bytes(alloc)?;
         match table_of(alloc, options, first, self.writes.as_slice()) {
             Ok((largest, bytes)) => Ok(Image {
                 smallest,

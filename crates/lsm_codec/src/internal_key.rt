@@ -4,9 +4,10 @@
 ghost use Rattle.std.specs.Prelude.{◌≡◌, ℕ, ◌-◌, ◌^◌, ◌<◌, ◌≤◌, ◌↔◌, ◌⊎◌, ◌++◌, List, length, slice_index, true, IfOk, IfErr, IsOk, OnOk, OnErr, MatchResult, Ok, Err};
 ghost use Rattle.lsm_codec.specs.Keys.{InternalKey, IsKey, IsBadKind, packed, key_bytes, key_cmp, is_internal, user_part, packed_part};
 
+use crate::bytes::Bytes;
 use crate::fault::CodecFault;
 use crate::kind::Kind;
-use std::alloc::AllocError;
+use std::alloc::{AllocError, Global};
 use std::cmp::Ordering;
 
 /// The greatest sequence, 2^56 - 1: a sequence and a kind share 64 bits (`kMaxSequenceNumber` of
@@ -74,6 +75,15 @@ impl<'a> KeyRef<'a> {
             Ordering::Greater => Ordering::Greater,
             Ordering::Equal => other.packed().cmp(&self.packed()),
         }
+    }
+
+    /// The bytes of the internal key. `AllocError` where a growth was refused.
+    pub fn to_bytes(&self, alloc: Global) -> Result<Bytes, AllocError>
+        ensures { IfOk result (λ b. IsKey b (key_of self.now)) }
+    {
+        let mut bytes = Vec::new(alloc);
+        push_key(&mut bytes, self.user, self.seq, self.kind)?;
+        Ok(Bytes::of(bytes))
     }
 }
 

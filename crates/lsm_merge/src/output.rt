@@ -13,9 +13,9 @@ ghost use Rattle.lsm_merge.specs.Cuts.{closes};
 ghost use Rattle.lsm_merge.specs.Limits.{IsOverLimit};
 ghost use Rattle.lsm_merge.specs.Work.{finished};
 
-use lsm_codec::{Bytes, KeyRef, push_key};
+use lsm_codec::{Bytes, KeyRef};
 use lsm_table::{BuildFault, TableBuilder, TableOptions};
-use std::alloc::{AllocError, Global};
+use std::alloc::Global;
 use std::marker::Model;
 
 /// An output in the making: a table under its number, with an entry at least.
@@ -45,15 +45,6 @@ pub(crate) struct Image {
     pub(crate) bytes: Vec<u8>,
 }
 
-/// The bytes of a key.
-fn bytes_of(alloc: Global, key: &KeyRef<'_>) -> Result<Bytes, AllocError>
-    ensures { IfOk result (λ b. IsKey b (key_of key.now)) }
-{
-    let mut bytes = Vec::new(alloc);
-    push_key(&mut bytes, key.user, key.seq, key.kind)?;
-    Ok(Bytes::of(bytes))
-}
-
 /// Whether an output may end with the one user key where another one follows: they differ, and it
 /// has reached the target.
 fn may_close(last: &[u8], user: &[u8], target: u64, written: u64) -> bool
@@ -75,7 +66,7 @@ impl Output {
         ensures ok { IfOk result (λ o. o ≡ record { number = number; options = options; entries = entry_of (key_of key.now) value.now ∷ [] }) }
         ensures large { IfErr result (λ e. e ≡ TooLarge → IsOverLimit options (entry_of (key_of key.now) value.now ∷ [])) }
     {
-        let smallest = bytes_of(alloc, key)?;
+        let smallest = key.to_bytes(alloc)?;
         let mut builder = TableBuilder::new(alloc, options);
         match builder.add(key.user, key.seq, key.kind, value) {
             Ok(()) => {}
@@ -136,7 +127,7 @@ impl Output {
             builder,
         } = self;
         let largest = match builder.last_key() {
-            Some(key) => bytes_of(alloc, &key)?,
+            Some(key) => key.to_bytes(alloc)?,
             None => unreachable!(),
         };
         let bytes = builder.finish()?;
