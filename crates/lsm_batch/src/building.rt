@@ -1,6 +1,7 @@
 //! The table of a batch.
 
-ghost use Rattle.std.specs.Prelude.{◌≡◌, ◌≤◌, ◌<◌, ◌+◌, ◌^◌, ◌++◌, ◌∷◌, [], List, length, IfOk, OnOk, Err};
+ghost use Rattle.std.specs.Prelude.{◌≡◌, ◌≤◌, ◌<◌, ◌+◌, ◌^◌, ◌++◌, ◌∷◌, [], List, length, IfOk};
+ghost use Rattle.std.specs.Prelude.{OnOk, Err};
 ghost use Rattle.lsm_codec.specs.Keys.{IsKey};
 ghost use Rattle.lsm_codec.specs.Entries.{Entry, internal_key};
 ghost use Rattle.lsm_codec.specs.KeyRef.{key_of};
@@ -23,8 +24,10 @@ use std::alloc::Global;
 fn add(builder: &mut TableBuilder, seq: u64, write: &Write) -> Result<(), BuildFault>
     requires room { seq < 2 ^ 56 }
     requires ascends { Ascends (builder.old.entries ++ written_at seq write.now ∷ []) }
-    ensures ok { OnOk result (builder.new ≡ record builder.old { entries = builder.old.entries ++ written_at seq write.now ∷ [] }) }
-    ensures large { result ≡ Err TooLarge → PassesLimit builder.old.options builder.old.entries (written_at seq write.now) }
+    ensures ok { OnOk result (builder.new
+        ≡ record builder.old { entries = builder.old.entries ++ written_at seq write.now ∷ [] }) }
+    ensures large { result ≡ Err TooLarge
+        → PassesLimit builder.old.options builder.old.entries (written_at seq write.now) }
 {
     builder.add(write.key.as_slice(), seq, write.kind(), write.bytes())
 }
@@ -33,8 +36,10 @@ fn add(builder: &mut TableBuilder, seq: u64, write: &Write) -> Result<(), BuildF
 fn add_all(builder: &mut TableBuilder, first: u64, writes: &[Write]) -> Result<(), BuildFault>
     requires room { first + length writes.now ≤ 2 ^ 56 }
     requires ascends { Ascends (builder.old.entries ++ entries_from first writes.now) }
-    ensures ok { OnOk result (builder.new ≡ record builder.old { entries = builder.old.entries ++ entries_from first writes.now }) }
-    ensures large { result ≡ Err TooLarge → PassesIn builder.old.options (builder.old.entries ++ entries_from first writes.now) }
+    ensures ok { OnOk result (builder.new
+        ≡ record builder.old { entries = builder.old.entries ++ entries_from first writes.now }) }
+    ensures large { result ≡ Err TooLarge
+        → PassesIn builder.old.options (builder.old.entries ++ entries_from first writes.now) }
 {
     for (i, write) in writes.iter().enumerate() {
         add(builder, first + i as u64, write)?;
@@ -54,9 +59,11 @@ fn table_of(
     requires rises { KeysRise (length writes.now) writes.now }
     requires room { first + length writes.now ≤ 2 ^ 56 }
     requires options { AreInRange options }
-    ensures bytes { IfOk result (λ r. r.1.items ≡ table_bytes options (entries_from first writes.now)) }
+    ensures bytes { IfOk result (λ r.
+        r.1.items ≡ table_bytes options (entries_from first writes.now)) }
     ensures table { IfOk result (λ r. IsTable r.1.items (entries_from first writes.now)) }
-    ensures largest { IfOk result (λ r. (front : List Entry) × (last : Entry) × (entries_from first writes.now ≡ front ++ last ∷ []) × IsKey r.0 (internal_key last)) }
+    ensures largest { IfOk result (λ r. (front : List Entry) × (last : Entry)
+        × (entries_from first writes.now ≡ front ++ last ∷ []) × IsKey r.0 (internal_key last)) }
     ensures large { result ≡ Err TooLarge → PassesTable options (entries_from first writes.now) }
 {
     let mut builder = TableBuilder::new(alloc, options);
@@ -83,7 +90,8 @@ impl Batch {
         requires batch { IsBatch self.now }
         requires sequences { first + length self.now ≤ 2 ^ 56 }
         requires options { AreInRange options }
-        ensures bytes { IfOk result (λ i. i.bytes ≡ table_bytes options (entries_from first self.now)) }
+        ensures bytes { IfOk result (λ i.
+            i.bytes ≡ table_bytes options (entries_from first self.now)) }
         ensures image { IfOk result (IsImage (entries_from first self.now)) }
         ensures large { result ≡ Err TooLarge → PassesTable options (entries_from first self.now) }
     {

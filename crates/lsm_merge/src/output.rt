@@ -1,6 +1,7 @@
 //! An output in the making.
 
-ghost use Rattle.std.specs.Prelude.{◌≡◌, [], ◌∷◌, ◌++◌, not, ◌&&◌, nat_le, IfOk, IfErr, OnOk, OnErr};
+ghost use Rattle.std.specs.Prelude.{◌≡◌, [], ◌∷◌, ◌++◌, not, ◌&&◌, nat_le, IfOk, IfErr, OnOk};
+ghost use Rattle.std.specs.Prelude.{OnErr};
 ghost use Rattle.std.specs.Str.{bytes_eq};
 ghost use Rattle.lsm_codec.specs.KeyRef.{key_of};
 ghost use Rattle.lsm_codec.specs.Keys.{IsKey};
@@ -31,7 +32,8 @@ impl Model for Output {
 
     ghost Value = { Unfinished };
 
-    ghost view = { λ o. record { number = o.number; options = o.builder.options; entries = o.builder.entries } };
+    ghost view = { λ o.
+        record { number = o.number; options = o.builder.options; entries = o.builder.entries } };
 
     ghost invariant = { λ o. IsBegun o.smallest o.builder.entries };
 }
@@ -63,8 +65,13 @@ impl Output {
         value: &[u8],
     ) -> Result<Output, BuildFault>
         requires { AreInRange options }
-        ensures ok { IfOk result (λ o. o ≡ record { number = number; options = options; entries = entry_of (key_of key.now) value.now ∷ [] }) }
-        ensures large { IfErr result (λ e. e ≡ TooLarge → IsOverLimit options (entry_of (key_of key.now) value.now ∷ [])) }
+        ensures ok { IfOk result (λ o. o ≡ record {
+          number = number;
+          options = options;
+          entries = entry_of (key_of key.now) value.now ∷ [];
+        }) }
+        ensures large { IfErr result (λ e. e ≡ TooLarge
+            → IsOverLimit options (entry_of (key_of key.now) value.now ∷ [])) }
     {
         let smallest = key.to_bytes(alloc)?;
         let mut builder = TableBuilder::new(alloc, options);
@@ -96,9 +103,11 @@ impl Output {
     /// Adds an entry after the others. An `Err` leaves the output as it was.
     pub(crate) fn add(&mut self, key: &KeyRef<'_>, value: &[u8]) -> Result<(), BuildFault>
         requires { Ascends (self.old.entries ++ entry_of (key_of key.now) value.now ∷ []) }
-        ensures ok { OnOk result (self.new ≡ record self.old { entries = self.old.entries ++ entry_of (key_of key.now) value.now ∷ [] }) }
+        ensures ok { OnOk result (self.new ≡ record self.old
+            { entries = self.old.entries ++ entry_of (key_of key.now) value.now ∷ [] }) }
         ensures err { OnErr result (self.new ≡ self.old) }
-        ensures large { IfErr result (λ e. e ≡ TooLarge → IsOverLimit self.old.options (self.old.entries ++ entry_of (key_of key.now) value.now ∷ [])) }
+        ensures large { IfErr result (λ e. e ≡ TooLarge → IsOverLimit self.old.options
+            (self.old.entries ++ entry_of (key_of key.now) value.now ∷ [])) }
     {
         self.builder.add(key.user, key.seq, key.kind, value)
     }

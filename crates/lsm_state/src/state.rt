@@ -38,9 +38,29 @@ impl<N: Boarded, S: Shelf> Model for State<N, S> {
 
     ghost Value = { Held };
 
-    ghost view = { λ s. record { options = s.options; slots = s.slots; snapshots = s.snapshots; next = s.next; next_ticket = s.next_ticket; live = s.live; journal = s.journal; halted = s.halted; pinners = s.pinners.items } };
+    ghost view = { λ s. record {
+      options = s.options;
+      slots = s.slots;
+      snapshots = s.snapshots;
+      next = s.next;
+      next_ticket = s.next_ticket;
+      live = s.live;
+      journal = s.journal;
+      halted = s.halted;
+      pinners = s.pinners.items;
+    } };
 
-    ghost invariant = { λ s. IsLawfulState S.honest N.board record { options = s.options; slots = s.slots; snapshots = s.snapshots; next = s.next; next_ticket = s.next_ticket; live = s.live; journal = s.journal; halted = s.halted; pinners = s.pinners.items } };
+    ghost invariant = { λ s. IsLawfulState S.honest N.board record {
+      options = s.options;
+      slots = s.slots;
+      snapshots = s.snapshots;
+      next = s.next;
+      next_ticket = s.next_ticket;
+      live = s.live;
+      journal = s.journal;
+      halted = s.halted;
+      pinners = s.pinners.items;
+    } };
 }
 
 impl<N: Boarded, S: Shelf> State<N, S> {

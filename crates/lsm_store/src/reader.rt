@@ -29,7 +29,12 @@ impl<N: Boarded, S: Shelf> Model for Reader<N, S> {
 
     ghost Value = { Learnt };
 
-    ghost view = { λ r. record { id = r.cache.id; version = r.cache.version; pinner = r.pinner; told = r.cache.told } };
+    ghost view = { λ r. record {
+      id = r.cache.id;
+      version = r.cache.version;
+      pinner = r.pinner;
+      told = r.cache.told;
+    } };
 
     ghost invariant = { λ r. (r.pinner.board ≡ N.board) × (r.pinner.knows.held ≡ None) };
 }
@@ -49,8 +54,11 @@ impl<N: Boarded, S: Shelf> Reader<N, S> {
     #[tactic(auto, using(crate::proofs::ReaderLaws::same_learnt))]
     pub fn refresh(&mut self, state: &mut State<N, S>) -> Result<(), AllocError>
         ensures ok { OnOk result (self.new ≡ refreshed state.old self.old) }
-        ensures board { OnOk result ((state.new.slots.board.board ≡ state.old.slots.board.board) × (state.new.slots.board.knows ≡ noted_view state.old.slots.board.knows self.new.pinner.knows)) }
-        ensures rest { state.new ≡ record state.old { slots = record state.old.slots { board = state.new.slots.board } } }
+        ensures board { OnOk result ((state.new.slots.board.board ≡ state.old.slots.board.board)
+            × (state.new.slots.board.knows
+            ≡ noted_view state.old.slots.board.knows self.new.pinner.knows)) }
+        ensures rest { state.new ≡ record state.old
+            { slots = record state.old.slots { board = state.new.slots.board } } }
         ensures err { OnErr result ((self.new ≡ self.old) × (state.new ≡ state.old)) }
     {
         let version = Arc::try_clone(state.current().1)?;
@@ -67,7 +75,8 @@ impl<N: Boarded, S: Shelf> Reader<N, S> {
     pub fn begin(self) -> Result<View<N, S>, (Reader<N, S>, BeginFault)>
         ensures begun { IfOk result (λ v. IsBegun self v) }
         ensures refused { IfErr result (λ e. IsRefused self e.0 e.1) }
-        ensures spent { self.pinner.knows.count ≡ 2 ^ 24 → IsErr result × IfErr result (λ e. e.1 ≡ PinsSpent) }
+        ensures spent { self.pinner.knows.count ≡ 2 ^ 24
+            → IsErr result × IfErr result (λ e. e.1 ≡ PinsSpent) }
     {
         let Reader { mut pinner, cache } = self;
         match pinner.pin() {

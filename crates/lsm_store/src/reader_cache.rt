@@ -48,7 +48,8 @@ impl<N: Boarded, S: Shelf> ReaderCache<N, S> {
         requires { (S.told shelf.old).place ≡ N.place }
         ensures cache { IfOk result (λ d. d ≡ known_at state.now N.place) }
         ensures told { Forked (S.told shelf.old) (S.told shelf.new) }
-        ensures cause { IfErr result (λ e. NotNamed e × Counted e (S.told shelf.old) (S.told shelf.new)) }
+        ensures cause { IfErr result (λ e. NotNamed e
+            × Counted e (S.told shelf.old) (S.told shelf.new)) }
     {
         let (id, current) = state.current();
         let version = Arc::try_clone(current)?;

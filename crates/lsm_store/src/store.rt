@@ -1,6 +1,7 @@
 //! The state behind its lock.
 
-ghost use Rattle.std.specs.Prelude.{◌≡◌, ◌≤◌, [], All, IfErr, IfOk, length, map, vec_capacity, vec_len};
+ghost use Rattle.std.specs.Prelude.{◌≡◌, ◌≤◌, [], All, IfErr, IfOk, length, map, vec_capacity};
+ghost use Rattle.std.specs.Prelude.{vec_len};
 ghost use Rattle.lsm_shelf.specs.Told.{Counted, Forked, NotNamed};
 ghost use Rattle.lsm_pins.specs.Known.{Known};
 ghost use Rattle.lsm_store.specs.Readers.{IsFreeEnd, SeatsPinners, known_at, seated};
@@ -26,7 +27,8 @@ fn caches_for<N: Boarded, S: Shelf>(
     ensures caches { IfOk result (λ v. All (λ d. d ≡ known_at state.now N.place) v.items) }
     ensures len { IfOk result (λ v. vec_len v ≡ state.now.options.readers) }
     ensures told { Forked (S.told shelf.old) (S.told shelf.new) }
-    ensures cause { IfErr result (λ e. NotNamed e × Counted e (S.told shelf.old) (S.told shelf.new)) }
+    ensures cause { IfErr result (λ e. NotNamed e
+        × Counted e (S.told shelf.old) (S.told shelf.new)) }
 {
     let options = state.options();
     let Some(blocks) = NonZeroUsize::new(options.cache_blocks) else {
@@ -98,7 +100,8 @@ fn make_caches<N: Boarded, S: Shelf>(
     ensures none { IfOk result (λ r. (r.1.items ≡ []) × (vec_len r.1 ≡ 0)) }
     ensures room { IfOk result (λ r. vec_capacity r.1 ≡ state.now.options.readers) }
     ensures told { Forked (S.told shelf.old) (S.told shelf.new) }
-    ensures cause { IfErr result (λ e. NotNamed e × Counted e (S.told shelf.old) (S.told shelf.new)) }
+    ensures cause { IfErr result (λ e. NotNamed e
+        × Counted e (S.told shelf.old) (S.told shelf.new)) }
 {
     let readers = Vec::with_capacity(alloc, state.options().readers)?;
     let caches = caches_for(alloc, state, shelf)?;

@@ -38,9 +38,15 @@ impl<N: Boarded, S: Shelf> Model for View<N, S> {
 
     ghost Value = { Learnt };
 
-    ghost view = { λ v. record { id = v.cache.id; version = v.cache.version; pinner = v.pinner; told = v.cache.told } };
+    ghost view = { λ v. record {
+      id = v.cache.id;
+      version = v.cache.version;
+      pinner = v.pinner;
+      told = v.cache.told;
+    } };
 
-    ghost invariant = { λ v. (v.pinner.board ≡ N.board) × (v.pinner.knows.held ≡ Some (v.cache.id, v.slot)) };
+    ghost invariant = { λ v. (v.pinner.board ≡ N.board)
+        × (v.pinner.knows.held ≡ Some (v.cache.id, v.slot)) };
 }
 
 impl<N: Boarded, S: Shelf> View<N, S> {
@@ -72,7 +78,8 @@ impl<N: Boarded, S: Shelf> View<N, S> {
         user: &[u8],
         seq: u64,
     ) -> Result<Option<Vec<u8>>, ReadFault>
-        ensures answer { S.honest → IfOk result (λ v. option_map (λ b. b.items) v ≡ answer (all_entries (files self.old.version)) user.now seq) }
+        ensures answer { S.honest → IfOk result (λ v. option_map (λ b. b.items) v
+            ≡ answer (all_entries (files self.old.version)) user.now seq) }
         ensures sound { S.honest → IfErr result IsMemoryOrShelf }
         ensures rest { self.new ≡ record self.old { told = self.new.told } }
         ensures told { Becomes self.old.told self.new.told }
@@ -90,7 +97,8 @@ impl<N: Boarded, S: Shelf> View<N, S> {
     /// A scan of its version at a sequence: each user key that has an answer, with it, ascending.
     /// `step` and `next` go on along it.
     pub fn scan(&mut self, alloc: Global, seq: u64) -> Result<Scan<N, S>, ReadFault>
-        ensures scanned { S.honest → IfOk result (λ s. IsScan seq (all_entries (files self.old.version)) s.left) }
+        ensures scanned { S.honest
+            → IfOk result (λ s. IsScan seq (all_entries (files self.old.version)) s.left) }
         ensures here { IfOk result (λ s. s.here ≡ None) }
         ensures sound { S.honest → IfErr result IsMemoryOrShelf }
         ensures rest { self.new ≡ record self.old { told = self.new.told } }
@@ -134,8 +142,11 @@ impl<N: Boarded, S: Shelf> View<N, S> {
         ensures met { IfOk result (λ v. IsMet self.old state.new v.items) }
         ensures kept { IfOk result (λ v. (n : ℕ) → Has v.items n → IsKeptNumber state.new n) }
         ensures view { self.new ≡ informed state.old self.old }
-        ensures board { (state.new.slots.board.board ≡ state.old.slots.board.board) × (state.new.slots.board.knows ≡ noted_view state.old.slots.board.knows self.old.pinner.knows) }
-        ensures rest { state.new ≡ record state.old { slots = record state.old.slots { board = state.new.slots.board } } }
+        ensures board { (state.new.slots.board.board ≡ state.old.slots.board.board)
+            × (state.new.slots.board.knows
+            ≡ noted_view state.old.slots.board.knows self.old.pinner.knows) }
+        ensures rest { state.new ≡ record state.old
+            { slots = record state.old.slots { board = state.new.slots.board } } }
     {
         match state.meet(alloc, &mut self.pinner) {
             Ok(Some(numbers)) => Ok(numbers),
