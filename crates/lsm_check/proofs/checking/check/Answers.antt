@@ -2,7 +2,7 @@ use Rattle.std.proofs.Common.{◌≡◌, List, map, rules, length, ◌∙◌, ap
 use Rattle.lsm_table.specs.Registry.{Table}
 use Rattle.lsm_version.specs.Versions.{files_from}
 use Rattle.lsm_check.proofs.Judged.{placed_fit}
-use Rattle.lsm_check.proofs.Unsettled.{settled_keeps}
+use Rattle.lsm_check.proofs.UnsettledFiles.{settled_keeps}
 use Rattle.lsm_check.proofs.checking.check.Goals as goal
 
 pub invariant_of-result : goal.invariant_of-result
