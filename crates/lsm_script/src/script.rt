@@ -18,7 +18,7 @@ use crate::reply::Reply;
 use crate::reserving::{cancel, reserve, reserve_range};
 use crate::snapshots::{release, snapshot};
 use lsm_codec::List;
-use lsm_machine::laws::runs_read_all_that_came;
+use lsm_levels::machine::runs_read_all_that_came;
 use lsm_merge::{Finished, Job};
 use lsm_slots::Boarded;
 use lsm_state::State;

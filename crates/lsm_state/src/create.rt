@@ -12,7 +12,7 @@ use crate::options::Options;
 use crate::state::State;
 use lsm_journal::Journal;
 use lsm_live::LiveJobs;
-use lsm_machine::laws::created_stores_are_lawful;
+use lsm_levels::machine::created_stores_are_lawful;
 use lsm_pins::{Pinner, Publisher};
 use lsm_slots::{Boarded, Slots, Snapshots};
 use lsm_table::{Registry, Shelf, ShelfFault};

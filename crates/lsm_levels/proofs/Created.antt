@@ -1,8 +1,8 @@
 -- A store that was just created has nothing of which the law says anything.
 use Rattle.std.specs.Prelude.{[]}
 use Rattle.lsm_levels.specs.Files.{File, IsLawful}
-use Rattle.lsm_machine.specs.Plain.{created}
-use Rattle.lsm_machine.specs.Law.{Books, Law}
+use Rattle.lsm_levels.specs.Plain.{created}
+use Rattle.lsm_levels.specs.Law.{Books, Law}
 
 created_books : Books created
 created_books = record {
@@ -22,16 +22,16 @@ created_books = record {
   snapshots = λ p h. absurd h;
 }
 
-no_files : (Split : File → File → Type 0) → IsLawful Split []
-no_files Split = record {
+no_files : IsLawful []
+no_files = record {
   fits = λ F h. absurd h;
   numbers = λ F G h g e. absurd h;
-  split = λ F G h g e l n. absurd h;
+  in_order = λ F G h g e l n. absurd h;
   depth = λ F G x y h g s k l e. absurd h;
 }
 
-pub created_law : (Honest : Type 0) (Split : File → File → Type 0) → Law Honest Split created
-created_law Honest Split = record {
+pub created_law : (Honest : Type 0) → Law Honest created
+created_law Honest = record {
   books = created_books;
-  meaning = λ h. record { lawful = no_files Split; reached = λ e k. absurd k; are_open = λ a k. absurd k };
+  meaning = λ h. record { lawful = no_files; reached = λ e k. absurd k; are_open = λ a k. absurd k };
 }

@@ -5,10 +5,12 @@ use Rattle.lsm_codec.specs.Entries.{Entry}
 use Rattle.lsm_levels.specs.Files.{File}
 use Rattle.lsm_levels.specs.Jobs.{Job, Conflicts, FloorHolds, Gains, IsOpenIn}
 use Rattle.lsm_levels.specs.Plans.{Plan}
-use Rattle.lsm_levels.proofs.CallerLemmas.{all_has, has_all, ingest_lawful, ingest_keeps_open, plan_opens}
-use Rattle.lsm_machine.specs.Plain.{Live, Plain, Ingests, TakesSnapshot, Releases, Reserves, Cancels, Draws, Spends, floor_of, without_job, booking, drawing}
-use Rattle.lsm_machine.specs.Law.{AreRising, Books, Meaning}
-use Rattle.lsm_machine.proofs.LiveLists.{left_job, left_snapshot, one_more, was_before, booked_is, booked_of, rising_less, rising_more}
+use Rattle.lsm_levels.proofs.Ingests.{ingest_keeps_open, ingest_lawful}
+use Rattle.lsm_levels.proofs.Installs.{all_has, has_all}
+use Rattle.lsm_levels.proofs.Plans.{plan_opens}
+use Rattle.lsm_levels.specs.Plain.{Live, Plain, Ingests, TakesSnapshot, Releases, Reserves, Cancels, Draws, Spends, floor_of, without_job, booking, drawing}
+use Rattle.lsm_levels.specs.Law.{AreRising, Books, Meaning}
+use Rattle.lsm_levels.proofs.LiveLists.{left_job, left_snapshot, one_more, was_before, booked_is, booked_of, rising_less, rising_more}
 
 pub conflicts_back : (a b : Job) → Conflicts a b → Conflicts b a
 conflicts_back a b (inl s) = inl (s.1, s.0, s.3, s.2, sym s.4)
@@ -57,9 +59,9 @@ ingest_gains s es t b i = record {
   added = i.added;
 }
 
-pub ingest_meaning : (Split : File → File → Type 0) (s : Plain) (es : List Entry) (t : Plain) → Books s → Meaning Split s → Ingests s es t → Meaning Split t
-ingest_meaning Split s es t b m i = subst (Meaning Split) (sym i.is) record {
-  lawful = ingest_lawful Split s.files i.files i.file s.last m.lawful reached gains;
+pub ingest_meaning : (s : Plain) (es : List Entry) (t : Plain) → Books s → Meaning s → Ingests s es t → Meaning t
+ingest_meaning s es t b m i = subst Meaning (sym i.is) record {
+  lawful = ingest_lawful s.files i.files i.file s.last m.lawful reached gains;
   reached = λ e h. (let r = all_has i.files e h in elim (i.from r.0 r.1) [
     | inl new ↦ i.upto e (subst (λ fs. Has fs e) i.entries (subst (λ (D : File). Has D.entries e) (sym new) r.2))
     | inr old ↦ (let le = reached r.0 e old r.2 in let g = i.grows in omega arith)
@@ -173,13 +175,13 @@ reserve_books H s plan job t b i = subst Books (sym i.is) record {
     clear a c (inr x) (inl y) ne k = i.clear c y (subst (λ (d : Live). Conflicts d.job c.job) (sym x) k)
     clear a c (inr x) (inr y) ne k = ne (ap (λ (d : Live). d.job.ticket) (sym x ∙ y))
 
-pub reserve_meaning : (H : Type 0) (Split : File → File → Type 0) (s : Plain) (plan : Plan) (job : Job) (t : Plain) → Meaning Split s → H → Reserves H s plan job t → Meaning Split t
-reserve_meaning H Split s plan job t m honest i = subst (Meaning Split) (sym i.is) record {
+pub reserve_meaning : (H : Type 0) (s : Plain) (plan : Plan) (job : Job) (t : Plain) → Meaning s → H → Reserves H s plan job t → Meaning t
+reserve_meaning H s plan job t m honest i = subst Meaning (sym i.is) record {
   lawful = m.lawful;
   reached = m.reached;
   are_open = λ a h. elim (one_more s.live (new_live job) a h) [
     | inl old ↦ m.are_open a old
-    | inr e ↦ subst (λ (b : Live). IsOpenIn s.files b.job) e (let c = i.closed honest in plan_opens Split s.files (Has c.0) plan job m.lawful c.1 i.is_job)
+    | inr e ↦ subst (λ (b : Live). IsOpenIn s.files b.job) e (let c = i.closed honest in plan_opens s.files (Has c.0) plan job m.lawful c.1 i.is_job)
   ];
 }
 
@@ -206,8 +208,8 @@ cancel_books s ticket t b i = subst Books (sym i) record {
     left : (a : Live) → Has (without_job ticket s.live) a → Has s.live a
     left a h = (left_job ticket s.live a h).0
 
-pub cancel_meaning : (Split : File → File → Type 0) (s : Plain) (ticket : ℕ) (t : Plain) → Meaning Split s → Cancels s ticket t → Meaning Split t
-cancel_meaning Split s ticket t m i = subst (Meaning Split) (sym i) record {
+pub cancel_meaning : (s : Plain) (ticket : ℕ) (t : Plain) → Meaning s → Cancels s ticket t → Meaning t
+cancel_meaning s ticket t m i = subst Meaning (sym i) record {
   lawful = m.lawful;
   reached = m.reached;
   are_open = λ a h. m.are_open a (left_job ticket s.live a h).0;
@@ -253,8 +255,8 @@ draw_books s ticket t b i = subst Books (sym i) record {
         go true e = ap (λ (l : Live). l.job.ticket) e
         go false e = ap (λ (l : Live). l.job.ticket) e
 
-pub draw_meaning : (Split : File → File → Type 0) (s : Plain) (ticket : ℕ) (t : Plain) → Meaning Split s → Draws s ticket t → Meaning Split t
-draw_meaning Split s ticket t m i = subst (Meaning Split) (sym i) record {
+pub draw_meaning : (s : Plain) (ticket : ℕ) (t : Plain) → Meaning s → Draws s ticket t → Meaning t
+draw_meaning s ticket t m i = subst Meaning (sym i) record {
   lawful = m.lawful;
   reached = m.reached;
   are_open = λ b h. (let r = was_before ticket s.next s.live b h in subst (IsOpenIn s.files) r.2 (m.are_open r.0 r.1));

@@ -4,13 +4,16 @@ use Rattle.std.proofs.lemmas.Bool.{cases_Bool, both_ways}
 use Rattle.lsm_codec.specs.Lists.{Has}
 use Rattle.lsm_codec.specs.Keys.{UserKey}
 use Rattle.lsm_codec.specs.Entries.{Entry, answer}
-use Rattle.lsm_levels.specs.Files.{File, all_entries, IsSplit}
+use Rattle.lsm_levels.specs.Files.{File, all_entries}
 use Rattle.lsm_levels.specs.Kept.{kept_entries}
 use Rattle.lsm_levels.specs.Jobs.{is_input, AreOutputs, Changed, FloorHolds, IsMove, IsOpenIn}
-use Rattle.lsm_levels.proofs.CallerLemmas.{kept_says, finished_holds, rising_numbers, all_has, has_all, input_says, input_from, install_answers, install_lawful, install_keeps_open, move_outputs, move_answers}
-use Rattle.lsm_machine.specs.Plain.{Live, Plain, Installs, IsBooked, IsReadable, IsResult, without_job}
-use Rattle.lsm_machine.specs.Law.{Books, Meaning, Law}
-use Rattle.lsm_machine.proofs.LiveLists.{left_job}
+use Rattle.lsm_levels.proofs.Cuts.{finished_holds, rising_numbers}
+use Rattle.lsm_levels.proofs.Installs.{all_has, has_all, input_from, input_says, install_answers, install_keeps_open, install_lawful}
+use Rattle.lsm_levels.proofs.Kept.{kept_says}
+use Rattle.lsm_levels.proofs.Moves.{move_answers, move_outputs}
+use Rattle.lsm_levels.specs.Plain.{Live, Plain, Installs, IsBooked, IsReadable, IsResult, without_job}
+use Rattle.lsm_levels.specs.Law.{Books, Meaning, Law}
+use Rattle.lsm_levels.proofs.LiveLists.{left_job}
 
 -- where the number of an output is from: it was drawn, or is an input's
 source_of : (s : Plain) (a : Live) (outs : List File) → Books s → Has s.live a → (F : File) → Has outs F → IsBooked a outs
@@ -87,24 +90,24 @@ pub record Rests (s : Plain) (a : Live) (outs files : List File) : Type 0 where
   pub outputs : AreOutputs s.files a.job entries outs
   pub same : (k : UserKey) (q : ℕ) → a.job.floor ≤ q → answer (all_entries files) k q ≡ answer (all_entries s.files) k q
 
-rests_move : (Split : File → File → Type 0) → IsSplit Split → (s : Plain) (a : Live) (outs files : List File) → Meaning Split s → Has s.live a → IsMove a.job outs
+rests_move : (s : Plain) (a : Live) (outs files : List File) → Meaning s → Has s.live a → IsMove a.job outs
     → Changed s.files a.job outs files → Rests s a outs files
-rests_move Split sp s a outs files m h mv c = record {
+rests_move s a outs files m h mv c = record {
   entries = all_entries a.job.inputs;
   part = λ e k. k;
-  outputs = move_outputs Split s.files a.job outs m.lawful (m.are_open a h) mv;
-  same = λ k q le. move_answers Split sp s.files a.job outs files m.lawful (m.are_open a h) (move_outputs Split s.files a.job outs m.lawful (m.are_open a h) mv) c k q;
+  outputs = move_outputs s.files a.job outs m.lawful (m.are_open a h) mv;
+  same = λ k q le. move_answers s.files a.job outs files m.lawful (m.are_open a h) (move_outputs s.files a.job outs m.lawful (m.are_open a h) mv) c k q;
 }
 
-pub rests : (Split : File → File → Type 0) → IsSplit Split → (s : Plain) (a : Live) (outs files : List File) → Books s → Meaning Split s → Has s.live a → IsBooked a outs → IsResult a.job outs
+pub rests : (s : Plain) (a : Live) (outs files : List File) → Books s → Meaning s → Has s.live a → IsBooked a outs → IsResult a.job outs
     → Changed s.files a.job outs files → Rests s a outs files
-rests Split sp s a outs files b m h (inr mv) r c = rests_move Split sp s a outs files m h mv c
-rests Split sp s a outs files b m h (inl d) (inr mv) c = rests_move Split sp s a outs files m h mv c
-rests Split sp s a outs files b m h (inl d) (inl r) c = record {
+rests s a outs files b m h (inr mv) r c = rests_move s a outs files m h mv c
+rests s a outs files b m h (inl d) (inr mv) c = rests_move s a outs files m h mv c
+rests s a outs files b m h (inl d) (inl r) c = record {
   entries = kept_entries (all_entries a.job.inputs) a.job.floor a.job.ranges;
   part = λ e k. (kept_says (all_entries a.job.inputs) a.job.floor a.job.ranges e k).input;
   outputs = outputs;
-  same = install_answers Split sp s.files a.job outs files m.lawful (m.are_open a h) outputs c;
+  same = install_answers s.files a.job outs files m.lawful (m.are_open a h) outputs c;
 }
   where
     outputs : AreOutputs s.files a.job (kept_entries (all_entries a.job.inputs) a.job.floor a.job.ranges) outs
@@ -113,14 +116,14 @@ rests Split sp s a outs files b m h (inl d) (inl r) c = record {
       fresh = λ F G hF hG t e. b.drawn_fresh a F.number G h (d.1 F hF) hG (sym e);
     }
 
-pub install_meaning : (H : Type 0) (Split : File → File → Type 0) → IsSplit Split → (s : Plain) (ticket : ℕ) (t : Plain) → Books s → Meaning Split s → H → Installs H s ticket t → Meaning Split t
-install_meaning H Split sp s ticket t b m honest i = subst (Meaning Split) (sym i.is) record {
-  lawful = install_lawful Split sp s.files i.one.job r.entries i.outs i.files m.lawful mine r.part r.outputs i.changed;
+pub install_meaning : (H : Type 0) (s : Plain) (ticket : ℕ) (t : Plain) → Books s → Meaning s → H → Installs H s ticket t → Meaning t
+install_meaning H s ticket t b m honest i = subst Meaning (sym i.is) record {
+  lawful = install_lawful s.files i.one.job r.entries i.outs i.files m.lawful mine r.part r.outputs i.changed;
   reached = λ e h. (let q = all_has i.files e h in elim (i.changed.from q.0 q.1) [
     | inl out ↦ (let z = all_has i.one.job.inputs e (r.part e (r.outputs.from q.0 e out q.2)) in m.reached e (has_all s.files z.0 e (mine.inputs z.0 z.1) z.2))
     | inr old ↦ m.reached e (has_all s.files q.0 e old.0 q.2)
   ]);
-  are_open = λ a h. (let f = left_job ticket s.live a h in install_keeps_open Split s.files i.one.job a.job r.entries i.outs i.files m.lawful mine (m.are_open a f.0)
+  are_open = λ a h. (let f = left_job ticket s.live a h in install_keeps_open s.files i.one.job a.job r.entries i.outs i.files m.lawful mine (m.are_open a f.0)
       (b.clear i.one a i.was_live f.0 (λ e. f.1 (sym e ∙ i.its))) r.part r.outputs i.changed);
 }
   where
@@ -128,24 +131,24 @@ install_meaning H Split sp s ticket t b m honest i = subst (Meaning Split) (sym 
     mine = m.are_open i.one i.was_live
 
     r : Rests s i.one i.outs i.files
-    r = rests Split sp s i.one i.outs i.files b m i.was_live i.booked (i.result honest) i.changed
+    r = rests s i.one i.outs i.files b m i.was_live i.booked (i.result honest) i.changed
 
 -- an install changes no answer at the last sequence or a live snapshot's
-pub install_same : (H : Type 0) (Split : File → File → Type 0) → IsSplit Split → (s : Plain) (ticket : ℕ) (t : Plain) → Books s → Meaning Split s → H → Installs H s ticket t
+pub install_same : (H : Type 0) (s : Plain) (ticket : ℕ) (t : Plain) → Books s → Meaning s → H → Installs H s ticket t
     → (k : UserKey) (q : ℕ) → IsReadable s q → answer (all_entries t.files) k q ≡ answer (all_entries s.files) k q
-install_same H Split sp s ticket t b m honest i k q readable = ap (λ (u : Plain). answer (all_entries u.files) k q) i.is ∙ r.same k q (elim readable [
+install_same H s ticket t b m honest i k q readable = ap (λ (u : Plain). answer (all_entries u.files) k q) i.is ∙ r.same k q (elim readable [
   | inl e ↦ (let le = floor.at_last in omega arith)
   | inr p ↦ (let le = floor.at_snapshots p.0 p.1 in let e = p.2 in omega arith)
 ])
   where
     r : Rests s i.one i.outs i.files
-    r = rests Split sp s i.one i.outs i.files b m i.was_live i.booked (i.result honest) i.changed
+    r = rests s i.one i.outs i.files b m i.was_live i.booked (i.result honest) i.changed
 
     floor : FloorHolds s.last s.snapshots i.one.job
     floor = b.floors i.one i.was_live
 
-pub install_law : (H : Type 0) (Split : File → File → Type 0) → IsSplit Split → (s : Plain) (ticket : ℕ) (t : Plain) → Law H Split s → Installs H s ticket t → Law H Split t
-install_law H Split sp s ticket t l i = record {
+pub install_law : (H : Type 0) (s : Plain) (ticket : ℕ) (t : Plain) → Law H s → Installs H s ticket t → Law H t
+install_law H s ticket t l i = record {
   books = install_books H s ticket t l.books i;
-  meaning = λ honest. install_meaning H Split sp s ticket t l.books (l.meaning honest) honest i;
+  meaning = λ honest. install_meaning H s ticket t l.books (l.meaning honest) honest i;
 }

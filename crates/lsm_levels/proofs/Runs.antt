@@ -4,40 +4,41 @@ use Rattle.lsm_codec.specs.Keys.{UserKey}
 use Rattle.lsm_codec.specs.Lists.{Has}
 use Rattle.lsm_codec.specs.Entries.{Entry, newest, value_in, answer}
 use Rattle.lsm_codec.proofs.CallerLemmas.{has_left, has_right, has_cases, IsAllowed, Finds, newest_finds, stamp_lt}
-use Rattle.lsm_levels.specs.Files.{File, all_entries, IsSplit, OneEach}
+use Rattle.lsm_levels.specs.Files.{File, all_entries, OneEach}
 use Rattle.lsm_levels.specs.Jobs.{Job}
 use Rattle.lsm_levels.specs.Plans.{Plan}
-use Rattle.lsm_levels.proofs.CallerLemmas.{drops_answer, newest_is, all_has, has_all, one_each}
-use Rattle.lsm_machine.specs.Plain.{Ingests, IsReadable, Plain, Reserves}
-use Rattle.lsm_machine.specs.Law.{Law, Meaning}
-use Rattle.lsm_machine.specs.Runs.{Event, Ingest, Snapshot, Release, Reserve, Cancel, Draw, Install, Spend, Nothing, ReadsAs, Run, Step, ingested}
-use Rattle.lsm_machine.proofs.LiveLists.{left_snapshot, one_more}
-use Rattle.lsm_machine.proofs.PlainSteps.{cancel_books, cancel_meaning, draw_books, draw_meaning, ingest_books, ingest_meaning, release_books, reserve_books, reserve_meaning, snapshot_books, spend_books}
-use Rattle.lsm_machine.proofs.Installing.{install_law, install_same}
+use Rattle.lsm_levels.proofs.Drops.{drops_answer, newest_is}
+use Rattle.lsm_levels.proofs.Installs.{all_has, has_all, one_each}
+use Rattle.lsm_levels.specs.Plain.{Ingests, IsReadable, Plain, Reserves}
+use Rattle.lsm_levels.specs.Law.{Books, Law, Meaning}
+use Rattle.lsm_levels.specs.Runs.{Event, Ingest, Snapshot, Release, Reserve, Cancel, Draw, Install, Spend, Nothing, ReadsAs, Run, Step, ingested}
+use Rattle.lsm_levels.proofs.LiveLists.{left_snapshot, one_more}
+use Rattle.lsm_levels.proofs.PlainSteps.{cancel_books, cancel_meaning, draw_books, draw_meaning, ingest_books, ingest_meaning, release_books, reserve_books, reserve_meaning, snapshot_books, spend_books}
+use Rattle.lsm_levels.proofs.Installing.{install_law, install_same}
 
-reserve_law : (H : Type 0) (Split : File → File → Type 0) (s : Plain) (plan : Plan) (job : Job) (t : Plain) → Law H Split s → Reserves H s plan job t → Law H Split t
-reserve_law H Split s plan job t l i = record {
+reserve_law : (H : Type 0) (s : Plain) (plan : Plan) (job : Job) (t : Plain) → Law H s → Reserves H s plan job t → Law H t
+reserve_law H s plan job t l i = record {
   books = reserve_books H s plan job t l.books i;
-  meaning = λ h. reserve_meaning H Split s plan job t (l.meaning h) h i;
+  meaning = λ h. reserve_meaning H s plan job t (l.meaning h) h i;
 }
 
-kept_law : (H : Type 0) (Split : File → File → Type 0) (s t : Plain) → Law H Split s → Rattle.lsm_machine.specs.Law.Books t → (Meaning Split s → Meaning Split t) → Law H Split t
-kept_law H Split s t l b m = record { books = b; meaning = λ h. m (l.meaning h) }
+kept_law : (H : Type 0) (s t : Plain) → Law H s → Books t → (Meaning s → Meaning t) → Law H t
+kept_law H s t l b m = record { books = b; meaning = λ h. m (l.meaning h) }
 
-pub step_law : (H : Type 0) (Split : File → File → Type 0) → IsSplit Split → (s : Plain) (e : Event) (t : Plain) → Law H Split s → Step H s e t → Law H Split t
-step_law H Split i s (Ingest es) t l h = kept_law H Split s t l (ingest_books s es t l.books h) (λ m. ingest_meaning Split s es t l.books m h)
-step_law H Split i s Snapshot t l h = kept_law H Split s t l (snapshot_books s t l.books h) (λ m. subst (Meaning Split) (sym h) record { lawful = m.lawful; reached = m.reached; are_open = m.are_open })
-step_law H Split i s (Release id) t l h = kept_law H Split s t l (release_books s id t l.books h) (λ m. subst (Meaning Split) (sym h) record { lawful = m.lawful; reached = m.reached; are_open = m.are_open })
-step_law H Split i s (Reserve plan job) t l h = reserve_law H Split s plan job t l h
-step_law H Split i s (Cancel ticket) t l h = kept_law H Split s t l (cancel_books s ticket t l.books h) (λ m. cancel_meaning Split s ticket t m h)
-step_law H Split i s (Draw ticket) t l h = kept_law H Split s t l (draw_books s ticket t l.books h) (λ m. draw_meaning Split s ticket t m h)
-step_law H Split i s (Install ticket) t l h = install_law H Split i s ticket t l h
-step_law H Split i s Spend t l h = kept_law H Split s t l (spend_books s t l.books h) (λ m. subst (Meaning Split) (sym h.2) record { lawful = m.lawful; reached = m.reached; are_open = m.are_open })
-step_law H Split i s Nothing t l h = subst (Law H Split) (sym h) l
+pub step_law : (H : Type 0) (s : Plain) (e : Event) (t : Plain) → Law H s → Step H s e t → Law H t
+step_law H s (Ingest es) t l h = kept_law H s t l (ingest_books s es t l.books h) (λ m. ingest_meaning s es t l.books m h)
+step_law H s Snapshot t l h = kept_law H s t l (snapshot_books s t l.books h) (λ m. subst Meaning (sym h) record { lawful = m.lawful; reached = m.reached; are_open = m.are_open })
+step_law H s (Release id) t l h = kept_law H s t l (release_books s id t l.books h) (λ m. subst Meaning (sym h) record { lawful = m.lawful; reached = m.reached; are_open = m.are_open })
+step_law H s (Reserve plan job) t l h = reserve_law H s plan job t l h
+step_law H s (Cancel ticket) t l h = kept_law H s t l (cancel_books s ticket t l.books h) (λ m. cancel_meaning s ticket t m h)
+step_law H s (Draw ticket) t l h = kept_law H s t l (draw_books s ticket t l.books h) (λ m. draw_meaning s ticket t m h)
+step_law H s (Install ticket) t l h = install_law H s ticket t l h
+step_law H s Spend t l h = kept_law H s t l (spend_books s t l.books h) (λ m. subst Meaning (sym h.2) record { lawful = m.lawful; reached = m.reached; are_open = m.are_open })
+step_law H s Nothing t l h = subst (Law H) (sym h) l
 
-pub run_law : (H : Type 0) (Split : File → File → Type 0) → IsSplit Split → (s : Plain) (es : List Event) (t : Plain) → Law H Split s → Run H s es t → Law H Split t
-run_law H Split i s [] t l h = subst (Law H Split) (sym h) l
-run_law H Split i s (e ∷ es) t l h = run_law H Split i h.0 es t (step_law H Split i s e h.0 l h.1) h.2
+pub run_law : (H : Type 0) (s : Plain) (es : List Event) (t : Plain) → Law H s → Run H s es t → Law H t
+run_law H s [] t l h = subst (Law H) (sym h) l
+run_law H s (e ∷ es) t l h = run_law H h.0 es t (step_law H s e h.0 l h.1) h.2
 
 -- lists of the same entries answer alike
 pub same_answer : (old new : List Entry) (k : UserKey) (q : ℕ) → OneEach old → ((e : Entry) → Has new e → Has old e) → ((e : Entry) → Has old e → Has new e) → answer new k q ≡ answer old k q
@@ -105,8 +106,8 @@ one_each_front new es one two above x y hx hy key same = elim (has_cases new es 
   | inr a ↦ elim (has_cases new es y hy) [ inl b ↦ (let lt = stamp_lt x y (above y x b a) in absurd (omega arith)) | inr b ↦ two x y a b key same ]
 ]
 
-ingest_agrees : (Split : File → File → Type 0) → IsSplit Split → (s : Plain) (new : List Entry) (t : Plain) (es : List Entry) → Meaning Split s → Meaning Split t → Ingests s new t → Agrees s es → Agrees t (new ++ es)
-ingest_agrees Split sp s new t es l m i a = record {
+ingest_agrees : (s : Plain) (new : List Entry) (t : Plain) (es : List Entry) → Meaning s → Meaning t → Ingests s new t → Agrees s es → Agrees t (new ++ es)
+ingest_agrees s new t es l m i a = record {
   upto = λ e h. subst (λ (u : Plain). e.seq ≤ u.last) (sym i.is) (elim (has_cases new es e h) [ inl n ↦ i.upto e n | inr old ↦ (let le = a.upto e old in let g = i.grows in omega arith) ]);
   one = one_new;
   reads = λ k q r. unchanged k q ∙ reads k q (readable q (subst (λ (u : Plain). IsReadable u q) i.is r));
@@ -125,7 +126,7 @@ ingest_agrees Split sp s new t es l m i a = record {
     one_new = one_each_front new es new_one a.one over
 
     one_files : OneEach (new ++ all_entries s.files)
-    one_files = one_each_front new (all_entries s.files) new_one (one_each Split sp s.files l.lawful) over_files
+    one_files = one_each_front new (all_entries s.files) new_one (one_each s.files l.lawful) over_files
 
     -- the new version has the batch and what was there
     unchanged : (k : UserKey) (q : ℕ) → answer (all_entries t.files) k q ≡ answer (new ++ all_entries s.files) k q
@@ -146,34 +147,34 @@ ingest_agrees Split sp s new t es l m i a = record {
 
     old_reads : (k : UserKey) (q : ℕ) → (s.last ≤ q) ⊎ IsReadable s q → answer (all_entries s.files) k q ≡ answer es k q
     old_reads k q (inl le) =
-        past_last (all_entries s.files) s.last q k (one_each Split sp s.files l.lawful) l.reached le ∙ (a.reads k s.last (inl refl) ∙ sym (past_last es s.last q k a.one a.upto le))
+        past_last (all_entries s.files) s.last q k (one_each s.files l.lawful) l.reached le ∙ (a.reads k s.last (inl refl) ∙ sym (past_last es s.last q k a.one a.upto le))
     old_reads k q (inr r) = a.reads k q r
 
     reads : (k : UserKey) (q : ℕ) → (s.last ≤ q) ⊎ IsReadable s q → answer (new ++ all_entries s.files) k q ≡ answer (new ++ es) k q
     reads k q r = front_same new (all_entries s.files) es k q one_files one_new over_files over (old_reads k q r)
 
-pub step_agrees : (H : Type 0) (Split : File → File → Type 0) → IsSplit Split → H → (s : Plain) (e : Event) (t : Plain) (es : List Entry) → Law H Split s → Step H s e t → Agrees s es → Agrees t (ingested (e ∷ []) es)
-step_agrees H Split i y s (Ingest new) t es l h a = ingest_agrees Split i s new t es (l.meaning y) ((step_law H Split i s (Ingest new) t l h).meaning y) h a
-step_agrees H Split i y s Snapshot t es l h a = subst (λ (u : Plain). Agrees u es) (sym h) record {
+pub step_agrees : (H : Type 0) → H → (s : Plain) (e : Event) (t : Plain) (es : List Entry) → Law H s → Step H s e t → Agrees s es → Agrees t (ingested (e ∷ []) es)
+step_agrees H y s (Ingest new) t es l h a = ingest_agrees s new t es (l.meaning y) ((step_law H s (Ingest new) t l h).meaning y) h a
+step_agrees H y s Snapshot t es l h a = subst (λ (u : Plain). Agrees u es) (sym h) record {
   upto = a.upto;
   one = a.one;
   reads = λ k q r. a.reads k q (elim r [ inl e ↦ inl e | inr p ↦ elim (one_more s.snapshots (s.next_id, s.last) p.0 p.1) [ inl old ↦ inr (p.0, old, p.2) | inr e ↦ inl (sym p.2 ∙ ap (λ (x : ℕ × ℕ). x.1) (sym e)) ] ]);
 }
-step_agrees H Split i y s (Release id) t es l h a = subst (λ (u : Plain). Agrees u es) (sym h) record {
+step_agrees H y s (Release id) t es l h a = subst (λ (u : Plain). Agrees u es) (sym h) record {
   upto = a.upto;
   one = a.one;
   reads = λ k q r. a.reads k q (elim r [ inl e ↦ inl e | inr p ↦ inr (p.0, left_snapshot id s.snapshots p.0 p.1, p.2) ]);
 }
-step_agrees H Split i y s (Reserve plan job) t es l h a = subst (λ (u : Plain). Agrees u es) (sym h.is) record { upto = a.upto; one = a.one; reads = a.reads }
-step_agrees H Split i y s (Cancel ticket) t es l h a = subst (λ (u : Plain). Agrees u es) (sym h) record { upto = a.upto; one = a.one; reads = a.reads }
-step_agrees H Split i y s (Draw ticket) t es l h a = subst (λ (u : Plain). Agrees u es) (sym h) record { upto = a.upto; one = a.one; reads = a.reads }
-step_agrees H Split i y s (Install ticket) t es l h a = record {
+step_agrees H y s (Reserve plan job) t es l h a = subst (λ (u : Plain). Agrees u es) (sym h.is) record { upto = a.upto; one = a.one; reads = a.reads }
+step_agrees H y s (Cancel ticket) t es l h a = subst (λ (u : Plain). Agrees u es) (sym h) record { upto = a.upto; one = a.one; reads = a.reads }
+step_agrees H y s (Draw ticket) t es l h a = subst (λ (u : Plain). Agrees u es) (sym h) record { upto = a.upto; one = a.one; reads = a.reads }
+step_agrees H y s (Install ticket) t es l h a = record {
   upto = λ e k. subst (λ (u : Plain). e.seq ≤ u.last) (sym h.is) (a.upto e k);
   one = a.one;
-  reads = λ k q r. (let old : IsReadable s q = subst (λ (u : Plain). IsReadable u q) h.is r in install_same H Split i s ticket t l.books (l.meaning y) y h k q old ∙ a.reads k q old);
+  reads = λ k q r. (let old : IsReadable s q = subst (λ (u : Plain). IsReadable u q) h.is r in install_same H s ticket t l.books (l.meaning y) y h k q old ∙ a.reads k q old);
 }
-step_agrees H Split i y s Spend t es l h a = subst (λ (u : Plain). Agrees u es) (sym h.2) record { upto = a.upto; one = a.one; reads = a.reads }
-step_agrees H Split i y s Nothing t es l h a = subst (λ (u : Plain). Agrees u es) (sym h) a
+step_agrees H y s Spend t es l h a = subst (λ (u : Plain). Agrees u es) (sym h.2) record { upto = a.upto; one = a.one; reads = a.reads }
+step_agrees H y s Nothing t es l h a = subst (λ (u : Plain). Agrees u es) (sym h) a
 
 ingested_step : (e : Event) (events : List Event) (es : List Entry) → ingested (e ∷ events) es ≡ ingested events (ingested (e ∷ []) es)
 ingested_step (Ingest new) events es = refl
@@ -186,12 +187,12 @@ ingested_step (Install ticket) events es = refl
 ingested_step Spend events es = refl
 ingested_step Nothing events es = refl
 
-pub run_agrees : (H : Type 0) (Split : File → File → Type 0) → IsSplit Split → H → (s : Plain) (events : List Event) (t : Plain) (es : List Entry) → Law H Split s → Run H s events t → Agrees s es → Agrees t (ingested events es)
-run_agrees H Split i y s [] t es l h a = subst (λ (u : Plain). Agrees u es) (sym h) a
-run_agrees H Split i y s (e ∷ events) t es l h a = subst (Agrees t) (sym (ingested_step e events es))
-    (run_agrees H Split i y h.0 events t (ingested (e ∷ []) es) (step_law H Split i s e h.0 l h.1) h.2 (step_agrees H Split i y s e h.0 es l h.1 a))
+pub run_agrees : (H : Type 0) → H → (s : Plain) (events : List Event) (t : Plain) (es : List Entry) → Law H s → Run H s events t → Agrees s es → Agrees t (ingested events es)
+run_agrees H y s [] t es l h a = subst (λ (u : Plain). Agrees u es) (sym h) a
+run_agrees H y s (e ∷ events) t es l h a = subst (Agrees t) (sym (ingested_step e events es))
+    (run_agrees H y h.0 events t (ingested (e ∷ []) es) (step_law H s e h.0 l h.1) h.2 (step_agrees H y s e h.0 es l h.1 a))
 
 -- a run from a lawful store
-pub run_reads : (H : Type 0) (Split : File → File → Type 0) → IsSplit Split → H → (s : Plain) (events : List Event) (t : Plain) → Law H Split s → Run H s events t → ReadsAs t (ingested events (all_entries s.files))
-run_reads H Split i y s events t l r = (run_agrees H Split i y s events t (all_entries s.files) l r
-    record { upto = (l.meaning y).reached; one = one_each Split i s.files (l.meaning y).lawful; reads = λ k q r. refl }).reads
+pub run_reads : (H : Type 0) → H → (s : Plain) (events : List Event) (t : Plain) → Law H s → Run H s events t → ReadsAs t (ingested events (all_entries s.files))
+run_reads H y s events t l r = (run_agrees H y s events t (all_entries s.files) l r
+    record { upto = (l.meaning y).reached; one = one_each s.files (l.meaning y).lawful; reads = λ k q r. refl }).reads

@@ -5,7 +5,7 @@ use Rattle.lsm_codec.specs.Entries.{Entry, answer}
 use Rattle.lsm_levels.specs.Files.{all_entries}
 use Rattle.lsm_levels.specs.Jobs.{Job}
 use Rattle.lsm_levels.specs.Plans.{Plan}
-use Rattle.lsm_machine.specs.Plain.{Cancels, Draws, Ingests, Installs, IsReadable, Plain, Releases, Reserves, Spends, TakesSnapshot}
+use Rattle.lsm_levels.specs.Plain.{Cancels, Draws, Ingests, Installs, IsReadable, Plain, Releases, Reserves, Spends, TakesSnapshot}
 
 pub data Event : Type 0 where
   Ingest : (entries : List Entry) → Event

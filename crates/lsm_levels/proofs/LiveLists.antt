@@ -3,8 +3,8 @@ use Rattle.std.proofs.Common.{◌≡◌, ℕ, ◌≤◌, ◌<◌, not, List, [],
 use Rattle.std.proofs.lemmas.Bool.{cases_Bool, both_ways, eqb-true, eq-eqb, not-true}
 use Rattle.lsm_codec.specs.Lists.{Has}
 use Rattle.lsm_codec.proofs.CallerLemmas.{has_cases, filter_has}
-use Rattle.lsm_machine.specs.Plain.{Live, without_job, without_snapshot, booking, drawing}
-use Rattle.lsm_machine.specs.Law.{AreRising}
+use Rattle.lsm_levels.specs.Plain.{Live, without_job, without_snapshot, booking, drawing}
+use Rattle.lsm_levels.specs.Law.{AreRising}
 
 -- ---- taken out
 

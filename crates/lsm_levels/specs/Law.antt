@@ -1,10 +1,11 @@
--- The law of a store, in two halves: the books, which hold whatever the shelf is, and what the entries mean over an honest shelf.
+-- The law of a store, in two halves: the books, which hold whatever tables read as, and what the
+-- entries mean where tables are read as they were written.
 use Rattle.std.specs.Prelude.{◌≡◌, ℕ, suc, ◌<◌, ◌≤◌, List, [], ◌∷◌, ◌⊎◌}
 use Rattle.lsm_codec.specs.Lists.{Has}
 use Rattle.lsm_codec.specs.Entries.{Entry}
 use Rattle.lsm_levels.specs.Files.{File, all_entries, IsLawful}
 use Rattle.lsm_levels.specs.Jobs.{Conflicts, FloorHolds, IsOpenIn}
-use Rattle.lsm_machine.specs.Plain.{Live, Plain}
+use Rattle.lsm_levels.specs.Plain.{Live, Plain}
 
 -- A later snapshot has a greater id, and no lesser sequence.
 abbrev pub AreRising : List (ℕ × ℕ) → Type 0
@@ -33,12 +34,12 @@ pub record Books (s : Plain) : Type 0 where
   pub ids : (p : ℕ × ℕ) → Has s.snapshots p → p.0 < s.next_id
   pub snapshots : (p : ℕ × ℕ) → Has s.snapshots p → p.1 ≤ s.last
 
--- Split says how two files of a level from 1 on lie.
-pub record Meaning (Split : File → File → Type 0) (s : Plain) : Type 0 where
-  pub lawful : IsLawful Split s.files
+pub record Meaning (s : Plain) : Type 0 where
+  pub lawful : IsLawful s.files
   pub reached : (e : Entry) → Has (all_entries s.files) e → e.seq ≤ s.last
   pub are_open : (a : Live) → Has s.live a → IsOpenIn s.files a.job
 
-pub record Law (Honest : Type 0) (Split : File → File → Type 0) (s : Plain) : Type 0 where
+-- `Honest` is the premise: tables are read as they were written.
+pub record Law (Honest : Type 0) (s : Plain) : Type 0 where
   pub books : Books s
-  pub meaning : Honest → Meaning Split s
+  pub meaning : Honest → Meaning s
