@@ -5,8 +5,8 @@ pub mod Numbers
 pub mod LevelReads
 pub mod LevelRanges
 pub mod Judged
-pub mod Unsettled
-pub mod Reaching
+pub mod UnsettledFiles
+pub mod ReachingFiles
 pub mod Chosen
-pub mod Ages
+pub mod AgeLaws
 pub mod Refused

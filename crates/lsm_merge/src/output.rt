@@ -97,6 +97,7 @@ impl Output {
     pub(crate) fn tell_order(&self)
         ensures { Ascends self.now.entries }
     {
+        // That they ascend is told by this call.
         let _last = self.builder.last_key();
     }
 

@@ -1,7 +1,7 @@
 pub mod Finding
-pub mod Depths
+pub mod DepthOrder
 pub mod Newer
-pub mod Runs
+pub mod RunLaws
 pub mod ScanLaws
 pub mod Opening
 pub mod NamedFiles

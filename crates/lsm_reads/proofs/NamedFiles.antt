@@ -10,7 +10,7 @@ use Rattle.lsm_merger.specs.Runs.{Left, files_at}
 use Rattle.lsm_reads.specs.Unread.{NamesOne}
 use Rattle.lsm_reads.specs.Runs.{AreNamed, IsNumberIn, IsNumberOf, once}
 use Rattle.lsm_version.specs.Versions.{level_in}
-use Rattle.lsm_reads.proofs.Runs.{once_part}
+use Rattle.lsm_reads.proofs.RunLaws.{once_part}
 
 -- ---- one file
 

@@ -45,6 +45,7 @@ fn merge_job<M: Noted<State<N, S>>, N: Boarded, S: Shelf, R: Wait>(
     };
     let merged = match compact(rt, alloc, shelf, registry, job, &mut numbers) {
         Ok(done) => {
+            // What holds of the job is told by this call.
             let _job = done.job();
             Ok(done)
         }

@@ -114,6 +114,7 @@ fn take_ends<N: Boarded, S: Shelf>(state: &mut State<N, S>, alloc: Global) -> Ve
     ensures all { result.items ≡ state.old.pinners }
     ensures same { state.new ≡ record state.old { pinners = [] } }
 {
+    // The law of the state is told by this call.
     let _options = state.options();
     state.take_pinners(alloc)
 }

@@ -3,7 +3,7 @@ use Rattle.std.specs.List.{filter}
 use Rattle.std.proofs.lemmas.List.{map-append}
 use Rattle.lsm_table.specs.Registry.{Table}
 use Rattle.lsm_check.specs.Chosen.{is_among}
-use Rattle.lsm_check.proofs.Ages.{chosen_more}
+use Rattle.lsm_check.proofs.AgeLaws.{chosen_more}
 use Rattle.lsm_check.proofs.ages.choose.Goals as goal
 
 pub loop-level-preserved : goal.loop-level-preserved

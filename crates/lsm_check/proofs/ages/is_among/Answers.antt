@@ -1,5 +1,5 @@
 use Rattle.std.proofs.Common.{◌∙◌}
-use Rattle.lsm_check.proofs.Ages.{among_found}
+use Rattle.lsm_check.proofs.AgeLaws.{among_found}
 use Rattle.lsm_check.proofs.ages.is_among.Goals as goal
 
 pub returns : goal.returns

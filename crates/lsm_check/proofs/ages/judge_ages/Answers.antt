@@ -7,7 +7,7 @@ use Rattle.lsm_reads.specs.Runs.{AreMergeable, IsNumberIn}
 use Rattle.lsm_check.specs.Chosen.{chosen}
 use Rattle.lsm_check.specs.Settled.{IsOneUnsettled}
 use Rattle.lsm_version.specs.Versions.{files_from}
-use Rattle.lsm_check.proofs.Ages.{all_settled, looked_none, looked_some, not_settled}
+use Rattle.lsm_check.proofs.AgeLaws.{all_settled, looked_none, looked_some, not_settled}
 use Rattle.lsm_check.proofs.Chosen.{chosen_unsettled}
 use Rattle.lsm_reads.proofs.CallerLemmas.{names_as}
 use Rattle.lsm_check.proofs.Chosen.{chosen_mergeable, length-chosen}

@@ -1,7 +1,7 @@
 use Rattle.std.proofs.Common.{ℕ, List, map, subst}
 use Rattle.lsm_codec.specs.Lists.{Has}
 use Rattle.lsm_levels.specs.Merging.{Placed}
-use Rattle.lsm_check.proofs.Ages.{merged_judged}
+use Rattle.lsm_check.proofs.AgeLaws.{merged_judged}
 use Rattle.lsm_check.proofs.ages.look_again.Goals as goal
 
 pub returns-in-Ok-against_age-clause-judged : goal.returns-in-Ok-against_age-clause-judged

@@ -4,8 +4,8 @@ use Rattle.lsm_table.specs.Registry.{Table}
 use Rattle.lsm_check.specs.Settled.{AreAged}
 use Rattle.lsm_version.specs.Versions.{files_of}
 use Rattle.lsm_check.proofs.LevelReads.{length_beside}
-use Rattle.lsm_check.proofs.Reaching.{aged_more}
-use Rattle.lsm_check.proofs.Unsettled.{sequences_at}
+use Rattle.lsm_check.proofs.ReachingFiles.{aged_more}
+use Rattle.lsm_check.proofs.UnsettledFiles.{sequences_at}
 use Rattle.lsm_check.proofs.reaching.aged_tables.Goals as goal
 
 pub loop-index-init : goal.loop-index-init

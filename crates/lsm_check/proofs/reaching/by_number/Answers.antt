@@ -1,7 +1,7 @@
 use Rattle.std.proofs.Common.{rules}
 use Rattle.std.proofs.lemmas.List.Sorted.{IsNonDecreasingBy-from_sort_by_key}
 use Rattle.lsm_version.specs.Versions.{files_of}
-use Rattle.lsm_check.proofs.Reaching.{aged_moved}
+use Rattle.lsm_check.proofs.ReachingFiles.{aged_moved}
 use Rattle.lsm_check.proofs.reaching.by_number.Goals as goal
 
 pub returns-clause-ordered : goal.returns-clause-ordered

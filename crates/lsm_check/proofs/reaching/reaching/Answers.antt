@@ -1,6 +1,6 @@
 use Rattle.std.proofs.Common.{ℕ, ◌+◌, max, List, get_or, sym, subst, ap, ◌∙◌}
 use Rattle.lsm_check.specs.declared.aged.Aged.{Aged}
-use Rattle.lsm_check.proofs.Reaching.{Walked, walk_start, walk_past, walk_named, walk_end}
+use Rattle.lsm_check.proofs.ReachingFiles.{Walked, walk_start, walk_past, walk_named, walk_end}
 use Rattle.lsm_check.proofs.reaching.reaching.Goals as goal
 use Rattle.lsm_check.proofs.reaching.reaching.Goals.{then-table-greatest+in_ok-push, else-table-greatest}
 

@@ -1,4 +1,4 @@
-use Rattle.lsm_check.proofs.Reaching.{Walked}
+use Rattle.lsm_check.proofs.ReachingFiles.{Walked}
 use Rattle.lsm_check.proofs.reaching.reaching.Given as goal
 
 abbrev pub invariant-loop-table : goal.invariant-loop-table

@@ -1,7 +1,7 @@
 use Rattle.std.proofs.Common.{ℕ, List, sym, subst}
 use Rattle.lsm_check.specs.Settled.{NamesReaching, NamesUnsettled}
 use Rattle.lsm_check.specs.declared.aged.Aged.{Aged}
-use Rattle.lsm_check.proofs.Reaching.{none_named, reaching_named}
+use Rattle.lsm_check.proofs.ReachingFiles.{none_named, reaching_named}
 use Rattle.lsm_check.proofs.reaching.reaching_tables.Goals as goal
 
 pub returns-then-level-gt0-clause-named : goal.returns-then-level-gt0-clause-named

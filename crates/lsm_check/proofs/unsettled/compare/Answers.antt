@@ -1,6 +1,6 @@
 use Rattle.std.proofs.Common.{◌≡◌, ◌∙◌, ◌++◌, ◌∷◌, [], ℕ, ap}
 use Rattle.lsm_version.specs.Versions.{file_of}
-use Rattle.lsm_check.proofs.Unsettled.{adds_pair}
+use Rattle.lsm_check.proofs.UnsettledFiles.{adds_pair}
 use Rattle.lsm_check.proofs.unsettled.compare.Goals as goal
 
 pub returns-in_ok-push_both : goal.returns-in_ok-push_both

@@ -5,7 +5,7 @@ use Rattle.lsm_check.specs.Settled.{Adds, AreSequences, OneBelow}
 use Rattle.lsm_version.specs.Versions.{file_of}
 use Rattle.lsm_check.specs.declared.sequences.Sequences.{Sequences}
 use Rattle.lsm_version.proofs.CallerLemmas.{level_in-map}
-use Rattle.lsm_check.proofs.Unsettled.{below_more, below_start, level_sequences_at, levels_long}
+use Rattle.lsm_check.proofs.UnsettledFiles.{below_more, below_start, level_sequences_at, levels_long}
 use Rattle.lsm_check.proofs.unsettled.compare_below.Goals as goal
 
 pub loop-deeper-init : goal.loop-deeper-init

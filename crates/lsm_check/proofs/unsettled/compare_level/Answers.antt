@@ -9,8 +9,8 @@ use Rattle.lsm_check.specs.declared.sequences.Sequences.{Sequences}
 use Rattle.lsm_version.proofs.CallerLemmas.{level_in-map}
 use Rattle.lsm_check.proofs.LevelReads.{has_at, length_beside}
 use Rattle.lsm_version.proofs.CallerLemmas.{has_files}
-use Rattle.lsm_check.proofs.Reaching.{settled_before}
-use Rattle.lsm_check.proofs.Unsettled.{level_sequences_at, levels_long, sequences_at, some_more, some_whole}
+use Rattle.lsm_check.proofs.ReachingFiles.{settled_before}
+use Rattle.lsm_check.proofs.UnsettledFiles.{level_sequences_at, levels_long, sequences_at, some_more, some_whole}
 use Rattle.lsm_check.proofs.unsettled.compare_level.Goals as goal
 
 pub bounds-sequences-level : goal.bounds-sequences-level

@@ -3,7 +3,7 @@ use Rattle.lsm_codec.specs.Keys.{UserKey}
 use Rattle.lsm_version.specs.Reads.{begins_by, reaches}
 use Rattle.lsm_version.specs.Versions.{file_of}
 use Rattle.lsm_check.proofs.LevelReads.{length_beside}
-use Rattle.lsm_check.proofs.Unsettled.{against_start, against_more, against_rest, against_whole, sequences_at}
+use Rattle.lsm_check.proofs.UnsettledFiles.{against_start, against_more, against_rest, against_whole, sequences_at}
 use Rattle.lsm_check.proofs.unsettled.compare_with_level.Goals as goal
 
 pub loop-index-init : goal.loop-index-init

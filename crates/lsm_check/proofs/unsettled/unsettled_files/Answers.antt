@@ -3,7 +3,7 @@ use Rattle.std.proofs.lemmas.List.{length-map}
 use Rattle.std.proofs.lemmas.List.Sorted.{IsNonDecreasingBy-from_sort}
 use Rattle.lsm_check.specs.Settled.{Adds, Both, EachBelow}
 use Rattle.lsm_version.specs.Versions.{files_from}
-use Rattle.lsm_check.proofs.Unsettled.{adds_sorted, each_none, each_more, each_whole}
+use Rattle.lsm_check.proofs.UnsettledFiles.{adds_sorted, each_none, each_more, each_whole}
 use Rattle.lsm_check.proofs.unsettled.unsettled_files.Goals as goal
 
 pub loop-level-init : goal.loop-level-init

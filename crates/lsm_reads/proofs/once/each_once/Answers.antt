@@ -2,7 +2,7 @@ use Rattle.std.proofs.Common.{◌≡◌, ℕ, ◌∙◌, ◌++◌, ◌∷◌, []
 use Rattle.std.proofs.lemmas.List.{drop_all}
 use Rattle.lsm_table.specs.Registry.{Table}
 use Rattle.lsm_reads.specs.Runs.{once, is_number}
-use Rattle.lsm_reads.proofs.Runs.{drop_at, once_push, once_skip}
+use Rattle.lsm_reads.proofs.RunLaws.{drop_at, once_push, once_skip}
 use Rattle.lsm_reads.proofs.once.each_once.Goals.{then-not-is_number+in_ok-push, else-not-is_number}
 use Rattle.lsm_reads.proofs.once.each_once.Goals as goal
 

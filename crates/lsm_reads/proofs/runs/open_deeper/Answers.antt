@@ -6,9 +6,9 @@ use Rattle.lsm_codec.specs.Lists.{Has}
 use Rattle.lsm_reads.specs.Unread.{NamesOne}
 use Rattle.lsm_reads.specs.Runs.{IsNumberOf, once}
 use Rattle.lsm_reads.proofs.Opening.{have_entries}
-use Rattle.lsm_reads.proofs.Runs.{once_part}
+use Rattle.lsm_reads.proofs.RunLaws.{once_part}
 use Rattle.lsm_reads.proofs.NamedFiles.{number_within}
-use Rattle.lsm_version.specs.declared.read.unread.Unread.{Unread}
+use Rattle.lsm_reads.specs.declared.unread.Unread.{Unread}
 use Rattle.lsm_reads.proofs.runs.open_deeper.Goals as goal
 
 pub over_by-requires-clause-tables : goal.over_by-requires-clause-tables

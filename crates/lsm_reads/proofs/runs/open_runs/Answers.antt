@@ -11,7 +11,7 @@ use Rattle.lsm_reads.specs.Runs.{AreRunsOf, IsAbove, IsNumberIn}
 use Rattle.lsm_version.specs.Versions.{level_in}
 use Rattle.lsm_version.proofs.CallerLemmas.{level_in-map}
 use Rattle.lsm_reads.proofs.NamedFiles.{named_in, named_level, names_as}
-use Rattle.lsm_reads.proofs.Runs.{runs_shallow, runs_whole, deeper_any}
+use Rattle.lsm_reads.proofs.RunLaws.{runs_shallow, runs_whole, deeper_any}
 use Rattle.lsm_reads.proofs.runs.open_runs.Goals as goal
 
 pub open_shallow-requires-clause-whole : goal.open_shallow-requires-clause-whole

@@ -5,7 +5,7 @@ use Rattle.lsm_codec.specs.Lists.{Has}
 use Rattle.lsm_table.specs.Registry.{Table}
 use Rattle.lsm_table.specs.ReadFault.{ReadCounted}
 use Rattle.lsm_table.proofs.CallerLemmas.{becomes_same, becomes_then, read_counted_later}
-use Rattle.lsm_version.specs.declared.read.unread.Unread.{Unread}
+use Rattle.lsm_reads.specs.declared.unread.Unread.{Unread}
 use Rattle.lsm_levels.specs.Merging.{placed_at}
 use Rattle.lsm_reads.specs.Depths.{AreNumbersOf, newer_count}
 use Rattle.lsm_reads.specs.Unread.{NamesOne}
@@ -14,7 +14,7 @@ use Rattle.lsm_version.specs.Versions.{IsWhole, files_of}
 use Rattle.lsm_reads.proofs.NamedFiles.{named_table, none_named, number_within}
 use Rattle.lsm_reads.proofs.Opening.{have_entries}
 use Rattle.lsm_version.proofs.CallerLemmas.{has_at}
-use Rattle.lsm_reads.proofs.Runs.{runs_none, shallow_more}
+use Rattle.lsm_reads.proofs.RunLaws.{runs_none, shallow_more}
 use Rattle.lsm_reads.proofs.runs.open_shallow.Goals as goal
 
 pub loop-table-init : goal.loop-table-init

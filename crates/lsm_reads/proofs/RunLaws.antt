@@ -15,7 +15,7 @@ use Rattle.lsm_version.specs.Reads.{IsSoundLevel}
 use Rattle.lsm_reads.specs.Runs.{AreRunsOf, IsAbove, is_number, once, entries_after}
 use Rattle.lsm_version.specs.Versions.{IsWhole, file_of, files_of, files_from, level_in}
 use Rattle.lsm_version.proofs.CallerLemmas.{files_has, has_files, file_in, inside, of_level, each_after, ahead_or_same, files_push, push_left, push_last, took, sound_part}
-use Rattle.lsm_reads.proofs.Depths.{depth_more}
+use Rattle.lsm_reads.proofs.DepthOrder.{depth_more}
 
 -- ---- parts of a level
 

@@ -13,7 +13,7 @@ use Rattle.lsm_version.specs.Versions.{file_of, files_of, level_in}
 use Rattle.lsm_check.specs.declared.aged.Aged.{Aged}
 use Rattle.lsm_version.proofs.CallerLemmas.{level_of_files, files_push, took}
 use Rattle.lsm_check.proofs.LevelReads.{has_at}
-use Rattle.lsm_check.proofs.Unsettled.{reach_sequences}
+use Rattle.lsm_check.proofs.UnsettledFiles.{reach_sequences}
 
 -- ---- the tables with their ages
 

@@ -25,7 +25,7 @@ use Rattle.lsm_version.specs.Versions.{files_from, level_in}
 use Rattle.lsm_reads.proofs.CallerLemmas.{shallower_less, less_shallower}
 use Rattle.lsm_version.proofs.CallerLemmas.{file_in, in_files}
 use Rattle.lsm_check.proofs.Chosen.{level_in-chosen}
-use Rattle.lsm_check.proofs.Unsettled.{meets_by, settled_keeps}
+use Rattle.lsm_check.proofs.UnsettledFiles.{meets_by, settled_keeps}
 
 -- ---- files of chosen tables
 
