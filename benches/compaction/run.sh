@@ -14,7 +14,7 @@ trap 'rm -rf "$scratch" "$shared"' EXIT
 bench="$scratch/crates/bench_compaction"
 mkdir -p "$bench/src" "$bench"/proofs/{main,time,copies_of,job_of}
 source "$top/benches/copy_crates.sh"
-copy_crates lsm_merge "$scratch"
+for name in lsm_merge lsm_check lsm_storage; do copy_crates "$name" "$scratch"; done
 cp "$here/compaction.rattle" "$bench/src/main.rt"
 cat > "$bench/proofs/Lib.antt" <<'PROOF'
 mod Wholes
@@ -52,25 +52,23 @@ of-requires-3-clause-whole g c = λ lts lives honest.
     (c.in_ok-upper.ensures ∙ c.level-above.ensures) (c.in_ok-lower.ensures ∙ c.level-below.ensures)
 PROOF
 cat > "$bench/proofs/time/Invariants.antt" <<'PROOF'
-use Rattle.std.specs.Arc.{arc_value}
 use Rattle.lsm_storage.specs.MemoryShelf.{memory_told}
 use Rattle.bench_compaction.proofs.time.Given as goal
 
--- the registry and the contents that were just made
+-- the records and the contents that were just made
 abbrev pub ghosts-measured : goal.ghosts-measured
-ghosts-measured g a = record { registry = arc_value a.registry; place = (memory_told a.shelf).place }
+ghosts-measured g a = record { registry = a.records; place = (memory_told a.shelf).place }
 PROOF
 cat > "$bench/proofs/main/Invariants.antt" <<'PROOF'
-use Rattle.std.specs.Arc.{arc_value}
 use Rattle.lsm_folder.specs.SystemFolder.{system_place}
 use Rattle.lsm_storage.specs.FileShelf.{folder_of}
 use Rattle.bench_compaction.proofs.main.Given as goal
 
--- the registry and the contents that were just made
+-- the records and the contents that were just made
 abbrev pub ghosts-measured : goal.ghosts-measured
-ghosts-measured g a = record { registry = arc_value a.registry; place = system_place (folder_of a.shelf) }
+ghosts-measured g a = record { registry = a.records; place = system_place (folder_of a.shelf) }
 PROOF
-echo 'bench_compaction: lsm_merge lsm_version lsm_merger lsm_reader lsm_table lsm_storage lsm_shelf lsm_folder lsm_block lsm_manifest lsm_levels lsm_codec boxcar' >> "$scratch/crates.txt"
+echo 'bench_compaction: lsm_merge lsm_check lsm_version lsm_merger lsm_reader lsm_table lsm_storage lsm_shelf lsm_folder lsm_block lsm_manifest lsm_levels lsm_codec boxcar' >> "$scratch/crates.txt"
 (cd "$bench" && rt run > "$scratch/first" 2> "$scratch/log" || [[ -x out/bench_compaction ]]) || { cat "$scratch/log" >&2; exit 1; }
 if g++ -O2 -o "$scratch/leveldb" "$here/leveldb.cc" -lleveldb 2> "$scratch/log"; then leveldb=yes; else leveldb=no; fi
 

@@ -14,7 +14,7 @@ trap 'rm -rf "$scratch"' EXIT
 program="$scratch/crates/hostile"
 mkdir -p "$program/src" "$program"/proofs/{main,time_files,scan_lent,copies_of,job_at}
 source "$top/benches/copy_crates.sh"
-copy_crates lsm_merge "$scratch"
+for name in lsm_merge lsm_check lsm_storage; do copy_crates "$name" "$scratch"; done
 cp "$here/hostile.rattle" "$program/src/main.rt"
 cat > "$program/proofs/Lib.antt" <<'PROOF'
 mod Wholes
@@ -59,25 +59,23 @@ abbrev pub invariant-loop : goal.invariant-loop
 invariant-loop g l = (g.S.Shelf.told l.direct.shelf.now).place ≡ g.N.Naming.place
 PROOF
 cat > "$program/proofs/time_files/Invariants.antt" <<'PROOF'
-use Rattle.std.specs.Arc.{arc_value}
 use Rattle.lsm_storage.specs.MemoryShelf.{memory_told}
 use Rattle.hostile.proofs.time_files.Given as goal
 
--- the registry and the contents that were just made
+-- the records and the contents that were just made
 abbrev pub ghosts-measured : goal.ghosts-measured
-ghosts-measured g a = record { registry = arc_value a.registry; place = (memory_told a.shelf).place }
+ghosts-measured g a = record { registry = a.records; place = (memory_told a.shelf).place }
 PROOF
 cat > "$program/proofs/main/Invariants.antt" <<'PROOF'
-use Rattle.std.specs.Arc.{arc_value}
 use Rattle.lsm_folder.specs.SystemFolder.{system_place}
 use Rattle.lsm_storage.specs.FileShelf.{folder_of}
 use Rattle.hostile.proofs.main.Given as goal
 
--- the registry and the contents that were just made
+-- the records and the contents that were just made
 abbrev pub ghosts-measured : goal.ghosts-measured
-ghosts-measured g a = record { registry = arc_value a.registry; place = system_place (folder_of a.shelf) }
+ghosts-measured g a = record { registry = a.records; place = system_place (folder_of a.shelf) }
 PROOF
-echo 'hostile: lsm_merge lsm_version lsm_merger lsm_reader lsm_table lsm_storage lsm_shelf lsm_folder lsm_block lsm_manifest lsm_levels lsm_codec boxcar' >> "$scratch/crates.txt"
+echo 'hostile: lsm_merge lsm_check lsm_reads lsm_version lsm_merger lsm_reader lsm_table lsm_storage lsm_shelf lsm_folder lsm_block lsm_manifest lsm_levels lsm_codec boxcar' >> "$scratch/crates.txt"
 (cd "$program" && rt run > "$scratch/first" 2> "$scratch/log" || [[ -x out/hostile ]]) || { cat "$scratch/log" >&2; exit 1; }
 rustc -O -o "$scratch/make" "$here/make.rs"
 

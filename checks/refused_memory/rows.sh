@@ -22,7 +22,7 @@ build() {
   git -C "$top" ls-files -z crates crates.txt HANDLES | (cd "$top" && xargs -0 cp --parents -t "$scratch")
   cp "$here/rows.rattle" "$scratch/crates/rows/src/main.rt"
   cp "$top/checks/more_tests/lsm_state_tests/src/given.rt.txt" "$scratch/crates/rows/src/given.rt"
-  echo 'rows: lsm_state lsm_batch lsm_merge lsm_slots lsm_pins lsm_table lsm_shelf lsm_codec boxcar' >> "$scratch/crates.txt"
+  echo 'rows: lsm_state lsm_batch lsm_merge lsm_slots lsm_pins lsm_table lsm_storage lsm_shelf lsm_codec boxcar' >> "$scratch/crates.txt"
   (cd "$scratch/crates/rows" && TMPDIR="$scratch/tmp" exec rt try) > "$scratch/tried" 2>&1 &
   copy_module $!
   wait $! || { cat "$scratch/tried" >&2; exit 1; }

@@ -37,7 +37,8 @@ impl Batch {
 
     /// The key gets a value. `AllocError` where a growth was refused; then the batch is as before.
     pub fn put(&mut self, key: Bytes, value: Bytes) -> Result<(), AllocError>
-        ensures ok { OnOk result (self.new ≡ self.old ++ record { key = key; value = Some value } ∷ []) }
+        ensures ok { OnOk result (self.new
+            ≡ self.old ++ record { key = key; value = Some value } ∷ []) }
         ensures err { OnErr result (self.new ≡ self.old) }
     {
         self.writes.push(Write {

@@ -1,6 +1,7 @@
 //! The table of a batch.
 
-ghost use Rattle.std.specs.Prelude.{◌≡◌, ◌≤◌, ◌<◌, ◌+◌, ◌^◌, ◌++◌, ◌∷◌, [], List, length, IfOk, OnOk, Err};
+ghost use Rattle.std.specs.Prelude.{◌≡◌, ◌≤◌, ◌<◌, ◌+◌, ◌^◌, ◌++◌, ◌∷◌, [], List, length, IfOk};
+ghost use Rattle.std.specs.Prelude.{OnOk, Err};
 ghost use Rattle.lsm_codec.specs.Keys.{IsKey};
 ghost use Rattle.lsm_codec.specs.Entries.{Entry, internal_key};
 ghost use Rattle.lsm_codec.specs.KeyRef.{key_of};
@@ -15,16 +16,18 @@ ghost use Rattle.lsm_batch.specs.Images.{IsImage, PassesIn, PassesTable};
 use crate::batch::Batch;
 use crate::image::Image;
 use crate::write::Write;
-use lsm_codec::{Bytes, KeyRef, push_key};
+use lsm_codec::{Bytes, KeyRef};
 use lsm_table::{BuildFault, TableBuilder, TableOptions};
-use std::alloc::{AllocError, Global};
+use std::alloc::Global;
 
 // Adds what is written of a key, at a sequence.
 fn add(builder: &mut TableBuilder, seq: u64, write: &Write) -> Result<(), BuildFault>
     requires room { seq < 2 ^ 56 }
     requires ascends { Ascends (builder.old.entries ++ written_at seq write.now ∷ []) }
-    ensures ok { OnOk result (builder.new ≡ record builder.old { entries = builder.old.entries ++ written_at seq write.now ∷ [] }) }
-    ensures large { result ≡ Err TooLarge → PassesLimit builder.old.options builder.old.entries (written_at seq write.now) }
+    ensures ok { OnOk result (builder.new
+        ≡ record builder.old { entries = builder.old.entries ++ written_at seq write.now ∷ [] }) }
+    ensures large { result ≡ Err TooLarge
+        → PassesLimit builder.old.options builder.old.entries (written_at seq write.now) }
 {
     builder.add(write.key.as_slice(), seq, write.kind(), write.bytes())
 }
@@ -33,22 +36,15 @@ fn add(builder: &mut TableBuilder, seq: u64, write: &Write) -> Result<(), BuildF
 fn add_all(builder: &mut TableBuilder, first: u64, writes: &[Write]) -> Result<(), BuildFault>
     requires room { first + length writes.now ≤ 2 ^ 56 }
     requires ascends { Ascends (builder.old.entries ++ entries_from first writes.now) }
-    ensures ok { OnOk result (builder.new ≡ record builder.old { entries = builder.old.entries ++ entries_from first writes.now }) }
-    ensures large { result ≡ Err TooLarge → PassesIn builder.old.options (builder.old.entries ++ entries_from first writes.now) }
+    ensures ok { OnOk result (builder.new
+        ≡ record builder.old { entries = builder.old.entries ++ entries_from first writes.now }) }
+    ensures large { result ≡ Err TooLarge
+        → PassesIn builder.old.options (builder.old.entries ++ entries_from first writes.now) }
 {
     for (i, write) in writes.iter().enumerate() {
         add(builder, first + i as u64, write)?;
     }
     Ok(())
-}
-
-// The bytes of a key.
-fn bytes_of(alloc: Global, key: &KeyRef<'_>) -> Result<Bytes, AllocError>
-    ensures { IfOk result (λ b. IsKey b (key_of key.now)) }
-{
-    let mut bytes = Vec::new(alloc);
-    push_key(&mut bytes, key.user, key.seq, key.kind)?;
-    Ok(Bytes::of(bytes))
 }
 
 // The last internal key and the bytes of the table of what is written, at sequences one after
@@ -63,15 +59,17 @@ fn table_of(
     requires rises { KeysRise (length writes.now) writes.now }
     requires room { first + length writes.now ≤ 2 ^ 56 }
     requires options { AreInRange options }
-    ensures bytes { IfOk result (λ r. r.1.items ≡ table_bytes options (entries_from first writes.now)) }
+    ensures bytes { IfOk result (λ r.
+        r.1.items ≡ table_bytes options (entries_from first writes.now)) }
     ensures table { IfOk result (λ r. IsTable r.1.items (entries_from first writes.now)) }
-    ensures largest { IfOk result (λ r. (front : List Entry) × (last : Entry) × (entries_from first writes.now ≡ front ++ last ∷ []) × IsKey r.0 (internal_key last)) }
+    ensures largest { IfOk result (λ r. (front : List Entry) × (last : Entry)
+        × (entries_from first writes.now ≡ front ++ last ∷ []) × IsKey r.0 (internal_key last)) }
     ensures large { result ≡ Err TooLarge → PassesTable options (entries_from first writes.now) }
 {
     let mut builder = TableBuilder::new(alloc, options);
     add_all(&mut builder, first, writes)?;
     let largest = match builder.last_key() {
-        Some(key) => bytes_of(alloc, &key)?,
+        Some(key) => key.to_bytes(alloc)?,
         None => unreachable!(),
     };
     Ok((largest, builder.finish()?))
@@ -92,7 +90,8 @@ impl Batch {
         requires batch { IsBatch self.now }
         requires sequences { first + length self.now ≤ 2 ^ 56 }
         requires options { AreInRange options }
-        ensures bytes { IfOk result (λ i. i.bytes ≡ table_bytes options (entries_from first self.now)) }
+        ensures bytes { IfOk result (λ i.
+            i.bytes ≡ table_bytes options (entries_from first self.now)) }
         ensures image { IfOk result (IsImage (entries_from first self.now)) }
         ensures large { result ≡ Err TooLarge → PassesTable options (entries_from first self.now) }
     {
@@ -102,7 +101,7 @@ impl Batch {
             seq: first,
             kind: one.kind(),
         };
-        let smallest = bytes_of(alloc, &key)?;
+        let smallest = key.to_bytes(alloc)?;
         match table_of(alloc, options, first, self.writes.as_slice()) {
             Ok((largest, bytes)) => Ok(Image {
                 smallest,

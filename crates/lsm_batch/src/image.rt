@@ -25,7 +25,8 @@ impl Model for Image {
 
     ghost Value = { Imaged };
 
-    ghost view = { λ i. record { smallest = i.smallest; largest = i.largest; bytes = i.bytes.items } };
+    ghost view = { λ i.
+        record { smallest = i.smallest; largest = i.largest; bytes = i.bytes.items } };
 }
 
 impl Image {
@@ -44,10 +45,14 @@ impl Image {
     ) -> Result<TableRef<N, S>, ShelfFault>
         requires here { (S.told shelf.old).place ≡ N.place }
         ensures table { IfOk result (IsPutAs self number) }
-        ensures told { OnOk result (Becomes (putting number (S.told shelf.old)) (S.told shelf.new)) }
-        ensures counts { OnOk result (((S.told shelf.new).faults ≡ (S.told shelf.old).faults) × ((S.told shelf.new).misses ≡ (S.told shelf.old).misses)) }
-        ensures refused { IfErr result (λ e. IsPutRefusal number e (S.told shelf.old) (S.told shelf.new)) }
-        ensures asked { IfErr result (IsWantOr (S.refuses (S.told shelf.old).place (Put number self.bytes))) }
+        ensures told { OnOk result
+            (Becomes (putting number (S.told shelf.old)) (S.told shelf.new)) }
+        ensures counts { OnOk result (((S.told shelf.new).faults ≡ (S.told shelf.old).faults)
+            × ((S.told shelf.new).misses ≡ (S.told shelf.old).misses)) }
+        ensures refused { IfErr result (λ e.
+            IsPutRefusal number e (S.told shelf.old) (S.told shelf.new)) }
+        ensures asked { IfErr result
+            (IsWantOr (S.refuses (S.told shelf.old).place (Put number self.bytes))) }
     {
         let Image {
             smallest,

@@ -1,7 +1,8 @@
 //! The limits of a batch, and the order of its keys.
 
 ghost use Rattle.std.specs.Prelude.{◌≡◌, ◌↔◌, ◌<◌, ◌^◌, length, IsTrue, IfSome, IfNone};
-ghost use Rattle.lsm_batch.specs.Batches.{IsLarge, IsLess, IsMisplaced, IsTooLarge, KeysRise, size_of};
+ghost use Rattle.lsm_batch.specs.Batches.{IsLarge, IsLess, IsMisplaced, IsTooLarge, KeysRise};
+ghost use Rattle.lsm_batch.specs.Batches.{size_of};
 
 use crate::write::Write;
 

@@ -33,7 +33,8 @@ impl Model for Block {
 
     ghost view = { λ b. text_and_entries (take b.text_len b.bytes.items) };
 
-    ghost invariant = { λ b. Holds b.bytes.items b.text_len (text_and_entries (take b.text_len b.bytes.items)).entries };
+    ghost invariant = { λ b.
+        Holds b.bytes.items b.text_len (text_and_entries (take b.text_len b.bytes.items)).entries };
 }
 
 impl Block {
@@ -43,7 +44,8 @@ impl Block {
         // What is read is the block's.
         ensures found { IfOk result (λ b. IsBlock bytes.items b.entries) }
         // What is a block is read, unless memory runs out.
-        ensures only { (es : List Entry) → IsBlock bytes.items es → Gives is_memory (λ b. b.entries) result (Ok es) }
+        ensures only { (es : List Entry) → IsBlock bytes.items es
+            → Gives is_memory (λ b. b.entries) result (Ok es) }
         // Which fault it is.
         ensures exact { Gives is_memory (λ b. b.entries) result (block_at bytes.items) }
         // It is the block of just these bytes.
@@ -65,7 +67,8 @@ impl Block {
 
     /// A cursor at the first entry that is not below the key.
     pub fn seek(&self, alloc: Global, key: &KeyRef<'_>) -> Result<Cursor, AllocError>
-        ensures { IfOk result (λ c. rest_of self.now c ≡ not_below (key_of key.now) self.now.entries) }
+        ensures { IfOk result (λ c.
+            rest_of self.now c ≡ not_below (key_of key.now) self.now.entries) }
     {
         let mut cursor = Cursor::start(alloc);
         self.as_ref().seek(&mut cursor, key)?;

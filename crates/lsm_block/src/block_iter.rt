@@ -5,7 +5,8 @@ ghost use Rattle.std.specs.Option.{option_map};
 ghost use Rattle.std.specs.Arc.{arc_value};
 ghost use Rattle.lsm_codec.specs.KeyRef.{key_of};
 ghost use Rattle.lsm_block.specs.Seeking.{not_below};
-ghost use Rattle.lsm_block.specs.Standing.{StepsTo, IsMovedBy, SharesFront, but_first, is_end, key_of_first, user_of_last, value_of_first};
+ghost use Rattle.lsm_block.specs.Standing.{StepsTo, IsMovedBy, SharesFront, but_first, is_end};
+ghost use Rattle.lsm_block.specs.Standing.{key_of_first, user_of_last, value_of_first};
 
 use crate::block::Block;
 use crate::cursor::Cursor;
@@ -43,8 +44,10 @@ impl Model for BlockIter {
 /// Goes to the next entry, and tells the length of its value and how many bytes of its user key are
 /// those of the user key before it; stays where there is none. An `Err` leaves the cursor.
 fn step(block: &Block, cursor: &mut Cursor) -> Result<Option<(usize, usize)>, AllocError>
-    ensures steps { IfOk result (λ r. StepsTo block.now cursor.old cursor.new (option_map (λ p. p.0) r)) }
-    ensures shared { IfOk result (λ r. IfSome r (λ p. SharesFront p.1 (user_of_last cursor.old.last) (user_of_last cursor.new.last))) }
+    ensures steps { IfOk result (λ r.
+        StepsTo block.now cursor.old cursor.new (option_map (λ p. p.0) r)) }
+    ensures shared { IfOk result (λ r. IfSome r (λ p.
+        SharesFront p.1 (user_of_last cursor.old.last) (user_of_last cursor.new.last))) }
     ensures err { OnErr result (cursor.new ≡ cursor.old) }
 {
     let (value, shared) = block.as_ref().step(cursor)?;

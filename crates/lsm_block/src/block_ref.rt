@@ -1,6 +1,7 @@
 //! A block whose bytes lie elsewhere.
 
-ghost use Rattle.std.specs.Prelude.{◌≡◌, ◌≤◌, ℕ, List, [], None, length, take, IfOk, OnOk, OnErr, Ok};
+ghost use Rattle.std.specs.Prelude.{◌≡◌, ◌≤◌, ℕ, List, [], None, length, take, IfOk, OnOk, OnErr};
+ghost use Rattle.std.specs.Prelude.{Ok};
 ghost use Rattle.std.specs.Option.{option_map};
 ghost use Rattle.lsm_block.specs.Fault.{is_memory};
 ghost use Rattle.lsm_codec.specs.KeyRef.{key_of};
@@ -9,7 +10,8 @@ ghost use Rattle.lsm_block.specs.Seeking.{not_below};
 ghost use Rattle.lsm_codec.specs.Entries.{Entry};
 ghost use Rattle.lsm_block.specs.Reading.{block_at};
 ghost use Rattle.lsm_codec.specs.Gives.{Gives};
-ghost use Rattle.lsm_block.specs.Held.{Holds, rest_of, last_after, text_and_entries, held, block_in, Given};
+ghost use Rattle.lsm_block.specs.Held.{Holds, rest_of, last_after, text_and_entries, held};
+ghost use Rattle.lsm_block.specs.Held.{block_in, Given};
 ghost use Rattle.lsm_block.specs.Standing.{Stands, SharesFront, bytes_before, user_of_last};
 
 use crate::check::parts;
@@ -35,7 +37,8 @@ impl<'a> Model for BlockRef<'a> {
 
     ghost view = { λ b. text_and_entries b.text.now };
 
-    ghost invariant = { λ b. ArePartsOf b.text.now b.offsets.now (text_and_entries b.text.now).entries };
+    ghost invariant = { λ b.
+        ArePartsOf b.text.now b.offsets.now (text_and_entries b.text.now).entries };
 }
 
 impl<'a> BlockRef<'a> {
@@ -56,7 +59,8 @@ impl<'a> BlockRef<'a> {
     /// entry. An `Err` sets it before the first entry.
     pub fn check(bytes: &'a [u8], cursor: &mut Cursor) -> Result<BlockRef<'a>, BlockFault>
         ensures found { IfOk result (λ b. IsBlock bytes.now b.entries) }
-        ensures only { (es : List Entry) → IsBlock bytes.now es → Gives is_memory (λ b. b.entries) result (Ok es) }
+        ensures only { (es : List Entry) → IsBlock bytes.now es
+            → Gives is_memory (λ b. b.entries) result (Ok es) }
         ensures exact { Gives is_memory (λ b. b.entries) result (block_at bytes.now) }
         ensures block { IfOk result (λ b. b ≡ block_in bytes.now) }
         ensures last { IfOk result (λ b. cursor.new.last ≡ last_after None b.entries) }
@@ -92,7 +96,8 @@ impl<'a> BlockRef<'a> {
     /// Sets the cursor before the first entry that is not below the key. An `Err` sets it before
     /// the first entry.
     pub fn seek(&self, cursor: &mut Cursor, key: &KeyRef<'_>) -> Result<(), AllocError>
-        ensures found { OnOk result (rest_of self.now cursor.new ≡ not_below (key_of key.now) self.now.entries) }
+        ensures found { OnOk result (rest_of self.now cursor.new
+            ≡ not_below (key_of key.now) self.now.entries) }
         ensures err { OnErr result (cursor.new ≡ record { offset = 0; last = None }) }
     {
         cursor.seek_in(self.text, self.offsets, key)
@@ -101,9 +106,11 @@ impl<'a> BlockRef<'a> {
     /// Goes to the next entry, and lends its value; `Cursor::key` then lends its key. An `Err`
     /// leaves the cursor.
     pub fn next(&self, cursor: &mut Cursor) -> Result<Option<&'a [u8]>, AllocError>
-        ensures given { IfOk result (λ r. Given self.now cursor.old cursor.new (option_map (λ v. v.now) r)) }
+        ensures given { IfOk result (λ r.
+            Given self.now cursor.old cursor.new (option_map (λ v. v.now) r)) }
         // Where no entry is left it stays, and else the value ends where it stands.
-        ensures stands { IfOk result (λ r. Stands self.now.text cursor.old cursor.new (option_map (λ v. v.now) r)) }
+        ensures stands { IfOk result (λ r.
+            Stands self.now.text cursor.old cursor.new (option_map (λ v. v.now) r)) }
         ensures err { OnErr result (cursor.new ≡ cursor.old) }
     {
         cursor.next_in(self.text)
@@ -112,9 +119,12 @@ impl<'a> BlockRef<'a> {
     /// The same, and tells how many bytes of its user key are those of the user key before it, as
     /// far as the block spells them once.
     pub(crate) fn step(&self, cursor: &mut Cursor) -> Result<(Option<&'a [u8]>, usize), AllocError>
-        ensures given { IfOk result (λ r. Given self.now cursor.old cursor.new (option_map (λ v. v.now) r.0)) }
-        ensures stands { IfOk result (λ r. Stands self.now.text cursor.old cursor.new (option_map (λ v. v.now) r.0)) }
-        ensures shared { IfOk result (λ r. SharesFront r.1 (user_of_last cursor.old.last) (user_of_last cursor.new.last)) }
+        ensures given { IfOk result (λ r.
+            Given self.now cursor.old cursor.new (option_map (λ v. v.now) r.0)) }
+        ensures stands { IfOk result (λ r.
+            Stands self.now.text cursor.old cursor.new (option_map (λ v. v.now) r.0)) }
+        ensures shared { IfOk result (λ r.
+            SharesFront r.1 (user_of_last cursor.old.last) (user_of_last cursor.new.last)) }
         ensures err { OnErr result (cursor.new ≡ cursor.old) }
     {
         cursor.step_in(self.text)

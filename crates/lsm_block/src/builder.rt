@@ -1,12 +1,14 @@
 //! A block that is being built.
 
-ghost use Rattle.std.specs.Prelude.{◌≡◌, ℕ, ◌<◌, ◌≤◌, ◌^◌, List, [], ◌∷◌, ◌++◌, length, true, IfOk, OnOk, OnErr, Err};
+ghost use Rattle.std.specs.Prelude.{◌≡◌, ℕ, ◌<◌, ◌≤◌, ◌^◌, List, [], ◌∷◌, ◌++◌, length, true, IfOk};
+ghost use Rattle.std.specs.Prelude.{OnOk, OnErr, Err};
 ghost use Rattle.lsm_codec.specs.KeyRef.{key_of};
 ghost use Rattle.lsm_codec.specs.Entries.{Entry};
 ghost use Rattle.lsm_block.specs.Block.{IsBlock, Ascends, entry_of};
 ghost use Rattle.lsm_block.specs.Building.{Building, block_bytes, last_key, after_last};
 ghost use Rattle.std.specs.Option.{option_map};
-ghost use Rattle.lsm_block.specs.declared.build_fault.BuildFault.TheVariants.{OutOfMemory, TooLarge};
+ghost use Rattle.lsm_block.specs.declared.build_fault.BuildFault.TheVariants.{OutOfMemory};
+ghost use Rattle.lsm_block.specs.declared.build_fault.BuildFault.TheVariants.{TooLarge};
 
 use crate::build_fault::BuildFault;
 use crate::entry_text::{grown_size, is_later, push_block, push_entry, shared_with};
@@ -36,7 +38,8 @@ impl Model for BlockBuilder {
 
     ghost view = { λ b. record { interval = b.interval; entries = entries_in b.text.items } };
 
-    ghost invariant = { λ b. Built b.interval (entries_in b.text.items) b.text.items b.offsets.items b.last.items b.count };
+    ghost invariant = { λ b. Built b.interval (entries_in b.text.items) b.text.items b.offsets.items
+        b.last.items b.count };
 }
 
 impl BlockBuilder {
@@ -67,8 +70,11 @@ impl BlockBuilder {
     /// where it would have as many or more. So `add` answers `TooLarge` just where this is above
     /// 2^32 - 1.
     pub fn size_with(&self, key: &KeyRef<'_>, value: &[u8]) -> u64
-        ensures exact { length (block_bytes self.now.interval (self.now.entries ++ entry_of (key_of key.now) value.now ∷ [])) < 2 ^ 32 → result ≡ length (block_bytes self.now.interval (self.now.entries ++ entry_of (key_of key.now) value.now ∷ [])) }
-        ensures over { 2 ^ 32 ≤ length (block_bytes self.now.interval (self.now.entries ++ entry_of (key_of key.now) value.now ∷ [])) → 2 ^ 32 ≤ result }
+        ensures exact { length (block_bytes self.now.interval (self.now.entries
+            ++ entry_of (key_of key.now) value.now ∷ [])) < 2 ^ 32 → result ≡ length (block_bytes
+            self.now.interval (self.now.entries ++ entry_of (key_of key.now) value.now ∷ [])) }
+        ensures over { 2 ^ 32 ≤ length (block_bytes self.now.interval
+            (self.now.entries ++ entry_of (key_of key.now) value.now ∷ [])) → 2 ^ 32 ≤ result }
     {
         let shared = shared_with(self.interval, self.count, &self.last, key);
         let later = is_later(self.interval, self.count);
@@ -96,7 +102,8 @@ impl BlockBuilder {
     /// Whether an entry of this key may be added: it stands after the last one.
     pub fn comes_last(&self, key: &KeyRef<'_>) -> bool
         ensures exact { result ≡ after_last (last_key self.now.entries) (key_of key.now) }
-        ensures ascends { result ≡ true → (value : List ℕ) → Ascends (self.now.entries ++ entry_of (key_of key.now) value ∷ []) }
+        ensures ascends { result ≡ true → (value : List ℕ)
+            → Ascends (self.now.entries ++ entry_of (key_of key.now) value ∷ []) }
     {
         // Reads the field, so that the type's invariant is at hand.
         let _text = &self.text;
@@ -110,11 +117,17 @@ impl BlockBuilder {
     /// `Err` leaves the builder as it was.
     pub fn add(&mut self, key: &KeyRef<'_>, value: &[u8]) -> Result<(), BuildFault>
         requires ascends { Ascends (self.old.entries ++ entry_of (key_of key.now) value.now ∷ []) }
-        ensures ok { OnOk result (self.new ≡ record { interval = self.old.interval; entries = self.old.entries ++ entry_of (key_of key.now) value.now ∷ [] }) }
-        ensures fits { OnOk result (length (block_bytes self.new.interval self.new.entries) < 2 ^ 32) }
+        ensures ok { OnOk result (self.new ≡ record {
+          interval = self.old.interval;
+          entries = self.old.entries ++ entry_of (key_of key.now) value.now ∷ [];
+        }) }
+        ensures fits { OnOk result (length (block_bytes self.new.interval self.new.entries)
+            < 2 ^ 32) }
         ensures err { OnErr result (self.new ≡ self.old) }
-        ensures large { result ≡ Err TooLarge → 2 ^ 32 ≤ length (block_bytes self.old.interval (self.old.entries ++ entry_of (key_of key.now) value.now ∷ [])) }
-        ensures over { 2 ^ 32 ≤ length (block_bytes self.old.interval (self.old.entries ++ entry_of (key_of key.now) value.now ∷ [])) → result ≡ Err TooLarge }
+        ensures large { result ≡ Err TooLarge → 2 ^ 32 ≤ length (block_bytes self.old.interval
+            (self.old.entries ++ entry_of (key_of key.now) value.now ∷ [])) }
+        ensures over { 2 ^ 32 ≤ length (block_bytes self.old.interval (self.old.entries
+            ++ entry_of (key_of key.now) value.now ∷ [])) → result ≡ Err TooLarge }
     {
         let shared = shared_with(self.interval, self.count, &self.last, key);
         let later = is_later(self.interval, self.count);
@@ -148,7 +161,8 @@ impl BlockBuilder {
 
     /// Appends the block of the entries. An `Err` leaves the contents of `out` as they were.
     pub fn write_to(&self, out: &mut Vec<u8>) -> Result<(), AllocError>
-        ensures ok { OnOk result (out.new.items ≡ out.old.items ++ block_bytes self.now.interval self.now.entries) }
+        ensures ok { OnOk result (out.new.items
+            ≡ out.old.items ++ block_bytes self.now.interval self.now.entries) }
         ensures block { IsBlock (block_bytes self.now.interval self.now.entries) self.now.entries }
         ensures err { OnErr result (out.new.items ≡ out.old.items) }
     {

@@ -1,6 +1,7 @@
 //! A position in a block.
 
-ghost use Rattle.std.specs.Prelude.{◌≡◌, ◌≤◌, ℕ, List, None, length, take, IfOk, IfErr, OnOk, OnErr};
+ghost use Rattle.std.specs.Prelude.{◌≡◌, ◌≤◌, ℕ, List, None, length, take, IfOk, IfErr, OnOk};
+ghost use Rattle.std.specs.Prelude.{OnErr};
 ghost use Rattle.std.specs.Option.{option_map};
 ghost use Rattle.lsm_block.specs.Fault.{is_memory};
 ghost use Rattle.lsm_codec.specs.KeyRef.{key_of};
@@ -72,9 +73,11 @@ impl Cursor {
     /// Goes to the next entry of a block, and lends its value; `key` then lends its key. An `Err`
     /// leaves the cursor.
     pub fn next<'b>(&mut self, block: &'b Block) -> Result<Option<&'b [u8]>, AllocError>
-        ensures given { IfOk result (λ r. Given block.now self.old self.new (option_map (λ v. v.now) r)) }
+        ensures given { IfOk result (λ r.
+            Given block.now self.old self.new (option_map (λ v. v.now) r)) }
         // Where no entry is left it stays, and else the value ends where it stands.
-        ensures stands { IfOk result (λ r. Stands block.now.text self.old self.new (option_map (λ v. v.now) r)) }
+        ensures stands { IfOk result (λ r.
+            Stands block.now.text self.old self.new (option_map (λ v. v.now) r)) }
         ensures err { OnErr result (self.new ≡ self.old) }
     {
         block.as_ref().next(self)
@@ -93,9 +96,13 @@ impl Cursor {
     /// Judges bytes, and goes after their last entry; how long the text of the entries is comes
     /// back. An `Err` goes before the first entry.
     pub(crate) fn judge(&mut self, bytes: &[u8]) -> Result<usize, BlockFault>
-        ensures holds { IfOk result (λ n. Holds bytes.now n (text_and_entries (take n bytes.now)).entries) }
+        ensures holds { IfOk result (λ n.
+            Holds bytes.now n (text_and_entries (take n bytes.now)).entries) }
         ensures fault { IfErr result (λ f. Fails is_memory f (block_at bytes.now)) }
-        ensures last { IfOk result (λ n. self.new ≡ record { offset = n; last = last_after None (text_and_entries (take n bytes.now)).entries }) }
+        ensures last { IfOk result (λ n. self.new ≡ record {
+          offset = n;
+          last = last_after None (text_and_entries (take n bytes.now)).entries;
+        }) }
         ensures err { OnErr result (self.new ≡ record { offset = 0; last = None }) }
     {
         self.restart();
@@ -119,7 +126,8 @@ impl Cursor {
         key: &KeyRef<'_>,
     ) -> Result<(), AllocError>
         requires { 4 ≤ length offsets.now }
-        ensures found { OnOk result ((es : List Entry) → ArePartsOf text.now offsets.now es → rest_of (text_and_entries text.now) self.new ≡ not_below (key_of key.now) es) }
+        ensures found { OnOk result ((es : List Entry) → ArePartsOf text.now offsets.now es
+            → rest_of (text_and_entries text.now) self.new ≡ not_below (key_of key.now) es) }
         ensures err { OnErr result (self.new ≡ record { offset = 0; last = None }) }
     {
         self.restart();
@@ -139,8 +147,10 @@ impl Cursor {
     /// Goes to the next entry of a text of entries, and lends its value. An `Err` leaves the
     /// cursor.
     pub(crate) fn next_in<'b>(&mut self, text: &'b [u8]) -> Result<Option<&'b [u8]>, AllocError>
-        ensures given { IfOk result (λ r. Given (text_and_entries text.now) self.old self.new (option_map (λ v. v.now) r)) }
-        ensures stands { IfOk result (λ r. Stands text.now self.old self.new (option_map (λ v. v.now) r)) }
+        ensures given { IfOk result (λ r.
+            Given (text_and_entries text.now) self.old self.new (option_map (λ v. v.now) r)) }
+        ensures stands { IfOk result (λ r.
+            Stands text.now self.old self.new (option_map (λ v. v.now) r)) }
         ensures err { OnErr result (self.new ≡ self.old) }
     {
         let (value, _) = self.step_in(text)?;
@@ -153,9 +163,12 @@ impl Cursor {
         &mut self,
         text: &'b [u8],
     ) -> Result<(Option<&'b [u8]>, usize), AllocError>
-        ensures given { IfOk result (λ r. Given (text_and_entries text.now) self.old self.new (option_map (λ v. v.now) r.0)) }
-        ensures stands { IfOk result (λ r. Stands text.now self.old self.new (option_map (λ v. v.now) r.0)) }
-        ensures shared { IfOk result (λ r. SharesFront r.1 (user_of_last self.old.last) (user_of_last self.new.last)) }
+        ensures given { IfOk result (λ r.
+            Given (text_and_entries text.now) self.old self.new (option_map (λ v. v.now) r.0)) }
+        ensures stands { IfOk result (λ r.
+            Stands text.now self.old self.new (option_map (λ v. v.now) r.0)) }
+        ensures shared { IfOk result (λ r.
+            SharesFront r.1 (user_of_last self.old.last) (user_of_last self.new.last)) }
         ensures err { OnErr result (self.new ≡ self.old) }
     {
         let before_len = self.before.as_slice().len();

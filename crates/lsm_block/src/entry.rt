@@ -70,9 +70,11 @@ impl<'a> RawEntry<'a> {
         len: u32,
         rest: &'a [u8],
     ) -> Option<RawEntry<'a>>
-        ensures reads { option_map (raw_seen before.now) result ≡ option_map seen (piece_of before.now shared unshared len rest.now) }
+        ensures reads { option_map (raw_seen before.now) result
+            ≡ option_map seen (piece_of before.now shared unshared len rest.now) }
         ensures within { IfSome result (λ e. e.shared ≤ length before.now) }
-        ensures kept { IfSome result (λ e. IsKey (raw_key before.now e) (key_at (raw_key before.now e))) }
+        ensures kept { IfSome result (λ e.
+            IsKey (raw_key before.now e) (key_at (raw_key before.now e))) }
     {
         if shared as usize > before.len() {
             return None;
@@ -96,9 +98,11 @@ impl<'a> RawEntry<'a> {
     /// The entry at the front of a text, after the key before it, if one can be read.
     #[tactic(auto, unfolding(crate::specs::Reading::entry_at))]
     pub(crate) fn read(before: &[u8], text: &'a [u8]) -> Option<RawEntry<'a>>
-        ensures reads { option_map (raw_seen before.now) result ≡ option_map seen (entry_at before.now text.now) }
+        ensures reads { option_map (raw_seen before.now) result
+            ≡ option_map seen (entry_at before.now text.now) }
         ensures within { IfSome result (λ e. e.shared ≤ length before.now) }
-        ensures kept { IfSome result (λ e. IsKey (raw_key before.now e) (key_at (raw_key before.now e))) }
+        ensures kept { IfSome result (λ e.
+            IsKey (raw_key before.now e) (key_at (raw_key before.now e))) }
     {
         let (shared, unshared, len, rest) = numbers(text)?;
         RawEntry::of(before, shared, unshared, len, rest)

@@ -5,13 +5,15 @@
 //! shared | unshared | value's length | unshared key bytes | value
 //! ```
 
-ghost use Rattle.std.specs.Prelude.{◌≡◌, ℕ, ◌+◌, ◌/◌, ◌^◌, ◌<◌, ◌≤◌, ◌++◌, List, length, take, drop, vec_len, OnOk, OnErr};
+ghost use Rattle.std.specs.Prelude.{◌≡◌, ℕ, ◌+◌, ◌/◌, ◌^◌, ◌<◌, ◌≤◌, ◌++◌, List, length, take};
+ghost use Rattle.std.specs.Prelude.{drop, vec_len, OnOk, OnErr};
 ghost use Rattle.std.specs.Int.{w32, w64, to_le_bytes};
 ghost use Rattle.std.specs.List.{flat_map};
 ghost use Rattle.lsm_codec.specs.Varint.{varint32, shortest};
 ghost use Rattle.lsm_codec.specs.Keys.{key_bytes};
 ghost use Rattle.lsm_codec.specs.KeyRef.{key_of};
-ghost use Rattle.lsm_block.specs.Building.{common, offset_if, parts_text, grown_len, is_restart, is_later_restart, shared_at};
+ghost use Rattle.lsm_block.specs.Building.{common, offset_if, parts_text, grown_len, is_restart};
+ghost use Rattle.lsm_block.specs.Building.{is_later_restart, shared_at};
 
 use lsm_codec::{KeyRef, put_varint32};
 use std::alloc::AllocError;
@@ -108,8 +110,10 @@ pub(crate) fn grown_size(
     requires text { text < 2 ^ 32 }
     requires offsets { offsets < 2 ^ 32 }
     requires shared { shared < 2 ^ 32 }
-    ensures exact { grown_len text offsets restarts shared unshared value < 2 ^ 32 → result ≡ grown_len text offsets restarts shared unshared value }
-    ensures over { 2 ^ 32 ≤ grown_len text offsets restarts shared unshared value → 2 ^ 32 ≤ result }
+    ensures exact { grown_len text offsets restarts shared unshared value < 2 ^ 32
+        → result ≡ grown_len text offsets restarts shared unshared value }
+    ensures over { 2 ^ 32 ≤ grown_len text offsets restarts shared unshared value
+        → 2 ^ 32 ≤ result }
 {
     if unshared > u32::MAX as usize || value > u32::MAX as usize {
         return u64::MAX;
@@ -132,7 +136,8 @@ fn push_parts(
 ) -> Result<(), AllocError>
     requires unshared { length unshared.now < 2 ^ 32 }
     requires value { length value.now < 2 ^ 32 }
-    ensures ok { OnOk result (out.new.items ≡ out.old.items ++ parts_text shared unshared.now value.now) }
+    ensures ok { OnOk result (out.new.items
+        ≡ out.old.items ++ parts_text shared unshared.now value.now) }
     ensures front { take (vec_len out.old) out.new.items ≡ out.old.items }
 {
     put_varint32(out, shared)?;
@@ -156,8 +161,10 @@ pub(crate) fn push_entry(
     requires text { length text.old.items < 2 ^ 32 }
     requires unshared { length unshared.now < 2 ^ 32 }
     requires value { length value.now < 2 ^ 32 }
-    ensures ok { OnOk result (text.new.items ≡ text.old.items ++ parts_text shared unshared.now value.now) }
-    ensures offsets { OnOk result (offsets.new.items ≡ offsets.old.items ++ flat_map (to_le_bytes w32) (offset_if restarts (length text.old.items))) }
+    ensures ok { OnOk result (text.new.items
+        ≡ text.old.items ++ parts_text shared unshared.now value.now) }
+    ensures offsets { OnOk result (offsets.new.items ≡ offsets.old.items
+        ++ flat_map (to_le_bytes w32) (offset_if restarts (length text.old.items))) }
     ensures err { OnErr result (text.new.items ≡ text.old.items) }
     ensures err_offsets { OnErr result (offsets.new.items ≡ offsets.old.items) }
 {
@@ -185,7 +192,8 @@ pub(crate) fn push_entry(
 /// Appends the parts of a block. After an `Err` some of them may stand there.
 fn push_block_parts(out: &mut Vec<u8>, text: &[u8], offsets: &[u8]) -> Result<(), AllocError>
     requires { length offsets.now < 2 ^ 32 }
-    ensures ok { OnOk result (out.new.items ≡ out.old.items ++ (text.now ++ (to_le_bytes w32 0 ++ (offsets.now ++ to_le_bytes w32 (length offsets.now / 4 + 1))))) }
+    ensures ok { OnOk result (out.new.items ≡ out.old.items ++ (text.now
+        ++ (to_le_bytes w32 0 ++ (offsets.now ++ to_le_bytes w32 (length offsets.now / 4 + 1))))) }
     ensures front { take (vec_len out.old) out.new.items ≡ out.old.items }
 {
     out.extend_from_slice(text)?;
@@ -198,7 +206,8 @@ fn push_block_parts(out: &mut Vec<u8>, text: &[u8], offsets: &[u8]) -> Result<()
 /// Appends a block by its parts. An `Err` leaves the contents as they were.
 pub(crate) fn push_block(out: &mut Vec<u8>, text: &[u8], offsets: &[u8]) -> Result<(), AllocError>
     requires { length offsets.now < 2 ^ 32 }
-    ensures ok { OnOk result (out.new.items ≡ out.old.items ++ (text.now ++ (to_le_bytes w32 0 ++ (offsets.now ++ to_le_bytes w32 (length offsets.now / 4 + 1))))) }
+    ensures ok { OnOk result (out.new.items ≡ out.old.items ++ (text.now
+        ++ (to_le_bytes w32 0 ++ (offsets.now ++ to_le_bytes w32 (length offsets.now / 4 + 1))))) }
     ensures err { OnErr result (out.new.items ≡ out.old.items) }
 {
     let len = out.len();

@@ -1,10 +1,12 @@
 //! Going through the entries of a block, and the search for a key.
 
-ghost use Rattle.std.specs.Prelude.{◌≡◌, [], ◌*◌, ◌+◌, ◌/◌, ◌≤◌, ◌<◌, ℕ, List, length, drop, false, IfOk, OnErr};
+ghost use Rattle.std.specs.Prelude.{◌≡◌, [], ◌*◌, ◌+◌, ◌/◌, ◌≤◌, ◌<◌, ℕ, List, length, drop, false};
+ghost use Rattle.std.specs.Prelude.{IfOk, OnErr};
 ghost use Rattle.std.specs.Option.{option_map};
 ghost use Rattle.lsm_codec.specs.KeyRef.{key_of};
 ghost use Rattle.lsm_codec.specs.Entries.{Entry};
-ghost use Rattle.lsm_block.specs.Seeking.{readable, not_below, word_of, ArePartsOf, starts_below, StartsSearch, Steps};
+ghost use Rattle.lsm_block.specs.Seeking.{readable, not_below, word_of, ArePartsOf, starts_below};
+ghost use Rattle.lsm_block.specs.Seeking.{StartsSearch, Steps};
 ghost use Rattle.lsm_block.specs.Held.{Kept, last_of};
 ghost use Rattle.lsm_block.specs.Standing.{StepStands, SharesFront};
 
@@ -50,8 +52,12 @@ fn starts_below(text: &[u8], restart: usize, key: &KeyRef<'_>) -> bool
 pub(crate) fn find_restart(text: &[u8], offsets: &[u8], key: &KeyRef<'_>) -> usize
     requires { 4 ≤ length offsets.now }
     ensures restart { StartsSearch text.now offsets.now (key_of key.now) result }
-    ensures same { (es : List Entry) → ArePartsOf text.now offsets.now es → not_below (key_of key.now) (readable (length text.now) [] (drop result text.now)) ≡ not_below (key_of key.now) es }
-    ensures last { (es : List Entry) → ArePartsOf text.now offsets.now es → (i : ℕ) → i < length offsets.now / 4 → result < word_of offsets.now i → starts_below text.now (word_of offsets.now i) (key_of key.now) ≡ false }
+    ensures same { (es : List Entry) → ArePartsOf text.now offsets.now es
+        → not_below (key_of key.now) (readable (length text.now) [] (drop result text.now))
+        ≡ not_below (key_of key.now) es }
+    ensures last { (es : List Entry) → ArePartsOf text.now offsets.now es → (i : ℕ)
+        → i < length offsets.now / 4 → result < word_of offsets.now i
+        → starts_below text.now (word_of offsets.now i) (key_of key.now) ≡ false }
 {
     let mut low: usize = 0;
     let mut high: usize = offsets.len() / 4 - 1;
@@ -75,7 +81,8 @@ pub(crate) fn scan_to(
     before: &mut Vec<u8>,
 ) -> Result<usize, AllocError>
     requires { before.old.items ≡ [] }
-    ensures found { IfOk result (λ o. readable (length text.now) before.new.items (drop o text.now) ≡ not_below (key_of key.now) (readable (length text.now) [] (drop start text.now))) }
+    ensures found { IfOk result (λ o. readable (length text.now) before.new.items (drop o text.now)
+        ≡ not_below (key_of key.now) (readable (length text.now) [] (drop start text.now))) }
     ensures kept { IfOk result (λ _. Kept (last_of before.new.items) before.new.items) }
 {
     let mut offset = start;
@@ -103,8 +110,10 @@ pub(crate) fn step<'b>(
     before: &mut Vec<u8>,
 ) -> Result<(Option<&'b [u8]>, usize, usize), AllocError>
     requires { Kept (last_of before.old.items) before.old.items }
-    ensures steps { IfOk result (λ r. Steps text.now offset before.old.items r.1 before.new.items (option_map (λ v. v.now) r.0)) }
-    ensures stands { IfOk result (λ r. StepStands text.now offset before.old.items r.1 before.new.items (option_map (λ v. v.now) r.0)) }
+    ensures steps { IfOk result (λ r.
+        Steps text.now offset before.old.items r.1 before.new.items (option_map (λ v. v.now) r.0)) }
+    ensures stands { IfOk result (λ r. StepStands text.now offset before.old.items r.1
+        before.new.items (option_map (λ v. v.now) r.0)) }
     ensures shared { IfOk result (λ r. SharesFront r.2 before.old.items before.new.items) }
     ensures kept { Kept (last_of before.new.items) before.new.items }
     ensures err { OnErr result (before.new.items ≡ before.old.items) }

@@ -1,6 +1,7 @@
 //! A key that shares its front with the key before it.
 
-ghost use Rattle.std.specs.Prelude.{◌≡◌, ◌++◌, ◌+◌, ◌<◌, ◌≤◌, ℕ, List, length, take, slice_index, true, OnOk, OnErr};
+ghost use Rattle.std.specs.Prelude.{◌≡◌, ◌++◌, ◌+◌, ◌<◌, ◌≤◌, ℕ, List, length, take, slice_index};
+ghost use Rattle.std.specs.Prelude.{true, OnOk, OnErr};
 ghost use Rattle.std.specs.Ordering.{nat_cmp, is_lt};
 ghost use Rattle.std.specs.Cmp.Lexicographic.{slice_cmp};
 ghost use Rattle.lsm_codec.specs.Keys.{key_cmp, is_internal, user_of, tail_of, key_at};
@@ -31,7 +32,8 @@ impl<'b, 'a> Model for SharedKey<'b, 'a> {
 
     ghost view = { λ k. record { before = k.before.now; shared = k.shared; own = k.own.now } };
 
-    ghost invariant = { λ k. AreParts (record { before = k.before.now; shared = k.shared; own = k.own.now }) };
+    ghost invariant = { λ k.
+        AreParts (record { before = k.before.now; shared = k.shared; own = k.own.now }) };
 }
 
 impl<'b, 'a> SharedKey<'b, 'a> {

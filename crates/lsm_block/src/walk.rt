@@ -1,13 +1,16 @@
 //! One walk over the entries of a block and its restart offsets side by side.
 
-ghost use Rattle.std.specs.Prelude.{◌≡◌, [], ◌∷◌, ◌/◌, ◌<◌, ◌≤◌, ℕ, List, length, drop, true, nat_le, None, Some, IfOk};
+ghost use Rattle.std.specs.Prelude.{◌≡◌, [], ◌∷◌, ◌/◌, ◌<◌, ◌≤◌, ℕ, List, length, drop, true};
+ghost use Rattle.std.specs.Prelude.{nat_le, None, Some, IfOk};
 ghost use Rattle.std.specs.List.{list_all};
 ghost use Rattle.std.specs.Option.{option_map};
 ghost use Rattle.lsm_codec.specs.Keys.{is_internal};
-ghost use Rattle.lsm_block.specs.Reading.{words, comes_after, if_not, entry_at, scan, entries_of, first_fault};
+ghost use Rattle.lsm_block.specs.Reading.{words, comes_after, if_not, entry_at, scan, entries_of};
+ghost use Rattle.lsm_block.specs.Reading.{first_fault};
 ghost use Rattle.lsm_block.specs.KeyParts.{joined};
 ghost use Rattle.lsm_block.specs.Held.{Kept, last_of, last_after};
-ghost use Rattle.lsm_block.specs.Walking.{begun, passed, if_none, fault_from, fault_at_stop, is_nothing, fault_at_end};
+ghost use Rattle.lsm_block.specs.Walking.{begun, passed, if_none, fault_from, fault_at_stop};
+ghost use Rattle.lsm_block.specs.Walking.{is_nothing, fault_at_end};
 
 use crate::entry::RawEntry;
 use crate::fault::BlockFault;
@@ -17,7 +20,8 @@ use std::alloc::AllocError;
 /// The first number of a row of numbers of four bytes.
 fn first_word(bytes: &[u8]) -> u32
     requires { 4 ≤ length bytes.now }
-    ensures { (words (length bytes.now / 4) bytes.now) ≡ result ∷ words (length (drop 4 bytes.now) / 4) (drop 4 bytes.now) }
+    ensures { (words (length bytes.now / 4) bytes.now)
+        ≡ result ∷ words (length (drop 4 bytes.now) / 4) (drop 4 bytes.now) }
 {
     u32::from_le_bytes([bytes[0], bytes[1], bytes[2], bytes[3]])
 }
@@ -25,7 +29,8 @@ fn first_word(bytes: &[u8]) -> u32
 /// The offset before the walk, and those that are left.
 fn begin(offsets: &[u8]) -> (u32, &[u8])
     requires { 4 ≤ length offsets.now }
-    ensures { (result.0, words (length result.1.now / 4) result.1.now) ≡ begun (words (length offsets.now / 4) offsets.now) }
+    ensures { (result.0, words (length result.1.now / 4) result.1.now)
+        ≡ begun (words (length offsets.now / 4) offsets.now) }
 {
     let first = first_word(offsets);
     if first == 0 {
@@ -40,7 +45,8 @@ fn begin(offsets: &[u8]) -> (u32, &[u8])
 /// read.
 #[tactic(auto, unfolding(crate::specs::Walking::passed))]
 fn pass(before: u32, offsets: &[u8], start: u64, shared: u32) -> Option<(u32, &[u8])>
-    ensures { option_map (λ r. (r.0, words (length r.1.now / 4) r.1.now)) result ≡ passed before (words (length offsets.now / 4) offsets.now) start shared }
+    ensures { option_map (λ r. (r.0, words (length r.1.now / 4) r.1.now)) result
+        ≡ passed before (words (length offsets.now / 4) offsets.now) start shared }
 {
     if offsets.len() < 4 {
         return Some((before, offsets));
@@ -61,7 +67,8 @@ fn pass(before: u32, offsets: &[u8], start: u64, shared: u32) -> Option<(u32, &[
 fn note(out: Option<u64>, key: &SharedKey<'_, '_>, start: u64) -> Option<u64>
     requires before { 0 < length key.now.before → is_internal key.now.before ≡ true }
     requires key { is_internal (joined key.now) ≡ true }
-    ensures { result ≡ if_none out (if_not (comes_after key.now.before (joined key.now)) start None) }
+    ensures { result
+        ≡ if_none out (if_not (comes_after key.now.before (joined key.now)) start None) }
 {
     if out.is_some() || key.is_after() {
         out
@@ -107,8 +114,10 @@ pub(crate) fn find_fault(
 ) -> Result<Option<BlockFault>, AllocError>
     requires offsets { 4 ≤ length offsets.now }
     requires key { key.old.items ≡ [] }
-    ensures fault { IfOk result (λ f. f ≡ first_fault (scan (length text.now) (length text.now) [] text.now) (words (length offsets.now / 4) offsets.now)) }
-    ensures last { IfOk result (λ f. f ≡ None → last_of key.new.items ≡ last_after None (entries_of (scan (length text.now) (length text.now) [] text.now).placed)) }
+    ensures fault { IfOk result (λ f. f ≡ first_fault (scan (length text.now) (length text.now) []
+        text.now) (words (length offsets.now / 4) offsets.now)) }
+    ensures last { IfOk result (λ f. f ≡ None → last_of key.new.items ≡ last_after None
+        (entries_of (scan (length text.now) (length text.now) [] text.now).placed)) }
     ensures kept { Kept (last_of key.new.items) key.new.items }
 {
     let (mut last, mut left) = begin(offsets);

@@ -21,7 +21,16 @@ impl<N: Naming, S: Shelf> Model for KeptBlock<N, S> {
 
     ghost Value = { BlockOf };
 
-    ghost view = { λ k. record { image = S.Receipt.image k.receipt; handle = k.handle; entries = (arc_value {X = HeldBlock} k.block).entries } };
+    ghost view = { λ k. record {
+      image = S.Receipt.image k.receipt;
+      handle = k.handle;
+      entries = (arc_value {X = HeldBlock} k.block).entries;
+    } };
 
-    ghost invariant = { λ k. S.is_of N.place k.receipt × (S.honest → IsBlockOf record { image = S.Receipt.image k.receipt; handle = k.handle; entries = (arc_value {X = HeldBlock} k.block).entries }) };
+    ghost invariant = { λ k. S.is_of N.place k.receipt
+        × (S.honest → IsBlockOf record {
+          image = S.Receipt.image k.receipt;
+          handle = k.handle;
+          entries = (arc_value {X = HeldBlock} k.block).entries;
+        }) };
 }

@@ -18,7 +18,8 @@ impl<N: Naming, S: Shelf> Model for KeptFooter<N, S> {
 
     ghost view = { λ k. record { image = S.Receipt.image k.receipt; footer = k.footer } };
 
-    ghost invariant = { λ k. S.is_of N.place k.receipt × (S.honest → IsFooterOf record { image = S.Receipt.image k.receipt; footer = k.footer }) };
+    ghost invariant = { λ k. S.is_of N.place k.receipt
+        × (S.honest → IsFooterOf record { image = S.Receipt.image k.receipt; footer = k.footer }) };
 }
 
 /// Whether a footer names this place as that of its index block.

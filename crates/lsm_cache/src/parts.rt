@@ -1,6 +1,7 @@
 //! Blocks, as a read of an image gives them.
 
-ghost use Rattle.std.specs.Prelude.{◌≡◌, ◌+◌, ◌-◌, ℕ, List, Result, Ok, IfErr, true, length, take, drop, nat_le};
+ghost use Rattle.std.specs.Prelude.{◌≡◌, ◌+◌, ◌-◌, ℕ, List, Result, Ok, IfErr, true, length, take};
+ghost use Rattle.std.specs.Prelude.{drop, nat_le};
 ghost use Rattle.std.specs.Arc.{arc_value};
 ghost use Rattle.lsm_codec.specs.Entries.{Entry};
 ghost use Rattle.lsm_block.specs.Held.{HeldBlock};

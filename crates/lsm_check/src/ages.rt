@@ -60,7 +60,8 @@ fn choose<N: Naming, S: Shelf>(
     numbers: &[u64],
 ) -> Result<Vec<Vec<TableRef<N, S>>>, AllocError>
     requires ascending { IsNonDecreasing numbers.now }
-    ensures { IfOk result (λ v. map (λ l. l.items) v.items ≡ chosen numbers.now (map (λ l. l.items) levels.now)) }
+    ensures { IfOk result (λ v.
+        map (λ l. l.items) v.items ≡ chosen numbers.now (map (λ l. l.items) levels.now)) }
 {
     let mut chosen = Vec::new(alloc);
     for level in levels {
@@ -81,12 +82,16 @@ fn look_again<N: Naming, S: Shelf, B: Blocks<S>>(
     requires here { (B.told blocks.old).place ≡ N.place }
     requires seven { length levels.now ≡ 7 }
     requires mergeable { S.honest → AreMergeable (map (λ l. l.items) levels.now) }
-    ensures judged { S.honest → IfOk result (λ r. (ls : List (List Placed)) × AreRunsOf (level_in (map (λ l. l.items) levels.now) 0) (Has (files_from 0 (map (λ l. l.items) levels.now))) ls × MatchOption r (IsAgeOrder (merge_all ls)) (λ k. IsLeastAgainstAge (merge_all ls) k)) }
+    ensures judged { S.honest → IfOk result (λ r. (ls : List (List Placed)) × AreRunsOf (level_in
+        (map (λ l. l.items) levels.now) 0) (Has (files_from 0 (map (λ l. l.items) levels.now))) ls
+        × MatchOption r (IsAgeOrder (merge_all ls)) (λ k. IsLeastAgainstAge (merge_all ls) k)) }
     ensures sound { S.honest → IfErr result (λ e. IsMemoryOrShelf e.fault) }
-    ensures number { IfErr result (λ e. NamesOne (IsNumberIn (map (λ l. l.items) levels.now)) e.file e.fault) }
+    ensures number { IfErr result (λ e.
+        NamesOne (IsNumberIn (map (λ l. l.items) levels.now)) e.file e.fault) }
     ensures told { Becomes (B.told blocks.old) (B.told blocks.new) }
     ensures loan { B.loan blocks.new ≡ B.loan blocks.old }
-    ensures cause { IfErr result (λ e. ReadCounted e.fault (B.told blocks.old) (B.told blocks.new)) }
+    ensures cause { IfErr result (λ e.
+        ReadCounted e.fault (B.told blocks.old) (B.told blocks.new)) }
 {
     let runs = match open_runs(blocks, alloc, registry, levels) {
         Ok(runs) => runs,
@@ -120,7 +125,8 @@ pub(crate) fn judge_ages<N: Naming, S: Shelf>(
     requires ascending { IsNonDecreasing unsettled.now }
     requires unsettled { AreUnsettled (files_from 0 (map (λ l. l.items) levels.now)) unsettled.now }
     ensures ok { S.honest → OnOk result (KeepsAge (files_from 0 (map (λ l. l.items) levels.now))) }
-    ensures refused { IfErr result (λ e. IsAgeRefusal S.honest (files_from 0 (map (λ l. l.items) levels.now)) e) }
+    ensures refused { IfErr result (λ e.
+        IsAgeRefusal S.honest (files_from 0 (map (λ l. l.items) levels.now)) e) }
     ensures told { Becomes (S.told shelf.old) (S.told shelf.new) }
     ensures cause { IfErr result (λ e. CheckCounted e (S.told shelf.old) (S.told shelf.new)) }
 {

@@ -31,7 +31,9 @@ fn sequences_in(
     last: u64,
 ) -> Result<Option<Sequences>, AllocError>
     requires { IsAscending table.now }
-    ensures { IfOk result (λ r. MatchOption r ((size ≡ file.now.size) × IsSpanned last file.now.smallest file.now.largest table.now → ⊥) (λ s. (size ≡ file.now.size) × IsSpanned last file.now.smallest file.now.largest table.now × AreSequencesOf table.now s)) }
+    ensures { IfOk result (λ r. MatchOption r ((size ≡ file.now.size) × IsSpanned last
+        file.now.smallest file.now.largest table.now → ⊥) (λ s. (size ≡ file.now.size) × IsSpanned
+        last file.now.smallest file.now.largest table.now × AreSequencesOf table.now s)) }
 {
     if size as u64 != file.size {
         return Ok(None);
@@ -68,9 +70,13 @@ pub(crate) fn read_table<S: Shelf, R: Wait>(
     file: &FileMeta,
     last: u64,
 ) -> Result<(S::Receipt, Sequences), CheckFault>
-    ensures receipt { IfOk result (λ r. (S.Receipt.number r.0 ≡ file.now.number) × S.is_of (S.told shelf.old).place r.0) }
-    ensures image { IfOk result (λ r. IsImageOf last file.now (S.Receipt.image r.0) × AreSequencesOf (entries_in (S.Receipt.image r.0)) r.1) }
-    ensures refused { IfErr result (λ e. IsFileRefusal (λ image. (r : S.Receipt) × S.is_of (S.told shelf.old).place r × (S.Receipt.number r ≡ file.now.number) × (S.Receipt.image r ≡ image)) (S.refuses (S.told shelf.old).place (Load file.now.number)) last file.now e) }
+    ensures receipt { IfOk result (λ r. (S.Receipt.number r.0 ≡ file.now.number)
+        × S.is_of (S.told shelf.old).place r.0) }
+    ensures image { IfOk result (λ r. IsImageOf last file.now (S.Receipt.image r.0)
+        × AreSequencesOf (entries_in (S.Receipt.image r.0)) r.1) }
+    ensures refused { IfErr result (λ e. IsFileRefusal (λ image. (r : S.Receipt) × S.is_of
+        (S.told shelf.old).place r × (S.Receipt.number r ≡ file.now.number) × (S.Receipt.image r
+        ≡ image)) (S.refuses (S.told shelf.old).place (Load file.now.number)) last file.now e) }
     ensures told { Becomes (S.told shelf.old) (S.told shelf.new) }
     ensures cause { IfErr result (λ e. CheckCounted e (S.told shelf.old) (S.told shelf.new)) }
 {

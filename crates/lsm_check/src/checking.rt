@@ -31,11 +31,20 @@ fn check_levels<N: Naming, S: Shelf, R: Wait>(
     shape: &Shape,
 ) -> Result<Vec<Vec<TableRef<N, S>>>, CheckFault>
     requires here { (S.told shelf.old).place ≡ N.place }
-    ensures tables { IfOk result (λ v. AreTablesOf (Stored S.Receipt (S.is_of N.place) S.Receipt.number S.Receipt.image) shape.now (map (λ l. l.items) v.items)) }
+    ensures tables { IfOk result (λ v. AreTablesOf (Stored S.Receipt (S.is_of N.place)
+        S.Receipt.number S.Receipt.image) shape.now (map (λ l. l.items) v.items)) }
     ensures seven { IfOk result (λ v. length v.items ≡ 7) }
-    ensures judged { IfOk result (λ v. (pointers : List (Option (List ℕ))) → KeepsAge (files_from 0 (map (λ l. l.items) v.items)) → IsSound record { tables = map (λ l. l.items) v.items; pointers = pointers; last = shape.now.last }) }
-    ensures ages { S.honest → IfOk result (λ v. KeepsAge (files_from 0 (map (λ l. l.items) v.items))) }
-    ensures refused { IfErr result (λ e. IsRefusal (Stored S.Receipt (S.is_of N.place) S.Receipt.number S.Receipt.image) (λ number. S.refuses N.place (Load number)) S.honest shape.now e) }
+    ensures judged { IfOk result (λ v. (pointers : List (Option (List ℕ)))
+        → KeepsAge (files_from 0 (map (λ l. l.items) v.items)) → IsSound record {
+          tables = map (λ l. l.items) v.items;
+          pointers = pointers;
+          last = shape.now.last;
+        }) }
+    ensures ages { S.honest
+        → IfOk result (λ v. KeepsAge (files_from 0 (map (λ l. l.items) v.items))) }
+    ensures refused { IfErr result (λ e.
+        IsRefusal (Stored S.Receipt (S.is_of N.place) S.Receipt.number S.Receipt.image) (λ number.
+        S.refuses N.place (Load number)) S.honest shape.now e) }
     ensures told { Becomes (S.told shelf.old) (S.told shelf.new) }
     ensures cause { IfErr result (λ e. CheckCounted e (S.told shelf.old) (S.told shelf.new)) }
 {
@@ -86,7 +95,9 @@ pub fn check<N: Naming, S: Shelf, R: Wait>(
     // Whatever the shelf is.
     ensures settled { IfOk result (λ v. IsSettled (files v) → IsSound v) }
     ensures judged { IfOk result (λ v. KeepsAge (files v) → IsSound v) }
-    ensures refused { IfErr result (λ e. IsRefusal (Stored S.Receipt (S.is_of N.place) S.Receipt.number S.Receipt.image) (λ number. S.refuses N.place (Load number)) S.honest shape.now e) }
+    ensures refused { IfErr result (λ e.
+        IsRefusal (Stored S.Receipt (S.is_of N.place) S.Receipt.number S.Receipt.image) (λ number.
+        S.refuses N.place (Load number)) S.honest shape.now e) }
     ensures told { Becomes (S.told shelf.old) (S.told shelf.new) }
     ensures cause { IfErr result (λ e. CheckCounted e (S.told shelf.old) (S.told shelf.new)) }
 {
@@ -102,5 +113,6 @@ ghost use Rattle.lsm_version.specs.Versions.{Levels};
 /// A law: where the files of each level of a shape stand in the level's order, as those of a replay
 /// do, a version of the shape has a table for each of them in just that order.
 pub fn shapes_in_order()
-    ensures { (shape : Shape) (v : Levels) → IsOfShape shape v → AreInFileOrder shape.levels → AreLevelsOf shape.last shape.levels v.tables }
+    ensures { (shape : Shape) (v : Levels) → IsOfShape shape v → AreInFileOrder shape.levels
+        → AreLevelsOf shape.last shape.levels v.tables }
 {}

@@ -36,9 +36,12 @@ fn load_file<N: Naming, S: Shelf, R: Wait>(
 ) -> Result<(TableRef<N, S>, Sequences), CheckFault>
     requires here { (S.told shelf.old).place ≡ N.place }
     ensures file { IfOk result (λ r. IsFileOf last file.now r.0) }
-    ensures stored { IfOk result (λ t. (r : S.Receipt) × S.is_of N.place r × (S.Receipt.number r ≡ t.0.number) × (S.Receipt.image r ≡ t.0.image)) }
+    ensures stored { IfOk result (λ t. (r : S.Receipt) × S.is_of N.place r
+        × (S.Receipt.number r ≡ t.0.number) × (S.Receipt.image r ≡ t.0.image)) }
     ensures sequences { IfOk result (λ r. AreSequencesOf (entries_in r.0.image) r.1) }
-    ensures refused { IfErr result (λ e. IsFileRefusal (λ image. (r : S.Receipt) × S.is_of N.place r × (S.Receipt.number r ≡ file.now.number) × (S.Receipt.image r ≡ image)) (S.refuses N.place (Load file.now.number)) last file.now e) }
+    ensures refused { IfErr result (λ e. IsFileRefusal (λ image. (r : S.Receipt) × S.is_of N.place r
+        × (S.Receipt.number r ≡ file.now.number)
+        × (S.Receipt.image r ≡ image)) (S.refuses N.place (Load file.now.number)) last file.now e) }
     ensures told { Becomes (S.told shelf.old) (S.told shelf.new) }
     ensures cause { IfErr result (λ e. CheckCounted e (S.told shelf.old) (S.told shelf.new)) }
 {
@@ -80,9 +83,12 @@ fn load_level<N: Naming, S: Shelf, R: Wait>(
     last: u64,
 ) -> Result<(Vec<TableRef<N, S>>, Vec<Sequences>), CheckFault>
     requires here { (S.told shelf.old).place ≡ N.place }
-    ensures read { IfOk result (λ v. IsLevelRead (Stored S.Receipt (S.is_of N.place) S.Receipt.number S.Receipt.image) last files.now v.0.items v.1.items) }
+    ensures read { IfOk result (λ v. IsLevelRead (Stored S.Receipt (S.is_of N.place)
+        S.Receipt.number S.Receipt.image) last files.now v.0.items v.1.items) }
     ensures order { IfOk result (λ v. IsSortedBy stands_before v.0.items) }
-    ensures refused { IfErr result (λ e. IsFilesRefusal (Stored S.Receipt (S.is_of N.place) S.Receipt.number S.Receipt.image) (λ number. S.refuses N.place (Load number)) last files.now e) }
+    ensures refused { IfErr result (λ e.
+        IsFilesRefusal (Stored S.Receipt (S.is_of N.place) S.Receipt.number S.Receipt.image)
+        (λ number. S.refuses N.place (Load number)) last files.now e) }
     ensures told { Becomes (S.told shelf.old) (S.told shelf.new) }
     ensures cause { IfErr result (λ e. CheckCounted e (S.told shelf.old) (S.told shelf.new)) }
 {
@@ -104,9 +110,13 @@ pub(crate) fn load_levels<N: Naming, S: Shelf, R: Wait>(
     shape: &Shape,
 ) -> Result<(Vec<Vec<TableRef<N, S>>>, Vec<Vec<Sequences>>), CheckFault>
     requires here { (S.told shelf.old).place ≡ N.place }
-    ensures read { IfOk result (λ v. AreRead (Stored S.Receipt (S.is_of N.place) S.Receipt.number S.Receipt.image) shape.now.last shape.now.levels (map (λ l. l.items) v.0.items) (map (λ l. l.items) v.1.items)) }
+    ensures read { IfOk result (λ v.
+        AreRead (Stored S.Receipt (S.is_of N.place) S.Receipt.number S.Receipt.image) shape.now.last
+        shape.now.levels (map (λ l. l.items) v.0.items) (map (λ l. l.items) v.1.items)) }
     ensures order { IfOk result (λ v. AreInOrder (map (λ l. l.items) v.0.items)) }
-    ensures refused { IfErr result (λ e. IsFilesRefusal (Stored S.Receipt (S.is_of N.place) S.Receipt.number S.Receipt.image) (λ number. S.refuses N.place (Load number)) shape.now.last (all_files shape.now.levels) e) }
+    ensures refused { IfErr result (λ e.
+        IsFilesRefusal (Stored S.Receipt (S.is_of N.place) S.Receipt.number S.Receipt.image)
+        (λ number. S.refuses N.place (Load number)) shape.now.last (all_files shape.now.levels) e) }
     ensures told { Becomes (S.told shelf.old) (S.told shelf.new) }
     ensures cause { IfErr result (λ e. CheckCounted e (S.told shelf.old) (S.told shelf.new)) }
 {

@@ -3,7 +3,8 @@
 ghost use Rattle.std.specs.List.Sorted.{IsNonDecreasing, IsNonDecreasingBy};
 ghost use Rattle.std.specs.Prelude.{◌≡◌, IfOk, ℕ};
 ghost use Rattle.lsm_table.specs.HeldTable.{entries_in};
-ghost use Rattle.lsm_check.specs.Settled.{AreAged, AreSequences, AreSequencesOf, IsAged, NamesReaching, NamesUnsettled};
+ghost use Rattle.lsm_check.specs.Settled.{AreAged, AreSequences, AreSequencesOf, IsAged};
+ghost use Rattle.lsm_check.specs.Settled.{NamesReaching, NamesUnsettled};
 ghost use Rattle.lsm_version.specs.Versions.{file_of, files_of};
 
 use crate::aged::Aged;

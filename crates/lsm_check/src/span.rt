@@ -44,7 +44,8 @@ fn walk_on(
     last: u64,
     sequences: Sequences,
 ) -> Result<Option<Sequences>, AllocError>
-    ensures { IfOk result (λ r. r ≡ walked last (key_of end.now) entries.old.last sequences entries.old.left) }
+    ensures { IfOk result (λ r.
+        r ≡ walked last (key_of end.now) entries.old.last sequences entries.old.left) }
 {
     let mut sequences = sequences;
     while let Some(_value) = step(entries)? {
@@ -98,7 +99,9 @@ pub(crate) fn sequences_of(
     last: u64,
 ) -> Result<Option<Sequences>, AllocError>
     requires { IsAscending table.now }
-    ensures { IfOk result (λ r. MatchOption r (IsSpanned last smallest.now largest.now table.now → ⊥) (λ s. IsSpanned last smallest.now largest.now table.now × AreSequencesOf table.now s)) }
+    ensures { IfOk result (λ r.
+        MatchOption r (IsSpanned last smallest.now largest.now table.now → ⊥) (λ s.
+        IsSpanned last smallest.now largest.now table.now × AreSequencesOf table.now s)) }
 {
     let Ok(first) = KeyRef::split(smallest) else {
         return Ok(None);

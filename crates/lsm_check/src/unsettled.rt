@@ -1,13 +1,16 @@
 //! The files of which ranges and sequences alone do not settle the age order.
 
 ghost use Rattle.std.specs.List.Sorted.{IsNonDecreasing};
-ghost use Rattle.std.specs.Prelude.{◌≡◌, ◌+◌, ◌++◌, ◌∷◌, ◌≤◌, ◌<◌, ◌↔◌, ◌⊎◌, [], ℕ, IfOk, OnOk, IsTrue, false, get_or, length, map};
+ghost use Rattle.std.specs.Prelude.{◌≡◌, ◌+◌, ◌++◌, ◌∷◌, ◌≤◌, ◌<◌, ◌↔◌, ◌⊎◌, [], ℕ, IfOk, OnOk};
+ghost use Rattle.std.specs.Prelude.{IsTrue, false, get_or, length, map};
 ghost use Rattle.lsm_codec.specs.Lists.{Has};
 ghost use Rattle.lsm_levels.specs.Files.{File};
 ghost use Rattle.lsm_table.specs.HeldTable.{entries_in};
 ghost use Rattle.lsm_table.specs.Registry.{Table};
 ghost use Rattle.lsm_version.specs.Reads.{IsRising, reaches};
-ghost use Rattle.lsm_check.specs.Settled.{Adds, AreLevelSequences, AreSequences, AreSequencesOf, AreUnsettled, Between, DeeperRise, EachBelow, IsUnsettled, OneAgainst, OneBelow, OnePair, SomeBelow};
+ghost use Rattle.lsm_check.specs.Settled.{Adds, AreLevelSequences, AreSequences, AreSequencesOf};
+ghost use Rattle.lsm_check.specs.Settled.{AreUnsettled, Between, DeeperRise, EachBelow};
+ghost use Rattle.lsm_check.specs.Settled.{IsUnsettled, OneAgainst, OneBelow, OnePair, SomeBelow};
 ghost use Rattle.lsm_version.specs.Versions.{file_of, files_from, level_in};
 
 use crate::ages::is_among;
@@ -69,7 +72,8 @@ fn compare<N: Naming, S: Shelf>(
 ) -> Result<(), AllocError>
     requires own { AreSequencesOf (entries_in table.now.image) own }
     requires its { AreSequencesOf (entries_in other.now.image) its }
-    ensures { OnOk result (Adds (OnePair (file_of level table.now) (file_of deeper other.now)) numbers.old.items numbers.new.items) }
+    ensures { OnOk result (Adds (OnePair (file_of level table.now) (file_of deeper other.now))
+        numbers.old.items numbers.new.items) }
 {
     if is_unsettled(registry, level, table, own, deeper, other, its) {
         let number = registry.record(table).number();
@@ -89,7 +93,8 @@ fn first_of<N: Naming, S: Shelf>(
 ) -> usize
     requires rising { 1 ≤ level → IsRising tables.now }
     ensures inside { result ≤ length tables.now }
-    ensures before { (i : ℕ) (d : Table) → i < result → reaches (get_or tables.now i d) user.now ≡ false }
+    ensures before { (i : ℕ) (d : Table) → i < result
+        → reaches (get_or tables.now i d) user.now ≡ false }
 {
     if level == 0 {
         0
@@ -112,7 +117,8 @@ fn compare_with_level<N: Naming, S: Shelf>(
     requires own { AreSequencesOf (entries_in table.now.image) own }
     requires beside { AreSequences tables.now sequences.now }
     requires rising { 1 ≤ deeper → IsRising tables.now }
-    ensures { OnOk result (Adds (OneAgainst (file_of level table.now) deeper tables.now) numbers.old.items numbers.new.items) }
+    ensures { OnOk result (Adds (OneAgainst (file_of level table.now) deeper tables.now)
+        numbers.old.items numbers.new.items) }
 {
     let first = first_of(registry, deeper, tables, low_of(registry, table));
     let end = high_of(registry, table);
@@ -167,11 +173,14 @@ fn compare_below<N: Naming, S: Shelf>(
     numbers: &mut Vec<u64>,
 ) -> Result<(), AllocError>
     requires own { AreSequencesOf (entries_in table.now.image) own }
-    requires beside { AreLevelSequences (map (λ l. l.items) levels.now) (map (λ l. l.items) sequences.now) }
+    requires beside { AreLevelSequences (map (λ l. l.items) levels.now)
+        (map (λ l. l.items) sequences.now) }
     requires rising { DeeperRise (map (λ l. l.items) levels.now) }
     requires first { (level ≤ first) × (first ≤ length levels.now) }
-    requires settled { (G : File) → Between level first (map (λ l. l.items) levels.now) G → IsUnsettled (file_of level table.now) G → ⊥ }
-    ensures { OnOk result (Adds (OneBelow (file_of level table.now) level (length levels.now) (map (λ l. l.items) levels.now)) numbers.old.items numbers.new.items) }
+    requires settled { (G : File) → Between level first (map (λ l. l.items) levels.now) G
+        → IsUnsettled (file_of level table.now) G → ⊥ }
+    ensures { OnOk result (Adds (OneBelow (file_of level table.now) level (length levels.now)
+        (map (λ l. l.items) levels.now)) numbers.old.items numbers.new.items) }
 {
     for deeper in first..levels.len() {
         let tables = levels[deeper].as_slice();
@@ -191,10 +200,12 @@ fn compare_level<N: Naming, S: Shelf>(
     sequences: &[Vec<Sequences>],
     numbers: &mut Vec<u64>,
 ) -> Result<(), AllocError>
-    requires beside { AreLevelSequences (map (λ l. l.items) levels.now) (map (λ l. l.items) sequences.now) }
+    requires beside { AreLevelSequences (map (λ l. l.items) levels.now)
+        (map (λ l. l.items) sequences.now) }
     requires rising { DeeperRise (map (λ l. l.items) levels.now) }
     requires inside { level < length levels.now }
-    ensures { OnOk result (Adds (SomeBelow level (level_in (map (λ l. l.items) levels.now) level) (map (λ l. l.items) levels.now)) numbers.old.items numbers.new.items) }
+    ensures { OnOk result (Adds (SomeBelow level (level_in (map (λ l. l.items) levels.now) level)
+        (map (λ l. l.items) levels.now)) numbers.old.items numbers.new.items) }
 {
     let tables = levels[level].as_slice();
     let own = sequences[level].as_slice();
@@ -217,9 +228,11 @@ pub(crate) fn unsettled_files<N: Naming, S: Shelf>(
     levels: &[Vec<TableRef<N, S>>],
     sequences: &[Vec<Sequences>],
 ) -> Result<Vec<u64>, AllocError>
-    requires beside { AreLevelSequences (map (λ l. l.items) levels.now) (map (λ l. l.items) sequences.now) }
+    requires beside { AreLevelSequences (map (λ l. l.items) levels.now)
+        (map (λ l. l.items) sequences.now) }
     requires rising { DeeperRise (map (λ l. l.items) levels.now) }
-    ensures unsettled { IfOk result (λ v. AreUnsettled (files_from 0 (map (λ l. l.items) levels.now)) v.items) }
+    ensures unsettled { IfOk result (λ v.
+        AreUnsettled (files_from 0 (map (λ l. l.items) levels.now)) v.items) }
     ensures ascending { IfOk result (λ v. IsNonDecreasing v.items) }
 {
     let mut numbers = Vec::new(alloc);

@@ -1,9 +1,11 @@
 //! The candidates of a level: the tables from which a compaction may start.
 
-ghost use Rattle.std.specs.Prelude.{◌≡◌, ◌≤◌, ◌↔◌, [], ◌∷◌, IfOk, IfSome, IsSomeAnd, IsTrue, MatchOption, false};
+ghost use Rattle.std.specs.Prelude.{◌≡◌, ◌≤◌, ◌↔◌, [], ◌∷◌, IfOk, IfSome, IsSomeAnd, IsTrue};
+ghost use Rattle.std.specs.Prelude.{MatchOption, false};
 ghost use Rattle.lsm_codec.specs.Lists.{Has};
 ghost use Rattle.lsm_version.specs.Versions.{file_of, level_in};
-ghost use Rattle.lsm_choice.specs.Choice.{AllBlocked, AllBlockedBeside, IsBlockedAt, IsFirstClear, IsLevelChoice, bytes_cmp, is_beyond, pointer_at};
+ghost use Rattle.lsm_choice.specs.Choice.{AllBlocked, AllBlockedBeside, IsBlockedAt, IsFirstClear};
+ghost use Rattle.lsm_choice.specs.Choice.{IsLevelChoice, bytes_cmp, is_beyond, pointer_at};
 ghost use Rattle.lsm_choice.specs.Reservations.{IsClear, is_taken};
 ghost use Rattle.lsm_choice.specs.TablePlans.{IsPlanFrom, StandsIn};
 
@@ -54,7 +56,8 @@ fn plan_from<N: Naming, S: Shelf>(
     requires stands { Has (level_in version.now.tables level) table.now }
     ensures level { IfOk result (λ r. IfSome r (λ p. p.level ≡ level)) }
     ensures stands { IfOk result (λ r. IfSome r (λ p. StandsIn version.now p)) }
-    ensures planned { S.honest → IfOk result (λ r. IsSomeAnd r (λ p. IsPlanFrom version.now (Has (file_of level table.now ∷ [])) p)) }
+    ensures planned { S.honest → IfOk result (λ r.
+        IsSomeAnd r (λ p. IsPlanFrom version.now (Has (file_of level table.now ∷ [])) p)) }
 {
     // That a version over an honest shelf is sound is told by this call.
     let _last = version.last();
@@ -77,7 +80,8 @@ fn clear_plan<N: Naming, S: Shelf>(
     ensures level { IfOk result (λ r. IfSome r (λ p. p.level ≡ level)) }
     ensures stands { IfOk result (λ r. IfSome r (λ p. StandsIn version.now p)) }
     ensures clear { IfOk result (λ r. IfSome r (λ p. IsClear p reservations.now)) }
-    ensures plan { S.honest → IfOk result (λ r. MatchOption r (IsBlockedAt version.now reservations.now level table.now)
+    ensures plan { S.honest
+        → IfOk result (λ r. MatchOption r (IsBlockedAt version.now reservations.now level table.now)
         (λ p. IsPlanFrom version.now (Has (file_of level table.now ∷ [])) p)) }
 {
     match plan_from(alloc, registry, version, level, table)? {
@@ -100,7 +104,8 @@ fn is_on_side<N: Naming, S: Shelf>(
     table: &TableRef<N, S>,
 ) -> bool
     requires level { level ≤ 5 }
-    ensures { IsTrue result ↔ ((is_taken reservations.now table.now ≡ false) × (is_beyond (pointer_at version.now level) table.now ≡ beyond)) }
+    ensures { IsTrue result ↔ ((is_taken reservations.now table.now ≡ false)
+        × (is_beyond (pointer_at version.now level) table.now ≡ beyond)) }
 {
     !is_taken(registry, reservations, table) && is_beyond(registry, version, level, table) == beyond
 }
@@ -119,8 +124,9 @@ fn first_clear<N: Naming, S: Shelf>(
     ensures level { IfOk result (λ r. IfSome r (λ p. p.level ≡ level)) }
     ensures stands { IfOk result (λ r. IfSome r (λ p. StandsIn version.now p)) }
     ensures clear { IfOk result (λ r. IfSome r (λ p. IsClear p reservations.now)) }
-    ensures first { S.honest → IfOk result (λ r. MatchOption r (AllBlockedBeside version.now reservations.now level beyond)
-        (λ p. IsFirstClear version.now reservations.now level beyond p)) }
+    ensures first { S.honest → IfOk result (λ r.
+        MatchOption r (AllBlockedBeside version.now reservations.now level beyond) (λ p.
+        IsFirstClear version.now reservations.now level beyond p)) }
 {
     let tables = version.level(usize::from(level));
     for table in tables {
@@ -147,7 +153,9 @@ pub(crate) fn choose_at<N: Naming, S: Shelf>(
     ensures level { IfOk result (λ r. IfSome r (λ p. p.level ≡ level)) }
     ensures stands { IfOk result (λ r. IfSome r (λ p. StandsIn version.now p)) }
     ensures clear { IfOk result (λ r. IfSome r (λ p. IsClear p reservations.now)) }
-    ensures first { S.honest → IfOk result (λ r. MatchOption r (AllBlocked version.now reservations.now level) (λ p. IsLevelChoice version.now reservations.now level p)) }
+    ensures first { S.honest
+        → IfOk result (λ r. MatchOption r (AllBlocked version.now reservations.now level) (λ p.
+        IsLevelChoice version.now reservations.now level p)) }
 {
     match first_clear(alloc, registry, version, reservations, level, true)? {
         Some(plan) => Ok(Some(plan)),

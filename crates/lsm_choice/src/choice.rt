@@ -30,7 +30,8 @@ pub fn choose<N: Naming, S: Shelf>(
     ensures stands { IfOk result (λ r. IfSome r (λ p. StandsIn version.now p)) }
     ensures clear { IfOk result (λ r. IfSome r (λ p. IsClear p reservations.now)) }
     // The first of the ranking, and none exactly where every candidate conflicts.
-    ensures choice { S.honest → IfOk result (λ r. MatchOption r (HasNoChoice version.now reservations.now) (λ p. IsChoice version.now reservations.now p)) }
+    ensures choice { S.honest → IfOk result (λ r. MatchOption r
+        (HasNoChoice version.now reservations.now) (λ p. IsChoice version.now reservations.now p)) }
 {
     let mut best = None;
     let mut most = 0;

@@ -1,7 +1,8 @@
 //! Which live jobs a plan conflicts with.
 
 ghost use Rattle.std.specs.Prelude.{◌≡◌, MatchOption};
-ghost use Rattle.lsm_choice.specs.Reservations.{IsClear, IsLeastConflict, IsLesserTicket, conflicts, hulls_meet, is_taken, shares};
+ghost use Rattle.lsm_choice.specs.Reservations.{IsClear, IsLeastConflict, IsLesserTicket};
+ghost use Rattle.lsm_choice.specs.Reservations.{conflicts, hulls_meet, is_taken, shares};
 
 use crate::plan::Plan;
 use crate::reservation::Reservation;
@@ -76,7 +77,8 @@ pub fn conflict<N: Naming, S: Shelf>(
     plan: &Plan<N, S>,
     reservations: &[Reservation],
 ) -> Option<u64>
-    ensures { MatchOption result (IsClear plan.now reservations.now) (λ ticket. IsLeastConflict plan.now reservations.now ticket) }
+    ensures { MatchOption result (IsClear plan.now reservations.now) (λ ticket.
+        IsLeastConflict plan.now reservations.now ticket) }
 {
     let mut least = None;
     for job in reservations {

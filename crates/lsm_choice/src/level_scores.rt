@@ -107,7 +107,8 @@ pub fn scores<N: Naming, S: Shelf>(
     version: &Version<N, S>,
     reservations: &[Reservation],
 ) -> [(u128, u128); 6]
-    ensures { let s = score version.now reservations.now in result ≡ s 0 ∷ s 1 ∷ s 2 ∷ s 3 ∷ s 4 ∷ s 5 ∷ [] }
+    ensures { let s = score version.now reservations.now in result
+        ≡ s 0 ∷ s 1 ∷ s 2 ∷ s 3 ∷ s 4 ∷ s 5 ∷ [] }
 {
     [
         (load(registry, version, 0, reservations), limit(0)),

@@ -24,8 +24,10 @@ pub(crate) fn linked_tables<N: Naming, S: Shelf>(
     to: &[u8],
 ) -> Result<Vec<TableRef<N, S>>, AllocError>
     requires level { level ≤ 6 }
-    ensures linked { S.honest → IsSound version.now → UserLe from.now to.now → IfOk result (λ ts. AreLinked version.now level (λ F. Meets F from.now to.now) ts.items) }
-    ensures of_level { IfOk result (λ ts. (t : Table) → Has ts.items t → Has (level_in version.now.tables level) t) }
+    ensures linked { S.honest → IsSound version.now → UserLe from.now to.now
+        → IfOk result (λ ts. AreLinked version.now level (λ F. Meets F from.now to.now) ts.items) }
+    ensures of_level { IfOk result (λ ts. (t : Table) → Has ts.items t
+        → Has (level_in version.now.tables level) t) }
 {
     let mut tables = version.overlapping(alloc, level, from, to)?;
     for _ in 0..version.level(level).len() {

@@ -36,7 +36,8 @@ fn bytes_below<N: Naming, S: Shelf>(
     version: &Version<N, S>,
     plan: &Plan<N, S>,
 ) -> u128
-    ensures { result ≡ bytes_of (tables_over version.now (suc (suc plan.now.level)) plan.now.low plan.now.high) }
+    ensures { result
+        ≡ bytes_of (tables_over version.now (suc (suc plan.now.level)) plan.now.low plan.now.high) }
 {
     // That a version has seven levels is told by this call.
     let _last = version.last();

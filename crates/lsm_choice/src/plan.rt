@@ -23,7 +23,13 @@ impl<N: Naming, S: Shelf> Model for Plan<N, S> {
 
     ghost Value = { TablePlan };
 
-    ghost view = { λ p. record { level = p.level; upper = p.upper.items; lower = p.lower.items; low = p.low; high = p.high } };
+    ghost view = { λ p. record {
+      level = p.level;
+      upper = p.upper.items;
+      lower = p.lower.items;
+      low = p.low;
+      high = p.high;
+    } };
 
     ghost invariant = { λ p. p.level ≤ 5 };
 }

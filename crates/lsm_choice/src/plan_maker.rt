@@ -33,10 +33,12 @@ fn plan_of_linked<N: Naming, S: Shelf>(
 ) -> Result<Plan<N, S>, AllocError>
     requires level { level ≤ 5 }
     requires filled { 0 < length upper.items }
-    requires of_level { (t : Table) → Has upper.items t → Has (level_in version.now.tables level) t }
+    requires of_level { (t : Table) → Has upper.items t
+        → Has (level_in version.now.tables level) t }
     ensures level { IfOk result (λ p. p.level ≡ level) }
     ensures stands { IfOk result (λ p. StandsIn version.now p) }
-    ensures planned { (from : UserKey) (to : UserKey) → S.honest → IsSound version.now → AreLinked version.now level (λ F. Meets F from to) upper.items
+    ensures planned { (from : UserKey) (to : UserKey) → S.honest → IsSound version.now
+        → AreLinked version.now level (λ F. Meets F from to) upper.items
         → IfOk result (λ p. IsPlanFrom version.now (λ F. Meets F from to) p) }
 {
     let first = &upper[0];
@@ -66,8 +68,10 @@ pub(crate) fn plan_between<N: Naming, S: Shelf>(
     requires level { level ≤ 5 }
     ensures level { IfOk result (λ r. IfSome r (λ p. p.level ≡ level)) }
     ensures stands { IfOk result (λ r. IfSome r (λ p. StandsIn version.now p)) }
-    ensures none { S.honest → UserLe from.now to.now → IfOk result (λ r. IfNone r (NoneMeets version.now level from.now to.now)) }
-    ensures planned { S.honest → UserLe from.now to.now → IfOk result (λ r. IfSome r (λ p. IsPlanFrom version.now (λ F. Meets F from.now to.now) p)) }
+    ensures none { S.honest → UserLe from.now to.now
+        → IfOk result (λ r. IfNone r (NoneMeets version.now level from.now to.now)) }
+    ensures planned { S.honest → UserLe from.now to.now → IfOk result (λ r.
+        IfSome r (λ p. IsPlanFrom version.now (λ F. Meets F from.now to.now) p)) }
 {
     // That a version over an honest shelf is sound is told by this call.
     let _last = version.last();

@@ -34,8 +34,9 @@ pub fn plan_range<N: Naming, S: Shelf>(
     ensures level { IfOk result (λ r. IfSome r (λ p. p.level ≡ level)) }
     ensures stands { IfOk result (λ r. IfSome r (λ p. StandsIn version.now p)) }
     // The least closed plan, and none exactly where no file meets the range.
-    ensures planned { S.honest → IfOk result (λ r. MatchOption r (tables_over version.now level from.now to.now ≡ [])
-        (λ p. IsPlanFrom version.now (Has (files_over version.now level from.now to.now)) p)) }
+    ensures planned { S.honest
+        → IfOk result (λ r. MatchOption r (tables_over version.now level from.now to.now ≡ []) (λ p.
+        IsPlanFrom version.now (Has (files_over version.now level from.now to.now)) p)) }
 {
     if level > 5 {
         return Err(PlanFault::BadLevel(level));

@@ -22,13 +22,25 @@ impl Model for Reservation {
 
     ghost Value = { Reserved };
 
-    ghost view = { λ r. record { ticket = r.ticket; level = r.level; inputs = r.inputs; low = r.low; high = r.high } };
+    ghost view = { λ r. record {
+      ticket = r.ticket;
+      level = r.level;
+      inputs = r.inputs;
+      low = r.low;
+      high = r.high;
+    } };
 }
 
 impl Reservation {
     /// The live job of a ticket, a level, the numbers of its inputs, and its hull.
     pub fn new(ticket: u64, level: u8, inputs: List<u64>, hull: (Bytes, Bytes)) -> Reservation
-        ensures { result ≡ record { ticket = ticket; level = level; inputs = inputs; low = hull.0; high = hull.1 } }
+        ensures { result ≡ record {
+          ticket = ticket;
+          level = level;
+          inputs = inputs;
+          low = hull.0;
+          high = hull.1;
+        } }
     {
         let (low, high) = hull;
         Reservation {

@@ -19,7 +19,8 @@ pub fn crc32c(bytes: &[u8]) -> u32
 /// (`Extend` of LevelDB's `util/crc32c.h`).
 pub fn crc_extend(checksum: u32, bytes: &[u8]) -> u32
     ensures value { result ≡ crc_after checksum bytes.now }
-    ensures joins { (front : List ℕ) → checksum ≡ crc_of front → result ≡ crc_of (front ++ bytes.now) }
+    ensures joins { (front : List ℕ) → checksum ≡ crc_of front
+        → result ≡ crc_of (front ++ bytes.now) }
 {
     !absorb_strides(!checksum, bytes)
 }

@@ -1,12 +1,16 @@
 //! Internal keys: a user key, then eight bytes, the fixed64 of `sequence * 256 + kind`
 //! (the internal keys of LevelDB's `db/dbformat.h`).
 
-ghost use Rattle.std.specs.Prelude.{◌≡◌, ℕ, ◌-◌, ◌^◌, ◌<◌, ◌≤◌, ◌↔◌, ◌⊎◌, ◌++◌, List, length, slice_index, true, IfOk, IfErr, IsOk, OnOk, OnErr, MatchResult, Ok, Err};
-ghost use Rattle.lsm_codec.specs.Keys.{InternalKey, IsKey, IsBadKind, packed, key_bytes, key_cmp, is_internal, user_part, packed_part};
+ghost use Rattle.std.specs.Prelude.{◌≡◌, ℕ, ◌-◌, ◌^◌, ◌<◌, ◌≤◌, ◌↔◌, ◌⊎◌, ◌++◌, List, length};
+ghost use Rattle.std.specs.Prelude.{slice_index, true, IfOk, IfErr, IsOk, OnOk, OnErr, MatchResult};
+ghost use Rattle.std.specs.Prelude.{Ok, Err};
+ghost use Rattle.lsm_codec.specs.Keys.{InternalKey, IsKey, IsBadKind, packed, key_bytes, key_cmp};
+ghost use Rattle.lsm_codec.specs.Keys.{is_internal, user_part, packed_part};
 
+use crate::bytes::Bytes;
 use crate::fault::CodecFault;
 use crate::kind::Kind;
-use std::alloc::AllocError;
+use std::alloc::{AllocError, Global};
 use std::cmp::Ordering;
 
 /// The greatest sequence, 2^56 - 1: a sequence and a kind share 64 bits (`kMaxSequenceNumber` of
@@ -35,10 +39,13 @@ impl<'a> KeyRef<'a> {
     /// from the end, where that is above 1.
     pub fn split(bytes: &'a [u8]) -> Result<KeyRef<'a>, CodecFault>
         ensures found { IfOk result (λ k. IsKey bytes.now (key_of k)) }
-        ensures only { (key : InternalKey) → IsKey bytes.now key → IfOk result (λ k. key_of k ≡ key) × IsOk result }
+        ensures only { (key : InternalKey) → IsKey bytes.now key
+            → IfOk result (λ k. key_of k ≡ key) × IsOk result }
         ensures short { result ≡ Err CodecFault.ShortKey ↔ length bytes.now < 8 }
-        ensures bad_kind { (kind : ℕ) → result ≡ Err (CodecFault.BadKind kind) ↔ IsBadKind bytes.now kind }
-        ensures kind { IfErr result (λ e. (e ≡ CodecFault.ShortKey) ⊎ (e ≡ CodecFault.BadKind (slice_index bytes.now (length bytes.now - 8)))) }
+        ensures bad_kind { (kind : ℕ) → result ≡ Err (CodecFault.BadKind kind)
+            ↔ IsBadKind bytes.now kind }
+        ensures kind { IfErr result (λ e. (e ≡ CodecFault.ShortKey)
+            ⊎ (e ≡ CodecFault.BadKind (slice_index bytes.now (length bytes.now - 8)))) }
     {
         if bytes.len() < 8 {
             return Err(CodecFault::ShortKey);
@@ -75,6 +82,15 @@ impl<'a> KeyRef<'a> {
             Ordering::Equal => other.packed().cmp(&self.packed()),
         }
     }
+
+    /// The bytes of the internal key. `AllocError` where a growth was refused.
+    pub fn to_bytes(&self, alloc: Global) -> Result<Bytes, AllocError>
+        ensures { IfOk result (λ b. IsKey b (key_of self.now)) }
+    {
+        let mut bytes = Vec::new(alloc);
+        push_key(&mut bytes, self.user, self.seq, self.kind)?;
+        Ok(Bytes::of(bytes))
+    }
 }
 
 /// Appends the bytes of an internal key: the user key, and eight bytes of the sequence and the
@@ -84,8 +100,10 @@ impl<'a> KeyRef<'a> {
 /// `AllocError` where a growth of `out` was refused: its contents are then as before.
 pub fn push_key(out: &mut Vec<u8>, user: &[u8], seq: u64, kind: Kind) -> Result<(), AllocError>
     requires { seq ≤ MAX_SEQ }
-    ensures ok { OnOk result (out.new.items ≡ out.old.items ++ key_bytes record { user = user.now; seq = seq; kind = kind }) }
-    ensures is_key { IsKey (key_bytes record { user = user.now; seq = seq; kind = kind }) record { user = user.now; seq = seq; kind = kind } }
+    ensures ok { OnOk result (out.new.items
+        ≡ out.old.items ++ key_bytes record { user = user.now; seq = seq; kind = kind }) }
+    ensures is_key { IsKey (key_bytes record { user = user.now; seq = seq; kind = kind })
+        record { user = user.now; seq = seq; kind = kind } }
     ensures err { OnErr result (out.new.items ≡ out.old.items) }
 {
     let len = out.len();
@@ -117,7 +135,8 @@ pub fn key_parts(bytes: &[u8]) -> (&[u8], u64)
     ensures user { result.0.now ≡ user_part bytes.now }
     ensures packed { result.1 ≡ packed_part bytes.now }
     // Of the bytes of a key these are that key's.
-    ensures key { (key : InternalKey) → IsKey bytes.now key → (result.0.now ≡ key.user) × (result.1 ≡ packed key) }
+    ensures key { (key : InternalKey) → IsKey bytes.now key
+        → (result.0.now ≡ key.user) × (result.1 ≡ packed key) }
 {
     if bytes.len() < 8 {
         return (bytes, 0);

@@ -40,7 +40,8 @@ fn far(word: u64) -> u32
 /// Eight bytes as a word, the lowest first.
 fn word(bytes: &[u8]) -> u64
     requires { length bytes.now ≡ 8 }
-    ensures { (register : ℕ) → register_after register bytes.now ≡ turns 64 (bit_xor register result) }
+    ensures { (register : ℕ)
+        → register_after register bytes.now ≡ turns 64 (bit_xor register result) }
 {
     u64::from_le_bytes([
         bytes[0], bytes[1], bytes[2], bytes[3], bytes[4], bytes[5], bytes[6], bytes[7],
@@ -59,7 +60,8 @@ struct Words {
 /// The words of a stride.
 fn read(block: &[u8]) -> Words
     requires { length block.now ≡ 32 }
-    ensures { (register : ℕ) → register_after register block.now ≡ after_words register (result.first ∷ result.second ∷ result.third ∷ result.fourth ∷ []) }
+    ensures { (register : ℕ) → register_after register block.now
+        ≡ after_words register (result.first ∷ result.second ∷ result.third ∷ result.fourth ∷ []) }
 {
     let (first, after) = block.split_at(8);
     let (second, later) = after.split_at(8);
@@ -75,7 +77,9 @@ fn read(block: &[u8]) -> Words
 /// The words after one more stride: each moves on by itself, and takes in the word in its place.
 fn stride(state: Words, block: &[u8]) -> Words
     requires { length block.now ≡ 32 }
-    ensures { register_after (after_words 0 (state.first ∷ state.second ∷ state.third ∷ state.fourth ∷ [])) block.now ≡ after_words 0 (result.first ∷ result.second ∷ result.third ∷ result.fourth ∷ []) }
+    ensures { register_after
+        (after_words 0 (state.first ∷ state.second ∷ state.third ∷ state.fourth ∷ [])) block.now
+        ≡ after_words 0 (result.first ∷ result.second ∷ result.third ∷ result.fourth ∷ []) }
 {
     let new = read(block);
     Words {
@@ -89,7 +93,8 @@ fn stride(state: Words, block: &[u8]) -> Words
 /// The words that stand for a register and the first stride.
 fn start(register: u32, block: &[u8]) -> Words
     requires { length block.now ≡ 32 }
-    ensures { register_after register block.now ≡ after_words 0 (result.first ∷ result.second ∷ result.third ∷ result.fourth ∷ []) }
+    ensures { register_after register block.now
+        ≡ after_words 0 (result.first ∷ result.second ∷ result.third ∷ result.fourth ∷ []) }
 {
     let new = read(block);
     Words {
@@ -102,7 +107,8 @@ fn start(register: u32, block: &[u8]) -> Words
 
 /// The register that four words stand for.
 fn joined(state: Words) -> u32
-    ensures { result ≡ after_words 0 (state.first ∷ state.second ∷ state.third ∷ state.fourth ∷ []) }
+    ensures { result
+        ≡ after_words 0 (state.first ∷ state.second ∷ state.third ∷ state.fourth ∷ []) }
 {
     let first = near(state.first);
     let second = near(first as u64 ^ state.second);

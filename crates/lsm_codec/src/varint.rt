@@ -1,8 +1,12 @@
 //! Numbers in groups of seven bits, the lowest group first, the high bit set on each byte but the
 //! last (varint32 and varint64 of LevelDB's `util/coding.h`).
 
-ghost use Rattle.std.specs.Prelude.{◌≡◌, ℕ, ◌+◌, ◌-◌, ◌^◌, ◌<◌, ◌≤◌, ◌↔◌, ◌⊎◌, ◌++◌, List, length, take, drop, IfOk, IfErr, OnOk, OnErr, MatchResult, Ok, Err, vec_len};
-ghost use Rattle.lsm_codec.specs.Varint.{IsVarint32, IsVarint64, IsCut, GetsVarint, Reads, IsShortest, varint_at, varint32_at, varint64_at, shortest, varint32, varint64};
+ghost use Rattle.std.specs.Prelude.{◌≡◌, ℕ, ◌+◌, ◌-◌, ◌^◌, ◌<◌, ◌≤◌, ◌↔◌, ◌⊎◌, ◌++◌, List, length};
+ghost use Rattle.std.specs.Prelude.{take, drop, IfOk, IfErr, OnOk, OnErr, MatchResult, Ok, Err};
+ghost use Rattle.std.specs.Prelude.{vec_len};
+ghost use Rattle.lsm_codec.specs.Varint.{IsVarint32, IsVarint64, IsCut, GetsVarint, Reads};
+ghost use Rattle.lsm_codec.specs.Varint.{IsShortest, varint_at, varint32_at, varint64_at, shortest};
+ghost use Rattle.lsm_codec.specs.Varint.{varint32, varint64};
 
 use crate::fault::CodecFault;
 use std::alloc::AllocError;
@@ -69,7 +73,8 @@ pub fn get_varint64(bytes: &[u8]) -> Result<(u64, usize), CodecFault>
 
 /// Adds the groups of a number. After an `Err` some of them may stand there.
 fn push_groups(out: &mut Vec<u8>, n: u64) -> Result<(), AllocError>
-    ensures ok { OnOk result ((most : ℕ) → 0 < most → n < 128 ^ most → out.new.items ≡ out.old.items ++ shortest most n) }
+    ensures ok { OnOk result ((most : ℕ) → 0 < most → n < 128 ^ most
+        → out.new.items ≡ out.old.items ++ shortest most n) }
     ensures front { take (vec_len out.old) out.new.items ≡ out.old.items }
 {
     if n < 128 {
@@ -82,7 +87,8 @@ fn push_groups(out: &mut Vec<u8>, n: u64) -> Result<(), AllocError>
 
 /// Adds the groups of a number. An `Err` leaves the contents as they were.
 fn put_groups(out: &mut Vec<u8>, n: u64) -> Result<(), AllocError>
-    ensures ok { OnOk result ((most : ℕ) → 0 < most → n < 128 ^ most → out.new.items ≡ out.old.items ++ shortest most n) }
+    ensures ok { OnOk result ((most : ℕ) → 0 < most → n < 128 ^ most
+        → out.new.items ≡ out.old.items ++ shortest most n) }
     ensures err { OnErr result (out.new.items ≡ out.old.items) }
 {
     let len = out.len();

@@ -25,18 +25,18 @@ is_refused (Err e) status Stored Refused Honest workers was is old new ok err sa
 -- ---- after the opening
 
 -- memory ran out before the workers began, or one of them has a fault
-pub unfinished : (Stored : ℕ → List ℕ → Type 0) (Refused : Asked → ShelfFault → Type 0) (Honest : Type 0) (board : TableId) (workers crew : ℕ) (e : CompactFault) (was is : Told) → crew ≡ workers
-    → IsOpened Honest board was is → (e ≡ Writer (of_shelf OutOfMemory)) ⊎ IsWorkersFault Honest crew e → IsCompactFault Stored Refused Honest workers e was is
-unfinished Stored Refused Honest board workers crew e was is same opened stops = elim stops [
+pub unfinished : (Stored : ℕ → List ℕ → Type 0) (Refused : Asked → ShelfFault → Type 0) (Honest : Type 0) (board : TableId) (workers count : ℕ) (e : CompactFault) (was is : Told) → count ≡ workers
+    → IsOpened Honest board was is → (e ≡ Writer (of_shelf OutOfMemory)) ⊎ IsWorkersFault Honest count e → IsCompactFault Stored Refused Honest workers e was is
+unfinished Stored Refused Honest board workers count e was is same opened stops = elim stops [
   | inl memory ↦ inr (inl (inr (OutOfMemory, memory, tt, (board, opened))))
   | inr fault ↦ inr (inr (inl (subst (λ n. IsWorkersFault Honest n e) same fault, (board, opened))))
 ]
 
 -- the collect was refused
-pub unswept : (Stored : ℕ → List ℕ → Type 0) (Refused : Asked → ShelfFault → Type 0) (Honest : Type 0) (board : TableId) (workers crew : ℕ) (ends : List WorkerEnd) (fault : StateFault) (was mid is : Told)
-    → crew ≡ workers → IsOpened Honest board was mid → AreEnds Honest crew ends → All IsFaultless ends → Refuses Refused Honest board fault mid is
+pub unswept : (Stored : ℕ → List ℕ → Type 0) (Refused : Asked → ShelfFault → Type 0) (Honest : Type 0) (board : TableId) (workers count : ℕ) (ends : List WorkerEnd) (fault : StateFault) (was mid is : Told)
+    → count ≡ workers → IsOpened Honest board was mid → AreEnds Honest count ends → All IsFaultless ends → Refuses Refused Honest board fault mid is
     → IsCompactFault Stored Refused Honest workers (Writer (State fault)) was is
-unswept Stored Refused Honest board workers crew ends fault was mid is same opened each faultless refuses = inr (inr (inr (inl (
+unswept Stored Refused Honest board workers count ends fault was mid is same opened each faultless refuses = inr (inr (inr (inl (
   fault,
   refl,
   record {
@@ -51,9 +51,9 @@ unswept Stored Refused Honest board workers crew ends fault was mid is same open
 ))))
 
 -- all was done
-pub compacts : (Honest : Type 0) (board : TableId) (workers crew : ℕ) (ends : List WorkerEnd) (was mid is : Told) → crew ≡ workers
-    → IsOpened Honest board was mid → AreEnds Honest crew ends → All IsFaultless ends → IsSwept Honest board mid is → Compacts Honest workers ends was is
-compacts Honest board workers crew ends was mid is same opened each faultless swept = record {
+pub compacts : (Honest : Type 0) (board : TableId) (workers count : ℕ) (ends : List WorkerEnd) (was mid is : Told) → count ≡ workers
+    → IsOpened Honest board was mid → AreEnds Honest count ends → All IsFaultless ends → IsSwept Honest board mid is → Compacts Honest workers ends was is
+compacts Honest board workers count ends was mid is same opened each faultless swept = record {
   board = board;
   mid = mid;
   opened = opened;

@@ -13,13 +13,13 @@ ghost use Rattle.lsm_compactor.specs.Compacting.{AreEnds, IsCompactFault, IsComp
 ghost use Rattle.lsm_compactor.specs.declared.compact_fault.CompactFault.TheVariants.{Writer as WriterVariant};
 
 use crate::compact_fault::CompactFault;
-use crate::compact_options::CompactOptions;
-use crate::crew::Crew;
+use crate::compaction::Compaction;
 use crate::job_teller::JobTeller;
 use crate::opening::open;
 use crate::progress::{tell_installed, tell_opened, tell_removed};
 use crate::sweeping::sweep;
 use crate::tally::{installed_by, judge};
+use lsm_commands::CompactOptions;
 use lsm_slots::Boarded;
 use lsm_state::StateFault;
 use lsm_store::{NoGate, Store, WorkerEnd, run_workers};
@@ -34,14 +34,14 @@ use std::thread::Threads;
 /// Opens the directory of a shelf, says so where that is asked for, and mans it with so many
 /// workers.
 #[tactic(auto, using(crate::proofs::Quiet::keeps_same))]
-fn man<N: Boarded, S: Shelf, R: Wait, E: Write>(
+fn begin<N: Boarded, S: Shelf, R: Wait, E: Write>(
     rt: &R,
     alloc: Global,
     shelf: &mut S,
     options: CompactOptions,
     parts: Parts<N, S>,
     err: &mut E,
-) -> Result<Crew<N, S>, CompactFault>
+) -> Result<Compaction<N, S>, CompactFault>
     requires here { (S.told shelf.old).place ≡ N.place }
     ensures here { IfOk result (λ c. All (λ s. (S.told s).place ≡ N.place) c.shelves.items) }
     ensures shelf { OnOk result ((S.told shelf.new).place ≡ N.place) }
@@ -52,8 +52,8 @@ fn man<N: Boarded, S: Shelf, R: Wait, E: Write>(
 {
     let state = open(rt, alloc, shelf, parts)?;
     tell_opened(&state, options.progress, err);
-    match Crew::new(alloc, state, shelf, options.workers) {
-        Ok(crew) => Ok(crew),
+    match Compaction::new(alloc, state, shelf, options.workers) {
+        Ok(compaction) => Ok(compaction),
         Err(fault) => Err(CompactFault::of_shelf(fault)),
     }
 }
@@ -61,7 +61,7 @@ fn man<N: Boarded, S: Shelf, R: Wait, E: Write>(
 /// Lets workers compact a store, one for each shelf; each job that they begin is said where that is
 /// asked for.
 #[tactic(auto, using(crate::proofs::Quiet::keeps_same))]
-fn set_to_work<N: Boarded, S: Shelf, R: Threads + Wait + Sync, E: Write + Send>(
+fn run_all<N: Boarded, S: Shelf, R: Threads + Wait + Sync, E: Write + Send>(
     rt: &R,
     alloc: Global,
     store: &Store<N, S>,
@@ -97,7 +97,7 @@ fn work<N: Boarded, S: Shelf, R: Threads + Wait + Sync, E: Write + Send>(
     ensures refused { IfErr result (λ e. (e ≡ WriterVariant (of_shelf OutOfMemory)) ⊎ IsWorkersFault S.honest (vec_len shelves) e) }
     ensures quiet { IsFalse progress → Keeps (E.contents err.old) (E.contents err.new) }
 {
-    let Ok(ends) = set_to_work(rt, alloc, store, shelves, progress, err) else {
+    let Ok(ends) = run_all(rt, alloc, store, shelves, progress, err) else {
         return Err(CompactFault::of_shelf(ShelfFault::OutOfMemory));
     };
     judge(&ends)?;
@@ -107,7 +107,7 @@ fn work<N: Boarded, S: Shelf, R: Threads + Wait + Sync, E: Write + Send>(
 
 /// Removes what the store's state does not keep, and says how much where that is asked for.
 #[tactic(auto, using(crate::proofs::Quiet::keeps_same))]
-fn tidy<N: Boarded, S: Shelf, R: Wait, E: Write>(
+fn sweep_all<N: Boarded, S: Shelf, R: Wait, E: Write>(
     rt: &R,
     alloc: Global,
     store: &Store<N, S>,
@@ -154,9 +154,9 @@ fn compact_as<N: Boarded, S: Shelf, R: Threads + Wait + Sync, O: Write, E: Write
     ensures quiet { IsFalse options.progress → Keeps (E.contents err.old) (E.contents err.new) }
 {
     let parts = parts.named(alloc)?;
-    let Crew { store, shelves } = man::<N, S, R, E>(rt, alloc, shelf, options, parts, err)?;
+    let Compaction { store, shelves } = begin::<N, S, R, E>(rt, alloc, shelf, options, parts, err)?;
     let done = work(rt, alloc, &store, shelves, options.progress, err)?;
-    tidy(rt, alloc, &store, shelf, options.progress, err)?;
+    sweep_all(rt, alloc, &store, shelf, options.progress, err)?;
     match reply(out, installed_by(&done)) {
         Ok(()) => Ok(()),
         Err(_) => Err(CompactFault::Writer(WriterFault::Write)),

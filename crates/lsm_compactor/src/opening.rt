@@ -56,6 +56,7 @@ pub(crate) fn open<N: Boarded, S: Shelf, R: Wait>(
     let board = (parts.publisher, parts.pinners);
     match State::open(rt, alloc, shelf, options, parts.registry, board) {
         Ok(state) => {
+            // The law of the state is told by this call.
             let _options = state.options();
             Ok(state)
         }

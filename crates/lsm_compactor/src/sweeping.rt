@@ -22,6 +22,7 @@ fn sweep_state<N: Boarded, S: Shelf, R: Wait>(
     ensures refused { IfErr result (λ e. Refuses (S.refuses N.place) S.honest N.board e (S.told shelf.old) (S.told shelf.new)) }
 {
     let collected = state.collect(rt, alloc, shelf);
+    // The law of the state is told by this call.
     let _options = state.options();
     match collected {
         Ok(removed) => Ok(removed.len()),

@@ -1,13 +1,18 @@
 //! Laws of what a crash leaves of a database. Each function's contract is one law, or a few that
 //! belong together; its body is empty.
 
-ghost use Rattle.std.specs.Prelude.{◌≡◌, ◌<◌, ◌≤◌, ◌^◌, ◌⊎◌, ◌%◌, ℕ, List, [], ◌∷◌, ◌++◌, length, take, Bool, true, Some, None, Result, Ok, codes};
+ghost use Rattle.std.specs.Prelude.{◌≡◌, ◌<◌, ◌≤◌, ◌^◌, ◌⊎◌, ◌%◌, ℕ, List, [], ◌∷◌, ◌++◌, length};
+ghost use Rattle.std.specs.Prelude.{take, Bool, true, Some, None, Result, Ok, codes};
 ghost use Rattle.lsm_codec.specs.Lists.{Has};
-ghost use Rattle.lsm_folder.specs.Calls.{Answer, Call, made, wrote, appended, synced, folder_synced, removed, loaded, locked};
+ghost use Rattle.lsm_folder.specs.Calls.{Answer, Call, made, wrote, appended, synced};
+ghost use Rattle.lsm_folder.specs.Calls.{folder_synced, removed, loaded, locked};
 ghost use Rattle.lsm_folder.specs.declared.folder_fault.FolderFault as folder_fault;
 ghost use Rattle.lsm_folder.specs.declared.lock_kind.LockKind.{LockKind};
 ghost use Rattle.lsm_storage.specs.FileNames.{table_name, manifest_name, current_text};
-ghost use Rattle.lsm_storage.specs.Plans.{Step as Asked, AppendStopped, PutStopped, Refused, RemoveStopped, StartStopped, StartedFrom, append_plan, done, manifest_measured, name_plan, put_plan, remove_plan, start_plan};
+ghost use Rattle.lsm_storage.specs.Plans.{Step as Asked, AppendStopped, PutStopped, Refused};
+ghost use Rattle.lsm_storage.specs.Plans.{RemoveStopped, StartStopped, StartedFrom, append_plan};
+ghost use Rattle.lsm_storage.specs.Plans.{done, manifest_measured, name_plan, put_plan};
+ghost use Rattle.lsm_storage.specs.Plans.{remove_plan, start_plan};
 ghost use Rattle.lsm_shelf.specs.declared.shelf_fault.ShelfFault.{ShelfFault};
 ghost use Rattle.lsm_shelf.specs.declared.shelf_fault.ShelfFault.TheVariants.{OutOfMemory};
 ghost use Rattle.lsm_manifest.specs.Edit.{IsEdit};
@@ -17,8 +22,11 @@ ghost use Rattle.lsm_manifest.specs.WholeEdit.{whole_edit};
 ghost use Rattle.lsm_crash.specs.Disk.{After, Disk, Leaves, Shows, Step, empty_disk};
 ghost use Rattle.lsm_crash.specs.Crash.{Found, IsFresh, IsLeft, IsSpoilt};
 ghost use Rattle.lsm_crash.specs.Versions.{AreSmall, ComesTo, IsNamed, LeadsTo, Tables, Version};
-ghost use Rattle.lsm_crash.specs.Known.{IsHeld, IsSettled, IsSound, IsVacant, KeepsFront, Known, Recovers, Stands, World, current_name, known_of, nothing, world_of};
-ghost use Rattle.lsm_crash.specs.Operations.{Allows, Append, MayStart, Operation, Put, Remove, Start, after, either, plan_of, started, starting};
+ghost use Rattle.lsm_crash.specs.Known.{IsHeld, IsSettled, IsSound, IsVacant, KeepsFront, Known};
+ghost use Rattle.lsm_crash.specs.Known.{Recovers, Stands, World, current_name, known_of, nothing};
+ghost use Rattle.lsm_crash.specs.Known.{world_of};
+ghost use Rattle.lsm_crash.specs.Operations.{Allows, Append, MayStart, Operation, Put, Remove};
+ghost use Rattle.lsm_crash.specs.Operations.{Start, after, either, plan_of, started, starting};
 ghost use Rattle.lsm_crash.specs.Among.{CutAmong, DoneAmong, Event, Goes, IsAside, IsGap, Spares};
 ghost use Rattle.lsm_crash.specs.History.{History, IsPhase, IsRead, Move, Phase};
 

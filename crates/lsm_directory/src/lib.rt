@@ -40,7 +40,7 @@ mod second_lines;
 pub use directory_fault::DirectoryFault;
 pub use file_kind::FileKind;
 pub use folder_file::FolderFile;
-pub use holding::{hold, open_held};
+pub use holding::hold;
 pub use logs::first_unread;
 pub use looking::{files_beside, folder_names, log_files, logs_among, open_folder};
 pub use opened::{Opened, open};

@@ -1,6 +1,8 @@
 //! The files of a folder in memory, and their names.
 
-ghost use Rattle.std.specs.Prelude.{◌≡◌, ℕ, ◌<◌, ◌∷◌, ◌++◌, [], Some, None, List, length, slice_index_or, slice_set, IfOk, OnOk, string_bytes, if◌then◌else◌};
+ghost use Rattle.std.specs.Prelude.{◌≡◌, ℕ, ◌<◌, ◌∷◌, ◌++◌, [], Some, None, List, length};
+ghost use Rattle.std.specs.Prelude.{slice_index_or, slice_set, IfOk, OnOk, string_bytes};
+ghost use Rattle.std.specs.Prelude.{if◌then◌else◌};
 ghost use Rattle.std.specs.BTreeMap.{get_by_text};
 ghost use Rattle.std.specs.Vec.{vec_len};
 ghost use Rattle.lsm_folder.specs.Directory.{IsCopy, Moves, Names};
@@ -43,7 +45,8 @@ impl Directory {
 
     /// How many bytes of a file are durable, and 0 where there is no such file.
     pub(crate) fn durable_of(&self, number: usize) -> usize
-        ensures { (file : _) → (number < length self.now.files.items) → result ≡ (slice_index_or self.now.files.items number file).durable }
+        ensures { (file : _) → (number < length self.now.files.items)
+            → result ≡ (slice_index_or self.now.files.items number file).durable }
     {
         match self.files.get(number) {
             Some(file) => file.durable,
@@ -58,8 +61,10 @@ impl Directory {
         token: Pushed<Image>,
         durable: usize,
     ) -> Result<(), AllocError>
-        ensures files { OnOk result (self.new.files.items ≡ self.old.files.items ++ (record { token = token; durable = durable } ∷ [])) }
-        ensures names { OnOk result (Names self.old.names self.new.names (string_bytes name) (Some (vec_len self.old.files))) }
+        ensures files { OnOk result (self.new.files.items
+            ≡ self.old.files.items ++ (record { token = token; durable = durable } ∷ [])) }
+        ensures names { OnOk result (Names self.old.names self.new.names (string_bytes name)
+            (Some (vec_len self.old.files))) }
         ensures durable { self.new.durable ≡ self.old.durable }
     {
         let number = self.files.len();
@@ -70,7 +75,8 @@ impl Directory {
 
     /// Gives a file these bytes, of which so many are durable.
     pub(crate) fn replace(&mut self, number: usize, token: Pushed<Image>, durable: usize)
-        ensures file { number < length self.old.files.items → self.new.files.items ≡ slice_set self.old.files.items number (record { token = token; durable = durable }) }
+        ensures file { number < length self.old.files.items → self.new.files.items
+            ≡ slice_set self.old.files.items number (record { token = token; durable = durable }) }
         ensures names { self.new.names ≡ self.old.names }
         ensures durable { self.new.durable ≡ self.old.durable }
     {
@@ -82,7 +88,8 @@ impl Directory {
     /// Gives the first name's file the second name.
     pub(crate) fn rename(&mut self, from: &str, to: String, number: usize) -> Result<(), AllocError>
         requires { get_by_text self.old.names from.now ≡ Some number }
-        ensures names { OnOk result (Moves self.old.names self.new.names from.now (string_bytes to)) }
+        ensures names { OnOk result
+            (Moves self.old.names self.new.names from.now (string_bytes to)) }
         ensures files { self.new.files ≡ self.old.files }
         ensures durable { self.new.durable ≡ self.old.durable }
     {

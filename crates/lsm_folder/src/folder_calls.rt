@@ -1,9 +1,12 @@
 //! What a shelf asks of a folder.
 
-ghost use Rattle.std.specs.Prelude.{◌≡◌, ℕ, ◌+◌, ◌≤◌, ◌^◌, List, [], ◌∷◌, Ok, Err, length, map, IfOk, IfErr, IsTrue, MatchResult, string_bytes};
+ghost use Rattle.std.specs.Prelude.{◌≡◌, ℕ, ◌+◌, ◌≤◌, ◌^◌, List, [], ◌∷◌, Ok, Err, length, map};
+ghost use Rattle.std.specs.Prelude.{IfOk, IfErr, IsTrue, MatchResult, string_bytes};
 ghost use Rattle.lsm_shelf.specs.Place.{Place};
 ghost use Rattle.lsm_folder.specs.FolderFault.{NotMissing, NotExists, NotNamed};
-ghost use Rattle.lsm_folder.specs.Calls.{Call, answer_of, made, wrote, appended, synced, folder_synced, renamed, removed, measured, read, loaded, listed, locked};
+ghost use Rattle.lsm_folder.specs.Calls.{Call, answer_of, made, wrote, appended, synced};
+ghost use Rattle.lsm_folder.specs.Calls.{folder_synced, renamed, removed, measured, read, loaded};
+ghost use Rattle.lsm_folder.specs.Calls.{listed, locked};
 
 use crate::folder_fault::FolderFault;
 use crate::lock_kind::LockKind;
@@ -45,9 +48,11 @@ pub trait FolderCalls: Drop {
     /// Makes a file that was not there, with these bytes. `Exists` where a file has the name. After
     /// `Failed` the file may be there with a part of the bytes; after `OutOfMemory` there is none.
     fn make<R: Wait>(&mut self, rt: &R, name: &str, bytes: &[u8]) -> Result<Self::Mark, FolderFault>
-        ensures noted { calls self.new ≡ made name.now bytes.now (answer_of result) ∷ calls self.old }
+        ensures noted { calls self.new
+            ≡ made name.now bytes.now (answer_of result) ∷ calls self.old }
         ensures place { place self.new ≡ place self.old }
-        ensures mark { IfOk result (λ m. (Self.Mark.name m ≡ name.now) × (Self.Mark.image m ≡ bytes.now) × is_of (place self.old) m) }
+        ensures mark { IfOk result (λ m. (Self.Mark.name m ≡ name.now)
+            × (Self.Mark.image m ≡ bytes.now) × is_of (place self.old) m) }
         ensures fault { IfErr result NotMissing };
 
     /// Makes a file in place of what has the name, and puts these bytes into it: nothing is written
@@ -123,9 +128,9 @@ pub trait FolderCalls: Drop {
         requires here { is_of (place self.old) mark.now }
         requires named { Self.Mark.name mark.now ≡ name.now }
         requires inside { offset + len ≤ length (Self.Mark.image mark.now) }
-        ensures noted { MatchResult result
-            (λ v. calls self.new ≡ read name.now (Self.Mark.image mark.now) offset len (Ok v.items) ∷ calls self.old)
-            (λ e. calls self.new ≡ read name.now (Self.Mark.image mark.now) offset len (Err e) ∷ calls self.old) }
+        ensures noted { MatchResult result (λ v. calls self.new ≡ read name.now (Self.Mark.image
+            mark.now) offset len (Ok v.items) ∷ calls self.old) (λ e. calls self.new
+            ≡ read name.now (Self.Mark.image mark.now) offset len (Err e) ∷ calls self.old) }
         ensures place { place self.new ≡ place self.old }
         ensures fault { IfErr result NotExists };
 
@@ -140,7 +145,8 @@ pub trait FolderCalls: Drop {
             (λ r. calls self.new ≡ loaded name.now (Ok r.1.items) ∷ calls self.old)
             (λ e. calls self.new ≡ loaded name.now (Err e) ∷ calls self.old) }
         ensures place { place self.new ≡ place self.old }
-        ensures mark { IfOk result (λ r. (Self.Mark.name r.0 ≡ name.now) × (Self.Mark.image r.0 ≡ r.1.items) × is_of (place self.old) r.0) }
+        ensures mark { IfOk result (λ r. (Self.Mark.name r.0 ≡ name.now)
+            × (Self.Mark.image r.0 ≡ r.1.items) × is_of (place self.old) r.0) }
         ensures limit { IfOk result (λ r. length r.1.items ≤ 2 ^ 30) }
         ensures fault { IfErr result NotExists };
 

@@ -2,7 +2,9 @@
 
 ghost use Rattle.std.specs.Prelude.{◌≡◌, ℕ, Ok, Err, List, [], ◌∷◌, map, string_bytes};
 ghost use Rattle.std.specs.Borrow.{ftrue};
-ghost use Rattle.lsm_folder.specs.Calls.{Call, Answer, answer_of, opened, made, wrote, appended, synced, folder_synced, renamed, removed, measured, read, loaded, listed, locked};
+ghost use Rattle.lsm_folder.specs.Calls.{Call, Answer, answer_of, opened, made, wrote, appended};
+ghost use Rattle.lsm_folder.specs.Calls.{synced, folder_synced, renamed, removed, measured, read};
+ghost use Rattle.lsm_folder.specs.Calls.{loaded, listed, locked};
 
 use crate::folder_fault::FolderFault;
 use crate::lock_kind::LockKind;
@@ -225,7 +227,8 @@ struct ReadGiven<'a> {
 struct ReadOk;
 
 impl<'a> Tells<ReadGiven<'a>> for ReadOk {
-    ghost calls = { λ a. read a.reading.name.now a.reading.image.now.numbers a.reading.offset a.reading.len (Ok a.bytes.now) ∷ a.reading.older.now.calls };
+    ghost calls = { λ a. read a.reading.name.now a.reading.image.now.numbers a.reading.offset
+        a.reading.len (Ok a.bytes.now) ∷ a.reading.older.now.calls };
 }
 
 /// A read that was refused.
@@ -238,7 +241,8 @@ struct ReadRefused<'a> {
 struct ReadFailed;
 
 impl<'a> Tells<ReadRefused<'a>> for ReadFailed {
-    ghost calls = { λ a. read a.reading.name.now a.reading.image.now.numbers a.reading.offset a.reading.len (Err a.fault) ∷ a.reading.older.now.calls };
+    ghost calls = { λ a. read a.reading.name.now a.reading.image.now.numbers a.reading.offset
+        a.reading.len (Err a.fault) ∷ a.reading.older.now.calls };
 }
 
 /// The answer of a call without what it gave.
@@ -292,7 +296,8 @@ impl Log {
         len: usize,
         bytes: &[u8],
     ) -> Log
-        ensures { result.calls ≡ read name.now image.now.numbers offset len (Ok bytes.now) ∷ self.now.calls }
+        ensures { result.calls
+            ≡ read name.now image.now.numbers offset len (Ok bytes.now) ∷ self.now.calls }
     {
         let reading = Reading {
             older: self,
@@ -313,7 +318,8 @@ impl Log {
         len: usize,
         fault: FolderFault,
     ) -> Log
-        ensures { result.calls ≡ read name.now image.now.numbers offset len (Err fault) ∷ self.now.calls }
+        ensures { result.calls
+            ≡ read name.now image.now.numbers offset len (Err fault) ∷ self.now.calls }
     {
         let reading = Reading {
             older: self,

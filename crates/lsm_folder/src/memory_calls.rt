@@ -1,6 +1,7 @@
 //! The calls on a folder in memory.
 
-ghost use Rattle.std.specs.Prelude.{◌≡◌, ◌+◌, ◌≤◌, ◌∷◌, [], List, Some, None, length, take, drop, IfOk, IfErr, MatchResult};
+ghost use Rattle.std.specs.Prelude.{◌≡◌, ◌+◌, ◌≤◌, ◌∷◌, [], List, Some, None, length, take, drop};
+ghost use Rattle.std.specs.Prelude.{IfOk, IfErr, MatchResult};
 ghost use Rattle.lsm_folder.specs.FolderFault.{NotNamed};
 ghost use Rattle.lsm_folder.specs.MemoryFolder.{memory_calls, memory_mark_image};
 ghost use Rattle.lsm_folder.specs.Calls.{AreHonest};

@@ -60,7 +60,8 @@ impl MemoryFiles {
         alloc: Global,
         bytes: &[u8],
     ) -> Result<Pushed<Image>, FolderFault>
-        ensures ok { IfOk result (λ t. (t.value.bytes.items ≡ bytes.now) × Shows self.now.images t) }
+        ensures ok { IfOk result (λ t. (t.value.bytes.items ≡ bytes.now)
+            × Shows self.now.images t) }
         ensures err { IfErr result (λ e. e ≡ FolderFault.OutOfMemory) }
     {
         let bytes = Vec::from_slice(alloc, bytes)?;
@@ -107,7 +108,8 @@ impl MemoryFiles {
         name: &str,
         bytes: &[u8],
     ) -> Result<Pushed<Image>, FolderFault>
-        ensures ok { IfOk result (λ t. (t.value.bytes.items ≡ bytes.now) × Shows self.now.images t) }
+        ensures ok { IfOk result (λ t. (t.value.bytes.items ≡ bytes.now)
+            × Shows self.now.images t) }
         ensures err { IfErr result NotMissing }
     {
         let turn = self.stops.begin()?;
@@ -171,7 +173,8 @@ impl MemoryFiles {
         bytes: &[u8],
     ) -> Result<Pushed<Image>, FolderFault>
         requires { Shows self.now.images token.now }
-        ensures ok { IfOk result (λ t. (t.value.bytes.items ≡ token.now.value.bytes.items ++ bytes.now) × Shows self.now.images t) }
+        ensures ok { IfOk result (λ t. (t.value.bytes.items
+            ≡ token.now.value.bytes.items ++ bytes.now) × Shows self.now.images t) }
         ensures err { IfErr result (λ e. e ≡ FolderFault.OutOfMemory) }
     {
         let image = self.images.value(token);
@@ -258,7 +261,8 @@ impl MemoryFiles {
     ) -> Result<Vec<u8>, FolderFault>
         requires here { Shows self.now.images token.now }
         requires inside { offset + len ≤ length token.now.value.bytes.items }
-        ensures ok { IfOk result (λ v. v.items ≡ take len (drop offset token.now.value.bytes.items)) }
+        ensures ok { IfOk result (λ v.
+            v.items ≡ take len (drop offset token.now.value.bytes.items)) }
         ensures err { IfErr result NotExists }
     {
         let turn = self.stops.begin()?;
@@ -277,7 +281,8 @@ impl MemoryFiles {
         alloc: Global,
         name: &str,
     ) -> Result<(Pushed<Image>, Vec<u8>), FolderFault>
-        ensures ok { IfOk result (λ r. (r.0.value.bytes.items ≡ r.1.items) × Shows self.now.images r.0) }
+        ensures ok { IfOk result (λ r. (r.0.value.bytes.items ≡ r.1.items)
+            × Shows self.now.images r.0) }
         ensures limit { IfOk result (λ r. length r.1.items ≤ 2 ^ 30) }
         ensures err { IfErr result NotExists }
     {

@@ -6,7 +6,8 @@ ghost use Rattle.boxcar.specs.Table.{Shows};
 ghost use Rattle.lsm_folder.specs.Calls.{opened};
 ghost use Rattle.lsm_folder.specs.FolderFault.{NotMissing, NotExists, NotNamed};
 ghost use Rattle.lsm_shelf.specs.Place.{IsAtPath};
-ghost use Rattle.lsm_folder.specs.SystemFolder.{system_calls, system_place, system_mark_name, system_mark_image};
+ghost use Rattle.lsm_folder.specs.SystemFolder.{system_calls, system_place, system_mark_name};
+ghost use Rattle.lsm_folder.specs.SystemFolder.{system_mark_image};
 
 use crate::folder_calls::FolderCalls;
 use crate::folder_fault::FolderFault;

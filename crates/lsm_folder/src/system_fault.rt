@@ -52,7 +52,8 @@ impl SystemFault {
     /// A refusal of a call that needs no name.
     pub(crate) fn failed(self) -> FolderFault
         ensures fault { NotNamed result }
-        ensures memory { (result ≡ FolderFault.OutOfMemory) ↔ (fault_kind self ≡ ErrorKind.OutOfMemory) }
+        ensures memory { (result ≡ FolderFault.OutOfMemory)
+            ↔ (fault_kind self ≡ ErrorKind.OutOfMemory) }
     {
         match self.kind() {
             ErrorKind::OutOfMemory => FolderFault::OutOfMemory,
@@ -63,7 +64,8 @@ impl SystemFault {
     /// A refusal of a call on a file that must be there.
     pub(crate) fn missing(self) -> FolderFault
         ensures fault { NotExists result }
-        ensures memory { (result ≡ FolderFault.OutOfMemory) ↔ (fault_kind self ≡ ErrorKind.OutOfMemory) }
+        ensures memory { (result ≡ FolderFault.OutOfMemory)
+            ↔ (fault_kind self ≡ ErrorKind.OutOfMemory) }
         ensures missing { (result ≡ FolderFault.Missing) ↔ (fault_kind self ≡ ErrorKind.NotFound) }
     {
         match self.kind() {
@@ -76,8 +78,10 @@ impl SystemFault {
     /// A refusal of a call that makes a file.
     pub(crate) fn exists(self) -> FolderFault
         ensures fault { NotMissing result }
-        ensures memory { (result ≡ FolderFault.OutOfMemory) ↔ (fault_kind self ≡ ErrorKind.OutOfMemory) }
-        ensures exists { (result ≡ FolderFault.Exists) ↔ (fault_kind self ≡ ErrorKind.AlreadyExists) }
+        ensures memory { (result ≡ FolderFault.OutOfMemory)
+            ↔ (fault_kind self ≡ ErrorKind.OutOfMemory) }
+        ensures exists { (result ≡ FolderFault.Exists)
+            ↔ (fault_kind self ≡ ErrorKind.AlreadyExists) }
     {
         match self.kind() {
             ErrorKind::AlreadyExists => FolderFault::Exists,

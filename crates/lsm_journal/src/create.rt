@@ -4,7 +4,9 @@ ghost use Rattle.std.specs.Prelude.{◌≡◌, ◌+◌, ◌<◌, ◌^◌, IfErr,
 ghost use Rattle.lsm_shelf.specs.Told.{Becomes, Rose, next_count, sending};
 ghost use Rattle.lsm_version.specs.Versions.{no_levels};
 ghost use Rattle.lsm_journal.specs.Recorded.{IsRecorded};
-ghost use Rattle.lsm_journal.specs.Sending.{CreateCounted, CreateCountedUnder, IsCreateAsked, IsCreateAskedUnder, IsCreateRefusal, IsCreateRefusalUnder};
+ghost use Rattle.lsm_journal.specs.Sending.{CreateCounted, CreateCountedUnder, IsCreateAsked};
+ghost use Rattle.lsm_journal.specs.Sending.{IsCreateAskedUnder, IsCreateRefusal};
+ghost use Rattle.lsm_journal.specs.Sending.{IsCreateRefusalUnder};
 ghost use Rattle.lsm_journal.specs.Writing.{created, created_under};
 
 use crate::journal::Journal;
@@ -28,14 +30,19 @@ impl Journal {
     ) -> Result<Journal, ShelfFault>
         ensures created { IfOk result (λ j. j ≡ created limit) }
         ensures recorded { IfOk result (λ j. IsRecorded 0 j no_levels 2) }
-        ensures sent { IfOk result (λ j. Becomes (sending j.number j.bytes (S.told shelf.old)) (S.told shelf.new)) }
+        ensures sent { IfOk result (λ j.
+            Becomes (sending j.number j.bytes (S.told shelf.old)) (S.told shelf.new)) }
 
         // No manifest was there: the shelf said so.
         ensures missing { OnOk result (Rose (S.told shelf.old).misses (S.told shelf.new).misses) }
-        ensures counts { OnOk result (((S.told shelf.new).faults ≡ (S.told shelf.old).faults) × ((S.told shelf.new).misses ≡ next_count (S.told shelf.old).misses)) }
-        ensures refused { IfErr result (λ e. IsCreateRefusal e (S.told shelf.old) (S.told shelf.new)) }
-        ensures asked { IfErr result (λ e. IsCreateAsked (S.refuses (S.told shelf.old).place) e (S.told shelf.old) (S.told shelf.new)) }
-        ensures counts_err { IfErr result (λ e. CreateCounted e (S.told shelf.old) (S.told shelf.new)) }
+        ensures counts { OnOk result (((S.told shelf.new).faults ≡ (S.told shelf.old).faults)
+            × ((S.told shelf.new).misses ≡ next_count (S.told shelf.old).misses)) }
+        ensures refused { IfErr result (λ e.
+            IsCreateRefusal e (S.told shelf.old) (S.told shelf.new)) }
+        ensures asked { IfErr result (λ e. IsCreateAsked (S.refuses (S.told shelf.old).place) e
+            (S.told shelf.old) (S.told shelf.new)) }
+        ensures counts_err { IfErr result (λ e.
+            CreateCounted e (S.told shelf.old) (S.told shelf.new)) }
     {
         Journal::create_under(rt, alloc, shelf, limit, 1)
     }
@@ -55,14 +62,19 @@ impl Journal {
         requires numbers { number + 1 < 2 ^ 64 }
         ensures created { IfOk result (λ j. j ≡ created_under number limit) }
         ensures recorded { IfOk result (λ j. IsRecorded 0 j no_levels (number + 1)) }
-        ensures sent { IfOk result (λ j. Becomes (sending j.number j.bytes (S.told shelf.old)) (S.told shelf.new)) }
+        ensures sent { IfOk result (λ j.
+            Becomes (sending j.number j.bytes (S.told shelf.old)) (S.told shelf.new)) }
 
         // No manifest was there: the shelf said so.
         ensures missing { OnOk result (Rose (S.told shelf.old).misses (S.told shelf.new).misses) }
-        ensures counts { OnOk result (((S.told shelf.new).faults ≡ (S.told shelf.old).faults) × ((S.told shelf.new).misses ≡ next_count (S.told shelf.old).misses)) }
-        ensures refused { IfErr result (λ e. IsCreateRefusalUnder number e (S.told shelf.old) (S.told shelf.new)) }
-        ensures asked { IfErr result (λ e. IsCreateAskedUnder number (S.refuses (S.told shelf.old).place) e (S.told shelf.old) (S.told shelf.new)) }
-        ensures counts_err { IfErr result (λ e. CreateCountedUnder number e (S.told shelf.old) (S.told shelf.new)) }
+        ensures counts { OnOk result (((S.told shelf.new).faults ≡ (S.told shelf.old).faults)
+            × ((S.told shelf.new).misses ≡ next_count (S.told shelf.old).misses)) }
+        ensures refused { IfErr result (λ e.
+            IsCreateRefusalUnder number e (S.told shelf.old) (S.told shelf.new)) }
+        ensures asked { IfErr result (λ e. IsCreateAskedUnder number
+            (S.refuses (S.told shelf.old).place) e (S.told shelf.old) (S.told shelf.new)) }
+        ensures counts_err { IfErr result (λ e.
+            CreateCountedUnder number e (S.told shelf.old) (S.told shelf.new)) }
     {
         match shelf.read_manifest(rt, alloc) {
             Ok((taken, _)) => return Err(ShelfFault::Taken(taken)),

@@ -49,9 +49,9 @@ impl<N: Naming, S: Shelf> Found<N, S> {
     /// and lists those that are there. Nothing is written. The limit, in bytes, is that from which
     /// a new manifest is due.
     ///
-    /// The refusals of `Journal::recover`; those of `lsm_check::check`; those of listing the tables;
-    /// then `NumbersSpent` where a table that is listed, or one of the version, or the manifest has
-    /// the number 2^64 - 1; `OutOfMemory` on the way.
+    /// The refusals of `Journal::recover`; those of `lsm_check::check`; those of listing the
+    /// tables; then `NumbersSpent` where a table that is listed, or one of the version, or the
+    /// manifest has the number 2^64 - 1; `OutOfMemory` on the way.
     pub fn read<R: Wait>(
         rt: &R,
         alloc: Global,
@@ -60,9 +60,13 @@ impl<N: Naming, S: Shelf> Found<N, S> {
         limit: u64,
     ) -> Result<Found<N, S>, OpenFault>
         requires here { (S.told shelf.old).place ≡ N.place }
-        ensures found { IfOk result (λ f. IsFound S.honest limit f.journal f.version f.rest f.next (S.told shelf.old) (S.told shelf.new)) }
-        ensures refused { IfErr result (λ e. IsFindRefusal (Stored S.Receipt (S.is_of N.place) S.Receipt.number S.Receipt.image) (S.refuses N.place) S.honest e (S.told shelf.old) (S.told shelf.new)) }
-        ensures counts_err { IfErr result (λ e. IsReadOnce e (S.told shelf.old) (S.told shelf.new)) }
+        ensures found { IfOk result (λ f. IsFound S.honest limit f.journal f.version f.rest f.next
+            (S.told shelf.old) (S.told shelf.new)) }
+        ensures refused { IfErr result (λ e.
+            IsFindRefusal (Stored S.Receipt (S.is_of N.place) S.Receipt.number S.Receipt.image)
+            (S.refuses N.place) S.honest e (S.told shelf.old) (S.told shelf.new)) }
+        ensures counts_err { IfErr result (λ e.
+            IsReadOnce e (S.told shelf.old) (S.told shelf.new)) }
     {
         recovered_is_recorded();
         let recovered = Journal::recover(rt, alloc, shelf, limit)?;

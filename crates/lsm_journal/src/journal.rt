@@ -22,7 +22,13 @@ impl Model for Journal {
 
     ghost Value = { HeldManifest };
 
-    ghost view = { λ j. record { number = j.number; bytes = j.bytes.items; log = j.log; prev_log = j.prev_log; limit = j.limit } };
+    ghost view = { λ j. record {
+      number = j.number;
+      bytes = j.bytes.items;
+      log = j.log;
+      prev_log = j.prev_log;
+      limit = j.limit;
+    } };
 
     ghost invariant = { λ j. Unit {0} };
 }
@@ -42,8 +48,8 @@ impl Journal {
         self.bytes.as_slice()
     }
 
-    /// The number of the write-ahead log, as the manifest had it when it was read: logs below it are
-    /// flushed (but for the one before it).
+    /// The number of the write-ahead log, as the manifest had it when it was read: logs below it
+    /// are flushed (but for the one before it).
     pub fn log(&self) -> u64
         ensures { result ≡ self.now.log }
     {

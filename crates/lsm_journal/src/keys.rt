@@ -15,7 +15,8 @@ pub fn added_keys_fit<N: Naming, S: Shelf>(
     registry: &Registry<N, S>,
     added: &[(usize, TableRef<N, S>)],
 )
-    ensures { (n : ℕ) (t : Table) → Has added.now (n, t) → IsWhole t → FitsKey t.smallest × FitsKey t.largest }
+    ensures { (n : ℕ) (t : Table) → Has added.now (n, t) → IsWhole t
+        → FitsKey t.smallest × FitsKey t.largest }
 {
     for one in added {
         // What holds of the record is told by this call.

@@ -17,19 +17,23 @@ use lsm_version::changed_tables;
 
 /// The manifest that was read records each version of its shape.
 pub fn recovered_is_recorded()
-    ensures { (rest : ℕ) (h : HeldManifest) (shape : Form) (v : Levels) → IsRecovered h shape rest → IsOfShape shape v → AreDistinct (numbers_of shape.levels) → IsRecorded rest h v shape.next }
+    ensures { (rest : ℕ) (h : HeldManifest) (shape : Form) (v : Levels) → IsRecovered h shape rest
+        → IsOfShape shape v → AreDistinct (numbers_of shape.levels)
+        → IsRecorded rest h v shape.next }
 {
     shapes_in_order();
 }
 
 /// The keys of a recorded version fit: each is an internal key, and its length fits 32 bits.
 pub fn recorded_keys_fit()
-    ensures { (rest : ℕ) (h : HeldManifest) (v : Levels) (next : ℕ) → IsRecorded rest h v next → FitsLevels v }
+    ensures { (rest : ℕ) (h : HeldManifest) (v : Levels) (next : ℕ) → IsRecorded rest h v next
+        → FitsLevels v }
 {}
 
 /// So do those of the version after a change.
 pub fn differences_fit()
-    ensures { (h : HeldManifest) (d : Difference) (w : Levels) (next : ℕ) → FitsDifference d → LeadsTo h d w next → FitsLevels w }
+    ensures { (h : HeldManifest) (d : Difference) (w : Levels) (next : ℕ) → FitsDifference d
+        → LeadsTo h d w next → FitsLevels w }
 {
     changed_tables();
 }
@@ -37,5 +41,6 @@ pub fn differences_fit()
 /// The keys of a record that stands for a table fit where its image is not above 1 GiB, as that of
 /// each receipt is: a key is not longer than the table's bytes.
 pub fn whole_keys_fit()
-    ensures { (t : Table) → IsWhole t → length t.image ≤ 2 ^ 30 → FitsKey t.smallest × FitsKey t.largest }
+    ensures { (t : Table) → IsWhole t → length t.image ≤ 2 ^ 30
+        → FitsKey t.smallest × FitsKey t.largest }
 {}

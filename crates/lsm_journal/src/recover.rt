@@ -3,7 +3,8 @@
 ghost use Rattle.std.specs.Prelude.{◌≡◌, IfErr, IfOk, OnOk};
 ghost use Rattle.lsm_manifest.specs.Manifest.{AreEdits};
 ghost use Rattle.lsm_shelf.specs.Told.{Becomes, finding};
-ghost use Rattle.lsm_journal.specs.Recovering.{IsRecordRefusal, IsRecoverRefusal, IsRecovered, RecoverCounted, SameCounts};
+ghost use Rattle.lsm_journal.specs.Recovering.{IsRecordRefusal, IsRecoverRefusal, IsRecovered};
+ghost use Rattle.lsm_journal.specs.Recovering.{RecoverCounted, SameCounts};
 
 use crate::journal::Journal;
 use crate::recover_fault::RecoverFault;
@@ -50,12 +51,15 @@ impl Journal {
         shelf: &mut S,
         limit: u64,
     ) -> Result<Recovered, RecoverFault>
-        ensures found { IfOk result (λ r. Becomes (finding r.journal.number r.journal.bytes (S.told shelf.old)) (S.told shelf.new)) }
+        ensures found { IfOk result (λ r. Becomes
+            (finding r.journal.number r.journal.bytes (S.told shelf.old)) (S.told shelf.new)) }
         ensures recovered { IfOk result (λ r. IsRecovered r.journal r.shape r.rest) }
         ensures limit { IfOk result (λ r. r.journal.limit ≡ limit) }
-        ensures refused { IfErr result (λ e. IsRecoverRefusal (S.refuses (S.told shelf.old).place) e (S.told shelf.old) (S.told shelf.new)) }
+        ensures refused { IfErr result (λ e. IsRecoverRefusal (S.refuses (S.told shelf.old).place) e
+            (S.told shelf.old) (S.told shelf.new)) }
         ensures counts { OnOk result (SameCounts (S.told shelf.old) (S.told shelf.new)) }
-        ensures counts_err { IfErr result (λ e. RecoverCounted e (S.told shelf.old) (S.told shelf.new)) }
+        ensures counts_err { IfErr result (λ e.
+            RecoverCounted e (S.told shelf.old) (S.told shelf.new)) }
     {
         let (number, bytes) = shelf.read_manifest(rt, alloc)?;
         let log = read_log(alloc, &bytes)?;

@@ -32,12 +32,15 @@ impl Journal {
     ) -> Result<(), ShelfFault>
         requires recorded { (rest : ℕ) × IsRecorded rest self.old version.now number }
         requires numbers { number + 1 < 2 ^ 64 }
-        ensures rolls { OnOk result (RollsOver version.now number self.old self.new (S.told shelf.old) (S.told shelf.new)) }
+        ensures rolls { OnOk result
+            (RollsOver version.now number self.old self.new (S.told shelf.old) (S.told shelf.new)) }
         ensures recorded { OnOk result (IsRecorded 0 self.new version.now (number + 1)) }
         ensures err { OnErr result (self.new ≡ self.old) }
         ensures unsent { OnErr result (Becomes (S.told shelf.old) (S.told shelf.new)) }
-        ensures cause { IfErr result (λ e. TakenIs number e × Counted e (S.told shelf.old) (S.told shelf.new)) }
-        ensures asked { IfErr result (IsWantOr (S.refuses (S.told shelf.old).place (started_by version.now number self.old))) }
+        ensures cause { IfErr result (λ e. TakenIs number e
+            × Counted e (S.told shelf.old) (S.told shelf.new)) }
+        ensures asked { IfErr result (IsWantOr
+            (S.refuses (S.told shelf.old).place (started_by version.now number self.old))) }
         ensures counts { CountedBy result (S.told shelf.old) (S.told shelf.new) }
     {
         self.start(rt, alloc, shelf, registry, version, number)

@@ -6,7 +6,8 @@ ghost use Rattle.lsm_shelf.specs.Told.{Becomes, Counted, CountedBy, NotTaken, Ta
 ghost use Rattle.lsm_journal.specs.HeldManifest.{is_at_limit};
 ghost use Rattle.lsm_journal.specs.Recorded.{FitsLevels, IsRecorded};
 ghost use Rattle.lsm_journal.specs.Difference.{LeadsTo};
-ghost use Rattle.lsm_journal.specs.Sending.{Grows, IsSendRefusal, RollsOver, Sends, asked_by, started_by};
+ghost use Rattle.lsm_journal.specs.Sending.{Grows, IsSendRefusal, RollsOver, Sends, asked_by};
+ghost use Rattle.lsm_journal.specs.Sending.{started_by};
 ghost use Rattle.lsm_journal.specs.Writing.{change_edit, record_of};
 
 use crate::journal::Journal;
@@ -29,11 +30,14 @@ impl Journal {
         change: &VersionChange<N, S>,
         next: u64,
     ) -> Result<(), ShelfFault>
-        ensures grows { OnOk result (Grows (change_edit self.old change.now next) self.old self.new (S.told shelf.old) (S.told shelf.new)) }
+        ensures grows { OnOk result (Grows (change_edit self.old change.now next) self.old self.new
+            (S.told shelf.old) (S.told shelf.new)) }
         ensures err { OnErr result (self.new ≡ self.old) }
         ensures unsent { OnErr result (Becomes (S.told shelf.old) (S.told shelf.new)) }
-        ensures cause { IfErr result (λ e. NotTaken e × Counted e (S.told shelf.old) (S.told shelf.new)) }
-        ensures asked { IfErr result (IsWantOr (S.refuses (S.told shelf.old).place (AppendManifest (record_of self.old.bytes (change_edit self.old change.now next))))) }
+        ensures cause { IfErr result (λ e. NotTaken e
+            × Counted e (S.told shelf.old) (S.told shelf.new)) }
+        ensures asked { IfErr result (IsWantOr (S.refuses (S.told shelf.old).place
+            (AppendManifest (record_of self.old.bytes (change_edit self.old change.now next))))) }
         ensures counts { CountedBy result (S.told shelf.old) (S.told shelf.new) }
     {
         let edit = self.change_edit(alloc, registry, change, next)?;
@@ -62,11 +66,14 @@ impl Journal {
     ) -> Result<(), ShelfFault>
         requires keys { FitsLevels version.now }
         requires numbers { number + 1 < 2 ^ 64 }
-        ensures rolls { OnOk result (RollsOver version.now number self.old self.new (S.told shelf.old) (S.told shelf.new)) }
+        ensures rolls { OnOk result
+            (RollsOver version.now number self.old self.new (S.told shelf.old) (S.told shelf.new)) }
         ensures err { OnErr result (self.new ≡ self.old) }
         ensures unsent { OnErr result (Becomes (S.told shelf.old) (S.told shelf.new)) }
-        ensures cause { IfErr result (λ e. TakenIs number e × Counted e (S.told shelf.old) (S.told shelf.new)) }
-        ensures asked { IfErr result (IsWantOr (S.refuses (S.told shelf.old).place (started_by version.now number self.old))) }
+        ensures cause { IfErr result (λ e. TakenIs number e
+            × Counted e (S.told shelf.old) (S.told shelf.new)) }
+        ensures asked { IfErr result (IsWantOr
+            (S.refuses (S.told shelf.old).place (started_by version.now number self.old))) }
         ensures counts { CountedBy result (S.told shelf.old) (S.told shelf.new) }
     {
         let edit = self.version_edit(alloc, registry, version, number + 1)?;
@@ -97,12 +104,15 @@ impl Journal {
     ) -> Result<u64, ShelfFault>
         requires leads { LeadsTo self.old change.now after.now next }
         requires numbers { is_at_limit self.old ≡ true → next + 1 < 2 ^ 64 }
-        ensures sends { IfOk result (λ n. Sends change.now after.now next n self.old self.new (S.told shelf.old) (S.told shelf.new)) }
+        ensures sends { IfOk result (λ n. Sends change.now after.now next n self.old self.new
+            (S.told shelf.old) (S.told shelf.new)) }
         ensures recorded { IfOk result (λ n. IsRecorded 0 self.new after.now n) }
         ensures err { OnErr result (self.new ≡ self.old) }
         ensures unsent { OnErr result (Becomes (S.told shelf.old) (S.told shelf.new)) }
-        ensures cause { IfErr result (λ e. IsSendRefusal self.old next e (S.told shelf.old) (S.told shelf.new)) }
-        ensures asked { IfErr result (IsWantOr (S.refuses (S.told shelf.old).place (asked_by change.now after.now next self.old))) }
+        ensures cause { IfErr result (λ e.
+            IsSendRefusal self.old next e (S.told shelf.old) (S.told shelf.new)) }
+        ensures asked { IfErr result (IsWantOr
+            (S.refuses (S.told shelf.old).place (asked_by change.now after.now next self.old))) }
         ensures counts { CountedBy result (S.told shelf.old) (S.told shelf.new) }
     {
         changed_tables();

@@ -9,7 +9,8 @@ ghost use Rattle.std.specs.Option.{option_map};
 ghost use Rattle.lsm_manifest.specs.EditFit.{FitsDeleted};
 ghost use Rattle.lsm_manifest.specs.EditWriting.{AreInOrder};
 ghost use Rattle.lsm_version.specs.Versions.{IsSound};
-ghost use Rattle.lsm_journal.specs.Difference.{FitsComing, FitsDifference, FitsPlace, changed_by, deleted_numbers};
+ghost use Rattle.lsm_journal.specs.Difference.{FitsComing, FitsDifference, FitsPlace, changed_by};
+ghost use Rattle.lsm_journal.specs.Difference.{deleted_numbers};
 
 use lsm_codec::Bytes;
 use lsm_manifest::{DeletedFile, sort_deleted};
@@ -34,9 +35,19 @@ impl<N: Naming, S: Shelf> Model for VersionChange<N, S> {
 
     ghost Value = { Difference };
 
-    ghost view = { λ c. record { deleted = c.deleted.items; added = c.added.items; pointer = c.pointer; last = c.last } };
+    ghost view = { λ c. record {
+      deleted = c.deleted.items;
+      added = c.added.items;
+      pointer = c.pointer;
+      last = c.last;
+    } };
 
-    ghost invariant = { λ c. FitsDifference record { deleted = c.deleted.items; added = c.added.items; pointer = c.pointer; last = c.last } };
+    ghost invariant = { λ c. FitsDifference record {
+      deleted = c.deleted.items;
+      added = c.added.items;
+      pointer = c.pointer;
+      last = c.last;
+    } };
 }
 
 impl<N: Naming, S: Shelf> VersionChange<N, S> {

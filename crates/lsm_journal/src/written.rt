@@ -1,6 +1,7 @@
 //! The edits that a journal writes.
 
-ghost use Rattle.std.specs.Prelude.{◌≡◌, ◌+◌, ◌^◌, ◌≤◌, ◌<◌, ◌++◌, [], length, map, get_or, None, IfOk, IfSome, OnErr, OnOk, vec_len, codes};
+ghost use Rattle.std.specs.Prelude.{◌≡◌, ◌+◌, ◌^◌, ◌≤◌, ◌<◌, ◌++◌, [], length, map, get_or, None};
+ghost use Rattle.std.specs.Prelude.{IfOk, IfSome, OnErr, OnOk, vec_len, codes};
 ghost use Rattle.std.specs.List.{All};
 ghost use Rattle.lsm_manifest.specs.Edit.{IsEdit};
 ghost use Rattle.lsm_manifest.specs.EditFit.{IsFit};
@@ -8,7 +9,8 @@ ghost use Rattle.lsm_manifest.specs.EditWriting.{AreInOrder, edit_text};
 ghost use Rattle.lsm_version.specs.Versions.{level_in};
 ghost use Rattle.lsm_journal.specs.Recorded.{FitsLevels, meta_of};
 ghost use Rattle.lsm_journal.specs.Difference.{FitsComing, FitsPlace};
-ghost use Rattle.lsm_journal.specs.Writing.{change_edit, first_edit_under, metas_of, placed, pointers_of, record_of, shape_of, version_edit};
+ghost use Rattle.lsm_journal.specs.Writing.{change_edit, first_edit_under, metas_of, placed};
+ghost use Rattle.lsm_journal.specs.Writing.{pointers_of, record_of, shape_of, version_edit};
 
 use crate::journal::Journal;
 use crate::version_change::VersionChange;
@@ -22,7 +24,8 @@ use std::alloc::{AllocError, Global};
 pub(crate) fn push_record(bytes: &mut Vec<u8>, alloc: Global, edit: &Edit) -> Result<(), AllocError>
     requires fit { IsFit edit.now }
     requires ordered { AreInOrder edit.now.deleted }
-    ensures ok { OnOk result (bytes.new.items ≡ bytes.old.items ++ record_of bytes.old.items edit.now) }
+    ensures ok { OnOk result (bytes.new.items
+        ≡ bytes.old.items ++ record_of bytes.old.items edit.now) }
     ensures spelled { OnOk result (IsEdit (edit_text edit.now) edit.now) }
     ensures err { OnErr result (bytes.new.items ≡ bytes.old.items) }
 {

@@ -1,8 +1,10 @@
 //! The live jobs of a store.
 
-ghost use Rattle.std.specs.Prelude.{◌≡◌, ℕ, ◌<◌, [], ◌∷◌, ◌++◌, ◌↔◌, length, MatchOption, IsErr, IsTrue, OnErr, OnOk, slice_index_or};
+ghost use Rattle.std.specs.Prelude.{◌≡◌, ℕ, ◌<◌, [], ◌∷◌, ◌++◌, ◌↔◌, length, MatchOption, IsErr};
+ghost use Rattle.std.specs.Prelude.{IsTrue, OnErr, OnOk, slice_index_or};
 ghost use Rattle.lsm_codec.specs.Lists.{Has};
-ghost use Rattle.lsm_live.specs.Booked.{AreIncreasing, Booked, HasTicket, booked, drawn_numbers, new_booked, tickets_of, without};
+ghost use Rattle.lsm_live.specs.Booked.{AreIncreasing, Booked, HasTicket, booked, drawn_numbers};
+ghost use Rattle.lsm_live.specs.Booked.{new_booked, tickets_of, without};
 
 use crate::live_job::LiveJob;
 use lsm_merge::Job;
@@ -30,7 +32,9 @@ impl<N: Naming, S: Shelf> Model for LiveJobs<N, S> {
 
 /// Where the job of a ticket stands.
 fn place_of<N: Naming, S: Shelf>(jobs: &[LiveJob<N, S>], ticket: u64) -> Option<usize>
-    ensures { MatchOption result ((b : Booked) → Has jobs.now b → b.work.ticket ≡ ticket → ⊥) (λ i. (i < length jobs.now) × ((d : Booked) → (slice_index_or jobs.now i d).work.ticket ≡ ticket)) }
+    ensures { MatchOption result ((b : Booked) → Has jobs.now b → b.work.ticket ≡ ticket
+        → ⊥) (λ i. (i < length jobs.now)
+        × ((d : Booked) → (slice_index_or jobs.now i d).work.ticket ≡ ticket)) }
 {
     for (i, one) in jobs.iter().enumerate() {
         if one.ticket() == ticket {

@@ -18,7 +18,8 @@ fn push_numbers<N: Naming, S: Shelf>(
     tables: &[TableRef<N, S>],
     numbers: &mut Vec<u64>,
 ) -> Result<(), AllocError>
-    ensures { OnOk result (numbers.new.items ≡ numbers.old.items ++ map (λ t. t.number) tables.now) }
+    ensures { OnOk result (numbers.new.items
+        ≡ numbers.old.items ++ map (λ t. t.number) tables.now) }
 {
     for table in tables {
         numbers.push(registry.record(table).number())?;

@@ -44,7 +44,8 @@ impl Draft {
 
     /// One field more: a later number or comparator takes the place of an earlier one.
     pub(crate) fn put(&mut self, field: Field) -> Result<(), AllocError>
-        ensures { OnOk result (draft_of self.new ≡ with_field (draft_of self.old) (field_of field)) }
+        ensures { OnOk result (draft_of self.new
+            ≡ with_field (draft_of self.old) (field_of field)) }
     {
         match field {
             Field::Comparator(name) => self.comparator = Some(name),

@@ -1,10 +1,12 @@
 //! Writing an edit: its fields in the order of the format's table.
 
-ghost use Rattle.std.specs.Prelude.{◌≡◌, ◌++◌, ◌^◌, ◌<◌, ℕ, List, [], ◌∷◌, length, take, map, vec_len, OnOk, OnErr, IfSome};
+ghost use Rattle.std.specs.Prelude.{◌≡◌, ◌++◌, ◌^◌, ◌<◌, ℕ, List, [], ◌∷◌, length, take, map};
+ghost use Rattle.std.specs.Prelude.{vec_len, OnOk, OnErr, IfSome};
 ghost use Rattle.std.specs.List.{All};
 ghost use Rattle.lsm_manifest.specs.Edit.{Comparator, Log, Prev, Next, Last};
 ghost use Rattle.lsm_manifest.specs.EditFit.{FitsPointer, FitsDeleted, FitsAdded, IsFit};
-ghost use Rattle.lsm_manifest.specs.EditWriting.{FitsField, optional, pointer_field, deleted_field, added_field, fields_in, AddsFields};
+ghost use Rattle.lsm_manifest.specs.EditWriting.{FitsField, optional, pointer_field, deleted_field};
+ghost use Rattle.lsm_manifest.specs.EditWriting.{added_field, fields_in, AddsFields};
 ghost use Rattle.lsm_manifest.specs.LentView.{lent_field};
 
 use crate::edit::Edit;
@@ -31,7 +33,8 @@ pub(crate) fn push_edit(out: &mut Vec<u8>, edit: &Edit) -> Result<(), AllocError
 
 fn comparator(name: &Option<Bytes>) -> Option<LentField<'_>>
     ensures field { optional lent_field result ≡ optional Comparator name.now }
-    ensures fits { IfSome name.now (λ x. length x < 2 ^ 32) → IfSome result (λ f. FitsField (lent_field f)) }
+    ensures fits { IfSome name.now (λ x. length x < 2 ^ 32)
+        → IfSome result (λ f. FitsField (lent_field f)) }
 {
     match name {
         Some(name) => Some(LentField::Comparator(name.as_slice())),
@@ -82,7 +85,8 @@ fn last(number: Option<u64>) -> Option<LentField<'static>>
 /// Appends the bytes of a field that the edit may lack.
 fn push_optional(out: &mut Vec<u8>, field: &Option<LentField<'_>>) -> Result<(), AllocError>
     requires { IfSome field.now (λ f. FitsField (lent_field f)) }
-    ensures ok { OnOk result (AddsFields out.old.items (optional lent_field field.now) out.new.items) }
+    ensures ok { OnOk result
+        (AddsFields out.old.items (optional lent_field field.now) out.new.items) }
     ensures front { take (vec_len out.old) out.new.items ≡ out.old.items }
 {
     match field {
@@ -93,7 +97,8 @@ fn push_optional(out: &mut Vec<u8>, field: &Option<LentField<'_>>) -> Result<(),
 
 fn push_pointers(out: &mut Vec<u8>, pointers: &[CompactPointer]) -> Result<(), AllocError>
     requires { All FitsPointer pointers.now }
-    ensures ok { OnOk result (AddsFields out.old.items (map pointer_field pointers.now) out.new.items) }
+    ensures ok { OnOk result
+        (AddsFields out.old.items (map pointer_field pointers.now) out.new.items) }
     ensures front { take (vec_len out.old) out.new.items ≡ out.old.items }
 {
     for pointer in pointers {
@@ -104,7 +109,8 @@ fn push_pointers(out: &mut Vec<u8>, pointers: &[CompactPointer]) -> Result<(), A
 
 fn push_deleted(out: &mut Vec<u8>, deleted: &[DeletedFile]) -> Result<(), AllocError>
     requires { All FitsDeleted deleted.now }
-    ensures ok { OnOk result (AddsFields out.old.items (map deleted_field deleted.now) out.new.items) }
+    ensures ok { OnOk result
+        (AddsFields out.old.items (map deleted_field deleted.now) out.new.items) }
     ensures front { take (vec_len out.old) out.new.items ≡ out.old.items }
 {
     for file in deleted {

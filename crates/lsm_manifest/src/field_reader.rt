@@ -1,7 +1,10 @@
 //! Reading the fields of an edit.
 
 ghost use Rattle.std.specs.Prelude.{◌≡◌, ◌+◌, ◌-◌, ◌<◌, ◌≤◌, ℕ, List, length, Ok, Err};
-ghost use Rattle.lsm_manifest.specs.EditReading.{short_number_at, number_at, level_at, bytes_at, key_at, pointer_at, deleted_at, keys_at, size_keys_at, file_at, added_at, body_at, field_at};
+ghost use Rattle.lsm_manifest.specs.EditReading.{short_number_at, number_at, level_at, bytes_at};
+ghost use Rattle.lsm_manifest.specs.EditReading.{key_at, pointer_at, deleted_at, keys_at};
+ghost use Rattle.lsm_manifest.specs.EditReading.{size_keys_at, file_at, added_at, body_at};
+ghost use Rattle.lsm_manifest.specs.EditReading.{field_at};
 
 use crate::edit_fault::EditFault;
 use crate::file_meta::FileMeta;

@@ -3,7 +3,8 @@
 ghost use Rattle.std.specs.Prelude.{◌≡◌, ◌++◌, ◌^◌, ◌<◌, ℕ, List, length, take, vec_len, OnOk};
 ghost use Rattle.lsm_codec.specs.Varint.{varint32, varint64};
 ghost use Rattle.lsm_manifest.specs.Edit.{FieldText, tag_of};
-ghost use Rattle.lsm_manifest.specs.EditWriting.{bytes_text, body_text, field_text, FitsField, FitNumbers};
+ghost use Rattle.lsm_manifest.specs.EditWriting.{bytes_text, body_text, field_text, FitsField};
+ghost use Rattle.lsm_manifest.specs.EditWriting.{FitNumbers};
 
 use crate::file_meta::FileMeta;
 use crate::parts::{AddedFile, CompactPointer, DeletedFile};
@@ -30,8 +31,10 @@ impl LentField<'_> {
     #[tactic(auto, unfolding(crate::specs::EditWriting::field_text), using(crate::proofs::EditWriterLaws::field_written))]
     pub(crate) fn push(&self, out: &mut Vec<u8>) -> Result<(), AllocError>
         requires { FitsField (lent_field self.now) }
-        ensures ok { OnOk result (out.new.items ≡ out.old.items ++ field_text (lent_field self.now)) }
-        ensures spelled { OnOk result (FieldText (lent_field self.now) (field_text (lent_field self.now))) }
+        ensures ok { OnOk result (out.new.items
+            ≡ out.old.items ++ field_text (lent_field self.now)) }
+        ensures spelled { OnOk result
+            (FieldText (lent_field self.now) (field_text (lent_field self.now))) }
         ensures front { take (vec_len out.old) out.new.items ≡ out.old.items }
     {
         put_varint32(out, self.tag())?;
@@ -56,7 +59,8 @@ impl LentField<'_> {
     #[tactic(auto, unfolding(crate::specs::EditWriting::body_text))]
     fn push_body(&self, out: &mut Vec<u8>) -> Result<(), AllocError>
         requires { FitsField (lent_field self.now) }
-        ensures ok { OnOk result (out.new.items ≡ out.old.items ++ body_text (lent_field self.now)) }
+        ensures ok { OnOk result (out.new.items
+            ≡ out.old.items ++ body_text (lent_field self.now)) }
         ensures numbers { OnOk result (FitNumbers (lent_field self.now)) }
         ensures front { take (vec_len out.old) out.new.items ≡ out.old.items }
     {
@@ -97,7 +101,9 @@ fn put_bytes(out: &mut Vec<u8>, bytes: &[u8]) -> Result<(), AllocError>
 fn put_file(out: &mut Vec<u8>, file: &FileMeta) -> Result<(), AllocError>
     requires smallest { length file.now.smallest < 2 ^ 32 }
     requires largest { length file.now.largest < 2 ^ 32 }
-    ensures ok { OnOk result (out.new.items ≡ out.old.items ++ (varint64 file.now.number ++ (varint64 file.now.size ++ (bytes_text file.now.smallest ++ bytes_text file.now.largest)))) }
+    ensures ok { OnOk result (out.new.items
+        ≡ out.old.items ++ (varint64 file.now.number ++ (varint64 file.now.size
+        ++ (bytes_text file.now.smallest ++ bytes_text file.now.largest)))) }
     ensures number { OnOk result (file.now.number < 2 ^ 64) }
     ensures size { OnOk result (file.now.size < 2 ^ 64) }
     ensures front { take (vec_len out.old) out.new.items ≡ out.old.items }

@@ -71,5 +71,6 @@ pub fn compare_places(
 
 /// A law: over internal keys `compare` is the order of internal keys, then of numbers.
 pub fn file_order()
-    ensures { (f g : TableFile) (k l : InternalKey) → IsKey f.smallest k → IsKey g.smallest l → file_cmp f g ≡ then_by (key_cmp k l) (nat_cmp f.number g.number) }
+    ensures { (f g : TableFile) (k l : InternalKey) → IsKey f.smallest k → IsKey g.smallest l
+        → file_cmp f g ≡ then_by (key_cmp k l) (nat_cmp f.number g.number) }
 {}

@@ -25,7 +25,8 @@ impl FragmentType {
 
     /// The type that a byte names, if it names one.
     pub(crate) fn of(byte: u8) -> Option<FragmentType>
-        ensures { option_map type_byte result ≡ (if byte == 0 || nat_lt 4 byte then None else Some byte) }
+        ensures { option_map type_byte result
+            ≡ (if byte == 0 || nat_lt 4 byte then None else Some byte) }
     {
         match byte {
             1 => Some(FragmentType::Full),

@@ -27,7 +27,8 @@ fn next_record<'a>(
 ) -> Result<Option<(Vec<u8>, &'a [u8])>, LogFault>
     requires { length text.now ≤ total }
     ensures shorter { IfOk result (λ r. IfSome r (λ x. length x.1.now ≤ length text.now)) }
-    ensures reads { Gives (option_map (λ x. (x.0.items, x.1.now))) result (record_at (length text.now) total false [] text.now) }
+    ensures reads { Gives (option_map (λ x. (x.0.items, x.1.now))) result
+        (record_at (length text.now) total false [] text.now) }
 {
     let mut begun = false;
     let mut whole: Vec<u8> = Vec::new(alloc);
@@ -84,7 +85,8 @@ pub fn read_log(alloc: Global, bytes: &[u8]) -> Result<Log, LogFault>
     ensures found { IfOk result (λ log. IsLog bytes.now log.records log.rest) }
 
     // What is a log is read, unless memory runs out.
-    ensures only { (records : List (List ℕ)) (rest : ℕ) → IsLog bytes.now records rest → Gives seen result (Ok (records, rest)) }
+    ensures only { (records : List (List ℕ)) (rest : ℕ) → IsLog bytes.now records rest
+        → Gives seen result (Ok (records, rest)) }
 
     // Which fault it is, and where.
     ensures exact { Gives seen result (log_at bytes.now) }
@@ -94,5 +96,6 @@ pub fn read_log(alloc: Global, bytes: &[u8]) -> Result<Log, LogFault>
 
 /// A law: at most one list of records and one rest fit a log's bytes.
 pub fn one_log()
-    ensures { (bytes : List ℕ) (rs ss : List (List ℕ)) (m n : ℕ) → IsLog bytes rs m → IsLog bytes ss n → (rs ≡ ss) × (m ≡ n) }
+    ensures { (bytes : List ℕ) (rs ss : List (List ℕ)) (m n : ℕ) → IsLog bytes rs m
+        → IsLog bytes ss n → (rs ≡ ss) × (m ≡ n) }
 {}

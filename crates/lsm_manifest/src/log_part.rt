@@ -24,7 +24,8 @@ impl<'a> LogPart<'a> {
     /// text.
     #[tactic(auto, unfolding(crate::specs::LogReading::found_at))]
     pub(crate) fn at(offset: u64, begun: bool, text: &'a [u8]) -> Result<LogPart<'a>, LogFault>
-        ensures shorter { IfOk result (λ f. IfSome (found_of f) (λ x. length x.2 ≤ length text.now)) }
+        ensures shorter { IfOk result (λ f.
+            IfSome (found_of f) (λ x. length x.2 ≤ length text.now)) }
         ensures reads { Gives found_of result (found_at offset begun text.now) }
     {
         if text.len() < 7 {
@@ -49,7 +50,8 @@ impl<'a> LogPart<'a> {
         kind: u8,
     ) -> Result<LogPart<'a>, LogFault>
         requires { size < 65536 }
-        ensures shorter { IfOk result (λ f. IfSome (found_of f) (λ x. length x.2 ≤ length text.now)) }
+        ensures shorter { IfOk result (λ f.
+            IfSome (found_of f) (λ x. length x.2 ≤ length text.now)) }
         ensures reads { Gives found_of result (framed_at offset begun text.now size kind) }
     {
         if kind == 0 && size == 0 {
@@ -68,7 +70,8 @@ impl<'a> LogPart<'a> {
     /// The same, where the type and the length are zeros.
     #[tactic(auto, unfolding(crate::specs::LogReading::filler_at))]
     fn filler(offset: u64, begun: bool, text: &'a [u8]) -> Result<LogPart<'a>, LogFault>
-        ensures shorter { IfOk result (λ f. IfSome (found_of f) (λ x. length x.2 ≤ length text.now)) }
+        ensures shorter { IfOk result (λ f.
+            IfSome (found_of f) (λ x. length x.2 ≤ length text.now)) }
         ensures reads { Gives found_of result (filler_at offset begun text.now) }
     {
         if begun {
@@ -86,7 +89,8 @@ impl<'a> LogPart<'a> {
     #[tactic(auto, unfolding(crate::specs::LogReading::checked_at))]
     fn checked(offset: u64, text: &'a [u8], size: usize, kind: u8) -> Result<LogPart<'a>, LogFault>
         requires { 7 + size ≤ length text.now }
-        ensures shorter { IfOk result (λ f. IfSome (found_of f) (λ x. length x.2 ≤ length text.now)) }
+        ensures shorter { IfOk result (λ f.
+            IfSome (found_of f) (λ x. length x.2 ≤ length text.now)) }
         ensures reads { Gives found_of result (checked_at offset text.now size kind) }
     {
         let (head, _) = text.split_at(4);

@@ -1,9 +1,13 @@
 //! What a row of edits comes to.
 
-ghost use Rattle.std.specs.Prelude.{◌≡◌, ◌≤◌, ◌↔◌, ◌++◌, ◌∷◌, ℕ, List, [], None, get_or, IfOk, IfErr};
+ghost use Rattle.std.specs.Prelude.{◌≡◌, ◌≤◌, ◌↔◌, ◌++◌, ◌∷◌, ℕ, List, [], None, get_or, IfOk};
+ghost use Rattle.std.specs.Prelude.{IfErr};
 ghost use Rattle.std.specs.Option.{option_or};
 ghost use Rattle.lsm_manifest.specs.EditFit.{Change};
-ghost use Rattle.lsm_manifest.specs.Replay.{Deletion, FileAt, AreNew, AreApart, AreFresh, Stands, StandsIn, IsInnocent, AreInnocent, IsFault, last_log, last_prev_log, last_next, last_sequence, last_pointer, pointer_in};
+ghost use Rattle.lsm_manifest.specs.Replay.{Deletion, FileAt, AreNew, AreApart, AreFresh, Stands};
+ghost use Rattle.lsm_manifest.specs.Replay.{StandsIn, IsInnocent, AreInnocent, IsFault, last_log};
+ghost use Rattle.lsm_manifest.specs.Replay.{last_prev_log, last_next, last_sequence, last_pointer};
+ghost use Rattle.lsm_manifest.specs.Replay.{pointer_in};
 ghost use Rattle.lsm_manifest.specs.Standing.{file_at, Tracks};
 
 use crate::edit::Edit;
@@ -44,7 +48,8 @@ pub fn replay(alloc: Global, edits: &[Edit]) -> Result<Shape, ReplayFault>
     ensures found { IfOk result (λ shape. IsReplayed edits.now shape) }
 
     // The shape that the edits come to is returned, unless memory runs out.
-    ensures only { (shape : Form) → IsReplayed edits.now shape → IfOk result (λ s. s ≡ shape) × IfErr result (λ fault. fault ≡ ReplayFault.OutOfMemory) }
+    ensures only { (shape : Form) → IsReplayed edits.now shape
+        → IfOk result (λ s. s ≡ shape) × IfErr result (λ fault. fault ≡ ReplayFault.OutOfMemory) }
 
     // Which fault it is.
     ensures refused { IfErr result (λ fault. IsRefused edits.now fault) }
@@ -86,24 +91,33 @@ pub fn one_shape()
 
 /// A law: where no edit has a fault, no two files that stand have one number.
 pub fn one_file_a_number()
-    ensures { (es : List Change) → AreInnocent es → (a b : FileAt) → Stands es a → Stands es b → a.file.number ≡ b.file.number → a ≡ b }
+    ensures { (es : List Change) → AreInnocent es → (a b : FileAt) → Stands es a → Stands es b
+        → a.file.number ≡ b.file.number → a ≡ b }
 {}
 
 /// A law: additions have new numbers where no two of them have one, and none of the files that
 /// stand when they come has one.
 pub fn fresh_additions()
-    ensures { (es : List Change) (ds : List Deletion) (xs : List FileAt) → AreApart xs → AreFresh es ds xs → AreNew es ds xs }
+    ensures { (es : List Change) (ds : List Deletion) (xs : List FileAt) → AreApart xs
+        → AreFresh es ds xs → AreNew es ds xs }
 {}
 
 /// A law: what stands after one edit more, when it has no fault, and the last values then.
 pub fn one_more_edit()
-    ensures innocent { (es : List Change) (e : Change) → AreInnocent (es ++ e ∷ []) ↔ (AreInnocent es × IsInnocent es e) }
-    ensures log { (es : List Change) (e : Change) → last_log (es ++ e ∷ []) ≡ option_or e.log (last_log es) }
-    ensures prev_log { (es : List Change) (e : Change) → last_prev_log (es ++ e ∷ []) ≡ option_or e.prev_log (last_prev_log es) }
-    ensures next { (es : List Change) (e : Change) → last_next (es ++ e ∷ []) ≡ option_or e.next (last_next es) }
-    ensures last { (es : List Change) (e : Change) → last_sequence (es ++ e ∷ []) ≡ option_or e.last (last_sequence es) }
-    ensures pointer { (level : ℕ) (es : List Change) (e : Change) → last_pointer level (es ++ e ∷ []) ≡ option_or (pointer_in level e.pointers) (last_pointer level es) }
-    ensures stands { (es : List Change) (e : Change) (a : FileAt) → Stands (es ++ e ∷ []) a ↔ StandsIn es e.deleted e.added a }
+    ensures innocent { (es : List Change) (e : Change) → AreInnocent (es ++ e ∷ [])
+        ↔ (AreInnocent es × IsInnocent es e) }
+    ensures log { (es : List Change) (e : Change)
+        → last_log (es ++ e ∷ []) ≡ option_or e.log (last_log es) }
+    ensures prev_log { (es : List Change) (e : Change)
+        → last_prev_log (es ++ e ∷ []) ≡ option_or e.prev_log (last_prev_log es) }
+    ensures next { (es : List Change) (e : Change)
+        → last_next (es ++ e ∷ []) ≡ option_or e.next (last_next es) }
+    ensures last { (es : List Change) (e : Change)
+        → last_sequence (es ++ e ∷ []) ≡ option_or e.last (last_sequence es) }
+    ensures pointer { (level : ℕ) (es : List Change) (e : Change) → last_pointer level
+        (es ++ e ∷ []) ≡ option_or (pointer_in level e.pointers) (last_pointer level es) }
+    ensures stands { (es : List Change) (e : Change) (a : FileAt) → Stands (es ++ e ∷ []) a
+        ↔ StandsIn es e.deleted e.added a }
 {}
 
 /// The files that stand after the edits.
@@ -119,7 +133,8 @@ fn stand<'a>(alloc: Global, edits: &'a [Edit]) -> Result<Standing<'a>, ReplayFau
 }
 
 fn levels(alloc: Global, standing: &Standing<'_>) -> Result<[List<FileMeta>; 7], AllocError>
-    ensures { IfOk result (λ levels. (es : List Change) → Tracks (Stands es) (file_at standing.now) → (level : ℕ) → level ≤ 6 → HoldsLevel es level (get_or levels level [])) }
+    ensures { IfOk result (λ levels. (es : List Change) → Tracks (Stands es) (file_at standing.now)
+        → (level : ℕ) → level ≤ 6 → HoldsLevel es level (get_or levels level [])) }
 {
     let level_0 = standing.level(alloc, 0)?;
     let level_1 = standing.level(alloc, 1)?;
@@ -134,7 +149,8 @@ fn levels(alloc: Global, standing: &Standing<'_>) -> Result<[List<FileMeta>; 7],
 }
 
 fn pointers(alloc: Global, edits: &[Edit]) -> Result<[Option<Bytes>; 7], AllocError>
-    ensures { IfOk result (λ pointers. (level : ℕ) → level ≤ 6 → get_or pointers level None ≡ last_pointer level edits.now) }
+    ensures { IfOk result (λ pointers. (level : ℕ) → level ≤ 6
+        → get_or pointers level None ≡ last_pointer level edits.now) }
 {
     let pointer_0 = last_key(alloc, edits, 0)?;
     let pointer_1 = last_key(alloc, edits, 1)?;

@@ -1,8 +1,10 @@
 //! The files that stand after some edits, by number.
 
-ghost use Rattle.std.specs.Prelude.{◌≡◌, ◌==◌, ◌⊎◌, ◌↔◌, ◌++◌, [], ◌∷◌, ℕ, List, false, IsTrue, if◌then◌else◌, Some, None, IfSome, IsSome, OnOk, IfOk, IfErr};
+ghost use Rattle.std.specs.Prelude.{◌≡◌, ◌==◌, ◌⊎◌, ◌↔◌, ◌++◌, [], ◌∷◌, ℕ, List, false, IsTrue};
+ghost use Rattle.std.specs.Prelude.{if◌then◌else◌, Some, None, IfSome, IsSome, OnOk, IfOk, IfErr};
 ghost use Rattle.lsm_manifest.specs.EditFit.{Change};
-ghost use Rattle.lsm_manifest.specs.Replay.{Deletion, Stands, StandsIn, AreNew, IsDouble, NamesOther, IsInnocent, HasFault};
+ghost use Rattle.lsm_manifest.specs.Replay.{Deletion, Stands, StandsIn, AreNew, IsDouble};
+ghost use Rattle.lsm_manifest.specs.Replay.{NamesOther, IsInnocent, HasFault};
 
 use crate::edit::Edit;
 use crate::file_meta::FileMeta;
@@ -35,9 +37,12 @@ impl<'a> Standing<'a> {
 
     /// Takes out the file of this number, if it stands at this level.
     pub(crate) fn delete(&mut self, file: &DeletedFile)
-        ensures here { IfSome (file_at self.old file.now.number) (λ a. file_at self.new file.now.number ≡ (if a.level == file.now.level then None else Some a)) }
-        ensures none { file_at self.old file.now.number ≡ None → file_at self.new file.now.number ≡ None }
-        ensures others { (n : ℕ) → n == file.now.number ≡ false → file_at self.new n ≡ file_at self.old n }
+        ensures here { IfSome (file_at self.old file.now.number) (λ a. file_at self.new
+            file.now.number ≡ (if a.level == file.now.level then None else Some a)) }
+        ensures none { file_at self.old file.now.number ≡ None
+            → file_at self.new file.now.number ≡ None }
+        ensures others { (n : ℕ) → n == file.now.number ≡ false
+            → file_at self.new n ≡ file_at self.old n }
     {
         let Some(added) = self.files.get(&file.number) else {
             return;
@@ -51,8 +56,11 @@ impl<'a> Standing<'a> {
     pub(crate) fn add(&mut self, added: &'a AddedFile) -> Result<(), ReplayFault>
         ensures was { OnOk result (file_at self.old added.now.file.number ≡ None) }
         ensures here { OnOk result (file_at self.new added.now.file.number ≡ Some added.now) }
-        ensures others { OnOk result ((n : ℕ) → n == added.now.file.number ≡ false → file_at self.new n ≡ file_at self.old n) }
-        ensures err { IfErr result (λ e. (e ≡ ReplayFault.OutOfMemory) ⊎ ((e ≡ ReplayFault.DoubleFile added.now.file.number) × IsSome (file_at self.old added.now.file.number))) }
+        ensures others { OnOk result ((n : ℕ) → n == added.now.file.number ≡ false
+            → file_at self.new n ≡ file_at self.old n) }
+        ensures err { IfErr result (λ e. (e ≡ ReplayFault.OutOfMemory)
+            ⊎ ((e ≡ ReplayFault.DoubleFile added.now.file.number)
+            × IsSome (file_at self.old added.now.file.number))) }
     {
         let number = added.file.number;
         if self.files.contains_key(&number) {
@@ -64,7 +72,8 @@ impl<'a> Standing<'a> {
 
     /// Takes out what these deletions name: a deletion of a file that does not stand is ignored.
     fn delete_all(&mut self, deleted: &[DeletedFile])
-        ensures { (es : List Change) → Tracks (Stands es) (file_at self.old) → Tracks (StandsIn es deleted.now []) (file_at self.new) }
+        ensures { (es : List Change) → Tracks (Stands es) (file_at self.old)
+            → Tracks (StandsIn es deleted.now []) (file_at self.new) }
     {
         for file in deleted {
             self.delete(file);
@@ -73,8 +82,11 @@ impl<'a> Standing<'a> {
 
     /// Puts in what these additions name, up to the first whose number stands.
     fn add_all(&mut self, added: &'a [AddedFile]) -> Result<(), ReplayFault>
-        ensures ok { OnOk result ((es : List Change) (ds : List Deletion) → Tracks (StandsIn es ds []) (file_at self.old) → Tracks (StandsIn es ds added.now) (file_at self.new) × AreNew es ds added.now) }
-        ensures err { IfErr result (λ e. (es : List Change) (ds : List Deletion) → Tracks (StandsIn es ds []) (file_at self.old) → IsDouble es ds added.now e) }
+        ensures ok { OnOk result ((es : List Change) (ds : List Deletion)
+            → Tracks (StandsIn es ds []) (file_at self.old)
+            → Tracks (StandsIn es ds added.now) (file_at self.new) × AreNew es ds added.now) }
+        ensures err { IfErr result (λ e. (es : List Change) (ds : List Deletion)
+            → Tracks (StandsIn es ds []) (file_at self.old) → IsDouble es ds added.now e) }
     {
         for file in added {
             self.add(file)?;
@@ -84,8 +96,10 @@ impl<'a> Standing<'a> {
 
     /// One more edit: its comparator is judged first, its deletions come before its additions.
     pub(crate) fn apply(&mut self, edit: &'a Edit) -> Result<(), ReplayFault>
-        ensures ok { OnOk result ((es : List Change) → Tracks (Stands es) (file_at self.old) → Tracks (Stands (es ++ edit.now ∷ [])) (file_at self.new) × IsInnocent es edit.now) }
-        ensures err { IfErr result (λ e. (es : List Change) → Tracks (Stands es) (file_at self.old) → HasFault es edit.now e) }
+        ensures ok { OnOk result ((es : List Change) → Tracks (Stands es) (file_at self.old)
+            → Tracks (Stands (es ++ edit.now ∷ [])) (file_at self.new) × IsInnocent es edit.now) }
+        ensures err { IfErr result (λ e. (es : List Change) → Tracks (Stands es) (file_at self.old)
+            → HasFault es edit.now e) }
     {
         if names_other(edit) {
             return Err(ReplayFault::OtherComparator);
@@ -96,7 +110,8 @@ impl<'a> Standing<'a> {
 
     /// Copies of the files that stand at a level, in the order of the level.
     pub(crate) fn level(&self, alloc: Global, level: u8) -> Result<List<FileMeta>, AllocError>
-        ensures { IfOk result (λ files. (es : List Change) → Tracks (Stands es) (file_at self.now) → HoldsLevel es level files) }
+        ensures { IfOk result (λ files. (es : List Change) → Tracks (Stands es) (file_at self.now)
+            → HoldsLevel es level files) }
     {
         let mut files = self.copies(alloc, level)?;
         files.sort_unstable_by(|a, b| a.compare(b));

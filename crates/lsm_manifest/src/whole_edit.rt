@@ -5,7 +5,8 @@ ghost use Rattle.std.specs.List.{All};
 ghost use Rattle.lsm_manifest.specs.EditFit.{Change, IsFit};
 ghost use Rattle.lsm_manifest.specs.Manifest.{IsManifest};
 ghost use Rattle.lsm_manifest.specs.Shape.{Form, IsShape, IsReplayed};
-ghost use Rattle.lsm_manifest.specs.WholeEdit.{pointers_from, placed_at, files_from, whole_edit, FitsShape};
+ghost use Rattle.lsm_manifest.specs.WholeEdit.{pointers_from, placed_at, files_from, whole_edit};
+ghost use Rattle.lsm_manifest.specs.WholeEdit.{FitsShape};
 
 use crate::edit::Edit;
 use crate::file_meta::FileMeta;
@@ -59,7 +60,8 @@ fn push_pointer(
     level: u8,
     key: &Option<Bytes>,
 ) -> Result<(), AllocError>
-    ensures { OnOk result (pointers.new.items ≡ pointers.old.items ++ pointers_from level (key.now ∷ [])) }
+    ensures { OnOk result (pointers.new.items
+        ≡ pointers.old.items ++ pointers_from level (key.now ∷ [])) }
 {
     let Some(key) = key else {
         return Ok(());
@@ -110,5 +112,6 @@ pub fn whole_edit_replays()
 pub fn replayed_shapes()
     ensures shape { (es : List Change) (s : Form) → IsReplayed es s → IsShape s }
     ensures fit { (es : List Change) (s : Form) → All IsFit es → IsReplayed es s → FitsShape s }
-    ensures manifest { (bytes : List ℕ) (es : List Change) (rest : ℕ) → IsManifest bytes es rest → All IsFit es }
+    ensures manifest { (bytes : List ℕ) (es : List Change) (rest : ℕ) → IsManifest bytes es rest
+        → All IsFit es }
 {}

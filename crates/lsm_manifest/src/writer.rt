@@ -1,9 +1,11 @@
 //! Writing a record log (LevelDB's `doc/log_format.md`).
 
-ghost use Rattle.std.specs.Prelude.{◌≡◌, [], ◌∷◌, ◌++◌, ◌+◌, ◌-◌, ◌%◌, ◌<◌, ◌≤◌, ◌↔◌, ℕ, List, length, take, drop, OnOk, OnErr, vec_len};
+ghost use Rattle.std.specs.Prelude.{◌≡◌, [], ◌∷◌, ◌++◌, ◌+◌, ◌-◌, ◌%◌, ◌<◌, ◌≤◌, ◌↔◌, ℕ, List};
+ghost use Rattle.std.specs.Prelude.{length, take, drop, OnOk, OnErr, vec_len};
 ghost use Rattle.lsm_manifest.specs.Log.{left, sum_bytes, fragment, AreRecords, IsLog};
 ghost use Rattle.lsm_manifest.specs.LogView.{type_byte};
-ghost use Rattle.lsm_manifest.specs.LogWriting.{pieces, begun_text, record_text, Written, SpellsPrefix};
+ghost use Rattle.lsm_manifest.specs.LogWriting.{pieces, begun_text, record_text, Written};
+ghost use Rattle.lsm_manifest.specs.LogWriting.{SpellsPrefix};
 
 use crate::fragment::{FragmentType, room, sum};
 use std::alloc::AllocError;
@@ -25,7 +27,8 @@ fn push_fragment(out: &mut Vec<u8>, kind: FragmentType, body: &[u8]) -> Result<(
 
 /// Adds what is left of a record, at the start of a block.
 fn push_pieces(out: &mut Vec<u8>, rest: &[u8]) -> Result<(), AllocError>
-    ensures ok { OnOk result ((count : ℕ) → length rest.now ≤ count → out.new.items ≡ out.old.items ++ pieces count rest.now) }
+    ensures ok { OnOk result ((count : ℕ) → length rest.now ≤ count
+        → out.new.items ≡ out.old.items ++ pieces count rest.now) }
     ensures front { take (vec_len out.old) out.new.items ≡ out.old.items }
 {
     let mut later = rest;
@@ -99,15 +102,21 @@ impl LogWriter {
         ensures err { OnErr result ((out.new.items ≡ out.old.items) × (self.new ≡ self.old)) }
 
         // These bytes are added.
-        ensures bytes { OnOk result (out.new.items ≡ out.old.items ++ record_text self.old whole.now) }
-        ensures place { OnOk result (self.new ≡ (self.old + length (record_text self.old whole.now)) % 32768) }
+        ensures bytes { OnOk result (out.new.items
+            ≡ out.old.items ++ record_text self.old whole.now) }
+        ensures place { OnOk result (self.new
+            ≡ (self.old + length (record_text self.old whole.now)) % 32768) }
 
         // Where the log so far was written and ends at this place, what is written now is the log
         // with the record.
-        ensures log { OnOk result ((bytes : List ℕ) (records : List (List ℕ)) → Written bytes records self.old → Written (bytes ++ record_text self.old whole.now) (records ++ (whole.now ∷ [])) self.new) }
+        ensures log { OnOk result ((bytes : List ℕ) (records : List (List ℕ))
+            → Written bytes records self.old → Written (bytes ++ record_text self.old whole.now)
+            (records ++ (whole.now ∷ [])) self.new) }
 
         // Cut anywhere, it is a log of a prefix of its records.
-        ensures cut { OnOk result ((bytes : List ℕ) (records : List (List ℕ)) → Written bytes records self.old → (n : ℕ) → SpellsPrefix (take n (bytes ++ record_text self.old whole.now)) (records ++ (whole.now ∷ []))) }
+        ensures cut { OnOk result ((bytes : List ℕ) (records : List (List ℕ))
+            → Written bytes records self.old → (n : ℕ) → SpellsPrefix
+            (take n (bytes ++ record_text self.old whole.now)) (records ++ (whole.now ∷ []))) }
     {
         let len = out.len();
         match push_record(out, self.place, whole) {
@@ -127,19 +136,25 @@ impl LogWriter {
 /// before it, and the rest is just what was written; whole, it is the log of all, and nothing is
 /// left.
 pub fn torn_record()
-    ensures torn { (bytes : List ℕ) (records : List (List ℕ)) (place : ℕ) (whole : List ℕ) → Written bytes records place → (m : ℕ) → m < length (record_text place whole) → IsLog (bytes ++ take m (record_text place whole)) records m }
-    ensures done { (bytes : List ℕ) (records : List (List ℕ)) (place : ℕ) → Written bytes records place → IsLog bytes records 0 }
-    ensures again { (bytes : List ℕ) (records : List (List ℕ)) → IsLog bytes records 0 → Written bytes records (length bytes % 32768) }
+    ensures torn { (bytes : List ℕ) (records : List (List ℕ)) (place : ℕ) (whole : List ℕ)
+        → Written bytes records place → (m : ℕ) → m < length (record_text place whole)
+        → IsLog (bytes ++ take m (record_text place whole)) records m }
+    ensures done { (bytes : List ℕ) (records : List (List ℕ)) (place : ℕ)
+        → Written bytes records place → IsLog bytes records 0 }
+    ensures again { (bytes : List ℕ) (records : List (List ℕ)) → IsLog bytes records 0
+        → Written bytes records (length bytes % 32768) }
 {}
 
 /// A law: whole records, one after another, are a log that nothing follows, and such a log is
 /// nothing else.
 pub fn whole_log()
-    ensures { (bytes : List ℕ) (records : List (List ℕ)) → AreRecords 0 bytes records ↔ IsLog bytes records 0 }
+    ensures { (bytes : List ℕ) (records : List (List ℕ)) → AreRecords 0 bytes records
+        ↔ IsLog bytes records 0 }
 {}
 
 /// A law: the first bytes of a text of whole records, however many, spell a prefix of the records
 /// and a rest.
 pub fn prefixes()
-    ensures { (bytes : List ℕ) (records : List (List ℕ)) → AreRecords 0 bytes records → (n : ℕ) → SpellsPrefix (take n bytes) records }
+    ensures { (bytes : List ℕ) (records : List (List ℕ)) → AreRecords 0 bytes records → (n : ℕ)
+        → SpellsPrefix (take n bytes) records }
 {}

@@ -1,6 +1,7 @@
 //! The merge of a job.
 
-ghost use Rattle.std.specs.Prelude.{◌≡◌, [], ◌∷◌, ◌++◌, ℕ, List, None, false, true, IfOk, IfErr, OnOk};
+ghost use Rattle.std.specs.Prelude.{◌≡◌, [], ◌∷◌, ◌++◌, ℕ, List, None, false, true, IfOk, IfErr};
+ghost use Rattle.std.specs.Prelude.{OnOk};
 ghost use Rattle.lsm_levels.specs.Files.{all_entries};
 ghost use Rattle.lsm_levels.specs.Merging.{Placed};
 ghost use Rattle.lsm_merger.specs.Heads.{no_more};
@@ -10,9 +11,11 @@ ghost use Rattle.lsm_merge.specs.Causes.{AnswersOf, AsksFor, HasCause, Leaves, N
 ghost use Rattle.lsm_merge.specs.Compacting.{AreMergedOf, nothing_of};
 ghost use Rattle.lsm_merge.specs.Dropping.{Follows, IsUpTo};
 ghost use Rattle.lsm_merge.specs.InputOrder.{HasTwins, StandInOrder};
-ghost use Rattle.lsm_merge.specs.Inputs.{AreInputs, IsOrderFault, IsReadable, Stepped, input_numbers};
+ghost use Rattle.lsm_merge.specs.Inputs.{AreInputs, IsOrderFault, IsReadable, Stepped};
+ghost use Rattle.lsm_merge.specs.Inputs.{input_numbers};
 ghost use Rattle.lsm_merge.specs.Limits.{IsOverLimit, IsSizeFault};
-ghost use Rattle.lsm_merge.specs.Outputs.{AreGood, PutsMore, drawn_of, entries_of_last, going, putting_all};
+ghost use Rattle.lsm_merge.specs.Outputs.{AreGood, PutsMore, drawn_of, entries_of_last, going};
+ghost use Rattle.lsm_merge.specs.Outputs.{putting_all};
 ghost use Rattle.lsm_merge.specs.Work.{job_of};
 ghost use Rattle.lsm_merge.specs.declared.merge_fault.MergeFault.TheVariants.{OutOfMemory};
 
@@ -47,19 +50,26 @@ fn step<N: Naming, S: Shelf, R: Wait, D: NumberSource>(
     requires here { (S.told shelf.old).place ≡ N.place }
     requires some { no_more merger.old.placed ≡ false }
     requires up { IsUpTo (entries_of_last outputs.old.last) before.old }
-    ensures ok { (p : Placed) (rest : List Placed) → merger.old.placed ≡ p ∷ rest → OnOk result (Stepped S.honest job.now p rest before.old before.new outputs.old outputs.new merger.new) }
-    ensures drawn { OnOk result ((there : List ℕ) → D.drew numbers.old ≡ drawn_of outputs.old there → D.drew numbers.new ≡ drawn_of outputs.new there) }
+    ensures ok { (p : Placed) (rest : List Placed) → merger.old.placed ≡ p ∷ rest → OnOk result
+        (Stepped S.honest job.now p rest before.old before.new outputs.old outputs.new merger.new) }
+    ensures drawn { OnOk result ((there : List ℕ) → D.drew numbers.old ≡ drawn_of outputs.old there
+        → D.drew numbers.new ≡ drawn_of outputs.new there) }
     ensures answered { OnOk result (D.refused numbers.new ≡ D.refused numbers.old) }
     ensures files { OnOk result (ReadsNoOther merger.old merger.new) }
     ensures told { PutsMore outputs.old.put outputs.new.put (S.told shelf.old) (S.told shelf.new) }
-    ensures leaves { IfErr result (λ e. (there : List ℕ) → D.drew numbers.old ≡ drawn_of outputs.old there → Leaves e outputs.new.put (D.drew numbers.new) there) }
+    ensures leaves { IfErr result (λ e. (there : List ℕ) → D.drew numbers.old
+        ≡ drawn_of outputs.old there → Leaves e outputs.new.put (D.drew numbers.new) there) }
     ensures why { IfErr result (λ e. AnswersOf e (D.refused numbers.old) (D.refused numbers.new)) }
-    ensures cause { IfErr result (λ e. (inputs : List ℕ) → AreInputs merger.old.files inputs → HasCause inputs e (S.told shelf.old) (S.told shelf.new)) }
+    ensures cause { IfErr result (λ e. (inputs : List ℕ) → AreInputs merger.old.files inputs
+        → HasCause inputs e (S.told shelf.old) (S.told shelf.new)) }
     ensures sound { S.honest → IfErr result IsReadable }
-    ensures order { IfErr result (λ e. IsOrderFault e → (p : Placed) (rest : List Placed) → merger.old.placed ≡ p ∷ rest → Follows before.old p.1 → ⊥) }
+    ensures order { IfErr result (λ e. IsOrderFault e → (p : Placed) (rest : List Placed)
+        → merger.old.placed ≡ p ∷ rest → Follows before.old p.1 → ⊥) }
     ensures asked { AsksFor outputs.old.ticket (D.asked numbers.old) (D.asked numbers.new) }
     ensures ticket { IfErr result (λ e. NamesTicket e outputs.old.ticket) }
-    ensures large { IfErr result (λ e. IsSizeFault e → (p : Placed) (rest : List Placed) → merger.old.placed ≡ p ∷ rest → IsOverLimit outputs.old.options (entries_of_last outputs.old.last ++ p.1 ∷ [])) }
+    ensures large { IfErr result (λ e. IsSizeFault e → (p : Placed) (rest : List Placed)
+        → merger.old.placed ≡ p ∷ rest
+        → IsOverLimit outputs.old.options (entries_of_last outputs.old.last ++ p.1 ∷ [])) }
     ensures ready { D.ready numbers.new }
 {
     let Some(key) = merger.key() else {
@@ -100,15 +110,20 @@ fn merge<N: Naming, S: Shelf, R: Wait, D: NumberSource>(
     ensures drew { OnOk result (D.drew numbers.new ≡ going outputs.new.put (D.drew numbers.old)) }
     ensures answered { OnOk result (D.refused numbers.new ≡ D.refused numbers.old) }
     ensures told { Becomes (putting_all outputs.new.put (S.told shelf.old)) (S.told shelf.new) }
-    ensures leaves { IfErr result (λ e. Leaves e outputs.new.put (D.drew numbers.new) (D.drew numbers.old)) }
+    ensures leaves { IfErr result (λ e.
+        Leaves e outputs.new.put (D.drew numbers.new) (D.drew numbers.old)) }
     ensures why { IfErr result (λ e. AnswersOf e (D.refused numbers.old) (D.refused numbers.new)) }
-    ensures cause { IfErr result (λ e. HasCause (input_numbers job.now) e (S.told shelf.old) (S.told shelf.new)) }
+    ensures cause { IfErr result (λ e.
+        HasCause (input_numbers job.now) e (S.told shelf.old) (S.told shelf.new)) }
     ensures sound { S.honest → IfErr result IsReadable }
     ensures asked { AsksFor job.now.ticket (D.asked numbers.old) (D.asked numbers.new) }
     ensures ticket { IfErr result (λ e. NamesTicket e job.now.ticket) }
-    ensures large { S.honest → IfErr result (λ e. IsSizeFault e → IsOverLimit job.now.table (all_entries (job_of job.now).inputs)) }
-    ensures order { S.honest → StandInOrder job.now → IfErr result (λ e. IsOrderFault e → HasTwins (all_entries (job_of job.now).inputs)) }
-    ensures apart { S.honest → StandInOrder job.now → OnOk result (HasTwins (all_entries (job_of job.now).inputs) → ⊥) }
+    ensures large { S.honest → IfErr result (λ e. IsSizeFault e
+        → IsOverLimit job.now.table (all_entries (job_of job.now).inputs)) }
+    ensures order { S.honest → StandInOrder job.now
+        → IfErr result (λ e. IsOrderFault e → HasTwins (all_entries (job_of job.now).inputs)) }
+    ensures apart { S.honest → StandInOrder job.now
+        → OnOk result (HasTwins (all_entries (job_of job.now).inputs) → ⊥) }
     ensures ready { D.ready numbers.new }
 {
     streaming_keeps_the_kept();
@@ -190,7 +205,8 @@ pub fn compact<N: Naming, S: Shelf, R: Wait, D: NumberSource>(
     ensures work { IfOk result (λ f. f.work ≡ job) }
 
     // The shelf was told to put just the outputs, and the numbers drawn are theirs.
-    ensures told { IfOk result (λ f. Becomes (putting_all f.put (S.told shelf.old)) (S.told shelf.new)) }
+    ensures told { IfOk result (λ f.
+        Becomes (putting_all f.put (S.told shelf.old)) (S.told shelf.new)) }
     ensures drew { IfOk result (λ f. D.drew numbers.new ≡ going f.put (D.drew numbers.old)) }
     ensures answered { OnOk result (D.refused numbers.new ≡ D.refused numbers.old) }
 
@@ -198,26 +214,37 @@ pub fn compact<N: Naming, S: Shelf, R: Wait, D: NumberSource>(
 
     // A refusal hands the job back, with just the numbers put.
     ensures back { IfErr result (λ e. e.1 ≡ job) }
-    ensures put { IfErr result (λ e. Becomes (putting_all e.2.items (S.told shelf.old)) (S.told shelf.new)) }
-    ensures leaves { IfErr result (λ e. Leaves e.0 e.2.items (D.drew numbers.new) (D.drew numbers.old)) }
-    ensures why { IfErr result (λ e. AnswersOf e.0 (D.refused numbers.old) (D.refused numbers.new)) }
-    ensures cause { IfErr result (λ e. HasCause (input_numbers job) e.0 (S.told shelf.old) (S.told shelf.new)) }
+    ensures put { IfErr result (λ e.
+        Becomes (putting_all e.2.items (S.told shelf.old)) (S.told shelf.new)) }
+    ensures leaves { IfErr result (λ e.
+        Leaves e.0 e.2.items (D.drew numbers.new) (D.drew numbers.old)) }
+    ensures why { IfErr result (λ e.
+        AnswersOf e.0 (D.refused numbers.old) (D.refused numbers.new)) }
+    ensures cause { IfErr result (λ e.
+        HasCause (input_numbers job) e.0 (S.told shelf.old) (S.told shelf.new)) }
     ensures sound { S.honest → IfErr result (λ e. IsReadable e.0) }
 
     // Over an honest shelf inputs that stand in order are refused as out of order only where two of
     // their entries have one internal key, and are not merged there; and an output is too large
     // only where entries of the inputs make no table.
-    ensures order { S.honest → StandInOrder job → IfErr result (λ e. IsOrderFault e.0 → HasTwins (all_entries (job_of job).inputs)) }
-    ensures apart { S.honest → StandInOrder job → job.is_move ≡ false → OnOk result (HasTwins (all_entries (job_of job).inputs) → ⊥) }
-    ensures large { S.honest → IfErr result (λ e. IsSizeFault e.0 → IsOverLimit job.table (all_entries (job_of job).inputs)) }
+    ensures order { S.honest → StandInOrder job
+        → IfErr result (λ e. IsOrderFault e.0 → HasTwins (all_entries (job_of job).inputs)) }
+    ensures apart { S.honest → StandInOrder job → job.is_move ≡ false
+        → OnOk result (HasTwins (all_entries (job_of job).inputs) → ⊥) }
+    ensures large { S.honest → IfErr result (λ e. IsSizeFault e.0
+        → IsOverLimit job.table (all_entries (job_of job).inputs)) }
 
     // Numbers are drawn for the job's ticket, and for no other.
     ensures asked { AsksFor job.ticket (D.asked numbers.old) (D.asked numbers.new) }
     ensures ticket { IfErr result (λ e. NamesTicket e.0 job.ticket) }
 
     // A move asks nothing of the shelf or of the source of numbers.
-    ensures unasked { job.is_move ≡ true → (S.told shelf.new ≡ S.told shelf.old) × (D.drew numbers.new ≡ D.drew numbers.old) × (D.refused numbers.new ≡ D.refused numbers.old) × (D.asked numbers.new ≡ D.asked numbers.old) }
-    ensures moved { job.is_move ≡ true → IfErr result (λ e. (e.0 ≡ OutOfMemory) × (e.2.items ≡ [])) }
+    ensures unasked { job.is_move ≡ true
+        → (S.told shelf.new ≡ S.told shelf.old) × (D.drew numbers.new ≡ D.drew numbers.old)
+        × (D.refused numbers.new ≡ D.refused numbers.old)
+        × (D.asked numbers.new ≡ D.asked numbers.old) }
+    ensures moved { job.is_move ≡ true
+        → IfErr result (λ e. (e.0 ≡ OutOfMemory) × (e.2.items ≡ [])) }
     ensures ready { D.ready numbers.new }
 {
     if job.is_move() {

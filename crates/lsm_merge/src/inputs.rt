@@ -13,7 +13,8 @@ ghost use Rattle.lsm_merger.specs.Runs.{ReadsNoOther, files_at};
 ghost use Rattle.lsm_version.specs.Versions.{IsWhole};
 ghost use Rattle.lsm_merge.specs.Causes.{HasCause};
 ghost use Rattle.lsm_merge.specs.InputOrder.{HasTwins, StandInOrder};
-ghost use Rattle.lsm_merge.specs.Inputs.{AreInputs, IsOfReading, IsReadable, entries_of_tables, files_in, input_numbers, numbers_of, streams};
+ghost use Rattle.lsm_merge.specs.Inputs.{AreInputs, IsOfReading, IsReadable, entries_of_tables};
+ghost use Rattle.lsm_merge.specs.Inputs.{files_in, input_numbers, numbers_of, streams};
 ghost use Rattle.lsm_merge.specs.Work.{job_of};
 
 use crate::job::Job;
@@ -37,12 +38,14 @@ fn open_run<N: Naming, S: Shelf>(
     requires here { (S.told shelf.old).place ≡ N.place }
     requires some { 0 < length tables.now }
     requires whole { S.honest → (t : Table) → Has tables.now t → IsWhole t }
-    ensures entries { S.honest → IfOk result (λ r. r.placed ≡ placed_at place (entries_of_tables tables.now)) }
+    ensures entries { S.honest
+        → IfOk result (λ r. r.placed ≡ placed_at place (entries_of_tables tables.now)) }
     ensures files { IfOk result (λ r. r.files ≡ files_at place (numbers_of tables.now)) }
     ensures kind { IfErr result IsOfReading }
     ensures sound { S.honest → IfErr result IsReadable }
     ensures told { Becomes (S.told shelf.old) (S.told shelf.new) }
-    ensures cause { IfErr result (λ e. HasCause (numbers_of tables.now) e (S.told shelf.old) (S.told shelf.new)) }
+    ensures cause { IfErr result (λ e.
+        HasCause (numbers_of tables.now) e (S.told shelf.old) (S.told shelf.new)) }
 {
     let mut direct = Direct::new(shelf);
     match Run::over_by(&mut direct, alloc, place, registry, tables) {
@@ -61,13 +64,18 @@ fn push_run<N: Naming, S: Shelf>(
 ) -> Result<(), MergeFault>
     requires here { (S.told shelf.old).place ≡ N.place }
     requires whole { S.honest → (t : Table) → Has tables.now t → IsWhole t }
-    ensures entries { S.honest → OnOk result (streams runs.new.items ≡ streams runs.old.items ++ entries_of_tables tables.now) }
-    ensures ordered { S.honest → IsSorted (entries_of_tables tables.now) → OnOk result (AreOrdered (map (λ r. r.placed) runs.old.items) → AreOrdered (map (λ r. r.placed) runs.new.items)) }
-    ensures files { OnOk result (files_in runs.new.items ≡ files_in runs.old.items ++ numbers_of tables.now) }
+    ensures entries { S.honest → OnOk result (streams runs.new.items
+        ≡ streams runs.old.items ++ entries_of_tables tables.now) }
+    ensures ordered { S.honest → IsSorted (entries_of_tables tables.now)
+        → OnOk result (AreOrdered (map (λ r. r.placed) runs.old.items)
+        → AreOrdered (map (λ r. r.placed) runs.new.items)) }
+    ensures files { OnOk result (files_in runs.new.items
+        ≡ files_in runs.old.items ++ numbers_of tables.now) }
     ensures kind { IfErr result IsOfReading }
     ensures sound { S.honest → IfErr result IsReadable }
     ensures told { Becomes (S.told shelf.old) (S.told shelf.new) }
-    ensures cause { IfErr result (λ e. HasCause (numbers_of tables.now) e (S.told shelf.old) (S.told shelf.new)) }
+    ensures cause { IfErr result (λ e.
+        HasCause (numbers_of tables.now) e (S.told shelf.old) (S.told shelf.new)) }
 {
     if tables.is_empty() {
         return Ok(());
@@ -88,13 +96,17 @@ fn push_each<N: Naming, S: Shelf>(
 ) -> Result<(), MergeFault>
     requires here { (S.told shelf.old).place ≡ N.place }
     requires whole { S.honest → (t : Table) → Has tables.now t → IsWhole t }
-    ensures entries { S.honest → OnOk result (streams runs.new.items ≡ streams runs.old.items ++ entries_of_tables tables.now) }
-    ensures ordered { S.honest → OnOk result (AreOrdered (map (λ r. r.placed) runs.old.items) → AreOrdered (map (λ r. r.placed) runs.new.items)) }
-    ensures files { OnOk result (files_in runs.new.items ≡ files_in runs.old.items ++ numbers_of tables.now) }
+    ensures entries { S.honest → OnOk result (streams runs.new.items
+        ≡ streams runs.old.items ++ entries_of_tables tables.now) }
+    ensures ordered { S.honest → OnOk result (AreOrdered (map (λ r. r.placed) runs.old.items)
+        → AreOrdered (map (λ r. r.placed) runs.new.items)) }
+    ensures files { OnOk result (files_in runs.new.items
+        ≡ files_in runs.old.items ++ numbers_of tables.now) }
     ensures kind { IfErr result IsOfReading }
     ensures sound { S.honest → IfErr result IsReadable }
     ensures told { Becomes (S.told shelf.old) (S.told shelf.new) }
-    ensures cause { IfErr result (λ e. HasCause (numbers_of tables.now) e (S.told shelf.old) (S.told shelf.new)) }
+    ensures cause { IfErr result (λ e.
+        HasCause (numbers_of tables.now) e (S.told shelf.old) (S.told shelf.new)) }
 {
     for table in tables {
         match push_run(shelf, alloc, registry, slice::from_ref(table), runs) {
@@ -117,13 +129,18 @@ fn push_upper<N: Naming, S: Shelf>(
 ) -> Result<(), MergeFault>
     requires here { (S.told shelf.old).place ≡ N.place }
     requires whole { S.honest → (t : Table) → Has tables.now t → IsWhole t }
-    ensures entries { S.honest → OnOk result (streams runs.new.items ≡ streams runs.old.items ++ entries_of_tables tables.now) }
-    ensures ordered { S.honest → (1 ≤ level → IsSorted (entries_of_tables tables.now)) → OnOk result (AreOrdered (map (λ r. r.placed) runs.old.items) → AreOrdered (map (λ r. r.placed) runs.new.items)) }
-    ensures files { OnOk result (files_in runs.new.items ≡ files_in runs.old.items ++ numbers_of tables.now) }
+    ensures entries { S.honest → OnOk result (streams runs.new.items
+        ≡ streams runs.old.items ++ entries_of_tables tables.now) }
+    ensures ordered { S.honest → (1 ≤ level → IsSorted (entries_of_tables tables.now))
+        → OnOk result (AreOrdered (map (λ r. r.placed) runs.old.items)
+        → AreOrdered (map (λ r. r.placed) runs.new.items)) }
+    ensures files { OnOk result (files_in runs.new.items
+        ≡ files_in runs.old.items ++ numbers_of tables.now) }
     ensures kind { IfErr result IsOfReading }
     ensures sound { S.honest → IfErr result IsReadable }
     ensures told { Becomes (S.told shelf.old) (S.told shelf.new) }
-    ensures cause { IfErr result (λ e. HasCause (numbers_of tables.now) e (S.told shelf.old) (S.told shelf.new)) }
+    ensures cause { IfErr result (λ e.
+        HasCause (numbers_of tables.now) e (S.told shelf.old) (S.told shelf.new)) }
 {
     if level == 0 {
         push_each(shelf, alloc, registry, tables, runs)
@@ -140,15 +157,20 @@ pub(crate) fn open_inputs<N: Naming, S: Shelf>(
     job: &Job<N, S>,
 ) -> Result<Merger<N, S>, MergeFault>
     requires here { (S.told shelf.old).place ≡ N.place }
-    ensures merges { S.honest → IfOk result (λ m. IsAscending (entries_of m.placed) → IsMerge (entries_of m.placed) (all_entries (job_of job.now).inputs)) }
-    ensures from { S.honest → IfOk result (λ m. (e : Entry) → Has (entries_of m.placed) e → Has (all_entries (job_of job.now).inputs) e) }
-    ensures order { S.honest → StandInOrder job.now → IfOk result (λ m. (IsAscending (entries_of m.placed) → ⊥) → HasTwins (all_entries (job_of job.now).inputs)) }
-    ensures apart { S.honest → StandInOrder job.now → IfOk result (λ m. IsAscending (entries_of m.placed) → HasTwins (all_entries (job_of job.now).inputs) → ⊥) }
+    ensures merges { S.honest → IfOk result (λ m. IsAscending (entries_of m.placed)
+        → IsMerge (entries_of m.placed) (all_entries (job_of job.now).inputs)) }
+    ensures from { S.honest → IfOk result (λ m. (e : Entry) → Has (entries_of m.placed) e
+        → Has (all_entries (job_of job.now).inputs) e) }
+    ensures order { S.honest → StandInOrder job.now → IfOk result (λ m.
+        (IsAscending (entries_of m.placed) → ⊥) → HasTwins (all_entries (job_of job.now).inputs)) }
+    ensures apart { S.honest → StandInOrder job.now → IfOk result (λ m.
+        IsAscending (entries_of m.placed) → HasTwins (all_entries (job_of job.now).inputs) → ⊥) }
     ensures files { IfOk result (λ m. AreInputs m.files (input_numbers job.now)) }
     ensures kind { IfErr result IsOfReading }
     ensures sound { S.honest → IfErr result IsReadable }
     ensures told { Becomes (S.told shelf.old) (S.told shelf.new) }
-    ensures cause { IfErr result (λ e. HasCause (input_numbers job.now) e (S.told shelf.old) (S.told shelf.new)) }
+    ensures cause { IfErr result (λ e.
+        HasCause (input_numbers job.now) e (S.told shelf.old) (S.told shelf.new)) }
 {
     merges_are_in_order();
     // What holds of the job is told by this call.
@@ -178,7 +200,8 @@ pub(crate) fn advance<N: Naming, S: Shelf>(
     ensures kind { IfErr result IsOfReading }
     ensures sound { S.honest → IfErr result IsReadable }
     ensures told { Becomes (S.told shelf.old) (S.told shelf.new) }
-    ensures cause { IfErr result (λ e. (inputs : List ℕ) → AreInputs merger.old.files inputs → HasCause inputs e (S.told shelf.old) (S.told shelf.new)) }
+    ensures cause { IfErr result (λ e. (inputs : List ℕ) → AreInputs merger.old.files inputs
+        → HasCause inputs e (S.told shelf.old) (S.told shelf.new)) }
 {
     let mut direct = Direct::new(shelf);
     match merger.advance_by(&mut direct, alloc) {

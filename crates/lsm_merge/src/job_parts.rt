@@ -42,7 +42,19 @@ impl<N: Naming, S: Shelf> Model for JobParts<N, S> {
 
     ghost Value = { Work };
 
-    ghost view = { λ j. record { ticket = j.ticket; level = j.level; upper = j.upper.items; lower = j.lower.items; low = j.low; high = j.high; floor = j.floor; ranges = j.ranges.items; is_move = j.is_move; table = j.table; target_size = j.target_size } };
+    ghost view = { λ j. record {
+      ticket = j.ticket;
+      level = j.level;
+      upper = j.upper.items;
+      lower = j.lower.items;
+      low = j.low;
+      high = j.high;
+      floor = j.floor;
+      ranges = j.ranges.items;
+      is_move = j.is_move;
+      table = j.table;
+      target_size = j.target_size;
+    } };
 }
 
 impl<N: Naming, S: Shelf> JobParts<N, S> {
@@ -67,7 +79,8 @@ impl<N: Naming, S: Shelf> JobParts<N, S> {
 
     /// Whether all parts but the inputs are equal.
     fn same_but_inputs(&self, other: &JobParts<N, S>) -> bool
-        ensures { IsTrue result ↔ (record self.now { upper = other.now.upper; lower = other.now.lower } ≡ other.now) }
+        ensures { IsTrue result
+            ↔ (record self.now { upper = other.now.upper; lower = other.now.lower } ≡ other.now) }
     {
         self.ticket == other.ticket
             && self.level == other.level

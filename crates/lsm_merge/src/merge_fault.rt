@@ -1,7 +1,8 @@
 //! Why a job was not finished.
 
 ghost use Rattle.std.specs.Prelude.{◌≡◌};
-ghost use Rattle.lsm_merge.specs.MergeFault.{input_number, name_of, number_of, of_build, of_put, of_read, output_number};
+ghost use Rattle.lsm_merge.specs.MergeFault.{input_number, name_of, number_of, of_build, of_put};
+ghost use Rattle.lsm_merge.specs.MergeFault.{of_read, output_number};
 ghost use Rattle.lsm_merge.specs.declared.merge_fault.MergeFault.TheVariants.{OutOfMemory};
 ghost use Rattle.lsm_merge.specs.MergeFault.{of_numbers};
 

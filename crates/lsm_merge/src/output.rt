@@ -1,6 +1,7 @@
 //! An output in the making.
 
-ghost use Rattle.std.specs.Prelude.{◌≡◌, [], ◌∷◌, ◌++◌, not, ◌&&◌, nat_le, IfOk, IfErr, OnOk, OnErr};
+ghost use Rattle.std.specs.Prelude.{◌≡◌, [], ◌∷◌, ◌++◌, not, ◌&&◌, nat_le, IfOk, IfErr, OnOk};
+ghost use Rattle.std.specs.Prelude.{OnErr};
 ghost use Rattle.std.specs.Str.{bytes_eq};
 ghost use Rattle.lsm_codec.specs.KeyRef.{key_of};
 ghost use Rattle.lsm_codec.specs.Keys.{IsKey};
@@ -13,9 +14,9 @@ ghost use Rattle.lsm_merge.specs.Cuts.{closes};
 ghost use Rattle.lsm_merge.specs.Limits.{IsOverLimit};
 ghost use Rattle.lsm_merge.specs.Work.{finished};
 
-use lsm_codec::{Bytes, KeyRef, push_key};
+use lsm_codec::{Bytes, KeyRef};
 use lsm_table::{BuildFault, TableBuilder, TableOptions};
-use std::alloc::{AllocError, Global};
+use std::alloc::Global;
 use std::marker::Model;
 
 /// An output in the making: a table under its number, with an entry at least.
@@ -31,7 +32,8 @@ impl Model for Output {
 
     ghost Value = { Unfinished };
 
-    ghost view = { λ o. record { number = o.number; options = o.builder.options; entries = o.builder.entries } };
+    ghost view = { λ o.
+        record { number = o.number; options = o.builder.options; entries = o.builder.entries } };
 
     ghost invariant = { λ o. IsBegun o.smallest o.builder.entries };
 }
@@ -43,15 +45,6 @@ pub(crate) struct Image {
     pub(crate) smallest: Bytes,
     pub(crate) largest: Bytes,
     pub(crate) bytes: Vec<u8>,
-}
-
-/// The bytes of a key.
-fn bytes_of(alloc: Global, key: &KeyRef<'_>) -> Result<Bytes, AllocError>
-    ensures { IfOk result (λ b. IsKey b (key_of key.now)) }
-{
-    let mut bytes = Vec::new(alloc);
-    push_key(&mut bytes, key.user, key.seq, key.kind)?;
-    Ok(Bytes::of(bytes))
 }
 
 /// Whether an output may end with the one user key where another one follows: they differ, and it
@@ -72,10 +65,15 @@ impl Output {
         value: &[u8],
     ) -> Result<Output, BuildFault>
         requires { AreInRange options }
-        ensures ok { IfOk result (λ o. o ≡ record { number = number; options = options; entries = entry_of (key_of key.now) value.now ∷ [] }) }
-        ensures large { IfErr result (λ e. e ≡ TooLarge → IsOverLimit options (entry_of (key_of key.now) value.now ∷ [])) }
+        ensures ok { IfOk result (λ o. o ≡ record {
+          number = number;
+          options = options;
+          entries = entry_of (key_of key.now) value.now ∷ [];
+        }) }
+        ensures large { IfErr result (λ e. e ≡ TooLarge
+            → IsOverLimit options (entry_of (key_of key.now) value.now ∷ [])) }
     {
-        let smallest = bytes_of(alloc, key)?;
+        let smallest = key.to_bytes(alloc)?;
         let mut builder = TableBuilder::new(alloc, options);
         match builder.add(key.user, key.seq, key.kind, value) {
             Ok(()) => {}
@@ -99,15 +97,18 @@ impl Output {
     pub(crate) fn tell_order(&self)
         ensures { Ascends self.now.entries }
     {
+        // That they ascend is told by this call.
         let _last = self.builder.last_key();
     }
 
     /// Adds an entry after the others. An `Err` leaves the output as it was.
     pub(crate) fn add(&mut self, key: &KeyRef<'_>, value: &[u8]) -> Result<(), BuildFault>
         requires { Ascends (self.old.entries ++ entry_of (key_of key.now) value.now ∷ []) }
-        ensures ok { OnOk result (self.new ≡ record self.old { entries = self.old.entries ++ entry_of (key_of key.now) value.now ∷ [] }) }
+        ensures ok { OnOk result (self.new ≡ record self.old
+            { entries = self.old.entries ++ entry_of (key_of key.now) value.now ∷ [] }) }
         ensures err { OnErr result (self.new ≡ self.old) }
-        ensures large { IfErr result (λ e. e ≡ TooLarge → IsOverLimit self.old.options (self.old.entries ++ entry_of (key_of key.now) value.now ∷ [])) }
+        ensures large { IfErr result (λ e. e ≡ TooLarge → IsOverLimit self.old.options
+            (self.old.entries ++ entry_of (key_of key.now) value.now ∷ [])) }
     {
         self.builder.add(key.user, key.seq, key.kind, value)
     }
@@ -136,7 +137,7 @@ impl Output {
             builder,
         } = self;
         let largest = match builder.last_key() {
-            Some(key) => bytes_of(alloc, &key)?,
+            Some(key) => key.to_bytes(alloc)?,
             None => unreachable!(),
         };
         let bytes = builder.finish()?;

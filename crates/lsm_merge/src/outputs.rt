@@ -1,6 +1,7 @@
 //! What a merge has made.
 
-ghost use Rattle.std.specs.Prelude.{◌≡◌, [], ◌∷◌, ◌++◌, ℕ, List, None, cond, IfOk, IfErr, OnOk, OnErr};
+ghost use Rattle.std.specs.Prelude.{◌≡◌, [], ◌∷◌, ◌++◌, ℕ, List, None, cond, IfOk, IfErr, OnOk};
+ghost use Rattle.std.specs.Prelude.{OnErr};
 ghost use Rattle.lsm_codec.specs.KeyRef.{key_of};
 ghost use Rattle.lsm_block.specs.Block.{Ascends, entry_of};
 ghost use Rattle.lsm_shelf.specs.Told.{Told};
@@ -9,7 +10,8 @@ ghost use Rattle.lsm_merge.specs.Cuts.{closes};
 ghost use Rattle.lsm_merge.specs.Causes.{AnswersOf, AsksFor, HasCause, Leaves, NamesTicket};
 ghost use Rattle.lsm_merge.specs.Dropping.{closed, placed, shut_before, with_entry};
 ghost use Rattle.lsm_merge.specs.Limits.{IsOverLimit, IsSizeFault};
-ghost use Rattle.lsm_merge.specs.Outputs.{AreGood, Goes, PutsMore, drawn_of, entries_of_last, going, making_of};
+ghost use Rattle.lsm_merge.specs.Outputs.{AreGood, Goes, PutsMore, drawn_of, entries_of_last};
+ghost use Rattle.lsm_merge.specs.Outputs.{going, making_of};
 ghost use Rattle.lsm_merge.specs.Work.{finished};
 
 use crate::job::Job;
@@ -41,7 +43,14 @@ impl<N: Naming, S: Shelf> Model for Outputs<N, S> {
 
     ghost Value = { Made };
 
-    ghost view = { λ o. record { ticket = o.ticket; options = o.options; target = o.target; tables = o.tables.items; put = o.put.items; last = o.last } };
+    ghost view = { λ o. record {
+      ticket = o.ticket;
+      options = o.options;
+      target = o.target;
+      tables = o.tables.items;
+      put = o.put.items;
+      last = o.last;
+    } };
 }
 
 /// An output that begins with an entry, under a number that is drawn for it.
@@ -60,12 +69,14 @@ fn begin<R: Wait, D: NumberSource>(
     ensures entries { IfOk result (λ o. o.entries ≡ entry_of (key_of key.now) value.now ∷ []) }
     ensures drew { IfOk result (λ o. D.drew numbers.new ≡ o.number ∷ D.drew numbers.old) }
     ensures answered { OnOk result (D.refused numbers.new ≡ D.refused numbers.old) }
-    ensures leaves { IfErr result (λ e. (put there : List ℕ) → D.drew numbers.old ≡ going put there → Leaves e put (D.drew numbers.new) there) }
+    ensures leaves { IfErr result (λ e. (put there : List ℕ) → D.drew numbers.old ≡ going put there
+        → Leaves e put (D.drew numbers.new) there) }
     ensures why { IfErr result (λ e. AnswersOf e (D.refused numbers.old) (D.refused numbers.new)) }
     ensures cause { IfErr result (λ e. (t u : Told) → HasCause [] e t u) }
     ensures asked { D.asked numbers.new ≡ ticket ∷ D.asked numbers.old }
     ensures ticket { IfErr result (λ e. NamesTicket e ticket) }
-    ensures large { IfErr result (λ e. IsSizeFault e → IsOverLimit options (entry_of (key_of key.now) value.now ∷ [])) }
+    ensures large { IfErr result (λ e. IsSizeFault e
+        → IsOverLimit options (entry_of (key_of key.now) value.now ∷ [])) }
     ensures ready { D.ready numbers.new }
 {
     let number = match numbers.draw(rt, alloc, ticket) {
@@ -81,13 +92,16 @@ fn begin<R: Wait, D: NumberSource>(
 /// Adds an entry to the output in the making.
 fn grow(output: &mut Output, key: &KeyRef<'_>, value: &[u8]) -> Result<(), MergeFault>
     requires { Ascends (output.old.entries ++ entry_of (key_of key.now) value.now ∷ []) }
-    ensures ok { OnOk result (output.new ≡ record output.old { entries = output.old.entries ++ entry_of (key_of key.now) value.now ∷ [] }) }
+    ensures ok { OnOk result (output.new ≡ record output.old
+        { entries = output.old.entries ++ entry_of (key_of key.now) value.now ∷ [] }) }
     ensures err { OnErr result (output.new ≡ output.old) }
-    ensures leaves { IfErr result (λ e. (put there : List ℕ) → Leaves e put (output.old.number ∷ going put there) there) }
+    ensures leaves { IfErr result (λ e. (put there : List ℕ)
+        → Leaves e put (output.old.number ∷ going put there) there) }
     ensures why { IfErr result (λ e. (answers : List ℕ) → AnswersOf e answers answers) }
     ensures cause { IfErr result (λ e. (t u : Told) → HasCause [] e t u) }
     ensures ticket { IfErr result (λ e. (ticket : ℕ) → NamesTicket e ticket) }
-    ensures large { IfErr result (λ e. IsSizeFault e → IsOverLimit output.old.options (output.old.entries ++ entry_of (key_of key.now) value.now ∷ [])) }
+    ensures large { IfErr result (λ e. IsSizeFault e → IsOverLimit output.old.options
+        (output.old.entries ++ entry_of (key_of key.now) value.now ∷ [])) }
 {
     match output.add(key, value) {
         Ok(()) => Ok(()),
@@ -98,7 +112,14 @@ fn grow(output: &mut Output, key: &KeyRef<'_>, value: &[u8]) -> Result<(), Merge
 impl<N: Naming, S: Shelf> Outputs<N, S> {
     /// Nothing yet of a job.
     pub(crate) fn none(alloc: Global, job: &Job<N, S>) -> Outputs<N, S>
-        ensures { result ≡ record { ticket = job.now.ticket; options = job.now.table; target = job.now.target_size; tables = []; put = []; last = None } }
+        ensures { result ≡ record {
+          ticket = job.now.ticket;
+          options = job.now.table;
+          target = job.now.target_size;
+          tables = [];
+          put = [];
+          last = None;
+        } }
     {
         Outputs {
             alloc,
@@ -129,13 +150,17 @@ impl<N: Naming, S: Shelf> Outputs<N, S> {
     ) -> Result<(), MergeFault>
         requires good { AreGood self.old }
         requires here { (S.told shelf.old).place ≡ N.place }
-        ensures ok { OnOk result (Goes self.old self.new record { outputs = closed (making_of self.old); output = [] }) }
-        ensures drawn { OnOk result ((there : List ℕ) → drawn_of self.new there ≡ drawn_of self.old there) }
+        ensures ok { OnOk result
+            (Goes self.old self.new record { outputs = closed (making_of self.old); output = [] }) }
+        ensures drawn { OnOk result ((there : List ℕ)
+            → drawn_of self.new there ≡ drawn_of self.old there) }
         ensures told { PutsMore self.old.put self.new.put (S.told shelf.old) (S.told shelf.new) }
-        ensures leaves { IfErr result (λ e. (there : List ℕ) → Leaves e self.new.put (drawn_of self.old there) there) }
+        ensures leaves { IfErr result (λ e. (there : List ℕ)
+            → Leaves e self.new.put (drawn_of self.old there) there) }
         ensures cause { IfErr result (λ e. HasCause [] e (S.told shelf.old) (S.told shelf.new)) }
         ensures why { IfErr result (λ e. (answers : List ℕ) → AnswersOf e answers answers) }
-        ensures large { IfErr result (λ e. IsSizeFault e → IsOverLimit self.old.options (entries_of_last self.old.last)) }
+        ensures large { IfErr result (λ e. IsSizeFault e
+            → IsOverLimit self.old.options (entries_of_last self.old.last)) }
     {
         match self.last.take() {
             None => Ok(()),
@@ -154,7 +179,8 @@ impl<N: Naming, S: Shelf> Outputs<N, S> {
     /// Whether the output in the making is closed before an entry of this user key.
     fn closes(&self, user: &[u8]) -> bool
         requires { AreGood self.now }
-        ensures { result ≡ closes (finished self.now.options) self.now.target (entries_of_last self.now.last) user.now }
+        ensures { result ≡ closes (finished self.now.options) self.now.target
+            (entries_of_last self.now.last) user.now }
     {
         match &self.last {
             None => false,
@@ -172,13 +198,17 @@ impl<N: Naming, S: Shelf> Outputs<N, S> {
     ) -> Result<(), MergeFault>
         requires good { AreGood self.old }
         requires here { (S.told shelf.old).place ≡ N.place }
-        ensures ok { OnOk result (Goes self.old self.new (shut_before (finished self.old.options) self.old.target (making_of self.old) user.now)) }
-        ensures drawn { OnOk result ((there : List ℕ) → drawn_of self.new there ≡ drawn_of self.old there) }
+        ensures ok { OnOk result (Goes self.old self.new (shut_before (finished self.old.options)
+            self.old.target (making_of self.old) user.now)) }
+        ensures drawn { OnOk result ((there : List ℕ)
+            → drawn_of self.new there ≡ drawn_of self.old there) }
         ensures told { PutsMore self.old.put self.new.put (S.told shelf.old) (S.told shelf.new) }
-        ensures leaves { IfErr result (λ e. (there : List ℕ) → Leaves e self.new.put (drawn_of self.old there) there) }
+        ensures leaves { IfErr result (λ e. (there : List ℕ)
+            → Leaves e self.new.put (drawn_of self.old there) there) }
         ensures cause { IfErr result (λ e. HasCause [] e (S.told shelf.old) (S.told shelf.new)) }
         ensures why { IfErr result (λ e. (answers : List ℕ) → AnswersOf e answers answers) }
-        ensures large { IfErr result (λ e. IsSizeFault e → IsOverLimit self.old.options (entries_of_last self.old.last)) }
+        ensures large { IfErr result (λ e. IsSizeFault e
+            → IsOverLimit self.old.options (entries_of_last self.old.last)) }
     {
         if !self.closes(user) {
             return Ok(());
@@ -196,17 +226,23 @@ impl<N: Naming, S: Shelf> Outputs<N, S> {
     ) -> Result<(), MergeFault>
         requires ready { D.ready numbers.old }
         requires good { AreGood self.old }
-        requires ascends { Ascends (entries_of_last self.old.last ++ entry_of (key_of key.now) value.now ∷ []) }
-        ensures ok { OnOk result (Goes self.old self.new (with_entry (entry_of (key_of key.now) value.now) (making_of self.old))) }
-        ensures drawn { OnOk result ((there : List ℕ) → D.drew numbers.old ≡ drawn_of self.old there → D.drew numbers.new ≡ drawn_of self.new there) }
+        requires ascends { Ascends
+            (entries_of_last self.old.last ++ entry_of (key_of key.now) value.now ∷ []) }
+        ensures ok { OnOk result (Goes self.old self.new
+            (with_entry (entry_of (key_of key.now) value.now) (making_of self.old))) }
+        ensures drawn { OnOk result ((there : List ℕ) → D.drew numbers.old ≡ drawn_of self.old there
+            → D.drew numbers.new ≡ drawn_of self.new there) }
         ensures put { self.new.put ≡ self.old.put }
         ensures answered { OnOk result (D.refused numbers.new ≡ D.refused numbers.old) }
-        ensures leaves { IfErr result (λ e. (there : List ℕ) → D.drew numbers.old ≡ drawn_of self.old there → Leaves e self.new.put (D.drew numbers.new) there) }
-        ensures why { IfErr result (λ e. AnswersOf e (D.refused numbers.old) (D.refused numbers.new)) }
+        ensures leaves { IfErr result (λ e. (there : List ℕ) → D.drew numbers.old
+            ≡ drawn_of self.old there → Leaves e self.new.put (D.drew numbers.new) there) }
+        ensures why { IfErr result (λ e.
+            AnswersOf e (D.refused numbers.old) (D.refused numbers.new)) }
         ensures cause { IfErr result (λ e. (t u : Told) → HasCause [] e t u) }
         ensures asked { AsksFor self.old.ticket (D.asked numbers.old) (D.asked numbers.new) }
         ensures ticket { IfErr result (λ e. NamesTicket e self.old.ticket) }
-        ensures large { IfErr result (λ e. IsSizeFault e → IsOverLimit self.old.options (entries_of_last self.old.last ++ entry_of (key_of key.now) value.now ∷ [])) }
+        ensures large { IfErr result (λ e. IsSizeFault e → IsOverLimit self.old.options
+            (entries_of_last self.old.last ++ entry_of (key_of key.now) value.now ∷ [])) }
         ensures ready { D.ready numbers.new }
     {
         if let Some(output) = &mut self.last {
@@ -237,17 +273,23 @@ impl<N: Naming, S: Shelf> Outputs<N, S> {
         requires ready { D.ready numbers.old }
         requires good { AreGood self.old }
         requires here { (S.told shelf.old).place ≡ N.place }
-        requires ascends { Ascends (entries_of_last self.old.last ++ entry_of (key_of key.now) value.now ∷ []) }
-        ensures ok { OnOk result (Goes self.old self.new (placed (finished self.old.options) self.old.target (making_of self.old) (entry_of (key_of key.now) value.now))) }
-        ensures drawn { OnOk result ((there : List ℕ) → D.drew numbers.old ≡ drawn_of self.old there → D.drew numbers.new ≡ drawn_of self.new there) }
+        requires ascends { Ascends
+            (entries_of_last self.old.last ++ entry_of (key_of key.now) value.now ∷ []) }
+        ensures ok { OnOk result (Goes self.old self.new (placed (finished self.old.options)
+            self.old.target (making_of self.old) (entry_of (key_of key.now) value.now))) }
+        ensures drawn { OnOk result ((there : List ℕ) → D.drew numbers.old ≡ drawn_of self.old there
+            → D.drew numbers.new ≡ drawn_of self.new there) }
         ensures told { PutsMore self.old.put self.new.put (S.told shelf.old) (S.told shelf.new) }
         ensures answered { OnOk result (D.refused numbers.new ≡ D.refused numbers.old) }
-        ensures leaves { IfErr result (λ e. (there : List ℕ) → D.drew numbers.old ≡ drawn_of self.old there → Leaves e self.new.put (D.drew numbers.new) there) }
-        ensures why { IfErr result (λ e. AnswersOf e (D.refused numbers.old) (D.refused numbers.new)) }
+        ensures leaves { IfErr result (λ e. (there : List ℕ) → D.drew numbers.old
+            ≡ drawn_of self.old there → Leaves e self.new.put (D.drew numbers.new) there) }
+        ensures why { IfErr result (λ e.
+            AnswersOf e (D.refused numbers.old) (D.refused numbers.new)) }
         ensures cause { IfErr result (λ e. HasCause [] e (S.told shelf.old) (S.told shelf.new)) }
         ensures asked { AsksFor self.old.ticket (D.asked numbers.old) (D.asked numbers.new) }
         ensures ticket { IfErr result (λ e. NamesTicket e self.old.ticket) }
-        ensures large { IfErr result (λ e. IsSizeFault e → IsOverLimit self.old.options (entries_of_last self.old.last ++ entry_of (key_of key.now) value.now ∷ [])) }
+        ensures large { IfErr result (λ e. IsSizeFault e → IsOverLimit self.old.options
+            (entries_of_last self.old.last ++ entry_of (key_of key.now) value.now ∷ [])) }
         ensures ready { D.ready numbers.new }
     {
         match self.close_before(rt, shelf, registry, key.user) {
@@ -271,17 +313,24 @@ impl<N: Naming, S: Shelf> Outputs<N, S> {
         requires ready { D.ready numbers.old }
         requires good { AreGood self.old }
         requires here { (S.told shelf.old).place ≡ N.place }
-        requires ascends { Ascends (entries_of_last self.old.last ++ entry_of (key_of key.now) value.now ∷ []) }
-        ensures ok { OnOk result (Goes self.old self.new (cond kept (placed (finished self.old.options) self.old.target (making_of self.old) (entry_of (key_of key.now) value.now)) (making_of self.old))) }
-        ensures drawn { OnOk result ((there : List ℕ) → D.drew numbers.old ≡ drawn_of self.old there → D.drew numbers.new ≡ drawn_of self.new there) }
+        requires ascends { Ascends
+            (entries_of_last self.old.last ++ entry_of (key_of key.now) value.now ∷ []) }
+        ensures ok { OnOk result
+            (Goes self.old self.new (cond kept (placed (finished self.old.options) self.old.target
+            (making_of self.old) (entry_of (key_of key.now) value.now)) (making_of self.old))) }
+        ensures drawn { OnOk result ((there : List ℕ) → D.drew numbers.old ≡ drawn_of self.old there
+            → D.drew numbers.new ≡ drawn_of self.new there) }
         ensures told { PutsMore self.old.put self.new.put (S.told shelf.old) (S.told shelf.new) }
         ensures answered { OnOk result (D.refused numbers.new ≡ D.refused numbers.old) }
-        ensures leaves { IfErr result (λ e. (there : List ℕ) → D.drew numbers.old ≡ drawn_of self.old there → Leaves e self.new.put (D.drew numbers.new) there) }
-        ensures why { IfErr result (λ e. AnswersOf e (D.refused numbers.old) (D.refused numbers.new)) }
+        ensures leaves { IfErr result (λ e. (there : List ℕ) → D.drew numbers.old
+            ≡ drawn_of self.old there → Leaves e self.new.put (D.drew numbers.new) there) }
+        ensures why { IfErr result (λ e.
+            AnswersOf e (D.refused numbers.old) (D.refused numbers.new)) }
         ensures cause { IfErr result (λ e. HasCause [] e (S.told shelf.old) (S.told shelf.new)) }
         ensures asked { AsksFor self.old.ticket (D.asked numbers.old) (D.asked numbers.new) }
         ensures ticket { IfErr result (λ e. NamesTicket e self.old.ticket) }
-        ensures large { IfErr result (λ e. IsSizeFault e → IsOverLimit self.old.options (entries_of_last self.old.last ++ entry_of (key_of key.now) value.now ∷ [])) }
+        ensures large { IfErr result (λ e. IsSizeFault e → IsOverLimit self.old.options
+            (entries_of_last self.old.last ++ entry_of (key_of key.now) value.now ∷ [])) }
         ensures ready { D.ready numbers.new }
     {
         if !kept {

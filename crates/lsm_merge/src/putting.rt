@@ -29,7 +29,8 @@ fn put_image<N: Naming, S: Shelf, R: Wait>(
     ensures image { IfOk result (λ t. t.image ≡ image.bytes.items) }
     ensures put { OnOk result (put.new.items ≡ put.old.items ++ image.number ∷ []) }
     ensures told { PutsMore put.old.items put.new.items (S.told shelf.old) (S.told shelf.new) }
-    ensures leaves { IfErr result (λ e. (there : List ℕ) → Leaves e put.new.items (image.number ∷ going put.old.items there) there) }
+    ensures leaves { IfErr result (λ e. (there : List ℕ)
+        → Leaves e put.new.items (image.number ∷ going put.old.items there) there) }
     ensures cause { IfErr result (λ e. HasCause [] e (S.told shelf.old) (S.told shelf.new)) }
     ensures why { IfErr result (λ e. (answers : List ℕ) → AnswersOf e answers answers) }
     ensures built { IfErr result (λ e. IsSizeFault e → ⊥) }
@@ -71,9 +72,11 @@ pub(crate) fn put_output<N: Naming, S: Shelf, R: Wait>(
     put: &mut Vec<u64>,
 ) -> Result<(), MergeFault>
     requires here { (S.told shelf.old).place ≡ N.place }
-    ensures ok { OnOk result (IsPut output tables.old.items tables.new.items put.old.items put.new.items) }
+    ensures ok { OnOk result
+        (IsPut output tables.old.items tables.new.items put.old.items put.new.items) }
     ensures told { PutsMore put.old.items put.new.items (S.told shelf.old) (S.told shelf.new) }
-    ensures leaves { IfErr result (λ e. (there : List ℕ) → Leaves e put.new.items (output.number ∷ going put.old.items there) there) }
+    ensures leaves { IfErr result (λ e. (there : List ℕ)
+        → Leaves e put.new.items (output.number ∷ going put.old.items there) there) }
     ensures cause { IfErr result (λ e. HasCause [] e (S.told shelf.old) (S.told shelf.new)) }
     ensures why { IfErr result (λ e. (answers : List ℕ) → AnswersOf e answers answers) }
     ensures large { IfErr result (λ e. IsSizeFault e → IsOverLimit output.options output.entries) }

@@ -29,12 +29,14 @@ pub fn against_age<N: Naming, S: Shelf, B: Blocks<S>>(
     merger: &mut Merger<N, S>,
 ) -> Result<Option<Bytes>, FileFault>
     requires here { (B.told blocks.old).place ≡ N.place }
-    ensures judged { S.honest → IsOrdered merger.old.placed → IfOk result (λ r. MatchOption r (IsAgeOrder merger.old.placed) (λ k. IsLeastAgainstAge merger.old.placed k)) }
+    ensures judged { S.honest → IsOrdered merger.old.placed → IfOk result (λ r.
+        MatchOption r (IsAgeOrder merger.old.placed) (λ k. IsLeastAgainstAge merger.old.placed k)) }
     ensures sound { S.honest → IfErr result (λ e. IsMemoryOrShelf e.fault) }
     ensures number { IfErr result (λ e. IsOfFiles merger.old e.number) }
     ensures told { Becomes (B.told blocks.old) (B.told blocks.new) }
     ensures loan { B.loan blocks.new ≡ B.loan blocks.old }
-    ensures cause { IfErr result (λ e. ReadCounted e.fault (B.told blocks.old) (B.told blocks.new)) }
+    ensures cause { IfErr result (λ e.
+        ReadCounted e.fault (B.told blocks.old) (B.told blocks.new)) }
 {
     let mut walk = Walk::new(alloc, mem::replace(merger, Merger::nothing()));
     let found = found_by(blocks, alloc, &mut walk);
@@ -91,12 +93,14 @@ fn found_by<N: Naming, S: Shelf, B: Blocks<S>>(
 ) -> Result<Option<Bytes>, FileFault>
     requires here { (B.told blocks.old).place ≡ N.place }
     requires fresh { walk.old.passed ≡ None }
-    ensures judged { S.honest → IsOrdered walk.old.left.placed → IfOk result (λ r. MatchOption r (IsAgeOrder walk.old.left.placed) (λ k. IsLeastAgainstAge walk.old.left.placed k)) }
+    ensures judged { S.honest → IsOrdered walk.old.left.placed → IfOk result (λ r. MatchOption r
+        (IsAgeOrder walk.old.left.placed) (λ k. IsLeastAgainstAge walk.old.left.placed k)) }
     ensures sound { S.honest → IfErr result (λ e. IsMemoryOrShelf e.fault) }
     ensures number { IfErr result (λ e. IsOfFiles walk.old.left e.number) }
     ensures told { Becomes (B.told blocks.old) (B.told blocks.new) }
     ensures loan { B.loan blocks.new ≡ B.loan blocks.old }
-    ensures cause { IfErr result (λ e. ReadCounted e.fault (B.told blocks.old) (B.told blocks.new)) }
+    ensures cause { IfErr result (λ e.
+        ReadCounted e.fault (B.told blocks.old) (B.told blocks.new)) }
 {
     let mut before = Stamp { place: 0, seq: 0 };
     for _ in 0..u64::MAX {

@@ -62,10 +62,14 @@ pub(crate) fn judged(
     other: Option<KeyRef<'_>>,
     front: usize,
 ) -> (bool, usize)
-    requires { SharesFront front (user_named (option_map key_of own)) (user_named (option_map key_of other)) }
-    ensures led { result.0 ≡ leads_by (option_map key_of own.entry) (option_map key_of other.entry) }
-    ensures shared { SharesFront result.1 (user_named (option_map key_of own.entry)) (user_named (option_map key_of other.entry)) }
-    ensures all { result.1 ≡ common (user_named (option_map key_of own.entry)) (user_named (option_map key_of other.entry)) }
+    requires { SharesFront front (user_named (option_map key_of own))
+        (user_named (option_map key_of other)) }
+    ensures led { result.0
+        ≡ leads_by (option_map key_of own.entry) (option_map key_of other.entry) }
+    ensures shared { SharesFront result.1 (user_named (option_map key_of own.entry))
+        (user_named (option_map key_of other.entry)) }
+    ensures all { result.1 ≡ common (user_named (option_map key_of own.entry))
+        (user_named (option_map key_of other.entry)) }
 {
     match (own, other) {
         (None, _) => (false, 0),

@@ -8,7 +8,8 @@ ghost use Rattle.lsm_block.specs.Standing.{SharesFront};
 ghost use Rattle.lsm_table.specs.ReadFault.{ReadCounted, IsMemoryOrShelf};
 ghost use Rattle.lsm_table.specs.Told.{Becomes};
 ghost use Rattle.lsm_levels.specs.Merging.{merge_all};
-ghost use Rattle.lsm_merger.specs.Heads.{after_first, first_of, key_in, no_more, place_in, user_in, value_in};
+ghost use Rattle.lsm_merger.specs.Heads.{after_first, first_of, key_in, no_more, place_in, user_in};
+ghost use Rattle.lsm_merger.specs.Heads.{value_in};
 ghost use Rattle.lsm_merger.specs.Runs.{IsOfFirst, ReadsNoOther};
 
 use crate::file_fault::FileFault;
@@ -46,7 +47,8 @@ impl<N: Naming, S: Shelf> Merger<N, S> {
     pub fn new(alloc: Global, runs: Vec<Run<N, S>>) -> Result<Merger<N, S>, AllocError>
         ensures placed { IfOk result (λ m. m.placed ≡ merge_all (map (λ r. r.placed) runs.items)) }
         ensures files { IfOk result (λ m. m.files ≡ flat_map (λ r. r.files) runs.items) }
-        ensures numbered { IfOk result (λ m. m.numbered ≡ merge_all (map (λ r. r.numbered) runs.items)) }
+        ensures numbered { IfOk result (λ m.
+            m.numbered ≡ merge_all (map (λ r. r.numbered) runs.items)) }
     {
         let mut runs = runs;
         let count = runs.len();
@@ -126,15 +128,18 @@ impl<N: Naming, S: Shelf> Merger<N, S> {
     ) -> Result<usize, FileFault>
         requires here { (B.told blocks.old).place ≡ N.place }
         ensures ok { S.honest → OnOk result (self.new.placed ≡ after_first self.old.placed) }
-        ensures numbered { S.honest → OnOk result (self.new.numbered ≡ after_first self.old.numbered) }
-        ensures shared { IfOk result (λ n. SharesFront n (user_in (first_of self.old.placed)) (user_in (first_of self.new.placed))) }
+        ensures numbered { S.honest
+            → OnOk result (self.new.numbered ≡ after_first self.old.numbered) }
+        ensures shared { IfOk result (λ n. SharesFront n (user_in (first_of self.old.placed))
+            (user_in (first_of self.new.placed))) }
         ensures files { OnOk result (ReadsNoOther self.old self.new) }
         ensures sound { S.honest → IfErr result (λ e. IsMemoryOrShelf e.fault) }
         ensures err { OnErr result (self.new ≡ self.old) }
         ensures number { IfErr result (λ e. IsOfFirst self.old e.number) }
         ensures told { Becomes (B.told blocks.old) (B.told blocks.new) }
         ensures loan { B.loan blocks.new ≡ B.loan blocks.old }
-        ensures cause { IfErr result (λ e. ReadCounted e.fault (B.told blocks.old) (B.told blocks.new)) }
+        ensures cause { IfErr result (λ e.
+            ReadCounted e.fault (B.told blocks.old) (B.told blocks.new)) }
     {
         match &mut self.tree {
             None => Ok(0),

@@ -1,6 +1,7 @@
 //! The tables of a level, one after another.
 
-ghost use Rattle.std.specs.Prelude.{◌≡◌, ◌∷◌, ◌<◌, [], ℕ, List, All, length, map, false, IfOk, IfErr, IfSome, MatchOption, OnOk, OnErr};
+ghost use Rattle.std.specs.Prelude.{◌≡◌, ◌∷◌, ◌<◌, [], ℕ, List, All, length, map, false, IfOk};
+ghost use Rattle.std.specs.Prelude.{IfErr, IfSome, MatchOption, OnOk, OnErr};
 ghost use Rattle.std.specs.Option.{option_map};
 ghost use Rattle.lsm_codec.specs.KeyRef.{key_of};
 ghost use Rattle.lsm_codec.specs.Lists.{Has};
@@ -10,8 +11,10 @@ ghost use Rattle.lsm_table.specs.Registry.{image_of};
 ghost use Rattle.lsm_table.specs.ReadFault.{ReadCounted, IsMemoryOrShelf};
 ghost use Rattle.lsm_table.specs.Told.{Becomes};
 ghost use Rattle.lsm_levels.specs.Merging.{placed_at};
-ghost use Rattle.lsm_merger.specs.Heads.{after_first, first_of, key_in, no_more, place_in, user_in, value_in};
-ghost use Rattle.lsm_merger.specs.Runs.{AreAlike, HasEntries, IsFirstOf, IsOfFirst, ReadsNoOther, entries_of_all, files_at, numbered_all};
+ghost use Rattle.lsm_merger.specs.Heads.{after_first, first_of, key_in, no_more, place_in, user_in};
+ghost use Rattle.lsm_merger.specs.Heads.{value_in};
+ghost use Rattle.lsm_merger.specs.Runs.{AreAlike, HasEntries, IsFirstOf, IsOfFirst, ReadsNoOther};
+ghost use Rattle.lsm_merger.specs.Runs.{entries_of_all, files_at, numbered_all};
 
 use crate::file_fault::FileFault;
 use lsm_codec::KeyRef;
@@ -45,9 +48,12 @@ impl<N: Naming, S: Shelf> Model for Run<N, S> {
 
     ghost Value = { Left };
 
-    ghost view = { λ r. run_left r.place r.number r.here (map S.Receipt.number r.later.items) (map S.Receipt.image r.later.items) };
+    ghost view = { λ r. run_left r.place r.number r.here (map S.Receipt.number r.later.items)
+        (map S.Receipt.image r.later.items) };
 
-    ghost invariant = { λ r. IsLastAtEnd r.here (map S.Receipt.image r.later.items) × All (S.is_of N.place) r.later.items × (S.honest → All HasEntries (map S.Receipt.image r.later.items)) };
+    ghost invariant = { λ r. IsLastAtEnd r.here (map S.Receipt.image r.later.items)
+        × All (S.is_of N.place) r.later.items
+        × (S.honest → All HasEntries (map S.Receipt.image r.later.items)) };
 }
 
 /// Opens the table of a receipt, which has an entry: a table without entries is `BadIndex`.
@@ -85,13 +91,16 @@ fn open_next_by<N: Naming, S: Shelf, B: Blocks<S>>(
     requires here { (B.told blocks.old).place ≡ N.place }
     requires named { All (S.is_of N.place) later.now.items }
     requires tables { S.honest → All HasEntries (map S.Receipt.image later.now.items) }
-    ensures some { IfOk result (λ o. MatchOption o (later.now.items ≡ []) (λ t. (0 < length later.now.items) × (is_end t ≡ false))) }
-    ensures entries { S.honest → IfOk result (λ o. IfSome o (λ t. IsFirstOf t (map S.Receipt.image later.now.items))) }
+    ensures some { IfOk result (λ o. MatchOption o (later.now.items ≡ []) (λ t.
+        (0 < length later.now.items) × (is_end t ≡ false))) }
+    ensures entries { S.honest
+        → IfOk result (λ o. IfSome o (λ t. IsFirstOf t (map S.Receipt.image later.now.items))) }
     ensures sound { S.honest → IfErr result (λ e. IsMemoryOrShelf e.fault) }
     ensures number { IfErr result (λ e. Has (map S.Receipt.number later.now.items) e.number) }
     ensures told { Becomes (B.told blocks.old) (B.told blocks.new) }
     ensures loan { B.loan blocks.new ≡ B.loan blocks.old }
-    ensures cause { IfErr result (λ e. ReadCounted e.fault (B.told blocks.old) (B.told blocks.new)) }
+    ensures cause { IfErr result (λ e.
+        ReadCounted e.fault (B.told blocks.old) (B.told blocks.new)) }
 {
     let next = match later.front() {
         Some(next) => blocks.copy_receipt(next),
@@ -112,7 +121,8 @@ fn copies_of<N: Naming, S: Shelf, B: Blocks<S>>(
     tables: &[TableRef<N, S>],
 ) -> Result<VecDeque<S::Receipt>, AllocError>
     ensures named { IfOk result (λ v. All (S.is_of N.place) v.items) }
-    ensures numbers { IfOk result (λ v. map S.Receipt.number v.items ≡ map (λ t. t.number) tables.now) }
+    ensures numbers { IfOk result (λ v.
+        map S.Receipt.number v.items ≡ map (λ t. t.number) tables.now) }
     ensures images { IfOk result (λ v. map S.Receipt.image v.items ≡ map image_of tables.now) }
 {
     let mut copies = VecDeque::new(alloc);
@@ -135,14 +145,18 @@ impl<N: Naming, S: Shelf> Run<N, S> {
         requires here { (B.told blocks.old).place ≡ N.place }
         requires named { All (S.is_of N.place) (first ∷ later.items) }
         requires tables { S.honest → All HasEntries (map S.Receipt.image (first ∷ later.items)) }
-        ensures entries { S.honest → IfOk result (λ r. r.placed ≡ placed_at place (entries_of_all (map S.Receipt.image (first ∷ later.items)))) }
-        ensures files { IfOk result (λ r. r.files ≡ files_at place (map S.Receipt.number (first ∷ later.items))) }
-        ensures numbered { S.honest → IfOk result (λ r. r.numbered ≡ numbered_all (map S.Receipt.number (first ∷ later.items)) (map S.Receipt.image (first ∷ later.items))) }
+        ensures entries { S.honest → IfOk result (λ r. r.placed
+            ≡ placed_at place (entries_of_all (map S.Receipt.image (first ∷ later.items)))) }
+        ensures files { IfOk result (λ r.
+            r.files ≡ files_at place (map S.Receipt.number (first ∷ later.items))) }
+        ensures numbered { S.honest → IfOk result (λ r. r.numbered ≡ numbered_all (map
+            S.Receipt.number (first ∷ later.items)) (map S.Receipt.image (first ∷ later.items))) }
         ensures sound { S.honest → IfErr result (λ e. IsMemoryOrShelf e.fault) }
         ensures number { IfErr result (λ e. e.number ≡ S.Receipt.number first) }
         ensures told { Becomes (B.told blocks.old) (B.told blocks.new) }
         ensures loan { B.loan blocks.new ≡ B.loan blocks.old }
-        ensures cause { IfErr result (λ e. ReadCounted e.fault (B.told blocks.old) (B.told blocks.new)) }
+        ensures cause { IfErr result (λ e.
+            ReadCounted e.fault (B.told blocks.old) (B.told blocks.new)) }
     {
         let number = first.number();
         match open_some_by(blocks, alloc, first) {
@@ -167,14 +181,18 @@ impl<N: Naming, S: Shelf> Run<N, S> {
         requires here { (B.told blocks.old).place ≡ N.place }
         requires some { 0 < length tables.now }
         requires tables { S.honest → All HasEntries (map image_of tables.now) }
-        ensures entries { S.honest → IfOk result (λ r. r.placed ≡ placed_at place (entries_of_all (map image_of tables.now))) }
-        ensures files { IfOk result (λ r. r.files ≡ files_at place (map (λ t. t.number) tables.now)) }
-        ensures numbered { S.honest → IfOk result (λ r. r.numbered ≡ numbered_all (map (λ t. t.number) tables.now) (map image_of tables.now)) }
+        ensures entries { S.honest → IfOk result (λ r.
+            r.placed ≡ placed_at place (entries_of_all (map image_of tables.now))) }
+        ensures files { IfOk result (λ r.
+            r.files ≡ files_at place (map (λ t. t.number) tables.now)) }
+        ensures numbered { S.honest → IfOk result (λ r.
+            r.numbered ≡ numbered_all (map (λ t. t.number) tables.now) (map image_of tables.now)) }
         ensures sound { S.honest → IfErr result (λ e. IsMemoryOrShelf e.fault) }
         ensures number { IfErr result (λ e. Has (map (λ t. t.number) tables.now) e.number) }
         ensures told { Becomes (B.told blocks.old) (B.told blocks.new) }
         ensures loan { B.loan blocks.new ≡ B.loan blocks.old }
-        ensures cause { IfErr result (λ e. ReadCounted e.fault (B.told blocks.old) (B.told blocks.new)) }
+        ensures cause { IfErr result (λ e.
+            ReadCounted e.fault (B.told blocks.old) (B.told blocks.new)) }
     {
         let Some((first, rest)) = tables.split_first() else {
             unreachable!()
@@ -253,15 +271,18 @@ impl<N: Naming, S: Shelf> Run<N, S> {
     ) -> Result<usize, FileFault>
         requires here { (B.told blocks.old).place ≡ N.place }
         ensures ok { S.honest → OnOk result (self.new.placed ≡ after_first self.old.placed) }
-        ensures numbered { S.honest → OnOk result (self.new.numbered ≡ after_first self.old.numbered) }
-        ensures shared { IfOk result (λ n. SharesFront n (user_in (first_of self.old.placed)) (user_in (first_of self.new.placed))) }
+        ensures numbered { S.honest
+            → OnOk result (self.new.numbered ≡ after_first self.old.numbered) }
+        ensures shared { IfOk result (λ n. SharesFront n (user_in (first_of self.old.placed))
+            (user_in (first_of self.new.placed))) }
         ensures files { OnOk result (ReadsNoOther self.old self.new) }
         ensures sound { S.honest → IfErr result (λ e. IsMemoryOrShelf e.fault) }
         ensures err { OnErr result (self.new ≡ self.old) }
         ensures number { IfErr result (λ e. IsOfFirst self.old e.number) }
         ensures told { Becomes (B.told blocks.old) (B.told blocks.new) }
         ensures loan { B.loan blocks.new ≡ B.loan blocks.old }
-        ensures cause { IfErr result (λ e. ReadCounted e.fault (B.told blocks.old) (B.told blocks.new)) }
+        ensures cause { IfErr result (λ e.
+            ReadCounted e.fault (B.told blocks.old) (B.told blocks.new)) }
     {
         if self.here.is_at_end() {
             return Ok(0);

@@ -6,7 +6,8 @@ ghost use Rattle.lsm_table.specs.Told.{Becomes};
 ghost use Rattle.lsm_levels.specs.Merging.{entries_of};
 ghost use Rattle.lsm_levels.specs.Scanning.{is_head_passed, pairs_of};
 ghost use Rattle.lsm_merger.specs.Heads.{first_of};
-ghost use Rattle.lsm_merger.specs.Shown.{ShowsNext, ShowsPair, kind_in, left_to_show, pair_at, showing_of, user_shown, value_shown};
+ghost use Rattle.lsm_merger.specs.Shown.{ShowsNext, ShowsPair, kind_in, left_to_show, pair_at};
+ghost use Rattle.lsm_merger.specs.Shown.{showing_of, user_shown, value_shown};
 
 use crate::merger::Merger;
 use crate::pair::Pair;
@@ -39,7 +40,8 @@ impl<N: Naming, S: Shelf> Model for Scan<N, S> {
 impl<N: Naming, S: Shelf> Scan<N, S> {
     /// What is left is what the sequence shows of the merge. It stands at no pair yet.
     pub fn new(alloc: Global, merger: Merger<N, S>, seq: u64) -> Scan<N, S>
-        ensures { result ≡ record { here = None; left = pairs_of seq None (entries_of merger.placed) } }
+        ensures { result
+            ≡ record { here = None; left = pairs_of seq None (entries_of merger.placed) } }
     {
         Scan {
             walk: Walk::new(alloc, merger),
@@ -132,10 +134,12 @@ fn skip_by<N: Naming, S: Shelf, B: Blocks<S>>(
     alloc: Global,
 ) -> Result<Option<Kind>, ReadFault>
     requires here { (B.told blocks.old).place ≡ N.place }
-    ensures ok { OnOk result (is_head_passed seq walk.new.passed (entries_of walk.new.left.placed) ≡ false) }
+    ensures ok { OnOk result (is_head_passed seq walk.new.passed (entries_of walk.new.left.placed)
+        ≡ false) }
     ensures kind { IfOk result (λ k. k ≡ kind_in (first_of walk.new.left.placed)) }
     ensures passed { walk.new.passed ≡ walk.old.passed }
-    ensures same { S.honest → pairs_of seq walk.old.passed (entries_of walk.new.left.placed) ≡ pairs_of seq walk.old.passed (entries_of walk.old.left.placed) }
+    ensures same { S.honest → pairs_of seq walk.old.passed (entries_of walk.new.left.placed)
+        ≡ pairs_of seq walk.old.passed (entries_of walk.old.left.placed) }
     ensures sound { S.honest → IfErr result IsMemoryOrShelf }
     ensures told { Becomes (B.told blocks.old) (B.told blocks.new) }
     ensures loan { B.loan blocks.new ≡ B.loan blocks.old }
@@ -169,9 +173,11 @@ fn turn_by<N: Naming, S: Shelf, B: Blocks<S>>(
     alloc: Global,
 ) -> Result<Option<Kind>, ReadFault>
     requires here { (B.told blocks.old).place ≡ N.place }
-    ensures fresh { OnOk result ((is_done.new ≡ false) × (is_head_passed seq walk.new.passed (entries_of walk.new.left.placed) ≡ false)) }
+    ensures fresh { OnOk result ((is_done.new ≡ false)
+        × (is_head_passed seq walk.new.passed (entries_of walk.new.left.placed) ≡ false)) }
     ensures kind { IfOk result (λ k. k ≡ kind_in (first_of walk.new.left.placed)) }
-    ensures same { S.honest → left_to_show seq walk.new.passed is_done.new walk.new.left.placed ≡ left_to_show seq walk.old.passed is_done.old walk.old.left.placed }
+    ensures same { S.honest → left_to_show seq walk.new.passed is_done.new walk.new.left.placed
+        ≡ left_to_show seq walk.old.passed is_done.old walk.old.left.placed }
     ensures sound { S.honest → IfErr result IsMemoryOrShelf }
     ensures told { Becomes (B.told blocks.old) (B.told blocks.new) }
     ensures loan { B.loan blocks.new ≡ B.loan blocks.old }
@@ -197,9 +203,13 @@ fn shown_by<N: Naming, S: Shelf, B: Blocks<S>>(
     alloc: Global,
 ) -> Result<bool, ReadFault>
     requires here { (B.told blocks.old).place ≡ N.place }
-    ensures ok { S.honest → IfOk result (λ m. ShowsNext m (showing_of seq walk.old.passed is_done.old walk.old.left.placed) (showing_of seq walk.new.passed is_done.new walk.new.left.placed)) }
-    ensures back { S.honest → OnOk result (left_to_show seq walk.new.passed false walk.new.left.placed ≡ left_to_show seq walk.old.passed is_done.old walk.old.left.placed) }
-    ensures err { S.honest → OnErr result (left_to_show seq walk.new.passed is_done.new walk.new.left.placed ≡ left_to_show seq walk.old.passed is_done.old walk.old.left.placed) }
+    ensures ok { S.honest
+        → IfOk result (λ m. ShowsNext m (showing_of seq walk.old.passed is_done.old
+        walk.old.left.placed) (showing_of seq walk.new.passed is_done.new walk.new.left.placed)) }
+    ensures back { S.honest → OnOk result (left_to_show seq walk.new.passed false
+        walk.new.left.placed ≡ left_to_show seq walk.old.passed is_done.old walk.old.left.placed) }
+    ensures err { S.honest → OnErr result (left_to_show seq walk.new.passed is_done.new
+        walk.new.left.placed ≡ left_to_show seq walk.old.passed is_done.old walk.old.left.placed) }
     ensures sound { S.honest → IfErr result IsMemoryOrShelf }
     ensures told { Becomes (B.told blocks.old) (B.told blocks.new) }
     ensures loan { B.loan blocks.new ≡ B.loan blocks.old }
@@ -258,9 +268,12 @@ fn pair_by<N: Naming, S: Shelf, B: Blocks<S>>(
     alloc: Global,
 ) -> Result<Option<Pair>, ReadFault>
     requires here { (B.told blocks.old).place ≡ N.place }
-    ensures ok { S.honest → IfOk result (λ r. ShowsPair r (left_to_show seq walk.old.passed is_done.old walk.old.left.placed) (left_to_show seq walk.new.passed is_done.new walk.new.left.placed)) }
+    ensures ok { S.honest
+        → IfOk result (λ r. ShowsPair r (left_to_show seq walk.old.passed is_done.old
+        walk.old.left.placed) (left_to_show seq walk.new.passed is_done.new walk.new.left.placed)) }
     ensures stands { S.honest → IfOk result (λ r. pair_at is_done.new walk.new.left.placed ≡ r) }
-    ensures err { S.honest → OnErr result (left_to_show seq walk.new.passed is_done.new walk.new.left.placed ≡ left_to_show seq walk.old.passed is_done.old walk.old.left.placed) }
+    ensures err { S.honest → OnErr result (left_to_show seq walk.new.passed is_done.new
+        walk.new.left.placed ≡ left_to_show seq walk.old.passed is_done.old walk.old.left.placed) }
     ensures sound { S.honest → IfErr result IsMemoryOrShelf }
     ensures told { Becomes (B.told blocks.old) (B.told blocks.new) }
     ensures loan { B.loan blocks.new ≡ B.loan blocks.old }

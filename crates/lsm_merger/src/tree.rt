@@ -8,7 +8,8 @@ ghost use Rattle.lsm_table.specs.ReadFault.{ReadCounted, IsMemoryOrShelf};
 ghost use Rattle.lsm_table.specs.Told.{Becomes};
 ghost use Rattle.lsm_merger.specs.Heads.{after_first, first_of};
 ghost use Rattle.lsm_merger.specs.Runs.{IsOfFirst, ReadsNoOther};
-ghost use Rattle.lsm_merger.specs.Tree.{all_left, both, left_of, AreReady, IsFront, IsFrontIn, IsLed, IsLedIn, IsReady, ShareHeads, ShareHeadsIn};
+ghost use Rattle.lsm_merger.specs.Tree.{all_left, both, left_of, AreReady, IsFront, IsFrontIn};
+ghost use Rattle.lsm_merger.specs.Tree.{IsLed, IsLedIn, IsReady, ShareHeads, ShareHeadsIn};
 
 use crate::file_fault::FileFault;
 use crate::front::judged;
@@ -100,8 +101,10 @@ pub(crate) fn advance_by<N: Naming, S: Shelf, B: Blocks<S>>(
     requires ready { IsReady tree.old }
     requires here { (B.told blocks.old).place ≡ N.place }
     ensures ready { IsReady tree.new }
-    ensures ok { S.honest → OnOk result ((left_of tree.new).placed ≡ after_first (left_of tree.old).placed) }
-    ensures numbered { S.honest → OnOk result ((left_of tree.new).numbered ≡ after_first (left_of tree.old).numbered) }
+    ensures ok { S.honest
+        → OnOk result ((left_of tree.new).placed ≡ after_first (left_of tree.old).placed) }
+    ensures numbered { S.honest
+        → OnOk result ((left_of tree.new).numbered ≡ after_first (left_of tree.old).numbered) }
     ensures shared { IfOk result (λ n. ShareHeads n (left_of tree.old) (left_of tree.new)) }
     ensures files { OnOk result (ReadsNoOther (left_of tree.old) (left_of tree.new)) }
     ensures sound { S.honest → IfErr result (λ e. IsMemoryOrShelf e.fault) }
@@ -109,7 +112,8 @@ pub(crate) fn advance_by<N: Naming, S: Shelf, B: Blocks<S>>(
     ensures number { IfErr result (λ e. IsOfFirst (left_of tree.old) e.number) }
     ensures told { Becomes (B.told blocks.old) (B.told blocks.new) }
     ensures loan { B.loan blocks.new ≡ B.loan blocks.old }
-    ensures cause { IfErr result (λ e. ReadCounted e.fault (B.told blocks.old) (B.told blocks.new)) }
+    ensures cause { IfErr result (λ e.
+        ReadCounted e.fault (B.told blocks.old) (B.told blocks.new)) }
 {
     match tree {
         Tree::Leaf(source) => {
@@ -194,7 +198,8 @@ pub(crate) fn of_last<N: Naming, S: Shelf>(
     requires some { 0 < count }
     requires inside { count ≤ length sources.old.items }
     ensures ready { IfOk result IsReady }
-    ensures left { IfOk result (λ t. all_left sources.old.items ≡ both (all_left sources.new.items) (left_of t)) }
+    ensures left { IfOk result (λ t.
+        all_left sources.old.items ≡ both (all_left sources.new.items) (left_of t)) }
     ensures rest { OnOk result (length sources.new.items + count ≡ length sources.old.items) }
 {
     if count > 1 {

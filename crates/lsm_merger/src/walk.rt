@@ -1,11 +1,13 @@
 //! A merge, and the user key of an entry that it passed.
 
-ghost use Rattle.std.specs.Prelude.{◌≡◌, ◌≤◌, ◌++◌, ℕ, List, length, take, false, None, IfOk, IfErr, OnOk, OnErr};
+ghost use Rattle.std.specs.Prelude.{◌≡◌, ◌≤◌, ◌++◌, ℕ, List, length, take, false, None, IfOk};
+ghost use Rattle.std.specs.Prelude.{IfErr, OnOk, OnErr};
 ghost use Rattle.std.specs.Option.{option_map};
 ghost use Rattle.lsm_codec.specs.KeyRef.{key_of};
 ghost use Rattle.lsm_table.specs.ReadFault.{ReadCounted, IsMemoryOrShelf};
 ghost use Rattle.lsm_table.specs.Told.{Becomes};
-ghost use Rattle.lsm_merger.specs.Heads.{after_first, first_of, key_in, no_more, place_in, value_in};
+ghost use Rattle.lsm_merger.specs.Heads.{after_first, first_of, key_in, no_more, place_in};
+ghost use Rattle.lsm_merger.specs.Heads.{value_in};
 ghost use Rattle.lsm_merger.specs.Runs.{IsOfFirst, ReadsNoOther};
 ghost use Rattle.lsm_merger.specs.Walks.{passed_by, told_first};
 
@@ -53,7 +55,8 @@ impl<N: Naming, S: Shelf> Model for Walk<N, S> {
 
     ghost view = { λ w. record { left = w.merger; passed = passed_if w.has_user w.user.items } };
 
-    ghost invariant = { λ w. SharesFront w.front w.user.items (user_in (first_of w.merger.placed)) };
+    ghost invariant = { λ w.
+        SharesFront w.front w.user.items (user_in (first_of w.merger.placed)) };
 }
 
 /// Puts other bytes behind a front of a text, in place of what stands there. An `Err` leaves all.
@@ -147,7 +150,10 @@ impl<N: Naming, S: Shelf> Walk<N, S> {
     /// the front that both share is copied. Where the merge stands at none, nothing changes. An
     /// `Err` leaves all.
     pub fn remember(&mut self) -> Result<(), AllocError>
-        ensures ok { OnOk result (self.new ≡ record { left = self.old.left; passed = passed_by self.old.passed (first_of self.old.left.placed) }) }
+        ensures ok { OnOk result (self.new ≡ record {
+          left = self.old.left;
+          passed = passed_by self.old.passed (first_of self.old.left.placed);
+        }) }
         ensures err { OnErr result (self.new ≡ self.old) }
     {
         match self.merger.key() {
@@ -170,8 +176,10 @@ impl<N: Naming, S: Shelf> Walk<N, S> {
         alloc: Global,
     ) -> Result<(), FileFault>
         requires here { (B.told blocks.old).place ≡ N.place }
-        ensures ok { S.honest → OnOk result (self.new.left.placed ≡ after_first self.old.left.placed) }
-        ensures numbered { S.honest → OnOk result (self.new.left.numbered ≡ after_first self.old.left.numbered) }
+        ensures ok { S.honest
+            → OnOk result (self.new.left.placed ≡ after_first self.old.left.placed) }
+        ensures numbered { S.honest
+            → OnOk result (self.new.left.numbered ≡ after_first self.old.left.numbered) }
         ensures passed { self.new.passed ≡ self.old.passed }
         ensures files { OnOk result (ReadsNoOther self.old.left self.new.left) }
         ensures sound { S.honest → IfErr result (λ e. IsMemoryOrShelf e.fault) }
@@ -179,7 +187,8 @@ impl<N: Naming, S: Shelf> Walk<N, S> {
         ensures number { IfErr result (λ e. IsOfFirst self.old.left e.number) }
         ensures told { Becomes (B.told blocks.old) (B.told blocks.new) }
         ensures loan { B.loan blocks.new ≡ B.loan blocks.old }
-        ensures cause { IfErr result (λ e. ReadCounted e.fault (B.told blocks.old) (B.told blocks.new)) }
+        ensures cause { IfErr result (λ e.
+            ReadCounted e.fault (B.told blocks.old) (B.told blocks.new)) }
     {
         match self.merger.advance_by(blocks, alloc) {
             Ok(shared) => {
@@ -195,16 +204,21 @@ impl<N: Naming, S: Shelf> Walk<N, S> {
     /// which the merge stands.
     pub fn pass_by<B: Blocks<S>>(&mut self, blocks: &mut B, alloc: Global) -> Result<(), FileFault>
         requires here { (B.told blocks.old).place ≡ N.place }
-        ensures ok { S.honest → OnOk result (self.new.left.placed ≡ after_first self.old.left.placed) }
-        ensures numbered { S.honest → OnOk result (self.new.left.numbered ≡ after_first self.old.left.numbered) }
-        ensures passed { OnOk result (self.new.passed ≡ passed_by self.old.passed (first_of self.old.left.placed)) }
+        ensures ok { S.honest
+            → OnOk result (self.new.left.placed ≡ after_first self.old.left.placed) }
+        ensures numbered { S.honest
+            → OnOk result (self.new.left.numbered ≡ after_first self.old.left.numbered) }
+        ensures passed { OnOk result (self.new.passed
+            ≡ passed_by self.old.passed (first_of self.old.left.placed)) }
         ensures files { OnOk result (ReadsNoOther self.old.left self.new.left) }
         ensures sound { S.honest → IfErr result (λ e. IsMemoryOrShelf e.fault) }
         ensures err { OnErr result (self.new.left ≡ self.old.left) }
-        ensures number { no_more self.old.left.placed ≡ false → IfErr result (λ e. IsOfFirst self.old.left e.number) }
+        ensures number { no_more self.old.left.placed ≡ false
+            → IfErr result (λ e. IsOfFirst self.old.left e.number) }
         ensures told { Becomes (B.told blocks.old) (B.told blocks.new) }
         ensures loan { B.loan blocks.new ≡ B.loan blocks.old }
-        ensures cause { IfErr result (λ e. ReadCounted e.fault (B.told blocks.old) (B.told blocks.new)) }
+        ensures cause { IfErr result (λ e.
+            ReadCounted e.fault (B.told blocks.old) (B.told blocks.new)) }
     {
         match self.remember() {
             Ok(()) => self.advance_by(blocks, alloc),

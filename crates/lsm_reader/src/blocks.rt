@@ -49,7 +49,8 @@ pub trait Blocks<S: Shelf> {
         size: u64,
     ) -> Result<Arc<Block>, ReadFault>
         requires here { S.is_of (told self.old).place receipt.now }
-        ensures exact { S.honest → Reads (λ b. (arc_value {X = HeldBlock} b).entries) result (stored_block (S.Receipt.image receipt.now) record { offset = offset; size = size }) }
+        ensures exact { S.honest → Reads (λ b. (arc_value {X = HeldBlock} b).entries) result
+            (stored_block (S.Receipt.image receipt.now) record { offset = offset; size = size }) }
         ensures told { Becomes (told self.old) (told self.new) }
         ensures loan { loan self.new ≡ loan self.old }
         ensures cause { IfErr result (λ e. ReadCounted e (told self.old) (told self.new)) };

@@ -40,7 +40,8 @@ pub fn is_inside(handle: Handle, size: u64) -> bool
 
 /// The contents of a stored block.
 fn take_contents(handle: Handle, text: Vec<u8>) -> Result<Vec<u8>, TableFault>
-    ensures { length text.items ≡ handle.size + 5 → Gives (λ v. v.items) result (unsealed handle.offset handle.size text.items) }
+    ensures { length text.items ≡ handle.size + 5
+        → Gives (λ v. v.items) result (unsealed handle.offset handle.size text.items) }
 {
     let mut text = text;
     let Some(size) = text.len().checked_sub(TRAILER) else {
@@ -60,7 +61,8 @@ fn take_contents(handle: Handle, text: Vec<u8>) -> Result<Vec<u8>, TableFault>
 
 /// The block of these contents, to be shared.
 fn share(alloc: Global, contents: Vec<u8>) -> Result<Arc<Block>, TableFault>
-    ensures { Gives (λ b. (arc_value {X = HeldBlock} b).entries) result (block_or (block_at contents.items)) }
+    ensures { Gives (λ b.
+        (arc_value {X = HeldBlock} b).entries) result (block_or (block_at contents.items)) }
 {
     match Block::check(alloc, contents) {
         Ok(block) => Ok(Arc::new(alloc, block)?),
@@ -72,7 +74,8 @@ fn share(alloc: Global, contents: Vec<u8>) -> Result<Arc<Block>, TableFault>
 /// checksum is judged first.
 #[tactic(auto, unfolding(crate::specs::Blocks::block_of))]
 pub fn judge(alloc: Global, handle: Handle, text: Vec<u8>) -> Result<Arc<Block>, TableFault>
-    ensures { length text.items ≡ handle.size + 5 → Gives (λ b. (arc_value {X = HeldBlock} b).entries) result (block_of handle text.items) }
+    ensures { length text.items ≡ handle.size + 5
+        → Gives (λ b. (arc_value {X = HeldBlock} b).entries) result (block_of handle text.items) }
 {
     let contents = match take_contents(handle, text) {
         Ok(contents) => contents,

@@ -42,7 +42,8 @@ impl<N: Naming, S: Shelf> Model for OpenTable<N, S> {
 
     ghost view = { λ t. S.Receipt.image t.receipt };
 
-    ghost invariant = { λ t. S.is_of N.place t.receipt × (S.honest → opening_at (S.Receipt.image t.receipt) ≡ Ok (arc_value {X = HeldBlock} t.index).entries) };
+    ghost invariant = { λ t. S.is_of N.place t.receipt × (S.honest → opening_at
+        (S.Receipt.image t.receipt) ≡ Ok (arc_value {X = HeldBlock} t.index).entries) };
 }
 
 impl<N: Naming, S: Shelf> OpenTable<N, S> {
@@ -103,8 +104,10 @@ impl<N: Naming, S: Shelf> OpenTable<N, S> {
         requires here { (B.told blocks.old).place ≡ N.place }
         // Whatever the image is.
         ensures exact { S.honest → Reads seen result (got self.now user.now seq) }
-        ensures found { S.honest → (es : List Entry) → IsTable self.now es → IfOk result (λ f. seen f ≡ found_in (newest user.now seq es)) }
-        ensures sound { S.honest → (es : List Entry) → IsTable self.now es → IfErr result IsMemoryOrShelf }
+        ensures found { S.honest → (es : List Entry) → IsTable self.now es
+            → IfOk result (λ f. seen f ≡ found_in (newest user.now seq es)) }
+        ensures sound { S.honest → (es : List Entry) → IsTable self.now es
+            → IfErr result IsMemoryOrShelf }
         ensures told { Becomes (B.told blocks.old) (B.told blocks.new) }
         ensures loan { B.loan blocks.new ≡ B.loan blocks.old }
         ensures cause { IfErr result (λ e. ReadCounted e (B.told blocks.old) (B.told blocks.new)) }
@@ -123,8 +126,10 @@ impl<N: Naming, S: Shelf> OpenTable<N, S> {
     ) -> Result<Option<Found>, ReadFault>
         requires here { (S.told shelf.old).place ≡ N.place }
         ensures exact { S.honest → Reads seen result (got self.now user.now seq) }
-        ensures found { S.honest → (es : List Entry) → IsTable self.now es → IfOk result (λ f. seen f ≡ found_in (newest user.now seq es)) }
-        ensures sound { S.honest → (es : List Entry) → IsTable self.now es → IfErr result IsMemoryOrShelf }
+        ensures found { S.honest → (es : List Entry) → IsTable self.now es
+            → IfOk result (λ f. seen f ≡ found_in (newest user.now seq es)) }
+        ensures sound { S.honest → (es : List Entry) → IsTable self.now es
+            → IfErr result IsMemoryOrShelf }
         ensures told { Becomes (S.told shelf.old) (S.told shelf.new) }
         ensures cause { IfErr result (λ e. ReadCounted e (S.told shelf.old) (S.told shelf.new)) }
     {

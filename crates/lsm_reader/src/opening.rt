@@ -23,7 +23,8 @@ pub fn index_by<S: Shelf, B: Blocks<S>>(
     receipt: &S::Receipt,
 ) -> Result<Arc<Block>, ReadFault>
     requires here { S.is_of (B.told blocks.old).place receipt.now }
-    ensures exact { S.honest → Reads (λ b. (arc_value {X = HeldBlock} b).entries) result (opening_at (S.Receipt.image receipt.now)) }
+    ensures exact { S.honest → Reads (λ b.
+        (arc_value {X = HeldBlock} b).entries) result (opening_at (S.Receipt.image receipt.now)) }
     ensures told { Becomes (B.told blocks.old) (B.told blocks.new) }
     ensures loan { B.loan blocks.new ≡ B.loan blocks.old }
     ensures cause { IfErr result (λ e. ReadCounted e (B.told blocks.old) (B.told blocks.new)) }
@@ -47,7 +48,8 @@ pub(crate) fn data_block_by<S: Shelf, B: Blocks<S>>(
     place: &[u8],
 ) -> Result<Arc<Block>, ReadFault>
     requires here { S.is_of (B.told blocks.old).place receipt.now }
-    ensures exact { S.honest → Reads (λ b. (arc_value {X = HeldBlock} b).entries) result (block_named (body_of (S.Receipt.image receipt.now)) place.now) }
+    ensures exact { S.honest → Reads (λ b. (arc_value {X = HeldBlock} b).entries) result
+        (block_named (body_of (S.Receipt.image receipt.now)) place.now) }
     ensures told { Becomes (B.told blocks.old) (B.told blocks.new) }
     ensures loan { B.loan blocks.new ≡ B.loan blocks.old }
     ensures cause { IfErr result (λ e. ReadCounted e (B.told blocks.old) (B.told blocks.new)) }

@@ -32,9 +32,14 @@ pub(crate) fn get_from<S: Shelf, B: Blocks<S>>(
     seq: u64,
 ) -> Result<Option<Found>, ReadFault>
     requires here { S.is_of (B.told blocks.old).place receipt.now }
-    ensures exact { S.honest → Reads seen result (got_by (body_of (S.Receipt.image receipt.now)) user.now seq (arc_value {X = HeldBlock} index).entries) }
-    ensures found { S.honest → (es : List Entry) → Names (body_of (S.Receipt.image receipt.now)) (arc_value {X = HeldBlock} index).entries es → IfOk result (λ f. seen f ≡ found_in (newest user.now seq es)) }
-    ensures sound { S.honest → (es : List Entry) → Names (body_of (S.Receipt.image receipt.now)) (arc_value {X = HeldBlock} index).entries es → IfErr result IsMemoryOrShelf }
+    ensures exact { S.honest → Reads seen result (got_by (body_of (S.Receipt.image receipt.now))
+        user.now seq (arc_value {X = HeldBlock} index).entries) }
+    ensures found { S.honest → (es : List Entry)
+        → Names (body_of (S.Receipt.image receipt.now)) (arc_value {X = HeldBlock} index).entries es
+        → IfOk result (λ f. seen f ≡ found_in (newest user.now seq es)) }
+    ensures sound { S.honest → (es : List Entry)
+        → Names (body_of (S.Receipt.image receipt.now)) (arc_value {X = HeldBlock} index).entries es
+        → IfErr result IsMemoryOrShelf }
     ensures told { Becomes (B.told blocks.old) (B.told blocks.new) }
     ensures loan { B.loan blocks.new ≡ B.loan blocks.old }
     ensures cause { IfErr result (λ e. ReadCounted e (B.told blocks.old) (B.told blocks.new)) }
@@ -63,8 +68,10 @@ pub fn get_by<S: Shelf, B: Blocks<S>>(
     requires here { S.is_of (B.told blocks.old).place receipt.now }
     // Whatever the image is.
     ensures exact { S.honest → Reads seen result (got (S.Receipt.image receipt.now) user.now seq) }
-    ensures found { S.honest → (es : List Entry) → IsTable (S.Receipt.image receipt.now) es → IfOk result (λ f. seen f ≡ found_in (newest user.now seq es)) }
-    ensures sound { S.honest → (es : List Entry) → IsTable (S.Receipt.image receipt.now) es → IfErr result IsMemoryOrShelf }
+    ensures found { S.honest → (es : List Entry) → IsTable (S.Receipt.image receipt.now) es
+        → IfOk result (λ f. seen f ≡ found_in (newest user.now seq es)) }
+    ensures sound { S.honest → (es : List Entry) → IsTable (S.Receipt.image receipt.now) es
+        → IfErr result IsMemoryOrShelf }
     ensures told { Becomes (B.told blocks.old) (B.told blocks.new) }
     ensures loan { B.loan blocks.new ≡ B.loan blocks.old }
     ensures cause { IfErr result (λ e. ReadCounted e (B.told blocks.old) (B.told blocks.new)) }
@@ -86,8 +93,10 @@ pub fn get<S: Shelf>(
 ) -> Result<Option<Found>, ReadFault>
     requires here { S.is_of (S.told shelf.old).place receipt.now }
     ensures exact { S.honest → Reads seen result (got (S.Receipt.image receipt.now) user.now seq) }
-    ensures found { S.honest → (es : List Entry) → IsTable (S.Receipt.image receipt.now) es → IfOk result (λ f. seen f ≡ found_in (newest user.now seq es)) }
-    ensures sound { S.honest → (es : List Entry) → IsTable (S.Receipt.image receipt.now) es → IfErr result IsMemoryOrShelf }
+    ensures found { S.honest → (es : List Entry) → IsTable (S.Receipt.image receipt.now) es
+        → IfOk result (λ f. seen f ≡ found_in (newest user.now seq es)) }
+    ensures sound { S.honest → (es : List Entry) → IsTable (S.Receipt.image receipt.now) es
+        → IfErr result IsMemoryOrShelf }
     ensures told { Becomes (S.told shelf.old) (S.told shelf.new) }
     ensures cause { IfErr result (λ e. ReadCounted e (S.told shelf.old) (S.told shelf.new)) }
 {

@@ -1,15 +1,18 @@
 //! A position in a table that is read block by block.
 
-ghost use Rattle.std.specs.Prelude.{◌≡◌, [], ◌∷◌, ℕ, List, false, Ok, IfOk, IfErr, IfSome, MatchOption, OnOk, OnErr};
+ghost use Rattle.std.specs.Prelude.{◌≡◌, [], ◌∷◌, ℕ, List, false, Ok, IfOk, IfErr, IfSome};
+ghost use Rattle.std.specs.Prelude.{MatchOption, OnOk, OnErr};
 ghost use Rattle.std.specs.Option.{option_map, IsSome};
 ghost use Rattle.std.specs.Arc.{arc_value};
 ghost use Rattle.lsm_codec.specs.Entries.{Entry};
 ghost use Rattle.lsm_codec.specs.KeyRef.{key_of};
 ghost use Rattle.lsm_block.specs.Held.{HeldBlock};
 ghost use Rattle.lsm_block.specs.Seeking.{not_below};
-ghost use Rattle.lsm_block.specs.Standing.{IsMovedBy, SharesFront, but_first, is_end, key_of_first, user_of_first, value_of_first};
+ghost use Rattle.lsm_block.specs.Standing.{IsMovedBy, SharesFront, but_first, is_end, key_of_first};
+ghost use Rattle.lsm_block.specs.Standing.{user_of_first, value_of_first};
 ghost use Rattle.lsm_reader.specs.Blocks.{Reads, left_at, or_none, IsSought, IsAtEntry};
-ghost use Rattle.lsm_reader.specs.Getting.{entered_there, first_entered, first_named, sought_there, stepped_on, stepped_or_stays};
+ghost use Rattle.lsm_reader.specs.Getting.{entered_there, first_entered, first_named, sought_there};
+ghost use Rattle.lsm_reader.specs.Getting.{stepped_on, stepped_or_stays};
 ghost use Rattle.lsm_table.specs.Footer.{body_of};
 ghost use Rattle.lsm_table.specs.HeldTable.{AreNamed, Names};
 ghost use Rattle.lsm_table.specs.ReadFault.{ReadCounted, IsMemoryOrShelf};
@@ -57,9 +60,14 @@ fn enter_by<S: Shelf, B: Blocks<S>>(
 ) -> Result<BlockIter, ReadFault>
     requires here { S.is_of (B.told blocks.old).place receipt.now }
     ensures some { IfOk result (λ i. IsSome (key_of_first i)) }
-    ensures exact { S.honest → Reads (λ i. i) result (entered_there (body_of (S.Receipt.image receipt.now)) place.now) }
-    ensures found { S.honest → (e : Entry) (es : List Entry) → DataBlock (body_of (S.Receipt.image receipt.now)) place.now (e ∷ es) → IfOk result (λ i. i ≡ e ∷ es) }
-    ensures sound { S.honest → (e : Entry) (es : List Entry) → DataBlock (body_of (S.Receipt.image receipt.now)) place.now (e ∷ es) → IfErr result IsMemoryOrShelf }
+    ensures exact { S.honest
+        → Reads (λ i. i) result (entered_there (body_of (S.Receipt.image receipt.now)) place.now) }
+    ensures found { S.honest → (e : Entry) (es : List Entry)
+        → DataBlock (body_of (S.Receipt.image receipt.now)) place.now (e ∷ es)
+        → IfOk result (λ i. i ≡ e ∷ es) }
+    ensures sound { S.honest → (e : Entry) (es : List Entry)
+        → DataBlock (body_of (S.Receipt.image receipt.now)) place.now (e ∷ es)
+        → IfErr result IsMemoryOrShelf }
     ensures told { Becomes (B.told blocks.old) (B.told blocks.new) }
     ensures loan { B.loan blocks.new ≡ B.loan blocks.old }
     ensures cause { IfErr result (λ e. ReadCounted e (B.told blocks.old) (B.told blocks.new)) }
@@ -85,9 +93,14 @@ fn seek_next_by<S: Shelf, B: Blocks<S>>(
 ) -> Result<BlockIter, ReadFault>
     requires here { S.is_of (B.told blocks.old).place receipt.now }
     requires some { is_end index.old ≡ false }
-    ensures found { S.honest → (es : List Entry) → Sought (key_of key.now) (body_of (S.Receipt.image receipt.now)) index.old es → IfOk result (λ i. IsSought (key_of key.now) (S.Receipt.image receipt.now) i index.new es) }
-    ensures sound { S.honest → (es : List Entry) → Sought (key_of key.now) (body_of (S.Receipt.image receipt.now)) index.old es → IfErr result IsMemoryOrShelf }
-    ensures exact { S.honest → Reads (λ i. i) result (sought_there (key_of key.now) (body_of (S.Receipt.image receipt.now)) index.old) }
+    ensures found { S.honest → (es : List Entry)
+        → Sought (key_of key.now) (body_of (S.Receipt.image receipt.now)) index.old es → IfOk result
+        (λ i. IsSought (key_of key.now) (S.Receipt.image receipt.now) i index.new es) }
+    ensures sound { S.honest → (es : List Entry)
+        → Sought (key_of key.now) (body_of (S.Receipt.image receipt.now)) index.old es
+        → IfErr result IsMemoryOrShelf }
+    ensures exact { S.honest → Reads (λ i. i) result
+        (sought_there (key_of key.now) (body_of (S.Receipt.image receipt.now)) index.old) }
     ensures passed { OnOk result (index.new ≡ but_first index.old) }
     ensures told { Becomes (B.told blocks.old) (B.told blocks.new) }
     ensures loan { B.loan blocks.new ≡ B.loan blocks.old }
@@ -111,10 +124,15 @@ impl TableCursor {
         index: Arc<Block>,
     ) -> Result<TableCursor, ReadFault>
         requires here { S.is_of (B.told blocks.old).place receipt.now }
-        ensures found { S.honest → (es : List Entry) → Names (body_of (S.Receipt.image receipt.now)) (arc_value {X = HeldBlock} index).entries es → IfOk result (λ c. AreNamed (body_of (S.Receipt.image receipt.now)) c.index × (left_at (S.Receipt.image receipt.now) c ≡ es)) }
+        ensures found { S.honest → (es : List Entry) → Names (body_of (S.Receipt.image receipt.now))
+            (arc_value {X = HeldBlock} index).entries es
+            → IfOk result (λ c. AreNamed (body_of (S.Receipt.image receipt.now)) c.index
+            × (left_at (S.Receipt.image receipt.now) c ≡ es)) }
         // Whatever the image is.
-        ensures exact { S.honest → Reads (λ c. c.here) result (first_entered (body_of (S.Receipt.image receipt.now)) (arc_value {X = HeldBlock} index).entries) }
-        ensures sound { S.honest → (es : List Entry) → Names (body_of (S.Receipt.image receipt.now)) (arc_value {X = HeldBlock} index).entries es → IfErr result IsMemoryOrShelf }
+        ensures exact { S.honest → Reads (λ c. c.here) result (first_entered
+            (body_of (S.Receipt.image receipt.now)) (arc_value {X = HeldBlock} index).entries) }
+        ensures sound { S.honest → (es : List Entry) → Names (body_of (S.Receipt.image receipt.now))
+            (arc_value {X = HeldBlock} index).entries es → IfErr result IsMemoryOrShelf }
         ensures told { Becomes (B.told blocks.old) (B.told blocks.new) }
         ensures loan { B.loan blocks.new ≡ B.loan blocks.old }
         ensures cause { IfErr result (λ e. ReadCounted e (B.told blocks.old) (B.told blocks.new)) }
@@ -147,10 +165,16 @@ impl TableCursor {
         key: &KeyRef<'_>,
     ) -> Result<TableCursor, ReadFault>
         requires here { S.is_of (B.told blocks.old).place receipt.now }
-        ensures found { S.honest → (es : List Entry) → Names (body_of (S.Receipt.image receipt.now)) (arc_value {X = HeldBlock} index).entries es → IfOk result (λ c. AreNamed (body_of (S.Receipt.image receipt.now)) c.index × (left_at (S.Receipt.image receipt.now) c ≡ not_below (key_of key.now) es)) }
+        ensures found { S.honest → (es : List Entry) → Names (body_of (S.Receipt.image receipt.now))
+            (arc_value {X = HeldBlock} index).entries es
+            → IfOk result (λ c. AreNamed (body_of (S.Receipt.image receipt.now)) c.index
+            × (left_at (S.Receipt.image receipt.now) c ≡ not_below (key_of key.now) es)) }
         // Whatever the image is.
-        ensures exact { S.honest → Reads (λ c. c.here) result (first_named (key_of key.now) (body_of (S.Receipt.image receipt.now)) (not_below (key_of key.now) (arc_value {X = HeldBlock} index).entries)) }
-        ensures sound { S.honest → (es : List Entry) → Names (body_of (S.Receipt.image receipt.now)) (arc_value {X = HeldBlock} index).entries es → IfErr result IsMemoryOrShelf }
+        ensures exact { S.honest → Reads (λ c.
+            c.here) result (first_named (key_of key.now) (body_of (S.Receipt.image receipt.now))
+            (not_below (key_of key.now) (arc_value {X = HeldBlock} index).entries)) }
+        ensures sound { S.honest → (es : List Entry) → Names (body_of (S.Receipt.image receipt.now))
+            (arc_value {X = HeldBlock} index).entries es → IfErr result IsMemoryOrShelf }
         ensures told { Becomes (B.told blocks.old) (B.told blocks.new) }
         ensures loan { B.loan blocks.new ≡ B.loan blocks.old }
         ensures cause { IfErr result (λ e. ReadCounted e (B.told blocks.old) (B.told blocks.new)) }
@@ -216,10 +240,16 @@ impl TableCursor {
     ) -> Result<(), ReadFault>
         requires here { S.is_of (B.told blocks.old).place receipt.now }
         // It stands at an entry, unless no data block was left.
-        ensures some { OnOk result (is_end self.old.index ≡ false → IsSome (key_of_first self.new.here)) }
-        ensures exact { S.honest → Reads (λ _. self.new.here) result (first_entered (body_of (S.Receipt.image receipt.now)) self.old.index) }
-        ensures entered { S.honest → AreNamed (body_of (S.Receipt.image receipt.now)) self.old.index → OnOk result (AreNamed (body_of (S.Receipt.image receipt.now)) self.new.index × (left_at (S.Receipt.image receipt.now) self.new ≡ left_at (S.Receipt.image receipt.now) record { here = []; index = self.old.index })) }
-        ensures sound { S.honest → AreNamed (body_of (S.Receipt.image receipt.now)) self.old.index → IfErr result IsMemoryOrShelf }
+        ensures some { OnOk result (is_end self.old.index ≡ false
+            → IsSome (key_of_first self.new.here)) }
+        ensures exact { S.honest → Reads (λ _. self.new.here) result
+            (first_entered (body_of (S.Receipt.image receipt.now)) self.old.index) }
+        ensures entered { S.honest → AreNamed (body_of (S.Receipt.image receipt.now)) self.old.index
+            → OnOk result (AreNamed (body_of (S.Receipt.image receipt.now)) self.new.index
+            × (left_at (S.Receipt.image receipt.now) self.new
+            ≡ left_at (S.Receipt.image receipt.now) record { here = []; index = self.old.index })) }
+        ensures sound { S.honest → AreNamed (body_of (S.Receipt.image receipt.now)) self.old.index
+            → IfErr result IsMemoryOrShelf }
         ensures err { OnErr result (self.new ≡ self.old) }
         ensures told { Becomes (B.told blocks.old) (B.told blocks.new) }
         ensures loan { B.loan blocks.new ≡ B.loan blocks.old }
@@ -246,10 +276,15 @@ impl TableCursor {
         receipt: &S::Receipt,
     ) -> Result<(), ReadFault>
         requires here { S.is_of (B.told blocks.old).place receipt.now }
-        ensures steps { S.honest → AreNamed (body_of (S.Receipt.image receipt.now)) self.old.index → OnOk result (AreNamed (body_of (S.Receipt.image receipt.now)) self.new.index × (left_at (S.Receipt.image receipt.now) self.new ≡ but_first (left_at (S.Receipt.image receipt.now) self.old))) }
+        ensures steps { S.honest → AreNamed (body_of (S.Receipt.image receipt.now)) self.old.index
+            → OnOk result (AreNamed (body_of (S.Receipt.image receipt.now)) self.new.index
+            × (left_at (S.Receipt.image receipt.now) self.new
+            ≡ but_first (left_at (S.Receipt.image receipt.now) self.old))) }
         // Whatever the image is.
-        ensures exact { S.honest → Reads (λ _. self.new.here) result (stepped_on (body_of (S.Receipt.image receipt.now)) self.old) }
-        ensures sound { S.honest → AreNamed (body_of (S.Receipt.image receipt.now)) self.old.index → IfErr result IsMemoryOrShelf }
+        ensures exact { S.honest → Reads (λ _.
+            self.new.here) result (stepped_on (body_of (S.Receipt.image receipt.now)) self.old) }
+        ensures sound { S.honest → AreNamed (body_of (S.Receipt.image receipt.now)) self.old.index
+            → IfErr result IsMemoryOrShelf }
         ensures err { OnErr result (self.new ≡ self.old) }
         ensures told { Becomes (B.told blocks.old) (B.told blocks.new) }
         ensures loan { B.loan blocks.new ≡ B.loan blocks.old }
@@ -273,12 +308,19 @@ impl TableCursor {
         receipt: &S::Receipt,
     ) -> Result<Option<usize>, ReadFault>
         requires here { S.is_of (B.told blocks.old).place receipt.now }
-        ensures moved { S.honest → AreNamed (body_of (S.Receipt.image receipt.now)) self.old.index → IfOk result (λ m. AreNamed (body_of (S.Receipt.image receipt.now)) self.new.index × IsMovedBy m (left_at (S.Receipt.image receipt.now) self.old) (left_at (S.Receipt.image receipt.now) self.new)) }
+        ensures moved { S.honest → AreNamed (body_of (S.Receipt.image receipt.now)) self.old.index
+            → IfOk result (λ m. AreNamed (body_of (S.Receipt.image receipt.now)) self.new.index
+            × IsMovedBy m (left_at (S.Receipt.image receipt.now) self.old)
+            (left_at (S.Receipt.image receipt.now) self.new)) }
         // Whatever the image is.
-        ensures stands { IfOk result (λ m. MatchOption m (self.new ≡ self.old) (λ _. IsSome (key_of_first self.new.here))) }
-        ensures shared { IfOk result (λ m. IfSome m (λ n. SharesFront n (user_of_first self.old.here) (user_of_first self.new.here))) }
-        ensures exact { S.honest → Reads (λ _. self.new.here) result (stepped_or_stays (body_of (S.Receipt.image receipt.now)) self.old) }
-        ensures sound { S.honest → AreNamed (body_of (S.Receipt.image receipt.now)) self.old.index → IfErr result IsMemoryOrShelf }
+        ensures stands { IfOk result (λ m.
+            MatchOption m (self.new ≡ self.old) (λ _. IsSome (key_of_first self.new.here))) }
+        ensures shared { IfOk result (λ m. IfSome m (λ n.
+            SharesFront n (user_of_first self.old.here) (user_of_first self.new.here))) }
+        ensures exact { S.honest → Reads (λ _. self.new.here) result
+            (stepped_or_stays (body_of (S.Receipt.image receipt.now)) self.old) }
+        ensures sound { S.honest → AreNamed (body_of (S.Receipt.image receipt.now)) self.old.index
+            → IfErr result IsMemoryOrShelf }
         ensures err { OnErr result (self.new ≡ self.old) }
         ensures told { Becomes (B.told blocks.old) (B.told blocks.new) }
         ensures loan { B.loan blocks.new ≡ B.loan blocks.old }

@@ -40,18 +40,23 @@ impl<N: Naming, S: Shelf> Model for TableReader<N, S> {
 
     ghost Value = { Reading };
 
-    ghost view = { λ t. reading_of (S.Receipt.image t.receipt) (arc_value {X = HeldBlock} t.index).entries t.cursor };
+    ghost view = { λ t. reading_of (S.Receipt.image t.receipt)
+        (arc_value {X = HeldBlock} t.index).entries t.cursor };
 
-    ghost invariant = { λ t. S.is_of N.place t.receipt × (S.honest → IsNamedFrom (S.Receipt.image t.receipt) (arc_value {X = HeldBlock} t.index).entries t.cursor) };
+    ghost invariant = { λ t. S.is_of N.place t.receipt × (S.honest → IsNamedFrom
+        (S.Receipt.image t.receipt) (arc_value {X = HeldBlock} t.index).entries t.cursor) };
 }
 
 impl<N: Naming, S: Shelf> TableReader<N, S> {
     /// Before the first entry of the table of a receipt, where this is its index block.
     pub(crate) fn over(receipt: S::Receipt, index: Arc<Block>) -> TableReader<N, S>
         requires named { S.is_of N.place receipt }
-        requires table { S.honest → AreNamed (body_of (S.Receipt.image receipt)) (arc_value {X = HeldBlock} index).entries }
+        requires table { S.honest → AreNamed (body_of (S.Receipt.image receipt))
+            (arc_value {X = HeldBlock} index).entries }
         ensures entry { result.entry ≡ None }
-        ensures left { (es : List Entry) → Names (body_of (S.Receipt.image receipt)) (arc_value {X = HeldBlock} index).entries es → result.left ≡ es }
+        ensures left { (es : List Entry)
+            → Names (body_of (S.Receipt.image receipt)) (arc_value {X = HeldBlock} index).entries es
+            → result.left ≡ es }
     {
         TableReader {
             receipt,

@@ -1,9 +1,11 @@
 //! A table as a source of a merge.
 
-ghost use Rattle.std.specs.Prelude.{◌≡◌, [], ℕ, List, false, IfOk, IfErr, IfSome, MatchOption, OnOk, OnErr};
+ghost use Rattle.std.specs.Prelude.{◌≡◌, [], ℕ, List, false, IfOk, IfErr, IfSome, MatchOption};
+ghost use Rattle.std.specs.Prelude.{OnOk, OnErr};
 ghost use Rattle.std.specs.Option.{option_map};
 ghost use Rattle.lsm_codec.specs.KeyRef.{key_of};
-ghost use Rattle.lsm_block.specs.Standing.{IsMovedBy, SharesFront, but_first, is_end, key_of_first, user_of_first, value_of_first};
+ghost use Rattle.lsm_block.specs.Standing.{IsMovedBy, SharesFront, but_first, is_end, key_of_first};
+ghost use Rattle.lsm_block.specs.Standing.{user_of_first, value_of_first};
 ghost use Rattle.lsm_codec.specs.Entries.{Entry};
 ghost use Rattle.lsm_table.specs.Table.{IsTable};
 ghost use Rattle.lsm_table.specs.ReadFault.{ReadCounted, IsMemoryOrShelf};
@@ -37,7 +39,8 @@ impl<N: Naming, S: Shelf> Model for TableStream<N, S> {
 
     ghost view = { λ t. left_at (S.Receipt.image t.receipt) t.cursor };
 
-    ghost invariant = { λ t. S.is_of N.place t.receipt × (S.honest → AreNamed (body_of (S.Receipt.image t.receipt)) t.cursor.index) };
+    ghost invariant = { λ t. S.is_of N.place t.receipt
+        × (S.honest → AreNamed (body_of (S.Receipt.image t.receipt)) t.cursor.index) };
 }
 
 impl<N: Naming, S: Shelf> TableStream<N, S> {
@@ -50,7 +53,8 @@ impl<N: Naming, S: Shelf> TableStream<N, S> {
         requires here { (B.told blocks.old).place ≡ N.place }
         requires named { S.is_of N.place receipt }
         requires table { S.honest → (es : List Entry) × IsTable (S.Receipt.image receipt) es }
-        ensures entries { S.honest → (es : List Entry) → IsTable (S.Receipt.image receipt) es → IfOk result (λ t. t ≡ es) }
+        ensures entries { S.honest → (es : List Entry) → IsTable (S.Receipt.image receipt) es
+            → IfOk result (λ t. t ≡ es) }
         ensures sound { S.honest → IfErr result IsMemoryOrShelf }
         ensures told { Becomes (B.told blocks.old) (B.told blocks.new) }
         ensures loan { B.loan blocks.new ≡ B.loan blocks.old }
@@ -120,8 +124,10 @@ impl<N: Naming, S: Shelf> TableStream<N, S> {
         requires here { (B.told blocks.old).place ≡ N.place }
         ensures moved { S.honest → IfOk result (λ m. IsMovedBy m self.old self.new) }
         // Whatever the image is.
-        ensures stands { IfOk result (λ m. MatchOption m (self.new ≡ self.old) (λ _. is_end self.new ≡ false)) }
-        ensures shared { IfOk result (λ m. IfSome m (λ n. SharesFront n (user_of_first self.old) (user_of_first self.new))) }
+        ensures stands { IfOk result (λ m.
+            MatchOption m (self.new ≡ self.old) (λ _. is_end self.new ≡ false)) }
+        ensures shared { IfOk result (λ m.
+            IfSome m (λ n. SharesFront n (user_of_first self.old) (user_of_first self.new))) }
         ensures sound { S.honest → IfErr result IsMemoryOrShelf }
         ensures err { OnErr result (self.new ≡ self.old) }
         ensures told { Becomes (B.told blocks.old) (B.told blocks.new) }

@@ -38,7 +38,8 @@ pub(crate) fn ascending_numbers<N: Naming, S: Shelf>(
 
 /// How many tables have a greater number, by a search in their numbers.
 pub(crate) fn newer_count(numbers: &[u64], number: u64) -> u64
-    ensures { (level : List Table) → AreNumbersOf level numbers.now → result ≡ newer_count level number }
+    ensures { (level : List Table) → AreNumbersOf level numbers.now
+        → result ≡ newer_count level number }
 {
     let not_newer = numbers.partition_point(|other| *other <= number);
     (numbers.len() - not_newer) as u64

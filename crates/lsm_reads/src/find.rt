@@ -27,7 +27,8 @@ fn find_in_table<N: Naming, S: Shelf, B: Blocks<S>>(
     seq: u64,
 ) -> Result<Option<Found>, ReadFault>
     requires here { (B.told blocks.old).place ≡ N.place }
-    ensures found { S.honest → IsWhole table.now → IfOk result (λ f. seen f ≡ found_in (newest user.now seq (entries_in table.now.image))) }
+    ensures found { S.honest → IsWhole table.now
+        → IfOk result (λ f. seen f ≡ found_in (newest user.now seq (entries_in table.now.image))) }
     ensures sound { S.honest → IsWhole table.now → IfErr result IsMemoryOrShelf }
     ensures told { Becomes (B.told blocks.old) (B.told blocks.new) }
     ensures loan { B.loan blocks.new ≡ B.loan blocks.old }
@@ -47,7 +48,8 @@ fn find_by_number<N: Naming, S: Shelf, B: Blocks<S>>(
     seq: u64,
 ) -> Result<Option<Found>, ReadFault>
     requires here { (B.told blocks.old).place ≡ N.place }
-    ensures found { S.honest → IsSoundLevel 0 level.now → IfOk result (λ f. seen f ≡ found_in (newest user.now seq (all_entries (files_of 0 level.now)))) }
+    ensures found { S.honest → IsSoundLevel 0 level.now → IfOk result (λ f.
+        seen f ≡ found_in (newest user.now seq (all_entries (files_of 0 level.now)))) }
     ensures sound { S.honest → IsSoundLevel 0 level.now → IfErr result IsMemoryOrShelf }
     ensures told { Becomes (B.told blocks.old) (B.told blocks.new) }
     ensures loan { B.loan blocks.new ≡ B.loan blocks.old }
@@ -74,7 +76,8 @@ fn find_by_range<N: Naming, S: Shelf, B: Blocks<S>>(
     seq: u64,
 ) -> Result<Option<Found>, ReadFault>
     requires here { (B.told blocks.old).place ≡ N.place }
-    ensures found { (n : ℕ) → 1 ≤ n → S.honest → IsSoundLevel n level.now → IfOk result (λ f. seen f ≡ found_in (newest user.now seq (all_entries (files_of n level.now)))) }
+    ensures found { (n : ℕ) → 1 ≤ n → S.honest → IsSoundLevel n level.now → IfOk result (λ f.
+        seen f ≡ found_in (newest user.now seq (all_entries (files_of n level.now)))) }
     ensures sound { (n : ℕ) → S.honest → IsSoundLevel n level.now → IfErr result IsMemoryOrShelf }
     ensures told { Becomes (B.told blocks.old) (B.told blocks.new) }
     ensures loan { B.loan blocks.new ≡ B.loan blocks.old }
@@ -104,7 +107,8 @@ fn find_at_level<N: Naming, S: Shelf, B: Blocks<S>>(
     seq: u64,
 ) -> Result<Option<Found>, ReadFault>
     requires here { (B.told blocks.old).place ≡ N.place }
-    ensures found { S.honest → IsSoundLevel number level.now → IfOk result (λ f. seen f ≡ found_in (newest user.now seq (all_entries (files_of number level.now)))) }
+    ensures found { S.honest → IsSoundLevel number level.now → IfOk result (λ f.
+        seen f ≡ found_in (newest user.now seq (all_entries (files_of number level.now)))) }
     ensures sound { S.honest → IsSoundLevel number level.now → IfErr result IsMemoryOrShelf }
     ensures told { Becomes (B.told blocks.old) (B.told blocks.new) }
     ensures loan { B.loan blocks.new ≡ B.loan blocks.old }
@@ -127,8 +131,11 @@ pub(crate) fn find<N: Naming, S: Shelf, B: Blocks<S>>(
     seq: u64,
 ) -> Result<Option<Found>, ReadFault>
     requires here { (B.told blocks.old).place ≡ N.place }
-    ensures found { S.honest → AreSound 0 (map (λ l. l.items) levels.now) → IfOk result (λ f. seen f ≡ found_in (newest user.now seq (all_entries (files_from 0 (map (λ l. l.items) levels.now))))) }
-    ensures sound { S.honest → AreSound 0 (map (λ l. l.items) levels.now) → IfErr result IsMemoryOrShelf }
+    ensures found { S.honest → AreSound 0 (map (λ l. l.items) levels.now)
+        → IfOk result (λ f. seen f ≡ found_in
+        (newest user.now seq (all_entries (files_from 0 (map (λ l. l.items) levels.now))))) }
+    ensures sound { S.honest → AreSound 0 (map (λ l. l.items) levels.now)
+        → IfErr result IsMemoryOrShelf }
     ensures told { Becomes (B.told blocks.old) (B.told blocks.new) }
     ensures loan { B.loan blocks.new ≡ B.loan blocks.old }
     ensures cause { IfErr result (λ e. ReadCounted e (B.told blocks.old) (B.told blocks.new)) }

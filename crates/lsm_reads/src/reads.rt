@@ -28,7 +28,8 @@ pub fn get<N: Naming, S: Shelf>(
     seq: u64,
 ) -> Result<Option<Vec<u8>>, ReadFault>
     requires { (S.told shelf.old).place ≡ N.place }
-    ensures answer { S.honest → IfOk result (λ v. option_map (λ b. b.items) v ≡ answer (all_entries (files version.now)) user.now seq) }
+    ensures answer { S.honest → IfOk result (λ v.
+        option_map (λ b. b.items) v ≡ answer (all_entries (files version.now)) user.now seq) }
     ensures sound { S.honest → IfErr result IsMemoryOrShelf }
     ensures told { Becomes (S.told shelf.old) (S.told shelf.new) }
     ensures cause { IfErr result (λ e. ReadCounted e (S.told shelf.old) (S.told shelf.new)) }
@@ -46,7 +47,8 @@ pub fn get_by<N: Naming, S: Shelf, B: Blocks<S>>(
     seq: u64,
 ) -> Result<Option<Vec<u8>>, ReadFault>
     requires { (B.told blocks.old).place ≡ N.place }
-    ensures answer { S.honest → IfOk result (λ v. option_map (λ b. b.items) v ≡ answer (all_entries (files version.now)) user.now seq) }
+    ensures answer { S.honest → IfOk result (λ v.
+        option_map (λ b. b.items) v ≡ answer (all_entries (files version.now)) user.now seq) }
     ensures sound { S.honest → IfErr result IsMemoryOrShelf }
     ensures told { Becomes (B.told blocks.old) (B.told blocks.new) }
     ensures loan { B.loan blocks.new ≡ B.loan blocks.old }

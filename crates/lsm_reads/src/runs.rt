@@ -8,7 +8,8 @@ ghost use Rattle.lsm_table.specs.Told.{Becomes};
 ghost use Rattle.lsm_levels.specs.Merging.{placed_at};
 ghost use Rattle.lsm_merger.specs.Runs.{files_at};
 ghost use Rattle.lsm_reads.specs.Unread.{NamesOne};
-ghost use Rattle.lsm_reads.specs.Runs.{AreMergeable, AreNamed, AreRunsOf, IsNumberIn, IsNumberOf, entries_after, once};
+ghost use Rattle.lsm_reads.specs.Runs.{AreMergeable, AreNamed, AreRunsOf, IsNumberIn, IsNumberOf};
+ghost use Rattle.lsm_reads.specs.Runs.{entries_after, once};
 ghost use Rattle.lsm_version.specs.Versions.{AreWhole, files_from, files_of, level_in};
 
 use crate::depths::{ascending_numbers, newer_count};
@@ -28,13 +29,16 @@ fn open_shallow<N: Naming, S: Shelf, B: Blocks<S>>(
 ) -> Result<Vec<Run<N, S>>, Unread>
     requires here { (B.told blocks.old).place ≡ N.place }
     requires whole { S.honest → AreWhole level.now }
-    ensures runs { S.honest → IfOk result (λ v. AreRunsOf level.now (Has (files_of 0 level.now)) (map (λ r. r.placed) v.items)) }
-    ensures files { IfOk result (λ v. AreNamed (IsNumberOf level.now) (flat_map (λ r. r.files) v.items)) }
+    ensures runs { S.honest → IfOk result (λ v.
+        AreRunsOf level.now (Has (files_of 0 level.now)) (map (λ r. r.placed) v.items)) }
+    ensures files { IfOk result (λ v.
+        AreNamed (IsNumberOf level.now) (flat_map (λ r. r.files) v.items)) }
     ensures number { IfErr result (λ e. NamesOne (IsNumberOf level.now) e.file e.fault) }
     ensures sound { S.honest → IfErr result (λ e. IsMemoryOrShelf e.fault) }
     ensures told { Becomes (B.told blocks.old) (B.told blocks.new) }
     ensures loan { B.loan blocks.new ≡ B.loan blocks.old }
-    ensures cause { IfErr result (λ e. ReadCounted e.fault (B.told blocks.old) (B.told blocks.new)) }
+    ensures cause { IfErr result (λ e.
+        ReadCounted e.fault (B.told blocks.old) (B.told blocks.new)) }
 {
     let numbers = ascending_numbers(alloc, registry, level)?;
     let mut runs = Vec::new(alloc);
@@ -62,14 +66,18 @@ fn open_deeper<N: Naming, S: Shelf, B: Blocks<S>>(
 ) -> Result<(), Unread>
     requires here { (B.told blocks.old).place ≡ N.place }
     requires whole { S.honest → AreWhole level.now }
-    ensures files { OnOk result (flat_map (λ r. r.files) runs.new.items ≡ flat_map (λ r. r.files) runs.old.items ++ files_at depth (map (λ t. t.number) (once None level.now))) }
+    ensures files { OnOk result (flat_map (λ r. r.files) runs.new.items ≡ flat_map (λ r.
+        r.files) runs.old.items ++ files_at depth (map (λ t. t.number) (once None level.now))) }
     ensures number { IfErr result (λ e. NamesOne (IsNumberOf level.now) e.file e.fault) }
     ensures none { once None level.now ≡ [] → OnOk result (runs.new.items ≡ runs.old.items) }
-    ensures run { S.honest → (once None level.now ≡ [] → ⊥) → OnOk result (map (λ r. r.placed) runs.new.items ≡ map (λ r. r.placed) runs.old.items ++ placed_at depth (entries_after (once None level.now)) ∷ []) }
+    ensures run { S.honest → (once None level.now ≡ [] → ⊥)
+        → OnOk result (map (λ r. r.placed) runs.new.items ≡ map (λ r. r.placed) runs.old.items
+        ++ placed_at depth (entries_after (once None level.now)) ∷ []) }
     ensures sound { S.honest → IfErr result (λ e. IsMemoryOrShelf e.fault) }
     ensures told { Becomes (B.told blocks.old) (B.told blocks.new) }
     ensures loan { B.loan blocks.new ≡ B.loan blocks.old }
-    ensures cause { IfErr result (λ e. ReadCounted e.fault (B.told blocks.old) (B.told blocks.new)) }
+    ensures cause { IfErr result (λ e.
+        ReadCounted e.fault (B.told blocks.old) (B.told blocks.new)) }
 {
     let tables = each_once(alloc, registry, level)?;
     if tables.is_empty() {
@@ -95,13 +103,17 @@ pub fn open_runs<N: Naming, S: Shelf, B: Blocks<S>>(
     requires here { (B.told blocks.old).place ≡ N.place }
     requires seven { length levels.now ≡ 7 }
     requires mergeable { S.honest → AreMergeable (map (λ l. l.items) levels.now) }
-    ensures runs { S.honest → IfOk result (λ v. AreRunsOf (level_in (map (λ l. l.items) levels.now) 0) (Has (files_from 0 (map (λ l. l.items) levels.now))) (map (λ r. r.placed) v.items)) }
-    ensures files { IfOk result (λ v. AreNamed (IsNumberIn (map (λ l. l.items) levels.now)) (flat_map (λ r. r.files) v.items)) }
-    ensures number { IfErr result (λ e. NamesOne (IsNumberIn (map (λ l. l.items) levels.now)) e.file e.fault) }
+    ensures runs { S.honest → IfOk result (λ v. AreRunsOf (level_in (map (λ l. l.items) levels.now)
+        0) (Has (files_from 0 (map (λ l. l.items) levels.now))) (map (λ r. r.placed) v.items)) }
+    ensures files { IfOk result (λ v.
+        AreNamed (IsNumberIn (map (λ l. l.items) levels.now)) (flat_map (λ r. r.files) v.items)) }
+    ensures number { IfErr result (λ e.
+        NamesOne (IsNumberIn (map (λ l. l.items) levels.now)) e.file e.fault) }
     ensures sound { S.honest → IfErr result (λ e. IsMemoryOrShelf e.fault) }
     ensures told { Becomes (B.told blocks.old) (B.told blocks.new) }
     ensures loan { B.loan blocks.new ≡ B.loan blocks.old }
-    ensures cause { IfErr result (λ e. ReadCounted e.fault (B.told blocks.old) (B.told blocks.new)) }
+    ensures cause { IfErr result (λ e.
+        ReadCounted e.fault (B.told blocks.old) (B.told blocks.new)) }
 {
     let shallow = levels[0].as_slice();
     let mut runs = open_shallow(blocks, alloc, registry, shallow)?;

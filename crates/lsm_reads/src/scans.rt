@@ -28,7 +28,8 @@ pub fn scan_by<N: Naming, S: Shelf, B: Blocks<S>>(
     seq: u64,
 ) -> Result<Scan<N, S>, ReadFault>
     requires { (B.told blocks.old).place ≡ N.place }
-    ensures scanned { S.honest → IfOk result (λ s. IsScan seq (all_entries (files version.now)) s.left) }
+    ensures scanned { S.honest
+        → IfOk result (λ s. IsScan seq (all_entries (files version.now)) s.left) }
     ensures here { IfOk result (λ s. s.here ≡ None) }
     ensures sound { S.honest → IfErr result IsMemoryOrShelf }
     ensures told { Becomes (B.told blocks.old) (B.told blocks.new) }
@@ -52,7 +53,8 @@ pub fn scan<N: Naming, S: Shelf>(
     seq: u64,
 ) -> Result<Scan<N, S>, ReadFault>
     requires { (S.told shelf.old).place ≡ N.place }
-    ensures scanned { S.honest → IfOk result (λ s. IsScan seq (all_entries (files version.now)) s.left) }
+    ensures scanned { S.honest
+        → IfOk result (λ s. IsScan seq (all_entries (files version.now)) s.left) }
     ensures here { IfOk result (λ s. s.here ≡ None) }
     ensures sound { S.honest → IfErr result IsMemoryOrShelf }
     ensures told { Becomes (S.told shelf.old) (S.told shelf.new) }

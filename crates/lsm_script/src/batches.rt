@@ -20,7 +20,8 @@ pub(crate) fn ingest<N: Boarded, S: Shelf, R: Wait>(
     batch: &Batch,
 ) -> Reply
     requires here { (S.told shelf.old).place ≡ N.place }
-    ensures reply { IsIngestReply batch.now result state.old state.new (S.told shelf.old) (S.told shelf.new) }
+    ensures reply { IsIngestReply batch.now result state.old state.new (S.told shelf.old)
+        (S.told shelf.new) }
     ensures place { (S.told shelf.new).place ≡ N.place }
 {
     match state.ingest(rt, alloc, shelf, batch) {

@@ -9,7 +9,8 @@ use lsm_table::{Naming, Shelf};
 
 /// Where the job of a ticket stands.
 pub(crate) fn place_of_job<N: Naming, S: Shelf>(jobs: &[Job<N, S>], ticket: u64) -> Option<usize>
-    ensures { MatchOption result ((w : Work) → Has jobs.now w → w.ticket ≡ ticket → ⊥) (λ i. (i < length jobs.now) × ((d : Work) → (slice_index_or jobs.now i d).ticket ≡ ticket)) }
+    ensures { MatchOption result ((w : Work) → Has jobs.now w → w.ticket ≡ ticket → ⊥) (λ i.
+        (i < length jobs.now) × ((d : Work) → (slice_index_or jobs.now i d).ticket ≡ ticket)) }
 {
     for (i, job) in jobs.iter().enumerate() {
         if job.ticket() == ticket {
@@ -24,7 +25,9 @@ pub(crate) fn place_of_result<N: Naming, S: Shelf>(
     results: &[Finished<N, S>],
     ticket: u64,
 ) -> Option<usize>
-    ensures { MatchOption result ((d : Done) → Has results.now d → d.work.ticket ≡ ticket → ⊥) (λ i. (i < length results.now) × ((d : Done) → (slice_index_or results.now i d).work.ticket ≡ ticket)) }
+    ensures { MatchOption result ((d : Done) → Has results.now d → d.work.ticket ≡ ticket
+        → ⊥) (λ i. (i < length results.now)
+        × ((d : Done) → (slice_index_or results.now i d).work.ticket ≡ ticket)) }
 {
     for (i, done) in results.iter().enumerate() {
         if done.job().ticket() == ticket {

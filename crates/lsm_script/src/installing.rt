@@ -24,7 +24,8 @@ pub(crate) fn install<N: Boarded, S: Shelf, R: Wait>(
     ticket: u64,
 ) -> Reply
     requires here { (S.told shelf.old).place ≡ N.place }
-    ensures reply { IsInstallReply S.honest ticket result state.old state.new results.old.items results.new.items (S.told shelf.old) (S.told shelf.new) }
+    ensures reply { IsInstallReply S.honest ticket result state.old state.new results.old.items
+        results.new.items (S.told shelf.old) (S.told shelf.new) }
     ensures place { (S.told shelf.new).place ≡ N.place }
 {
     let Some(place) = place_of_result(results, ticket) else {

@@ -29,8 +29,10 @@ fn merge_job<M: Noted<State<N, S>>, N: Boarded, S: Shelf, R: Wait>(
     requires begins { M.holds state [] [] [] }
     requires keeps { Keeps GivesNumber M.holds }
     requires here { (S.told shelf.old).place ≡ N.place }
-    ensures ok { IfOk result.1 (λ d. IsMergedBy S.honest M.holds job d result.0 (S.told shelf.old) (S.told shelf.new)) }
-    ensures err { IfErr result.1 (λ e. IsRefusedBy S.honest M.holds job e result.0 (S.told shelf.old) (S.told shelf.new)) }
+    ensures ok { IfOk result.1 (λ d.
+        IsMergedBy S.honest M.holds job d result.0 (S.told shelf.old) (S.told shelf.new)) }
+    ensures err { IfErr result.1 (λ e.
+        IsRefusedBy S.honest M.holds job e result.0 (S.told shelf.old) (S.told shelf.new)) }
     ensures place { (S.told shelf.new).place ≡ N.place }
 {
     let mut numbers = Numbers {
@@ -43,6 +45,7 @@ fn merge_job<M: Noted<State<N, S>>, N: Boarded, S: Shelf, R: Wait>(
     };
     let merged = match compact(rt, alloc, shelf, registry, job, &mut numbers) {
         Ok(done) => {
+            // What holds of the job is told by this call.
             let _job = done.job();
             Ok(done)
         }
@@ -66,7 +69,8 @@ pub(crate) fn merge<N: Boarded, S: Shelf, R: Wait>(
     ticket: u64,
 ) -> (State<N, S>, Reply)
     requires here { (S.told shelf.old).place ≡ N.place }
-    ensures reply { IsMergeReply S.honest ticket result.1 state result.0 jobs.old.items jobs.new.items results.old.items results.new.items (S.told shelf.old) (S.told shelf.new) }
+    ensures reply { IsMergeReply S.honest ticket result.1 state result.0 jobs.old.items
+        jobs.new.items results.old.items results.new.items (S.told shelf.old) (S.told shelf.new) }
     ensures place { (S.told shelf.new).place ≡ N.place }
 {
     let Some(place) = place_of_job(jobs, ticket) else {

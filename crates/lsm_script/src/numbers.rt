@@ -47,7 +47,13 @@ impl<M: Noted<X>, X: Drop, F: Fn(X, u64) -> (X, Result<u64, NumberFault>)> Numbe
 
     ghost asked = { λ n. n.asked.numbers };
 
-    ghost ready = { λ n. F.IsAlwaysCallable n.draw × IsSource M.holds (λ x t y r. F.post n.draw x t (y, r)) record { state = n.state; drew = n.drew.numbers; refused = n.refused.numbers; asked = n.asked.numbers } };
+    ghost ready = { λ n. F.IsAlwaysCallable n.draw
+        × IsSource M.holds (λ x t y r. F.post n.draw x t (y, r)) record {
+          state = n.state;
+          drew = n.drew.numbers;
+          refused = n.refused.numbers;
+          asked = n.asked.numbers;
+        } };
 
     fn draw<R: Wait>(&mut self, _rt: &R, _alloc: Global, ticket: u64) -> Result<u64, NumberFault> {
         let Some(state) = self.state.take() else {

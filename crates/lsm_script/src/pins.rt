@@ -39,7 +39,8 @@ pub(crate) fn collect<N: Boarded, S: Shelf, R: Wait>(
     shelf: &mut S,
 ) -> Reply
     requires here { (S.told shelf.old).place ≡ N.place }
-    ensures reply { IsCollectReply result state.old state.new (S.told shelf.old) (S.told shelf.new) }
+    ensures reply { IsCollectReply result state.old state.new (S.told shelf.old)
+        (S.told shelf.new) }
     ensures place { (S.told shelf.new).place ≡ N.place }
 {
     match state.collect(rt, alloc, shelf) {

@@ -30,7 +30,8 @@ pub(crate) fn get<N: Boarded, S: Shelf>(
     at: Option<u64>,
 ) -> Reply
     requires here { (S.told shelf.old).place ≡ N.place }
-    ensures reply { IsGetReply S.honest key.now at result state.now (S.told shelf.old) (S.told shelf.new) }
+    ensures reply { IsGetReply S.honest key.now at result state.now (S.told shelf.old)
+        (S.told shelf.new) }
     ensures place { (S.told shelf.new).place ≡ N.place }
 {
     match state.get(shelf, alloc, key.as_slice(), at) {

@@ -4,7 +4,8 @@ ghost use Rattle.std.specs.Prelude.{◌≡◌};
 ghost use Rattle.lsm_script.specs.Scripts.{ends_list};
 ghost use Rattle.lsm_script.specs.declared.reply.Reply.TheVariants.{Refused};
 ghost use Rattle.lsm_script.specs.declared.refusal.Refusal.TheVariants.{State};
-ghost use Rattle.lsm_state.specs.declared.state_fault.StateFault.TheVariants.{OutOfMemory, UnknownTicket};
+ghost use Rattle.lsm_state.specs.declared.state_fault.StateFault.TheVariants.{OutOfMemory};
+ghost use Rattle.lsm_state.specs.declared.state_fault.StateFault.TheVariants.{UnknownTicket};
 
 use crate::refusal::Refusal;
 use lsm_codec::{Bytes, List};

@@ -3,7 +3,8 @@
 ghost use Rattle.std.specs.Prelude.{◌≡◌, ◌<◌, ◌++◌, IfOk, OnOk, vec_capacity, vec_len};
 ghost use Rattle.lsm_live.specs.Booked.{HasTicket};
 ghost use Rattle.lsm_merge.specs.Inputs.{input_numbers, numbers_of};
-ghost use Rattle.lsm_script.specs.Replies.{IsCancelReply, IsKeepReply, IsRangeReply, IsReserveReply, SaysJob};
+ghost use Rattle.lsm_script.specs.Replies.{IsCancelReply, IsKeepReply, IsRangeReply};
+ghost use Rattle.lsm_script.specs.Replies.{IsReserveReply, SaysJob};
 
 use crate::reply::{Reply, Reserved};
 use lsm_codec::List;
@@ -116,7 +117,8 @@ pub(crate) fn reserve_range<N: Boarded, S: Shelf>(
     from: &[u8],
     to: &[u8],
 ) -> Reply
-    ensures { IsRangeReply S.honest level from.now to.now result state.old state.new jobs.old.items jobs.new.items }
+    ensures { IsRangeReply S.honest level from.now to.now result state.old state.new jobs.old.items
+        jobs.new.items }
 {
     if jobs.reserve(1).is_err() {
         return Reply::out_of_memory();

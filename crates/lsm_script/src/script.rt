@@ -1,6 +1,7 @@
 //! Lists of commands.
 
-ghost use Rattle.std.specs.Prelude.{◌≡◌, ℕ, ◌≤◌, [], length, vec_capacity, vec_len, List, IfErr, IfOk};
+ghost use Rattle.std.specs.Prelude.{◌≡◌, ℕ, ◌≤◌, [], length, vec_capacity, vec_len, List, IfErr};
+ghost use Rattle.std.specs.Prelude.{IfOk};
 ghost use Rattle.lsm_merge.specs.Work.{Done, Work};
 ghost use Rattle.lsm_script.specs.History.{History, IsAnswered, IsOf, history_of};
 ghost use Rattle.lsm_script.specs.Scripts.{AreReplies};
@@ -17,7 +18,7 @@ use crate::reply::Reply;
 use crate::reserving::{cancel, reserve, reserve_range};
 use crate::snapshots::{release, snapshot};
 use lsm_codec::List;
-use lsm_machine::laws::runs_read_all_that_came;
+use lsm_levels::machine::runs_read_all_that_came;
 use lsm_merge::{Finished, Job};
 use lsm_slots::Boarded;
 use lsm_state::State;
@@ -38,7 +39,18 @@ fn answer_call<N: Boarded, S: Shelf, R: Wait>(
 ) -> Reply
     requires here { (S.told shelf.old).place ≡ N.place }
     requires other { (ticket : ℕ) → command.now ≡ Merge ticket → ⊥ }
-    ensures step { IsStep S.honest command.now result record { state = state.old; told = S.told shelf.old; jobs = jobs.old.items; results = results.old.items } record { state = state.new; told = S.told shelf.new; jobs = jobs.new.items; results = results.new.items } }
+    ensures step { IsStep S.honest command.now result record {
+      state = state.old;
+      told = S.told
+          shelf.old;
+      jobs = jobs.old.items;
+      results = results.old.items;
+    } record {
+      state = state.new;
+      told = S.told shelf.new;
+      jobs = jobs.new.items;
+      results = results.new.items;
+    } }
     ensures place { (S.told shelf.new).place ≡ N.place }
 {
     match command {
@@ -80,7 +92,18 @@ fn answer<N: Boarded, S: Shelf, R: Wait>(
     command: &Command,
 ) -> (State<N, S>, Reply)
     requires here { (S.told shelf.old).place ≡ N.place }
-    ensures step { IsStep S.honest command.now result.1 record { state = state; told = S.told shelf.old; jobs = jobs.old.items; results = results.old.items } record { state = result.0; told = S.told shelf.new; jobs = jobs.new.items; results = results.new.items } }
+    ensures step { IsStep S.honest command.now result.1 record {
+      state = state;
+      told = S.told
+          shelf.old;
+      jobs = jobs.old.items;
+      results = results.old.items;
+    } record {
+      state = result.0;
+      told = S.told shelf.new;
+      jobs = jobs.new.items;
+      results = results.new.items;
+    } }
     ensures place { (S.told shelf.new).place ≡ N.place }
 {
     if let Command::Merge(ticket) = command {
@@ -106,7 +129,13 @@ fn answer_all<N: Boarded, S: Shelf, R: Wait>(
     requires here { (S.told shelf.old).place ≡ N.place }
     requires none { (replies.old.items ≡ []) × (vec_len replies.old ≡ 0) }
     requires room { length commands.now ≤ vec_capacity replies.old }
-    ensures replies { (jobs : List Work) × (results : List Done) × AreReplies (IsStep S.honest) commands.now replies.new.items (stage_of state (S.told shelf.old)) record { state = result; told = S.told shelf.new; jobs = jobs; results = results } }
+    ensures replies { (jobs : List Work) × (results : List Done) × AreReplies (IsStep S.honest)
+        commands.now replies.new.items (stage_of state (S.told shelf.old)) record {
+          state = result;
+          told = S.told shelf.new;
+          jobs = jobs;
+          results = results;
+        } }
     ensures place { (S.told shelf.new).place ≡ N.place }
 {
     let mut jobs = Vec::new(alloc);
@@ -153,11 +182,14 @@ pub fn run<N: Boarded, S: Shelf, R: Wait>(
     requires here { (S.told shelf.old).place ≡ N.place }
 
     // Each reply, and what it leaves, is as the state's call says.
-    ensures replies { IfOk result (λ r. (jobs : List Work) × (results : List Done) × AreReplies (IsStep S.honest) commands.now r.1 (stage_of state (S.told shelf.old)) record { state = r.0; told = S.told shelf.new; jobs = jobs; results = results }) }
+    ensures replies { IfOk result (λ r. (jobs : List Work) × (results : List Done)
+        × AreReplies (IsStep S.honest) commands.now r.1 (stage_of state (S.told shelf.old))
+        record { state = r.0; told = S.told shelf.new; jobs = jobs; results = results }) }
 
     // The replies are those of the history from the state's own entries, and at the end the state
     // is as the history says.
-    ensures history { IfOk result (λ r. (t : History) × AreReplies (IsAnswered S.honest) commands.now r.1 (history_of state) t × IsOf S.honest t r.0) }
+    ensures history { IfOk result (λ r. (t : History) × AreReplies (IsAnswered S.honest)
+        commands.now r.1 (history_of state) t × IsOf S.honest t r.0) }
 
     ensures place { (S.told shelf.new).place ≡ N.place }
     ensures err { IfErr result (λ e. (e.1 ≡ state) × (S.told shelf.new ≡ S.told shelf.old)) }
@@ -170,7 +202,8 @@ pub fn run<N: Boarded, S: Shelf, R: Wait>(
         Ok(replies) => replies,
         Err(memory) => return Err((memory, state)),
     };
-    runs_read_all_that_came::<S>();
+    runs_read_all_that_came::<State<N, S>>();
+    // The law of the state is told by this call.
     let _options = state.options();
     let state = answer_all(rt, alloc, state, shelf, &registry, commands, &mut replies);
     Ok((state, List::of(replies)))

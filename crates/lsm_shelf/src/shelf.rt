@@ -1,6 +1,7 @@
 //! Where tables and the manifest lie.
 
-ghost use Rattle.std.specs.Prelude.{◌≡◌, ◌+◌, ◌≤◌, ℕ, length, take, drop, IfOk, IfErr, OnOk, OnErr, IsTrue};
+ghost use Rattle.std.specs.Prelude.{◌≡◌, ◌+◌, ◌≤◌, ℕ, length, take, drop, IfOk, IfErr, OnOk, OnErr};
+ghost use Rattle.std.specs.Prelude.{IsTrue};
 ghost use Rattle.std.specs.List.Sorted.{IsStrictlyIncreasing};
 
 use crate::shelf_fault::ShelfFault;
@@ -16,8 +17,11 @@ use std::sync::Wait;
 /// and that it counted its answer exactly (`counts`).
 pub trait Shelf: Drop + Send + Sync {
     ghost use Rattle.lsm_shelf.specs.declared.shelf_fault.ShelfFault.{ShelfFault};
-    ghost use Rattle.lsm_shelf.specs.Asked.{Asked, Put, ReadAt, Load, Remove, ListTables, ReadManifest, StartManifest, AppendManifest};
-    ghost use Rattle.lsm_shelf.specs.Told.{Place, Told, Becomes, Counted, CountedBy, NotTaken, NotNamed, TakenIs, putting, removed_by, listing, sending, appending, finding, forking, fresh};
+    ghost use Rattle.lsm_shelf.specs.Asked.{Asked, Put, ReadAt, Load, Remove, ListTables};
+    ghost use Rattle.lsm_shelf.specs.Asked.{ReadManifest, StartManifest, AppendManifest};
+    ghost use Rattle.lsm_shelf.specs.Told.{Place, Told, Becomes, Counted, CountedBy, NotTaken};
+    ghost use Rattle.lsm_shelf.specs.Told.{NotNamed, TakenIs, putting, removed_by, listing};
+    ghost use Rattle.lsm_shelf.specs.Told.{sending, appending, finding, forking, fresh};
 
     /// What stands for an image that was put or loaded.
     type Receipt: Slip;
@@ -48,11 +52,13 @@ pub trait Shelf: Drop + Send + Sync {
         number: u64,
         image: &[u8],
     ) -> Result<Self::Receipt, ShelfFault>
-        ensures receipt { IfOk result (λ r. (Self.Receipt.number r ≡ number) × (Self.Receipt.image r ≡ image.now) × is_of (told self.old).place r) }
+        ensures receipt { IfOk result (λ r. (Self.Receipt.number r ≡ number)
+            × (Self.Receipt.image r ≡ image.now) × is_of (told self.old).place r) }
         ensures ok { OnOk result (Becomes (putting number (told self.old)) (told self.new)) }
         ensures err { OnErr result (Becomes (told self.old) (told self.new)) }
         ensures refused { IfErr result (refuses (told self.old).place (Put number image.now)) }
-        ensures cause { IfErr result (λ e. TakenIs number e × Counted e (told self.old) (told self.new)) }
+        ensures cause { IfErr result (λ e. TakenIs number e
+            × Counted e (told self.old) (told self.new)) }
         ensures counts { CountedBy result (told self.old) (told self.new) };
 
     /// Reads `len` bytes at `offset` of the image for which the receipt stands.
@@ -65,9 +71,11 @@ pub trait Shelf: Drop + Send + Sync {
     ) -> Result<Vec<u8>, ShelfFault>
         requires here { is_of (told self.old).place receipt.now }
         requires inside { offset + len ≤ length (Self.Receipt.image receipt.now) }
-        ensures bytes { honest → IfOk result (λ v. v.items ≡ take len (drop offset (Self.Receipt.image receipt.now))) }
+        ensures bytes { honest
+            → IfOk result (λ v. v.items ≡ take len (drop offset (Self.Receipt.image receipt.now))) }
         ensures told { Becomes (told self.old) (told self.new) }
-        ensures refused { IfErr result (refuses (told self.old).place (ReadAt (Self.Receipt.number receipt.now) offset len)) }
+        ensures refused { IfErr result
+            (refuses (told self.old).place (ReadAt (Self.Receipt.number receipt.now) offset len)) }
         ensures cause { IfErr result (λ e. NotTaken e × Counted e (told self.old) (told self.new)) }
         ensures counts { CountedBy result (told self.old) (told self.new) };
 
@@ -80,7 +88,8 @@ pub trait Shelf: Drop + Send + Sync {
         alloc: Global,
         number: u64,
     ) -> Result<(Self::Receipt, Vec<u8>), ShelfFault>
-        ensures receipt { IfOk result (λ r. (Self.Receipt.number r.0 ≡ number) × (Self.Receipt.image r.0 ≡ r.1.items) × is_of (told self.old).place r.0) }
+        ensures receipt { IfOk result (λ r. (Self.Receipt.number r.0 ≡ number)
+            × (Self.Receipt.image r.0 ≡ r.1.items) × is_of (told self.old).place r.0) }
         ensures told { Becomes (told self.old) (told self.new) }
         ensures refused { IfErr result (refuses (told self.old).place (Load number)) }
         ensures cause { IfErr result (λ e. NotTaken e × Counted e (told self.old) (told self.new)) }
@@ -115,7 +124,8 @@ pub trait Shelf: Drop + Send + Sync {
         rt: &R,
         alloc: Global,
     ) -> Result<(u64, Vec<u8>), ShelfFault>
-        ensures ok { IfOk result (λ r. Becomes (finding r.0 r.1.items (told self.old)) (told self.new)) }
+        ensures ok { IfOk result (λ r.
+            Becomes (finding r.0 r.1.items (told self.old)) (told self.new)) }
         ensures err { OnErr result (Becomes (told self.old) (told self.new)) }
         ensures refused { IfErr result (refuses (told self.old).place ReadManifest) }
         ensures cause { IfErr result (λ e. NotTaken e × Counted e (told self.old) (told self.new)) }
@@ -133,10 +143,13 @@ pub trait Shelf: Drop + Send + Sync {
         number: u64,
         bytes: &[u8],
     ) -> Result<(), ShelfFault>
-        ensures ok { OnOk result (Becomes (sending number bytes.now (told self.old)) (told self.new)) }
+        ensures ok { OnOk result
+            (Becomes (sending number bytes.now (told self.old)) (told self.new)) }
         ensures err { OnErr result (Becomes (told self.old) (told self.new)) }
-        ensures refused { IfErr result (refuses (told self.old).place (StartManifest number bytes.now)) }
-        ensures cause { IfErr result (λ e. TakenIs number e × Counted e (told self.old) (told self.new)) }
+        ensures refused { IfErr result
+            (refuses (told self.old).place (StartManifest number bytes.now)) }
+        ensures cause { IfErr result (λ e. TakenIs number e
+            × Counted e (told self.old) (told self.new)) }
         ensures counts { CountedBy result (told self.old) (told self.new) };
 
     /// Appends to the manifest that the directory names, on the device before it answers Ok.
@@ -165,7 +178,9 @@ pub trait Shelf: Drop + Send + Sync {
     fn same(&self, a: &Self::Receipt, b: &Self::Receipt) -> bool
         requires here { is_of (told self.now).place a.now × is_of (told self.now).place b.now }
         ensures copy { a.now ≡ b.now → IsTrue result }
-        ensures one { honest → IsTrue result → (Self.Receipt.number a.now ≡ Self.Receipt.number b.now) × (Self.Receipt.image a.now ≡ Self.Receipt.image b.now) };
+        ensures one { honest → IsTrue result
+            → (Self.Receipt.number a.now ≡ Self.Receipt.number b.now)
+            × (Self.Receipt.image a.now ≡ Self.Receipt.image b.now) };
 
     /// The same receipt once more. It takes no memory.
     fn copy_receipt(&self, receipt: &Self::Receipt) -> Self::Receipt

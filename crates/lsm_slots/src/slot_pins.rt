@@ -1,9 +1,12 @@
 //! Pins of versions: under the lock, and those of readers on the board.
 
-ghost use Rattle.std.specs.Prelude.{◌≡◌, ℕ, suc, ◌+◌, ◌-◌, ◌^◌, ◌<◌, ◌↔◌, ◌++◌, List, Some, None, length, is_some, if◌then◌else◌, IfOk, IfSome, IfNone, MatchResult, OnErr, OnOk, IsTrue, slice_get, slice_set};
+ghost use Rattle.std.specs.Prelude.{◌≡◌, ℕ, suc, ◌+◌, ◌-◌, ◌^◌, ◌<◌, ◌↔◌, ◌++◌, List, Some, None};
+ghost use Rattle.std.specs.Prelude.{length, is_some, if◌then◌else◌, IfOk, IfSome, IfNone};
+ghost use Rattle.std.specs.Prelude.{MatchResult, OnErr, OnOk, IsTrue, slice_get, slice_set};
 ghost use Rattle.lsm_pins.specs.View.{learnt_view, noted_view, told_view};
 ghost use Rattle.lsm_version.specs.Versions.{numbers_in};
-ghost use Rattle.lsm_slots.specs.Slots.{Epoch as Held, HasEpoch, IsPinned, PinsMove, current_id, current_slot, numbers_at, numbers_held};
+ghost use Rattle.lsm_slots.specs.Slots.{Epoch as Held, HasEpoch, IsPinned, PinsMove, current_id};
+ghost use Rattle.lsm_slots.specs.Slots.{current_slot, numbers_at, numbers_held};
 
 use crate::boarded::Boarded;
 use crate::epoch::Epoch;
@@ -15,7 +18,8 @@ use std::alloc::{AllocError, Global};
 // Whether the slot has the version of this id, which is pinned under the lock.
 fn is_pinned_at<N: Naming, S: Shelf>(epochs: &[Option<Epoch<N, S>>], slot: u8, id: u32) -> bool
     requires { slot < length epochs.now }
-    ensures { IsTrue result ↔ ((e : Held) × (slice_get epochs.now slot ≡ Some (Some e)) × (e.id ≡ id) × (0 < e.pins)) }
+    ensures { IsTrue result
+        ↔ ((e : Held) × (slice_get epochs.now slot ≡ Some (Some e)) × (e.id ≡ id) × (0 < e.pins)) }
 {
     match &epochs[usize::from(slot)] {
         None => false,
@@ -38,7 +42,8 @@ fn one_more(pins: u32) -> Option<u32>
 // Another count of pins of the version in a slot.
 fn set_pins<N: Naming, S: Shelf>(epochs: &mut Vec<Option<Epoch<N, S>>>, slot: u8, pins: u32)
     requires { slot < length epochs.old.items }
-    ensures { (e : Held) → slice_get epochs.old.items slot ≡ Some (Some e) → epochs.new.items ≡ slice_set epochs.old.items slot (Some (record e { pins = pins })) }
+    ensures { (e : Held) → slice_get epochs.old.items slot ≡ Some (Some e)
+        → epochs.new.items ≡ slice_set epochs.old.items slot (Some (record e { pins = pins })) }
 {
     if let Some(epoch) = &mut epochs[usize::from(slot)] {
         epoch.pins = pins;
@@ -66,7 +71,8 @@ fn push_slot<N: Naming, S: Shelf>(
     numbers: &mut Vec<u64>,
 ) -> Result<(), AllocError>
     requires { slot < length epochs.now }
-    ensures { (e : Held) → slice_get epochs.now slot ≡ Some (Some e) → OnOk result (numbers.new.items ≡ numbers.old.items ++ numbers_in e.version) }
+    ensures { (e : Held) → slice_get epochs.now slot ≡ Some (Some e)
+        → OnOk result (numbers.new.items ≡ numbers.old.items ++ numbers_in e.version) }
 {
     match &epochs[usize::from(slot)] {
         None => Ok(()),
@@ -91,7 +97,8 @@ fn push_slots<N: Naming, S: Shelf>(
 impl<N: Boarded, S: Shelf> Slots<N, S> {
     // The slot of the version of this id, where that is pinned under the lock.
     fn pinned_slot(&self, id: u32) -> Option<u8>
-        ensures some { IfSome result (λ slot. (e : Held) × HasEpoch self.now slot e × (e.id ≡ id) × (0 < e.pins)) }
+        ensures some { IfSome result (λ slot. (e : Held) × HasEpoch self.now slot e × (e.id ≡ id)
+            × (0 < e.pins)) }
         ensures none { IfNone result (IsPinned self.now id → ⊥) }
     {
         for slot in 0..self.count() {
@@ -105,8 +112,10 @@ impl<N: Boarded, S: Shelf> Slots<N, S> {
     /// Pins the current version under the lock, and answers its id; none where it has 2^32 - 1 such
     /// pins.
     pub fn pin(&mut self) -> Option<u32>
-        ensures some { IfSome result (λ id. (id ≡ current_id self.old) × ((pins : ℕ) × (pins < 2 ^ 32 - 1) × PinsMove self.old self.new id pins (pins + 1))) }
-        ensures none { IfNone result (((e : Held) × HasEpoch self.old (current_slot self.old) e × (e.pins ≡ 2 ^ 32 - 1)) × (self.new ≡ self.old)) }
+        ensures some { IfSome result (λ id. (id ≡ current_id self.old)
+            × ((pins : ℕ) × (pins < 2 ^ 32 - 1) × PinsMove self.old self.new id pins (pins + 1))) }
+        ensures none { IfNone result (((e : Held) × HasEpoch self.old (current_slot self.old) e
+            × (e.pins ≡ 2 ^ 32 - 1)) × (self.new ≡ self.old)) }
     {
         let (id, slot) = self.publisher.current();
         let Some(pins) = pins_at(self.epochs.as_slice(), slot) else {
@@ -122,7 +131,8 @@ impl<N: Boarded, S: Shelf> Slots<N, S> {
     /// Gives back a pin under the lock of the version of this id. Answers whether it has one.
     pub fn unpin(&mut self, id: u32) -> bool
         ensures pinned { IsTrue result ↔ IsPinned self.old id }
-        ensures unpinned { IsTrue result → (pins : ℕ) × PinsMove self.old self.new id (pins + 1) pins }
+        ensures unpinned { IsTrue result
+            → (pins : ℕ) × PinsMove self.old self.new id (pins + 1) pins }
         ensures unknown { (IsTrue result → ⊥) → self.new ≡ self.old }
     {
         let Some(slot) = self.pinned_slot(id) else {
@@ -138,7 +148,8 @@ impl<N: Boarded, S: Shelf> Slots<N, S> {
     /// Appends the numbers of the tables of all versions that have a slot, slot by slot.
     /// `AllocError` where a growth was refused; then the numbers are as before.
     pub fn push_numbers(&self, numbers: &mut Vec<u64>) -> Result<(), AllocError>
-        ensures { MatchResult result (λ _. numbers.new.items ≡ numbers.old.items ++ numbers_held self.now.epochs) (λ _. numbers.new.items ≡ numbers.old.items) }
+        ensures { MatchResult result (λ _. numbers.new.items ≡ numbers.old.items
+            ++ numbers_held self.now.epochs) (λ _. numbers.new.items ≡ numbers.old.items) }
     {
         let before = numbers.len();
         let pushed = push_slots(self.epochs.as_slice(), numbers);
@@ -152,9 +163,11 @@ impl<N: Boarded, S: Shelf> Slots<N, S> {
     pub fn learn(&mut self, pinner: &mut Pinner) -> (u32, u8)
         requires { pinner.old.board ≡ N.board }
         ensures current { (result.0 ≡ current_id self.old) × (result.1 ≡ current_slot self.old) }
-        ensures board { (self.new.board.board ≡ self.old.board.board) × (self.new.board.knows ≡ noted_view self.old.board.knows pinner.new.knows) }
+        ensures board { (self.new.board.board ≡ self.old.board.board)
+            × (self.new.board.knows ≡ noted_view self.old.board.knows pinner.new.knows) }
         ensures rest { self.new ≡ record self.old { board = self.new.board } }
-        ensures pinner { (pinner.new.board ≡ pinner.old.board) × (pinner.new.knows ≡ learnt_view (told_view pinner.old.knows self.old.board.knows) result.0 result.1) }
+        ensures pinner { (pinner.new.board ≡ pinner.old.board) × (pinner.new.knows
+            ≡ learnt_view (told_view pinner.old.knows self.old.board.knows) result.0 result.1) }
     {
         pinner.learn(&mut self.publisher)
     }
@@ -168,11 +181,17 @@ impl<N: Boarded, S: Shelf> Slots<N, S> {
         pinner: &mut Pinner,
     ) -> Result<Option<Vec<u64>>, AllocError>
         requires { pinner.old.board ≡ N.board }
-        ensures some { IfOk result (λ o. IfSome o (λ v. (slot id : ℕ) × (e : Held) × (pinner.old.knows.held ≡ Some (id, slot)) × HasEpoch self.new slot e × (e.id ≡ id) × (v.items ≡ numbers_in e.version))) }
+        ensures some { IfOk result (λ o.
+            IfSome o (λ v. (slot id : ℕ) × (e : Held) × (pinner.old.knows.held ≡ Some (id, slot))
+            × HasEpoch self.new slot e × (e.id ≡ id) × (v.items ≡ numbers_in e.version))) }
         ensures none { IfOk result (λ o. IfNone o (pinner.old.knows.held ≡ None)) }
-        ensures board { (self.new.board.board ≡ self.old.board.board) × (self.new.board.knows ≡ (if is_some pinner.old.knows.held then noted_view self.old.board.knows pinner.old.knows else self.old.board.knows)) }
+        ensures board { (self.new.board.board ≡ self.old.board.board)
+            × (self.new.board.knows ≡ (if is_some pinner.old.knows.held then noted_view
+            self.old.board.knows pinner.old.knows else self.old.board.knows)) }
         ensures rest { self.new ≡ record self.old { board = self.new.board } }
-        ensures pinner { (pinner.new.board ≡ pinner.old.board) × (pinner.new.knows ≡ (if is_some pinner.old.knows.held then told_view pinner.old.knows self.old.board.knows else pinner.old.knows)) }
+        ensures pinner { (pinner.new.board ≡ pinner.old.board)
+            × (pinner.new.knows ≡ (if is_some pinner.old.knows.held then told_view pinner.old.knows
+            self.old.board.knows else pinner.old.knows)) }
     {
         let Some((_, slot)) = self.publisher.meet(pinner) else {
             return Ok(None);

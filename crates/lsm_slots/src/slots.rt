@@ -1,9 +1,13 @@
 //! The versions of a store, by the slots of its board of pins.
 
-ghost use Rattle.std.specs.Prelude.{◌≡◌, ℕ, suc, ◌+◌, ◌-◌, ◌^◌, ◌<◌, ◌≤◌, ◌↔◌, ◌∷◌, Some, None, length, replicate, IfOk, IfSome, IfNone, IsTrue, slice_get, slice_set};
+ghost use Rattle.std.specs.Prelude.{◌≡◌, ℕ, suc, ◌+◌, ◌-◌, ◌^◌, ◌<◌, ◌≤◌, ◌↔◌, ◌∷◌, Some, None};
+ghost use Rattle.std.specs.Prelude.{length, replicate, IfOk, IfSome, IfNone, IsTrue, slice_get};
+ghost use Rattle.std.specs.Prelude.{slice_set};
 ghost use Rattle.std.specs.Arc.{arc_value};
 ghost use Rattle.lsm_pins.specs.View.{after_making, looked_view};
-ghost use Rattle.lsm_slots.specs.Slots.{AllHeld, AreSlots, Epoch as Held, IsFreeSlot, Looked, MayFree, Published, count_to_look_at, current_id, current_slot, first_slots, looks_of};
+ghost use Rattle.lsm_slots.specs.Slots.{AllHeld, AreSlots, Epoch as Held, IsFreeSlot, Looked};
+ghost use Rattle.lsm_slots.specs.Slots.{MayFree, Published, count_to_look_at, current_id};
+ghost use Rattle.lsm_slots.specs.Slots.{current_slot, first_slots, looks_of};
 
 use crate::boarded::Boarded;
 use crate::epoch::Epoch;
@@ -29,15 +33,21 @@ impl<N: Boarded, S: Shelf> Model for Slots<N, S> {
 
     ghost Value = { Slotted };
 
-    ghost view = { λ s. record { board = s.publisher; version = arc_value s.current; epochs = s.epochs.items } };
+    ghost view = { λ s.
+        record { board = s.publisher; version = arc_value s.current; epochs = s.epochs.items } };
 
-    ghost invariant = { λ s. (s.publisher.board ≡ N.board) × AreSlots record { board = s.publisher; version = arc_value s.current; epochs = s.epochs.items } };
+    ghost invariant = { λ s. (s.publisher.board ≡ N.board) × AreSlots record {
+      board = s.publisher;
+      version = arc_value s.current;
+      epochs = s.epochs.items;
+    } };
 }
 
 // How often the version in a slot is pinned under the lock, none where the slot is free.
 pub(crate) fn pins_at<N: Naming, S: Shelf>(epochs: &[Option<Epoch<N, S>>], slot: u8) -> Option<u32>
     requires { slot < length epochs.now }
-    ensures some { IfSome result (λ pins. (e : Held) × (slice_get epochs.now slot ≡ Some (Some e)) × (e.pins ≡ pins)) }
+    ensures some { IfSome result (λ pins. (e : Held) × (slice_get epochs.now slot ≡ Some (Some e))
+        × (e.pins ≡ pins)) }
     ensures none { IfNone result (slice_get epochs.now slot ≡ Some None) }
 {
     match &epochs[usize::from(slot)] {
@@ -57,7 +67,8 @@ fn is_free_at<N: Naming, S: Shelf>(epochs: &[Option<Epoch<N, S>>], slot: u8) -> 
 // Whether the version in a slot has no pin under the lock; false where the slot is free.
 fn is_unpinned<N: Naming, S: Shelf>(epochs: &[Option<Epoch<N, S>>], slot: u8) -> bool
     requires { slot < length epochs.now }
-    ensures { IsTrue result ↔ ((e : Held) × (slice_get epochs.now slot ≡ Some (Some e)) × (e.pins ≡ 0)) }
+    ensures { IsTrue result
+        ↔ ((e : Held) × (slice_get epochs.now slot ≡ Some (Some e)) × (e.pins ≡ 0)) }
 {
     match &epochs[usize::from(slot)] {
         None => false,
@@ -81,7 +92,11 @@ fn first_epochs<N: Naming, S: Shelf>(
     version: Arc<Version<N, S>>,
 ) -> Result<Vec<Option<Epoch<N, S>>>, AllocError>
     requires { 0 < slots }
-    ensures { IfOk result (λ v. v.items ≡ Some record { id = id; version = arc_value version; pins = 0 } ∷ replicate (slots - 1) None) }
+    ensures { IfOk result (λ v. v.items ≡ Some record {
+      id = id;
+      version = arc_value version;
+      pins = 0;
+    } ∷ replicate (slots - 1) None) }
 {
     let mut epochs = Vec::with_capacity(alloc, slots)?;
     epochs.push(Some(Epoch {
@@ -176,8 +191,10 @@ impl<N: Boarded, S: Shelf> Slots<N, S> {
         requires { MayFree self.old slot }
         ensures looked { Looked self.old self.new }
         ensures looks { looks_of self.new ≡ looks_of self.old + 1 }
-        ensures seen { self.new.board.knows ≡ looked_view self.old.board.knows slot self.new.board.knows.found }
-        ensures others { (i : ℕ) → (i ≡ slot → ⊥) → slice_get self.new.epochs i ≡ slice_get self.old.epochs i }
+        ensures seen { self.new.board.knows
+            ≡ looked_view self.old.board.knows slot self.new.board.knows.found }
+        ensures others { (i : ℕ) → (i ≡ slot → ⊥)
+            → slice_get self.new.epochs i ≡ slice_get self.old.epochs i }
     {
         if !self.publisher.look(slot) {
             return;
@@ -203,9 +220,11 @@ impl<N: Boarded, S: Shelf> Slots<N, S> {
     pub fn find_free(&mut self) -> Option<u8>
         ensures looked { Looked self.old self.new }
         ensures some { IfSome result (λ slot. IsFreeSlot self.new slot) }
-        ensures none { IfNone result (AllHeld self.new × (looks_of self.new ≡ looks_of self.old + count_to_look_at self.old)) }
+        ensures none { IfNone result (AllHeld self.new
+            × (looks_of self.new ≡ looks_of self.old + count_to_look_at self.old)) }
         ensures known { (slot : ℕ) → IsFreeSlot self.old slot → self.new ≡ self.old }
-        ensures looks { AllHeld self.old → looks_of self.new ≡ looks_of self.old + count_to_look_at self.old }
+        ensures looks { AllHeld self.old
+            → looks_of self.new ≡ looks_of self.old + count_to_look_at self.old }
     {
         if let Some(slot) = self.free() {
             return Some(slot);

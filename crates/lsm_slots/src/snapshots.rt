@@ -1,8 +1,9 @@
 //! The live snapshots.
 
-ghost use Rattle.std.specs.Prelude.{◌≡◌, ℕ, suc, ◌-◌, ◌^◌, ◌<◌, ◌≤◌, ◌↔◌, [], ◌∷◌, ◌++◌, Some, None, IfOk, IfSome, IfNone, OnErr, IsTrue};
+ghost use Rattle.std.specs.Prelude.{◌≡◌, ℕ, suc, ◌-◌, ◌^◌, ◌<◌, ◌≤◌, ◌↔◌, [], ◌∷◌, ◌++◌, Some};
+ghost use Rattle.std.specs.Prelude.{None, IfOk, IfSome, IfNone, OnErr, IsTrue};
 ghost use Rattle.lsm_codec.specs.Lists.{Has};
-ghost use Rattle.lsm_machine.specs.Plain.{floor_of, without_snapshot};
+ghost use Rattle.lsm_levels.specs.Plain.{floor_of, without_snapshot};
 ghost use Rattle.lsm_slots.specs.Snapshots.{AreSnapshots, HasId};
 
 use std::alloc::{AllocError, Global};
@@ -67,7 +68,8 @@ impl Snapshots {
     pub fn take(&mut self, seq: u64) -> Result<u64, AllocError>
         requires more { self.old.next ≡ 2 ^ 64 - 1 → ⊥ }
         requires last { (p : ℕ × ℕ) → Has self.old.taken p → p.1 ≤ seq }
-        ensures ok { IfOk result (λ id. (id ≡ self.old.next) × (self.new ≡ record { taken = self.old.taken ++ (id, seq) ∷ []; next = suc id })) }
+        ensures ok { IfOk result (λ id. (id ≡ self.old.next)
+            × (self.new ≡ record { taken = self.old.taken ++ (id, seq) ∷ []; next = suc id })) }
         ensures err { OnErr result (self.new ≡ self.old) }
     {
         let id = self.next;
@@ -79,7 +81,8 @@ impl Snapshots {
     /// Gives up the snapshot of this id. Answers whether it was live.
     pub fn release(&mut self, id: u64) -> bool
         ensures live { IsTrue result ↔ HasId self.old.taken id }
-        ensures released { IsTrue result → self.new ≡ record self.old { taken = without_snapshot id self.old.taken } }
+        ensures released { IsTrue result
+            → self.new ≡ record self.old { taken = without_snapshot id self.old.taken } }
         ensures unknown { (IsTrue result → ⊥) → self.new ≡ self.old }
     {
         let Some(_) = find(self.taken.as_slice(), id) else {

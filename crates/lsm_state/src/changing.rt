@@ -1,19 +1,20 @@
 //! Changes of the current version.
 
-ghost use Rattle.std.specs.Prelude.{◌≡◌, ℕ, ◌+◌, ◌-◌, ◌<◌, ◌^◌, IfErr, IfOk, OnErr, OnOk, false, true};
+ghost use Rattle.std.specs.Prelude.{◌≡◌, ℕ, ◌+◌, ◌-◌, ◌<◌, ◌^◌, IfErr, IfOk, OnErr, OnOk, false};
+ghost use Rattle.std.specs.Prelude.{true};
 ghost use Rattle.std.specs.Arc.{arc_value};
 ghost use Rattle.lsm_codec.specs.Lists.{Has};
-ghost use Rattle.lsm_levels.specs.Files.{Lie};
 ghost use Rattle.lsm_shelf.specs.Told.{Becomes};
 ghost use Rattle.lsm_table.specs.Registry.{Table};
 ghost use Rattle.lsm_version.specs.Versions.{IsWhole};
-ghost use Rattle.lsm_machine.specs.Law.{Law};
+ghost use Rattle.lsm_levels.specs.Law.{Law};
 ghost use Rattle.lsm_slots.specs.Slots.{IsFreeSlot, current_id};
 ghost use Rattle.lsm_live.specs.Booked.{Booked};
 ghost use Rattle.lsm_journal.specs.HeldManifest.{is_at_limit};
 ghost use Rattle.lsm_journal.specs.Difference.{Suits, changed_by};
 ghost use Rattle.lsm_state.specs.Asked.{ChangeRefused, OnShelf};
-ghost use Rattle.lsm_state.specs.Changing.{ChangesVersion, IsChangeRefusal, IsSlotRefusal, Sought, halts, live_after, next_spent, plain_after};
+ghost use Rattle.lsm_state.specs.Changing.{ChangesVersion, IsChangeRefusal, IsSlotRefusal, Sought};
+ghost use Rattle.lsm_state.specs.Changing.{halts, live_after, next_spent, plain_after};
 ghost use Rattle.lsm_state.specs.Collecting.{SameCounts};
 ghost use Rattle.lsm_state.specs.Held.{HasInputs};
 ghost use Rattle.lsm_state.specs.declared.state_fault.StateFault.TheVariants.{OutOfMemory};
@@ -62,7 +63,8 @@ impl<N: Boarded, S: Shelf> State<N, S> {
     pub(crate) fn find_slot(&mut self) -> Result<u8, StateFault>
         ensures sought { Sought self.old.slots self.new.slots }
         ensures rest { self.new ≡ record self.old { slots = self.new.slots } }
-        ensures ok { IfOk result (λ slot. IsFreeSlot self.new.slots slot × (current_id self.new.slots < 2 ^ 28 - 1)) }
+        ensures ok { IfOk result (λ slot. IsFreeSlot self.new.slots slot
+            × (current_id self.new.slots < 2 ^ 28 - 1)) }
         ensures refused { IfErr result (λ e. IsSlotRefusal self.old.slots self.new.slots e) }
     {
         let Some(slot) = self.slots.find_free() else {
@@ -82,9 +84,11 @@ impl<N: Boarded, S: Shelf> State<N, S> {
         out: Option<u64>,
     ) -> Result<Shared<N, S>, StateFault>
         requires whole { S.honest → (n : ℕ) (t : Table) → Has change.now.added (n, t) → IsWhole t }
-        requires law { Law S.honest Lie (plain_after self.now change.now out) }
-        ensures first { IfOk result (λ v. arc_value v.0 ≡ changed_by change.now self.now.slots.version) }
-        ensures second { IfOk result (λ v. arc_value v.1 ≡ changed_by change.now self.now.slots.version) }
+        requires law { Law S.honest (plain_after self.now change.now out) }
+        ensures first { IfOk result (λ v.
+            arc_value v.0 ≡ changed_by change.now self.now.slots.version) }
+        ensures second { IfOk result (λ v.
+            arc_value v.1 ≡ changed_by change.now self.now.slots.version) }
         ensures refused { IfErr result (λ e. e ≡ OutOfMemory) }
     {
         changed_is_sound();
@@ -141,11 +145,15 @@ impl<N: Boarded, S: Shelf> State<N, S> {
         requires numbers { is_at_limit self.old.journal ≡ true → self.old.next + 1 < 2 ^ 64 }
         requires suits { Suits change.now self.old.slots.version }
         requires whole { S.honest → (n : ℕ) (t : Table) → Has change.now.added (n, t) → IsWhole t }
-        requires law { Law S.honest Lie (plain_after self.old change.now out) }
-        requires inputs { (b : Booked) → Has (live_after out self.old.live) b → HasInputs (changed_by change.now self.old.slots.version) b.work }
-        ensures ok { OnOk result (ChangesVersion self.old self.new change.now out (S.told shelf.old) (S.told shelf.new)) }
-        ensures refused { IfErr result (λ e. IsChangeRefusal self.old self.new e (S.told shelf.old) (S.told shelf.new)) }
-        ensures asked { IfErr result (OnShelf (ChangeRefused (S.refuses (S.told shelf.old).place) self.old change.now)) }
+        requires law { Law S.honest (plain_after self.old change.now out) }
+        requires inputs { (b : Booked) → Has (live_after out self.old.live) b
+            → HasInputs (changed_by change.now self.old.slots.version) b.work }
+        ensures ok { OnOk result (ChangesVersion self.old self.new change.now out (S.told shelf.old)
+            (S.told shelf.new)) }
+        ensures refused { IfErr result (λ e.
+            IsChangeRefusal self.old self.new e (S.told shelf.old) (S.told shelf.new)) }
+        ensures asked { IfErr result
+            (OnShelf (ChangeRefused (S.refuses (S.told shelf.old).place) self.old change.now)) }
         ensures unsent { OnErr result (Becomes (S.told shelf.old) (S.told shelf.new)) }
         ensures counts { OnOk result (SameCounts (S.told shelf.old) (S.told shelf.new)) }
     {

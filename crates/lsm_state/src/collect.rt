@@ -1,12 +1,17 @@
 //! Removing tables that no reader and no job needs.
 
-ghost use Rattle.std.specs.Prelude.{◌≡◌, ◌≤◌, ℕ, ◌++◌, [], length, IfErr, IfOk, OnErr, OnOk, false, vec_capacity, vec_len};
+ghost use Rattle.std.specs.Prelude.{◌≡◌, ◌≤◌, ℕ, ◌++◌, [], length, IfErr, IfOk, OnErr, OnOk, false};
+ghost use Rattle.std.specs.Prelude.{vec_capacity, vec_len};
 ghost use Rattle.std.specs.List.Sorted.{IsStrictlyIncreasing};
 ghost use Rattle.lsm_codec.specs.Lists.{Has};
 ghost use Rattle.lsm_shelf.specs.Asked.{Remove};
 ghost use Rattle.lsm_shelf.specs.Told.{Becomes, Counted, CountedBy, NotTaken};
 ghost use Rattle.lsm_state.specs.Asked.{CollectRefused, OnShelf};
-ghost use Rattle.lsm_state.specs.Collecting.{AreCollected, HasLookedAround, IsCollectRefusal, IsCountedOnce, IsKeptNumber, IsMemoryOrShelf, IsRefusedMemory, IsStopped, IsWantOfMemory, SameCounts, StoppedEarly, TellsAll, is_in, outside, removing_all};
+ghost use Rattle.lsm_state.specs.Collecting.{AreCollected, HasLookedAround, IsCollectRefusal};
+ghost use Rattle.lsm_state.specs.Collecting.{IsCountedOnce, IsKeptNumber, IsMemoryOrShelf};
+ghost use Rattle.lsm_state.specs.Collecting.{IsRefusedMemory, IsStopped, IsWantOfMemory};
+ghost use Rattle.lsm_state.specs.Collecting.{SameCounts, StoppedEarly, TellsAll, is_in, outside};
+ghost use Rattle.lsm_state.specs.Collecting.{removing_all};
 ghost use Rattle.lsm_state.specs.Held.{plain};
 
 use crate::state::State;
@@ -40,12 +45,17 @@ fn remove_all<S: Shelf, R: Wait>(
 ) -> Result<(), ShelfFault>
     requires none { (removed.old.items ≡ []) × (vec_len removed.old ≡ 0) }
     requires room { length numbers.now ≤ vec_capacity removed.old }
-    ensures ok { OnOk result ((removed.new.items ≡ numbers.now) × Becomes (removing_all numbers.now (S.told shelf.old)) (S.told shelf.new)) }
-    ensures err { OnErr result (IsStopped numbers.now removed.new.items (S.told shelf.old) (S.told shelf.new)) }
-    ensures cause { IfErr result (λ e. NotTaken e × Counted e (S.told shelf.old) (S.told shelf.new)) }
+    ensures ok { OnOk result ((removed.new.items ≡ numbers.now)
+        × Becomes (removing_all numbers.now (S.told shelf.old)) (S.told shelf.new)) }
+    ensures err { OnErr result
+        (IsStopped numbers.now removed.new.items (S.told shelf.old) (S.told shelf.new)) }
+    ensures cause { IfErr result (λ e. NotTaken e
+        × Counted e (S.told shelf.old) (S.told shelf.new)) }
     ensures counts { CountedBy result (S.told shelf.old) (S.told shelf.new) }
-    ensures asked { IfErr result (λ e. (n : ℕ) × Has numbers.now n × S.refuses (S.told shelf.old).place (Remove n) e) }
-    ensures untold { IfErr result (λ e. IsRefusedMemory e → TellsAll removed.new.items (S.told shelf.old) (S.told shelf.new)) }
+    ensures asked { IfErr result (λ e. (n : ℕ) × Has numbers.now n
+        × S.refuses (S.told shelf.old).place (Remove n) e) }
+    ensures untold { IfErr result (λ e. IsRefusedMemory e
+        → TellsAll removed.new.items (S.told shelf.old) (S.told shelf.new)) }
 {
     for number in numbers {
         shelf.remove(rt, *number)?;
@@ -66,13 +76,19 @@ impl<N: Boarded, S: Shelf> State<N, S> {
         removed: &mut Vec<u64>,
     ) -> Result<(), StateFault>
         requires none { (removed.old.items ≡ []) × (vec_len removed.old ≡ 0) }
-        ensures ok { OnOk result (AreCollected self.now removed.new.items (S.told shelf.old) (S.told shelf.new)) }
-        ensures err { OnErr result (StoppedEarly self.now removed.new.items (S.told shelf.old) (S.told shelf.new)) }
-        ensures cause { IfErr result (λ e. IsMemoryOrShelf e (S.told shelf.old) (S.told shelf.new)) }
+        ensures ok { OnOk result
+            (AreCollected self.now removed.new.items (S.told shelf.old) (S.told shelf.new)) }
+        ensures err { OnErr result
+            (StoppedEarly self.now removed.new.items (S.told shelf.old) (S.told shelf.new)) }
+        ensures cause { IfErr result (λ e.
+            IsMemoryOrShelf e (S.told shelf.old) (S.told shelf.new)) }
         ensures counts { OnOk result (SameCounts (S.told shelf.old) (S.told shelf.new)) }
-        ensures counts_err { IfErr result (λ e. IsCountedOnce e (S.told shelf.old) (S.told shelf.new)) }
-        ensures asked { IfErr result (OnShelf (CollectRefused (S.refuses (S.told shelf.old).place) self.now)) }
-        ensures untold { IfErr result (λ e. IsWantOfMemory e → TellsAll removed.new.items (S.told shelf.old) (S.told shelf.new)) }
+        ensures counts_err { IfErr result (λ e.
+            IsCountedOnce e (S.told shelf.old) (S.told shelf.new)) }
+        ensures asked { IfErr result
+            (OnShelf (CollectRefused (S.refuses (S.told shelf.old).place) self.now)) }
+        ensures untold { IfErr result (λ e. IsWantOfMemory e
+            → TellsAll removed.new.items (S.told shelf.old) (S.told shelf.new)) }
     {
         let kept = self.kept(alloc)?;
         let mut numbers = shelf.list(rt, alloc)?;
@@ -96,15 +112,20 @@ impl<N: Boarded, S: Shelf> State<N, S> {
         shelf: &mut S,
     ) -> Result<Vec<u64>, (StateFault, Vec<u64>)>
         requires here { (S.told shelf.old).place ≡ N.place }
-        ensures ok { IfOk result (λ v. (self.old.halted ≡ false) × HasLookedAround self.old self.new × AreCollected self.new v.items (S.told shelf.old) (S.told shelf.new)) }
+        ensures ok { IfOk result (λ v. (self.old.halted ≡ false) × HasLookedAround self.old self.new
+            × AreCollected self.new v.items (S.told shelf.old) (S.told shelf.new)) }
         ensures event { plain self.new ≡ plain self.old }
         ensures kept { (n : ℕ) → IsKeptNumber self.new n → IsKeptNumber self.old n }
         ensures rest { self.new ≡ record self.old { slots = self.new.slots } }
-        ensures refused { IfErr result (λ e. IsCollectRefusal self.old self.new e.0 e.1.items (S.told shelf.old) (S.told shelf.new)) }
+        ensures refused { IfErr result (λ e. IsCollectRefusal self.old self.new e.0 e.1.items
+            (S.told shelf.old) (S.told shelf.new)) }
         ensures counts { OnOk result (SameCounts (S.told shelf.old) (S.told shelf.new)) }
-        ensures counts_err { IfErr result (λ e. IsCountedOnce e.0 (S.told shelf.old) (S.told shelf.new)) }
-        ensures asked { IfErr result (λ e. OnShelf (CollectRefused (S.refuses (S.told shelf.old).place) self.new) e.0) }
-        ensures untold { IfErr result (λ e. IsWantOfMemory e.0 → TellsAll e.1.items (S.told shelf.old) (S.told shelf.new)) }
+        ensures counts_err { IfErr result (λ e.
+            IsCountedOnce e.0 (S.told shelf.old) (S.told shelf.new)) }
+        ensures asked { IfErr result (λ e.
+            OnShelf (CollectRefused (S.refuses (S.told shelf.old).place) self.new) e.0) }
+        ensures untold { IfErr result (λ e. IsWantOfMemory e.0
+            → TellsAll e.1.items (S.told shelf.old) (S.told shelf.new)) }
     {
         let mut removed = Vec::new(alloc);
         if self.halted {

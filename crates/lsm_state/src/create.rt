@@ -2,15 +2,17 @@
 
 ghost use Rattle.std.specs.Prelude.{◌≡◌, ℕ, ◌+◌, ◌<◌, ◌^◌, IfErr, IfOk, OnOk};
 ghost use Rattle.lsm_shelf.specs.Told.{Becomes, Rose, next_count, sending};
-ghost use Rattle.lsm_journal.specs.Sending.{CreateCounted, CreateCountedUnder, IsCreateAsked, IsCreateAskedUnder, IsCreateRefusal, IsCreateRefusalUnder};
+ghost use Rattle.lsm_journal.specs.Sending.{CreateCounted, CreateCountedUnder, IsCreateAsked};
+ghost use Rattle.lsm_journal.specs.Sending.{IsCreateAskedUnder, IsCreateRefusal};
+ghost use Rattle.lsm_journal.specs.Sending.{IsCreateRefusalUnder};
 ghost use Rattle.lsm_state.specs.Making.{IsNewBoard, created_state, created_state_under};
 ghost use Rattle.lsm_state.specs.Options.{Fits};
 
 use crate::options::Options;
 use crate::state::State;
 use lsm_journal::Journal;
+use lsm_levels::machine::created_stores_are_lawful;
 use lsm_live::LiveJobs;
-use lsm_machine::laws::created_stores_are_lawful;
 use lsm_pins::{Pinner, Publisher};
 use lsm_slots::{Boarded, Slots, Snapshots};
 use lsm_table::{Registry, Shelf, ShelfFault};
@@ -45,12 +47,17 @@ impl<N: Boarded, S: Shelf> State<N, S> {
         requires here { (S.told shelf.old).place ≡ N.place }
         requires board { IsNewBoard N.board options board.0 board.1.items }
         ensures created { IfOk result (λ s. s ≡ created_state options board.0 board.1.items) }
-        ensures sent { IfOk result (λ s. Becomes (sending 1 s.journal.bytes (S.told shelf.old)) (S.told shelf.new)) }
+        ensures sent { IfOk result (λ s.
+            Becomes (sending 1 s.journal.bytes (S.told shelf.old)) (S.told shelf.new)) }
         ensures missing { OnOk result (Rose (S.told shelf.old).misses (S.told shelf.new).misses) }
-        ensures counts { OnOk result (((S.told shelf.new).faults ≡ (S.told shelf.old).faults) × ((S.told shelf.new).misses ≡ next_count (S.told shelf.old).misses)) }
-        ensures refused { IfErr result (λ e. IsCreateRefusal e (S.told shelf.old) (S.told shelf.new)) }
-        ensures asked { IfErr result (λ e. IsCreateAsked (S.refuses (S.told shelf.old).place) e (S.told shelf.old) (S.told shelf.new)) }
-        ensures counts_err { IfErr result (λ e. CreateCounted e (S.told shelf.old) (S.told shelf.new)) }
+        ensures counts { OnOk result (((S.told shelf.new).faults ≡ (S.told shelf.old).faults)
+            × ((S.told shelf.new).misses ≡ next_count (S.told shelf.old).misses)) }
+        ensures refused { IfErr result (λ e.
+            IsCreateRefusal e (S.told shelf.old) (S.told shelf.new)) }
+        ensures asked { IfErr result (λ e. IsCreateAsked (S.refuses (S.told shelf.old).place) e
+            (S.told shelf.old) (S.told shelf.new)) }
+        ensures counts_err { IfErr result (λ e.
+            CreateCounted e (S.told shelf.old) (S.told shelf.new)) }
     {
         State::create_under(rt, alloc, shelf, options, registry, board, 1)
     }
@@ -75,19 +82,25 @@ impl<N: Boarded, S: Shelf> State<N, S> {
         requires here { (S.told shelf.old).place ≡ N.place }
         requires board { IsNewBoard N.board options board.0 board.1.items }
         requires numbers { number + 1 < 2 ^ 64 }
-        ensures created { IfOk result (λ s. s ≡ created_state_under number options board.0 board.1.items) }
-        ensures sent { IfOk result (λ s. Becomes (sending number s.journal.bytes (S.told shelf.old)) (S.told shelf.new)) }
+        ensures created { IfOk result (λ s.
+            s ≡ created_state_under number options board.0 board.1.items) }
+        ensures sent { IfOk result (λ s.
+            Becomes (sending number s.journal.bytes (S.told shelf.old)) (S.told shelf.new)) }
         ensures missing { OnOk result (Rose (S.told shelf.old).misses (S.told shelf.new).misses) }
-        ensures counts { OnOk result (((S.told shelf.new).faults ≡ (S.told shelf.old).faults) × ((S.told shelf.new).misses ≡ next_count (S.told shelf.old).misses)) }
-        ensures refused { IfErr result (λ e. IsCreateRefusalUnder number e (S.told shelf.old) (S.told shelf.new)) }
-        ensures asked { IfErr result (λ e. IsCreateAskedUnder number (S.refuses (S.told shelf.old).place) e (S.told shelf.old) (S.told shelf.new)) }
-        ensures counts_err { IfErr result (λ e. CreateCountedUnder number e (S.told shelf.old) (S.told shelf.new)) }
+        ensures counts { OnOk result (((S.told shelf.new).faults ≡ (S.told shelf.old).faults)
+            × ((S.told shelf.new).misses ≡ next_count (S.told shelf.old).misses)) }
+        ensures refused { IfErr result (λ e.
+            IsCreateRefusalUnder number e (S.told shelf.old) (S.told shelf.new)) }
+        ensures asked { IfErr result (λ e. IsCreateAskedUnder number
+            (S.refuses (S.told shelf.old).place) e (S.told shelf.old) (S.told shelf.new)) }
+        ensures counts_err { IfErr result (λ e.
+            CreateCountedUnder number e (S.told shelf.old) (S.told shelf.new)) }
     {
         let (publisher, pinners) = board;
         let empty = Version::empty(alloc, Arc::try_clone(&registry)?)?;
         let slots = Slots::new(alloc, publisher, options.versions, empty)?;
         let journal = Journal::create_under(rt, alloc, shelf, options.manifest_limit, number)?;
-        created_stores_are_lawful::<S>();
+        created_stores_are_lawful::<State<N, S>>();
         Ok(State {
             registry,
             options,

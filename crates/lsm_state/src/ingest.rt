@@ -1,17 +1,20 @@
 //! Ingests.
 
-ghost use Rattle.std.specs.Prelude.{◌≡◌, ℕ, suc, ◌+◌, ◌<◌, ◌≤◌, ◌^◌, ◌↔◌, ◌⊎◌, length, IfErr, IfOk, OnErr, OnOk};
+ghost use Rattle.std.specs.Prelude.{◌≡◌, ℕ, suc, ◌+◌, ◌<◌, ◌≤◌, ◌^◌, ◌↔◌, ◌⊎◌, length, IfErr, IfOk};
+ghost use Rattle.std.specs.Prelude.{OnErr, OnOk};
 ghost use Rattle.lsm_codec.specs.Entries.{Entry};
 ghost use Rattle.lsm_codec.specs.Lists.{Has};
 ghost use Rattle.lsm_levels.specs.Files.{all_entries};
 ghost use Rattle.lsm_shelf.specs.Told.{Becomes, putting};
 ghost use Rattle.lsm_table.specs.TableBuilding.{table_bytes};
 ghost use Rattle.lsm_version.specs.Versions.{IsWhole, files};
-ghost use Rattle.lsm_machine.specs.Plain as machine;
+ghost use Rattle.lsm_levels.specs.Plain as machine;
 ghost use Rattle.lsm_state.specs.Asked.{IngestRefused, OnShelf, PutRefused};
 ghost use Rattle.lsm_state.specs.Collecting.{SameCounts};
 ghost use Rattle.lsm_state.specs.Held.{IsLawfulState, plain};
-ghost use Rattle.lsm_state.specs.Ingesting.{FailsToBuild, FailsToPut, Ingests, IsEarlyRefusal, IsIngestRefusal, IsTableOf, IsWelcome, coming_in, entries_of, numbers_needed, of_batch};
+ghost use Rattle.lsm_state.specs.Ingesting.{FailsToBuild, FailsToPut, Ingests, IsEarlyRefusal};
+ghost use Rattle.lsm_state.specs.Ingesting.{IsIngestRefusal, IsTableOf, IsWelcome, coming_in};
+ghost use Rattle.lsm_state.specs.Ingesting.{entries_of, numbers_needed, of_batch};
 ghost use Rattle.lsm_state.specs.Options.{sizes_of};
 
 use crate::state::State;
@@ -111,13 +114,17 @@ impl<N: Boarded, S: Shelf> State<N, S> {
         requires welcome { IsWelcome self.old batch.now }
         requires here { (S.told shelf.old).place ≡ N.place }
         ensures table { IfOk result (IsTableOf (entries_of self.old batch.now) self.old.next) }
-        ensures bytes { IfOk result (λ t. t.image ≡ table_bytes (sizes_of self.old.options) (entries_of self.old batch.now)) }
+        ensures bytes { IfOk result (λ t.
+            t.image ≡ table_bytes (sizes_of self.old.options) (entries_of self.old batch.now)) }
         ensures ok { OnOk result (self.new ≡ record self.old { next = suc self.old.next }) }
-        ensures told { OnOk result (Becomes (putting self.old.next (S.told shelf.old)) (S.told shelf.new)) }
+        ensures told { OnOk result
+            (Becomes (putting self.old.next (S.told shelf.old)) (S.told shelf.new)) }
         ensures counts { OnOk result (SameCounts (S.told shelf.old) (S.told shelf.new)) }
-        ensures refused { IfErr result (λ e. FailsToBuild self.old self.new batch.now e (S.told shelf.old) (S.told shelf.new)
+        ensures refused { IfErr result (λ e.
+            FailsToBuild self.old self.new batch.now e (S.told shelf.old) (S.told shelf.new)
             ⊎ FailsToPut self.old self.new e (S.told shelf.old) (S.told shelf.new)) }
-        ensures asked { IfErr result (OnShelf (PutRefused (S.refuses (S.told shelf.old).place) self.old batch.now)) }
+        ensures asked { IfErr result
+            (OnShelf (PutRefused (S.refuses (S.told shelf.old).place) self.old batch.now)) }
         ensures slots { OnErr result (self.new.slots ≡ self.old.slots) }
     {
         tables_are_whole();
@@ -170,13 +177,19 @@ impl<N: Boarded, S: Shelf> State<N, S> {
     ) -> Result<Ingested, StateFault>
         requires here { (S.told shelf.old).place ≡ N.place }
         ensures welcome { OnOk result (IsWelcome self.old batch.now) }
-        ensures ok { IfOk result (λ r. Ingests self.old self.new batch.now r (S.told shelf.old) (S.told shelf.new)) }
-        ensures event { OnOk result (machine.Ingests (plain self.old) (entries_of self.old batch.now) (plain self.new)) }
+        ensures ok { IfOk result (λ r.
+            Ingests self.old self.new batch.now r (S.told shelf.old) (S.told shelf.new)) }
+        ensures event { OnOk result
+            (machine.Ingests (plain self.old) (entries_of self.old batch.now) (plain self.new)) }
         ensures event_err { OnErr result (machine.Spends (plain self.old) (plain self.new)) }
-        ensures entries { OnOk result ((e : Entry) → Has (all_entries (files self.new.slots.version)) e ↔ (Has (entries_of self.old batch.now) e ⊎ Has (all_entries (files self.old.slots.version)) e)) }
+        ensures entries { OnOk result ((e : Entry) → Has
+            (all_entries (files self.new.slots.version)) e ↔ (Has (entries_of self.old batch.now) e
+            ⊎ Has (all_entries (files self.old.slots.version)) e)) }
         ensures counts { OnOk result (SameCounts (S.told shelf.old) (S.told shelf.new)) }
-        ensures refused { IfErr result (λ e. IsIngestRefusal self.old self.new batch.now e (S.told shelf.old) (S.told shelf.new)) }
-        ensures asked { IfErr result (OnShelf (IngestRefused (S.refuses (S.told shelf.old).place) self.old batch.now)) }
+        ensures refused { IfErr result (λ e.
+            IsIngestRefusal self.old self.new batch.now e (S.told shelf.old) (S.told shelf.new)) }
+        ensures asked { IfErr result
+            (OnShelf (IngestRefused (S.refuses (S.told shelf.old).place) self.old batch.now)) }
     {
         changed_files();
         changed_tables();

@@ -2,13 +2,14 @@
 
 ghost use Rattle.std.specs.Prelude.{◌≡◌, ◌-◌, ◌^◌, ◌<◌, ◌++◌, map, IfErr, IfOk, OnErr, OnOk};
 ghost use Rattle.lsm_shelf.specs.Told.{Becomes};
-ghost use Rattle.lsm_machine.specs.Plain.{Spends};
+ghost use Rattle.lsm_levels.specs.Plain.{Spends};
 ghost use Rattle.lsm_slots.specs.Slots.{IsFreeSlot, current_id};
 ghost use Rattle.lsm_state.specs.Asked.{InstallRefused, OnShelf};
 ghost use Rattle.lsm_state.specs.Changing.{IsChangeRefusal};
 ghost use Rattle.lsm_state.specs.Collecting.{SameCounts};
 ghost use Rattle.lsm_state.specs.Held.{plain};
-ghost use Rattle.lsm_state.specs.Installing.{Installed, IsInstallRefusal, IsInstalling, IsPutIn, IsRefusedAtOnce, MayInstall, SameAnswers};
+ghost use Rattle.lsm_state.specs.Installing.{Installed, IsInstallRefusal, IsInstalling, IsPutIn};
+ghost use Rattle.lsm_state.specs.Installing.{IsRefusedAtOnce, MayInstall, SameAnswers};
 
 use crate::install_change::change_of;
 use crate::state::State;
@@ -66,13 +67,16 @@ impl<N: Boarded, S: Shelf> State<N, S> {
         requires may { MayInstall self.old done.now }
         requires free { IsFreeSlot self.old.slots slot }
         requires room { current_id self.old.slots < 2 ^ 28 - 1 }
-        ensures installed { OnOk result (IsPutIn self.old self.new done.now (S.told shelf.old) (S.told shelf.new)) }
+        ensures installed { OnOk result
+            (IsPutIn self.old self.new done.now (S.told shelf.old) (S.told shelf.new)) }
         ensures numbers { IfOk result (λ v. v.items ≡ map (λ t. t.number) done.now.outputs) }
         ensures answers { OnOk result (S.honest → SameAnswers self.old self.new) }
         ensures event { OnOk result (IsInstalling S.honest self.old done.now.work.ticket self.new) }
         ensures counts { OnOk result (SameCounts (S.told shelf.old) (S.told shelf.new)) }
-        ensures refused { IfErr result (λ e. IsChangeRefusal self.old self.new e (S.told shelf.old) (S.told shelf.new)) }
-        ensures asked { IfErr result (OnShelf (InstallRefused (S.refuses (S.told shelf.old).place) self.old done.now)) }
+        ensures refused { IfErr result (λ e.
+            IsChangeRefusal self.old self.new e (S.told shelf.old) (S.told shelf.new)) }
+        ensures asked { IfErr result
+            (OnShelf (InstallRefused (S.refuses (S.told shelf.old).place) self.old done.now)) }
         ensures unsent { OnErr result (Becomes (S.told shelf.old) (S.told shelf.new)) }
     {
         changed_files();
@@ -96,14 +100,17 @@ impl<N: Boarded, S: Shelf> State<N, S> {
         done: &Finished<N, S>,
     ) -> Result<Vec<u64>, StateFault>
         ensures may { OnOk result (MayInstall self.old done.now) }
-        ensures installed { OnOk result (Installed self.old self.new done.now (S.told shelf.old) (S.told shelf.new)) }
+        ensures installed { OnOk result
+            (Installed self.old self.new done.now (S.told shelf.old) (S.told shelf.new)) }
         ensures numbers { IfOk result (λ v. v.items ≡ map (λ t. t.number) done.now.outputs) }
         ensures answers { OnOk result (S.honest → SameAnswers self.old self.new) }
         ensures event { OnOk result (IsInstalling S.honest self.old done.now.work.ticket self.new) }
         ensures event_err { OnErr result (Spends (plain self.old) (plain self.new)) }
         ensures counts { OnOk result (SameCounts (S.told shelf.old) (S.told shelf.new)) }
-        ensures refused { IfErr result (λ e. IsInstallRefusal self.old self.new done.now e (S.told shelf.old) (S.told shelf.new)) }
-        ensures asked { IfErr result (OnShelf (InstallRefused (S.refuses (S.told shelf.old).place) self.old done.now)) }
+        ensures refused { IfErr result (λ e.
+            IsInstallRefusal self.old self.new done.now e (S.told shelf.old) (S.told shelf.new)) }
+        ensures asked { IfErr result
+            (OnShelf (InstallRefused (S.refuses (S.told shelf.old).place) self.old done.now)) }
         ensures unsent { OnErr result (Becomes (S.told shelf.old) (S.told shelf.new)) }
     {
         self.admit(done)?;
@@ -129,15 +136,18 @@ impl<N: Boarded, S: Shelf> State<N, S> {
     ) -> Result<Vec<u64>, (StateFault, Finished<N, S>)>
         requires here { (S.told shelf.old).place ≡ N.place }
         ensures may { OnOk result (MayInstall self.old done) }
-        ensures installed { OnOk result (Installed self.old self.new done (S.told shelf.old) (S.told shelf.new)) }
+        ensures installed { OnOk result
+            (Installed self.old self.new done (S.told shelf.old) (S.told shelf.new)) }
         ensures numbers { IfOk result (λ v. v.items ≡ map (λ t. t.number) done.outputs) }
         ensures answers { OnOk result (S.honest → SameAnswers self.old self.new) }
         ensures event { OnOk result (IsInstalling S.honest self.old done.work.ticket self.new) }
         ensures event_err { OnErr result (Spends (plain self.old) (plain self.new)) }
         ensures counts { OnOk result (SameCounts (S.told shelf.old) (S.told shelf.new)) }
         ensures back { IfErr result (λ e. e.1 ≡ done) }
-        ensures refused { IfErr result (λ e. IsInstallRefusal self.old self.new done e.0 (S.told shelf.old) (S.told shelf.new)) }
-        ensures asked { IfErr result (λ e. OnShelf (InstallRefused (S.refuses (S.told shelf.old).place) self.old done) e.0) }
+        ensures refused { IfErr result (λ e.
+            IsInstallRefusal self.old self.new done e.0 (S.told shelf.old) (S.told shelf.new)) }
+        ensures asked { IfErr result (λ e.
+            OnShelf (InstallRefused (S.refuses (S.told shelf.old).place) self.old done) e.0) }
         ensures unsent { OnErr result (Becomes (S.told shelf.old) (S.told shelf.new)) }
     {
         match self.try_install(rt, alloc, shelf, &done) {

@@ -5,7 +5,8 @@ ghost use Rattle.lsm_codec.specs.Lists.{Has};
 ghost use Rattle.lsm_table.specs.Registry.{Table};
 ghost use Rattle.lsm_manifest.specs.EditFit.{FitsKey};
 ghost use Rattle.lsm_choice.specs.Choice.{bytes_cmp};
-ghost use Rattle.lsm_state.specs.Installing.{IsInstallChange, IsLargestKey, IsPointer, added_at, deleted_at};
+ghost use Rattle.lsm_state.specs.Installing.{IsInstallChange, IsLargestKey, IsPointer, added_at};
+ghost use Rattle.lsm_state.specs.Installing.{deleted_at};
 ghost use Rattle.lsm_state.specs.LargestKeys.{IsGreaterKey, IsHighestKey};
 
 use lsm_codec::{Bytes, key_parts};
@@ -122,7 +123,8 @@ pub(crate) fn change_of<N: Naming, S: Shelf>(
     done: &Finished<N, S>,
     last: u64,
 ) -> Result<VersionChange<N, S>, AllocError>
-    requires keys { (t : Table) → Has done.now.work.upper t → FitsKey t.smallest × FitsKey t.largest }
+    requires keys { (t : Table) → Has done.now.work.upper t
+        → FitsKey t.smallest × FitsKey t.largest }
     ensures { IfOk result (λ c. IsInstallChange done.now last c) }
 {
     let job = done.job();

@@ -25,11 +25,11 @@ impl<N: Boarded, S: Shelf> State<N, S> {
     /// of the manifest found that hold no whole record are left behind. Its log numbers are kept.
     /// The board was just made, with the options' readers and as many slots as they say.
     ///
-    /// The refusals of `Journal::recover`; those of `lsm_check::check`; those of listing the tables;
-    /// then `NumbersSpent` where one of these numbers is 2^64 - 1, or the new manifest's would be;
-    /// then `OutOfMemory`, and `Device` where the shelf failed, or `Taken` where another began that
-    /// manifest meanwhile. After `Device` the directory names the old manifest or the new one
-    /// whole.
+    /// The refusals of `Journal::recover`; those of `lsm_check::check`; those of listing the
+    /// tables; then `NumbersSpent` where one of these numbers is 2^64 - 1, or the new manifest's
+    /// would be; then `OutOfMemory`, and `Device` where the shelf failed, or `Taken` where another
+    /// began that manifest meanwhile. After `Device` the directory names the old manifest or the
+    /// new one whole.
     pub fn open<R: Wait>(
         rt: &R,
         alloc: Global,
@@ -41,10 +41,15 @@ impl<N: Boarded, S: Shelf> State<N, S> {
         requires fits { Fits options }
         requires here { (S.told shelf.old).place ≡ N.place }
         requires board { IsNewBoard N.board options board.0 board.1.items }
-        ensures begun { IfOk result (λ s. IsBegun S.honest options.manifest_limit s.journal s.slots.version s.next (S.told shelf.old) (S.told shelf.new)) }
-        ensures opened { IfOk result (λ s. s ≡ opened_state options board.0 board.1.items s.slots.version s.journal s.next false) }
-        ensures refused { IfErr result (λ e. IsOpenRefusal (Stored S.Receipt (S.is_of N.place) S.Receipt.number S.Receipt.image) (S.refuses N.place) S.honest options.manifest_limit e (S.told shelf.old) (S.told shelf.new)) }
-        ensures counts_err { IfErr result (λ e. IsReadOnce e (S.told shelf.old) (S.told shelf.new)) }
+        ensures begun { IfOk result (λ s. IsBegun S.honest options.manifest_limit s.journal
+            s.slots.version s.next (S.told shelf.old) (S.told shelf.new)) }
+        ensures opened { IfOk result (λ s.
+            s ≡ opened_state options board.0 board.1.items s.slots.version s.journal s.next false) }
+        ensures refused { IfErr result (λ e. IsOpenRefusal (Stored S.Receipt (S.is_of N.place)
+            S.Receipt.number S.Receipt.image) (S.refuses N.place) S.honest options.manifest_limit e
+            (S.told shelf.old) (S.told shelf.new)) }
+        ensures counts_err { IfErr result (λ e.
+            IsReadOnce e (S.told shelf.old) (S.told shelf.new)) }
     {
         let (publisher, pinners) = board;
         let found: Found<N, S> = Found::read(rt, alloc, shelf, &registry, options.manifest_limit)?;
@@ -73,9 +78,9 @@ impl<N: Boarded, S: Shelf> State<N, S> {
     /// found, with all its bytes, the next number is the one that `open` gives to a new manifest,
     /// and the state is halted.
     ///
-    /// The refusals of `Journal::recover`; those of `lsm_check::check`; those of listing the tables;
-    /// then `NumbersSpent` where a table that is listed, or one of the version, or the manifest has
-    /// the number 2^64 - 1; then `OutOfMemory`.
+    /// The refusals of `Journal::recover`; those of `lsm_check::check`; those of listing the
+    /// tables; then `NumbersSpent` where a table that is listed, or one of the version, or the
+    /// manifest has the number 2^64 - 1; then `OutOfMemory`.
     pub fn open_to_read<R: Wait>(
         rt: &R,
         alloc: Global,
@@ -87,10 +92,15 @@ impl<N: Boarded, S: Shelf> State<N, S> {
         requires fits { Fits options }
         requires here { (S.told shelf.old).place ≡ N.place }
         requires board { IsNewBoard N.board options board.0 board.1.items }
-        ensures found { IfOk result (λ s. (rest : ℕ) × IsFound S.honest options.manifest_limit s.journal s.slots.version rest s.next (S.told shelf.old) (S.told shelf.new)) }
-        ensures opened { IfOk result (λ s. s ≡ opened_state options board.0 board.1.items s.slots.version s.journal s.next true) }
-        ensures refused { IfErr result (λ e. IsFindRefusal (Stored S.Receipt (S.is_of N.place) S.Receipt.number S.Receipt.image) (S.refuses N.place) S.honest e (S.told shelf.old) (S.told shelf.new)) }
-        ensures counts_err { IfErr result (λ e. IsReadOnce e (S.told shelf.old) (S.told shelf.new)) }
+        ensures found { IfOk result (λ s. (rest : ℕ) × IsFound S.honest options.manifest_limit
+            s.journal s.slots.version rest s.next (S.told shelf.old) (S.told shelf.new)) }
+        ensures opened { IfOk result (λ s.
+            s ≡ opened_state options board.0 board.1.items s.slots.version s.journal s.next true) }
+        ensures refused { IfErr result (λ e.
+            IsFindRefusal (Stored S.Receipt (S.is_of N.place) S.Receipt.number S.Receipt.image)
+            (S.refuses N.place) S.honest e (S.told shelf.old) (S.told shelf.new)) }
+        ensures counts_err { IfErr result (λ e.
+            IsReadOnce e (S.told shelf.old) (S.told shelf.new)) }
     {
         let (publisher, pinners) = board;
         let found: Found<N, S> = Found::read(rt, alloc, shelf, &registry, options.manifest_limit)?;

@@ -29,7 +29,15 @@ pub struct Options {
 impl Options {
     /// LevelDB's sizes, 64 slots, 4 readers, 64 cached blocks, and manifests of 1 MiB.
     pub fn usual() -> Options
-        ensures { result ≡ record { block_size = 4096; restart_interval = 16; target_size = 2097152; versions = 64; readers = 4; cache_blocks = 64; manifest_limit = 1048576 } }
+        ensures { result ≡ record {
+          block_size = 4096;
+          restart_interval = 16;
+          target_size = 2097152;
+          versions = 64;
+          readers = 4;
+          cache_blocks = 64;
+          manifest_limit = 1048576;
+        } }
     {
         Options {
             block_size: 4096,

@@ -1,17 +1,20 @@
 //! Reads and snapshots.
 
-ghost use Rattle.std.specs.Prelude.{◌≡◌, ℕ, suc, ◌-◌, ◌^◌, [], ◌∷◌, ◌++◌, ◌⊎◌, IfErr, IfOk, OnErr, OnOk};
+ghost use Rattle.std.specs.Prelude.{◌≡◌, ℕ, suc, ◌-◌, ◌^◌, [], ◌∷◌, ◌++◌, ◌⊎◌, IfErr, IfOk, OnErr};
+ghost use Rattle.std.specs.Prelude.{OnOk};
 ghost use Rattle.std.specs.Option.{option_map};
 ghost use Rattle.lsm_codec.specs.Entries.{answer};
 ghost use Rattle.lsm_codec.specs.Lists.{Has};
 ghost use Rattle.lsm_levels.specs.Files.{all_entries};
 ghost use Rattle.lsm_shelf.specs.Told.{Becomes};
 ghost use Rattle.lsm_version.specs.Versions.{files};
-ghost use Rattle.lsm_machine.specs.Plain.{Releases, TakesSnapshot, without_snapshot};
+ghost use Rattle.lsm_levels.specs.Plain.{Releases, TakesSnapshot, without_snapshot};
 ghost use Rattle.lsm_slots.specs.Snapshots.{HasId};
 ghost use Rattle.lsm_state.specs.Held.{plain};
 ghost use Rattle.lsm_state.specs.Reading.{IsNoBadTable, IsReadRefusal, IsSequence, IsUnknown};
-ghost use Rattle.lsm_state.specs.declared.state_fault.StateFault.TheVariants.{NumbersSpent, OutOfMemory, UnknownSnapshot};
+ghost use Rattle.lsm_state.specs.declared.state_fault.StateFault.TheVariants.{NumbersSpent};
+ghost use Rattle.lsm_state.specs.declared.state_fault.StateFault.TheVariants.{OutOfMemory};
+ghost use Rattle.lsm_state.specs.declared.state_fault.StateFault.TheVariants.{UnknownSnapshot};
 
 use crate::state::State;
 use crate::state_fault::StateFault;
@@ -44,8 +47,11 @@ impl<N: Boarded, S: Shelf> State<N, S> {
         at: Option<u64>,
     ) -> Result<Option<Vec<u8>>, StateFault>
         requires { (S.told shelf.old).place ≡ N.place }
-        ensures answer { IfOk result (λ v. (seq : ℕ) × IsSequence self.now at seq × (S.honest → option_map (λ b. b.items) v ≡ answer (all_entries (files self.now.slots.version)) user.now seq)) }
-        ensures refused { IfErr result (IsReadRefusal self.now at (S.told shelf.old) (S.told shelf.new)) }
+        ensures answer { IfOk result (λ v. (seq : ℕ) × IsSequence self.now at seq
+            × (S.honest → option_map (λ b. b.items) v
+            ≡ answer (all_entries (files self.now.slots.version)) user.now seq)) }
+        ensures refused { IfErr result
+            (IsReadRefusal self.now at (S.told shelf.old) (S.told shelf.new)) }
         ensures sound { S.honest → IfErr result IsNoBadTable }
         ensures told { Becomes (S.told shelf.old) (S.told shelf.new) }
     {
@@ -57,11 +63,19 @@ impl<N: Boarded, S: Shelf> State<N, S> {
     /// A snapshot at the last sequence, under the next id, which it answers. `NumbersSpent` where
     /// the next id would be 2^64 - 1.
     pub fn snapshot(&mut self) -> Result<u64, StateFault>
-        ensures ok { IfOk result (λ id. (id ≡ self.old.snapshots.next) × (self.new ≡ record self.old { snapshots = record { taken = self.old.snapshots.taken ++ (id, self.old.slots.version.last) ∷ []; next = suc id } })) }
+        ensures ok { IfOk result (λ id. (id ≡ self.old.snapshots.next)
+            × (self.new ≡ record self.old {
+              snapshots = record {
+                taken = self.old.snapshots.taken
+                    ++ (id, self.old.slots.version.last) ∷ [];
+                next = suc id;
+              };
+            })) }
         ensures event { OnOk result (TakesSnapshot (plain self.old) (plain self.new)) }
         ensures spent { IfOk result (λ id. self.old.snapshots.next ≡ 2 ^ 64 - 1 → ⊥) }
         ensures err { OnErr result (self.new ≡ self.old) }
-        ensures refused { IfErr result (λ e. ((e ≡ NumbersSpent) × (self.old.snapshots.next ≡ 2 ^ 64 - 1)) ⊎ ((e ≡ OutOfMemory) × (self.old.snapshots.next ≡ 2 ^ 64 - 1 → ⊥))) }
+        ensures refused { IfErr result (λ e. ((e ≡ NumbersSpent) × (self.old.snapshots.next
+            ≡ 2 ^ 64 - 1)) ⊎ ((e ≡ OutOfMemory) × (self.old.snapshots.next ≡ 2 ^ 64 - 1 → ⊥))) }
     {
         if self.snapshots.are_spent() {
             return Err(StateFault::NumbersSpent);
@@ -73,10 +87,15 @@ impl<N: Boarded, S: Shelf> State<N, S> {
 
     /// Gives up the snapshot of this id. `UnknownSnapshot` where it is not live.
     pub fn release(&mut self, id: u64) -> Result<(), StateFault>
-        ensures ok { OnOk result (HasId self.old.snapshots.taken id × (self.new ≡ record self.old { snapshots = record self.old.snapshots { taken = without_snapshot id self.old.snapshots.taken } })) }
+        ensures ok { OnOk result (HasId self.old.snapshots.taken id
+            × (self.new ≡ record self.old {
+              snapshots = record self.old.snapshots
+                  { taken = without_snapshot id self.old.snapshots.taken };
+            })) }
         ensures event { OnOk result (Releases (plain self.old) id (plain self.new)) }
         ensures err { OnErr result (self.new ≡ self.old) }
-        ensures refused { IfErr result (λ e. (e ≡ UnknownSnapshot id) × (HasId self.old.snapshots.taken id → ⊥)) }
+        ensures refused { IfErr result (λ e. (e ≡ UnknownSnapshot id)
+            × (HasId self.old.snapshots.taken id → ⊥)) }
     {
         if !self.snapshots.release(id) {
             return Err(StateFault::UnknownSnapshot(id));
@@ -94,7 +113,8 @@ impl<N: Boarded, S: Shelf> State<N, S> {
     /// The sequence of the snapshot of this id. `UnknownSnapshot` where it is not live.
     pub fn sequence_of(&self, id: u64) -> Result<u64, StateFault>
         ensures ok { IfOk result (λ seq. Has self.now.snapshots.taken (id, seq)) }
-        ensures refused { IfErr result (λ e. (e ≡ UnknownSnapshot id) × (HasId self.now.snapshots.taken id → ⊥)) }
+        ensures refused { IfErr result (λ e. (e ≡ UnknownSnapshot id)
+            × (HasId self.now.snapshots.taken id → ⊥)) }
     {
         match self.snapshots.sequence_of(id) {
             Some(seq) => Ok(seq),

@@ -1,13 +1,17 @@
 //! Reservations of compactions.
 
-ghost use Rattle.std.specs.Prelude.{◌≡◌, ◌≤◌, ◌-◌, ◌^◌, ◌↔◌, ◌⊎◌, [], length, true, false, IfErr, IfNone, IfOk, IfSome, IsTrue, MatchOption, OnErr, OnOk};
+ghost use Rattle.std.specs.Prelude.{◌≡◌, ◌≤◌, ◌-◌, ◌^◌, ◌↔◌, ◌⊎◌, [], length, true, false, IfErr};
+ghost use Rattle.std.specs.Prelude.{IfNone, IfOk, IfSome, IsTrue, MatchOption, OnErr, OnOk};
 ghost use Rattle.lsm_choice.specs.Choice.{HasNoChoice, IsChoice};
 ghost use Rattle.lsm_choice.specs.Moves.{IsMovable};
 ghost use Rattle.lsm_choice.specs.Reservations.{IsClear};
 ghost use Rattle.lsm_choice.specs.TablePlans.{StandsIn, tables_over};
 ghost use Rattle.lsm_live.specs.Reserving.{reserved_jobs};
-ghost use Rattle.lsm_state.specs.Reserving.{HasOrderedInputs, IsChosen, IsClosedPlan, IsOfMoment, IsRangePlan, IsRangeRefusal, IsReserveRefusal, IsReserving, plan_in, reserved};
-ghost use Rattle.lsm_state.specs.declared.state_fault.StateFault.TheVariants.{NumbersSpent, OutOfMemory};
+ghost use Rattle.lsm_state.specs.Reserving.{HasOrderedInputs, IsChosen, IsClosedPlan, IsOfMoment};
+ghost use Rattle.lsm_state.specs.Reserving.{IsRangePlan, IsRangeRefusal, IsReserveRefusal};
+ghost use Rattle.lsm_state.specs.Reserving.{IsReserving, plan_in, reserved};
+ghost use Rattle.lsm_state.specs.declared.state_fault.StateFault.TheVariants.{NumbersSpent};
+ghost use Rattle.lsm_state.specs.declared.state_fault.StateFault.TheVariants.{OutOfMemory};
 
 use crate::state::State;
 use crate::state_fault::StateFault;
@@ -89,7 +93,8 @@ impl<N: Boarded, S: Shelf> State<N, S> {
         ensures ok { IfOk result (λ w. self.new ≡ reserved w self.old) }
         ensures event { IfOk result (λ w. IsReserving S.honest self.old w self.new) }
         ensures err { OnErr result (self.new ≡ self.old) }
-        ensures refused { IfErr result (λ e. ((e ≡ NumbersSpent) × (self.old.next_ticket ≡ 2 ^ 64 - 1)) ⊎ (e ≡ OutOfMemory)) }
+        ensures refused { IfErr result (λ e.
+            ((e ≡ NumbersSpent) × (self.old.next_ticket ≡ 2 ^ 64 - 1)) ⊎ (e ≡ OutOfMemory)) }
     {
         inputs_are_of_the_version();
         conflicts_are_those_of_jobs();
@@ -109,12 +114,16 @@ impl<N: Boarded, S: Shelf> State<N, S> {
     /// `Halted` where the state is halted; `NumbersSpent` in place of a job whose ticket would be
     /// 2^64 - 1; `OutOfMemory`. A refusal leaves the state as it was.
     pub fn reserve(&mut self, alloc: Global) -> Result<Option<Job<N, S>>, StateFault>
-        ensures choice { S.honest → IfOk result (λ r. MatchOption r (HasNoChoice self.old.slots.version (reserved_jobs self.old.live)) (λ w. IsChosen self.old (plan_in w))) }
+        ensures choice { S.honest → IfOk result (λ r.
+            MatchOption r (HasNoChoice self.old.slots.version (reserved_jobs self.old.live)) (λ w.
+            IsChosen self.old (plan_in w))) }
         ensures moment { IfOk result (λ r. IfSome r (λ w. IsOfMoment self.old w)) }
         ensures in_order { S.honest → IfOk result (λ r. IfSome r HasOrderedInputs) }
-        ensures is_move { IfOk result (λ r. IfSome r (λ w. IsTrue w.is_move ↔ IsMovable self.old.slots.version (plan_in w) self.old.options.target_size)) }
+        ensures is_move { IfOk result (λ r. IfSome r (λ w. IsTrue w.is_move
+            ↔ IsMovable self.old.slots.version (plan_in w) self.old.options.target_size)) }
         ensures ok { IfOk result (λ r. IfSome r (λ w. self.new ≡ reserved w self.old)) }
-        ensures event { IfOk result (λ r. IfSome r (λ w. IsReserving S.honest self.old w self.new)) }
+        ensures event { IfOk result (λ r.
+            IfSome r (λ w. IsReserving S.honest self.old w self.new)) }
         ensures none { IfOk result (λ r. IfNone r (self.new ≡ self.old)) }
         ensures open { OnOk result (self.old.halted ≡ false) }
         ensures unspent { IfOk result (λ r. IfSome r (λ w. w.ticket ≡ 2 ^ 64 - 1 → ⊥)) }
@@ -148,19 +157,24 @@ impl<N: Boarded, S: Shelf> State<N, S> {
         from: &[u8],
         to: &[u8],
     ) -> Result<Option<Job<N, S>>, StateFault>
-        ensures planned { S.honest → IfOk result (λ r. MatchOption r (tables_over self.old.slots.version level from.now to.now ≡ []) (λ w. IsRangePlan self.old level from.now to.now (plan_in w))) }
+        ensures planned { S.honest → IfOk result (λ r.
+            MatchOption r (tables_over self.old.slots.version level from.now to.now ≡ []) (λ w.
+            IsRangePlan self.old level from.now to.now (plan_in w))) }
         ensures level { IfOk result (λ r. IfSome r (λ w. w.level ≡ level)) }
         ensures moment { IfOk result (λ r. IfSome r (λ w. IsOfMoment self.old w)) }
         ensures in_order { S.honest → IfOk result (λ r. IfSome r HasOrderedInputs) }
         ensures no_move { IfOk result (λ r. IfSome r (λ w. w.is_move ≡ false)) }
-        ensures clear { IfOk result (λ r. IfSome r (λ w. IsClear (plan_in w) (reserved_jobs self.old.live))) }
+        ensures clear { IfOk result (λ r.
+            IfSome r (λ w. IsClear (plan_in w) (reserved_jobs self.old.live))) }
         ensures ok { IfOk result (λ r. IfSome r (λ w. self.new ≡ reserved w self.old)) }
-        ensures event { IfOk result (λ r. IfSome r (λ w. IsReserving S.honest self.old w self.new)) }
+        ensures event { IfOk result (λ r.
+            IfSome r (λ w. IsReserving S.honest self.old w self.new)) }
         ensures none { IfOk result (λ r. IfNone r (self.new ≡ self.old)) }
         ensures open { OnOk result ((self.old.halted ≡ false) × (level ≤ 5)) }
         ensures unspent { IfOk result (λ r. IfSome r (λ w. w.ticket ≡ 2 ^ 64 - 1 → ⊥)) }
         ensures err { OnErr result (self.new ≡ self.old) }
-        ensures refused { IfErr result (λ e. IsRangeRefusal S.honest self.old level from.now to.now e) }
+        ensures refused { IfErr result (λ e.
+            IsRangeRefusal S.honest self.old level from.now to.now e) }
     {
         if self.halted {
             return Err(StateFault::Halted);

@@ -7,6 +7,7 @@ ghost use Rattle.lsm_state.specs.Held.{IsLawfulState};
 
 use crate::options::Options;
 use lsm_journal::Journal;
+use lsm_levels::machine::Premise;
 use lsm_live::LiveJobs;
 use lsm_pins::Pinner;
 use lsm_slots::{Boarded, Slots, Snapshots};
@@ -31,6 +32,11 @@ pub struct State<N: Boarded, S: Shelf> {
     pub(crate) pinners: Vec<Pinner>,
 }
 
+/// What the laws of the plain machine suppose of a state: that its shelf is honest.
+impl<N: Boarded, S: Shelf> Premise for State<N, S> {
+    ghost holds = { S.honest };
+}
+
 impl<N: Boarded, S: Shelf> Model for State<N, S> {
     ghost use Rattle.std.specs.Prelude.{◌≡◌};
     ghost use Rattle.std.specs.Arc.{arc_value};
@@ -38,9 +44,29 @@ impl<N: Boarded, S: Shelf> Model for State<N, S> {
 
     ghost Value = { Held };
 
-    ghost view = { λ s. record { options = s.options; slots = s.slots; snapshots = s.snapshots; next = s.next; next_ticket = s.next_ticket; live = s.live; journal = s.journal; halted = s.halted; pinners = s.pinners.items } };
+    ghost view = { λ s. record {
+      options = s.options;
+      slots = s.slots;
+      snapshots = s.snapshots;
+      next = s.next;
+      next_ticket = s.next_ticket;
+      live = s.live;
+      journal = s.journal;
+      halted = s.halted;
+      pinners = s.pinners.items;
+    } };
 
-    ghost invariant = { λ s. IsLawfulState S.honest N.board record { options = s.options; slots = s.slots; snapshots = s.snapshots; next = s.next; next_ticket = s.next_ticket; live = s.live; journal = s.journal; halted = s.halted; pinners = s.pinners.items } };
+    ghost invariant = { λ s. IsLawfulState S.honest N.board record {
+      options = s.options;
+      slots = s.slots;
+      snapshots = s.snapshots;
+      next = s.next;
+      next_ticket = s.next_ticket;
+      live = s.live;
+      journal = s.journal;
+      halted = s.halted;
+      pinners = s.pinners.items;
+    } };
 }
 
 impl<N: Boarded, S: Shelf> State<N, S> {

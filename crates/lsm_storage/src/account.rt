@@ -138,7 +138,8 @@ impl Account {
         ensures written { self.new.written ≡ self.old.written }
         ensures forks { self.new.forks ≡ self.old.forks }
         ensures counts { (p : Place) → CountedBy result (told_in p self.old) (told_in p self.new) }
-        ensures cause { IfErr result (λ e. (p : Place) → Counted e (told_in p self.old) (told_in p self.new)) }
+        ensures cause { IfErr result (λ e. (p : Place)
+            → Counted e (told_in p self.old) (told_in p self.new)) }
     {
         match &outcome {
             Err(ShelfFault::Device) => self.faults = self.faults.saturating_add(1),

@@ -1,4 +1,4 @@
--- Readers at their desks.
+-- Readers and their caches.
 use Rattle.std.proofs.Common.{◌≡◌, List, [], ◌∷◌, ◌++◌, All, Option, map, option_to_list, ap, sym, ◌∙◌, refl, inl, inr, subst}
 use Rattle.std.specs.List.{AllByRecursion}
 use Rattle.std.proofs.lemmas.List.{append_assoc}

@@ -74,14 +74,14 @@ abbrev pub SeatsPinners : Held → Type 0
 SeatsPinners h = length h.pinners ≤ h.options.readers
 
 -- what a reader has besides its end of the board
-pub record AtDesk : Type 0 where
+pub record KnownVersion : Type 0 where
   pub id : ℕ
   pub version : Levels
   pub told : Told
 
 -- the current version is known, and nothing was told by the shelf yet
-abbrev pub desk_at : Held → Place → AtDesk
-desk_at h place = record { id = current_id h.slots; version = h.slots.version; told = fresh place }
+abbrev pub known_at : Held → Place → KnownVersion
+known_at h place = record { id = current_id h.slots; version = h.slots.version; told = fresh place }
 
 -- the reader with this end of the board: it has learnt the current version, and nothing was told by its shelf yet
 abbrev pub seated : Held → Place → Known → Learnt

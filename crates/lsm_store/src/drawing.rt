@@ -14,7 +14,8 @@ use std::sync::Wait;
 
 /// The state's next number, booked under the ticket.
 fn draw<N: Boarded, S: Shelf>(state: &mut State<N, S>, ticket: u64) -> Result<u64, NumberFault>
-    ensures ok { IfOk result (λ n. (n ≡ state.old.next) × (state.new ≡ record state.old { live = booked ticket n state.old.live; next = suc n })) }
+    ensures ok { IfOk result (λ n. (n ≡ state.old.next)
+        × (state.new ≡ record state.old { live = booked ticket n state.old.live; next = suc n })) }
     ensures err { OnErr result (state.new ≡ state.old) }
     ensures named { IfErr result (λ e. IsOfTicket e ticket) }
 {

@@ -13,7 +13,12 @@ ghost use Rattle.lsm_version.specs.Versions.{Levels};
 /// more pinners than readers, where the board has as many as the options say. So it is of a board
 /// that `Board::new` made for these options (`pinners` there).
 pub fn made_states_seat_their_pinners()
-    ensures created { (o : Options) (publisher : Known) (pinners : List Known) → length pinners ≡ o.readers → SeatsPinners (created_state o publisher pinners) }
-    ensures created_under { (number : ℕ) (o : Options) (publisher : Known) (pinners : List Known) → length pinners ≡ o.readers → SeatsPinners (created_state_under number o publisher pinners) }
-    ensures opened { (o : Options) (publisher : Known) (pinners : List Known) (v : Levels) (journal : HeldManifest) (next : ℕ) (halted : Bool) → length pinners ≡ o.readers → SeatsPinners (opened_state o publisher pinners v journal next halted) }
+    ensures created { (o : Options) (publisher : Known) (pinners : List Known)
+        → length pinners ≡ o.readers → SeatsPinners (created_state o publisher pinners) }
+    ensures created_under { (number : ℕ) (o : Options) (publisher : Known) (pinners : List Known)
+        → length pinners ≡ o.readers
+        → SeatsPinners (created_state_under number o publisher pinners) }
+    ensures opened { (o : Options) (publisher : Known) (pinners : List Known) (v : Levels)
+        (journal : HeldManifest) (next : ℕ) (halted : Bool) → length pinners ≡ o.readers
+        → SeatsPinners (opened_state o publisher pinners v journal next halted) }
 {}

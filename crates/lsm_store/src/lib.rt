@@ -9,8 +9,8 @@
 
 // The state behind its lock, and its readers.
 mod begin_fault;
-mod desk;
 mod reader;
+mod reader_cache;
 mod store;
 mod view;
 
@@ -30,10 +30,10 @@ mod ticket_numbers;
 pub mod laws;
 
 pub use begin_fault::BeginFault;
-pub use desk::Desk;
 pub use gate::{Gate, NoGate};
 pub use lsm_storage::{FileReceipt, FileShelf, MemoryReceipt, MemoryShelf, SystemShelf};
 pub use reader::Reader;
+pub use reader_cache::ReaderCache;
 pub use store::Store;
 pub use view::View;
 pub use worker_end::WorkerEnd;

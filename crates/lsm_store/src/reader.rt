@@ -6,7 +6,7 @@ ghost use Rattle.lsm_store.specs.Readers.{IsBegun, IsIdle, IsRefused, refreshed}
 ghost use Rattle.lsm_store.specs.declared.begin_fault.BeginFault.TheVariants.{PinsSpent};
 
 use crate::begin_fault::BeginFault;
-use crate::desk::Desk;
+use crate::reader_cache::ReaderCache;
 use crate::view::View;
 use lsm_pins::Pinner;
 use lsm_slots::Boarded;
@@ -20,7 +20,7 @@ use std::sync::Arc;
 #[derive(Drop)]
 pub struct Reader<N: Boarded, S: Shelf> {
     pub(crate) pinner: Pinner,
-    pub(crate) desk: Desk<N, S>,
+    pub(crate) cache: ReaderCache<N, S>,
 }
 
 impl<N: Boarded, S: Shelf> Model for Reader<N, S> {
@@ -29,7 +29,12 @@ impl<N: Boarded, S: Shelf> Model for Reader<N, S> {
 
     ghost Value = { Learnt };
 
-    ghost view = { λ r. record { id = r.desk.id; version = r.desk.version; pinner = r.pinner; told = r.desk.told } };
+    ghost view = { λ r. record {
+      id = r.cache.id;
+      version = r.cache.version;
+      pinner = r.pinner;
+      told = r.cache.told;
+    } };
 
     ghost invariant = { λ r. (r.pinner.board ≡ N.board) × (r.pinner.knows.held ≡ None) };
 }
@@ -41,7 +46,7 @@ impl<N: Boarded, S: Shelf> Reader<N, S> {
         ensures idle { IsIdle self.now }
         ensures board { self.now.pinner.board ≡ N.board }
     {
-        self.desk.id
+        self.cache.id
     }
 
     /// Learns the current version of the state that the lock has lent. `AllocError` where the
@@ -49,14 +54,17 @@ impl<N: Boarded, S: Shelf> Reader<N, S> {
     #[tactic(auto, using(crate::proofs::ReaderLaws::same_learnt))]
     pub fn refresh(&mut self, state: &mut State<N, S>) -> Result<(), AllocError>
         ensures ok { OnOk result (self.new ≡ refreshed state.old self.old) }
-        ensures board { OnOk result ((state.new.slots.board.board ≡ state.old.slots.board.board) × (state.new.slots.board.knows ≡ noted_view state.old.slots.board.knows self.new.pinner.knows)) }
-        ensures rest { state.new ≡ record state.old { slots = record state.old.slots { board = state.new.slots.board } } }
+        ensures board { OnOk result ((state.new.slots.board.board ≡ state.old.slots.board.board)
+            × (state.new.slots.board.knows
+            ≡ noted_view state.old.slots.board.knows self.new.pinner.knows)) }
+        ensures rest { state.new ≡ record state.old
+            { slots = record state.old.slots { board = state.new.slots.board } } }
         ensures err { OnErr result ((self.new ≡ self.old) × (state.new ≡ state.old)) }
     {
         let version = Arc::try_clone(state.current().1)?;
         let (id, _) = state.learn(&mut self.pinner);
-        self.desk.id = id;
-        self.desk.version = version;
+        self.cache.id = id;
+        self.cache.version = version;
         Ok(())
     }
 
@@ -67,18 +75,23 @@ impl<N: Boarded, S: Shelf> Reader<N, S> {
     pub fn begin(self) -> Result<View<N, S>, (Reader<N, S>, BeginFault)>
         ensures begun { IfOk result (λ v. IsBegun self v) }
         ensures refused { IfErr result (λ e. IsRefused self e.0 e.1) }
-        ensures spent { self.pinner.knows.count ≡ 2 ^ 24 → IsErr result × IfErr result (λ e. e.1 ≡ PinsSpent) }
+        ensures spent { self.pinner.knows.count ≡ 2 ^ 24
+            → IsErr result × IfErr result (λ e. e.1 ≡ PinsSpent) }
     {
-        let Reader { mut pinner, desk } = self;
+        let Reader { mut pinner, cache } = self;
         match pinner.pin() {
             Ok((id, slot)) => {
-                if id == desk.id {
-                    return Ok(View { pinner, slot, desk });
+                if id == cache.id {
+                    return Ok(View {
+                        pinner,
+                        slot,
+                        cache,
+                    });
                 }
                 pinner.unpin();
-                Err((Reader { pinner, desk }, BeginFault::Moved(id)))
+                Err((Reader { pinner, cache }, BeginFault::Moved(id)))
             }
-            Err(_) => Err((Reader { pinner, desk }, BeginFault::PinsSpent)),
+            Err(_) => Err((Reader { pinner, cache }, BeginFault::PinsSpent)),
         }
     }
 }

@@ -1,12 +1,13 @@
 //! The state behind its lock.
 
-ghost use Rattle.std.specs.Prelude.{◌≡◌, ◌≤◌, [], All, IfErr, IfOk, length, map, vec_capacity, vec_len};
+ghost use Rattle.std.specs.Prelude.{◌≡◌, ◌≤◌, [], All, IfErr, IfOk, length, map, vec_capacity};
+ghost use Rattle.std.specs.Prelude.{vec_len};
 ghost use Rattle.lsm_shelf.specs.Told.{Counted, Forked, NotNamed};
 ghost use Rattle.lsm_pins.specs.Known.{Known};
-ghost use Rattle.lsm_store.specs.Readers.{IsFreeEnd, SeatsPinners, desk_at, seated};
+ghost use Rattle.lsm_store.specs.Readers.{IsFreeEnd, SeatsPinners, known_at, seated};
 
-use crate::desk::Desk;
 use crate::reader::Reader;
+use crate::reader_cache::ReaderCache;
 use lsm_pins::Pinner;
 use lsm_slots::Boarded;
 use lsm_state::State;
@@ -15,70 +16,71 @@ use std::alloc::Global;
 use std::num::NonZeroUsize;
 use std::sync::{Mutex, MutexGuard, Wait};
 
-/// A desk for each reader that the options name.
+/// A cache for each reader that the options name.
 #[tactic(auto, using(lsm_shelf::proofs::CallerLemmas::forked_then, lsm_shelf::proofs::CallerLemmas::forked_none, lsm_shelf::proofs::CallerLemmas::forked_place, lsm_shelf::proofs::CallerLemmas::counted_after_forks))]
-fn desks_for<N: Boarded, S: Shelf>(
+fn caches_for<N: Boarded, S: Shelf>(
     alloc: Global,
     state: &State<N, S>,
     shelf: &mut S,
-) -> Result<Vec<Desk<N, S>>, ShelfFault>
+) -> Result<Vec<ReaderCache<N, S>>, ShelfFault>
     requires { (S.told shelf.old).place ≡ N.place }
-    ensures desks { IfOk result (λ v. All (λ d. d ≡ desk_at state.now N.place) v.items) }
+    ensures caches { IfOk result (λ v. All (λ d. d ≡ known_at state.now N.place) v.items) }
     ensures len { IfOk result (λ v. vec_len v ≡ state.now.options.readers) }
     ensures told { Forked (S.told shelf.old) (S.told shelf.new) }
-    ensures cause { IfErr result (λ e. NotNamed e × Counted e (S.told shelf.old) (S.told shelf.new)) }
+    ensures cause { IfErr result (λ e. NotNamed e
+        × Counted e (S.told shelf.old) (S.told shelf.new)) }
 {
     let options = state.options();
     let Some(blocks) = NonZeroUsize::new(options.cache_blocks) else {
         unreachable!()
     };
-    let mut desks = Vec::new(alloc);
+    let mut caches = Vec::new(alloc);
     for number in 0..options.readers {
-        let desk = Desk::new(alloc, state, shelf, blocks)?;
-        desks.push(desk)?;
+        let cache = ReaderCache::new(alloc, state, shelf, blocks)?;
+        caches.push(cache)?;
     }
-    Ok(desks)
+    Ok(caches)
 }
 
-/// The reader at this desk, whose end of the board learns the current version.
+/// The reader with this cache, whose end of the board learns the current version.
 fn seat<N: Boarded, S: Shelf>(
     state: &mut State<N, S>,
     pinner: Pinner,
-    desk: Desk<N, S>,
+    cache: ReaderCache<N, S>,
 ) -> Reader<N, S>
     requires pinner { IsFreeEnd N.board pinner }
-    requires desk { desk ≡ desk_at state.old N.place }
+    requires cache { cache ≡ known_at state.old N.place }
     ensures seated { result ≡ seated state.old N.place pinner }
-    ensures same { desk_at state.new N.place ≡ desk_at state.old N.place }
+    ensures same { known_at state.new N.place ≡ known_at state.old N.place }
     ensures others { (p : Known) → seated state.new N.place p ≡ seated state.old N.place p }
 {
     let mut pinner = pinner;
     state.learn(&mut pinner);
-    Reader { pinner, desk }
+    Reader { pinner, cache }
 }
 
-/// A reader for each end of the board, in their order, at a desk each; there is room for all.
+/// A reader for each end of the board, in their order, with a cache each; there is room for all.
 fn seat_all<N: Boarded, S: Shelf>(
     state: &mut State<N, S>,
     pinners: Vec<Pinner>,
-    desks: Vec<Desk<N, S>>,
+    caches: Vec<ReaderCache<N, S>>,
     readers: Vec<Reader<N, S>>,
 ) -> Vec<Reader<N, S>>
     requires pinners { All (IsFreeEnd N.board) pinners.items }
-    requires desks { All (λ d. d ≡ desk_at state.old N.place) desks.items }
-    requires enough { vec_len pinners ≤ vec_len desks }
+    requires caches { All (λ d. d ≡ known_at state.old N.place) caches.items }
+    requires enough { vec_len pinners ≤ vec_len caches }
     requires none { (readers.items ≡ []) × (vec_len readers ≡ 0) }
     requires room { vec_len pinners ≤ vec_capacity readers }
     ensures readers { result.items ≡ map (seated state.old N.place) pinners.items }
     ensures len { vec_len result ≡ vec_len pinners }
 {
-    let mut desks = desks;
+    let mut caches = caches;
     let mut readers = readers;
     for pinner in pinners {
-        let Some(desk) = desks.pop() else {
+        let Some(cache) = caches.pop() else {
             unreachable!()
         };
-        let reader = seat(state, pinner, desk);
+        let reader = seat(state, pinner, cache);
         let Ok(()) = readers.push(reader) else {
             unreachable!()
         };
@@ -86,23 +88,24 @@ fn seat_all<N: Boarded, S: Shelf>(
     readers
 }
 
-/// Desks and room for the readers, and nothing is taken of the state yet.
-fn furnish<N: Boarded, S: Shelf>(
+/// Caches and room for the readers, and nothing is taken of the state yet.
+fn make_caches<N: Boarded, S: Shelf>(
     alloc: Global,
     state: &State<N, S>,
     shelf: &mut S,
-) -> Result<(Vec<Desk<N, S>>, Vec<Reader<N, S>>), ShelfFault>
+) -> Result<(Vec<ReaderCache<N, S>>, Vec<Reader<N, S>>), ShelfFault>
     requires { (S.told shelf.old).place ≡ N.place }
-    ensures desks { IfOk result (λ r. All (λ d. d ≡ desk_at state.now N.place) r.0.items) }
+    ensures caches { IfOk result (λ r. All (λ d. d ≡ known_at state.now N.place) r.0.items) }
     ensures len { IfOk result (λ r. vec_len r.0 ≡ state.now.options.readers) }
     ensures none { IfOk result (λ r. (r.1.items ≡ []) × (vec_len r.1 ≡ 0)) }
     ensures room { IfOk result (λ r. vec_capacity r.1 ≡ state.now.options.readers) }
     ensures told { Forked (S.told shelf.old) (S.told shelf.new) }
-    ensures cause { IfErr result (λ e. NotNamed e × Counted e (S.told shelf.old) (S.told shelf.new)) }
+    ensures cause { IfErr result (λ e. NotNamed e
+        × Counted e (S.told shelf.old) (S.told shelf.new)) }
 {
     let readers = Vec::with_capacity(alloc, state.options().readers)?;
-    let desks = desks_for(alloc, state, shelf)?;
-    Ok((desks, readers))
+    let caches = caches_for(alloc, state, shelf)?;
+    Ok((caches, readers))
 }
 
 /// The ends of the board that were not taken yet, each of which holds no pin.
@@ -111,6 +114,7 @@ fn take_ends<N: Boarded, S: Shelf>(state: &mut State<N, S>, alloc: Global) -> Ve
     ensures all { result.items ≡ state.old.pinners }
     ensures same { state.new ≡ record state.old { pinners = [] } }
 {
+    // The law of the state is told by this call.
     let _options = state.options();
     state.take_pinners(alloc)
 }
@@ -145,12 +149,12 @@ impl<N: Boarded, S: Shelf> Store<N, S> {
     {
         let mut state = state;
         let mut shelf = shelf;
-        let (desks, readers) = match furnish(alloc, &state, &mut shelf) {
-            Ok(furniture) => furniture,
+        let (caches, readers) = match make_caches(alloc, &state, &mut shelf) {
+            Ok(made) => made,
             Err(fault) => return Err((state, shelf, fault)),
         };
         let pinners = take_ends(&mut state, alloc);
-        let readers = seat_all(&mut state, pinners, desks, readers);
+        let readers = seat_all(&mut state, pinners, caches, readers);
         let store = Store {
             state: Mutex::new(state),
         };

@@ -14,8 +14,8 @@ ghost use Rattle.lsm_store.specs.Readers.{IsMet, IsPinning, informed, unpinned};
 ghost use Rattle.lsm_table.specs.ReadFault.{IsMemoryOrShelf, ReadCounted};
 ghost use Rattle.lsm_version.specs.Versions.{files};
 
-use crate::desk::Desk;
 use crate::reader::Reader;
+use crate::reader_cache::ReaderCache;
 use lsm_pins::Pinner;
 use lsm_reads::{Pair, Scan};
 use lsm_slots::Boarded;
@@ -29,7 +29,7 @@ use std::marker::Model;
 pub struct View<N: Boarded, S: Shelf> {
     pub(crate) pinner: Pinner,
     pub(crate) slot: u8,
-    pub(crate) desk: Desk<N, S>,
+    pub(crate) cache: ReaderCache<N, S>,
 }
 
 impl<N: Boarded, S: Shelf> Model for View<N, S> {
@@ -38,9 +38,15 @@ impl<N: Boarded, S: Shelf> Model for View<N, S> {
 
     ghost Value = { Learnt };
 
-    ghost view = { λ v. record { id = v.desk.id; version = v.desk.version; pinner = v.pinner; told = v.desk.told } };
+    ghost view = { λ v. record {
+      id = v.cache.id;
+      version = v.cache.version;
+      pinner = v.pinner;
+      told = v.cache.told;
+    } };
 
-    ghost invariant = { λ v. (v.pinner.board ≡ N.board) × (v.pinner.knows.held ≡ Some (v.desk.id, v.slot)) };
+    ghost invariant = { λ v. (v.pinner.board ≡ N.board)
+        × (v.pinner.knows.held ≡ Some (v.cache.id, v.slot)) };
 }
 
 impl<N: Boarded, S: Shelf> View<N, S> {
@@ -50,14 +56,14 @@ impl<N: Boarded, S: Shelf> View<N, S> {
         ensures pinning { IsPinning self.now }
         ensures board { self.now.pinner.board ≡ N.board }
     {
-        self.desk.id
+        self.cache.id
     }
 
     /// The last sequence of its version.
     pub fn last(&self) -> u64
         ensures { result ≡ self.now.version.last }
     {
-        self.desk.version.last()
+        self.cache.version.last()
     }
 
     /// The value of a user key at a sequence, or none: that of the newest entry of its version with
@@ -72,15 +78,16 @@ impl<N: Boarded, S: Shelf> View<N, S> {
         user: &[u8],
         seq: u64,
     ) -> Result<Option<Vec<u8>>, ReadFault>
-        ensures answer { S.honest → IfOk result (λ v. option_map (λ b. b.items) v ≡ answer (all_entries (files self.old.version)) user.now seq) }
+        ensures answer { S.honest → IfOk result (λ v. option_map (λ b. b.items) v
+            ≡ answer (all_entries (files self.old.version)) user.now seq) }
         ensures sound { S.honest → IfErr result IsMemoryOrShelf }
         ensures rest { self.new ≡ record self.old { told = self.new.told } }
         ensures told { Becomes self.old.told self.new.told }
         ensures cause { IfErr result (λ e. ReadCounted e self.old.told self.new.told) }
     {
         lsm_reads::get_by(
-            &self.desk.version,
-            &mut self.desk.blocks,
+            &self.cache.version,
+            &mut self.cache.blocks,
             alloc,
             user,
             seq,
@@ -90,14 +97,15 @@ impl<N: Boarded, S: Shelf> View<N, S> {
     /// A scan of its version at a sequence: each user key that has an answer, with it, ascending.
     /// `step` and `next` go on along it.
     pub fn scan(&mut self, alloc: Global, seq: u64) -> Result<Scan<N, S>, ReadFault>
-        ensures scanned { S.honest → IfOk result (λ s. IsScan seq (all_entries (files self.old.version)) s.left) }
+        ensures scanned { S.honest
+            → IfOk result (λ s. IsScan seq (all_entries (files self.old.version)) s.left) }
         ensures here { IfOk result (λ s. s.here ≡ None) }
         ensures sound { S.honest → IfErr result IsMemoryOrShelf }
         ensures rest { self.new ≡ record self.old { told = self.new.told } }
         ensures told { Becomes self.old.told self.new.told }
         ensures cause { IfErr result (λ e. ReadCounted e self.old.told self.new.told) }
     {
-        lsm_reads::scan_by(&self.desk.version, &mut self.desk.blocks, alloc, seq)
+        lsm_reads::scan_by(&self.cache.version, &mut self.cache.blocks, alloc, seq)
     }
 
     /// Goes on to the next pair of the scan, which then lends it. Where none is left it stands at
@@ -110,7 +118,7 @@ impl<N: Boarded, S: Shelf> View<N, S> {
         ensures told { Becomes self.old.told self.new.told }
         ensures cause { IfErr result (λ e. ReadCounted e self.old.told self.new.told) }
     {
-        scan.step_by(&mut self.desk.blocks, alloc)
+        scan.step_by(&mut self.cache.blocks, alloc)
     }
 
     /// A copy of the next pair of the scan, or none at the end. An `Err` leaves what is left to
@@ -123,7 +131,7 @@ impl<N: Boarded, S: Shelf> View<N, S> {
         ensures told { Becomes self.old.told self.new.told }
         ensures cause { IfErr result (λ e. ReadCounted e self.old.told self.new.told) }
     {
-        scan.next_by(&mut self.desk.blocks, alloc)
+        scan.next_by(&mut self.cache.blocks, alloc)
     }
 
     /// The numbers of the tables of the version that its pin holds, level by level: the state has
@@ -134,8 +142,11 @@ impl<N: Boarded, S: Shelf> View<N, S> {
         ensures met { IfOk result (λ v. IsMet self.old state.new v.items) }
         ensures kept { IfOk result (λ v. (n : ℕ) → Has v.items n → IsKeptNumber state.new n) }
         ensures view { self.new ≡ informed state.old self.old }
-        ensures board { (state.new.slots.board.board ≡ state.old.slots.board.board) × (state.new.slots.board.knows ≡ noted_view state.old.slots.board.knows self.old.pinner.knows) }
-        ensures rest { state.new ≡ record state.old { slots = record state.old.slots { board = state.new.slots.board } } }
+        ensures board { (state.new.slots.board.board ≡ state.old.slots.board.board)
+            × (state.new.slots.board.knows
+            ≡ noted_view state.old.slots.board.knows self.old.pinner.knows) }
+        ensures rest { state.new ≡ record state.old
+            { slots = record state.old.slots { board = state.new.slots.board } } }
     {
         match state.meet(alloc, &mut self.pinner) {
             Ok(Some(numbers)) => Ok(numbers),
@@ -152,9 +163,9 @@ impl<N: Boarded, S: Shelf> View<N, S> {
         let View {
             mut pinner,
             slot: _,
-            desk,
+            cache,
         } = self;
         pinner.unpin();
-        Reader { pinner, desk }
+        Reader { pinner, cache }
     }
 }

@@ -145,7 +145,8 @@ pub fn run_workers<N: Boarded, S: Shelf, G: Gate + Sync, R: Threads + Wait + Syn
         move |scope| -> Vec<WorkerEnd>
             requires here { All (λ s. (S.told s).place ≡ N.place) shelves.items }
             requires none { (vec_len handles ≡ 0) × (ends.items ≡ []) × (vec_len ends ≡ 0) }
-            requires room { (vec_len shelves ≤ vec_capacity handles) × (vec_len shelves ≤ vec_capacity ends) }
+            requires room { (vec_len shelves ≤ vec_capacity handles)
+                × (vec_len shelves ≤ vec_capacity ends) }
             ensures ends { All (IsWorkersEnd S.honest) result.items }
             ensures len { vec_len result ≡ vec_len shelves }
         {

@@ -27,7 +27,8 @@ impl<S: Shelf> Parts<S> {
     #[tactic(auto, using(crate::proofs::Boards::new_parts))]
     pub(crate) fn of(alloc: Global, shelf: S, options: Options) -> Result<Parts<S>, Fail>
         ensures shelf { IfOk result (λ p. p.shelf ≡ shelf) }
-        ensures made { IfOk result (λ p. IsMade p.board.0.board p.options p.board.0 p.board.1.items) }
+        ensures made { IfOk result (λ p.
+            IsMade p.board.0.board p.options p.board.0 p.board.1.items) }
     {
         if !options.fits() {
             return Err(Fail::new("the options do not fit"));

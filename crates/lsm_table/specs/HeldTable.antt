@@ -19,7 +19,9 @@ abbrev pub entries_or_none : Result (List Entry) TableFault → List Entry
 entries_or_none (Ok entries) = entries
 entries_or_none (Err fault) = []
 
--- the entries of the table that the bytes are, and none where they are no table
+-- The entries of the table that the bytes are, and none where they are no table. It is computed as a check reads a table, so that a
+-- type can carry it. Nothing above uses how: `entries_are` says that these are the entries of every table (`IsTable`, to which there is
+-- one list, `one_table`), and of bytes that are no table nothing is said.
 unfoldable pub entries_in : List ℕ → List Entry
 entries_in bytes = entries_or_none (table_at bytes)
 

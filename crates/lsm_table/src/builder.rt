@@ -1,6 +1,7 @@
 //! A table that is being built.
 
-ghost use Rattle.std.specs.Prelude.{◌≡◌, ◌<◌, ◌≤◌, ◌^◌, true, false, ℕ, List, [], ◌∷◌, ◌++◌, length, IfOk, OnOk, OnErr, Err};
+ghost use Rattle.std.specs.Prelude.{◌≡◌, ◌<◌, ◌≤◌, ◌^◌, true, false, ℕ, List, [], ◌∷◌, ◌++◌};
+ghost use Rattle.std.specs.Prelude.{length, IfOk, OnOk, OnErr, Err};
 ghost use Rattle.lsm_codec.specs.KeyRef.{key_of};
 ghost use Rattle.lsm_codec.specs.Entries.{Entry};
 ghost use Rattle.lsm_block.specs.Block.{IsBlock, Ascends, entry_of};
@@ -10,7 +11,9 @@ ghost use Rattle.lsm_block.specs.declared.build_fault.BuildFault.TheVariants.{To
 ghost use Rattle.lsm_table.specs.Options.{AreInRange};
 ghost use Rattle.lsm_table.specs.Handle.{handle_text};
 ghost use Rattle.lsm_table.specs.Table.{IsTable};
-ghost use Rattle.lsm_table.specs.TableBuilding.{is_full, grouped, last_group, data_text, index_of, index_block, file_of, groups_by, table_bytes, written_bytes, PassesLimit};
+ghost use Rattle.lsm_table.specs.TableBuilding.{is_full, grouped, last_group, data_text, index_of};
+ghost use Rattle.lsm_table.specs.TableBuilding.{index_block, file_of, groups_by, table_bytes};
+ghost use Rattle.lsm_table.specs.TableBuilding.{written_bytes, PassesLimit};
 ghost use Rattle.lsm_table.specs.TableMaking.{Made, HasRoom, LacksRoom};
 
 use crate::footer::Footer;
@@ -43,9 +46,13 @@ impl Model for TableBuilder {
 
     ghost Value = { Making };
 
-    ghost view = { λ b. record { options = b.options; entries = entries_made b.front.items b.index.entries b.taken.entries } };
+    ghost view = { λ b. record {
+      options = b.options;
+      entries = entries_made b.front.items b.index.entries b.taken.entries;
+    } };
 
-    ghost invariant = { λ b. Made b.options (entries_made b.front.items b.index.entries b.taken.entries) b.front.items b.taken b.index };
+    ghost invariant = { λ b. Made b.options (entries_made b.front.items b.index.entries
+        b.taken.entries) b.front.items b.taken b.index };
 }
 
 impl TableBuilder {
@@ -78,7 +85,8 @@ impl TableBuilder {
     /// Whether an entry of this key may be added: it stands after the last one.
     pub fn comes_last(&self, key: &KeyRef<'_>) -> bool
         ensures exact { result ≡ after_last (last_key self.now.entries) (key_of key.now) }
-        ensures ascends { result ≡ true → (value : List ℕ) → Ascends (self.now.entries ++ entry_of (key_of key.now) value ∷ []) }
+        ensures ascends { result ≡ true → (value : List ℕ)
+            → Ascends (self.now.entries ++ entry_of (key_of key.now) value ∷ []) }
     {
         match self.last_key() {
             Some(last) => last.compare(key).is_lt(),
@@ -91,11 +99,26 @@ impl TableBuilder {
     /// it was.
     pub fn add(&mut self, user: &[u8], seq: u64, kind: Kind, value: &[u8]) -> Result<(), BuildFault>
         requires seq { seq ≤ MAX_SEQ }
-        requires ascends { Ascends (self.old.entries ++ record { user = user.now; seq = seq; kind = kind; value = value.now } ∷ []) }
-        ensures ok { OnOk result (self.new ≡ record { options = self.old.options; entries = self.old.entries ++ record { user = user.now; seq = seq; kind = kind; value = value.now } ∷ [] }) }
+        requires ascends { Ascends (self.old.entries ++ record {
+          user = user.now;
+          seq = seq;
+          kind = kind;
+          value = value.now;
+        } ∷ []) }
+        ensures ok { OnOk result (self.new ≡ record {
+          options = self.old.options;
+          entries = self.old.entries ++ record {
+            user = user.now;
+            seq = seq;
+            kind = kind;
+            value = value.now;
+          } ∷ [];
+        }) }
         ensures err { OnErr result (self.new ≡ self.old) }
-        ensures large { result ≡ Err TooLarge → PassesLimit self.old.options self.old.entries (record { user = user.now; seq = seq; kind = kind; value = value.now }) }
-        ensures fits { OnOk result (PassesLimit self.old.options self.old.entries (record { user = user.now; seq = seq; kind = kind; value = value.now }) → ⊥) }
+        ensures large { result ≡ Err TooLarge → PassesLimit self.old.options self.old.entries
+            (record { user = user.now; seq = seq; kind = kind; value = value.now }) }
+        ensures fits { OnOk result (PassesLimit self.old.options self.old.entries
+            (record { user = user.now; seq = seq; kind = kind; value = value.now }) → ⊥) }
     {
         let key = KeyRef { user, seq, kind };
         settle(
@@ -136,7 +159,8 @@ impl TableBuilder {
     pub fn finish(self) -> Result<Vec<u8>, BuildFault>
         ensures bytes { IfOk result (λ v. v.items ≡ table_bytes self.options self.entries) }
         ensures table { IfOk result (λ v. IsTable v.items self.entries) }
-        ensures large { result ≡ Err TooLarge → 2 ^ 32 ≤ length (index_block self.options.restart_interval (groups_by self.options self.entries)) }
+        ensures large { result ≡ Err TooLarge → 2 ^ 32 ≤ length
+            (index_block self.options.restart_interval (groups_by self.options self.entries)) }
     {
         let TableBuilder {
             alloc,
@@ -165,8 +189,10 @@ fn has_index_room(
     handle: Handle,
     place: &mut Vec<u8>,
 ) -> Result<bool, AllocError>
-    ensures yes { IfOk result (λ r. r ≡ true → length (block_bytes index.now.interval (index.now.entries ++ entry_of (key_of key.now) (handle_text handle) ∷ [])) < 2 ^ 32) }
-    ensures no { IfOk result (λ r. r ≡ false → 2 ^ 32 ≤ length (block_bytes index.now.interval (index.now.entries ++ entry_of (key_of key.now) (handle_text handle) ∷ []))) }
+    ensures yes { IfOk result (λ r. r ≡ true → length (block_bytes index.now.interval
+        (index.now.entries ++ entry_of (key_of key.now) (handle_text handle) ∷ [])) < 2 ^ 32) }
+    ensures no { IfOk result (λ r. r ≡ false → 2 ^ 32 ≤ length (block_bytes index.now.interval
+        (index.now.entries ++ entry_of (key_of key.now) (handle_text handle) ∷ []))) }
 {
     place.clear();
     handle.put(place)?;
@@ -184,8 +210,10 @@ fn has_room(
     value: &[u8],
     place: &mut Vec<u8>,
 ) -> Result<bool, AllocError>
-    ensures yes { IfOk result (λ r. r ≡ true → HasRoom options offset taken.now index.now (entry_of (key_of key.now) value.now)) }
-    ensures no { IfOk result (λ r. r ≡ false → LacksRoom options offset taken.now index.now (entry_of (key_of key.now) value.now)) }
+    ensures yes { IfOk result (λ r. r ≡ true
+        → HasRoom options offset taken.now index.now (entry_of (key_of key.now) value.now)) }
+    ensures no { IfOk result (λ r. r ≡ false
+        → LacksRoom options offset taken.now index.now (entry_of (key_of key.now) value.now)) }
 {
     let size = taken.size_with(key, value);
     if size > u32::MAX as u64 {
@@ -207,15 +235,26 @@ fn close(
     index: &mut BlockBuilder,
     place: &mut Vec<u8>,
 ) -> Result<(), BuildFault>
-    requires { Ascends (index.old.entries ++ index_of taken.old.interval (length front.old.items) (last_group taken.old.entries)) }
-    ensures block { OnOk result (IsBlock (block_bytes taken.old.interval taken.old.entries) taken.old.entries) }
-    ensures ok { OnOk result (front.new.items ≡ front.old.items ++ data_text taken.old.interval (last_group taken.old.entries)) }
-    ensures cleared { OnOk result (taken.new ≡ record { interval = taken.old.interval; entries = [] }) }
-    ensures indexed { OnOk result (index.new ≡ record { interval = index.old.interval; entries = index.old.entries ++ index_of taken.old.interval (length front.old.items) (last_group taken.old.entries) }) }
+    requires { Ascends (index.old.entries
+        ++ index_of taken.old.interval (length front.old.items) (last_group taken.old.entries)) }
+    ensures block { OnOk result
+        (IsBlock (block_bytes taken.old.interval taken.old.entries) taken.old.entries) }
+    ensures ok { OnOk result (front.new.items
+        ≡ front.old.items ++ data_text taken.old.interval (last_group taken.old.entries)) }
+    ensures cleared { OnOk result (taken.new
+        ≡ record { interval = taken.old.interval; entries = [] }) }
+    ensures indexed { OnOk result (index.new
+        ≡ record {
+          interval = index.old.interval;
+          entries = index.old.entries ++ index_of taken.old.interval
+              (length front.old.items) (last_group taken.old.entries);
+        }) }
     ensures err { OnErr result (front.new.items ≡ front.old.items) }
     ensures err_taken { OnErr result (taken.new ≡ taken.old) }
     ensures err_index { OnErr result (index.new ≡ index.old) }
-    ensures large { result ≡ Err TooLarge → 2 ^ 32 ≤ length (block_bytes index.old.interval (index.old.entries ++ index_of taken.old.interval (length front.old.items) (last_group taken.old.entries))) }
+    ensures large { result ≡ Err TooLarge
+        → 2 ^ 32 ≤ length (block_bytes index.old.interval (index.old.entries
+        ++ index_of taken.old.interval (length front.old.items) (last_group taken.old.entries))) }
 {
     let Some(key) = taken.last_key() else {
         return Ok(());
@@ -248,7 +287,8 @@ fn settle(
     place: &mut Vec<u8>,
 ) -> Result<(), BuildFault>
     requires { (entries : List Entry) × Made options entries front.old.items taken.old index.old }
-    ensures ok { (entries : List Entry) → Made options entries front.old.items taken.old index.old → OnOk result (Made options entries front.new.items taken.new index.new) }
+    ensures ok { (entries : List Entry) → Made options entries front.old.items taken.old index.old
+        → OnOk result (Made options entries front.new.items taken.new index.new) }
     ensures not_full { OnOk result (is_full options taken.new.entries ≡ false) }
     ensures err { OnErr result (front.new.items ≡ front.old.items) }
     ensures err_taken { OnErr result (taken.new ≡ taken.old) }
@@ -267,8 +307,10 @@ fn settle(
 /// The file that begins with the data blocks: an empty metaindex block, the index block and the
 /// footer follow them.
 fn end(alloc: Global, front: Vec<u8>, index: &BlockBuilder) -> Result<Vec<u8>, AllocError>
-    ensures bytes { IfOk result (λ v. v.items ≡ file_of front.items (block_bytes 1 []) (block_bytes index.now.interval index.now.entries)) }
-    ensures block { OnOk result (IsBlock (block_bytes index.now.interval index.now.entries) index.now.entries) }
+    ensures bytes { IfOk result (λ v. v.items ≡ file_of front.items (block_bytes 1 [])
+        (block_bytes index.now.interval index.now.entries)) }
+    ensures block { OnOk result
+        (IsBlock (block_bytes index.now.interval index.now.entries) index.now.entries) }
 {
     let mut file = front;
     let none = BlockBuilder::new(alloc, 1);

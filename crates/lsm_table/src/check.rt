@@ -56,7 +56,8 @@ fn is_placed(
     cursor: &mut Cursor,
 ) -> Result<bool, AllocError>
     requires { cursor.old.last ≡ last_after None block.now.entries }
-    ensures { (value : List ℕ) → IfOk result (λ r. r ≡ are_placed (option_map key_of bound.entry) (entry_of (key_of key.now) value) block.now.entries) }
+    ensures { (value : List ℕ) → IfOk result (λ r. r ≡ are_placed (option_map key_of bound.entry)
+        (entry_of (key_of key.now) value) block.now.entries) }
 {
     let Some(last) = cursor.key() else {
         return Ok(false);
@@ -111,7 +112,8 @@ fn judge_block(
     place: &[u8],
     cursor: &mut Cursor,
 ) -> Result<(), TableFault>
-    ensures { Gives (λ _. tt) result (settled (data_block_at body.now (option_map key_of bound.entry) (entry_of (key_of key.now) place.now))) }
+    ensures { Gives (λ _. tt) result (settled (data_block_at body.now
+        (option_map key_of bound.entry) (entry_of (key_of key.now) place.now))) }
 {
     let block = match named_block(body, place, cursor) {
         Ok(block) => block,

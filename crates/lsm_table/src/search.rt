@@ -40,7 +40,8 @@ pub fn found_in_entry(
     value: &[u8],
     user: &[u8],
 ) -> Result<Option<Found>, AllocError>
-    ensures { IfOk result (λ r. seen r ≡ found_in (of_user user.now (entry_of (key_of key.now) value.now ∷ []))) }
+    ensures { IfOk result (λ r.
+        seen r ≡ found_in (of_user user.now (entry_of (key_of key.now) value.now ∷ []))) }
 {
     if key.user != user {
         return Ok(None);
@@ -59,7 +60,8 @@ pub(crate) fn search_block(
     cursor: &mut Cursor,
     key: &KeyRef<'_>,
 ) -> Result<Search, AllocError>
-    ensures { IfOk result (λ s. Tells (key_of key.now).user (not_below (key_of key.now) block.now.entries) s) }
+    ensures { IfOk result (λ s.
+        Tells (key_of key.now).user (not_below (key_of key.now) block.now.entries) s) }
 {
     block.seek(cursor, key)?;
     let Some(value) = block.next(cursor)? else {

@@ -4,7 +4,8 @@
 //! contents | type, 1 byte: 0 for contents as they are | masked CRC-32C of both, fixed32
 //! ```
 
-ghost use Rattle.std.specs.Prelude.{◌≡◌, ◌≤◌, ◌+◌, ◌++◌, ℕ, List, length, drop, vec_len, OnOk, OnErr};
+ghost use Rattle.std.specs.Prelude.{◌≡◌, ◌≤◌, ◌+◌, ◌++◌, ℕ, List, length, drop, vec_len, OnOk};
+ghost use Rattle.std.specs.Prelude.{OnErr};
 ghost use Rattle.lsm_codec.specs.Crc.{crc_of};
 ghost use Rattle.lsm_block.specs.Block.{IsBlock};
 ghost use Rattle.lsm_block.specs.Building.{block_bytes};
@@ -79,7 +80,8 @@ fn put_trailer(out: &mut Vec<u8>, start: usize) -> Result<(), AllocError>
 
 /// Appends the block of a builder, and its trailer. An `Err` leaves `out` as it was.
 pub(crate) fn put_block(out: &mut Vec<u8>, block: &BlockBuilder) -> Result<(), AllocError>
-    ensures ok { OnOk result (out.new.items ≡ out.old.items ++ stored (block_bytes block.now.interval block.now.entries)) }
+    ensures ok { OnOk result (out.new.items
+        ≡ out.old.items ++ stored (block_bytes block.now.interval block.now.entries)) }
     ensures block { IsBlock (block_bytes block.now.interval block.now.entries) block.now.entries }
     ensures err { OnErr result (out.new.items ≡ out.old.items) }
 {

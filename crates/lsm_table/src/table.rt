@@ -106,11 +106,13 @@ impl Table {
 
 /// At most one list of entries fits a table's bytes.
 pub fn one_table()
-    ensures { (bytes : List ℕ) (es fs : List Entry) → IsTable bytes es → IsTable bytes fs → es ≡ fs }
+    ensures { (bytes : List ℕ) (es fs : List Entry) → IsTable bytes es → IsTable bytes fs
+        → es ≡ fs }
 {}
 
 /// What a table's bytes hold, as contracts name it, is the table's entries.
 pub fn entries_are()
     ensures same { (bytes : List ℕ) (es : List Entry) → IsTable bytes es → entries_in bytes ≡ es }
-    ensures table { (bytes : List ℕ) (es : List Entry) → IsTable bytes es → IsTable bytes (entries_in bytes) }
+    ensures table { (bytes : List ℕ) (es : List Entry) → IsTable bytes es
+        → IsTable bytes (entries_in bytes) }
 {}

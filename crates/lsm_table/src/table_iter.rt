@@ -32,7 +32,10 @@ impl<'t> Model for TableIter<'t> {
 
     ghost Value = { Walk };
 
-    ghost view = { λ t. record { last = t.here.last; left = left_of t.body.now (rest_of t.block t.here) (rest_of t.index t.next_block) } };
+    ghost view = { λ t. record {
+      last = t.here.last;
+      left = left_of t.body.now (rest_of t.block t.here) (rest_of t.index t.next_block);
+    } };
 
     ghost invariant = { λ t. AreNamed t.body.now (rest_of t.index t.next_block) };
 }

@@ -22,7 +22,13 @@ impl<N: Naming, S: Shelf> Model for TableRef<N, S> {
 
     ghost Value = { Table };
 
-    ghost view = { λ t. record { index = t.token.index; number = S.Receipt.number t.token.value.receipt; smallest = t.token.value.smallest; largest = t.token.value.largest; image = S.Receipt.image t.token.value.receipt } };
+    ghost view = { λ t. record {
+      index = t.token.index;
+      number = S.Receipt.number t.token.value.receipt;
+      smallest = t.token.value.smallest;
+      largest = t.token.value.largest;
+      image = S.Receipt.image t.token.value.receipt;
+    } };
 
     ghost invariant = { λ t. Shows N.registry t.token × S.is_of N.place t.token.value.receipt };
 }

@@ -31,7 +31,11 @@ impl<S: Shelf> FuseShelf<S> {
     /// An append that fails keeps its first `keep` bytes. Where the inner shelf refuses what is to
     /// take effect, the answer is that refusal.
     pub fn new(inner: S, passes: u64, stays: bool, does: bool, keep: usize) -> FuseShelf<S>
-        ensures told { told_in (S.told result.inner).place result.account ≡ record (fresh (S.told inner).place) { faults = (S.told inner).faults; misses = (S.told inner).misses } }
+        ensures told { told_in (S.told result.inner).place result.account
+            ≡ record (fresh (S.told inner).place) {
+              faults = (S.told inner).faults;
+              misses = (S.told inner).misses;
+            } }
     {
         let mut account = Account::new();
         (account.faults, account.misses) = inner.failures();

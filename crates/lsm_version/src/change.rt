@@ -3,7 +3,8 @@
 ghost use Rattle.std.specs.Prelude.{◌≡◌, ◌≤◌, ◌<◌, map, length, IfOk, IfSome, OnOk};
 ghost use Rattle.std.specs.List.{All, filter};
 ghost use Rattle.std.specs.List.Sorted.{IsSortedBy};
-ghost use Rattle.lsm_version.specs.Changes.{changed, coming, is_kept, level_after, levels_after, placed_all, with_pointer};
+ghost use Rattle.lsm_version.specs.Changes.{changed, coming, is_kept, level_after, levels_after};
+ghost use Rattle.lsm_version.specs.Changes.{placed_all, with_pointer};
 ghost use Rattle.lsm_version.specs.Versions.{AreInOrder, IsSound, stands_before};
 
 use crate::copies::copies_of;
@@ -40,7 +41,8 @@ fn place_all<N: Naming, S: Shelf>(
     added: &[(usize, TableRef<N, S>)],
 ) -> Result<(), AllocError>
     requires order { IsSortedBy stands_before level.old.items }
-    ensures ok { OnOk result (level.new.items ≡ placed_all (coming number added.now) level.old.items) }
+    ensures ok { OnOk result (level.new.items
+        ≡ placed_all (coming number added.now) level.old.items) }
     ensures order { IsSortedBy stands_before level.new.items }
 {
     for one in added {
@@ -78,7 +80,8 @@ fn levels_after<N: Naming, S: Shelf>(
     added: &[(usize, TableRef<N, S>)],
 ) -> Result<Vec<Vec<TableRef<N, S>>>, AllocError>
     requires order { AreInOrder (map (λ l. l.items) levels.now) }
-    ensures { IfOk result (λ v. map (λ l. l.items) v.items ≡ levels_after deleted.now added.now 0 (map (λ l. l.items) levels.now)) }
+    ensures { IfOk result (λ v. map (λ l. l.items) v.items
+        ≡ levels_after deleted.now added.now 0 (map (λ l. l.items) levels.now)) }
 {
     let mut after = Vec::new(alloc);
     for (number, level) in levels.iter().enumerate() {
@@ -152,27 +155,32 @@ ghost use Rattle.lsm_version.specs.Versions.{Levels, files, level_in};
 /// A law: a file is of the changed version exactly where it is of an added table, or of the version
 /// before and its number not deleted.
 pub fn changed_files()
-    ensures { (deleted : List ℕ) (added : List (ℕ × Table)) (pointer : Option (ℕ × List ℕ)) (last : ℕ) (v : Levels) (F : File) → length v.tables ≡ 7 → All (λ a. a.0 ≤ 6) added
-        → (Has (files (changed deleted added pointer last v)) F ↔ ((Has (files v) F × (Has deleted F.number → ⊥)) ⊎ Has (added_files added) F)) }
+    ensures { (deleted : List ℕ) (added : List (ℕ × Table)) (pointer : Option (ℕ × List ℕ))
+        (last : ℕ) (v : Levels) (F : File) → length v.tables ≡ 7 → All (λ a. a.0 ≤ 6) added
+        → (Has (files (changed deleted added pointer last v)) F
+        ↔ ((Has (files v) F × (Has deleted F.number → ⊥)) ⊎ Has (added_files added) F)) }
 {}
 
 /// A law: a table stands at a level of the changed version exactly where it was added there, or
 /// stood there and its number is not deleted.
 pub fn changed_tables()
-    ensures { (deleted : List ℕ) (added : List (ℕ × Table)) (pointer : Option (ℕ × List ℕ)) (last : ℕ) (v : Levels) (n : ℕ) (t : Table) → n < length v.tables
-        → (Has (level_in (changed deleted added pointer last v).tables n) t ↔ ((Has (level_in v.tables n) t × (Has deleted t.number → ⊥)) ⊎ Has added (n, t))) }
+    ensures { (deleted : List ℕ) (added : List (ℕ × Table)) (pointer : Option (ℕ × List ℕ))
+        (last : ℕ) (v : Levels) (n : ℕ) (t : Table) → n < length v.tables
+        → (Has (level_in (changed deleted added pointer last v).tables n) t
+        ↔ ((Has (level_in v.tables n) t × (Has deleted t.number → ⊥)) ⊎ Has added (n, t))) }
 {}
 
 ghost use Rattle.lsm_codec.specs.Entries.{Entry, internal_key};
 ghost use Rattle.lsm_codec.specs.Keys.{IsKey};
 ghost use Rattle.lsm_table.specs.Table.{IsTable};
-ghost use Rattle.lsm_levels.specs.Files.{Fits, IsLawful, Lie};
+ghost use Rattle.lsm_levels.specs.Files.{Fits, IsLawful};
 ghost use Rattle.lsm_version.specs.Versions.{IsWhole, file_of};
 
 /// A law: a record whose keys are the first and the last of a table's entries stands for that
 /// table.
 pub fn tables_are_whole()
-    ensures { (t : Table) (e : Entry) (rest : List Entry) (front : List Entry) (l : Entry) → IsTable t.image (e ∷ rest) → e ∷ rest ≡ front ++ l ∷ []
+    ensures { (t : Table) (e : Entry) (rest : List Entry) (front : List Entry) (l : Entry)
+        → IsTable t.image (e ∷ rest) → e ∷ rest ≡ front ++ l ∷ []
         → IsKey t.smallest (internal_key e) → IsKey t.largest (internal_key l) → IsWhole t }
 {}
 
@@ -184,13 +192,15 @@ pub fn whole_tables_fit()
 /// A law: a changed version is sound where its files are lawful and below its last sequence, and
 /// what is added is whole.
 pub fn changed_is_sound()
-    ensures { (deleted : List ℕ) (added : List (ℕ × Table)) (pointer : Option (ℕ × List ℕ)) (last : ℕ) (v : Levels) → IsSound v
-        → ((n : ℕ) (t : Table) → Has added (n, t) → IsWhole t) → IsLawful Lie (files (changed deleted added pointer last v))
-        → ((F : File) (e : Entry) → Has (files (changed deleted added pointer last v)) F → Has F.entries e → e.seq ≤ last)
+    ensures { (deleted : List ℕ) (added : List (ℕ × Table)) (pointer : Option (ℕ × List ℕ))
+        (last : ℕ) (v : Levels) → IsSound v → ((n : ℕ) (t : Table) → Has added (n, t) → IsWhole t)
+        → IsLawful (files (changed deleted added pointer last v)) → ((F : File) (e : Entry)
+        → Has (files (changed deleted added pointer last v)) F → Has F.entries e → e.seq ≤ last)
         → IsSound (changed deleted added pointer last v) }
 {}
 
 /// A law: a sound version without some of its tables is sound.
 pub fn deletions_are_sound()
-    ensures { (deleted : List ℕ) (pointer : Option (ℕ × List ℕ)) (last : ℕ) (v : Levels) → IsSound v → v.last ≤ last → IsSound (changed deleted [] pointer last v) }
+    ensures { (deleted : List ℕ) (pointer : Option (ℕ × List ℕ)) (last : ℕ) (v : Levels) → IsSound v
+        → v.last ≤ last → IsSound (changed deleted [] pointer last v) }
 {}

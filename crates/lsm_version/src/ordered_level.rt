@@ -39,7 +39,8 @@ pub fn place_in<N: Naming, S: Shelf>(
 ) -> usize
     requires order { IsSortedBy stands_before level.now }
     ensures inside { result ≤ length level.now }
-    ensures before { take result level.now ≡ filter (λ u. not (stands_before table.now u)) level.now }
+    ensures before { take result level.now
+        ≡ filter (λ u. not (stands_before table.now u)) level.now }
     ensures behind { drop result level.now ≡ filter (λ u. stands_before table.now u) level.now }
 {
     let mut place = level.len();

@@ -42,7 +42,8 @@ fn run_over<N: Naming, S: Shelf>(
     from: &[u8],
     to: &[u8],
 ) -> Result<Vec<TableRef<N, S>>, AllocError>
-    ensures tables { IsRising level.now → IfOk result (λ v. v.items ≡ filter (lies_over from.now to.now) level.now) }
+    ensures tables { IsRising level.now
+        → IfOk result (λ v. v.items ≡ filter (lies_over from.now to.now) level.now) }
     ensures of_level { IfOk result (λ v. (t : Table) → Has v.items t → Has level.now t) }
 {
     let first = first_reaching(registry, level, from);
@@ -69,10 +70,13 @@ impl<N: Naming, S: Shelf> Version<N, S> {
         to: &[u8],
     ) -> Result<Vec<TableRef<N, S>>, AllocError>
         requires { level ≤ 6 }
-        ensures level_zero { level ≡ 0 → IfOk result (λ v. v.items ≡ filter (meets from.now to.now) (level_in self.now.tables level)) }
-        ensures tables { S.honest → IfOk result (λ v. v.items ≡ filter (meets from.now to.now) (level_in self.now.tables level)) }
+        ensures level_zero { level ≡ 0 → IfOk result (λ v.
+            v.items ≡ filter (meets from.now to.now) (level_in self.now.tables level)) }
+        ensures tables { S.honest → IfOk result (λ v.
+            v.items ≡ filter (meets from.now to.now) (level_in self.now.tables level)) }
         // Whatever the shelf is.
-        ensures of_level { IfOk result (λ v. (t : Table) → Has v.items t → Has (level_in self.now.tables level) t) }
+        ensures of_level { IfOk result (λ v. (t : Table) → Has v.items t
+            → Has (level_in self.now.tables level) t) }
     {
         if !is_at_most(from, to) {
             return Ok(Vec::new(alloc));

@@ -1,7 +1,8 @@
 //! The range of user keys of a table, and of the tables of a level.
 
 ghost use Rattle.std.specs.Prelude.{◌≡◌, ◌≤◌, MatchOption, IsTrue, nat_lt, length};
-ghost use Rattle.lsm_version.specs.Reads.{HasNoCandidate, IsFirstReaching, IsRising, IsYoungest, begins_by, covers, is_below, is_candidate, reaches};
+ghost use Rattle.lsm_version.specs.Reads.{HasNoCandidate, IsFirstReaching, IsRising, IsYoungest};
+ghost use Rattle.lsm_version.specs.Reads.{begins_by, covers, is_below, is_candidate, reaches};
 ghost use Rattle.lsm_version.specs.Versions.{user_of};
 
 use lsm_levels::is_at_most;
@@ -102,7 +103,8 @@ fn is_newer<N: Naming, S: Shelf>(
     table: &TableRef<N, S>,
     best: Option<&TableRef<N, S>>,
 ) -> bool
-    ensures { MatchOption best.entry (IsTrue result) (λ b. result ≡ nat_lt b.now.number table.now.number) }
+    ensures { MatchOption best.entry (IsTrue result) (λ b.
+        result ≡ nat_lt b.now.number table.now.number) }
 {
     match best {
         None => true,
@@ -118,7 +120,8 @@ pub fn youngest_below<'a, N: Naming, S: Shelf>(
     user: &[u8],
     bound: Option<u64>,
 ) -> Option<&'a TableRef<N, S>>
-    ensures { MatchOption result (HasNoCandidate user.now bound level.now) (λ t. IsYoungest user.now bound level.now t.now) }
+    ensures { MatchOption result (HasNoCandidate user.now bound level.now) (λ t.
+        IsYoungest user.now bound level.now t.now) }
 {
     let mut best = None;
     for table in level {

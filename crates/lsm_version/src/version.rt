@@ -1,6 +1,7 @@
 //! Which tables stand at which level.
 
-ghost use Rattle.std.specs.Prelude.{◌≡◌, ◌≤◌, ◌++◌, ℕ, List, length, map, get_or, None, IfOk, OnErr, OnOk};
+ghost use Rattle.std.specs.Prelude.{◌≡◌, ◌≤◌, ◌++◌, ℕ, List, length, map, get_or, None, IfOk};
+ghost use Rattle.std.specs.Prelude.{OnErr, OnOk};
 ghost use Rattle.std.specs.Option.{option_map};
 ghost use Rattle.lsm_version.specs.Versions.{IsSound, files_from, level_in, no_levels, numbers_in};
 
@@ -27,11 +28,19 @@ impl<N: Naming, S: Shelf> Model for Version<N, S> {
 
     ghost Value = { Levels };
 
-    ghost view = { λ v. record { tables = map (λ l. l.items) v.levels.items; pointers = v.pointers.items; last = v.last } };
+    ghost view = { λ v. record {
+      tables = map (λ l. l.items) v.levels.items;
+      pointers = v.pointers.items;
+      last = v.last;
+    } };
 
     ghost invariant = { λ v. (length v.levels.items ≡ 7) × (length v.pointers.items ≡ 7)
         × AreInOrder (map (λ l. l.items) v.levels.items)
-        × (S.honest → IsSound record { tables = map (λ l. l.items) v.levels.items; pointers = v.pointers.items; last = v.last }) };
+        × (S.honest → IsSound record {
+          tables = map (λ l. l.items) v.levels.items;
+          pointers = v.pointers.items;
+          last = v.last;
+        }) };
 }
 
 /// Appends the numbers of the tables of a level; where a growth was refused, of those before it.
@@ -40,7 +49,8 @@ fn push_level<N: Naming, S: Shelf>(
     level: &[TableRef<N, S>],
     numbers: &mut Vec<u64>,
 ) -> Result<(), AllocError>
-    ensures ok { OnOk result (numbers.new.items ≡ numbers.old.items ++ map (λ t. t.number) level.now) }
+    ensures ok { OnOk result (numbers.new.items
+        ≡ numbers.old.items ++ map (λ t. t.number) level.now) }
     ensures front { (more : List ℕ) × (numbers.new.items ≡ numbers.old.items ++ more) }
 {
     for table in level {
@@ -55,7 +65,8 @@ fn push_levels<N: Naming, S: Shelf>(
     levels: &[Vec<TableRef<N, S>>],
     numbers: &mut Vec<u64>,
 ) -> Result<(), AllocError>
-    ensures ok { OnOk result (numbers.new.items ≡ numbers.old.items ++ map (λ F. F.number) (files_from 0 (map (λ l. l.items) levels.now))) }
+    ensures ok { OnOk result (numbers.new.items
+        ≡ numbers.old.items ++ map (λ F. F.number) (files_from 0 (map (λ l. l.items) levels.now))) }
     ensures front { (more : List ℕ) × (numbers.new.items ≡ numbers.old.items ++ more) }
 {
     for level in levels {
@@ -124,8 +135,16 @@ impl<N: Naming, S: Shelf> Version<N, S> {
         requires levels { length levels.items ≡ 7 }
         requires pointers { length pointers.items ≡ 7 }
         requires order { AreInOrder (map (λ l. l.items) levels.items) }
-        requires sound { S.honest → IsSound record { tables = map (λ l. l.items) levels.items; pointers = pointers.items; last = last } }
-        ensures { result ≡ record { tables = map (λ l. l.items) levels.items; pointers = pointers.items; last = last } }
+        requires sound { S.honest → IsSound record {
+          tables = map (λ l. l.items) levels.items;
+          pointers = pointers.items;
+          last = last;
+        } }
+        ensures { result ≡ record {
+          tables = map (λ l. l.items) levels.items;
+          pointers = pointers.items;
+          last = last;
+        } }
     {
         Version {
             registry,

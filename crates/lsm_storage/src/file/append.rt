@@ -1,7 +1,8 @@
 //! How bytes are appended to the manifest of a folder.
 
 ghost use Rattle.std.specs.Prelude.{◌≡◌, ◌+◌, ◌<◌, ◌≤◌, ◌^◌, length, IfOk, IfErr, OnOk, MatchBool};
-ghost use Rattle.lsm_storage.specs.Plans.{done, MeasureStopped, BehindStopped, AppendStopped, append_plan, manifest_measured};
+ghost use Rattle.lsm_storage.specs.Plans.{done, MeasureStopped, BehindStopped, AppendStopped};
+ghost use Rattle.lsm_storage.specs.Plans.{append_plan, manifest_measured};
 ghost use Rattle.lsm_shelf.specs.Told.{NotTaken};
 
 use crate::file::current::current;
@@ -23,7 +24,8 @@ fn measure_manifest<C: FolderCalls, W: Wait>(
     folder: &mut C,
     rt: &W,
 ) -> Result<(u64, u64), ShelfFault>
-    ensures ok { IfOk result (λ r. C.calls folder.new ≡ manifest_measured r.0 r.1 (C.calls folder.old)) }
+    ensures ok { IfOk result (λ r.
+        C.calls folder.new ≡ manifest_measured r.0 r.1 (C.calls folder.old)) }
     ensures err { IfErr result (λ e. MeasureStopped e (C.calls folder.old) (C.calls folder.new)) }
     ensures place { C.place folder.new ≡ C.place folder.old }
     ensures fault { IfErr result NotTaken }
@@ -45,8 +47,10 @@ fn write_behind<C: FolderCalls, W: Wait>(
     number: u64,
     bytes: &[u8],
 ) -> Result<(), ShelfFault>
-    ensures ok { OnOk result (C.calls folder.new ≡ done (append_plan number bytes.now) (C.calls folder.old)) }
-    ensures err { IfErr result (λ e. BehindStopped number bytes.now e (C.calls folder.old) (C.calls folder.new)) }
+    ensures ok { OnOk result (C.calls folder.new
+        ≡ done (append_plan number bytes.now) (C.calls folder.old)) }
+    ensures err { IfErr result (λ e.
+        BehindStopped number bytes.now e (C.calls folder.old) (C.calls folder.new)) }
     ensures place { C.place folder.new ≡ C.place folder.old }
     ensures fault { IfErr result NotTaken }
 {
@@ -67,9 +71,11 @@ pub(crate) fn append_manifest<C: FolderCalls, W: Wait>(
     rt: &W,
     bytes: &[u8],
 ) -> Result<(u64, u64), ShelfFault>
-    ensures ok { IfOk result (λ r. C.calls folder.new ≡ done (append_plan r.0 bytes.now) (manifest_measured r.0 r.1 (C.calls folder.old))) }
+    ensures ok { IfOk result (λ r. C.calls folder.new
+        ≡ done (append_plan r.0 bytes.now) (manifest_measured r.0 r.1 (C.calls folder.old))) }
     ensures limit { IfOk result (λ r. r.1 + length bytes.now ≤ 2 ^ 30) }
-    ensures err { IfErr result (λ e. AppendStopped bytes.now e (C.calls folder.old) (C.calls folder.new)) }
+    ensures err { IfErr result (λ e.
+        AppendStopped bytes.now e (C.calls folder.old) (C.calls folder.new)) }
     ensures place { C.place folder.new ≡ C.place folder.old }
     ensures fault { IfErr result NotTaken }
 {

@@ -1,13 +1,19 @@
 //! A `FileShelf` as a `Shelf`.
 
-ghost use Rattle.std.specs.Prelude.{◌≡◌, ◌<◌, ◌+◌, ◌≤◌, ◌^◌, ◌∷◌, ℕ, List, Ok, length, take, drop, IfOk, IfErr, OnOk, OnErr, IsTrue, IsErrOf};
+ghost use Rattle.std.specs.Prelude.{◌≡◌, ◌<◌, ◌+◌, ◌≤◌, ◌^◌, ◌∷◌, ℕ, List, Ok, length, take, drop};
+ghost use Rattle.std.specs.Prelude.{IfOk, IfErr, OnOk, OnErr, IsTrue, IsErrOf};
 ghost use Rattle.std.specs.List.Sorted.{IsStrictlyIncreasing};
 ghost use Rattle.lsm_folder.specs.Calls.{AreHonest, LastIsTrue, read, loaded, listed};
 ghost use Rattle.lsm_shelf.specs.Asked.{MayRefuse};
 ghost use Rattle.lsm_storage.specs.FileNames.{table_name};
 ghost use Rattle.lsm_storage.specs.FileShelf.{folder_of, file_told, file_number, mark_of};
-ghost use Rattle.lsm_storage.specs.Plans.{done, PutStopped, PartUnread, TableUnread, RemoveStopped, AreTablesOf, ListStopped, ReadStopped, StartedFrom, StartStopped, AppendStopped, put_plan, remove_plan, append_plan, manifest_read, manifest_measured};
-ghost use Rattle.lsm_shelf.specs.Told.{Becomes, Counted, CountedBy, NotTaken, NotNamed, TakenIs, putting, removed_by, listing, sending, appending, finding, forking, fresh};
+ghost use Rattle.lsm_storage.specs.Plans.{done, PutStopped, PartUnread, TableUnread, RemoveStopped};
+ghost use Rattle.lsm_storage.specs.Plans.{AreTablesOf, ListStopped, ReadStopped, StartedFrom};
+ghost use Rattle.lsm_storage.specs.Plans.{StartStopped, AppendStopped, put_plan, remove_plan};
+ghost use Rattle.lsm_storage.specs.Plans.{append_plan, manifest_read, manifest_measured};
+ghost use Rattle.lsm_shelf.specs.Told.{Becomes, Counted, CountedBy, NotTaken, NotNamed, TakenIs};
+ghost use Rattle.lsm_shelf.specs.Told.{putting, removed_by, listing, sending, appending, finding};
+ghost use Rattle.lsm_shelf.specs.Told.{forking, fresh};
 
 use crate::account::{
     Account, tag_of_both, tag_of_bytes, tag_of_more, tag_of_number, tag_of_numbers,
@@ -46,15 +52,23 @@ where
         number: u64,
         image: &[u8],
     ) -> Result<FileReceipt<C::Mark>, ShelfFault>
-        ensures receipt { IfOk result (λ r. (file_number r ≡ number) × (C.Mark.image (mark_of r) ≡ image.now) × C.is_of (file_told C.place self.old).place (mark_of r)) }
-        ensures calls { OnOk result (C.calls (folder_of self.new) ≡ done (put_plan number image.now) (C.calls (folder_of self.old))) }
-        ensures stopped { IfErr result (λ e. PutStopped number image.now e (C.calls (folder_of self.old)) (C.calls (folder_of self.new))) }
-        ensures large { 2 ^ 30 < length image.now → IsErrOf result ShelfFault.Device × (C.calls (folder_of self.new) ≡ C.calls (folder_of self.old)) }
-        ensures ok { OnOk result (Becomes (putting number (file_told C.place self.old)) (file_told C.place self.new)) }
-        ensures err { OnErr result (Becomes (file_told C.place self.old) (file_told C.place self.new)) }
+        ensures receipt { IfOk result (λ r. (file_number r ≡ number) × (C.Mark.image (mark_of r)
+            ≡ image.now) × C.is_of (file_told C.place self.old).place (mark_of r)) }
+        ensures calls { OnOk result (C.calls (folder_of self.new)
+            ≡ done (put_plan number image.now) (C.calls (folder_of self.old))) }
+        ensures stopped { IfErr result (λ e. PutStopped number image.now e
+            (C.calls (folder_of self.old)) (C.calls (folder_of self.new))) }
+        ensures large { 2 ^ 30 < length image.now → IsErrOf result ShelfFault.Device
+            × (C.calls (folder_of self.new) ≡ C.calls (folder_of self.old)) }
+        ensures ok { OnOk result
+            (Becomes (putting number (file_told C.place self.old)) (file_told C.place self.new)) }
+        ensures err { OnErr result
+            (Becomes (file_told C.place self.old) (file_told C.place self.new)) }
         ensures refused { IfErr result (TakenIs number) }
-        ensures cause { IfErr result (λ e. TakenIs number e × Counted e (file_told C.place self.old) (file_told C.place self.new)) }
-        ensures counts { CountedBy result (file_told C.place self.old) (file_told C.place self.new) }
+        ensures cause { IfErr result (λ e. TakenIs number e
+            × Counted e (file_told C.place self.old) (file_told C.place self.new)) }
+        ensures counts { CountedBy result (file_told C.place self.old)
+            (file_told C.place self.new) }
     {
         let outcome = put_table(&mut self.folder, rt, alloc, number, image);
         let receipt = self.account.count(outcome)?;
@@ -71,14 +85,22 @@ where
     ) -> Result<Vec<u8>, ShelfFault>
         requires here { C.is_of (file_told C.place self.old).place (mark_of receipt.now) }
         requires inside { offset + len ≤ length (C.Mark.image (mark_of receipt.now)) }
-        ensures bytes { AreHonest C.calls → IfOk result (λ v. v.items ≡ take len (drop offset (C.Mark.image (mark_of receipt.now)))) }
-        ensures answered { LastIsTrue (C.calls (folder_of self.new)) → IfOk result (λ v. v.items ≡ take len (drop offset (C.Mark.image (mark_of receipt.now)))) }
-        ensures calls { IfOk result (λ v. C.calls (folder_of self.new) ≡ read (table_name (file_number receipt.now)) (C.Mark.image (mark_of receipt.now)) offset len (Ok v.items) ∷ C.calls (folder_of self.old)) }
-        ensures stopped { IfErr result (λ e. PartUnread (file_number receipt.now) (C.Mark.image (mark_of receipt.now)) offset len e (C.calls (folder_of self.old)) (C.calls (folder_of self.new))) }
+        ensures bytes { AreHonest C.calls → IfOk result (λ v.
+            v.items ≡ take len (drop offset (C.Mark.image (mark_of receipt.now)))) }
+        ensures answered { LastIsTrue (C.calls (folder_of self.new)) → IfOk result (λ v.
+            v.items ≡ take len (drop offset (C.Mark.image (mark_of receipt.now)))) }
+        ensures calls { IfOk result (λ v. C.calls (folder_of self.new)
+            ≡ read (table_name (file_number receipt.now)) (C.Mark.image (mark_of receipt.now))
+            offset len (Ok v.items) ∷ C.calls (folder_of self.old)) }
+        ensures stopped { IfErr result (λ e.
+            PartUnread (file_number receipt.now) (C.Mark.image (mark_of receipt.now)) offset len e
+            (C.calls (folder_of self.old)) (C.calls (folder_of self.new))) }
         ensures told { Becomes (file_told C.place self.old) (file_told C.place self.new) }
         ensures refused { IfErr result NotTaken }
-        ensures cause { IfErr result (λ e. NotTaken e × Counted e (file_told C.place self.old) (file_told C.place self.new)) }
-        ensures counts { CountedBy result (file_told C.place self.old) (file_told C.place self.new) }
+        ensures cause { IfErr result (λ e. NotTaken e
+            × Counted e (file_told C.place self.old) (file_told C.place self.new)) }
+        ensures counts { CountedBy result (file_told C.place self.old)
+            (file_told C.place self.new) }
     {
         let outcome = read_table(&mut self.folder, alloc, receipt, offset, len);
         self.account.count(outcome)
@@ -90,25 +112,35 @@ where
         alloc: Global,
         number: u64,
     ) -> Result<(FileReceipt<C::Mark>, Vec<u8>), ShelfFault>
-        ensures receipt { IfOk result (λ r. (file_number r.0 ≡ number) × (C.Mark.image (mark_of r.0) ≡ r.1.items) × C.is_of (file_told C.place self.old).place (mark_of r.0)) }
-        ensures calls { IfOk result (λ r. C.calls (folder_of self.new) ≡ loaded (table_name number) (Ok r.1.items) ∷ C.calls (folder_of self.old)) }
-        ensures stopped { IfErr result (λ e. TableUnread number e (C.calls (folder_of self.old)) (C.calls (folder_of self.new))) }
+        ensures receipt { IfOk result (λ r. (file_number r.0 ≡ number) × (C.Mark.image (mark_of r.0)
+            ≡ r.1.items) × C.is_of (file_told C.place self.old).place (mark_of r.0)) }
+        ensures calls { IfOk result (λ r. C.calls (folder_of self.new)
+            ≡ loaded (table_name number) (Ok r.1.items) ∷ C.calls (folder_of self.old)) }
+        ensures stopped { IfErr result (λ e.
+            TableUnread number e (C.calls (folder_of self.old)) (C.calls (folder_of self.new))) }
         ensures told { Becomes (file_told C.place self.old) (file_told C.place self.new) }
         ensures refused { IfErr result NotTaken }
-        ensures cause { IfErr result (λ e. NotTaken e × Counted e (file_told C.place self.old) (file_told C.place self.new)) }
-        ensures counts { CountedBy result (file_told C.place self.old) (file_told C.place self.new) }
+        ensures cause { IfErr result (λ e. NotTaken e
+            × Counted e (file_told C.place self.old) (file_told C.place self.new)) }
+        ensures counts { CountedBy result (file_told C.place self.old)
+            (file_told C.place self.new) }
     {
         let outcome = load_table(&mut self.folder, rt, alloc, number);
         self.account.count(outcome)
     }
 
     fn remove<W: Wait>(&mut self, rt: &W, number: u64) -> Result<(), ShelfFault>
-        ensures calls { OnOk result (C.calls (folder_of self.new) ≡ done (remove_plan number) (C.calls (folder_of self.old))) }
-        ensures stopped { IfErr result (λ e. RemoveStopped number e (C.calls (folder_of self.old)) (C.calls (folder_of self.new))) }
-        ensures told { Becomes (removed_by result number (file_told C.place self.old)) (file_told C.place self.new) }
+        ensures calls { OnOk result (C.calls (folder_of self.new)
+            ≡ done (remove_plan number) (C.calls (folder_of self.old))) }
+        ensures stopped { IfErr result (λ e.
+            RemoveStopped number e (C.calls (folder_of self.old)) (C.calls (folder_of self.new))) }
+        ensures told { Becomes (removed_by result number (file_told C.place self.old))
+            (file_told C.place self.new) }
         ensures refused { IfErr result NotTaken }
-        ensures cause { IfErr result (λ e. NotTaken e × Counted e (file_told C.place self.old) (file_told C.place self.new)) }
-        ensures counts { CountedBy result (file_told C.place self.old) (file_told C.place self.new) }
+        ensures cause { IfErr result (λ e. NotTaken e
+            × Counted e (file_told C.place self.old) (file_told C.place self.new)) }
+        ensures counts { CountedBy result (file_told C.place self.old)
+            (file_told C.place self.new) }
     {
         let outcome = remove_table(&mut self.folder, rt, number);
         if outcome != Err(ShelfFault::OutOfMemory) {
@@ -119,13 +151,19 @@ where
 
     fn list<W: Wait>(&mut self, rt: &W, alloc: Global) -> Result<Vec<u64>, ShelfFault>
         ensures ascending { IfOk result (λ v. IsStrictlyIncreasing v.items) }
-        ensures calls { IfOk result (λ v. (names : List (List ℕ)) × (C.calls (folder_of self.new) ≡ listed (Ok names) ∷ C.calls (folder_of self.old)) × AreTablesOf names v.items) }
-        ensures stopped { IfErr result (λ e. ListStopped e (C.calls (folder_of self.old)) (C.calls (folder_of self.new))) }
-        ensures ok { IfOk result (λ v. Becomes (listing v.items (file_told C.place self.old)) (file_told C.place self.new)) }
-        ensures err { OnErr result (Becomes (file_told C.place self.old) (file_told C.place self.new)) }
+        ensures calls { IfOk result (λ v. (names : List (List ℕ)) × (C.calls (folder_of self.new)
+            ≡ listed (Ok names) ∷ C.calls (folder_of self.old)) × AreTablesOf names v.items) }
+        ensures stopped { IfErr result (λ e.
+            ListStopped e (C.calls (folder_of self.old)) (C.calls (folder_of self.new))) }
+        ensures ok { IfOk result (λ v.
+            Becomes (listing v.items (file_told C.place self.old)) (file_told C.place self.new)) }
+        ensures err { OnErr result
+            (Becomes (file_told C.place self.old) (file_told C.place self.new)) }
         ensures refused { IfErr result NotNamed }
-        ensures cause { IfErr result (λ e. NotNamed e × Counted e (file_told C.place self.old) (file_told C.place self.new)) }
-        ensures counts { CountedBy result (file_told C.place self.old) (file_told C.place self.new) }
+        ensures cause { IfErr result (λ e. NotNamed e
+            × Counted e (file_told C.place self.old) (file_told C.place self.new)) }
+        ensures counts { CountedBy result (file_told C.place self.old)
+            (file_told C.place self.new) }
     {
         let outcome = list_tables(&mut self.folder, rt, alloc);
         let numbers = self.account.count(outcome)?;
@@ -138,13 +176,19 @@ where
         rt: &W,
         alloc: Global,
     ) -> Result<(u64, Vec<u8>), ShelfFault>
-        ensures calls { IfOk result (λ r. C.calls (folder_of self.new) ≡ manifest_read r.0 r.1.items (C.calls (folder_of self.old))) }
-        ensures stopped { IfErr result (λ e. ReadStopped e (C.calls (folder_of self.old)) (C.calls (folder_of self.new))) }
-        ensures ok { IfOk result (λ r. Becomes (finding r.0 r.1.items (file_told C.place self.old)) (file_told C.place self.new)) }
-        ensures err { OnErr result (Becomes (file_told C.place self.old) (file_told C.place self.new)) }
+        ensures calls { IfOk result (λ r. C.calls (folder_of self.new)
+            ≡ manifest_read r.0 r.1.items (C.calls (folder_of self.old))) }
+        ensures stopped { IfErr result (λ e.
+            ReadStopped e (C.calls (folder_of self.old)) (C.calls (folder_of self.new))) }
+        ensures ok { IfOk result (λ r. Becomes (finding r.0 r.1.items (file_told C.place self.old))
+            (file_told C.place self.new)) }
+        ensures err { OnErr result
+            (Becomes (file_told C.place self.old) (file_told C.place self.new)) }
         ensures refused { IfErr result NotTaken }
-        ensures cause { IfErr result (λ e. NotTaken e × Counted e (file_told C.place self.old) (file_told C.place self.new)) }
-        ensures counts { CountedBy result (file_told C.place self.old) (file_told C.place self.new) }
+        ensures cause { IfErr result (λ e. NotTaken e
+            × Counted e (file_told C.place self.old) (file_told C.place self.new)) }
+        ensures counts { CountedBy result (file_told C.place self.old)
+            (file_told C.place self.new) }
     {
         let outcome = read_manifest(&mut self.folder, rt, alloc);
         let (number, bytes) = self.account.count(outcome)?;
@@ -161,14 +205,21 @@ where
         number: u64,
         bytes: &[u8],
     ) -> Result<(), ShelfFault>
-        ensures calls { OnOk result (StartedFrom number bytes.now (C.calls (folder_of self.old)) (C.calls (folder_of self.new))) }
-        ensures stopped { IfErr result (λ e. StartStopped number bytes.now e (C.calls (folder_of self.old)) (C.calls (folder_of self.new))) }
-        ensures large { 2 ^ 30 < length bytes.now → IsErrOf result ShelfFault.Device × (C.calls (folder_of self.new) ≡ C.calls (folder_of self.old)) }
-        ensures ok { OnOk result (Becomes (sending number bytes.now (file_told C.place self.old)) (file_told C.place self.new)) }
-        ensures err { OnErr result (Becomes (file_told C.place self.old) (file_told C.place self.new)) }
+        ensures calls { OnOk result (StartedFrom number bytes.now (C.calls (folder_of self.old))
+            (C.calls (folder_of self.new))) }
+        ensures stopped { IfErr result (λ e. StartStopped number bytes.now e
+            (C.calls (folder_of self.old)) (C.calls (folder_of self.new))) }
+        ensures large { 2 ^ 30 < length bytes.now → IsErrOf result ShelfFault.Device
+            × (C.calls (folder_of self.new) ≡ C.calls (folder_of self.old)) }
+        ensures ok { OnOk result (Becomes (sending number bytes.now (file_told C.place self.old))
+            (file_told C.place self.new)) }
+        ensures err { OnErr result
+            (Becomes (file_told C.place self.old) (file_told C.place self.new)) }
         ensures refused { IfErr result (TakenIs number) }
-        ensures cause { IfErr result (λ e. TakenIs number e × Counted e (file_told C.place self.old) (file_told C.place self.new)) }
-        ensures counts { CountedBy result (file_told C.place self.old) (file_told C.place self.new) }
+        ensures cause { IfErr result (λ e. TakenIs number e
+            × Counted e (file_told C.place self.old) (file_told C.place self.new)) }
+        ensures counts { CountedBy result (file_told C.place self.old)
+            (file_told C.place self.new) }
     {
         let outcome = start_manifest(&mut self.folder, rt, alloc, number, bytes);
         match self.account.count(outcome) {
@@ -184,13 +235,20 @@ where
     }
 
     fn append_manifest<W: Wait>(&mut self, rt: &W, bytes: &[u8]) -> Result<(), ShelfFault>
-        ensures calls { OnOk result ((n : ℕ) × (len : ℕ) × (len + length bytes.now ≤ 2 ^ 30) × (C.calls (folder_of self.new) ≡ done (append_plan n bytes.now) (manifest_measured n len (C.calls (folder_of self.old))))) }
-        ensures stopped { IfErr result (λ e. AppendStopped bytes.now e (C.calls (folder_of self.old)) (C.calls (folder_of self.new))) }
-        ensures ok { OnOk result (Becomes (appending bytes.now (file_told C.place self.old)) (file_told C.place self.new)) }
-        ensures err { OnErr result (Becomes (file_told C.place self.old) (file_told C.place self.new)) }
+        ensures calls { OnOk result ((n : ℕ) × (len : ℕ) × (len + length bytes.now ≤ 2 ^ 30)
+            × (C.calls (folder_of self.new) ≡ done (append_plan n bytes.now)
+            (manifest_measured n len (C.calls (folder_of self.old))))) }
+        ensures stopped { IfErr result (λ e. AppendStopped bytes.now e
+            (C.calls (folder_of self.old)) (C.calls (folder_of self.new))) }
+        ensures ok { OnOk result (Becomes (appending bytes.now (file_told C.place self.old))
+            (file_told C.place self.new)) }
+        ensures err { OnErr result
+            (Becomes (file_told C.place self.old) (file_told C.place self.new)) }
         ensures refused { IfErr result NotTaken }
-        ensures cause { IfErr result (λ e. NotTaken e × Counted e (file_told C.place self.old) (file_told C.place self.new)) }
-        ensures counts { CountedBy result (file_told C.place self.old) (file_told C.place self.new) }
+        ensures cause { IfErr result (λ e. NotTaken e
+            × Counted e (file_told C.place self.old) (file_told C.place self.new)) }
+        ensures counts { CountedBy result (file_told C.place self.old)
+            (file_told C.place self.new) }
     {
         let outcome = append_manifest(&mut self.folder, rt, bytes);
         let (_, _) = self.account.count(outcome)?;
@@ -201,12 +259,17 @@ where
     }
 
     fn fork(&mut self, _alloc: Global) -> Result<FileShelf<C>, ShelfFault>
-        ensures fork { IfOk result (λ s. file_told C.place s ≡ fresh (file_told C.place self.old).place) }
+        ensures fork { IfOk result (λ s.
+            file_told C.place s ≡ fresh (file_told C.place self.old).place) }
         ensures calls { C.calls (folder_of self.new) ≡ C.calls (folder_of self.old) }
-        ensures ok { OnOk result (Becomes (forking 1 (file_told C.place self.old)) (file_told C.place self.new)) }
-        ensures err { OnErr result (Becomes (file_told C.place self.old) (file_told C.place self.new)) }
-        ensures cause { IfErr result (λ e. NotNamed e × Counted e (file_told C.place self.old) (file_told C.place self.new)) }
-        ensures counts { CountedBy result (file_told C.place self.old) (file_told C.place self.new) }
+        ensures ok { OnOk result
+            (Becomes (forking 1 (file_told C.place self.old)) (file_told C.place self.new)) }
+        ensures err { OnErr result
+            (Becomes (file_told C.place self.old) (file_told C.place self.new)) }
+        ensures cause { IfErr result (λ e. NotNamed e
+            × Counted e (file_told C.place self.old) (file_told C.place self.new)) }
+        ensures counts { CountedBy result (file_told C.place self.old)
+            (file_told C.place self.new) }
         ensures memory { IfErr result (λ e. e ≡ ShelfFault.OutOfMemory) }
     {
         match self.folder.fork() {
@@ -219,9 +282,11 @@ where
     }
 
     fn same(&self, a: &FileReceipt<C::Mark>, b: &FileReceipt<C::Mark>) -> bool
-        requires here { C.is_of (file_told C.place self.now).place (mark_of a.now) × C.is_of (file_told C.place self.now).place (mark_of b.now) }
+        requires here { C.is_of (file_told C.place self.now).place (mark_of a.now)
+            × C.is_of (file_told C.place self.now).place (mark_of b.now) }
         ensures copy { a.now ≡ b.now → IsTrue result }
-        ensures one { IsTrue result → (file_number a.now ≡ file_number b.now) × (C.Mark.image (mark_of a.now) ≡ C.Mark.image (mark_of b.now)) }
+        ensures one { IsTrue result → (file_number a.now ≡ file_number b.now)
+            × (C.Mark.image (mark_of a.now) ≡ C.Mark.image (mark_of b.now)) }
     {
         a.number == b.number && self.folder.same(&a.mark, &b.mark)
     }

@@ -1,9 +1,11 @@
 //! Which manifest a folder's `CURRENT` names, and that manifest's bytes.
 
-ghost use Rattle.std.specs.Prelude.{◌≡◌, ℕ, ◌<◌, ◌^◌, List, Ok, Err, Result, IfOk, IfErr, MatchBool};
+ghost use Rattle.std.specs.Prelude.{◌≡◌, ℕ, ◌<◌, ◌^◌, List, Ok, Err, Result, IfOk, IfErr};
+ghost use Rattle.std.specs.Prelude.{MatchBool};
 ghost use Rattle.lsm_folder.specs.declared.folder_fault.FolderFault.{FolderFault};
 ghost use Rattle.lsm_storage.specs.FileNames.{current_text};
-ghost use Rattle.lsm_storage.specs.Plans.{CurrentUnread, CurrentStopped, NoneIn, NamesOther, ReadStopped, current_read, manifest_read};
+ghost use Rattle.lsm_storage.specs.Plans.{CurrentUnread, CurrentStopped, NoneIn, NamesOther};
+ghost use Rattle.lsm_storage.specs.Plans.{ReadStopped, current_read, manifest_read};
 ghost use Rattle.lsm_shelf.specs.Told.{NotNamed, NotTaken};
 
 use crate::file::fault::missing;
@@ -19,7 +21,8 @@ fn load_current<C: FolderCalls, W: Wait>(
     rt: &W,
     alloc: Global,
 ) -> Result<Vec<u8>, ShelfFault>
-    ensures ok { IfOk result (λ v. C.calls folder.new ≡ current_read (Ok v.items) (C.calls folder.old)) }
+    ensures ok { IfOk result (λ v.
+        C.calls folder.new ≡ current_read (Ok v.items) (C.calls folder.old)) }
     ensures err { IfErr result (λ e. CurrentUnread e (C.calls folder.old) (C.calls folder.new)) }
     ensures place { C.place folder.new ≡ C.place folder.old }
     ensures fault { IfErr result NotTaken }
@@ -31,7 +34,8 @@ fn load_current<C: FolderCalls, W: Wait>(
 /// The number of the manifest that a text of `CURRENT` names.
 fn named_by(alloc: Global, text: &Vec<u8>) -> Result<u64, ShelfFault>
     ensures named { IfOk result (λ n. text.now.items ≡ current_text n) }
-    ensures only { IfOk result (λ n. (m : ℕ) → m < 2 ^ 64 → text.now.items ≡ current_text m → n ≡ m) }
+    ensures only { IfOk result (λ n. (m : ℕ) → m < 2 ^ 64 → text.now.items ≡ current_text m
+        → n ≡ m) }
     ensures none { IfErr result (λ e. NoneIn text.now.items e) }
     ensures fault { IfErr result NotTaken }
 {
@@ -48,8 +52,10 @@ pub(crate) fn current<C: FolderCalls, W: Wait>(
     rt: &W,
     alloc: Global,
 ) -> Result<u64, ShelfFault>
-    ensures ok { IfOk result (λ n. C.calls folder.new ≡ current_read (Ok (current_text n)) (C.calls folder.old)) }
-    ensures only { IfOk result (λ n. (m : ℕ) → m < 2 ^ 64 → current_text n ≡ current_text m → n ≡ m) }
+    ensures ok { IfOk result (λ n.
+        C.calls folder.new ≡ current_read (Ok (current_text n)) (C.calls folder.old)) }
+    ensures only { IfOk result (λ n. (m : ℕ) → m < 2 ^ 64 → current_text n ≡ current_text m
+        → n ≡ m) }
     ensures err { IfErr result (λ e. CurrentStopped e (C.calls folder.old) (C.calls folder.new)) }
     ensures place { C.place folder.new ≡ C.place folder.old }
     ensures fault { IfErr result NotTaken }
@@ -69,7 +75,9 @@ pub(crate) fn names_manifest<C: FolderCalls, W: Wait>(
     alloc: Global,
     number: u64,
 ) -> Result<bool, ShelfFault>
-    ensures ok { IfOk result (λ b. (answer : Result (List ℕ) FolderFault) × (C.calls folder.new ≡ current_read answer (C.calls folder.old)) × MatchBool b (answer ≡ Ok (current_text number)) (NamesOther number answer)) }
+    ensures ok { IfOk result (λ b. (answer : Result (List ℕ) FolderFault)
+        × (C.calls folder.new ≡ current_read answer (C.calls folder.old))
+        × MatchBool b (answer ≡ Ok (current_text number)) (NamesOther number answer)) }
     ensures err { IfErr result (λ e. CurrentStopped e (C.calls folder.old) (C.calls folder.new)) }
     ensures place { C.place folder.new ≡ C.place folder.old }
     ensures fault { IfErr result NotNamed }
@@ -88,7 +96,8 @@ pub(crate) fn read_manifest<C: FolderCalls, W: Wait>(
     rt: &W,
     alloc: Global,
 ) -> Result<(u64, Vec<u8>), ShelfFault>
-    ensures ok { IfOk result (λ r. C.calls folder.new ≡ manifest_read r.0 r.1.items (C.calls folder.old)) }
+    ensures ok { IfOk result (λ r.
+        C.calls folder.new ≡ manifest_read r.0 r.1.items (C.calls folder.old)) }
     ensures err { IfErr result (λ e. ReadStopped e (C.calls folder.old) (C.calls folder.new)) }
     ensures place { C.place folder.new ≡ C.place folder.old }
     ensures fault { IfErr result NotTaken }

@@ -1,7 +1,8 @@
 //! The names of a database's files, as LevelDB's `doc/impl.md` gives them.
 
 ghost use Rattle.std.specs.Prelude.{◌≡◌, IfOk, string_bytes};
-ghost use Rattle.lsm_storage.specs.FileNames.{padded, table_name, manifest_name, temporary_name, current_text, IsNumberOf};
+ghost use Rattle.lsm_storage.specs.FileNames.{padded, table_name, manifest_name, temporary_name};
+ghost use Rattle.lsm_storage.specs.FileNames.{current_text, IsNumberOf};
 
 use std::alloc::{AllocError, Global};
 

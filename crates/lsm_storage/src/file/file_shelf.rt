@@ -48,7 +48,8 @@ impl<R: Files<File = File> + AllocGlobal + Clone + Drop> FileShelf<SystemFolder<
     pub fn open(rt: R, path: &str) -> Result<FileShelf<SystemFolder<R>>, ShelfFault>
         ensures calls { IfOk result (λ s. system_calls (folder_of s) ≡ opened ∷ []) }
         ensures place { IfOk result (λ s. IsAtPath path.now (system_place (folder_of s))) }
-        ensures fresh { IfOk result (λ s. file_told system_place s ≡ fresh (system_place (folder_of s))) }
+        ensures fresh { IfOk result (λ s.
+            file_told system_place s ≡ fresh (system_place (folder_of s))) }
         ensures err { IfErr result NotNamed }
     {
         let folder = SystemFolder::open(rt, path).map_err(|e| device(e))?;

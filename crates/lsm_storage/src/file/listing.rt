@@ -1,6 +1,7 @@
 //! The tables of a folder.
 
-ghost use Rattle.std.specs.Prelude.{◌≡◌, ◌↔◌, ℕ, ◌<◌, ◌^◌, ◌∷◌, List, [], ◌++◌, Ok, map, string_bytes, IfOk, IfErr, OnOk};
+ghost use Rattle.std.specs.Prelude.{◌≡◌, ◌↔◌, ℕ, ◌<◌, ◌^◌, ◌∷◌, List, [], ◌++◌, Ok, map};
+ghost use Rattle.std.specs.Prelude.{string_bytes, IfOk, IfErr, OnOk};
 ghost use Rattle.std.specs.List.{Contains};
 ghost use Rattle.std.specs.List.Sorted.{IsStrictlyIncreasing};
 ghost use Rattle.lsm_folder.specs.Calls.{listed};
@@ -26,7 +27,8 @@ fn in_order(mut numbers: Vec<u64>) -> Result<Vec<u64>, AllocError>
 
 /// Adds the number of the table of this name, if it is one's.
 fn add_table(alloc: Global, numbers: &mut Vec<u64>, name: &str) -> Result<(), AllocError>
-    ensures { OnOk result ((names : List (List ℕ)) → AreTablesOf names numbers.old.items → AreTablesOf (names ++ name.now ∷ []) numbers.new.items) }
+    ensures { OnOk result ((names : List (List ℕ)) → AreTablesOf names numbers.old.items
+        → AreTablesOf (names ++ name.now ∷ []) numbers.new.items) }
 {
     let found = table_in(alloc, name)?;
     match found {
@@ -55,7 +57,8 @@ fn list_names<C: FolderCalls, W: Wait>(
     rt: &W,
     alloc: Global,
 ) -> Result<Vec<String>, ShelfFault>
-    ensures ok { IfOk result (λ v. C.calls folder.new ≡ listed (Ok (map string_bytes v.items)) ∷ C.calls folder.old) }
+    ensures ok { IfOk result (λ v.
+        C.calls folder.new ≡ listed (Ok (map string_bytes v.items)) ∷ C.calls folder.old) }
     ensures err { IfErr result (λ e. Unlisted e (C.calls folder.old) (C.calls folder.new)) }
     ensures place { C.place folder.new ≡ C.place folder.old }
     ensures fault { IfErr result NotNamed }
@@ -80,7 +83,8 @@ pub(crate) fn list_tables<C: FolderCalls, W: Wait>(
     alloc: Global,
 ) -> Result<Vec<u64>, ShelfFault>
     ensures ascending { IfOk result (λ v. IsStrictlyIncreasing v.items) }
-    ensures ok { IfOk result (λ v. (names : List (List ℕ)) × (C.calls folder.new ≡ listed (Ok names) ∷ C.calls folder.old) × AreTablesOf names v.items) }
+    ensures ok { IfOk result (λ v. (names : List (List ℕ)) × (C.calls folder.new
+        ≡ listed (Ok names) ∷ C.calls folder.old) × AreTablesOf names v.items) }
     ensures err { IfErr result (λ e. ListStopped e (C.calls folder.old) (C.calls folder.new)) }
     ensures place { C.place folder.new ≡ C.place folder.old }
     ensures fault { IfErr result NotNamed }

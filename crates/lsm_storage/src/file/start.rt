@@ -1,7 +1,8 @@
 //! How a manifest is started in a folder.
 
 ghost use Rattle.std.specs.Prelude.{◌≡◌, ◌<◌, ◌^◌, length, IfErr, OnOk, IsErrOf};
-ghost use Rattle.lsm_storage.specs.Plans.{done, Refused, StartedFrom, StartStopped, WriteStopped, current_plan, start_plan};
+ghost use Rattle.lsm_storage.specs.Plans.{done, Refused, StartedFrom, StartStopped, WriteStopped};
+ghost use Rattle.lsm_storage.specs.Plans.{current_plan, start_plan};
 ghost use Rattle.lsm_shelf.specs.Told.{NotNamed, TakenIs};
 
 use crate::file::current::names_manifest;
@@ -18,8 +19,10 @@ fn make_current<C: FolderCalls, W: Wait>(
     rt: &W,
     name: &str,
 ) -> Result<(), FolderFault>
-    ensures ok { OnOk result (C.calls folder.new ≡ done (current_plan name.now) (C.calls folder.old)) }
-    ensures err { IfErr result (λ f. Refused (current_plan name.now) f (C.calls folder.old) (C.calls folder.new)) }
+    ensures ok { OnOk result (C.calls folder.new
+        ≡ done (current_plan name.now) (C.calls folder.old)) }
+    ensures err { IfErr result (λ f.
+        Refused (current_plan name.now) f (C.calls folder.old) (C.calls folder.new)) }
     ensures place { C.place folder.new ≡ C.place folder.old }
 {
     folder.rename(rt, name, "CURRENT")?;
@@ -35,8 +38,10 @@ fn write_manifest<C: FolderCalls, W: Wait>(
     number: u64,
     bytes: &[u8],
 ) -> Result<(), ShelfFault>
-    ensures ok { OnOk result (C.calls folder.new ≡ done (start_plan number bytes.now) (C.calls folder.old)) }
-    ensures err { IfErr result (λ e. WriteStopped number bytes.now e (C.calls folder.old) (C.calls folder.new)) }
+    ensures ok { OnOk result (C.calls folder.new
+        ≡ done (start_plan number bytes.now) (C.calls folder.old)) }
+    ensures err { IfErr result (λ e.
+        WriteStopped number bytes.now e (C.calls folder.old) (C.calls folder.new)) }
     ensures place { C.place folder.new ≡ C.place folder.old }
     ensures fault { IfErr result NotNamed }
 {
@@ -66,9 +71,12 @@ pub(crate) fn start_manifest<C: FolderCalls, W: Wait>(
     number: u64,
     bytes: &[u8],
 ) -> Result<(), ShelfFault>
-    ensures ok { OnOk result (StartedFrom number bytes.now (C.calls folder.old) (C.calls folder.new)) }
-    ensures err { IfErr result (λ e. StartStopped number bytes.now e (C.calls folder.old) (C.calls folder.new)) }
-    ensures large { 2 ^ 30 < length bytes.now → IsErrOf result ShelfFault.Device × (C.calls folder.new ≡ C.calls folder.old) }
+    ensures ok { OnOk result
+        (StartedFrom number bytes.now (C.calls folder.old) (C.calls folder.new)) }
+    ensures err { IfErr result (λ e.
+        StartStopped number bytes.now e (C.calls folder.old) (C.calls folder.new)) }
+    ensures large { 2 ^ 30 < length bytes.now
+        → IsErrOf result ShelfFault.Device × (C.calls folder.new ≡ C.calls folder.old) }
     ensures place { C.place folder.new ≡ C.place folder.old }
     ensures fault { IfErr result (TakenIs number) }
 {

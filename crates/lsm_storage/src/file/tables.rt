@@ -1,9 +1,11 @@
 //! What a shelf asks of its folder for its tables.
 
-ghost use Rattle.std.specs.Prelude.{◌≡◌, ◌+◌, ◌<◌, ◌≤◌, ◌^◌, ◌∷◌, Ok, length, take, drop, IfOk, IfErr, OnOk, IsErrOf};
+ghost use Rattle.std.specs.Prelude.{◌≡◌, ◌+◌, ◌<◌, ◌≤◌, ◌^◌, ◌∷◌, Ok, length, take, drop, IfOk};
+ghost use Rattle.std.specs.Prelude.{IfErr, OnOk, IsErrOf};
 ghost use Rattle.lsm_folder.specs.Calls.{AreHonest, LastIsTrue, Answer, read, loaded, removed};
 ghost use Rattle.lsm_storage.specs.FileNames.{table_name};
-ghost use Rattle.lsm_storage.specs.Plans.{done, Refused, PutStopped, PartUnread, TableUnread, RemoveStopped, durable_plan, put_plan, remove_plan};
+ghost use Rattle.lsm_storage.specs.Plans.{done, Refused, PutStopped, PartUnread, TableUnread};
+ghost use Rattle.lsm_storage.specs.Plans.{RemoveStopped, durable_plan, put_plan, remove_plan};
 ghost use Rattle.lsm_storage.specs.FolderFault.{undone_of};
 ghost use Rattle.lsm_shelf.specs.Told.{NotNamed, NotTaken, TakenIs};
 
@@ -21,8 +23,10 @@ pub(crate) fn make_durable<C: FolderCalls, W: Wait>(
     rt: &W,
     name: &str,
 ) -> Result<(), FolderFault>
-    ensures ok { OnOk result (C.calls folder.new ≡ done (durable_plan name.now) (C.calls folder.old)) }
-    ensures err { IfErr result (λ f. Refused (durable_plan name.now) f (C.calls folder.old) (C.calls folder.new)) }
+    ensures ok { OnOk result (C.calls folder.new
+        ≡ done (durable_plan name.now) (C.calls folder.old)) }
+    ensures err { IfErr result (λ f.
+        Refused (durable_plan name.now) f (C.calls folder.old) (C.calls folder.new)) }
     ensures place { C.place folder.new ≡ C.place folder.old }
 {
     folder.sync(rt, name)?;
@@ -37,7 +41,8 @@ fn undo<C: FolderCalls, W: Wait>(
     name: &str,
     fault: FolderFault,
 ) -> ShelfFault
-    ensures calls { (answer : Answer) × (C.calls folder.new ≡ removed name.now answer ∷ C.calls folder.old) × (result ≡ undone_of answer fault) }
+    ensures calls { (answer : Answer) × (C.calls folder.new
+        ≡ removed name.now answer ∷ C.calls folder.old) × (result ≡ undone_of answer fault) }
     ensures place { C.place folder.new ≡ C.place folder.old }
     ensures fault { NotNamed result }
 {
@@ -58,9 +63,12 @@ pub(crate) fn put_table<C: FolderCalls, W: Wait>(
     ensures number { IfOk result (λ r. r.number ≡ number) }
     ensures image { IfOk result (λ r. C.Mark.image r.mark ≡ image.now) }
     ensures here { IfOk result (λ r. C.is_of (C.place folder.old) r.mark) }
-    ensures ok { OnOk result (C.calls folder.new ≡ done (put_plan number image.now) (C.calls folder.old)) }
-    ensures err { IfErr result (λ e. PutStopped number image.now e (C.calls folder.old) (C.calls folder.new)) }
-    ensures large { 2 ^ 30 < length image.now → IsErrOf result ShelfFault.Device × (C.calls folder.new ≡ C.calls folder.old) }
+    ensures ok { OnOk result (C.calls folder.new
+        ≡ done (put_plan number image.now) (C.calls folder.old)) }
+    ensures err { IfErr result (λ e.
+        PutStopped number image.now e (C.calls folder.old) (C.calls folder.new)) }
+    ensures large { 2 ^ 30 < length image.now
+        → IsErrOf result ShelfFault.Device × (C.calls folder.new ≡ C.calls folder.old) }
     ensures place { C.place folder.new ≡ C.place folder.old }
     ensures fault { IfErr result (TakenIs number) }
 {
@@ -91,10 +99,14 @@ pub(crate) fn read_table<C: FolderCalls>(
 ) -> Result<Vec<u8>, ShelfFault>
     requires here { C.is_of (C.place folder.old) receipt.now.mark }
     requires inside { offset + len ≤ length (C.Mark.image receipt.now.mark) }
-    ensures bytes { AreHonest C.calls → IfOk result (λ v. v.items ≡ take len (drop offset (C.Mark.image receipt.now.mark))) }
-    ensures answered { LastIsTrue (C.calls folder.new) → IfOk result (λ v. v.items ≡ take len (drop offset (C.Mark.image receipt.now.mark))) }
-    ensures ok { IfOk result (λ v. C.calls folder.new ≡ read (table_name receipt.now.number) (C.Mark.image receipt.now.mark) offset len (Ok v.items) ∷ C.calls folder.old) }
-    ensures err { IfErr result (λ e. PartUnread receipt.now.number (C.Mark.image receipt.now.mark) offset len e (C.calls folder.old) (C.calls folder.new)) }
+    ensures bytes { AreHonest C.calls
+        → IfOk result (λ v. v.items ≡ take len (drop offset (C.Mark.image receipt.now.mark))) }
+    ensures answered { LastIsTrue (C.calls folder.new)
+        → IfOk result (λ v. v.items ≡ take len (drop offset (C.Mark.image receipt.now.mark))) }
+    ensures ok { IfOk result (λ v. C.calls folder.new ≡ read (table_name receipt.now.number)
+        (C.Mark.image receipt.now.mark) offset len (Ok v.items) ∷ C.calls folder.old) }
+    ensures err { IfErr result (λ e. PartUnread receipt.now.number (C.Mark.image receipt.now.mark)
+        offset len e (C.calls folder.old) (C.calls folder.new)) }
     ensures place { C.place folder.new ≡ C.place folder.old }
     ensures fault { IfErr result NotTaken }
 {
@@ -113,8 +125,10 @@ pub(crate) fn load_table<C: FolderCalls, W: Wait>(
     ensures number { IfOk result (λ r. r.0.number ≡ number) }
     ensures image { IfOk result (λ r. C.Mark.image r.0.mark ≡ r.1.items) }
     ensures here { IfOk result (λ r. C.is_of (C.place folder.old) r.0.mark) }
-    ensures ok { IfOk result (λ r. C.calls folder.new ≡ loaded (table_name number) (Ok r.1.items) ∷ C.calls folder.old) }
-    ensures err { IfErr result (λ e. TableUnread number e (C.calls folder.old) (C.calls folder.new)) }
+    ensures ok { IfOk result (λ r.
+        C.calls folder.new ≡ loaded (table_name number) (Ok r.1.items) ∷ C.calls folder.old) }
+    ensures err { IfErr result (λ e.
+        TableUnread number e (C.calls folder.old) (C.calls folder.new)) }
     ensures place { C.place folder.new ≡ C.place folder.old }
     ensures fault { IfErr result NotTaken }
 {
@@ -137,7 +151,8 @@ pub(crate) fn remove_table<C: FolderCalls, W: Wait>(
     number: u64,
 ) -> Result<(), ShelfFault>
     ensures ok { OnOk result (C.calls folder.new ≡ done (remove_plan number) (C.calls folder.old)) }
-    ensures err { IfErr result (λ e. RemoveStopped number e (C.calls folder.old) (C.calls folder.new)) }
+    ensures err { IfErr result (λ e.
+        RemoveStopped number e (C.calls folder.old) (C.calls folder.new)) }
     ensures place { C.place folder.new ≡ C.place folder.old }
     ensures fault { IfErr result NotTaken }
 {

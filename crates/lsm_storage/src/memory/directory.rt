@@ -1,6 +1,8 @@
 //! The directory of a `MemoryShelf`.
 
-ghost use Rattle.std.specs.Prelude.{◌≡◌, ◌≢◌, ◌↔◌, ℕ, ◌<◌, ◌≤◌, ◌^◌, ◌∷◌, ◌++◌, [], length, Some, None, IfOk, IfErr, IfSome, OnOk, OnErr, IsErrOf, IsSome, IsSomeAnd};
+ghost use Rattle.std.specs.Prelude.{◌≡◌, ◌≢◌, ◌↔◌, ℕ, ◌<◌, ◌≤◌, ◌^◌, ◌∷◌, ◌++◌, [], length, Some};
+ghost use Rattle.std.specs.Prelude.{None, IfOk, IfErr, IfSome, OnOk, OnErr, IsErrOf, IsSome};
+ghost use Rattle.std.specs.Prelude.{IsSomeAnd};
 ghost use Rattle.std.specs.Ordering.{nat_cmp};
 ghost use Rattle.std.specs.BTreeMap.{get, keys};
 ghost use Rattle.std.specs.List.Sorted.{IsStrictlyIncreasing};
@@ -47,7 +49,8 @@ impl Directory {
     /// Lists the image of the token under the number.
     fn add(&mut self, number: u64, token: &Pushed<Image>) -> Result<(), AllocError>
         ensures there { OnOk result (get nat_cmp self.new.tables number ≡ Some token.now.index) }
-        ensures others { (n : ℕ) → n ≢ number → get nat_cmp self.new.tables n ≡ get nat_cmp self.old.tables n }
+        ensures others { (n : ℕ) → n ≢ number
+            → get nat_cmp self.new.tables n ≡ get nat_cmp self.old.tables n }
         ensures unchanged { OnErr result (self.new.tables.entries ≡ self.old.tables.entries) }
         ensures manifest { self.new ≡ record self.old { tables = self.new.tables } }
     {
@@ -68,12 +71,14 @@ impl Directory {
         ensures image { IfOk result (λ r. r.token.value.bytes.items ≡ image.now) }
         ensures shown { IfOk result (λ r. Shows images.now r.token) }
         ensures there { IfOk result (λ r. get nat_cmp self.new.tables number ≡ Some r.token.index) }
-        ensures others { (n : ℕ) → n ≢ number → get nat_cmp self.new.tables n ≡ get nat_cmp self.old.tables n }
+        ensures others { (n : ℕ) → n ≢ number
+            → get nat_cmp self.new.tables n ≡ get nat_cmp self.old.tables n }
         ensures unchanged { OnErr result (self.new.tables.entries ≡ self.old.tables.entries) }
         ensures manifest { self.new ≡ record self.old { tables = self.new.tables } }
         ensures cause { IfErr result (TakenIs number) }
         ensures device { IsErrOf result ShelfFault.Device ↔ (2 ^ 30 < length image.now) }
-        ensures taken { length image.now ≤ 2 ^ 30 → (IsErrOf result (ShelfFault.Taken number) ↔ IsSome (get nat_cmp self.old.tables number)) }
+        ensures taken { length image.now ≤ 2 ^ 30 → (IsErrOf result (ShelfFault.Taken number)
+            ↔ IsSome (get nat_cmp self.old.tables number)) }
     {
         if image.len() > MAX_IMAGE {
             return Err(ShelfFault::Device);
@@ -119,8 +124,10 @@ impl Directory {
         ensures number { IfOk result (λ r. r.0.number ≡ number) }
         ensures image { IfOk result (λ r. r.0.token.value.bytes.items ≡ r.1.items) }
         ensures shown { IfOk result (λ r. Shows images.now r.0.token) }
-        ensures index { IfOk result (λ r. get nat_cmp self.now.tables number ≡ Some r.0.token.index) }
-        ensures missing { get nat_cmp self.now.tables number ≡ None → IsErrOf result ShelfFault.Missing }
+        ensures index { IfOk result (λ r.
+            get nat_cmp self.now.tables number ≡ Some r.0.token.index) }
+        ensures missing { get nat_cmp self.now.tables number ≡ None
+            → IsErrOf result ShelfFault.Missing }
         ensures cause { IfErr result (λ e. NotTaken e × NotDevice e) }
     {
         let token = self.find(images, number).ok_or(ShelfFault::Missing)?;
@@ -139,9 +146,11 @@ impl Directory {
     pub(crate) fn remove(&mut self, number: u64) -> (Tag, Result<(), ShelfFault>)
         ensures asked { result.0.numbers ≡ number ∷ [] }
         ensures gone { get nat_cmp self.new.tables number ≡ None }
-        ensures others { (n : ℕ) → n ≢ number → get nat_cmp self.new.tables n ≡ get nat_cmp self.old.tables n }
+        ensures others { (n : ℕ) → n ≢ number
+            → get nat_cmp self.new.tables n ≡ get nat_cmp self.old.tables n }
         ensures manifest { self.new ≡ record self.old { tables = self.new.tables } }
-        ensures missing { IsErrOf result.1 ShelfFault.Missing ↔ (get nat_cmp self.old.tables number ≡ None) }
+        ensures missing { IsErrOf result.1 ShelfFault.Missing
+            ↔ (get nat_cmp self.old.tables number ≡ None) }
         ensures cause { IfErr result.1 (λ e. e ≡ ShelfFault.Missing) }
     {
         let was = self.tables.remove(&number);
@@ -164,7 +173,8 @@ impl Directory {
         ensures ok { IfOk result (λ r. manifest_of self.now ≡ Some (r.0, r.1.items)) }
         ensures missing { IsErrOf result ShelfFault.Missing ↔ (manifest_of self.now ≡ None) }
         ensures device { IfErr result NotDevice }
-        ensures memory { IfSome (manifest_of self.now) (λ m. IfErr result (λ e. e ≡ ShelfFault.OutOfMemory)) }
+        ensures memory { IfSome (manifest_of self.now) (λ m.
+            IfErr result (λ e. e ≡ ShelfFault.OutOfMemory)) }
     {
         match &self.manifest {
             None => Err(ShelfFault::Missing),
@@ -179,8 +189,10 @@ impl Directory {
         number: u64,
         bytes: &[u8],
     ) -> Result<Tag, ShelfFault>
-        ensures ok { IfOk result (λ t. (t.numbers ≡ bytes.now) × (manifest_of self.new ≡ Some (number, bytes.now))) }
-        ensures taken { IsErrOf result (ShelfFault.Taken number) ↔ IsSomeAnd (manifest_of self.old) (λ m. m.0 ≡ number) }
+        ensures ok { IfOk result (λ t. (t.numbers ≡ bytes.now)
+            × (manifest_of self.new ≡ Some (number, bytes.now))) }
+        ensures taken { IsErrOf result (ShelfFault.Taken number)
+            ↔ IsSomeAnd (manifest_of self.old) (λ m. m.0 ≡ number) }
         ensures cause { IfErr result (TakenIs number) }
         ensures device { IfErr result NotDevice }
         ensures err { OnErr result (self.new ≡ self.old) }
@@ -199,7 +211,8 @@ impl Directory {
 
     /// Puts bytes behind those of the manifest. Answers the bytes that it put there.
     pub(crate) fn append(&mut self, bytes: &[u8]) -> Result<Tag, ShelfFault>
-        ensures ok { IfOk result (λ t. (t.numbers ≡ bytes.now) × IfSome (manifest_of self.old) (λ m. manifest_of self.new ≡ Some (m.0, m.1 ++ bytes.now))) }
+        ensures ok { IfOk result (λ t. (t.numbers ≡ bytes.now) × IfSome (manifest_of self.old) (λ m.
+            manifest_of self.new ≡ Some (m.0, m.1 ++ bytes.now))) }
         ensures missing { IsErrOf result ShelfFault.Missing ↔ (manifest_of self.old ≡ None) }
         ensures cause { IfErr result NotTaken }
         ensures device { IfErr result NotDevice }

@@ -1,9 +1,12 @@
 //! Tables and a manifest in memory.
 
-ghost use Rattle.std.specs.Prelude.{◌≡◌, ◌↔◌, ◌+◌, ◌<◌, ◌≤◌, ◌^◌, length, take, drop, IfOk, IfErr, IsErrOf, OnOk, OnErr, IsTrue};
+ghost use Rattle.std.specs.Prelude.{◌≡◌, ◌↔◌, ◌+◌, ◌<◌, ◌≤◌, ◌^◌, length, take, drop, IfOk, IfErr};
+ghost use Rattle.std.specs.Prelude.{IsErrOf, OnOk, OnErr, IsTrue};
 ghost use Rattle.std.specs.List.Sorted.{IsStrictlyIncreasing};
 ghost use Rattle.boxcar.specs.Table.{Shows};
-ghost use Rattle.lsm_shelf.specs.Told.{Becomes, Counted, CountedBy, NotDevice, NotNamed, NotTaken, TakenIs, forking, fresh, putting, removing, listing, sending, appending, finding};
+ghost use Rattle.lsm_shelf.specs.Told.{Becomes, Counted, CountedBy, NotDevice, NotNamed, NotTaken};
+ghost use Rattle.lsm_shelf.specs.Told.{TakenIs, forking, fresh, putting, removing, listing};
+ghost use Rattle.lsm_shelf.specs.Told.{sending, appending, finding};
 
 use crate::account::{
     Account, tag_of_both, tag_of_bytes, tag_of_more, tag_of_number, tag_of_numbers,
@@ -33,7 +36,8 @@ fn part(
 ) -> Result<Vec<u8>, AllocError>
     requires here { Shows images.now receipt.now.token }
     requires inside { offset + len ≤ length receipt.now.token.value.bytes.items }
-    ensures { IfOk result (λ v. v.items ≡ take len (drop offset receipt.now.token.value.bytes.items)) }
+    ensures { IfOk result (λ v.
+        v.items ≡ take len (drop offset receipt.now.token.value.bytes.items)) }
 {
     let image = images.value(&receipt.token);
     Vec::from_slice(alloc, &image.bytes[offset..offset + len])
@@ -55,7 +59,8 @@ impl MemoryShelf {
 
 impl Shelf for MemoryShelf {
     ghost use Rattle.lsm_shelf.specs.Asked.{MemoryRefuses};
-    ghost use Rattle.lsm_storage.specs.MemoryShelf.{IsOfMemory, memory_image, memory_number, memory_told};
+    ghost use Rattle.lsm_storage.specs.MemoryShelf.{IsOfMemory, memory_image, memory_number};
+    ghost use Rattle.lsm_storage.specs.MemoryShelf.{memory_told};
 
     type Receipt = MemoryReceipt;
 
@@ -74,11 +79,14 @@ impl Shelf for MemoryShelf {
         number: u64,
         image: &[u8],
     ) -> Result<MemoryReceipt, ShelfFault>
-        ensures receipt { IfOk result (λ r. (memory_number r ≡ number) × (memory_image r ≡ image.now) × IsOfMemory (memory_told self.old).place r) }
-        ensures ok { OnOk result (Becomes (putting number (memory_told self.old)) (memory_told self.new)) }
+        ensures receipt { IfOk result (λ r. (memory_number r ≡ number)
+            × (memory_image r ≡ image.now) × IsOfMemory (memory_told self.old).place r) }
+        ensures ok { OnOk result
+            (Becomes (putting number (memory_told self.old)) (memory_told self.new)) }
         ensures err { OnErr result (Becomes (memory_told self.old) (memory_told self.new)) }
         ensures refused { IfErr result (TakenIs number) }
-        ensures cause { IfErr result (λ e. TakenIs number e × Counted e (memory_told self.old) (memory_told self.new)) }
+        ensures cause { IfErr result (λ e. TakenIs number e
+            × Counted e (memory_told self.old) (memory_told self.new)) }
         ensures counts { CountedBy result (memory_told self.old) (memory_told self.new) }
         ensures device { IsErrOf result ShelfFault.Device ↔ (2 ^ 30 < length image.now) }
     {
@@ -98,10 +106,12 @@ impl Shelf for MemoryShelf {
     ) -> Result<Vec<u8>, ShelfFault>
         requires here { IsOfMemory (memory_told self.old).place receipt.now }
         requires inside { offset + len ≤ length (memory_image receipt.now) }
-        ensures bytes { IfOk result (λ v. v.items ≡ take len (drop offset (memory_image receipt.now))) }
+        ensures bytes { IfOk result (λ v.
+            v.items ≡ take len (drop offset (memory_image receipt.now))) }
         ensures told { Becomes (memory_told self.old) (memory_told self.new) }
         ensures refused { IfErr result NotTaken }
-        ensures cause { IfErr result (λ e. NotTaken e × Counted e (memory_told self.old) (memory_told self.new)) }
+        ensures cause { IfErr result (λ e. NotTaken e
+            × Counted e (memory_told self.old) (memory_told self.new)) }
         ensures counts { CountedBy result (memory_told self.old) (memory_told self.new) }
         ensures memory { IfErr result (λ e. e ≡ ShelfFault.OutOfMemory) }
     {
@@ -114,9 +124,11 @@ impl Shelf for MemoryShelf {
         alloc: Global,
         number: u64,
     ) -> Result<(MemoryReceipt, Vec<u8>), ShelfFault>
-        ensures receipt { IfOk result (λ r. (memory_number r.0 ≡ number) × (memory_image r.0 ≡ r.1.items) × IsOfMemory (memory_told self.old).place r.0) }
+        ensures receipt { IfOk result (λ r. (memory_number r.0 ≡ number)
+            × (memory_image r.0 ≡ r.1.items) × IsOfMemory (memory_told self.old).place r.0) }
         ensures told { Becomes (memory_told self.old) (memory_told self.new) }
-        ensures cause { IfErr result (λ e. NotTaken e × Counted e (memory_told self.old) (memory_told self.new)) }
+        ensures cause { IfErr result (λ e. NotTaken e
+            × Counted e (memory_told self.old) (memory_told self.new)) }
         ensures counts { CountedBy result (memory_told self.old) (memory_told self.new) }
         ensures device { IfErr result NotDevice }
     {
@@ -128,7 +140,8 @@ impl Shelf for MemoryShelf {
     fn remove<R: Wait>(&mut self, rt: &R, number: u64) -> Result<(), ShelfFault>
         ensures told { Becomes (removing number (memory_told self.old)) (memory_told self.new) }
         ensures refused { IfErr result NotTaken }
-        ensures cause { IfErr result (λ e. NotTaken e × Counted e (memory_told self.old) (memory_told self.new)) }
+        ensures cause { IfErr result (λ e. NotTaken e
+            × Counted e (memory_told self.old) (memory_told self.new)) }
         ensures counts { CountedBy result (memory_told self.old) (memory_told self.new) }
         ensures missing { IfErr result (λ e. e ≡ ShelfFault.Missing) }
     {
@@ -139,10 +152,12 @@ impl Shelf for MemoryShelf {
 
     fn list<R: Wait>(&mut self, rt: &R, alloc: Global) -> Result<Vec<u64>, ShelfFault>
         ensures ascending { IfOk result (λ v. IsStrictlyIncreasing v.items) }
-        ensures ok { IfOk result (λ v. Becomes (listing v.items (memory_told self.old)) (memory_told self.new)) }
+        ensures ok { IfOk result (λ v.
+            Becomes (listing v.items (memory_told self.old)) (memory_told self.new)) }
         ensures err { OnErr result (Becomes (memory_told self.old) (memory_told self.new)) }
         ensures refused { IfErr result NotNamed }
-        ensures cause { IfErr result (λ e. NotNamed e × Counted e (memory_told self.old) (memory_told self.new)) }
+        ensures cause { IfErr result (λ e. NotNamed e
+            × Counted e (memory_told self.old) (memory_told self.new)) }
         ensures counts { CountedBy result (memory_told self.old) (memory_told self.new) }
         ensures memory { IfErr result (λ e. e ≡ ShelfFault.OutOfMemory) }
     {
@@ -156,10 +171,12 @@ impl Shelf for MemoryShelf {
         rt: &R,
         alloc: Global,
     ) -> Result<(u64, Vec<u8>), ShelfFault>
-        ensures ok { IfOk result (λ r. Becomes (finding r.0 r.1.items (memory_told self.old)) (memory_told self.new)) }
+        ensures ok { IfOk result (λ r.
+            Becomes (finding r.0 r.1.items (memory_told self.old)) (memory_told self.new)) }
         ensures err { OnErr result (Becomes (memory_told self.old) (memory_told self.new)) }
         ensures refused { IfErr result NotTaken }
-        ensures cause { IfErr result (λ e. NotTaken e × Counted e (memory_told self.old) (memory_told self.new)) }
+        ensures cause { IfErr result (λ e. NotTaken e
+            × Counted e (memory_told self.old) (memory_told self.new)) }
         ensures counts { CountedBy result (memory_told self.old) (memory_told self.new) }
         ensures device { IfErr result NotDevice }
     {
@@ -178,10 +195,12 @@ impl Shelf for MemoryShelf {
         number: u64,
         bytes: &[u8],
     ) -> Result<(), ShelfFault>
-        ensures ok { OnOk result (Becomes (sending number bytes.now (memory_told self.old)) (memory_told self.new)) }
+        ensures ok { OnOk result
+            (Becomes (sending number bytes.now (memory_told self.old)) (memory_told self.new)) }
         ensures err { OnErr result (Becomes (memory_told self.old) (memory_told self.new)) }
         ensures refused { IfErr result (TakenIs number) }
-        ensures cause { IfErr result (λ e. TakenIs number e × Counted e (memory_told self.old) (memory_told self.new)) }
+        ensures cause { IfErr result (λ e. TakenIs number e
+            × Counted e (memory_told self.old) (memory_told self.new)) }
         ensures counts { CountedBy result (memory_told self.old) (memory_told self.new) }
         ensures device { IfErr result NotDevice }
     {
@@ -194,10 +213,12 @@ impl Shelf for MemoryShelf {
     }
 
     fn append_manifest<R: Wait>(&mut self, rt: &R, bytes: &[u8]) -> Result<(), ShelfFault>
-        ensures ok { OnOk result (Becomes (appending bytes.now (memory_told self.old)) (memory_told self.new)) }
+        ensures ok { OnOk result
+            (Becomes (appending bytes.now (memory_told self.old)) (memory_told self.new)) }
         ensures err { OnErr result (Becomes (memory_told self.old) (memory_told self.new)) }
         ensures refused { IfErr result NotTaken }
-        ensures cause { IfErr result (λ e. NotTaken e × Counted e (memory_told self.old) (memory_told self.new)) }
+        ensures cause { IfErr result (λ e. NotTaken e
+            × Counted e (memory_told self.old) (memory_told self.new)) }
         ensures counts { CountedBy result (memory_told self.old) (memory_told self.new) }
         ensures device { IfErr result NotDevice }
     {
@@ -210,9 +231,11 @@ impl Shelf for MemoryShelf {
 
     fn fork(&mut self, _alloc: Global) -> Result<MemoryShelf, ShelfFault>
         ensures fork { IfOk result (λ s. memory_told s ≡ fresh (memory_told self.old).place) }
-        ensures ok { OnOk result (Becomes (forking 1 (memory_told self.old)) (memory_told self.new)) }
+        ensures ok { OnOk result
+            (Becomes (forking 1 (memory_told self.old)) (memory_told self.new)) }
         ensures err { OnErr result (Becomes (memory_told self.old) (memory_told self.new)) }
-        ensures cause { IfErr result (λ e. NotNamed e × Counted e (memory_told self.old) (memory_told self.new)) }
+        ensures cause { IfErr result (λ e. NotNamed e
+            × Counted e (memory_told self.old) (memory_told self.new)) }
         ensures counts { CountedBy result (memory_told self.old) (memory_told self.new) }
         ensures memory { IfErr result (λ e. e ≡ ShelfFault.OutOfMemory) }
     {
@@ -225,9 +248,11 @@ impl Shelf for MemoryShelf {
     }
 
     fn same(&self, a: &MemoryReceipt, b: &MemoryReceipt) -> bool
-        requires here { IsOfMemory (memory_told self.now).place a.now × IsOfMemory (memory_told self.now).place b.now }
+        requires here { IsOfMemory (memory_told self.now).place a.now
+            × IsOfMemory (memory_told self.now).place b.now }
         ensures copy { a.now ≡ b.now → IsTrue result }
-        ensures one { IsTrue result → (memory_number a.now ≡ memory_number b.now) × (memory_image a.now ≡ memory_image b.now) }
+        ensures one { IsTrue result → (memory_number a.now ≡ memory_number b.now)
+            × (memory_image a.now ≡ memory_image b.now) }
     {
         if a.token.index() == b.token.index() {
             self.contents.images.agrees(&a.token, &b.token);

@@ -17,13 +17,13 @@ returns-in_err-done-clause-fault g c =
     let Stored : ℕ → List ℕ → Type 0 = λ number image. (r : g.row.S-Receipt.Denot) × g.S.Shelf.is_of g.N.Naming.place r × (g.S.Receipt.Slip.number r ≡ number) × (g.S.Receipt.Slip.image r ≡ image) in
     rw (p.1, p.2) (unfinished Stored (g.S.Shelf.refuses g.N.Naming.place) g.S.Shelf.honest g.N.Boarded.board c.args.options.workers c.in_ok-store.field-0.shelves.len c.in_err-done.field-0.0 _ _ count c.in_ok-store.ensures.opened c.in_err-done.ensures.refused)
 
-pub returns-in_err-tidy-clause-fault : goal.returns-in_err-tidy-clause-fault
-returns-in_err-tidy-clause-fault g c =
-    let p = err_from_is_err_and c.from_residual-in_err-tidy.result c.from_residual-in_err-tidy.ensures.1 in
+pub returns-in_err-sweep_all-clause-fault : goal.returns-in_err-sweep_all-clause-fault
+returns-in_err-sweep_all-clause-fault g c =
+    let p = err_from_is_err_and c.from_residual-in_err-sweep_all.result c.from_residual-in_err-sweep_all.ensures.1 in
     let count : c.in_ok-store.field-0.shelves.len ≡ c.args.options.workers = search rules in
     let Stored : ℕ → List ℕ → Type 0 = λ number image. (r : g.row.S-Receipt.Denot) × g.S.Shelf.is_of g.N.Naming.place r × (g.S.Receipt.Slip.number r ≡ number) × (g.S.Receipt.Slip.image r ≡ image) in
-    rw (p.1, p.2) (unswept Stored (g.S.Shelf.refuses g.N.Naming.place) g.S.Shelf.honest g.N.Boarded.board c.args.options.workers c.in_ok-store.field-0.shelves.len c.in_ok-done.done.items c.in_err-tidy.field-0.0 _ _ _ count c.in_ok-store.ensures.opened
-    c.in_ok-done.ensures.ends c.in_ok-done.ensures.faultless c.in_err-tidy.ensures.refused)
+    rw (p.1, p.2) (unswept Stored (g.S.Shelf.refuses g.N.Naming.place) g.S.Shelf.honest g.N.Boarded.board c.args.options.workers c.in_ok-store.field-0.shelves.len c.in_ok-done.done.items c.in_err-sweep_all.field-0.0 _ _ _ count c.in_ok-store.ensures.opened
+    c.in_ok-done.ensures.ends c.in_ok-done.ensures.faultless c.in_err-sweep_all.ensures.refused)
 
 pub returns-clause-fault : goal.returns-clause-fault
 returns-clause-fault g c =
@@ -33,7 +33,7 @@ returns-clause-fault g c =
       (
         c.in_ok-done.done.items,
         compacts g.S.Shelf.honest g.N.Boarded.board c.args.options.workers c.in_ok-store.field-0.shelves.len c.in_ok-done.done.items _ _ _ count c.in_ok-store.ensures.opened c.in_ok-done.ensures.ends
-            c.in_ok-done.ensures.faultless c.in_ok-tidy.ensures.ok,
+            c.in_ok-done.ensures.faultless c.in_ok-sweep_all.ensures.ok,
       ),
     ))))
 
@@ -44,6 +44,6 @@ returns-in-Ok-clause-done g c =
     let written : Appends (g.O.Write.contents c.args.out.now) (g.O.Write.contents c.reply.new.out) (installed_text (installed_by ends)) = search rules in (
       ends,
       compacts g.S.Shelf.honest g.N.Boarded.board c.args.options.workers c.in_ok-store.field-0.shelves.len ends _ _ _ count c.in_ok-store.ensures.opened
-          c.in_ok-done.ensures.ends c.in_ok-done.ensures.faultless c.in_ok-tidy.ensures.ok,
+          c.in_ok-done.ensures.ends c.in_ok-done.ensures.faultless c.in_ok-sweep_all.ensures.ok,
       written,
     )

@@ -1,7 +1,7 @@
 use Rattle.std.proofs.Common.{◌≡◌, ◌++◌, ◌∷◌, [], Some, ap, ◌∙◌, arith}
 use Rattle.std.specs.Vec.Iter.{into_iter_items}
 use Rattle.lsm_pins.specs.Known.{Known}
-use Rattle.lsm_store.specs.Readers.{AtDesk, IsFreeEnd, Learnt, desk_at, seated}
+use Rattle.lsm_store.specs.Readers.{KnownVersion, IsFreeEnd, Learnt, known_at, seated}
 use Rattle.lsm_store.proofs.SeatLaws.{all_popped, all_rest, one_more}
 use Rattle.lsm_store.proofs.store.seat_all.Goals as goal
 
@@ -23,7 +23,7 @@ loop-pinner-preserved g c =
     let fewer = step.1 in
     record {
       pinners = all_rest (IsFreeEnd g.N.Boarded.board) (into_iter_items c.loop-pinner.pinner-iterator) (into_iter_items c.next.new.self) pinner first before.pinners;
-      desks = all_popped (λ (d : AtDesk). d ≡ desk_at state place) c.loop-pinner.desks.items c.pop.new.self.items (Some c.in-Some-pop.desk) c.in-Some-pop.ensures.items before.desks;
+      caches = all_popped (λ (d : KnownVersion). d ≡ known_at state place) c.loop-pinner.caches.items c.pop.new.self.items (Some c.in-Some-pop.cache) c.in-Some-pop.ensures.items before.caches;
       enough = omega arith;
       room = omega arith;
       all = omega arith;

@@ -1,0 +1,11 @@
+use Rattle.std.proofs.Common.{◌≡◌, All, vec_len}
+use Rattle.lsm_shelf.specs.Told.{Forked}
+use Rattle.lsm_store.specs.Readers.{known_at}
+use Rattle.lsm_store.proofs.store.caches_for.Given as goal
+
+abbrev pub invariant-loop-number : goal.invariant-loop-number
+invariant-loop-number g l = record {
+  told : Forked (g.S.Shelf.told l.fn.shelf) (g.S.Shelf.told l.shelf);
+  caches : All (λ d. d ≡ known_at l.state g.N.Naming.place) l.caches.items;
+  len : vec_len l.caches ≡ l.number;
+}
