@@ -10,7 +10,7 @@ use Rattle.lsm_table.specs.HeldTable.{entries_in}
 use Rattle.lsm_manifest.specs.FileOrder.{TableFile}
 use Rattle.lsm_check.specs.CheckedFiles.{IsFileOf}
 use Rattle.lsm_version.specs.FileNumbers.{file_numbers, numbers_of, times, AreDistinct}
-use Rattle.lsm_levels.specs.Files.{File, InOrder, Lie, Fits, Shallower}
+use Rattle.lsm_levels.specs.Files.{File, InOrder, Fits, Shallower}
 use Rattle.lsm_check.specs.LevelLayouts.{AreLevelsWhole, AreRangesOf, LieInOrder, MeetNowhere}
 use Rattle.lsm_check.specs.Settled.{DeeperRise, KeepsAge}
 use Rattle.lsm_reads.specs.Runs.{AreMergeable}
@@ -191,7 +191,7 @@ length-placed [] = refl
 length-placed (ts ∷ read) = ap suc (length-placed read)
 
 ordered_files : (levels : List (List Table)) → length levels ≡ 7 → LieInOrder levels → ((n : ℕ) (t : Table) → Has (level_in levels n) t → IsWhole t) → (F G : File) → Has (files_from 0 levels) F → Has (files_from 0 levels) G
-    → F.level ≡ G.level → 1 ≤ F.level → (F.number ≡ G.number → ⊥) → Lie F G
+    → F.level ≡ G.level → 1 ≤ F.level → (F.number ≡ G.number → ⊥) → InOrder F G
 ordered_files levels seven order whole F G hF hG same pos ne =
     let f = file_in 0 levels F hF in
     let g = file_in 0 levels G hG in
@@ -238,7 +238,7 @@ sound_version last shape read pointers seven a d apart ages =
       lawful = record {
         fits = files_fit last shape read a;
         numbers = λ F G hF hG e. one_number last shape read a d F G (files_read read F hF) (files_read read G hG) e;
-        split = ordered_files levels long apart whole;
+        in_order = ordered_files levels long apart whole;
         depth = ages;
       };
       tables = whole;
@@ -258,7 +258,7 @@ judged_level last shape read seven a d apart order n pos =
       lawful = record {
         fits = λ F h. files_fit last shape read a F (of_level levels n F h);
         numbers = λ F G hF hG e. one_number last shape read a d F G (files_read read F (of_level levels n F hF)) (files_read read G (of_level levels n G hG)) e;
-        split = λ F G hF hG. ordered_files levels long apart (placed_tables last shape read a) F G (of_level levels n F hF) (of_level levels n G hG);
+        in_order = λ F G hF hG. ordered_files levels long apart (placed_tables last shape read a) F G (of_level levels n F hF) (of_level levels n G hG);
         depth = λ F G x y hF hG s. absurd (one_depth n (level_in levels n) F G pos hF hG s);
       };
       whole = placed_tables last shape read a n;

@@ -4,7 +4,7 @@ use Rattle.std.specs.Prelude.{◌⊎◌}
 use Rattle.lsm_codec.specs.Keys.{UserKey}
 use Rattle.lsm_codec.specs.Lists.{Has}
 use Rattle.lsm_codec.proofs.CallerLemmas.{has_cases}
-use Rattle.lsm_levels.specs.Files.{File, Lie}
+use Rattle.lsm_levels.specs.Files.{File}
 use Rattle.lsm_levels.specs.Jobs.{IsOpenIn}
 use Rattle.lsm_levels.specs.Plans.{IsJobOf}
 use Rattle.lsm_levels.proofs.CallerLemmas.{plan_opens}
@@ -27,7 +27,7 @@ job_is v p ticket floor ranges is_move r = record {
 pub job_opens : (v : Levels) (starts : List File) (p : TablePlan) (ticket floor : ℕ) (ranges : List (UserKey × UserKey)) (is_move : Bool) → IsSound v
     → IsPlanFrom v (Has starts) p → AreRangesBelow v p.level ranges → IsOpenIn (files v) (job_of p ticket floor ranges is_move)
 job_opens v starts p ticket floor ranges is_move s q r =
-    plan_opens Lie (files v) (Has starts) (plan_of p) (job_of p ticket floor ranges is_move) s.lawful q.closed (job_is v p ticket floor ranges is_move r)
+    plan_opens (files v) (Has starts) (plan_of p) (job_of p ticket floor ranges is_move) s.lawful q.closed (job_is v p ticket floor ranges is_move r)
 
 pub input_in : (v : Levels) (p : TablePlan) (F : File) → StandsIn v p → Has (files_of p.level p.upper ++ files_of (suc p.level) p.lower) F
     → Has (files v) F × ((F.level ≡ p.level) ⊎ (F.level ≡ suc p.level))

@@ -3,35 +3,35 @@ use Rattle.std.proofs.Common.{◌≡◌, ℕ, List, Option, Some, None, Result, 
 use Rattle.std.specs.Prelude.{IfErr, IfSome, OnErr}
 use Rattle.lsm_commands.specs.Commands.{Answers, BeginsAnswer, Explains}
 use Rattle.lsm_commands.specs.Printing.{Begins}
-use Rattle.lsm_commands.specs.declared.command_line.CommandName.{CommandName}
-use Rattle.lsm_commands.specs.declared.command_line.CommandName.TheVariants.{MakeTable, Dump, Manifest}
+use Rattle.lsm_commands.specs.declared.conversion.Conversion.{Conversion}
+use Rattle.lsm_commands.specs.declared.conversion.Conversion.TheVariants.{MakeTable, Dump, Manifest}
 use Rattle.lsm_commands.specs.declared.fault.Fault.{Fault}
 use Rattle.lsm_commands.specs.declared.fault.Fault.TheVariants.{Write}
 
-write_explains : (name : CommandName) (text output : List ℕ) → Answers name text output → Explains name text Write
+write_explains : (name : Conversion) (text output : List ℕ) → Answers name text output → Explains name text Write
 write_explains MakeTable text output h = (output, h)
 write_explains Dump text output h = (output, h)
 write_explains Manifest text output h = (output, h)
 
-pub write_explained : {X : Type 0} (name : CommandName) (text output : List ℕ) (r : Result X Fault) → Answers name text output → IfErr r (λ e. e ≡ Write)
+pub write_explained : {X : Type 0} (name : Conversion) (text output : List ℕ) (r : Result X Fault) → Answers name text output → IfErr r (λ e. e ≡ Write)
     → IfErr r (λ e. Explains name text e)
 write_explained name text output (Ok x) h fault = tt
 write_explained name text output (Err e) h fault = subst (λ (f : Fault). Explains name text f) (sym fault) (write_explains name text output h)
 
-pub begins_answer : {X : Type 0} (name : CommandName) (text output : List ℕ) (r : Result X Fault) (a b : Option (List ℕ)) → Answers name text output
+pub begins_answer : {X : Type 0} (name : Conversion) (text output : List ℕ) (r : Result X Fault) (a b : Option (List ℕ)) → Answers name text output
     → OnErr r (Begins a b output) → IfErr r (λ e. e ≡ Write → BeginsAnswer name text a b)
 begins_answer name text output (Ok x) a b h begun = tt
 begins_answer name text output (Err e) a b h begun = λ fault. (output, h, begun)
 
 -- ---- of an input whose bytes are known
 
-pub explained_known : {X : Type 0} (name : CommandName) (r : Result X Fault) (known : Option (List ℕ)) (bytes : List ℕ) → IfSome known (λ text. bytes ≡ text)
+pub explained_known : {X : Type 0} (name : Conversion) (r : Result X Fault) (known : Option (List ℕ)) (bytes : List ℕ) → IfSome known (λ text. bytes ≡ text)
     → IfErr r (λ e. Explains name bytes e) → IfErr r (λ e. IfSome known (λ text. Explains name text e))
 explained_known name (Ok x) known bytes is h = tt
 explained_known name (Err e) None bytes is h = tt
 explained_known name (Err e) (Some text) bytes is h = subst (λ (t : List ℕ). Explains name t e) is h
 
-pub begun_known : {X : Type 0} (name : CommandName) (r : Result X Fault) (known : Option (List ℕ)) (bytes : List ℕ) (a b : Option (List ℕ))
+pub begun_known : {X : Type 0} (name : Conversion) (r : Result X Fault) (known : Option (List ℕ)) (bytes : List ℕ) (a b : Option (List ℕ))
     → IfSome known (λ text. bytes ≡ text) → IfErr r (λ e. e ≡ Write → BeginsAnswer name bytes a b)
     → IfErr r (λ e. e ≡ Write → IfSome known (λ text. BeginsAnswer name text a b))
 begun_known name (Ok x) known bytes a b is h = tt

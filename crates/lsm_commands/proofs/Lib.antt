@@ -14,5 +14,3 @@ pub mod LineLists
 pub mod SpellingLaws
 pub mod SlipLaws
 pub mod CallerLemmas
-mod DirectoryLines
-mod LineCases

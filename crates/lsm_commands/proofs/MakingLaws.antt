@@ -7,8 +7,8 @@ use Rattle.lsm_commands.specs.EntryReading.{may_follow, in_front, joined, list_a
 use Rattle.lsm_commands.specs.declared.entry_reader.EntryReader.{EntryReader}
 use Rattle.lsm_commands.specs.declared.entry_reader.LineFault.{LineFault}
 use Rattle.lsm_commands.specs.declared.entry_reader.LineFault.TheVariants.{BadLine, OutOfMemory}
-use Rattle.lsm_commands.specs.declared.command_line.CommandName.{CommandName}
-use Rattle.lsm_commands.specs.declared.command_line.CommandName.TheVariants.{MakeTable}
+use Rattle.lsm_commands.specs.declared.conversion.Conversion.{Conversion}
+use Rattle.lsm_commands.specs.declared.conversion.Conversion.TheVariants.{MakeTable}
 use Rattle.lsm_commands.specs.declared.fault.Fault.{Fault}
 use Rattle.std.specs.Prelude.{IfErr, IsErrAnd}
 use Rattle.lsm_commands.specs.ReaderView.{before_of, rest_of, Stops}
@@ -70,7 +70,7 @@ pub line_explained : (text : List ℕ) (es : List Entry) (e : LineFault) (r : En
 line_explained text es (BadLine i) r at h = at_bad text es (before_of r) (rest_of r) i at h
 line_explained text es OutOfMemory r at h = tt
 
-pub explained_err : {A : Type 0} (name : CommandName) (text : List ℕ) (r : Result A Fault) (f : Fault) → IsErrAnd r (λ e. e ≡ f) → Explains name text f
+pub explained_err : {A : Type 0} (name : Conversion) (text : List ℕ) (r : Result A Fault) (f : Fault) → IsErrAnd r (λ e. e ≡ f) → Explains name text f
     → IfErr r (λ e. Explains name text e)
 explained_err name text (Ok x) f h k = tt
 explained_err name text (Err e) f h k = subst (λ (x : Fault). Explains name text x) (sym h) k

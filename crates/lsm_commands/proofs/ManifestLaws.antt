@@ -12,7 +12,7 @@ use Rattle.lsm_manifest.specs.Edit.{IsEdit}
 use Rattle.lsm_manifest.specs.EditReading.{edit_at}
 use Rattle.lsm_manifest.specs.EditView.{Fails}
 use Rattle.lsm_manifest.specs.EditFit.{Change}
-use Rattle.lsm_commands.specs.declared.command_line.CommandName.TheVariants.{Manifest}
+use Rattle.lsm_commands.specs.declared.conversion.Conversion.TheVariants.{Manifest}
 use Rattle.lsm_manifest.specs.Manifest.{AreEdits}
 use Rattle.lsm_commands.specs.Commands.{HasBadEdit, Explains}
 use Rattle.lsm_commands.specs.Fault.{of_log, of_edit}

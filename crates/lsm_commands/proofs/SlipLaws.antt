@@ -1,5 +1,5 @@
 -- Where a word stops being one of its form.
-use Rattle.std.proofs.Common.{◌≡◌, ◌≢◌, ℕ, suc, ◌+◌, ◌-◌, ◌%◌, ◌<◌, ◌≤◌, true, false, List, [], ◌∷◌, ◌++◌, length, slice_index_or, get_or, take, drop, codes, Option, Some, None, Ok, refl, sym, ap, ◌∙◌, subst, arith, inl, inr, append_assoc, append-nil, length-append, drop-cons, length-drop}
+use Rattle.std.proofs.Common.{◌≡◌, ◌≢◌, ℕ, ◌-◌, ◌%◌, ◌<◌, ◌≤◌, true, false, List, [], ◌∷◌, ◌++◌, length, slice_index_or, get_or, take, drop, codes, Option, Some, None, Ok, refl, sym, ap, ◌∙◌, subst, arith, inl, inr, append_assoc, append-nil, length-append, drop-cons, length-drop}
 use Rattle.std.proofs.lemmas.List.{take_all}
 use Rattle.std.specs.List.{AllPass}
 use Rattle.std.proofs.lemmas.List.Elements.{All-append, All-cons, All-head, All-nil, All-tail}
@@ -8,10 +8,10 @@ use Rattle.hex.specs.Hex.{decode_of, is_hex_digit}
 use Rattle.hex.proofs.HexLemmas.{decode_of-digits, decode_of-ok}
 use Rattle.lsm_commands.specs.EntryList.{IsBytesWord}
 use Rattle.lsm_commands.specs.Slip.{IsAt, IsBegun, IsCutOff, IsSlip, IsStuck, Reaches}
-use Rattle.lsm_commands.specs.Spelling.{AreParts, IsPart, IsTextWord, IsWord}
+use Rattle.lsm_commands.specs.Spelling.{IsPart, IsTextWord, IsWord}
 use Rattle.lsm_commands.specs.declared.form.Form.{Form}
 use Rattle.lsm_commands.specs.declared.form.Form.TheVariants.{Hex, Text}
-use Rattle.lsm_commands.proofs.SpellingLaws.{HasTaken, parts_snoc, taken_all, taken_stuck, word_some}
+use Rattle.lsm_commands.proofs.SpellingLaws.{parts_snoc, taken_all, taken_stuck, word_some}
 
 -- The word goes on as one of this form up to here.
 pub record GoesOn (form : Form) (word rest : List ℕ) : Type 0 where

@@ -5,8 +5,8 @@ pub mod EntryPrinting
 pub mod Printing
 pub mod Spelling
 pub mod Slip
-pub mod Options
-pub mod DirectoryLine
+pub mod Grammar
+pub mod Requests
 pub mod EntryView
 pub mod ReaderView
 pub mod Fault

@@ -1,40 +1,30 @@
 //! The command line.
 
-ghost use Rattle.std.specs.Prelude.{◌≡◌, ◌≢◌, IfOk, IfSome, Some, map};
-ghost use Rattle.lsm_commands.specs.Commands.{word_of, Asks};
+ghost use Rattle.std.specs.Prelude.{◌≢◌, IfErr, IfOk, List, map, ℕ};
+ghost use Rattle.clap.specs.Words.{kind_of, subcommand_rows_of};
+ghost use Rattle.clap.specs.declared.error.ErrorKind.TheVariants.{OutOfMemory};
+ghost use Rattle.lsm_commands.specs.Requests.{IsLine, IsNoRequest, IsOf};
 
-use crate::help::command;
+use crate::asking::asked_in;
+use crate::grammar::found_in;
 use crate::pages::usage_of;
+use crate::request::Request;
 use crate::word_fault::fault_in;
+use clap::ArgMatches;
 use clap::error::ErrorKind;
 use std::alloc::{AllocError, Global};
 use std::convert::AsStr;
 use std::io::{self, Write};
 
-/// A command of the program.
-#[derive(Clone, Copy, Debug)]
-pub enum CommandName {
-    /// A table from a list of entries.
-    MakeTable,
-    /// The list of a table's entries.
-    Dump,
-    /// The edits of a manifest.
-    Manifest,
-}
-
 /// What a command line asks for.
 #[derive(Debug, Drop)]
-pub enum CommandLine {
-    Run(CommandName),
+pub enum CommandLine<'a> {
+    Run(Request<'a>),
     /// Help, as text for standard output.
     Help(Vec<u8>),
     /// What is wrong with the command line, as text for standard error.
     Bad(Vec<u8>),
 }
-
-/// What is said where words ask for nothing and no one of them is seen to be wrong.
-const NO_COMMAND: &str =
-    "the words ask for no command: DIR comes first, then KEY or FILE, and options last, each once";
 
 fn text_of(alloc: Global, error: &clap::Error) -> Result<Vec<u8>, AllocError> {
     let mut text = Vec::new(alloc);
@@ -44,79 +34,61 @@ fn text_of(alloc: Global, error: &clap::Error) -> Result<Vec<u8>, AllocError> {
     }
 }
 
-/// Writes what is wrong with words that `clap` takes, and how their command is used.
-fn write_wrong<W: Write, S: AsStr>(out: &mut W, words: &[S]) -> io::Result<()> {
-    match fault_in(words) {
+/// Writes what is wrong with words that are of the grammar, and how their command is used.
+fn write_wrong<W: Write>(out: &mut W, matches: &ArgMatches<'_>) -> io::Result<()> {
+    match fault_in(matches) {
         Some(fault) => writeln!(out, "error: {fault}")?,
-        None => writeln!(out, "error: {NO_COMMAND}")?,
+        None => out.write_all(b"error: the words ask for no command\n")?,
     }
-    let usage = match words {
-        [name, ..] => usage_of(name.as_str()),
-        [] => usage_of(""),
-    };
+    let usage = usage_of(matches.subcommand_name().unwrap_or(""));
     writeln!(
         out,
         "\nUsage: {usage}\n\nFor more information, try '--help'."
     )
 }
 
-/// What is wrong with words that `clap` takes.
-fn wrong<S: AsStr>(alloc: Global, words: &[S]) -> Result<Vec<u8>, AllocError> {
+/// What is wrong with words that are of the grammar.
+fn wrong(alloc: Global, matches: &ArgMatches<'_>) -> Result<Vec<u8>, AllocError> {
     let mut text = Vec::new(alloc);
-    match write_wrong(&mut text, words) {
+    match write_wrong(&mut text, matches) {
         Ok(()) => Ok(text),
         Err(_) => Err(AllocError),
     }
 }
 
-// The command of this name.
-fn named(word: &str) -> Option<CommandName>
-    ensures found { (name : CommandName) → word.now ≡ word_of name → result ≡ Some name }
-    ensures only { IfSome result (λ name. word.now ≡ word_of name) }
+/// What is said of words in which something was found.
+fn line_of<'a>(alloc: Global, matches: &ArgMatches<'a>) -> Result<CommandLine<'a>, AllocError>
+    ensures { IfOk result (IsOf (subcommand_rows_of matches.now)) }
 {
-    if word == "mktable" {
-        return Some(CommandName::MakeTable);
-    }
-    if word == "dump" {
-        return Some(CommandName::Dump);
-    }
-    if word == "manifest" {
-        return Some(CommandName::Manifest);
-    }
-    None
-}
-
-// The command that one word alone asks for.
-fn asked<S: AsStr>(words: &[S]) -> Option<CommandName>
-    ensures found { (name : CommandName) → Asks name (map S.text words.now) → result ≡ Some name }
-    ensures only { IfSome result (λ name. Asks name (map S.text words.now)) }
-{
-    match words {
-        [word] => named(word.as_str()),
-        _ => None,
+    match asked_in(alloc, matches)? {
+        Some(request) => Ok(CommandLine::Run(request)),
+        None => Ok(CommandLine::Bad(wrong(alloc, matches)?)),
     }
 }
 
-/// What the words after the program's name ask for. A command is asked for by its one word, and by
-/// nothing else.
-pub(crate) fn parse<S: AsStr>(alloc: Global, words: &[S]) -> Result<CommandLine, AllocError>
-    ensures asked { (name : CommandName) → Asks name (map S.text words.now) → IfOk result (λ line. line ≡ CommandLine.Run name) }
-    ensures only { (name : CommandName) → IfOk result (λ line. line ≡ CommandLine.Run name → Asks name (map S.text words.now)) }
+/// What is said of words that are not of the grammar, or that ask for help.
+fn refused_by<'a>(alloc: Global, error: &clap::Error) -> Result<CommandLine<'a>, AllocError>
+    ensures line { IfOk result IsNoRequest }
+    ensures kind { IfOk result (λ _. kind_of error.now ≢ OutOfMemory) }
 {
-    match asked(words) {
-        Some(name) => Ok(CommandLine::Run(name)),
-        None => told(alloc, words),
+    if error.kind() == ErrorKind::OutOfMemory {
+        return Err(AllocError);
     }
+    let text = text_of(alloc, error)?;
+    if error.use_stderr() {
+        return Ok(CommandLine::Bad(text));
+    }
+    Ok(CommandLine::Help(text))
 }
 
-/// The help, or what is wrong with words that ask for no command.
-fn told<S: AsStr>(alloc: Global, words: &[S]) -> Result<CommandLine, AllocError>
-    ensures { (name : CommandName) → IfOk result (λ line. line ≢ CommandLine.Run name) }
+/// What the words after the program's name ask for: one request, or help, or nothing. They are read
+/// by the program's grammar, which `clap` has: options stand anywhere, a value stands behind its
+/// option or behind an `=` in its word, and after `--` no word is an option.
+pub fn read_line<'a, S: AsStr>(alloc: Global, words: &'a [S]) -> Result<CommandLine<'a>, AllocError>
+    ensures { IfOk result (IsLine (map S.text words.now)) }
 {
-    match command(alloc)?.try_get_matches_from(words) {
-        Ok(_matches) => Ok(CommandLine::Bad(wrong(alloc, words)?)),
-        Err(error) if error.kind() == ErrorKind::OutOfMemory => Err(AllocError),
-        Err(error) if error.use_stderr() => Ok(CommandLine::Bad(text_of(alloc, &error)?)),
-        Err(error) => Ok(CommandLine::Help(text_of(alloc, &error)?)),
+    match found_in(alloc, words) {
+        Ok(matches) => line_of(alloc, &matches),
+        Err(error) => refused_by(alloc, &error),
     }
 }

@@ -7,10 +7,13 @@ ghost use Rattle.std.specs.Option.{option_map};
 ghost use Rattle.lsm_commands.specs.EntryPrinting.{entry_list};
 ghost use Rattle.lsm_commands.specs.Commands.{Answers, BeginsAnswer, Explains};
 ghost use Rattle.lsm_commands.specs.Printing.{Begins, Passes, Stops};
-ghost use Rattle.lsm_commands.specs.declared.command_line.CommandName.TheVariants.{MakeTable, Dump, Manifest};
-ghost use Rattle.lsm_commands.specs.declared.fault.Fault.TheVariants.{Write as WriteFault, Read as ReadFault, OutOfMemory};
+ghost use Rattle.lsm_commands.specs.declared.conversion.Conversion.TheVariants.{MakeTable, Dump};
+ghost use Rattle.lsm_commands.specs.declared.conversion.Conversion.TheVariants.{Manifest};
+ghost use Rattle.lsm_commands.specs.declared.fault.Fault.TheVariants.{Write as WriteFault};
+ghost use Rattle.lsm_commands.specs.declared.fault.Fault.TheVariants.{Read as ReadFault};
+ghost use Rattle.lsm_commands.specs.declared.fault.Fault.TheVariants.{OutOfMemory};
 
-use crate::command_line::CommandName;
+use crate::conversion::Conversion;
 use crate::edit_spelling::{push_edit, push_number};
 use crate::entry_printing::print_entry;
 use crate::entry_reader::EntryReader;
@@ -64,8 +67,10 @@ fn print_left<'t, O: Write>(
     printer: &mut Printer,
     out: &mut O,
 ) -> Result<(), Fault>
-    ensures printed { OnOk result (Passes (O.contents out.old) printer.old.held.items (O.contents out.new) printer.new.held.items (entry_list entries.old.left)) }
-    ensures begun { OnErr result (Stops (O.contents out.old) printer.old.held.items (O.contents out.new) (entry_list entries.old.left)) }
+    ensures printed { OnOk result (Passes (O.contents out.old) printer.old.held.items
+        (O.contents out.new) printer.new.held.items (entry_list entries.old.left)) }
+    ensures begun { OnErr result (Stops (O.contents out.old) printer.old.held.items
+        (O.contents out.new) (entry_list entries.old.left)) }
     ensures fault { IfErr result (λ e. e ≡ WriteFault) }
 {
     'values: while let Some(value) = next_again(entries)? {
@@ -83,8 +88,10 @@ fn write_entries<'t, O: Write>(
     out: &mut O,
 ) -> Result<(), Fault>
     requires { printer.old.held.items ≡ [] }
-    ensures written { OnOk result (Appends (O.contents out.old) (O.contents out.new) (entry_list entries.old.left)) }
-    ensures begun { OnErr result (Begins (O.contents out.old) (O.contents out.new) (entry_list entries.old.left)) }
+    ensures written { OnOk result
+        (Appends (O.contents out.old) (O.contents out.new) (entry_list entries.old.left)) }
+    ensures begun { OnErr result
+        (Begins (O.contents out.old) (O.contents out.new) (entry_list entries.old.left)) }
     ensures fault { IfErr result (λ e. e ≡ WriteFault) }
 {
     print_left(entries, printer, out)?;
@@ -94,10 +101,13 @@ fn write_entries<'t, O: Write>(
 /// Writes the list of a table's entries as it goes through them. All is judged, and all memory is
 /// there, before the first byte is written.
 fn print_table<O: Write>(alloc: Global, file: Vec<u8>, out: &mut O) -> Result<(), Fault>
-    ensures written { OnOk result ((output : List ℕ) × Answers Dump file.items output × Appends (O.contents out.old) (O.contents out.new) output) }
+    ensures written { OnOk result ((output : List ℕ) × Answers Dump file.items output
+        × Appends (O.contents out.old) (O.contents out.new) output) }
     ensures explained { IfErr result (λ e. Explains Dump file.items e) }
-    ensures kept { IfErr result (λ e. e ≢ WriteFault → Keeps (O.contents out.old) (O.contents out.new)) }
-    ensures begun { IfErr result (λ e. e ≡ WriteFault → BeginsAnswer Dump file.items (O.contents out.old) (O.contents out.new)) }
+    ensures kept { IfErr result (λ e. e ≢ WriteFault
+        → Keeps (O.contents out.old) (O.contents out.new)) }
+    ensures begun { IfErr result (λ e. e ≡ WriteFault
+        → BeginsAnswer Dump file.items (O.contents out.old) (O.contents out.new)) }
 {
     let table = Table::check(alloc, file)?;
     let mut entries = table.iter(alloc);
@@ -127,19 +137,22 @@ fn list_manifest(alloc: Global, manifest: &[u8]) -> Result<Vec<u8>, Fault>
 /// Writes what a command answers for what it was given.
 fn write_answer<O: Write>(
     alloc: Global,
-    name: CommandName,
+    conversion: Conversion,
     input: Vec<u8>,
     out: &mut O,
 ) -> Result<(), Fault>
-    ensures written { OnOk result ((output : List ℕ) × Answers name input.items output × Appends (O.contents out.old) (O.contents out.new) output) }
-    ensures explained { IfErr result (λ e. Explains name input.items e) }
-    ensures kept { IfErr result (λ e. e ≢ WriteFault → Keeps (O.contents out.old) (O.contents out.new)) }
-    ensures begun { IfErr result (λ e. e ≡ WriteFault → BeginsAnswer name input.items (O.contents out.old) (O.contents out.new)) }
+    ensures written { OnOk result ((output : List ℕ) × Answers conversion input.items output
+        × Appends (O.contents out.old) (O.contents out.new) output) }
+    ensures explained { IfErr result (λ e. Explains conversion input.items e) }
+    ensures kept { IfErr result (λ e. e ≢ WriteFault
+        → Keeps (O.contents out.old) (O.contents out.new)) }
+    ensures begun { IfErr result (λ e. e ≡ WriteFault
+        → BeginsAnswer conversion input.items (O.contents out.old) (O.contents out.new)) }
 {
-    let answer = match name {
-        CommandName::MakeTable => make_table(alloc, input.as_slice())?,
-        CommandName::Manifest => list_manifest(alloc, input.as_slice())?,
-        CommandName::Dump => return print_table(alloc, input, out),
+    let answer = match conversion {
+        Conversion::MakeTable => make_table(alloc, input.as_slice())?,
+        Conversion::Manifest => list_manifest(alloc, input.as_slice())?,
+        Conversion::Dump => return print_table(alloc, input, out),
     };
     write_output(out, answer.as_slice())
 }
@@ -148,16 +161,19 @@ fn write_answer<O: Write>(
 /// for a failed write, which leaves a beginning of it.
 pub(crate) fn perform<R: Read, O: Write>(
     alloc: Global,
-    name: CommandName,
+    conversion: Conversion,
     input: &mut R,
     out: &mut O,
 ) -> Result<(), Fault>
-    ensures done { OnOk result (IfSome (R.remaining input.old) (λ text. (output : List ℕ) × Answers name text output
-        × Appends (O.contents out.old) (O.contents out.new) output)) }
-    ensures explained { IfErr result (λ e. IfSome (R.remaining input.old) (λ text. Explains name text e)) }
-    ensures kept { IfErr result (λ e. e ≢ WriteFault → Keeps (O.contents out.old) (O.contents out.new)) }
-    ensures begun { IfErr result (λ e. e ≡ WriteFault → IfSome (R.remaining input.old) (λ text. BeginsAnswer name text (O.contents out.old) (O.contents out.new))) }
+    ensures done { OnOk result (IfSome (R.remaining input.old) (λ text. (output : List ℕ) × Answers
+        conversion text output × Appends (O.contents out.old) (O.contents out.new) output)) }
+    ensures explained { IfErr result (λ e.
+        IfSome (R.remaining input.old) (λ text. Explains conversion text e)) }
+    ensures kept { IfErr result (λ e. e ≢ WriteFault
+        → Keeps (O.contents out.old) (O.contents out.new)) }
+    ensures begun { IfErr result (λ e. e ≡ WriteFault → IfSome (R.remaining input.old) (λ text.
+        BeginsAnswer conversion text (O.contents out.old) (O.contents out.new))) }
 {
     let bytes = read_input(alloc, input)?;
-    write_answer(alloc, name, bytes, out)
+    write_answer(alloc, conversion, bytes, out)
 }

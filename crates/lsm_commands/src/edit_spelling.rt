@@ -2,7 +2,10 @@
 
 ghost use Rattle.std.specs.Prelude.{◌≡◌, ◌++◌, OnOk};
 ghost use Rattle.std.specs.List.{flat_map};
-ghost use Rattle.lsm_commands.specs.ManifestPrinting.{key_word, number_line, name_line, comparator_line, field_line, pointer_line, deleted_line, file_words, added_line, number_lines, list_lines, edit_lines};
+ghost use Rattle.lsm_commands.specs.ManifestPrinting.{key_word, number_line, name_line};
+ghost use Rattle.lsm_commands.specs.ManifestPrinting.{comparator_line, field_line, pointer_line};
+ghost use Rattle.lsm_commands.specs.ManifestPrinting.{deleted_line, file_words, added_line};
+ghost use Rattle.lsm_commands.specs.ManifestPrinting.{number_lines, list_lines, edit_lines};
 
 use crate::form::Form;
 use crate::spelling::{push_bytes, push_decimal};

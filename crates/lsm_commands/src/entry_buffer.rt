@@ -75,7 +75,8 @@ impl EntryBuffer {
     fn read_action(&mut self, action: &[u8]) -> Result<bool, AllocError>
         ensures user { self.new.user ≡ self.old.user }
         ensures seq { self.new.seq ≡ self.old.seq }
-        ensures action { IfOk result (λ found. Reads found (self.new.kind, self.new.value.items) (action_at action.now)) }
+        ensures action { IfOk result (λ found.
+            Reads found (self.new.kind, self.new.value.items) (action_at action.now)) }
     {
         if action == b"del".as_slice() {
             self.kind = Kind::Deletion;

@@ -1,6 +1,7 @@
 //! What is printed of entries, piece by piece: no line is ever whole in memory.
 
-ghost use Rattle.std.specs.Prelude.{◌≡◌, ◌≤◌, ◌<◌, ◌+◌, [], ◌∷◌, IfErr, OnErr, OnOk, decimal, length};
+ghost use Rattle.std.specs.Prelude.{◌≡◌, ◌≤◌, ◌<◌, ◌+◌, [], ◌∷◌, IfErr, OnErr, OnOk, decimal};
+ghost use Rattle.std.specs.Prelude.{length};
 ghost use Rattle.hex.specs.Hex.{encode_lower};
 ghost use Rattle.lsm_codec.specs.declared.kind.Kind.TheVariants.{Value};
 ghost use Rattle.lsm_commands.specs.EntryPrinting.{action_line, bytes_word, entry_line};
@@ -18,8 +19,10 @@ const PIECE: usize = 128;
 /// Prints some bytes in lower-case hex. There are at most `PIECE`.
 fn print_piece<O: Write>(printer: &mut Printer, out: &mut O, piece: &[u8]) -> Result<(), Fault>
     requires { length piece.now ≤ PIECE }
-    ensures printed { OnOk result (Passes (O.contents out.old) printer.old.held.items (O.contents out.new) printer.new.held.items (encode_lower piece.now)) }
-    ensures begun { OnErr result (Stops (O.contents out.old) printer.old.held.items (O.contents out.new) (encode_lower piece.now)) }
+    ensures printed { OnOk result (Passes (O.contents out.old) printer.old.held.items
+        (O.contents out.new) printer.new.held.items (encode_lower piece.now)) }
+    ensures begun { OnErr result (Stops (O.contents out.old) printer.old.held.items
+        (O.contents out.new) (encode_lower piece.now)) }
     ensures fault { IfErr result (λ e. e ≡ WriteFault) }
 {
     let mut digits = [0u8; 2 * PIECE];
@@ -30,8 +33,10 @@ fn print_piece<O: Write>(printer: &mut Printer, out: &mut O, piece: &[u8]) -> Re
 
 /// Prints bytes in lower-case hex.
 fn print_digits<O: Write>(printer: &mut Printer, out: &mut O, bytes: &[u8]) -> Result<(), Fault>
-    ensures printed { OnOk result (Passes (O.contents out.old) printer.old.held.items (O.contents out.new) printer.new.held.items (encode_lower bytes.now)) }
-    ensures begun { OnErr result (Stops (O.contents out.old) printer.old.held.items (O.contents out.new) (encode_lower bytes.now)) }
+    ensures printed { OnOk result (Passes (O.contents out.old) printer.old.held.items
+        (O.contents out.new) printer.new.held.items (encode_lower bytes.now)) }
+    ensures begun { OnErr result (Stops (O.contents out.old) printer.old.held.items
+        (O.contents out.new) (encode_lower bytes.now)) }
     ensures fault { IfErr result (λ e. e ≡ WriteFault) }
 {
     let mut rest = bytes;
@@ -45,8 +50,10 @@ fn print_digits<O: Write>(printer: &mut Printer, out: &mut O, bytes: &[u8]) -> R
 
 /// Prints the word for some bytes: lower-case hex, or `.` for no bytes.
 fn print_bytes<O: Write>(printer: &mut Printer, out: &mut O, bytes: &[u8]) -> Result<(), Fault>
-    ensures printed { OnOk result (Passes (O.contents out.old) printer.old.held.items (O.contents out.new) printer.new.held.items (bytes_word bytes.now)) }
-    ensures begun { OnErr result (Stops (O.contents out.old) printer.old.held.items (O.contents out.new) (bytes_word bytes.now)) }
+    ensures printed { OnOk result (Passes (O.contents out.old) printer.old.held.items
+        (O.contents out.new) printer.new.held.items (bytes_word bytes.now)) }
+    ensures begun { OnErr result (Stops (O.contents out.old) printer.old.held.items
+        (O.contents out.new) (bytes_word bytes.now)) }
     ensures fault { IfErr result (λ e. e ≡ WriteFault) }
 {
     if bytes.is_empty() {
@@ -58,8 +65,10 @@ fn print_bytes<O: Write>(printer: &mut Printer, out: &mut O, bytes: &[u8]) -> Re
 /// Prints a decimal digit.
 fn print_digit<O: Write>(printer: &mut Printer, out: &mut O, digit: u64) -> Result<(), Fault>
     requires { digit < 10 }
-    ensures printed { OnOk result (Passes (O.contents out.old) printer.old.held.items (O.contents out.new) printer.new.held.items ((48 + digit) ∷ [])) }
-    ensures begun { OnErr result (Stops (O.contents out.old) printer.old.held.items (O.contents out.new) ((48 + digit) ∷ [])) }
+    ensures printed { OnOk result (Passes (O.contents out.old) printer.old.held.items
+        (O.contents out.new) printer.new.held.items ((48 + digit) ∷ [])) }
+    ensures begun { OnErr result (Stops (O.contents out.old) printer.old.held.items
+        (O.contents out.new) ((48 + digit) ∷ [])) }
     ensures fault { IfErr result (λ e. e ≡ WriteFault) }
 {
     printer.push(out, &[b'0' + digit as u8])
@@ -67,8 +76,10 @@ fn print_digit<O: Write>(printer: &mut Printer, out: &mut O, digit: u64) -> Resu
 
 /// Prints a number in decimal digits.
 fn print_decimal<O: Write>(printer: &mut Printer, out: &mut O, n: u64) -> Result<(), Fault>
-    ensures printed { OnOk result (Passes (O.contents out.old) printer.old.held.items (O.contents out.new) printer.new.held.items (decimal n)) }
-    ensures begun { OnErr result (Stops (O.contents out.old) printer.old.held.items (O.contents out.new) (decimal n)) }
+    ensures printed { OnOk result (Passes (O.contents out.old) printer.old.held.items
+        (O.contents out.new) printer.new.held.items (decimal n)) }
+    ensures begun { OnErr result
+        (Stops (O.contents out.old) printer.old.held.items (O.contents out.new) (decimal n)) }
     ensures fault { IfErr result (λ e. e ≡ WriteFault) }
 {
     if n < 10 {
@@ -80,8 +91,10 @@ fn print_decimal<O: Write>(printer: &mut Printer, out: &mut O, n: u64) -> Result
 
 /// Prints a value behind the sequence of its entry, and the end of the line.
 fn print_put<O: Write>(printer: &mut Printer, out: &mut O, value: &[u8]) -> Result<(), Fault>
-    ensures printed { OnOk result (Passes (O.contents out.old) printer.old.held.items (O.contents out.new) printer.new.held.items (action_line Value value.now)) }
-    ensures begun { OnErr result (Stops (O.contents out.old) printer.old.held.items (O.contents out.new) (action_line Value value.now)) }
+    ensures printed { OnOk result (Passes (O.contents out.old) printer.old.held.items
+        (O.contents out.new) printer.new.held.items (action_line Value value.now)) }
+    ensures begun { OnErr result (Stops (O.contents out.old) printer.old.held.items
+        (O.contents out.new) (action_line Value value.now)) }
     ensures fault { IfErr result (λ e. e ≡ WriteFault) }
 {
     printer.push(out, b" put ")?;
@@ -96,8 +109,10 @@ fn print_action<O: Write>(
     kind: Kind,
     value: &[u8],
 ) -> Result<(), Fault>
-    ensures printed { OnOk result (Passes (O.contents out.old) printer.old.held.items (O.contents out.new) printer.new.held.items (action_line kind value.now)) }
-    ensures begun { OnErr result (Stops (O.contents out.old) printer.old.held.items (O.contents out.new) (action_line kind value.now)) }
+    ensures printed { OnOk result (Passes (O.contents out.old) printer.old.held.items
+        (O.contents out.new) printer.new.held.items (action_line kind value.now)) }
+    ensures begun { OnErr result (Stops (O.contents out.old) printer.old.held.items
+        (O.contents out.new) (action_line kind value.now)) }
     ensures fault { IfErr result (λ e. e ≡ WriteFault) }
 {
     match kind {
@@ -115,8 +130,16 @@ pub(crate) fn print_entry<O: Write>(
     kind: Kind,
     value: &[u8],
 ) -> Result<(), Fault>
-    ensures printed { OnOk result (Passes (O.contents out.old) printer.old.held.items (O.contents out.new) printer.new.held.items (entry_line record { user = user.now; seq = seq; kind = kind; value = value.now })) }
-    ensures begun { OnErr result (Stops (O.contents out.old) printer.old.held.items (O.contents out.new) (entry_line record { user = user.now; seq = seq; kind = kind; value = value.now })) }
+    ensures printed { OnOk result (Passes (O.contents out.old) printer.old.held.items
+        (O.contents out.new) printer.new.held.items (entry_line record {
+          user = user.now;
+          seq = seq;
+          kind = kind;
+          value = value.now;
+        })) }
+    ensures begun { OnErr result
+        (Stops (O.contents out.old) printer.old.held.items (O.contents out.new)
+        (entry_line record { user = user.now; seq = seq; kind = kind; value = value.now })) }
     ensures fault { IfErr result (λ e. e ≡ WriteFault) }
 {
     print_bytes(printer, out, user)?;

@@ -48,8 +48,10 @@ impl Form {
     /// The bytes that a word spells; none where it spells none.
     pub fn read_bytes(self, alloc: Global, word: &[u8]) -> Result<Option<Bytes>, AllocError>
         ensures only { IfOk result (λ o. IfSome o (IsWord self word.now)) }
-        ensures found { (bytes : List ℕ) → IsWord self word.now bytes → IfOk result (λ o. o ≡ Some bytes) }
-        ensures none { IfOk result (λ o. IfNone o ((bytes : List ℕ) → IsWord self word.now bytes → ⊥)) }
+        ensures found { (bytes : List ℕ) → IsWord self word.now bytes
+            → IfOk result (λ o. o ≡ Some bytes) }
+        ensures none { IfOk result (λ o.
+            IfNone o ((bytes : List ℕ) → IsWord self word.now bytes → ⊥)) }
     {
         match self {
             Form::Hex => read_hex(alloc, word),

@@ -12,10 +12,14 @@ ghost use Rattle.lsm_commands.specs.declared.form.Form.{Form};
 /// A text is a list of entries, or has a first bad line; it is at most one list, and not both; its
 /// first bad line is one line.
 pub fn one_list()
-    ensures either { (text : List ℕ) → ((es : List Entry) × IsEntryList text es) ⊎ ((i : ℕ) × IsFirstBadLine text i) }
-    ensures list { (text : List ℕ) (es fs : List Entry) → IsEntryList text es → IsEntryList text fs → es ≡ fs }
-    ensures both { (text : List ℕ) (es : List Entry) (i : ℕ) → IsEntryList text es → IsFirstBadLine text i → ⊥ }
-    ensures line { (text : List ℕ) (i j : ℕ) → IsFirstBadLine text i → IsFirstBadLine text j → i ≡ j }
+    ensures either { (text : List ℕ)
+        → ((es : List Entry) × IsEntryList text es) ⊎ ((i : ℕ) × IsFirstBadLine text i) }
+    ensures list { (text : List ℕ) (es fs : List Entry) → IsEntryList text es → IsEntryList text fs
+        → es ≡ fs }
+    ensures both { (text : List ℕ) (es : List Entry) (i : ℕ) → IsEntryList text es
+        → IsFirstBadLine text i → ⊥ }
+    ensures line { (text : List ℕ) (i j : ℕ) → IsFirstBadLine text i → IsFirstBadLine text j
+        → i ≡ j }
 {}
 
 /// What is printed for entries that stand in order is a list of just those, where lines can spell
@@ -27,8 +31,11 @@ pub fn printed_list()
 /// What is printed for bytes is a word of just those bytes, in either form. A word spells one list
 /// of bytes at most; it has no `=`, `!`, `@`, blank or newline, and is not empty.
 pub fn one_word()
-    ensures printed { (form : Form) (bytes : List ℕ) → IsBytes bytes → IsWord form (spelled form bytes) bytes }
-    ensures bytes { (form : Form) (word a b : List ℕ) → IsWord form word a → IsWord form word b → a ≡ b }
-    ensures clear { (form : Form) (word bytes : List ℕ) → IsWord form word bytes → All IsClear word }
+    ensures printed { (form : Form) (bytes : List ℕ) → IsBytes bytes
+        → IsWord form (spelled form bytes) bytes }
+    ensures bytes { (form : Form) (word a b : List ℕ) → IsWord form word a → IsWord form word b
+        → a ≡ b }
+    ensures clear { (form : Form) (word bytes : List ℕ) → IsWord form word bytes
+        → All IsClear word }
     ensures some { (form : Form) (word bytes : List ℕ) → IsWord form word bytes → word ≢ [] }
 {}

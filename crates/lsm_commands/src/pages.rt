@@ -18,11 +18,12 @@ pub(crate) const OVERVIEW: &str =
     "Keys and values are words in hex, two digits a byte (61 is `a`), or with --text
 as text; `.` stands for no bytes. In text a byte that does not print is `\\xNN`,
 and so are `\\` (`\\x5c`), `=` (`\\x3d`), `!` (`\\x21`), `@` (`\\x40`), a blank
-(`\\x20`) and a word that is just a point (`\\x2e`). Sizes are in bytes. Standard
-input and FILE may have 64 MiB.
+(`\\x20`) and a word that is just a point (`\\x2e`). Sizes are in bytes.
 
-Options stand last, and a value is the word behind its option, as in
-`lsm scan db --from 61`.
+FILE is the path of a file, or `-` for standard input; it may have 64 MiB.
+Options stand anywhere behind the command, and a value is the word behind its
+option, or behind `=` in its word: `--from 61`, `--from=61`. Behind `--` no word
+is an option: `lsm get db --text -- -key`.
 
 A DIR that is not there is `refused 9 Device`, one without a file CURRENT
 `refused 10 Missing`; but `ingest` begins a database in a DIR that has no
@@ -54,10 +55,10 @@ Example: lsm check db";
 
 pub(crate) const MAKE_TABLE: Page = Page {
     name: "mktable",
-    usage: "lsm mktable",
-    about: "Makes a table of the entries on standard input",
-    text: "Reads a list of entries on standard input and writes them as one LevelDB table
-on standard output.
+    usage: "lsm mktable [FILE]",
+    about: "Makes a table of the entries in a file",
+    text: "Reads a list of entries in FILE, or on standard input where FILE is left out or
+`-`, and writes them as one LevelDB table on standard output.
 
 A line is `KEY SEQ put VALUE` or `KEY SEQ del`: KEY and VALUE in hex, `.` for no
 bytes, SEQ a decimal number up to 72057594037927935. Lines ascend by key; of one
@@ -73,10 +74,11 @@ failed, 2 bad command line.",
 
 pub(crate) const DUMP: Page = Page {
     name: "dump",
-    usage: "lsm dump",
-    about: "Prints the entries of the table on standard input",
-    text: "Reads a LevelDB table on standard input and prints its entries on standard
-output, as lines that `mktable` reads: `KEY SEQ put VALUE` or `KEY SEQ del`.
+    usage: "lsm dump [FILE]",
+    about: "Prints the entries of a table file",
+    text: "Reads a LevelDB table in FILE, or on standard input where FILE is left out or
+`-`, and prints its entries on standard output, as lines that `mktable` reads:
+`KEY SEQ put VALUE` or `KEY SEQ del`.
 
 Every checksum, block and key is judged before the first line. Other bytes are
 refused by number and name, as in `refused 13 BadMagic`; a compressed table is
@@ -90,18 +92,19 @@ Limit: 64 MiB of input.
 
 Exit status: 0 done, 1 refused, and then nothing was written but by a write that
 failed, 2 bad command line.",
-    example: "Example: lsm dump < db/000005.ldb",
+    example: "Example: lsm dump db/000005.ldb",
 };
 
 pub(crate) const MANIFEST: Page = Page {
     name: "manifest",
-    usage: "lsm manifest",
-    about: "Prints the edits of the manifest on standard input",
-    text: "Reads a LevelDB manifest on standard input and prints its edits on standard
-output: for each `edit I` and then its fields, with keys as `KEY@SEQ+` for a
-value and `KEY@SEQ-` for a deletion. The last line, `rest B`, counts the bytes
-at the end that hold no whole record: above 0 the last record was cut off, or
-the bytes are no manifest. The edits are not replayed.
+    usage: "lsm manifest [FILE]",
+    about: "Prints the edits of a manifest",
+    text: "Reads a LevelDB manifest in FILE, or on standard input where FILE is left out or
+`-`, and prints its edits on standard output: for each `edit I` and then its
+fields, with keys as `KEY@SEQ+` for a value and `KEY@SEQ-` for a deletion. The
+last line, `rest B`, counts the bytes at the end that hold no whole record:
+above 0 the last record was cut off, or the bytes are no manifest. The edits are
+not replayed.
 
 Other bytes are refused by number and name, as in `refused 19 LogChecksum 0`.
 
@@ -109,15 +112,16 @@ Limit: 64 MiB of input.
 
 Exit status: 0 done, 1 refused, and then nothing was written but by a write that
 failed, 2 bad command line.",
-    example: "Example: lsm manifest < db/MANIFEST-000001",
+    example: "Example: lsm manifest db/MANIFEST-000001",
 };
 
 pub(crate) const SCRIPT: Page = Page {
     name: "script",
-    usage: "lsm script",
-    about: "Runs the commands on standard input on a database in memory",
-    text: "Reads commands on standard input, one a line, runs them on a new database in
-memory, and prints a reply for each on standard output. No folder is touched.
+    usage: "lsm script [FILE]",
+    about: "Runs the commands in a file on a database in memory",
+    text: "Reads commands in FILE, or on standard input where FILE is left out or `-`, one
+a line, runs them on a new database in memory, and prints a reply for each on
+standard output. No folder is touched.
 
   ingest W W ..      W is KEY=VALUE or KEY!      file N first F last L
   get KEY            the newest                  value V, or absent
@@ -233,8 +237,9 @@ pub(crate) const INGEST: Page = Page {
 and prints `file N first F last L`: the table's number, and the first and the
 last of its sequences. DIR has to be there.
 
-FILE has a line a key, `KEY=VALUE` for its new value or `KEY!` where it is
-deleted, ascending by the bytes of the keys, each key once. KEY and VALUE are
+FILE, which may be `-` for standard input, has a line a key, `KEY=VALUE` for its
+new value or `KEY!` where it is deleted, ascending by the bytes of the keys,
+each key once. KEY and VALUE are
 hex, or text with --text, `.` for no bytes: `scan` prints such lines. In text a
 blank is `\\x20`, `=` is `\\x3d`, `!` `\\x21`, `@` `\\x40` and `\\` `\\x5c`, and
 each byte that does not print or is not ASCII is `\\xNN`. Lines in hex are put in
@@ -266,7 +271,7 @@ old manifests stay until `lsm clean DIR`. At 12 tables in level 0 the batch is
 
 Exit status: 0 the batch came in, 1 refused, 2 bad command line. After a `write
 fault` the batch is in; after `refused 9 Device` it may be.",
-    example: "Example: printf 'apple=red\\nbanana!\\n' > batch; lsm ingest db batch --text",
+    example: "Example: printf 'apple=red\\nbanana!\\n' | lsm ingest db - --text",
 };
 
 pub(crate) const COMPACT: Page = Page {

@@ -1,6 +1,7 @@
 //! Text on its way to a writer.
 
-ghost use Rattle.std.specs.Prelude.{◌≡◌, ◌≤◌, ◌+◌, [], length, IfErr, IfOk, OnErr, OnOk, vec_len, vec_capacity};
+ghost use Rattle.std.specs.Prelude.{◌≡◌, ◌≤◌, ◌+◌, [], length, IfErr, IfOk, OnErr, OnOk, vec_len};
+ghost use Rattle.std.specs.Prelude.{vec_capacity};
 ghost use Rattle.std.specs.Io.KnownBytes.{Appends};
 ghost use Rattle.lsm_commands.specs.Printing.{Begins, Passes, Stops};
 ghost use Rattle.lsm_commands.specs.declared.printer.TheConstants.{ROOM};
@@ -35,8 +36,10 @@ impl Printer {
     /// Writes what is held.
     fn let_go<O: Write>(&mut self, out: &mut O) -> Result<(), Fault>
         ensures empty { OnOk result (self.new.held.items ≡ []) }
-        ensures written { OnOk result (Appends (O.contents out.old) (O.contents out.new) self.old.held.items) }
-        ensures begun { OnErr result (Begins (O.contents out.old) (O.contents out.new) self.old.held.items) }
+        ensures written { OnOk result
+            (Appends (O.contents out.old) (O.contents out.new) self.old.held.items) }
+        ensures begun { OnErr result
+            (Begins (O.contents out.old) (O.contents out.new) self.old.held.items) }
         ensures fault { IfErr result (λ e. e ≡ WriteFault) }
     {
         write_bytes(out, self.held.as_slice())?;
@@ -48,8 +51,10 @@ impl Printer {
     fn make_room<O: Write>(&mut self, out: &mut O, len: usize) -> Result<(), Fault>
         requires { len ≤ ROOM }
         ensures room { OnOk result (vec_len self.new.held + len ≤ ROOM) }
-        ensures printed { OnOk result (Passes (O.contents out.old) self.old.held.items (O.contents out.new) self.new.held.items []) }
-        ensures begun { OnErr result (Stops (O.contents out.old) self.old.held.items (O.contents out.new) []) }
+        ensures printed { OnOk result (Passes (O.contents out.old) self.old.held.items
+            (O.contents out.new) self.new.held.items []) }
+        ensures begun { OnErr result
+            (Stops (O.contents out.old) self.old.held.items (O.contents out.new) []) }
         ensures fault { IfErr result (λ e. e ≡ WriteFault) }
     {
         if self.held.len() <= ROOM - len {
@@ -61,8 +66,10 @@ impl Printer {
     /// Prints a piece of text.
     pub(crate) fn push<O: Write>(&mut self, out: &mut O, piece: &[u8]) -> Result<(), Fault>
         requires { length piece.now ≤ ROOM }
-        ensures printed { OnOk result (Passes (O.contents out.old) self.old.held.items (O.contents out.new) self.new.held.items piece.now) }
-        ensures begun { OnErr result (Stops (O.contents out.old) self.old.held.items (O.contents out.new) piece.now) }
+        ensures printed { OnOk result (Passes (O.contents out.old) self.old.held.items
+            (O.contents out.new) self.new.held.items piece.now) }
+        ensures begun { OnErr result
+            (Stops (O.contents out.old) self.old.held.items (O.contents out.new) piece.now) }
         ensures fault { IfErr result (λ e. e ≡ WriteFault) }
     {
         self.make_room(out, piece.len())?;
@@ -74,8 +81,10 @@ impl Printer {
 
     /// Writes what is held, and flushes.
     pub(crate) fn finish<O: Write>(&mut self, out: &mut O) -> Result<(), Fault>
-        ensures written { OnOk result (Appends (O.contents out.old) (O.contents out.new) self.old.held.items) }
-        ensures begun { OnErr result (Begins (O.contents out.old) (O.contents out.new) self.old.held.items) }
+        ensures written { OnOk result
+            (Appends (O.contents out.old) (O.contents out.new) self.old.held.items) }
+        ensures begun { OnErr result
+            (Begins (O.contents out.old) (O.contents out.new) self.old.held.items) }
         ensures fault { IfErr result (λ e. e ≡ WriteFault) }
     {
         self.let_go(out)?;

@@ -1,53 +1,24 @@
-//! One run of the program.
+//! What is answered on standard input and output, and with which exit status.
 
-ghost use Rattle.std.specs.Prelude.{◌≡◌, ◌≢◌, ◌≤◌, IfOk, IfErr, OnOk, map};
-ghost use Rattle.std.specs.Io.KnownBytes.{Appends, Keeps};
+ghost use Rattle.std.specs.Prelude.{◌≡◌, ◌≢◌, OnOk};
+ghost use Rattle.std.specs.Io.KnownBytes.{Appends};
 ghost use Rattle.std.specs.IoError.{error_kind};
-ghost use Rattle.lsm_commands.specs.Commands.{Asks, IsBegun, IsExplained, IsFollowed, IsRefusal};
+ghost use Rattle.lsm_commands.specs.Commands.{IsConverted, IsRefused};
 ghost use Rattle.lsm_commands.specs.FaultText.{fault_line};
-ghost use Rattle.lsm_commands.specs.declared.fault.Fault.TheVariants.{Write as WriteFault};
+ghost use Rattle.lsm_commands.specs.Printing.{Begins};
+ghost use Rattle.lsm_commands.specs.declared.fault.Fault.{Fault};
 
-use crate::command_line::{CommandLine, CommandName, parse};
 use crate::commands::perform;
+use crate::conversion::Conversion;
 use crate::fault::Fault;
 use crate::streams::write_output;
 use std::alloc::Global;
-use std::convert::AsStr;
 use std::io::{self, ErrorKind, Read, Write};
-
-/// Does what a command line asks for: status 0, or 2 for a bad one.
-fn follow<R: Read, O: Write, E: Write>(
-    alloc: Global,
-    line: CommandLine,
-    input: &mut R,
-    out: &mut O,
-    err: &mut E,
-) -> Result<u8, Fault>
-    ensures done { IfOk result (λ status. IsFollowed line (R.remaining input.old) (O.contents out.old) (O.contents out.new) status) }
-    ensures explained { IfErr result (λ e. IsExplained line (R.remaining input.old) e) }
-    ensures kept { IfErr result (λ e. e ≢ WriteFault → Keeps (O.contents out.old) (O.contents out.new)) }
-    ensures begun { IfErr result (λ e. e ≡ WriteFault → IsBegun line (R.remaining input.old) (O.contents out.old) (O.contents out.new)) }
-    ensures unread { ((name : CommandName) → line ≢ CommandLine.Run name) → input.new ≡ input.old }
-{
-    match line {
-        CommandLine::Run(name) => {
-            perform(alloc, name, input, out)?;
-            Ok(0)
-        }
-        CommandLine::Help(text) => {
-            write_output(out, &text)?;
-            Ok(0)
-        }
-        CommandLine::Bad(text) => {
-            let _ = write_output(err, &text);
-            Ok(2)
-        }
-    }
-}
 
 /// Writes the line of a fault, and flushes.
 fn tell<E: Write>(err: &mut E, fault: &Fault) -> io::Result<()>
-    ensures told { OnOk result (Appends (E.contents err.old) (E.contents err.new) (fault_line fault.now)) }
+    ensures told { OnOk result
+        (Appends (E.contents err.old) (E.contents err.new) (fault_line fault.now)) }
 {
     writeln!(err, "{fault}")?;
     err.flush()
@@ -71,39 +42,71 @@ fn explain<E: Write>(err: &mut E, fault: &Fault) -> io::Result<()> {
     err.flush()
 }
 
-/// Runs the program on the words after its name, and answers its exit status: 0 where it is done, 1
-/// where it is refused, 2 for a bad command line. A fault is one line on `err`, which for `read
+/// Reads an input whole, writes on `out` what it is converted to, and answers the exit status: 0
+/// where it is done, and 1 where it is refused. A fault is one line on `err`, which for `read
 /// fault` and `bad line I` a second one explains; then nothing is written to `out`, but for a write
 /// fault.
 ///
 /// `bad line I` names the first bad line of a list, `refused N Name ..` a refusal by its number
 /// and name (docs/FORMATS.md). A read that fails, or that gives more than 64 MiB, is
 /// `read fault`, a write that fails `write fault`.
-pub fn run<S: AsStr, R: Read, O: Write, E: Write>(
+pub fn convert<R: Read, O: Write, E: Write>(
     alloc: Global,
-    words: &[S],
+    conversion: Conversion,
     input: &mut R,
     out: &mut O,
     err: &mut E,
 ) -> u8
-    ensures done { (name : CommandName) → Asks name (map S.text words.now) → result ≡ 0 → IsFollowed (CommandLine.Run name) (R.remaining input.old) (O.contents out.old) (O.contents out.new) 0 }
-    ensures refused { (name : CommandName) → Asks name (map S.text words.now) → IsRefusal name (R.remaining input.old) (O.contents out.old) (O.contents out.new) result }
-    ensures unread { ((name : CommandName) → Asks name (map S.text words.now) → ⊥) → input.new ≡ input.old }
-    ensures status { result ≤ 2 }
-    ensures kept { result ≡ 2 → Keeps (O.contents out.old) (O.contents out.new) }
+    ensures done { result ≡ 0
+        → IsConverted conversion (R.remaining input.old) (O.contents out.old) (O.contents out.new) }
+    ensures refused { result ≢ 0 → (result ≡ 1) × ((fault : Fault) × IsRefused conversion
+        (R.remaining input.old) fault (O.contents out.old) (O.contents out.new)) }
 {
-    let done = match parse(alloc, words) {
-        Ok(line) => follow(alloc, line, input, out, err),
-        Err(error) => Err(Fault::from(error)),
-    };
-    match done {
-        Ok(status) => status,
+    match perform(alloc, conversion, input, out) {
+        Ok(()) => 0,
         Err(fault) => {
             let _ = tell(err, &fault);
             let _ = explain(err, &fault);
             1
         }
     }
+}
+
+/// Writes help on `out`, and answers the exit status: 0, or 1 where it can't be written.
+pub fn show_help<O: Write, E: Write>(text: &[u8], out: &mut O, err: &mut E) -> u8
+    ensures done { result ≡ 0 → Appends (O.contents out.old) (O.contents out.new) text.now }
+    ensures refused { result ≢ 0
+        → (result ≡ 1) × Begins (O.contents out.old) (O.contents out.new) text.now }
+{
+    match write_output(out, text) {
+        Ok(()) => 0,
+        Err(fault) => {
+            let _ = tell(err, &fault);
+            1
+        }
+    }
+}
+
+/// Writes on `err` what is wrong with a command line, and answers the exit status, 2.
+pub fn refuse_line<E: Write>(text: &[u8], err: &mut E) -> u8
+    ensures { result ≡ 2 }
+{
+    let _ = write_output(err, text);
+    2
+}
+
+/// Writes on `err` that an input could not be opened, and why, and answers the exit status, 1.
+pub fn refuse_input<E: Write>(error: &io::Error, err: &mut E) -> u8
+    ensures { result ≡ 1 }
+{
+    if error.kind() == ErrorKind::OutOfMemory {
+        let _ = tell(err, &Fault::OutOfMemory);
+        return 1;
+    }
+    let _ = tell(err, &Fault::Read);
+    let _ = writeln!(err, "the input could not be opened: {error}");
+    let _ = err.flush();
+    1
 }
 
 /// What is answered where the words could not be had: 2 where one is no UTF-8, and 1 for want of

@@ -28,9 +28,11 @@ pub enum InputFault {
 /// All bytes of the input, 64 MiB at most. `TooLong` only where there are more; `Read` where a read
 /// fails; `OutOfMemory`.
 pub fn read_input<R: Read>(alloc: Global, input: &mut R) -> Result<Vec<u8>, InputFault>
-    ensures found { IfOk result (λ bytes. IfSome (R.remaining input.old) (λ text. bytes.items ≡ text)) }
+    ensures found { IfOk result (λ bytes.
+        IfSome (R.remaining input.old) (λ text. bytes.items ≡ text)) }
     ensures limit { IfOk result (λ bytes. length bytes.items ≤ 67108864) }
-    ensures too_long { IfErr result (λ e. e ≡ TooLong → IfSome (R.remaining input.old) (λ text. 67108864 < length text)) }
+    ensures too_long { IfErr result (λ e. e ≡ TooLong
+        → IfSome (R.remaining input.old) (λ text. 67108864 < length text)) }
 {
     let mut bytes = Vec::new(alloc);
     let read = (&mut *input).take(MAX_INPUT + 1).read_to_end(&mut bytes);

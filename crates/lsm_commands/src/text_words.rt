@@ -1,7 +1,8 @@
 //! Words of a text: bytes that print stand for themselves, all others are `\xNN`.
 
 ghost use Rattle.std.specs.Prelude.{◌≡◌, ◌<◌, ◌++◌, IfNone, IfOk, IfSome, List, OnOk, Some, ℕ};
-ghost use Rattle.lsm_commands.specs.Spelling.{IsPart, IsTextWord, escaped, is_plain, lower_digit, spelled_byte, text_word};
+ghost use Rattle.lsm_commands.specs.Spelling.{IsPart, IsTextWord, escaped, is_plain, lower_digit};
+ghost use Rattle.lsm_commands.specs.Spelling.{spelled_byte, text_word};
 
 use lsm_codec::Bytes;
 use std::alloc::{AllocError, Global};
@@ -76,7 +77,8 @@ fn value_of(digit: u8) -> Option<u8>
 /// The byte of `\xNN`, with which a text begins, and what follows it.
 fn first_escaped(text: &[u8]) -> Option<(u8, &[u8])>
     ensures some { IfSome result (λ p. (text.now ≡ escaped p.0 ++ p.1.now) × (p.0 < 256)) }
-    ensures none { IfNone result ((b : ℕ) (rest : List ℕ) → b < 256 → text.now ≡ escaped b ++ rest → ⊥) }
+    ensures none { IfNone result ((b : ℕ) (rest : List ℕ) → b < 256 → text.now ≡ escaped b ++ rest
+        → ⊥) }
 {
     let digits = text.strip_prefix(b"\\x")?;
     let [high, low, rest @ ..] = digits else {
@@ -87,8 +89,10 @@ fn first_escaped(text: &[u8]) -> Option<(u8, &[u8])>
 
 /// The first byte of a text, and what follows its part. None where no part stands there.
 pub(crate) fn first_part(text: &[u8]) -> Option<(u8, &[u8])>
-    ensures some { IfSome result (λ p. (part : List ℕ) × (text.now ≡ part ++ p.1.now) × IsPart part p.0) }
-    ensures none { IfNone result ((b : ℕ) (part rest : List ℕ) → text.now ≡ part ++ rest → IsPart part b → ⊥) }
+    ensures some { IfSome result (λ p. (part : List ℕ) × (text.now ≡ part ++ p.1.now)
+        × IsPart part p.0) }
+    ensures none { IfNone result ((b : ℕ) (part rest : List ℕ) → text.now ≡ part ++ rest
+        → IsPart part b → ⊥) }
 {
     let [byte, rest @ ..] = text else {
         return None;
@@ -102,7 +106,8 @@ pub(crate) fn first_part(text: &[u8]) -> Option<(u8, &[u8])>
 /// The bytes that a word spells; none where it spells none.
 pub(crate) fn read_text(alloc: Global, word: &[u8]) -> Result<Option<Bytes>, AllocError>
     ensures only { IfOk result (λ o. IfSome o (IsTextWord word.now)) }
-    ensures found { (bytes : List ℕ) → IsTextWord word.now bytes → IfOk result (λ o. o ≡ Some bytes) }
+    ensures found { (bytes : List ℕ) → IsTextWord word.now bytes
+        → IfOk result (λ o. o ≡ Some bytes) }
 {
     let mut bytes = Vec::new(alloc);
     if word == b".".as_slice() {

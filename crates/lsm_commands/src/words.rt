@@ -61,7 +61,8 @@ pub(crate) fn read_bytes(out: &mut Vec<u8>, most: usize, word: &[u8]) -> Result<
 /// The bytes that a word spells in hex; none where it spells none.
 pub(crate) fn read_hex(alloc: Global, word: &[u8]) -> Result<Option<Bytes>, AllocError>
     ensures only { IfOk result (λ o. IfSome o (IsBytesWord word.now)) }
-    ensures found { (bytes : List ℕ) → IsBytesWord word.now bytes → IfOk result (λ o. o ≡ Some bytes) }
+    ensures found { (bytes : List ℕ) → IsBytesWord word.now bytes
+        → IfOk result (λ o. o ≡ Some bytes) }
 {
     let mut bytes = Vec::new(alloc);
     if read_bytes(&mut bytes, usize::MAX, word)? {

@@ -1,4 +1,3 @@
-mod Words
 mod Ends
 mod Outcomes
 mod Quiet

@@ -1,3 +1,2 @@
-pub mod CompactLine
 pub mod CompactFault
 pub mod Compacting

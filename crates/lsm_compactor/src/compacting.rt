@@ -13,13 +13,13 @@ ghost use Rattle.lsm_compactor.specs.Compacting.{AreEnds, IsCompactFault, IsComp
 ghost use Rattle.lsm_compactor.specs.declared.compact_fault.CompactFault.TheVariants.{Writer as WriterVariant};
 
 use crate::compact_fault::CompactFault;
-use crate::compact_options::CompactOptions;
 use crate::compaction::Compaction;
 use crate::job_teller::JobTeller;
 use crate::opening::open;
 use crate::progress::{tell_installed, tell_opened, tell_removed};
 use crate::sweeping::sweep;
 use crate::tally::{installed_by, judge};
+use lsm_commands::CompactOptions;
 use lsm_slots::Boarded;
 use lsm_state::StateFault;
 use lsm_store::{NoGate, Store, WorkerEnd, run_workers};

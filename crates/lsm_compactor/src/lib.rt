@@ -6,10 +6,6 @@
 //! counts that they answered; without `--progress` it wrote nothing on standard error.
 #![tactic(auto)]
 
-// What words ask for.
-mod compact_line;
-mod compact_options;
-
 // What is done with a directory.
 mod compacting;
 mod compaction;
@@ -27,7 +23,5 @@ mod program;
 mod telling;
 
 pub use compact_fault::CompactFault;
-pub use compact_line::{CompactLine, compacting_asked};
-pub use compact_options::CompactOptions;
 pub use opening::held_shelf;
 pub use program::{compact, run};

@@ -6,11 +6,10 @@ ghost use Rattle.lsm_compactor.specs.Compacting.{IsCompacted, IsRefused};
 ghost use Rattle.lsm_shelf.specs.Stored.{Stored};
 
 use crate::compact_fault::CompactFault;
-use crate::compact_line::CompactLine;
-use crate::compact_options::CompactOptions;
 use crate::compacting::compact_to;
 use crate::opening::held_shelf;
 use crate::telling::tell;
+use lsm_commands::{CompactLine, CompactOptions};
 use lsm_folder::Reasons;
 use lsm_table::Shelf;
 use lsm_writer::open_noting;

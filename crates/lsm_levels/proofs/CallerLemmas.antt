@@ -1,4 +1,6 @@
--- What proofs above may cite: laws of orders, of files and of merges, of plans, jobs and installs.
+-- What proofs above may cite: laws of orders, of files and of merges, of plans, jobs and installs;
+-- and of the machine's events, live jobs and snapshots.
+pub use Rattle.lsm_levels.proofs.Beside.{in_order_distinct}
 pub use Rattle.lsm_levels.proofs.Checked.{file_fits}
 pub use Rattle.lsm_levels.proofs.Cuts.{finished_holds, rising_numbers}
 pub use Rattle.lsm_levels.proofs.Depths.{depth_newest}
@@ -6,12 +8,14 @@ pub use Rattle.lsm_levels.proofs.Drops.{drops_answer, newest_is, one_each_part}
 pub use Rattle.lsm_levels.proofs.Ingests.{ingest_keeps_open, ingest_lawful}
 pub use Rattle.lsm_levels.proofs.Installs.{all_has, has_all, input_from, input_says, install_answers, install_keeps_open, install_lawful, one_each}
 pub use Rattle.lsm_levels.proofs.InOrders.{entries_in_order, first_is_le}
+pub use Rattle.lsm_levels.proofs.Installing.{install_same}
 pub use Rattle.lsm_levels.proofs.Kept.{kept_says}
+pub use Rattle.lsm_levels.proofs.LiveLists.{left_job, left_snapshot, one_more, rising_less, rising_more}
 pub use Rattle.lsm_levels.proofs.Merged.{ascending_sorted, entry_placed, merged_sorted, placed_entry, sorted_ordered}
 pub use Rattle.lsm_levels.proofs.Merging.{leads_merge, merge_empty, merge_left, merge_right, merged_from, merged_has, merged_ordered}
 pub use Rattle.lsm_levels.proofs.Moves.{move_answers, move_outputs}
 pub use Rattle.lsm_levels.proofs.Order.{before_not_first, before_says, first_says, first_total, first_trans, true_or_not}
 pub use Rattle.lsm_levels.proofs.Plans.{linked_in, plan_opens}
 pub use Rattle.lsm_levels.proofs.Ranges.{key_le_user}
+pub use Rattle.lsm_levels.proofs.Runs.{run_law, step_law}
 pub use Rattle.lsm_levels.proofs.Scanning.{scan_is}
-pub use Rattle.lsm_levels.proofs.Splits.{apart_split, in_order_split}

@@ -5,9 +5,9 @@ use Rattle.lsm_codec.specs.Keys.{InternalKey}
 use Rattle.lsm_codec.specs.Lists.{Has}
 use Rattle.lsm_codec.proofs.CallerLemmas.{has_cases}
 use Rattle.lsm_levels.specs.Checking.{Listed, IsRangeOf, ranges_of, file_at, files_at, files_from, level_in, IsJudged}
-use Rattle.lsm_levels.specs.Files.{File, Apart, InOrder, Fits, IsLawful}
+use Rattle.lsm_levels.specs.Files.{File, InOrder, Fits, IsLawful}
 use Rattle.lsm_levels.specs.Merging.{Placed}
-use Rattle.lsm_levels.specs.Ranges.{Range, EachPair, MeetInKeys, ShareUsers}
+use Rattle.lsm_levels.specs.Ranges.{Range, EachPair, MeetInKeys}
 use Rattle.lsm_levels.proofs.Cuts.{ends_fits}
 use Rattle.lsm_levels.proofs.InOrders.{entries_in_order}
 
@@ -55,39 +55,33 @@ pair_of P (t ∷ ts) p a b (inr h) (inl f) = inr (inr (subst (λ (x : Listed). P
     range_in (v ∷ us) u (inr k) = inr (range_in us u k)
 pair_of P (t ∷ ts) p a b (inr h) (inr k) = pair_of P ts p.1 a b h k
 
--- ranges without a common user key are those of files apart
-pub ranges_apart : (m n : ℕ) (a b : Listed) → IsRangeOf a.entries a.range → IsRangeOf b.entries b.range → (ShareUsers a.range b.range → ⊥) → Apart (file_at m a) (file_at n b)
-ranges_apart m n a b ra rb none = none
-
 -- ranges without a common internal key are those of files in order
 pub ranges_in_order : (m n : ℕ) (a b : Listed) → IsRangeOf a.entries a.range → IsRangeOf b.entries b.range → (MeetInKeys a.range b.range → ⊥) → InOrder (file_at m a) (file_at n b)
 ranges_in_order m n a b ra rb none = entries_in_order a.entries b.entries a.range b.range ra rb none
 
-pub judged_lawful : (Meet : Range → Range → Type 0) (Split : File → File → Type 0) → ((a b : Range) → Meet a b → Meet b a)
-    → ((m n : ℕ) (a b : Listed) → IsRangeOf a.entries a.range → IsRangeOf b.entries b.range → (Meet a.range b.range → ⊥) → Split (file_at m a) (file_at n b))
-    → (levels : List (List Listed)) (depth : File → ℕ) (placed : List Placed) → IsJudged Meet levels depth placed → IsLawful Split (files_from 0 levels)
-judged_lawful Meet Split swap splits levels depth placed j = record {
+pub judged_lawful : (levels : List (List Listed)) (depth : File → ℕ) (placed : List Placed) → IsJudged levels depth placed → IsLawful (files_from 0 levels)
+judged_lawful levels depth placed j = record {
   fits = λ F h. (let r = file_from 0 levels F h in subst Fits r.3 (file_fits (0 + r.0) r.1 (j.ranges r.0 r.1 r.2)));
   numbers = j.numbers;
-  split = λ F G hF hG same pos ne. split F G (file_from 0 levels F hF) (file_from 0 levels G hG) same pos ne;
+  in_order = λ F G hF hG same pos ne. in_order F G (file_from 0 levels F hF) (file_from 0 levels G hG) same pos ne;
   depth = λ F G x y hF hG s kx ky same. j.ages (depth F, x) (depth G, y) (j.all F x hF kx) (j.all G y hG ky) same (j.depths F G hF hG s);
 }
   where
-    split : (F G : File) → ((n : ℕ) × (t : Listed) × Has (level_in levels n) t × (file_at (0 + n) t ≡ F)) → ((n : ℕ) × (t : Listed) × Has (level_in levels n) t × (file_at (0 + n) t ≡ G))
-        → F.level ≡ G.level → 1 ≤ F.level → (F.number ≡ G.number → ⊥) → Split F G
-    split F G f g same pos ne =
+    in_order : (F G : File) → ((n : ℕ) × (t : Listed) × Has (level_in levels n) t × (file_at (0 + n) t ≡ F)) → ((n : ℕ) × (t : Listed) × Has (level_in levels n) t × (file_at (0 + n) t ≡ G))
+        → F.level ≡ G.level → 1 ≤ F.level → (F.number ≡ G.number → ⊥) → InOrder F G
+    in_order F G f g same pos ne =
         let lf : f.0 ≡ F.level = (let e = ap (λ (D : File). D.level) f.3 in omega arith) in
         let lg : g.0 ≡ G.level = (let e = ap (λ (D : File). D.level) g.3 in omega arith) in
         let level : g.0 ≡ f.0 = omega arith in
         let there : Has (level_in levels f.0) g.1 = subst (λ (n : ℕ). Has (level_in levels n) g.1) level g.2 in
-        elim (pair_of (λ a b. Meet a b → ⊥) (level_in levels f.0) (j.apart f.0 (omega arith)) f.1 g.1 f.2 there) [
+        elim (pair_of (λ a b. MeetInKeys a b → ⊥) (level_in levels f.0) (j.apart f.0 (omega arith)) f.1 g.1 f.2 there) [
           | inl e ↦ absurd (ne (ap (λ (D : File). D.number) (sym f.3) ∙ ap (λ (t : Listed). t.number) e ∙ ap (λ (D : File). D.number) g.3))
           | inr o ↦ elim o [
             | inl p ↦ moved p
-            | inr p ↦ moved (λ m. p (swap f.1.range g.1.range m))
+            | inr p ↦ moved (λ m. p (m.1, m.0))
           ]
         ]
       where
-        moved : (Meet f.1.range g.1.range → ⊥) → Split F G
-        moved p = subst (λ (D : File). Split D G) f.3 (subst (λ (D : File). Split (file_at (0 + f.0) f.1) D) g.3
-            (splits (0 + f.0) (0 + g.0) f.1 g.1 (j.ranges f.0 f.1 f.2) (j.ranges g.0 g.1 g.2) p))
+        moved : (MeetInKeys f.1.range g.1.range → ⊥) → InOrder F G
+        moved p = subst (λ (D : File). InOrder D G) f.3 (subst (λ (D : File). InOrder (file_at (0 + f.0) f.1) D) g.3
+            (ranges_in_order (0 + f.0) (0 + g.0) f.1 g.1 (j.ranges f.0 f.1 f.2) (j.ranges g.0 g.1 g.2) p))

@@ -1,22 +1,22 @@
 -- For the code that searches by depths: what a file has that no lesser depth has is the answer of
 -- the whole version.
-use Rattle.std.proofs.Common.{◌≡◌, ℕ, ◌≤◌, List, Some, sym, ◌∙◌, subst, inl, inr, arith}
+use Rattle.std.proofs.Common.{◌≡◌, ℕ, ◌≤◌, true, false, List, Some, sym, ◌∙◌, subst, inl, inr, arith}
 use Rattle.std.proofs.lemmas.Bool.{cases_lt, cases_order}
-use Rattle.lsm_codec.specs.Entries.{Entry, stamp, newest}
+use Rattle.lsm_codec.specs.Entries.{Entry, stamp, is_allowed, newest}
 use Rattle.lsm_codec.specs.Keys.{UserKey}
 use Rattle.lsm_codec.specs.Lists.{Has}
 use Rattle.lsm_codec.proofs.CallerLemmas.{IsAllowed, IsNewest, Finds, newest_finds, allowed_from, stamp_lt}
-use Rattle.lsm_levels.specs.Files.{File, all_entries, Shallower, IsLawful, IsSplit, GoesByDepth}
+use Rattle.lsm_levels.specs.Files.{File, all_entries, Shallower, IsLawful}
 use Rattle.lsm_levels.proofs.Drops.{newest_is}
 use Rattle.lsm_levels.proofs.Installs.{all_has, has_all, one_each}
 
 -- e is the newest of its file; no file of a lesser depth has an allowed entry, and no other file of
 -- its level has a newer one
-pub depth_newest : (Split : File → File → Type 0) → IsSplit Split → (v : List File) (F : File) (k : UserKey) (s : ℕ) (e : Entry) → IsLawful Split v → Has v F → IsNewest F.entries k s e
+pub depth_newest : (v : List File) (F : File) (k : UserKey) (s : ℕ) (e : Entry) → IsLawful v → Has v F → IsNewest F.entries k s e
     → ((G : File) (y : Entry) → Has v G → Shallower G F → Has G.entries y → IsAllowed k s y → ⊥)
     → ((G : File) (y : Entry) → Has v G → G.level ≡ F.level → 1 ≤ F.level → Has G.entries y → IsAllowed k s y → stamp y ≤ stamp e)
     → newest k s (all_entries v) ≡ Some e
-depth_newest Split i v F k s e l hF n above beside = newest_is (all_entries v) k s e (one_each Split i v l) record {
+depth_newest v F k s e l hF n above beside = newest_is (all_entries v) k s e (one_each v l) record {
   here = has_all v F e hF n.here;
   allowed = n.allowed;
   most = λ y h a. (let r = all_has v y h in most y r.0 r.1 r.2 a);
@@ -43,7 +43,10 @@ depth_newest Split i v F k s e l hF n above beside = newest_is (all_entries v) k
       ]
     ]
 
-pub goes_by_depth : (Split : File → File → Type 0) → IsSplit Split → GoesByDepth Split
-goes_by_depth Split i v F k s e l hF n above beside = depth_newest Split i v F k s e l hF (subst (Finds F.entries k s) n (newest_finds k s F.entries))
+pub goes_by_depth : (v : List File) (F : File) (k : UserKey) (s : ℕ) (e : Entry) → IsLawful v → Has v F → newest k s F.entries ≡ Some e
+    → ((G : File) (y : Entry) → Has v G → Shallower G F → Has G.entries y → is_allowed k s y ≡ false)
+    → ((G : File) (y : Entry) → Has v G → G.level ≡ F.level → 1 ≤ F.level → Has G.entries y → is_allowed k s y ≡ true → stamp y ≤ stamp e)
+    → newest k s (all_entries v) ≡ Some e
+goes_by_depth v F k s e l hF n above beside = depth_newest v F k s e l hF (subst (Finds F.entries k s) n (newest_finds k s F.entries))
     (λ G y hG sh ky a. absurd (cc (above G y hG sh ky, allowed_from k s y a)))
     (λ G y hG same pos ky a. beside G y hG same pos ky (allowed_from k s y a))

@@ -3,15 +3,15 @@ use Rattle.std.proofs.Common.{◌≡◌, ℕ, ◌≤◌, ◌<◌, sym, ◌∙◌
 use Rattle.std.specs.Prelude.{◌⊎◌}
 use Rattle.lsm_codec.specs.Entries.{Entry}
 use Rattle.lsm_codec.specs.Lists.{Has}
-use Rattle.lsm_levels.specs.Files.{File, Fits, Shallower, IsLawful}
+use Rattle.lsm_levels.specs.Files.{File, Fits, InOrder, Shallower, IsLawful}
 use Rattle.lsm_levels.specs.Jobs.{Job, IsOpenIn, Gains}
 
-pub ingest_lawful : (Split : File → File → Type 0) (v w : List File) (file : File) (last : ℕ) → IsLawful Split v
-    → ((F : File) (e : Entry) → Has v F → Has F.entries e → e.seq ≤ last) → Gains v last file w → IsLawful Split w
-ingest_lawful Split v w file last l bounded g = record {
+pub ingest_lawful : (v w : List File) (file : File) (last : ℕ) → IsLawful v
+    → ((F : File) (e : Entry) → Has v F → Has F.entries e → e.seq ≤ last) → Gains v last file w → IsLawful w
+ingest_lawful v w file last l bounded g = record {
   fits = λ F h. elim (g.from F h) [ inl e ↦ subst Fits e g.fits | inr old ↦ l.fits F old ];
   numbers = λ F G hF hG e. numbers F G (g.from F hF) (g.from G hG) e;
-  split = λ F G hF hG e pos ne. split F G (g.from F hF) (g.from G hG) e pos ne;
+  in_order = λ F G hF hG e pos ne. in_order F G (g.from F hF) (g.from G hG) e pos ne;
   depth = λ F G x y hF hG s kx ky same. depth F G x y (g.from F hF) (g.from G hG) s kx ky same;
 }
   where
@@ -27,10 +27,10 @@ ingest_lawful Split v w file last l bounded g = record {
     numbers F G (inr a) (inl b) e = (let n = number G b in let lt = g.greatest F a in absurd (omega arith))
     numbers F G (inr a) (inr b) e = l.numbers F G a b e
 
-    split : (F G : File) → (file ≡ F) ⊎ Has v F → (file ≡ G) ⊎ Has v G → F.level ≡ G.level → 1 ≤ F.level → (F.number ≡ G.number → ⊥) → Split F G
-    split F G (inl a) b e pos ne = (let z = is_level F a in absurd (omega arith))
-    split F G (inr a) (inl b) e pos ne = (let z = is_level G b in absurd (omega arith))
-    split F G (inr a) (inr b) e pos ne = l.split F G a b e pos ne
+    in_order : (F G : File) → (file ≡ F) ⊎ Has v F → (file ≡ G) ⊎ Has v G → F.level ≡ G.level → 1 ≤ F.level → (F.number ≡ G.number → ⊥) → InOrder F G
+    in_order F G (inl a) b e pos ne = (let z = is_level F a in absurd (omega arith))
+    in_order F G (inr a) (inl b) e pos ne = (let z = is_level G b in absurd (omega arith))
+    in_order F G (inr a) (inr b) e pos ne = l.in_order F G a b e pos ne
 
     new : (F : File) (x : Entry) → file ≡ F → Has F.entries x → last < x.seq
     new F x a h = g.above x (subst (λ (D : File). Has D.entries x) (sym a) h)

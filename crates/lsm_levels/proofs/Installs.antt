@@ -6,9 +6,10 @@ use Rattle.lsm_codec.specs.Entries.{Entry, stamp, answer}
 use Rattle.lsm_codec.specs.Keys.{UserKey, UserLe}
 use Rattle.lsm_codec.specs.Lists.{Has}
 use Rattle.lsm_codec.proofs.CallerLemmas.{user_le_trans, any_at, any_says, has_flat, flat_has, stamp_lt}
-use Rattle.lsm_levels.specs.Files.{File, all_entries, Meets, OneEach, Fits, Shallower, IsLawful, IsSplit}
+use Rattle.lsm_levels.specs.Files.{File, all_entries, Meets, OneEach, Fits, InOrder, Shallower, IsLawful}
 use Rattle.lsm_levels.specs.Jobs.{Job, is_input, Conflicts, IsOpenIn, AreOutputs, Changed}
 use Rattle.lsm_levels.specs.Kept.{covers, kept_entries}
+use Rattle.lsm_levels.proofs.Beside.{apart_in_order, in_order_distinct, meets_at}
 use Rattle.lsm_levels.proofs.Drops.{drops_answer}
 use Rattle.lsm_levels.proofs.Kept.{Merges, merges_drops}
 
@@ -18,10 +19,6 @@ all_has v e h = flat_has (λ (F : File). F.entries) v e h
 
 pub has_all : (v : List File) (F : File) (e : Entry) → Has v F → Has F.entries e → Has (all_entries v) e
 has_all v F e h k = has_flat (λ (G : File). G.entries) v F e h k
-
--- ranges that share a key meet
-pub meets_at : (F : File) (low high k : UserKey) → UserLe F.low k → UserLe k F.high → UserLe low k → UserLe k high → Meets F low high
-meets_at F low high k a b c d = (user_le_trans F.low k high a d, user_le_trans low k F.high c b)
 
 -- a file of the version that is an input by its number is an input
 pub input_says : (v : List File) (job : Job) (F : File) → ((G H : File) → Has v G → Has v H → G.number ≡ H.number → G ≡ H)
@@ -50,9 +47,9 @@ same_level_input v job F G x y fits o hF at hG kx ky same =
     o.alone F hF at (meets_at F job.low job.high y.user (subst (UserLe F.low) same (fit.above x kx)) (subst (λ (k : UserKey). UserLe k F.high) same (fit.below x kx)) hull.0 hull.1)
 
 -- what stays outside the inputs is newer than an input of its key that no range covers
-outside_newer : (Split : File → File → Type 0) (v : List File) (job : Job) → IsLawful Split v → IsOpenIn v job → (F G : File) (x y : Entry)
+outside_newer : (v : List File) (job : Job) → IsLawful v → IsOpenIn v job → (F G : File) (x y : Entry)
     → Has v F → is_input job F ≡ false → Has job.inputs G → Has F.entries x → Has G.entries y → x.user ≡ y.user → covers job.ranges y.user ≡ false → y.seq < x.seq
-outside_newer Split v job l o F G x y hF out hG kx ky same bare =
+outside_newer v job l o F G x y hF out hG kx ky same bare =
     elim (cases_lt F.level job.level) [
       | inl above ↦ l.depth F G x y hF (o.inputs G hG) (inl (elim (o.levels G hG) [ inl e ↦ omega arith | inr e ↦ omega arith ])) kx ky same
       | inr rest ↦ elim (cases_eq F.level job.level) [
@@ -64,9 +61,9 @@ outside_newer Split v job l o F G x y hF out hG kx ky same bare =
       ]
     ]
 
-pub install_merges : (Split : File → File → Type 0) (v : List File) (job : Job) (outs w : List File) → IsLawful Split v → IsOpenIn v job
+pub install_merges : (v : List File) (job : Job) (outs w : List File) → IsLawful v → IsOpenIn v job
     → AreOutputs v job (kept_entries (all_entries job.inputs) job.floor job.ranges) outs → Changed v job outs w → Merges (all_entries v) (all_entries w) (all_entries job.inputs) job.floor job.ranges
-install_merges Split v job outs w l o p c = record {
+install_merges v job outs w l o p c = record {
   inputs = λ e h. (let r = all_has job.inputs e h in has_all v r.0 e (o.inputs r.0 r.1) r.2);
   left = λ e h. (let r = all_has v e h in elim (cases_Bool (is_input job r.0)) [
     | inl t ↦ inl (has_all job.inputs r.0 e (input_says v job r.0 l.numbers o.inputs r.1 t) r.2)
@@ -80,13 +77,13 @@ install_merges Split v job outs w l o p c = record {
 }
   where
     outside : (F : File) (e : Entry) → Has v F → is_input job F ≡ false → Has F.entries e → (x : Entry) → Has (all_entries job.inputs) x → e.user ≡ x.user → covers job.ranges x.user ≡ false → x.seq < e.seq
-    outside F e h out k x hx same bare = (let r = all_has job.inputs x hx in outside_newer Split v job l o F r.0 e x h out r.1 k r.2 same bare)
+    outside F e h out k x hx same bare = (let r = all_has job.inputs x hx in outside_newer v job l o F r.0 e x h out r.1 k r.2 same bare)
 
 lower_stamp : (x y : Entry) → y.seq < x.seq → stamp x ≡ stamp y → ⊥
 lower_stamp x y h e = (let lt = stamp_lt y x h in omega arith)
 
-pub one_each : (Split : File → File → Type 0) → IsSplit Split → (v : List File) → IsLawful Split v → OneEach (all_entries v)
-one_each Split i v l x y hx hy key same = at (all_has v x hx) (all_has v y hy)
+pub one_each : (v : List File) → IsLawful v → OneEach (all_entries v)
+one_each v l x y hx hy key same = at (all_has v x hx) (all_has v y hy)
   where
     lower : (F G : File) → Has v F → Has F.entries x → Has v G → Has G.entries y → Shallower F G → ⊥
     lower F G hF kx hG ky s = lower_stamp x y (l.depth F G x y hF hG s kx ky key) same
@@ -97,7 +94,7 @@ one_each Split i v l x y hx hy key same = at (all_has v x hx) (all_has v y hy)
     apart : (F G : File) → Has v F → Has F.entries x → Has v G → Has G.entries y → (F.number ≡ G.number → ⊥) → ⊥
     apart F G hF kx hG ky ne = elim (cases_order F.level G.level) [
       | inl e ↦ elim (cases_lt 0 F.level) [
-        | inl pos ↦ i.distinct F G x y (l.fits F hF) (l.fits G hG) (l.split F G hF hG e pos ne) kx ky key same
+        | inl pos ↦ in_order_distinct F G x y (l.fits F hF) (l.fits G hG) (l.in_order F G hF hG e pos ne) kx ky key same
         | inr none ↦ elim (cases_order F.number G.number) [
           | inl n ↦ ne n
           | inr o ↦ elim o [
@@ -120,11 +117,11 @@ one_each Split i v l x y hx hy key same = at (all_has v x hx) (all_has v y hy)
     ]
 
 -- an installed merge changes no answer from the job's floor on
-pub install_answers : (Split : File → File → Type 0) → IsSplit Split → (v : List File) (job : Job) (outs w : List File) → IsLawful Split v → IsOpenIn v job
+pub install_answers : (v : List File) (job : Job) (outs w : List File) → IsLawful v → IsOpenIn v job
     → AreOutputs v job (kept_entries (all_entries job.inputs) job.floor job.ranges) outs → Changed v job outs w
     → (k : UserKey) (s : ℕ) → job.floor ≤ s → answer (all_entries w) k s ≡ answer (all_entries v) k s
-install_answers Split i v job outs w l o p c k s le =
-    drops_answer (all_entries v) (all_entries w) job.floor s k (one_each Split i v l) (merges_drops (all_entries v) (all_entries w) (all_entries job.inputs) job.floor job.ranges (install_merges Split v job outs w l o p c)) le
+install_answers v job outs w l o p c k s le =
+    drops_answer (all_entries v) (all_entries w) job.floor s k (one_each v l) (merges_drops (all_entries v) (all_entries w) (all_entries job.inputs) job.floor job.ranges (install_merges v job outs w l o p c)) le
 
 -- what an output has of a key, an input has
 output_from : (v : List File) (job : Job) (K : List Entry) (outs : List File) → ((e : Entry) → Has K e → Has (all_entries job.inputs) e) → AreOutputs v job K outs
@@ -146,12 +143,12 @@ output_in_hull v job K outs fits o part p F h =
 meets_hull : (job : Job) (F G : File) → UserLe job.low F.low × UserLe F.high job.high → Meets G F.low F.high → Meets G job.low job.high
 meets_hull job F G hull m = (user_le_trans G.low F.high job.high m.0 hull.1, user_le_trans job.low F.low G.high hull.0 m.1)
 
-pub install_lawful : (Split : File → File → Type 0) → IsSplit Split → (v : List File) (job : Job) (K : List Entry) (outs w : List File) → IsLawful Split v → IsOpenIn v job
-    → ((e : Entry) → Has K e → Has (all_entries job.inputs) e) → AreOutputs v job K outs → Changed v job outs w → IsLawful Split w
-install_lawful Split i v job K outs w l o part p c = record {
+pub install_lawful : (v : List File) (job : Job) (K : List Entry) (outs w : List File) → IsLawful v → IsOpenIn v job
+    → ((e : Entry) → Has K e → Has (all_entries job.inputs) e) → AreOutputs v job K outs → Changed v job outs w → IsLawful w
+install_lawful v job K outs w l o part p c = record {
   fits = fits;
   numbers = λ F G hF hG e. numbers F G (c.from F hF) (c.from G hG) e;
-  split = λ F G hF hG e pos ne. split F G (c.from F hF) (c.from G hG) e ne pos;
+  in_order = λ F G hF hG e pos ne. in_order F G (c.from F hF) (c.from G hG) e ne pos;
   depth = λ F G x y hF hG s kx ky same. depth F G x y (c.from F hF) (c.from G hG) s kx ky same;
 }
   where
@@ -173,11 +170,11 @@ install_lawful Split i v job K outs w l o part p c = record {
         let at : G.level ≡ suc job.level = sym e ∙ p.levels F a in
         both_ways (is_input job G) out (input_from job G (o.alone G b at (meets_hull job F G (output_in_hull v job K outs l.fits o part p F a) m)))
 
-    split : (F G : File) → Has outs F ⊎ (Has v F × (is_input job F ≡ false)) → Has outs G ⊎ (Has v G × (is_input job G ≡ false)) → F.level ≡ G.level → (F.number ≡ G.number → ⊥) → 1 ≤ F.level → Split F G
-    split F G (inl a) (inl b) e ne pos = i.apart F G (p.fits F a) (p.fits G b) (p.apart F G a b ne)
-    split F G (inl a) (inr b) e ne pos = i.apart F G (p.fits F a) (l.fits G b.0) (λ m. clear F G a b.0 b.1 e (m.1, m.0))
-    split F G (inr a) (inl b) e ne pos = i.apart F G (l.fits F a.0) (p.fits G b) (λ m. clear G F b a.0 a.1 (sym e) m)
-    split F G (inr a) (inr b) e ne pos = l.split F G a.0 b.0 e pos ne
+    in_order : (F G : File) → Has outs F ⊎ (Has v F × (is_input job F ≡ false)) → Has outs G ⊎ (Has v G × (is_input job G ≡ false)) → F.level ≡ G.level → (F.number ≡ G.number → ⊥) → 1 ≤ F.level → InOrder F G
+    in_order F G (inl a) (inl b) e ne pos = apart_in_order F G (p.fits F a) (p.fits G b) (p.apart F G a b ne)
+    in_order F G (inl a) (inr b) e ne pos = apart_in_order F G (p.fits F a) (l.fits G b.0) (λ m. clear F G a b.0 b.1 e (m.1, m.0))
+    in_order F G (inr a) (inl b) e ne pos = apart_in_order F G (l.fits F a.0) (p.fits G b) (λ m. clear G F b a.0 a.1 (sym e) m)
+    in_order F G (inr a) (inr b) e ne pos = l.in_order F G a.0 b.0 e pos ne
 
     depth : (F G : File) (x y : Entry) → Has outs F ⊎ (Has v F × (is_input job F ≡ false)) → Has outs G ⊎ (Has v G × (is_input job G ≡ false)) → Shallower F G → Has F.entries x → Has G.entries y → x.user ≡ y.user → y.seq < x.seq
     depth F G x y (inl a) (inl b) s kx ky same =
@@ -200,9 +197,9 @@ install_lawful Split i v job K outs w l o part p c = record {
     depth F G x y (inr a) (inr b) s kx ky same = l.depth F G x y a.0 b.0 s kx ky same
 
 -- a job that does not conflict stays open
-pub install_keeps_open : (Split : File → File → Type 0) (v : List File) (job other : Job) (K : List Entry) (outs w : List File) → IsLawful Split v → IsOpenIn v job → IsOpenIn v other
+pub install_keeps_open : (v : List File) (job other : Job) (K : List Entry) (outs w : List File) → IsLawful v → IsOpenIn v job → IsOpenIn v other
     → (Conflicts job other → ⊥) → ((e : Entry) → Has K e → Has (all_entries job.inputs) e) → AreOutputs v job K outs → Changed v job outs w → IsOpenIn w other
-install_keeps_open Split v job other K outs w l o q none part p c = record {
+install_keeps_open v job other K outs w l o q none part p c = record {
   inputs = inputs;
   levels = q.levels;
   hull = q.hull;

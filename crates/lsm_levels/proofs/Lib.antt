@@ -1,9 +1,9 @@
 mod Order
 mod Drops
 mod Kept
+mod Beside
 mod Installs
 mod Ingests
-mod Splits
 mod Depths
 mod Moves
 mod Plans
@@ -16,4 +16,10 @@ mod Ranges
 mod Scanning
 mod InOrders
 mod Checked
+-- the machine
+mod LiveLists
+mod PlainSteps
+mod Installing
+mod Runs
+mod Created
 pub mod CallerLemmas

@@ -5,7 +5,7 @@ use Rattle.lsm_codec.specs.Entries.{Entry, answer}
 use Rattle.lsm_codec.specs.Keys.{UserKey}
 use Rattle.lsm_codec.specs.Lists.{Has}
 use Rattle.lsm_codec.proofs.CallerLemmas.{has_left}
-use Rattle.lsm_levels.specs.Files.{File, all_entries, Fits, IsLawful, IsSplit}
+use Rattle.lsm_levels.specs.Files.{File, all_entries, Fits, IsLawful}
 use Rattle.lsm_levels.specs.Jobs.{Job, is_input, IsOpenIn, AreOutputs, Changed, at_level, IsMove}
 use Rattle.lsm_levels.proofs.Drops.{Drops, drops_answer}
 use Rattle.lsm_levels.proofs.Installs.{all_has, has_all, input_says, input_from, one_each}
@@ -18,9 +18,9 @@ one_is : {X : Type 0} (x y : X) → Has (x ∷ []) y → x ≡ y
 one_is x y (inl e) = e
 one_is x y (inr h) = absurd h
 
-pub move_outputs : (Split : File → File → Type 0) (v : List File) (job : Job) (outs : List File) → IsLawful Split v → IsOpenIn v job → IsMove job outs
+pub move_outputs : (v : List File) (job : Job) (outs : List File) → IsLawful v → IsOpenIn v job → IsMove job outs
     → AreOutputs v job (all_entries job.inputs) outs
-move_outputs Split v job outs l o m = record {
+move_outputs v job outs l o m = record {
   holds = record {
     levels = λ G h. ap (λ (H : File). H.level) (sym (is_out G h));
     fits = λ G h. subst Fits (is_out G h) (at_level_fits (suc job.level) F (l.fits F (o.inputs F here)));
@@ -46,9 +46,9 @@ move_outputs Split v job outs l o m = record {
     out e r = subst (λ (H : File). Has H.entries e) (sym (one_is F r.0 (subst (λ fs. Has fs r.0) m.1 r.1))) r.2
 
 -- outputs that hold all that the inputs held change no answer
-pub move_answers : (Split : File → File → Type 0) → IsSplit Split → (v : List File) (job : Job) (outs w : List File) → IsLawful Split v → IsOpenIn v job
+pub move_answers : (v : List File) (job : Job) (outs w : List File) → IsLawful v → IsOpenIn v job
     → AreOutputs v job (all_entries job.inputs) outs → Changed v job outs w → (k : UserKey) (s : ℕ) → answer (all_entries w) k s ≡ answer (all_entries v) k s
-move_answers Split i v job outs w l o p c k s = drops_answer (all_entries v) (all_entries w) 0 s k (one_each Split i v l) drops (omega arith)
+move_answers v job outs w l o p c k s = drops_answer (all_entries v) (all_entries w) 0 s k (one_each v l) drops (omega arith)
   where
     within : (e : Entry) → Has (all_entries w) e → Has (all_entries v) e
     within e h = (let r = all_has w e h in elim (c.from r.0 r.1) [

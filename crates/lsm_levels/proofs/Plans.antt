@@ -11,7 +11,7 @@ use Rattle.lsm_levels.specs.Jobs.{Job, is_input, IsOpenIn}
 use Rattle.lsm_levels.specs.Kept.{covers}
 use Rattle.lsm_levels.specs.Plans.{IsLinked, starting, meeting, Plan, IsClosed, IsJobOf}
 use Rattle.lsm_levels.proofs.Installs.{input_from}
-use Rattle.lsm_levels.proofs.Splits.{share_meets}
+use Rattle.lsm_levels.proofs.Beside.{share_meets}
 
 pub linked_in : (v : List File) (level : ℕ) (Start : File → Type 0) (F : File) → IsLinked v level Start F → Has v F × (F.level ≡ level)
 linked_in v level Start F (starting _ h at s) = (h, at)
@@ -41,9 +41,9 @@ linked_right v level from to g own hg at after w (meeting F _ l h e m) le = elim
 ]
 
 -- a file of the output level that meets the hull of a closed plan is one of its lower inputs
-hull_closed : (Split : File → File → Type 0) (v : List File) (Start : File → Type 0) (plan : Plan) → IsLawful Split v → IsClosed v Start plan
+hull_closed : (v : List File) (Start : File → Type 0) (plan : Plan) → IsLawful v → IsClosed v Start plan
     → (g : File) → Has v g → g.level ≡ suc plan.level → Meets g plan.low plan.high → Has plan.lower g
-hull_closed Split v Start plan l c g hg at m = c.lower_all g linked
+hull_closed v Start plan l c g hg at m = c.lower_all g linked
   where
     own : UserLe g.low g.high
     own = low_high g (l.fits g hg)
@@ -77,14 +77,14 @@ hull_closed Split v Start plan l c g hg at m = c.lower_all g linked
       | inr before ↦ left before
     ]
 
-pub plan_opens : (Split : File → File → Type 0) (v : List File) (Start : File → Type 0) (plan : Plan) (job : Job) → IsLawful Split v → IsClosed v Start plan → IsJobOf v plan job → IsOpenIn v job
-plan_opens Split v Start plan job l c j = record {
+pub plan_opens : (v : List File) (Start : File → Type 0) (plan : Plan) (job : Job) → IsLawful v → IsClosed v Start plan → IsJobOf v plan job → IsOpenIn v job
+plan_opens v Start plan job l c j = record {
   inputs = λ F h. (in_version F (is_of F h)).0;
   levels = λ F h. elim (is_of F h) [ inl up ↦ inl (upper_level F up ∙ sym j.level) | inr down ↦ inr (lower_level F down ∙ ap suc (sym j.level)) ];
   hull = λ F h. (let r = subst (λ fs. Has fs F) j.inputs h in
       (subst (λ (k : UserKey). UserLe k F.low) (sym j.low) (c.hull.above F r), subst (UserLe F.high) (sym j.high) (c.hull.below F r)));
   alone = λ F h at m. subst (λ fs. Has fs F) (sym j.inputs) (has_right plan.upper plan.lower F
-      (hull_closed Split v Start plan l c F h (at ∙ ap suc j.level) (subst (UserLe F.low) j.high m.0, subst (λ (k : UserKey). UserLe k F.high) j.low m.1)));
+      (hull_closed v Start plan l c F h (at ∙ ap suc j.level) (subst (UserLe F.low) j.high m.0, subst (λ (k : UserKey). UserLe k F.high) j.low m.1)));
   newer = λ F G x y h at out hG kx ky same. newer F G x y h (at ∙ j.level) out (is_of G hG) kx ky same;
   below = λ F G x y h at hG kx ky same. covered F x y h (subst (λ (n : ℕ). suc (suc n) ≤ F.level) j.level at) kx same;
 }

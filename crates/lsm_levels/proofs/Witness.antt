@@ -5,7 +5,7 @@ use Rattle.lsm_codec.specs.Lists.{Has}
 use Rattle.lsm_codec.specs.Keys.{UserKey, UserLe}
 use Rattle.lsm_codec.specs.Entries.{Entry}
 use Rattle.lsm_codec.proofs.CallerLemmas.{user_le_refl}
-use Rattle.lsm_levels.specs.Files.{File, Apart, Before, InOrder, IsAhead, Meets, Fits, IsLawful, Shallower, all_entries}
+use Rattle.lsm_levels.specs.Files.{File, Before, InOrder, IsAhead, Meets, Fits, IsLawful, Shallower, all_entries}
 use Rattle.lsm_levels.specs.Jobs.{Job, AreOutputs, Changed, Gains, IsOpenIn, is_input}
 use Rattle.lsm_levels.specs.Kept.{kept_entries}
 use Rattle.lsm_levels.specs.Plans.{IsLinked, starting, meeting, Plan, IsClosed, IsJobOf, Spans}
@@ -75,11 +75,11 @@ seq_is F r e h = go (subst (λ (G : File). Has G.entries e) (sym r.is) h)
 at_level : (n : ℕ) (F : File) → Has three F → F.level ≡ n → row n ≡ F
 at_level n F h e = (let r = row_of F h in ap row (sym (sym (level_is F r) ∙ e)) ∙ r.is)
 
-lawful : IsLawful Apart three
+lawful : IsLawful three
 lawful = record {
   fits = λ F h. (let r = row_of F h in subst Fits r.is (row_fits r.level));
   numbers = λ F G hF hG e. same F G (row_of F hF) (row_of G hG) e;
-  split = λ F G hF hG at pos ne. absurd (ne (let r = row_of F hF in let s = row_of G hG in
+  in_order = λ F G hF hG at pos ne. absurd (ne (let r = row_of F hF in let s = row_of G hG in
       let a = level_is F r in let b = level_is G s in let c = number_is F r in let d = number_is G s in omega arith));
   depth = λ F G x y hF hG s kx ky u. (let r = row_of F hF in let q = row_of G hG in
       let a = level_is F r in let b = level_is G q in let c = seq_is F r x kx in let d = seq_is G q y ky in
@@ -166,7 +166,7 @@ of_plan = record {
 }
 
 open_job : IsOpenIn three job
-open_job = plan_opens Apart three (Has (row 0 ∷ [])) plan job lawful closed of_plan
+open_job = plan_opens three (Has (row 0 ∷ [])) plan job lawful closed of_plan
 
 -- ---- what the job keeps, and its install
 
@@ -231,11 +231,11 @@ gains = record {
 reached : (F : File) (e : Entry) → Has three F → Has F.entries e → e.seq ≤ 3
 reached F e h k = (let r = row_of F h in let s = seq_is F r e k in omega arith)
 
-pub an_install : (v : List File) × (starts : List File) × (plan : Plan) × (job : Job) × (outs : List File) × (w : List File) × IsLawful Apart v × IsClosed v (Has starts) plan
+pub an_install : (v : List File) × (starts : List File) × (plan : Plan) × (job : Job) × (outs : List File) × (w : List File) × IsLawful v × IsClosed v (Has starts) plan
     × IsJobOf v plan job × IsOpenIn v job × AreOutputs v job (kept_entries (all_entries job.inputs) job.floor job.ranges) outs × Changed v job outs w
 an_install = (three, row 0 ∷ [], plan, job, outs, after, lawful, closed, of_plan, open_job, outputs, installed)
 
-pub an_ingest : (v : List File) × (last : ℕ) × (file : File) × (w : List File) × IsLawful Apart v × ((F : File) (e : Entry) → Has v F → Has F.entries e → e.seq ≤ last) × Gains v last file w
+pub an_ingest : (v : List File) × (last : ℕ) × (file : File) × (w : List File) × IsLawful v × ((F : File) (e : Entry) → Has v F → Has F.entries e → e.seq ≤ last) × Gains v last file w
 an_ingest = (three, 3, file 0 4 4, file 0 4 4 ∷ three, lawful, reached, gains)
 
 -- ---- two files of level 1, of which the second goes on with the user key of the first
@@ -270,26 +270,26 @@ newer_first x y (inr h) k = absurd h
 first_ahead : (F G : File) → file 1 1 2 ≡ F → file 1 2 1 ≡ G → IsAhead F G
 first_ahead F G p q x y hx hy = newer_first x y (subst (λ (D : File). Has D.entries x) (sym p) hx) (subst (λ (D : File). Has D.entries y) (sym q) hy)
 
-two_split : (F G : File) → Has two F → Has two G → (F.number ≡ G.number → ⊥) → InOrder F G
-two_split F G (inl p) (inl q) ne = absurd (ne (ap (λ (D : File). D.number) (sym p ∙ q)))
-two_split F G (inl p) (inr (inl q)) ne = inl (first_ahead F G p q)
-two_split F G (inr (inl p)) (inl q) ne = inr (first_ahead G F q p)
-two_split F G (inr (inl p)) (inr (inl q)) ne = absurd (ne (ap (λ (D : File). D.number) (sym p ∙ q)))
-two_split F G (inr (inr h)) k ne = absurd h
-two_split F G (inl p) (inr (inr h)) ne = absurd h
-two_split F G (inr (inl p)) (inr (inr h)) ne = absurd h
+two_in_order : (F G : File) → Has two F → Has two G → (F.number ≡ G.number → ⊥) → InOrder F G
+two_in_order F G (inl p) (inl q) ne = absurd (ne (ap (λ (D : File). D.number) (sym p ∙ q)))
+two_in_order F G (inl p) (inr (inl q)) ne = inl (first_ahead F G p q)
+two_in_order F G (inr (inl p)) (inl q) ne = inr (first_ahead G F q p)
+two_in_order F G (inr (inl p)) (inr (inl q)) ne = absurd (ne (ap (λ (D : File). D.number) (sym p ∙ q)))
+two_in_order F G (inr (inr h)) k ne = absurd h
+two_in_order F G (inl p) (inr (inr h)) ne = absurd h
+two_in_order F G (inr (inl p)) (inr (inr h)) ne = absurd h
 
 none_shallower : (F G : File) → Has two F → Has two G → Shallower F G → ⊥
 none_shallower F G hF hG (inl less) = omega (arith, less, two_level F hF, two_level G hG)
 none_shallower F G hF hG (inr s) = omega (arith, s.0, two_level F hF)
 
-two_lawful : IsLawful InOrder two
+two_lawful : IsLawful two
 two_lawful = record {
   fits = two_fits;
   numbers = two_numbers;
-  split = λ F G hF hG same pos ne. two_split F G hF hG ne;
+  in_order = λ F G hF hG same pos ne. two_in_order F G hF hG ne;
   depth = λ F G x y hF hG s hx hy same. absurd (none_shallower F G hF hG s);
 }
 
-pub a_wide_level : (v : List File) × (F : File) × (G : File) × IsLawful InOrder v × Has v F × Has v G × (F.number ≡ G.number → ⊥) × (F.level ≡ G.level) × (1 ≤ F.level) × (F.high ≡ G.low)
+pub a_wide_level : (v : List File) × (F : File) × (G : File) × IsLawful v × Has v F × Has v G × (F.number ≡ G.number → ⊥) × (F.level ≡ G.level) × (1 ≤ F.level) × (F.high ≡ G.low)
 a_wide_level = (two, file 1 1 2, file 1 2 1, two_lawful, inl refl, inr (inl refl), (λ n. omega (arith, n)), refl, omega arith, refl)

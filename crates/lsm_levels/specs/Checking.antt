@@ -6,7 +6,7 @@ use Rattle.lsm_codec.specs.Entries.{Entry, internal_key}
 use Rattle.lsm_levels.specs.Files.{File, Shallower}
 use Rattle.lsm_levels.specs.Merging.{Placed}
 use Rattle.lsm_levels.specs.Ages.{IsAgeOrder}
-use Rattle.lsm_levels.specs.Ranges.{Range, EachPair}
+use Rattle.lsm_levels.specs.Ranges.{EachPair, MeetInKeys, Range}
 use Rattle.lsm_levels.specs.Streams.{IsAscending}
 
 -- a table under its number, with its smallest and largest internal key
@@ -49,12 +49,12 @@ level_in (xs ∷ levels) zero = xs
 level_in (xs ∷ levels) (suc n) = level_in levels n
 
 -- What is judged of the tables of all levels: each by itself, those of a level from 1 on together,
--- of which no two ranges have in common what `Meet` says, and all entries, which stand in `placed`
--- with the depths of their files.
-pub record IsJudged (Meet : Range → Range → Type 0) (levels : List (List Listed)) (depth : File → ℕ) (placed : List Placed) : Type 0 where
+-- of which no two ranges meet in internal keys, and all entries, which stand in `placed` with the
+-- depths of their files.
+pub record IsJudged (levels : List (List Listed)) (depth : File → ℕ) (placed : List Placed) : Type 0 where
   pub ranges : (n : ℕ) (t : Listed) → Has (level_in levels n) t → IsRangeOf t.entries t.range
   pub numbers : (F G : File) → Has (files_from 0 levels) F → Has (files_from 0 levels) G → F.number ≡ G.number → F ≡ G
-  pub apart : (n : ℕ) → 1 ≤ n → EachPair (λ a b. Meet a b → ⊥) (ranges_of (level_in levels n))
+  pub apart : (n : ℕ) → 1 ≤ n → EachPair (λ a b. MeetInKeys a b → ⊥) (ranges_of (level_in levels n))
   pub depths : (F G : File) → Has (files_from 0 levels) F → Has (files_from 0 levels) G → Shallower F G → depth F < depth G
   pub all : (F : File) (e : Entry) → Has (files_from 0 levels) F → Has F.entries e → Has placed (depth F, e)
   pub ages : IsAgeOrder placed

@@ -1,10 +1,10 @@
 -- Files in their places, and the law of a version (LevelDB's `doc/impl.md`, "Levels").
-use Rattle.std.specs.Prelude.{◌≡◌, ℕ, ◌<◌, ◌≤◌, true, false, Some, List, ◌⊎◌}
+use Rattle.std.specs.Prelude.{◌≡◌, ℕ, ◌<◌, ◌≤◌, List, ◌⊎◌}
 use Rattle.std.specs.List.{flat_map}
 use Rattle.std.specs.declared.cmp.Ordering.TheVariants.{Less}
 use Rattle.lsm_codec.specs.Lists.{Has}
 use Rattle.lsm_codec.specs.Keys.{UserKey, UserLe}
-use Rattle.lsm_codec.specs.Entries.{Entry, stamp, entry_cmp, is_allowed, newest}
+use Rattle.lsm_codec.specs.Entries.{Entry, stamp, entry_cmp}
 
 -- a table in its place: its least and its greatest user key, and its entries
 pub record File : Type 0 where
@@ -39,11 +39,6 @@ IsAhead F G = (x y : Entry) → Has F.entries x → Has G.entries y → Before x
 abbrev pub InOrder : File → File → Type 0
 InOrder F G = IsAhead F G ⊎ IsAhead G F
 
--- How the files of a level from 1 on lie in the versions of this project: in order of internal
--- keys, so that a user key may go on in the next file (LevelDB's `doc/impl.md`, "Levels").
-abbrev pub Lie : File → File → Type 0
-Lie = InOrder
-
 -- no two entries have one user key and one stamp
 abbrev pub OneEach : List Entry → Type 0
 OneEach es = (x y : Entry) → Has es x → Has es y → x.user ≡ y.user → stamp x ≡ stamp y → x ≡ y
@@ -61,29 +56,13 @@ pub record Fits (F : File) : Type 0 where
 abbrev pub Shallower : File → File → Type 0
 Shallower F G = (F.level < G.level) ⊎ ((F.level ≡ 0) × (G.level ≡ 0) × (G.number < F.number))
 
--- The law of a version. Split says how two files of one level from 1 on lie: `Apart` in user keys,
--- or `InOrder` in internal keys. That a key's entries are newer the shallower they lie is what
--- `doc/impl.md` builds on where it reads level by level.
-pub record IsLawful (Split : File → File → Type 0) (v : List File) : Type 0 where
+-- The law of a version. The files of a level from 1 on lie in order of internal keys, so that a
+-- user key may go on in the next file (`doc/impl.md`, "Levels"). That a key's entries are newer the
+-- shallower they lie is what `doc/impl.md` builds on where it reads level by level.
+pub record IsLawful (v : List File) : Type 0 where
   pub fits : (F : File) → Has v F → Fits F
   pub numbers : (F G : File) → Has v F → Has v G → F.number ≡ G.number → F ≡ G
-  pub split : (F G : File) → Has v F → Has v G → F.level ≡ G.level → 1 ≤ F.level
-      → (F.number ≡ G.number → ⊥) → Split F G
+  pub in_order : (F G : File) → Has v F → Has v G → F.level ≡ G.level → 1 ≤ F.level
+      → (F.number ≡ G.number → ⊥) → InOrder F G
   pub depth : (F G : File) (x y : Entry) → Has v F → Has v G → Shallower F G → Has F.entries x → Has G.entries y
       → x.user ≡ y.user → y.seq < x.seq
-
--- What the laws of a version need of the way in which two files of a level lie: files apart in user
--- keys lie so, and files that lie so have no internal key in common.
-pub record IsSplit (Split : File → File → Type 0) : Type 0 where
-  pub apart : (F G : File) → Fits F → Fits G → Apart F G → Split F G
-  pub distinct : (F G : File) (x y : Entry) → Fits F → Fits G → Split F G → Has F.entries x → Has G.entries y
-      → x.user ≡ y.user → stamp x ≡ stamp y → ⊥
-
--- The newest entry of a file that a read allows is the newest of the version, where no file of a
--- lesser depth has an entry that the read allows, and no other file of its level has one with a
--- greater stamp.
-abbrev pub GoesByDepth : (File → File → Type 0) → Type 0
-GoesByDepth Split = (v : List File) (F : File) (k : UserKey) (s : ℕ) (e : Entry) → IsLawful Split v → Has v F → newest k s F.entries ≡ Some e
-    → ((G : File) (y : Entry) → Has v G → Shallower G F → Has G.entries y → is_allowed k s y ≡ false)
-    → ((G : File) (y : Entry) → Has v G → G.level ≡ F.level → 1 ≤ F.level → Has G.entries y → is_allowed k s y ≡ true → stamp y ≤ stamp e)
-    → newest k s (all_entries v) ≡ Some e

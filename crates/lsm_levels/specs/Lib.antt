@@ -1,3 +1,4 @@
+-- what public clauses cite
 pub mod Files
 pub mod Kept
 pub mod Jobs
@@ -8,3 +9,7 @@ pub mod Ranges
 pub mod Ages
 pub mod Scanning
 pub mod Checking
+-- the store as a plain machine
+pub mod Plain
+pub mod Law
+pub mod Runs

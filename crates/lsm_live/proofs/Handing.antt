@@ -6,7 +6,7 @@ use Rattle.lsm_levels.specs.Files.{File}
 use Rattle.lsm_levels.specs.Jobs.{IsMove}
 use Rattle.lsm_levels.specs.Streams.{NumbersRise}
 use Rattle.lsm_version.specs.Versions.{file_of, files_of}
-use Rattle.lsm_machine.specs.Plain.{IsBooked, IsResult}
+use Rattle.lsm_levels.specs.Plain.{IsBooked, IsResult}
 use Rattle.lsm_merge.specs.Work.{Done, IsFinished, IsMade, Work, job_of}
 use Rattle.lsm_live.specs.Booked.{AreIncreasing, Booked, live_of}
 use Rattle.lsm_live.specs.Results.{IsLiveResult, outs_of}

@@ -16,10 +16,10 @@ use Rattle.lsm_table.specs.Registry.{Table}
 use Rattle.lsm_table.specs.HeldTable.{entries_in}
 use Rattle.lsm_manifest.specs.FileOrder.{TableFile, packed_part, user_part}
 use Rattle.lsm_manifest.proofs.CallerLemmas.{order_is}
-use Rattle.lsm_levels.specs.Files.{Before, File, InOrder, IsAhead, IsLawful, Lie, Shallower, all_entries}
+use Rattle.lsm_levels.specs.Files.{Before, File, InOrder, IsAhead, IsLawful, Shallower, all_entries}
 use Rattle.lsm_levels.specs.Ranges.{KeyLe, key_le}
 use Rattle.lsm_levels.specs.Streams.{IsAscending}
-use Rattle.lsm_levels.proofs.CallerLemmas.{all_has, ascending_sorted, before_not_first, before_says, first_is_le, in_order_split, linked_in}
+use Rattle.lsm_levels.proofs.CallerLemmas.{all_has, ascending_sorted, before_not_first, before_says, first_is_le, in_order_distinct, linked_in}
 use Rattle.lsm_version.specs.FileNumbers.{AreDistinct}
 use Rattle.lsm_version.specs.Versions.{AreInOrder, IsSound, IsWhole, Levels, file_of, files, files_of, level_in, numbers_in, stands_before}
 use Rattle.lsm_merge.specs.InputOrder.{AreTwins, HasTwins, StandInOrder}
@@ -147,10 +147,10 @@ twins_append (x ∷ xs) ys a b across (inl r) = elim (has_cases xs ys r.0 r.1) [
 twins_append (x ∷ xs) ys a b across (inr h) = twins_append xs ys (λ k. a (inr k)) b (λ z y hz hy. across z y (inr hz) hy) h
 
 -- entries of two files of a lawful version are no twins
-files_single : (v : List File) → IsLawful Lie v → (F G : File) → Has v F → Has v G → (F.number ≡ G.number → ⊥) → (x y : Entry) → Has F.entries x → Has G.entries y → AreTwins x y → ⊥
+files_single : (v : List File) → IsLawful v → (F G : File) → Has v F → Has v G → (F.number ≡ G.number → ⊥) → (x y : Entry) → Has F.entries x → Has G.entries y → AreTwins x y → ⊥
 files_single v l F G hF hG ne x y kx ky twins = elim (cases_order F.level G.level) [
   | inl e ↦ elim (cases_lt 0 F.level) [
-    | inl pos ↦ in_order_split.distinct F G x y (l.fits F hF) (l.fits G hG) (l.split F G hF hG e pos ne) kx ky twins.0 twins.1
+    | inl pos ↦ in_order_distinct F G x y (l.fits F hF) (l.fits G hG) (l.in_order F G hF hG e pos ne) kx ky twins.0 twins.1
     | inr none ↦ elim (cases_order F.number G.number) [
       | inl n ↦ ne n
       | inr o ↦ elim o [
@@ -171,7 +171,7 @@ files_single v l F G hF hG ne x y kx ky twins = elim (cases_order F.level G.leve
     upper : Shallower G F → ⊥
     upper s = (let lt = stamp_lt x y (l.depth G F y x hG hF s ky kx (sym twins.0)) in let same = twins.1 in absurd (omega arith))
 
-all_single : (v Fs : List File) → IsLawful Lie v → ((F : File) → Has Fs F → Has v F × IsAscending F.entries) → Differ Fs → HasTwins (all_entries Fs) → ⊥
+all_single : (v Fs : List File) → IsLawful v → ((F : File) → Has Fs F → Has v F × IsAscending F.entries) → Differ Fs → HasTwins (all_entries Fs) → ⊥
 all_single v [] l each d h = h
 all_single v (F ∷ Fs) l each d h =
     twins_append F.entries (all_entries Fs) (ascending_single F.entries (each F (inl refl)).1) (all_single v Fs l (λ G k. each G (inr k)) d.1)
@@ -190,7 +190,7 @@ record AreOfLevel (v : Levels) (n : ℕ) (us : List Table) : Type 0 where
 lined : (v : Levels) (n : ℕ) (us : List Table) → IsSound v → 1 ≤ n → AreOfLevel v n us → AreLined n us
 lined v n us s pos l = record {
   whole = l.whole;
-  lie = λ t u ht hu ne. s.lawful.split (file_of n t) (file_of n u) (l.files (file_of n t) (has_file n us t ht)) (l.files (file_of n u) (has_file n us u hu)) refl pos ne;
+  lie = λ t u ht hu ne. s.lawful.in_order (file_of n t) (file_of n u) (l.files (file_of n t) (has_file n us t ht)) (l.files (file_of n u) (has_file n us u hu)) refl pos ne;
 }
 
 ascends_there : (v : Levels) (n : ℕ) (us : List Table) → AreOfLevel v n us → (F : File) → Has (files_of n us) F → Has (files v) F × IsAscending F.entries

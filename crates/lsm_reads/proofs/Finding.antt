@@ -11,10 +11,10 @@ use Rattle.lsm_codec.specs.Entries.{Entry, stamp, newest, is_allowed}
 use Rattle.lsm_table.specs.Registry.{Table}
 use Rattle.lsm_table.specs.HeldTable.{entries_in}
 use Rattle.lsm_table.specs.Found.{found_in}
-use Rattle.lsm_levels.specs.Files.{File, Lie, all_entries, Shallower}
+use Rattle.lsm_levels.specs.Files.{File, all_entries, Shallower}
 use Rattle.lsm_version.specs.Versions.{file_of, files_of, files_from, user_of}
 use Rattle.lsm_version.specs.Reads.{IsSoundLevel, AreSound, IsRising, IsFirstReaching, is_below, is_candidate, covers, begins_by, reaches, IsYoungest, HasNoCandidate}
-use Rattle.lsm_levels.proofs.CallerLemmas.{all_has, before_says, depth_newest, has_all, in_order_split, newest_is, one_each, true_or_not}
+use Rattle.lsm_levels.proofs.CallerLemmas.{all_has, before_says, depth_newest, has_all, newest_is, one_each, true_or_not}
 use Rattle.lsm_version.proofs.CallerLemmas.{files_has, has_files, level_of_files, ahead_or_same, has_at}
 
 -- no entry of the table is for the read
@@ -93,7 +93,7 @@ allowed_parts n ts u k s y l hu hy a = and_parts (begins_by u k) (reaches u k) (
 pub range_found : (n : ℕ) (ts rest : List Table) (p i : ℕ) (x : Table) (k : UserKey) (s : ℕ) (e : Entry) → 1 ≤ n → IsSoundLevel n ts → rest ≡ drop p ts → p ≤ length ts → IsFirstReaching k ts p → i < length rest
     → x ≡ get_or rest i x → NoneBelow k s rest i → newest k s (entries_in x.image) ≡ Some e → newest k s (all_entries (files_of n ts)) ≡ Some e
 range_found n ts rest p i x k s e pos l is inside f lt at none here =
-    depth_newest Lie in_order_split (files_of n ts) (file_of n x) k s e l.lawful (has_files n ts x hx) new
+    depth_newest (files_of n ts) (file_of n x) k s e l.lawful (has_files n ts x hx) new
     (λ G y h sh hy a. no_shallower n (file_of n x) G pos refl (level_of G h) sh)
     (λ G y h same one hy a. beside G y (files_has n ts G h) hy a)
   where
@@ -185,7 +185,7 @@ candidate_of ts u k s bound y l looked hu hy a = and_from (is_below bound u.numb
 pub number_found : (ts : List Table) (t : Table) (k : UserKey) (s : ℕ) (bound : Option ℕ) (e : Entry) → IsSoundLevel 0 ts → Looked k s bound ts → IsYoungest k bound ts t
     → newest k s (entries_in t.image) ≡ Some e → newest k s (all_entries (files_of 0 ts)) ≡ Some e
 number_found ts t k s bound e l looked young is =
-    depth_newest Lie in_order_split (files_of 0 ts) (file_of 0 t) k s e l.lawful (has_files 0 ts t young.here) (is_newest k s (entries_in t.image) e is)
+    depth_newest (files_of 0 ts) (file_of 0 t) k s e l.lawful (has_files 0 ts t young.here) (is_newest k s (entries_in t.image) e is)
     (λ G y h sh hy a. above G y (files_has 0 ts G h) sh hy a)
     (λ G y h same one hy a. absurd (omega arith))
   where
@@ -221,7 +221,7 @@ level_from_files n (ts ∷ levels) F h = elim (has_cases (files_of n ts) (files_
 
 pub level_hit : (k : UserKey) (s n : ℕ) (ts : List Table) (rest : List (List Table)) (e : Entry) → AreSound n (ts ∷ rest) → newest k s (all_entries (files_of n ts)) ≡ Some e
     → newest k s (all_entries (files_from n (ts ∷ rest))) ≡ Some e
-level_hit k s n ts rest e a is = newest_is (all_entries (files_from n (ts ∷ rest))) k s e (one_each Lie in_order_split (files_from n (ts ∷ rest)) a.lawful) record {
+level_hit k s n ts rest e a is = newest_is (all_entries (files_from n (ts ∷ rest))) k s e (one_each (files_from n (ts ∷ rest)) a.lawful) record {
   here = has_all (files_from n (ts ∷ rest)) own.0 e (has_left (files_of n ts) (files_from (suc n) rest) own.0 own.1) own.2;
   allowed = new.allowed;
   most = λ y h b. (let r = all_has (files_from n (ts ∷ rest)) y h in most y b r.0 r.2 (has_cases (files_of n ts) (files_from (suc n) rest) r.0 r.1));

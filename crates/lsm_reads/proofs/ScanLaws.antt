@@ -5,10 +5,10 @@ use Rattle.lsm_codec.specs.Keys.{UserKey}
 use Rattle.lsm_codec.specs.Entries.{Entry, newest, value_in, answer}
 use Rattle.lsm_codec.proofs.CallerLemmas.{has_flat, flat_has}
 use Rattle.lsm_table.specs.Registry.{Table}
-use Rattle.lsm_levels.specs.Files.{File, Lie, IsLawful, OneEach, all_entries}
+use Rattle.lsm_levels.specs.Files.{File, IsLawful, OneEach, all_entries}
 use Rattle.lsm_levels.specs.Merging.{Placed, entries_of, merge_all}
 use Rattle.lsm_levels.specs.Scanning.{IsScan, pairs_of}
-use Rattle.lsm_levels.proofs.CallerLemmas.{newest_is, one_each_part, all_has, has_all, one_each, placed_entry, entry_placed, merged_sorted, merged_from, merged_has, scan_is, in_order_split}
+use Rattle.lsm_levels.proofs.CallerLemmas.{newest_is, one_each_part, all_has, has_all, one_each, placed_entry, entry_placed, merged_sorted, merged_from, merged_has, scan_is}
 use Rattle.lsm_reads.specs.Depths.{depth_of}
 use Rattle.lsm_reads.specs.Runs.{AreMergeable, AreRunsOf}
 use Rattle.lsm_version.specs.Versions.{AreInOrder, IsSound, Levels, files_from, files_of, level_in}
@@ -51,7 +51,7 @@ newest_same k s es fs one to from = go (newest k s fs) refl
     go (Some e) is = (let n = is_newest k s fs e is in
         newest_is es k s e (one_each_part fs es to one) record { here = from e n.here; allowed = n.allowed; most = λ y h a. n.most y (to y h) a } ∙ sym is)
 
-pub scan_of : (shallow : List Table) (v : List File) (ls : List (List Placed)) (s : ℕ) → IsLawful Lie v → AreRunsOf shallow (Has v) ls → IsScan s (all_entries v) (pairs_of s None (entries_of (merge_all ls)))
+pub scan_of : (shallow : List Table) (v : List File) (ls : List (List Placed)) (s : ℕ) → IsLawful v → AreRunsOf shallow (Has v) ls → IsScan s (all_entries v) (pairs_of s None (entries_of (merge_all ls)))
 scan_of shallow v ls s lawful a = record {
   right = λ k w h. sym (same k) ∙ scan.right k w h;
   whole = λ k w h. scan.whole k w (same k ∙ h);
@@ -63,4 +63,4 @@ scan_of shallow v ls s lawful a = record {
 
     same : (k : UserKey) → answer (entries_of (merge_all ls)) k s ≡ answer (all_entries v) k s
     same k = ap value_in (newest_same k s (entries_of (merge_all ls)) (all_entries v)
-        (one_each Lie in_order_split v lawful) (λ e h. shown_from shallow v ls e a h) (λ e h. has_shown shallow v ls e a h))
+        (one_each v lawful) (λ e h. shown_from shallow v ls e a h) (λ e h. has_shown shallow v ls e a h))

@@ -1,8 +1,8 @@
 -- What each command is to the plain machine, and to the history.
 use Rattle.std.proofs.Common.{◌≡◌, ℕ, suc, ◌+◌, ◌≤◌, Bool, true, false, cond, List, [], ◌∷◌, ◌++◌, refl, sym, ◌∙◌, ap, subst, inl, inr, arith}
 use Rattle.lsm_codec.specs.Entries.{Entry}
-use Rattle.lsm_machine.specs.Plain.{Plain}
-use Rattle.lsm_machine.specs.Runs.{Event, Ingest, Snapshot, Release, Reserve, Cancel, Draw, Install, Spend, Nothing, Run, ingested}
+use Rattle.lsm_levels.specs.Plain.{Plain}
+use Rattle.lsm_levels.specs.Runs.{Event, Ingest, Snapshot, Release, Reserve, Cancel, Draw, Install, Spend, Nothing, Run, ingested}
 use Rattle.lsm_shelf.specs.Told.{Told}
 use Rattle.lsm_version.specs.Versions.{files}
 use Rattle.lsm_batch.specs.declared.write.Write.{Write}

@@ -4,12 +4,11 @@ use Rattle.std.specs.Prelude.{MatchBool}
 use Rattle.lsm_codec.specs.Entries.{answer}
 use Rattle.lsm_codec.specs.Keys.{UserKey}
 use Rattle.lsm_codec.specs.Lists.{Has}
-use Rattle.lsm_levels.specs.Files.{Lie, all_entries}
-use Rattle.lsm_levels.proofs.CallerLemmas.{in_order_split}
-use Rattle.lsm_machine.specs.Law.{Law}
-use Rattle.lsm_machine.specs.Plain.{IsReadable, Plain, without_snapshot}
-use Rattle.lsm_machine.specs.Runs.{Event, Ingest, Snapshot, Release, Install, Spend, ReadsAs, Run, ingested}
-use Rattle.lsm_machine.proofs.CallerLemmas.{run_law}
+use Rattle.lsm_levels.specs.Files.{all_entries}
+use Rattle.lsm_levels.specs.Law.{Law}
+use Rattle.lsm_levels.specs.Plain.{IsReadable, Plain, without_snapshot}
+use Rattle.lsm_levels.specs.Runs.{Event, Ingest, Snapshot, Release, Install, Spend, ReadsAs, Run, ingested}
+use Rattle.lsm_levels.proofs.CallerLemmas.{run_law}
 use Rattle.lsm_shelf.specs.Told.{Told}
 use Rattle.lsm_table.specs.Registry.{Table}
 use Rattle.lsm_version.specs.Changes.{changed}
@@ -39,7 +38,7 @@ use Rattle.lsm_script.proofs.Events.{Quiet, ingested_append, ingest_idles, insta
 
 -- what a script begins with: the law of its state, and what every run from there reads
 pub record Ground (H : Type 0) (start : Held) : Type 0 where
-  pub law : Law H Lie (plain start)
+  pub law : Law H (plain start)
   pub reads : (t : Plain) (events : List Event) → H → Run H (plain start) events t → ReadsAs t (ingested events (all_entries (files start.slots.version)))
 
 -- Some events lead from the start to the state, and brought in what the history has.
@@ -257,7 +256,7 @@ snapshot_goes H start s r old new g f (inl k) = goes_as H start asks.Snapshot r 
 )
   where
     below : (p : ℕ × ℕ) → Has old.snapshots.taken p → p.0 < old.snapshots.next
-    below p h = (run_law H Lie in_order_split (plain start) f.events (plain old) g.law f.run).books.ids p h
+    below p h = (run_law H (plain start) f.events (plain old) g.law f.run).books.ids p h
 snapshot_goes H start s r old new g f (inr k) = elim k.1 [
   | inl e ↦ goes_as H start asks.Snapshot r _ s new e.0 (s, (refl, tt), quiet_follows H start s old new f (quiet_is H old new k.0))
   | inr e ↦ goes_as H start asks.Snapshot r _ s new e.0 (s, (refl, tt), quiet_follows H start s old new f (quiet_is H old new k.0))
@@ -316,8 +315,8 @@ replies_go H start s (c ∷ cs) (r ∷ rs) a b g f e = (let one = step_goes H st
 
 -- the history of a script on a state that keeps its law
 pub script_history : (H : Type 0) (start : Held) (cs : List Command) (rs : List Reply) (told : Told) (b : Stage)
-    → Law H Lie (plain start)
-    → ((s t : Plain) (events : List Event) → H → Law H Lie s → Run H s events t → ReadsAs t (ingested events (all_entries s.files)))
+    → Law H (plain start)
+    → ((s t : Plain) (events : List Event) → H → Law H s → Run H s events t → ReadsAs t (ingested events (all_entries s.files)))
     → AreReplies (IsStep H) cs rs (stage_of start told) b
     → (t : History) × AreReplies (IsAnswered H) cs rs (history_of start) t × IsOf H t b.state
 script_history H start cs rs told b law reads k = (let r = replies_go H start (history_of start) cs rs (stage_of start told) b ground (follows_start H start) k in (r.0, r.1, follows_is H start r.0 b.state ground r.2))

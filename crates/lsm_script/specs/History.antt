@@ -6,7 +6,7 @@ use Rattle.lsm_codec.specs.Keys.{UserKey}
 use Rattle.lsm_codec.specs.Lists.{Has}
 use Rattle.lsm_levels.specs.Files.{all_entries}
 use Rattle.lsm_version.specs.Versions.{files}
-use Rattle.lsm_machine.specs.Plain.{IsReadable, without_snapshot}
+use Rattle.lsm_levels.specs.Plain.{IsReadable, without_snapshot}
 use Rattle.lsm_batch.specs.Batches.{IsBatch, entries_from}
 use Rattle.lsm_slots.specs.Snapshots.{HasId}
 use Rattle.lsm_state.specs.Held.{Held, plain}

@@ -11,7 +11,7 @@ use Rattle.lsm_choice.specs.Choice.{HasNoChoice}
 use Rattle.lsm_choice.specs.Moves.{IsMovable}
 use Rattle.lsm_choice.specs.Reservations.{IsClear}
 use Rattle.lsm_choice.specs.TablePlans.{tables_over}
-use Rattle.lsm_machine.specs.Plain as machine
+use Rattle.lsm_levels.specs.Plain as machine
 use Rattle.lsm_batch.specs.declared.write.Write.{Write}
 use Rattle.lsm_slots.specs.Slots.{Epoch, HasEpoch, IsPinned, PinsMove, current_id, current_slot}
 use Rattle.lsm_slots.specs.Snapshots.{HasId}

@@ -18,7 +18,7 @@ use crate::reply::Reply;
 use crate::reserving::{cancel, reserve, reserve_range};
 use crate::snapshots::{release, snapshot};
 use lsm_codec::List;
-use lsm_machine::laws::runs_read_all_that_came;
+use lsm_levels::machine::runs_read_all_that_came;
 use lsm_merge::{Finished, Job};
 use lsm_slots::Boarded;
 use lsm_state::State;
@@ -202,7 +202,7 @@ pub fn run<N: Boarded, S: Shelf, R: Wait>(
         Ok(replies) => replies,
         Err(memory) => return Err((memory, state)),
     };
-    runs_read_all_that_came::<S>();
+    runs_read_all_that_came::<State<N, S>>();
     // The law of the state is told by this call.
     let _options = state.options();
     let state = answer_all(rt, alloc, state, shelf, &registry, commands, &mut replies);

@@ -29,6 +29,6 @@ mod telling;
 
 pub use command_line::command_in;
 pub use laws::one_script;
-pub use program::{script, script_asked};
+pub use program::script;
 pub use script_text::read_script;
 pub use watched::Watched;

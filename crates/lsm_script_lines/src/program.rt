@@ -1,6 +1,6 @@
 //! One run of `script`.
 
-ghost use Rattle.std.specs.Prelude.{◌≡◌, ◌≢◌, ◌≤◌, ◌⊎◌, ◌∷◌, ◌↔◌, [], IfErr, IfOk, IfSome, IsTrue, OnOk, codes, map};
+ghost use Rattle.std.specs.Prelude.{◌≡◌, ◌≢◌, ◌≤◌, ◌⊎◌, ◌↔◌, IfErr, IfOk, IfSome, IsTrue, OnOk};
 ghost use Rattle.std.specs.Io.KnownBytes.{Appends, Keeps};
 ghost use Rattle.lsm_script_lines.specs.Played.{IsCutShort, IsDone, IsEnded, IsFault, IsRefused};
 ghost use Rattle.lsm_script_lines.specs.ReplyText.{replies_text};
@@ -14,19 +14,8 @@ use crate::watched::Watched;
 use lsm_script::Reply;
 use lsm_writer::WriterFault;
 use std::alloc::Global;
-use std::convert::AsStr;
 use std::io::{self, Read, Write};
 use std::sync::Wait;
-
-/// Whether words ask for a script: they are its one word.
-pub fn script_asked<S: AsStr>(words: &[S]) -> bool
-    ensures { IsTrue result ↔ (map S.text words.now ≡ codes "script" ∷ []) }
-{
-    match words {
-        [word] if word.as_str() == "script" => true,
-        _ => false,
-    }
-}
 
 /// Writes the bytes, and flushes.
 fn write_whole<O: Write>(out: &mut O, bytes: &[u8]) -> io::Result<()>

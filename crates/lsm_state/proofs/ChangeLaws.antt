@@ -5,15 +5,15 @@ use Rattle.std.proofs.lemmas.Bool.{cases_eq}
 use Rattle.atomic_table.specs.Seated.{TableId}
 use Rattle.lsm_codec.specs.Lists.{Has}
 use Rattle.lsm_codec.specs.Entries.{Entry}
-use Rattle.lsm_levels.specs.Files.{File, IsLawful, Lie}
+use Rattle.lsm_levels.specs.Files.{File, IsLawful}
 use Rattle.lsm_levels.proofs.CallerLemmas.{has_all}
 use Rattle.lsm_shelf.specs.Told.{Told}
 use Rattle.lsm_table.specs.Registry.{Table}
 use Rattle.lsm_version.specs.Changes.{changed}
 use Rattle.lsm_version.specs.Versions.{IsSound, IsWhole, Levels, files, numbers_in}
-use Rattle.lsm_machine.specs.Law.{Law}
-use Rattle.lsm_machine.specs.Plain.{Plain, Spends}
-use Rattle.lsm_machine.specs.Runs.{Spend}
+use Rattle.lsm_levels.specs.Law.{Law}
+use Rattle.lsm_levels.specs.Plain.{Plain, Spends}
+use Rattle.lsm_levels.specs.Runs.{Spend}
 use Rattle.lsm_slots.specs.Slots.{Epoch, Looked, Published, Slotted, numbers_held}
 use Rattle.lsm_slots.proofs.CallerLemmas.{set_else, set_found}
 use Rattle.lsm_live.specs.Booked.{Booked, lives_of}
@@ -33,7 +33,7 @@ use Rattle.lsm_state.proofs.StateLaws.{stepped}
 -- a change of files is one of sound versions (a law of versions)
 abbrev pub ChangesAreSound : Type 0
 ChangesAreSound = (deleted : List ℕ) (added : List (ℕ × Table)) (pointer : Option (ℕ × List ℕ)) (last : ℕ) (v : Levels) → IsSound v
-    → ((n : ℕ) (t : Table) → Has added (n, t) → IsWhole t) → IsLawful Lie (files (changed deleted added pointer last v))
+    → ((n : ℕ) (t : Table) → Has added (n, t) → IsWhole t) → IsLawful (files (changed deleted added pointer last v))
     → ((F : File) (e : Entry) → Has (files (changed deleted added pointer last v)) F → Has F.entries e → e.seq ≤ last)
     → IsSound (changed deleted added pointer last v)
 
@@ -43,7 +43,7 @@ last_after d v = refl
 
 -- the version after a change is sound
 pub sound_after : ChangesAreSound → (honest : Type 0) (h : Held) (d : Difference) (out : Option ℕ) → (honest → IsSound h.slots.version)
-    → (honest → (n : ℕ) (t : Table) → Has d.added (n, t) → IsWhole t) → Law honest Lie (plain_after h d out) → honest → IsSound (changed_by d h.slots.version)
+    → (honest → (n : ℕ) (t : Table) → Has d.added (n, t) → IsWhole t) → Law honest (plain_after h d out) → honest → IsSound (changed_by d h.slots.version)
 sound_after law honest h d out sound whole l fair =
     let m = l.meaning fair in
     law (deleted_numbers d) d.added d.pointer d.last h.slots.version (sound fair) (whole fair) m.lawful (λ F e hF he. m.reached e (has_all (files (changed_by d h.slots.version)) F e hF he))
@@ -70,7 +70,7 @@ published_numbers old new w n p h = go (held_named new.epochs n h)
 -- ---- the law
 
 -- a greater next number, as a refused call or a new manifest spends one
-spent_law : (honest : Type 0) (s : Plain) (next : ℕ) → Law honest Lie s → s.next ≤ next → Law honest Lie (record s { next = next })
+spent_law : (honest : Type 0) (s : Plain) (next : ℕ) → Law honest s → s.next ≤ next → Law honest (record s { next = next })
 spent_law honest s next l le = stepped honest s Spend (record s { next = next }) l (next, le, refl)
 
 pub lawful_spent : (honest : Type 0) (board : TableId) (h : Held) (next : ℕ) (halted : Bool) → IsLawfulState honest board h → h.halted ≡ false → h.next ≤ next
@@ -136,11 +136,11 @@ plain_is h d out s next live j version is =
     ∙ ap (λ (l : List Booked). record p { next = next; live = lives_of l }) is)
 
 pub lawful_changed : (honest : Type 0) (board : TableId) (h : Held) (d : Difference) (out : Option ℕ) (s : Slotted) (next : ℕ) (live : List Booked) (j : HeldManifest)
-    → IsLawfulState honest board h → Law honest Lie (plain_after h d out) → Published h.slots s (changed_by d h.slots.version) → live ≡ live_after out h.live
+    → IsLawfulState honest board h → Law honest (plain_after h d out) → Published h.slots s (changed_by d h.slots.version) → live ≡ live_after out h.live
     → IsRecorded 0 j (changed_by d h.slots.version) next → h.next ≤ next → ((b : Booked) → Has (live_after out h.live) b → HasInputs (changed_by d h.slots.version) b.work)
     → IsLawfulState honest board (record h { slots = s; next = next; live = live; journal = j })
 lawful_changed honest board h d out s next live j l after p is recorded le inputs = record {
-  law = subst (λ (q : Plain). Law honest Lie q) (sym (plain_is h d out s next live j p.version_is is)) (spent_law honest (plain_after h d out) next after le);
+  law = subst (λ (q : Plain). Law honest q) (sym (plain_is h d out s next live j p.version_is is)) (spent_law honest (plain_after h d out) next after le);
   journaled = (0, subst (λ (v : Levels). IsRecorded 0 j v next) (sym p.version_is) recorded, λ e. refl);
   below = λ n k. elim (published_numbers h.slots s (changed_by d h.slots.version) n p k) [
     | inl new ↦ (let f = map_has (λ (F : File). F.number) (files (changed_by d h.slots.version)) n new in let lt = after.books.below_next f.0 f.1 in let e = f.2 in omega arith)

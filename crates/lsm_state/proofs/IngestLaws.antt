@@ -10,7 +10,7 @@ use Rattle.std.proofs.lemmas.List.Sorted.{length_permutation}
 use Rattle.lsm_codec.specs.Lists.{Has}
 use Rattle.lsm_codec.specs.Keys.{IsKey}
 use Rattle.lsm_codec.specs.Entries.{Entry, internal_key}
-use Rattle.lsm_levels.specs.Files.{File, Fits, Lie, all_entries}
+use Rattle.lsm_levels.specs.Files.{File, Fits, all_entries}
 use Rattle.lsm_levels.proofs.CallerLemmas.{all_has, has_all}
 use Rattle.lsm_shelf.specs.Told.{Told, Becomes, putting}
 use Rattle.lsm_table.specs.HeldTable.{entries_in}
@@ -23,10 +23,10 @@ use Rattle.lsm_manifest.specs.Replay.{Deletion}
 use Rattle.lsm_version.specs.Changes.{added_files, changed}
 use Rattle.lsm_version.specs.FileNumbers.{AreDistinct}
 use Rattle.lsm_version.specs.Versions.{IsWhole, Levels, file_of, files, files_from, files_of, level_in}
-use Rattle.lsm_machine.specs.Law.{Law}
-use Rattle.lsm_machine.specs.Plain.{Plain, Spends}
-use Rattle.lsm_machine.specs.Plain as machine
-use Rattle.lsm_machine.specs.Runs.{Ingest}
+use Rattle.lsm_levels.specs.Law.{Law}
+use Rattle.lsm_levels.specs.Plain.{Plain, Spends}
+use Rattle.lsm_levels.specs.Plain as machine
+use Rattle.lsm_levels.specs.Runs.{Ingest}
 use Rattle.lsm_slots.specs.Slots.{Slotted}
 use Rattle.lsm_live.specs.Booked.{Booked}
 use Rattle.lsm_journal.specs.Difference.{Difference, FitsComing, Suits, changed_by}
@@ -105,13 +105,13 @@ event_of law fit h ws t next seven is more = record {
 
 -- the law of the machine's state after the change
 pub law_grown : ChangesFiles → FitsTables → (honest : Type 0) (h x : Held) (ws : List Write) (t : Table) (d : Difference) → length h.slots.version.tables ≡ 7 → IsTableOf (entries_of h ws) h.next t
-    → Law honest Lie (plain h) → x ≡ with_number h x.slots → x.slots.version ≡ h.slots.version → d ≡ coming_in t (last_of h ws) → Law honest Lie (plain_after x d None)
+    → Law honest (plain h) → x ≡ with_number h x.slots → x.slots.version ≡ h.slots.version → d ≡ coming_in t (last_of h ws) → Law honest (plain_after x d None)
 law_grown law fit honest h x ws t d seven is l same version change =
     let p : Plain = grown h t (last_of h ws) (suc h.next) in
-    let after : Law honest Lie p = stepped honest (plain h) (Ingest (entries_of h ws)) p l (event_of law fit h ws t (suc h.next) seven is (omega arith)) in
-    subst (λ (e : Difference). Law honest Lie (plain_after x e None)) (sym change)
-    (subst (λ (y : Held). Law honest Lie (plain_after y (coming_in t (last_of h ws)) None)) (sym same)
-    (subst (λ (v : Levels). Law honest Lie (record p { files = files (changed_by (coming_in t (last_of h ws)) v) })) (sym version) after))
+    let after : Law honest p = stepped honest (plain h) (Ingest (entries_of h ws)) p l (event_of law fit h ws t (suc h.next) seven is (omega arith)) in
+    subst (λ (e : Difference). Law honest (plain_after x e None)) (sym change)
+    (subst (λ (y : Held). Law honest (plain_after y (coming_in t (last_of h ws)) None)) (sym same)
+    (subst (λ (v : Levels). Law honest (record p { files = files (changed_by (coming_in t (last_of h ws)) v) })) (sym version) after))
 
 -- ---- the table of a batch
 
@@ -201,7 +201,7 @@ one_apart n m = go (n == m)
     go true = omega arith
     go false = omega arith
 
-pub suits_grown : (honest : Type 0) (h x : Held) (es : List Entry) (t : Table) (last : ℕ) (d : Difference) → IsTableOf es h.next t → Law honest Lie (plain h) → x.slots.version ≡ h.slots.version
+pub suits_grown : (honest : Type 0) (h x : Held) (es : List Entry) (t : Table) (last : ℕ) (d : Difference) → IsTableOf es h.next t → Law honest (plain h) → x.slots.version ≡ h.slots.version
     → d ≡ coming_in t last → Suits d x.slots.version
 suits_grown honest h x es t last d is l version change =
     subst (λ (e : Difference). Suits e x.slots.version) (sym change)

@@ -13,15 +13,14 @@ use Rattle.lsm_codec.specs.Lists.{Has}
 use Rattle.lsm_codec.proofs.CallerLemmas.{any_at, any_says, contains_from, contains_says, has_cases, has_left, has_right}
 use Rattle.lsm_shelf.specs.Told.{Told}
 use Rattle.lsm_table.specs.Registry.{Table}
-use Rattle.lsm_levels.specs.Files.{File, Lie, all_entries}
+use Rattle.lsm_levels.specs.Files.{File, all_entries}
 use Rattle.lsm_levels.specs.Jobs.{Changed, Shares, is_input}
-use Rattle.lsm_levels.proofs.CallerLemmas.{in_order_split}
 use Rattle.lsm_manifest.specs.EditFit.{FitsDeleted, FitsKey}
 use Rattle.lsm_manifest.specs.Replay.{Deletion}
-use Rattle.lsm_machine.specs.Law.{Law}
-use Rattle.lsm_machine.specs.Plain.{Installs, IsReadable, Live, Plain, Spends, without_job}
-use Rattle.lsm_machine.specs.Runs.{Install, Run, Spend}
-use Rattle.lsm_machine.proofs.CallerLemmas.{install_same, left_job}
+use Rattle.lsm_levels.specs.Law.{Law}
+use Rattle.lsm_levels.specs.Plain.{Installs, IsReadable, Live, Plain, Spends, without_job}
+use Rattle.lsm_levels.specs.Runs.{Install, Run, Spend}
+use Rattle.lsm_levels.proofs.CallerLemmas.{install_same, left_job}
 use Rattle.lsm_version.specs.Changes.{added_files, changed}
 use Rattle.lsm_version.specs.FileNumbers.{AreDistinct, times}
 use Rattle.lsm_version.specs.Versions.{IsWhole, Levels, file_of, files, files_of, level_in}
@@ -248,7 +247,7 @@ installs law honest h d c b seven r f i = record {
 }
 
 pub law_installed : FilesChange → (honest : Type 0) (board : TableId) (h : Held) (d : Done) (c : Difference) (b : Booked) → IsLawfulState honest board h → length h.slots.version.tables ≡ 7
-    → IsLiveResult h.live d b → IsFinished honest d → IsInstallChange d h.slots.version.last c → Law honest Lie (plain_after h c (Some d.work.ticket))
+    → IsLiveResult h.live d b → IsFinished honest d → IsInstallChange d h.slots.version.last c → Law honest (plain_after h c (Some d.work.ticket))
 law_installed law honest board h d c b l seven r f i =
     stepped honest (plain h) (Install d.work.ticket) (plain_after h c (Some d.work.ticket)) l.law (installs law honest h d c b seven r f i)
 
@@ -256,7 +255,7 @@ pub same_installed : FilesChange → (honest : Type 0) (board : TableId) (h : He
     → IsLiveResult h.live d b → IsFinished honest d → IsInstallChange d h.slots.version.last c → honest → (k : UserKey) (q : ℕ) → IsReadable (plain h) q
     → answer (all_entries (files (changed_by c h.slots.version))) k q ≡ answer (all_entries (files h.slots.version)) k q
 same_installed law honest board h d c b l seven r f i y k q readable =
-    install_same honest Lie in_order_split (plain h) d.work.ticket (plain_after h c (Some d.work.ticket)) (l.law).books ((l.law).meaning y) y (installs law honest h d c b seven r f i) k q readable
+    install_same honest (plain h) d.work.ticket (plain_after h c (Some d.work.ticket)) (l.law).books ((l.law).meaning y) y (installs law honest h d c b seven r f i) k q readable
 
 -- ---- what the change asks for
 

@@ -9,10 +9,10 @@ use Rattle.lsm_codec.proofs.CallerLemmas.{all_at, flat_has, has_cases, has_left,
 use Rattle.lsm_pins.specs.Known.{Known}
 use Rattle.lsm_pins.specs.Made.{IsNewPinner}
 use Rattle.lsm_pins.specs.declared.view.View.{View}
-use Rattle.lsm_levels.specs.Files.{File, Lie}
+use Rattle.lsm_levels.specs.Files.{File}
 use Rattle.lsm_version.specs.FileNumbers.{AreDistinct, times}
 use Rattle.lsm_version.specs.Versions.{IsSound, Levels, files, numbers_in}
-use Rattle.lsm_machine.specs.Law.{Books, Meaning}
+use Rattle.lsm_levels.specs.Law.{Books, Meaning}
 use Rattle.lsm_slots.specs.Slots.{Slotted, first_slots, numbers_held}
 use Rattle.lsm_slots.specs.Snapshots.{Taken}
 use Rattle.lsm_live.specs.Booked.{Booked}
@@ -75,7 +75,7 @@ opened_books o publisher pinners v j next halted own below = record {
 }
 
 opened_meaning : (o : Options) (publisher : Known) (pinners : List Known) (v : Levels) (j : HeldManifest) (next : ℕ) (halted : Bool)
-    → IsSound v → Meaning Lie (plain (opened_state o publisher pinners v j next halted))
+    → IsSound v → Meaning (plain (opened_state o publisher pinners v j next halted))
 opened_meaning o publisher pinners v j next halted sound = record {
   lawful = sound.lawful;
   reached = λ e h. (let r = flat_has (λ (F : File). F.entries) (files v) e h in sound.reached r.0 e r.1 r.2);

@@ -7,11 +7,11 @@ use Rattle.lsm_codec.specs.Keys.{UserKey}
 use Rattle.lsm_codec.specs.Lists.{Has}
 use Rattle.lsm_codec.proofs.CallerLemmas.{has_cases}
 use Rattle.lsm_table.specs.Registry.{Table}
-use Rattle.lsm_levels.specs.Files.{File, Lie, all_entries}
+use Rattle.lsm_levels.specs.Files.{File, all_entries}
 use Rattle.lsm_levels.specs.Jobs.{Conflicts, Job}
-use Rattle.lsm_machine.specs.Law.{Law}
-use Rattle.lsm_machine.specs.Plain.{Live, Plain}
-use Rattle.lsm_machine.specs.Runs.{Reserve}
+use Rattle.lsm_levels.specs.Law.{Law}
+use Rattle.lsm_levels.specs.Plain.{Live, Plain}
+use Rattle.lsm_levels.specs.Runs.{Reserve}
 use Rattle.lsm_version.specs.FileNumbers.{AreDistinct}
 use Rattle.lsm_version.specs.Versions.{AreInOrder, IsSound, IsWhole, Levels, file_of, files, numbers_in}
 use Rattle.lsm_choice.specs.Choice.{IsChoice}
@@ -102,7 +102,7 @@ booked_is h w live next a b =
     ∙ ap (λ (n : ℕ). let t : Held = record h { live = h.live ++ new_booked w ∷ []; next_ticket = n } in t) b
 
 -- the next ticket is above those of all live jobs
-pub newest : (honest : Type 0) (h : Held) → Law honest Lie (plain h) → (b : Booked) → Has h.live b → b.work.ticket < h.next_ticket
+pub newest : (honest : Type 0) (h : Held) → Law honest (plain h) → (b : Booked) → Has h.live b → b.work.ticket < h.next_ticket
 newest honest h l b k = (l.books).tickets (live_of b) (live_has h.live b k)
 
 -- ---- a job is made of a plan
@@ -131,7 +131,7 @@ booked_reserves honest h w p stand agree m same s clear closed =
     reserves honest h w stand agree m (subst (λ (x : TablePlan). StandsIn h.slots.version x) (sym same) s) (subst (λ (x : TablePlan). IsClear x (reserved_jobs h.live)) (sym same) clear)
     (λ y. subst (λ (x : TablePlan). IsClosedPlan h x) (sym same) (closed y))
 
-pub newest_kept : (honest : Type 0) (h : Held) (w kept : Work) → Law honest Lie (plain h) → IsOfMoment h w → kept ≡ w → (b : Booked) → Has h.live b → b.work.ticket < kept.ticket
+pub newest_kept : (honest : Type 0) (h : Held) (w kept : Work) → Law honest (plain h) → IsOfMoment h w → kept ≡ w → (b : Booked) → Has h.live b → b.work.ticket < kept.ticket
 newest_kept honest h w kept l m same b k = (let lt = newest honest h l b k in let e = m.ticket in let f = ap (λ (x : Work). x.ticket) same in omega arith)
 
 -- the inputs of the job of a closed plan stand in order

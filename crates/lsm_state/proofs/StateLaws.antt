@@ -6,13 +6,11 @@ use Rattle.lsm_codec.proofs.CallerLemmas.{all_at, filter_has}
 use Rattle.lsm_pins.specs.Known.{Known}
 use Rattle.lsm_pins.specs.Made.{IsNewPinner}
 use Rattle.lsm_pins.specs.declared.view.View.{View}
-use Rattle.lsm_levels.specs.Files.{Lie}
-use Rattle.lsm_levels.proofs.CallerLemmas.{in_order_split}
 use Rattle.lsm_version.specs.Versions.{Levels, files, no_levels}
-use Rattle.lsm_machine.specs.Law.{Law}
-use Rattle.lsm_machine.specs.Plain.{Cancels, Draws, Plain, Releases, TakesSnapshot, created, without_snapshot}
-use Rattle.lsm_machine.specs.Runs.{Event, Step, Snapshot, Release, Cancel, Draw}
-use Rattle.lsm_machine.proofs.CallerLemmas.{step_law}
+use Rattle.lsm_levels.specs.Law.{Law}
+use Rattle.lsm_levels.specs.Plain.{Cancels, Draws, Plain, Releases, TakesSnapshot, created, without_snapshot}
+use Rattle.lsm_levels.specs.Runs.{Event, Step, Snapshot, Release, Cancel, Draw}
+use Rattle.lsm_levels.proofs.CallerLemmas.{step_law}
 use Rattle.lsm_slots.specs.Slots.{Looked, PinsMove, Slotted, first_slots, numbers_held}
 use Rattle.lsm_slots.specs.Snapshots.{Taken}
 use Rattle.lsm_merge.specs.Work.{Work}
@@ -29,8 +27,8 @@ use Rattle.lsm_state.specs.Held.{HasInputs, Held, IsLawfulState, plain}
 use Rattle.lsm_state.proofs.Numbers.{looked_numbers, pinned_numbers}
 
 -- an event keeps the machine's law
-pub stepped : (honest : Type 0) (s : Plain) (e : Event) (t : Plain) → Law honest Lie s → Step honest s e t → Law honest Lie t
-stepped honest s e t l step = step_law honest Lie in_order_split s e t l step
+pub stepped : (honest : Type 0) (s : Plain) (e : Event) (t : Plain) → Law honest s → Step honest s e t → Law honest t
+stepped honest s e t l step = step_law honest s e t l step
 
 -- ---- slots: the current version stays, and no number comes
 
@@ -41,7 +39,7 @@ nothing h s same = ap (λ (v : Levels). record (plain h) { files = files v; last
 pub lawful_slots : (honest : Type 0) (board : TableId) (h : Held) (s : Slotted) → IsLawfulState honest board h → s.version ≡ h.slots.version
     → ((n : ℕ) → Has (numbers_held s.epochs) n → Has (numbers_held h.slots.epochs) n) → IsLawfulState honest board (record h { slots = s })
 lawful_slots honest board h s l same fewer = record {
-  law = subst (λ (p : Plain). Law honest Lie p) (ap (λ (v : Levels). record (plain h) { files = files v; last = v.last }) (sym same)) l.law;
+  law = subst (λ (p : Plain). Law honest p) (ap (λ (v : Levels). record (plain h) { files = files v; last = v.last }) (sym same)) l.law;
   journaled = (l.journaled.0, subst (λ (v : Levels). IsRecorded l.journaled.0 h.journal v h.next) (sym same) l.journaled.1, l.journaled.2);
   below = λ n k. l.below n (fewer n k);
   pinners = l.pinners;
@@ -141,7 +139,7 @@ lawful_drawn honest board h live ticket next l is more = record {
 -- ---- a new database
 
 -- the machine's law over no file, snapshot or job does not rest on the next number
-law_under : (number : ℕ) (honest : Type 0) → Law honest Lie created → Law honest Lie (record created { next = number + 1 })
+law_under : (number : ℕ) (honest : Type 0) → Law honest created → Law honest (record created { next = number + 1 })
 law_under number honest law = record {
   books = record {
     numbers = law.books.numbers;
@@ -162,7 +160,7 @@ law_under number honest law = record {
   meaning = λ is. (let m = law.meaning is in record { lawful = m.lawful; reached = m.reached; are_open = m.are_open });
 }
 
-pub lawful_created : (number : ℕ) (honest : Type 0) (board : TableId) (o : Options) (publisher : Known) (pinners : List Known) → Fits o → IsNewBoard board o publisher pinners → Law honest Lie created
+pub lawful_created : (number : ℕ) (honest : Type 0) (board : TableId) (o : Options) (publisher : Known) (pinners : List Known) → Fits o → IsNewBoard board o publisher pinners → Law honest created
     → IsRecorded 0 (created_under number o.manifest_limit) no_levels (number + 1) → IsLawfulState honest board (created_state_under number o publisher pinners)
 lawful_created number honest board o publisher pinners fits new law recorded = record {
   law = law_under number honest law;

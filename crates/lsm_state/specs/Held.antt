@@ -2,12 +2,11 @@
 use Rattle.std.specs.Prelude.{◌≡◌, ℕ, suc, ◌<◌, Bool, false, None, List}
 use Rattle.atomic_table.specs.Seated.{TableId}
 use Rattle.lsm_codec.specs.Lists.{Has}
-use Rattle.lsm_levels.specs.Files.{Lie}
 use Rattle.lsm_pins.specs.Known.{Known}
 use Rattle.lsm_table.specs.Registry.{Table}
 use Rattle.lsm_version.specs.Versions.{Levels, files, level_in}
-use Rattle.lsm_machine.specs.Law.{Law}
-use Rattle.lsm_machine.specs.Plain.{Plain}
+use Rattle.lsm_levels.specs.Law.{Law}
+use Rattle.lsm_levels.specs.Plain.{Plain}
 use Rattle.lsm_slots.specs.Slots.{Slotted, numbers_held}
 use Rattle.lsm_slots.specs.Snapshots.{Taken}
 use Rattle.lsm_merge.specs.Work.{Work}
@@ -55,7 +54,7 @@ pub record HasInputs (v : Levels) (w : Work) : Type 0 where
 -- The law of a state: it keeps the machine's, its manifest records its version, each number of a version in a slot is below the next, the
 -- pinners not yet taken are at the board and hold nothing, and the inputs of live jobs are tables of the version.
 pub record IsLawfulState (Honest : Type 0) (board : TableId) (h : Held) : Type 0 where
-  pub law : Law Honest Lie (plain h)
+  pub law : Law Honest (plain h)
   pub journaled : IsJournaled h
   pub below : (n : ℕ) → Has (numbers_held h.slots.epochs) n → n < h.next
   pub pinners : (p : Known) → Has h.pinners p → (p.board ≡ board) × (p.knows.held ≡ None)

@@ -10,8 +10,8 @@ use Rattle.lsm_levels.specs.Files.{all_entries}
 use Rattle.lsm_shelf.specs.Told.{Told, CountedBy}
 use Rattle.lsm_table.specs.Registry.{Table}
 use Rattle.lsm_manifest.specs.Replay.{Deletion}
-use Rattle.lsm_machine.specs.Plain.{IsReadable}
-use Rattle.lsm_machine.specs.Runs.{Install, Run, Spend}
+use Rattle.lsm_levels.specs.Plain.{IsReadable}
+use Rattle.lsm_levels.specs.Runs.{Install, Run, Spend}
 use Rattle.lsm_version.specs.Versions.{files}
 use Rattle.lsm_choice.specs.Choice.{bytes_cmp}
 use Rattle.lsm_slots.specs.Slots.{Slotted}

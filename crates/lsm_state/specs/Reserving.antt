@@ -4,7 +4,7 @@ use Rattle.std.specs.Prelude.{◌≡◌, ℕ, suc, ◌-◌, ◌^◌, ◌<◌, �
 use Rattle.lsm_codec.specs.Keys.{UserKey}
 use Rattle.lsm_codec.specs.Lists.{Has}
 use Rattle.lsm_levels.specs.Files.{all_entries}
-use Rattle.lsm_machine.specs.Plain.{Reserves, floor_of}
+use Rattle.lsm_levels.specs.Plain.{Reserves, floor_of}
 use Rattle.lsm_choice.specs.Choice.{IsChoice}
 use Rattle.lsm_choice.specs.RangesBelow.{AreRangesBelow}
 use Rattle.lsm_choice.specs.Reservations.{IsClear, IsLeastConflict}

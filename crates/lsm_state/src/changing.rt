@@ -4,11 +4,10 @@ ghost use Rattle.std.specs.Prelude.{◌≡◌, ℕ, ◌+◌, ◌-◌, ◌<◌, �
 ghost use Rattle.std.specs.Prelude.{true};
 ghost use Rattle.std.specs.Arc.{arc_value};
 ghost use Rattle.lsm_codec.specs.Lists.{Has};
-ghost use Rattle.lsm_levels.specs.Files.{Lie};
 ghost use Rattle.lsm_shelf.specs.Told.{Becomes};
 ghost use Rattle.lsm_table.specs.Registry.{Table};
 ghost use Rattle.lsm_version.specs.Versions.{IsWhole};
-ghost use Rattle.lsm_machine.specs.Law.{Law};
+ghost use Rattle.lsm_levels.specs.Law.{Law};
 ghost use Rattle.lsm_slots.specs.Slots.{IsFreeSlot, current_id};
 ghost use Rattle.lsm_live.specs.Booked.{Booked};
 ghost use Rattle.lsm_journal.specs.HeldManifest.{is_at_limit};
@@ -85,7 +84,7 @@ impl<N: Boarded, S: Shelf> State<N, S> {
         out: Option<u64>,
     ) -> Result<Shared<N, S>, StateFault>
         requires whole { S.honest → (n : ℕ) (t : Table) → Has change.now.added (n, t) → IsWhole t }
-        requires law { Law S.honest Lie (plain_after self.now change.now out) }
+        requires law { Law S.honest (plain_after self.now change.now out) }
         ensures first { IfOk result (λ v.
             arc_value v.0 ≡ changed_by change.now self.now.slots.version) }
         ensures second { IfOk result (λ v.
@@ -146,7 +145,7 @@ impl<N: Boarded, S: Shelf> State<N, S> {
         requires numbers { is_at_limit self.old.journal ≡ true → self.old.next + 1 < 2 ^ 64 }
         requires suits { Suits change.now self.old.slots.version }
         requires whole { S.honest → (n : ℕ) (t : Table) → Has change.now.added (n, t) → IsWhole t }
-        requires law { Law S.honest Lie (plain_after self.old change.now out) }
+        requires law { Law S.honest (plain_after self.old change.now out) }
         requires inputs { (b : Booked) → Has (live_after out self.old.live) b
             → HasInputs (changed_by change.now self.old.slots.version) b.work }
         ensures ok { OnOk result (ChangesVersion self.old self.new change.now out (S.told shelf.old)

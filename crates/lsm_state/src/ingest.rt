@@ -8,7 +8,7 @@ ghost use Rattle.lsm_levels.specs.Files.{all_entries};
 ghost use Rattle.lsm_shelf.specs.Told.{Becomes, putting};
 ghost use Rattle.lsm_table.specs.TableBuilding.{table_bytes};
 ghost use Rattle.lsm_version.specs.Versions.{IsWhole, files};
-ghost use Rattle.lsm_machine.specs.Plain as machine;
+ghost use Rattle.lsm_levels.specs.Plain as machine;
 ghost use Rattle.lsm_state.specs.Asked.{IngestRefused, OnShelf, PutRefused};
 ghost use Rattle.lsm_state.specs.Collecting.{SameCounts};
 ghost use Rattle.lsm_state.specs.Held.{IsLawfulState, plain};

@@ -8,7 +8,7 @@ ghost use Rattle.lsm_codec.specs.Lists.{Has};
 ghost use Rattle.lsm_levels.specs.Files.{all_entries};
 ghost use Rattle.lsm_shelf.specs.Told.{Becomes};
 ghost use Rattle.lsm_version.specs.Versions.{files};
-ghost use Rattle.lsm_machine.specs.Plain.{Releases, TakesSnapshot, without_snapshot};
+ghost use Rattle.lsm_levels.specs.Plain.{Releases, TakesSnapshot, without_snapshot};
 ghost use Rattle.lsm_slots.specs.Snapshots.{HasId};
 ghost use Rattle.lsm_state.specs.Held.{plain};
 ghost use Rattle.lsm_state.specs.Reading.{IsNoBadTable, IsReadRefusal, IsSequence, IsUnknown};

@@ -7,14 +7,16 @@
 
 mod streams;
 
-use lsm_commands::{DirectoryLine, directory_asked, refuse_words, run};
-use lsm_compactor::{CompactLine, compacting_asked};
+use lsm_commands::{
+    CommandLine, CompactLine, Conversion, DirectoryLine, Input, Request as Asked, WritingLine,
+    convert, read_line, refuse_input, refuse_line, refuse_words, show_help,
+};
 use lsm_directory::{FolderFile, Request, open_folder, refuse};
 use lsm_folder::Reasons;
-use lsm_script_lines::{Watched, script, script_asked};
-use lsm_writer::{WritingLine, writing_asked};
+use lsm_script_lines::{Watched, script};
 use std::env::{self, Env};
-use std::io::{self, BufWriter};
+use std::fs;
+use std::io::{self, BufWriter, Read};
 use std::process::ExitCode;
 use std::sync::Wait;
 use std::thread::Threads;
@@ -72,39 +74,72 @@ fn compact_folder<R: Threads + Wait + Sync>(
     Ok(lsm_compactor::run(threads, rt, line, &mut out, &mut err))
 }
 
-/// Runs the script on standard input.
-fn play(waits: &impl Wait, rt: HostRuntime) -> io::Result<u8> {
-    let mut input = Watched::new(rt.stdin());
+/// Prints what an input has in another form.
+fn convert_input(rt: &HostRuntime, conversion: Conversion, input: &mut impl Read) -> u8 {
+    let mut out = rt.stdout();
+    convert(rt.alloc(), conversion, input, &mut out, &mut rt.stderr())
+}
+
+/// Prints what the input has of which this tells where it is found.
+fn convert_in(rt: &HostRuntime, conversion: Conversion, input: Input<'_>) -> u8 {
+    let path = match input {
+        Input::Standard => return convert_input(rt, conversion, &mut rt.stdin()),
+        Input::File(path) => path,
+    };
+    match fs::open(rt, path) {
+        Ok(mut file) => convert_input(rt, conversion, &mut file),
+        Err(error) => refuse_input(&error, &mut rt.stderr()),
+    }
+}
+
+/// Runs the script that stands on an input.
+fn play(waits: &impl Wait, rt: &HostRuntime, input: impl Read + Drop) -> io::Result<u8> {
+    let mut input = Watched::new(input);
     let mut out = BufWriter::new(rt.alloc(), rt.stdout())?;
     let mut err = rt.stderr();
     Ok(script(waits, rt.alloc(), &mut input, &mut out, &mut err))
 }
 
+/// Runs the script of the input of which this tells where it is found.
+fn play_in(waits: &impl Wait, rt: &HostRuntime, input: Input<'_>) -> io::Result<u8> {
+    let path = match input {
+        Input::Standard => return play(waits, rt, rt.stdin()),
+        Input::File(path) => path,
+    };
+    match fs::open(rt, path) {
+        Ok(file) => play(waits, rt, file),
+        Err(error) => Ok(refuse_input(&error, &mut rt.stderr())),
+    }
+}
+
 /// Does what words ask.
-fn obey<R: Threads + Wait + Sync>(waits: &R, rt: HostRuntime, words: &[String]) -> io::Result<u8> {
-    let alloc = rt.alloc();
-    if let Some(line) = compacting_asked(words) {
-        return compact_folder(waits, rt, &line);
+fn obey<R: Threads + Wait + Sync>(waits: &R, rt: HostRuntime, asked: &Asked<'_>) -> io::Result<u8> {
+    match asked {
+        Asked::Convert(conversion, input) => Ok(convert_in(&rt, *conversion, *input)),
+        Asked::Look(line) => ask_folder(waits, rt, line),
+        Asked::Write(line) => write_folder(waits, rt, line),
+        Asked::Compact(line) => compact_folder(waits, rt, line),
+        Asked::Script(input) => play_in(waits, &rt, *input),
     }
-    if script_asked(words) {
-        return play(waits, rt);
-    }
-    if let Some(line) = writing_asked(words) {
-        return write_folder(waits, rt, &line);
-    }
-    match directory_asked(alloc, words)? {
-        Some(line) => ask_folder(waits, rt, &line),
-        None => {
-            let mut out = rt.stdout();
-            Ok(run(alloc, words, &mut rt.stdin(), &mut out, &mut rt.stderr()))
-        }
+}
+
+/// Reads words, and does what they ask.
+fn answer<R: Threads + Wait + Sync>(
+    waits: &R,
+    rt: HostRuntime,
+    words: &[String],
+) -> io::Result<u8> {
+    match read_line(rt.alloc(), words)? {
+        CommandLine::Run(asked) => obey(waits, rt, &asked),
+        CommandLine::Help(text) => Ok(show_help(&text, &mut rt.stdout(), &mut rt.stderr())),
+        CommandLine::Bad(text) => Ok(refuse_line(&text, &mut rt.stderr())),
     }
 }
 
 /// Reads the words of the command line, and does what they ask.
 fn start<R: Threads + Wait + Sync>(waits: &R, rt: HostRuntime) -> io::Result<u8> {
     let words = words_of(&rt)?;
-    obey(waits, rt, words.as_slice().get(1..).unwrap_or(&[]))
+    answer(waits, rt, words.as_slice().get(1..).unwrap_or(&[]))
 }
 
 fn main(rt: HostRuntime) -> ExitCode {

@@ -3,17 +3,17 @@ use Rattle.std.proofs.Common.{ℕ, suc, List, ◌∷◌, subst}
 use Rattle.lsm_codec.specs.Lists.{Has}
 use Rattle.lsm_codec.proofs.CallerLemmas.{has_left, has_right}
 use Rattle.lsm_table.specs.Registry.{Table}
-use Rattle.lsm_levels.specs.Files.{File, Lie, IsLawful}
+use Rattle.lsm_levels.specs.Files.{File, IsLawful}
 use Rattle.lsm_version.specs.Versions.{files_of, files_from}
 use Rattle.lsm_version.specs.Reads.{IsSoundLevel, AreSound}
 use Rattle.lsm_version.proofs.ChangedFiles.{files_has, has_files}
 use Rattle.lsm_version.proofs.Placing.{EachAfter, sorted_after}
 
-pub lawful_part : (v w : List File) → ((F : File) → Has w F → Has v F) → IsLawful Lie v → IsLawful Lie w
+pub lawful_part : (v w : List File) → ((F : File) → Has w F → Has v F) → IsLawful v → IsLawful w
 lawful_part v w part l = record {
   fits = λ F h. l.fits F (part F h);
   numbers = λ F G h g. l.numbers F G (part F h) (part G g);
-  split = λ F G h g. l.split F G (part F h) (part G g);
+  in_order = λ F G h g. l.in_order F G (part F h) (part G g);
   depth = λ F G x y h g. l.depth F G x y (part F h) (part G g);
 }
 

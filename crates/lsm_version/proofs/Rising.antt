@@ -67,7 +67,7 @@ pub ahead_or_same : (n : ℕ) (ts : List Table) → 1 ≤ n → IsSoundLevel n t
     → (file_of n (get_or ts i d) ≡ file_of n (get_or ts j d)) ⊎ IsAhead (file_of n (get_or ts i d)) (file_of n (get_or ts j d))
 ahead_or_same n ts pos s i j d le lt = elim (cases_eq (get_or ts i d).number (get_or ts j d).number) [
   | inl same ↦ inl (s.lawful.numbers (file_of n (get_or ts i d)) (file_of n (get_or ts j d)) hi hj same)
-  | inr other ↦ elim (s.lawful.split (file_of n (get_or ts i d)) (file_of n (get_or ts j d)) hi hj refl pos other) [
+  | inr other ↦ elim (s.lawful.in_order (file_of n (get_or ts i d)) (file_of n (get_or ts j d)) hi hj refl pos other) [
     | inl ahead ↦ inr ahead
     | inr back ↦ absurd (not_behind n n (get_or ts i d) (get_or ts j d) (s.whole (get_or ts i d) (has_at ts i d (omega arith))) (s.whole (get_or ts j d) (has_at ts j d lt))
         (sorted_far stands_before places_rank ts s.order i j d le lt) back)

@@ -4,20 +4,20 @@ use Rattle.std.specs.List.Sorted.{IsSortedBy}
 use Rattle.lsm_codec.specs.Lists.{Has}
 use Rattle.lsm_codec.specs.Keys.{UserKey, UserLe, user_le}
 use Rattle.lsm_table.specs.Registry.{Table}
-use Rattle.lsm_levels.specs.Files.{Lie, IsLawful}
+use Rattle.lsm_levels.specs.Files.{IsLawful}
 use Rattle.lsm_version.specs.Versions.{AreInOrder, IsWhole, files_from, files_of, level_in, stands_before, user_of}
 
 -- ---- what holds of a part of a version
 
 -- the tables of one level
 pub record IsSoundLevel (level : ℕ) (ts : List Table) : Type 0 where
-  pub lawful : IsLawful Lie (files_of level ts)
+  pub lawful : IsLawful (files_of level ts)
   pub whole : (t : Table) → Has ts t → IsWhole t
   pub order : IsSortedBy stands_before ts
 
 -- the levels from this one on
 pub record AreSound (level : ℕ) (levels : List (List Table)) : Type 0 where
-  pub lawful : IsLawful Lie (files_from level levels)
+  pub lawful : IsLawful (files_from level levels)
   pub whole : (n : ℕ) (t : Table) → Has (level_in levels n) t → IsWhole t
   pub order : AreInOrder levels
 

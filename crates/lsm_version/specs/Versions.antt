@@ -11,7 +11,7 @@ use Rattle.lsm_table.specs.Registry.{Table}
 use Rattle.lsm_table.specs.Table.{IsTable}
 use Rattle.lsm_table.specs.HeldTable.{entries_in}
 use Rattle.lsm_manifest.specs.FileOrder.{place_cmp}
-use Rattle.lsm_levels.specs.Files.{File, Lie, IsLawful}
+use Rattle.lsm_levels.specs.Files.{File, IsLawful}
 use Rattle.lsm_levels.specs.Ranges.{Range}
 use Rattle.lsm_levels.specs.Checking.{IsRangeOf, all_from}
 -- the tables of a level
@@ -79,6 +79,6 @@ AreWhole ts = (t : Table) → Has ts t → IsWhole t
 -- The law of a version and its tables: the files of a level from 1 on lie in order of internal keys, and no entry is above the last
 -- sequence.
 pub record IsSound (v : Levels) : Type 0 where
-  pub lawful : IsLawful Lie (files v)
+  pub lawful : IsLawful (files v)
   pub tables : (n : ℕ) (t : Table) → Has (level_in v.tables n) t → IsWhole t
   pub reached : (F : File) (e : Entry) → Has (files v) F → Has F.entries e → e.seq ≤ v.last

@@ -173,7 +173,7 @@ pub fn changed_tables()
 ghost use Rattle.lsm_codec.specs.Entries.{Entry, internal_key};
 ghost use Rattle.lsm_codec.specs.Keys.{IsKey};
 ghost use Rattle.lsm_table.specs.Table.{IsTable};
-ghost use Rattle.lsm_levels.specs.Files.{Fits, IsLawful, Lie};
+ghost use Rattle.lsm_levels.specs.Files.{Fits, IsLawful};
 ghost use Rattle.lsm_version.specs.Versions.{IsWhole, file_of};
 
 /// A law: a record whose keys are the first and the last of a table's entries stands for that
@@ -194,7 +194,7 @@ pub fn whole_tables_fit()
 pub fn changed_is_sound()
     ensures { (deleted : List ℕ) (added : List (ℕ × Table)) (pointer : Option (ℕ × List ℕ))
         (last : ℕ) (v : Levels) → IsSound v → ((n : ℕ) (t : Table) → Has added (n, t) → IsWhole t)
-        → IsLawful Lie (files (changed deleted added pointer last v)) → ((F : File) (e : Entry)
+        → IsLawful (files (changed deleted added pointer last v)) → ((F : File) (e : Entry)
         → Has (files (changed deleted added pointer last v)) F → Has F.entries e → e.seq ≤ last)
         → IsSound (changed deleted added pointer last v) }
 {}

@@ -2,7 +2,6 @@ mod WordLaws
 mod LineLaws
 mod BatchLaws
 mod OneBatch
-mod Words
 mod KindLaws
 mod NameLaws
 mod Looked

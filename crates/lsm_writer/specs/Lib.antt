@@ -1,4 +1,3 @@
-pub mod WritingLine
 pub mod BatchText
 pub mod Names
 pub mod Preparing

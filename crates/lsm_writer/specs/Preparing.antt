@@ -13,7 +13,7 @@ use Rattle.lsm_directory.specs.declared.directory_fault.DirectoryFault.{Director
 use Rattle.lsm_directory.specs.declared.folder_file.FolderFile.{FolderFile}
 use Rattle.lsm_writer.specs.Names.{Leads, LeadsNowhere}
 use Rattle.lsm_writer.specs.WriterFault.{of_shelf}
-use Rattle.lsm_writer.specs.declared.ingest_options.IngestOptions.{IngestOptions}
+use Rattle.lsm_commands.specs.declared.ingest_options.IngestOptions.{IngestOptions}
 use Rattle.lsm_writer.specs.declared.start.Start.{Start}
 use Rattle.lsm_writer.specs.declared.writer_fault.WriterFault.{WriterFault}
 use Rattle.lsm_writer.specs.declared.writer_fault.WriterFault.TheVariants.{Directory}

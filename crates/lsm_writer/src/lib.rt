@@ -5,11 +5,6 @@
 //! `ingest` that ends with 0 brought just the batch of its file in, and printed its numbers.
 #![tactic(auto)]
 
-// What words ask for.
-mod ingest_options;
-mod writing_command;
-mod writing_line;
-
 // Batches as text.
 mod batch_text;
 mod laws;
@@ -37,7 +32,6 @@ mod telling;
 mod writer_fault;
 
 pub use batch_text::read_batch;
-pub use ingest_options::IngestOptions;
 pub use laws::one_batch;
 pub use line_slip::LineSlip;
 pub use merge_text::{cause_of_merge, of_merge};
@@ -49,5 +43,3 @@ pub use start::{Prepared, Start};
 pub use telling::explain;
 pub use write_line::write_in;
 pub use writer_fault::WriterFault;
-pub use writing_command::WritingCommand;
-pub use writing_line::{WritingLine, writing_asked};

@@ -4,10 +4,10 @@ ghost use Rattle.std.specs.Prelude.{◌≡◌, IfErr, IfOk, map, string_bytes};
 ghost use Rattle.lsm_directory.specs.Looking.{LooksStopped, OnlyLooks};
 ghost use Rattle.lsm_writer.specs.Preparing.{IsLookedAt, IsPrepared, IsUnprepared, LooksAtLogs, OnlyLocks, StopsLooking};
 
-use crate::ingest_options::IngestOptions;
 use crate::names::start_among;
 use crate::start::Prepared;
 use crate::writer_fault::WriterFault;
+use lsm_commands::IngestOptions;
 use lsm_directory::{FolderFile, folder_names, hold, logs_among};
 use lsm_folder::{FolderCalls, LockKind};
 use lsm_table::ShelfFault;

@@ -15,16 +15,13 @@ ghost use Rattle.lsm_writer.specs.declared.writer_fault.WriterFault.{WriterFault
 
 use crate::batch_text::read_batch;
 use crate::cleaning::{clean_folder, refused_by};
-use crate::ingest_options::IngestOptions;
 use crate::ingesting::bring_in;
 use crate::preparing::prepare;
 use crate::start::Prepared;
 use crate::telling::{Circumstances, tell};
 use crate::writer_fault::WriterFault;
-use crate::writing_command::WritingCommand;
-use crate::writing_line::WritingLine;
 use lsm_batch::Batch;
-use lsm_commands::Form;
+use lsm_commands::{Form, IngestOptions, Input, WritingCommand, WritingLine};
 use lsm_folder::{FolderCalls, Reasons, SystemFolder};
 use lsm_storage::FileShelf;
 use lsm_table::Shelf;
@@ -114,6 +111,14 @@ fn batch_at(files: &HostRuntime, form: Form, path: &str) -> Result<Batch, Writer
     }
 }
 
+/// The batch of this input, in this form.
+fn batch_in(files: &HostRuntime, form: Form, input: Input<'_>) -> Result<Batch, WriterFault> {
+    match input {
+        Input::Standard => read_batch(files.alloc(), form, &mut files.stdin()),
+        Input::File(path) => batch_at(files, form, path),
+    }
+}
+
 /// The system's folder of this path. What the system answers where it refuses a call of it is kept
 /// in `reasons`. `Device` where it is no folder that can be opened.
 pub fn open_noting(
@@ -148,13 +153,12 @@ fn ingest_at<R: Wait, O: Write>(
     bring_in(rt, alloc, &mut shelf, &prepared, batch, out)
 }
 
-/// Brings the batch of the file of this path into the system's folder of that path, and answers the
-/// exit status.
+/// Brings the batch of an input into the system's folder of this path, and answers the exit status.
 fn run_ingest<R: Wait, O: Write, E: Write>(
     rt: &R,
     files: HostRuntime,
     path: &str,
-    file: &str,
+    input: Input<'_>,
     options: IngestOptions,
     reasons: &Reasons,
     out: &mut O,
@@ -163,7 +167,7 @@ fn run_ingest<R: Wait, O: Write, E: Write>(
     ensures status { result ≤ 1 }
     ensures quiet { result ≡ 0 → Keeps (E.contents err.old) (E.contents err.new) }
 {
-    let batch = match batch_at(&files, options.form, file) {
+    let batch = match batch_in(&files, options.form, input) {
         Ok(batch) => batch,
         Err(fault) => return status_of(Err(fault), Circumstances::none(), err),
     };
@@ -204,8 +208,8 @@ pub fn run<R: Wait, O: Write, E: Write>(
         Err(_) => return status_of(Err(WriterFault::OutOfMemory), Circumstances::none(), err),
     };
     match line.command {
-        WritingCommand::Ingest(file, options) => {
-            run_ingest(rt, files, line.path, file, options, &reasons, out, err)
+        WritingCommand::Ingest(input, options) => {
+            run_ingest(rt, files, line.path, input, options, &reasons, out, err)
         }
         WritingCommand::Clean => {
             let done = clean_at(rt, files, line.path, &reasons, out);

@@ -4,7 +4,7 @@ use Rattle.lsm_commands.specs.ReaderView.{before_of, rest_of}
 use Rattle.lsm_commands.specs.EntryView.{entry_of}
 use Rattle.lsm_block.specs.declared.build_fault.BuildFault.{BuildFault}
 use Rattle.lsm_commands.specs.Fault.{of_line, of_build}
-use Rattle.lsm_commands.specs.declared.command_line.CommandName.TheVariants.{MakeTable}
+use Rattle.lsm_commands.specs.declared.conversion.Conversion.TheVariants.{MakeTable}
 use Rattle.lsm_commands.proofs.MakingLaws.{next_ascends, at_next, at_end, line_explained, add_explained, finish_explained, explained_err}
 use Rattle.lsm_commands.proofs.commands.make_table.Goals as goal
 

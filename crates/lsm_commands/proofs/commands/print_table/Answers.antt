@@ -1,6 +1,6 @@
 use Rattle.std.proofs.Common.{ap}
 use Rattle.lsm_commands.specs.EntryPrinting.{entry_list}
-use Rattle.lsm_commands.specs.declared.command_line.CommandName.TheVariants.{Dump}
+use Rattle.lsm_commands.specs.declared.conversion.Conversion.TheVariants.{Dump}
 use Rattle.lsm_commands.proofs.AnswerLaws.{begins_answer, write_explained}
 use Rattle.lsm_commands.proofs.commands.print_table.Goals as goal
 

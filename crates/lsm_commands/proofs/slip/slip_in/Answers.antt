@@ -1,4 +1,4 @@
-use Rattle.std.proofs.Common.{◌≡◌, ◌≢◌, ℕ, List, length, codes, false, true, rules, arith}
+use Rattle.std.proofs.Common.{◌≡◌, codes, false, rules}
 use Rattle.std.specs.Str.{bytes_eq}
 use Rattle.lsm_commands.specs.Slip.{IsCutOff}
 use Rattle.lsm_commands.proofs.SlipLaws.{at_byte, at_end, no_word, slip_at_byte, slip_at_end, whole_word}

@@ -1,6 +1,5 @@
-use Rattle.std.proofs.Common.{◌≡◌, ◌-◌, ◌≤◌, ◌∷◌, [], ℕ, List, length, get_or, drop, take, refl, rules, ap, ◌∙◌, sym, arith, inl, inr, drop-cons, length-drop, Option, Some, None}
+use Rattle.std.proofs.Common.{◌∷◌, [], get_or, refl, rules, inl, inr, Option, Some, None}
 use Rattle.std.specs.Prelude.{IfSome}
-use Rattle.std.proofs.lemmas.List.{take_all}
 use Rattle.lsm_commands.specs.Spelling.{escaped}
 use Rattle.lsm_commands.proofs.SlipLaws.{front_is}
 use Rattle.lsm_commands.proofs.text_words.first_part.Goals as goal

@@ -1,10 +1,6 @@
 use Rattle.lsm_codec.specs.Lists.{Has}
-use Rattle.lsm_levels.specs.Files.{Apart, InOrder}
 use Rattle.lsm_levels.proofs.Plans.{plan_opens}
 use Rattle.lsm_levels.proofs.laws.plan_opens_its_job.Goals as goal
 
 pub returns : goal.returns
-returns c = record {
-  apart = λ v starts. plan_opens Apart v (Has starts);
-  in_order = λ v starts. plan_opens InOrder v (Has starts);
-}
+returns c = λ v starts. plan_opens v (Has starts)

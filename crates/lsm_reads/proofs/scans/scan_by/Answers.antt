@@ -1,6 +1,6 @@
 use Rattle.std.proofs.Common.{◌≡◌, ◌∙◌, ap, sym, subst, map, None, List}
 use Rattle.lsm_table.specs.Registry.{Table}
-use Rattle.lsm_levels.specs.Files.{Lie, IsLawful, all_entries}
+use Rattle.lsm_levels.specs.Files.{IsLawful, all_entries}
 use Rattle.lsm_levels.specs.Merging.{Placed, entries_of, merge_all}
 use Rattle.lsm_levels.specs.Scanning.{IsScan, pairs_of}
 use Rattle.lsm_merger.specs.Shown.{Showing}
@@ -21,7 +21,7 @@ returns-clause-scanned g c = λ h.
     let tables = map (λ l. l.items) c.levels-levels.result.now in
     let left : c.new-2.result.left ≡ pairs_of s None (entries_of (merge_all ls)) =
     ap (λ (v : Showing). v.left) c.new-2.ensures ∙ ap (λ (ps : List Placed). pairs_of s None (entries_of ps)) c.in_ok-merger.ensures.placed in
-    let lawful = subst (λ (us : List (List Table)). IsLawful Lie (files_from 0 us)) (sym c.levels-levels.ensures.tables) (c.levels-levels.ensures.sound h).lawful in
+    let lawful = subst (λ (us : List (List Table)). IsLawful (files_from 0 us)) (sym c.levels-levels.ensures.tables) (c.levels-levels.ensures.sound h).lawful in
     let shown = scan_of (level_in tables 0) (files_from 0 tables) ls s lawful runs in
     subst (IsScan s (all_entries (files_from 0 c.args.version.now.tables))) (sym left)
     (subst (λ (us : List (List Table)). IsScan s (all_entries (files_from 0 us)) (pairs_of s None (entries_of (merge_all ls)))) c.levels-levels.ensures.tables shown)

@@ -1,10 +1,9 @@
 use Rattle.std.proofs.Common.{sym, ◌∙◌, ap, subst}
 use Rattle.lsm_codec.specs.Lists.{Has}
-use Rattle.lsm_levels.specs.Files.{Lie}
 use Rattle.lsm_shelf.specs.Asked.{Asked, IsWantOr}
 use Rattle.lsm_shelf.specs.declared.shelf_fault.ShelfFault.{ShelfFault}
 use Rattle.lsm_version.specs.Versions.{Levels}
-use Rattle.lsm_machine.specs.Law.{Law}
+use Rattle.lsm_levels.specs.Law.{Law}
 use Rattle.lsm_slots.specs.Slots.{Published}
 use Rattle.lsm_live.specs.Booked.{Booked}
 use Rattle.lsm_journal.specs.Difference.{Difference, changed_by}
@@ -22,7 +21,7 @@ invariant_of-self-2 g c =
     let d : Difference = c.args.change.now in
     let w : Levels = changed_by d h.slots.version in
     let back = ap (λ (x : Held). changed_by d x.slots.version) (sym c.self.view_is) in
-    let after = subst (λ (x : Held). Law g.S.Shelf.honest Lie (plain_after x d c.args.out)) (sym c.self.view_is) c.requires.law in
+    let after = subst (λ (x : Held). Law g.S.Shelf.honest (plain_after x d c.args.out)) (sym c.self.view_is) c.requires.law in
     let inputs = subst (λ (x : Held). (b : Booked) → Has (live_after c.args.out x.live) b → HasInputs (changed_by d x.slots.version) b.work) (sym c.self.view_is) c.requires.inputs in
     let published = subst (λ (v : Levels). Published h.slots c.publish.new.self v) (c.in_ok-first.ensures.first ∙ back) c.publish.ensures.published in
     let recorded = subst (λ (v : Levels). IsRecorded 0 c.send-sent.new.self v c.in-Ok.next) (c.deref-2.ensures ∙ c.in_ok-first.ensures.first ∙ back) c.in-Ok.ensures.recorded in

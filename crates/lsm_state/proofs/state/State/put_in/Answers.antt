@@ -1,9 +1,8 @@
 use Rattle.std.proofs.Common.{◌≡◌, ℕ, Some, length, ◌∙◌, ap, sym, subst}
 use Rattle.lsm_codec.specs.Lists.{Has}
-use Rattle.lsm_levels.specs.Files.{Lie}
 use Rattle.lsm_shelf.specs.Asked.{Asked}
 use Rattle.lsm_shelf.specs.declared.shelf_fault.ShelfFault.{ShelfFault}
-use Rattle.lsm_machine.specs.Law.{Law}
+use Rattle.lsm_levels.specs.Law.{Law}
 use Rattle.lsm_version.specs.Versions.{Levels}
 use Rattle.lsm_live.specs.Booked.{Booked}
 use Rattle.lsm_journal.specs.Difference.{Difference, changed_by}
@@ -46,7 +45,7 @@ change_version-requires-clause-law g c κs within =
     let i : IsInstallChange d h.slots.version.last x = subst (λ (n : ℕ). IsInstallChange d n x) (c.last-last.ensures.last ∙ ap (λ (v : Levels). v.last) same) c.in_ok-change.ensures in
     let seven : length h.slots.version.tables ≡ 7 = subst (λ (v : Levels). length v.tables ≡ 7) same c.last-last.ensures.levels in
     let ticket : c.ticket-ticket.result ≡ d.work.ticket = c.ticket-ticket.ensures.ticket ∙ ap (λ (w : Work). w.ticket) c.job.ensures.job in
-    subst (λ (n : ℕ). Law g.S.Shelf.honest Lie (plain_after h x (Some n))) (sym ticket) (law_installed c.changed_files.ensures g.S.Shelf.honest g.N.Boarded.board h d x b.0 c.options-options.ensures.law seven b.1 c.job.ensures.finished i)
+    subst (λ (n : ℕ). Law g.S.Shelf.honest (plain_after h x (Some n))) (sym ticket) (law_installed c.changed_files.ensures g.S.Shelf.honest g.N.Boarded.board h d x b.0 c.options-options.ensures.law seven b.1 c.job.ensures.finished i)
 
 pub change_version-requires-clause-inputs : goal.change_version-requires-clause-inputs
 change_version-requires-clause-inputs g c κs within =

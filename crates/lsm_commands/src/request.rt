@@ -1,0 +1,48 @@
+//! What a command line asks for.
+
+use crate::compact_options::CompactOptions;
+use crate::conversion::Conversion;
+use crate::directory_command::DirectoryCommand;
+use crate::form::Form;
+use crate::input::Input;
+use crate::writing_command::WritingCommand;
+
+/// A command on a directory that is only read, and the path of that.
+#[derive(Debug, Drop)]
+pub struct DirectoryLine<'a> {
+    pub path: &'a str,
+    pub command: DirectoryCommand,
+    /// How keys and values are spelled: `Text` where there is `--text`.
+    pub form: Form,
+    /// Whether it is to say on standard error how far it is: where there is `--progress`.
+    pub progress: bool,
+}
+
+/// A command that writes a directory, and the path of that.
+#[derive(Clone, Copy, Debug)]
+pub struct WritingLine<'a> {
+    pub path: &'a str,
+    pub command: WritingCommand<'a>,
+}
+
+/// A compaction: of the folder of this path, with these options.
+#[derive(Clone, Copy, Debug)]
+pub struct CompactLine<'a> {
+    pub path: &'a str,
+    pub options: CompactOptions,
+}
+
+/// What a command line asks for: one command of the program, with all that its words say.
+#[derive(Debug, Drop)]
+pub enum Request<'a> {
+    /// `mktable`, `dump` or `manifest` of an input.
+    Convert(Conversion, Input<'a>),
+    /// `check`, `list`, `get` or `scan`.
+    Look(DirectoryLine<'a>),
+    /// `ingest` or `clean`.
+    Write(WritingLine<'a>),
+    /// `compact`.
+    Compact(CompactLine<'a>),
+    /// `script`: the commands that an input spells.
+    Script(Input<'a>),
+}

@@ -1,6 +1,0 @@
-mod LiveLists
-mod PlainSteps
-mod Installing
-mod Runs
-mod Created
-pub mod CallerLemmas
