@@ -1,6 +1,6 @@
 -- A store that was just created has nothing of which the law says anything.
 use Rattle.std.specs.Prelude.{[]}
-use Rattle.lsm_levels.specs.Files.{File, IsLawful}
+use Rattle.lsm_levels.specs.Files.{IsLawful}
 use Rattle.lsm_levels.specs.Plain.{created}
 use Rattle.lsm_levels.specs.Law.{Books, Law}
 

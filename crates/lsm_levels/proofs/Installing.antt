@@ -81,7 +81,7 @@ install_books H s ticket t b i = subst Books (sym i.is) record {
     numbers F G (inr x) (inl y) e = absurd (fresh G F y x.0 x.1 (sym e))
     numbers F G (inr x) (inr y) e = b.numbers F G x.0 y.0 e
 
--- ---- over an honest shelf
+-- ---- under the premise
 
 -- what an install of a live job's result rests on
 pub record Rests (s : Plain) (a : Live) (outs files : List File) : Type 0 where

@@ -1,4 +1,5 @@
--- Over every run: the law holds, and every read that is promised gives what it gives over all that was ingested.
+-- Over every run: the law holds, and every read that is promised gives what it gives over all that
+-- was ingested.
 use Rattle.std.proofs.Common.{◌≡◌, ℕ, ◌≤◌, ◌<◌, List, [], ◌∷◌, ◌++◌, Option, Some, None, refl, sym, ◌∙◌, ap, subst, inl, inr, arith, ◌⊎◌}
 use Rattle.lsm_codec.specs.Keys.{UserKey}
 use Rattle.lsm_codec.specs.Lists.{Has}

@@ -1,5 +1,5 @@
--- The store as a plain machine: what it holds, and what each of its events makes of that (levels and snapshots of LevelDB's
--- `doc/impl.md`; several compactions at a time are this project's).
+-- The store as a plain machine: what it holds, and what each of its events makes of that (levels and
+-- snapshots of LevelDB's `doc/impl.md`; several compactions at a time are this project's).
 use Rattle.std.specs.Prelude.{◌≡◌, ℕ, suc, ◌<◌, ◌≤◌, List, [], ◌∷◌, ◌++◌, ◌⊎◌, ◌==◌, not, map, if◌then◌else◌}
 use Rattle.std.specs.List.{filter}
 use Rattle.lsm_codec.specs.Lists.{Has}
@@ -47,7 +47,8 @@ booking ticket number live = map (λ a. if a.job.ticket == ticket then drawing n
 
 -- ---- events
 
--- the entries come in as one file of level 0, with sequences above the last and under a number that was free
+-- the entries come in as one file of level 0, with sequences above the last and under a number that
+-- was free
 pub record Ingests (s : Plain) (es : List Entry) (t : Plain) : Type 0 where
   pub file : File
   pub files : List File
@@ -72,8 +73,8 @@ TakesSnapshot s t = t ≡ record s { snapshots = s.snapshots ++ (s.next_id, s.la
 abbrev pub Releases : Plain → ℕ → Plain → Type 0
 Releases s id t = t ≡ record s { snapshots = without_snapshot id s.snapshots }
 
--- The job is that of a plan; its inputs are files of the version, at its level and the next, and it conflicts with no live one. Over an
--- honest shelf the plan is the closed one from some starting files.
+-- The job is that of a plan; its inputs are files of the version, at its level and the next, and it
+-- conflicts with no live one. Under the premise the plan is the closed one from some starting files.
 pub record Reserves (Honest : Type 0) (s : Plain) (plan : Plan) (job : Job) (t : Plain) : Type 0 where
   pub is : t ≡ record s { live = s.live ++ record { job = job; drawn = [] } ∷ []; next_ticket = suc s.next_ticket }
   pub is_job : IsJobOf s.files plan job
@@ -97,11 +98,12 @@ pub record IsMerged (job : Job) (outs : List File) : Type 0 where
   pub merges : IsMerge merged (all_entries job.inputs)
   pub cut : IsCut (suc job.level) (kept_entries merged job.floor job.ranges) outs
 
--- what is known of a result whatever the shelf is: outputs under rising numbers that the job drew, or its one input
+-- what is known of a result without the premise: outputs under rising numbers that the job drew, or
+-- its one input
 abbrev pub IsBooked : Live → List File → Type 0
 IsBooked a outs = (NumbersRise outs × ((F : File) → Has outs F → Has a.drawn F.number)) ⊎ IsMove a.job outs
 
--- what a finished job hands in over an honest shelf
+-- what a finished job hands in under the premise
 abbrev pub IsResult : Job → List File → Type 0
 IsResult job outs = IsMerged job outs ⊎ IsMove job outs
 

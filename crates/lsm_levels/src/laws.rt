@@ -127,9 +127,9 @@ pub fn reads_go_by_depth()
     ensures { (v : List File) (F : File) (k : UserKey) (s : ℕ) (e : Entry) → IsLawful v
         → Has v F → newest k s F.entries ≡ Some e
         → ((G : File) (y : Entry) → Has v G → Shallower G F → Has G.entries y
-            → is_allowed k s y ≡ false)
+        → is_allowed k s y ≡ false)
         → ((G : File) (y : Entry) → Has v G → G.level ≡ F.level → 1 ≤ F.level → Has G.entries y
-            → is_allowed k s y ≡ true → stamp y ≤ stamp e)
+        → is_allowed k s y ≡ true → stamp y ≤ stamp e)
         → newest k s (all_entries v) ≡ Some e }
 {}
 

@@ -202,7 +202,7 @@ pub fn run<N: Boarded, S: Shelf, R: Wait>(
         Ok(replies) => replies,
         Err(memory) => return Err((memory, state)),
     };
-    runs_read_all_that_came::<S>();
+    runs_read_all_that_came::<State<N, S>>();
     // The law of the state is told by this call.
     let _options = state.options();
     let state = answer_all(rt, alloc, state, shelf, &registry, commands, &mut replies);

@@ -11,8 +11,8 @@ ghost use Rattle.lsm_state.specs.Options.{Fits};
 use crate::options::Options;
 use crate::state::State;
 use lsm_journal::Journal;
-use lsm_live::LiveJobs;
 use lsm_levels::machine::created_stores_are_lawful;
+use lsm_live::LiveJobs;
 use lsm_pins::{Pinner, Publisher};
 use lsm_slots::{Boarded, Slots, Snapshots};
 use lsm_table::{Registry, Shelf, ShelfFault};
@@ -100,7 +100,7 @@ impl<N: Boarded, S: Shelf> State<N, S> {
         let empty = Version::empty(alloc, Arc::try_clone(&registry)?)?;
         let slots = Slots::new(alloc, publisher, options.versions, empty)?;
         let journal = Journal::create_under(rt, alloc, shelf, options.manifest_limit, number)?;
-        created_stores_are_lawful::<S>();
+        created_stores_are_lawful::<State<N, S>>();
         Ok(State {
             registry,
             options,

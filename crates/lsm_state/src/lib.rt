@@ -1,7 +1,7 @@
 //! The value behind the lock of a database.
 //!
 //! Stands on `lsm_slots` for versions, pins and snapshots, on `lsm_live` for live jobs, on
-//! `lsm_journal` for the manifest, and on `lsm_machine` for the law of the store as a plain
+//! `lsm_journal` for the manifest, and on `lsm_levels` for the law of the store as a plain
 //! machine. Its contract: the law of a state holds after every call, and each call says all that it
 //! leaves.
 //!
@@ -35,7 +35,7 @@
 //! - Over an honest shelf a read gives the newest value at or before its sequence (`answer` of
 //!   `get`).
 //! - What changes entries, snapshots or jobs is an event of the plain machine (`event`), so the
-//!   laws of `lsm_machine` over whole runs speak of states.
+//!   laws of `lsm_levels` over whole runs speak of states.
 #![tactic(auto)]
 
 // The state, and how it begins.

@@ -7,6 +7,7 @@ ghost use Rattle.lsm_state.specs.Held.{IsLawfulState};
 
 use crate::options::Options;
 use lsm_journal::Journal;
+use lsm_levels::machine::Premise;
 use lsm_live::LiveJobs;
 use lsm_pins::Pinner;
 use lsm_slots::{Boarded, Slots, Snapshots};
@@ -29,6 +30,11 @@ pub struct State<N: Boarded, S: Shelf> {
     pub(crate) journal: Journal,
     pub(crate) halted: bool,
     pub(crate) pinners: Vec<Pinner>,
+}
+
+/// What the laws of the plain machine suppose of a state: that its shelf is honest.
+impl<N: Boarded, S: Shelf> Premise for State<N, S> {
+    ghost holds = { S.honest };
 }
 
 impl<N: Boarded, S: Shelf> Model for State<N, S> {
