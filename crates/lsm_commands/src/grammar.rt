@@ -4,7 +4,8 @@
 //! command.
 
 ghost use Rattle.std.specs.Prelude.{◌≡◌, ◌≢◌, [], IfErr, IfOk, codes, false, map};
-ghost use Rattle.clap.specs.Words.{App, IsAmong, Rule, kind_of, new_app, rule_of, subcommand_rows_of};
+ghost use Rattle.clap.specs.Words.{App, IsAmong, Rule, kind_of, new_app, rule_of};
+ghost use Rattle.clap.specs.Words.{subcommand_rows_of};
 ghost use Rattle.clap.specs.Words.{with_rule, with_subcommand};
 ghost use Rattle.clap.specs.declared.error.ErrorKind.TheVariants.{OutOfMemory};
 ghost use Rattle.lsm_commands.specs.Grammar.{IsShaped, bare, check, clean, compact, dump, file};
