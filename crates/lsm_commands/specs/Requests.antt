@@ -1,8 +1,10 @@
 -- What the words of a command line ask for, by what clap's grammar finds in them: this project's rule.
-use Rattle.std.specs.Prelude.{◌≡◌, ◌≢◌, ℕ, ◌+◌, ◌≤◌, ⊤, Bool, false, if◌then◌else◌, List, [], ◌∷◌, codes, Option, Some, None}
+use Rattle.std.specs.Prelude.{◌≡◌, ◌≢◌, ℕ, ◌+◌, ◌≤◌, ◌⊎◌, ⊤, Bool, false, if◌then◌else◌, List, [], ◌∷◌, codes, Option, Some, None}
 use Rattle.std.specs.Option.{option_map_or}
 use Rattle.std.specs.Str.{bytes_eq}
-use Rattle.clap.specs.Words.{Kinds, Row, Text, fault_of, first_of, found_of, rows_of, subcommand_of}
+use Rattle.clap.specs.Words.{IsAmong, Kinds, Row, Text, fault_of, first_of, found_of, rows_of, subcommand_of}
+use Rattle.clap.specs.declared.error.ErrorKind.{ErrorKind}
+use Rattle.clap.specs.declared.error.ErrorKind.TheVariants as kind
 use Rattle.clap.specs.declared.parser.ArgMatches.{ArgMatches}
 use Rattle.lsm_commands.specs.Grammar.{lsm}
 use Rattle.lsm_commands.specs.Spelling.{IsWord}
@@ -166,17 +168,21 @@ Asks request words = (faults_in words ≡ []) × IsAsked (found_in words) reques
 abbrev pub AskNothing : List Text → Type 0
 AskNothing words = (request : Request) → Asks request words → ⊥
 
--- no request
-abbrev pub IsNoRequest : CommandLine → Type 0
-IsNoRequest (Run request) = ⊥
-IsNoRequest (Help text) = ⊤
-IsNoRequest (Bad text) = ⊤
+-- They ask for help or for the version: clap answers with that.
+abbrev pub AskHelp : List Text → Type 0
+AskHelp words = IsAmong kind.DisplayHelp (faults_in words) ⊎ IsAmong kind.DisplayVersion (faults_in words)
+
+-- There is a slip: the words are not of the grammar, and it is not help or the version that they ask for; or they are of the
+-- grammar, and a word is no key or no number of workers.
+abbrev pub HaveSlip : List Text → Type 0
+HaveSlip words =
+    (faults_in words ≡ []) ⊎ ((k : ErrorKind) × IsAmong k (faults_in words) × (k ≢ kind.DisplayHelp) × (k ≢ kind.DisplayVersion))
 
 -- what words come to
 abbrev pub IsLine : List Text → CommandLine → Type 0
 IsLine words (Run request) = Asks request words
-IsLine words (Help text) = AskNothing words
-IsLine words (Bad text) = AskNothing words
+IsLine words (Help text) = AskNothing words × AskHelp words
+IsLine words (Bad text) = AskNothing words × HaveSlip words
 
 -- ---- how the code reads them
 
@@ -188,5 +194,11 @@ Reads name rows None = (request : Request) → name_of request ≡ name → Says
 -- the same, where something was found
 abbrev pub IsOf : Option (Text × List Row) → CommandLine → Type 0
 IsOf found (Run request) = IsAsked found request
-IsOf found (Help text) = (request : Request) → IsAsked found request → ⊥
+IsOf found (Help text) = ⊥
 IsOf found (Bad text) = (request : Request) → IsAsked found request → ⊥
+
+-- what an error of this kind comes to
+abbrev pub IsOfKind : ErrorKind → CommandLine → Type 0
+IsOfKind k (Run request) = ⊥
+IsOfKind k (Help text) = (k ≡ kind.DisplayHelp) ⊎ (k ≡ kind.DisplayVersion)
+IsOfKind k (Bad text) = (k ≢ kind.DisplayHelp) × (k ≢ kind.DisplayVersion)

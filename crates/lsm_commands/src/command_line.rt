@@ -3,7 +3,7 @@
 ghost use Rattle.std.specs.Prelude.{◌≢◌, IfErr, IfOk, List, map, ℕ};
 ghost use Rattle.clap.specs.Words.{kind_of, subcommand_rows_of};
 ghost use Rattle.clap.specs.declared.error.ErrorKind.TheVariants.{OutOfMemory};
-ghost use Rattle.lsm_commands.specs.Requests.{IsLine, IsNoRequest, IsOf};
+ghost use Rattle.lsm_commands.specs.Requests.{IsLine, IsOf, IsOfKind};
 
 use crate::asking::asked_in;
 use crate::grammar::found_in;
@@ -68,17 +68,16 @@ fn line_of<'a>(alloc: Global, matches: &ArgMatches<'a>) -> Result<CommandLine<'a
 
 /// What is said of words that are not of the grammar, or that ask for help.
 fn refused_by<'a>(alloc: Global, error: &clap::Error) -> Result<CommandLine<'a>, AllocError>
-    ensures line { IfOk result IsNoRequest }
+    ensures line { IfOk result (IsOfKind (kind_of error.now)) }
     ensures kind { IfOk result (λ _. kind_of error.now ≢ OutOfMemory) }
 {
-    if error.kind() == ErrorKind::OutOfMemory {
-        return Err(AllocError);
+    match error.kind() {
+        ErrorKind::OutOfMemory => Err(AllocError),
+        ErrorKind::DisplayHelp | ErrorKind::DisplayVersion => {
+            Ok(CommandLine::Help(text_of(alloc, error)?))
+        }
+        _ => Ok(CommandLine::Bad(text_of(alloc, error)?)),
     }
-    let text = text_of(alloc, error)?;
-    if error.use_stderr() {
-        return Ok(CommandLine::Bad(text));
-    }
-    Ok(CommandLine::Help(text))
 }
 
 /// What the words after the program's name ask for: one request, or help, or nothing. They are read

@@ -4,7 +4,8 @@
 //! command.
 
 ghost use Rattle.std.specs.Prelude.{◌≡◌, ◌≢◌, [], IfErr, IfOk, codes, false, map};
-ghost use Rattle.clap.specs.Words.{App, Rule, kind_of, new_app, rule_of, subcommand_rows_of};
+ghost use Rattle.clap.specs.Words.{App, IsAmong, Rule, kind_of, new_app, rule_of};
+ghost use Rattle.clap.specs.Words.{subcommand_rows_of};
 ghost use Rattle.clap.specs.Words.{with_rule, with_subcommand};
 ghost use Rattle.clap.specs.declared.error.ErrorKind.TheVariants.{OutOfMemory};
 ghost use Rattle.lsm_commands.specs.Grammar.{IsShaped, bare, check, clean, compact, dump, file};
@@ -287,7 +288,7 @@ pub(crate) fn found_in<'a, S: AsStr>(alloc: Global, words: &'a [S]) -> Result<Ar
     ensures good { IfOk result (λ _. faults_in (map S.text words.now) ≡ []) }
     ensures found { IfOk result (λ m. subcommand_rows_of m ≡ found_in (map S.text words.now)) }
     ensures bad { IfErr result (λ e. kind_of e ≢ OutOfMemory
-        → faults_in (map S.text words.now) ≢ []) }
+        → IsAmong (kind_of e) (faults_in (map S.text words.now))) }
 {
     lsm(alloc)?.try_get_matches_from(words)
 }

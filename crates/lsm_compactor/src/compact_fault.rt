@@ -2,9 +2,11 @@
 
 ghost use Rattle.std.specs.Prelude.{◌≡◌};
 ghost use Rattle.lsm_writer.specs.WriterFault.{of_shelf};
-ghost use Rattle.lsm_writer.specs.declared.writer_fault.WriterFault.TheVariants.{OutOfMemory, State as StateVariant};
+ghost use Rattle.lsm_writer.specs.declared.writer_fault.WriterFault.TheVariants.{OutOfMemory};
+ghost use Rattle.lsm_writer.specs.declared.writer_fault.WriterFault.TheVariants.{State as StateVariant};
 ghost use Rattle.lsm_compactor.specs.CompactFault.{fault_text};
-ghost use Rattle.lsm_compactor.specs.declared.compact_fault.CompactFault.TheVariants.{Writer as WriterVariant, Worker as WorkerVariant};
+ghost use Rattle.lsm_compactor.specs.declared.compact_fault.CompactFault.TheVariants.{Writer as WriterVariant};
+ghost use Rattle.lsm_compactor.specs.declared.compact_fault.CompactFault.TheVariants.{Worker as WorkerVariant};
 
 use lsm_state::StateFault;
 use lsm_store::WorkerFault;
@@ -16,8 +18,8 @@ use std::fmt;
 /// What a compaction of a directory could not do. It prints as a text without a newline.
 #[derive(Debug, Drop)]
 pub enum CompactFault {
-    /// Memory ran out, the directory was not locked or opened, a shelf failed to fork, the database refused
-    /// to collect, or a write failed.
+    /// Memory ran out, the directory was not locked or opened, a shelf failed to fork, the database
+    /// refused to collect, or a write failed.
     Writer(WriterFault),
     /// A worker ended early.
     Worker(WorkerFault),

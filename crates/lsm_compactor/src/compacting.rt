@@ -9,7 +9,9 @@ ghost use Rattle.lsm_store.specs.Workers.{IsWorkersEnd};
 ghost use Rattle.lsm_writer.specs.WriterFault.{of_shelf};
 ghost use Rattle.lsm_writer.specs.Starting.{usual};
 ghost use Rattle.lsm_writer.specs.declared.writer_fault.WriterFault.TheVariants.{Write as WriteFault};
-ghost use Rattle.lsm_compactor.specs.Compacting.{AreEnds, IsCompactFault, IsCompacted, IsFaultless, IsOpened, IsSwept, IsUnbegun, IsWorkersFault, Refuses, installed_text};
+ghost use Rattle.lsm_compactor.specs.Compacting.{AreEnds, IsCompactFault, IsCompacted, IsFaultless};
+ghost use Rattle.lsm_compactor.specs.Compacting.{IsOpened, IsSwept, IsUnbegun, IsWorkersFault};
+ghost use Rattle.lsm_compactor.specs.Compacting.{Refuses, installed_text};
 ghost use Rattle.lsm_compactor.specs.declared.compact_fault.CompactFault.TheVariants.{Writer as WriterVariant};
 
 use crate::compact_fault::CompactFault;
@@ -47,7 +49,9 @@ fn begin<N: Boarded, S: Shelf, R: Wait, E: Write>(
     ensures shelf { OnOk result ((S.told shelf.new).place ≡ N.place) }
     ensures count { IfOk result (λ c. vec_len c.shelves ≡ options.workers) }
     ensures opened { OnOk result (IsOpened S.honest N.board (S.told shelf.old) (S.told shelf.new)) }
-    ensures refused { IfErr result (λ e. IsUnbegun (Stored S.Receipt (S.is_of N.place) S.Receipt.number S.Receipt.image) (S.refuses N.place) S.honest e (S.told shelf.old) (S.told shelf.new)) }
+    ensures refused { IfErr result (λ e.
+        IsUnbegun (Stored S.Receipt (S.is_of N.place) S.Receipt.number S.Receipt.image)
+        (S.refuses N.place) S.honest e (S.told shelf.old) (S.told shelf.new)) }
     ensures quiet { IsFalse options.progress → Keeps (E.contents err.old) (E.contents err.new) }
 {
     let state = open(rt, alloc, shelf, parts)?;
@@ -94,7 +98,8 @@ fn work<N: Boarded, S: Shelf, R: Threads + Wait + Sync, E: Write + Send>(
     requires here { All (λ s. (S.told s).place ≡ N.place) shelves.items }
     ensures ends { IfOk result (λ v. AreEnds S.honest (vec_len shelves) v.items) }
     ensures faultless { IfOk result (λ v. All IsFaultless v.items) }
-    ensures refused { IfErr result (λ e. (e ≡ WriterVariant (of_shelf OutOfMemory)) ⊎ IsWorkersFault S.honest (vec_len shelves) e) }
+    ensures refused { IfErr result (λ e. (e ≡ WriterVariant (of_shelf OutOfMemory))
+        ⊎ IsWorkersFault S.honest (vec_len shelves) e) }
     ensures quiet { IsFalse progress → Keeps (E.contents err.old) (E.contents err.new) }
 {
     let Ok(ends) = run_all(rt, alloc, store, shelves, progress, err) else {
@@ -117,7 +122,8 @@ fn sweep_all<N: Boarded, S: Shelf, R: Wait, E: Write>(
 ) -> Result<(), StateFault>
     requires here { (S.told shelf.old).place ≡ N.place }
     ensures ok { OnOk result (IsSwept S.honest N.board (S.told shelf.old) (S.told shelf.new)) }
-    ensures refused { IfErr result (λ e. Refuses (S.refuses N.place) S.honest N.board e (S.told shelf.old) (S.told shelf.new)) }
+    ensures refused { IfErr result (λ e.
+        Refuses (S.refuses N.place) S.honest N.board e (S.told shelf.old) (S.told shelf.new)) }
     ensures quiet { IsFalse progress → Keeps (E.contents err.old) (E.contents err.new) }
 {
     let removed = sweep(rt, alloc, store, shelf)?;
@@ -127,7 +133,8 @@ fn sweep_all<N: Boarded, S: Shelf, R: Wait, E: Write>(
 
 /// Writes how many results were installed, and flushes.
 fn reply<O: Write>(out: &mut O, installed: u128) -> io::Result<()>
-    ensures written { OnOk result (Appends (O.contents out.old) (O.contents out.new) (installed_text installed)) }
+    ensures written { OnOk result
+        (Appends (O.contents out.old) (O.contents out.new) (installed_text installed)) }
 {
     writeln!(out, "installed {installed}")?;
     out.flush()
@@ -148,9 +155,13 @@ fn compact_as<N: Boarded, S: Shelf, R: Threads + Wait + Sync, O: Write, E: Write
     requires records { parts.records ≡ N.registry }
     requires board { IsNewBoard N.board usual parts.publisher parts.pinners.items }
     requires seats { vec_len parts.pinners ≡ usual.readers }
-    ensures done { OnOk result (IsCompacted S.honest options.workers (S.told shelf.old) (S.told shelf.new) (O.contents out.old) (O.contents out.new)) }
-    ensures fault { IfErr result (λ e. IsCompactFault (Stored S.Receipt (S.is_of N.place) S.Receipt.number S.Receipt.image) (S.refuses N.place) S.honest options.workers e (S.told shelf.old) (S.told shelf.new)) }
-    ensures left { IfErr result (λ e. e ≢ WriterVariant WriteFault → Keeps (O.contents out.old) (O.contents out.new)) }
+    ensures done { OnOk result (IsCompacted S.honest options.workers (S.told shelf.old)
+        (S.told shelf.new) (O.contents out.old) (O.contents out.new)) }
+    ensures fault { IfErr result (λ e.
+        IsCompactFault (Stored S.Receipt (S.is_of N.place) S.Receipt.number S.Receipt.image)
+        (S.refuses N.place) S.honest options.workers e (S.told shelf.old) (S.told shelf.new)) }
+    ensures left { IfErr result (λ e. e ≢ WriterVariant WriteFault
+        → Keeps (O.contents out.old) (O.contents out.new)) }
     ensures quiet { IsFalse options.progress → Keeps (E.contents err.old) (E.contents err.new) }
 {
     let parts = parts.named(alloc)?;
@@ -174,9 +185,13 @@ pub(crate) fn compact_to<S: Shelf, R: Threads + Wait + Sync, O: Write, E: Write 
     out: &mut O,
     err: &mut E,
 ) -> Result<(), CompactFault>
-    ensures done { OnOk result (IsCompacted S.honest options.workers (S.told shelf.old) (S.told shelf.new) (O.contents out.old) (O.contents out.new)) }
-    ensures fault { IfErr result (λ e. IsCompactFault (Stored S.Receipt (S.is_of (S.told shelf.old).place) S.Receipt.number S.Receipt.image) (S.refuses (S.told shelf.old).place) S.honest options.workers e (S.told shelf.old) (S.told shelf.new)) }
-    ensures left { IfErr result (λ e. e ≢ WriterVariant WriteFault → Keeps (O.contents out.old) (O.contents out.new)) }
+    ensures done { OnOk result (IsCompacted S.honest options.workers (S.told shelf.old)
+        (S.told shelf.new) (O.contents out.old) (O.contents out.new)) }
+    ensures fault { IfErr result (λ e. IsCompactFault (Stored S.Receipt (S.is_of (S.told
+        shelf.old).place) S.Receipt.number S.Receipt.image) (S.refuses (S.told shelf.old).place)
+        S.honest options.workers e (S.told shelf.old) (S.told shelf.new)) }
+    ensures left { IfErr result (λ e. e ≢ WriterVariant WriteFault
+        → Keeps (O.contents out.old) (O.contents out.new)) }
     ensures quiet { IsFalse options.progress → Keeps (E.contents err.old) (E.contents err.new) }
 {
     let parts = NewParts::make(alloc)?;

@@ -1,9 +1,10 @@
 //! The command of `lsm` that compacts a directory, `compact`.
 //!
 //! Stands on `lsm_store` for the workers, and on `lsm_writer`, `lsm_directory` and `lsm_commands`
-//! for the opening, the lock, words and refusals. Its contract: a `compact` that ends with 0 opened the directory, had so many
-//! workers end without a fault, removed what nothing names any more, and printed the sum of the
-//! counts that they answered; without `--progress` it wrote nothing on standard error.
+//! for the opening, the lock, words and refusals. Its contract: a `compact` that ends with 0 opened
+//! the directory, had so many workers end without a fault, removed what nothing names any more, and
+//! printed the sum of the counts that they answered; without `--progress` it wrote nothing on
+//! standard error.
 #![tactic(auto)]
 
 // What is done with a directory.

@@ -46,10 +46,13 @@ pub(crate) fn open<N: Boarded, S: Shelf, R: Wait>(
     parts: Parts<N, S>,
 ) -> Result<State<N, S>, CompactFault>
     requires here { (S.told shelf.old).place ≡ N.place }
-    ensures opened { IfOk result (λ s. IsReopened S.honest s (S.told shelf.old) (S.told shelf.new)) }
+    ensures opened { IfOk result (λ s.
+        IsReopened S.honest s (S.told shelf.old) (S.told shelf.new)) }
     ensures board { IfOk result (λ s. s.slots.board.board ≡ N.board) }
     ensures seats { IfOk result (λ s. SeatsPinners s) }
-    ensures refused { IfErr result (λ e. IsUnopened (Stored S.Receipt (S.is_of N.place) S.Receipt.number S.Receipt.image) (S.refuses N.place) S.honest e (S.told shelf.old) (S.told shelf.new)) }
+    ensures refused { IfErr result (λ e.
+        IsUnopened (Stored S.Receipt (S.is_of N.place) S.Receipt.number S.Receipt.image)
+        (S.refuses N.place) S.honest e (S.told shelf.old) (S.told shelf.new)) }
 {
     made_states_seat_their_pinners();
     let options = Options::usual();

@@ -55,9 +55,14 @@ pub fn compact<S: Shelf, R: Threads + Wait + Sync, O: Write, E: Write + Send>(
     out: &mut O,
     err: &mut E,
 ) -> u8
-    ensures done { result ≡ 0 → IsCompacted S.honest options.workers (S.told shelf.old) (S.told shelf.new) (O.contents out.old) (O.contents out.new) }
-    ensures refused { result ≢ 0 → (result ≡ 1) × ((fault : CompactFault) × IsRefused (Stored S.Receipt (S.is_of (S.told shelf.old).place) S.Receipt.number S.Receipt.image) (S.refuses (S.told shelf.old).place) S.honest options.workers fault (S.told shelf.old) (S.told shelf.new) (O.contents out.old) (O.contents out.new)) }
-    ensures quiet { result ≡ 0 → IsFalse options.progress → Keeps (E.contents err.old) (E.contents err.new) }
+    ensures done { result ≡ 0 → IsCompacted S.honest options.workers (S.told shelf.old)
+        (S.told shelf.new) (O.contents out.old) (O.contents out.new) }
+    ensures refused { result ≢ 0 → (result ≡ 1) × ((fault : CompactFault)
+        × IsRefused (Stored S.Receipt (S.is_of (S.told shelf.old).place) S.Receipt.number
+        S.Receipt.image) (S.refuses (S.told shelf.old).place) S.honest options.workers fault
+        (S.told shelf.old) (S.told shelf.new) (O.contents out.old) (O.contents out.new)) }
+    ensures quiet { result ≡ 0 → IsFalse options.progress
+        → Keeps (E.contents err.old) (E.contents err.new) }
 {
     let done = compact_to(rt, alloc, shelf, options, out, err);
     status_of(done, None, err)
@@ -73,7 +78,8 @@ fn obey<R: Threads + Wait + Sync, O: Write, E: Write + Send>(
     out: &mut O,
     err: &mut E,
 ) -> Result<(), CompactFault>
-    ensures quiet { IsFalse line.now.options.progress → Keeps (E.contents err.old) (E.contents err.new) }
+    ensures quiet { IsFalse line.now.options.progress
+        → Keeps (E.contents err.old) (E.contents err.new) }
 {
     let alloc = files.alloc();
     let folder = open_noting(files, line.path, reasons)?;
@@ -92,7 +98,8 @@ pub fn run<R: Threads + Wait + Sync, O: Write, E: Write + Send>(
     err: &mut E,
 ) -> u8
     ensures status { result ≤ 1 }
-    ensures quiet { result ≡ 0 → IsFalse line.now.options.progress → Keeps (E.contents err.old) (E.contents err.new) }
+    ensures quiet { result ≡ 0 → IsFalse line.now.options.progress
+        → Keeps (E.contents err.old) (E.contents err.new) }
 {
     let reasons = match Reasons::new(files.alloc()) {
         Ok(reasons) => reasons,

@@ -19,7 +19,8 @@ fn sweep_state<N: Boarded, S: Shelf, R: Wait>(
 ) -> Result<usize, StateFault>
     requires here { (S.told shelf.old).place ≡ N.place }
     ensures ok { OnOk result (IsSwept S.honest N.board (S.told shelf.old) (S.told shelf.new)) }
-    ensures refused { IfErr result (λ e. Refuses (S.refuses N.place) S.honest N.board e (S.told shelf.old) (S.told shelf.new)) }
+    ensures refused { IfErr result (λ e.
+        Refuses (S.refuses N.place) S.honest N.board e (S.told shelf.old) (S.told shelf.new)) }
 {
     let collected = state.collect(rt, alloc, shelf);
     // The law of the state is told by this call.
@@ -39,7 +40,8 @@ pub(crate) fn sweep<N: Boarded, S: Shelf, R: Wait>(
 ) -> Result<usize, StateFault>
     requires here { (S.told shelf.old).place ≡ N.place }
     ensures ok { OnOk result (IsSwept S.honest N.board (S.told shelf.old) (S.told shelf.new)) }
-    ensures refused { IfErr result (λ e. Refuses (S.refuses N.place) S.honest N.board e (S.told shelf.old) (S.told shelf.new)) }
+    ensures refused { IfErr result (λ e.
+        Refuses (S.refuses N.place) S.honest N.board e (S.told shelf.old) (S.told shelf.new)) }
 {
     sweep_state(rt, alloc, &mut store.lock(rt), shelf)
 }

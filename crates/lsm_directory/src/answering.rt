@@ -13,7 +13,8 @@ pub(crate) fn answer_line(
     form: Form,
     answer: Option<Vec<u8>>,
 ) -> Result<Vec<u8>, AllocError>
-    ensures { IfOk result (λ text. text.items ≡ answer_text form (option_map (λ v. v.items) answer)) }
+    ensures { IfOk result (λ text.
+        text.items ≡ answer_text form (option_map (λ v. v.items) answer)) }
 {
     let mut text = Vec::new(alloc);
     match answer {

@@ -7,7 +7,8 @@ ghost use Rattle.lsm_table.specs.Registry.{Table, bytes_of};
 ghost use Rattle.lsm_table.specs.ReadFault.{IsMemoryOrShelf, ReadCounted};
 ghost use Rattle.lsm_table.specs.Told.{Becomes};
 ghost use Rattle.lsm_version.specs.Versions.{IsWhole};
-ghost use Rattle.lsm_directory.specs.Listing.{check_text, count_of, counts_line, labelled, level_line};
+ghost use Rattle.lsm_directory.specs.Listing.{check_text, count_of, counts_line, labelled};
+ghost use Rattle.lsm_directory.specs.Listing.{level_line};
 ghost use Rattle.lsm_directory.specs.ReadFault.{IsReadFault};
 
 use crate::counting::{count_level, size_of_level};
@@ -39,7 +40,8 @@ fn push_labelled(out: &mut Vec<u8>, word: &[u8], n: u64) -> Result<(), AllocErro
 
 /// Appends the line of a level.
 fn push_counts(out: &mut Vec<u8>, level: usize, counts: Counts) -> Result<(), AllocError>
-    ensures { OnOk result (out.new.items ≡ out.old.items ++ counts_line level counts.files counts.bytes counts.entries) }
+    ensures { OnOk result (out.new.items
+        ≡ out.old.items ++ counts_line level counts.files counts.bytes counts.entries) }
 {
     push_labelled(out, b"level ", level as u64)?;
     push_labelled(out, b" files ", counts.files)?;
@@ -94,8 +96,10 @@ fn push_level<N: Naming, S: Shelf, B: Blocks<S>, E: Write>(
 ) -> Result<(), DirectoryFault>
     requires here { (B.told blocks.old).place ≡ N.place }
     requires whole { S.honest → (t : Table) → Has tables.now t → IsWhole t }
-    ensures line { S.honest → OnOk result (out.new.items ≡ out.old.items ++ level_line level tables.now) }
-    ensures fault { IfErr result (λ e. IsReadFault S.honest e (B.told blocks.old) (B.told blocks.new)) }
+    ensures line { S.honest
+        → OnOk result (out.new.items ≡ out.old.items ++ level_line level tables.now) }
+    ensures fault { IfErr result (λ e.
+        IsReadFault S.honest e (B.told blocks.old) (B.told blocks.new)) }
     ensures told { Becomes (B.told blocks.old) (B.told blocks.new) }
     ensures loan { B.loan blocks.new ≡ B.loan blocks.old }
     ensures asked { progress.new.asked ≡ progress.old.asked }
@@ -129,7 +133,8 @@ pub(crate) fn describe<N: Naming, S: Shelf, B: Blocks<S>, E: Write>(
 ) -> Result<Vec<u8>, DirectoryFault>
     requires here { (B.told blocks.old).place ≡ N.place }
     ensures text { S.honest → IfOk result (λ text. text.items ≡ check_text version.now rest) }
-    ensures fault { IfErr result (λ e. IsReadFault S.honest e (B.told blocks.old) (B.told blocks.new)) }
+    ensures fault { IfErr result (λ e.
+        IsReadFault S.honest e (B.told blocks.old) (B.told blocks.new)) }
     ensures told { Becomes (B.told blocks.old) (B.told blocks.new) }
     ensures loan { B.loan blocks.new ≡ B.loan blocks.old }
     ensures quiet { IsFalse asked → Keeps (E.contents err.old) (E.contents err.new) }

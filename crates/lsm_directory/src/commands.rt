@@ -42,8 +42,10 @@ fn answer_of<N: Naming, S: Shelf>(
     key: &[u8],
 ) -> Result<Vec<u8>, DirectoryFault>
     requires here { (S.told shelf.old).place ≡ N.place }
-    ensures text { S.honest → IfOk result (λ text. text.items ≡ answer_text form (answer (all_entries (files version.now)) key.now version.now.last)) }
-    ensures fault { IfErr result (λ e. IsReadFault S.honest e (S.told shelf.old) (S.told shelf.new)) }
+    ensures text { S.honest → IfOk result (λ text. text.items
+        ≡ answer_text form (answer (all_entries (files version.now)) key.now version.now.last)) }
+    ensures fault { IfErr result (λ e.
+        IsReadFault S.honest e (S.told shelf.old) (S.told shelf.new)) }
     ensures told { Becomes (S.told shelf.old) (S.told shelf.new) }
 {
     let answer = lsm_reads::get(version, shelf, alloc, key, version.last())?;
@@ -60,8 +62,10 @@ fn description_of<N: Naming, S: Shelf, E: Write>(
     err: &mut E,
 ) -> Result<Vec<u8>, DirectoryFault>
     requires here { (S.told shelf.old).place ≡ N.place }
-    ensures text { S.honest → IfOk result (λ text. text.items ≡ check_text opened.now.version opened.now.rest) }
-    ensures fault { IfErr result (λ e. IsReadFault S.honest e (S.told shelf.old) (S.told shelf.new)) }
+    ensures text { S.honest
+        → IfOk result (λ text. text.items ≡ check_text opened.now.version opened.now.rest) }
+    ensures fault { IfErr result (λ e.
+        IsReadFault S.honest e (S.told shelf.old) (S.told shelf.new)) }
     ensures told { Becomes (S.told shelf.old) (S.told shelf.new) }
     ensures quiet { IsFalse progress → Keeps (E.contents err.old) (E.contents err.new) }
 {
@@ -88,8 +92,10 @@ fn checked<N: Naming, S: Shelf, E: Write>(
     err: &mut E,
 ) -> Result<Vec<u8>, DirectoryFault>
     requires here { (S.told shelf.old).place ≡ N.place }
-    ensures text { S.honest → IfOk result (λ text. IsChecked opened.now.version opened.now.rest opened.now.log opened.now.prev_log request.now.files.now text.items) }
-    ensures fault { IfErr result (λ e. IsReadFault S.honest e (S.told shelf.old) (S.told shelf.new)) }
+    ensures text { S.honest → IfOk result (λ text. IsChecked opened.now.version opened.now.rest
+        opened.now.log opened.now.prev_log request.now.files.now text.items) }
+    ensures fault { IfErr result (λ e.
+        IsReadFault S.honest e (S.told shelf.old) (S.told shelf.new)) }
     ensures told { Becomes (S.told shelf.old) (S.told shelf.new) }
     ensures quiet { IsFalse request.now.progress → Keeps (E.contents err.old) (E.contents err.new) }
 {
@@ -116,9 +122,14 @@ fn perform_on<N: Naming, S: Shelf, O: Write, E: Write>(
     err: &mut E,
 ) -> Result<(), DirectoryFault>
     requires here { (S.told shelf.old).place ≡ N.place }
-    ensures done { S.honest → OnOk result (Prints request.now.form request.now.command.now opened.now.version opened.now.rest opened.now.log opened.now.prev_log request.now.files.now (O.contents out.old) (O.contents out.new)) }
-    ensures left { IfErr result (λ e. e ≢ WriteFault → PrintsBefore request.now.form request.now.command.now S.honest opened.now.version (O.contents out.old) (O.contents out.new)) }
-    ensures fault { IfErr result (λ e. IsAnswerFault S.honest e (S.told shelf.old) (S.told shelf.new)) }
+    ensures done { S.honest → OnOk result (Prints request.now.form request.now.command.now
+        opened.now.version opened.now.rest opened.now.log opened.now.prev_log request.now.files.now
+        (O.contents out.old) (O.contents out.new)) }
+    ensures left { IfErr result (λ e. e ≢ WriteFault
+        → PrintsBefore request.now.form request.now.command.now S.honest opened.now.version
+        (O.contents out.old) (O.contents out.new)) }
+    ensures fault { IfErr result (λ e.
+        IsAnswerFault S.honest e (S.told shelf.old) (S.told shelf.new)) }
     ensures told { Becomes (S.told shelf.old) (S.told shelf.new) }
     ensures quiet { IsFalse request.now.progress → Keeps (E.contents err.old) (E.contents err.new) }
 {
@@ -163,9 +174,13 @@ pub(crate) fn perform<N: Naming, S: Shelf, R: Wait, O: Write, E: Write>(
 ) -> Result<(), DirectoryFault>
     requires here { (S.told shelf.old).place ≡ N.place }
     requires named { records ≡ N.registry }
-    ensures done { OnOk result (IsDone request.now.form request.now.command.now request.now.files.now request.now.progress S.honest (S.told shelf.old) (S.told shelf.new) (O.contents out.old) (O.contents out.new) (E.contents err.old) (E.contents err.new)) }
-    ensures fault { IfErr result (λ e. IsFault (Stored S.Receipt (S.is_of N.place) S.Receipt.number S.Receipt.image) (S.refuses N.place) S.honest e (S.told shelf.old) (S.told shelf.new)) }
-    ensures left { IfErr result (λ e. Leaves request.now.form request.now.command.now S.honest e (S.told shelf.old) (S.told shelf.new) (O.contents out.old) (O.contents out.new)) }
+    ensures done { OnOk result (IsDone request.now.form request.now.command.now
+        request.now.files.now request.now.progress S.honest (S.told shelf.old) (S.told shelf.new)
+        (O.contents out.old) (O.contents out.new) (E.contents err.old) (E.contents err.new)) }
+    ensures fault { IfErr result (λ e. IsFault (Stored S.Receipt (S.is_of N.place) S.Receipt.number
+        S.Receipt.image) (S.refuses N.place) S.honest e (S.told shelf.old) (S.told shelf.new)) }
+    ensures left { IfErr result (λ e. Leaves request.now.form request.now.command.now S.honest e
+        (S.told shelf.old) (S.told shelf.new) (O.contents out.old) (O.contents out.new)) }
     ensures reads { OnlyReads (S.told shelf.old) (S.told shelf.new) }
 {
     let registry = Registry::shared(alloc, records)?;

@@ -2,7 +2,11 @@
 
 ghost use Rattle.std.specs.Prelude.{◌≡◌};
 ghost use Rattle.lsm_directory.specs.DirectoryFault.{fault_text, file_of, number_of, of_open};
-ghost use Rattle.lsm_directory.specs.declared.directory_fault.DirectoryFault.TheVariants.{OutOfMemory, Shelf, Manifest, Tables, Read};
+ghost use Rattle.lsm_directory.specs.declared.directory_fault.DirectoryFault.TheVariants.{OutOfMemory};
+ghost use Rattle.lsm_directory.specs.declared.directory_fault.DirectoryFault.TheVariants.{Shelf};
+ghost use Rattle.lsm_directory.specs.declared.directory_fault.DirectoryFault.TheVariants.{Manifest};
+ghost use Rattle.lsm_directory.specs.declared.directory_fault.DirectoryFault.TheVariants.{Tables};
+ghost use Rattle.lsm_directory.specs.declared.directory_fault.DirectoryFault.TheVariants.{Read};
 
 use crate::refusals::{of_locked, of_manifest, of_read, of_shelf, of_spent, of_tables};
 use lsm_check::CheckFault;

@@ -32,7 +32,8 @@ pub fn hold<C: FolderCalls, R: Wait>(
     kind: LockKind,
 ) -> Result<(), DirectoryFault>
     ensures held { OnOk result (IsHeld kind (C.calls folder.old) (C.calls folder.new)) }
-    ensures refused { IfErr result (λ e. IsUnheld kind e (C.calls folder.old) (C.calls folder.new)) }
+    ensures refused { IfErr result (λ e.
+        IsUnheld kind e (C.calls folder.old) (C.calls folder.new)) }
     ensures place { C.place folder.new ≡ C.place folder.old }
     ensures fault { IfErr result IsFolderFault }
 {

@@ -1,7 +1,9 @@
 //! The write-ahead logs beside the tables, which no command reads.
 
-ghost use Rattle.std.specs.Prelude.{◌≡◌, ◌≢◌, ◌<◌, ◌++◌, ◌∷◌, [], MatchBool, MatchOption, OnOk, decimal, string_bytes};
-ghost use Rattle.lsm_directory.specs.Logs.{AppendsLogs, IsFirstUnread, IsLogName, IsReached, IsUnread, NoneUnread, line_in, log_line, note_line};
+ghost use Rattle.std.specs.Prelude.{◌≡◌, ◌≢◌, ◌<◌, ◌++◌, ◌∷◌, [], MatchBool, MatchOption, OnOk};
+ghost use Rattle.std.specs.Prelude.{decimal, string_bytes};
+ghost use Rattle.lsm_directory.specs.Logs.{AppendsLogs, IsFirstUnread, IsLogName, IsReached};
+ghost use Rattle.lsm_directory.specs.Logs.{IsUnread, NoneUnread, line_in, log_line, note_line};
 
 use crate::file_names::number_before;
 use crate::folder_file::FolderFile;
@@ -11,7 +13,8 @@ use std::alloc::AllocError;
 
 /// Whether LevelDB reads the log of this number.
 fn is_reached(number: u64, log: u64, prev_log: u64) -> bool
-    ensures { MatchBool result (IsReached log prev_log number) ((number < log) × (number ≢ prev_log)) }
+    ensures { MatchBool result (IsReached log prev_log number) ((number < log)
+        × (number ≢ prev_log)) }
 {
     log <= number || number == prev_log
 }
@@ -41,7 +44,8 @@ fn number_unread(file: &FolderFile, log: u64, prev_log: u64) -> Option<u64>
 /// check names. The two numbers are those of the manifest (tags 2 and 9 of LevelDB's
 /// `db/version_edit.cc`).
 pub fn first_unread(files: &[FolderFile], log: u64, prev_log: u64) -> Option<u64>
-    ensures { MatchOption result (NoneUnread log prev_log files.now) (IsFirstUnread log prev_log files.now) }
+    ensures { MatchOption result (NoneUnread log prev_log files.now)
+        (IsFirstUnread log prev_log files.now) }
 {
     for file in files {
         if let Some(number) = number_unread(file, log, prev_log) {
@@ -58,7 +62,8 @@ fn push_file(
     file: &FolderFile,
     between: &[u8],
 ) -> Result<(), AllocError>
-    ensures { OnOk result (out.new.items ≡ out.old.items ++ (before.now ++ (string_bytes file.now.name ++ (between.now ++ decimal file.now.size)))) }
+    ensures { OnOk result (out.new.items ≡ out.old.items
+        ++ (before.now ++ (string_bytes file.now.name ++ (between.now ++ decimal file.now.size)))) }
 {
     out.extend_from_slice(before)?;
     out.extend_from_slice(file.name.as_bytes())?;
@@ -95,7 +100,8 @@ fn push_unread(
     log: u64,
     prev_log: u64,
 ) -> Result<(), AllocError>
-    ensures { OnOk result (AppendsLogs (line_in wording) log prev_log (file.now ∷ []) out.old.items out.new.items) }
+    ensures { OnOk result
+        (AppendsLogs (line_in wording) log prev_log (file.now ∷ []) out.old.items out.new.items) }
 {
     if number_unread(file, log, prev_log).is_none() {
         return Ok(());
@@ -116,7 +122,8 @@ pub(crate) fn push_logs(
     log: u64,
     prev_log: u64,
 ) -> Result<(), AllocError>
-    ensures { OnOk result (AppendsLogs (line_in wording) log prev_log files.now out.old.items out.new.items) }
+    ensures { OnOk result
+        (AppendsLogs (line_in wording) log prev_log files.now out.old.items out.new.items) }
 {
     for file in files {
         push_unread(out, wording, file, log, prev_log)?;

@@ -1,6 +1,7 @@
 //! What a folder tells of its names and logs, and the folder opened for a command that only reads.
 
-ghost use Rattle.std.specs.Prelude.{◌≡◌, ◌∷◌, [], List, ℕ, Err, Ok, IfErr, IfOk, MatchOption, OnOk, map, string_bytes};
+ghost use Rattle.std.specs.Prelude.{◌≡◌, ◌∷◌, [], List, ℕ, Err, Ok, IfErr, IfOk, MatchOption, OnOk};
+ghost use Rattle.std.specs.Prelude.{map, string_bytes};
 ghost use Rattle.std.specs.Cmp.Lexicographic.{slice_cmp};
 ghost use Rattle.std.specs.List.Sorted.{IsPermutation, IsSorted};
 ghost use Rattle.std.specs.Ordering.{nat_cmp};
@@ -12,7 +13,8 @@ ghost use Rattle.lsm_storage.specs.FileShelf.{file_told, folder_of};
 ghost use Rattle.lsm_shelf.specs.Told.{NotNamed, fresh};
 ghost use Rattle.lsm_shelf.specs.declared.shelf_fault.ShelfFault.TheVariants.{OutOfMemory};
 ghost use Rattle.lsm_directory.specs.Holding.{IsFolderFault};
-ghost use Rattle.lsm_directory.specs.Looking.{AddsLog, AsksSizes, BesideStopped, LooksStopped, OnlyLooks, TellsBeside, TellsLogs};
+ghost use Rattle.lsm_directory.specs.Looking.{AddsLog, AsksSizes, BesideStopped, LooksStopped};
+ghost use Rattle.lsm_directory.specs.Looking.{OnlyLooks, TellsBeside, TellsLogs};
 
 use crate::directory_fault::DirectoryFault;
 use crate::folder_file::FolderFile;
@@ -26,7 +28,8 @@ use std::sync::Wait;
 
 /// The names, ascending.
 fn in_order(mut names: Vec<String>) -> Result<Vec<String>, ShelfFault>
-    ensures same { IfOk result (λ v. IsPermutation (map string_bytes names.items) (map string_bytes v.items)) }
+    ensures same { IfOk result (λ v.
+        IsPermutation (map string_bytes names.items) (map string_bytes v.items)) }
     ensures ascending { IfOk result (λ v. IsSorted (slice_cmp nat_cmp) (map string_bytes v.items)) }
     ensures memory { IfErr result (λ e. e ≡ OutOfMemory) }
 {
@@ -43,7 +46,9 @@ pub fn folder_names<C: FolderCalls, R: Wait>(
     alloc: Global,
     folder: &mut C,
 ) -> Result<Vec<String>, ShelfFault>
-    ensures listed { IfOk result (λ v. (names : List (List ℕ)) × (C.calls folder.new ≡ listed (Ok names) ∷ C.calls folder.old) × IsPermutation names (map string_bytes v.items)) }
+    ensures listed { IfOk result (λ v. (names : List (List ℕ))
+        × (C.calls folder.new ≡ listed (Ok names) ∷ C.calls folder.old)
+        × IsPermutation names (map string_bytes v.items)) }
     ensures ascending { IfOk result (λ v. IsSorted (slice_cmp nat_cmp) (map string_bytes v.items)) }
     ensures refused { IfErr result (λ e. LooksStopped e (C.calls folder.old) (C.calls folder.new)) }
     ensures looked { OnlyLooks (C.calls folder.old) (C.calls folder.new) }
@@ -86,7 +91,8 @@ fn add_log<C: FolderCalls, R: Wait>(
     files: &mut Vec<FolderFile>,
     name: String,
 ) -> Result<(), ShelfFault>
-    ensures added { OnOk result (AddsLog (string_bytes name) files.old.items files.new.items (C.calls folder.old) (C.calls folder.new)) }
+    ensures added { OnOk result (AddsLog (string_bytes name) files.old.items files.new.items
+        (C.calls folder.old) (C.calls folder.new)) }
     ensures refused { IfErr result (λ e. LooksStopped e (C.calls folder.old) (C.calls folder.new)) }
     ensures looked { OnlyLooks (C.calls folder.old) (C.calls folder.new) }
     ensures place { C.place folder.new ≡ C.place folder.old }
@@ -113,7 +119,8 @@ pub fn logs_among<C: FolderCalls, R: Wait>(
     folder: &mut C,
     names: Vec<String>,
 ) -> Result<Vec<FolderFile>, ShelfFault>
-    ensures told { IfOk result (λ files. AsksSizes (map string_bytes names.items) files.items (C.calls folder.old) (C.calls folder.new)) }
+    ensures told { IfOk result (λ files. AsksSizes (map string_bytes names.items) files.items
+        (C.calls folder.old) (C.calls folder.new)) }
     ensures refused { IfErr result (λ e. LooksStopped e (C.calls folder.old) (C.calls folder.new)) }
     ensures looked { OnlyLooks (C.calls folder.old) (C.calls folder.new) }
     ensures place { C.place folder.new ≡ C.place folder.old }
@@ -134,7 +141,8 @@ pub fn log_files<C: FolderCalls, R: Wait>(
     alloc: Global,
     folder: &mut C,
 ) -> Result<Vec<FolderFile>, ShelfFault>
-    ensures told { IfOk result (λ files. TellsLogs files.items (C.calls folder.old) (C.calls folder.new)) }
+    ensures told { IfOk result (λ files.
+        TellsLogs files.items (C.calls folder.old) (C.calls folder.new)) }
     ensures refused { IfErr result (λ e. LooksStopped e (C.calls folder.old) (C.calls folder.new)) }
     ensures looked { OnlyLooks (C.calls folder.old) (C.calls folder.new) }
     ensures place { C.place folder.new ≡ C.place folder.old }
@@ -153,8 +161,10 @@ pub fn files_beside<C: FolderCalls, R: Wait>(
     alloc: Global,
     folder: &mut C,
 ) -> Result<Vec<FolderFile>, DirectoryFault>
-    ensures told { IfOk result (λ files. TellsBeside files.items (C.calls folder.old) (C.calls folder.new)) }
-    ensures refused { IfErr result (λ e. BesideStopped e (C.calls folder.old) (C.calls folder.new)) }
+    ensures told { IfOk result (λ files.
+        TellsBeside files.items (C.calls folder.old) (C.calls folder.new)) }
+    ensures refused { IfErr result (λ e.
+        BesideStopped e (C.calls folder.old) (C.calls folder.new)) }
     ensures place { C.place folder.new ≡ C.place folder.old }
     ensures fault { IfErr result IsFolderFault }
 {
@@ -177,9 +187,11 @@ pub fn open_folder<R: Files<File = File> + AllocGlobal + Clone + Drop, W: Wait>(
     path: &str,
     reasons: &Reasons,
 ) -> Result<(SystemShelf<R>, Vec<FolderFile>), DirectoryFault>
-    ensures told { IfOk result (λ o. TellsBeside o.1.items (opened ∷ []) (system_calls (folder_of o.0))) }
+    ensures told { IfOk result (λ o.
+        TellsBeside o.1.items (opened ∷ []) (system_calls (folder_of o.0))) }
     ensures place { IfOk result (λ o. IsAtPath path.now (system_place (folder_of o.0))) }
-    ensures fresh { IfOk result (λ o. file_told system_place o.0 ≡ fresh (system_place (folder_of o.0))) }
+    ensures fresh { IfOk result (λ o.
+        file_told system_place o.0 ≡ fresh (system_place (folder_of o.0))) }
     ensures fault { IfErr result IsFolderFault }
 {
     let alloc = rt.alloc();

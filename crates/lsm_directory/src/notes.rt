@@ -21,8 +21,10 @@ fn write_notes<E: Write>(
     prev_log: u64,
     err: &mut E,
 ) -> io::Result<()>
-    ensures written { OnOk result (WritesNotes log prev_log files.now (E.contents err.old) (E.contents err.new)) }
-    ensures quiet { NoneUnread log prev_log files.now → Keeps (E.contents err.old) (E.contents err.new) }
+    ensures written { OnOk result
+        (WritesNotes log prev_log files.now (E.contents err.old) (E.contents err.new)) }
+    ensures quiet { NoneUnread log prev_log files.now
+        → Keeps (E.contents err.old) (E.contents err.new) }
 {
     let mut text = Vec::new(alloc);
     push_logs(&mut text, Wording::Noted, files, log, prev_log)?;
@@ -44,7 +46,8 @@ pub(crate) fn tell_notes<E: Write>(
     prev_log: u64,
     err: &mut E,
 )
-    ensures quiet { HasNoNote command.now log prev_log files.now → Keeps (E.contents err.old) (E.contents err.new) }
+    ensures quiet { HasNoNote command.now log prev_log files.now
+        → Keeps (E.contents err.old) (E.contents err.new) }
 {
     match command {
         DirectoryCommand::Check => {}

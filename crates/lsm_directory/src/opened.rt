@@ -35,8 +35,11 @@ pub fn open<N: Naming, S: Shelf, R: Wait>(
     registry: &Arc<Registry<N, S>>,
 ) -> Result<Opened<N, S>, DirectoryFault>
     requires here { (S.told shelf.old).place ≡ N.place }
-    ensures opened { IfOk result (λ o. Holds S.honest (S.told shelf.old) (S.told shelf.new) o.version o.rest o.log o.prev_log) }
-    ensures refused { IfErr result (λ e. IsOpenRefusal (Stored S.Receipt (S.is_of N.place) S.Receipt.number S.Receipt.image) (S.refuses N.place) S.honest e (S.told shelf.old) (S.told shelf.new)) }
+    ensures opened { IfOk result (λ o.
+        Holds S.honest (S.told shelf.old) (S.told shelf.new) o.version o.rest o.log o.prev_log) }
+    ensures refused { IfErr result (λ e.
+        IsOpenRefusal (Stored S.Receipt (S.is_of N.place) S.Receipt.number S.Receipt.image)
+        (S.refuses N.place) S.honest e (S.told shelf.old) (S.told shelf.new)) }
     ensures reads { OnlyReads (S.told shelf.old) (S.told shelf.new) }
     ensures place { (S.told shelf.new).place ≡ N.place }
 {

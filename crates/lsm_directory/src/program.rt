@@ -6,7 +6,8 @@ ghost use Rattle.lsm_shelf.specs.Stored.{Stored};
 ghost use Rattle.lsm_storage.specs.FileNames.{table_name};
 ghost use Rattle.lsm_directory.specs.Answers.{IsDone, IsRefused};
 ghost use Rattle.lsm_directory.specs.Directory.{OnlyReads};
-ghost use Rattle.lsm_directory.specs.DirectoryFault.{fault_line, fault_text, file_of, named_in, names_files};
+ghost use Rattle.lsm_directory.specs.DirectoryFault.{fault_line, fault_text, file_of, named_in};
+ghost use Rattle.lsm_directory.specs.DirectoryFault.{names_files};
 
 use crate::commands::perform;
 use crate::directory_fault::DirectoryFault;
@@ -22,21 +23,24 @@ use std::sync::Wait;
 
 /// Writes the line of a fault.
 fn write_fault<E: Write>(err: &mut E, fault: &DirectoryFault) -> io::Result<()>
-    ensures { OnOk result (IfSome (fault_text fault.now) (λ text. Appends (E.contents err.old) (E.contents err.new) (text ++ (10 ∷ [])))) }
+    ensures { OnOk result (IfSome (fault_text fault.now) (λ text.
+        Appends (E.contents err.old) (E.contents err.new) (text ++ (10 ∷ [])))) }
 {
     writeln!(err, "{fault}")
 }
 
 /// Writes the text of a fault.
 fn write_text<E: Write>(err: &mut E, fault: &DirectoryFault) -> io::Result<()>
-    ensures { OnOk result (IfSome (fault_text fault.now) (λ text. Appends (E.contents err.old) (E.contents err.new) text)) }
+    ensures { OnOk result (IfSome (fault_text fault.now) (λ text.
+        Appends (E.contents err.old) (E.contents err.new) text)) }
 {
     write!(err, "{fault}")
 }
 
 /// Ends the line of a fault of this file's table.
 fn write_file<E: Write>(err: &mut E, number: u64) -> io::Result<()>
-    ensures { OnOk result (Appends (E.contents err.old) (E.contents err.new) (codes " in " ++ (table_name number ++ (10 ∷ [])))) }
+    ensures { OnOk result (Appends (E.contents err.old) (E.contents err.new)
+        (codes " in " ++ (table_name number ++ (10 ∷ [])))) }
 {
     err.write_all(b" in ")?;
     write_table(err, number)
@@ -44,7 +48,8 @@ fn write_file<E: Write>(err: &mut E, number: u64) -> io::Result<()>
 
 /// Writes the line of a fault of this file's table.
 fn write_in_file<E: Write>(err: &mut E, fault: &DirectoryFault, number: u64) -> io::Result<()>
-    ensures { OnOk result (IfSome (fault_text fault.now) (λ text. Appends (E.contents err.old) (E.contents err.new) (text ++ (codes " in " ++ (table_name number ++ (10 ∷ [])))))) }
+    ensures { OnOk result (IfSome (fault_text fault.now) (λ text. Appends (E.contents err.old)
+        (E.contents err.new) (text ++ (codes " in " ++ (table_name number ++ (10 ∷ [])))))) }
 {
     write_text(err, fault)?;
     write_file(err, number)
@@ -63,7 +68,8 @@ fn named_in(fault: &DirectoryFault, names_files: bool) -> Option<u64>
 /// Writes the line of a fault. Where it is asked to, it names the file of which a table is refused.
 #[tactic(auto, using(crate::proofs::Outcomes::told_plain, crate::proofs::Outcomes::told_named))]
 fn write_named<E: Write>(err: &mut E, fault: &DirectoryFault, names_files: bool) -> io::Result<()>
-    ensures { OnOk result (IfSome (fault_line names_files fault.now) (λ line. Appends (E.contents err.old) (E.contents err.new) line)) }
+    ensures { OnOk result (IfSome (fault_line names_files fault.now) (λ line.
+        Appends (E.contents err.old) (E.contents err.new) line)) }
 {
     match named_in(fault, names_files) {
         Some(number) => write_in_file(err, fault, number),
@@ -71,8 +77,8 @@ fn write_named<E: Write>(err: &mut E, fault: &DirectoryFault, names_files: bool)
     }
 }
 
-/// Writes the line of a fault, and what stands behind it: what it means, where the line did not name
-/// the file whose table is refused, and what the system answered; and flushes.
+/// Writes the line of a fault, and what stands behind it: what it means, where the line did not
+/// name the file whose table is refused, and what the system answered; and flushes.
 fn tell<E: Write>(
     err: &mut E,
     fault: &DirectoryFault,
@@ -109,8 +115,13 @@ fn begin<S: Shelf, R: Wait, O: Write, E: Write>(
     out: &mut O,
     err: &mut E,
 ) -> Result<(), DirectoryFault>
-    ensures done { OnOk result (IsDone request.now.form request.now.command.now request.now.files.now request.now.progress S.honest (S.told shelf.old) (S.told shelf.new) (O.contents out.old) (O.contents out.new) (E.contents err.old) (E.contents err.new)) }
-    ensures refused { IfErr result (λ e. IsRefused request.now.form request.now.command.now e (Stored S.Receipt (S.is_of (S.told shelf.old).place) S.Receipt.number S.Receipt.image) (S.refuses (S.told shelf.old).place) S.honest (S.told shelf.old) (S.told shelf.new) (O.contents out.old) (O.contents out.new)) }
+    ensures done { OnOk result (IsDone request.now.form request.now.command.now
+        request.now.files.now request.now.progress S.honest (S.told shelf.old) (S.told shelf.new)
+        (O.contents out.old) (O.contents out.new) (E.contents err.old) (E.contents err.new)) }
+    ensures refused { IfErr result (λ e. IsRefused request.now.form request.now.command.now e
+        (Stored S.Receipt (S.is_of (S.told shelf.old).place) S.Receipt.number S.Receipt.image)
+        (S.refuses (S.told shelf.old).place) S.honest (S.told shelf.old) (S.told shelf.new)
+        (O.contents out.old) (O.contents out.new)) }
     ensures reads { OnlyReads (S.told shelf.old) (S.told shelf.new) }
 {
     let records = Records::new(alloc)?;
@@ -130,8 +141,14 @@ pub fn run<S: Shelf, R: Wait, O: Write, E: Write>(
     out: &mut O,
     err: &mut E,
 ) -> u8
-    ensures done { result ≡ 0 → IsDone request.now.form request.now.command.now request.now.files.now request.now.progress S.honest (S.told shelf.old) (S.told shelf.new) (O.contents out.old) (O.contents out.new) (E.contents err.old) (E.contents err.new) }
-    ensures refused { result ≢ 0 → (result ≡ 1) × ((fault : DirectoryFault) × IsRefused request.now.form request.now.command.now fault (Stored S.Receipt (S.is_of (S.told shelf.old).place) S.Receipt.number S.Receipt.image) (S.refuses (S.told shelf.old).place) S.honest (S.told shelf.old) (S.told shelf.new) (O.contents out.old) (O.contents out.new)) }
+    ensures done { result ≡ 0 → IsDone request.now.form request.now.command.now
+        request.now.files.now request.now.progress S.honest (S.told shelf.old) (S.told shelf.new)
+        (O.contents out.old) (O.contents out.new) (E.contents err.old) (E.contents err.new) }
+    ensures refused { result ≢ 0 → (result ≡ 1)
+        × ((fault : DirectoryFault) × IsRefused request.now.form request.now.command.now fault
+        (Stored S.Receipt (S.is_of (S.told shelf.old).place) S.Receipt.number S.Receipt.image)
+        (S.refuses (S.told shelf.old).place) S.honest (S.told shelf.old) (S.told shelf.new)
+        (O.contents out.old) (O.contents out.new)) }
     ensures reads { OnlyReads (S.told shelf.old) (S.told shelf.new) }
 {
     let done = begin(rt, alloc, shelf, request, out, err);

@@ -18,14 +18,16 @@ pub(crate) struct Progress {
 
 /// Writes a line: `scanned 200000 keys`.
 fn write_keys<E: Write>(err: &mut E, keys: u64) -> io::Result<()>
-    ensures { OnOk result (Appends (E.contents err.old) (E.contents err.new) (codes "scanned " ++ (decimal keys ++ codes " keys\n"))) }
+    ensures { OnOk result (Appends (E.contents err.old) (E.contents err.new)
+        (codes "scanned " ++ (decimal keys ++ codes " keys\n"))) }
 {
     writeln!(err, "scanned {keys} keys")
 }
 
 /// Writes a line: `checked 3 of 17 files`.
 fn write_files<E: Write>(err: &mut E, done: u64, all: u64) -> io::Result<()>
-    ensures { OnOk result (Appends (E.contents err.old) (E.contents err.new) (codes "checked " ++ (decimal done ++ (codes " of " ++ (decimal all ++ codes " files\n"))))) }
+    ensures { OnOk result (Appends (E.contents err.old) (E.contents err.new) (codes "checked "
+        ++ (decimal done ++ (codes " of " ++ (decimal all ++ codes " files\n"))))) }
 {
     writeln!(err, "checked {done} of {all} files")
 }

@@ -3,7 +3,8 @@
 ghost use Rattle.std.specs.Prelude.{◌≡◌, None, codes};
 ghost use Rattle.std.specs.Option.{option_map};
 ghost use Rattle.lsm_commands.specs.FaultText.{refusal_text};
-ghost use Rattle.lsm_directory.specs.DirectoryFault.{check_text, read_text, recover_text, replay_text, shelf_text};
+ghost use Rattle.lsm_directory.specs.DirectoryFault.{check_text, read_text, recover_text};
+ghost use Rattle.lsm_directory.specs.DirectoryFault.{replay_text, shelf_text};
 
 use lsm_check::CheckFault;
 use lsm_commands::Refusal;
@@ -67,7 +68,8 @@ pub(crate) fn of_read(fault: ReadFault) -> Refusal
 
 /// A refusal of tables that are no version; none where it names a key.
 pub(crate) fn of_tables(fault: &CheckFault) -> Option<Refusal>
-    ensures { option_map (λ r. refusal_text r.number r.name.now r.field) result ≡ check_text fault.now }
+    ensures { option_map (λ r. refusal_text r.number r.name.now r.field) result
+        ≡ check_text fault.now }
 {
     let field = match fault {
         CheckFault::Read(_, fault) => return Some(of_read(*fault)),
@@ -84,7 +86,8 @@ pub(crate) fn of_tables(fault: &CheckFault) -> Option<Refusal>
 
 /// The refusal where a number is the last one.
 pub(crate) fn of_spent() -> Refusal
-    ensures { refusal_text result.number result.name.now result.field ≡ refusal_text 46 (codes "NumbersSpent") None }
+    ensures { refusal_text result.number result.name.now result.field
+        ≡ refusal_text 46 (codes "NumbersSpent") None }
 {
     Refusal {
         number: 46,
@@ -95,7 +98,8 @@ pub(crate) fn of_spent() -> Refusal
 
 /// The refusal where another program holds the lock.
 pub(crate) fn of_locked() -> Refusal
-    ensures { refusal_text result.number result.name.now result.field ≡ refusal_text 52 (codes "Locked") None }
+    ensures { refusal_text result.number result.name.now result.field
+        ≡ refusal_text 52 (codes "Locked") None }
 {
     Refusal {
         number: 52,

@@ -4,7 +4,8 @@ ghost use Rattle.std.specs.Prelude.{◌≡◌, ◌≢◌, ◌++◌, IfErr, IfOk,
 ghost use Rattle.std.specs.Io.KnownBytes.{Appends, Keeps};
 ghost use Rattle.lsm_table.specs.Told.{Becomes};
 ghost use Rattle.lsm_levels.specs.Scanning.{UsersAscend};
-ghost use Rattle.lsm_directory.specs.Scanned.{BeginsPrinting, LeavesScan, PrintsNext, PrintsScan, pair_line, scan_text};
+ghost use Rattle.lsm_directory.specs.Scanned.{BeginsPrinting, LeavesScan, PrintsNext, PrintsScan};
+ghost use Rattle.lsm_directory.specs.Scanned.{pair_line, scan_text};
 ghost use Rattle.lsm_directory.specs.ReadFault.{IsAnswerFault, IsOutputFault};
 ghost use Rattle.lsm_directory.specs.declared.directory_fault.DirectoryFault.TheVariants.{Write as WriteFault};
 
@@ -39,8 +40,10 @@ fn print_pair<O: Write>(
     value: &[u8],
     out: &mut O,
 ) -> Result<(), DirectoryFault>
-    ensures printed { OnOk result (Appends (O.contents out.old) (O.contents out.new) (pair_line form (user.now, value.now))) }
-    ensures left { IfErr result (λ e. e ≢ WriteFault → Keeps (O.contents out.old) (O.contents out.new)) }
+    ensures printed { OnOk result
+        (Appends (O.contents out.old) (O.contents out.new) (pair_line form (user.now, value.now))) }
+    ensures left { IfErr result (λ e. e ≢ WriteFault
+        → Keeps (O.contents out.old) (O.contents out.new)) }
     ensures fault { IfErr result IsOutputFault }
 {
     line.clear();
@@ -62,9 +65,12 @@ fn print_next<N: Naming, S: Shelf, B: Blocks<S>, O: Write>(
 ) -> Result<bool, DirectoryFault>
     requires here { (B.told blocks.old).place ≡ N.place }
     requires ascending { S.honest → UsersAscend scan.old.left }
-    ensures next { S.honest → IfOk result (λ more. PrintsNext form more bounds.now scan.old.left scan.new.left (O.contents out.old) (O.contents out.new)) }
-    ensures left { IfErr result (λ e. e ≢ WriteFault → Keeps (O.contents out.old) (O.contents out.new)) }
-    ensures fault { IfErr result (λ e. IsAnswerFault S.honest e (B.told blocks.old) (B.told blocks.new)) }
+    ensures next { S.honest → IfOk result (λ more. PrintsNext form more bounds.now scan.old.left
+        scan.new.left (O.contents out.old) (O.contents out.new)) }
+    ensures left { IfErr result (λ e. e ≢ WriteFault
+        → Keeps (O.contents out.old) (O.contents out.new)) }
+    ensures fault { IfErr result (λ e.
+        IsAnswerFault S.honest e (B.told blocks.old) (B.told blocks.new)) }
     ensures told { Becomes (B.told blocks.old) (B.told blocks.new) }
     ensures loan { B.loan blocks.new ≡ B.loan blocks.old }
 {
@@ -96,9 +102,12 @@ fn print_pairs<N: Naming, S: Shelf, B: Blocks<S>, O: Write, E: Write>(
 ) -> Result<(), DirectoryFault>
     requires here { (B.told blocks.old).place ≡ N.place }
     requires ascending { S.honest → UsersAscend scan.old.left }
-    ensures done { S.honest → OnOk result (Appends (O.contents out.old) (O.contents out.new) (scan_text form bounds.now scan.old.left)) }
-    ensures left { S.honest → IfErr result (λ e. e ≢ WriteFault → BeginsPrinting form bounds.now scan.old.left (O.contents out.old) (O.contents out.new)) }
-    ensures fault { IfErr result (λ e. IsAnswerFault S.honest e (B.told blocks.old) (B.told blocks.new)) }
+    ensures done { S.honest → OnOk result (Appends (O.contents out.old) (O.contents out.new)
+        (scan_text form bounds.now scan.old.left)) }
+    ensures left { S.honest → IfErr result (λ e. e ≢ WriteFault
+        → BeginsPrinting form bounds.now scan.old.left (O.contents out.old) (O.contents out.new)) }
+    ensures fault { IfErr result (λ e.
+        IsAnswerFault S.honest e (B.told blocks.old) (B.told blocks.new)) }
     ensures told { Becomes (B.told blocks.old) (B.told blocks.new) }
     ensures loan { B.loan blocks.new ≡ B.loan blocks.old }
     ensures quiet { IsFalse progress → Keeps (E.contents err.old) (E.contents err.new) }
@@ -127,9 +136,12 @@ fn print_open<N: Naming, S: Shelf, O: Write, E: Write>(
 ) -> Result<(), DirectoryFault>
     requires here { (S.told shelf.old).place ≡ N.place }
     requires ascending { S.honest → UsersAscend scan.old.left }
-    ensures done { S.honest → OnOk result (Appends (O.contents out.old) (O.contents out.new) (scan_text form bounds.now scan.old.left)) }
-    ensures left { S.honest → IfErr result (λ e. e ≢ WriteFault → BeginsPrinting form bounds.now scan.old.left (O.contents out.old) (O.contents out.new)) }
-    ensures fault { IfErr result (λ e. IsAnswerFault S.honest e (S.told shelf.old) (S.told shelf.new)) }
+    ensures done { S.honest → OnOk result (Appends (O.contents out.old) (O.contents out.new)
+        (scan_text form bounds.now scan.old.left)) }
+    ensures left { S.honest → IfErr result (λ e. e ≢ WriteFault
+        → BeginsPrinting form bounds.now scan.old.left (O.contents out.old) (O.contents out.new)) }
+    ensures fault { IfErr result (λ e.
+        IsAnswerFault S.honest e (S.told shelf.old) (S.told shelf.new)) }
     ensures told { Becomes (S.told shelf.old) (S.told shelf.new) }
     ensures quiet { IsFalse progress → Keeps (E.contents err.old) (E.contents err.new) }
 {
@@ -153,9 +165,12 @@ pub(crate) fn print_scan<N: Naming, S: Shelf, O: Write, E: Write>(
     err: &mut E,
 ) -> Result<(), DirectoryFault>
     requires here { (S.told shelf.old).place ≡ N.place }
-    ensures done { S.honest → OnOk result (PrintsScan form bounds.now version.now (O.contents out.old) (O.contents out.new)) }
-    ensures left { IfErr result (λ e. e ≢ WriteFault → LeavesScan form bounds.now S.honest version.now (O.contents out.old) (O.contents out.new)) }
-    ensures fault { IfErr result (λ e. IsAnswerFault S.honest e (S.told shelf.old) (S.told shelf.new)) }
+    ensures done { S.honest → OnOk result
+        (PrintsScan form bounds.now version.now (O.contents out.old) (O.contents out.new)) }
+    ensures left { IfErr result (λ e. e ≢ WriteFault → LeavesScan form bounds.now S.honest
+        version.now (O.contents out.old) (O.contents out.new)) }
+    ensures fault { IfErr result (λ e.
+        IsAnswerFault S.honest e (S.told shelf.old) (S.told shelf.new)) }
     ensures told { Becomes (S.told shelf.old) (S.told shelf.new) }
     ensures quiet { IsFalse progress → Keeps (E.contents err.old) (E.contents err.new) }
 {

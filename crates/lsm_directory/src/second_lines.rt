@@ -18,7 +18,8 @@ fn write_number<E: Write>(err: &mut E, number: u64) -> io::Result<()>
 
 /// Writes the end of a line, the name of a table's file.
 pub(crate) fn write_table<E: Write>(err: &mut E, number: u64) -> io::Result<()>
-    ensures { OnOk result (Appends (E.contents err.old) (E.contents err.new) (table_name number ++ (10 ∷ []))) }
+    ensures { OnOk result
+        (Appends (E.contents err.old) (E.contents err.new) (table_name number ++ (10 ∷ []))) }
 {
     write_number(err, number)?;
     err.write_all(b".ldb\n")
@@ -55,8 +56,8 @@ pub(crate) fn write_reason_of<E: Write>(
     }
 }
 
-/// Writes what a fault means, on a line of its own, where there is more to say: that another program
-/// has the folder open, or the file whose table is refused.
+/// Writes what a fault means, on a line of its own, where there is more to say: that another
+/// program has the folder open, or the file whose table is refused.
 pub(crate) fn write_meaning<E: Write>(err: &mut E, fault: &DirectoryFault) -> io::Result<()> {
     if let DirectoryFault::Locked = fault {
         return err.write_all(b"another program has the folder open\n");

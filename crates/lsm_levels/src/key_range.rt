@@ -51,7 +51,8 @@ impl<'a> Model for KeyRange<'a> {
 impl<'a> KeyRange<'a> {
     /// The range of a file with these keys.
     pub fn new(smallest: KeyRef<'a>, largest: KeyRef<'a>) -> KeyRange<'a>
-        ensures { result ≡ record { smallest = key_of smallest.entry; largest = key_of largest.entry } }
+        ensures { result
+            ≡ record { smallest = key_of smallest.entry; largest = key_of largest.entry } }
     {
         KeyRange { smallest, largest }
     }

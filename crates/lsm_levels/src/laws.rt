@@ -84,7 +84,8 @@ pub fn plan_opens_its_job()
 /// entries. Pieces of them, cut between user keys, are what the outputs of a merge have to be.
 pub fn streaming_keeps_the_kept()
     ensures stream { (floor : ℕ) (ranges : List (UserKey × UserKey)) (merged : List Entry)
-        → IsAscending merged → streamed floor ranges None merged ≡ kept_entries merged floor ranges }
+        → IsAscending merged
+        → streamed floor ranges None merged ≡ kept_entries merged floor ranges }
     ensures pieces { (level floor : ℕ) (merged es : List Entry)
         (ranges : List (UserKey × UserKey)) (outs : List File) → IsMerge merged es
         → IsCut level (kept_entries merged floor ranges) outs

@@ -1,6 +1,7 @@
 //! Making a board.
 
-ghost use Rattle.std.specs.Prelude.{◌≡◌, ◌+◌, ◌*◌, ◌^◌, ◌<◌, ◌≤◌, ◌∷◌, ◌-◌, All, IfOk, Some, None, length, replicate, vec_len};
+ghost use Rattle.std.specs.Prelude.{◌≡◌, ◌+◌, ◌*◌, ◌^◌, ◌<◌, ◌≤◌, ◌∷◌, ◌-◌, All, IfOk, Some, None};
+ghost use Rattle.std.specs.Prelude.{length, replicate, vec_len};
 ghost use Rattle.lsm_pins.specs.SlotRecord.{first_records};
 ghost use Rattle.lsm_pins.specs.View.{after_making, slot_ids};
 ghost use Rattle.lsm_pins.specs.Made.{IsNewPinner};
@@ -29,9 +30,11 @@ impl Board {
         requires readers { (0 < readers) × (readers ≤ 62) }
         requires slots { (readers + 2 ≤ slots) × (slots ≤ 64) }
         ensures publisher { IfOk result (λ r. r.0.knows ≡ after_making slots 0 readers) }
-        ensures slots { IfOk result (λ r. slot_ids r.0.knows ≡ Some 0 ∷ replicate (slots - 1) None) }
+        ensures slots { IfOk result (λ r.
+            slot_ids r.0.knows ≡ Some 0 ∷ replicate (slots - 1) None) }
         ensures few { IfOk result (λ r. length (slot_ids r.0.knows) ≤ 64) }
-        ensures pinners { IfOk result (λ r. (vec_len r.1 ≡ readers) × All (IsNewPinner r.0.board slots 0) r.1.items) }
+        ensures pinners { IfOk result (λ r. (vec_len r.1 ≡ readers)
+            × All (IsNewPinner r.0.board slots 0) r.1.items) }
     {
         Board::new_at(alloc, readers, slots, 0)
     }
@@ -47,9 +50,11 @@ impl Board {
         requires slots { (readers + 2 ≤ slots) × (slots ≤ 64) }
         requires id { id < 2 ^ 28 }
         ensures publisher { IfOk result (λ r. r.0.knows ≡ after_making slots id readers) }
-        ensures slots { IfOk result (λ r. slot_ids r.0.knows ≡ Some id ∷ replicate (slots - 1) None) }
+        ensures slots { IfOk result (λ r.
+            slot_ids r.0.knows ≡ Some id ∷ replicate (slots - 1) None) }
         ensures few { IfOk result (λ r. length (slot_ids r.0.knows) ≤ 64) }
-        ensures pinners { IfOk result (λ r. (vec_len r.1 ≡ readers) × All (IsNewPinner r.0.board slots id) r.1.items) }
+        ensures pinners { IfOk result (λ r. (vec_len r.1 ≡ readers)
+            × All (IsNewPinner r.0.board slots id) r.1.items) }
     {
         let records = first_records(alloc, slots, id)?;
         let mut pinners = Vec::with_capacity(alloc, readers)?;

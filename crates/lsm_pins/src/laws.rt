@@ -2,7 +2,8 @@
 //! look, learn, cut, join or check in whatever order: of every state of the words and the views
 //! that the rule allows.
 
-ghost use Rattle.lsm_pins.specs.Laws.{IsLaw, BoardLaw, HeldIsNotFree, MissedIsHeld, EachStartHasAState, APinOutlivesItsVersion, NoLawIsAbsurd};
+ghost use Rattle.lsm_pins.specs.Laws.{IsLaw, BoardLaw, HeldIsNotFree, MissedIsHeld};
+ghost use Rattle.lsm_pins.specs.Laws.{EachStartHasAState, APinOutlivesItsVersion, NoLawIsAbsurd};
 
 /// The head has the publisher's slot and id, and that slot is in use; the pins of each slot are
 /// those that were given back and those that views hold; no view has seen a greater id than the

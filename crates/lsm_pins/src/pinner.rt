@@ -1,10 +1,12 @@
 //! A reader's end of a board.
 
-ghost use Rattle.std.specs.Prelude.{◌≡◌, ℕ, ◌+◌, ◌^◌, ◌<◌, ◌≤◌, ◌↔◌, [], None, Some, IfOk, OnErr, IsErr, IsSome};
+ghost use Rattle.std.specs.Prelude.{◌≡◌, ℕ, ◌+◌, ◌^◌, ◌<◌, ◌≤◌, ◌↔◌, [], None, Some, IfOk, OnErr};
+ghost use Rattle.std.specs.Prelude.{IsErr, IsSome};
 ghost use Rattle.std.specs.Arc.{arc_value};
 ghost use Rattle.lsm_pins.specs.Pinner.{IsPinnersView};
 ghost use Rattle.lsm_pins.specs.Rule.{KnowsPin};
-ghost use Rattle.lsm_pins.specs.View.{IsCopy, copied_view, learnt_view, noted_view, pinned_view, slot_ids, told_view, unpinned_view};
+ghost use Rattle.lsm_pins.specs.View.{IsCopy, copied_view, learnt_view, noted_view, pinned_view};
+ghost use Rattle.lsm_pins.specs.View.{slot_ids, told_view, unpinned_view};
 
 use crate::head::Head;
 use crate::pin_fault::PinFault;
@@ -48,7 +50,8 @@ impl Pinner {
         requires { self.old.knows.held ≡ None }
         ensures board { self.new.board ≡ self.old.board }
         ensures pinned { IfOk result (λ r. self.new.knows ≡ pinned_view self.old.knows r.0 r.1) }
-        ensures later { IfOk result (λ r. (self.old.knows.id ≤ r.0) × (r.1 < self.old.knows.slots)) }
+        ensures later { IfOk result (λ r. (self.old.knows.id ≤ r.0)
+            × (r.1 < self.old.knows.slots)) }
         ensures spent { IsErr result ↔ (self.old.knows.count ≡ 2 ^ 24) }
         ensures err { OnErr result (self.new.knows ≡ self.old.knows) }
     {
@@ -87,9 +90,12 @@ impl Pinner {
     /// pins.
     pub fn learn(&mut self, publisher: &mut Publisher) -> (u32, u8)
         requires { self.old.board ≡ publisher.old.board }
-        ensures boards { (self.new.board ≡ self.old.board) × (publisher.new.board ≡ publisher.old.board) }
-        ensures current { (result.0 ≡ publisher.old.knows.id) × (result.1 ≡ publisher.old.knows.slot) }
-        ensures learnt { self.new.knows ≡ learnt_view (told_view self.old.knows publisher.old.knows) result.0 result.1 }
+        ensures boards { (self.new.board ≡ self.old.board)
+            × (publisher.new.board ≡ publisher.old.board) }
+        ensures current { (result.0 ≡ publisher.old.knows.id)
+            × (result.1 ≡ publisher.old.knows.slot) }
+        ensures learnt { self.new.knows
+            ≡ learnt_view (told_view self.old.knows publisher.old.knows) result.0 result.1 }
         ensures publisher { publisher.new.knows ≡ noted_view publisher.old.knows self.new.knows }
         ensures slots { slot_ids publisher.new.knows ≡ slot_ids publisher.old.knows }
     {
@@ -105,7 +111,8 @@ impl Pinner {
     pub(crate) fn copy(&mut self) -> Seat<(), View>
         ensures board { (self.new.board ≡ self.old.board) × (result.table_id ≡ self.old.board) }
         ensures same { self.new.knows ≡ self.old.knows }
-        ensures copy { (result.me.0 ≡ copied_view self.old.knows) × (result.me.1 ≡ []) × IsCopy result.me.0 }
+        ensures copy { (result.me.0 ≡ copied_view self.old.knows) × (result.me.1 ≡ [])
+            × IsCopy result.me.0 }
         ensures earlier { (i s : ℕ) → self.old.knows.held ≡ Some (i, s) → i ≤ self.old.knows.id }
     {
         self.board.shared.split_seat::<Copies>(&mut self.seat)

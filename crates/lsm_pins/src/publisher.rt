@@ -1,9 +1,12 @@
 //! The publisher's end of a board.
 
-ghost use Rattle.std.specs.Prelude.{◌≡◌, ◌≢◌, ℕ, ◌+◌, ◌-◌, ◌^◌, ◌<◌, ◌≤◌, ◌↔◌, [], None, Some, length, slice_set, if◌then◌else◌, is_some, IfOk, IfSome, OnErr, IsErr, IsTrue};
+ghost use Rattle.std.specs.Prelude.{◌≡◌, ◌≢◌, ℕ, ◌+◌, ◌-◌, ◌^◌, ◌<◌, ◌≤◌, ◌↔◌, [], None, Some};
+ghost use Rattle.std.specs.Prelude.{length, slice_set, if◌then◌else◌, is_some, IfOk, IfSome, OnErr};
+ghost use Rattle.std.specs.Prelude.{IsErr, IsTrue};
 ghost use Rattle.std.specs.Arc.{arc_value};
 ghost use Rattle.lsm_pins.specs.Publisher.{IsPublishersView};
-ghost use Rattle.lsm_pins.specs.View.{HasId, IsCopy, IsFree, copied_view, is_unheld, looked_view, noted_view, published_view, slot_ids, told_view};
+ghost use Rattle.lsm_pins.specs.View.{HasId, IsCopy, IsFree, copied_view, is_unheld, looked_view};
+ghost use Rattle.lsm_pins.specs.View.{noted_view, published_view, slot_ids, told_view};
 
 use crate::head::Head;
 use crate::pinner::Pinner;
@@ -57,7 +60,8 @@ impl Publisher {
         ensures unheld { result ≡ is_unheld self.old.knows slot self.new.knows.found }
 
         // what is in the slots then
-        ensures slots { slot_ids self.new.knows ≡ (if result then slice_set (slot_ids self.old.knows) slot None else slot_ids self.old.knows) }
+        ensures slots { slot_ids self.new.knows ≡ (if result then slice_set
+            (slot_ids self.old.knows) slot None else slot_ids self.old.knows) }
         ensures free { IsTrue result → IsFree self.new.knows slot }
         ensures stays { (s : ℕ) → IsFree self.old.knows s → IsFree self.new.knows s }
     {
@@ -80,13 +84,16 @@ impl Publisher {
     pub fn publish(&mut self, slot: u8) -> Result<u32, PublishFault>
         requires { IsFree self.old.knows slot }
         ensures board { self.new.board ≡ self.old.board }
-        ensures published { IfOk result (λ i. self.new.knows ≡ published_view self.old.knows slot self.new.knows.found) }
-        ensures current { IfOk result (λ i. (i ≡ self.old.knows.id + 1) × (self.new.knows.id ≡ i) × (self.new.knows.slot ≡ slot)) }
+        ensures published { IfOk result (λ i.
+            self.new.knows ≡ published_view self.old.knows slot self.new.knows.found) }
+        ensures current { IfOk result (λ i. (i ≡ self.old.knows.id + 1) × (self.new.knows.id ≡ i)
+            × (self.new.knows.slot ≡ slot)) }
         ensures spent { IsErr result ↔ (self.old.knows.id ≡ 2 ^ 28 - 1) }
         ensures err { OnErr result (self.new.knows ≡ self.old.knows) }
 
         // what is in the slots then
-        ensures slots { IfOk result (λ i. slot_ids self.new.knows ≡ slice_set (slot_ids self.old.knows) slot (Some i)) }
+        ensures slots { IfOk result (λ i.
+            slot_ids self.new.knows ≡ slice_set (slot_ids self.old.knows) slot (Some i)) }
         ensures stays { (s : ℕ) → s ≢ slot → IsFree self.old.knows s → IsFree self.new.knows s }
     {
         if self.id == LAST_ID {
@@ -119,9 +126,11 @@ impl Publisher {
         ensures boards { (self.new.board ≡ self.old.board) × (pinner.new.board ≡ pinner.old.board) }
         ensures held { result ≡ pinner.old.knows.held }
         ensures in_use { IfSome result (λ r. HasId self.new.knows r.1 r.0) }
-        ensures publisher { self.new.knows ≡ (if is_some result then noted_view self.old.knows pinner.old.knows else self.old.knows) }
+        ensures publisher { self.new.knows ≡ (if is_some result then noted_view self.old.knows
+            pinner.old.knows else self.old.knows) }
         ensures slots { slot_ids self.new.knows ≡ slot_ids self.old.knows }
-        ensures pinner { pinner.new.knows ≡ (if is_some result then told_view pinner.old.knows self.old.knows else pinner.old.knows) }
+        ensures pinner { pinner.new.knows ≡ (if is_some result then told_view pinner.old.knows
+            self.old.knows else pinner.old.knows) }
     {
         let Some((id, slot)) = pinner.held else {
             return None;
@@ -138,7 +147,8 @@ impl Publisher {
     pub(crate) fn copy(&mut self) -> Seat<(), View>
         ensures board { (self.new.board ≡ self.old.board) × (result.table_id ≡ self.old.board) }
         ensures same { self.new.knows ≡ self.old.knows }
-        ensures copy { (result.me.0 ≡ copied_view self.old.knows) × (result.me.1 ≡ []) × IsCopy result.me.0 }
+        ensures copy { (result.me.0 ≡ copied_view self.old.knows) × (result.me.1 ≡ [])
+            × IsCopy result.me.0 }
         ensures told { self.old.knows.told_id ≡ self.old.knows.id }
     {
         self.board.shared.split_seat::<Copies>(&mut self.seat)

@@ -1,6 +1,7 @@
 //! One line of a script.
 
-ghost use Rattle.std.specs.Prelude.{◌≡◌, ◌++◌, ◌∷◌, [], ℕ, IfNone, IfOk, IfSome, List, None, OnOk, Option, Some, map};
+ghost use Rattle.std.specs.Prelude.{◌≡◌, ◌++◌, ◌∷◌, [], ℕ, IfNone, IfOk, IfSome, List, None, OnOk};
+ghost use Rattle.std.specs.Prelude.{Option, Some, map};
 ghost use Rattle.lsm_batch.specs.declared.write.Write.{Write};
 ghost use Rattle.lsm_script.specs.declared.command.Command.{Command};
 ghost use Rattle.lsm_script.specs.declared.command.Command.TheVariants.{Get, Ingest, ReserveRange};
@@ -31,7 +32,8 @@ fn push(batch: &mut Batch, write: Write) -> Result<(), AllocError>
 /// The batch of which each word writes one key.
 fn batch_of(alloc: Global, words: &[&[u8]]) -> Result<Option<Batch>, AllocError>
     ensures some { IfOk result (λ o. IfSome o (AreWriteLines Hex (map (λ w. w.now) words.now))) }
-    ensures none { IfOk result (λ o. IfNone o ((ws : List Write) → AreWriteLines Hex (map (λ w. w.now) words.now) ws → ⊥)) }
+    ensures none { IfOk result (λ o.
+        IfNone o ((ws : List Write) → AreWriteLines Hex (map (λ w. w.now) words.now) ws → ⊥)) }
 {
     let mut batch = Batch::new(alloc);
     for word in words {
@@ -46,7 +48,8 @@ fn batch_of(alloc: Global, words: &[&[u8]]) -> Result<Option<Batch>, AllocError>
 /// The batch that the words ask to bring in.
 fn ingest_in(alloc: Global, words: &[&[u8]]) -> Result<Option<Command>, AllocError>
     ensures some { IfOk result (λ o. IfSome o (IsCommand (map (λ w. w.now) words.now))) }
-    ensures none { IfOk result (λ o. IfNone o ((ws : List Write) → IsCommand (map (λ w. w.now) words.now) (Ingest ws) → ⊥)) }
+    ensures none { IfOk result (λ o.
+        IfNone o ((ws : List Write) → IsCommand (map (λ w. w.now) words.now) (Ingest ws) → ⊥)) }
 {
     match words {
         [name, keys @ ..] if *name == b"ingest".as_slice() => match batch_of(alloc, keys)? {
@@ -60,7 +63,8 @@ fn ingest_in(alloc: Global, words: &[&[u8]]) -> Result<Option<Command>, AllocErr
 /// The key that the words ask to read.
 fn get_in(alloc: Global, words: &[&[u8]]) -> Result<Option<Command>, AllocError>
     ensures some { IfOk result (λ o. IfSome o (IsCommand (map (λ w. w.now) words.now))) }
-    ensures none { IfOk result (λ o. IfNone o ((key : List ℕ) → IsCommand (map (λ w. w.now) words.now) (Get key None) → ⊥)) }
+    ensures none { IfOk result (λ o.
+        IfNone o ((key : List ℕ) → IsCommand (map (λ w. w.now) words.now) (Get key None) → ⊥)) }
 {
     match words {
         [name, key] if *name == b"get".as_slice() => match Form::Hex.read_bytes(alloc, key)? {
@@ -74,7 +78,8 @@ fn get_in(alloc: Global, words: &[&[u8]]) -> Result<Option<Command>, AllocError>
 /// The key that the words ask to read as of a snapshot.
 fn get_at_in(alloc: Global, words: &[&[u8]]) -> Result<Option<Command>, AllocError>
     ensures some { IfOk result (λ o. IfSome o (IsCommand (map (λ w. w.now) words.now))) }
-    ensures none { IfOk result (λ o. IfNone o ((key : List ℕ) (id : ℕ) → IsCommand (map (λ w. w.now) words.now) (Get key (Some id)) → ⊥)) }
+    ensures none { IfOk result (λ o. IfNone o ((key : List ℕ) (id : ℕ)
+        → IsCommand (map (λ w. w.now) words.now) (Get key (Some id)) → ⊥)) }
 {
     match words {
         [name, key, id] if *name == b"get".as_slice() => {
@@ -93,7 +98,8 @@ fn get_at_in(alloc: Global, words: &[&[u8]]) -> Result<Option<Command>, AllocErr
 /// The range of which the words ask to reserve the compaction.
 fn range_in(alloc: Global, words: &[&[u8]]) -> Result<Option<Command>, AllocError>
     ensures some { IfOk result (λ o. IfSome o (IsCommand (map (λ w. w.now) words.now))) }
-    ensures none { IfOk result (λ o. IfNone o ((level : ℕ) (from : List ℕ) (to : List ℕ) → IsCommand (map (λ w. w.now) words.now) (ReserveRange level from to) → ⊥)) }
+    ensures none { IfOk result (λ o. IfNone o ((level : ℕ) (from : List ℕ) (to : List ℕ)
+        → IsCommand (map (λ w. w.now) words.now) (ReserveRange level from to) → ⊥)) }
 {
     match words {
         [name, level, from, to] if *name == b"reserve".as_slice() => {
@@ -115,7 +121,8 @@ fn range_in(alloc: Global, words: &[&[u8]]) -> Result<Option<Command>, AllocErro
 /// The command that words ask for.
 fn command_of(alloc: Global, words: &[&[u8]]) -> Result<Option<Command>, AllocError>
     ensures some { IfOk result (λ o. IfSome o (IsCommand (map (λ w. w.now) words.now))) }
-    ensures none { IfOk result (λ o. IfNone o ((c : Command) → IsCommand (map (λ w. w.now) words.now) c → ⊥)) }
+    ensures none { IfOk result (λ o.
+        IfNone o ((c : Command) → IsCommand (map (λ w. w.now) words.now) c → ⊥)) }
 {
     if let Some(command) = bare_in(words) {
         return Ok(Some(command));

@@ -20,7 +20,8 @@ fn is_alone(words: &[&[u8]], name: &[u8]) -> bool
 /// The number, at most `most`, that stands behind this name, and nothing else.
 fn number_of(words: &[&[u8]], name: &[u8], most: u64) -> Option<u64>
     ensures some { IfSome result (IsNumbered name.now most (map (λ w. w.now) words.now)) }
-    ensures none { IfNone result ((n : ℕ) → IsNumbered name.now most (map (λ w. w.now) words.now) n → ⊥) }
+    ensures none { IfNone result ((n : ℕ) → IsNumbered name.now most (map (λ w. w.now) words.now) n
+        → ⊥) }
 {
     match words {
         [word, number] if *word == name => number_in(number, most),
@@ -31,7 +32,8 @@ fn number_of(words: &[&[u8]], name: &[u8], most: u64) -> Option<u64>
 /// The command of one word that the words ask for.
 pub(crate) fn bare_in(words: &[&[u8]]) -> Option<Command>
     ensures some { IfSome result (IsCommand (map (λ w. w.now) words.now)) }
-    ensures none { IfNone result ((c : Command) → IsBare c → IsCommand (map (λ w. w.now) words.now) c → ⊥) }
+    ensures none { IfNone result ((c : Command) → IsBare c
+        → IsCommand (map (λ w. w.now) words.now) c → ⊥) }
 {
     if is_alone(words, b"snapshot") {
         return Some(Command::Snapshot);
@@ -54,7 +56,8 @@ pub(crate) fn bare_in(words: &[&[u8]]) -> Option<Command>
 /// The command of a name and a number that the words ask for.
 pub(crate) fn numbered_in(words: &[&[u8]]) -> Option<Command>
     ensures some { IfSome result (IsCommand (map (λ w. w.now) words.now)) }
-    ensures none { IfNone result ((c : Command) → HasNumber c → IsCommand (map (λ w. w.now) words.now) c → ⊥) }
+    ensures none { IfNone result ((c : Command) → HasNumber c
+        → IsCommand (map (λ w. w.now) words.now) c → ⊥) }
 {
     if let Some(id) = number_of(words, b"release", u64::MAX) {
         return Some(Command::Release(id));

@@ -6,8 +6,10 @@ ghost use Rattle.lsm_script_lines.specs.Words.{IsNumberWord};
 
 /// The number that digits write when they follow those of `n`.
 fn digits(n: u64, word: &[u8]) -> Option<u64>
-    ensures some { IfSome result (λ v. AllDigits 10 word.now × (digits_value_after 10 n word.now ≡ v)) }
-    ensures none { IfNone result (AllDigits 10 word.now → 2 ^ 64 ≤ digits_value_after 10 n word.now) }
+    ensures some { IfSome result (λ v. AllDigits 10 word.now
+        × (digits_value_after 10 n word.now ≡ v)) }
+    ensures none { IfNone result (AllDigits 10 word.now
+        → 2 ^ 64 ≤ digits_value_after 10 n word.now) }
 {
     match word {
         [] => Some(n),

@@ -33,8 +33,10 @@ fn play_on<N: Boarded, S: Shelf, R: Wait>(
     requires here { (S.told shelf.old).place ≡ N.place }
     requires named { records ≡ N.registry }
     requires board { IsNewBoard N.board usual board.0 board.1.items }
-    ensures played { IfOk result (λ replies. ArePlayed S.honest commands.now replies (S.told shelf.old)) }
-    ensures fault { IfErr result (λ e. (e ≡ OutOfMemory) ⊎ ((fault : ShelfFault) × (e ≡ of_shelf fault) × IsCreateRefusal fault (S.told shelf.old) (S.told shelf.new))) }
+    ensures played { IfOk result (λ replies.
+        ArePlayed S.honest commands.now replies (S.told shelf.old)) }
+    ensures fault { IfErr result (λ e. (e ≡ OutOfMemory) ⊎ ((fault : ShelfFault)
+        × (e ≡ of_shelf fault) × IsCreateRefusal fault (S.told shelf.old) (S.told shelf.new))) }
 {
     let registry = Registry::shared(alloc, records)?;
     let state = match State::<N, S>::create(rt, alloc, shelf, Options::usual(), registry, board) {

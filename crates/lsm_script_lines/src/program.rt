@@ -4,7 +4,8 @@ ghost use Rattle.std.specs.Prelude.{◌≡◌, ◌≢◌, ◌≤◌, ◌⊎◌, 
 ghost use Rattle.std.specs.Io.KnownBytes.{Appends, Keeps};
 ghost use Rattle.lsm_script_lines.specs.Played.{IsCutShort, IsDone, IsEnded, IsFault, IsRefused};
 ghost use Rattle.lsm_script_lines.specs.ReplyText.{replies_text};
-ghost use Rattle.lsm_writer.specs.declared.writer_fault.WriterFault.TheVariants.{OutOfMemory, Write as WriteFault};
+ghost use Rattle.lsm_writer.specs.declared.writer_fault.WriterFault.TheVariants.{OutOfMemory};
+ghost use Rattle.lsm_writer.specs.declared.writer_fault.WriterFault.TheVariants.{Write as WriteFault};
 
 use crate::playing::play;
 use crate::reply_text::push_replies;
@@ -39,8 +40,10 @@ fn is_cut_short(replies: &[Reply]) -> bool
 
 /// Prints replies.
 fn print<O: Write>(alloc: Global, replies: &[Reply], out: &mut O) -> Result<(), WriterFault>
-    ensures written { OnOk result (Appends (O.contents out.old) (O.contents out.new) (replies_text replies.now)) }
-    ensures kept { IfErr result (λ e. e ≢ WriteFault → Keeps (O.contents out.old) (O.contents out.new)) }
+    ensures written { OnOk result
+        (Appends (O.contents out.old) (O.contents out.new) (replies_text replies.now)) }
+    ensures kept { IfErr result (λ e. e ≢ WriteFault
+        → Keeps (O.contents out.old) (O.contents out.new)) }
     ensures fault { IfErr result (λ e. (e ≡ WriteFault) ⊎ (e ≡ OutOfMemory)) }
 {
     let mut text = Vec::new(alloc);
@@ -60,9 +63,12 @@ fn perform<R: Wait, I: Read, O: Write>(
     out: &mut O,
 ) -> Result<u8, WriterFault>
     ensures status { IfOk result (λ status. status ≤ 1) }
-    ensures ended { IfOk result (λ status. IfSome (I.remaining input.old.inner) (λ text. IsEnded text status (O.contents out.old) (O.contents out.new))) }
-    ensures fault { IfErr result (λ e. IfSome (I.remaining input.old.inner) (λ text. IsFault text input.new.failed e)) }
-    ensures kept { IfErr result (λ e. e ≢ WriteFault → Keeps (O.contents out.old) (O.contents out.new)) }
+    ensures ended { IfOk result (λ status. IfSome (I.remaining input.old.inner) (λ text.
+        IsEnded text status (O.contents out.old) (O.contents out.new))) }
+    ensures fault { IfErr result (λ e.
+        IfSome (I.remaining input.old.inner) (λ text. IsFault text input.new.failed e)) }
+    ensures kept { IfErr result (λ e. e ≢ WriteFault
+        → Keeps (O.contents out.old) (O.contents out.new)) }
 {
     let commands = read_script(alloc, input)?;
     let replies = play(rt, alloc, &commands)?;
@@ -90,8 +96,10 @@ pub fn script<R: Wait, I: Read, O: Write, E: Write>(
     out: &mut O,
     err: &mut E,
 ) -> u8
-    ensures done { result ≡ 0 → IfSome (I.remaining input.old.inner) (λ text. IsDone text (O.contents out.old) (O.contents out.new)) }
-    ensures refused { result ≢ 0 → (result ≡ 1) × IfSome (I.remaining input.old.inner) (λ text. IsRefused text input.new.failed (O.contents out.old) (O.contents out.new)) }
+    ensures done { result ≡ 0 → IfSome (I.remaining input.old.inner) (λ text.
+        IsDone text (O.contents out.old) (O.contents out.new)) }
+    ensures refused { result ≢ 0 → (result ≡ 1) × IfSome (I.remaining input.old.inner) (λ text.
+        IsRefused text input.new.failed (O.contents out.old) (O.contents out.new)) }
     ensures quiet { result ≡ 0 → Keeps (E.contents err.old) (E.contents err.new) }
 {
     match perform(rt, alloc, input, out) {

@@ -1,7 +1,9 @@
 //! Replies as text.
 
 ghost use Rattle.std.specs.Prelude.{◌≡◌, ◌++◌, OnOk, decimal};
-ghost use Rattle.lsm_script_lines.specs.ReplyText.{ingested_text, line_of, listed_line, listed_lines, numbers_text, replies_text, reply_text, reserved_text, two_numbers};
+ghost use Rattle.lsm_script_lines.specs.ReplyText.{ingested_text, line_of, listed_line};
+ghost use Rattle.lsm_script_lines.specs.ReplyText.{listed_lines, numbers_text, replies_text};
+ghost use Rattle.lsm_script_lines.specs.ReplyText.{reply_text, reserved_text, two_numbers};
 
 use crate::refusal_text::push_refused;
 use lsm_commands::{push_bytes, push_decimal, push_file_words};
@@ -60,7 +62,8 @@ fn push_reserved(
     inputs: &[u8],
     reserved: &Reserved,
 ) -> Result<(), AllocError>
-    ensures { OnOk result (out.new.items ≡ out.old.items ++ reserved_text what.now inputs.now reserved.now) }
+    ensures { OnOk result (out.new.items
+        ≡ out.old.items ++ reserved_text what.now inputs.now reserved.now) }
 {
     push_two(
         out,

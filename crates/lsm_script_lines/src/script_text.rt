@@ -42,9 +42,12 @@ pub fn read_script<I: Read>(
     alloc: Global,
     input: &mut Watched<I>,
 ) -> Result<Vec<Command>, WriterFault>
-    ensures script { IfOk result (λ commands. IfSome (I.remaining input.old.inner) (λ text. IsScript text commands.items)) }
-    ensures limit { OnOk result (IfSome (I.remaining input.old.inner) (λ text. length text ≤ 67108864)) }
-    ensures refused { IfErr result (λ e. IfSome (I.remaining input.old.inner) (λ text. IsInputFault text input.new.failed e)) }
+    ensures script { IfOk result (λ commands.
+        IfSome (I.remaining input.old.inner) (λ text. IsScript text commands.items)) }
+    ensures limit { OnOk result
+        (IfSome (I.remaining input.old.inner) (λ text. length text ≤ 67108864)) }
+    ensures refused { IfErr result (λ e.
+        IfSome (I.remaining input.old.inner) (λ text. IsInputFault text input.new.failed e)) }
 {
     let text = text_of(alloc, input)?;
     script_of(alloc, &text)

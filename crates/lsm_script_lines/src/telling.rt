@@ -10,7 +10,8 @@ use std::io::{self, Write};
 
 /// Writes the line of a fault.
 fn write_fault<E: Write>(err: &mut E, fault: &WriterFault) -> io::Result<()>
-    ensures { OnOk result (IfSome (fault_text fault.now) (λ text. Appends (E.contents err.old) (E.contents err.new) (text ++ (10 ∷ [])))) }
+    ensures { OnOk result (IfSome (fault_text fault.now) (λ text.
+        Appends (E.contents err.old) (E.contents err.new) (text ++ (10 ∷ [])))) }
 {
     writeln!(err, "{fault}")
 }
@@ -36,7 +37,8 @@ fn explain<E: Write>(err: &mut E, fault: &WriterFault) -> io::Result<()>
 
 /// Writes the line of a fault, and on a second line what it may mean of the input; and flushes.
 pub(crate) fn tell<E: Write>(err: &mut E, fault: &WriterFault) -> io::Result<()>
-    ensures told { OnOk result (IfSome (told_text fault.now) (λ text. Appends (E.contents err.old) (E.contents err.new) text)) }
+    ensures told { OnOk result (IfSome (told_text fault.now) (λ text.
+        Appends (E.contents err.old) (E.contents err.new) text)) }
 {
     write_fault(err, fault)?;
     explain(err, fault)?;

@@ -39,7 +39,8 @@ impl<R: Read> Read for Watched<R> {
 
     fn read(&mut self, buf: &mut [u8]) -> io::Result<usize>
         ensures bound { ReadsAtMost result buf.new }
-        ensures bytes { ReadConsumes (R.remaining self.old.inner) (R.remaining self.new.inner) result buf.new }
+        ensures bytes { ReadConsumes (R.remaining self.old.inner) (R.remaining self.new.inner)
+            result buf.new }
         ensures failed { OnErr result (self.new.failed ≡ true) }
         ensures went { OnOk result (self.new.failed ≡ false) }
     {

@@ -4,7 +4,8 @@ use std::fs::OpenOptions;
 use std::ops::RangeInclusive;
 use std::os::fd::{AsRawFd, IntoRawFd, RawFd};
 
-/// Opens `/dev/null`, and leaves it open to the end of the run where its descriptor is one of these.
+/// Opens `/dev/null`, and leaves it open to the end of the run where its descriptor is one of
+/// these.
 fn hold(files: &HostRuntime, options: &OpenOptions, wanted: RangeInclusive<RawFd>) {
     let Ok(null) = options.open(files, "/dev/null") else {
         return;

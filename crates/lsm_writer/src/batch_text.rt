@@ -50,9 +50,11 @@ pub(crate) fn batch_of(alloc: Global, form: Form, text: &[u8]) -> Result<Batch, 
 /// `Read` where a read fails, or where there are more than 64 MiB; `BadLine` with the number of the
 /// first line of another form, and where that is seen; `OutOfMemory`.
 pub fn read_batch<I: Read>(alloc: Global, form: Form, input: &mut I) -> Result<Batch, WriterFault>
-    ensures batch { IfOk result (λ b. IfSome (I.remaining input.old) (λ text. IsBatchText form text b)) }
+    ensures batch { IfOk result (λ b.
+        IfSome (I.remaining input.old) (λ text. IsBatchText form text b)) }
     ensures limit { OnOk result (IfSome (I.remaining input.old) (λ text. length text ≤ 67108864)) }
-    ensures refused { IfErr result (λ e. IfSome (I.remaining input.old) (λ text. IsTextFault form text e)) }
+    ensures refused { IfErr result (λ e.
+        IfSome (I.remaining input.old) (λ text. IsTextFault form text e)) }
 {
     let text = read_input(alloc, input)?;
     batch_of(alloc, form, &text)

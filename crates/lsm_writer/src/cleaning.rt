@@ -5,7 +5,9 @@ ghost use Rattle.std.specs.Io.KnownBytes.{Appends};
 ghost use Rattle.lsm_folder.specs.Calls.{AreHonest, removed};
 ghost use Rattle.lsm_storage.specs.FolderFault.{device_of};
 ghost use Rattle.lsm_shelf.specs.Told.{NotNamed};
-ghost use Rattle.lsm_writer.specs.Cleaning.{AreRemoved, AreSparesGone, IsCleaned, IsTidied, IsSpare, IsUncleaned, IsUnremoved, IsUntidied, Removes, StopsCleaning, StopsRemoving};
+ghost use Rattle.lsm_writer.specs.Cleaning.{AreRemoved, AreSparesGone, IsCleaned, IsTidied};
+ghost use Rattle.lsm_writer.specs.Cleaning.{IsSpare, IsUncleaned, IsUnremoved, IsUntidied, Removes};
+ghost use Rattle.lsm_writer.specs.Cleaning.{StopsCleaning, StopsRemoving};
 ghost use Rattle.lsm_writer.specs.WriterFault.{of_shelf};
 
 use crate::kept::{Kept, kept_in};
@@ -32,7 +34,8 @@ pub(crate) fn refused_by(fault: FolderFault) -> WriterFault
 
 /// Writes a name as a line.
 fn write_name<O: Write>(out: &mut O, name: &str) -> io::Result<()>
-    ensures { OnOk result (Appends (O.contents out.old) (O.contents out.new) (name.now ++ 10 ∷ [])) }
+    ensures { OnOk result
+        (Appends (O.contents out.old) (O.contents out.new) (name.now ++ 10 ∷ [])) }
 {
     writeln!(out, "{name}")
 }
@@ -44,9 +47,12 @@ fn remove_file<C: FolderCalls, R: Wait, O: Write>(
     name: &str,
     out: &mut O,
 ) -> Result<(), WriterFault>
-    ensures calls { OnOk result (C.calls folder.new ≡ removed name.now (Ok tt) ∷ C.calls folder.old) }
-    ensures printed { OnOk result (Appends (O.contents out.old) (O.contents out.new) (name.now ++ 10 ∷ [])) }
-    ensures refused { IfErr result (λ e. IsUnremoved name.now e (C.calls folder.old) (C.calls folder.new) (O.contents out.old) (O.contents out.new)) }
+    ensures calls { OnOk result (C.calls folder.new
+        ≡ removed name.now (Ok tt) ∷ C.calls folder.old) }
+    ensures printed { OnOk result
+        (Appends (O.contents out.old) (O.contents out.new) (name.now ++ 10 ∷ [])) }
+    ensures refused { IfErr result (λ e. IsUnremoved name.now e (C.calls folder.old)
+        (C.calls folder.new) (O.contents out.old) (O.contents out.new)) }
 {
     if let Err(fault) = folder.remove(rt, name) {
         return Err(refused_by(fault));
@@ -65,9 +71,11 @@ fn remove_spare<C: FolderCalls, R: Wait, O: Write>(
     name: &str,
     out: &mut O,
 ) -> Result<(), WriterFault>
-    ensures removed { OnOk result (Removes kept.now.manifest kept.now.tables.items name.now (C.calls folder.old) (C.calls folder.new) (O.contents out.old) (O.contents out.new)) }
+    ensures removed { OnOk result (Removes kept.now.manifest kept.now.tables.items name.now
+        (C.calls folder.old) (C.calls folder.new) (O.contents out.old) (O.contents out.new)) }
     ensures spare { IfErr result (λ _. IsSpare kept.now.manifest kept.now.tables.items name.now) }
-    ensures refused { IfErr result (λ e. IsUnremoved name.now e (C.calls folder.old) (C.calls folder.new) (O.contents out.old) (O.contents out.new)) }
+    ensures refused { IfErr result (λ e. IsUnremoved name.now e (C.calls folder.old)
+        (C.calls folder.new) (O.contents out.old) (O.contents out.new)) }
 {
     if !kept.spares(name) {
         return Ok(());
@@ -87,8 +95,12 @@ fn remove_spares<C: FolderCalls, R: Wait, O: Write>(
     names: &[String],
     out: &mut O,
 ) -> Result<(), WriterFault>
-    ensures removed { OnOk result (AreRemoved kept.now.manifest kept.now.tables.items (map string_bytes names.now) (C.calls folder.old) (C.calls folder.new) (O.contents out.old) (O.contents out.new)) }
-    ensures refused { IfErr result (λ e. StopsRemoving kept.now.manifest kept.now.tables.items (map string_bytes names.now) e (C.calls folder.old) (C.calls folder.new) (O.contents out.old) (O.contents out.new)) }
+    ensures removed { OnOk result
+        (AreRemoved kept.now.manifest kept.now.tables.items (map string_bytes names.now)
+        (C.calls folder.old) (C.calls folder.new) (O.contents out.old) (O.contents out.new)) }
+    ensures refused { IfErr result (λ e.
+        StopsRemoving kept.now.manifest kept.now.tables.items (map string_bytes names.now) e
+        (C.calls folder.old) (C.calls folder.new) (O.contents out.old) (O.contents out.new)) }
 {
     for name in names {
         remove_spare(rt, folder, kept, name.as_str(), out)?;
@@ -105,8 +117,10 @@ fn tidy<C: FolderCalls, R: Wait, O: Write>(
     kept: &Kept,
     out: &mut O,
 ) -> Result<(), WriterFault>
-    ensures tidied { OnOk result (IsTidied kept.now.manifest kept.now.tables.items (C.calls folder.old) (C.calls folder.new) (O.contents out.old) (O.contents out.new)) }
-    ensures refused { IfErr result (λ e. IsUntidied kept.now.manifest kept.now.tables.items e (C.calls folder.old) (C.calls folder.new) (O.contents out.old) (O.contents out.new)) }
+    ensures tidied { OnOk result (IsTidied kept.now.manifest kept.now.tables.items
+        (C.calls folder.old) (C.calls folder.new) (O.contents out.old) (O.contents out.new)) }
+    ensures refused { IfErr result (λ e. IsUntidied kept.now.manifest kept.now.tables.items e
+        (C.calls folder.old) (C.calls folder.new) (O.contents out.old) (O.contents out.new)) }
 {
     let names = folder_names(rt, alloc, folder)?;
     remove_spares(rt, folder, kept, &names, out)?;
@@ -125,8 +139,10 @@ fn clean_held<C: FolderCalls + Send + Sync, R: Wait, O: Write>(
 ) -> Result<(), WriterFault>
 where
     C::Mark: Send + Sync,
-    ensures cleaned { OnOk result (AreSparesGone (AreHonest C.calls) (C.place folder.old) (C.calls folder.old) (C.calls folder.new) (O.contents out.old) (O.contents out.new)) }
-    ensures refused { IfErr result (λ e. StopsCleaning (AreHonest C.calls) (C.place folder.old) e (C.calls folder.old) (C.calls folder.new) (O.contents out.old) (O.contents out.new)) }
+    ensures cleaned { OnOk result (AreSparesGone (AreHonest C.calls) (C.place folder.old)
+        (C.calls folder.old) (C.calls folder.new) (O.contents out.old) (O.contents out.new)) }
+    ensures refused { IfErr result (λ e. StopsCleaning (AreHonest C.calls) (C.place folder.old) e
+        (C.calls folder.old) (C.calls folder.new) (O.contents out.old) (O.contents out.new)) }
 {
     let kept = kept_in(rt, alloc, &*folder)?;
     match tidy(rt, alloc, folder, &kept, out) {
@@ -145,8 +161,10 @@ pub(crate) fn clean_folder<C: FolderCalls + Send + Sync, R: Wait, O: Write>(
 ) -> Result<(), WriterFault>
 where
     C::Mark: Send + Sync,
-    ensures cleaned { OnOk result (IsCleaned (AreHonest C.calls) (C.place folder.old) (C.calls folder.old) (C.calls folder.new) (O.contents out.old) (O.contents out.new)) }
-    ensures refused { IfErr result (λ e. IsUncleaned (AreHonest C.calls) (C.place folder.old) e (C.calls folder.old) (C.calls folder.new) (O.contents out.old) (O.contents out.new)) }
+    ensures cleaned { OnOk result (IsCleaned (AreHonest C.calls) (C.place folder.old)
+        (C.calls folder.old) (C.calls folder.new) (O.contents out.old) (O.contents out.new)) }
+    ensures refused { IfErr result (λ e. IsUncleaned (AreHonest C.calls) (C.place folder.old) e
+        (C.calls folder.old) (C.calls folder.new) (O.contents out.old) (O.contents out.new)) }
 {
     hold(rt, folder, LockKind::Exclusive)?;
     match clean_held(rt, alloc, folder, out) {

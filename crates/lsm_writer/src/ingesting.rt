@@ -23,7 +23,8 @@ use std::sync::Wait;
 
 /// Writes the reply, and flushes.
 fn reply<O: Write>(out: &mut O, ingested: Ingested) -> io::Result<()>
-    ensures written { OnOk result (Appends (O.contents out.old) (O.contents out.new) (ingest_text ingested)) }
+    ensures written { OnOk result
+        (Appends (O.contents out.old) (O.contents out.new) (ingest_text ingested)) }
 {
     let Ingested { file, first, last } = ingested;
     writeln!(out, "file {file} first {first} last {last}")?;
@@ -44,9 +45,13 @@ fn bring_in_as<N: Boarded, S: Shelf, R: Wait, O: Write>(
     requires records { parts.records ≡ N.registry }
     requires board { IsNewBoard N.board usual parts.publisher parts.pinners.items }
     requires seats { vec_len parts.pinners ≡ usual.readers }
-    ensures done { OnOk result (IsBroughtIn S.honest prepared.now.start prepared.now.logs.items batch.now (S.told shelf.old) (S.told shelf.new) (O.contents out.old) (O.contents out.new)) }
-    ensures fault { IfErr result (λ e. IsIngestFault (Stored S.Receipt (S.is_of N.place) S.Receipt.number S.Receipt.image) (S.refuses N.place) S.honest prepared.now.start prepared.now.logs.items batch.now e (S.told shelf.old) (S.told shelf.new)) }
-    ensures left { IfErr result (λ e. e ≢ WriteFault → Keeps (O.contents out.old) (O.contents out.new)) }
+    ensures done { OnOk result (IsBroughtIn S.honest prepared.now.start prepared.now.logs.items
+        batch.now (S.told shelf.old) (S.told shelf.new) (O.contents out.old) (O.contents out.new)) }
+    ensures fault { IfErr result (λ e. IsIngestFault (Stored S.Receipt (S.is_of N.place)
+        S.Receipt.number S.Receipt.image) (S.refuses N.place) S.honest prepared.now.start
+        prepared.now.logs.items batch.now e (S.told shelf.old) (S.told shelf.new)) }
+    ensures left { IfErr result (λ e. e ≢ WriteFault
+        → Keeps (O.contents out.old) (O.contents out.new)) }
 {
     let parts = parts.named(alloc)?;
     let mut state: State<N, S> = start(rt, alloc, shelf, prepared, parts)?;
@@ -67,9 +72,14 @@ pub(crate) fn bring_in<S: Shelf, R: Wait, O: Write>(
     batch: &Batch,
     out: &mut O,
 ) -> Result<(), WriterFault>
-    ensures done { OnOk result (IsBroughtIn S.honest prepared.now.start prepared.now.logs.items batch.now (S.told shelf.old) (S.told shelf.new) (O.contents out.old) (O.contents out.new)) }
-    ensures fault { IfErr result (λ e. IsIngestFault (Stored S.Receipt (S.is_of (S.told shelf.old).place) S.Receipt.number S.Receipt.image) (S.refuses (S.told shelf.old).place) S.honest prepared.now.start prepared.now.logs.items batch.now e (S.told shelf.old) (S.told shelf.new)) }
-    ensures left { IfErr result (λ e. e ≢ WriteFault → Keeps (O.contents out.old) (O.contents out.new)) }
+    ensures done { OnOk result (IsBroughtIn S.honest prepared.now.start prepared.now.logs.items
+        batch.now (S.told shelf.old) (S.told shelf.new) (O.contents out.old) (O.contents out.new)) }
+    ensures fault { IfErr result (λ e.
+        IsIngestFault (Stored S.Receipt (S.is_of (S.told shelf.old).place) S.Receipt.number
+        S.Receipt.image) (S.refuses (S.told shelf.old).place) S.honest prepared.now.start
+        prepared.now.logs.items batch.now e (S.told shelf.old) (S.told shelf.new)) }
+    ensures left { IfErr result (λ e. e ≢ WriteFault
+        → Keeps (O.contents out.old) (O.contents out.new)) }
 {
     let parts = NewParts::make(alloc)?;
     bring_in_as::<Brand, S, R, O>(rt, alloc, shelf, prepared, parts, batch, out)

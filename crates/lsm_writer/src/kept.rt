@@ -47,7 +47,8 @@ impl Kept {
     /// Whether no version needs the file of this name: it is another manifest, a table that the
     /// version does not have, or a temporary file.
     pub(crate) fn spares(&self, name: &str) -> bool
-        ensures { MatchBool result (IsSpare self.now.manifest self.now.tables.items name.now) (IsSpare self.now.manifest self.now.tables.items name.now → ⊥) }
+        ensures { MatchBool result (IsSpare self.now.manifest self.now.tables.items name.now)
+            (IsSpare self.now.manifest self.now.tables.items name.now → ⊥) }
     {
         if let Some(number) = manifest_in(name) {
             return number != self.manifest;
@@ -68,8 +69,11 @@ fn find_kept<N: Naming, S: Shelf, R: Wait>(
 ) -> Result<Kept, WriterFault>
     requires here { (S.told shelf.old).place ≡ N.place }
     requires named { records ≡ N.registry }
-    ensures kept { IfOk result (λ k. IsKept S.honest k.manifest k.tables.items (S.told shelf.old) (S.told shelf.new)) }
-    ensures refused { IfErr result (λ e. IsUnkept (Stored S.Receipt (S.is_of N.place) S.Receipt.number S.Receipt.image) (S.refuses N.place) S.honest e (S.told shelf.old) (S.told shelf.new)) }
+    ensures kept { IfOk result (λ k.
+        IsKept S.honest k.manifest k.tables.items (S.told shelf.old) (S.told shelf.new)) }
+    ensures refused { IfErr result (λ e.
+        IsUnkept (Stored S.Receipt (S.is_of N.place) S.Receipt.number S.Receipt.image)
+        (S.refuses N.place) S.honest e (S.told shelf.old) (S.told shelf.new)) }
 {
     let registry = Registry::shared(alloc, records)?;
     // A journal that nothing is sent through has no use for its limit.
@@ -85,8 +89,11 @@ fn find_kept<N: Naming, S: Shelf, R: Wait>(
 
 /// The same, with records of its own.
 fn read_kept<S: Shelf, R: Wait>(rt: &R, alloc: Global, shelf: &mut S) -> Result<Kept, WriterFault>
-    ensures kept { IfOk result (λ k. IsKept S.honest k.manifest k.tables.items (S.told shelf.old) (S.told shelf.new)) }
-    ensures refused { IfErr result (λ e. IsUnkept (Stored S.Receipt (S.is_of (S.told shelf.old).place) S.Receipt.number S.Receipt.image) (S.refuses (S.told shelf.old).place) S.honest e (S.told shelf.old) (S.told shelf.new)) }
+    ensures kept { IfOk result (λ k.
+        IsKept S.honest k.manifest k.tables.items (S.told shelf.old) (S.told shelf.new)) }
+    ensures refused { IfErr result (λ e. IsUnkept
+        (Stored S.Receipt (S.is_of (S.told shelf.old).place) S.Receipt.number S.Receipt.image)
+        (S.refuses (S.told shelf.old).place) S.honest e (S.told shelf.old) (S.told shelf.new)) }
     ensures fault { IfErr result IsUnopened }
 {
     let records = Records::new(alloc)?;
@@ -101,7 +108,8 @@ pub(crate) fn kept_in<C: FolderCalls + Send + Sync, R: Wait>(
 ) -> Result<Kept, WriterFault>
 where
     C::Mark: Send + Sync,
-    ensures kept { IfOk result (λ k. Needs (AreHonest C.calls) (C.place folder.now) k.manifest k.tables.items) }
+    ensures kept { IfOk result (λ k.
+        Needs (AreHonest C.calls) (C.place folder.now) k.manifest k.tables.items) }
     ensures fault { IfErr result IsUnopened }
 {
     let Ok(fork) = folder.fork() else {

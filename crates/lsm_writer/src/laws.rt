@@ -7,5 +7,6 @@ ghost use Rattle.lsm_writer.specs.BatchText.{IsBatchText};
 
 /// A law: in one form a text spells one batch at most.
 pub fn one_batch()
-    ensures { (form : Form) (text : List ℕ) (a b : List Write) → IsBatchText form text a → IsBatchText form text b → a ≡ b }
+    ensures { (form : Form) (text : List ℕ) (a b : List Write) → IsBatchText form text a
+        → IsBatchText form text b → a ≡ b }
 {}

@@ -22,7 +22,8 @@ fn field_of_merge(fault: MergeFault) -> Option<u64>
 /// A refusal of a merge, with the table or the ticket that it names. `cause_of_merge` says what
 /// stands behind it.
 pub fn of_merge(fault: MergeFault) -> Refusal
-    ensures { refusal_text result.number result.name.now result.field ≡ refusal_text (number_of fault) (name_of fault) (merge_field fault) }
+    ensures { refusal_text result.number result.name.now result.field
+        ≡ refusal_text (number_of fault) (name_of fault) (merge_field fault) }
 {
     Refusal {
         number: fault.number(),

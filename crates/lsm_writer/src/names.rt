@@ -1,10 +1,15 @@
 //! What the names in a folder say of the database there.
 
-ghost use Rattle.std.specs.Prelude.{◌≡◌, ◌≢◌, ◌++◌, ◌∷◌, [], ◌-◌, ◌^◌, List, ℕ, IfErr, IfNone, IfOk, IfSome, MatchBool, MatchOption, codes, map, max, string_bytes, false, true};
+ghost use Rattle.std.specs.Prelude.{◌≡◌, ◌≢◌, ◌++◌, ◌∷◌, [], ◌-◌, ◌^◌, List, ℕ, IfErr, IfNone};
+ghost use Rattle.std.specs.Prelude.{IfOk, IfSome, MatchBool, MatchOption, codes, map, max};
+ghost use Rattle.std.specs.Prelude.{string_bytes, false, true};
 ghost use Rattle.lsm_directory.specs.FileNames.{IsFileName};
 ghost use Rattle.lsm_directory.specs.declared.file_kind.FileKind.{FileKind};
-ghost use Rattle.lsm_directory.specs.declared.file_kind.FileKind.TheVariants.{Other, Table, Temporary};
-ghost use Rattle.lsm_writer.specs.Names.{Among, HasCurrent, IsHighestManifest, IsLeastUnused, IsManifestName, IsNumbered, IsOfDatabase, Leads, LeadsNowhere};
+ghost use Rattle.lsm_directory.specs.declared.file_kind.FileKind.TheVariants.{Other, Table};
+ghost use Rattle.lsm_directory.specs.declared.file_kind.FileKind.TheVariants.{Temporary};
+ghost use Rattle.lsm_writer.specs.Names.{Among, HasCurrent, IsHighestManifest, IsLeastUnused};
+ghost use Rattle.lsm_writer.specs.Names.{IsManifestName, IsNumbered, IsOfDatabase, Leads};
+ghost use Rattle.lsm_writer.specs.Names.{LeadsNowhere};
 
 use crate::start::Start;
 use crate::writer_fault::WriterFault;
@@ -19,7 +24,8 @@ fn is_current(name: &str) -> bool
 
 /// Whether `CURRENT` is there.
 fn has_current(names: &[String]) -> bool
-    ensures { MatchBool result (HasCurrent (map string_bytes names.now)) (HasCurrent (map string_bytes names.now) → ⊥) }
+    ensures { MatchBool result (HasCurrent (map string_bytes names.now))
+        (HasCurrent (map string_bytes names.now) → ⊥) }
 {
     for name in names {
         if is_current(name.as_str()) {
@@ -46,7 +52,8 @@ fn is_of_database(name: &str) -> bool
 
 /// Whether a manifest or a table is there.
 fn has_database(names: &[String]) -> bool
-    ensures { MatchBool result (Among (map string_bytes names.now) IsOfDatabase) (Among (map string_bytes names.now) IsOfDatabase → ⊥) }
+    ensures { MatchBool result (Among (map string_bytes names.now) IsOfDatabase)
+        (Among (map string_bytes names.now) IsOfDatabase → ⊥) }
 {
     for name in names {
         if is_of_database(name.as_str()) {
@@ -67,7 +74,8 @@ fn number_in(name: &str) -> Option<u64>
 /// The least number that is unused where a file of this name is added to those among which this one
 /// is it; none where the file's number is 2^64 - 1.
 fn next_above(next: u64, name: &str) -> Option<u64>
-    ensures some { (front : List (List ℕ)) → IsLeastUnused front next → IfSome result (IsLeastUnused (front ++ name.now ∷ [])) }
+    ensures some { (front : List (List ℕ)) → IsLeastUnused front next
+        → IfSome result (IsLeastUnused (front ++ name.now ∷ [])) }
     ensures none { IfNone result (IsNumbered (2 ^ 64 - 1) name.now) }
 {
     match number_in(name) {
@@ -132,7 +140,8 @@ fn higher(known: Option<u64>, number: u64) -> u64
 
 /// The highest number of a manifest where a file of this name is added.
 fn highest_with(highest: Option<u64>, name: &str) -> Option<u64>
-    ensures { (front : List (List ℕ)) → IsHighestManifest front highest → IsHighestManifest (front ++ name.now ∷ []) result }
+    ensures { (front : List (List ℕ)) → IsHighestManifest front highest
+        → IsHighestManifest (front ++ name.now ∷ []) result }
 {
     match manifest_in(name) {
         Some(number) => Some(higher(highest, number)),

@@ -24,7 +24,8 @@ impl<S: Shelf> NewParts<S> {
     /// No record, and the ends of a board for the usual options. `AllocError` where a growth was
     /// refused.
     pub fn make(alloc: Global) -> Result<NewParts<S>, AllocError>
-        ensures board { IfOk result (λ p. IsNewBoard p.publisher.board usual p.publisher p.pinners.items) }
+        ensures board { IfOk result (λ p.
+            IsNewBoard p.publisher.board usual p.publisher p.pinners.items) }
         ensures seats { IfOk result (λ p. vec_len p.pinners ≡ usual.readers) }
     {
         let records = Records::new(alloc)?;

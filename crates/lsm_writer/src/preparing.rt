@@ -2,7 +2,8 @@
 
 ghost use Rattle.std.specs.Prelude.{◌≡◌, IfErr, IfOk, map, string_bytes};
 ghost use Rattle.lsm_directory.specs.Looking.{LooksStopped, OnlyLooks};
-ghost use Rattle.lsm_writer.specs.Preparing.{IsLookedAt, IsPrepared, IsUnprepared, LooksAtLogs, OnlyLocks, StopsLooking};
+ghost use Rattle.lsm_writer.specs.Preparing.{IsLookedAt, IsPrepared, IsUnprepared, LooksAtLogs};
+ghost use Rattle.lsm_writer.specs.Preparing.{OnlyLocks, StopsLooking};
 
 use crate::names::start_among;
 use crate::start::Prepared;
@@ -23,7 +24,8 @@ fn logs_for<C: FolderCalls, R: Wait>(
     beside_log: bool,
     names: Vec<String>,
 ) -> Result<Vec<FolderFile>, ShelfFault>
-    ensures told { IfOk result (λ files. LooksAtLogs beside_log (map string_bytes names.items) files.items (C.calls folder.old) (C.calls folder.new)) }
+    ensures told { IfOk result (λ files. LooksAtLogs beside_log (map string_bytes names.items)
+        files.items (C.calls folder.old) (C.calls folder.new)) }
     ensures refused { IfErr result (λ e. LooksStopped e (C.calls folder.old) (C.calls folder.new)) }
     ensures looked { OnlyLooks (C.calls folder.old) (C.calls folder.new) }
     ensures place { C.place folder.new ≡ C.place folder.old }
@@ -41,8 +43,10 @@ fn look<C: FolderCalls, R: Wait>(
     folder: &mut C,
     options: IngestOptions,
 ) -> Result<Prepared, WriterFault>
-    ensures prepared { IfOk result (λ p. IsLookedAt options p.start p.logs.items (C.calls folder.old) (C.calls folder.new)) }
-    ensures refused { IfErr result (λ e. StopsLooking options e (C.calls folder.old) (C.calls folder.new)) }
+    ensures prepared { IfOk result (λ p.
+        IsLookedAt options p.start p.logs.items (C.calls folder.old) (C.calls folder.new)) }
+    ensures refused { IfErr result (λ e.
+        StopsLooking options e (C.calls folder.old) (C.calls folder.new)) }
     ensures looked { OnlyLooks (C.calls folder.old) (C.calls folder.new) }
     ensures place { C.place folder.new ≡ C.place folder.old }
 {
@@ -63,8 +67,10 @@ pub fn prepare<C: FolderCalls, R: Wait>(
     folder: &mut C,
     options: IngestOptions,
 ) -> Result<Prepared, WriterFault>
-    ensures prepared { IfOk result (λ p. IsPrepared options p.start p.logs.items (C.calls folder.old) (C.calls folder.new)) }
-    ensures refused { IfErr result (λ e. IsUnprepared options e (C.calls folder.old) (C.calls folder.new)) }
+    ensures prepared { IfOk result (λ p.
+        IsPrepared options p.start p.logs.items (C.calls folder.old) (C.calls folder.new)) }
+    ensures refused { IfErr result (λ e.
+        IsUnprepared options e (C.calls folder.old) (C.calls folder.new)) }
     ensures looked { OnlyLocks (C.calls folder.old) (C.calls folder.new) }
     ensures place { C.place folder.new ≡ C.place folder.old }
 {

@@ -66,8 +66,12 @@ pub fn ingest<S: Shelf, R: Wait, O: Write, E: Write>(
     out: &mut O,
     err: &mut E,
 ) -> u8
-    ensures done { result ≡ 0 → IsBroughtIn S.honest prepared.now.start prepared.now.logs.items batch.now (S.told shelf.old) (S.told shelf.new) (O.contents out.old) (O.contents out.new) }
-    ensures refused { result ≢ 0 → (result ≡ 1) × ((fault : WriterFault) × IsRefused (Stored S.Receipt (S.is_of (S.told shelf.old).place) S.Receipt.number S.Receipt.image) (S.refuses (S.told shelf.old).place) S.honest prepared.now.start prepared.now.logs.items batch.now fault (S.told shelf.old) (S.told shelf.new) (O.contents out.old) (O.contents out.new)) }
+    ensures done { result ≡ 0 → IsBroughtIn S.honest prepared.now.start prepared.now.logs.items
+        batch.now (S.told shelf.old) (S.told shelf.new) (O.contents out.old) (O.contents out.new) }
+    ensures refused { result ≢ 0 → (result ≡ 1) × ((fault : WriterFault) × IsRefused (Stored
+        S.Receipt (S.is_of (S.told shelf.old).place) S.Receipt.number S.Receipt.image) (S.refuses
+        (S.told shelf.old).place) S.honest prepared.now.start prepared.now.logs.items batch.now
+        fault (S.told shelf.old) (S.told shelf.new) (O.contents out.old) (O.contents out.new)) }
     ensures quiet { result ≡ 0 → Keeps (E.contents err.old) (E.contents err.new) }
 {
     let done = bring_in(rt, alloc, shelf, prepared, batch, out);
@@ -94,8 +98,11 @@ pub fn clean<C: FolderCalls + Send + Sync, R: Wait, O: Write, E: Write>(
 ) -> u8
 where
     C::Mark: Send + Sync,
-    ensures done { result ≡ 0 → IsCleaned (AreHonest C.calls) (C.place folder.old) (C.calls folder.old) (C.calls folder.new) (O.contents out.old) (O.contents out.new) }
-    ensures refused { result ≢ 0 → (result ≡ 1) × ((fault : WriterFault) × IsUncleaned (AreHonest C.calls) (C.place folder.old) fault (C.calls folder.old) (C.calls folder.new) (O.contents out.old) (O.contents out.new)) }
+    ensures done { result ≡ 0 → IsCleaned (AreHonest C.calls) (C.place folder.old)
+        (C.calls folder.old) (C.calls folder.new) (O.contents out.old) (O.contents out.new) }
+    ensures refused { result ≢ 0 → (result ≡ 1)
+        × ((fault : WriterFault) × IsUncleaned (AreHonest C.calls) (C.place folder.old) fault
+        (C.calls folder.old) (C.calls folder.new) (O.contents out.old) (O.contents out.new)) }
     ensures quiet { result ≡ 0 → Keeps (E.contents err.old) (E.contents err.new) }
 {
     let done = clean_folder(rt, alloc, folder, out);
@@ -128,7 +135,8 @@ pub fn open_noting(
 ) -> Result<SystemFolder<HostRuntime>, WriterFault>
     ensures calls { IfOk result (λ f. system_calls f ≡ opened ∷ []) }
     ensures place { IfOk result (λ f. IsAtPath path.now (system_place f)) }
-    ensures fault { IfErr result (λ e. (fault : ShelfFault) × (e ≡ of_shelf fault) × NotNamed fault) }
+    ensures fault { IfErr result (λ e. (fault : ShelfFault) × (e ≡ of_shelf fault)
+        × NotNamed fault) }
 {
     match SystemFolder::open_noting(files, path, reasons) {
         Ok(folder) => Ok(folder),

@@ -2,7 +2,9 @@
 
 ghost use Rattle.std.specs.Prelude.{◌≡◌, IfErr, IfOk, OnOk};
 ghost use Rattle.lsm_directory.specs.Logs.{NoneUnread};
-ghost use Rattle.lsm_writer.specs.Starting.{IsFlushed, IsNew, IsNotOpened, IsReopened, IsStarted, IsStartRefusal, IsUnbegun, IsUncreated, IsUnflushed, IsUnopened, OpensBeside};
+ghost use Rattle.lsm_writer.specs.Starting.{IsFlushed, IsNew, IsNotOpened, IsReopened, IsStarted};
+ghost use Rattle.lsm_writer.specs.Starting.{IsStartRefusal, IsUnbegun, IsUncreated, IsUnflushed};
+ghost use Rattle.lsm_writer.specs.Starting.{IsUnopened, OpensBeside};
 ghost use Rattle.lsm_shelf.specs.Stored.{Stored};
 
 use crate::parts::Parts;
@@ -24,7 +26,8 @@ fn judge_logs<S: Shelf, R: Wait>(
     logs: &[FolderFile],
 ) -> Result<(), WriterFault>
     ensures flushed { OnOk result (IsFlushed logs.now (S.told shelf.old) (S.told shelf.new)) }
-    ensures refused { IfErr result (λ e. IsUnflushed (S.refuses (S.told shelf.old).place) logs.now e (S.told shelf.old) (S.told shelf.new)) }
+    ensures refused { IfErr result (λ e. IsUnflushed (S.refuses (S.told shelf.old).place) logs.now e
+        (S.told shelf.old) (S.told shelf.new)) }
     ensures place { OnOk result ((S.told shelf.new).place ≡ (S.told shelf.old).place) }
 {
     // A journal that nothing is sent through has no use for its limit.
@@ -44,7 +47,8 @@ fn refuse_unflushed<S: Shelf, R: Wait>(
     logs: &[FolderFile],
 ) -> Result<(), WriterFault>
     ensures flushed { OnOk result (IsFlushed logs.now (S.told shelf.old) (S.told shelf.new)) }
-    ensures refused { IfErr result (λ e. IsUnflushed (S.refuses (S.told shelf.old).place) logs.now e (S.told shelf.old) (S.told shelf.new)) }
+    ensures refused { IfErr result (λ e. IsUnflushed (S.refuses (S.told shelf.old).place) logs.now e
+        (S.told shelf.old) (S.told shelf.new)) }
     ensures place { OnOk result ((S.told shelf.new).place ≡ (S.told shelf.old).place) }
 {
     if logs.is_empty() {
@@ -64,7 +68,8 @@ fn create<N: Boarded, S: Shelf, R: Wait>(
     requires here { (S.told shelf.old).place ≡ N.place }
     ensures created { IfOk result (λ s. IsNew number s (S.told shelf.old) (S.told shelf.new)) }
     ensures place { OnOk result ((S.told shelf.new).place ≡ N.place) }
-    ensures refused { IfErr result (λ e. IsUncreated number (S.refuses N.place) e (S.told shelf.old) (S.told shelf.new)) }
+    ensures refused { IfErr result (λ e.
+        IsUncreated number (S.refuses N.place) e (S.told shelf.old) (S.told shelf.new)) }
 {
     if number == u64::MAX {
         return Err(WriterFault::Directory(DirectoryFault::NumbersSpent));
@@ -90,7 +95,8 @@ fn create_beside<N: Boarded, S: Shelf, R: Wait>(
     requires here { (S.told shelf.old).place ≡ N.place }
     ensures flushed { OnOk result (NoneUnread 0 0 logs.now) }
     ensures created { IfOk result (λ s. IsNew number s (S.told shelf.old) (S.told shelf.new)) }
-    ensures refused { IfErr result (λ e. IsUnbegun number logs.now (S.refuses N.place) e (S.told shelf.old) (S.told shelf.new)) }
+    ensures refused { IfErr result (λ e.
+        IsUnbegun number logs.now (S.refuses N.place) e (S.told shelf.old) (S.told shelf.new)) }
 {
     if let Some(log) = first_unread(logs, 0, 0) {
         return Err(WriterFault::UnflushedLog(log));
@@ -109,9 +115,12 @@ fn reopen<N: Boarded, S: Shelf, R: Wait>(
     parts: Parts<N, S>,
 ) -> Result<State<N, S>, WriterFault>
     requires here { (S.told shelf.old).place ≡ N.place }
-    ensures opened { IfOk result (λ s. IsReopened S.honest s (S.told shelf.old) (S.told shelf.new)) }
+    ensures opened { IfOk result (λ s.
+        IsReopened S.honest s (S.told shelf.old) (S.told shelf.new)) }
     ensures place { OnOk result ((S.told shelf.new).place ≡ N.place) }
-    ensures refused { IfErr result (λ e. IsUnopened (Stored S.Receipt (S.is_of N.place) S.Receipt.number S.Receipt.image) (S.refuses N.place) S.honest e (S.told shelf.old) (S.told shelf.new)) }
+    ensures refused { IfErr result (λ e.
+        IsUnopened (Stored S.Receipt (S.is_of N.place) S.Receipt.number S.Receipt.image)
+        (S.refuses N.place) S.honest e (S.told shelf.old) (S.told shelf.new)) }
 {
     let options = Options::usual();
     let board = (parts.publisher, parts.pinners);
@@ -131,9 +140,12 @@ fn open_beside<N: Boarded, S: Shelf, R: Wait>(
     parts: Parts<N, S>,
 ) -> Result<State<N, S>, WriterFault>
     requires here { (S.told shelf.old).place ≡ N.place }
-    ensures opened { IfOk result (λ s. OpensBeside S.honest logs.now s (S.told shelf.old) (S.told shelf.new)) }
+    ensures opened { IfOk result (λ s.
+        OpensBeside S.honest logs.now s (S.told shelf.old) (S.told shelf.new)) }
     ensures place { OnOk result ((S.told shelf.new).place ≡ N.place) }
-    ensures refused { IfErr result (λ e. IsNotOpened (Stored S.Receipt (S.is_of N.place) S.Receipt.number S.Receipt.image) (S.refuses N.place) S.honest logs.now e (S.told shelf.old) (S.told shelf.new)) }
+    ensures refused { IfErr result (λ e.
+        IsNotOpened (Stored S.Receipt (S.is_of N.place) S.Receipt.number S.Receipt.image)
+        (S.refuses N.place) S.honest logs.now e (S.told shelf.old) (S.told shelf.new)) }
 {
     refuse_unflushed(rt, alloc, shelf, logs)?;
     match reopen(rt, alloc, shelf, parts) {
@@ -152,9 +164,12 @@ pub(crate) fn start<N: Boarded, S: Shelf, R: Wait>(
     parts: Parts<N, S>,
 ) -> Result<State<N, S>, WriterFault>
     requires here { (S.told shelf.old).place ≡ N.place }
-    ensures started { IfOk result (λ s. IsStarted S.honest prepared.now.start prepared.now.logs.items s (S.told shelf.old) (S.told shelf.new)) }
+    ensures started { IfOk result (λ s. IsStarted S.honest prepared.now.start
+        prepared.now.logs.items s (S.told shelf.old) (S.told shelf.new)) }
     ensures place { OnOk result ((S.told shelf.new).place ≡ N.place) }
-    ensures refused { IfErr result (λ e. IsStartRefusal (Stored S.Receipt (S.is_of N.place) S.Receipt.number S.Receipt.image) (S.refuses N.place) S.honest prepared.now.start prepared.now.logs.items e (S.told shelf.old) (S.told shelf.new)) }
+    ensures refused { IfErr result (λ e. IsStartRefusal (Stored S.Receipt (S.is_of N.place)
+        S.Receipt.number S.Receipt.image) (S.refuses N.place) S.honest prepared.now.start
+        prepared.now.logs.items e (S.told shelf.old) (S.told shelf.new)) }
 {
     match prepared.start {
         Start::Open => open_beside(rt, alloc, shelf, &prepared.logs, parts),

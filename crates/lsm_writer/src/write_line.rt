@@ -11,7 +11,8 @@ use std::alloc::{AllocError, Global};
 /// The key of this word gets the value of that word. None where one of them spells no bytes.
 fn put_in(alloc: Global, form: Form, key: &[u8], value: &[u8]) -> Result<Option<Write>, AllocError>
     ensures some { IfOk result (λ o. IfSome o (Spell form key.now (61 ∷ value.now))) }
-    ensures none { IfOk result (λ o. IfNone o ((w : Write) → Spell form key.now (61 ∷ value.now) w → ⊥)) }
+    ensures none { IfOk result (λ o.
+        IfNone o ((w : Write) → Spell form key.now (61 ∷ value.now) w → ⊥)) }
 {
     let Some(key) = form.read_bytes(alloc, key)? else {
         return Ok(None);
@@ -28,7 +29,8 @@ fn put_in(alloc: Global, form: Form, key: &[u8], value: &[u8]) -> Result<Option<
 /// The key of this word is deleted. None where it spells no bytes.
 fn delete_in(alloc: Global, form: Form, key: &[u8]) -> Result<Option<Write>, AllocError>
     ensures some { IfOk result (λ o. IfSome o (Spell form key.now (codes "!"))) }
-    ensures none { IfOk result (λ o. IfNone o ((w : Write) → Spell form key.now (codes "!") w → ⊥)) }
+    ensures none { IfOk result (λ o.
+        IfNone o ((w : Write) → Spell form key.now (codes "!") w → ⊥)) }
 {
     match form.read_bytes(alloc, key)? {
         Some(key) => Ok(Some(Write { key, value: None })),

@@ -2,8 +2,11 @@
 
 ghost use Rattle.std.specs.Prelude.{◌≡◌, None, Some, codes};
 ghost use Rattle.lsm_commands.specs.FaultText.{refusal_text};
-ghost use Rattle.lsm_writer.specs.WriterFault.{fault_text, of_input, of_manifest, of_open, of_shelf};
-ghost use Rattle.lsm_writer.specs.declared.writer_fault.WriterFault.TheVariants.{Directory as DirectoryVariant, OutOfMemory, State as StateVariant};
+ghost use Rattle.lsm_writer.specs.WriterFault.{fault_text, of_input, of_manifest, of_open};
+ghost use Rattle.lsm_writer.specs.WriterFault.{of_shelf};
+ghost use Rattle.lsm_writer.specs.declared.writer_fault.WriterFault.TheVariants.{Directory as DirectoryVariant};
+ghost use Rattle.lsm_writer.specs.declared.writer_fault.WriterFault.TheVariants.{OutOfMemory};
+ghost use Rattle.lsm_writer.specs.declared.writer_fault.WriterFault.TheVariants.{State as StateVariant};
 
 use crate::line_slip::LineSlip;
 use crate::refusals::of_state;
@@ -54,7 +57,8 @@ impl WriterFault {
 
 /// The refusal `10 Missing`.
 fn missing() -> Refusal
-    ensures { refusal_text result.number result.name.now result.field ≡ refusal_text 10 (codes "Missing") None }
+    ensures { refusal_text result.number result.name.now result.field
+        ≡ refusal_text 10 (codes "Missing") None }
 {
     Refusal {
         number: 10,
@@ -65,7 +69,8 @@ fn missing() -> Refusal
 
 /// The refusal `51 UnflushedLog`.
 fn unflushed(number: u64) -> Refusal
-    ensures { refusal_text result.number result.name.now result.field ≡ refusal_text 51 (codes "UnflushedLog") (Some number) }
+    ensures { refusal_text result.number result.name.now result.field
+        ≡ refusal_text 51 (codes "UnflushedLog") (Some number) }
 {
     Refusal {
         number: 51,

@@ -1,9 +1,8 @@
-use Rattle.std.proofs.Common.{◌≡◌, ◌≢◌, ◌∙◌, Result, Ok, Err, [], ◌∷◌, map, ap, subst, refl, true, inl, inr}
+use Rattle.std.proofs.Common.{◌≡◌, ◌≢◌, ◌∙◌, Result, Ok, Err, [], map, ap, subst, refl, true, inl, inr}
 use Rattle.std.specs.Prelude.{IfErr, IfOk}
 use Rattle.std.proofs.lemmas.Result.{IfOk-weaker}
 use Rattle.clap.specs.Words.{App, FailsBy, IsAmong, Kinds, app_of, fault_of, is_simple, is_simple_and_free, kind_of, subcommand_of}
 use Rattle.clap.specs.declared.error.Error.{Error}
-use Rattle.clap.specs.declared.error.ErrorKind.{ErrorKind}
 use Rattle.clap.specs.declared.error.ErrorKind.TheVariants.{OutOfMemory}
 use Rattle.clap.proofs.OnLiterals.{clap_on_literals}
 use Rattle.lsm_commands.specs.Grammar.{bare, check, clean, compact, dump, get, ingest, list, lsm, make_table, manifest, scan, script, with_inputs, with_looks}
@@ -26,14 +25,10 @@ faultless : {T : Type 0} (kinds : Kinds) (r : Result T Error) → FailsBy kinds 
 faultless kinds (Ok m) fails = fails
 faultless kinds (Err e) fails = tt
 
-none_among : (k : ErrorKind) (kinds : Kinds) → IsAmong k kinds → kinds ≢ []
-none_among k [] among = λ e. among
-none_among k (x ∷ xs) among = λ e. absurd cc
-
-faulty : {T : Type 0} (kinds : Kinds) (r : Result T Error) → FailsBy kinds r → IfErr r (λ e. kind_of e ≢ OutOfMemory → kinds ≢ [])
+faulty : {T : Type 0} (kinds : Kinds) (r : Result T Error) → FailsBy kinds r → IfErr r (λ e. kind_of e ≢ OutOfMemory → IsAmong (kind_of e) kinds)
 faulty kinds (Ok m) fails = tt
 faulty kinds (Err e) (inl memory) = λ other. absurd (other memory)
-faulty kinds (Err e) (inr among) = λ other. none_among (kind_of e) kinds among
+faulty kinds (Err e) (inr among) = λ other. among
 
 pub returns-clause-found : goal.returns-clause-found
 unfolding found_in
