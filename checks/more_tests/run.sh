@@ -1,23 +1,140 @@
 #!/usr/bin/env bash
-# Runs tests that are not part of the gate, since their proofs take long, without proofs (`rt try --test`): each folder here is a crate of
-# tests, its files named as a crate's with `.txt` behind, and `lines.txt` has the lines of crates.txt. Those of the store stand on the
-# files of its tests in the gate, or in their place. Names of folders choose among them. Needs rt.
+# Runs tests that are not part of the gate, since their proofs take long, without proofs (`rt try --test`): each folder
+# here is a crate of tests, its files named as a crate's with `.txt` behind, and `lines.txt` has the lines of crates.txt.
+# Names of folders choose among them. Needs rt, and nothing else.
+#
+# What costs is not the tests but the libraries below them, read again for each crate. So the crates are dealt out to as
+# many groups as there are processors, and each group is built as one crate, whose modules are the crates of tests. One
+# that does not compile is told from the others of its group by building each of these alone.
+#
+# Prints a line for each crate of tests, behind it what failed; then `N passed, M failed`, where a crate that was not
+# run counts as one that failed. Status 1 where M is not 0.
 set -euo pipefail
 here=$(cd "$(dirname "$0")" && pwd)
 top=$(cd "$here/../.." && pwd)
 scratch=$(mktemp -d)
 trap 'rm -rf "$scratch"' EXIT
-git -C "$top" ls-files -z crates crates.txt HANDLES | (cd "$top" && xargs -0 cp --parents -t "$scratch")
-cd "$scratch"
-status=0
-for name in ${*:-$(cd "$here" && ls -d lsm_*)}; do
-    (cd "$here/$name" && find . -name '*.txt') | while read -r file; do
-        mkdir -p "crates/$name/$(dirname "$file")"
-        cp "$here/$name/$file" "crates/$name/${file%.txt}"
-    done
-    sed -i "/^$name[: ]/d" crates.txt
-    grep "^$name[: ]" "$here/lines.txt" >> crates.txt
-    echo "== $name"
-    (cd "crates/$name" && rt try --test --seconds 300) || status=1
+names=("$@")
+[[ $# -gt 0 ]] || mapfile -t names < <(cd "$here" && ls -d lsm_*)
+
+line_of() { # NAME: its line of crates.txt
+    grep -E "^$1( [^:]*)?:" "$here/lines.txt"
+}
+
+for name in "${names[@]}"; do
+    if [[ ! -d $here/$name ]] || ! line_of "$name" > /dev/null; then
+        echo "$name is no folder of checks/more_tests with a line in lines.txt" >&2
+        exit 2
+    fi
 done
-exit "$status"
+
+cp "$top/crates.txt" "$top/HANDLES" "$scratch"
+for crate in "$top"/crates/*; do
+    mkdir -p "$scratch/crates/${crate##*/}"
+    find "$crate" -mindepth 1 -maxdepth 1 ! -name out ! -name must-fail -exec cp -r -t "$scratch/crates/${crate##*/}" {} +
+done
+mkdir "$scratch/.git"
+
+sources_of() { # NAME: its files, those of a crate of this name in the gate first
+    [[ ! -d $top/crates/$1 ]] || find "$top/crates/$1/src" -name '*.rt' -print0
+    find "$here/$1/src" -name '*.rt.txt' -print0
+}
+
+join() { # CRATE NAME..: makes one crate of these crates of tests, each a module of it
+    local crate=$1 to="$scratch/crates/$1" name file as lower
+    shift
+    mkdir -p "$to/src"
+    printf '//! Crates of tests, joined.\n#![tactic(auto)]\n' > "$to/src/lib.rt"
+    for name in "$@"; do
+        while IFS= read -r -d '' file; do
+            as=${file##*/src/}
+            as="$to/src/$name/${as%.txt}"
+            [[ $as != */lib.rt ]] || as="$to/src/$name.rt"
+            mkdir -p "$(dirname "$as")"
+            # names from the root are names from the module, but for those of proofs, which are not read
+            sed -E "/^#!\[tactic/d; s/\bcrate::/crate::$name::/g; s/crate::$name::(proofs|specs)::/crate::\1::/g" \
+                "$file" > "$as"
+        done < <(sources_of "$name")
+        printf '#[cfg(test)]\nmod %s;\n' "$name" >> "$to/src/lib.rt"
+    done
+    lower=$(for name in "$@"; do line_of "$name" | sed 's/.*://'; done | tr ' ' '\n' | sort -u | tr '\n' ' ')
+    echo "$crate tests_may=Threads+Wait: $lower"
+}
+
+# Deals the crates out, the longest first, each to the group that is shortest so far.
+size() { cat "$here/$1"/src/*.rt.txt | wc -l; }
+groups=$(nproc)
+by_memory=$(awk '/^MemAvailable:/ { print int($2 / 3145728) }' /proc/meminfo)
+((groups <= by_memory)) || groups=$((by_memory > 0 ? by_memory : 1))
+((groups <= ${#names[@]})) || groups=${#names[@]}
+members=() lengths=()
+for ((i = 0; i < groups; i++)); do members[i]="" lengths[i]=0; done
+while read -r length name; do
+    least=0
+    for ((i = 1; i < groups; i++)); do ((lengths[i] >= lengths[least])) || least=$i; done
+    # (a build of libraries alone weighs as much as some hundred lines)
+    members[least]+=" $name" lengths[least]=$((lengths[least] + length + 100))
+done < <(for name in "${names[@]}"; do echo "$(size "$name") $name"; done | sort -k1,1nr -k2)
+
+run_joined() { # CRATE: runs its tests, with what they print in CRATE.log
+    (cd "$scratch/crates/$1" && rt try --test --seconds 600) > "$scratch/$1.log" 2>&1 || true
+}
+
+is_run() { # CRATE: whether its tests were built and run to their end
+    grep -q '^test result: ' "$scratch/$1.log"
+}
+
+tell() { # CRATE NAME..: a line for each of these crates of tests, and what failed
+    local crate=$1 name
+    shift
+    for name in "$@"; do
+        if is_run "$crate"; then
+            awk -v name="$name" '
+                /^test / {
+                    is_ours = index($2, name "::") == 1
+                    is_bad = is_ours && $NF != "ok"
+                    if (is_ours) { if (is_bad) failed++; else passed++ }
+                }
+                is_bad && !/^test result/ { told = told "    " $0 "\n" }
+                /^test result/ { is_bad = 0 }
+                END {
+                    if (passed + failed == 0) { failed = 1; told = "    no test of it was run\n" }
+                    printf "%s: %d passed, %d failed\n%s", name, passed, failed, told
+                }' "$scratch/$crate.log"
+        else
+            echo "$name: 0 passed, 1 failed"
+            echo "    it was not built, or its tests were not run:"
+            tail -n 12 "$scratch/$crate.log" | cut -c1-300 | sed 's/^/    /'
+        fi
+    done
+}
+
+run_group() { # CRATE NAME..: runs a group, or each crate of it alone where they cannot be built as one
+    local crate=$1 name
+    shift
+    run_joined "$crate"
+    if is_run "$crate" || (($# == 1)); then
+        tell "$crate" "$@" > "$scratch/$crate.told"
+        return
+    fi
+    for name in "$@"; do
+        run_joined "alone_$name"
+        tell "alone_$name" "$name"
+    done > "$scratch/$crate.told"
+}
+
+for ((i = 0; i < groups; i++)); do
+    join "group_$i" ${members[i]}
+    for name in ${members[i]}; do join "alone_$name" "$name"; done
+done >> "$scratch/crates.txt"
+for ((i = 0; i < groups; i++)); do run_group "group_$i" ${members[i]} & done
+wait
+cat "$scratch"/group_*.told | awk '
+    /^[a-z_]+: [0-9]+ passed, [0-9]+ failed$/ { passed += $2; failed += $4; crates++ }
+    { print }
+    END {
+        lost = '"${#names[@]}"' - crates
+        if (lost) { failed += lost; print lost " crates of tests were not run" }
+        printf "%d passed, %d failed\n", passed, failed
+        exit failed > 0
+    }'
