@@ -2,7 +2,7 @@
 use Rattle.std.proofs.Common.{◌≡◌, ℕ, suc, zero, ◌+◌, ◌<◌, length, get_or, take, drop, map, List, [], ◌∷◌, ◌++◌, Bool, true, false, cond, refl, ap, sym, subst, ◌∙◌, append_assoc, append-nil, add-one, arith}
 use Rattle.std.specs.List.{filter}
 use Rattle.std.specs.List.Sorted.{IsSortedBy}
-use Rattle.std.specs.Prelude.{Option, Some, None}
+use Rattle.std.specs.Prelude.{Option, Some, None, ◌==◌}
 use Rattle.std.proofs.lemmas.List.{map-append, length-set}
 use Rattle.std.proofs.lemmas.List.Elements.{filter_more}
 use Rattle.std.proofs.lemmas.List.Kept.{IsSortedBy-filter}
@@ -75,3 +75,23 @@ pub changed_is : (deleted : List ℕ) (added : List (ℕ × Table)) (pointer : O
 unfolding changed version_of
 changed_is deleted added pointer last v ts ps tables pointers =
     ap (λ ls. version_of last ls ps) tables ∙ ap (λ ls. version_of last (levels_after deleted added 0 v.tables) ls) pointers
+
+-- ---- tables that come to a level
+
+added_at : (added : List (ℕ × Table)) (i : ℕ) (a : ℕ × Table) → i < length added → a ≡ get_or added i a → drop i added ≡ a ∷ drop (i + 1) added
+added_at [] i a lt is = absurd (omega arith)
+added_at (b ∷ added) zero a lt is = ap (λ c. c ∷ added) (sym is)
+added_at (b ∷ added) (suc i) a lt is = rw add-one (let h = added_at added i a (omega arith) is in rw add-one at h)
+
+-- one of those was put into its place, or goes elsewhere
+pub coming_more : (n i : ℕ) (added : List (ℕ × Table)) (a : ℕ × Table) (b : Bool) (us us' whole : List Table) → i < length added → a ≡ get_or added i a → (a.0 == n) ≡ b
+    → us' ≡ cond b (placed_in a.1 us) us → placed_all (coming n (drop i added)) us ≡ whole → placed_all (coming n (drop (i + 1) added)) us' ≡ whole
+coming_more n i added a b us us' whole lt is test made before =
+    go b made ∙ sym (ap (λ q. placed_all (map (λ c. c.1) (cond q (a ∷ rest) rest)) us) test) ∙ sym (ap (λ xs. placed_all (coming n xs) us) (added_at added i a lt is)) ∙ before
+  where
+    rest : List (ℕ × Table)
+    rest = filter (λ c. c.0 == n) (drop (i + 1) added)
+
+    go : (b : Bool) → us' ≡ cond b (placed_in a.1 us) us → placed_all (map (λ c. c.1) rest) us' ≡ placed_all (map (λ c. c.1) (cond b (a ∷ rest) rest)) us
+    go true made = ap (placed_all (map (λ c. c.1) rest)) made
+    go false made = ap (placed_all (map (λ c. c.1) rest)) made

@@ -1,6 +1,6 @@
 -- Numbers of tables that are appended level by level.
-use Rattle.std.proofs.Common.{◌≡◌, ℕ, suc, ◌+◌, ◌<◌, length, get_or, drop, map, List, [], ◌∷◌, ◌++◌, refl, ap, sym, ◌∙◌, append_assoc, add-one}
-use Rattle.std.proofs.lemmas.List.{map-append}
+use Rattle.std.proofs.Common.{◌≡◌, ℕ, suc, ◌+◌, ◌<◌, length, get_or, take, drop, map, List, [], ◌∷◌, ◌++◌, refl, ap, sym, ◌∙◌, append_assoc, add-one}
+use Rattle.std.proofs.lemmas.List.{map-append, take_more}
 use Rattle.lsm_table.specs.Registry.{Table}
 use Rattle.lsm_levels.specs.Files.{File}
 use Rattle.lsm_version.specs.Versions.{files_of, files_from}
@@ -33,3 +33,11 @@ numbers_more f xs i x old new whole lt is made before =
 
 pub front_more : (a old new : List ℕ) → ((more : List ℕ) × (old ≡ a ++ more)) → ((more : List ℕ) × (new ≡ old ++ more)) → (more : List ℕ) × (new ≡ a ++ more)
 front_more a old new f g = (f.0 ++ g.0, g.1 ∙ ap (λ (ns : List ℕ). ns ++ g.0) f.1 ∙ append_assoc a f.0 g.0)
+
+-- the number of one table more
+pub one_number_more : (ts : List Table) (i n : ℕ) (x : Table) (old before after : List ℕ) → i < length ts → x ≡ get_or ts i x → n ≡ x.number → after ≡ before ++ n ∷ []
+    → before ≡ old ++ map (λ t. t.number) (take i ts) → after ≡ old ++ map (λ t. t.number) (take (i + 1) ts)
+one_number_more ts i n x old before after lt is same made here =
+    made ∙ ap (λ ns. ns ++ n ∷ []) here ∙ append_assoc old (map (λ t. t.number) (take i ts)) (n ∷ [])
+    ∙ ap (λ (m : ℕ). old ++ (map (λ t. t.number) (take i ts) ++ m ∷ [])) (same ∙ ap (λ (t : Table). t.number) is)
+    ∙ ap (λ ns. old ++ ns) (sym (ap (map (λ t. t.number)) (take_more ts i x lt) ∙ map-append (λ t. t.number) (take i ts) (get_or ts i x ∷ [])))
