@@ -1,7 +1,8 @@
 #!/usr/bin/env bash
 # Opens the tests that stand beside the gate as files of Rattle: open.sh FOLDER makes a second root there, in which an
-# editor, `rt fmt`, `rt check`, `rt try --test` and a search by language work, with each crate of tests as a folder of
-# `.rt` and `.antt` files, and the crates of this repository as links. `save.sh FOLDER` brings edits back.
+# editor, `rt fmt`, `rt check`, `rt try --test` and a search by language work: each crate of tests is a folder of `.rt`
+# and `.antt` files, beside copies of the crates of this repository, which are only to be read. `save.sh FOLDER` brings
+# edits of tests back.
 #
 # FOLDER lies outside the repository, since `rt ci` stops at each `.rt` file in it that no check reads; there the files
 # are kept with `.txt` behind their names.
@@ -16,17 +17,20 @@ to=$(realpath -m "$1")
 mkdir -p "$to/crates"
 cp "$top/HANDLES" "$to"
 cp "$top/crates.txt" "$to"
-for crate in "$top"/crates/*; do ln -s "$crate" "$to/crates"; done
+# (links would do for an editor, but rt takes no crate behind one)
+for crate in "$top"/crates/*; do
+    name=${crate##*/}
+    mkdir "$to/crates/$name"
+    find "$crate" -mindepth 1 -maxdepth 1 ! -name out ! -name must-fail -exec cp -r -t "$to/crates/$name" {} +
+    [[ -d $here/$name ]] || echo "$name"
+done > "$to/.lower"
+while read -r name; do find "$to/crates/$name" -type f -exec chmod a-w {} +; done < "$to/.lower"
 for folder in "$here"/lsm_*; do
     name=${folder##*/}
     crate="$to/crates/$name"
-    rm -f "$crate"
-    mkdir "$crate"
+    mkdir -p "$crate"
     # a crate of that name in the gate lends its files; save.sh leaves them there
-    if [[ -d $top/crates/$name ]]; then
-        find "$top/crates/$name" -mindepth 1 -maxdepth 1 ! -name out -exec cp -r -t "$crate" {} +
-        (cd "$crate" && find . -type f -exec sha256sum {} +) > "$crate/.lent"
-    fi
+    [[ ! -d $top/crates/$name ]] || (cd "$crate" && find . -type f ! -name .lent -exec sha256sum {} + > .lent)
     cp -r "$folder/." "$crate"
     find "$crate" -name '*.txt' -exec bash -c 'for it; do mv "$it" "${it%.txt}"; done' _ {} +
     sed -i -E "/^$name( [^:]*)?:/d" "$to/crates.txt"
@@ -34,4 +38,4 @@ done
 cat "$here/lines.txt" >> "$to/crates.txt"
 # what was opened: save.sh refuses where the repository has become another one since
 (cd "$here" && find lsm_* lines.txt -type f -exec sha256sum {} + | sort -k2) > "$to/.opened"
-echo "$to: $(find "$to/crates" -name '*.rt' | wc -l) .rt files of $(wc -l < "$here/lines.txt") crates of tests"
+echo "$to: $(wc -l < "$here/lines.txt") crates of tests"

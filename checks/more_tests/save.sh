@@ -15,7 +15,7 @@ new="$scratch/new"
 mkdir "$new"
 for crate in "$from"/crates/*; do
     name=${crate##*/}
-    [[ ! -L $crate && -d $crate ]] || continue
+    [[ -d $crate ]] && ! grep -qxF "$name" "$from/.lower" || continue
     while IFS= read -r -d '' file; do
         # what a crate of the gate lent stays with it, unless it is another file now
         if [[ -f $crate/.lent && ! -f $here/$name/$file.txt && ! -f $here/$name/$file ]]; then
