@@ -37,7 +37,7 @@ impl<N: Boarded, S: Shelf> State<N, S> {
     /// The value of a user key, or none: as of the snapshot, or of the last sequence. Only the
     /// current version is read.
     ///
-    /// `UnknownSnapshot` where the snapshot is not live; then `Read` as `Version::get`, over an
+    /// `UnknownSnapshot` where the snapshot is not live; then `Read` as `lsm_reads::get`, over an
     /// honest shelf only where the shelf refused or memory ran out.
     pub fn get(
         &self,
