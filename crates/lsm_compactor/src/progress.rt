@@ -1,7 +1,7 @@
 //! How far a compaction is, in lines on standard error.
 
-ghost use Rattle.std.specs.Prelude.{◌++◌, IsFalse, OnOk, codes, decimal};
-ghost use Rattle.std.specs.Io.KnownBytes.{Appends, Keeps};
+ghost use Rattle.std.specs.Prelude.{IsFalse};
+ghost use Rattle.std.specs.Io.KnownBytes.{Keeps};
 
 use lsm_slots::Boarded;
 use lsm_state::State;
@@ -32,34 +32,22 @@ fn census_of<N: Boarded, S: Shelf>(state: &State<N, S>) -> Census {
 }
 
 /// Writes a line: `opened 17 files at 3 levels`.
-fn write_opened<E: Write>(err: &mut E, files: u64, levels: u64) -> io::Result<()>
-    ensures { OnOk result (Appends (E.contents err.old) (E.contents err.new) (codes "opened "
-        ++ (decimal files ++ (codes " files at " ++ (decimal levels ++ codes " levels\n"))))) }
-{
+fn write_opened<E: Write>(err: &mut E, files: u64, levels: u64) -> io::Result<()> {
     writeln!(err, "opened {files} files at {levels} levels")
 }
 
 /// Writes a line: `worker 1 begins job 5`.
-pub(crate) fn write_job<E: Write>(err: &mut E, worker: usize, ticket: u64) -> io::Result<()>
-    ensures { OnOk result (Appends (E.contents err.old) (E.contents err.new) (codes "worker "
-        ++ (decimal worker ++ (codes " begins job " ++ (decimal ticket ++ codes "\n"))))) }
-{
+pub(crate) fn write_job<E: Write>(err: &mut E, worker: usize, ticket: u64) -> io::Result<()> {
     writeln!(err, "worker {worker} begins job {ticket}")
 }
 
 /// Writes a line: `installed 4 results`.
-fn write_installed<E: Write>(err: &mut E, results: u128) -> io::Result<()>
-    ensures { OnOk result (Appends (E.contents err.old) (E.contents err.new)
-        (codes "installed " ++ (decimal results ++ codes " results\n"))) }
-{
+fn write_installed<E: Write>(err: &mut E, results: u128) -> io::Result<()> {
     writeln!(err, "installed {results} results")
 }
 
 /// Writes a line: `removed 12 files`.
-fn write_removed<E: Write>(err: &mut E, files: usize) -> io::Result<()>
-    ensures { OnOk result (Appends (E.contents err.old) (E.contents err.new)
-        (codes "removed " ++ (decimal files ++ codes " files\n"))) }
-{
+fn write_removed<E: Write>(err: &mut E, files: usize) -> io::Result<()> {
     writeln!(err, "removed {files} files")
 }
 

@@ -1,7 +1,7 @@
 //! How far long work is, in lines on standard error.
 
-ghost use Rattle.std.specs.Prelude.{◌≡◌, ◌++◌, IsFalse, OnOk, codes, decimal};
-ghost use Rattle.std.specs.Io.KnownBytes.{Appends, Keeps};
+ghost use Rattle.std.specs.Prelude.{◌≡◌, IsFalse};
+ghost use Rattle.std.specs.Io.KnownBytes.{Keeps};
 
 use std::io::{self, Write};
 
@@ -17,18 +17,12 @@ pub(crate) struct Progress {
 }
 
 /// Writes a line: `scanned 200000 keys`.
-fn write_keys<E: Write>(err: &mut E, keys: u64) -> io::Result<()>
-    ensures { OnOk result (Appends (E.contents err.old) (E.contents err.new)
-        (codes "scanned " ++ (decimal keys ++ codes " keys\n"))) }
-{
+fn write_keys<E: Write>(err: &mut E, keys: u64) -> io::Result<()> {
     writeln!(err, "scanned {keys} keys")
 }
 
 /// Writes a line: `checked 3 of 17 files`.
-fn write_files<E: Write>(err: &mut E, done: u64, all: u64) -> io::Result<()>
-    ensures { OnOk result (Appends (E.contents err.old) (E.contents err.new) (codes "checked "
-        ++ (decimal done ++ (codes " of " ++ (decimal all ++ codes " files\n"))))) }
-{
+fn write_files<E: Write>(err: &mut E, done: u64, all: u64) -> io::Result<()> {
     writeln!(err, "checked {done} of {all} files")
 }
 

@@ -7,7 +7,7 @@ use Rattle.lsm_compactor.proofs.compacting.compact_as.Goals as goal
 
 pub returns-in_err-store-clause-fault : goal.returns-in_err-store-clause-fault
 returns-in_err-store-clause-fault g c =
-    let p = err_from_is_err_and c.from_residual.result c.from_residual.ensures.1 in
+    let p = err_from_is_err_and c.from_residual-in_err-store.result c.from_residual-in_err-store.ensures.1 in
     rw (p.1, p.2) (inr (inl c.in_err-store.ensures.refused))
 
 pub returns-in_err-done-clause-fault : goal.returns-in_err-done-clause-fault

@@ -20,13 +20,13 @@ returns-clause-left g c =
 
 pub returns-in_err-opened-clause-fault : goal.returns-in_err-opened-clause-fault
 returns-in_err-opened-clause-fault g c =
-    let p = err_from_is_err_and c.from_residual.result c.from_residual.ensures.1 in
+    let p = err_from_is_err_and c.from_residual-in_err-opened.result c.from_residual-in_err-opened.ensures.1 in
     let Stored : ℕ → List ℕ → Type 0 = λ number image. (r : g.row.S-Receipt.Denot) × g.S.Shelf.is_of g.N.Naming.place r × (g.S.Receipt.Slip.number r ≡ number) × (g.S.Receipt.Slip.image r ≡ image) in
     rw (p.1, p.2) (fault_from_open Stored (g.S.Shelf.refuses g.N.Naming.place) g.S.Shelf.honest c.in_err-opened.field-0.0 _ _ c.in_err-opened.ensures.refused)
 
 pub returns-in_err-opened-clause-left : goal.returns-in_err-opened-clause-left
 returns-in_err-opened-clause-left g c =
-    let p = err_from_is_err_and c.from_residual.result c.from_residual.ensures.1 in
+    let p = err_from_is_err_and c.from_residual-in_err-opened.result c.from_residual-in_err-opened.ensures.1 in
     let Stored : ℕ → List ℕ → Type 0 = λ number image. (r : g.row.S-Receipt.Denot) × g.S.Shelf.is_of g.N.Naming.place r × (g.S.Receipt.Slip.number r ≡ number) × (g.S.Receipt.Slip.image r ≡ image) in
     rw (p.1, p.2) (keeps_leaves Stored (g.S.Shelf.refuses g.N.Naming.place) g.S.Shelf.honest c.args.request.now.form c.args.request.now.command.now c.in_err-opened.field-0.0 _ _ _ c.in_err-opened.ensures.refused)
 

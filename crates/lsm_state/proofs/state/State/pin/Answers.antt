@@ -9,13 +9,11 @@ use Rattle.lsm_state.proofs.state.State.pin.Goals.{in-Some, in-None}
 
 pub invariant_of-self : goal.invariant_of-self
 invariant_of-self g c =
-    let h : Held = record { options = c.self.inside.options; slots = c.self.inside.slots; snapshots = c.self.inside.snapshots; next = c.self.inside.next; next_ticket = c.self.inside.next_ticket; live = c.self.inside.live; journal = c.self.inside.journal; halted = c.self.inside.halted; pinners = c.self.inside.pinners.items } in (
-      c.self.invariant.0,
-      elim c.match-pin.branch [
-        | in-Some w ↦ (let m = w.in-Some.ensures.some.1 in lawful_pinned g.S.Shelf.honest g.N.Boarded.board h c.pin.new.self _ _ _ c.self.invariant.1 m.2)
-        | in-None w ↦ lawful_same g.S.Shelf.honest g.N.Boarded.board h c.pin.new.self c.self.invariant.1 w.in-None.ensures.none.1
-      ],
-    )
+    let h : Held = record { options = c.self.inside.options; slots = c.self.inside.slots; snapshots = c.self.inside.snapshots; next = c.self.inside.next; next_ticket = c.self.inside.next_ticket; live = c.self.inside.live; journal = c.self.inside.journal; halted = c.self.inside.halted; pinners = c.self.inside.pinners.items } in
+    elim c.match-pin.branch [
+      | in-Some w ↦ (let m = w.in-Some.ensures.some.1 in lawful_pinned g.S.Shelf.honest g.N.Boarded.board h c.pin.new.self _ _ _ c.self.invariant m.2)
+      | in-None w ↦ lawful_same g.S.Shelf.honest g.N.Boarded.board h c.pin.new.self c.self.invariant w.in-None.ensures.none.1
+    ]
 
 pub returns-clause-event : goal.returns-clause-event
 returns-clause-event g c =

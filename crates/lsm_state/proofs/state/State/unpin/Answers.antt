@@ -10,7 +10,7 @@ pub invariant_of-self-2 : goal.invariant_of-self-2
 invariant_of-self-2 g c =
     let h : Held = record { options = c.self.inside.options; slots = c.self.inside.slots; snapshots = c.self.inside.snapshots; next = c.self.inside.next; next_ticket = c.self.inside.next_ticket; live = c.self.inside.live; journal = c.self.inside.journal; halted = c.self.inside.halted; pinners = c.self.inside.pinners.items } in
     let m = c.unpin.ensures.unpinned c.if-not-unpin.false in
-    (c.self.invariant.0, lawful_pinned g.S.Shelf.honest g.N.Boarded.board h c.unpin.new.self c.args.id (m.0 + 1) m.0 c.self.invariant.1 m.1)
+    lawful_pinned g.S.Shelf.honest g.N.Boarded.board h c.unpin.new.self c.args.id (m.0 + 1) m.0 c.self.invariant m.1
 
 pub returns-clause-ok : goal.returns-clause-ok
 returns-clause-ok g c = subst (λ (h : Held). (x : ℕ) × PinsMove h.slots c.unpin.new.self c.args.id (x + 1) x) c.self.view_is (c.unpin.ensures.unpinned c.if-not-unpin.false)
