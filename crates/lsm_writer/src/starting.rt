@@ -5,7 +5,7 @@ ghost use Rattle.lsm_directory.specs.Logs.{NoneUnread};
 ghost use Rattle.lsm_state.specs.Making.{IsNewBoard};
 ghost use Rattle.lsm_writer.specs.Starting.{IsFlushed, IsNew, IsNotOpened, IsReopened, IsStarted};
 ghost use Rattle.lsm_writer.specs.Starting.{IsStartRefusal, IsUnbegun, IsUncreated, IsUnflushed};
-ghost use Rattle.lsm_writer.specs.Starting.{IsUnopened, OpensBeside};
+ghost use Rattle.lsm_writer.specs.Starting.{IsUnopened, OpensBeside, usual};
 ghost use Rattle.lsm_shelf.specs.Stored.{Stored};
 
 use crate::parts::Parts;
