@@ -1,8 +1,8 @@
 //! The commands of `lsm` on a directory: what each writes on standard output for what a shelf on it
 //! holds.
 //!
-//! Stands on `lsm_journal` and `lsm_version` to open a directory, on `lsm_reader` to count entries,
-//! and on `lsm_commands` for words and refusals. Its contract: over an honest shelf a `run` that
+//! Stands on `lsm_journal` to open a directory, on `lsm_reads` to read what it holds, on `lsm_reader`
+//! to count entries, and on `lsm_commands` for words and refusals. Its contract: over an honest shelf a `run` that
 //! ends with 0 printed what its command asks of the version that the manifest names; and however it
 //! ends, the shelf was only read.
 #![tactic(auto)]
