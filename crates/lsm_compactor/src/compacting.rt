@@ -45,6 +45,8 @@ fn begin<N: Boarded, S: Shelf, R: Wait, E: Write>(
     err: &mut E,
 ) -> Result<Compaction<N, S>, CompactFault>
     requires here { (S.told shelf.old).place ≡ N.place }
+    requires board { IsNewBoard N.board usual parts.publisher parts.pinners.items }
+    requires seats { vec_len parts.pinners ≡ usual.readers }
     ensures here { IfOk result (λ c. All (λ s. (S.told s).place ≡ N.place) c.shelves.items) }
     ensures shelf { OnOk result ((S.told shelf.new).place ≡ N.place) }
     ensures count { IfOk result (λ c. vec_len c.shelves ≡ options.workers) }

@@ -46,6 +46,8 @@ pub(crate) fn open<N: Boarded, S: Shelf, R: Wait>(
     parts: Parts<N, S>,
 ) -> Result<State<N, S>, CompactFault>
     requires here { (S.told shelf.old).place ≡ N.place }
+    requires board { IsNewBoard N.board usual parts.publisher parts.pinners.items }
+    requires seats { vec_len parts.pinners ≡ usual.readers }
     ensures opened { IfOk result (λ s.
         IsReopened S.honest s (S.told shelf.old) (S.told shelf.new)) }
     ensures board { IfOk result (λ s. s.slots.board.board ≡ N.board) }

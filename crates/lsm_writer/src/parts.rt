@@ -38,11 +38,13 @@ impl<S: Shelf> NewParts<S> {
         })
     }
 
-    /// The same under the name that was picked for them.
+    /// The same under the name that was picked for them. `AllocError` where a growth was refused.
     pub fn named<N: Boarded>(self, alloc: Global) -> Result<Parts<N, S>, AllocError>
         requires records { self.records ≡ N.registry }
         requires board { IsNewBoard N.board usual self.publisher self.pinners.items }
         requires seats { vec_len self.pinners ≡ usual.readers }
+        ensures board { IfOk result (λ p. IsNewBoard N.board usual p.publisher p.pinners.items) }
+        ensures seats { IfOk result (λ p. vec_len p.pinners ≡ usual.readers) }
     {
         Ok(Parts {
             registry: Registry::shared(alloc, self.records)?,
@@ -52,13 +54,10 @@ impl<S: Shelf> NewParts<S> {
     }
 }
 
-/// The registry of the name `N`, and the ends of its board, which is new and is for the usual
-/// options.
+/// The registry of the name `N`, and the ends of a board.
 #[derive(Drop)]
 pub struct Parts<N: Boarded, S: Shelf> {
     pub registry: Arc<Registry<N, S>>,
     pub publisher: Publisher,
     pub pinners: Vec<Pinner>,
-    ghost board: { IsNewBoard N.board usual publisher pinners.items },
-    ghost seats: { vec_len pinners ≡ usual.readers },
 }

@@ -2,6 +2,7 @@
 
 ghost use Rattle.std.specs.Prelude.{◌≡◌, IfErr, IfOk, OnOk};
 ghost use Rattle.lsm_directory.specs.Logs.{NoneUnread};
+ghost use Rattle.lsm_state.specs.Making.{IsNewBoard};
 ghost use Rattle.lsm_writer.specs.Starting.{IsFlushed, IsNew, IsNotOpened, IsReopened, IsStarted};
 ghost use Rattle.lsm_writer.specs.Starting.{IsStartRefusal, IsUnbegun, IsUncreated, IsUnflushed};
 ghost use Rattle.lsm_writer.specs.Starting.{IsUnopened, OpensBeside};
@@ -66,6 +67,7 @@ fn create<N: Boarded, S: Shelf, R: Wait>(
     parts: Parts<N, S>,
 ) -> Result<State<N, S>, WriterFault>
     requires here { (S.told shelf.old).place ≡ N.place }
+    requires board { IsNewBoard N.board usual parts.publisher parts.pinners.items }
     ensures created { IfOk result (λ s. IsNew number s (S.told shelf.old) (S.told shelf.new)) }
     ensures place { OnOk result ((S.told shelf.new).place ≡ N.place) }
     ensures refused { IfErr result (λ e.
@@ -93,6 +95,7 @@ fn create_beside<N: Boarded, S: Shelf, R: Wait>(
     parts: Parts<N, S>,
 ) -> Result<State<N, S>, WriterFault>
     requires here { (S.told shelf.old).place ≡ N.place }
+    requires board { IsNewBoard N.board usual parts.publisher parts.pinners.items }
     ensures flushed { OnOk result (NoneUnread 0 0 logs.now) }
     ensures created { IfOk result (λ s. IsNew number s (S.told shelf.old) (S.told shelf.new)) }
     ensures refused { IfErr result (λ e.
@@ -115,6 +118,7 @@ fn reopen<N: Boarded, S: Shelf, R: Wait>(
     parts: Parts<N, S>,
 ) -> Result<State<N, S>, WriterFault>
     requires here { (S.told shelf.old).place ≡ N.place }
+    requires board { IsNewBoard N.board usual parts.publisher parts.pinners.items }
     ensures opened { IfOk result (λ s.
         IsReopened S.honest s (S.told shelf.old) (S.told shelf.new)) }
     ensures place { OnOk result ((S.told shelf.new).place ≡ N.place) }
@@ -140,6 +144,7 @@ fn open_beside<N: Boarded, S: Shelf, R: Wait>(
     parts: Parts<N, S>,
 ) -> Result<State<N, S>, WriterFault>
     requires here { (S.told shelf.old).place ≡ N.place }
+    requires board { IsNewBoard N.board usual parts.publisher parts.pinners.items }
     ensures opened { IfOk result (λ s.
         OpensBeside S.honest logs.now s (S.told shelf.old) (S.told shelf.new)) }
     ensures place { OnOk result ((S.told shelf.new).place ≡ N.place) }
@@ -164,6 +169,7 @@ pub(crate) fn start<N: Boarded, S: Shelf, R: Wait>(
     parts: Parts<N, S>,
 ) -> Result<State<N, S>, WriterFault>
     requires here { (S.told shelf.old).place ≡ N.place }
+    requires board { IsNewBoard N.board usual parts.publisher parts.pinners.items }
     ensures started { IfOk result (λ s. IsStarted S.honest prepared.now.start
         prepared.now.logs.items s (S.told shelf.old) (S.told shelf.new)) }
     ensures place { OnOk result ((S.told shelf.new).place ≡ N.place) }
