@@ -1,5 +1,6 @@
-# To be sourced. copy_crates NAME FOLDER copies the crate NAME and those of this repository that it stands on into
-# FOLDER/crates, with what was proved of them and without their edits, and their lines of crates.txt; HANDLES too.
+# To be sourced. copy_crates NAME FOLDER copies the crate NAME and those of this repository that it
+# stands on into FOLDER/crates, with what was proved of them and without their edits, and their
+# lines of crates.txt; HANDLES too.
 copy_crates() {
     local top line lower
     top=$(cd "$(dirname "${BASH_SOURCE[0]}")/.." && pwd)

@@ -1,7 +1,8 @@
 #!/bin/sh
-# Times crc32c of lsm_codec beside the same work in Rust and C, and prints one table in MB/s (10^6 bytes a second).
-# Needs rt, rustc and gcc. Proves lsm_codec in a scratch folder first, over what crates/lsm_codec/out keeps.
-# Each figure is the best of three turns of 200 runs of 4 MiB, the text in the cache, its start moving over 16 places.
+# Times crc32c of lsm_codec beside the same work in Rust and C, and prints one table in MB/s (10^6
+# bytes a second). Needs rt, rustc and gcc. Proves lsm_codec in a scratch folder first, over what
+# crates/lsm_codec/out keeps. Each figure is the best of three turns of 200 runs of 4 MiB, the text
+# in the cache, its start moving over 16 places.
 set -eu
 here=$(cd "$(dirname "$0")" && pwd)
 top=$(cd "$here/../.." && pwd)

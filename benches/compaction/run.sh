@@ -1,9 +1,11 @@
 #!/usr/bin/env bash
-# Times the compaction of four tables of level 0 with 250,000 entries each (keys of 16 bytes, values of 100) over a shelf in memory: with
-# disjoint keys, and with the same keys in every table. Where libleveldb-dev is there, the real LevelDB merges tables of the same entries
-# in /dev/shm, by one thread too. Prints MB of input a second, the most of TURNS (5) turns, and how much of LevelDB's that is. Then the memory
-# that a compaction in a folder takes at most, with input of 1, 4 and 16 times the size.
-# Needs rt. Proves the program in a scratch folder first, over what crates/*/out keep.
+# Times the compaction of four tables of level 0 with 250,000 entries each (keys of 16 bytes, values
+# of 100) over a shelf in memory: with disjoint keys, and with the same keys in every table. Where
+# libleveldb-dev is there, the real LevelDB merges tables of the same entries in /dev/shm, by one
+# thread too. Prints MB of input a second, the most of TURNS (5) turns, and how much of LevelDB's
+# that is. Then the memory that a compaction in a folder takes at most, with input of 1, 4 and 16
+# times the size. Needs rt. Proves the program in a scratch folder first, over what crates/*/out
+# keep.
 set -euo pipefail
 here=$(cd "$(dirname "$0")" && pwd)
 top=$(cd "$here/../.." && pwd)

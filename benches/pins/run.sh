@@ -1,6 +1,7 @@
 #!/bin/sh
-# Measures pin + unpin on one board beside an Arc clone and drop in Rust, in one run, by 1, 2 and 4 threads.
-# It proves and builds the program in a folder of its own below /tmp, and leaves the repository as it is.
+# Measures pin + unpin on one board beside an Arc clone and drop in Rust, in one run, by 1, 2 and 4
+# threads. It proves and builds the program in a folder of its own below /tmp, and leaves the
+# repository as it is.
 set -eu
 top=$(cd "$(dirname "$0")/../.." && pwd)
 room=$(mktemp -d /tmp/pins-bench.XXXXXX)

@@ -1,6 +1,6 @@
 #!/usr/bin/env bash
-# Times `lsm mktable` and `lsm dump` on a million lines with values of 16 bytes, beside plain Rust, and compares what they write.
-# Usage: benches/program/run.sh [LINES]
+# Times `lsm mktable` and `lsm dump` on a million lines with values of 16 bytes, beside plain Rust,
+# and compares what they write. Usage: benches/program/run.sh [LINES]
 set -euo pipefail
 lines=${1:-1000000}
 top=$(cd "$(dirname "$0")/../.." && pwd)

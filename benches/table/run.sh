@@ -1,7 +1,8 @@
 #!/usr/bin/env bash
-# Times a table of a million entries (keys of 16 bytes, values of 100) in memory beside plain Rust and, where libleveldb-dev is there, the
-# real LevelDB: building, checking, going through, reads of single keys. One table in nanoseconds an entry or a read, the least of fifteen turns.
-# Needs rt and rustc. Proves the crates in a scratch folder first, over what crates/*/out keep.
+# Times a table of a million entries (keys of 16 bytes, values of 100) in memory beside plain Rust
+# and, where libleveldb-dev is there, the real LevelDB: building, checking, going through, reads of
+# single keys. One table in nanoseconds an entry or a read, the least of fifteen turns. Needs rt and
+# rustc. Proves the crates in a scratch folder first, over what crates/*/out keep.
 set -euo pipefail
 here=$(cd "$(dirname "$0")" && pwd)
 top=$(cd "$here/../.." && pwd)

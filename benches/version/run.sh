@@ -1,9 +1,11 @@
 #!/usr/bin/env bash
-# Times a version of a million entries in 52 tables over a shelf in memory: its check, beside that of its tables alone; reads of single
-# keys, with nothing cached and with footers and index blocks held; scans, copied and lent. Where libleveldb-dev is there, LevelDB reads
-# the same tables at the same levels, in /dev/shm. Prints nanoseconds an entry or a read, the least of TURNS (5) turns, and how many times
-# LevelDB's time that is. Then the memory that a check and scans of ever more tables in a folder take at most.
-# Needs rt. Proves the program in a scratch folder first, over what crates/*/out keep.
+# Times a version of a million entries in 52 tables over a shelf in memory: its check, beside that
+# of its tables alone; reads of single keys, with nothing cached and with footers and index blocks
+# held; scans, copied and lent. Where libleveldb-dev is there, LevelDB reads the same tables at the
+# same levels, in /dev/shm. Prints nanoseconds an entry or a read, the least of TURNS (5) turns, and
+# how many times LevelDB's time that is. Then the memory that a check and scans of ever more tables
+# in a folder take at most. Needs rt. Proves the program in a scratch folder first, over what
+# crates/*/out keep.
 set -euo pipefail
 here=$(cd "$(dirname "$0")" && pwd)
 top=$(cd "$here/../.." && pwd)

@@ -1,8 +1,10 @@
 #!/usr/bin/env bash
-# Runs each command of `lsm` with standard input, output and error closed, in each combination: no file is then opened as descriptor 0, 1
-# or 2; the status is 0, or 1 where a stream is wanted that is closed; reading commands leave the folder byte for byte; a batch is in, and
-# a compaction changes no answer. Then `lsm compact --progress` by 2 and 8 workers, standard error closed, while each sync takes 40 ms, ten
-# times each: a line of progress must not come into a file. Needs gcc. LSM=/path/to/lsm names a built program; ROUNDS=N changes the ten.
+# Runs each command of `lsm` with standard input, output and error closed, in each combination: no
+# file is then opened as descriptor 0, 1 or 2; the status is 0, or 1 where a stream is wanted that
+# is closed; reading commands leave the folder byte for byte; a batch is in, and a compaction
+# changes no answer. Then `lsm compact --progress` by 2 and 8 workers, standard error closed, while
+# each sync takes 40 ms, ten times each: a line of progress must not come into a file. Needs gcc.
+# LSM=/path/to/lsm names a built program; ROUNDS=N changes the ten.
 set -euo pipefail
 here=$(cd "$(dirname "$0")" && pwd)
 top=$(cd "$here/../.." && pwd)

@@ -1,7 +1,8 @@
 #!/usr/bin/env bash
-# Runs `lsm dump` on tables whose blocks spell far more bytes of keys than they have (make.rs). Each is refused, once all of its
-# bytes were read, as OutOfOrder at its last entry; the seconds that this takes are printed beside the size, and double with
-# it. Needs rustc. LSM=/path/to/lsm names a built program.
+# Runs `lsm dump` on tables whose blocks spell far more bytes of keys than they have (make.rs). Each
+# is refused, once all of its bytes were read, as OutOfOrder at its last entry; the seconds that
+# this takes are printed beside the size, and double with it. Needs rustc. LSM=/path/to/lsm names a
+# built program.
 set -euo pipefail
 here=$(cd "$(dirname "$0")" && pwd)
 top=$(cd "$here/../.." && pwd)

@@ -1,10 +1,12 @@
 #!/usr/bin/env bash
-# What a version does with hostile tables, its check, a scan and a merge of two levels, beside the check of the tables alone: ever more files
-# of one entry each, at level 0 once all of one sequence and once with sequences that rise with their numbers; and two tables whose one
-# data block spells far more bytes of keys than it has (make.rs), once with ages that are settled and once with open ones.
-# Prints milliseconds and the peak of memory for sizes that double (FILES, LEVEL0, RISING and SIZES name others): what is linear doubles
-# with them. The merge of the largest blocks writes 2 GB, with blocks of 1 MiB it would write some 30.
-# Needs rt and rustc. Proves the program in a scratch folder first, over what crates/*/out keep.
+# What a version does with hostile tables, its check, a scan and a merge of two levels, beside the
+# check of the tables alone: ever more files of one entry each, at level 0 once all of one sequence
+# and once with sequences that rise with their numbers; and two tables whose one data block spells
+# far more bytes of keys than it has (make.rs), once with ages that are settled and once with open
+# ones. Prints milliseconds and the peak of memory for sizes that double (FILES, LEVEL0, RISING and
+# SIZES name others): what is linear doubles with them. The merge of the largest blocks writes 2 GB,
+# with blocks of 1 MiB it would write some 30. Needs rt and rustc. Proves the program in a scratch
+# folder first, over what crates/*/out keep.
 set -euo pipefail
 here=$(cd "$(dirname "$0")" && pwd)
 top=$(cd "$here/../.." && pwd)

@@ -1,7 +1,9 @@
 #!/usr/bin/env bash
-# Kills `lsm` at random moments while it ingests and compacts: killed.py says how. Words: how many kills (300), and a seed (drawn, and
-# printed). LSM=/path/to/a/built/program takes another program than the repository's; it has to be the program itself, no script that
-# starts it. KEYS, BATCH and VALUE change sizes. Needs gcc, g++, libleveldb-dev and python3. At a difference the directory is kept.
+# Kills `lsm` at random moments while it ingests and compacts: killed.py says how. Words: how many
+# kills (300), and a seed (drawn, and printed). LSM=/path/to/a/built/program takes another program
+# than the repository's; it has to be the program itself, no script that starts it. KEYS, BATCH and
+# VALUE change sizes. Needs gcc, g++, libleveldb-dev and python3. At a difference the directory is
+# kept.
 set -euo pipefail
 here=$(cd "$(dirname "$0")" && pwd)
 top=$(cd "$here/../.." && pwd)

@@ -1,8 +1,9 @@
 #!/usr/bin/env bash
-# Directories of the real LevelDB (Debian's libleveldb-dev), without compression, beside this repository: of each kind that `directory.cc`
-# knows (keys that span files, Bloom filters, many edits, reopened, compacted) one is made, its version checked, and all its live
-# keys printed by both; stops at the first difference. Prints one line a kind. Proves the reading program in a scratch folder first, over
-# what crates/*/out keep.
+# Directories of the real LevelDB (Debian's libleveldb-dev), without compression, beside this
+# repository: of each kind that `directory.cc` knows (keys that span files, Bloom filters, many
+# edits, reopened, compacted) one is made, its version checked, and all its live keys printed by
+# both; stops at the first difference. Prints one line a kind. Proves the reading program in a
+# scratch folder first, over what crates/*/out keep.
 set -euo pipefail
 here=$(cd "$(dirname "$0")" && pwd)
 top=$(cd "$here/../.." && pwd)

@@ -1,9 +1,11 @@
 #!/usr/bin/env bash
-# Directories of the real LevelDB (Debian's libleveldb-dev), without compression, written by `lsm`: of each kind that `directory.cc` knows
-# one is made, listed, read, scanned, ingested into, compacted by 1, 2 and 4 workers (on a copy each), and then opened by LevelDB, which
-# must give the same content, go on writing, and leave a directory that `lsm` reads again. The content is kept beside as a plain list
-# (plain.py). Stops at the first difference; prints one line a kind. Words name kinds (none: all). Needs g++ and python3.
-# LSM=/path/to/lsm names a built program; SEED=N draws other batches; BATCHES=N, GETS=N and VALUE=N change sizes.
+# Directories of the real LevelDB (Debian's libleveldb-dev), without compression, written by `lsm`:
+# of each kind that `directory.cc` knows one is made, listed, read, scanned, ingested into,
+# compacted by 1, 2 and 4 workers (on a copy each), and then opened by LevelDB, which must give the
+# same content, go on writing, and leave a directory that `lsm` reads again. The content is kept
+# beside as a plain list (plain.py). Stops at the first difference; prints one line a kind. Words
+# name kinds (none: all). Needs g++ and python3. LSM=/path/to/lsm names a built program; SEED=N
+# draws other batches; BATCHES=N, GETS=N and VALUE=N change sizes.
 set -euo pipefail
 here=$(cd "$(dirname "$0")" && pwd)
 top=$(cd "$here/../.." && pwd)

@@ -1,8 +1,9 @@
 #!/usr/bin/env bash
-# Compares `lsm` with the real LevelDB (Debian's libleveldb-dev): tables made of one list byte by byte, each other's
-# tables read, the tables (with filter blocks and shortened separators) and the manifest of a directory that LevelDB
-# made, and the tables of one that it compressed, which are refused as such. Stops at the first difference. Prints one
-# line for each comparison, and times for a list of a million entries.
+# Compares `lsm` with the real LevelDB (Debian's libleveldb-dev): tables made of one list byte by
+# byte, each other's tables read, the tables (with filter blocks and shortened separators) and the
+# manifest of a directory that LevelDB made, and the tables of one that it compressed, which are
+# refused as such. Stops at the first difference. Prints one line for each comparison, and times for
+# a list of a million entries.
 set -euo pipefail
 here=$(cd "$(dirname "$0")" && pwd)
 top=$(cd "$here/../.." && pwd)

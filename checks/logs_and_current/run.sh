@@ -1,11 +1,14 @@
 #!/usr/bin/env bash
-# Runs `lsm` on folders that are not as it would like them, and looks at what it says and what it leaves. Parts, which words of the command
-# line choose (all):
+# Runs `lsm` on folders that are not as it would like them, and looks at what it says and what it
+# leaves. Parts, which words of the command line choose (all):
 #
-#   logs      a log that LevelDB has not flushed: 51, --beside-log, notes on standard error; flushed, all is done
-#   current   CURRENT is lost: 10, and the second line's way back; --begin begins beside the old manifests and tables
+#   logs      a log that LevelDB has not flushed: 51, --beside-log, notes on standard error;
+#             flushed, all is done
+#   current   CURRENT is lost: 10, and the second line's way back; --begin begins beside the old
+#             manifests and tables
 #   links     a symbolic link as DIR; links under the names that are written next
-#   pipes     a FIFO as CURRENT, as the manifest, as a table, as LOCK, as a log: refused, no command waits for ever
+#   pipes     a FIFO as CURRENT, as the manifest, as a table, as LOCK, as a log: refused, no command
+#             waits for ever
 #   folders   a folder that is named as a table
 #   numbers   a table of the number 2^64 - 1: 46
 #   clean     what `lsm clean` removes, and what stays

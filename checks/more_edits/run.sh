@@ -1,6 +1,7 @@
 #!/usr/bin/env bash
-# Tries edits that must fail and are not part of the gate, for their time: each folder here is a crate's. Names of crates choose among
-# them. Works in a scratch folder, crate by crate, over what crates/*/out keep. Ends with status 1 where an edit is proved. Needs rt.
+# Tries edits that must fail and are not part of the gate, for their time: each folder here is a
+# crate's. Names of crates choose among them. Works in a scratch folder, crate by crate, over what
+# crates/*/out keep. Ends with status 1 where an edit is proved. Needs rt.
 set -euo pipefail
 here=$(cd "$(dirname "$0")" && pwd)
 top=$(cd "$here/../.." && pwd)

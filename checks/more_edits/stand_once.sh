@@ -1,7 +1,8 @@
 #!/usr/bin/env bash
-# Whether each edit that must fail, here and in crates/*/must-fail, can be applied: its file is there, and each text after `old:` stands
-# in it just once, followed by a `new:`. A second's work, without proofs: run it when code was moved. Names of crates choose among them.
-# Prints those that cannot be applied, and ends with status 1 where there is one.
+# Whether each edit that must fail, here and in crates/*/must-fail, can be applied: its file is
+# there, and each text after `old:` stands in it just once, followed by a `new:`. A second's work,
+# without proofs: run it when code was moved. Names of crates choose among them. Prints those that
+# cannot be applied, and ends with status 1 where there is one.
 set -euo pipefail
 here=$(cd "$(dirname "$0")" && pwd)
 top=$(cd "$here/../.." && pwd)

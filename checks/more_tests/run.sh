@@ -1,14 +1,16 @@
 #!/usr/bin/env bash
-# Runs tests that are not part of the gate, since their proofs take long, without proofs (`rt try --test`): each folder
-# here is a crate of tests, its files named as a crate's with `.txt` behind, and `lines.txt` has the lines of crates.txt.
-# Names of folders choose among them. Needs rt, and nothing else.
+# Runs tests that are not part of the gate, since their proofs take long, without proofs (`rt try
+# --test`): each folder here is a crate of tests, its files named as a crate's with `.txt` behind,
+# and `lines.txt` has the lines of crates.txt. Names of folders choose among them. Needs rt, and
+# nothing else.
 #
-# What costs is not the tests but the libraries below them, read again for each crate. So the crates are dealt out to as
-# many groups as there are processors, and each group is built as one crate, whose modules are the crates of tests. One
-# that does not compile is told from the others of its group by building each of these alone.
+# What costs is not the tests but the libraries below them, read again for each crate. So the crates
+# are dealt out to as many groups as there are processors, and each group is built as one crate,
+# whose modules are the crates of tests. One that does not compile is told from the others of its
+# group by building each of these alone.
 #
-# Prints a line for each crate of tests, behind it what failed; then `N passed, M failed`, where a crate that was not
-# run counts as one that failed. Status 1 where M is not 0.
+# Prints a line for each crate of tests, behind it what failed; then `N passed, M failed`, where a
+# crate that was not run counts as one that failed. Status 1 where M is not 0.
 set -euo pipefail
 here=$(cd "$(dirname "$0")" && pwd)
 top=$(cd "$here/../.." && pwd)
@@ -51,7 +53,8 @@ join() { # CRATE NAME..: makes one crate of these crates of tests, each a module
             as="$to/src/$name/${as%.txt}"
             [[ $as != */lib.rt ]] || as="$to/src/$name.rt"
             mkdir -p "$(dirname "$as")"
-            # names from the root are names from the module, but for those of proofs, which are not read
+            # names from the root are names from the module, but for those of proofs, which are not
+            # read
             sed -E "/^#!\[tactic/d; s/\bcrate::/crate::$name::/g; s/crate::$name::(proofs|specs)::/crate::\1::/g" \
                 "$file" > "$as"
         done < <(sources_of "$name")

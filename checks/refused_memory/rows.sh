@@ -1,7 +1,9 @@
 #!/usr/bin/env bash
-# Runs the program rows.rattle (rows on a state, over a shelf in memory) with each of its requests for memory refused in turn. The text of
-# each run has to be that of an undisturbed one, rows.out. ROWS=/path/to/rows names the built program. Else it is built without a proof:
-# `rt try` keeps no program, so the module that it compiles is copied while it does, and compiled by the kit's clang. Needs rt and gcc.
+# Runs the program rows.rattle (rows on a state, over a shelf in memory) with each of its requests
+# for memory refused in turn. The text of each run has to be that of an undisturbed one, rows.out.
+# ROWS=/path/to/rows names the built program. Else it is built without a proof: `rt try` keeps no
+# program, so the module that it compiles is copied while it does, and compiled by the kit's clang.
+# Needs rt and gcc.
 set -euo pipefail
 here=$(cd "$(dirname "$0")" && pwd)
 top=$(cd "$here/../.." && pwd)

@@ -1,23 +1,28 @@
 #!/usr/bin/env bash
-# Runs `lsm` with each of its requests for memory refused in turn (a thread is one too), until runs meet none, and then once more with all
-# later requests refused too. What may come of it:
+# Runs `lsm` with each of its requests for memory refused in turn (a thread is one too), until runs
+# meet none, and then once more with all later requests refused too. What may come of it:
 #
-# - mktable, dump, manifest, list, get, help: `refused 1 OutOfMemory` on standard error, nothing on standard output, status 1; or the
-#   program asked again for less, and answers as an undisturbed run does.
-#   Once DIR/LOCK is open, want of memory is `refused 9 Device` too; its second line says `lock ..: out of memory`, where there is memory
-#   for that.
-# - check and scan may say `refused 1 OutOfMemory in 000005.ldb`; of a scan whole lines from the first on may stand on standard output.
-#   Check, list, get and scan leave the folder byte for byte as it was.
-# - ingest, each time in a folder as it was: also `refused 9 Device`, where it can't be undone (docs/DECISIONS.md). `lsm check` then takes
-#   the folder, and a scan shows just the old keys or just those with the whole batch. Asked again, with memory, it brings the batch in.
-# - compact, each time in a folder as it was: also `refused 9 Device`, 36 with a 9 behind it, or 42 Halted where another worker met the 9.
-#   A scan shows what it showed before. Asked again, with memory, it compacts: the tables are those of an undisturbed run but for their
-#   numbers. Its threads may take turns otherwise in each run, so it goes on until ten numbers in a row meet no request.
-# - script: the replies up to that of want of memory, `refused 1 OutOfMemory`, and status 1; or as the first point says.
+# - mktable, dump, manifest, list, get, help: `refused 1 OutOfMemory` on standard error, nothing on
+#   standard output, status 1; or the program asked again for less, and answers as an undisturbed
+#   run does. Once DIR/LOCK is open, want of memory is `refused 9 Device` too; its second line says
+#   `lock ..: out of memory`, where there is memory for that.
+# - check and scan may say `refused 1 OutOfMemory in 000005.ldb`; of a scan whole lines from the
+#   first on may stand on standard output. Check, list, get and scan leave the folder byte for byte
+#   as it was.
+# - ingest, each time in a folder as it was: also `refused 9 Device`, where it can't be undone
+#   (docs/DECISIONS.md). `lsm check` then takes the folder, and a scan shows just the old keys or
+#   just those with the whole batch. Asked again, with memory, it brings the batch in.
+# - compact, each time in a folder as it was: also `refused 9 Device`, 36 with a 9 behind it, or 42
+#   Halted where another worker met the 9. A scan shows what it showed before. Asked again, with
+#   memory, it compacts: the tables are those of an undisturbed run but for their numbers. Its
+#   threads may take turns otherwise in each run, so it goes on until ten numbers in a row meet no
+#   request.
+# - script: the replies up to that of want of memory, `refused 1 OutOfMemory`, and status 1; or as
+#   the first point says.
 #
-# Parts are singles, reads, ingest, compact, script and rows; words of the command line choose among them (all). Rows run a Rattle program
-# on the state itself (rows.sh). Takes a quarter of an hour. Needs gcc, and rt for rows. LSM=/path/to/lsm names
-# a built program.
+# Parts are singles, reads, ingest, compact, script and rows; words of the command line choose among
+# them (all). Rows run a Rattle program on the state itself (rows.sh). Takes a quarter of an hour.
+# Needs gcc, and rt for rows. LSM=/path/to/lsm names a built program.
 set -euo pipefail
 here=$(cd "$(dirname "$0")" && pwd)
 top=$(cd "$here/../.." && pwd)

@@ -1,9 +1,10 @@
 #!/usr/bin/env bash
-# Runs two commands of `lsm` on one folder at once: pairs of ingest and ingest, compact and ingest, compact and scan, each ROUNDS times (25).
-# What was answered with status 0 is there, what was refused is `52 Locked` and left nothing, and a scan that was not refused printed just
-# what is there. Then a reader that holds the folder beside a reader and beside a compaction, and a live LevelDB that has it open, beside
-# each command: all but `52 Locked` is a difference, and once it is closed all are done. Needs g++ and libleveldb-dev. LSM=/path/to/lsm
-# names a built program.
+# Runs two commands of `lsm` on one folder at once: pairs of ingest and ingest, compact and ingest,
+# compact and scan, each ROUNDS times (25). What was answered with status 0 is there, what was
+# refused is `52 Locked` and left nothing, and a scan that was not refused printed just what is
+# there. Then a reader that holds the folder beside a reader and beside a compaction, and a live
+# LevelDB that has it open, beside each command: all but `52 Locked` is a difference, and once it is
+# closed all are done. Needs g++ and libleveldb-dev. LSM=/path/to/lsm names a built program.
 set -euo pipefail
 here=$(cd "$(dirname "$0")" && pwd)
 work=$(mktemp -d)
