@@ -5,9 +5,10 @@
 # nothing else.
 #
 # What costs is not the tests but the libraries below them, read again for each crate. So the crates
-# are dealt out to as many groups as there are processors, and each group is built as one crate,
-# whose modules are the crates of tests. One that does not compile is told from the others of its
-# group by building each of these alone.
+# are dealt out to at most six groups, and each group is built as one crate, whose modules are the
+# crates of tests; as many groups at a time as processors and memory allow. (One group of all would
+# take 9 GB.) A crate that does not compile is told from the others of its group by building each of
+# these alone.
 #
 # Prints a line for each crate of tests, behind it what failed; then `N passed, M failed`, where a
 # crate that was not run counts as one that failed. Status 1 where M is not 0.
@@ -66,10 +67,11 @@ join() { # CRATE NAME..: makes one crate of these crates of tests, each a module
 
 # Deals the crates out, the longest first, each to the group that is shortest so far.
 size() { cat "$here/$1"/src/*.rt.txt | wc -l; }
-groups=$(nproc)
-by_memory=$(awk '/^MemAvailable:/ { print int($2 / 3145728) }' /proc/meminfo)
-((groups <= by_memory)) || groups=$((by_memory > 0 ? by_memory : 1))
+groups=6
 ((groups <= ${#names[@]})) || groups=${#names[@]}
+at_once=$(nproc)
+by_memory=$(awk '/^MemAvailable:/ { print int($2 / 4194304) }' /proc/meminfo)
+((at_once <= by_memory)) || at_once=$((by_memory > 0 ? by_memory : 1))
 members=() lengths=()
 for ((i = 0; i < groups; i++)); do members[i]="" lengths[i]=0; done
 while read -r length name; do
@@ -130,7 +132,15 @@ for ((i = 0; i < groups; i++)); do
     join "group_$i" ${members[i]}
     for name in ${members[i]}; do join "alone_$name" "$name"; done
 done >> "$scratch/crates.txt"
-for ((i = 0; i < groups; i++)); do run_group "group_$i" ${members[i]} & done
+running=0
+for ((i = 0; i < groups; i++)); do
+    if ((running == at_once)); then
+        wait -n || true
+        running=$((running - 1))
+    fi
+    run_group "group_$i" ${members[i]} &
+    running=$((running + 1))
+done
 wait
 cat "$scratch"/group_*.told | awk '
     /^[a-z_]+: [0-9]+ passed, [0-9]+ failed$/ { passed += $2; failed += $4; crates++ }
