@@ -27,7 +27,7 @@ invariant_of-self-2 g c =
     let recorded = subst (λ (v : Levels). IsRecorded 0 c.send-sent.new.self v c.in-Ok.next) (c.deref-2.ensures ∙ c.in_ok-first.ensures.first ∙ back) c.in-Ok.ensures.recorded in
     let rises = next_rises d c.deref-2.result.now h.next c.in-Ok.next h.journal c.send-sent.new.self (g.S.Shelf.told c.args.shelf.now) (g.S.Shelf.told c.send-sent.new.shelf) c.in-Ok.ensures.sends in
     lawful_changed g.S.Shelf.honest g.N.Boarded.board h d c.args.out c.publish.new.self c.in-Ok.next c.take_out.new.live c.send-sent.new.self c.self.invariant
-        after published c.take_out.ensures recorded rises inputs
+    after published c.take_out.ensures recorded rises inputs
 
 pub returns-in-Err-clause-asked : goal.returns-in-Err-clause-asked
 returns-in-Err-clause-asked g c =

@@ -27,8 +27,8 @@ invariant_of-result g c =
     let recorded = subst (λ (v : Levels). IsRecorded 0 c.roll_over.new.self v (f.next + 1)) same c.in_ok-roll_over.ensures.recorded in
     let below : (n : ℕ) → Has (numbers_in f.version) n → n < f.next + 1 = λ n k. (let lt = found_below _ _ f.journal f.version f.rest f.next _ _ c.in_ok-found.ensures.found n k in omega arith) in
     opened_made g.S.Shelf.honest g.N.Boarded.board o c.args.board.0 c.args.board.1.items f.version c.roll_over.new.self (f.next + 1) _ c.in_ok-slots.slots c.new-2.result c.new-3.result c.in_ok-slots.ensures c.new-2.ensures c.new-3.ensures
-        (lawful_opened g.S.Shelf.honest g.N.Boarded.board o c.args.board.0 c.args.board.1.items f.version c.roll_over.new.self (f.next + 1) _ 0 c.requires.fits c.requires.board c.in_ok-found.ensures.found.loaded.sound recorded
-        (λ e. refl) below)
+    (lawful_opened g.S.Shelf.honest g.N.Boarded.board o c.args.board.0 c.args.board.1.items f.version c.roll_over.new.self (f.next + 1) _ 0 c.requires.fits c.requires.board c.in_ok-found.ensures.found.loaded.sound recorded
+    (λ e. refl) below)
 
 pub returns-in_err-slots-clause-refused : goal.returns-in_err-slots-clause-refused
 returns-in_err-slots-clause-refused g c =

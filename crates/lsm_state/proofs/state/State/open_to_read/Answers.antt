@@ -14,7 +14,7 @@ invariant_of-result g c =
     let is = c.in_ok-found.ensures.found in
     let r = found_recorded _ _ f.journal f.version f.rest f.next _ _ is in
     opened_made g.S.Shelf.honest g.N.Boarded.board o c.args.board.0 c.args.board.1.items f.version f.journal f.next _ c.in_ok-slots.slots c.new-2.result c.new-3.result c.in_ok-slots.ensures c.new-2.ensures c.new-3.ensures
-        (lawful_opened g.S.Shelf.honest g.N.Boarded.board o c.args.board.0 c.args.board.1.items f.version f.journal f.next _ f.rest c.requires.fits c.requires.board is.loaded.sound r (λ e. absurd (cc)) (found_below _ _ f.journal f.version f.rest f.next _ _ is))
+    (lawful_opened g.S.Shelf.honest g.N.Boarded.board o c.args.board.0 c.args.board.1.items f.version f.journal f.next _ f.rest c.requires.fits c.requires.board is.loaded.sound r (λ e. absurd (cc)) (found_below _ _ f.journal f.version f.rest f.next _ _ is))
 
 pub returns-in_err-slots-clause-refused : goal.returns-in_err-slots-clause-refused
 returns-in_err-slots-clause-refused g c =

@@ -10,4 +10,4 @@ invariant_of-self g c =
     let going : h.halted ≡ false = subst (λ (x : Held). x.halted ≡ false) (sym c.self.view_is) c.requires.going in
     let is = c.next_spent-next.ensures ∙ ap (λ (x : Held). next_spent x) (sym c.self.view_is) in
     lawful_spent g.S.Shelf.honest g.N.Boarded.board h c.next_spent-next.result c.halts-self-inside.result c.self.invariant going
-        (subst (λ (n : ℕ). h.next ≤ n) (sym is) (spent_rises h))
+    (subst (λ (n : ℕ). h.next ≤ n) (sym is) (spent_rises h))
