@@ -14,7 +14,7 @@ shared=$(mktemp -d -p /dev/shm)
 trap 'rm -rf "$scratch" "$shared"' EXIT
 
 bench="$scratch/crates/bench_version"
-mkdir -p "$bench/src" "$bench"/proofs/{main,time,read,scan,scan_lent}
+mkdir -p "$bench/src" "$bench"/proofs/{main,time}
 source "$top/benches/copy_crates.sh"
 for name in lsm_check lsm_storage; do copy_crates "$name" "$scratch"; done
 cp "$here/version.rattle" "$bench/src/main.rt"
@@ -35,27 +35,6 @@ use Rattle.bench_version.proofs.time.Given as goal
 -- the records and the contents that were just made
 abbrev pub ghosts-measured : goal.ghosts-measured
 ghosts-measured g a = record { registry = a.records; place = (memory_told a.shelf).place }
-PROOF
-cat > "$bench/proofs/read/Invariants.antt" <<'PROOF'
-use Rattle.std.proofs.Common.{◌≡◌}
-use Rattle.bench_version.proofs.read.Given as goal
-
-abbrev pub invariant-loop-i : goal.invariant-loop-i
-invariant-loop-i g l = (g.S.Shelf.told l.shelf).place ≡ g.N.Naming.place
-PROOF
-cat > "$bench/proofs/scan/Invariants.antt" <<'PROOF'
-use Rattle.std.proofs.Common.{◌≡◌}
-use Rattle.bench_version.proofs.scan.Given as goal
-
-abbrev pub invariant-loop : goal.invariant-loop
-invariant-loop g l = (g.S.Shelf.told l.shelf).place ≡ g.N.Naming.place
-PROOF
-cat > "$bench/proofs/scan_lent/Invariants.antt" <<'PROOF'
-use Rattle.std.proofs.Common.{◌≡◌}
-use Rattle.bench_version.proofs.scan_lent.Given as goal
-
-abbrev pub invariant-loop : goal.invariant-loop
-invariant-loop g l = (g.S.Shelf.told l.direct.shelf.now).place ≡ g.N.Naming.place
 PROOF
 echo 'bench_version: lsm_check lsm_reads lsm_version lsm_reader lsm_merger lsm_table lsm_storage lsm_shelf lsm_folder lsm_block lsm_manifest lsm_levels lsm_codec boxcar' >> "$scratch/crates.txt"
 mkdir "$shared/same"

@@ -66,7 +66,7 @@ join() { # CRATE NAME..: makes one crate of these crates of tests, each a module
 }
 
 # Deals the crates out, the longest first, each to the group that is shortest so far.
-size() { cat "$here/$1"/src/*.rt.txt | wc -l; }
+size() { find "$here/$1/src" -name '*.rt.txt' -exec cat {} + | wc -l; }
 groups=6
 ((groups <= ${#names[@]})) || groups=${#names[@]}
 at_once=$(nproc)

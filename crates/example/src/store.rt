@@ -2,7 +2,7 @@
 //! compact it. A view answers from the version that it was begun at, whatever is brought in,
 //! compacted and collected later.
 
-ghost use Rattle.std.specs.Prelude.{◌≡◌, All, IfOk, length};
+ghost use Rattle.std.specs.Prelude.{◌≡◌, IfOk, length};
 ghost use Rattle.std.specs.Option.{option_map};
 ghost use Rattle.lsm_codec.specs.Entries.{answer};
 ghost use Rattle.lsm_levels.specs.Files.{all_entries};
@@ -19,7 +19,7 @@ use lsm_state::{Options, State};
 use lsm_storage::MemoryShelf;
 use lsm_store::laws::made_states_seat_their_pinners;
 use lsm_store::{NoGate, Reader, Store, View, WorkerEnd, WorkerFault, run_workers};
-use lsm_table::{ReadFault, Records, Registry, Shelf, ShelfFault};
+use lsm_table::{NamedShelf, ReadFault, Records, Registry, Shelf, ShelfFault};
 use std::alloc::{AllocError, Global};
 use std::io::Print;
 use std::marker::Brand;
@@ -42,19 +42,15 @@ fn batch(alloc: Global, apple: &str, cherry: &str) -> Result<Batch, AllocError> 
     Ok(batch)
 }
 
-/// Brings a batch in, by a fork of the shelf. The guard of the lock is let go with the statement.
+/// Brings a batch in. The guard of the lock is let go with the statement.
 fn bring_in<N: Boarded, S: Shelf, R: Wait + Print>(
     rt: &R,
     alloc: Global,
     store: &Store<N, S>,
-    shelf: &mut S,
+    shelf: &mut NamedShelf<N, S>,
     batch: &Batch,
-) -> anyhow::Result<()>
-    requires { (S.told shelf.old).place ≡ N.place }
-    ensures { (S.told shelf.new).place ≡ N.place }
-{
-    let mut fork = shelf.fork(alloc)?;
-    let came = store.lock(rt).ingest(rt, alloc, &mut fork, batch)?;
+) -> anyhow::Result<()> {
+    let came = store.lock(rt).ingest(rt, alloc, shelf, batch)?;
     Ok(println!(rt;
         "table {} has sequences {} to {}",
         came.file, came.first, came.last
@@ -66,13 +62,10 @@ fn update<N: Boarded, S: Shelf, R: Wait + Print>(
     rt: &R,
     alloc: Global,
     store: &Store<N, S>,
-    shelf: &mut S,
+    shelf: &mut NamedShelf<N, S>,
     apple: &str,
     cherry: &str,
-) -> anyhow::Result<()>
-    requires { (S.told shelf.old).place ≡ N.place }
-    ensures { (S.told shelf.new).place ≡ N.place }
-{
+) -> anyhow::Result<()> {
     let batch = batch(alloc, apple, cherry)?;
     bring_in(rt, alloc, store, shelf, &batch)
 }
@@ -130,11 +123,10 @@ fn show_both<N: Boarded, S: Shelf>(
 }
 
 /// Two forks of the shelf.
-fn forks<S: Shelf>(alloc: Global, shelf: &mut S) -> Result<Vec<S>, ShelfFault>
-    ensures forks { IfOk result (λ v.
-        All (λ s. (S.told s).place ≡ (S.told shelf.old).place) v.items) }
-    ensures place { (S.told shelf.new).place ≡ (S.told shelf.old).place }
-{
+fn forks<N: Boarded, S: Shelf>(
+    alloc: Global,
+    shelf: &mut NamedShelf<N, S>,
+) -> Result<Vec<NamedShelf<N, S>>, ShelfFault> {
     let mut forks = Vec::new(alloc);
     forks.push(shelf.fork(alloc)?)?;
     forks.push(shelf.fork(alloc)?)?;
@@ -158,28 +150,21 @@ fn compact<N: Boarded, S: Shelf, R: Threads + Wait + Print + Sync>(
     rt: &R,
     alloc: Global,
     store: &Store<N, S>,
-    shelf: &mut S,
-) -> anyhow::Result<()>
-    requires { (S.told shelf.old).place ≡ N.place }
-    ensures { (S.told shelf.new).place ≡ N.place }
-{
+    shelf: &mut NamedShelf<N, S>,
+) -> anyhow::Result<()> {
     let shelves = forks(alloc, shelf)?;
     let ends = run_workers(rt, alloc, store, shelves, &NoGate)?;
     Ok(println!(rt; "workers installed {}", installed(&ends)?)?)
 }
 
-/// Removes the tables that no version needs any more, by a fork of the shelf.
+/// Removes the tables that no version needs any more.
 fn collect<N: Boarded, S: Shelf, R: Wait + Print>(
     rt: &R,
     alloc: Global,
     store: &Store<N, S>,
-    shelf: &mut S,
-) -> anyhow::Result<()>
-    requires { (S.told shelf.old).place ≡ N.place }
-    ensures { (S.told shelf.new).place ≡ N.place }
-{
-    let mut fork = shelf.fork(alloc)?;
-    match store.lock(rt).collect(rt, alloc, &mut fork) {
+    shelf: &mut NamedShelf<N, S>,
+) -> anyhow::Result<()> {
+    match store.lock(rt).collect(rt, alloc, shelf) {
         Ok(removed) => Ok(println!(rt; "{} tables went", removed.len())?),
         Err((fault, _removed)) => Err(fault.into()),
     }
@@ -192,11 +177,8 @@ fn go_on<N: Boarded, S: Shelf, R: Threads + Wait + Print + Sync>(
     alloc: Global,
     store: &Store<N, S>,
     view: &mut View<N, S>,
-    shelf: &mut S,
-) -> anyhow::Result<()>
-    requires { (S.told shelf.old).place ≡ N.place }
-    ensures { (S.told shelf.new).place ≡ N.place }
-{
+    shelf: &mut NamedShelf<N, S>,
+) -> anyhow::Result<()> {
     update(rt, alloc, store, shelf, "baked", "dried")?;
     update(rt, alloc, store, shelf, "eaten", "sold")?;
     compact(rt, alloc, store, shelf)?;
@@ -210,11 +192,8 @@ fn hold<N: Boarded, S: Shelf, R: Threads + Wait + Print + Sync>(
     alloc: Global,
     store: &Store<N, S>,
     readers: &mut Vec<Reader<N, S>>,
-    shelf: &mut S,
-) -> anyhow::Result<()>
-    requires { (S.told shelf.old).place ≡ N.place }
-    ensures { (S.told shelf.new).place ≡ N.place }
-{
+    shelf: &mut NamedShelf<N, S>,
+) -> anyhow::Result<()> {
     let mut view = view_of(rt, store, readers)?;
     let done = go_on(rt, alloc, store, &mut view, shelf);
     view.end();
@@ -240,10 +219,8 @@ fn work<N: Boarded, S: Shelf, R: Threads + Wait + Print + Sync>(
     alloc: Global,
     store: &Store<N, S>,
     readers: &mut Vec<Reader<N, S>>,
-    shelf: &mut S,
-) -> anyhow::Result<()>
-    requires { (S.told shelf.old).place ≡ N.place }
-{
+    shelf: &mut NamedShelf<N, S>,
+) -> anyhow::Result<()> {
     update(rt, alloc, store, shelf, "green", "sour")?;
     update(rt, alloc, store, shelf, "red", "sweet")?;
     hold(rt, alloc, store, readers, shelf)?;
@@ -255,13 +232,12 @@ fn work<N: Boarded, S: Shelf, R: Threads + Wait + Print + Sync>(
 fn create<N: Boarded, S: Shelf, R: Wait>(
     rt: &R,
     alloc: Global,
-    mut shelf: S,
+    mut shelf: NamedShelf<N, S>,
     options: Options,
     registry: Arc<Registry<N, S>>,
     board: (Publisher, Vec<Pinner>),
 ) -> Result<(Store<N, S>, Vec<Reader<N, S>>), ShelfFault>
     requires fits { Fits options }
-    requires here { (S.told shelf).place ≡ N.place }
     requires board { IsNewBoard N.board options board.0 board.1.items }
     requires seats { length board.1.items ≡ options.readers }
 {
@@ -279,19 +255,20 @@ fn create<N: Boarded, S: Shelf, R: Wait>(
 fn serve<N: Boarded, S: Shelf, R: Threads + Wait + Print + Sync>(
     rt: &R,
     alloc: Global,
-    mut shelf: S,
+    shelf: S,
     options: Options,
     records: Records<S::Receipt>,
     board: (Publisher, Vec<Pinner>),
 ) -> anyhow::Result<()>
     requires fits { Fits options }
     requires records { records ≡ N.registry }
-    requires here { (S.told shelf).place ≡ N.place }
+    requires named { (S.told shelf).place ≡ N.place }
     requires board { IsNewBoard N.board options board.0 board.1.items }
     requires seats { length board.1.items ≡ options.readers }
 {
-    let mut writer = shelf.fork(alloc)?;
     let registry = Registry::shared(alloc, records)?;
+    let mut shelf = NamedShelf::of(shelf);
+    let mut writer = shelf.fork(alloc)?;
     let (store, mut readers) = create::<N, S, R>(rt, alloc, shelf, options, registry, board)?;
     work(rt, alloc, &store, &mut readers, &mut writer)
 }

@@ -8,9 +8,12 @@ ghost use Rattle.example.specs.Fruit.{fruit};
 use lsm_codec::Kind;
 use lsm_reader::get;
 use lsm_storage::MemoryShelf;
-use lsm_table::{BuildFault, Found, Shelf, Table, TableBuilder, TableFault, TableOptions};
+use lsm_table::{
+    BuildFault, Found, NamedShelf, Naming, Shelf, Table, TableBuilder, TableFault, TableOptions,
+};
 use std::alloc::Global;
 use std::io::Print;
+use std::marker::Brand;
 use std::sync::Wait;
 
 /// The table of the three entries.
@@ -51,14 +54,17 @@ fn read(rt: &impl Print, alloc: Global, table: &Table) -> anyhow::Result<()>
 }
 
 /// Puts the table on a shelf, in memory or in a folder, and reads one key from there.
-fn read_from<S: Shelf, R: Print + Wait>(
+fn read_from<N: Naming, S: Shelf, R: Print + Wait>(
     rt: &R,
     alloc: Global,
-    shelf: &mut S,
+    shelf: S,
     file: &[u8],
-) -> anyhow::Result<()> {
+) -> anyhow::Result<()>
+    requires named { (S.told shelf).place ≡ N.place }
+{
+    let mut shelf = NamedShelf::<N, S>::of(shelf);
     let receipt = shelf.put(rt, alloc, 7, file)?;
-    let found = get(shelf, alloc, &receipt, b"apple", 9)?;
+    let found = get(&mut shelf, alloc, &receipt, b"apple", 9)?;
     show(rt, "apple at 9, from the shelf", &found)
 }
 
@@ -66,7 +72,7 @@ fn read_from<S: Shelf, R: Print + Wait>(
 pub fn show_table<R: Print + Wait>(rt: &R, alloc: Global) -> anyhow::Result<()> {
     let file = fruit_table(alloc)?;
     println!(rt; "a table of {} bytes", file.len())?;
-    read_from(rt, alloc, &mut MemoryShelf::new(alloc)?, &file)?;
+    read_from::<Brand, MemoryShelf, _>(rt, alloc, MemoryShelf::new(alloc)?, &file)?;
     let table = Table::check(alloc, file)?;
     read(rt, alloc, &table)
 }

@@ -8,7 +8,9 @@ use lsm_codec::{Bytes, Kind, List, MAX_SEQ, push_key};
 use lsm_manifest::{AddedFile, Edit, FileMeta, Shape, replay};
 use lsm_reads::{Pair, Scan};
 use lsm_storage::MemoryShelf;
-use lsm_table::{BuildFault, Naming, Records, Registry, Shelf, TableBuilder, TableOptions};
+use lsm_table::{
+    BuildFault, NamedShelf, Naming, Records, Registry, Shelf, TableBuilder, TableOptions,
+};
 use lsm_version::Version;
 use std::alloc::{AllocError, Global};
 use std::io::Print;
@@ -80,7 +82,11 @@ fn edit(alloc: Global, older_size: u64, newer_size: u64) -> Result<Edit, AllocEr
 }
 
 /// Puts both tables on the shelf: what the edit that adds them comes to.
-fn put_tables<S: Shelf, R: Wait>(rt: &R, alloc: Global, shelf: &mut S) -> anyhow::Result<Shape> {
+fn put_tables<N: Naming, S: Shelf, R: Wait>(
+    rt: &R,
+    alloc: Global,
+    shelf: &mut NamedShelf<N, S>,
+) -> anyhow::Result<Shape> {
     let older = fruit_table(alloc)?;
     let newer = newer_table(alloc)?;
     shelf.put(rt, alloc, 5, &older)?;
@@ -94,13 +100,10 @@ fn show<N: Naming, S: Shelf>(
     rt: &impl Print,
     alloc: Global,
     version: &Version<N, S>,
-    shelf: &mut S,
+    shelf: &mut NamedShelf<N, S>,
     user: &str,
     seq: u64,
-) -> anyhow::Result<()>
-    requires { (S.told shelf.old).place ≡ N.place }
-    ensures { (S.told shelf.new).place ≡ (S.told shelf.old).place }
-{
+) -> anyhow::Result<()> {
     match lsm_reads::get(version, shelf, alloc, user.as_bytes(), seq)? {
         Some(value) => println!(rt; "{user} at {seq}: {}", str::from_utf8(&value)?)?,
         None => println!(rt; "{user} at {seq}: absent")?,
@@ -119,9 +122,8 @@ fn show_rest<N: Naming, S: Shelf>(
     rt: &impl Print,
     alloc: Global,
     scan: &mut Scan<N, S>,
-    shelf: &mut S,
+    shelf: &mut NamedShelf<N, S>,
 ) -> anyhow::Result<()>
-    requires place { (S.told shelf.old).place ≡ N.place }
     requires honest { S.honest }
 {
     while let Some(pair) = scan.next(shelf, alloc)? {
@@ -135,10 +137,9 @@ fn scan<N: Naming, S: Shelf>(
     rt: &impl Print,
     alloc: Global,
     version: &Version<N, S>,
-    shelf: &mut S,
+    shelf: &mut NamedShelf<N, S>,
     seq: u64,
 ) -> anyhow::Result<()>
-    requires place { (S.told shelf.old).place ≡ N.place }
     requires honest { S.honest }
 {
     let mut scan = lsm_reads::scan(version, shelf, alloc, seq)?;
@@ -150,9 +151,8 @@ fn read<N: Naming, S: Shelf>(
     rt: &impl Print,
     alloc: Global,
     version: &Version<N, S>,
-    shelf: &mut S,
+    shelf: &mut NamedShelf<N, S>,
 ) -> anyhow::Result<()>
-    requires place { (S.told shelf.old).place ≡ N.place }
     requires honest { S.honest }
 {
     let last = version.last();
@@ -163,29 +163,29 @@ fn read<N: Naming, S: Shelf>(
     scan(rt, alloc, version, shelf, last)
 }
 
-/// The version of this shape, once checked. What is generic in `N` is of the registry and of the
+/// A version of both tables, once checked. What is generic in `N` is of the registry and of the
 /// shelf's contents that the premises name; the caller picks them by
 /// `proofs/version/show_version/Invariants.antt`.
 fn check_and_read<N: Naming, S: Shelf, R: Wait + Print>(
     rt: &R,
     alloc: Global,
     records: Records<S::Receipt>,
-    shelf: &mut S,
-    shape: &Shape,
+    shelf: S,
 ) -> anyhow::Result<()>
     requires records { records ≡ N.registry }
-    requires shelf { (S.told shelf.old).place ≡ N.place }
+    requires named { (S.told shelf).place ≡ N.place }
     requires honest { S.honest }
 {
     let registry = Registry::shared(alloc, records)?;
-    let version = lsm_check::check::<N, S, R>(shelf, rt, alloc, shape, registry)?;
-    read(rt, alloc, &version, shelf)
+    let mut shelf = NamedShelf::of(shelf);
+    let shape = put_tables(rt, alloc, &mut shelf)?;
+    let version = lsm_check::check::<N, S, R>(&mut shelf, rt, alloc, &shape, registry)?;
+    read(rt, alloc, &version, &mut shelf)
 }
 
 /// What a program does with a version.
 pub fn show_version<R: Wait + Print>(rt: &R, alloc: Global) -> anyhow::Result<()> {
     let records = Records::new(alloc)?;
-    let mut shelf = MemoryShelf::new(alloc)?;
-    let shape = put_tables(rt, alloc, &mut shelf)?;
-    check_and_read::<Brand, MemoryShelf, _>(rt, alloc, records, &mut shelf, &shape)
+    let shelf = MemoryShelf::new(alloc)?;
+    check_and_read::<Brand, MemoryShelf, _>(rt, alloc, records, shelf)
 }

@@ -1,9 +1,11 @@
 //! What a batch does to one key.
 
-ghost use Rattle.std.specs.Prelude.{◌≡◌};
-ghost use Rattle.lsm_batch.specs.Batches.{kind_of, value_of};
+ghost use Rattle.std.specs.Prelude.{◌≡◌, ◌<◌, ◌^◌};
+ghost use Rattle.lsm_codec.specs.KeyRef.{key_of};
+ghost use Rattle.lsm_codec.specs.Entries.{internal_key};
+ghost use Rattle.lsm_batch.specs.Batches.{kind_of, value_of, written_at};
 
-use lsm_codec::{Bytes, Kind};
+use lsm_codec::{Bytes, KeyRef, Kind};
 
 /// What a batch does to one user key.
 #[derive(Debug, Drop)]
@@ -16,12 +18,24 @@ pub struct Write {
 
 impl Write {
     // The kind of its entry.
-    pub(crate) fn kind(&self) -> Kind
+    fn kind(&self) -> Kind
         ensures { result ≡ kind_of self.now.value }
     {
         match &self.value {
             Some(_) => Kind::Value,
             None => Kind::Deletion,
+        }
+    }
+
+    // The key of its entry at a sequence.
+    pub(crate) fn key_at(&self, seq: u64) -> KeyRef<'_>
+        requires { seq < 2 ^ 56 }
+        ensures { key_of result ≡ internal_key (written_at seq self.now) }
+    {
+        KeyRef {
+            user: self.key.as_slice(),
+            seq,
+            kind: self.kind(),
         }
     }
 

@@ -11,7 +11,7 @@ use Rattle.lsm_version.specs.Changes.{placed_in, placed_all}
 use Rattle.lsm_check.specs.CheckedFiles.{IsFileOf}
 use Rattle.lsm_check.specs.Loading.{AreFilesOf, AreLevelsOf, AreInFileOrder, placed_levels}
 use Rattle.lsm_version.specs.Versions.{stands_before}
-use Rattle.lsm_version.proofs.CallerLemmas.{EachAfter, places_rank}
+use Rattle.lsm_version.proofs.CallerLemmas.{EachAfter, tables_rank}
 
 none_kept : (p : Table → Bool) (us : List Table) → ((u : Table) → Has us u → p u ≡ false) → filter p us ≡ []
 none_kept p [] none = refl
@@ -51,7 +51,7 @@ later : (last : ℕ) (f : TableFile) (t : Table) (files : List TableFile) (ts : 
 later last f t [] [] i a less u h = absurd h
 later last f t [] (x ∷ ts) i a less u h = absurd a
 later last f t (g ∷ files) [] i a less u h = absurd h
-later last f t (g ∷ files) (x ∷ ts) i a less u (inl e) = places_rank.one_way t u (subst (λ (y : Table). stands_before t y ≡ true) e (before_of last f g t x i a.0 less.0))
+later last f t (g ∷ files) (x ∷ ts) i a less u (inl e) = tables_rank.one_way t u (subst (λ (y : Table). stands_before t y ≡ true) e (before_of last f g t x i a.0 less.0))
 later last f t (g ∷ files) (x ∷ ts) i a less u (inr h) = later last f t files ts i a.1 less.1 u h
 
 after_each : (last : ℕ) (files : List TableFile) (ts : List Table) → AreFilesOf last files ts → IsStrictlySortedBy file_cmp files → EachAfter ts

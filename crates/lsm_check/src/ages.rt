@@ -22,7 +22,7 @@ use lsm_codec::Bytes;
 use lsm_merger::{Merger, against_age};
 use lsm_reader::{Blocks, Direct};
 use lsm_reads::{Unread, open_runs};
-use lsm_table::{Naming, Registry, Shelf, TableRef};
+use lsm_table::{NamedShelf, Naming, Registry, Shelf, TableRef};
 use std::alloc::{AllocError, Global};
 
 /// Whether a number is one of ascending ones.
@@ -73,13 +73,12 @@ fn choose<N: Naming, S: Shelf>(
 /// Goes through the tables of all levels in the order of keys, block by block: the least user key
 /// of which a deeper entry has no lesser sequence than a shallower one, if there is one. A refusal
 /// names the file of one of these tables, unless memory ran out beside them.
-fn look_again<N: Naming, S: Shelf, B: Blocks<S>>(
+fn look_again<N: Naming, S: Shelf, B: Blocks<N, S>>(
     blocks: &mut B,
     alloc: Global,
     registry: &Registry<N, S>,
     levels: &[Vec<TableRef<N, S>>],
 ) -> Result<Option<Bytes>, Unread>
-    requires here { (B.told blocks.old).place ≡ N.place }
     requires seven { length levels.now ≡ 7 }
     requires mergeable { S.honest → AreMergeable (map (λ l. l.items) levels.now) }
     ensures judged { S.honest → IfOk result (λ r. (ls : List (List Placed)) × AreRunsOf (level_in
@@ -93,10 +92,7 @@ fn look_again<N: Naming, S: Shelf, B: Blocks<S>>(
     ensures cause { IfErr result (λ e.
         ReadCounted e.fault (B.told blocks.old) (B.told blocks.new)) }
 {
-    let runs = match open_runs(blocks, alloc, registry, levels) {
-        Ok(runs) => runs,
-        Err(unread) => return Err(unread),
-    };
+    let runs = open_runs(blocks, alloc, registry, levels)?;
     let mut merger = Merger::new(alloc, runs)?;
     match against_age(blocks, alloc, &mut merger) {
         Ok(user) => Ok(user),
@@ -112,13 +108,12 @@ fn look_again<N: Naming, S: Shelf, B: Blocks<S>>(
 /// Where there is no number, it reads nothing. A refusal names a file of one of these numbers,
 /// unless memory ran out beside them.
 pub(crate) fn judge_ages<N: Naming, S: Shelf>(
-    shelf: &mut S,
+    shelf: &mut NamedShelf<N, S>,
     alloc: Global,
     registry: &Registry<N, S>,
     levels: &[Vec<TableRef<N, S>>],
     unsettled: &[u64],
 ) -> Result<(), CheckFault>
-    requires here { (S.told shelf.old).place ≡ N.place }
     requires seven { length levels.now ≡ 7 }
     requires mergeable { AreMergeable (map (λ l. l.items) levels.now) }
     requires fits { (F : File) → Has (files_from 0 (map (λ l. l.items) levels.now)) F → Fits F }
@@ -127,8 +122,8 @@ pub(crate) fn judge_ages<N: Naming, S: Shelf>(
     ensures ok { S.honest → OnOk result (KeepsAge (files_from 0 (map (λ l. l.items) levels.now))) }
     ensures refused { IfErr result (λ e.
         IsAgeRefusal S.honest (files_from 0 (map (λ l. l.items) levels.now)) e) }
-    ensures told { Becomes (S.told shelf.old) (S.told shelf.new) }
-    ensures cause { IfErr result (λ e. CheckCounted e (S.told shelf.old) (S.told shelf.new)) }
+    ensures told { Becomes shelf.old shelf.new }
+    ensures cause { IfErr result (λ e. CheckCounted e shelf.old shelf.new) }
 {
     if unsettled.is_empty() {
         return Ok(());

@@ -16,7 +16,9 @@ use crate::check_fault::CheckFault;
 use crate::sequences::Sequences;
 use crate::span::sequences_of;
 use lsm_manifest::FileMeta;
-use lsm_table::{Naming, ReadFault, Registry, Shelf, Table, TableFault, TableRecord, TableRef};
+use lsm_table::{
+    NamedShelf, Naming, ReadFault, Registry, Shelf, Table, TableFault, TableRecord, TableRef,
+};
 use lsm_version::copy_of;
 use std::alloc::{AllocError, Global};
 use std::sync::Wait;
@@ -63,22 +65,22 @@ pub(crate) fn want(file: &FileMeta) -> CheckFault
 
 /// Reads the table of a file, and judges whether it is the file's. Its image is given back before
 /// the next one is read: a receipt and the sequences stay.
-pub(crate) fn read_table<S: Shelf, R: Wait>(
-    shelf: &mut S,
+pub(crate) fn read_table<N: Naming, S: Shelf, R: Wait>(
+    shelf: &mut NamedShelf<N, S>,
     rt: &R,
     alloc: Global,
     file: &FileMeta,
     last: u64,
 ) -> Result<(S::Receipt, Sequences), CheckFault>
     ensures receipt { IfOk result (λ r. (S.Receipt.number r.0 ≡ file.now.number)
-        × S.is_of (S.told shelf.old).place r.0) }
+        × S.is_of N.place r.0) }
     ensures image { IfOk result (λ r. IsImageOf last file.now (S.Receipt.image r.0)
         × AreSequencesOf (entries_in (S.Receipt.image r.0)) r.1) }
-    ensures refused { IfErr result (λ e. IsFileRefusal (λ image. (r : S.Receipt) × S.is_of
-        (S.told shelf.old).place r × (S.Receipt.number r ≡ file.now.number) × (S.Receipt.image r
-        ≡ image)) (S.refuses (S.told shelf.old).place (Load file.now.number)) last file.now e) }
-    ensures told { Becomes (S.told shelf.old) (S.told shelf.new) }
-    ensures cause { IfErr result (λ e. CheckCounted e (S.told shelf.old) (S.told shelf.new)) }
+    ensures refused { IfErr result (λ e. IsFileRefusal
+        (λ image. (r : S.Receipt) × S.is_of N.place r × (S.Receipt.number r ≡ file.now.number)
+        × (S.Receipt.image r ≡ image)) (S.refuses N.place (Load file.now.number)) last file.now e) }
+    ensures told { Becomes shelf.old shelf.new }
+    ensures cause { IfErr result (λ e. CheckCounted e shelf.old shelf.new) }
 {
     let (receipt, image) = match shelf.load(rt, alloc, file.number) {
         Ok(loaded) => loaded,

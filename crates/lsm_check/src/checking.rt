@@ -17,20 +17,19 @@ use crate::layouts::judge_layouts;
 use crate::loading::load_levels;
 use crate::unsettled::unsettled_files;
 use lsm_manifest::Shape;
-use lsm_table::{Naming, Registry, Shelf, TableRef};
+use lsm_table::{NamedShelf, Naming, Registry, Shelf, TableRef};
 use lsm_version::{Version, copies_of};
 use std::alloc::Global;
 use std::sync::{Arc, Wait};
 
 /// Reads and judges the tables of a shape, level by level.
 fn check_levels<N: Naming, S: Shelf, R: Wait>(
-    shelf: &mut S,
+    shelf: &mut NamedShelf<N, S>,
     rt: &R,
     alloc: Global,
     registry: &Registry<N, S>,
     shape: &Shape,
 ) -> Result<Vec<Vec<TableRef<N, S>>>, CheckFault>
-    requires here { (S.told shelf.old).place ≡ N.place }
     ensures tables { IfOk result (λ v. AreTablesOf (Stored S.Receipt (S.is_of N.place)
         S.Receipt.number S.Receipt.image) shape.now (map (λ l. l.items) v.items)) }
     ensures seven { IfOk result (λ v. length v.items ≡ 7) }
@@ -45,8 +44,8 @@ fn check_levels<N: Naming, S: Shelf, R: Wait>(
     ensures refused { IfErr result (λ e.
         IsRefusal (Stored S.Receipt (S.is_of N.place) S.Receipt.number S.Receipt.image) (λ number.
         S.refuses N.place (Load number)) S.honest shape.now e) }
-    ensures told { Becomes (S.told shelf.old) (S.told shelf.new) }
-    ensures cause { IfErr result (λ e. CheckCounted e (S.told shelf.old) (S.told shelf.new)) }
+    ensures told { Becomes shelf.old shelf.new }
+    ensures cause { IfErr result (λ e. CheckCounted e shelf.old shelf.new) }
 {
     judge_numbers(alloc, &shape.levels)?;
     let (levels, sequences) = load_levels(shelf, rt, alloc, registry, shape)?;
@@ -82,13 +81,12 @@ fn check_levels<N: Naming, S: Shelf, R: Wait>(
 /// with their numbers, as LevelDB writes them, there are none. A second look is a merge, and
 /// takes a merge's time.
 pub fn check<N: Naming, S: Shelf, R: Wait>(
-    shelf: &mut S,
+    shelf: &mut NamedShelf<N, S>,
     rt: &R,
     alloc: Global,
     shape: &Shape,
     registry: Arc<Registry<N, S>>,
 ) -> Result<Version<N, S>, CheckFault>
-    requires here { (S.told shelf.old).place ≡ N.place }
     ensures shape { IfOk result (λ v. IsOfShape shape.now v) }
     ensures numbers { IfOk result (λ _. AreDistinct (numbers_of shape.now.levels)) }
     ensures sound { S.honest → IfOk result (λ v. IsSound v) }
@@ -98,8 +96,8 @@ pub fn check<N: Naming, S: Shelf, R: Wait>(
     ensures refused { IfErr result (λ e.
         IsRefusal (Stored S.Receipt (S.is_of N.place) S.Receipt.number S.Receipt.image) (λ number.
         S.refuses N.place (Load number)) S.honest shape.now e) }
-    ensures told { Becomes (S.told shelf.old) (S.told shelf.new) }
-    ensures cause { IfErr result (λ e. CheckCounted e (S.told shelf.old) (S.told shelf.new)) }
+    ensures told { Becomes shelf.old shelf.new }
+    ensures cause { IfErr result (λ e. CheckCounted e shelf.old shelf.new) }
 {
     let levels = check_levels(shelf, rt, alloc, &registry, shape)?;
     let pointers = copies_of(alloc, &shape.pointers)?;

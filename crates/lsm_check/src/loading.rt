@@ -19,31 +19,30 @@ use crate::checked_table::{read_table, record_table, want};
 use crate::sequences::Sequences;
 use lsm_codec::List;
 use lsm_manifest::{FileMeta, Shape};
-use lsm_table::{Naming, Registry, Shelf, TableRef};
-use lsm_version::place_in;
+use lsm_table::{NamedShelf, Naming, Registry, Shelf, TableRef};
+use lsm_version::index_in;
 use std::alloc::{AllocError, Global};
 use std::sync::Wait;
 
 /// Reads and judges the table of a file, and adds its record. Of the image nothing stays but the
 /// receipt.
 fn load_file<N: Naming, S: Shelf, R: Wait>(
-    shelf: &mut S,
+    shelf: &mut NamedShelf<N, S>,
     rt: &R,
     alloc: Global,
     registry: &Registry<N, S>,
     file: &FileMeta,
     last: u64,
 ) -> Result<(TableRef<N, S>, Sequences), CheckFault>
-    requires here { (S.told shelf.old).place ≡ N.place }
     ensures file { IfOk result (λ r. IsFileOf last file.now r.0) }
     ensures stored { IfOk result (λ t. (r : S.Receipt) × S.is_of N.place r
         × (S.Receipt.number r ≡ t.0.number) × (S.Receipt.image r ≡ t.0.image)) }
     ensures sequences { IfOk result (λ r. AreSequencesOf (entries_in r.0.image) r.1) }
-    ensures refused { IfErr result (λ e. IsFileRefusal (λ image. (r : S.Receipt) × S.is_of N.place r
-        × (S.Receipt.number r ≡ file.now.number)
+    ensures refused { IfErr result (λ e. IsFileRefusal
+        (λ image. (r : S.Receipt) × S.is_of N.place r × (S.Receipt.number r ≡ file.now.number)
         × (S.Receipt.image r ≡ image)) (S.refuses N.place (Load file.now.number)) last file.now e) }
-    ensures told { Becomes (S.told shelf.old) (S.told shelf.new) }
-    ensures cause { IfErr result (λ e. CheckCounted e (S.told shelf.old) (S.told shelf.new)) }
+    ensures told { Becomes shelf.old shelf.new }
+    ensures cause { IfErr result (λ e. CheckCounted e shelf.old shelf.new) }
 {
     let (receipt, sequences) = read_table(shelf, rt, alloc, file, last)?;
     match record_table(rt, alloc, registry, file, receipt) {
@@ -67,7 +66,7 @@ fn place<N: Naming, S: Shelf>(
     ensures order { OnOk result (IsSortedBy stands_before tables.new.items) }
     ensures beside { OnOk result (AreSequences tables.new.items sequences.new.items) }
 {
-    let index = place_in(registry, tables.as_slice(), &table);
+    let index = index_in(registry, tables.as_slice(), &table);
     tables.insert(index, table)?;
     sequences.insert(index, own)?;
     Ok(())
@@ -75,22 +74,21 @@ fn place<N: Naming, S: Shelf>(
 
 /// Reads the files of a level, and puts their tables into place one after another.
 fn load_level<N: Naming, S: Shelf, R: Wait>(
-    shelf: &mut S,
+    shelf: &mut NamedShelf<N, S>,
     rt: &R,
     alloc: Global,
     registry: &Registry<N, S>,
     files: &[FileMeta],
     last: u64,
 ) -> Result<(Vec<TableRef<N, S>>, Vec<Sequences>), CheckFault>
-    requires here { (S.told shelf.old).place ≡ N.place }
     ensures read { IfOk result (λ v. IsLevelRead (Stored S.Receipt (S.is_of N.place)
         S.Receipt.number S.Receipt.image) last files.now v.0.items v.1.items) }
     ensures order { IfOk result (λ v. IsSortedBy stands_before v.0.items) }
     ensures refused { IfErr result (λ e.
         IsFilesRefusal (Stored S.Receipt (S.is_of N.place) S.Receipt.number S.Receipt.image)
         (λ number. S.refuses N.place (Load number)) last files.now e) }
-    ensures told { Becomes (S.told shelf.old) (S.told shelf.new) }
-    ensures cause { IfErr result (λ e. CheckCounted e (S.told shelf.old) (S.told shelf.new)) }
+    ensures told { Becomes shelf.old shelf.new }
+    ensures cause { IfErr result (λ e. CheckCounted e shelf.old shelf.new) }
 {
     let mut tables = Vec::new(alloc);
     let mut sequences = Vec::new(alloc);
@@ -103,13 +101,12 @@ fn load_level<N: Naming, S: Shelf, R: Wait>(
 
 /// Reads the files of all levels of a shape: the tables of each level, and their sequences.
 pub(crate) fn load_levels<N: Naming, S: Shelf, R: Wait>(
-    shelf: &mut S,
+    shelf: &mut NamedShelf<N, S>,
     rt: &R,
     alloc: Global,
     registry: &Registry<N, S>,
     shape: &Shape,
 ) -> Result<(Vec<Vec<TableRef<N, S>>>, Vec<Vec<Sequences>>), CheckFault>
-    requires here { (S.told shelf.old).place ≡ N.place }
     ensures read { IfOk result (λ v.
         AreRead (Stored S.Receipt (S.is_of N.place) S.Receipt.number S.Receipt.image) shape.now.last
         shape.now.levels (map (λ l. l.items) v.0.items) (map (λ l. l.items) v.1.items)) }
@@ -117,8 +114,8 @@ pub(crate) fn load_levels<N: Naming, S: Shelf, R: Wait>(
     ensures refused { IfErr result (λ e.
         IsFilesRefusal (Stored S.Receipt (S.is_of N.place) S.Receipt.number S.Receipt.image)
         (λ number. S.refuses N.place (Load number)) shape.now.last (all_files shape.now.levels) e) }
-    ensures told { Becomes (S.told shelf.old) (S.told shelf.new) }
-    ensures cause { IfErr result (λ e. CheckCounted e (S.told shelf.old) (S.told shelf.new)) }
+    ensures told { Becomes shelf.old shelf.new }
+    ensures cause { IfErr result (λ e. CheckCounted e shelf.old shelf.new) }
 {
     let levels: &[List<FileMeta>] = &shape.levels;
     let mut tables = Vec::new(alloc);

@@ -6,7 +6,7 @@ use Rattle.std.proofs.lemmas.Option.{get_or_from_slice_get, slice_get_read, slic
 use Rattle.lsm_codec.specs.Lists.{Has}
 use Rattle.lsm_table.specs.Registry.{Table}
 use Rattle.lsm_version.specs.Versions.{Levels, file_of, level_in}
-use Rattle.lsm_choice.specs.Choice.{AllBlocked, AllBlockedBeside, AreEqual, Candidate, HasNoChoice, IsBlocked, IsBlockedAt, IsCandidate, IsChoice, IsDue, IsFirstClear, IsFree, IsGreaterScore, IsLevelBefore, IsLevelChoice, IsOnSide, IsPlaceBefore, IsTriedBefore, is_beyond, pointer_at}
+use Rattle.lsm_choice.specs.Choice.{AllBlocked, AllBlockedBeside, AreEqual, Candidate, HasNoChoice, IsBlocked, IsBlockedAt, IsCandidate, IsChoice, IsDue, IsFirstClear, IsFree, IsGreaterScore, IsLevelBefore, IsLevelChoice, IsOnSide, IsTableBefore, IsTriedBefore, is_beyond, pointer_at}
 use Rattle.lsm_choice.specs.Reservations.{IsClear, Reserved, is_taken}
 use Rattle.lsm_choice.specs.Scores.{score, weight}
 use Rattle.lsm_choice.specs.TablePlans.{IsPlanFrom, TablePlan}
@@ -14,9 +14,9 @@ use Rattle.lsm_choice.proofs.Scoring.{equal_weight, greater_weight}
 
 -- ---- one side of a level
 
--- the candidates on that side up to a place are blocked
+-- the candidates on that side up to an index are blocked
 abbrev pub AllTried : Levels → List Reserved → ℕ → Bool → ℕ → Type 0
-AllTried v rs level beyond i = (c : Candidate) → IsOnSide v rs level beyond c → c.place < i → IsBlocked v rs c
+AllTried v rs level beyond i = (c : Candidate) → IsOnSide v rs level beyond c → c.index < i → IsBlocked v rs c
 
 at_table : (v : Levels) (level : ℕ) (c : Candidate) (t : Table) (p : TablePlan) → c.level ≡ level → c.table ≡ t → IsPlanFrom v (Has (file_of level t ∷ [])) p → IsPlanFrom v (Has (file_of c.level c.table ∷ [])) p
 at_table v level c t p l same q =
@@ -25,39 +25,39 @@ at_table v level c t p l same q =
 blocked_at : (v : Levels) (rs : List Reserved) (level : ℕ) (c : Candidate) (t : Table) → c.level ≡ level → c.table ≡ t → IsBlockedAt v rs level t → IsBlocked v rs c
 blocked_at v rs level c t l same b = (b.0, record { level = b.1 ∙ sym l; planned = at_table v level c t b.0 l same b.2 }, b.3)
 
--- the table at the candidate's place
-table_is : (v : Levels) (rs : List Reserved) (level i : ℕ) (c : Candidate) (x : Table) → IsFree v rs c → c.level ≡ level → c.place ≡ i → x ≡ get_or (level_in v.tables level) i x → c.table ≡ x
+-- the table at the candidate's index
+table_is : (v : Levels) (rs : List Reserved) (level i : ℕ) (c : Candidate) (x : Table) → IsFree v rs c → c.level ≡ level → c.index ≡ i → x ≡ get_or (level_in v.tables level) i x → c.table ≡ x
 table_is v rs level i c x f l at is =
-    let here : slice_get (level_in v.tables level) i ≡ Some c.table = subst (λ (j : ℕ). slice_get (level_in v.tables level) j ≡ Some c.table) at (subst (λ (n : ℕ). slice_get (level_in v.tables n) c.place ≡ Some c.table) l f.stands) in
+    let here : slice_get (level_in v.tables level) i ≡ Some c.table = subst (λ (j : ℕ). slice_get (level_in v.tables level) j ≡ Some c.table) at (subst (λ (n : ℕ). slice_get (level_in v.tables n) c.index ≡ Some c.table) l f.stands) in
     sym (get_or_from_slice_get (level_in v.tables level) i c.table x here) ∙ sym is
 
--- a place more that is blocked
+-- one more that is blocked
 pub tried_more : (v : Levels) (rs : List Reserved) (level : ℕ) (beyond : Bool) (i : ℕ) (x : Table) → x ≡ get_or (level_in v.tables level) i x → IsBlockedAt v rs level x
     → AllTried v rs level beyond i → AllTried v rs level beyond (i + 1)
-tried_more v rs level beyond i x is b before c s lt = elim (cases_lt c.place i) [
+tried_more v rs level beyond i x is b before c s lt = elim (cases_lt c.index i) [
   | inl less ↦ before c s less
-  | inr more ↦ (let at : c.place ≡ i = omega arith in blocked_at v rs level c x s.level_is (table_is v rs level i c x s.free s.level_is at is) b)
+  | inr more ↦ (let at : c.index ≡ i = omega arith in blocked_at v rs level c x s.level_is (table_is v rs level i c x s.free s.level_is at is) b)
 ]
 
--- a place more whose table is not on that side
+-- one more whose table is not on that side
 pub tried_skip : (v : Levels) (rs : List Reserved) (level : ℕ) (beyond : Bool) (i : ℕ) (x : Table) → x ≡ get_or (level_in v.tables level) i x
     → ((is_taken rs x ≡ false) × (is_beyond (pointer_at v level) x ≡ beyond) → ⊥) → AllTried v rs level beyond i → AllTried v rs level beyond (i + 1)
-tried_skip v rs level beyond i x is other before c s lt = elim (cases_lt c.place i) [
+tried_skip v rs level beyond i x is other before c s lt = elim (cases_lt c.index i) [
   | inl less ↦ before c s less
-  | inr more ↦ (let at : c.place ≡ i = omega arith in let same = table_is v rs level i c x s.free s.level_is at is in
+  | inr more ↦ (let at : c.index ≡ i = omega arith in let same = table_is v rs level i c x s.free s.level_is at is in
       absurd (other (subst (λ (u : Table). is_taken rs u ≡ false) same s.free.free, subst (λ (u : Table). is_beyond (pointer_at v level) u ≡ beyond) same s.side)))
 ]
 
 pub tried_all : (v : Levels) (rs : List Reserved) (level : ℕ) (beyond : Bool) (i : ℕ) → length (level_in v.tables level) ≤ i → AllTried v rs level beyond i → AllBlockedBeside v rs level beyond
 tried_all v rs level beyond i past before c s =
-    let here = slice_get_within (level_in v.tables level) c.place c.table (subst (λ (n : ℕ). slice_get (level_in v.tables n) c.place ≡ Some c.table) s.level_is s.free.stands) in
+    let here = slice_get_within (level_in v.tables level) c.index c.table (subst (λ (n : ℕ). slice_get (level_in v.tables n) c.index ≡ Some c.table) s.level_is s.free.stands) in
     before c s (omega arith)
 
 pub first_clear_is : (v : Levels) (rs : List Reserved) (level : ℕ) (beyond : Bool) (i : ℕ) (x : Table) (p : TablePlan) → i < length (level_in v.tables level) → x ≡ get_or (level_in v.tables level) i x
     → (is_taken rs x ≡ false) × (is_beyond (pointer_at v level) x ≡ beyond) → p.level ≡ level → IsPlanFrom v (Has (file_of level x ∷ [])) p → IsClear p rs
     → AllTried v rs level beyond i → IsFirstClear v rs level beyond p
 first_clear_is v rs level beyond i x p lt is on at q clear before = record {
-  start = record { level = level; place = i; table = x };
+  start = record { level = level; index = i; table = x };
   on_side = record {
     level_is = refl;
     free = record { stands = slice_get_read (level_in v.tables level) (length (level_in v.tables level)) i x refl lt is; free = on.0 };
@@ -96,7 +96,7 @@ other_chosen v rs level p a k = record {
     own : is_beyond (pointer_at v k.start.level) k.start.table ≡ false
     own = beyond_at v level k.start false k.on_side.level_is k.on_side.side
 
-    first : (c : Candidate) → c.level ≡ level → IsFree v rs c → IsPlaceBefore v c k.start → IsBlocked v rs c
+    first : (c : Candidate) → c.level ≡ level → IsFree v rs c → IsTableBefore v c k.start → IsBlocked v rs c
     first c l f b = elim (side_of v rs level c l f) [
       | inl s ↦ a c s
       | inr s ↦ elim b [

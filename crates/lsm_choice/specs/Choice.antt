@@ -40,15 +40,15 @@ pointer_at v level = slice_index_or v.pointers level None
 
 -- ---- candidates
 
--- a table in its place in a level
+-- a table of a level, by its index there
 pub record Candidate : Type 0 where
   pub level : ℕ
-  pub place : ℕ
+  pub index : ℕ
   pub table : Table
 
 -- it stands there, and is no input of a live job
 pub record IsFree (v : Levels) (rs : List Reserved) (c : Candidate) : Type 0 where
-  pub stands : slice_get (level_in v.tables c.level) c.place ≡ Some c.table
+  pub stands : slice_get (level_in v.tables c.level) c.index ≡ Some c.table
   pub free : is_taken rs c.table ≡ false
 
 -- the table may be the start of a compaction: its level has a score of at least 1
@@ -62,14 +62,14 @@ abbrev pub IsLevelBefore : Levels → List Reserved → ℕ → ℕ → Type 0
 IsLevelBefore v rs l m = IsGreaterScore (score v rs l) (score v rs m) ⊎ (AreEqual (score v rs l) (score v rs m) × (l < m))
 
 -- in a level those beyond its pointer first, then the others, both in the level's order
-abbrev pub IsPlaceBefore : Levels → Candidate → Candidate → Type 0
-IsPlaceBefore v c d =
+abbrev pub IsTableBefore : Levels → Candidate → Candidate → Type 0
+IsTableBefore v c d =
     ((is_beyond (pointer_at v c.level) c.table ≡ true) × (is_beyond (pointer_at v d.level) d.table ≡ false))
-    ⊎ ((is_beyond (pointer_at v c.level) c.table ≡ is_beyond (pointer_at v d.level) d.table) × (c.place < d.place))
+    ⊎ ((is_beyond (pointer_at v c.level) c.table ≡ is_beyond (pointer_at v d.level) d.table) × (c.index < d.index))
 
 -- c is tried before d
 abbrev pub IsTriedBefore : Levels → List Reserved → Candidate → Candidate → Type 0
-IsTriedBefore v rs c d = IsLevelBefore v rs c.level d.level ⊎ ((c.level ≡ d.level) × IsPlaceBefore v c d)
+IsTriedBefore v rs c d = IsLevelBefore v rs c.level d.level ⊎ ((c.level ≡ d.level) × IsTableBefore v c d)
 
 -- the plan that starts from the candidate's table
 pub record IsPlanOf (v : Levels) (c : Candidate) (p : TablePlan) : Type 0 where
@@ -115,7 +115,7 @@ pub record IsFirstClear (v : Levels) (rs : List Reserved) (level : ℕ) (beyond 
   pub on_side : IsOnSide v rs level beyond start
   pub planned : IsPlanOf v start p
   pub clear : IsClear p rs
-  pub first : (c : Candidate) → IsOnSide v rs level beyond c → c.place < start.place → IsBlocked v rs c
+  pub first : (c : Candidate) → IsOnSide v rs level beyond c → c.index < start.index → IsBlocked v rs c
 
 abbrev pub AllBlocked : Levels → List Reserved → ℕ → Type 0
 AllBlocked v rs level = (c : Candidate) → c.level ≡ level → IsFree v rs c → IsBlocked v rs c
@@ -127,4 +127,4 @@ pub record IsLevelChoice (v : Levels) (rs : List Reserved) (level : ℕ) (p : Ta
   pub free : IsFree v rs start
   pub planned : IsPlanOf v start p
   pub clear : IsClear p rs
-  pub first : (c : Candidate) → c.level ≡ level → IsFree v rs c → IsPlaceBefore v c start → IsBlocked v rs c
+  pub first : (c : Candidate) → c.level ≡ level → IsFree v rs c → IsTableBefore v c start → IsBlocked v rs c

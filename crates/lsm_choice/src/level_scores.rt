@@ -6,7 +6,7 @@ ghost use Rattle.lsm_choice.specs.Scores.{free_tables, limit, load, scale, score
 
 use crate::conflicts::is_taken;
 use crate::reservation::Reservation;
-use lsm_table::{Naming, Registry, Shelf, Slip, TableRef};
+use lsm_table::{Naming, Registry, Shelf, TableReceipt, TableRef};
 use lsm_version::Version;
 
 /// How many of the tables are inputs of no live job.

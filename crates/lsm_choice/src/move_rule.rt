@@ -9,7 +9,7 @@ ghost use Rattle.lsm_version.specs.Overlap.{meets};
 
 use crate::plan::Plan;
 use crate::table_range::meets;
-use lsm_table::{Naming, Registry, Shelf, Slip, TableRef};
+use lsm_table::{Naming, Registry, Shelf, TableReceipt, TableRef};
 use lsm_version::Version;
 
 /// The bytes of the tables that meet a range.

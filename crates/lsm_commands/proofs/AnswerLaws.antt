@@ -2,11 +2,11 @@
 use Rattle.std.proofs.Common.{◌≡◌, ℕ, List, Option, Some, None, Result, Ok, Err, sym, subst}
 use Rattle.std.specs.Prelude.{IfErr, IfSome, OnErr}
 use Rattle.lsm_commands.specs.Commands.{Answers, BeginsAnswer, Explains}
-use Rattle.lsm_commands.specs.Printing.{Begins}
-use Rattle.lsm_commands.specs.declared.conversion.Conversion.{Conversion}
-use Rattle.lsm_commands.specs.declared.conversion.Conversion.TheVariants.{MakeTable, Dump, Manifest}
-use Rattle.lsm_commands.specs.declared.fault.Fault.{Fault}
-use Rattle.lsm_commands.specs.declared.fault.Fault.TheVariants.{Write}
+use Rattle.lsm_text.specs.Printing.{Begins}
+use Rattle.lsm_text.specs.declared.conversion.Conversion.{Conversion}
+use Rattle.lsm_text.specs.declared.conversion.Conversion.TheVariants.{MakeTable, Dump, Manifest}
+use Rattle.lsm_text.specs.declared.fault.Fault.{Fault}
+use Rattle.lsm_text.specs.declared.fault.Fault.TheVariants.{Write}
 
 write_explains : (name : Conversion) (text output : List ℕ) → Answers name text output → Explains name text Write
 write_explains MakeTable text output h = (output, h)

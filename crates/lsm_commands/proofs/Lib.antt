@@ -1,16 +1,25 @@
-pub mod PartLaws
-pub mod WordLaws
-pub mod SequenceLaws
-pub mod LineLaws
-pub mod ListLaws
-pub mod PrintLaws
-pub mod PrinterLaws
-pub mod EntryPieces
-pub mod AnswerLaws
-pub mod StreamLaws
-pub mod MakingLaws
-pub mod ManifestLaws
-pub mod LineLists
-pub mod SpellingLaws
-pub mod SlipLaws
-pub mod CallerLemmas
+mod AnswerLaws
+mod MakingLaws
+mod ManifestLaws
+mod LevelLaws
+mod ReadingOutcomes
+mod ScanLaws
+mod FaultLaws
+mod Padding
+mod Quiet
+mod TellingLaws
+mod LogLaws
+mod LookLaws
+mod NameNumberLaws
+mod FileKindLaws
+mod NameKindLaws
+mod NameLaws
+mod Looked
+mod WritingOutcomes
+mod Numbers
+mod SpareFiles
+mod SpareLaws
+mod Ends
+mod CompactOutcomes
+mod PlayOutcomes
+mod RunLaws

@@ -2,22 +2,22 @@
 use Rattle.std.proofs.Common.{◌≡◌, ℕ, ◌≤◌, ◌^◌, inl, inr, true, List, [], ◌∷◌, ◌++◌, length, Option, Some, None, Result, Ok, Err, refl, sym, ap, ◌∙◌, subst, append_assoc, append-nil}
 use Rattle.lsm_codec.specs.Entries.{Entry, entry_cmp}
 use Rattle.lsm_block.specs.Block.{Ascends}
-use Rattle.lsm_commands.specs.EntryList.{IsEntryList, IsFirstBadLine}
-use Rattle.lsm_commands.specs.EntryReading.{may_follow, in_front, joined, list_at}
-use Rattle.lsm_commands.specs.declared.entry_reader.EntryReader.{EntryReader}
-use Rattle.lsm_commands.specs.declared.entry_reader.LineFault.{LineFault}
-use Rattle.lsm_commands.specs.declared.entry_reader.LineFault.TheVariants.{BadLine, OutOfMemory}
-use Rattle.lsm_commands.specs.declared.conversion.Conversion.{Conversion}
-use Rattle.lsm_commands.specs.declared.conversion.Conversion.TheVariants.{MakeTable}
-use Rattle.lsm_commands.specs.declared.fault.Fault.{Fault}
+use Rattle.lsm_text.specs.EntryList.{IsEntryList, IsFirstBadLine}
+use Rattle.lsm_text.specs.EntryReading.{may_follow, in_front, joined, list_at}
+use Rattle.lsm_text.specs.declared.entry_reader.EntryReader.{EntryReader}
+use Rattle.lsm_text.specs.declared.entry_reader.LineFault.{LineFault}
+use Rattle.lsm_text.specs.declared.entry_reader.LineFault.TheVariants.{BadLine, OutOfMemory}
+use Rattle.lsm_text.specs.declared.conversion.Conversion.{Conversion}
+use Rattle.lsm_text.specs.declared.conversion.Conversion.TheVariants.{MakeTable}
+use Rattle.lsm_text.specs.declared.fault.Fault.{Fault}
 use Rattle.std.specs.Prelude.{IfErr, IsErrAnd}
-use Rattle.lsm_commands.specs.ReaderView.{before_of, rest_of, Stops}
+use Rattle.lsm_text.specs.ReaderView.{before_of, rest_of, Stops}
 use Rattle.lsm_block.specs.declared.build_fault.BuildFault.{BuildFault}
 use Rattle.lsm_block.specs.declared.build_fault.BuildFault.TheVariants.{OutOfMemory as NoMemory, TooLarge}
 use Rattle.lsm_table.specs.TableBuilding.{PassesLimit, index_block, groups_by}
-use Rattle.lsm_commands.specs.Fault.{of_line, of_build}
+use Rattle.lsm_text.specs.Fault.{of_line, of_build}
 use Rattle.lsm_commands.specs.Commands.{Explains, usual}
-use Rattle.lsm_commands.proofs.ListLaws.{list_takes, list_bad, is_less}
+use Rattle.lsm_text.proofs.CallerLemmas.{list_takes, list_bad, is_less}
 
 -- the last entry, if there is one
 abbrev pub last_entry : List Entry → Option Entry

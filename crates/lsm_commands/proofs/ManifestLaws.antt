@@ -12,11 +12,11 @@ use Rattle.lsm_manifest.specs.Edit.{IsEdit}
 use Rattle.lsm_manifest.specs.EditReading.{edit_at}
 use Rattle.lsm_manifest.specs.EditView.{Fails}
 use Rattle.lsm_manifest.specs.EditFit.{Change}
-use Rattle.lsm_commands.specs.declared.conversion.Conversion.TheVariants.{Manifest}
+use Rattle.lsm_text.specs.declared.conversion.Conversion.TheVariants.{Manifest}
 use Rattle.lsm_manifest.specs.Manifest.{AreEdits}
 use Rattle.lsm_commands.specs.Commands.{HasBadEdit, Explains}
-use Rattle.lsm_commands.specs.Fault.{of_log, of_edit}
-use Rattle.lsm_commands.specs.ManifestPrinting.{edit_lines, edits_lines, number_line, manifest_text}
+use Rattle.lsm_text.specs.Fault.{of_log, of_edit}
+use Rattle.lsm_text.specs.ManifestPrinting.{edit_lines, edits_lines, number_line, manifest_text}
 
 -- how far the records have been printed
 pub record Printed (records : List (List ℕ)) (i : ℕ) (text : List ℕ) : Type 0 where

@@ -1,5 +1,5 @@
 -- What the commands answer, and what their faults say.
-use Rattle.std.specs.Prelude.{◌≡◌, ◌≢◌, ℕ, ◌^◌, ◌<◌, ◌≤◌, ◌⊎◌, ⊤, List, [], ◌∷◌, ◌++◌, length, take, get_or, Err, Option, IfSome}
+use Rattle.std.specs.Prelude.{◌≡◌, ◌≢◌, ℕ, ◌^◌, ◌<◌, ◌≤◌, ◌⊎◌, ⊤, List, [], ◌∷◌, ◌++◌, length, take, get_or, codes, decimal, Err, Option, Some, IfSome}
 use Rattle.std.specs.Io.KnownBytes.{Appends, Keeps}
 use Rattle.lsm_codec.specs.Entries.{Entry}
 use Rattle.lsm_manifest.specs.declared.edit_fault.EditFault.{EditFault}
@@ -8,19 +8,19 @@ use Rattle.lsm_manifest.specs.LogReading.{log_at}
 use Rattle.lsm_manifest.specs.Manifest.{AreEdits, IsManifest}
 use Rattle.lsm_manifest.specs.EditReading.{edit_at}
 use Rattle.lsm_manifest.specs.EditFit.{Change}
-use Rattle.lsm_commands.specs.ManifestPrinting.{manifest_text}
+use Rattle.lsm_text.specs.ManifestPrinting.{manifest_text}
 use Rattle.lsm_table.specs.Table.{IsTable}
 use Rattle.lsm_table.specs.TableReading.{table_at}
-use Rattle.lsm_commands.specs.declared.conversion.Conversion.{Conversion}
-use Rattle.lsm_commands.specs.declared.conversion.Conversion.TheVariants.{MakeTable, Dump, Manifest}
-use Rattle.lsm_commands.specs.declared.fault.Fault.{Fault}
-use Rattle.lsm_commands.specs.declared.fault.Fault.TheVariants.{Read, Write, BadLine, OutOfMemory, Table, TooLarge, Log, Edit}
+use Rattle.lsm_text.specs.declared.conversion.Conversion.{Conversion}
+use Rattle.lsm_text.specs.declared.conversion.Conversion.TheVariants.{MakeTable, Dump, Manifest}
+use Rattle.lsm_text.specs.declared.fault.Fault.{Fault}
+use Rattle.lsm_text.specs.declared.fault.Fault.TheVariants.{Read, Write, BadLine, OutOfMemory, Table, TooLarge, Log, Edit}
 use Rattle.lsm_table.specs.declared.table_options.TableOptions.{TableOptions}
 use Rattle.lsm_table.specs.TableBuilding.{PassesLimit, index_block, groups_by, table_bytes}
-use Rattle.lsm_commands.specs.EntryReading.{BeginsWith}
-use Rattle.lsm_commands.specs.EntryList.{IsEntryList, IsFirstBadLine}
-use Rattle.lsm_commands.specs.EntryPrinting.{entry_list}
-use Rattle.lsm_commands.specs.Printing.{Begins}
+use Rattle.lsm_text.specs.EntryReading.{BeginsWith}
+use Rattle.lsm_text.specs.EntryList.{IsEntryList, IsFirstBadLine}
+use Rattle.lsm_text.specs.EntryPrinting.{entry_list}
+use Rattle.lsm_text.specs.Printing.{Begins}
 
 -- The options of the tables that `mktable` makes.
 abbrev pub usual : TableOptions
@@ -86,3 +86,16 @@ pub record IsRefused (conversion : Conversion) (input : Option (List ℕ)) (faul
   pub explained : IfSome input (λ text. Explains conversion text fault)
   pub kept : fault ≢ Write → Keeps old new
   pub begun : fault ≡ Write → IfSome input (λ text. BeginsAnswer conversion text old new)
+
+-- ---- what is told of a fault
+
+-- what it may mean of the input, as a line of its own
+abbrev pub meaning : Fault → Option (List ℕ)
+meaning Read = Some (codes "the input could not be read, or has more than 64 MiB\n")
+meaning Write = Some []
+meaning (BadLine i) = Some (codes "line " ++ (decimal i ++ codes " is not of the form KEY SEQ put VALUE or KEY SEQ del, in hex, or is out of order\n"))
+meaning OutOfMemory = Some []
+meaning (Table fault) = Some []
+meaning TooLarge = Some []
+meaning (Log fault) = Some []
+meaning (Edit fault) = Some []

@@ -1,74 +1,59 @@
-//! The text side of the program `lsm`: what its words ask for, and how keys, values and refusals
-//! are spelled; and the commands that print what an input has in another form.
+//! The commands of the program `lsm`: on one input, `mktable`, `dump`, `manifest` and `script`; on a
+//! folder that is only read, `check`, `list`, `get` and `scan`; on one that is written, `ingest`,
+//! `clean` and `compact`.
 //!
-//! Stands on the crates of the files, on `clap` for the grammar and on `hex` for words of bytes.
-//! Its contracts: `read_line` answers the one request that words ask for by the grammar, or that
-//! they ask for none; `convert` writes what its input is converted to, or names a fault that
-//! explains the input.
+//! Stands on `lsm_text` for words, forms and texts, on `lsm_journal` and `lsm_reads` to open a folder
+//! and read it, on `lsm_state` for what comes into it, on `lsm_store` for the workers that compact
+//! it, and on `lsm_script` for lists of commands. Its contract: `run` does what the words of a
+//! command line ask, by one clause for each exit status (what it does not say is in README.md).
 #![tactic(auto)]
 
-// What is asked for.
-mod compact_options;
-mod conversion;
-mod directory_command;
-mod ingest_options;
-mod input;
-mod key_bounds;
-mod request;
-mod writing_command;
+// What words ask is done.
+mod paths;
+mod running;
 
-// How words ask for it: the grammar, what it finds in words, and what that says.
-mod asking;
-mod command_line;
-mod command_name;
-mod grammar;
-mod pages;
-mod word_fault;
+// On one input: mktable, dump and manifest; script.
+mod converting;
+mod playing;
 
-// What is done for an input.
-mod commands;
-mod program;
-mod streams;
+// On a folder that is only read: check, list, get, scan.
+mod reading;
 
-// The lists of entries that are read.
-mod entry_buffer;
-mod entry_reader;
-mod text_parts;
-mod words;
+// On a folder that is written: ingest, clean, compact.
+mod cleaning;
+mod compacting;
+mod ingesting;
+mod parts;
 
-// What is printed.
-mod edit_spelling;
-mod entry_printing;
-mod fault;
-mod printer;
-mod refusal;
-mod spelling;
+// A folder: its lock, its names, its logs.
+mod folder;
 
-// Words for bytes, in hex or as text.
-mod form;
-mod slip;
-mod text_words;
+// Why a command ends with status 1, and what is told of that.
+mod faults;
+mod telling;
 
-// What holds of lists.
-mod laws;
-
-pub use command_line::{CommandLine, read_line};
-pub use command_name::CommandName;
-pub use compact_options::CompactOptions;
-pub use conversion::Conversion;
-pub use directory_command::DirectoryCommand;
-pub use edit_spelling::{push_file_words, push_key, push_number};
-pub use fault::Fault;
-pub use form::Form;
-pub use ingest_options::IngestOptions;
-pub use input::Input;
-pub use key_bounds::KeyBounds;
-pub use laws::{one_list, one_word, printed_list};
-pub use program::{convert, refuse_input, refuse_line, refuse_words, show_help};
-pub use refusal::Refusal;
-pub use request::{CompactLine, DirectoryLine, Request, WritingLine};
-pub use slip::{Slip, slip_in};
-pub use spelling::{push_bytes, push_decimal};
-pub use streams::{InputFault, read_input};
-pub use text_parts::{first_line, parts};
-pub use writing_command::WritingCommand;
+pub use cleaning::program::clean;
+pub use compacting::opening::held_shelf;
+pub use compacting::program::compact;
+pub use converting::program::convert;
+pub use faults::compact_fault::CompactFault;
+pub use faults::directory_fault::DirectoryFault;
+pub use faults::writer_fault::WriterFault;
+pub use folder::file_kind::FileKind;
+pub use folder::folder_file::FolderFile;
+pub use folder::holding::hold;
+pub use folder::logs::first_unread;
+pub use folder::looking::{files_beside, folder_names, log_files, logs_among};
+pub use ingesting::batch_input::read_batch;
+pub use ingesting::preparing::prepare;
+pub use ingesting::program::ingest;
+pub use ingesting::start::{Prepared, Start};
+pub use parts::{NewParts, Parts};
+pub use paths::{Paths, SystemPaths};
+pub use playing::program::script;
+pub use playing::script_input::read_script;
+pub use playing::watched::Watched;
+pub use reading::inquiry::Inquiry;
+pub use reading::opened::{Opened, open};
+pub use reading::program::look;
+pub use running::{refuse_words, run};

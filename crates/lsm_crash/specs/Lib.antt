@@ -1,3 +1,4 @@
+-- What public clauses cite, and so what a caller reads
 pub mod Disk
 pub mod Crash
 pub mod Versions

@@ -1,7 +1,9 @@
+pub use Rattle.lsm_shelf.specs.Place
+-- What public clauses cite, and so what a caller reads
 pub mod Calls
-pub mod Directory
 pub mod FolderFault
 pub mod MemoryFolder
-pub use Rattle.lsm_shelf.specs.Place
-pub mod SystemFault
 pub mod SystemFolder
+-- What private functions and proofs cite alone
+pub mod Directory
+pub mod SystemFault

@@ -11,7 +11,7 @@ ghost use Rattle.lsm_journal.specs.Writing.{created, created_under};
 
 use crate::journal::Journal;
 use crate::written::{first_edit, manifest_of};
-use lsm_table::{Shelf, ShelfFault};
+use lsm_table::{NamedShelf, Naming, Shelf, ShelfFault};
 use std::alloc::Global;
 use std::sync::Wait;
 
@@ -22,27 +22,24 @@ impl Journal {
     /// `Taken` with the number of the manifest that is there; then `OutOfMemory`, `Device`, and
     /// `Taken` of number 1 where another began one meanwhile. A refused call sent nothing that took
     /// effect; after `Device` the manifest may be there or not.
-    pub fn create<S: Shelf, R: Wait>(
+    pub fn create<N: Naming, S: Shelf, R: Wait>(
         rt: &R,
         alloc: Global,
-        shelf: &mut S,
+        shelf: &mut NamedShelf<N, S>,
         limit: u64,
     ) -> Result<Journal, ShelfFault>
         ensures created { IfOk result (λ j. j ≡ created limit) }
         ensures recorded { IfOk result (λ j. IsRecorded 0 j no_levels 2) }
-        ensures sent { IfOk result (λ j.
-            Becomes (sending j.number j.bytes (S.told shelf.old)) (S.told shelf.new)) }
+        ensures sent { IfOk result (λ j. Becomes (sending j.number j.bytes shelf.old) shelf.new) }
 
         // No manifest was there: the shelf said so.
-        ensures missing { OnOk result (Rose (S.told shelf.old).misses (S.told shelf.new).misses) }
-        ensures counts { OnOk result (((S.told shelf.new).faults ≡ (S.told shelf.old).faults)
-            × ((S.told shelf.new).misses ≡ next_count (S.told shelf.old).misses)) }
-        ensures refused { IfErr result (λ e.
-            IsCreateRefusal e (S.told shelf.old) (S.told shelf.new)) }
-        ensures asked { IfErr result (λ e. IsCreateAsked (S.refuses (S.told shelf.old).place) e
-            (S.told shelf.old) (S.told shelf.new)) }
-        ensures counts_err { IfErr result (λ e.
-            CreateCounted e (S.told shelf.old) (S.told shelf.new)) }
+        ensures missing { OnOk result (Rose shelf.old.misses shelf.new.misses) }
+        ensures counts { OnOk result ((shelf.new.faults ≡ shelf.old.faults)
+            × (shelf.new.misses ≡ next_count shelf.old.misses)) }
+        ensures refused { IfErr result (λ e. IsCreateRefusal e shelf.old shelf.new) }
+        ensures asked { IfErr result (λ e. IsCreateAsked (S.refuses N.place) e
+            shelf.old shelf.new) }
+        ensures counts_err { IfErr result (λ e. CreateCounted e shelf.old shelf.new) }
     {
         Journal::create_under(rt, alloc, shelf, limit, 1)
     }
@@ -52,29 +49,26 @@ impl Journal {
     /// database lie: the caller chooses a number above all of theirs.
     ///
     /// The refusals of `create`, with this number in place of 1.
-    pub fn create_under<S: Shelf, R: Wait>(
+    pub fn create_under<N: Naming, S: Shelf, R: Wait>(
         rt: &R,
         alloc: Global,
-        shelf: &mut S,
+        shelf: &mut NamedShelf<N, S>,
         limit: u64,
         number: u64,
     ) -> Result<Journal, ShelfFault>
         requires numbers { number + 1 < 2 ^ 64 }
         ensures created { IfOk result (λ j. j ≡ created_under number limit) }
         ensures recorded { IfOk result (λ j. IsRecorded 0 j no_levels (number + 1)) }
-        ensures sent { IfOk result (λ j.
-            Becomes (sending j.number j.bytes (S.told shelf.old)) (S.told shelf.new)) }
+        ensures sent { IfOk result (λ j. Becomes (sending j.number j.bytes shelf.old) shelf.new) }
 
         // No manifest was there: the shelf said so.
-        ensures missing { OnOk result (Rose (S.told shelf.old).misses (S.told shelf.new).misses) }
-        ensures counts { OnOk result (((S.told shelf.new).faults ≡ (S.told shelf.old).faults)
-            × ((S.told shelf.new).misses ≡ next_count (S.told shelf.old).misses)) }
-        ensures refused { IfErr result (λ e.
-            IsCreateRefusalUnder number e (S.told shelf.old) (S.told shelf.new)) }
+        ensures missing { OnOk result (Rose shelf.old.misses shelf.new.misses) }
+        ensures counts { OnOk result ((shelf.new.faults ≡ shelf.old.faults)
+            × (shelf.new.misses ≡ next_count shelf.old.misses)) }
+        ensures refused { IfErr result (λ e. IsCreateRefusalUnder number e shelf.old shelf.new) }
         ensures asked { IfErr result (λ e. IsCreateAskedUnder number
-            (S.refuses (S.told shelf.old).place) e (S.told shelf.old) (S.told shelf.new)) }
-        ensures counts_err { IfErr result (λ e.
-            CreateCountedUnder number e (S.told shelf.old) (S.told shelf.new)) }
+            (S.refuses N.place) e shelf.old shelf.new) }
+        ensures counts_err { IfErr result (λ e. CreateCountedUnder number e shelf.old shelf.new) }
     {
         match shelf.read_manifest(rt, alloc) {
             Ok((taken, _)) => return Err(ShelfFault::Taken(taken)),

@@ -9,7 +9,7 @@ ghost use Rattle.lsm_shelf.specs.Stored.{Stored};
 use crate::journal::Journal;
 use crate::laws::recovered_is_recorded;
 use crate::open_fault::OpenFault;
-use lsm_table::{Naming, Registry, Shelf};
+use lsm_table::{NamedShelf, Naming, Registry, Shelf};
 use lsm_version::Version;
 use std::alloc::Global;
 use std::sync::{Arc, Wait};
@@ -55,18 +55,16 @@ impl<N: Naming, S: Shelf> Found<N, S> {
     pub fn read<R: Wait>(
         rt: &R,
         alloc: Global,
-        shelf: &mut S,
+        shelf: &mut NamedShelf<N, S>,
         registry: &Arc<Registry<N, S>>,
         limit: u64,
     ) -> Result<Found<N, S>, OpenFault>
-        requires here { (S.told shelf.old).place ≡ N.place }
         ensures found { IfOk result (λ f. IsFound S.honest limit f.journal f.version f.rest f.next
-            (S.told shelf.old) (S.told shelf.new)) }
+            shelf.old shelf.new) }
         ensures refused { IfErr result (λ e.
             IsFindRefusal (Stored S.Receipt (S.is_of N.place) S.Receipt.number S.Receipt.image)
-            (S.refuses N.place) S.honest e (S.told shelf.old) (S.told shelf.new)) }
-        ensures counts_err { IfErr result (λ e.
-            IsReadOnce e (S.told shelf.old) (S.told shelf.new)) }
+            (S.refuses N.place) S.honest e shelf.old shelf.new) }
+        ensures counts_err { IfErr result (λ e. IsReadOnce e shelf.old shelf.new) }
     {
         recovered_is_recorded();
         let recovered = Journal::recover(rt, alloc, shelf, limit)?;

@@ -6,7 +6,7 @@ ghost use Rattle.lsm_table.specs.Registry.{Table};
 ghost use Rattle.lsm_manifest.specs.EditFit.{FitsKey};
 ghost use Rattle.lsm_version.specs.Versions.{IsWhole};
 
-use lsm_table::{Naming, Registry, Shelf, Slip, TableRef};
+use lsm_table::{Naming, Registry, Shelf, TableReceipt, TableRef};
 
 /// The keys of tables that come fit, as `VersionChange::new` asks of its caller: those of each
 /// record that stands for a table. A key is not longer than its table's image, which has at most 1

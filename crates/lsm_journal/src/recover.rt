@@ -10,7 +10,7 @@ use crate::journal::Journal;
 use crate::recover_fault::RecoverFault;
 use lsm_codec::Bytes;
 use lsm_manifest::{Edit, EditFault, Shape, read_log, replay};
-use lsm_table::Shelf;
+use lsm_table::{NamedShelf, Naming, Shelf};
 use std::alloc::Global;
 use std::sync::Wait;
 
@@ -45,21 +45,20 @@ impl Journal {
     /// The shelf's refusals, `Missing` where there is no manifest; then those of the log, of the
     /// first record that is no edit, and of the edits together. Bytes at the end that hold no whole
     /// record are no fault: a journal with such a rest goes on only with a new manifest.
-    pub fn recover<S: Shelf, R: Wait>(
+    pub fn recover<N: Naming, S: Shelf, R: Wait>(
         rt: &R,
         alloc: Global,
-        shelf: &mut S,
+        shelf: &mut NamedShelf<N, S>,
         limit: u64,
     ) -> Result<Recovered, RecoverFault>
         ensures found { IfOk result (λ r. Becomes
-            (finding r.journal.number r.journal.bytes (S.told shelf.old)) (S.told shelf.new)) }
+            (finding r.journal.number r.journal.bytes shelf.old) shelf.new) }
         ensures recovered { IfOk result (λ r. IsRecovered r.journal r.shape r.rest) }
         ensures limit { IfOk result (λ r. r.journal.limit ≡ limit) }
-        ensures refused { IfErr result (λ e. IsRecoverRefusal (S.refuses (S.told shelf.old).place) e
-            (S.told shelf.old) (S.told shelf.new)) }
-        ensures counts { OnOk result (SameCounts (S.told shelf.old) (S.told shelf.new)) }
-        ensures counts_err { IfErr result (λ e.
-            RecoverCounted e (S.told shelf.old) (S.told shelf.new)) }
+        ensures refused { IfErr result (λ e. IsRecoverRefusal (S.refuses N.place) e
+            shelf.old shelf.new) }
+        ensures counts { OnOk result (SameCounts shelf.old shelf.new) }
+        ensures counts_err { IfErr result (λ e. RecoverCounted e shelf.old shelf.new) }
     {
         let (number, bytes) = shelf.read_manifest(rt, alloc)?;
         let log = read_log(alloc, &bytes)?;

@@ -8,7 +8,7 @@ ghost use Rattle.lsm_journal.specs.Sending.{RollsOver, started_by};
 
 use crate::journal::Journal;
 use crate::written::manifest_of;
-use lsm_table::{Naming, Registry, Shelf, ShelfFault};
+use lsm_table::{NamedShelf, Naming, Registry, Shelf, ShelfFault};
 use lsm_version::Version;
 use std::alloc::Global;
 use std::sync::Wait;
@@ -25,7 +25,7 @@ impl Journal {
         &mut self,
         rt: &R,
         alloc: Global,
-        shelf: &mut S,
+        shelf: &mut NamedShelf<N, S>,
         registry: &Registry<N, S>,
         version: &Version<N, S>,
         number: u64,
@@ -33,15 +33,14 @@ impl Journal {
         requires recorded { (rest : ℕ) × IsRecorded rest self.old version.now number }
         requires numbers { number + 1 < 2 ^ 64 }
         ensures rolls { OnOk result
-            (RollsOver version.now number self.old self.new (S.told shelf.old) (S.told shelf.new)) }
+            (RollsOver version.now number self.old self.new shelf.old shelf.new) }
         ensures recorded { OnOk result (IsRecorded 0 self.new version.now (number + 1)) }
         ensures err { OnErr result (self.new ≡ self.old) }
-        ensures unsent { OnErr result (Becomes (S.told shelf.old) (S.told shelf.new)) }
-        ensures cause { IfErr result (λ e. TakenIs number e
-            × Counted e (S.told shelf.old) (S.told shelf.new)) }
+        ensures unsent { OnErr result (Becomes shelf.old shelf.new) }
+        ensures cause { IfErr result (λ e. TakenIs number e × Counted e shelf.old shelf.new) }
         ensures asked { IfErr result (IsWantOr
-            (S.refuses (S.told shelf.old).place (started_by version.now number self.old))) }
-        ensures counts { CountedBy result (S.told shelf.old) (S.told shelf.new) }
+            (S.refuses N.place (started_by version.now number self.old))) }
+        ensures counts { CountedBy result shelf.old shelf.new }
     {
         self.start(rt, alloc, shelf, registry, version, number)
     }

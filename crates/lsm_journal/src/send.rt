@@ -1,8 +1,10 @@
 //! What a change sends to the shelf.
 
-ghost use Rattle.std.specs.Prelude.{◌≡◌, ◌+◌, ◌<◌, ◌^◌, IfErr, IfOk, OnErr, OnOk, true};
+ghost use Rattle.std.specs.Prelude.{◌≡◌, ◌+◌, ◌<◌, ◌^◌, ◌++◌, IfErr, IfOk, OnErr, OnOk, true};
 ghost use Rattle.lsm_shelf.specs.Asked.{AppendManifest, IsWantOr};
 ghost use Rattle.lsm_shelf.specs.Told.{Becomes, Counted, CountedBy, NotTaken, TakenIs};
+ghost use Rattle.lsm_manifest.specs.Edit.{IsEdit};
+ghost use Rattle.lsm_manifest.specs.EditWriting.{edit_text};
 ghost use Rattle.lsm_journal.specs.HeldManifest.{is_at_limit};
 ghost use Rattle.lsm_journal.specs.Recorded.{FitsLevels, IsRecorded};
 ghost use Rattle.lsm_journal.specs.Difference.{LeadsTo};
@@ -13,36 +15,54 @@ ghost use Rattle.lsm_journal.specs.Writing.{change_edit, record_of};
 use crate::journal::Journal;
 use crate::version_change::VersionChange;
 use crate::written::{manifest_of, push_record};
-use lsm_table::{Naming, Registry, Shelf, ShelfFault};
+use lsm_table::{NamedShelf, Naming, Registry, Shelf, ShelfFault};
 use lsm_version::{Version, changed_tables};
-use std::alloc::Global;
+use std::alloc::{AllocError, Global};
 use std::sync::Wait;
 
 impl Journal {
+    /// Appends the record of a change here.
+    fn add_record<N: Naming, S: Shelf>(
+        &mut self,
+        alloc: Global,
+        registry: &Registry<N, S>,
+        change: &VersionChange<N, S>,
+        next: u64,
+    ) -> Result<(), AllocError>
+        ensures held { OnOk result (self.new ≡ record self.old {
+          bytes = self.old.bytes
+              ++ record_of self.old.bytes (change_edit self.old change.now next);
+        }) }
+        ensures spelled { OnOk result (IsEdit (edit_text (change_edit self.old change.now next))
+            (change_edit self.old change.now next)) }
+        ensures err { OnErr result (self.new ≡ self.old) }
+    {
+        let edit = self.change_edit(alloc, registry, change, next)?;
+        push_record(&mut self.bytes, alloc, &edit)
+    }
+
     /// Appends the record of a change, here and on the shelf.
     #[tactic(auto, using(lsm_shelf::proofs::CallerLemmas::want_or))]
     fn append<N: Naming, S: Shelf, R: Wait>(
         &mut self,
         rt: &R,
         alloc: Global,
-        shelf: &mut S,
+        shelf: &mut NamedShelf<N, S>,
         registry: &Registry<N, S>,
         change: &VersionChange<N, S>,
         next: u64,
     ) -> Result<(), ShelfFault>
         ensures grows { OnOk result (Grows (change_edit self.old change.now next) self.old self.new
-            (S.told shelf.old) (S.told shelf.new)) }
+            shelf.old shelf.new) }
         ensures err { OnErr result (self.new ≡ self.old) }
-        ensures unsent { OnErr result (Becomes (S.told shelf.old) (S.told shelf.new)) }
-        ensures cause { IfErr result (λ e. NotTaken e
-            × Counted e (S.told shelf.old) (S.told shelf.new)) }
-        ensures asked { IfErr result (IsWantOr (S.refuses (S.told shelf.old).place
+        ensures unsent { OnErr result (Becomes shelf.old shelf.new) }
+        ensures cause { IfErr result (λ e. NotTaken e × Counted e shelf.old shelf.new) }
+        ensures asked { IfErr result (IsWantOr (S.refuses N.place
             (AppendManifest (record_of self.old.bytes (change_edit self.old change.now next))))) }
-        ensures counts { CountedBy result (S.told shelf.old) (S.told shelf.new) }
+        ensures counts { CountedBy result shelf.old shelf.new }
     {
-        let edit = self.change_edit(alloc, registry, change, next)?;
         let len = self.bytes.len();
-        push_record(&mut self.bytes, alloc, &edit)?;
+        self.add_record(alloc, registry, change, next)?;
         let (_, record) = self.bytes.split_at(len);
         match shelf.append_manifest(rt, record) {
             Ok(()) => Ok(()),
@@ -59,7 +79,7 @@ impl Journal {
         &mut self,
         rt: &R,
         alloc: Global,
-        shelf: &mut S,
+        shelf: &mut NamedShelf<N, S>,
         registry: &Registry<N, S>,
         version: &Version<N, S>,
         number: u64,
@@ -67,14 +87,13 @@ impl Journal {
         requires keys { FitsLevels version.now }
         requires numbers { number + 1 < 2 ^ 64 }
         ensures rolls { OnOk result
-            (RollsOver version.now number self.old self.new (S.told shelf.old) (S.told shelf.new)) }
+            (RollsOver version.now number self.old self.new shelf.old shelf.new) }
         ensures err { OnErr result (self.new ≡ self.old) }
-        ensures unsent { OnErr result (Becomes (S.told shelf.old) (S.told shelf.new)) }
-        ensures cause { IfErr result (λ e. TakenIs number e
-            × Counted e (S.told shelf.old) (S.told shelf.new)) }
+        ensures unsent { OnErr result (Becomes shelf.old shelf.new) }
+        ensures cause { IfErr result (λ e. TakenIs number e × Counted e shelf.old shelf.new) }
         ensures asked { IfErr result (IsWantOr
-            (S.refuses (S.told shelf.old).place (started_by version.now number self.old))) }
-        ensures counts { CountedBy result (S.told shelf.old) (S.told shelf.new) }
+            (S.refuses N.place (started_by version.now number self.old))) }
+        ensures counts { CountedBy result shelf.old shelf.new }
     {
         let edit = self.version_edit(alloc, registry, version, number + 1)?;
         let bytes = manifest_of(alloc, &edit)?;
@@ -96,7 +115,7 @@ impl Journal {
         &mut self,
         rt: &R,
         alloc: Global,
-        shelf: &mut S,
+        shelf: &mut NamedShelf<N, S>,
         registry: &Registry<N, S>,
         change: &VersionChange<N, S>,
         after: &Version<N, S>,
@@ -105,15 +124,14 @@ impl Journal {
         requires leads { LeadsTo self.old change.now after.now next }
         requires numbers { is_at_limit self.old ≡ true → next + 1 < 2 ^ 64 }
         ensures sends { IfOk result (λ n. Sends change.now after.now next n self.old self.new
-            (S.told shelf.old) (S.told shelf.new)) }
+            shelf.old shelf.new) }
         ensures recorded { IfOk result (λ n. IsRecorded 0 self.new after.now n) }
         ensures err { OnErr result (self.new ≡ self.old) }
-        ensures unsent { OnErr result (Becomes (S.told shelf.old) (S.told shelf.new)) }
-        ensures cause { IfErr result (λ e.
-            IsSendRefusal self.old next e (S.told shelf.old) (S.told shelf.new)) }
+        ensures unsent { OnErr result (Becomes shelf.old shelf.new) }
+        ensures cause { IfErr result (λ e. IsSendRefusal self.old next e shelf.old shelf.new) }
         ensures asked { IfErr result (IsWantOr
-            (S.refuses (S.told shelf.old).place (asked_by change.now after.now next self.old))) }
-        ensures counts { CountedBy result (S.told shelf.old) (S.told shelf.new) }
+            (S.refuses N.place (asked_by change.now after.now next self.old))) }
+        ensures counts { CountedBy result shelf.old shelf.new }
     {
         changed_tables();
         // That the change fits is told by this call.

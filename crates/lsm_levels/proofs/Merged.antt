@@ -9,7 +9,7 @@ use Rattle.lsm_levels.specs.Streams.{IsAscending, IsMerge}
 use Rattle.lsm_levels.proofs.Merging.{merged_from, merged_has, merged_ordered}
 use Rattle.lsm_levels.proofs.Order.{before_first}
 
--- an entry of some place is an entry
+-- an entry of some depth is an entry
 pub placed_entry : (ps : List Placed) (p : Placed) → Has ps p → Has (entries_of ps) p.1
 placed_entry [] p h = absurd h
 placed_entry (q ∷ ps) p (inl e) = inl (ap (λ (w : Placed). w.1) e)
@@ -27,19 +27,19 @@ merge_is ls a = record {
   to = λ e h. (let r = entry_placed (flat_map (λ l. l) ls) e h in subst (Has (entries_of (merge_all ls))) r.2 (placed_entry (merge_all ls) r.0 (merged_has ls r.0 r.1)));
 }
 
--- order with places, and without
+-- order with depths, and without
 pub ordered_sorted : (ps : List Placed) → IsOrdered ps → IsSorted (entries_of ps)
 ordered_sorted [] o = tt
 ordered_sorted (p ∷ ps) o = (λ y h. (let r = entry_placed ps y h in subst (λ (w : Entry). goes_first p.1 w ≡ true) r.2 (o.0 r.0 r.1)), ordered_sorted ps o.1)
 
-placed_from : (place : ℕ) (es : List Entry) (q : Placed) → Has (placed_at place es) q → Has es q.1
-placed_from place [] q h = absurd h
-placed_from place (e ∷ es) q (inl s) = inl (ap (λ (w : Placed). w.1) s)
-placed_from place (e ∷ es) q (inr h) = inr (placed_from place es q h)
+placed_from : (depth : ℕ) (es : List Entry) (q : Placed) → Has (placed_at depth es) q → Has es q.1
+placed_from depth [] q h = absurd h
+placed_from depth (e ∷ es) q (inl s) = inl (ap (λ (w : Placed). w.1) s)
+placed_from depth (e ∷ es) q (inr h) = inr (placed_from depth es q h)
 
-pub sorted_ordered : (place : ℕ) (es : List Entry) → IsSorted es → IsOrdered (placed_at place es)
-sorted_ordered place [] s = tt
-sorted_ordered place (e ∷ es) s = (λ q h. s.0 q.1 (placed_from place es q h), sorted_ordered place es s.1)
+pub sorted_ordered : (depth : ℕ) (es : List Entry) → IsSorted es → IsOrdered (placed_at depth es)
+sorted_ordered depth [] s = tt
+sorted_ordered depth (e ∷ es) s = (λ q h. s.0 q.1 (placed_from depth es q h), sorted_ordered depth es s.1)
 
 pub merged_sorted : (ls : List (List Placed)) → AreOrdered ls → IsSorted (entries_of (merge_all ls))
 merged_sorted ls a = ordered_sorted (merge_all ls) (merged_ordered ls a)

@@ -39,7 +39,7 @@ same_bool true b f g = sym (f refl)
 same_bool false true f g = g refl
 same_bool false false f g = refl
 
--- what is before a place in the list
+-- what is before an index in the list
 abbrev pub IsBehind : List Entry → Option Entry → Type 0
 IsBehind front None = front ≡ []
 IsBehind front (Some p) = (rest : List Entry) × (front ≡ rest ++ p ∷ [])

@@ -1,4 +1,4 @@
--- Files in their places, and the law of a version (LevelDB's `doc/impl.md`, "Levels").
+-- Files at their levels, and the law of a version (LevelDB's `doc/impl.md`, "Levels").
 use Rattle.std.specs.Prelude.{◌≡◌, ℕ, ◌<◌, ◌≤◌, List, ◌⊎◌}
 use Rattle.std.specs.List.{flat_map}
 use Rattle.std.specs.declared.cmp.Ordering.TheVariants.{Less}
@@ -6,7 +6,7 @@ use Rattle.lsm_codec.specs.Lists.{Has}
 use Rattle.lsm_codec.specs.Keys.{UserKey, UserLe}
 use Rattle.lsm_codec.specs.Entries.{Entry, stamp, entry_cmp}
 
--- a table in its place: its least and its greatest user key, and its entries
+-- a table at its level: its least and its greatest user key, and its entries
 pub record File : Type 0 where
   pub level : ℕ
   pub number : ℕ

@@ -14,14 +14,14 @@ abbrev pub IsSorted : List Entry → Type 0
 IsSorted [] = Unit {0}
 IsSorted (x ∷ xs) = ((y : Entry) → Has xs y → goes_first x y ≡ true) × IsSorted xs
 
--- an entry with the place of the source that it comes from
+-- an entry with the depth of the source that it comes from
 abbrev pub Placed : Type 0
 Placed = ℕ × Entry
 
 -- entries of one source
 abbrev pub placed_at : ℕ → List Entry → List Placed
-placed_at place [] = []
-placed_at place (e ∷ es) = (place, e) ∷ placed_at place es
+placed_at depth [] = []
+placed_at depth (e ∷ es) = (depth, e) ∷ placed_at depth es
 
 abbrev pub entries_of : List Placed → List Entry
 entries_of [] = []

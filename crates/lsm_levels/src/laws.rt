@@ -96,7 +96,7 @@ pub fn streaming_keeps_the_kept()
 /// as the lists have them one after another, and has the lists' entries and no other. Where it
 /// ascends it is the merge that installs rest on.
 pub fn merges_are_in_order()
-    ensures lists { (place : ℕ) (es : List Entry) → IsSorted es → IsOrdered (placed_at place es) }
+    ensures lists { (depth : ℕ) (es : List Entry) → IsSorted es → IsOrdered (placed_at depth es) }
     ensures order { (ls : List (List Placed)) → AreOrdered ls
         → IsSorted (entries_of (merge_all ls)) }
     ensures alike { (e : Entry) (ls : List (List Placed)) → AreOrdered ls

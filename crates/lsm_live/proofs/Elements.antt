@@ -1,4 +1,4 @@
--- Elements of lists by their places.
+-- Elements of lists by their indices.
 use Rattle.std.proofs.Common.{◌≡◌, ℕ, zero, suc, ◌+◌, ◌<◌, length, get_or, take, List, [], ◌∷◌, sym, ◌∙◌, subst, inl, inr, arith}
 use Rattle.std.proofs.lemmas.List.{take_more}
 use Rattle.lsm_codec.specs.Lists.{Has}
@@ -9,7 +9,7 @@ has_at [] i x lt is = absurd (omega arith)
 has_at (y ∷ xs) zero x lt is = inl (sym is)
 has_at (y ∷ xs) (suc i) x lt is = inr (has_at xs i x (omega arith) is)
 
--- what holds of each element before a place, and of the one there
+-- what holds of each element before an index, and of the one there
 pub each_more : {X : Type 0} (P : X → Type 0) (xs : List X) (i : ℕ) (x : X) → i < length xs → x ≡ get_or xs i x → ((y : X) → Has (take i xs) y → P y) → P x
     → (y : X) → Has (take (i + 1) xs) y → P y
 each_more P xs i x lt is before here y h = elim (has_cases (take i xs) (get_or xs i x ∷ []) y (subst (λ zs. Has zs y) (take_more xs i x lt) h)) [

@@ -1,6 +1,6 @@
 mod Elements
 mod Tickets
-mod Places
+mod Indices
 mod Machine
 mod Handing
 mod Reservations

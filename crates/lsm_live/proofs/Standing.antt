@@ -30,9 +30,9 @@ use Rattle.lsm_live.proofs.Alone.{Differ, differ_left, differ_right, inputs_diff
 
 -- ---- the order of a level
 
-places_rank : IsStrictWeakOrder stands_before
+tables_rank : IsStrictWeakOrder stands_before
 unfolding stands_before
-places_rank = ranks_by (then_total (on_total (λ (t : Table). user_part t.smallest) nat_list_cmp_total)
+tables_rank = ranks_by (then_total (on_total (λ (t : Table). user_part t.smallest) nat_list_cmp_total)
     (then_total (back_total (on_total (λ (t : Table). packed_part t.smallest) nat_cmp_total)) (on_total (λ (t : Table). t.number) nat_cmp_total))) (λ (t : Table). t)
 
 -- none stands before one that it comes after
@@ -44,7 +44,7 @@ each_after : (us : List Table) → IsSortedBy stands_before us → EachAfter us
 unfolding EachAfter
 each_after [] s = tt
 each_after (x ∷ xs) s = (
-  λ y h. (let c = contains_from xs y h in ap (λ z. stands_before z x) (sym c.2) ∙ sorted_far stands_before places_rank (x ∷ xs) s 0 (suc c.0) y (omega arith) (let lt = c.1 in omega arith)),
+  λ y h. (let c = contains_from xs y h in ap (λ z. stands_before z x) (sym c.2) ∙ sorted_far stands_before tables_rank (x ∷ xs) s 0 (suc c.0) y (omega arith) (let lt = c.1 in omega arith)),
   each_after xs (λ k d low lt. rw add-one (let h = s (suc k) d (omega arith) (omega arith) in rw add-one at h)),
 )
 
@@ -73,14 +73,14 @@ not_less Less p h = absurd (cc h)
 not_less Equal p h = refl
 not_less Greater p h = refl
 
-place_of : Table → TableFile
-place_of t = record { number = t.number; size = 0; smallest = t.smallest; largest = t.largest }
+listed : Table → TableFile
+listed t = record { number = t.number; size = 0; smallest = t.smallest; largest = t.largest }
 
 -- a table that does not stand before another one begins no earlier
 begins_later : (t u : Table) (k l : InternalKey) → IsKey t.smallest k → IsKey u.smallest l → stands_before u t ≡ false → KeyLe k l
-unfolding stands_before key_le place_of
+unfolding stands_before key_le listed
 begins_later t u k l kt ku late =
-    ap is_le (key_cmp-swapped k l) ∙ not_less (key_cmp l k) (nat_cmp u.number t.number) (ap is_lt (sym (order_is (place_of u) (place_of t) l k ku kt)) ∙ late)
+    ap is_le (key_cmp-swapped k l) ∙ not_less (key_cmp l k) (nat_cmp u.number t.number) (ap is_lt (sym (order_is (listed u) (listed t) l k ku kt)) ∙ late)
 
 not_behind : (n : ℕ) (t u : Table) → IsWhole t → IsWhole u → stands_before u t ≡ false → IsAhead (file_of n u) (file_of n t) → ⊥
 not_behind n t u wt wu late ahead =

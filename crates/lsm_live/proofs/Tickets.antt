@@ -54,7 +54,7 @@ without_rise ticket (b ∷ live) r = elim (cases_Bool (b.work.ticket == ticket))
       (λ m h. r.0 m (left_ticket ticket live m h), without_rise ticket live r.1)
 ]
 
--- ---- booked at one place
+-- ---- booked at one index
 
 pub booked_none : (ticket number : ℕ) (live : List Booked) → ((b : Booked) → Has live b → b.work.ticket ≡ ticket → ⊥) → live ≡ booked ticket number live
 booked_none ticket number [] none = refl

@@ -31,7 +31,7 @@ impl<N: Naming, S: Shelf> Model for LiveJobs<N, S> {
 }
 
 /// Where the job of a ticket stands.
-fn place_of<N: Naming, S: Shelf>(jobs: &[LiveJob<N, S>], ticket: u64) -> Option<usize>
+fn index_of<N: Naming, S: Shelf>(jobs: &[LiveJob<N, S>], ticket: u64) -> Option<usize>
     ensures { MatchOption result ((b : Booked) → Has jobs.now b → b.work.ticket ≡ ticket
         → ⊥) (λ i. (i < length jobs.now)
         × ((d : Booked) → (slice_index_or jobs.now i d).work.ticket ≡ ticket)) }
@@ -74,7 +74,7 @@ impl<N: Naming, S: Shelf> LiveJobs<N, S> {
     pub fn is_live(&self, ticket: u64) -> bool
         ensures { IsTrue result ↔ HasTicket self.now ticket }
     {
-        place_of(self.jobs.as_slice(), ticket).is_some()
+        index_of(self.jobs.as_slice(), ticket).is_some()
     }
 
     /// Adds a job that was just reserved, under a ticket above those of all live jobs. `AllocError`
@@ -105,7 +105,7 @@ impl<N: Naming, S: Shelf> LiveJobs<N, S> {
         ensures err { OnErr result (self.new ≡ self.old) }
         ensures refused { IsErr result → HasTicket self.old ticket }
     {
-        let Some(i) = place_of(self.jobs.as_slice(), ticket) else {
+        let Some(i) = index_of(self.jobs.as_slice(), ticket) else {
             return Ok(());
         };
         self.jobs[i].draw(number)

@@ -1,3 +1,4 @@
+-- What public clauses cite, and so what a caller reads
 pub mod LogFault
 pub mod Log
 pub mod LogReading
@@ -8,17 +9,18 @@ pub mod Last
 pub mod Edit
 pub mod EditReading
 pub mod EditView
-pub mod DraftView
 pub mod EditFit
 pub mod EditWriting
-pub mod LentView
 pub mod ReplayFault
 pub mod Replay
-pub mod Standing
 pub mod FileOrder
 pub mod HeldLevel
 pub mod Shape
-pub mod LastValues
-pub mod Level
 pub mod Manifest
 pub mod WholeEdit
+-- What private functions and proofs cite alone
+pub mod DraftView
+pub mod LentView
+pub mod Standing
+pub mod LastValues
+pub mod Level

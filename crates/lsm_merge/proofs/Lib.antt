@@ -6,6 +6,7 @@ mod InputLaws
 mod PlaceLaws
 mod Limited
 mod PutLaws
+mod Stepping
 mod Tickets
 mod Twins
 mod UnderWay

@@ -1,5 +1,6 @@
 -- Outputs that cannot be built.
 use Rattle.std.proofs.Common.{◌≡◌, ℕ, ◌≤◌, Bool, true, false, cond, List, [], ◌∷◌, ◌++◌, length, Option, Some, None, refl, sym, ◌∙◌, ap, subst, inl, inr}
+use Rattle.std.specs.Prelude.{Result, Ok, Err, IfErr, ◌^◌}
 use Rattle.std.specs.List.{flat_map}
 use Rattle.lsm_codec.specs.Lists.{Has}
 use Rattle.lsm_codec.specs.Keys.{UserKey}
@@ -8,7 +9,7 @@ use Rattle.lsm_codec.proofs.CallerLemmas.{has_cases, has_left, has_right}
 use Rattle.lsm_block.specs.Block.{Ascends}
 use Rattle.lsm_block.specs.declared.build_fault.BuildFault.{BuildFault}
 use Rattle.lsm_block.specs.declared.build_fault.BuildFault.TheVariants as build
-use Rattle.lsm_table.specs.TableBuilding.{PassesLimit}
+use Rattle.lsm_table.specs.TableBuilding.{PassesLimit, groups_by, index_block}
 use Rattle.lsm_table.specs.declared.table_options.TableOptions.{TableOptions}
 use Rattle.lsm_levels.specs.Streams.{streamed}
 use Rattle.lsm_merge.specs.declared.merge_fault.InputFault.TheVariants.{Read, OutOfOrder}
@@ -43,6 +44,12 @@ over_next options es e a p = record { some = es ++ e ∷ []; ascends = a; from =
 
 pub over_first : (options : TableOptions) (e : Entry) → PassesLimit options [] e → IsOverLimit options (e ∷ [])
 over_first options e p = over_next options [] e tt p
+
+-- what could not be finished has no table
+pub over_whole : {A : Type 0} (options : TableOptions) (es : List Entry) (r : Result A BuildFault) → Ascends es
+    → (r ≡ Err build.TooLarge → 2 ^ 32 ≤ length (index_block options.restart_interval (groups_by options es))) → IfErr r (λ e. e ≡ build.TooLarge → IsOverLimit options es)
+over_whole options es (Ok x) a h = tt
+over_whole options es (Err e) a h = λ is. record { some = es; ascends = a; from = λ x k. k; over = inr (h (ap Err is)) }
 
 pub over_more : (options : TableOptions) (es fs : List Entry) → ((e : Entry) → Has es e → Has fs e) → IsOverLimit options es → IsOverLimit options fs
 over_more options es fs f o = record { some = o.some; ascends = o.ascends; from = λ e h. f e (o.from e h); over = o.over }

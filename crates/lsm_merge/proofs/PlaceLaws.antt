@@ -1,6 +1,6 @@
 -- One entry more: it comes after those of the output in the making, and that goes on.
 use Rattle.std.proofs.Common.{◌≡◌, ℕ, ◌≤◌, Bool, true, false, cond, List, [], ◌∷◌, ◌++◌, Option, Some, None, Ordering, Less, Equal, Greater, refl, sym, ◌∙◌, ap, subst, arith, append_assoc}
-use Rattle.std.specs.Prelude.{Result, Ok, Err, IfErr}
+use Rattle.std.specs.Prelude.{Result, Ok, Err, IfErr, IsErrAnd}
 use Rattle.std.specs.Ordering.{is_le, is_lt}
 use Rattle.lsm_codec.specs.Lists.{Has}
 use Rattle.lsm_codec.specs.Keys.{InternalKey, key_cmp}
@@ -91,16 +91,9 @@ sizes_then a b c p q = record { ticket = q.ticket ∙ p.ticket; options = q.opti
 
 -- ---- what the shelf was told
 
-putting_rises : (ns : List ℕ) (t : Told) → ((putting_all ns t).faults ≡ t.faults) × ((putting_all ns t).misses ≡ t.misses) × ((putting_all ns t).place ≡ t.place)
-putting_rises [] t = (refl, refl, refl)
+putting_rises : (ns : List ℕ) (t : Told) → ((putting_all ns t).faults ≡ t.faults) × ((putting_all ns t).misses ≡ t.misses)
+putting_rises [] t = (refl, refl)
 putting_rises (n ∷ ns) t = putting_rises ns (putting n t)
-
-pub puts_place : (old new : List ℕ) (t u : Told) → PutsMore old new t u → u.place ≡ t.place
-puts_place old new t u p = (p.told).place ∙ (putting_rises p.more t).2
-
--- whatever it put, its contents are the same
-pub told_place : (put : List ℕ) (t u : Told) → Becomes (putting_all put t) u → u.place ≡ t.place
-told_place put t u b = b.place ∙ (putting_rises put t).2
 
 becomes_putting : (ns : List ℕ) (t u : Told) → Becomes t u → Becomes (putting_all ns t) (putting_all ns u)
 becomes_putting [] t u b = b
@@ -178,6 +171,11 @@ cause_of_put inputs (PutFailed n TooLarge) a b q = tt
 cause_of_put inputs (PutFailed n (Shelf f)) a b q = q
 cause_of_put inputs (UnknownTicket t) a b q = tt
 cause_of_put inputs NumbersSpent a b q = tt
+
+-- a fault that is handed on as it is
+pub err_is : {A E : Type 0} (P : E → Type 0) (r : Result A E) (f : E) → IsErrAnd r (λ e. e ≡ f) → P f → IfErr r P
+err_is P (Ok x) f h k = tt
+err_is P (Err e) f h k = subst P (sym h) k
 
 pub if_err : {A E : Type 0} (P Q : E → Type 0) (r : Result A E) → ((e : E) → P e → Q e) → IfErr r P → IfErr r Q
 if_err P Q (Ok x) f h = tt

@@ -1,7 +1,6 @@
 -- What a merge has made so far: tables that were put, and an output in the making.
 use Rattle.std.specs.Prelude.{◌≡◌, ℕ, List, [], ◌∷◌, ◌++◌, map, Option, Some, None}
-use Rattle.lsm_codec.specs.Keys.{IsKey}
-use Rattle.lsm_codec.specs.Entries.{Entry, internal_key}
+use Rattle.lsm_codec.specs.Entries.{Entry}
 use Rattle.lsm_codec.specs.Lists.{Has}
 use Rattle.lsm_shelf.specs.Told.{Told, Becomes, putting}
 use Rattle.lsm_table.specs.Registry.{Table}
@@ -17,11 +16,6 @@ pub record Unfinished : Type 0 where
   pub number : ℕ
   pub options : TableOptions
   pub entries : List Entry
-
--- the bytes are those of the key of the first entry
-abbrev pub IsBegun : List ℕ → List Entry → Type 0
-IsBegun smallest [] = ⊥
-IsBegun smallest (e ∷ es) = IsKey smallest (internal_key e)
 
 -- the tables that were put, their numbers, and the output in the making, with the sizes of the job
 pub record Made : Type 0 where

@@ -29,7 +29,7 @@ use crate::outputs::Outputs;
 use crate::remembered::{Remembered, is_kept};
 use lsm_levels::laws::streaming_keeps_the_kept;
 use lsm_merger::Merger;
-use lsm_table::{Naming, Registry, Shelf};
+use lsm_table::{NamedShelf, Naming, Registry, Shelf};
 use std::alloc::Global;
 use std::sync::Wait;
 
@@ -37,7 +37,7 @@ use std::sync::Wait;
 fn step<N: Naming, S: Shelf, R: Wait, D: NumberSource>(
     rt: &R,
     alloc: Global,
-    shelf: &mut S,
+    shelf: &mut NamedShelf<N, S>,
     registry: &Registry<N, S>,
     job: &Job<N, S>,
     numbers: &mut D,
@@ -47,7 +47,6 @@ fn step<N: Naming, S: Shelf, R: Wait, D: NumberSource>(
 ) -> Result<(), MergeFault>
     requires ready { D.ready numbers.old }
     requires good { AreGood outputs.old }
-    requires here { (S.told shelf.old).place ≡ N.place }
     requires some { no_more merger.old.placed ≡ false }
     requires up { IsUpTo (entries_of_last outputs.old.last) before.old }
     ensures ok { (p : Placed) (rest : List Placed) → merger.old.placed ≡ p ∷ rest → OnOk result
@@ -56,12 +55,12 @@ fn step<N: Naming, S: Shelf, R: Wait, D: NumberSource>(
         → D.drew numbers.new ≡ drawn_of outputs.new there) }
     ensures answered { OnOk result (D.refused numbers.new ≡ D.refused numbers.old) }
     ensures files { OnOk result (ReadsNoOther merger.old merger.new) }
-    ensures told { PutsMore outputs.old.put outputs.new.put (S.told shelf.old) (S.told shelf.new) }
+    ensures told { PutsMore outputs.old.put outputs.new.put shelf.old shelf.new }
     ensures leaves { IfErr result (λ e. (there : List ℕ) → D.drew numbers.old
         ≡ drawn_of outputs.old there → Leaves e outputs.new.put (D.drew numbers.new) there) }
     ensures why { IfErr result (λ e. AnswersOf e (D.refused numbers.old) (D.refused numbers.new)) }
     ensures cause { IfErr result (λ e. (inputs : List ℕ) → AreInputs merger.old.files inputs
-        → HasCause inputs e (S.told shelf.old) (S.told shelf.new)) }
+        → HasCause inputs e shelf.old shelf.new) }
     ensures sound { S.honest → IfErr result IsReadable }
     ensures order { IfErr result (λ e. IsOrderFault e → (p : Placed) (rest : List Placed)
         → merger.old.placed ≡ p ∷ rest → Follows before.old p.1 → ⊥) }
@@ -80,14 +79,8 @@ fn step<N: Naming, S: Shelf, R: Wait, D: NumberSource>(
     }
     outputs.tell_order();
     let kept = is_kept(job.floor(), job.ranges(), before, &key);
-    match outputs.take(rt, shelf, registry, numbers, kept, &key, merger.value()) {
-        Ok(()) => {}
-        Err(fault) => return Err(fault),
-    }
-    match before.remember(&key) {
-        Ok(()) => {}
-        Err(_memory) => return Err(MergeFault::OutOfMemory),
-    }
+    outputs.take(rt, shelf, registry, numbers, kept, &key, merger.value())?;
+    before.remember(&key)?;
     advance(shelf, alloc, merger)
 }
 
@@ -95,26 +88,24 @@ fn step<N: Naming, S: Shelf, R: Wait, D: NumberSource>(
 fn merge<N: Naming, S: Shelf, R: Wait, D: NumberSource>(
     rt: &R,
     alloc: Global,
-    shelf: &mut S,
+    shelf: &mut NamedShelf<N, S>,
     registry: &Registry<N, S>,
     job: &Job<N, S>,
     numbers: &mut D,
     outputs: &mut Outputs<N, S>,
 ) -> Result<(), MergeFault>
     requires ready { D.ready numbers.old }
-    requires here { (S.told shelf.old).place ≡ N.place }
     requires fresh { outputs.old ≡ nothing_of job.now }
     ensures good { OnOk result (AreGood outputs.new × (outputs.new.last ≡ None)) }
     ensures sizes { OnOk result (outputs.new.options ≡ job.now.table) }
     ensures kept { S.honest → OnOk result (AreMergedOf job.now outputs.new.tables) }
     ensures drew { OnOk result (D.drew numbers.new ≡ going outputs.new.put (D.drew numbers.old)) }
     ensures answered { OnOk result (D.refused numbers.new ≡ D.refused numbers.old) }
-    ensures told { Becomes (putting_all outputs.new.put (S.told shelf.old)) (S.told shelf.new) }
+    ensures told { Becomes (putting_all outputs.new.put shelf.old) shelf.new }
     ensures leaves { IfErr result (λ e.
         Leaves e outputs.new.put (D.drew numbers.new) (D.drew numbers.old)) }
     ensures why { IfErr result (λ e. AnswersOf e (D.refused numbers.old) (D.refused numbers.new)) }
-    ensures cause { IfErr result (λ e.
-        HasCause (input_numbers job.now) e (S.told shelf.old) (S.told shelf.new)) }
+    ensures cause { IfErr result (λ e. HasCause (input_numbers job.now) e shelf.old shelf.new) }
     ensures sound { S.honest → IfErr result IsReadable }
     ensures asked { AsksFor job.now.ticket (D.asked numbers.old) (D.asked numbers.new) }
     ensures ticket { IfErr result (λ e. NamesTicket e job.now.ticket) }
@@ -129,16 +120,13 @@ fn merge<N: Naming, S: Shelf, R: Wait, D: NumberSource>(
     streaming_keeps_the_kept();
     // What holds of the job is told by this call.
     let _ticket = job.ticket();
-    let mut merger = match open_inputs(shelf, alloc, registry, job) {
-        Ok(merger) => merger,
-        Err(fault) => return Err(fault),
-    };
+    let mut merger = open_inputs(shelf, alloc, registry, job)?;
     let mut before = Remembered::nothing(alloc);
     'entries: for _ in rt.forever() {
         if merger.is_at_end() {
             return outputs.put_last(rt, shelf, registry);
         }
-        match step(
+        step(
             rt,
             alloc,
             shelf,
@@ -148,10 +136,7 @@ fn merge<N: Naming, S: Shelf, R: Wait, D: NumberSource>(
             outputs,
             &mut before,
             &mut merger,
-        ) {
-            Ok(()) => {}
-            Err(fault) => return Err(fault),
-        }
+        )?;
     }
     unreachable!()
 }
@@ -193,35 +178,29 @@ fn hand_on<N: Naming, S: Shelf>(
 pub fn compact<N: Naming, S: Shelf, R: Wait, D: NumberSource>(
     rt: &R,
     alloc: Global,
-    shelf: &mut S,
+    shelf: &mut NamedShelf<N, S>,
     registry: &Registry<N, S>,
     job: Job<N, S>,
     numbers: &mut D,
 ) -> Result<Finished<N, S>, (MergeFault, Job<N, S>, Vec<u64>)>
     requires ready { D.ready numbers.old }
-    requires here { (S.told shelf.old).place ≡ N.place }
 
     // What a finished job has, its type says (`Finished::job`).
     ensures work { IfOk result (λ f. f.work ≡ job) }
 
     // The shelf was told to put just the outputs, and the numbers drawn are theirs.
-    ensures told { IfOk result (λ f.
-        Becomes (putting_all f.put (S.told shelf.old)) (S.told shelf.new)) }
+    ensures told { IfOk result (λ f. Becomes (putting_all f.put shelf.old) shelf.new) }
     ensures drew { IfOk result (λ f. D.drew numbers.new ≡ going f.put (D.drew numbers.old)) }
     ensures answered { OnOk result (D.refused numbers.new ≡ D.refused numbers.old) }
 
-    ensures place { (S.told shelf.new).place ≡ (S.told shelf.old).place }
-
     // A refusal hands the job back, with just the numbers put.
     ensures back { IfErr result (λ e. e.1 ≡ job) }
-    ensures put { IfErr result (λ e.
-        Becomes (putting_all e.2.items (S.told shelf.old)) (S.told shelf.new)) }
+    ensures put { IfErr result (λ e. Becomes (putting_all e.2.items shelf.old) shelf.new) }
     ensures leaves { IfErr result (λ e.
         Leaves e.0 e.2.items (D.drew numbers.new) (D.drew numbers.old)) }
     ensures why { IfErr result (λ e.
         AnswersOf e.0 (D.refused numbers.old) (D.refused numbers.new)) }
-    ensures cause { IfErr result (λ e.
-        HasCause (input_numbers job) e.0 (S.told shelf.old) (S.told shelf.new)) }
+    ensures cause { IfErr result (λ e. HasCause (input_numbers job) e.0 shelf.old shelf.new) }
     ensures sound { S.honest → IfErr result (λ e. IsReadable e.0) }
 
     // Over an honest shelf inputs that stand in order are refused as out of order only where two of
@@ -240,7 +219,7 @@ pub fn compact<N: Naming, S: Shelf, R: Wait, D: NumberSource>(
 
     // A move asks nothing of the shelf or of the source of numbers.
     ensures unasked { job.is_move ≡ true
-        → (S.told shelf.new ≡ S.told shelf.old) × (D.drew numbers.new ≡ D.drew numbers.old)
+        → (shelf.new ≡ shelf.old) × (D.drew numbers.new ≡ D.drew numbers.old)
         × (D.refused numbers.new ≡ D.refused numbers.old)
         × (D.asked numbers.new ≡ D.asked numbers.old) }
     ensures moved { job.is_move ≡ true

@@ -22,33 +22,31 @@ use crate::merge_fault::MergeFault;
 use lsm_levels::laws::merges_are_in_order;
 use lsm_merger::{Merger, Run};
 use lsm_reader::Direct;
-use lsm_table::{Naming, Registry, Shelf, TableRef};
+use lsm_table::{NamedShelf, Naming, Registry, Shelf, TableRef};
 use std::alloc::Global;
 use std::slice;
 
-/// The tables of a level one after another, or one table, as a source with this place.
+/// The tables of a level one after another, or one table, as a source of this depth.
 #[tactic(auto, using(crate::proofs::InputLaws::readable_of, crate::proofs::InputLaws::cause_of_read, crate::proofs::InputLaws::reading_of))]
 fn open_run<N: Naming, S: Shelf>(
-    shelf: &mut S,
+    shelf: &mut NamedShelf<N, S>,
     alloc: Global,
     registry: &Registry<N, S>,
-    place: u64,
+    depth: u64,
     tables: &[TableRef<N, S>],
 ) -> Result<Run<N, S>, MergeFault>
-    requires here { (S.told shelf.old).place ≡ N.place }
     requires some { 0 < length tables.now }
     requires whole { S.honest → (t : Table) → Has tables.now t → IsWhole t }
     ensures entries { S.honest
-        → IfOk result (λ r. r.placed ≡ placed_at place (entries_of_tables tables.now)) }
-    ensures files { IfOk result (λ r. r.files ≡ files_at place (numbers_of tables.now)) }
+        → IfOk result (λ r. r.placed ≡ placed_at depth (entries_of_tables tables.now)) }
+    ensures files { IfOk result (λ r. r.files ≡ files_at depth (numbers_of tables.now)) }
     ensures kind { IfErr result IsOfReading }
     ensures sound { S.honest → IfErr result IsReadable }
-    ensures told { Becomes (S.told shelf.old) (S.told shelf.new) }
-    ensures cause { IfErr result (λ e.
-        HasCause (numbers_of tables.now) e (S.told shelf.old) (S.told shelf.new)) }
+    ensures told { Becomes shelf.old shelf.new }
+    ensures cause { IfErr result (λ e. HasCause (numbers_of tables.now) e shelf.old shelf.new) }
 {
     let mut direct = Direct::new(shelf);
-    match Run::over_by(&mut direct, alloc, place, registry, tables) {
+    match Run::over_by(&mut direct, alloc, depth, registry, tables) {
         Ok(run) => Ok(run),
         Err(fault) => Err(MergeFault::of_read(fault.number, fault.fault)),
     }
@@ -56,13 +54,12 @@ fn open_run<N: Naming, S: Shelf>(
 
 /// Adds such a source, where there is a table.
 fn push_run<N: Naming, S: Shelf>(
-    shelf: &mut S,
+    shelf: &mut NamedShelf<N, S>,
     alloc: Global,
     registry: &Registry<N, S>,
     tables: &[TableRef<N, S>],
     runs: &mut Vec<Run<N, S>>,
 ) -> Result<(), MergeFault>
-    requires here { (S.told shelf.old).place ≡ N.place }
     requires whole { S.honest → (t : Table) → Has tables.now t → IsWhole t }
     ensures entries { S.honest → OnOk result (streams runs.new.items
         ≡ streams runs.old.items ++ entries_of_tables tables.now) }
@@ -73,28 +70,25 @@ fn push_run<N: Naming, S: Shelf>(
         ≡ files_in runs.old.items ++ numbers_of tables.now) }
     ensures kind { IfErr result IsOfReading }
     ensures sound { S.honest → IfErr result IsReadable }
-    ensures told { Becomes (S.told shelf.old) (S.told shelf.new) }
-    ensures cause { IfErr result (λ e.
-        HasCause (numbers_of tables.now) e (S.told shelf.old) (S.told shelf.new)) }
+    ensures told { Becomes shelf.old shelf.new }
+    ensures cause { IfErr result (λ e. HasCause (numbers_of tables.now) e shelf.old shelf.new) }
 {
     if tables.is_empty() {
         return Ok(());
     }
-    match open_run(shelf, alloc, registry, runs.len() as u64, tables) {
-        Ok(run) => Ok(runs.push(run)?),
-        Err(fault) => Err(fault),
-    }
+    let run = open_run(shelf, alloc, registry, runs.len() as u64, tables)?;
+    runs.push(run)?;
+    Ok(())
 }
 
 /// Adds each table as a source of its own.
 fn push_each<N: Naming, S: Shelf>(
-    shelf: &mut S,
+    shelf: &mut NamedShelf<N, S>,
     alloc: Global,
     registry: &Registry<N, S>,
     tables: &[TableRef<N, S>],
     runs: &mut Vec<Run<N, S>>,
 ) -> Result<(), MergeFault>
-    requires here { (S.told shelf.old).place ≡ N.place }
     requires whole { S.honest → (t : Table) → Has tables.now t → IsWhole t }
     ensures entries { S.honest → OnOk result (streams runs.new.items
         ≡ streams runs.old.items ++ entries_of_tables tables.now) }
@@ -104,15 +98,11 @@ fn push_each<N: Naming, S: Shelf>(
         ≡ files_in runs.old.items ++ numbers_of tables.now) }
     ensures kind { IfErr result IsOfReading }
     ensures sound { S.honest → IfErr result IsReadable }
-    ensures told { Becomes (S.told shelf.old) (S.told shelf.new) }
-    ensures cause { IfErr result (λ e.
-        HasCause (numbers_of tables.now) e (S.told shelf.old) (S.told shelf.new)) }
+    ensures told { Becomes shelf.old shelf.new }
+    ensures cause { IfErr result (λ e. HasCause (numbers_of tables.now) e shelf.old shelf.new) }
 {
     for table in tables {
-        match push_run(shelf, alloc, registry, slice::from_ref(table), runs) {
-            Ok(()) => {}
-            Err(fault) => return Err(fault),
-        }
+        push_run(shelf, alloc, registry, slice::from_ref(table), runs)?;
     }
     Ok(())
 }
@@ -120,14 +110,13 @@ fn push_each<N: Naming, S: Shelf>(
 /// Adds the inputs of a job's own level. At level 0, where files may overlap, each is a source of
 /// its own.
 fn push_upper<N: Naming, S: Shelf>(
-    shelf: &mut S,
+    shelf: &mut NamedShelf<N, S>,
     alloc: Global,
     registry: &Registry<N, S>,
     level: usize,
     tables: &[TableRef<N, S>],
     runs: &mut Vec<Run<N, S>>,
 ) -> Result<(), MergeFault>
-    requires here { (S.told shelf.old).place ≡ N.place }
     requires whole { S.honest → (t : Table) → Has tables.now t → IsWhole t }
     ensures entries { S.honest → OnOk result (streams runs.new.items
         ≡ streams runs.old.items ++ entries_of_tables tables.now) }
@@ -138,9 +127,8 @@ fn push_upper<N: Naming, S: Shelf>(
         ≡ files_in runs.old.items ++ numbers_of tables.now) }
     ensures kind { IfErr result IsOfReading }
     ensures sound { S.honest → IfErr result IsReadable }
-    ensures told { Becomes (S.told shelf.old) (S.told shelf.new) }
-    ensures cause { IfErr result (λ e.
-        HasCause (numbers_of tables.now) e (S.told shelf.old) (S.told shelf.new)) }
+    ensures told { Becomes shelf.old shelf.new }
+    ensures cause { IfErr result (λ e. HasCause (numbers_of tables.now) e shelf.old shelf.new) }
 {
     if level == 0 {
         push_each(shelf, alloc, registry, tables, runs)
@@ -151,12 +139,11 @@ fn push_upper<N: Naming, S: Shelf>(
 
 /// The inputs of a job as one stream.
 pub(crate) fn open_inputs<N: Naming, S: Shelf>(
-    shelf: &mut S,
+    shelf: &mut NamedShelf<N, S>,
     alloc: Global,
     registry: &Registry<N, S>,
     job: &Job<N, S>,
 ) -> Result<Merger<N, S>, MergeFault>
-    requires here { (S.told shelf.old).place ≡ N.place }
     ensures merges { S.honest → IfOk result (λ m. IsAscending (entries_of m.placed)
         → IsMerge (entries_of m.placed) (all_entries (job_of job.now).inputs)) }
     ensures from { S.honest → IfOk result (λ m. (e : Entry) → Has (entries_of m.placed) e
@@ -168,40 +155,32 @@ pub(crate) fn open_inputs<N: Naming, S: Shelf>(
     ensures files { IfOk result (λ m. AreInputs m.files (input_numbers job.now)) }
     ensures kind { IfErr result IsOfReading }
     ensures sound { S.honest → IfErr result IsReadable }
-    ensures told { Becomes (S.told shelf.old) (S.told shelf.new) }
-    ensures cause { IfErr result (λ e.
-        HasCause (input_numbers job.now) e (S.told shelf.old) (S.told shelf.new)) }
+    ensures told { Becomes shelf.old shelf.new }
+    ensures cause { IfErr result (λ e. HasCause (input_numbers job.now) e shelf.old shelf.new) }
 {
     merges_are_in_order();
     // What holds of the job is told by this call.
     let _ticket = job.ticket();
     let mut runs = Vec::new(alloc);
-    match push_upper(shelf, alloc, registry, job.level(), job.upper(), &mut runs) {
-        Ok(()) => {}
-        Err(fault) => return Err(fault),
-    }
-    match push_run(shelf, alloc, registry, job.lower(), &mut runs) {
-        Ok(()) => {}
-        Err(fault) => return Err(fault),
-    }
+    push_upper(shelf, alloc, registry, job.level(), job.upper(), &mut runs)?;
+    push_run(shelf, alloc, registry, job.lower(), &mut runs)?;
     Ok(Merger::new(alloc, runs)?)
 }
 
 /// Goes on to the next entry of the inputs.
 #[tactic(auto, using(crate::proofs::InputLaws::readable_of, crate::proofs::InputLaws::cause_of_read, crate::proofs::InputLaws::reading_of))]
 pub(crate) fn advance<N: Naming, S: Shelf>(
-    shelf: &mut S,
+    shelf: &mut NamedShelf<N, S>,
     alloc: Global,
     merger: &mut Merger<N, S>,
 ) -> Result<(), MergeFault>
-    requires here { (S.told shelf.old).place ≡ N.place }
     ensures ok { S.honest → OnOk result (merger.new.placed ≡ after_first merger.old.placed) }
     ensures files { OnOk result (ReadsNoOther merger.old merger.new) }
     ensures kind { IfErr result IsOfReading }
     ensures sound { S.honest → IfErr result IsReadable }
-    ensures told { Becomes (S.told shelf.old) (S.told shelf.new) }
+    ensures told { Becomes shelf.old shelf.new }
     ensures cause { IfErr result (λ e. (inputs : List ℕ) → AreInputs merger.old.files inputs
-        → HasCause inputs e (S.told shelf.old) (S.told shelf.new)) }
+        → HasCause inputs e shelf.old shelf.new) }
 {
     let mut direct = Direct::new(shelf);
     match merger.advance_by(&mut direct, alloc) {

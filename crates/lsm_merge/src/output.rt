@@ -4,7 +4,6 @@ ghost use Rattle.std.specs.Prelude.{◌≡◌, [], ◌∷◌, ◌++◌, not, ◌
 ghost use Rattle.std.specs.Prelude.{OnErr};
 ghost use Rattle.std.specs.Str.{bytes_eq};
 ghost use Rattle.lsm_codec.specs.KeyRef.{key_of};
-ghost use Rattle.lsm_codec.specs.Keys.{IsKey};
 ghost use Rattle.lsm_block.specs.Block.{Ascends, entry_of};
 ghost use Rattle.lsm_block.specs.declared.build_fault.BuildFault.TheVariants.{TooLarge};
 ghost use Rattle.lsm_table.specs.Options.{AreInRange};
@@ -14,8 +13,8 @@ ghost use Rattle.lsm_merge.specs.Cuts.{closes};
 ghost use Rattle.lsm_merge.specs.Limits.{IsOverLimit};
 ghost use Rattle.lsm_merge.specs.Work.{finished};
 
-use lsm_codec::{Bytes, KeyRef};
-use lsm_table::{BuildFault, TableBuilder, TableOptions};
+use lsm_codec::KeyRef;
+use lsm_table::{BegunTable, BuildFault, TableImage, TableOptions};
 use std::alloc::Global;
 use std::marker::Model;
 
@@ -23,28 +22,16 @@ use std::marker::Model;
 #[derive(Drop)]
 pub(crate) struct Output {
     number: u64,
-    smallest: Bytes,
-    builder: TableBuilder,
+    table: BegunTable,
 }
 
 impl Model for Output {
-    ghost use Rattle.lsm_merge.specs.Outputs.{IsBegun, Unfinished};
+    ghost use Rattle.lsm_merge.specs.Outputs.{Unfinished};
 
     ghost Value = { Unfinished };
 
     ghost view = { λ o.
-        record { number = o.number; options = o.builder.options; entries = o.builder.entries } };
-
-    ghost invariant = { λ o. IsBegun o.smallest o.builder.entries };
-}
-
-/// A table that was built, with its first and last internal key.
-#[derive(Drop)]
-pub(crate) struct Image {
-    pub(crate) number: u64,
-    pub(crate) smallest: Bytes,
-    pub(crate) largest: Bytes,
-    pub(crate) bytes: Vec<u8>,
+        record { number = o.number; options = o.table.options; entries = o.table.entries } };
 }
 
 /// Whether an output may end with the one user key where another one follows: they differ, and it
@@ -73,17 +60,8 @@ impl Output {
         ensures large { IfErr result (λ e. e ≡ TooLarge
             → IsOverLimit options (entry_of (key_of key.now) value.now ∷ [])) }
     {
-        let smallest = key.to_bytes(alloc)?;
-        let mut builder = TableBuilder::new(alloc, options);
-        match builder.add(key.user, key.seq, key.kind, value) {
-            Ok(()) => {}
-            Err(fault) => return Err(fault),
-        }
-        Ok(Output {
-            number,
-            smallest,
-            builder,
-        })
+        let table = BegunTable::begin(alloc, options, key, value)?;
+        Ok(Output { number, table })
     }
 
     /// The number under which it will be put.
@@ -98,7 +76,7 @@ impl Output {
         ensures { Ascends self.now.entries }
     {
         // That they ascend is told by this call.
-        let _last = self.builder.last_key();
+        let _last = self.table.last_key();
     }
 
     /// Adds an entry after the others. An `Err` leaves the output as it was.
@@ -110,7 +88,7 @@ impl Output {
         ensures large { IfErr result (λ e. e ≡ TooLarge → IsOverLimit self.old.options
             (self.old.entries ++ entry_of (key_of key.now) value.now ∷ [])) }
     {
-        self.builder.add(key.user, key.seq, key.kind, value)
+        self.table.add(key, value)
     }
 
     /// Whether it is closed before an entry of this user key: it ends with another one, and its
@@ -118,34 +96,22 @@ impl Output {
     pub(crate) fn closes(&self, target: u64, user: &[u8]) -> bool
         ensures { result ≡ closes (finished self.now.options) target self.now.entries user.now }
     {
-        match self.builder.last_key() {
-            None => false,
-            Some(last) => may_close(last.user, user, target, self.builder.written()),
-        }
+        may_close(
+            self.table.last_key().user,
+            user,
+            target,
+            self.table.written(),
+        )
     }
 
-    /// The table of its entries.
-    pub(crate) fn finish(self, alloc: Global) -> Result<Image, BuildFault>
-        ensures number { IfOk result (λ i. i.number ≡ self.number) }
-        ensures bytes { IfOk result (λ i. i.bytes.items ≡ table_bytes self.options self.entries) }
-        ensures image { IfOk result (λ i. IsImage self.entries i.smallest i.largest i.bytes.items) }
+    /// The image of the table of its entries.
+    pub(crate) fn finish(self, alloc: Global) -> Result<TableImage, BuildFault>
+        ensures bytes { IfOk result (λ i. i.bytes ≡ table_bytes self.options self.entries) }
+        ensures image { IfOk result (λ i. IsImage self.entries i.smallest i.largest i.bytes) }
         ensures large { IfErr result (λ e. e ≡ TooLarge → IsOverLimit self.options self.entries) }
     {
-        let Output {
-            number,
-            smallest,
-            builder,
-        } = self;
-        let largest = match builder.last_key() {
-            Some(key) => key.to_bytes(alloc)?,
-            None => unreachable!(),
-        };
-        let bytes = builder.finish()?;
-        Ok(Image {
-            number,
-            smallest,
-            largest,
-            bytes,
-        })
+        // That they ascend is told by this call.
+        let _last = self.table.last_key();
+        self.table.finish(alloc)
     }
 }

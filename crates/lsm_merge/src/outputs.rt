@@ -20,7 +20,7 @@ use crate::number_source::NumberSource;
 use crate::output::Output;
 use crate::putting::put_output;
 use lsm_codec::KeyRef;
-use lsm_table::{Naming, Registry, Shelf, TableOptions, TableRef};
+use lsm_table::{NamedShelf, Naming, Registry, Shelf, TableOptions, TableRef};
 use std::alloc::Global;
 use std::marker::Model;
 use std::sync::Wait;
@@ -145,19 +145,18 @@ impl<N: Naming, S: Shelf> Outputs<N, S> {
     pub(crate) fn put_last<R: Wait>(
         &mut self,
         rt: &R,
-        shelf: &mut S,
+        shelf: &mut NamedShelf<N, S>,
         registry: &Registry<N, S>,
     ) -> Result<(), MergeFault>
         requires good { AreGood self.old }
-        requires here { (S.told shelf.old).place ≡ N.place }
         ensures ok { OnOk result
             (Goes self.old self.new record { outputs = closed (making_of self.old); output = [] }) }
         ensures drawn { OnOk result ((there : List ℕ)
             → drawn_of self.new there ≡ drawn_of self.old there) }
-        ensures told { PutsMore self.old.put self.new.put (S.told shelf.old) (S.told shelf.new) }
+        ensures told { PutsMore self.old.put self.new.put shelf.old shelf.new }
         ensures leaves { IfErr result (λ e. (there : List ℕ)
             → Leaves e self.new.put (drawn_of self.old there) there) }
-        ensures cause { IfErr result (λ e. HasCause [] e (S.told shelf.old) (S.told shelf.new)) }
+        ensures cause { IfErr result (λ e. HasCause [] e shelf.old shelf.new) }
         ensures why { IfErr result (λ e. (answers : List ℕ) → AnswersOf e answers answers) }
         ensures large { IfErr result (λ e. IsSizeFault e
             → IsOverLimit self.old.options (entries_of_last self.old.last)) }
@@ -192,20 +191,19 @@ impl<N: Naming, S: Shelf> Outputs<N, S> {
     pub(crate) fn close_before<R: Wait>(
         &mut self,
         rt: &R,
-        shelf: &mut S,
+        shelf: &mut NamedShelf<N, S>,
         registry: &Registry<N, S>,
         user: &[u8],
     ) -> Result<(), MergeFault>
         requires good { AreGood self.old }
-        requires here { (S.told shelf.old).place ≡ N.place }
         ensures ok { OnOk result (Goes self.old self.new (shut_before (finished self.old.options)
             self.old.target (making_of self.old) user.now)) }
         ensures drawn { OnOk result ((there : List ℕ)
             → drawn_of self.new there ≡ drawn_of self.old there) }
-        ensures told { PutsMore self.old.put self.new.put (S.told shelf.old) (S.told shelf.new) }
+        ensures told { PutsMore self.old.put self.new.put shelf.old shelf.new }
         ensures leaves { IfErr result (λ e. (there : List ℕ)
             → Leaves e self.new.put (drawn_of self.old there) there) }
-        ensures cause { IfErr result (λ e. HasCause [] e (S.told shelf.old) (S.told shelf.new)) }
+        ensures cause { IfErr result (λ e. HasCause [] e shelf.old shelf.new) }
         ensures why { IfErr result (λ e. (answers : List ℕ) → AnswersOf e answers answers) }
         ensures large { IfErr result (λ e. IsSizeFault e
             → IsOverLimit self.old.options (entries_of_last self.old.last)) }
@@ -264,7 +262,7 @@ impl<N: Naming, S: Shelf> Outputs<N, S> {
     fn place<R: Wait, D: NumberSource>(
         &mut self,
         rt: &R,
-        shelf: &mut S,
+        shelf: &mut NamedShelf<N, S>,
         registry: &Registry<N, S>,
         numbers: &mut D,
         key: &KeyRef<'_>,
@@ -272,30 +270,26 @@ impl<N: Naming, S: Shelf> Outputs<N, S> {
     ) -> Result<(), MergeFault>
         requires ready { D.ready numbers.old }
         requires good { AreGood self.old }
-        requires here { (S.told shelf.old).place ≡ N.place }
         requires ascends { Ascends
             (entries_of_last self.old.last ++ entry_of (key_of key.now) value.now ∷ []) }
         ensures ok { OnOk result (Goes self.old self.new (placed (finished self.old.options)
             self.old.target (making_of self.old) (entry_of (key_of key.now) value.now))) }
         ensures drawn { OnOk result ((there : List ℕ) → D.drew numbers.old ≡ drawn_of self.old there
             → D.drew numbers.new ≡ drawn_of self.new there) }
-        ensures told { PutsMore self.old.put self.new.put (S.told shelf.old) (S.told shelf.new) }
+        ensures told { PutsMore self.old.put self.new.put shelf.old shelf.new }
         ensures answered { OnOk result (D.refused numbers.new ≡ D.refused numbers.old) }
         ensures leaves { IfErr result (λ e. (there : List ℕ) → D.drew numbers.old
             ≡ drawn_of self.old there → Leaves e self.new.put (D.drew numbers.new) there) }
         ensures why { IfErr result (λ e.
             AnswersOf e (D.refused numbers.old) (D.refused numbers.new)) }
-        ensures cause { IfErr result (λ e. HasCause [] e (S.told shelf.old) (S.told shelf.new)) }
+        ensures cause { IfErr result (λ e. HasCause [] e shelf.old shelf.new) }
         ensures asked { AsksFor self.old.ticket (D.asked numbers.old) (D.asked numbers.new) }
         ensures ticket { IfErr result (λ e. NamesTicket e self.old.ticket) }
         ensures large { IfErr result (λ e. IsSizeFault e → IsOverLimit self.old.options
             (entries_of_last self.old.last ++ entry_of (key_of key.now) value.now ∷ [])) }
         ensures ready { D.ready numbers.new }
     {
-        match self.close_before(rt, shelf, registry, key.user) {
-            Ok(()) => {}
-            Err(fault) => return Err(fault),
-        }
+        self.close_before(rt, shelf, registry, key.user)?;
         self.add(rt, numbers, key, value)
     }
 
@@ -303,7 +297,7 @@ impl<N: Naming, S: Shelf> Outputs<N, S> {
     pub(crate) fn take<R: Wait, D: NumberSource>(
         &mut self,
         rt: &R,
-        shelf: &mut S,
+        shelf: &mut NamedShelf<N, S>,
         registry: &Registry<N, S>,
         numbers: &mut D,
         kept: bool,
@@ -312,7 +306,6 @@ impl<N: Naming, S: Shelf> Outputs<N, S> {
     ) -> Result<(), MergeFault>
         requires ready { D.ready numbers.old }
         requires good { AreGood self.old }
-        requires here { (S.told shelf.old).place ≡ N.place }
         requires ascends { Ascends
             (entries_of_last self.old.last ++ entry_of (key_of key.now) value.now ∷ []) }
         ensures ok { OnOk result
@@ -320,13 +313,13 @@ impl<N: Naming, S: Shelf> Outputs<N, S> {
             (making_of self.old) (entry_of (key_of key.now) value.now)) (making_of self.old))) }
         ensures drawn { OnOk result ((there : List ℕ) → D.drew numbers.old ≡ drawn_of self.old there
             → D.drew numbers.new ≡ drawn_of self.new there) }
-        ensures told { PutsMore self.old.put self.new.put (S.told shelf.old) (S.told shelf.new) }
+        ensures told { PutsMore self.old.put self.new.put shelf.old shelf.new }
         ensures answered { OnOk result (D.refused numbers.new ≡ D.refused numbers.old) }
         ensures leaves { IfErr result (λ e. (there : List ℕ) → D.drew numbers.old
             ≡ drawn_of self.old there → Leaves e self.new.put (D.drew numbers.new) there) }
         ensures why { IfErr result (λ e.
             AnswersOf e (D.refused numbers.old) (D.refused numbers.new)) }
-        ensures cause { IfErr result (λ e. HasCause [] e (S.told shelf.old) (S.told shelf.new)) }
+        ensures cause { IfErr result (λ e. HasCause [] e shelf.old shelf.new) }
         ensures asked { AsksFor self.old.ticket (D.asked numbers.old) (D.asked numbers.new) }
         ensures ticket { IfErr result (λ e. NamesTicket e self.old.ticket) }
         ensures large { IfErr result (λ e. IsSizeFault e → IsOverLimit self.old.options

@@ -1,4 +1,4 @@
-//! Putting an output on the shelf, and its row into the registry.
+//! Putting an output on the shelf, and its record into the registry.
 
 ghost use Rattle.std.specs.Prelude.{◌≡◌, [], ◌∷◌, ◌++◌, ℕ, List, IfOk, IfErr, OnOk};
 ghost use Rattle.lsm_merge.specs.Causes.{AnswersOf, HasCause, Leaves};
@@ -6,58 +6,48 @@ ghost use Rattle.lsm_merge.specs.Limits.{IsOverLimit, IsSizeFault};
 ghost use Rattle.lsm_merge.specs.Outputs.{IsPut, PutsMore, going};
 
 use crate::merge_fault::MergeFault;
-use crate::output::{Image, Output};
-use lsm_table::{Naming, Registry, Shelf, TableRecord, TableRef, entries_are};
+use crate::output::Output;
+use lsm_table::{NamedShelf, Naming, Registry, Shelf, TableImage, TableRef, entries_are};
 use lsm_version::tables_are_whole;
 use std::alloc::Global;
 use std::sync::Wait;
 
-/// Puts a table that was built, and then its row into the registry. The memory for its number is
-/// there before it is put.
+/// Puts a table that was built under a number, and then its record into the registry. The memory
+/// for the number is there before the table is put, and the number stands among those put before
+/// the record may be refused.
 fn put_image<N: Naming, S: Shelf, R: Wait>(
     rt: &R,
     alloc: Global,
-    shelf: &mut S,
+    shelf: &mut NamedShelf<N, S>,
     registry: &Registry<N, S>,
-    image: Image,
+    image: TableImage,
+    number: u64,
     put: &mut Vec<u64>,
 ) -> Result<TableRef<N, S>, MergeFault>
-    requires here { (S.told shelf.old).place ≡ N.place }
-    ensures number { IfOk result (λ t. t.number ≡ image.number) }
+    ensures number { IfOk result (λ t. t.number ≡ number) }
     ensures smallest { IfOk result (λ t. t.smallest ≡ image.smallest) }
     ensures largest { IfOk result (λ t. t.largest ≡ image.largest) }
-    ensures image { IfOk result (λ t. t.image ≡ image.bytes.items) }
-    ensures put { OnOk result (put.new.items ≡ put.old.items ++ image.number ∷ []) }
-    ensures told { PutsMore put.old.items put.new.items (S.told shelf.old) (S.told shelf.new) }
+    ensures image { IfOk result (λ t. t.image ≡ image.bytes) }
+    ensures put { OnOk result (put.new.items ≡ put.old.items ++ number ∷ []) }
+    ensures told { PutsMore put.old.items put.new.items shelf.old shelf.new }
     ensures leaves { IfErr result (λ e. (there : List ℕ)
-        → Leaves e put.new.items (image.number ∷ going put.old.items there) there) }
-    ensures cause { IfErr result (λ e. HasCause [] e (S.told shelf.old) (S.told shelf.new)) }
+        → Leaves e put.new.items (number ∷ going put.old.items there) there) }
+    ensures cause { IfErr result (λ e. HasCause [] e shelf.old shelf.new) }
     ensures why { IfErr result (λ e. (answers : List ℕ) → AnswersOf e answers answers) }
     ensures built { IfErr result (λ e. IsSizeFault e → ⊥) }
 {
-    let Image {
-        number,
-        smallest,
-        largest,
-        bytes,
-    } = image;
     put.reserve(1)?;
-    let receipt = match shelf.put(rt, alloc, number, &bytes) {
-        Ok(receipt) => receipt,
+    let record = match image.put_alone(rt, alloc, shelf, number) {
+        Ok(record) => record,
         Err(fault) => return Err(MergeFault::of_put(number, fault)),
     };
     match put.push(number) {
         Ok(()) => {}
         Err(_full) => unreachable!(),
     }
-    let row = TableRecord {
-        smallest,
-        largest,
-        receipt,
-    };
-    match registry.push(rt, row) {
+    match registry.push(rt, record) {
         Ok(table) => Ok(table),
-        Err(_row) => Err(MergeFault::OutOfMemory),
+        Err(_record) => Err(MergeFault::OutOfMemory),
     }
 }
 
@@ -65,19 +55,18 @@ fn put_image<N: Naming, S: Shelf, R: Wait>(
 pub(crate) fn put_output<N: Naming, S: Shelf, R: Wait>(
     rt: &R,
     alloc: Global,
-    shelf: &mut S,
+    shelf: &mut NamedShelf<N, S>,
     registry: &Registry<N, S>,
     output: Output,
     tables: &mut Vec<TableRef<N, S>>,
     put: &mut Vec<u64>,
 ) -> Result<(), MergeFault>
-    requires here { (S.told shelf.old).place ≡ N.place }
     ensures ok { OnOk result
         (IsPut output tables.old.items tables.new.items put.old.items put.new.items) }
-    ensures told { PutsMore put.old.items put.new.items (S.told shelf.old) (S.told shelf.new) }
+    ensures told { PutsMore put.old.items put.new.items shelf.old shelf.new }
     ensures leaves { IfErr result (λ e. (there : List ℕ)
         → Leaves e put.new.items (output.number ∷ going put.old.items there) there) }
-    ensures cause { IfErr result (λ e. HasCause [] e (S.told shelf.old) (S.told shelf.new)) }
+    ensures cause { IfErr result (λ e. HasCause [] e shelf.old shelf.new) }
     ensures why { IfErr result (λ e. (answers : List ℕ) → AnswersOf e answers answers) }
     ensures large { IfErr result (λ e. IsSizeFault e → IsOverLimit output.options output.entries) }
 {
@@ -89,7 +78,7 @@ pub(crate) fn put_output<N: Naming, S: Shelf, R: Wait>(
         Ok(image) => image,
         Err(fault) => return Err(MergeFault::of_build(number, fault)),
     };
-    let table = put_image(rt, alloc, shelf, registry, image, put)?;
+    let table = put_image(rt, alloc, shelf, registry, image, number, put)?;
     match tables.push(table) {
         Ok(()) => Ok(()),
         Err(_full) => unreachable!(),

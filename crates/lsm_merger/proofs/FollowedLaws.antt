@@ -6,7 +6,7 @@ use Rattle.lsm_merger.proofs.AgeLaws.{finds_age}
 use Rattle.lsm_merger.proofs.WalkLaws.{told_is}
 use Rattle.lsm_levels.specs.Ages.{IsAgeOrder, IsLeastAgainstAge, against_age}
 use Rattle.lsm_merger.specs.declared.walk.FirstKey.{FirstKey}
-use Rattle.lsm_merger.specs.Heads.{after_first, first_of, key_in, no_more, place_in, user_in}
+use Rattle.lsm_merger.specs.Heads.{after_first, first_of, key_in, no_more, source_in, user_in}
 use Rattle.lsm_merger.specs.Followed.{follows, known, known_if, stands_after}
 use Rattle.lsm_merger.specs.Walks.{passed_by, told_first}
 
@@ -15,18 +15,18 @@ known_same p [] = refl
 known_same p (q ∷ qs) = refl
 
 -- an entry may follow, by what is told of it
-follows_told : (passed : Option UserKey) (ps : List Placed) (k : FirstKey) (place seq : ℕ) → Some k ≡ told_first passed (first_of ps)
-    → follows (known_if place passed seq) (first_of ps) ≡ stands_after k.is_same place seq (place_in (first_of ps)) k.seq
-follows_told passed [] k place seq h = absurd cc
-follows_told None (p ∷ ps) k place seq h = rw (told_is None p k h) refl
-follows_told (Some u) (p ∷ ps) k place seq h = rw (told_is (Some u) p k h) refl
+follows_told : (passed : Option UserKey) (ps : List Placed) (k : FirstKey) (depth seq : ℕ) → Some k ≡ told_first passed (first_of ps)
+    → follows (known_if depth passed seq) (first_of ps) ≡ stands_after k.is_same depth seq (source_in (first_of ps)) k.seq
+follows_told passed [] k depth seq h = absurd cc
+follows_told None (p ∷ ps) k depth seq h = rw (told_is None p k h) refl
+follows_told (Some u) (p ∷ ps) k depth seq h = rw (told_is (Some u) p k h) refl
 
-pub goes_on : (passed after : Option UserKey) (ps new : List Placed) (k : FirstKey) (place seq : ℕ) → Some k ≡ told_first passed (first_of ps)
-    → stands_after k.is_same place seq (place_in (first_of ps)) k.seq ≡ true → after ≡ passed_by passed (first_of ps) → new ≡ after_first ps
-    → against_age (known_if (place_in (first_of ps)) after k.seq) new ≡ against_age (known_if place passed seq) ps
-goes_on passed after [] new k place seq h s a e = absurd cc
-goes_on passed after (p ∷ ps) new k place seq h s a e =
-    let follows_it = follows_told passed (p ∷ ps) k place seq h ∙ s in
+pub goes_on : (passed after : Option UserKey) (ps new : List Placed) (k : FirstKey) (depth seq : ℕ) → Some k ≡ told_first passed (first_of ps)
+    → stands_after k.is_same depth seq (source_in (first_of ps)) k.seq ≡ true → after ≡ passed_by passed (first_of ps) → new ≡ after_first ps
+    → against_age (known_if (source_in (first_of ps)) after k.seq) new ≡ against_age (known_if depth passed seq) ps
+goes_on passed after [] new k depth seq h s a e = absurd cc
+goes_on passed after (p ∷ ps) new k depth seq h s a e =
+    let follows_it = follows_told passed (p ∷ ps) k depth seq h ∙ s in
     rw (a, e, ap (λ (x : FirstKey). x.seq) (told_is passed p k h)) (known_same p ps)
     ∙ sym (ap (λ (b : Bool). cond b (against_age (Some p) ps) (Some p.1.user)) follows_it)
 
@@ -60,7 +60,7 @@ judged_end ps rest before o same h = finds_age ps None o (same ∙ at_end before
 pub judged_none : (ps rest : List Placed) (before : Option Placed) (passed : Option UserKey) → IsOrdered ps → against_age None ps ≡ against_age before rest → None ≡ told_first passed (first_of rest) → IsAgeOrder ps
 judged_none ps rest before passed o same h = judged_end ps rest before o same (told_end passed rest h)
 
-pub judged_some : (ps rest : List Placed) (passed : Option UserKey) (place seq : ℕ) (k : FirstKey) (user : UserKey) → IsOrdered ps → against_age None ps ≡ against_age (known_if place passed seq) rest
-    → Some k ≡ told_first passed (first_of rest) → stands_after k.is_same place seq (place_in (first_of rest)) k.seq ≡ false → user ≡ user_in (first_of rest) → IsLeastAgainstAge ps user
-judged_some ps rest passed place seq k user o same h s is =
-    finds_age ps (Some user) o (same ∙ stopped (known_if place passed seq) rest (follows_told passed rest k place seq h ∙ s) ∙ ap (λ (x : UserKey). Some x) (sym is))
+pub judged_some : (ps rest : List Placed) (passed : Option UserKey) (depth seq : ℕ) (k : FirstKey) (user : UserKey) → IsOrdered ps → against_age None ps ≡ against_age (known_if depth passed seq) rest
+    → Some k ≡ told_first passed (first_of rest) → stands_after k.is_same depth seq (source_in (first_of rest)) k.seq ≡ false → user ≡ user_in (first_of rest) → IsLeastAgainstAge ps user
+judged_some ps rest passed depth seq k user o same h s is =
+    finds_age ps (Some user) o (same ∙ stopped (known_if depth passed seq) rest (follows_told passed rest k depth seq h ∙ s) ∙ ap (λ (x : UserKey). Some x) (sym is))

@@ -6,7 +6,7 @@ use Rattle.lsm_codec.specs.Entries.{Entry}
 use Rattle.lsm_codec.specs.Lists.{Has}
 use Rattle.lsm_block.specs.Standing.{is_end}
 use Rattle.lsm_levels.specs.Merging.{placed_at}
-use Rattle.lsm_merger.specs.Heads.{first_of, place_in}
+use Rattle.lsm_merger.specs.Heads.{first_of, source_in}
 use Rattle.lsm_table.specs.Registry.{Table, image_of}
 use Rattle.lsm_merger.specs.Runs.{HasEntries, IsLastAtEnd, files_at}
 
@@ -20,16 +20,16 @@ pub last_if_some : (here : List Entry) (images : List (List ℕ)) → is_end her
 last_if_some [] images h = absurd cc
 last_if_some (e ∷ es) images h = tt
 
--- a number of one of its files, with the place of the entry at which it stands
-pub has_number : (place number : ℕ) (numbers : List ℕ) → Has numbers number → Has (files_at place numbers) (place, number)
-has_number place number [] h = absurd h
-has_number place number (n ∷ ns) (inl e) = inl (ap (λ (m : ℕ). (let f : ℕ × ℕ = (place, m) in f)) e)
-has_number place number (n ∷ ns) (inr h) = inr (has_number place number ns h)
+-- a number of one of its files, with the depth of the entry at which it stands
+pub has_number : (depth number : ℕ) (numbers : List ℕ) → Has numbers number → Has (files_at depth numbers) (depth, number)
+has_number depth number [] h = absurd h
+has_number depth number (n ∷ ns) (inl e) = inl (ap (λ (m : ℕ). (let f : ℕ × ℕ = (depth, m) in f)) e)
+has_number depth number (n ∷ ns) (inr h) = inr (has_number depth number ns h)
 
-pub of_first : (place number : ℕ) (here rest : List Entry) (numbers : List ℕ) → is_end here ≡ false → Has numbers number
-    → Has (files_at place numbers) (place_in (first_of (placed_at place (here ++ rest))), number)
-of_first place number [] rest numbers h n = absurd cc
-of_first place number (e ∷ es) rest numbers h n = has_number place number numbers n
+pub of_first : (depth number : ℕ) (here rest : List Entry) (numbers : List ℕ) → is_end here ≡ false → Has numbers number
+    → Has (files_at depth numbers) (source_in (first_of (placed_at depth (here ++ rest))), number)
+of_first depth number [] rest numbers h n = absurd cc
+of_first depth number (e ∷ es) rest numbers h n = has_number depth number numbers n
 
 pub none_at_end : (here es : List Entry) → here ≡ es → is_end here ≡ true → es ≡ []
 none_at_end [] es same h = sym same

@@ -9,7 +9,7 @@ use Rattle.lsm_codec.specs.Keys.{InternalKey, packed}
 use Rattle.lsm_codec.proofs.CallerLemmas.{has_left, has_right, has_cases}
 use Rattle.lsm_levels.specs.Merging.{Placed, goes_first, merge, merge_all, leads}
 use Rattle.lsm_levels.proofs.CallerLemmas.{merge_left, merge_right, merge_empty}
-use Rattle.lsm_merger.specs.Heads.{first_of, after_first, key_in, leads_by, place_in, user_in, user_named}
+use Rattle.lsm_merger.specs.Heads.{first_of, after_first, key_in, leads_by, source_in, user_in, user_named}
 use Rattle.lsm_merger.specs.Runs.{AreAlike, Left, ReadsNoOther, IsOfFirst}
 use Rattle.lsm_merger.specs.declared.tree.Tree.{Tree}
 use Rattle.lsm_merger.specs.declared.tree.Tree.TheVariants.{Leaf, Fork'}
@@ -48,7 +48,7 @@ leads_keys [] r = refl
 leads_keys (x ∷ xs) [] = refl
 leads_keys (x ∷ xs) (y ∷ ys) = refl
 
--- by places and by numbers it is the same test, as the keys are the same
+-- by depths and by numbers it is the same test, as the keys are the same
 pub led_by_keys : (a b : Left) (led : Bool) (j k : Option InternalKey) → led ≡ leads_by j k → j ≡ key_in (first_of a.placed) → k ≡ key_in (first_of b.placed)
     → j ≡ key_in (first_of a.numbered) → k ≡ key_in (first_of b.numbered) → IsLed led a b
 led_by_keys a b led j k t ja kb ja' kb' = record {
@@ -99,7 +99,7 @@ second_yields n a b b' t u s =
 
 -- ---- a step that leaves the order of a fork
 
--- by places and by numbers
+-- by depths and by numbers
 pub alike_in : (t : Tree Left) → IsReady t → AreAlike (left_of t)
 alike_in (Leaf source) h = h
 alike_in (Fork' true front p l q r) h =
@@ -182,13 +182,13 @@ none_other_second a b b' r f h = elim (has_cases a.files b'.files f h) [
 
 pub fault_first : (a b : Left) (number : ℕ) → IsLed true a b → IsOfFirst a number → IsOfFirst (both a b) number
 fault_first a b number t h =
-    subst (λ (p : ℕ). Has (a.files ++ b.files) (p, number)) (sym (ap place_in (first_left a.placed b.placed (sym t.placed))))
-    (has_left a.files b.files (place_in (first_of a.placed), number) h)
+    subst (λ (p : ℕ). Has (a.files ++ b.files) (p, number)) (sym (ap source_in (first_left a.placed b.placed (sym t.placed))))
+    (has_left a.files b.files (source_in (first_of a.placed), number) h)
 
 pub fault_second : (a b : Left) (number : ℕ) → IsLed false a b → IsOfFirst b number → IsOfFirst (both a b) number
 fault_second a b number t h =
-    subst (λ (p : ℕ). Has (a.files ++ b.files) (p, number)) (sym (ap place_in (first_right a.placed b.placed (sym t.placed))))
-    (has_right a.files b.files (place_in (first_of b.placed), number) h)
+    subst (λ (p : ℕ). Has (a.files ++ b.files) (p, number)) (sym (ap source_in (first_right a.placed b.placed (sym t.placed))))
+    (has_right a.files b.files (source_in (first_of b.placed), number) h)
 
 -- ---- several sources
 

@@ -1,4 +1,4 @@
--- The first entry of a list of entries with their places, and what is left behind it.
+-- The first entry of a list of entries with their depths, and what is left behind it.
 use Rattle.std.specs.Prelude.{ℕ, Bool, true, false, List, [], ◌∷◌, Option, Some, None}
 use Rattle.std.specs.Ordering.{is_le}
 use Rattle.lsm_codec.specs.Keys.{UserKey, InternalKey, key_cmp}
@@ -38,10 +38,10 @@ abbrev pub value_in : Option Placed → List ℕ
 value_in None = []
 value_in (Some p) = p.1.value
 
--- the place of its source; 0 where there is none
-abbrev pub place_in : Option Placed → ℕ
-place_in None = 0
-place_in (Some p) = p.0
+-- the depth of its source, or the number of its file; 0 where there is none
+abbrev pub source_in : Option Placed → ℕ
+source_in None = 0
+source_in (Some p) = p.0
 
 -- a first key may be handed out before the other one
 abbrev pub leads_by : Option InternalKey → Option InternalKey → Bool

@@ -6,11 +6,11 @@ use Rattle.lsm_codec.specs.Entries.{Entry}
 use Rattle.lsm_table.specs.Table.{IsTable}
 use Rattle.lsm_table.specs.HeldTable.{entries_in}
 use Rattle.lsm_levels.specs.Merging.{Placed, placed_at}
-use Rattle.lsm_merger.specs.Heads.{first_of, key_in, place_in}
+use Rattle.lsm_merger.specs.Heads.{first_of, key_in, source_in}
 
--- what is left: the entries with the places of their sources, and the files that are not yet read
--- to their ends, each number with the place of its source; and the same entries with the numbers of
--- the files in which they stand, where `placed` has places
+-- what is left: the entries with the depths of their sources, and the files that are not yet read
+-- to their ends, each number with the depth of its source; and the same entries with the numbers of
+-- the files in which they stand, where `placed` has depths
 pub record Left : Type 0 where
   pub placed : List Placed
   pub files : List (ℕ × ℕ)
@@ -25,10 +25,10 @@ pub record HasEntries (image : List ℕ) : Type 0 where
 abbrev pub entries_of_all : List (List ℕ) → List Entry
 entries_of_all images = flat_map entries_in images
 
--- the number of each file with a place
+-- the number of each file with a depth
 abbrev pub files_at : ℕ → List ℕ → List (ℕ × ℕ)
-files_at place [] = []
-files_at place (n ∷ ns) = (place, n) ∷ files_at place ns
+files_at depth [] = []
+files_at depth (n ∷ ns) = (depth, n) ∷ files_at depth ns
 
 -- the entries of the tables of images, one after another, each with its file's number
 abbrev pub numbered_all : List ℕ → List (List ℕ) → List Placed
@@ -38,9 +38,9 @@ numbered_all (n ∷ ns) (image ∷ images) = placed_at n (entries_in image) ++ n
 
 -- what is left where a run stands in a table, and images are to come after it
 abbrev pub run_left : ℕ → ℕ → List Entry → List ℕ → List (List ℕ) → Left
-run_left place number here numbers images = record {
-  placed = placed_at place (here ++ entries_of_all images);
-  files = files_at place (number ∷ numbers);
+run_left depth number here numbers images = record {
+  placed = placed_at depth (here ++ entries_of_all images);
+  files = files_at depth (number ∷ numbers);
   numbered = placed_at number here ++ numbered_all numbers images;
 }
 
@@ -58,14 +58,14 @@ IsFirstOf es (image ∷ images) = es ≡ entries_in image
 abbrev pub ReadsNoOther : Left → Left → Type 0
 ReadsNoOther old new = (f : ℕ × ℕ) → Has new.files f → Has old.files f
 
--- By places and by numbers the first entry has one key.
+-- By depths and by numbers the first entry has one key.
 abbrev pub AreAlike : Left → Type 0
 AreAlike left = key_in (first_of left.placed) ≡ key_in (first_of left.numbered)
 
 -- The number is that of a file of the source that has the first entry.
 abbrev pub IsOfFirst : Left → ℕ → Type 0
-IsOfFirst left number = Has left.files (place_in (first_of left.placed), number)
+IsOfFirst left number = Has left.files (source_in (first_of left.placed), number)
 
 -- The number is that of a file which is not yet read to its end.
 abbrev pub IsOfFiles : Left → ℕ → Type 0
-IsOfFiles left number = (place : ℕ) × Has left.files (place, number)
+IsOfFiles left number = (depth : ℕ) × Has left.files (depth, number)

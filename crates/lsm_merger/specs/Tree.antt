@@ -26,7 +26,7 @@ abbrev pub left_of : Tree Left → Left
 left_of (Leaf source) = source
 left_of (Fork' led front p l q r) = both (left_of l) (left_of r)
 
--- Whether the first of the two leads, whether by places or by numbers.
+-- Whether the first of the two leads, whether by depths or by numbers.
 pub record IsLed (led : Bool) (a b : Left) : Type 0 where
   pub placed : led ≡ leads a.placed b.placed
   pub numbered : led ≡ leads a.numbered b.numbered

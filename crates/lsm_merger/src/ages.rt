@@ -21,14 +21,13 @@ use std::alloc::{AllocError, Global};
 use std::mem;
 
 /// The least user key of which a deeper entry has no lesser sequence than a shallower one, if there
-/// is one. The places of the merge's runs are their depths; it is read to the first such entry. A
+/// is one. The merge's runs stand at their depths; it is read to the first such entry. A
 /// refusal names a file of the merge.
-pub fn against_age<N: Naming, S: Shelf, B: Blocks<S>>(
+pub fn against_age<N: Naming, S: Shelf, B: Blocks<N, S>>(
     blocks: &mut B,
     alloc: Global,
     merger: &mut Merger<N, S>,
 ) -> Result<Option<Bytes>, FileFault>
-    requires here { (B.told blocks.old).place ≡ N.place }
     ensures judged { S.honest → IsOrdered merger.old.placed → IfOk result (λ r.
         MatchOption r (IsAgeOrder merger.old.placed) (λ k. IsLeastAgainstAge merger.old.placed k)) }
     ensures sound { S.honest → IfErr result (λ e. IsMemoryOrShelf e.fault) }
@@ -44,20 +43,20 @@ pub fn against_age<N: Naming, S: Shelf, B: Blocks<S>>(
     found
 }
 
-/// Place and sequence of an entry.
+/// Depth and sequence of an entry.
 #[derive(Clone, Copy)]
 struct Stamp {
-    place: u64,
+    depth: u64,
     seq: u64,
 }
 
-/// Whether an entry of this place and key may follow the one before it: of one user key it lies no
+/// Whether an entry of this depth and key may follow the one before it: of one user key it lies no
 /// shallower, and where it lies deeper it is older.
-fn may_follow(before: Stamp, place: u64, key: FirstKey) -> bool
-    ensures { result ≡ stands_after key.is_same before.place before.seq place key.seq }
+fn may_follow(before: Stamp, depth: u64, key: FirstKey) -> bool
+    ensures { result ≡ stands_after key.is_same before.depth before.seq depth key.seq }
 {
-    let reached = before.place <= place;
-    let deeper = before.place < place;
+    let reached = before.depth <= depth;
+    let deeper = before.depth < depth;
     let older = key.seq < before.seq;
     !key.is_same || (reached && (!deeper || older))
 }
@@ -86,12 +85,11 @@ fn want_at<N: Naming, S: Shelf>(walk: &Walk<N, S>) -> FileFault
 }
 
 /// What `against_age` answers, of a merge along which a walk goes.
-fn found_by<N: Naming, S: Shelf, B: Blocks<S>>(
+fn found_by<N: Naming, S: Shelf, B: Blocks<N, S>>(
     blocks: &mut B,
     alloc: Global,
     walk: &mut Walk<N, S>,
 ) -> Result<Option<Bytes>, FileFault>
-    requires here { (B.told blocks.old).place ≡ N.place }
     requires fresh { walk.old.passed ≡ None }
     ensures judged { S.honest → IsOrdered walk.old.left.placed → IfOk result (λ r. MatchOption r
         (IsAgeOrder walk.old.left.placed) (λ k. IsLeastAgainstAge walk.old.left.placed k)) }
@@ -102,24 +100,21 @@ fn found_by<N: Naming, S: Shelf, B: Blocks<S>>(
     ensures cause { IfErr result (λ e.
         ReadCounted e.fault (B.told blocks.old) (B.told blocks.new)) }
 {
-    let mut before = Stamp { place: 0, seq: 0 };
+    let mut before = Stamp { depth: 0, seq: 0 };
     for _ in 0..u64::MAX {
         let Some(key) = walk.first_key() else {
             return Ok(None);
         };
-        let place = walk.place();
-        if !may_follow(before, place, key) {
+        let depth = walk.depth();
+        if !may_follow(before, depth, key) {
             return match user_of(alloc, &*walk) {
                 Ok(user) => Ok(Some(user)),
                 Err(AllocError) => Err(want_at(&*walk)),
             };
         }
-        match walk.pass_by(blocks, alloc) {
-            Ok(()) => {}
-            Err(fault) => return Err(fault),
-        }
+        walk.pass_by(blocks, alloc)?;
         before = Stamp {
-            place,
+            depth,
             seq: key.seq,
         };
     }

@@ -1,4 +1,4 @@
-//! The merge of sorted tables: entries in order, each with its source's place, and what a scan
+//! The merge of sorted tables: entries in order, each with its source's depth, and what a scan
 //! shows of them.
 //!
 //! Stands on `lsm_levels` for what a merge is, and on `lsm_reader` for tables that are read block

@@ -8,7 +8,7 @@ ghost use Rattle.lsm_block.specs.Standing.{SharesFront};
 ghost use Rattle.lsm_table.specs.ReadFault.{ReadCounted, IsMemoryOrShelf};
 ghost use Rattle.lsm_table.specs.Told.{Becomes};
 ghost use Rattle.lsm_levels.specs.Merging.{merge_all};
-ghost use Rattle.lsm_merger.specs.Heads.{after_first, first_of, key_in, no_more, place_in, user_in};
+ghost use Rattle.lsm_merger.specs.Heads.{after_first, first_of, key_in, no_more, source_in, user_in};
 ghost use Rattle.lsm_merger.specs.Heads.{value_in};
 ghost use Rattle.lsm_merger.specs.Runs.{IsOfFirst, ReadsNoOther};
 
@@ -25,7 +25,7 @@ use std::marker::Model;
 /// the runs. It stands at the first that is left, and lends it.
 ///
 /// Contracts see what is left: the merge of what is left of each run, each entry with its run's
-/// place and with its file's number, and the files that are not yet read to their ends.
+/// depth and with its file's number, and the files that are not yet read to their ends.
 #[derive(Drop)]
 pub struct Merger<N: Naming, S: Shelf> {
     tree: Option<Tree<Run<N, S>>>,
@@ -85,21 +85,21 @@ impl<N: Naming, S: Shelf> Merger<N, S> {
         }
     }
 
-    /// The place of the run from which the entry comes at which it stands; 0 where it stands at
+    /// The depth of the run from which the entry comes at which it stands; 0 where it stands at
     /// none.
-    pub fn place(&self) -> u64
-        ensures { result ≡ place_in (first_of self.now.placed) }
+    pub fn depth(&self) -> u64
+        ensures { result ≡ source_in (first_of self.now.placed) }
     {
         match &self.tree {
             None => 0,
-            Some(tree) => head(tree).place(),
+            Some(tree) => head(tree).depth(),
         }
     }
 
     /// The number of the file in which the entry stands at which it stands; 0 where it stands at
     /// none.
     pub fn number(&self) -> u64
-        ensures exact { result ≡ place_in (first_of self.now.numbered) }
+        ensures exact { result ≡ source_in (first_of self.now.numbered) }
         ensures listed { no_more self.now.placed ≡ false → IsOfFirst self.now result }
     {
         match &self.tree {
@@ -121,12 +121,11 @@ impl<N: Naming, S: Shelf> Merger<N, S> {
     /// Goes on to the next entry, or to the end, and tells how many bytes of its user key are known
     /// to be those of the user key before it. An `Err` leaves it, and names a file of the run from
     /// which the entry comes at which it stands.
-    pub fn advance_by<B: Blocks<S>>(
+    pub fn advance_by<B: Blocks<N, S>>(
         &mut self,
         blocks: &mut B,
         alloc: Global,
     ) -> Result<usize, FileFault>
-        requires here { (B.told blocks.old).place ≡ N.place }
         ensures ok { S.honest → OnOk result (self.new.placed ≡ after_first self.old.placed) }
         ensures numbered { S.honest
             → OnOk result (self.new.numbered ≡ after_first self.old.numbered) }

@@ -11,7 +11,7 @@ ghost use Rattle.lsm_table.specs.Registry.{image_of};
 ghost use Rattle.lsm_table.specs.ReadFault.{ReadCounted, IsMemoryOrShelf};
 ghost use Rattle.lsm_table.specs.Told.{Becomes};
 ghost use Rattle.lsm_levels.specs.Merging.{placed_at};
-ghost use Rattle.lsm_merger.specs.Heads.{after_first, first_of, key_in, no_more, place_in, user_in};
+ghost use Rattle.lsm_merger.specs.Heads.{after_first, first_of, key_in, no_more, source_in, user_in};
 ghost use Rattle.lsm_merger.specs.Heads.{value_in};
 ghost use Rattle.lsm_merger.specs.Runs.{AreAlike, HasEntries, IsFirstOf, IsOfFirst, ReadsNoOther};
 ghost use Rattle.lsm_merger.specs.Runs.{entries_of_all, files_at, numbered_all};
@@ -19,7 +19,7 @@ ghost use Rattle.lsm_merger.specs.Runs.{entries_of_all, files_at, numbered_all};
 use crate::file_fault::FileFault;
 use lsm_codec::KeyRef;
 use lsm_reader::{Blocks, TableStream};
-use lsm_table::{Naming, ReadFault, Registry, Shelf, Slip, TableFault, TableRef};
+use lsm_table::{Naming, ReadFault, Registry, Shelf, TableFault, TableReceipt, TableRef};
 use std::alloc::{AllocError, Global};
 use std::collections::VecDeque;
 use std::marker::Model;
@@ -28,13 +28,13 @@ use std::marker::Model;
 /// a level from 1 on, or one table. Each is opened when it is reached, and it holds the index block
 /// and one data block of the table at which it stands.
 ///
-/// Contracts see it as what is left: the entries with its place, the one at which it stands first,
+/// Contracts see it as what is left: the entries with its depth, the one at which it stands first,
 /// the same entries with the numbers of their files, and the files that are not yet read to their
 /// ends.
 #[derive(Drop)]
 pub struct Run<N: Naming, S: Shelf> {
     // Given to each of its entries.
-    place: u64,
+    depth: u64,
     // Of the file of the table at which it stands.
     number: u64,
     here: TableStream<N, S>,
@@ -48,7 +48,7 @@ impl<N: Naming, S: Shelf> Model for Run<N, S> {
 
     ghost Value = { Left };
 
-    ghost view = { λ r. run_left r.place r.number r.here (map S.Receipt.number r.later.items)
+    ghost view = { λ r. run_left r.depth r.number r.here (map S.Receipt.number r.later.items)
         (map S.Receipt.image r.later.items) };
 
     ghost invariant = { λ r. IsLastAtEnd r.here (map S.Receipt.image r.later.items)
@@ -57,12 +57,11 @@ impl<N: Naming, S: Shelf> Model for Run<N, S> {
 }
 
 /// Opens the table of a receipt, which has an entry: a table without entries is `BadIndex`.
-fn open_some_by<N: Naming, S: Shelf, B: Blocks<S>>(
+fn open_some_by<N: Naming, S: Shelf, B: Blocks<N, S>>(
     blocks: &mut B,
     alloc: Global,
     receipt: S::Receipt,
 ) -> Result<TableStream<N, S>, ReadFault>
-    requires here { (B.told blocks.old).place ≡ N.place }
     requires named { S.is_of N.place receipt }
     requires table { S.honest → HasEntries (S.Receipt.image receipt) }
     ensures some { IfOk result (λ t. is_end t ≡ false) }
@@ -72,10 +71,7 @@ fn open_some_by<N: Naming, S: Shelf, B: Blocks<S>>(
     ensures loan { B.loan blocks.new ≡ B.loan blocks.old }
     ensures cause { IfErr result (λ e. ReadCounted e (B.told blocks.old) (B.told blocks.new)) }
 {
-    let stream = match TableStream::open_by(blocks, alloc, receipt) {
-        Ok(stream) => stream,
-        Err(fault) => return Err(fault),
-    };
+    let stream = TableStream::open_by(blocks, alloc, receipt)?;
     if stream.is_at_end() {
         return Err(ReadFault::Table(TableFault::BadIndex));
     }
@@ -83,12 +79,11 @@ fn open_some_by<N: Naming, S: Shelf, B: Blocks<S>>(
 }
 
 /// Opens the first of these tables, if there is one.
-fn open_next_by<N: Naming, S: Shelf, B: Blocks<S>>(
+fn open_next_by<N: Naming, S: Shelf, B: Blocks<N, S>>(
     blocks: &mut B,
     alloc: Global,
     later: &VecDeque<S::Receipt>,
 ) -> Result<Option<TableStream<N, S>>, FileFault>
-    requires here { (B.told blocks.old).place ≡ N.place }
     requires named { All (S.is_of N.place) later.now.items }
     requires tables { S.honest → All HasEntries (map S.Receipt.image later.now.items) }
     ensures some { IfOk result (λ o. MatchOption o (later.now.items ≡ []) (λ t.
@@ -114,7 +109,7 @@ fn open_next_by<N: Naming, S: Shelf, B: Blocks<S>>(
 }
 
 /// What stands for these tables.
-fn copies_of<N: Naming, S: Shelf, B: Blocks<S>>(
+fn copies_of<N: Naming, S: Shelf, B: Blocks<N, S>>(
     blocks: &B,
     alloc: Global,
     registry: &Registry<N, S>,
@@ -134,21 +129,20 @@ fn copies_of<N: Naming, S: Shelf, B: Blocks<S>>(
 }
 
 impl<N: Naming, S: Shelf> Run<N, S> {
-    /// At the first entry of the first table. The entries get this depth as their place.
-    pub fn open_by<B: Blocks<S>>(
+    /// At the first entry of the first table. The entries get this depth.
+    pub fn open_by<B: Blocks<N, S>>(
         blocks: &mut B,
         alloc: Global,
-        place: u64,
+        depth: u64,
         first: S::Receipt,
         later: VecDeque<S::Receipt>,
     ) -> Result<Run<N, S>, FileFault>
-        requires here { (B.told blocks.old).place ≡ N.place }
         requires named { All (S.is_of N.place) (first ∷ later.items) }
         requires tables { S.honest → All HasEntries (map S.Receipt.image (first ∷ later.items)) }
         ensures entries { S.honest → IfOk result (λ r. r.placed
-            ≡ placed_at place (entries_of_all (map S.Receipt.image (first ∷ later.items)))) }
+            ≡ placed_at depth (entries_of_all (map S.Receipt.image (first ∷ later.items)))) }
         ensures files { IfOk result (λ r.
-            r.files ≡ files_at place (map S.Receipt.number (first ∷ later.items))) }
+            r.files ≡ files_at depth (map S.Receipt.number (first ∷ later.items))) }
         ensures numbered { S.honest → IfOk result (λ r. r.numbered ≡ numbered_all (map
             S.Receipt.number (first ∷ later.items)) (map S.Receipt.image (first ∷ later.items))) }
         ensures sound { S.honest → IfErr result (λ e. IsMemoryOrShelf e.fault) }
@@ -161,7 +155,7 @@ impl<N: Naming, S: Shelf> Run<N, S> {
         let number = first.number();
         match open_some_by(blocks, alloc, first) {
             Ok(here) => Ok(Run {
-                place,
+                depth,
                 number,
                 here,
                 later,
@@ -171,20 +165,19 @@ impl<N: Naming, S: Shelf> Run<N, S> {
     }
 
     /// At the first entry of the first of these tables, each of which stands for its record.
-    pub fn over_by<B: Blocks<S>>(
+    pub fn over_by<B: Blocks<N, S>>(
         blocks: &mut B,
         alloc: Global,
-        place: u64,
+        depth: u64,
         registry: &Registry<N, S>,
         tables: &[TableRef<N, S>],
     ) -> Result<Run<N, S>, FileFault>
-        requires here { (B.told blocks.old).place ≡ N.place }
         requires some { 0 < length tables.now }
         requires tables { S.honest → All HasEntries (map image_of tables.now) }
         ensures entries { S.honest → IfOk result (λ r.
-            r.placed ≡ placed_at place (entries_of_all (map image_of tables.now))) }
+            r.placed ≡ placed_at depth (entries_of_all (map image_of tables.now))) }
         ensures files { IfOk result (λ r.
-            r.files ≡ files_at place (map (λ t. t.number) tables.now)) }
+            r.files ≡ files_at depth (map (λ t. t.number) tables.now)) }
         ensures numbered { S.honest → IfOk result (λ r.
             r.numbered ≡ numbered_all (map (λ t. t.number) tables.now) (map image_of tables.now)) }
         ensures sound { S.honest → IfErr result (λ e. IsMemoryOrShelf e.fault) }
@@ -208,10 +201,10 @@ impl<N: Naming, S: Shelf> Run<N, S> {
                 });
             }
         };
-        Run::open_by(blocks, alloc, place, first, later)
+        Run::open_by(blocks, alloc, depth, first, later)
     }
 
-    /// By places and by numbers its first entry has one key.
+    /// By depths and by numbers its first entry has one key.
     pub(crate) fn one_key(&self)
         ensures { AreAlike self.now }
     {
@@ -234,17 +227,17 @@ impl<N: Naming, S: Shelf> Run<N, S> {
         self.here.value()
     }
 
-    /// The place that its entries get; 0 where it stands at none.
-    pub fn place(&self) -> u64
-        ensures { result ≡ place_in (first_of self.now.placed) }
+    /// The depth that its entries get; 0 where it stands at none.
+    pub fn depth(&self) -> u64
+        ensures { result ≡ source_in (first_of self.now.placed) }
     {
-        if self.here.is_at_end() { 0 } else { self.place }
+        if self.here.is_at_end() { 0 } else { self.depth }
     }
 
     /// The number of the file in which the entry stands at which it stands; 0 where it stands at
     /// none.
     pub fn number(&self) -> u64
-        ensures exact { result ≡ place_in (first_of self.now.numbered) }
+        ensures exact { result ≡ source_in (first_of self.now.numbered) }
         ensures listed { no_more self.now.placed ≡ false → IsOfFirst self.now result }
     {
         if self.here.is_at_end() {
@@ -264,12 +257,11 @@ impl<N: Naming, S: Shelf> Run<N, S> {
     /// Goes on to the next entry, or to the end, and tells how many bytes of its user key are known
     /// to be those of the user key before it. The next table is opened before it lets go of the
     /// last entry of the one before, so an `Err` leaves it.
-    pub fn advance_by<B: Blocks<S>>(
+    pub fn advance_by<B: Blocks<N, S>>(
         &mut self,
         blocks: &mut B,
         alloc: Global,
     ) -> Result<usize, FileFault>
-        requires here { (B.told blocks.old).place ≡ N.place }
         ensures ok { S.honest → OnOk result (self.new.placed ≡ after_first self.old.placed) }
         ensures numbered { S.honest
             → OnOk result (self.new.numbered ≡ after_first self.old.numbered) }
@@ -297,17 +289,13 @@ impl<N: Naming, S: Shelf> Run<N, S> {
                 });
             }
         }
-        match open_next_by(blocks, alloc, &self.later) {
-            Ok(None) => {}
-            Ok(Some(here)) => {
-                let Some(receipt) = self.later.pop_front() else {
-                    unreachable!()
-                };
-                self.number = receipt.number();
-                self.here = here;
-                return Ok(0);
-            }
-            Err(fault) => return Err(fault),
+        if let Some(here) = open_next_by(blocks, alloc, &self.later)? {
+            let Some(receipt) = self.later.pop_front() else {
+                unreachable!()
+            };
+            self.number = receipt.number();
+            self.here = here;
+            return Ok(0);
         }
         match self.here.advance_by(blocks, alloc) {
             Ok(()) => Ok(0),

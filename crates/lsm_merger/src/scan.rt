@@ -14,7 +14,7 @@ use crate::pair::Pair;
 use crate::walk::{FirstKey, Walk};
 use lsm_codec::Kind;
 use lsm_reader::{Blocks, Direct};
-use lsm_table::{Naming, ReadFault, Shelf, TableFault};
+use lsm_table::{NamedShelf, Naming, ReadFault, Shelf, TableFault};
 use std::alloc::{AllocError, Global};
 use std::marker::Model;
 
@@ -66,12 +66,11 @@ impl<N: Naming, S: Shelf> Scan<N, S> {
 
     /// Goes on to the next pair, which it then lends. Where none is left it stands at none, and the
     /// answer is false. An `Err` leaves what is left to show.
-    pub fn step_by<B: Blocks<S>>(
+    pub fn step_by<B: Blocks<N, S>>(
         &mut self,
         blocks: &mut B,
         alloc: Global,
     ) -> Result<bool, ReadFault>
-        requires here { (B.told blocks.old).place ≡ N.place }
         ensures ok { S.honest → IfOk result (λ m. ShowsNext m self.old self.new) }
         ensures err { S.honest → OnErr result (self.new.left ≡ self.old.left) }
         ensures sound { S.honest → IfErr result IsMemoryOrShelf }
@@ -84,12 +83,11 @@ impl<N: Naming, S: Shelf> Scan<N, S> {
 
     /// A copy of the next pair, at which it then stands, or none at the end. An `Err` leaves what
     /// is left to show.
-    pub fn next_by<B: Blocks<S>>(
+    pub fn next_by<B: Blocks<N, S>>(
         &mut self,
         blocks: &mut B,
         alloc: Global,
     ) -> Result<Option<Pair>, ReadFault>
-        requires here { (B.told blocks.old).place ≡ N.place }
         ensures ok { S.honest → IfOk result (λ r. ShowsPair r self.old.left self.new.left) }
         ensures stands { S.honest → IfOk result (λ r. self.new.here ≡ r) }
         ensures err { S.honest → OnErr result (self.new.left ≡ self.old.left) }
@@ -102,14 +100,17 @@ impl<N: Naming, S: Shelf> Scan<N, S> {
     }
 
     /// The same by the shelf itself.
-    pub fn next(&mut self, shelf: &mut S, alloc: Global) -> Result<Option<Pair>, ReadFault>
-        requires here { (S.told shelf.old).place ≡ N.place }
+    pub fn next(
+        &mut self,
+        shelf: &mut NamedShelf<N, S>,
+        alloc: Global,
+    ) -> Result<Option<Pair>, ReadFault>
         ensures ok { S.honest → IfOk result (λ r. ShowsPair r self.old.left self.new.left) }
         ensures stands { S.honest → IfOk result (λ r. self.new.here ≡ r) }
         ensures err { S.honest → OnErr result (self.new.left ≡ self.old.left) }
         ensures sound { S.honest → IfErr result IsMemoryOrShelf }
-        ensures told { Becomes (S.told shelf.old) (S.told shelf.new) }
-        ensures cause { IfErr result (λ e. ReadCounted e (S.told shelf.old) (S.told shelf.new)) }
+        ensures told { Becomes shelf.old shelf.new }
+        ensures cause { IfErr result (λ e. ReadCounted e shelf.old shelf.new) }
     {
         let mut direct = Direct::new(shelf);
         self.next_by(&mut direct, alloc)
@@ -127,13 +128,12 @@ fn is_passed(key: FirstKey, seq: u64) -> bool
 /// Goes past the entries for which nothing is shown, and tells the kind of the one at which the
 /// merge then stands, if it stands at one.
 #[tactic(auto, using(crate::proofs::ShownLaws::head_passed, crate::proofs::ShownLaws::told_none, crate::proofs::ShownLaws::kind_told, crate::proofs::ShownLaws::skipped))]
-fn skip_by<N: Naming, S: Shelf, B: Blocks<S>>(
+fn skip_by<N: Naming, S: Shelf, B: Blocks<N, S>>(
     walk: &mut Walk<N, S>,
     seq: u64,
     blocks: &mut B,
     alloc: Global,
 ) -> Result<Option<Kind>, ReadFault>
-    requires here { (B.told blocks.old).place ≡ N.place }
     ensures ok { OnOk result (is_head_passed seq walk.new.passed (entries_of walk.new.left.placed)
         ≡ false) }
     ensures kind { IfOk result (λ k. k ≡ kind_in (first_of walk.new.left.placed)) }
@@ -152,10 +152,7 @@ fn skip_by<N: Naming, S: Shelf, B: Blocks<S>>(
         if !is_passed(key, seq) {
             return Ok(Some(key.kind));
         }
-        match walk.advance_by(blocks, alloc) {
-            Ok(()) => {}
-            Err(fault) => return Err(fault.fault),
-        }
+        walk.advance_by(blocks, alloc)?;
     }
     // Only a shelf that is not honest could give so many.
     Err(ReadFault::Table(TableFault::OutOfMemory))
@@ -165,14 +162,13 @@ fn skip_by<N: Naming, S: Shelf, B: Blocks<S>>(
 /// done, and tells its kind. The user key of that one is remembered before the step: what is left
 /// to show does not go by it while that one is done, so a step that fails loses nothing.
 #[tactic(auto, using(crate::proofs::ShownLaws::passed, crate::proofs::ShownLaws::same_done))]
-fn turn_by<N: Naming, S: Shelf, B: Blocks<S>>(
+fn turn_by<N: Naming, S: Shelf, B: Blocks<N, S>>(
     walk: &mut Walk<N, S>,
     is_done: &mut bool,
     seq: u64,
     blocks: &mut B,
     alloc: Global,
 ) -> Result<Option<Kind>, ReadFault>
-    requires here { (B.told blocks.old).place ≡ N.place }
     ensures fresh { OnOk result ((is_done.new ≡ false)
         × (is_head_passed seq walk.new.passed (entries_of walk.new.left.placed) ≡ false)) }
     ensures kind { IfOk result (λ k. k ≡ kind_in (first_of walk.new.left.placed)) }
@@ -184,10 +180,7 @@ fn turn_by<N: Naming, S: Shelf, B: Blocks<S>>(
     ensures cause { IfErr result (λ e. ReadCounted e (B.told blocks.old) (B.told blocks.new)) }
 {
     if *is_done {
-        match walk.pass_by(blocks, alloc) {
-            Ok(()) => {}
-            Err(fault) => return Err(fault.fault),
-        }
+        walk.pass_by(blocks, alloc)?;
         *is_done = false;
     }
     skip_by(walk, seq, blocks, alloc)
@@ -195,14 +188,13 @@ fn turn_by<N: Naming, S: Shelf, B: Blocks<S>>(
 
 /// Goes on to the next entry that is shown. Before it was done, what was left to show is the same.
 #[tactic(auto, using(crate::proofs::ShownLaws::shows_value, crate::proofs::ShownLaws::shows_end, crate::proofs::ShownLaws::shows_deletion))]
-fn shown_by<N: Naming, S: Shelf, B: Blocks<S>>(
+fn shown_by<N: Naming, S: Shelf, B: Blocks<N, S>>(
     walk: &mut Walk<N, S>,
     is_done: &mut bool,
     seq: u64,
     blocks: &mut B,
     alloc: Global,
 ) -> Result<bool, ReadFault>
-    requires here { (B.told blocks.old).place ≡ N.place }
     ensures ok { S.honest
         → IfOk result (λ m. ShowsNext m (showing_of seq walk.old.passed is_done.old
         walk.old.left.placed) (showing_of seq walk.new.passed is_done.new walk.new.left.placed)) }
@@ -216,10 +208,8 @@ fn shown_by<N: Naming, S: Shelf, B: Blocks<S>>(
     ensures cause { IfErr result (λ e. ReadCounted e (B.told blocks.old) (B.told blocks.new)) }
 {
     for _ in 0..u64::MAX {
-        let kind = match turn_by(walk, is_done, seq, blocks, alloc) {
-            Ok(Some(kind)) => kind,
-            Ok(None) => return Ok(false),
-            Err(fault) => return Err(fault),
+        let Some(kind) = turn_by(walk, is_done, seq, blocks, alloc)? else {
+            return Ok(false);
         };
         *is_done = true;
         match kind {
@@ -260,14 +250,13 @@ fn value_at<N: Naming, S: Shelf>(walk: &Walk<N, S>, is_done: bool) -> &[u8]
 }
 
 /// A copy of the next pair that is shown, or none at the end.
-fn pair_by<N: Naming, S: Shelf, B: Blocks<S>>(
+fn pair_by<N: Naming, S: Shelf, B: Blocks<N, S>>(
     walk: &mut Walk<N, S>,
     is_done: &mut bool,
     seq: u64,
     blocks: &mut B,
     alloc: Global,
 ) -> Result<Option<Pair>, ReadFault>
-    requires here { (B.told blocks.old).place ≡ N.place }
     ensures ok { S.honest
         → IfOk result (λ r. ShowsPair r (left_to_show seq walk.old.passed is_done.old
         walk.old.left.placed) (left_to_show seq walk.new.passed is_done.new walk.new.left.placed)) }
@@ -279,10 +268,8 @@ fn pair_by<N: Naming, S: Shelf, B: Blocks<S>>(
     ensures loan { B.loan blocks.new ≡ B.loan blocks.old }
     ensures cause { IfErr result (λ e. ReadCounted e (B.told blocks.old) (B.told blocks.new)) }
 {
-    match shown_by(walk, is_done, seq, blocks, alloc) {
-        Ok(true) => {}
-        Ok(false) => return Ok(None),
-        Err(fault) => return Err(fault),
+    if !shown_by(walk, is_done, seq, blocks, alloc)? {
+        return Ok(None);
     }
     match Pair::of(alloc, user_at(&*walk, *is_done), value_at(&*walk, *is_done)) {
         Ok(pair) => Ok(Some(pair)),

@@ -93,13 +93,12 @@ fn settle<N: Naming, S: Shelf>(tree: &mut Tree<Run<N, S>>, known: usize) -> bool
 /// had stands to that tree as the one before it did, so nothing is compared. An `Err` leaves what
 /// is left.
 #[tactic(auto, using(crate::proofs::TreeLaws::fault_first, crate::proofs::TreeLaws::fault_second, crate::proofs::TreeLaws::none_other_first, crate::proofs::TreeLaws::none_other_second, crate::proofs::TreeLaws::step_left, crate::proofs::TreeLaws::step_right))]
-pub(crate) fn advance_by<N: Naming, S: Shelf, B: Blocks<S>>(
+pub(crate) fn advance_by<N: Naming, S: Shelf, B: Blocks<N, S>>(
     tree: &mut Tree<Run<N, S>>,
     blocks: &mut B,
     alloc: Global,
 ) -> Result<usize, FileFault>
     requires ready { IsReady tree.old }
-    requires here { (B.told blocks.old).place ≡ N.place }
     ensures ready { IsReady tree.new }
     ensures ok { S.honest
         → OnOk result ((left_of tree.new).placed ≡ after_first (left_of tree.old).placed) }
@@ -124,20 +123,14 @@ pub(crate) fn advance_by<N: Naming, S: Shelf, B: Blocks<S>>(
         Tree::Fork(led, front, first, second) => {
             let between = *front;
             if *led {
-                let moved = match advance_by(first, blocks, alloc) {
-                    Ok(moved) => moved,
-                    Err(fault) => return Err(fault),
-                };
+                let moved = advance_by(first, blocks, alloc)?;
                 if moved > between {
                     return Ok(moved);
                 }
                 let leads = settle(tree, moved);
                 return Ok(if leads { moved } else { between });
             }
-            let moved = match advance_by(second, blocks, alloc) {
-                Ok(moved) => moved,
-                Err(fault) => return Err(fault),
-            };
+            let moved = advance_by(second, blocks, alloc)?;
             if moved > between {
                 return Ok(moved);
             }

@@ -6,7 +6,7 @@ ghost use Rattle.std.specs.Option.{option_map};
 ghost use Rattle.lsm_codec.specs.KeyRef.{key_of};
 ghost use Rattle.lsm_table.specs.ReadFault.{ReadCounted, IsMemoryOrShelf};
 ghost use Rattle.lsm_table.specs.Told.{Becomes};
-ghost use Rattle.lsm_merger.specs.Heads.{after_first, first_of, key_in, no_more, place_in};
+ghost use Rattle.lsm_merger.specs.Heads.{after_first, first_of, key_in, no_more, source_in};
 ghost use Rattle.lsm_merger.specs.Heads.{value_in};
 ghost use Rattle.lsm_merger.specs.Runs.{IsOfFirst, ReadsNoOther};
 ghost use Rattle.lsm_merger.specs.Walks.{passed_by, told_first};
@@ -103,16 +103,16 @@ impl<N: Naming, S: Shelf> Walk<N, S> {
         self.merger.value()
     }
 
-    /// The place of its run; 0 where there is none.
-    pub fn place(&self) -> u64
-        ensures { result ≡ place_in (first_of self.now.left.placed) }
+    /// The depth of its run; 0 where there is none.
+    pub fn depth(&self) -> u64
+        ensures { result ≡ source_in (first_of self.now.left.placed) }
     {
-        self.merger.place()
+        self.merger.depth()
     }
 
     /// The number of its file; 0 where there is none.
     pub fn number(&self) -> u64
-        ensures exact { result ≡ place_in (first_of self.now.left.numbered) }
+        ensures exact { result ≡ source_in (first_of self.now.left.numbered) }
         ensures listed { no_more self.now.left.placed ≡ false → IsOfFirst self.now.left result }
     {
         self.merger.number()
@@ -170,12 +170,11 @@ impl<N: Naming, S: Shelf> Walk<N, S> {
 
     /// Goes on to the next entry, or to the end; what is remembered stays. An `Err` leaves it, and
     /// names a file of the run from which the entry comes at which the merge stands.
-    pub fn advance_by<B: Blocks<S>>(
+    pub fn advance_by<B: Blocks<N, S>>(
         &mut self,
         blocks: &mut B,
         alloc: Global,
     ) -> Result<(), FileFault>
-        requires here { (B.told blocks.old).place ≡ N.place }
         ensures ok { S.honest
             → OnOk result (self.new.left.placed ≡ after_first self.old.left.placed) }
         ensures numbered { S.honest
@@ -190,20 +189,19 @@ impl<N: Naming, S: Shelf> Walk<N, S> {
         ensures cause { IfErr result (λ e.
             ReadCounted e.fault (B.told blocks.old) (B.told blocks.new)) }
     {
-        match self.merger.advance_by(blocks, alloc) {
-            Ok(shared) => {
-                self.front = self.front.min(shared);
-                Ok(())
-            }
-            Err(fault) => Err(fault),
-        }
+        let shared = self.merger.advance_by(blocks, alloc)?;
+        self.front = self.front.min(shared);
+        Ok(())
     }
 
     /// Remembers the user key at which the merge stands, and goes on to the next entry, or to the
     /// end. An `Err` leaves what is left, and names a file of the run from which the entry comes at
     /// which the merge stands.
-    pub fn pass_by<B: Blocks<S>>(&mut self, blocks: &mut B, alloc: Global) -> Result<(), FileFault>
-        requires here { (B.told blocks.old).place ≡ N.place }
+    pub fn pass_by<B: Blocks<N, S>>(
+        &mut self,
+        blocks: &mut B,
+        alloc: Global,
+    ) -> Result<(), FileFault>
         ensures ok { S.honest
             → OnOk result (self.new.left.placed ≡ after_first self.old.left.placed) }
         ensures numbered { S.honest

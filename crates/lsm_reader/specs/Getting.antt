@@ -20,7 +20,7 @@ or_later (e ∷ es) later = Ok (e ∷ es)
 
 -- the entries of the block that an index entry's value names, which has to have some
 abbrev pub entered_there : List ℕ → List ℕ → Result (List Entry) TableFault
-entered_there body place = block_named body place >>= λ es. or_later es (Err BadIndex)
+entered_there body spelled = block_named body spelled >>= λ es. or_later es (Err BadIndex)
 
 -- those of the first block that index entries name; none where they name none
 abbrev pub first_entered : List ℕ → List Entry → Result (List Entry) TableFault

@@ -1,3 +1,4 @@
 pub mod Blocks
 pub mod Getting
 pub mod Stepping
+pub mod Parts

@@ -8,7 +8,7 @@ ghost use Rattle.lsm_table.specs.ReadFault.{ReadCounted};
 ghost use Rattle.lsm_shelf.specs.Told.{Becomes};
 
 use lsm_block::Block;
-use lsm_table::{ReadFault, Shelf};
+use lsm_table::{Naming, ReadFault, Shelf};
 use std::alloc::Global;
 use std::sync::Arc;
 
@@ -17,7 +17,7 @@ use std::sync::Arc;
 ///
 /// Contracts see it as they see the shelf (`told`), and by the name of the borrow through which it
 /// reads (`loan`), so that a caller who lent a shelf knows what became of it.
-pub trait Blocks<S: Shelf> {
+pub trait Blocks<N: Naming, S: Shelf> {
     ghost use Rattle.lsm_shelf.specs.Told.{Told};
     ghost use base.Fml.{GName};
 
@@ -30,7 +30,7 @@ pub trait Blocks<S: Shelf> {
     /// The last 48 bytes of an image. `ShortFile` where it has fewer, else the shelf's `Device` and
     /// `Missing`.
     fn footer(&mut self, alloc: Global, receipt: &S::Receipt) -> Result<[u8; 48], ReadFault>
-        requires here { S.is_of (told self.old).place receipt.now }
+        requires here { S.is_of N.place receipt.now }
         ensures exact { S.honest → Reads (λ f. f) result (last_part (S.Receipt.image receipt.now)) }
         ensures told { Becomes (told self.old) (told self.new) }
         ensures loan { loan self.new ≡ loan self.old }
@@ -48,7 +48,7 @@ pub trait Blocks<S: Shelf> {
         offset: u64,
         size: u64,
     ) -> Result<Arc<Block>, ReadFault>
-        requires here { S.is_of (told self.old).place receipt.now }
+        requires here { S.is_of N.place receipt.now }
         ensures exact { S.honest → Reads (λ b. (arc_value {X = HeldBlock} b).entries) result
             (stored_block (S.Receipt.image receipt.now) record { offset = offset; size = size }) }
         ensures told { Becomes (told self.old) (told self.new) }

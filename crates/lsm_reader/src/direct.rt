@@ -5,27 +5,29 @@ ghost use Rattle.std.specs.Prelude.{◌≡◌};
 use crate::blocks::Blocks;
 use crate::judging::{footer_from, is_inside, judge};
 use lsm_block::Block;
-use lsm_table::{FOOTER, Handle, ReadFault, Shelf, Slip, TRAILER, TableFault};
+use lsm_table::{
+    FOOTER, Handle, NamedShelf, Naming, ReadFault, Shelf, TRAILER, TableFault, TableReceipt,
+};
 use std::alloc::Global;
 use std::sync::Arc;
 
 /// Gives blocks by the shelf itself, which it borrows: each is read and judged anew.
 #[derive(Drop)]
-pub struct Direct<'a, S: Shelf> {
-    shelf: &'a mut S,
+pub struct Direct<'a, N: Naming, S: Shelf> {
+    shelf: &'a mut NamedShelf<N, S>,
 }
 
-impl<'a, S: Shelf> Direct<'a, S> {
+impl<'a, N: Naming, S: Shelf> Direct<'a, N, S> {
     /// What gives the blocks of this shelf.
-    pub fn new(shelf: &'a mut S) -> Direct<'a, S>
+    pub fn new(shelf: &'a mut NamedShelf<N, S>) -> Direct<'a, N, S>
         ensures { result.shelf ≡ shelf.entry }
     {
         Direct { shelf }
     }
 }
 
-impl<'a, S: Shelf> Blocks<S> for Direct<'a, S> {
-    ghost told = { λ d. S.told d.shelf.now };
+impl<'a, N: Naming, S: Shelf> Blocks<N, S> for Direct<'a, N, S> {
+    ghost told = { λ d. d.shelf.now };
 
     ghost loan = { λ d. d.shelf.ghost_name };
 
@@ -34,13 +36,11 @@ impl<'a, S: Shelf> Blocks<S> for Direct<'a, S> {
         if size < FOOTER as u64 {
             return Err(ReadFault::Table(TableFault::ShortFile));
         }
-        let bytes = self
+        let named = &mut *self.shelf;
+        let bytes = named
             .shelf
             .read_at(alloc, receipt, size - FOOTER as u64, FOOTER)?;
-        match footer_from(bytes) {
-            Ok(footer) => Ok(footer),
-            Err(fault) => Err(ReadFault::Table(fault)),
-        }
+        Ok(footer_from(bytes)?)
     }
 
     fn block(
@@ -54,16 +54,15 @@ impl<'a, S: Shelf> Blocks<S> for Direct<'a, S> {
         if !is_inside(handle, receipt.size()) {
             return Err(ReadFault::Table(TableFault::BadHandle));
         }
-        let text = self
+        let named = &mut *self.shelf;
+        let text = named
             .shelf
             .read_at(alloc, receipt, offset, size as usize + TRAILER)?;
-        match judge(alloc, handle, text) {
-            Ok(block) => Ok(block),
-            Err(fault) => Err(ReadFault::Table(fault)),
-        }
+        Ok(judge(alloc, handle, text)?)
     }
 
     fn copy_receipt(&self, receipt: &S::Receipt) -> S::Receipt {
-        self.shelf.copy_receipt(receipt)
+        let named = &*self.shelf;
+        named.shelf.copy_receipt(receipt)
     }
 }

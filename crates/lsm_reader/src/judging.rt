@@ -51,10 +51,7 @@ fn take_contents(handle: Handle, text: Vec<u8>) -> Result<Vec<u8>, TableFault>
     if size as u64 != handle.size {
         return Err(TableFault::BadChecksum(handle.offset));
     }
-    match unseal(handle.offset, size, &text) {
-        Ok(_contents) => {}
-        Err(fault) => return Err(fault),
-    }
+    unseal(handle.offset, size, &text)?;
     text.truncate(size);
     Ok(text)
 }
@@ -64,10 +61,8 @@ fn share(alloc: Global, contents: Vec<u8>) -> Result<Arc<Block>, TableFault>
     ensures { Gives (λ b.
         (arc_value {X = HeldBlock} b).entries) result (block_or (block_at contents.items)) }
 {
-    match Block::check(alloc, contents) {
-        Ok(block) => Ok(Arc::new(alloc, block)?),
-        Err(fault) => Err(TableFault::from(fault)),
-    }
+    let block = Block::check(alloc, contents)?;
+    Ok(Arc::new(alloc, block)?)
 }
 
 /// The block that a text is which was read for a place: its contents with their trailer, whose
@@ -77,9 +72,6 @@ pub fn judge(alloc: Global, handle: Handle, text: Vec<u8>) -> Result<Arc<Block>,
     ensures { length text.items ≡ handle.size + 5
         → Gives (λ b. (arc_value {X = HeldBlock} b).entries) result (block_of handle text.items) }
 {
-    let contents = match take_contents(handle, text) {
-        Ok(contents) => contents,
-        Err(fault) => return Err(fault),
-    };
+    let contents = take_contents(handle, text)?;
     share(alloc, contents)
 }

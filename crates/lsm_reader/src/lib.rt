@@ -1,10 +1,12 @@
 //! Tables on a shelf, read one block at a time.
 //!
-//! Stands on `lsm_table` for the format of a table, on `lsm_block` for its blocks, and on
-//! `lsm_shelf` for where its image lies. Data flows from `blocks` (what gives a block) through
-//! `opening` and `table_cursor` to `reads`, `open_table`, `table_stream` and `table_reader`. Its
-//! contract: over an honest shelf, what is read is the table's, and each fault is the first one on
-//! the way.
+//! Stands on `lsm_table` for the format of a table, on `lsm_block` for its blocks, on `lsm_shelf`
+//! for where its image lies, and on `lru` for the order in which kept blocks were used. Data flows
+//! from `blocks` (what gives a block: `direct` or `cached`) through `opening` and `table_cursor` to
+//! `reads`, `open_table`, `table_stream` and `table_reader`. Its contract: over an honest shelf,
+//! what is read is the table's, and each fault is the first one on the way. The cache gives what
+//! the shelf itself would give, and takes a block only where the receipt is the one that it was
+//! read by.
 #![tactic(auto)]
 
 // Where blocks come from.
@@ -20,9 +22,23 @@ mod table_cursor;
 mod table_reader;
 mod table_stream;
 
+// A reader's cache: the footers and blocks that were used last.
+mod block_key;
+mod cached;
+mod kept_block;
+mod kept_blocks;
+mod kept_footer;
+mod parts;
+mod recent;
+
+pub use block_key::BlockKey;
 pub use blocks::Blocks;
+pub use cached::Cached;
 pub use direct::Direct;
 pub use judging::{footer_from, is_inside, judge};
+pub use kept_block::KeptBlock;
+pub use kept_blocks::KeptBlocks;
+pub use kept_footer::KeptFooter;
 pub use open_table::OpenTable;
 pub use opening::index_by;
 pub use reads::{get, get_by};

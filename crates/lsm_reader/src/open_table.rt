@@ -18,7 +18,7 @@ use crate::opening::index_by;
 use crate::reads::get_from;
 use crate::table_reader::TableReader;
 use lsm_block::Block;
-use lsm_table::{Found, Naming, ReadFault, Shelf};
+use lsm_table::{Found, NamedShelf, Naming, ReadFault, Shelf};
 use std::alloc::Global;
 use std::marker::{Model, PhantomData};
 use std::sync::Arc;
@@ -49,12 +49,11 @@ impl<N: Naming, S: Shelf> Model for OpenTable<N, S> {
 impl<N: Naming, S: Shelf> OpenTable<N, S> {
     /// Opens the table of a receipt: reads its footer, and then its index block. The fault is the
     /// first one of both.
-    pub fn open_by<B: Blocks<S>>(
+    pub fn open_by<B: Blocks<N, S>>(
         blocks: &mut B,
         alloc: Global,
         receipt: &S::Receipt,
     ) -> Result<OpenTable<N, S>, ReadFault>
-        requires here { (B.told blocks.old).place ≡ N.place }
         requires named { S.is_of N.place receipt.now }
         ensures image { IfOk result (λ t. t ≡ S.Receipt.image receipt.now) }
         // Which fault it is.
@@ -63,10 +62,7 @@ impl<N: Naming, S: Shelf> OpenTable<N, S> {
         ensures loan { B.loan blocks.new ≡ B.loan blocks.old }
         ensures cause { IfErr result (λ e. ReadCounted e (B.told blocks.old) (B.told blocks.new)) }
     {
-        let index = match index_by(blocks, alloc, receipt) {
-            Ok(index) => index,
-            Err(fault) => return Err(fault),
-        };
+        let index = index_by(blocks, alloc, receipt)?;
         Ok(OpenTable {
             receipt: blocks.copy_receipt(receipt),
             index,
@@ -76,16 +72,15 @@ impl<N: Naming, S: Shelf> OpenTable<N, S> {
 
     /// The same by the shelf itself: two reads.
     pub fn open(
-        shelf: &mut S,
+        shelf: &mut NamedShelf<N, S>,
         alloc: Global,
         receipt: &S::Receipt,
     ) -> Result<OpenTable<N, S>, ReadFault>
-        requires here { (S.told shelf.old).place ≡ N.place }
         requires named { S.is_of N.place receipt.now }
         ensures image { IfOk result (λ t. t ≡ S.Receipt.image receipt.now) }
         ensures exact { S.honest → Opens result (opening_at (S.Receipt.image receipt.now)) }
-        ensures told { Becomes (S.told shelf.old) (S.told shelf.new) }
-        ensures cause { IfErr result (λ e. ReadCounted e (S.told shelf.old) (S.told shelf.new)) }
+        ensures told { Becomes shelf.old shelf.new }
+        ensures cause { IfErr result (λ e. ReadCounted e shelf.old shelf.new) }
     {
         let mut direct = Direct::new(shelf);
         OpenTable::open_by(&mut direct, alloc, receipt)
@@ -94,14 +89,13 @@ impl<N: Naming, S: Shelf> OpenTable<N, S> {
     /// What a read of the user key finds at the sequence: the newest entry with a sequence at most
     /// `seq`. It reads the data blocks that may have it, one after another, and judges each; the
     /// fault is that of the first that is none.
-    pub fn get_by<B: Blocks<S>>(
+    pub fn get_by<B: Blocks<N, S>>(
         &self,
         blocks: &mut B,
         alloc: Global,
         user: &[u8],
         seq: u64,
     ) -> Result<Option<Found>, ReadFault>
-        requires here { (B.told blocks.old).place ≡ N.place }
         // Whatever the image is.
         ensures exact { S.honest → Reads seen result (got self.now user.now seq) }
         ensures found { S.honest → (es : List Entry) → IsTable self.now es
@@ -119,19 +113,18 @@ impl<N: Naming, S: Shelf> OpenTable<N, S> {
     /// The same by the shelf itself: at most two reads where the image is a table.
     pub fn get(
         &self,
-        shelf: &mut S,
+        shelf: &mut NamedShelf<N, S>,
         alloc: Global,
         user: &[u8],
         seq: u64,
     ) -> Result<Option<Found>, ReadFault>
-        requires here { (S.told shelf.old).place ≡ N.place }
         ensures exact { S.honest → Reads seen result (got self.now user.now seq) }
         ensures found { S.honest → (es : List Entry) → IsTable self.now es
             → IfOk result (λ f. seen f ≡ found_in (newest user.now seq es)) }
         ensures sound { S.honest → (es : List Entry) → IsTable self.now es
             → IfErr result IsMemoryOrShelf }
-        ensures told { Becomes (S.told shelf.old) (S.told shelf.new) }
-        ensures cause { IfErr result (λ e. ReadCounted e (S.told shelf.old) (S.told shelf.new)) }
+        ensures told { Becomes shelf.old shelf.new }
+        ensures cause { IfErr result (λ e. ReadCounted e shelf.old shelf.new) }
     {
         let mut direct = Direct::new(shelf);
         self.get_by(&mut direct, alloc, user, seq)

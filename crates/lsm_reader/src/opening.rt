@@ -12,52 +12,43 @@ ghost use Rattle.lsm_shelf.specs.Told.{Becomes};
 
 use crate::blocks::Blocks;
 use lsm_block::Block;
-use lsm_table::{Footer, Handle, ReadFault, Shelf, TableFault};
+use lsm_table::{Footer, Handle, Naming, ReadFault, Shelf, TableFault};
 use std::alloc::Global;
 use std::sync::Arc;
 
 /// The index block of the table of a receipt: its footer is judged, and then that block.
-pub fn index_by<S: Shelf, B: Blocks<S>>(
+pub fn index_by<N: Naming, S: Shelf, B: Blocks<N, S>>(
     blocks: &mut B,
     alloc: Global,
     receipt: &S::Receipt,
 ) -> Result<Arc<Block>, ReadFault>
-    requires here { S.is_of (B.told blocks.old).place receipt.now }
+    requires here { S.is_of N.place receipt.now }
     ensures exact { S.honest → Reads (λ b.
         (arc_value {X = HeldBlock} b).entries) result (opening_at (S.Receipt.image receipt.now)) }
     ensures told { Becomes (B.told blocks.old) (B.told blocks.new) }
     ensures loan { B.loan blocks.new ≡ B.loan blocks.old }
     ensures cause { IfErr result (λ e. ReadCounted e (B.told blocks.old) (B.told blocks.new)) }
 {
-    let bytes = match blocks.footer(alloc, receipt) {
-        Ok(bytes) => bytes,
-        Err(fault) => return Err(fault),
-    };
-    let footer = match Footer::of(&bytes) {
-        Ok(footer) => footer,
-        Err(fault) => return Err(ReadFault::Table(fault)),
-    };
+    let bytes = blocks.footer(alloc, receipt)?;
+    let footer = Footer::of(&bytes)?;
     blocks.block(alloc, receipt, footer.index.offset, footer.index.size)
 }
 
 /// The block that the value of an index entry names.
-pub(crate) fn data_block_by<S: Shelf, B: Blocks<S>>(
+pub(crate) fn data_block_by<N: Naming, S: Shelf, B: Blocks<N, S>>(
     blocks: &mut B,
     alloc: Global,
     receipt: &S::Receipt,
-    place: &[u8],
+    spelled: &[u8],
 ) -> Result<Arc<Block>, ReadFault>
-    requires here { S.is_of (B.told blocks.old).place receipt.now }
+    requires here { S.is_of N.place receipt.now }
     ensures exact { S.honest → Reads (λ b. (arc_value {X = HeldBlock} b).entries) result
-        (block_named (body_of (S.Receipt.image receipt.now)) place.now) }
+        (block_named (body_of (S.Receipt.image receipt.now)) spelled.now) }
     ensures told { Becomes (B.told blocks.old) (B.told blocks.new) }
     ensures loan { B.loan blocks.new ≡ B.loan blocks.old }
     ensures cause { IfErr result (λ e. ReadCounted e (B.told blocks.old) (B.told blocks.new)) }
 {
-    let (handle, rest) = match Handle::get(TableFault::BadIndex, place) {
-        Ok(found) => found,
-        Err(fault) => return Err(ReadFault::Table(fault)),
-    };
+    let (handle, rest) = Handle::get(TableFault::BadIndex, spelled)?;
     if !rest.is_empty() {
         return Err(ReadFault::Table(TableFault::BadIndex));
     }

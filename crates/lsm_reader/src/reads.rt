@@ -18,12 +18,12 @@ use crate::direct::Direct;
 use crate::opening::index_by;
 use crate::table_cursor::TableCursor;
 use lsm_block::Block;
-use lsm_table::{Found, ReadFault, Shelf, found_in_entry, key_for};
+use lsm_table::{Found, NamedShelf, Naming, ReadFault, Shelf, found_in_entry, key_for};
 use std::alloc::Global;
 use std::sync::Arc;
 
 /// What a read finds in the table of a receipt, where this is its index block.
-pub(crate) fn get_from<S: Shelf, B: Blocks<S>>(
+pub(crate) fn get_from<N: Naming, S: Shelf, B: Blocks<N, S>>(
     blocks: &mut B,
     alloc: Global,
     receipt: &S::Receipt,
@@ -31,7 +31,7 @@ pub(crate) fn get_from<S: Shelf, B: Blocks<S>>(
     user: &[u8],
     seq: u64,
 ) -> Result<Option<Found>, ReadFault>
-    requires here { S.is_of (B.told blocks.old).place receipt.now }
+    requires here { S.is_of N.place receipt.now }
     ensures exact { S.honest → Reads seen result (got_by (body_of (S.Receipt.image receipt.now))
         user.now seq (arc_value {X = HeldBlock} index).entries) }
     ensures found { S.honest → (es : List Entry)
@@ -45,10 +45,7 @@ pub(crate) fn get_from<S: Shelf, B: Blocks<S>>(
     ensures cause { IfErr result (λ e. ReadCounted e (B.told blocks.old) (B.told blocks.new)) }
 {
     let key = key_for(user, seq);
-    let cursor = match TableCursor::seek_by(blocks, alloc, receipt, index, &key) {
-        Ok(cursor) => cursor,
-        Err(fault) => return Err(fault),
-    };
+    let cursor = TableCursor::seek_by(blocks, alloc, receipt, index, &key)?;
     match cursor.key() {
         None => Ok(None),
         Some(first) => Ok(found_in_entry(alloc, &first, cursor.value(), user)?),
@@ -58,14 +55,14 @@ pub(crate) fn get_from<S: Shelf, B: Blocks<S>>(
 /// What a read of the user key finds at the sequence in the table of a receipt: the newest entry
 /// with a sequence at most `seq`. It reads the footer, the index block, and the data blocks that
 /// may have it, each judged.
-pub fn get_by<S: Shelf, B: Blocks<S>>(
+pub fn get_by<N: Naming, S: Shelf, B: Blocks<N, S>>(
     blocks: &mut B,
     alloc: Global,
     receipt: &S::Receipt,
     user: &[u8],
     seq: u64,
 ) -> Result<Option<Found>, ReadFault>
-    requires here { S.is_of (B.told blocks.old).place receipt.now }
+    requires here { S.is_of N.place receipt.now }
     // Whatever the image is.
     ensures exact { S.honest → Reads seen result (got (S.Receipt.image receipt.now) user.now seq) }
     ensures found { S.honest → (es : List Entry) → IsTable (S.Receipt.image receipt.now) es
@@ -76,29 +73,26 @@ pub fn get_by<S: Shelf, B: Blocks<S>>(
     ensures loan { B.loan blocks.new ≡ B.loan blocks.old }
     ensures cause { IfErr result (λ e. ReadCounted e (B.told blocks.old) (B.told blocks.new)) }
 {
-    let index = match index_by(blocks, alloc, receipt) {
-        Ok(index) => index,
-        Err(fault) => return Err(fault),
-    };
+    let index = index_by(blocks, alloc, receipt)?;
     get_from(blocks, alloc, receipt, index, user, seq)
 }
 
 /// The same by the shelf itself.
-pub fn get<S: Shelf>(
-    shelf: &mut S,
+pub fn get<N: Naming, S: Shelf>(
+    shelf: &mut NamedShelf<N, S>,
     alloc: Global,
     receipt: &S::Receipt,
     user: &[u8],
     seq: u64,
 ) -> Result<Option<Found>, ReadFault>
-    requires here { S.is_of (S.told shelf.old).place receipt.now }
+    requires here { S.is_of N.place receipt.now }
     ensures exact { S.honest → Reads seen result (got (S.Receipt.image receipt.now) user.now seq) }
     ensures found { S.honest → (es : List Entry) → IsTable (S.Receipt.image receipt.now) es
         → IfOk result (λ f. seen f ≡ found_in (newest user.now seq es)) }
     ensures sound { S.honest → (es : List Entry) → IsTable (S.Receipt.image receipt.now) es
         → IfErr result IsMemoryOrShelf }
-    ensures told { Becomes (S.told shelf.old) (S.told shelf.new) }
-    ensures cause { IfErr result (λ e. ReadCounted e (S.told shelf.old) (S.told shelf.new)) }
+    ensures told { Becomes shelf.old shelf.new }
+    ensures cause { IfErr result (λ e. ReadCounted e shelf.old shelf.new) }
 {
     let mut direct = Direct::new(shelf);
     get_by(&mut direct, alloc, receipt, user, seq)

@@ -24,7 +24,7 @@ use crate::blocks::Blocks;
 use crate::opening::data_block_by;
 use lsm_block::{Block, BlockIter};
 use lsm_codec::KeyRef;
-use lsm_table::{ReadFault, Shelf, TableFault};
+use lsm_table::{Naming, ReadFault, Shelf, TableFault};
 use std::alloc::Global;
 use std::marker::Model;
 use std::sync::Arc;
@@ -52,30 +52,27 @@ impl Model for TableCursor {
 
 /// Goes to the first entry of the data block that an index entry names. A data block without
 /// entries is `BadIndex`.
-fn enter_by<S: Shelf, B: Blocks<S>>(
+fn enter_by<N: Naming, S: Shelf, B: Blocks<N, S>>(
     blocks: &mut B,
     alloc: Global,
     receipt: &S::Receipt,
-    place: &[u8],
+    spelled: &[u8],
 ) -> Result<BlockIter, ReadFault>
-    requires here { S.is_of (B.told blocks.old).place receipt.now }
+    requires here { S.is_of N.place receipt.now }
     ensures some { IfOk result (λ i. IsSome (key_of_first i)) }
     ensures exact { S.honest
-        → Reads (λ i. i) result (entered_there (body_of (S.Receipt.image receipt.now)) place.now) }
+        → Reads (λ i. i) result (entered_there (body_of (S.Receipt.image receipt.now)) spelled.now) }
     ensures found { S.honest → (e : Entry) (es : List Entry)
-        → DataBlock (body_of (S.Receipt.image receipt.now)) place.now (e ∷ es)
+        → DataBlock (body_of (S.Receipt.image receipt.now)) spelled.now (e ∷ es)
         → IfOk result (λ i. i ≡ e ∷ es) }
     ensures sound { S.honest → (e : Entry) (es : List Entry)
-        → DataBlock (body_of (S.Receipt.image receipt.now)) place.now (e ∷ es)
+        → DataBlock (body_of (S.Receipt.image receipt.now)) spelled.now (e ∷ es)
         → IfErr result IsMemoryOrShelf }
     ensures told { Becomes (B.told blocks.old) (B.told blocks.new) }
     ensures loan { B.loan blocks.new ≡ B.loan blocks.old }
     ensures cause { IfErr result (λ e. ReadCounted e (B.told blocks.old) (B.told blocks.new)) }
 {
-    let block = match data_block_by(blocks, alloc, receipt, place) {
-        Ok(block) => block,
-        Err(fault) => return Err(fault),
-    };
+    let block = data_block_by(blocks, alloc, receipt, spelled)?;
     let entries = BlockIter::first(alloc, block)?;
     if entries.is_at_end() {
         return Err(ReadFault::Table(TableFault::BadIndex));
@@ -84,14 +81,14 @@ fn enter_by<S: Shelf, B: Blocks<S>>(
 }
 
 /// Seeks in the data block of the index entry at which the index stands, and passes that.
-fn seek_next_by<S: Shelf, B: Blocks<S>>(
+fn seek_next_by<N: Naming, S: Shelf, B: Blocks<N, S>>(
     blocks: &mut B,
     alloc: Global,
     receipt: &S::Receipt,
     index: &mut BlockIter,
     key: &KeyRef<'_>,
 ) -> Result<BlockIter, ReadFault>
-    requires here { S.is_of (B.told blocks.old).place receipt.now }
+    requires here { S.is_of N.place receipt.now }
     requires some { is_end index.old ≡ false }
     ensures found { S.honest → (es : List Entry)
         → Sought (key_of key.now) (body_of (S.Receipt.image receipt.now)) index.old es → IfOk result
@@ -106,10 +103,7 @@ fn seek_next_by<S: Shelf, B: Blocks<S>>(
     ensures loan { B.loan blocks.new ≡ B.loan blocks.old }
     ensures cause { IfErr result (λ e. ReadCounted e (B.told blocks.old) (B.told blocks.new)) }
 {
-    let block = match data_block_by(blocks, alloc, receipt, index.value()) {
-        Ok(block) => block,
-        Err(fault) => return Err(fault),
-    };
+    let block = data_block_by(blocks, alloc, receipt, index.value())?;
     let entries = BlockIter::seek(alloc, block, key)?;
     index.pass()?;
     Ok(entries)
@@ -117,13 +111,13 @@ fn seek_next_by<S: Shelf, B: Blocks<S>>(
 
 impl TableCursor {
     /// At the first entry of a table, where this is the table's index block.
-    pub fn first_by<S: Shelf, B: Blocks<S>>(
+    pub fn first_by<N: Naming, S: Shelf, B: Blocks<N, S>>(
         blocks: &mut B,
         alloc: Global,
         receipt: &S::Receipt,
         index: Arc<Block>,
     ) -> Result<TableCursor, ReadFault>
-        requires here { S.is_of (B.told blocks.old).place receipt.now }
+        requires here { S.is_of N.place receipt.now }
         ensures found { S.honest → (es : List Entry) → Names (body_of (S.Receipt.image receipt.now))
             (arc_value {X = HeldBlock} index).entries es
             → IfOk result (λ c. AreNamed (body_of (S.Receipt.image receipt.now)) c.index
@@ -144,10 +138,7 @@ impl TableCursor {
                 here: None,
             });
         }
-        let entries = match enter_by(blocks, alloc, receipt, places.value()) {
-            Ok(entries) => entries,
-            Err(fault) => return Err(fault),
-        };
+        let entries = enter_by(blocks, alloc, receipt, places.value())?;
         places.pass()?;
         Ok(TableCursor {
             index: places,
@@ -157,14 +148,14 @@ impl TableCursor {
 
     /// At the first entry of a table that is not below the key, where this is the table's index
     /// block.
-    pub fn seek_by<S: Shelf, B: Blocks<S>>(
+    pub fn seek_by<N: Naming, S: Shelf, B: Blocks<N, S>>(
         blocks: &mut B,
         alloc: Global,
         receipt: &S::Receipt,
         index: Arc<Block>,
         key: &KeyRef<'_>,
     ) -> Result<TableCursor, ReadFault>
-        requires here { S.is_of (B.told blocks.old).place receipt.now }
+        requires here { S.is_of N.place receipt.now }
         ensures found { S.honest → (es : List Entry) → Names (body_of (S.Receipt.image receipt.now))
             (arc_value {X = HeldBlock} index).entries es
             → IfOk result (λ c. AreNamed (body_of (S.Receipt.image receipt.now)) c.index
@@ -181,10 +172,7 @@ impl TableCursor {
     {
         let mut places = BlockIter::seek(alloc, index, key)?;
         while !places.is_at_end() {
-            let entries = match seek_next_by(blocks, alloc, receipt, &mut places, key) {
-                Ok(entries) => entries,
-                Err(fault) => return Err(fault),
-            };
+            let entries = seek_next_by(blocks, alloc, receipt, &mut places, key)?;
             if !entries.is_at_end() {
                 return Ok(TableCursor {
                     index: places,
@@ -232,13 +220,13 @@ impl TableCursor {
     }
 
     /// Goes on to the next data block, or to the end. An `Err` leaves it.
-    fn next_block_by<S: Shelf, B: Blocks<S>>(
+    fn next_block_by<N: Naming, S: Shelf, B: Blocks<N, S>>(
         &mut self,
         blocks: &mut B,
         alloc: Global,
         receipt: &S::Receipt,
     ) -> Result<(), ReadFault>
-        requires here { S.is_of (B.told blocks.old).place receipt.now }
+        requires here { S.is_of N.place receipt.now }
         // It stands at an entry, unless no data block was left.
         ensures some { OnOk result (is_end self.old.index ≡ false
             → IsSome (key_of_first self.new.here)) }
@@ -259,23 +247,20 @@ impl TableCursor {
             self.here = None;
             return Ok(());
         }
-        let entries = match enter_by(blocks, alloc, receipt, self.index.value()) {
-            Ok(entries) => entries,
-            Err(fault) => return Err(fault),
-        };
+        let entries = enter_by(blocks, alloc, receipt, self.index.value())?;
         self.index.pass()?;
         self.here = Some(entries);
         Ok(())
     }
 
     /// Goes on to the next entry, or to the end. An `Err` leaves it.
-    pub fn advance_by<S: Shelf, B: Blocks<S>>(
+    pub fn advance_by<N: Naming, S: Shelf, B: Blocks<N, S>>(
         &mut self,
         blocks: &mut B,
         alloc: Global,
         receipt: &S::Receipt,
     ) -> Result<(), ReadFault>
-        requires here { S.is_of (B.told blocks.old).place receipt.now }
+        requires here { S.is_of N.place receipt.now }
         ensures steps { S.honest → AreNamed (body_of (S.Receipt.image receipt.now)) self.old.index
             → OnOk result (AreNamed (body_of (S.Receipt.image receipt.now)) self.new.index
             × (left_at (S.Receipt.image receipt.now) self.new
@@ -301,13 +286,13 @@ impl TableCursor {
     /// Goes on to the next entry, and tells how many bytes of its user key are those of the user
     /// key before it, as far as one data block spells them once. Where none is left it stays. An
     /// `Err` leaves it.
-    pub fn step_by<S: Shelf, B: Blocks<S>>(
+    pub fn step_by<N: Naming, S: Shelf, B: Blocks<N, S>>(
         &mut self,
         blocks: &mut B,
         alloc: Global,
         receipt: &S::Receipt,
     ) -> Result<Option<usize>, ReadFault>
-        requires here { S.is_of (B.told blocks.old).place receipt.now }
+        requires here { S.is_of N.place receipt.now }
         ensures moved { S.honest → AreNamed (body_of (S.Receipt.image receipt.now)) self.old.index
             → IfOk result (λ m. AreNamed (body_of (S.Receipt.image receipt.now)) self.new.index
             × IsMovedBy m (left_at (S.Receipt.image receipt.now) self.old)
@@ -335,9 +320,7 @@ impl TableCursor {
         if self.index.is_at_end() {
             return Ok(None);
         }
-        match self.next_block_by(blocks, alloc, receipt) {
-            Ok(()) => Ok(Some(0)),
-            Err(fault) => Err(fault),
-        }
+        self.next_block_by(blocks, alloc, receipt)?;
+        Ok(Some(0))
     }
 }

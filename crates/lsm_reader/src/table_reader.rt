@@ -17,7 +17,7 @@ use crate::direct::Direct;
 use crate::table_cursor::TableCursor;
 use lsm_block::Block;
 use lsm_codec::KeyRef;
-use lsm_table::{Naming, ReadFault, Shelf};
+use lsm_table::{NamedShelf, Naming, ReadFault, Shelf};
 use std::alloc::Global;
 use std::marker::{Model, PhantomData};
 use std::sync::Arc;
@@ -88,12 +88,11 @@ impl<N: Naming, S: Shelf> TableReader<N, S> {
 
     /// Goes to the next entry, whose key and value `key` and `value` then lend. Where none is left
     /// it stands at none, and the answer is false. An `Err` leaves it.
-    pub fn next_by<B: Blocks<S>>(
+    pub fn next_by<B: Blocks<N, S>>(
         &mut self,
         blocks: &mut B,
         alloc: Global,
     ) -> Result<bool, ReadFault>
-        requires here { (B.told blocks.old).place ≡ N.place }
         ensures steps { S.honest → IfOk result (λ more. StepsOn more self.old self.new) }
         ensures sound { S.honest → IfErr result IsMemoryOrShelf }
         ensures err { OnErr result (self.new ≡ self.old) }
@@ -102,30 +101,23 @@ impl<N: Naming, S: Shelf> TableReader<N, S> {
         ensures cause { IfErr result (λ e. ReadCounted e (B.told blocks.old) (B.told blocks.new)) }
     {
         if let Some(cursor) = &mut self.cursor {
-            match cursor.advance_by(blocks, alloc, &self.receipt) {
-                Ok(()) => {}
-                Err(fault) => return Err(fault),
-            }
+            cursor.advance_by(blocks, alloc, &self.receipt)?;
             return Ok(!cursor.is_at_end());
         }
         let index = Arc::try_clone(&self.index)?;
-        let first = match TableCursor::first_by(blocks, alloc, &self.receipt, index) {
-            Ok(first) => first,
-            Err(fault) => return Err(fault),
-        };
+        let first = TableCursor::first_by(blocks, alloc, &self.receipt, index)?;
         let more = !first.is_at_end();
         self.cursor = Some(first);
         Ok(more)
     }
 
     /// The same by the shelf itself.
-    pub fn next(&mut self, shelf: &mut S, alloc: Global) -> Result<bool, ReadFault>
-        requires here { (S.told shelf.old).place ≡ N.place }
+    pub fn next(&mut self, shelf: &mut NamedShelf<N, S>, alloc: Global) -> Result<bool, ReadFault>
         ensures steps { S.honest → IfOk result (λ more. StepsOn more self.old self.new) }
         ensures sound { S.honest → IfErr result IsMemoryOrShelf }
         ensures err { OnErr result (self.new ≡ self.old) }
-        ensures told { Becomes (S.told shelf.old) (S.told shelf.new) }
-        ensures cause { IfErr result (λ e. ReadCounted e (S.told shelf.old) (S.told shelf.new)) }
+        ensures told { Becomes shelf.old shelf.new }
+        ensures cause { IfErr result (λ e. ReadCounted e shelf.old shelf.new) }
     {
         let mut direct = Direct::new(shelf);
         self.next_by(&mut direct, alloc)

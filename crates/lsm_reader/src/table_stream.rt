@@ -45,12 +45,11 @@ impl<N: Naming, S: Shelf> Model for TableStream<N, S> {
 
 impl<N: Naming, S: Shelf> TableStream<N, S> {
     /// At the first entry of the table of a receipt, which over an honest shelf has to be one.
-    pub fn open_by<B: Blocks<S>>(
+    pub fn open_by<B: Blocks<N, S>>(
         blocks: &mut B,
         alloc: Global,
         receipt: S::Receipt,
     ) -> Result<TableStream<N, S>, ReadFault>
-        requires here { (B.told blocks.old).place ≡ N.place }
         requires named { S.is_of N.place receipt }
         requires table { S.honest → (es : List Entry) × IsTable (S.Receipt.image receipt) es }
         ensures entries { S.honest → (es : List Entry) → IsTable (S.Receipt.image receipt) es
@@ -60,14 +59,8 @@ impl<N: Naming, S: Shelf> TableStream<N, S> {
         ensures loan { B.loan blocks.new ≡ B.loan blocks.old }
         ensures cause { IfErr result (λ e. ReadCounted e (B.told blocks.old) (B.told blocks.new)) }
     {
-        let index = match index_by(blocks, alloc, &receipt) {
-            Ok(index) => index,
-            Err(fault) => return Err(fault),
-        };
-        let cursor = match TableCursor::first_by(blocks, alloc, &receipt, index) {
-            Ok(cursor) => cursor,
-            Err(fault) => return Err(fault),
-        };
+        let index = index_by(blocks, alloc, &receipt)?;
+        let cursor = TableCursor::first_by(blocks, alloc, &receipt, index)?;
         Ok(TableStream {
             receipt,
             cursor,
@@ -97,12 +90,11 @@ impl<N: Naming, S: Shelf> TableStream<N, S> {
     }
 
     /// Goes on to the next entry, or to the end. An `Err` leaves it.
-    pub fn advance_by<B: Blocks<S>>(
+    pub fn advance_by<B: Blocks<N, S>>(
         &mut self,
         blocks: &mut B,
         alloc: Global,
     ) -> Result<(), ReadFault>
-        requires here { (B.told blocks.old).place ≡ N.place }
         ensures ok { S.honest → OnOk result (self.new ≡ but_first self.old) }
         ensures sound { S.honest → IfErr result IsMemoryOrShelf }
         ensures err { OnErr result (self.new ≡ self.old) }
@@ -116,12 +108,11 @@ impl<N: Naming, S: Shelf> TableStream<N, S> {
     /// Goes on to the next entry, and tells how many bytes of its user key are those of the user
     /// key before it, as far as one data block spells them once. Where none is left it stays. An
     /// `Err` leaves it.
-    pub fn step_by<B: Blocks<S>>(
+    pub fn step_by<B: Blocks<N, S>>(
         &mut self,
         blocks: &mut B,
         alloc: Global,
     ) -> Result<Option<usize>, ReadFault>
-        requires here { (B.told blocks.old).place ≡ N.place }
         ensures moved { S.honest → IfOk result (λ m. IsMovedBy m self.old self.new) }
         // Whatever the image is.
         ensures stands { IfOk result (λ m.

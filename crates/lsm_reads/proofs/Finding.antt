@@ -76,7 +76,7 @@ none_more k s rest i x lt is none before j d low = elim (cases_lt j i) [
       subst (HasNone k s) at (none_allowed k s (entries_in x.image) none))
 ]
 
--- the place of a table in the level, and in the part from p on
+-- where a table stands in the level, and in the part from p on
 at_rest : (ts rest : List Table) (p i : ℕ) (d : Table) → rest ≡ drop p ts → get_or rest i d ≡ get_or ts (p + i) d
 at_rest ts rest p i d is = ap (λ (us : List Table). get_or us i d) is ∙ get_or-drop p ts i d
 
@@ -119,10 +119,10 @@ range_found n ts rest p i x k s e pos l is inside f lt at none here =
         ]
 
     beside : (G : File) (y : Entry) → ((u : Table) × Has ts u × (file_of n u ≡ G)) → Has G.entries y → IsAllowed k s y → stamp y ≤ stamp e
-    beside G y r hy a = place r.0 (subst (λ (F : File). Has F.entries y) (sym r.2) hy) (contains_from ts r.0 r.1) r.1
+    beside G y r hy a = by_index r.0 (subst (λ (F : File). Has F.entries y) (sym r.2) hy) (contains_from ts r.0 r.1) r.1
       where
-        place : (u : Table) → Has (entries_in u.image) y → Contains ts u → Has ts u → stamp y ≤ stamp e
-        place u hu c h = elim (cases_lt c.0 p) [
+        by_index : (u : Table) → Has (entries_in u.image) y → Contains ts u → Has ts u → stamp y ≤ stamp e
+        by_index u hu c h = elim (cases_lt c.0 p) [
           | inl early ↦ absurd (cc (ap (λ (t : Table). reaches t k) c.2 ∙ (allowed_parts n ts u k s y l h hu a).1, f.before c.0 u early))
           | inr on ↦ elim (cases_lt c.0 (p + i)) [
             | inl before ↦ (let q : p + (c.0 - p) ≡ c.0 = omega arith in
@@ -138,10 +138,10 @@ pub range_missed : (n : ℕ) (ts rest : List Table) (p i : ℕ) (k : UserKey) (s
 range_missed n ts rest p i k s l is f none late = newest_none k s (all_entries (files_of n ts)) (λ y h. true_or_not (is_allowed k s y) (λ a.
     (let r = all_has (files_of n ts) y h in
     let q = files_has n ts r.0 r.1 in
-    place y (allowed_says k s y a) q.0 (subst (λ (F : File). Has F.entries y) (sym q.2) r.2) (contains_from ts q.0 q.1) q.1)))
+    by_index y (allowed_says k s y a) q.0 (subst (λ (F : File). Has F.entries y) (sym q.2) r.2) (contains_from ts q.0 q.1) q.1)))
   where
-    place : (y : Entry) → IsAllowed k s y → (u : Table) → Has (entries_in u.image) y → Contains ts u → Has ts u → ⊥
-    place y a u hu c h = elim (cases_lt c.0 p) [
+    by_index : (y : Entry) → IsAllowed k s y → (u : Table) → Has (entries_in u.image) y → Contains ts u → Has ts u → ⊥
+    by_index y a u hu c h = elim (cases_lt c.0 p) [
       | inl early ↦ absurd (cc (ap (λ (t : Table). reaches t k) c.2 ∙ (allowed_parts n ts u k s y l h hu a).1, f.before c.0 u early))
       | inr on ↦ (let q : p + (c.0 - p) ≡ c.0 = omega arith in
           elim (cases_lt (c.0 - p) i) [

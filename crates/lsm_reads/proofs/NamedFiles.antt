@@ -34,29 +34,29 @@ none_named P f h = absurd h
 named_both : (P : ℕ → Type 0) (old more new : List (ℕ × ℕ)) → new ≡ old ++ more → AreNamed P old → AreNamed P more → AreNamed P new
 named_both P old more new e a b f h = elim (has_cases old more f (subst (λ (l : List (ℕ × ℕ)). Has l f) e h)) [ inl k ↦ a f k | inr k ↦ b f k ]
 
-named_at : (place : ℕ) (ns : List ℕ) (f : ℕ × ℕ) → Has (files_at place ns) f → Has ns f.1
-named_at place [] f h = absurd h
-named_at place (n ∷ ns) f (inl e) = inl (ap (λ (g : ℕ × ℕ). g.1) e)
-named_at place (n ∷ ns) f (inr h) = inr (named_at place ns f h)
+named_at : (depth : ℕ) (ns : List ℕ) (f : ℕ × ℕ) → Has (files_at depth ns) f → Has ns f.1
+named_at depth [] f h = absurd h
+named_at depth (n ∷ ns) f (inl e) = inl (ap (λ (g : ℕ × ℕ). g.1) e)
+named_at depth (n ∷ ns) f (inr h) = inr (named_at depth ns f h)
 
 pub files_pushed : (old new : List Left) (r : Left) → new ≡ old ++ r ∷ [] → flat_map (λ (l : Left). l.files) new ≡ flat_map (λ (l : Left). l.files) old ++ r.files
 files_pushed old new r e =
     ap (flat_map (λ (l : Left). l.files)) e ∙ flat_map-append (λ (l : Left). l.files) old (r ∷ []) ∙ ap (λ (fs : List (ℕ × ℕ)). flat_map (λ (l : Left). l.files) old ++ fs) (append-nil r.files)
 
 -- one more table as a run of its own
-pub named_table : (ts : List Table) (old new : List Left) (r : Left) (place : ℕ) (t u : Table) → new ≡ old ++ r ∷ [] → r.files ≡ files_at place (map (λ x. x.number) (u ∷ [])) → u ≡ t → Has ts t
+pub named_table : (ts : List Table) (old new : List Left) (r : Left) (depth : ℕ) (t u : Table) → new ≡ old ++ r ∷ [] → r.files ≡ files_at depth (map (λ x. x.number) (u ∷ [])) → u ≡ t → Has ts t
     → AreNamed (IsNumberOf ts) (flat_map (λ (l : Left). l.files) old) → AreNamed (IsNumberOf ts) (flat_map (λ (l : Left). l.files) new)
-named_table ts old new r place t u grown files same h before =
+named_table ts old new r depth t u grown files same h before =
     named_both (IsNumberOf ts) _ r.files _ (files_pushed old new r grown) before
     (λ f k. number_within ts (u ∷ []) f.1 (λ x hx. elim hx [ inl e ↦ subst (Has ts) (sym same ∙ e) h | inr none ↦ absurd none ])
-    (named_at place (map (λ x. x.number) (u ∷ [])) f (subst (λ (l : List (ℕ × ℕ)). Has l f) files k)))
+    (named_at depth (map (λ x. x.number) (u ∷ [])) f (subst (λ (l : List (ℕ × ℕ)). Has l f) files k)))
 
 -- the tables of a level more as one run
-pub named_level : (levels : List (List Table)) (n place : ℕ) (ts : List Table) (old new : List (ℕ × ℕ)) → level_in levels n ≡ ts → new ≡ old ++ files_at place (map (λ t. t.number) (once None ts))
+pub named_level : (levels : List (List Table)) (n depth : ℕ) (ts : List Table) (old new : List (ℕ × ℕ)) → level_in levels n ≡ ts → new ≡ old ++ files_at depth (map (λ t. t.number) (once None ts))
     → AreNamed (IsNumberIn levels) old → AreNamed (IsNumberIn levels) new
-named_level levels n place ts old new is grown before =
+named_level levels n depth ts old new is grown before =
     named_both (IsNumberIn levels) old _ new grown before
-    (λ f k. (n, number_within (level_in levels n) (once None ts) f.1 (λ t h. subst (λ (us : List Table). Has us t) (sym is) (once_part None ts t h)) (named_at place (map (λ t. t.number) (once None ts)) f k)))
+    (λ f k. (n, number_within (level_in levels n) (once None ts) f.1 (λ t h. subst (λ (us : List Table). Has us t) (sym is) (once_part None ts t h)) (named_at depth (map (λ t. t.number) (once None ts)) f k)))
 
 pub named_in : (levels : List (List Table)) (n : ℕ) (ts : List Table) (number : ℕ) → level_in levels n ≡ ts → IsNumberOf ts number → IsNumberIn levels number
 named_in levels n ts number is h = (n, subst (λ (us : List Table). IsNumberOf us number) (sym is) h)

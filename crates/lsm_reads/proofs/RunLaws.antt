@@ -153,38 +153,38 @@ runs_as shallow P R ls back to a = record {
   ordered = a.ordered;
 }
 
-placed_has : (place : ℕ) (es : List Entry) (p : Placed) → Has (placed_at place es) p → (p.0 ≡ place) × Has es p.1
-placed_has place [] p h = absurd h
-placed_has place (e ∷ es) p (inl same) = (sym (ap (λ (q : Placed). q.0) same), inl (ap (λ (q : Placed). q.1) same))
-placed_has place (e ∷ es) p (inr h) = (let r = placed_has place es p h in (r.0, inr r.1))
+placed_has : (depth : ℕ) (es : List Entry) (p : Placed) → Has (placed_at depth es) p → (p.0 ≡ depth) × Has es p.1
+placed_has depth [] p h = absurd h
+placed_has depth (e ∷ es) p (inl same) = (sym (ap (λ (q : Placed). q.0) same), inl (ap (λ (q : Placed). q.1) same))
+placed_has depth (e ∷ es) p (inr h) = (let r = placed_has depth es p h in (r.0, inr r.1))
 
-has_placed : (place : ℕ) (es : List Entry) (e : Entry) → Has es e → Has (placed_at place es) (place, e)
-has_placed place [] e h = absurd h
-has_placed place (f ∷ es) e (inl same) = inl (ap (λ (g : Entry). (let p : Placed = (place, g) in p)) same)
-has_placed place (f ∷ es) e (inr h) = inr (has_placed place es e h)
+has_placed : (depth : ℕ) (es : List Entry) (e : Entry) → Has es e → Has (placed_at depth es) (depth, e)
+has_placed depth [] e h = absurd h
+has_placed depth (f ∷ es) e (inl same) = inl (ap (λ (g : Entry). (let p : Placed = (depth, g) in p)) same)
+has_placed depth (f ∷ es) e (inr h) = inr (has_placed depth es e h)
 
 -- a run at one depth
-pub runs_push : (shallow : List Table) (P Q R : File → Type 0) (ls : List (List Placed)) (place : ℕ) (es : List Entry) → AreRunsOf shallow P ls → IsSorted es
-    → ((e : Entry) → Has es e → (F : File) × Q F × Has F.entries e) → ((F : File) (e : Entry) → Q F → Has F.entries e → Has es e) → ((F : File) → Q F → depth_of shallow F ≡ place)
-    → ((F : File) → R F → P F ⊎ Q F) → ((F : File) → P F → R F) → ((F : File) → Q F → R F) → AreRunsOf shallow R (ls ++ placed_at place es ∷ [])
-runs_push shallow P Q R ls place es a sorted from all depth split left right = record {
-  from = λ l p h k. elim (has_cases ls (placed_at place es ∷ []) l h) [
+pub runs_push : (shallow : List Table) (P Q R : File → Type 0) (ls : List (List Placed)) (depth : ℕ) (es : List Entry) → AreRunsOf shallow P ls → IsSorted es
+    → ((e : Entry) → Has es e → (F : File) × Q F × Has F.entries e) → ((F : File) (e : Entry) → Q F → Has F.entries e → Has es e) → ((F : File) → Q F → depth_of shallow F ≡ depth)
+    → ((F : File) → R F → P F ⊎ Q F) → ((F : File) → P F → R F) → ((F : File) → Q F → R F) → AreRunsOf shallow R (ls ++ placed_at depth es ∷ [])
+runs_push shallow P Q R ls depth es a sorted from all at_depth split left right = record {
+  from = λ l p h k. elim (has_cases ls (placed_at depth es ∷ []) l h) [
     | inl b ↦ (let r = a.from l p b k in (r.0, left r.0 r.1, r.2, r.3))
     | inr b ↦ elim b [
-      | inl same ↦ (let q = placed_has place es p (subst (λ (m : List Placed). Has m p) (sym same) k) in
-          let r = from p.1 q.1 in (r.0, right r.0 r.1, r.2, q.0 ∙ sym (depth r.0 r.1)))
+      | inl same ↦ (let q = placed_has depth es p (subst (λ (m : List Placed). Has m p) (sym same) k) in
+          let r = from p.1 q.1 in (r.0, right r.0 r.1, r.2, q.0 ∙ sym (at_depth r.0 r.1)))
       | inr none ↦ absurd none
     ]
   ];
   all = λ F e r k. elim (split F r) [
-    | inl p ↦ (let b = a.all F e p k in (b.0, has_left ls (placed_at place es ∷ []) b.0 b.1, b.2))
+    | inl p ↦ (let b = a.all F e p k in (b.0, has_left ls (placed_at depth es ∷ []) b.0 b.1, b.2))
     | inr q ↦ (
-      placed_at place es,
-      has_right ls (placed_at place es ∷ []) (placed_at place es) (inl refl),
-      subst (λ (n : ℕ). Has (placed_at place es) (n, e)) (sym (depth F q)) (has_placed place es e (all F e q k)),
+      placed_at depth es,
+      has_right ls (placed_at depth es ∷ []) (placed_at depth es) (inl refl),
+      subst (λ (n : ℕ). Has (placed_at depth es) (n, e)) (sym (at_depth F q)) (has_placed depth es e (all F e q k)),
     )
   ];
-  ordered = ordered_push ls (placed_at place es) a.ordered (sorted_ordered place es sorted);
+  ordered = ordered_push ls (placed_at depth es) a.ordered (sorted_ordered depth es sorted);
 }
 
 -- ---- a table of level 0

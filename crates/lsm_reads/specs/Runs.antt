@@ -34,7 +34,7 @@ IsNumberOf ts n = (t : Table) × Has ts t × (t.number ≡ n)
 abbrev pub IsNumberIn : List (List Table) → ℕ → Type 0
 IsNumberIn levels n = (level : ℕ) × IsNumberOf (level_in levels level) n
 
--- each of these files, which stand with the places of their runs, has a number of which `P` tells
+-- each of these files, which stand with the depths of their runs, has a number of which `P` tells
 abbrev pub AreNamed : (ℕ → Type 0) → List (ℕ × ℕ) → Type 0
 AreNamed P files = (f : ℕ × ℕ) → Has files f → P f.1
 

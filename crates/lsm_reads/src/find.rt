@@ -18,7 +18,7 @@ use std::alloc::Global;
 
 /// What a read finds in one table, of which it takes the footer, the index block, and the data
 /// blocks that may have the user key.
-fn find_in_table<N: Naming, S: Shelf, B: Blocks<S>>(
+fn find_in_table<N: Naming, S: Shelf, B: Blocks<N, S>>(
     blocks: &mut B,
     alloc: Global,
     registry: &Registry<N, S>,
@@ -26,7 +26,6 @@ fn find_in_table<N: Naming, S: Shelf, B: Blocks<S>>(
     user: &[u8],
     seq: u64,
 ) -> Result<Option<Found>, ReadFault>
-    requires here { (B.told blocks.old).place ≡ N.place }
     ensures found { S.honest → IsWhole table.now
         → IfOk result (λ f. seen f ≡ found_in (newest user.now seq (entries_in table.now.image))) }
     ensures sound { S.honest → IsWhole table.now → IfErr result IsMemoryOrShelf }
@@ -39,7 +38,7 @@ fn find_in_table<N: Naming, S: Shelf, B: Blocks<S>>(
 
 /// What a read finds at level 0: of the tables whose range has the user key that of the greatest
 /// number is looked at first.
-fn find_by_number<N: Naming, S: Shelf, B: Blocks<S>>(
+fn find_by_number<N: Naming, S: Shelf, B: Blocks<N, S>>(
     blocks: &mut B,
     alloc: Global,
     registry: &Registry<N, S>,
@@ -47,7 +46,6 @@ fn find_by_number<N: Naming, S: Shelf, B: Blocks<S>>(
     user: &[u8],
     seq: u64,
 ) -> Result<Option<Found>, ReadFault>
-    requires here { (B.told blocks.old).place ≡ N.place }
     ensures found { S.honest → IsSoundLevel 0 level.now → IfOk result (λ f.
         seen f ≡ found_in (newest user.now seq (all_entries (files_of 0 level.now)))) }
     ensures sound { S.honest → IsSoundLevel 0 level.now → IfErr result IsMemoryOrShelf }
@@ -67,7 +65,7 @@ fn find_by_number<N: Naming, S: Shelf, B: Blocks<S>>(
 
 /// What a read finds at a level from 1 on: in the first table whose range has the user key and that
 /// has an entry for it. A user key may go on in the next table, whose entries of it are older.
-fn find_by_range<N: Naming, S: Shelf, B: Blocks<S>>(
+fn find_by_range<N: Naming, S: Shelf, B: Blocks<N, S>>(
     blocks: &mut B,
     alloc: Global,
     registry: &Registry<N, S>,
@@ -75,7 +73,6 @@ fn find_by_range<N: Naming, S: Shelf, B: Blocks<S>>(
     user: &[u8],
     seq: u64,
 ) -> Result<Option<Found>, ReadFault>
-    requires here { (B.told blocks.old).place ≡ N.place }
     ensures found { (n : ℕ) → 1 ≤ n → S.honest → IsSoundLevel n level.now → IfOk result (λ f.
         seen f ≡ found_in (newest user.now seq (all_entries (files_of n level.now)))) }
     ensures sound { (n : ℕ) → S.honest → IsSoundLevel n level.now → IfErr result IsMemoryOrShelf }
@@ -97,7 +94,7 @@ fn find_by_range<N: Naming, S: Shelf, B: Blocks<S>>(
 }
 
 /// What a read finds at a level.
-fn find_at_level<N: Naming, S: Shelf, B: Blocks<S>>(
+fn find_at_level<N: Naming, S: Shelf, B: Blocks<N, S>>(
     blocks: &mut B,
     alloc: Global,
     registry: &Registry<N, S>,
@@ -106,7 +103,6 @@ fn find_at_level<N: Naming, S: Shelf, B: Blocks<S>>(
     user: &[u8],
     seq: u64,
 ) -> Result<Option<Found>, ReadFault>
-    requires here { (B.told blocks.old).place ≡ N.place }
     ensures found { S.honest → IsSoundLevel number level.now → IfOk result (λ f.
         seen f ≡ found_in (newest user.now seq (all_entries (files_of number level.now)))) }
     ensures sound { S.honest → IsSoundLevel number level.now → IfErr result IsMemoryOrShelf }
@@ -122,7 +118,7 @@ fn find_at_level<N: Naming, S: Shelf, B: Blocks<S>>(
 }
 
 /// What a read finds in the tables of all levels: in the first level that has an entry for it.
-pub(crate) fn find<N: Naming, S: Shelf, B: Blocks<S>>(
+pub(crate) fn find<N: Naming, S: Shelf, B: Blocks<N, S>>(
     blocks: &mut B,
     alloc: Global,
     registry: &Registry<N, S>,
@@ -130,7 +126,6 @@ pub(crate) fn find<N: Naming, S: Shelf, B: Blocks<S>>(
     user: &[u8],
     seq: u64,
 ) -> Result<Option<Found>, ReadFault>
-    requires here { (B.told blocks.old).place ≡ N.place }
     ensures found { S.honest → AreSound 0 (map (λ l. l.items) levels.now)
         → IfOk result (λ f. seen f ≡ found_in
         (newest user.now seq (all_entries (files_from 0 (map (λ l. l.items) levels.now))))) }

@@ -10,7 +10,7 @@ ghost use Rattle.lsm_version.specs.Versions.{files};
 
 use crate::find::find;
 use lsm_reader::{Blocks, Direct};
-use lsm_table::{Found, Naming, ReadFault, Shelf};
+use lsm_table::{Found, NamedShelf, Naming, ReadFault, Shelf};
 use lsm_version::Version;
 use std::alloc::Global;
 
@@ -22,31 +22,29 @@ use std::alloc::Global;
 /// with another refusal of a table only where the shelf's bytes are not those that were put.
 pub fn get<N: Naming, S: Shelf>(
     version: &Version<N, S>,
-    shelf: &mut S,
+    shelf: &mut NamedShelf<N, S>,
     alloc: Global,
     user: &[u8],
     seq: u64,
 ) -> Result<Option<Vec<u8>>, ReadFault>
-    requires { (S.told shelf.old).place ≡ N.place }
     ensures answer { S.honest → IfOk result (λ v.
         option_map (λ b. b.items) v ≡ answer (all_entries (files version.now)) user.now seq) }
     ensures sound { S.honest → IfErr result IsMemoryOrShelf }
-    ensures told { Becomes (S.told shelf.old) (S.told shelf.new) }
-    ensures cause { IfErr result (λ e. ReadCounted e (S.told shelf.old) (S.told shelf.new)) }
+    ensures told { Becomes shelf.old shelf.new }
+    ensures cause { IfErr result (λ e. ReadCounted e shelf.old shelf.new) }
 {
     let mut direct = Direct::new(shelf);
     get_by(version, &mut direct, alloc, user, seq)
 }
 
 /// The same, where the blocks of tables come from `blocks`.
-pub fn get_by<N: Naming, S: Shelf, B: Blocks<S>>(
+pub fn get_by<N: Naming, S: Shelf, B: Blocks<N, S>>(
     version: &Version<N, S>,
     blocks: &mut B,
     alloc: Global,
     user: &[u8],
     seq: u64,
 ) -> Result<Option<Vec<u8>>, ReadFault>
-    requires { (B.told blocks.old).place ≡ N.place }
     ensures answer { S.honest → IfOk result (λ v.
         option_map (λ b. b.items) v ≡ answer (all_entries (files version.now)) user.now seq) }
     ensures sound { S.honest → IfErr result IsMemoryOrShelf }

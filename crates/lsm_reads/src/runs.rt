@@ -21,13 +21,12 @@ use lsm_table::{Naming, Registry, Shelf, TableRef};
 use std::alloc::Global;
 
 /// Opens each table of level 0 as a source of its own, at its depth: the greatest number first.
-fn open_shallow<N: Naming, S: Shelf, B: Blocks<S>>(
+fn open_shallow<N: Naming, S: Shelf, B: Blocks<N, S>>(
     blocks: &mut B,
     alloc: Global,
     registry: &Registry<N, S>,
     level: &[TableRef<N, S>],
 ) -> Result<Vec<Run<N, S>>, Unread>
-    requires here { (B.told blocks.old).place ≡ N.place }
     requires whole { S.honest → AreWhole level.now }
     ensures runs { S.honest → IfOk result (λ v.
         AreRunsOf level.now (Has (files_of 0 level.now)) (map (λ r. r.placed) v.items)) }
@@ -45,10 +44,7 @@ fn open_shallow<N: Naming, S: Shelf, B: Blocks<S>>(
     for table in level {
         let depth = newer_count(numbers.as_slice(), registry.record(table).number());
         let one = [table.again()];
-        let run = match Run::over_by(blocks, alloc, depth, registry, &one) {
-            Ok(run) => run,
-            Err(fault) => return Err(Unread::from(fault)),
-        };
+        let run = Run::over_by(blocks, alloc, depth, registry, &one)?;
         runs.push(run)?;
     }
     Ok(runs)
@@ -56,7 +52,7 @@ fn open_shallow<N: Naming, S: Shelf, B: Blocks<S>>(
 
 /// Opens the tables of a deeper level as one source, at its depth, and adds it; nothing where the
 /// level has no tables.
-fn open_deeper<N: Naming, S: Shelf, B: Blocks<S>>(
+fn open_deeper<N: Naming, S: Shelf, B: Blocks<N, S>>(
     blocks: &mut B,
     alloc: Global,
     registry: &Registry<N, S>,
@@ -64,7 +60,6 @@ fn open_deeper<N: Naming, S: Shelf, B: Blocks<S>>(
     level: &[TableRef<N, S>],
     runs: &mut Vec<Run<N, S>>,
 ) -> Result<(), Unread>
-    requires here { (B.told blocks.old).place ≡ N.place }
     requires whole { S.honest → AreWhole level.now }
     ensures files { OnOk result (flat_map (λ r. r.files) runs.new.items ≡ flat_map (λ r.
         r.files) runs.old.items ++ files_at depth (map (λ t. t.number) (once None level.now))) }
@@ -83,10 +78,7 @@ fn open_deeper<N: Naming, S: Shelf, B: Blocks<S>>(
     if tables.is_empty() {
         return Ok(());
     }
-    let run = match Run::over_by(blocks, alloc, depth, registry, tables.as_slice()) {
-        Ok(run) => run,
-        Err(fault) => return Err(Unread::from(fault)),
-    };
+    let run = Run::over_by(blocks, alloc, depth, registry, tables.as_slice())?;
     runs.push(run)?;
     Ok(())
 }
@@ -94,13 +86,12 @@ fn open_deeper<N: Naming, S: Shelf, B: Blocks<S>>(
 /// Opens the tables of seven levels as the sources of a merge, each at its depth: of level 0 each
 /// table by itself, and of a deeper level the tables one after another. Of each source the first
 /// table is opened.
-pub fn open_runs<N: Naming, S: Shelf, B: Blocks<S>>(
+pub fn open_runs<N: Naming, S: Shelf, B: Blocks<N, S>>(
     blocks: &mut B,
     alloc: Global,
     registry: &Registry<N, S>,
     levels: &[Vec<TableRef<N, S>>],
 ) -> Result<Vec<Run<N, S>>, Unread>
-    requires here { (B.told blocks.old).place ≡ N.place }
     requires seven { length levels.now ≡ 7 }
     requires mergeable { S.honest → AreMergeable (map (λ l. l.items) levels.now) }
     ensures runs { S.honest → IfOk result (λ v. AreRunsOf (level_in (map (λ l. l.items) levels.now)

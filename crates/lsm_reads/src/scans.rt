@@ -10,7 +10,7 @@ ghost use Rattle.lsm_version.specs.Versions.{files};
 use crate::runs::open_runs;
 use lsm_merger::{Merger, Scan};
 use lsm_reader::{Blocks, Direct};
-use lsm_table::{Naming, ReadFault, Shelf};
+use lsm_table::{NamedShelf, Naming, ReadFault, Shelf};
 use lsm_version::Version;
 use std::alloc::Global;
 
@@ -21,13 +21,12 @@ use std::alloc::Global;
 ///
 /// `Shelf` where the shelf refused. `Table` with `OutOfMemory` where a growth was refused, and
 /// with another refusal of a table only where the shelf's bytes are not those that were put.
-pub fn scan_by<N: Naming, S: Shelf, B: Blocks<S>>(
+pub fn scan_by<N: Naming, S: Shelf, B: Blocks<N, S>>(
     version: &Version<N, S>,
     blocks: &mut B,
     alloc: Global,
     seq: u64,
 ) -> Result<Scan<N, S>, ReadFault>
-    requires { (B.told blocks.old).place ≡ N.place }
     ensures scanned { S.honest
         → IfOk result (λ s. IsScan seq (all_entries (files version.now)) s.left) }
     ensures here { IfOk result (λ s. s.here ≡ None) }
@@ -48,17 +47,16 @@ pub fn scan_by<N: Naming, S: Shelf, B: Blocks<S>>(
 /// The same by the shelf itself.
 pub fn scan<N: Naming, S: Shelf>(
     version: &Version<N, S>,
-    shelf: &mut S,
+    shelf: &mut NamedShelf<N, S>,
     alloc: Global,
     seq: u64,
 ) -> Result<Scan<N, S>, ReadFault>
-    requires { (S.told shelf.old).place ≡ N.place }
     ensures scanned { S.honest
         → IfOk result (λ s. IsScan seq (all_entries (files version.now)) s.left) }
     ensures here { IfOk result (λ s. s.here ≡ None) }
     ensures sound { S.honest → IfErr result IsMemoryOrShelf }
-    ensures told { Becomes (S.told shelf.old) (S.told shelf.new) }
-    ensures cause { IfErr result (λ e. ReadCounted e (S.told shelf.old) (S.told shelf.new)) }
+    ensures told { Becomes shelf.old shelf.new }
+    ensures cause { IfErr result (λ e. ReadCounted e shelf.old shelf.new) }
 {
     let mut direct = Direct::new(shelf);
     scan_by(version, &mut direct, alloc, seq)

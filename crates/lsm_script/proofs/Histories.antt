@@ -29,8 +29,8 @@ use Rattle.lsm_script.specs.Scripts.{AreReplies, ends_list}
 use Rattle.lsm_script.specs.Steps.{IsStep, Stage, stage_of}
 use Rattle.lsm_script.specs.declared.command.Command.{Command}
 use Rattle.lsm_script.specs.declared.command.Command.TheVariants as asks
-use Rattle.lsm_script.specs.declared.refusal.Refusal.{Refusal}
-use Rattle.lsm_script.specs.declared.refusal.Refusal.TheVariants as why
+use Rattle.lsm_script.specs.declared.command_fault.CommandFault.{CommandFault}
+use Rattle.lsm_script.specs.declared.command_fault.CommandFault.TheVariants as why
 use Rattle.lsm_script.specs.declared.reply.Reply.{Reply}
 use Rattle.lsm_script.specs.declared.reply.Reserved.{Reserved}
 use Rattle.lsm_script.specs.declared.reply.Reply.TheVariants as said
@@ -82,7 +82,7 @@ pub record Leaves (H : Type 0) (c : Command) (s : History) : Type 0 where
   pub job : (x : Reserved) → IsAnswered H c (said.Job x) s s
   pub move : (x : Reserved) → IsAnswered H c (said.Move x) s s
   pub none : IsAnswered H c said.NoJob s s
-  pub refused : (x : Refusal) → IsAnswered H c (said.Refused x) s s
+  pub refused : (x : CommandFault) → IsAnswered H c (said.Refused x) s s
 
 keep_goes : (H : Type 0) (start : Held) (c : Command) (s : History) (w : Work) (r : Reply) (mid new : Held) (jobs jobs' : List Work) → Leaves H c s → Follows H start s mid → IsKeepReply w r mid new jobs jobs' → Goes H start c r s new
 keep_goes H start c s w r mid new jobs jobs' l f (inl k) = elim k.0.2 [

@@ -5,3 +5,8 @@ mod Histories
 mod Chains
 mod Turns
 mod Sourced
+mod WordLaws
+mod TextLaws
+mod CommandLaws
+mod ScriptLaws
+mod OneScript

@@ -13,8 +13,8 @@ use Rattle.lsm_state.specs.Held.{Held, plain}
 use Rattle.lsm_state.specs.declared.state_fault.StateFault.TheVariants as fault
 use Rattle.lsm_script.specs.declared.command.Command.{Command}
 use Rattle.lsm_script.specs.declared.command.Command.TheVariants as asks
-use Rattle.lsm_script.specs.declared.refusal.Refusal.{Refusal}
-use Rattle.lsm_script.specs.declared.refusal.Refusal.TheVariants.{State}
+use Rattle.lsm_script.specs.declared.command_fault.CommandFault.{CommandFault}
+use Rattle.lsm_script.specs.declared.command_fault.CommandFault.TheVariants.{State}
 use Rattle.lsm_script.specs.declared.reply.Reply.{Reply}
 use Rattle.lsm_script.specs.declared.reply.Reply.TheVariants.{Ingested, Value, Absent, Snapshot, Released, Refused}
 
@@ -43,7 +43,7 @@ IsUnknownAt s None n = ⊥
 IsUnknownAt s (Some id) n = (n ≡ id) × (HasId s.snapshots id → ⊥)
 
 -- where an unknown snapshot is the refusal of a read or of a release, it is not live
-abbrev pub MayRefuse : Command → Refusal → History → Type 0
+abbrev pub MayRefuse : Command → CommandFault → History → Type 0
 MayRefuse (asks.Get key at) r s = (n : ℕ) → r ≡ State (fault.UnknownSnapshot n) → IsUnknownAt s at n
 MayRefuse (asks.Release id) r s = (n : ℕ) → r ≡ State (fault.UnknownSnapshot n) → IsUnknownAt s (Some id) n
 MayRefuse c r s = Unit {0}

@@ -1,6 +1,10 @@
-pub mod Refusal
+pub mod CommandFault
 pub mod Replies
 pub mod Scripts
 pub mod Steps
 pub mod History
 pub mod Drawing
+pub mod Words
+pub mod CommandLine
+pub mod RefusalText
+pub mod ReplyText

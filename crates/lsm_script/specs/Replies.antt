@@ -34,7 +34,7 @@ use Rattle.lsm_state.specs.declared.ingest.Ingested as it
 use Rattle.lsm_state.specs.declared.state_fault.StateFault.{StateFault}
 use Rattle.lsm_state.specs.declared.state_fault.StateFault.TheVariants as fault
 use Rattle.lsm_script.specs.Drawing.{AreDrawn}
-use Rattle.lsm_script.specs.declared.refusal.Refusal.TheVariants.{State, Merge}
+use Rattle.lsm_script.specs.declared.command_fault.CommandFault.TheVariants.{State, Merge}
 use Rattle.lsm_script.specs.declared.reply.Reply.{Reply}
 use Rattle.lsm_script.specs.declared.reply.Reply.TheVariants.{Ingested, Value, Absent, Snapshot, Released, Job, Move, NoJob, Merged, Installed, Cancelled, Pinned, Unpinned, Removed, Files, Refused}
 use Rattle.lsm_script.specs.declared.reply.Reserved.{Reserved}

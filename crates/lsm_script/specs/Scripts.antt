@@ -1,6 +1,6 @@
 -- Lists of commands and their replies (this project's rule).
 use Rattle.std.specs.Prelude.{◌≡◌, ◌==◌, Bool, false, List, [], ◌∷◌, MatchBool}
-use Rattle.lsm_script.specs.Refusal.{number_of}
+use Rattle.lsm_script.specs.CommandFault.{number_of}
 use Rattle.lsm_script.specs.declared.command.Command.{Command}
 use Rattle.lsm_script.specs.declared.reply.Reply.{Reply}
 use Rattle.lsm_script.specs.declared.reply.Reply.TheVariants.{Refused}

@@ -7,7 +7,7 @@ use crate::reply::Reply;
 use lsm_batch::Batch;
 use lsm_slots::Boarded;
 use lsm_state::State;
-use lsm_table::Shelf;
+use lsm_table::{NamedShelf, Shelf};
 use std::alloc::Global;
 use std::sync::Wait;
 
@@ -16,13 +16,10 @@ pub(crate) fn ingest<N: Boarded, S: Shelf, R: Wait>(
     rt: &R,
     alloc: Global,
     state: &mut State<N, S>,
-    shelf: &mut S,
+    shelf: &mut NamedShelf<N, S>,
     batch: &Batch,
 ) -> Reply
-    requires here { (S.told shelf.old).place ≡ N.place }
-    ensures reply { IsIngestReply batch.now result state.old state.new (S.told shelf.old)
-        (S.told shelf.new) }
-    ensures place { (S.told shelf.new).place ≡ N.place }
+    ensures reply { IsIngestReply batch.now result state.old state.new shelf.old shelf.new }
 {
     match state.ingest(rt, alloc, shelf, batch) {
         Ok(ingested) => Reply::Ingested(ingested),

@@ -9,7 +9,7 @@ use lsm_codec::List;
 use lsm_merge::Finished;
 use lsm_slots::Boarded;
 use lsm_state::State;
-use lsm_table::Shelf;
+use lsm_table::{NamedShelf, Shelf};
 use std::alloc::Global;
 use std::sync::Wait;
 
@@ -19,14 +19,12 @@ pub(crate) fn install<N: Boarded, S: Shelf, R: Wait>(
     rt: &R,
     alloc: Global,
     state: &mut State<N, S>,
-    shelf: &mut S,
+    shelf: &mut NamedShelf<N, S>,
     results: &mut Vec<Finished<N, S>>,
     ticket: u64,
 ) -> Reply
-    requires here { (S.told shelf.old).place ≡ N.place }
     ensures reply { IsInstallReply S.honest ticket result state.old state.new results.old.items
-        results.new.items (S.told shelf.old) (S.told shelf.new) }
-    ensures place { (S.told shelf.new).place ≡ N.place }
+        results.new.items shelf.old shelf.new }
 {
     let Some(place) = place_of_result(results, ticket) else {
         return Reply::unknown(ticket);

@@ -1,14 +1,16 @@
-//! Lists of commands on a state, one after another on one thread, each with its reply.
+//! Lists of commands on a state, one after another on one thread, each with its reply; the lines of
+//! text that spell them, and what is printed of replies.
 //!
-//! Stands on `lsm_state` for the commands, and on `lsm_merge` for merges. Data flows from a
-//! `command` through `run`, which hands it to one function a command, to a `reply`. Its contract:
-//! the replies are a run of the plain machine, as a reader of the database sees it, from the
-//! state's own entries.
+//! Stands on `lsm_state` for the commands, on `lsm_merge` for merges, and on `lsm_text` for words.
+//! Data flows from lines to commands, from a `command` through `run`, which hands it to one
+//! function a command, to a `reply`, and from replies to text. Its contract: the replies are a run
+//! of the plain machine, as a reader of the database sees it, from the state's own entries; a line
+//! spells one command or none.
 #![tactic(auto)]
 
 // What is asked and what is answered.
 mod command;
-mod refusal;
+mod command_fault;
 mod reply;
 
 // One command each.
@@ -25,7 +27,24 @@ mod snapshots;
 mod held;
 mod script;
 
+// Commands as text.
+mod command_line;
+mod laws;
+mod named;
+mod script_text;
+mod words;
+
+// Replies as text.
+mod refusal_text;
+mod refusals;
+mod reply_text;
+
 pub use command::Command;
-pub use refusal::Refusal;
+pub use command_fault::CommandFault;
+pub use command_line::command_in;
+pub use laws::one_script;
+pub use refusals::{cause_of_merge, of_merge, of_state};
 pub use reply::{Reply, Reserved};
+pub use reply_text::push_replies;
 pub use script::run;
+pub use script_text::{ScriptFault, script_in};

@@ -4,15 +4,15 @@ ghost use Rattle.std.specs.Prelude.{◌≡◌, [], IfErr, IfOk};
 ghost use Rattle.lsm_script.specs.Drawing.{GivesNumber, Keeps};
 ghost use Rattle.lsm_script.specs.Replies.{IsMergeReply, IsMergedBy, IsRefusedBy};
 
+use crate::command_fault::CommandFault;
 use crate::held::place_of_job;
 use crate::numbers::{Noted, Numbers, drawn};
-use crate::refusal::Refusal;
 use crate::reply::Reply;
 use boxcar::tag::Tag;
 use lsm_merge::{Finished, Job, MergeFault, compact};
 use lsm_slots::Boarded;
 use lsm_state::State;
-use lsm_table::{Registry, Shelf};
+use lsm_table::{NamedShelf, Registry, Shelf};
 use std::alloc::Global;
 use std::marker::{Brand, PhantomData};
 use std::sync::Wait;
@@ -22,18 +22,16 @@ fn merge_job<M: Noted<State<N, S>>, N: Boarded, S: Shelf, R: Wait>(
     rt: &R,
     alloc: Global,
     state: State<N, S>,
-    shelf: &mut S,
+    shelf: &mut NamedShelf<N, S>,
     registry: &Registry<N, S>,
     job: Job<N, S>,
 ) -> (State<N, S>, Result<Finished<N, S>, MergeFault>)
     requires begins { M.holds state [] [] [] }
     requires keeps { Keeps GivesNumber M.holds }
-    requires here { (S.told shelf.old).place ≡ N.place }
     ensures ok { IfOk result.1 (λ d.
-        IsMergedBy S.honest M.holds job d result.0 (S.told shelf.old) (S.told shelf.new)) }
+        IsMergedBy S.honest M.holds job d result.0 shelf.old shelf.new) }
     ensures err { IfErr result.1 (λ e.
-        IsRefusedBy S.honest M.holds job e result.0 (S.told shelf.old) (S.told shelf.new)) }
-    ensures place { (S.told shelf.new).place ≡ N.place }
+        IsRefusedBy S.honest M.holds job e result.0 shelf.old shelf.new) }
 {
     let mut numbers = Numbers {
         state: Some(state),
@@ -62,16 +60,14 @@ pub(crate) fn merge<N: Boarded, S: Shelf, R: Wait>(
     rt: &R,
     alloc: Global,
     state: State<N, S>,
-    shelf: &mut S,
+    shelf: &mut NamedShelf<N, S>,
     registry: &Registry<N, S>,
     jobs: &mut Vec<Job<N, S>>,
     results: &mut Vec<Finished<N, S>>,
     ticket: u64,
 ) -> (State<N, S>, Reply)
-    requires here { (S.told shelf.old).place ≡ N.place }
     ensures reply { IsMergeReply S.honest ticket result.1 state result.0 jobs.old.items
-        jobs.new.items results.old.items results.new.items (S.told shelf.old) (S.told shelf.new) }
-    ensures place { (S.told shelf.new).place ≡ N.place }
+        jobs.new.items results.old.items results.new.items shelf.old shelf.new }
 {
     let Some(place) = place_of_job(jobs, ticket) else {
         return (state, Reply::unknown(ticket));
@@ -85,7 +81,7 @@ pub(crate) fn merge<N: Boarded, S: Shelf, R: Wait>(
     let (state, merged) = merge_job::<Brand, N, S, R>(rt, alloc, state, shelf, registry, job);
     let done = match merged {
         Ok(done) => done,
-        Err(fault) => return (state, Reply::Refused(Refusal::Merge(fault))),
+        Err(fault) => return (state, Reply::Refused(CommandFault::Merge(fault))),
     };
     let tables = done.put_numbers().len();
     jobs.remove(place);

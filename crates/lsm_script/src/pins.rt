@@ -7,7 +7,7 @@ use crate::reply::Reply;
 use lsm_codec::List;
 use lsm_slots::Boarded;
 use lsm_state::State;
-use lsm_table::Shelf;
+use lsm_table::{NamedShelf, Shelf};
 use std::alloc::Global;
 use std::sync::Wait;
 
@@ -36,12 +36,9 @@ pub(crate) fn collect<N: Boarded, S: Shelf, R: Wait>(
     rt: &R,
     alloc: Global,
     state: &mut State<N, S>,
-    shelf: &mut S,
+    shelf: &mut NamedShelf<N, S>,
 ) -> Reply
-    requires here { (S.told shelf.old).place ≡ N.place }
-    ensures reply { IsCollectReply result state.old state.new (S.told shelf.old)
-        (S.told shelf.new) }
-    ensures place { (S.told shelf.new).place ≡ N.place }
+    ensures reply { IsCollectReply result state.old state.new shelf.old shelf.new }
 {
     match state.collect(rt, alloc, shelf) {
         Ok(numbers) => Reply::Removed(List::of(numbers)),

@@ -8,7 +8,7 @@ use crate::reply::Reply;
 use lsm_codec::{Bytes, List};
 use lsm_slots::Boarded;
 use lsm_state::State;
-use lsm_table::Shelf;
+use lsm_table::{NamedShelf, Shelf};
 use std::alloc::Global;
 
 /// The reply to a read that gives this.
@@ -25,14 +25,11 @@ fn read_of(value: Option<Vec<u8>>) -> Reply
 pub(crate) fn get<N: Boarded, S: Shelf>(
     alloc: Global,
     state: &State<N, S>,
-    shelf: &mut S,
+    shelf: &mut NamedShelf<N, S>,
     key: &Bytes,
     at: Option<u64>,
 ) -> Reply
-    requires here { (S.told shelf.old).place ≡ N.place }
-    ensures reply { IsGetReply S.honest key.now at result state.now (S.told shelf.old)
-        (S.told shelf.new) }
-    ensures place { (S.told shelf.new).place ≡ N.place }
+    ensures reply { IsGetReply S.honest key.now at result state.now shelf.old shelf.new }
 {
     match state.get(shelf, alloc, key.as_slice(), at) {
         Ok(value) => read_of(value),

@@ -3,11 +3,11 @@
 ghost use Rattle.std.specs.Prelude.{◌≡◌};
 ghost use Rattle.lsm_script.specs.Scripts.{ends_list};
 ghost use Rattle.lsm_script.specs.declared.reply.Reply.TheVariants.{Refused};
-ghost use Rattle.lsm_script.specs.declared.refusal.Refusal.TheVariants.{State};
+ghost use Rattle.lsm_script.specs.declared.command_fault.CommandFault.TheVariants.{State};
 ghost use Rattle.lsm_state.specs.declared.state_fault.StateFault.TheVariants.{OutOfMemory};
 ghost use Rattle.lsm_state.specs.declared.state_fault.StateFault.TheVariants.{UnknownTicket};
 
-use crate::refusal::Refusal;
+use crate::command_fault::CommandFault;
 use lsm_codec::{Bytes, List};
 use lsm_manifest::FileMeta;
 use lsm_state::{Ingested, StateFault};
@@ -59,7 +59,7 @@ pub enum Reply {
     /// level.
     Files(List<(u8, FileMeta)>),
     /// The command was refused.
-    Refused(Refusal),
+    Refused(CommandFault),
 }
 
 impl Reply {
@@ -77,7 +77,7 @@ impl Reply {
     pub(crate) fn refused(fault: StateFault) -> Reply
         ensures { result ≡ Refused (State fault) }
     {
-        Reply::Refused(Refusal::State(fault))
+        Reply::Refused(CommandFault::State(fault))
     }
 
     // A growth was refused.

@@ -22,7 +22,7 @@ use lsm_levels::machine::runs_read_all_that_came;
 use lsm_merge::{Finished, Job};
 use lsm_slots::Boarded;
 use lsm_state::State;
-use lsm_table::{Registry, Shelf};
+use lsm_table::{NamedShelf, Registry, Shelf};
 use std::alloc::{AllocError, Global};
 use std::sync::{Arc, Wait};
 
@@ -31,27 +31,24 @@ fn answer_call<N: Boarded, S: Shelf, R: Wait>(
     rt: &R,
     alloc: Global,
     state: &mut State<N, S>,
-    shelf: &mut S,
+    shelf: &mut NamedShelf<N, S>,
     registry: &Registry<N, S>,
     jobs: &mut Vec<Job<N, S>>,
     results: &mut Vec<Finished<N, S>>,
     command: &Command,
 ) -> Reply
-    requires here { (S.told shelf.old).place ≡ N.place }
     requires other { (ticket : ℕ) → command.now ≡ Merge ticket → ⊥ }
     ensures step { IsStep S.honest command.now result record {
       state = state.old;
-      told = S.told
-          shelf.old;
+      told = shelf.old;
       jobs = jobs.old.items;
       results = results.old.items;
     } record {
       state = state.new;
-      told = S.told shelf.new;
+      told = shelf.new;
       jobs = jobs.new.items;
       results = results.new.items;
     } }
-    ensures place { (S.told shelf.new).place ≡ N.place }
 {
     match command {
         Command::Ingest(batch) => ingest(rt, alloc, state, shelf, batch),
@@ -85,26 +82,23 @@ fn answer<N: Boarded, S: Shelf, R: Wait>(
     rt: &R,
     alloc: Global,
     state: State<N, S>,
-    shelf: &mut S,
+    shelf: &mut NamedShelf<N, S>,
     registry: &Registry<N, S>,
     jobs: &mut Vec<Job<N, S>>,
     results: &mut Vec<Finished<N, S>>,
     command: &Command,
 ) -> (State<N, S>, Reply)
-    requires here { (S.told shelf.old).place ≡ N.place }
     ensures step { IsStep S.honest command.now result.1 record {
       state = state;
-      told = S.told
-          shelf.old;
+      told = shelf.old;
       jobs = jobs.old.items;
       results = results.old.items;
     } record {
       state = result.0;
-      told = S.told shelf.new;
+      told = shelf.new;
       jobs = jobs.new.items;
       results = results.new.items;
     } }
-    ensures place { (S.told shelf.new).place ≡ N.place }
 {
     if let Command::Merge(ticket) = command {
         return merge(rt, alloc, state, shelf, registry, jobs, results, *ticket);
@@ -121,22 +115,20 @@ fn answer_all<N: Boarded, S: Shelf, R: Wait>(
     rt: &R,
     alloc: Global,
     state: State<N, S>,
-    shelf: &mut S,
+    shelf: &mut NamedShelf<N, S>,
     registry: &Registry<N, S>,
     commands: &[Command],
     replies: &mut Vec<Reply>,
 ) -> State<N, S>
-    requires here { (S.told shelf.old).place ≡ N.place }
     requires none { (replies.old.items ≡ []) × (vec_len replies.old ≡ 0) }
     requires room { length commands.now ≤ vec_capacity replies.old }
     ensures replies { (jobs : List Work) × (results : List Done) × AreReplies (IsStep S.honest)
-        commands.now replies.new.items (stage_of state (S.told shelf.old)) record {
+        commands.now replies.new.items (stage_of state shelf.old) record {
           state = result;
-          told = S.told shelf.new;
+          told = shelf.new;
           jobs = jobs;
           results = results;
         } }
-    ensures place { (S.told shelf.new).place ≡ N.place }
 {
     let mut jobs = Vec::new(alloc);
     let mut results = Vec::new(alloc);
@@ -176,23 +168,21 @@ pub fn run<N: Boarded, S: Shelf, R: Wait>(
     rt: &R,
     alloc: Global,
     state: State<N, S>,
-    shelf: &mut S,
+    shelf: &mut NamedShelf<N, S>,
     commands: &[Command],
 ) -> Result<(State<N, S>, List<Reply>), (AllocError, State<N, S>)>
-    requires here { (S.told shelf.old).place ≡ N.place }
 
     // Each reply, and what it leaves, is as the state's call says.
     ensures replies { IfOk result (λ r. (jobs : List Work) × (results : List Done)
-        × AreReplies (IsStep S.honest) commands.now r.1 (stage_of state (S.told shelf.old))
-        record { state = r.0; told = S.told shelf.new; jobs = jobs; results = results }) }
+        × AreReplies (IsStep S.honest) commands.now r.1 (stage_of state shelf.old)
+        record { state = r.0; told = shelf.new; jobs = jobs; results = results }) }
 
     // The replies are those of the history from the state's own entries, and at the end the state
     // is as the history says.
     ensures history { IfOk result (λ r. (t : History) × AreReplies (IsAnswered S.honest)
         commands.now r.1 (history_of state) t × IsOf S.honest t r.0) }
 
-    ensures place { (S.told shelf.new).place ≡ N.place }
-    ensures err { IfErr result (λ e. (e.1 ≡ state) × (S.told shelf.new ≡ S.told shelf.old)) }
+    ensures err { IfErr result (λ e. (e.1 ≡ state) × (shelf.new ≡ shelf.old)) }
 {
     let registry = match Arc::try_clone(state.registry()) {
         Ok(registry) => registry,

@@ -8,8 +8,8 @@
 
 mod shelf;
 mod shelf_fault;
-mod slip;
+mod table_receipt;
 
 pub use shelf::Shelf;
 pub use shelf_fault::ShelfFault;
-pub use slip::{MAX_IMAGE, Slip};
+pub use table_receipt::{MAX_IMAGE, TableReceipt};

@@ -5,7 +5,7 @@ ghost use Rattle.std.specs.Prelude.{IsTrue};
 ghost use Rattle.std.specs.List.Sorted.{IsStrictlyIncreasing};
 
 use crate::shelf_fault::ShelfFault;
-use crate::slip::Slip;
+use crate::table_receipt::TableReceipt;
 use std::alloc::Global;
 use std::sync::Wait;
 
@@ -24,7 +24,7 @@ pub trait Shelf: Drop + Send + Sync {
     ghost use Rattle.lsm_shelf.specs.Told.{sending, appending, finding, forking, fresh};
 
     /// What stands for an image that was put or loaded.
-    type Receipt: Slip;
+    type Receipt: TableReceipt;
 
     /// The premise under which reads give the bytes of the image put. One for the type, so the same
     /// for all its values.

@@ -1,6 +1,5 @@
 -- Which call the shelf refused where a call of the state is refused.
-use Rattle.std.proofs.Common.{◌≡◌, ◌==◌, ◌↔◌, ℕ, suc, true, not, List, subst, sym, ap, refl}
-use Rattle.std.specs.Prelude.{Result, Ok, Err, IfErr}
+use Rattle.std.proofs.Common.{◌≡◌, ◌==◌, ◌↔◌, ℕ, suc, true, not, List, subst, ap, refl}
 use Rattle.std.proofs.lemmas.Bool.{eq-eqb}
 use Rattle.lsm_codec.specs.Lists.{Has}
 use Rattle.lsm_codec.proofs.CallerLemmas.{any_at, filter_has}
@@ -9,6 +8,8 @@ use Rattle.lsm_shelf.specs.declared.shelf_fault.ShelfFault.{ShelfFault}
 use Rattle.lsm_shelf.proofs.CallerLemmas.{want_more}
 use Rattle.lsm_table.specs.Registry.{Table}
 use Rattle.lsm_table.specs.TableBuilding.{table_bytes}
+use Rattle.lsm_block.specs.declared.build_fault.BuildFault.{BuildFault}
+use Rattle.lsm_block.specs.declared.build_fault.BuildFault.TheVariants as block
 use Rattle.lsm_version.specs.Versions.{Levels}
 use Rattle.lsm_slots.specs.Slots.{Slotted}
 use Rattle.lsm_batch.specs.declared.write.Write.{Write}
@@ -21,20 +22,11 @@ use Rattle.lsm_state.specs.Asked.{ChangeRefused, InstallRefused, OnShelf, PutRef
 use Rattle.lsm_state.specs.Changing.{IsSlotRefusal}
 use Rattle.lsm_state.specs.Collecting.{IsKeptNumber, is_in, outside}
 use Rattle.lsm_state.specs.Held.{Held}
-use Rattle.lsm_state.specs.Ingesting.{IsEarlyRefusal, entries_of}
+use Rattle.lsm_state.specs.Ingesting.{IsEarlyRefusal, entries_of, of_build}
 use Rattle.lsm_state.specs.Installing.{IsInstallChange, IsRefusedAtOnce}
 use Rattle.lsm_state.specs.Options.{sizes_of}
 use Rattle.lsm_state.specs.declared.state_fault.StateFault.{StateFault}
 use Rattle.lsm_state.specs.declared.state_fault.StateFault.TheVariants as state
-
--- ---- answers
-
-pub ok_asked : {A : Type 0} (P : StateFault → Type 0) (r : Result A StateFault) (x : A) → r ≡ Ok x → IfErr r P
-ok_asked P (Ok y) x is = tt
-ok_asked P (Err e) x is = absurd (cc)
-
-pub err_asked : {A : Type 0} (P : StateFault → Type 0) (r : Result A StateFault) (e : StateFault) → r ≡ Err e → P e → IfErr r P
-err_asked P r e is p = subst (λ x. IfErr x P) (sym is) p
 
 -- ---- refusals that are not the shelf's
 
@@ -67,6 +59,10 @@ slot_asked R s t e p = not_shelf R (IsSlotRefusal s t) (λ f q. absurd q) e p
 
 pub at_once_asked : (R : ShelfFault → Type 0) (h : Held) (d : Done) (e : StateFault) → IsRefusedAtOnce h d e → OnShelf R e
 at_once_asked R h d e p = not_shelf R (IsRefusedAtOnce h d) (λ f q. absurd q) e p
+
+pub build_asked : (R : ShelfFault → Type 0) (f : BuildFault) → OnShelf R (of_build f)
+build_asked R block.OutOfMemory = tt
+build_asked R block.TooLarge = tt
 
 -- ---- refusals of one kind that are of another kind too
 

@@ -1,6 +1,6 @@
 -- What an ingest leaves of the law of a state, and that it is the machine's event.
 use Rattle.std.proofs.Common.{◌≡◌, ℕ, zero, suc, ◌+◌, ◌<◌, ◌≤◌, ◌↔◌, ◌==◌, Bool, true, false, cond, Option, None, List, [], ◌∷◌, ◌++◌, length, refl, sym, ◌∙◌, ap, subst, inl, inr, arith}
-use Rattle.std.specs.Prelude.{◌⊎◌, Result, Ok, Err, IfErr, IfOk}
+use Rattle.std.specs.Prelude.{◌⊎◌, Result, Ok, Err, IfErr}
 use Rattle.std.specs.Result.{IsErrAnd}
 use Rattle.std.specs.List.{All}
 use Rattle.std.specs.List.Sorted.{IsPermutation}
@@ -30,14 +30,18 @@ use Rattle.lsm_levels.specs.Runs.{Ingest}
 use Rattle.lsm_slots.specs.Slots.{Slotted}
 use Rattle.lsm_live.specs.Booked.{Booked}
 use Rattle.lsm_journal.specs.Difference.{Difference, FitsComing, Suits, changed_by}
+use Rattle.lsm_block.specs.declared.build_fault.BuildFault.{BuildFault}
+use Rattle.lsm_block.specs.declared.build_fault.BuildFault.TheVariants as block
+use Rattle.lsm_batch.specs.declared.batch_fault.BatchFault.{BatchFault}
+use Rattle.lsm_batch.specs.declared.batch_fault.BatchFault.TheVariants as batch
 use Rattle.lsm_batch.specs.declared.write.Write.{Write}
-use Rattle.lsm_batch.specs.Batches.{entries_from}
+use Rattle.lsm_batch.specs.Batches.{IsBatchRefusal, entries_from}
 use Rattle.lsm_batch.specs.Images.{Imaged, IsImage, IsPutAs, PassesTable}
 use Rattle.lsm_state.specs.Held.{HasInputs, Held, IsLawfulState, plain}
 use Rattle.lsm_state.specs.Options.{sizes_of}
 use Rattle.lsm_state.specs.Collecting.{SameCounts}
 use Rattle.lsm_state.specs.Changing.{ChangesVersion, HasSlot, IsChangeRefusal, Sought, plain_after}
-use Rattle.lsm_state.specs.Ingesting.{FailsToBuild, FailsToPut, IsBuildRefusal, IsIngestRefusal, IsTableOf, IsWelcome, coming_in, entries_of, last_of, with_number, with_slots}
+use Rattle.lsm_state.specs.Ingesting.{FailsToBuild, FailsToPut, IsBuildRefusal, IsEarlyRefusal, IsIngestRefusal, IsTableOf, IsWelcome, coming_in, entries_of, last_of, of_batch, of_build, with_number, with_slots}
 use Rattle.lsm_state.specs.declared.state_fault.StateFault.{StateFault}
 use Rattle.lsm_state.specs.declared.state_fault.StateFault.TheVariants.{OutOfMemory, Shelf, Read, BadLevel, EmptyBatch, KeyOrder, TooLarge, LevelZeroFull, SequencesSpent, Halted, UnknownSnapshot, Conflict, UnknownTicket, NumbersSpent, Stale, SlotsHeld, VersionsSpent, PinsSpent}
 use Rattle.lsm_state.proofs.Inputs.{TablesChange, inputs_stay}
@@ -132,12 +136,6 @@ table_put law same es i number t im p =
       entries = same t.image es table;
       number_is = p.number_is;
     }
-
-pub ok_is : {A E : Type 0} (P : A → Type 0) (r : Result A E) (x : A) → r ≡ Ok x → P x → IfOk r P
-ok_is P r x is p = subst (λ q. IfOk q P) (sym is) p
-
-pub none_ok : {A E : Type 0} (P : A → Type 0) (r : Result A E) (e : E) → r ≡ Err e → IfOk r P
-none_ok P r e is = subst (λ q. IfOk q P) (sym is) tt
 
 -- a table of the batch would pass a limit
 pub passes : (h : Held) (ws : List Write) (o : TableOptions) (last : ℕ) → o ≡ sizes_of h.options → last ≡ h.slots.version.last → PassesTable o (entries_from (last + 1) ws)
@@ -284,6 +282,17 @@ change_of h ws t d before count is last counted = (let sums : before + count ≡
 pub err_is : {A : Type 0} (P : StateFault → Type 0) (r : Result A StateFault) (f : StateFault) → IsErrAnd r (λ e. e ≡ f) → P f → IfErr r P
 err_is P (Ok x) f h k = tt
 err_is P (Err e) f h k = subst P (sym h) k
+
+-- the table was not built
+pub build_refused : (o : TableOptions) (es : List Entry) (f : BuildFault) → (f ≡ block.TooLarge → PassesTable o es) → IsBuildRefusal o es (of_build f)
+build_refused o es block.OutOfMemory large = tt
+build_refused o es block.TooLarge large = large refl
+
+-- the batch is none
+pub batch_refused : (h : Held) (ws : List Write) (f : BatchFault) → h.halted ≡ false → IsBatchRefusal ws f → IsEarlyRefusal h ws (of_batch f)
+batch_refused h ws batch.EmptyBatch going p = (going, p)
+batch_refused h ws (batch.KeyOrder n) going p = (going, p)
+batch_refused h ws batch.TooLarge going p = (going, p)
 
 pub refused_put : (h m y : Held) (ws : List Write) (e : StateFault) (was is : Told) → IsWelcome h ws → Sought h.slots m.slots → m ≡ with_slots h m.slots → HasSlot m.slots
     → y.slots ≡ m.slots → FailsToBuild m y ws e was is ⊎ FailsToPut m y e was is → IsIngestRefusal h y ws e was is

@@ -147,9 +147,6 @@ pub closed_choice : (h : Held) (v : Levels) (rs : List Reserved) (p : TablePlan)
 closed_choice h v rs p same k =
     (file_of (k.start).level (k.start).table ∷ [], subst (λ (x : Levels). IsPlanFrom x (Has (file_of (k.start).level (k.start).table ∷ [])) p) same (k.planned).planned)
 
-pub closed_range : (h : Held) (v : Levels) (starts : List File) (p : TablePlan) → v ≡ h.slots.version → IsPlanFrom v (Has starts) p → IsClosedPlan h p
-closed_range h v starts p same k = (starts, subst (λ (x : Levels). IsPlanFrom x (Has starts) p) same k)
-
 pub chosen_at : (h : Held) (v : Levels) (rs : List Reserved) (p : TablePlan) → v ≡ h.slots.version → rs ≡ reserved_jobs h.live → IsChoice v rs p → IsChosen h p
 chosen_at h v rs p a b k = subst (λ (x : Levels). IsChoice x (reserved_jobs h.live) p) a (subst (λ (x : List Reserved). IsChoice v x p) b k)
 

@@ -3,6 +3,8 @@
 use Rattle.std.specs.Prelude.{◌≡◌, ℕ, suc, ◌+◌, ◌^◌, ◌<◌, ◌≤◌, ◌⊎◌, false, true, if◌then◌else◌, List, [], ◌∷◌, length, None}
 use Rattle.lsm_codec.specs.Entries.{Entry}
 use Rattle.lsm_shelf.specs.Told.{Told, Becomes, putting}
+use Rattle.lsm_block.specs.declared.build_fault.BuildFault.{BuildFault}
+use Rattle.lsm_block.specs.declared.build_fault.BuildFault.TheVariants as block
 use Rattle.lsm_table.specs.HeldTable.{entries_in}
 use Rattle.lsm_table.specs.Registry.{Table}
 use Rattle.lsm_table.specs.TableBuilding.{table_bytes}
@@ -151,3 +153,7 @@ abbrev pub of_batch : BatchFault → StateFault
 of_batch batch.EmptyBatch = EmptyBatch
 of_batch (batch.KeyOrder place) = KeyOrder place
 of_batch batch.TooLarge = TooLarge
+
+abbrev pub of_build : BuildFault → StateFault
+of_build block.OutOfMemory = OutOfMemory
+of_build block.TooLarge = TooLarge

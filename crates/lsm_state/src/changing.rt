@@ -24,7 +24,7 @@ use crate::state_fault::StateFault;
 use lsm_journal::VersionChange;
 use lsm_live::LiveJobs;
 use lsm_slots::Boarded;
-use lsm_table::{Naming, Shelf, ShelfFault};
+use lsm_table::{NamedShelf, Naming, Shelf, ShelfFault};
 use lsm_version::{Version, changed_is_sound};
 use std::alloc::Global;
 use std::sync::{Arc, Wait};
@@ -93,7 +93,7 @@ impl<N: Boarded, S: Shelf> State<N, S> {
     {
         changed_is_sound();
         let current = self.slots.version();
-        // That a version over an honest shelf is sound is told by this call.
+        // What holds of the version is told by this call.
         let _last = current.last();
         let version = change.apply(alloc, current)?;
         let first = Arc::new(alloc, version)?;
@@ -134,7 +134,7 @@ impl<N: Boarded, S: Shelf> State<N, S> {
         &mut self,
         rt: &R,
         alloc: Global,
-        shelf: &mut S,
+        shelf: &mut NamedShelf<N, S>,
         change: &VersionChange<N, S>,
         slot: u8,
         out: Option<u64>,
@@ -148,14 +148,14 @@ impl<N: Boarded, S: Shelf> State<N, S> {
         requires law { Law S.honest (plain_after self.old change.now out) }
         requires inputs { (b : Booked) → Has (live_after out self.old.live) b
             → HasInputs (changed_by change.now self.old.slots.version) b.work }
-        ensures ok { OnOk result (ChangesVersion self.old self.new change.now out (S.told shelf.old)
-            (S.told shelf.new)) }
+        ensures ok { OnOk result (ChangesVersion self.old self.new change.now out shelf.old
+            shelf.new) }
         ensures refused { IfErr result (λ e.
-            IsChangeRefusal self.old self.new e (S.told shelf.old) (S.told shelf.new)) }
+            IsChangeRefusal self.old self.new e shelf.old shelf.new) }
         ensures asked { IfErr result
-            (OnShelf (ChangeRefused (S.refuses (S.told shelf.old).place) self.old change.now)) }
-        ensures unsent { OnErr result (Becomes (S.told shelf.old) (S.told shelf.new)) }
-        ensures counts { OnOk result (SameCounts (S.told shelf.old) (S.told shelf.new)) }
+            (OnShelf (ChangeRefused (S.refuses N.place) self.old change.now)) }
+        ensures unsent { OnErr result (Becomes shelf.old shelf.new) }
+        ensures counts { OnOk result (SameCounts shelf.old shelf.new) }
     {
         let (first, second) = self.version_after(alloc, change, out)?;
         let sent = self.journal.send(rt, alloc, shelf, &self.registry, change, &first, self.next);

@@ -1,6 +1,6 @@
 //! Removing tables that no reader and no job needs.
 
-ghost use Rattle.std.specs.Prelude.{◌≡◌, ◌≤◌, ℕ, ◌++◌, [], length, IfErr, IfOk, OnErr, OnOk, false};
+ghost use Rattle.std.specs.Prelude.{◌≡◌, ◌≤◌, ℕ, [], length, IfErr, IfOk, OnErr, OnOk, false};
 ghost use Rattle.std.specs.Prelude.{vec_capacity, vec_len};
 ghost use Rattle.std.specs.List.Sorted.{IsStrictlyIncreasing};
 ghost use Rattle.lsm_codec.specs.Lists.{Has};
@@ -17,7 +17,7 @@ ghost use Rattle.lsm_state.specs.Held.{plain};
 use crate::state::State;
 use crate::state_fault::StateFault;
 use lsm_slots::Boarded;
-use lsm_table::{Shelf, ShelfFault};
+use lsm_table::{NamedShelf, Naming, Shelf, ShelfFault};
 use std::alloc::Global;
 use std::sync::Wait;
 
@@ -37,8 +37,8 @@ fn keep_outside(numbers: &mut Vec<u64>, kept: &[u64])
 }
 
 // Removes tables one after another, and notes each that was removed; there is room for that.
-fn remove_all<S: Shelf, R: Wait>(
-    shelf: &mut S,
+fn remove_all<N: Naming, S: Shelf, R: Wait>(
+    shelf: &mut NamedShelf<N, S>,
     rt: &R,
     numbers: &[u64],
     removed: &mut Vec<u64>,
@@ -46,16 +46,14 @@ fn remove_all<S: Shelf, R: Wait>(
     requires none { (removed.old.items ≡ []) × (vec_len removed.old ≡ 0) }
     requires room { length numbers.now ≤ vec_capacity removed.old }
     ensures ok { OnOk result ((removed.new.items ≡ numbers.now)
-        × Becomes (removing_all numbers.now (S.told shelf.old)) (S.told shelf.new)) }
-    ensures err { OnErr result
-        (IsStopped numbers.now removed.new.items (S.told shelf.old) (S.told shelf.new)) }
-    ensures cause { IfErr result (λ e. NotTaken e
-        × Counted e (S.told shelf.old) (S.told shelf.new)) }
-    ensures counts { CountedBy result (S.told shelf.old) (S.told shelf.new) }
+        × Becomes (removing_all numbers.now shelf.old) shelf.new) }
+    ensures err { OnErr result (IsStopped numbers.now removed.new.items shelf.old shelf.new) }
+    ensures cause { IfErr result (λ e. NotTaken e × Counted e shelf.old shelf.new) }
+    ensures counts { CountedBy result shelf.old shelf.new }
     ensures asked { IfErr result (λ e. (n : ℕ) × Has numbers.now n
-        × S.refuses (S.told shelf.old).place (Remove n) e) }
+        × S.refuses N.place (Remove n) e) }
     ensures untold { IfErr result (λ e. IsRefusedMemory e
-        → TellsAll removed.new.items (S.told shelf.old) (S.told shelf.new)) }
+        → TellsAll removed.new.items shelf.old shelf.new) }
 {
     for number in numbers {
         shelf.remove(rt, *number)?;
@@ -72,23 +70,18 @@ impl<N: Boarded, S: Shelf> State<N, S> {
         &self,
         rt: &R,
         alloc: Global,
-        shelf: &mut S,
+        shelf: &mut NamedShelf<N, S>,
         removed: &mut Vec<u64>,
     ) -> Result<(), StateFault>
         requires none { (removed.old.items ≡ []) × (vec_len removed.old ≡ 0) }
-        ensures ok { OnOk result
-            (AreCollected self.now removed.new.items (S.told shelf.old) (S.told shelf.new)) }
-        ensures err { OnErr result
-            (StoppedEarly self.now removed.new.items (S.told shelf.old) (S.told shelf.new)) }
-        ensures cause { IfErr result (λ e.
-            IsMemoryOrShelf e (S.told shelf.old) (S.told shelf.new)) }
-        ensures counts { OnOk result (SameCounts (S.told shelf.old) (S.told shelf.new)) }
-        ensures counts_err { IfErr result (λ e.
-            IsCountedOnce e (S.told shelf.old) (S.told shelf.new)) }
-        ensures asked { IfErr result
-            (OnShelf (CollectRefused (S.refuses (S.told shelf.old).place) self.now)) }
+        ensures ok { OnOk result (AreCollected self.now removed.new.items shelf.old shelf.new) }
+        ensures err { OnErr result (StoppedEarly self.now removed.new.items shelf.old shelf.new) }
+        ensures cause { IfErr result (λ e. IsMemoryOrShelf e shelf.old shelf.new) }
+        ensures counts { OnOk result (SameCounts shelf.old shelf.new) }
+        ensures counts_err { IfErr result (λ e. IsCountedOnce e shelf.old shelf.new) }
+        ensures asked { IfErr result (OnShelf (CollectRefused (S.refuses N.place) self.now)) }
         ensures untold { IfErr result (λ e. IsWantOfMemory e
-            → TellsAll removed.new.items (S.told shelf.old) (S.told shelf.new)) }
+            → TellsAll removed.new.items shelf.old shelf.new) }
     {
         let kept = self.kept(alloc)?;
         let mut numbers = shelf.list(rt, alloc)?;
@@ -109,23 +102,21 @@ impl<N: Boarded, S: Shelf> State<N, S> {
         &mut self,
         rt: &R,
         alloc: Global,
-        shelf: &mut S,
+        shelf: &mut NamedShelf<N, S>,
     ) -> Result<Vec<u64>, (StateFault, Vec<u64>)>
-        requires here { (S.told shelf.old).place ≡ N.place }
         ensures ok { IfOk result (λ v. (self.old.halted ≡ false) × HasLookedAround self.old self.new
-            × AreCollected self.new v.items (S.told shelf.old) (S.told shelf.new)) }
+            × AreCollected self.new v.items shelf.old shelf.new) }
         ensures event { plain self.new ≡ plain self.old }
         ensures kept { (n : ℕ) → IsKeptNumber self.new n → IsKeptNumber self.old n }
         ensures rest { self.new ≡ record self.old { slots = self.new.slots } }
         ensures refused { IfErr result (λ e. IsCollectRefusal self.old self.new e.0 e.1.items
-            (S.told shelf.old) (S.told shelf.new)) }
-        ensures counts { OnOk result (SameCounts (S.told shelf.old) (S.told shelf.new)) }
-        ensures counts_err { IfErr result (λ e.
-            IsCountedOnce e.0 (S.told shelf.old) (S.told shelf.new)) }
+            shelf.old shelf.new) }
+        ensures counts { OnOk result (SameCounts shelf.old shelf.new) }
+        ensures counts_err { IfErr result (λ e. IsCountedOnce e.0 shelf.old shelf.new) }
         ensures asked { IfErr result (λ e.
-            OnShelf (CollectRefused (S.refuses (S.told shelf.old).place) self.new) e.0) }
+            OnShelf (CollectRefused (S.refuses N.place) self.new) e.0) }
         ensures untold { IfErr result (λ e. IsWantOfMemory e.0
-            → TellsAll e.1.items (S.told shelf.old) (S.told shelf.new)) }
+            → TellsAll e.1.items shelf.old shelf.new) }
     {
         let mut removed = Vec::new(alloc);
         if self.halted {

@@ -1,6 +1,6 @@
 //! A new database.
 
-ghost use Rattle.std.specs.Prelude.{◌≡◌, ℕ, ◌+◌, ◌<◌, ◌^◌, IfErr, IfOk, OnOk};
+ghost use Rattle.std.specs.Prelude.{◌≡◌, ◌+◌, ◌<◌, ◌^◌, IfErr, IfOk, OnOk};
 ghost use Rattle.lsm_shelf.specs.Told.{Becomes, Rose, next_count, sending};
 ghost use Rattle.lsm_journal.specs.Sending.{CreateCounted, CreateCountedUnder, IsCreateAsked};
 ghost use Rattle.lsm_journal.specs.Sending.{IsCreateAskedUnder, IsCreateRefusal};
@@ -15,7 +15,7 @@ use lsm_levels::machine::created_stores_are_lawful;
 use lsm_live::LiveJobs;
 use lsm_pins::{Pinner, Publisher};
 use lsm_slots::{Boarded, Slots, Snapshots};
-use lsm_table::{Registry, Shelf, ShelfFault};
+use lsm_table::{NamedShelf, Registry, Shelf, ShelfFault};
 use lsm_version::Version;
 use std::alloc::Global;
 use std::sync::{Arc, Wait};
@@ -38,26 +38,22 @@ impl<N: Boarded, S: Shelf> State<N, S> {
     pub fn create<R: Wait>(
         rt: &R,
         alloc: Global,
-        shelf: &mut S,
+        shelf: &mut NamedShelf<N, S>,
         options: Options,
         registry: Arc<Registry<N, S>>,
         board: (Publisher, Vec<Pinner>),
     ) -> Result<State<N, S>, ShelfFault>
         requires fits { Fits options }
-        requires here { (S.told shelf.old).place ≡ N.place }
         requires board { IsNewBoard N.board options board.0 board.1.items }
         ensures created { IfOk result (λ s. s ≡ created_state options board.0 board.1.items) }
-        ensures sent { IfOk result (λ s.
-            Becomes (sending 1 s.journal.bytes (S.told shelf.old)) (S.told shelf.new)) }
-        ensures missing { OnOk result (Rose (S.told shelf.old).misses (S.told shelf.new).misses) }
-        ensures counts { OnOk result (((S.told shelf.new).faults ≡ (S.told shelf.old).faults)
-            × ((S.told shelf.new).misses ≡ next_count (S.told shelf.old).misses)) }
-        ensures refused { IfErr result (λ e.
-            IsCreateRefusal e (S.told shelf.old) (S.told shelf.new)) }
-        ensures asked { IfErr result (λ e. IsCreateAsked (S.refuses (S.told shelf.old).place) e
-            (S.told shelf.old) (S.told shelf.new)) }
-        ensures counts_err { IfErr result (λ e.
-            CreateCounted e (S.told shelf.old) (S.told shelf.new)) }
+        ensures sent { IfOk result (λ s. Becomes (sending 1 s.journal.bytes shelf.old) shelf.new) }
+        ensures missing { OnOk result (Rose shelf.old.misses shelf.new.misses) }
+        ensures counts { OnOk result ((shelf.new.faults ≡ shelf.old.faults)
+            × (shelf.new.misses ≡ next_count shelf.old.misses)) }
+        ensures refused { IfErr result (λ e. IsCreateRefusal e shelf.old shelf.new) }
+        ensures asked { IfErr result (λ e. IsCreateAsked (S.refuses N.place) e
+            shelf.old shelf.new) }
+        ensures counts_err { IfErr result (λ e. CreateCounted e shelf.old shelf.new) }
     {
         State::create_under(rt, alloc, shelf, options, registry, board, 1)
     }
@@ -72,29 +68,26 @@ impl<N: Boarded, S: Shelf> State<N, S> {
     pub fn create_under<R: Wait>(
         rt: &R,
         alloc: Global,
-        shelf: &mut S,
+        shelf: &mut NamedShelf<N, S>,
         options: Options,
         registry: Arc<Registry<N, S>>,
         board: (Publisher, Vec<Pinner>),
         number: u64,
     ) -> Result<State<N, S>, ShelfFault>
         requires fits { Fits options }
-        requires here { (S.told shelf.old).place ≡ N.place }
         requires board { IsNewBoard N.board options board.0 board.1.items }
         requires numbers { number + 1 < 2 ^ 64 }
         ensures created { IfOk result (λ s.
             s ≡ created_state_under number options board.0 board.1.items) }
         ensures sent { IfOk result (λ s.
-            Becomes (sending number s.journal.bytes (S.told shelf.old)) (S.told shelf.new)) }
-        ensures missing { OnOk result (Rose (S.told shelf.old).misses (S.told shelf.new).misses) }
-        ensures counts { OnOk result (((S.told shelf.new).faults ≡ (S.told shelf.old).faults)
-            × ((S.told shelf.new).misses ≡ next_count (S.told shelf.old).misses)) }
-        ensures refused { IfErr result (λ e.
-            IsCreateRefusalUnder number e (S.told shelf.old) (S.told shelf.new)) }
+            Becomes (sending number s.journal.bytes shelf.old) shelf.new) }
+        ensures missing { OnOk result (Rose shelf.old.misses shelf.new.misses) }
+        ensures counts { OnOk result ((shelf.new.faults ≡ shelf.old.faults)
+            × (shelf.new.misses ≡ next_count shelf.old.misses)) }
+        ensures refused { IfErr result (λ e. IsCreateRefusalUnder number e shelf.old shelf.new) }
         ensures asked { IfErr result (λ e. IsCreateAskedUnder number
-            (S.refuses (S.told shelf.old).place) e (S.told shelf.old) (S.told shelf.new)) }
-        ensures counts_err { IfErr result (λ e.
-            CreateCountedUnder number e (S.told shelf.old) (S.told shelf.new)) }
+            (S.refuses N.place) e shelf.old shelf.new) }
+        ensures counts_err { IfErr result (λ e. CreateCountedUnder number e shelf.old shelf.new) }
     {
         let (publisher, pinners) = board;
         let empty = Version::empty(alloc, Arc::try_clone(&registry)?)?;

@@ -1,6 +1,6 @@
 //! Ingests.
 
-ghost use Rattle.std.specs.Prelude.{◌≡◌, ℕ, suc, ◌+◌, ◌<◌, ◌≤◌, ◌^◌, ◌↔◌, ◌⊎◌, length, IfErr, IfOk};
+ghost use Rattle.std.specs.Prelude.{◌≡◌, suc, ◌+◌, ◌<◌, ◌^◌, ◌↔◌, ◌⊎◌, length, IfErr, IfOk};
 ghost use Rattle.std.specs.Prelude.{OnErr, OnOk};
 ghost use Rattle.lsm_codec.specs.Entries.{Entry};
 ghost use Rattle.lsm_codec.specs.Lists.{Has};
@@ -14,7 +14,7 @@ ghost use Rattle.lsm_state.specs.Collecting.{SameCounts};
 ghost use Rattle.lsm_state.specs.Held.{IsLawfulState, plain};
 ghost use Rattle.lsm_state.specs.Ingesting.{FailsToBuild, FailsToPut, Ingests, IsEarlyRefusal};
 ghost use Rattle.lsm_state.specs.Ingesting.{IsIngestRefusal, IsTableOf, IsWelcome, coming_in};
-ghost use Rattle.lsm_state.specs.Ingesting.{entries_of, numbers_needed, of_batch};
+ghost use Rattle.lsm_state.specs.Ingesting.{entries_of, numbers_needed};
 ghost use Rattle.lsm_state.specs.Options.{sizes_of};
 
 use crate::state::State;
@@ -23,7 +23,7 @@ use lsm_batch::{Batch, BatchFault};
 use lsm_codec::MAX_SEQ;
 use lsm_journal::{VersionChange, added_keys_fit};
 use lsm_slots::Boarded;
-use lsm_table::{BuildFault, Shelf, TableRef, entries_are};
+use lsm_table::{BuildFault, NamedShelf, Shelf, TableRef, entries_are};
 use lsm_version::{changed_files, changed_tables, tables_are_whole, whole_tables_fit};
 use std::alloc::{AllocError, Global};
 use std::sync::Wait;
@@ -42,14 +42,30 @@ pub struct Ingested {
     pub last: u64,
 }
 
-// The refusal of a batch.
-fn of_batch(fault: BatchFault) -> StateFault
-    ensures { result ≡ of_batch fault }
-{
-    match fault {
-        BatchFault::EmptyBatch => StateFault::EmptyBatch,
-        BatchFault::KeyOrder(place) => StateFault::KeyOrder(place),
-        BatchFault::TooLarge => StateFault::TooLarge,
+impl From<BatchFault> for StateFault {
+    ghost use Rattle.lsm_state.specs.Ingesting.{of_batch};
+
+    ghost from_gives = { λ fault e. e ≡ of_batch fault };
+
+    fn from(fault: BatchFault) -> StateFault {
+        match fault {
+            BatchFault::EmptyBatch => StateFault::EmptyBatch,
+            BatchFault::KeyOrder(place) => StateFault::KeyOrder(place),
+            BatchFault::TooLarge => StateFault::TooLarge,
+        }
+    }
+}
+
+impl From<BuildFault> for StateFault {
+    ghost use Rattle.lsm_state.specs.Ingesting.{of_build};
+
+    ghost from_gives = { λ fault e. e ≡ of_build fault };
+
+    fn from(fault: BuildFault) -> StateFault {
+        match fault {
+            BuildFault::OutOfMemory => StateFault::OutOfMemory,
+            BuildFault::TooLarge => StateFault::TooLarge,
+        }
     }
 }
 
@@ -85,9 +101,7 @@ impl<N: Boarded, S: Shelf> State<N, S> {
         if self.halted {
             return Err(StateFault::Halted);
         }
-        if let Err(fault) = batch.check() {
-            return Err(of_batch(fault));
-        }
+        batch.check()?;
         let version = self.slots.version();
         if version.level(0).len() >= FULL {
             return Err(StateFault::LevelZeroFull);
@@ -108,39 +122,30 @@ impl<N: Boarded, S: Shelf> State<N, S> {
         &mut self,
         rt: &R,
         alloc: Global,
-        shelf: &mut S,
+        shelf: &mut NamedShelf<N, S>,
         batch: &Batch,
     ) -> Result<TableRef<N, S>, StateFault>
         requires welcome { IsWelcome self.old batch.now }
-        requires here { (S.told shelf.old).place ≡ N.place }
         ensures table { IfOk result (IsTableOf (entries_of self.old batch.now) self.old.next) }
         ensures bytes { IfOk result (λ t.
             t.image ≡ table_bytes (sizes_of self.old.options) (entries_of self.old batch.now)) }
         ensures ok { OnOk result (self.new ≡ record self.old { next = suc self.old.next }) }
-        ensures told { OnOk result
-            (Becomes (putting self.old.next (S.told shelf.old)) (S.told shelf.new)) }
-        ensures counts { OnOk result (SameCounts (S.told shelf.old) (S.told shelf.new)) }
+        ensures told { OnOk result (Becomes (putting self.old.next shelf.old) shelf.new) }
+        ensures counts { OnOk result (SameCounts shelf.old shelf.new) }
         ensures refused { IfErr result (λ e.
-            FailsToBuild self.old self.new batch.now e (S.told shelf.old) (S.told shelf.new)
-            ⊎ FailsToPut self.old self.new e (S.told shelf.old) (S.told shelf.new)) }
-        ensures asked { IfErr result
-            (OnShelf (PutRefused (S.refuses (S.told shelf.old).place) self.old batch.now)) }
+            FailsToBuild self.old self.new batch.now e shelf.old shelf.new
+            ⊎ FailsToPut self.old self.new e shelf.old shelf.new) }
+        ensures asked { IfErr result (OnShelf (PutRefused (S.refuses N.place) self.old batch.now)) }
         ensures slots { OnErr result (self.new.slots ≡ self.old.slots) }
     {
         tables_are_whole();
         entries_are();
         let first = self.slots.version().last() + 1;
-        let image = match batch.build(alloc, self.options.sizes(), first) {
-            Ok(image) => image,
-            Err(BuildFault::OutOfMemory) => return Err(StateFault::OutOfMemory),
-            Err(BuildFault::TooLarge) => return Err(StateFault::TooLarge),
-        };
+        let image = batch.build(alloc, self.options.sizes(), first)?;
         let number = self.next;
         self.next = number + 1;
-        match image.put(rt, alloc, shelf, &self.registry, number) {
-            Ok(table) => Ok(table),
-            Err(fault) => Err(StateFault::Shelf(fault)),
-        }
+        let table = image.put(rt, alloc, shelf, &self.registry, number)?;
+        Ok(table)
     }
 
     // The change that brings a table in at level 0.
@@ -172,24 +177,22 @@ impl<N: Boarded, S: Shelf> State<N, S> {
         &mut self,
         rt: &R,
         alloc: Global,
-        shelf: &mut S,
+        shelf: &mut NamedShelf<N, S>,
         batch: &Batch,
     ) -> Result<Ingested, StateFault>
-        requires here { (S.told shelf.old).place ≡ N.place }
         ensures welcome { OnOk result (IsWelcome self.old batch.now) }
-        ensures ok { IfOk result (λ r.
-            Ingests self.old self.new batch.now r (S.told shelf.old) (S.told shelf.new)) }
+        ensures ok { IfOk result (λ r. Ingests self.old self.new batch.now r shelf.old shelf.new) }
         ensures event { OnOk result
             (machine.Ingests (plain self.old) (entries_of self.old batch.now) (plain self.new)) }
         ensures event_err { OnErr result (machine.Spends (plain self.old) (plain self.new)) }
         ensures entries { OnOk result ((e : Entry) → Has
             (all_entries (files self.new.slots.version)) e ↔ (Has (entries_of self.old batch.now) e
             ⊎ Has (all_entries (files self.old.slots.version)) e)) }
-        ensures counts { OnOk result (SameCounts (S.told shelf.old) (S.told shelf.new)) }
+        ensures counts { OnOk result (SameCounts shelf.old shelf.new) }
         ensures refused { IfErr result (λ e.
-            IsIngestRefusal self.old self.new batch.now e (S.told shelf.old) (S.told shelf.new)) }
+            IsIngestRefusal self.old self.new batch.now e shelf.old shelf.new) }
         ensures asked { IfErr result
-            (OnShelf (IngestRefused (S.refuses (S.told shelf.old).place) self.old batch.now)) }
+            (OnShelf (IngestRefused (S.refuses N.place) self.old batch.now)) }
     {
         changed_files();
         changed_tables();

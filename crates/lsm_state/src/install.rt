@@ -1,6 +1,6 @@
 //! Installs of finished jobs.
 
-ghost use Rattle.std.specs.Prelude.{◌≡◌, ◌-◌, ◌^◌, ◌<◌, ◌++◌, map, IfErr, IfOk, OnErr, OnOk};
+ghost use Rattle.std.specs.Prelude.{◌≡◌, ◌-◌, ◌^◌, ◌<◌, map, IfErr, IfOk, OnErr, OnOk};
 ghost use Rattle.lsm_shelf.specs.Told.{Becomes};
 ghost use Rattle.lsm_levels.specs.Plain.{Spends};
 ghost use Rattle.lsm_slots.specs.Slots.{IsFreeSlot, current_id};
@@ -16,7 +16,7 @@ use crate::state::State;
 use crate::state_fault::StateFault;
 use lsm_merge::Finished;
 use lsm_slots::Boarded;
-use lsm_table::{Naming, Registry, Shelf, TableRef};
+use lsm_table::{NamedShelf, Naming, Registry, Shelf, TableRef};
 use lsm_version::{changed_files, changed_tables};
 use std::alloc::{AllocError, Global};
 use std::sync::Wait;
@@ -60,28 +60,27 @@ impl<N: Boarded, S: Shelf> State<N, S> {
         &mut self,
         rt: &R,
         alloc: Global,
-        shelf: &mut S,
+        shelf: &mut NamedShelf<N, S>,
         done: &Finished<N, S>,
         slot: u8,
     ) -> Result<Vec<u64>, StateFault>
         requires may { MayInstall self.old done.now }
         requires free { IsFreeSlot self.old.slots slot }
         requires room { current_id self.old.slots < 2 ^ 28 - 1 }
-        ensures installed { OnOk result
-            (IsPutIn self.old self.new done.now (S.told shelf.old) (S.told shelf.new)) }
+        ensures installed { OnOk result (IsPutIn self.old self.new done.now shelf.old shelf.new) }
         ensures numbers { IfOk result (λ v. v.items ≡ map (λ t. t.number) done.now.outputs) }
         ensures answers { OnOk result (S.honest → SameAnswers self.old self.new) }
         ensures event { OnOk result (IsInstalling S.honest self.old done.now.work.ticket self.new) }
-        ensures counts { OnOk result (SameCounts (S.told shelf.old) (S.told shelf.new)) }
+        ensures counts { OnOk result (SameCounts shelf.old shelf.new) }
         ensures refused { IfErr result (λ e.
-            IsChangeRefusal self.old self.new e (S.told shelf.old) (S.told shelf.new)) }
+            IsChangeRefusal self.old self.new e shelf.old shelf.new) }
         ensures asked { IfErr result
-            (OnShelf (InstallRefused (S.refuses (S.told shelf.old).place) self.old done.now)) }
-        ensures unsent { OnErr result (Becomes (S.told shelf.old) (S.told shelf.new)) }
+            (OnShelf (InstallRefused (S.refuses N.place) self.old done.now)) }
+        ensures unsent { OnErr result (Becomes shelf.old shelf.new) }
     {
         changed_files();
         changed_tables();
-        // The law of the state is told by this call.
+        // What holds of the state is told by this call.
         let _options = self.options();
         let ticket = done.job().ticket();
         let last = self.slots.version().last();
@@ -96,22 +95,21 @@ impl<N: Boarded, S: Shelf> State<N, S> {
         &mut self,
         rt: &R,
         alloc: Global,
-        shelf: &mut S,
+        shelf: &mut NamedShelf<N, S>,
         done: &Finished<N, S>,
     ) -> Result<Vec<u64>, StateFault>
         ensures may { OnOk result (MayInstall self.old done.now) }
-        ensures installed { OnOk result
-            (Installed self.old self.new done.now (S.told shelf.old) (S.told shelf.new)) }
+        ensures installed { OnOk result (Installed self.old self.new done.now shelf.old shelf.new) }
         ensures numbers { IfOk result (λ v. v.items ≡ map (λ t. t.number) done.now.outputs) }
         ensures answers { OnOk result (S.honest → SameAnswers self.old self.new) }
         ensures event { OnOk result (IsInstalling S.honest self.old done.now.work.ticket self.new) }
         ensures event_err { OnErr result (Spends (plain self.old) (plain self.new)) }
-        ensures counts { OnOk result (SameCounts (S.told shelf.old) (S.told shelf.new)) }
+        ensures counts { OnOk result (SameCounts shelf.old shelf.new) }
         ensures refused { IfErr result (λ e.
-            IsInstallRefusal self.old self.new done.now e (S.told shelf.old) (S.told shelf.new)) }
+            IsInstallRefusal self.old self.new done.now e shelf.old shelf.new) }
         ensures asked { IfErr result
-            (OnShelf (InstallRefused (S.refuses (S.told shelf.old).place) self.old done.now)) }
-        ensures unsent { OnErr result (Becomes (S.told shelf.old) (S.told shelf.new)) }
+            (OnShelf (InstallRefused (S.refuses N.place) self.old done.now)) }
+        ensures unsent { OnErr result (Becomes shelf.old shelf.new) }
     {
         self.admit(done)?;
         let slot = self.find_slot()?;
@@ -131,24 +129,22 @@ impl<N: Boarded, S: Shelf> State<N, S> {
         &mut self,
         rt: &R,
         alloc: Global,
-        shelf: &mut S,
+        shelf: &mut NamedShelf<N, S>,
         done: Finished<N, S>,
     ) -> Result<Vec<u64>, (StateFault, Finished<N, S>)>
-        requires here { (S.told shelf.old).place ≡ N.place }
         ensures may { OnOk result (MayInstall self.old done) }
-        ensures installed { OnOk result
-            (Installed self.old self.new done (S.told shelf.old) (S.told shelf.new)) }
+        ensures installed { OnOk result (Installed self.old self.new done shelf.old shelf.new) }
         ensures numbers { IfOk result (λ v. v.items ≡ map (λ t. t.number) done.outputs) }
         ensures answers { OnOk result (S.honest → SameAnswers self.old self.new) }
         ensures event { OnOk result (IsInstalling S.honest self.old done.work.ticket self.new) }
         ensures event_err { OnErr result (Spends (plain self.old) (plain self.new)) }
-        ensures counts { OnOk result (SameCounts (S.told shelf.old) (S.told shelf.new)) }
+        ensures counts { OnOk result (SameCounts shelf.old shelf.new) }
         ensures back { IfErr result (λ e. e.1 ≡ done) }
         ensures refused { IfErr result (λ e.
-            IsInstallRefusal self.old self.new done e.0 (S.told shelf.old) (S.told shelf.new)) }
+            IsInstallRefusal self.old self.new done e.0 shelf.old shelf.new) }
         ensures asked { IfErr result (λ e.
-            OnShelf (InstallRefused (S.refuses (S.told shelf.old).place) self.old done) e.0) }
-        ensures unsent { OnErr result (Becomes (S.told shelf.old) (S.told shelf.new)) }
+            OnShelf (InstallRefused (S.refuses N.place) self.old done) e.0) }
+        ensures unsent { OnErr result (Becomes shelf.old shelf.new) }
     {
         match self.try_install(rt, alloc, shelf, &done) {
             Ok(numbers) => Ok(numbers),

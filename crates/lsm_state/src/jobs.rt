@@ -1,6 +1,6 @@
 //! Live jobs: cancels, and numbers for their outputs.
 
-ghost use Rattle.std.specs.Prelude.{◌≡◌, ℕ, suc, ◌-◌, ◌^◌, ◌⊎◌, IfErr, IfOk, OnErr, OnOk};
+ghost use Rattle.std.specs.Prelude.{◌≡◌, suc, ◌-◌, ◌^◌, ◌⊎◌, IfErr, IfOk, OnErr, OnOk};
 ghost use Rattle.lsm_levels.specs.Plain.{Cancels, Draws};
 ghost use Rattle.lsm_live.specs.Booked.{HasTicket, booked, without};
 ghost use Rattle.lsm_state.specs.Held.{plain};

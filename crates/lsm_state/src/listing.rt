@@ -34,7 +34,7 @@ impl<N: Boarded, S: Shelf> State<N, S> {
         ensures { IfOk result (λ v. v.items ≡ listed_from 0 self.now.slots.version.tables) }
     {
         let version = self.slots.version();
-        // That a version has seven levels is told by this call.
+        // What holds of the version is told by this call.
         let _last = version.last();
         let mut files = Vec::new(alloc);
         for level in 0..7u8 {

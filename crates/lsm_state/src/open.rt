@@ -13,7 +13,7 @@ use lsm_journal::{Found, OpenFault};
 use lsm_live::LiveJobs;
 use lsm_pins::{Pinner, Publisher};
 use lsm_slots::{Boarded, Slots, Snapshots};
-use lsm_table::{Registry, Shelf};
+use lsm_table::{NamedShelf, Registry, Shelf};
 use std::alloc::Global;
 use std::sync::{Arc, Wait};
 
@@ -25,53 +25,41 @@ impl<N: Boarded, S: Shelf> State<N, S> {
     /// of the manifest found that hold no whole record are left behind. Its log numbers are kept.
     /// The board was just made, with the options' readers and as many slots as they say.
     ///
-    /// The refusals of `Journal::recover`; those of `lsm_check::check`; those of listing the
-    /// tables; then `NumbersSpent` where one of these numbers is 2^64 - 1, or the new manifest's
-    /// would be; then `OutOfMemory`, and `Device` where the shelf failed, or `Taken` where another
+    /// The refusals of `open_to_read`; then `NumbersSpent` where the new manifest's number would be
+    /// 2^64 - 1; then `OutOfMemory`, and `Device` where the shelf failed, or `Taken` where another
     /// began that manifest meanwhile. After `Device` the directory names the old manifest or the
     /// new one whole.
     pub fn open<R: Wait>(
         rt: &R,
         alloc: Global,
-        shelf: &mut S,
+        shelf: &mut NamedShelf<N, S>,
         options: Options,
         registry: Arc<Registry<N, S>>,
         board: (Publisher, Vec<Pinner>),
     ) -> Result<State<N, S>, OpenFault>
         requires fits { Fits options }
-        requires here { (S.told shelf.old).place ≡ N.place }
         requires board { IsNewBoard N.board options board.0 board.1.items }
         ensures begun { IfOk result (λ s. IsBegun S.honest options.manifest_limit s.journal
-            s.slots.version s.next (S.told shelf.old) (S.told shelf.new)) }
+            s.slots.version s.next shelf.old shelf.new) }
         ensures opened { IfOk result (λ s.
             s ≡ opened_state options board.0 board.1.items s.slots.version s.journal s.next false) }
         ensures refused { IfErr result (λ e. IsOpenRefusal (Stored S.Receipt (S.is_of N.place)
             S.Receipt.number S.Receipt.image) (S.refuses N.place) S.honest options.manifest_limit e
-            (S.told shelf.old) (S.told shelf.new)) }
-        ensures counts_err { IfErr result (λ e.
-            IsReadOnce e (S.told shelf.old) (S.told shelf.new)) }
+            shelf.old shelf.new) }
+        ensures counts_err { IfErr result (λ e. IsReadOnce e shelf.old shelf.new) }
     {
-        let (publisher, pinners) = board;
-        let found: Found<N, S> = Found::read(rt, alloc, shelf, &registry, options.manifest_limit)?;
-        let next = found.next;
-        if next == u64::MAX {
+        let mut state = State::open_to_read(rt, alloc, shelf, options, registry, board)?;
+        let number = state.next;
+        if number == u64::MAX {
             return Err(OpenFault::NumbersSpent);
         }
-        let mut journal = found.journal;
-        let slots = Slots::new(alloc, publisher, options.versions, found.version)?;
-        journal.roll_over(rt, alloc, shelf, &registry, slots.version(), next)?;
-        Ok(State {
-            registry,
-            options,
-            slots,
-            snapshots: Snapshots::new(alloc),
-            next: next + 1,
-            next_ticket: 1,
-            live: LiveJobs::new(alloc),
-            journal,
-            halted: false,
-            pinners,
-        })
+        let version = state.slots.version();
+        state
+            .journal
+            .roll_over(rt, alloc, shelf, &state.registry, version, number)?;
+        state.next = number + 1;
+        state.halted = false;
+        Ok(state)
     }
 
     /// The same state for reading alone: nothing is written, the manifest held is the one that was
@@ -84,23 +72,21 @@ impl<N: Boarded, S: Shelf> State<N, S> {
     pub fn open_to_read<R: Wait>(
         rt: &R,
         alloc: Global,
-        shelf: &mut S,
+        shelf: &mut NamedShelf<N, S>,
         options: Options,
         registry: Arc<Registry<N, S>>,
         board: (Publisher, Vec<Pinner>),
     ) -> Result<State<N, S>, OpenFault>
         requires fits { Fits options }
-        requires here { (S.told shelf.old).place ≡ N.place }
         requires board { IsNewBoard N.board options board.0 board.1.items }
         ensures found { IfOk result (λ s. (rest : ℕ) × IsFound S.honest options.manifest_limit
-            s.journal s.slots.version rest s.next (S.told shelf.old) (S.told shelf.new)) }
+            s.journal s.slots.version rest s.next shelf.old shelf.new) }
         ensures opened { IfOk result (λ s.
             s ≡ opened_state options board.0 board.1.items s.slots.version s.journal s.next true) }
         ensures refused { IfErr result (λ e.
             IsFindRefusal (Stored S.Receipt (S.is_of N.place) S.Receipt.number S.Receipt.image)
-            (S.refuses N.place) S.honest e (S.told shelf.old) (S.told shelf.new)) }
-        ensures counts_err { IfErr result (λ e.
-            IsReadOnce e (S.told shelf.old) (S.told shelf.new)) }
+            (S.refuses N.place) S.honest e shelf.old shelf.new) }
+        ensures counts_err { IfErr result (λ e. IsReadOnce e shelf.old shelf.new) }
     {
         let (publisher, pinners) = board;
         let found: Found<N, S> = Found::read(rt, alloc, shelf, &registry, options.manifest_limit)?;

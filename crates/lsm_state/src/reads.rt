@@ -19,7 +19,7 @@ ghost use Rattle.lsm_state.specs.declared.state_fault.StateFault.TheVariants.{Un
 use crate::state::State;
 use crate::state_fault::StateFault;
 use lsm_slots::Boarded;
-use lsm_table::Shelf;
+use lsm_table::{NamedShelf, Shelf};
 use std::alloc::Global;
 
 impl<N: Boarded, S: Shelf> State<N, S> {
@@ -41,19 +41,17 @@ impl<N: Boarded, S: Shelf> State<N, S> {
     /// honest shelf only where the shelf refused or memory ran out.
     pub fn get(
         &self,
-        shelf: &mut S,
+        shelf: &mut NamedShelf<N, S>,
         alloc: Global,
         user: &[u8],
         at: Option<u64>,
     ) -> Result<Option<Vec<u8>>, StateFault>
-        requires { (S.told shelf.old).place ≡ N.place }
         ensures answer { IfOk result (λ v. (seq : ℕ) × IsSequence self.now at seq
             × (S.honest → option_map (λ b. b.items) v
             ≡ answer (all_entries (files self.now.slots.version)) user.now seq)) }
-        ensures refused { IfErr result
-            (IsReadRefusal self.now at (S.told shelf.old) (S.told shelf.new)) }
+        ensures refused { IfErr result (IsReadRefusal self.now at shelf.old shelf.new) }
         ensures sound { S.honest → IfErr result IsNoBadTable }
-        ensures told { Becomes (S.told shelf.old) (S.told shelf.new) }
+        ensures told { Becomes shelf.old shelf.new }
     {
         let seq = self.sequence_at(at)?;
         let value = lsm_reads::get(self.slots.version(), shelf, alloc, user, seq)?;

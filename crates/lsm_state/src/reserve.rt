@@ -1,15 +1,15 @@
 //! Reservations of compactions.
 
-ghost use Rattle.std.specs.Prelude.{◌≡◌, ◌≤◌, ◌-◌, ◌^◌, ◌↔◌, ◌⊎◌, [], length, true, false, IfErr};
+ghost use Rattle.std.specs.Prelude.{◌≡◌, ◌≤◌, ◌-◌, ◌^◌, ◌↔◌, ◌⊎◌, [], length, false, IfErr};
 ghost use Rattle.std.specs.Prelude.{IfNone, IfOk, IfSome, IsTrue, MatchOption, OnErr, OnOk};
-ghost use Rattle.lsm_choice.specs.Choice.{HasNoChoice, IsChoice};
+ghost use Rattle.lsm_choice.specs.Choice.{HasNoChoice};
 ghost use Rattle.lsm_choice.specs.Moves.{IsMovable};
 ghost use Rattle.lsm_choice.specs.Reservations.{IsClear};
 ghost use Rattle.lsm_choice.specs.TablePlans.{StandsIn, tables_over};
 ghost use Rattle.lsm_live.specs.Reserving.{reserved_jobs};
 ghost use Rattle.lsm_state.specs.Reserving.{HasOrderedInputs, IsChosen, IsClosedPlan, IsOfMoment};
-ghost use Rattle.lsm_state.specs.Reserving.{IsRangePlan, IsRangeRefusal, IsReserveRefusal};
-ghost use Rattle.lsm_state.specs.Reserving.{IsReserving, plan_in, reserved};
+ghost use Rattle.lsm_state.specs.Reserving.{IsPlanAt, IsRangePlan, IsRangeRefusal};
+ghost use Rattle.lsm_state.specs.Reserving.{IsReserveRefusal, IsReserving, plan_in, reserved};
 ghost use Rattle.lsm_state.specs.declared.state_fault.StateFault.TheVariants.{NumbersSpent};
 ghost use Rattle.lsm_state.specs.declared.state_fault.StateFault.TheVariants.{OutOfMemory};
 
@@ -142,6 +142,41 @@ impl<N: Boarded, S: Shelf> State<N, S> {
         Ok(Some(self.book(alloc, plan, moves)?))
     }
 
+    // The closed plan of the files of a level that meet a range, which conflicts with no live job.
+    // None where no file does.
+    //
+    // `Halted`, `BadLevel`, `OutOfMemory` and `Conflict`.
+    fn range_plan(
+        &self,
+        alloc: Global,
+        level: u8,
+        from: &[u8],
+        to: &[u8],
+    ) -> Result<Option<Plan<N, S>>, StateFault>
+        ensures planned { S.honest → IfOk result (λ r.
+            MatchOption r (tables_over self.now.slots.version level from.now to.now ≡ []) (λ p.
+            IsRangePlan self.now level from.now to.now p)) }
+        ensures plan { IfOk result (λ r. IfSome r (λ p. IsPlanAt self.now level p)) }
+        ensures clear { IfOk result (λ r.
+            IfSome r (λ p. IsClear p (reserved_jobs self.now.live))) }
+        ensures open { OnOk result ((self.now.halted ≡ false) × (level ≤ 5)) }
+        ensures refused { IfErr result (λ e.
+            IsRangeRefusal S.honest self.now level from.now to.now e) }
+    {
+        if self.halted {
+            return Err(StateFault::Halted);
+        }
+        let version = self.slots.version();
+        let Some(plan) = plan_range(alloc, &self.registry, version, level, from, to)? else {
+            return Ok(None);
+        };
+        let reservations = self.live.reservations(alloc, &self.registry)?;
+        if let Some(ticket) = conflict(&self.registry, &plan, &reservations) {
+            return Err(StateFault::Conflict(ticket));
+        }
+        Ok(Some(plan))
+    }
+
     /// Reserves the compaction of all files of a level, 0 to 5, that meet the range of user keys
     /// from `from` to `to`, both included, with those that they lead to. It is never a move. None
     /// exactly where no file meets the range; then nothing changes.
@@ -176,17 +211,9 @@ impl<N: Boarded, S: Shelf> State<N, S> {
         ensures refused { IfErr result (λ e.
             IsRangeRefusal S.honest self.old level from.now to.now e) }
     {
-        if self.halted {
-            return Err(StateFault::Halted);
-        }
-        let version = self.slots.version();
-        let Some(plan) = plan_range(alloc, &self.registry, version, level, from, to)? else {
+        let Some(plan) = self.range_plan(alloc, level, from, to)? else {
             return Ok(None);
         };
-        let reservations = self.live.reservations(alloc, &self.registry)?;
-        if let Some(ticket) = conflict(&self.registry, &plan, &reservations) {
-            return Err(StateFault::Conflict(ticket));
-        }
         Ok(Some(self.book(alloc, plan, false)?))
     }
 }

@@ -15,5 +15,5 @@ mod memory;
 
 pub use account::{Account, tag_of_both, tag_of_bytes, tag_of_more, tag_of_number, tag_of_numbers};
 pub use file::{FileReceipt, FileShelf, SystemShelf};
-pub use lsm_shelf::{Shelf, ShelfFault, Slip};
+pub use lsm_shelf::{Shelf, ShelfFault, TableReceipt};
 pub use memory::{MemoryReceipt, MemoryShelf};

@@ -1,7 +1,7 @@
 //! The store: the state behind its lock, and readers that need no lock.
 //!
 //! Stands on `lsm_state` for what the lock keeps, on `lsm_pins` for the board that readers pin
-//! versions on, and on `lsm_cache` for the blocks of each reader. Data flows from `store` to
+//! versions on, and on `lsm_reader` for the blocks of each reader. Data flows from `store` to
 //! `reader` and from there to `view`, which a reader becomes while it holds a pin. Its contract:
 //! the lock lends a state that keeps its law, and what a view answers is of the version that it
 //! holds.

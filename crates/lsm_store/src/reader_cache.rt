@@ -4,10 +4,10 @@ ghost use Rattle.std.specs.Prelude.{◌≡◌, IfErr, IfOk};
 ghost use Rattle.lsm_shelf.specs.Told.{Counted, Forked, NotNamed};
 ghost use Rattle.lsm_store.specs.Readers.{known_at};
 
-use lsm_cache::Cached;
+use lsm_reader::Cached;
 use lsm_slots::Boarded;
 use lsm_state::State;
-use lsm_table::{Shelf, ShelfFault};
+use lsm_table::{NamedShelf, Shelf, ShelfFault};
 use lsm_version::Version;
 use std::alloc::Global;
 use std::marker::Model;
@@ -24,15 +24,12 @@ pub struct ReaderCache<N: Boarded, S: Shelf> {
 }
 
 impl<N: Boarded, S: Shelf> Model for ReaderCache<N, S> {
-    ghost use Rattle.std.specs.Prelude.{◌≡◌};
     ghost use Rattle.std.specs.Arc.{arc_value};
     ghost use Rattle.lsm_store.specs.Readers.{KnownVersion};
 
     ghost Value = { KnownVersion };
 
     ghost view = { λ d. record { id = d.id; version = arc_value d.version; told = d.blocks } };
-
-    ghost invariant = { λ d. d.blocks.place ≡ N.place };
 }
 
 impl<N: Boarded, S: Shelf> ReaderCache<N, S> {
@@ -42,14 +39,12 @@ impl<N: Boarded, S: Shelf> ReaderCache<N, S> {
     pub(crate) fn new(
         alloc: Global,
         state: &State<N, S>,
-        shelf: &mut S,
+        shelf: &mut NamedShelf<N, S>,
         blocks: NonZeroUsize,
     ) -> Result<ReaderCache<N, S>, ShelfFault>
-        requires { (S.told shelf.old).place ≡ N.place }
         ensures cache { IfOk result (λ d. d ≡ known_at state.now N.place) }
-        ensures told { Forked (S.told shelf.old) (S.told shelf.new) }
-        ensures cause { IfErr result (λ e. NotNamed e
-            × Counted e (S.told shelf.old) (S.told shelf.new)) }
+        ensures told { Forked shelf.old shelf.new }
+        ensures cause { IfErr result (λ e. NotNamed e × Counted e shelf.old shelf.new) }
     {
         let (id, current) = state.current();
         let version = Arc::try_clone(current)?;

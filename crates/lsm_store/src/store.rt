@@ -11,24 +11,22 @@ use crate::reader_cache::ReaderCache;
 use lsm_pins::Pinner;
 use lsm_slots::Boarded;
 use lsm_state::State;
-use lsm_table::{Shelf, ShelfFault};
+use lsm_table::{NamedShelf, Shelf, ShelfFault};
 use std::alloc::Global;
 use std::num::NonZeroUsize;
 use std::sync::{Mutex, MutexGuard, Wait};
 
 /// A cache for each reader that the options name.
-#[tactic(auto, using(lsm_shelf::proofs::CallerLemmas::forked_then, lsm_shelf::proofs::CallerLemmas::forked_none, lsm_shelf::proofs::CallerLemmas::forked_place, lsm_shelf::proofs::CallerLemmas::counted_after_forks))]
+#[tactic(auto, using(lsm_shelf::proofs::CallerLemmas::forked_then, lsm_shelf::proofs::CallerLemmas::forked_none, lsm_shelf::proofs::CallerLemmas::counted_after_forks))]
 fn caches_for<N: Boarded, S: Shelf>(
     alloc: Global,
     state: &State<N, S>,
-    shelf: &mut S,
+    shelf: &mut NamedShelf<N, S>,
 ) -> Result<Vec<ReaderCache<N, S>>, ShelfFault>
-    requires { (S.told shelf.old).place ≡ N.place }
     ensures caches { IfOk result (λ v. All (λ d. d ≡ known_at state.now N.place) v.items) }
     ensures len { IfOk result (λ v. vec_len v ≡ state.now.options.readers) }
-    ensures told { Forked (S.told shelf.old) (S.told shelf.new) }
-    ensures cause { IfErr result (λ e. NotNamed e
-        × Counted e (S.told shelf.old) (S.told shelf.new)) }
+    ensures told { Forked shelf.old shelf.new }
+    ensures cause { IfErr result (λ e. NotNamed e × Counted e shelf.old shelf.new) }
 {
     let options = state.options();
     let Some(blocks) = NonZeroUsize::new(options.cache_blocks) else {
@@ -92,16 +90,14 @@ fn seat_all<N: Boarded, S: Shelf>(
 fn make_caches<N: Boarded, S: Shelf>(
     alloc: Global,
     state: &State<N, S>,
-    shelf: &mut S,
+    shelf: &mut NamedShelf<N, S>,
 ) -> Result<(Vec<ReaderCache<N, S>>, Vec<Reader<N, S>>), ShelfFault>
-    requires { (S.told shelf.old).place ≡ N.place }
     ensures caches { IfOk result (λ r. All (λ d. d ≡ known_at state.now N.place) r.0.items) }
     ensures len { IfOk result (λ r. vec_len r.0 ≡ state.now.options.readers) }
     ensures none { IfOk result (λ r. (r.1.items ≡ []) × (vec_len r.1 ≡ 0)) }
     ensures room { IfOk result (λ r. vec_capacity r.1 ≡ state.now.options.readers) }
-    ensures told { Forked (S.told shelf.old) (S.told shelf.new) }
-    ensures cause { IfErr result (λ e. NotNamed e
-        × Counted e (S.told shelf.old) (S.told shelf.new)) }
+    ensures told { Forked shelf.old shelf.new }
+    ensures cause { IfErr result (λ e. NotNamed e × Counted e shelf.old shelf.new) }
 {
     let readers = Vec::with_capacity(alloc, state.options().readers)?;
     let caches = caches_for(alloc, state, shelf)?;
@@ -138,14 +134,13 @@ impl<N: Boarded, S: Shelf> Store<N, S> {
     pub fn new(
         alloc: Global,
         state: State<N, S>,
-        shelf: S,
-    ) -> Result<(Store<N, S>, Vec<Reader<N, S>>), (State<N, S>, S, ShelfFault)>
-        requires place { (S.told shelf).place ≡ N.place }
+        shelf: NamedShelf<N, S>,
+    ) -> Result<(Store<N, S>, Vec<Reader<N, S>>), (State<N, S>, NamedShelf<N, S>, ShelfFault)>
         requires seats { SeatsPinners state }
         ensures readers { IfOk result (λ r. r.1.items ≡ map (seated state N.place) state.pinners) }
         ensures len { IfOk result (λ r. vec_len r.1 ≡ length state.pinners) }
-        ensures err { IfErr result (λ e. (e.0 ≡ state) × Forked (S.told shelf) (S.told e.1)) }
-        ensures cause { IfErr result (λ e. NotNamed e.2 × Counted e.2 (S.told shelf) (S.told e.1)) }
+        ensures err { IfErr result (λ e. (e.0 ≡ state) × Forked shelf e.1) }
+        ensures cause { IfErr result (λ e. NotNamed e.2 × Counted e.2 shelf e.1) }
     {
         let mut state = state;
         let mut shelf = shelf;

@@ -13,7 +13,7 @@ use crate::worker_fault::WorkerFault;
 use lsm_merge::{Finished, Job, compact};
 use lsm_slots::Boarded;
 use lsm_state::{State, StateFault};
-use lsm_table::{Registry, Shelf};
+use lsm_table::{NamedShelf, Registry, Shelf};
 use std::alloc::{AllocError, Global};
 use std::sync::{Arc, Wait};
 
@@ -33,11 +33,9 @@ fn install<N: Boarded, S: Shelf, R: Wait>(
     rt: &R,
     alloc: Global,
     store: &Store<N, S>,
-    shelf: &mut S,
+    shelf: &mut NamedShelf<N, S>,
     done: Finished<N, S>,
 ) -> Result<(), StateFault>
-    requires here { (S.told shelf.old).place ≡ N.place }
-    ensures place { (S.told shelf.new).place ≡ (S.told shelf.old).place }
     ensures refused { IfErr result IsOfInstalling }
 {
     match store.lock(rt).install(rt, alloc, shelf, done) {
@@ -71,11 +69,9 @@ fn finish<N: Boarded, S: Shelf, R: Wait>(
     store: &Store<N, S>,
     registry: &Registry<N, S>,
     service: &NumberService,
-    shelf: &mut S,
+    shelf: &mut NamedShelf<N, S>,
     job: Job<N, S>,
 ) -> Result<(), WorkerFault>
-    requires here { (S.told shelf.old).place ≡ N.place }
-    ensures place { (S.told shelf.new).place ≡ (S.told shelf.old).place }
     ensures refused { IfErr result (IsOfTurn S.honest) }
 {
     let mut numbers = TicketNumbers::of(service);
@@ -92,12 +88,10 @@ fn turn<N: Boarded, S: Shelf, G: Gate, R: Wait>(
     store: &Store<N, S>,
     registry: &Registry<N, S>,
     service: &NumberService,
-    shelf: &mut S,
+    shelf: &mut NamedShelf<N, S>,
     gate: &G,
     worker: usize,
 ) -> Result<bool, WorkerFault>
-    requires here { (S.told shelf.old).place ≡ N.place }
-    ensures place { (S.told shelf.new).place ≡ (S.told shelf.old).place }
     ensures refused { IfErr result (IsOfTurn S.honest) }
 {
     let Some(job) = reserve(rt, alloc, store)? else {
@@ -128,11 +122,10 @@ pub(crate) fn work<N: Boarded, S: Shelf, G: Gate, R: Wait>(
     alloc: Global,
     store: &Store<N, S>,
     service: &NumberService,
-    shelf: S,
+    shelf: NamedShelf<N, S>,
     gate: &G,
     worker: usize,
 ) -> WorkerEnd
-    requires { (S.told shelf).place ≡ N.place }
     ensures { IsWorkersEnd S.honest result }
 {
     let mut shelf = shelf;

@@ -11,7 +11,7 @@ use crate::worker::work;
 use crate::worker_end::WorkerEnd;
 use crate::worker_fault::WorkerFault;
 use lsm_slots::Boarded;
-use lsm_table::Shelf;
+use lsm_table::{NamedShelf, Shelf};
 use std::alloc::{AllocFailed, Global};
 use std::marker::PhantomData;
 use std::sync::Wait;
@@ -38,11 +38,10 @@ fn start_all<'s, 'e, N: Boarded, S: Shelf, G: Gate + Sync, R: Threads + Wait + S
     alloc: Global,
     store: &'e Store<N, S>,
     service: &'e NumberService,
-    shelves: Vec<S>,
+    shelves: Vec<NamedShelf<N, S>>,
     gate: &'e G,
     handles: Vec<Thread<S>>,
 ) -> Vec<Thread<S>>
-    requires here { All (λ s. (S.told s).place ≡ N.place) shelves.items }
     requires none { vec_len handles ≡ 0 }
     requires room { vec_len shelves ≤ vec_capacity handles }
     ensures len { vec_len result ≡ vec_len shelves }
@@ -55,7 +54,6 @@ fn start_all<'s, 'e, N: Boarded, S: Shelf, G: Gate + Sync, R: Threads + Wait + S
         let handle = scope.spawn_with(
             promise,
             move || -> WorkerEnd
-                requires { (S.told shelf).place ≡ N.place }
                 ensures { IsWorkersEnd S.honest result }
             {
                 let end = work(rt, alloc, store, service, shelf, gate, worker);
@@ -123,10 +121,9 @@ pub fn run_workers<N: Boarded, S: Shelf, G: Gate + Sync, R: Threads + Wait + Syn
     rt: &R,
     alloc: Global,
     store: &Store<N, S>,
-    shelves: Vec<S>,
+    shelves: Vec<NamedShelf<N, S>>,
     gate: &G,
-) -> Result<Vec<WorkerEnd>, AllocFailed<Vec<S>>>
-    requires here { All (λ s. (S.told s).place ≡ N.place) shelves.items }
+) -> Result<Vec<WorkerEnd>, AllocFailed<Vec<NamedShelf<N, S>>>>
     ensures len { IfOk result (λ v. vec_len v ≡ vec_len shelves) }
     ensures ends { IfOk result (λ v. All (IsWorkersEnd S.honest) v.items) }
     ensures back { IfErr result (λ e. e.value ≡ shelves) }
@@ -143,7 +140,6 @@ pub fn run_workers<N: Boarded, S: Shelf, G: Gate + Sync, R: Threads + Wait + Syn
         thread::scope_env(),
         rt,
         move |scope| -> Vec<WorkerEnd>
-            requires here { All (λ s. (S.told s).place ≡ N.place) shelves.items }
             requires none { (vec_len handles ≡ 0) × (ends.items ≡ []) × (vec_len ends ≡ 0) }
             requires room { (vec_len shelves ≤ vec_capacity handles)
                 × (vec_len shelves ≤ vec_capacity ends) }

@@ -8,7 +8,7 @@ use lsm_pins::{Board, Pinner, Publisher};
 use lsm_slots::Boarded;
 use lsm_state::{Options, State};
 use lsm_store::{Reader, Store};
-use lsm_table::{Records, Registry, Shelf};
+use lsm_table::{NamedShelf, Records, Registry, Shelf};
 use std::alloc::Global;
 use std::sync::Wait;
 use std::test::Fail;
@@ -49,7 +49,7 @@ impl<S: Shelf> Parts<S> {
 pub(crate) struct Stage<N: Boarded, S: Shelf> {
     pub(crate) store: Store<N, S>,
     pub(crate) readers: Vec<Reader<N, S>>,
-    pub(crate) shelf: S,
+    pub(crate) shelf: NamedShelf<N, S>,
 }
 
 impl<N: Boarded, S: Shelf> Stage<N, S> {
@@ -57,16 +57,16 @@ impl<N: Boarded, S: Shelf> Stage<N, S> {
     #[tactic(auto, using(crate::proofs::Boards::seats_pinners))]
     pub(crate) fn of<R: Wait>(rt: &R, alloc: Global, parts: Parts<S>) -> Result<Stage<N, S>, Fail>
         requires records { parts.records ≡ N.registry }
-        requires here { (S.told parts.shelf).place ≡ N.place }
+        requires named { (S.told parts.shelf).place ≡ N.place }
         requires made { IsMade N.board parts.options parts.board.0 parts.board.1.items }
-        ensures { IfOk result (λ s. (S.told s.shelf).place ≡ N.place) }
     {
         let Parts {
-            mut shelf,
+            shelf,
             options,
             records,
             board,
         } = parts;
+        let mut shelf = NamedShelf::of(shelf);
         let registry = Registry::shared(alloc, records)?;
         let created = State::<N, S>::create(rt, alloc, &mut shelf, options, registry, board);
         let Ok(state) = created else {
@@ -76,10 +76,8 @@ impl<N: Boarded, S: Shelf> Stage<N, S> {
     }
 
     /// A store over a state, with a fork of the shelf for its readers.
-    fn over(alloc: Global, state: State<N, S>, shelf: S) -> Result<Stage<N, S>, Fail>
-        requires here { (S.told shelf).place ≡ N.place }
+    fn over(alloc: Global, state: State<N, S>, shelf: NamedShelf<N, S>) -> Result<Stage<N, S>, Fail>
         requires seats { SeatsPinners state }
-        ensures { IfOk result (λ s. (S.told s.shelf).place ≡ N.place) }
     {
         let mut shelf = shelf;
         let Ok(reading) = shelf.fork(alloc) else {

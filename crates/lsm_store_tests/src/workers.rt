@@ -1,6 +1,6 @@
 //! Workers merge at once, and leave nothing behind.
 
-ghost use Rattle.std.specs.Prelude.{◌≡◌, All, IfOk};
+ghost use Rattle.std.specs.Prelude.{◌≡◌};
 ghost use Rattle.lsm_store_tests.specs.Parts.{IsMade};
 
 use crate::stage::{Parts, Stage};
@@ -9,7 +9,7 @@ use lsm_slots::Boarded;
 use lsm_state::Options;
 use lsm_storage::MemoryShelf;
 use lsm_store::{Gate, NoGate, Store, WorkerEnd, run_workers};
-use lsm_table::Shelf;
+use lsm_table::{NamedShelf, Shelf};
 use lsm_test_shelves::FuseShelf;
 use std::alloc::Global;
 use std::marker::Brand;
@@ -44,11 +44,8 @@ fn fill<N: Boarded, S: Shelf, R: Wait>(
     rt: &R,
     alloc: Global,
     store: &Store<N, S>,
-    shelf: &mut S,
-) -> Result<(), Fail>
-    requires { (S.told shelf.old).place ≡ N.place }
-    ensures { (S.told shelf.new).place ≡ N.place }
-{
+    shelf: &mut NamedShelf<N, S>,
+) -> Result<(), Fail> {
     for key in [b"a", b"z"] {
         for value in [b"1", b"2", b"3", b"4"] {
             put(rt, alloc, store, shelf, key, value)?;
@@ -90,11 +87,11 @@ fn levels<N: Boarded, S: Shelf, R: Wait>(
 }
 
 /// So many forks of a shelf.
-fn forks<N: Boarded, S: Shelf>(alloc: Global, shelf: &mut S, count: usize) -> Result<Vec<S>, Fail>
-    requires { (S.told shelf.old).place ≡ N.place }
-    ensures forks { IfOk result (λ v. All (λ s. (S.told s).place ≡ N.place) v.items) }
-    ensures shelf { (S.told shelf.new).place ≡ N.place }
-{
+fn forks<N: Boarded, S: Shelf>(
+    alloc: Global,
+    shelf: &mut NamedShelf<N, S>,
+    count: usize,
+) -> Result<Vec<NamedShelf<N, S>>, Fail> {
     let mut forks = Vec::new(alloc);
     for _ in 0..count {
         forks.push(shelf.fork(alloc)?)?;
@@ -108,7 +105,7 @@ fn work_at_once<N: Boarded, S: Shelf, R: Threads + Wait + Abort + Sync>(
     parts: Parts<S>,
 ) -> Result<(), Fail>
     requires records { parts.records ≡ N.registry }
-    requires here { (S.told parts.shelf).place ≡ N.place }
+    requires named { (S.told parts.shelf).place ≡ N.place }
     requires made { IsMade N.board parts.options parts.board.0 parts.board.1.items }
 {
     let Stage {
@@ -118,7 +115,7 @@ fn work_at_once<N: Boarded, S: Shelf, R: Threads + Wait + Abort + Sync>(
     } = Stage::<N, S>::of(rt, alloc, parts)?;
     fill(rt, alloc, &store, &mut shelf)?;
     shows_filled(rt, alloc, &store)?;
-    let shelves = forks::<N, S>(alloc, &mut shelf, 2)?;
+    let shelves = forks(alloc, &mut shelf, 2)?;
     let gate = Both {
         begun: AtomicU64::new(0),
         alone: AtomicU64::new(0),
@@ -158,7 +155,7 @@ fn gives_up<N: Boarded, S: Shelf, R: Threads + Wait + Abort + Sync>(
     parts: Parts<S>,
 ) -> Result<(), Fail>
     requires records { parts.records ≡ N.registry }
-    requires here { (S.told parts.shelf).place ≡ N.place }
+    requires named { (S.told parts.shelf).place ≡ N.place }
     requires made { IsMade N.board parts.options parts.board.0 parts.board.1.items }
 {
     let Stage {
@@ -167,7 +164,7 @@ fn gives_up<N: Boarded, S: Shelf, R: Threads + Wait + Abort + Sync>(
         mut shelf,
     } = Stage::<N, S>::of(rt, alloc, parts)?;
     fill(rt, alloc, &store, &mut shelf)?;
-    let sound = forks::<N, S>(alloc, &mut shelf, 1)?;
+    let sound = forks(alloc, &mut shelf, 1)?;
     let mut failing = Vec::new(alloc);
     failing.push(shelf)?;
     let ends = run_workers(rt, alloc, &store, failing, &NoGate)?;

@@ -1,13 +1,11 @@
 //! Batches of one key.
 
-ghost use Rattle.std.specs.Prelude.{◌≡◌};
-
 use lsm_batch::Batch;
 use lsm_codec::Bytes;
 use lsm_slots::Boarded;
 use lsm_state::StateFault;
 use lsm_store::Store;
-use lsm_table::Shelf;
+use lsm_table::{NamedShelf, Shelf};
 use std::alloc::{AllocError, Global};
 use std::sync::Wait;
 
@@ -20,18 +18,14 @@ fn batch_of(alloc: Global, key: &[u8], value: &[u8]) -> Result<Batch, AllocError
 }
 
 /// Ingests a key with a value. The new last sequence.
-#[tactic(auto, using(crate::proofs::Places::ingested_stays, crate::proofs::Places::refused_stays))]
 pub(crate) fn put<N: Boarded, S: Shelf, R: Wait>(
     rt: &R,
     alloc: Global,
     store: &Store<N, S>,
-    shelf: &mut S,
+    shelf: &mut NamedShelf<N, S>,
     key: &[u8],
     value: &[u8],
-) -> Result<u64, StateFault>
-    requires { (S.told shelf.old).place ≡ N.place }
-    ensures { (S.told shelf.new).place ≡ N.place }
-{
+) -> Result<u64, StateFault> {
     let batch = batch_of(alloc, key, value)?;
     let came = store.lock(rt).ingest(rt, alloc, shelf, &batch)?;
     Ok(came.last)

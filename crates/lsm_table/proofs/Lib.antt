@@ -23,4 +23,5 @@ mod CheckLaws
 mod HeldBlockLaws
 mod IterLaws
 mod LastLaws
+mod TableImageLaws
 pub mod CallerLemmas

@@ -6,7 +6,6 @@ use Rattle.lsm_codec.specs.Entries.{Entry, internal_key}
 use Rattle.lsm_block.specs.Block.{IsBlock, Ascends, entry_of}
 use Rattle.lsm_block.specs.Building.{block_bytes, Building}
 use Rattle.lsm_block.specs.declared.build_fault.BuildFault.{BuildFault}
-use Rattle.lsm_block.specs.declared.build_fault.BuildFault.TheVariants.{TooLarge}
 use Rattle.lsm_table.specs.declared.table_options.TableOptions.{TableOptions}
 use Rattle.lsm_table.specs.Handle.{handle_text}
 use Rattle.lsm_table.specs.Table.{IsTable, concat}
@@ -167,10 +166,3 @@ either_made (Ok u) options entries front taken index more offset e m o a h at ok
     made_itself options (entries ++ e ∷ []) front more index (adding options entries front taken index more offset e m o a h at ok)
 either_made (Err fault) options entries front taken index more offset e m o a h at ok err =
     made_itself options entries front more index (subst (λ (b : Building). Made options entries front b index) (sym err) m)
-
-abbrev pub error : {A : Type 0} → BuildFault → Result A BuildFault
-error f = Err f
-
--- a fault, whatever would be answered in its place
-pub same_err : {A B : Type 0} (f : BuildFault) → error {A = A} f ≡ error {A = A} TooLarge → error {A = B} f ≡ error {A = B} TooLarge
-same_err f e = let same : f ≡ TooLarge = cc in ap (λ (x : BuildFault). Err x) same

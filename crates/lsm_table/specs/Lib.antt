@@ -13,6 +13,7 @@ pub mod TableMaking
 pub mod Judging
 pub mod HeldTable
 pub mod Registry
+pub mod TableImage
 pub mod ReadFault
 pub mod Found
 pub mod OpenTable

@@ -37,7 +37,7 @@ pub struct TableBuilder {
     taken: BlockBuilder,
     index: BlockBuilder,
     // Memory for the handle of a block.
-    place: Vec<u8>,
+    spelled: Vec<u8>,
 }
 
 impl Model for TableBuilder {
@@ -67,7 +67,7 @@ impl TableBuilder {
             front: Vec::new(alloc),
             taken: BlockBuilder::new(alloc, options.restart_interval),
             index: BlockBuilder::new(alloc, 1),
-            place: Vec::new(alloc),
+            spelled: Vec::new(alloc),
         }
     }
 
@@ -126,7 +126,7 @@ impl TableBuilder {
             &mut self.front,
             &mut self.taken,
             &mut self.index,
-            &mut self.place,
+            &mut self.spelled,
         )?;
         let offset = self.front.len() as u64;
         if !has_room(
@@ -136,7 +136,7 @@ impl TableBuilder {
             &self.index,
             &key,
             value,
-            &mut self.place,
+            &mut self.spelled,
         )? {
             return Err(BuildFault::TooLarge);
         }
@@ -167,17 +167,11 @@ impl TableBuilder {
             mut front,
             mut taken,
             mut index,
-            mut place,
+            mut spelled,
             ..
         } = self;
-        match close(&mut front, &mut taken, &mut index, &mut place) {
-            Ok(()) => {}
-            Err(fault) => return Err(fault),
-        }
-        match end(alloc, front, &index) {
-            Ok(file) => Ok(file),
-            Err(_) => Err(BuildFault::OutOfMemory),
-        }
+        close(&mut front, &mut taken, &mut index, &mut spelled)?;
+        Ok(end(alloc, front, &index)?)
     }
 }
 
@@ -187,16 +181,16 @@ fn has_index_room(
     index: &BlockBuilder,
     key: &KeyRef<'_>,
     handle: Handle,
-    place: &mut Vec<u8>,
+    spelled: &mut Vec<u8>,
 ) -> Result<bool, AllocError>
     ensures yes { IfOk result (λ r. r ≡ true → length (block_bytes index.now.interval
         (index.now.entries ++ entry_of (key_of key.now) (handle_text handle) ∷ [])) < 2 ^ 32) }
     ensures no { IfOk result (λ r. r ≡ false → 2 ^ 32 ≤ length (block_bytes index.now.interval
         (index.now.entries ++ entry_of (key_of key.now) (handle_text handle) ∷ []))) }
 {
-    place.clear();
-    handle.put(place)?;
-    Ok(index.size_with(key, place) <= u32::MAX as u64)
+    spelled.clear();
+    handle.put(spelled)?;
+    Ok(index.size_with(key, spelled) <= u32::MAX as u64)
 }
 
 /// Whether an entry more passes no limit: that of the open block, and that of the index block where
@@ -208,7 +202,7 @@ fn has_room(
     index: &BlockBuilder,
     key: &KeyRef<'_>,
     value: &[u8],
-    place: &mut Vec<u8>,
+    spelled: &mut Vec<u8>,
 ) -> Result<bool, AllocError>
     ensures yes { IfOk result (λ r. r ≡ true
         → HasRoom options offset taken.now index.now (entry_of (key_of key.now) value.now)) }
@@ -222,10 +216,8 @@ fn has_room(
     if size < options.block_size as u64 {
         return Ok(true);
     }
-    match has_index_room(index, key, Handle { offset, size }, place) {
-        Ok(has) => Ok(has),
-        Err(error) => Err(error),
-    }
+    let has = has_index_room(index, key, Handle { offset, size }, spelled)?;
+    Ok(has)
 }
 
 /// Moves the open block to the closed ones, if it has an entry. An `Err` changes nothing.
@@ -233,7 +225,7 @@ fn close(
     front: &mut Vec<u8>,
     taken: &mut BlockBuilder,
     index: &mut BlockBuilder,
-    place: &mut Vec<u8>,
+    spelled: &mut Vec<u8>,
 ) -> Result<(), BuildFault>
     requires { Ascends (index.old.entries
         ++ index_of taken.old.interval (length front.old.items) (last_group taken.old.entries)) }
@@ -264,10 +256,10 @@ fn close(
         offset: start as u64,
         size: taken.size_estimate() as u64,
     };
-    place.clear();
-    handle.put(place)?;
+    spelled.clear();
+    handle.put(spelled)?;
     put_block(front, taken)?;
-    match index.add(&key, place) {
+    match index.add(&key, spelled) {
         Ok(()) => {}
         Err(fault) => {
             front.truncate(start);
@@ -284,7 +276,7 @@ fn settle(
     front: &mut Vec<u8>,
     taken: &mut BlockBuilder,
     index: &mut BlockBuilder,
-    place: &mut Vec<u8>,
+    spelled: &mut Vec<u8>,
 ) -> Result<(), BuildFault>
     requires { (entries : List Entry) × Made options entries front.old.items taken.old index.old }
     ensures ok { (entries : List Entry) → Made options entries front.old.items taken.old index.old
@@ -298,10 +290,8 @@ fn settle(
     if taken.size_estimate() < options.block_size {
         return Ok(());
     }
-    match close(front, taken, index, place) {
-        Ok(()) => Ok(()),
-        Err(fault) => Err(fault),
-    }
+    close(front, taken, index, spelled)?;
+    Ok(())
 }
 
 /// The file that begins with the data blocks: an empty metaindex block, the index block and the
@@ -319,14 +309,14 @@ fn end(alloc: Global, front: Vec<u8>, index: &BlockBuilder) -> Result<Vec<u8>, A
         size: none.size_estimate() as u64,
     };
     put_block(&mut file, &none)?;
-    let place = Handle {
+    let handle = Handle {
         offset: file.len() as u64,
         size: index.size_estimate() as u64,
     };
     put_block(&mut file, index)?;
     let footer = Footer {
         metaindex,
-        index: place,
+        index: handle,
     };
     file.extend_from_slice(&footer.text(alloc)?)?;
     Ok(file)

@@ -27,14 +27,9 @@ pub(crate) fn judge(alloc: Global, file: &[u8]) -> Result<Handle, TableFault>
     ensures held { IfOk result (λ index. HeldTable file.now index) }
     ensures exact { Gives (λ _. entries_in file.now) result (table_at file.now) }
 {
-    let index = match judge_opening(alloc, file) {
-        Ok(index) => index,
-        Err(fault) => return Err(fault),
-    };
-    match judge_rest(alloc, file, index) {
-        Ok(()) => Ok(index),
-        Err(fault) => Err(fault),
-    }
+    let index = judge_opening(alloc, file)?;
+    judge_rest(alloc, file, index)?;
+    Ok(index)
 }
 
 /// Whether a key comes after the index key before it, where there is one.
@@ -80,28 +75,19 @@ fn is_placed(
 #[tactic(auto, unfolding(crate::specs::OpenTable::block_named))]
 fn named_block<'a>(
     body: &'a [u8],
-    place: &[u8],
+    spelled: &[u8],
     cursor: &mut Cursor,
 ) -> Result<BlockRef<'a>, TableFault>
-    ensures exact { Gives (λ b. b.entries) result (block_named body.now place.now) }
+    ensures exact { Gives (λ b. b.entries) result (block_named body.now spelled.now) }
     ensures last { IfOk result (λ b. cursor.new.last ≡ last_after None b.entries) }
     ensures ascends { IfOk result (λ b. Ascends b.entries) }
 {
-    let (handle, rest) = match Handle::get(TableFault::BadIndex, place) {
-        Ok(found) => found,
-        Err(fault) => return Err(fault),
-    };
+    let (handle, rest) = Handle::get(TableFault::BadIndex, spelled)?;
     if !rest.is_empty() {
         return Err(TableFault::BadIndex);
     }
-    let contents = match contents_of(body, handle) {
-        Ok(contents) => contents,
-        Err(fault) => return Err(fault),
-    };
-    match BlockRef::check(contents, cursor) {
-        Ok(block) => Ok(block),
-        Err(fault) => Err(TableFault::from(fault)),
-    }
+    let contents = contents_of(body, handle)?;
+    Ok(BlockRef::check(contents, cursor)?)
 }
 
 /// Judges the data block of an index entry: its handle, the block, and its keys.
@@ -109,16 +95,13 @@ fn judge_block(
     body: &[u8],
     bound: Option<KeyRef<'_>>,
     key: &KeyRef<'_>,
-    place: &[u8],
+    spelled: &[u8],
     cursor: &mut Cursor,
 ) -> Result<(), TableFault>
     ensures { Gives (λ _. tt) result (settled (data_block_at body.now
-        (option_map key_of bound.entry) (entry_of (key_of key.now) place.now))) }
+        (option_map key_of bound.entry) (entry_of (key_of key.now) spelled.now))) }
 {
-    let block = match named_block(body, place, cursor) {
-        Ok(block) => block,
-        Err(fault) => return Err(fault),
-    };
+    let block = named_block(body, spelled, cursor)?;
     if !is_placed(&block, bound, key, cursor)? {
         return Err(TableFault::BadIndex);
     }
@@ -134,14 +117,11 @@ fn judge_data(alloc: Global, body: &[u8], index: &BlockRef<'_>) -> Result<(), Ta
     let mut here = Cursor::start(alloc);
     index.rewind(&mut before);
     index.rewind(&mut here);
-    while let Some(place) = index.next(&mut here)? {
+    while let Some(spelled) = index.next(&mut here)? {
         let Some(key) = here.key() else {
             return Err(TableFault::BadIndex);
         };
-        match judge_block(body, before.key(), &key, place, &mut cursor) {
-            Ok(()) => {}
-            Err(fault) => return Err(fault),
-        }
+        judge_block(body, before.key(), &key, spelled, &mut cursor)?;
         let _ = index.next(&mut before)?;
     }
     Ok(())
@@ -154,19 +134,11 @@ fn judge_opening(alloc: Global, file: &[u8]) -> Result<Handle, TableFault>
     ensures whole { Gives (λ _. tt) result (settled (opening_at file.now)) }
     ensures opened { IfOk result (λ index. IsOpened file.now index) }
 {
-    let footer = match Footer::of(file) {
-        Ok(footer) => footer,
-        Err(fault) => return Err(fault),
-    };
+    let footer = Footer::of(file)?;
     let (body, _) = file.split_at(file.len() - FOOTER);
-    let contents = match contents_of(body, footer.index) {
-        Ok(contents) => contents,
-        Err(fault) => return Err(fault),
-    };
-    match check_bytes(alloc, contents) {
-        Ok(()) => Ok(footer.index),
-        Err(fault) => Err(TableFault::from(fault)),
-    }
+    let contents = contents_of(body, footer.index)?;
+    check_bytes(alloc, contents)?;
+    Ok(footer.index)
 }
 
 /// Judges the data blocks of a file whose footer and index block were judged.
@@ -176,8 +148,6 @@ fn judge_rest(alloc: Global, file: &[u8], index: Handle) -> Result<(), TableFaul
     ensures exact { Gives (λ _. entries_in file.now) result (table_at file.now) }
 {
     let (body, block) = parts(file, index);
-    match judge_data(alloc, body, &block) {
-        Ok(()) => Ok(()),
-        Err(fault) => Err(fault),
-    }
+    judge_data(alloc, body, &block)?;
+    Ok(())
 }

@@ -35,11 +35,11 @@ pub(crate) fn parts(file: &[u8], index: Handle) -> (&[u8], BlockRef<'_>)
 }
 
 /// The data block that the value of an index entry names.
-pub(crate) fn data_block<'a>(body: &'a [u8], place: &[u8]) -> BlockRef<'a>
-    requires { (es : List Entry) × DataBlock body.now place.now es }
-    ensures { (es : List Entry) → DataBlock body.now place.now es → result.entries ≡ es }
+pub(crate) fn data_block<'a>(body: &'a [u8], spelled: &[u8]) -> BlockRef<'a>
+    requires { (es : List Entry) × DataBlock body.now spelled.now es }
+    ensures { (es : List Entry) → DataBlock body.now spelled.now es → result.entries ≡ es }
 {
-    block_at(body, Handle::spelled(place))
+    block_at(body, Handle::spelled(spelled))
 }
 
 /// A block without entries: the restart 0, and the number of restarts.

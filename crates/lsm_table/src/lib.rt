@@ -24,10 +24,12 @@ mod table;
 mod table_iter;
 
 // Tables on a shelf: their records, and the names under which they are known.
+mod named_shelf;
 mod naming;
 mod read_fault;
 mod records;
 mod registry;
+mod table_image;
 mod table_record;
 mod table_ref;
 
@@ -36,7 +38,8 @@ pub use footer::{FOOTER, Footer};
 pub use found::Found;
 pub use handle::Handle;
 pub use lsm_block::BuildFault;
-pub use lsm_shelf::{Shelf, ShelfFault, Slip};
+pub use lsm_shelf::{Shelf, ShelfFault, TableReceipt};
+pub use named_shelf::NamedShelf;
 pub use naming::Naming;
 pub use read_fault::ReadFault;
 pub use records::Records;
@@ -45,6 +48,7 @@ pub use search::{found_in_entry, key_for};
 pub use stored_block::{TRAILER, unseal};
 pub use table::{Table, entries_are, one_table};
 pub use table_fault::TableFault;
+pub use table_image::{BegunTable, TableImage};
 pub use table_iter::TableIter;
 pub use table_options::TableOptions;
 pub use table_record::TableRecord;

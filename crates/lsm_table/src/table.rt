@@ -51,10 +51,8 @@ impl Table {
         // Which fault it is.
         ensures exact { Gives (λ t. t) result (table_at file.items) }
     {
-        match judge(alloc, &file) {
-            Ok(index) => Ok(Table { file, index }),
-            Err(fault) => Err(fault),
-        }
+        let index = judge(alloc, &file)?;
+        Ok(Table { file, index })
     }
 
     /// The part before the footer, and the index block.
@@ -74,8 +72,8 @@ impl Table {
         let mut next_block = Cursor::start(alloc);
         let mut here = Cursor::start(alloc);
         index.seek(&mut next_block, &key)?;
-        while let Some(place) = index.next(&mut next_block)? {
-            match search_block(alloc, &data_block(body, place), &mut here, &key)? {
+        while let Some(spelled) = index.next(&mut next_block)? {
+            match search_block(alloc, &data_block(body, spelled), &mut here, &key)? {
                 Search::GoesOn => {}
                 Search::Ended(found) => return Ok(found),
             }

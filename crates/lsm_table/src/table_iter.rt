@@ -94,10 +94,10 @@ impl<'t> TableIter<'t> {
         if let Some(value) = self.block.next(&mut self.here)? {
             return Ok(Some(value));
         }
-        let Some(place) = self.index.next(&mut self.next_block)? else {
+        let Some(spelled) = self.index.next(&mut self.next_block)? else {
             return Ok(None);
         };
-        self.block = data_block(self.body, place);
+        self.block = data_block(self.body, spelled);
         self.block.rewind(&mut self.here);
         Ok(self.block.next(&mut self.here)?)
     }

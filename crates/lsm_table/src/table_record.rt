@@ -3,12 +3,12 @@
 ghost use Rattle.std.specs.Prelude.{◌≡◌, length};
 
 use lsm_codec::Bytes;
-use lsm_shelf::Slip;
+use lsm_shelf::TableReceipt;
 
 /// What is known of a table that lies on a shelf: its first and last internal key and the receipt
 /// of its image, which has the table's number and its size.
 #[derive(Drop)]
-pub struct TableRecord<C: Slip> {
+pub struct TableRecord<C: TableReceipt> {
     /// The first internal key of the table.
     pub smallest: Bytes,
     /// The last internal key of the table.
@@ -17,7 +17,7 @@ pub struct TableRecord<C: Slip> {
     pub receipt: C,
 }
 
-impl<C: Slip> TableRecord<C> {
+impl<C: TableReceipt> TableRecord<C> {
     /// The number of the table's file.
     pub fn number(&self) -> u64
         ensures { result ≡ C.number self.now.receipt }

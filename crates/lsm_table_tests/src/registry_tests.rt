@@ -5,7 +5,7 @@ ghost use Rattle.std.specs.Prelude.{◌≡◌};
 use crate::expectation::expect;
 use lsm_codec::Bytes;
 use lsm_storage::MemoryShelf;
-use lsm_table::{Naming, Records, Registry, Shelf, ShelfFault, TableRecord, TableRef};
+use lsm_table::{NamedShelf, Naming, Records, Registry, Shelf, ShelfFault, TableRecord, TableRef};
 use std::alloc::Global;
 use std::marker::Brand;
 use std::process::Abort;
@@ -15,8 +15,8 @@ use std::test::Fail;
 #[test]
 fn a_registry_gives_the_records_pushed(rt: HostRuntime) -> Result<(), Fail> {
     let records = Records::new(rt.alloc())?;
-    let mut shelf = MemoryShelf::new(rt.alloc())?;
-    keeps_records::<Brand, MemoryShelf, _>(&rt, rt.alloc(), records, &mut shelf)?;
+    let shelf = MemoryShelf::new(rt.alloc())?;
+    keeps_records::<Brand, MemoryShelf, _>(&rt, rt.alloc(), records, shelf)?;
     Ok(())
 }
 
@@ -25,12 +25,9 @@ fn pushed<N: Naming, S: Shelf, R: Wait>(
     rt: &R,
     alloc: Global,
     registry: &Registry<N, S>,
-    shelf: &mut S,
+    shelf: &mut NamedShelf<N, S>,
     number: u64,
-) -> Result<TableRef<N, S>, ShelfFault>
-    requires shelf { (S.told shelf.old).place ≡ N.place }
-    ensures shelf { (S.told shelf.new).place ≡ N.place }
-{
+) -> Result<TableRef<N, S>, ShelfFault> {
     let smallest = Bytes::of(Vec::from_slice(alloc, b"first")?);
     let largest = Bytes::of(Vec::from_slice(alloc, b"last")?);
     let receipt = shelf.put(rt, alloc, number, b"image")?;
@@ -70,12 +67,13 @@ fn keeps_records<N: Naming, S: Shelf, R: Wait + Abort>(
     rt: &R,
     alloc: Global,
     records: Records<S::Receipt>,
-    shelf: &mut S,
+    shelf: S,
 ) -> Result<(), ShelfFault>
     requires records { records ≡ N.registry }
-    requires shelf { (S.told shelf.old).place ≡ N.place }
+    requires named { (S.told shelf).place ≡ N.place }
 {
     let registry = &Registry::of(records);
+    let shelf = &mut NamedShelf::of(shelf);
     let first = pushed::<N, S, R>(rt, alloc, registry, shelf, 2)?;
     let second = pushed::<N, S, R>(rt, alloc, registry, shelf, 3)?;
     expect_record::<N, S, R>(rt, registry, &first, 2);

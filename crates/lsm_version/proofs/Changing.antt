@@ -9,7 +9,7 @@ use Rattle.std.proofs.lemmas.List.Kept.{IsSortedBy-filter}
 use Rattle.lsm_table.specs.Registry.{Table}
 use Rattle.lsm_version.specs.Versions.{Levels, stands_before, AreInOrder}
 use Rattle.lsm_version.specs.Changes.{is_kept, placed_in, placed_all, coming, level_after, levels_after, with_pointer, changed}
-use Rattle.lsm_version.proofs.Placing.{places_rank, placed_sorted}
+use Rattle.lsm_version.proofs.Placing.{tables_rank, placed_sorted}
 
 -- one table more was kept or left out
 pub kept_more : (p : Table → Bool) (us : List Table) (i : ℕ) (x : Table) (b : Bool) (ks ks' : List Table) → i < length us → x ≡ get_or us i x → p x ≡ b
@@ -21,7 +21,7 @@ kept_more p us i x b ks ks' lt is t made before = made ∙ go b ∙ sym (filter_
     go false = before ∙ sym (append-nil (filter p (take i us)))
 
 pub kept_sorted : (deleted : List ℕ) (us : List Table) → IsSortedBy stands_before us → IsSortedBy stands_before (filter (is_kept deleted) us)
-kept_sorted deleted us s = IsSortedBy-filter stands_before places_rank (is_kept deleted) us s
+kept_sorted deleted us s = IsSortedBy-filter stands_before tables_rank (is_kept deleted) us s
 
 pub placed_all_sorted : (ts us : List Table) → IsSortedBy stands_before us → IsSortedBy stands_before (placed_all ts us)
 placed_all_sorted [] us s = s
@@ -83,7 +83,7 @@ added_at [] i a lt is = absurd (omega arith)
 added_at (b ∷ added) zero a lt is = ap (λ c. c ∷ added) (sym is)
 added_at (b ∷ added) (suc i) a lt is = rw add-one (let h = added_at added i a (omega arith) is in rw add-one at h)
 
--- one of those was put into its place, or goes elsewhere
+-- one of those was put in, or goes elsewhere
 pub coming_more : (n i : ℕ) (added : List (ℕ × Table)) (a : ℕ × Table) (b : Bool) (us us' whole : List Table) → i < length added → a ≡ get_or added i a → (a.0 == n) ≡ b
     → us' ≡ cond b (placed_in a.1 us) us → placed_all (coming n (drop i added)) us ≡ whole → placed_all (coming n (drop (i + 1) added)) us' ≡ whole
 coming_more n i added a b us us' whole lt is test made before =

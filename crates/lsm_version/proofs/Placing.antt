@@ -16,9 +16,9 @@ use Rattle.lsm_version.specs.Changes.{placed_in}
 
 -- ---- the order of a level
 
-pub places_rank : IsStrictWeakOrder stands_before
+pub tables_rank : IsStrictWeakOrder stands_before
 unfolding stands_before
-places_rank = ranks_by (then_total (on_total (λ (t : Table). user_part t.smallest) nat_list_cmp_total)
+tables_rank = ranks_by (then_total (on_total (λ (t : Table). user_part t.smallest) nat_list_cmp_total)
     (then_total (back_total (on_total (λ (t : Table). packed_part t.smallest) nat_cmp_total)) (on_total (λ (t : Table). t.number) nat_cmp_total))) (λ (t : Table). t)
 
 -- none stands before one that it comes after
@@ -29,7 +29,7 @@ EachAfter (x ∷ xs) = ((y : Table) → Has xs y → stands_before y x ≡ false
 pub each_after : (us : List Table) → IsSortedBy stands_before us → EachAfter us
 each_after [] s = tt
 each_after (x ∷ xs) s = (
-  λ y h. (let c = contains_from xs y h in ap (λ z. stands_before z x) (sym c.2) ∙ sorted_far stands_before places_rank (x ∷ xs) s 0 (suc c.0) y (omega arith) (let lt = c.1 in omega arith)),
+  λ y h. (let c = contains_from xs y h in ap (λ z. stands_before z x) (sym c.2) ∙ sorted_far stands_before tables_rank (x ∷ xs) s 0 (suc c.0) y (omega arith) (let lt = c.1 in omega arith)),
   each_after xs (λ k d low lt. rw add-one (let h = s (suc k) d (omega arith) (omega arith) in rw add-one at h)),
 )
 
@@ -59,22 +59,22 @@ parted p (u ∷ us) (suc n) inside before behind =
     let rest = parted p us n (omega arith) (λ k d lt. before (suc k) d (omega arith)) (λ k d low lt. behind (suc k) d (omega arith) (omega arith)) in
     rw here (ap (λ us. u ∷ us) rest.0, rest.1)
 
--- the place of t in a level in order, where t stands before all tables from n on, and not before the one that comes just before them
-pub record IsPlace (t : Table) (us : List Table) (n : ℕ) : Type 0 where
+-- the index of t in a level in order, where t stands before all tables from n on, and not before the one that comes just before them
+pub record IsIndex (t : Table) (us : List Table) (n : ℕ) : Type 0 where
   pub before : take n us ≡ filter (λ u. not (stands_before t u)) us
   pub behind : drop n us ≡ filter (λ u. stands_before t u) us
 
 abbrev pub StandBehind : Table → List Table → ℕ → Type 0
 StandBehind t us n = (k : ℕ) (d : Table) → n ≤ k → k < length us → stands_before t (get_or us k d) ≡ true
 
-pub place_at_front : (t : Table) (us : List Table) (n : ℕ) → n ≤ 0 → StandBehind t us n → IsPlace t us n
-place_at_front t us n none behind =
+pub index_at_front : (t : Table) (us : List Table) (n : ℕ) → n ≤ 0 → StandBehind t us n → IsIndex t us n
+index_at_front t us n none behind =
     let parts = parted (λ u. stands_before t u) us n (omega arith) (λ k d lt. absurd (omega arith)) behind in
     record { before = parts.0; behind = parts.1 }
 
-pub place_after : (t : Table) (us : List Table) (n : ℕ) (x : Table) → IsSortedBy stands_before us → 0 < n → n ≤ length us → x ≡ get_or us (n - 1) x → stands_before t x ≡ false
-    → StandBehind t us n → IsPlace t us n
-place_after t us n x s some inside is early behind =
+pub index_after : (t : Table) (us : List Table) (n : ℕ) (x : Table) → IsSortedBy stands_before us → 0 < n → n ≤ length us → x ≡ get_or us (n - 1) x → stands_before t x ≡ false
+    → StandBehind t us n → IsIndex t us n
+index_after t us n x s some inside is early behind =
     let earlier : (k : ℕ) (d : Table) → k < n → stands_before t (get_or us k d) ≡ false = λ k d lt. before_all k d lt in
     let parts = parted (λ u. stands_before t u) us n inside earlier behind in
     record { before = parts.0; behind = parts.1 }
@@ -83,7 +83,7 @@ place_after t us n x s some inside is early behind =
     here d = ap (λ z. stands_before t z) (get_or_default us (n - 1) d x (omega arith) ∙ sym is) ∙ early
 
     before_all : (k : ℕ) (d : Table) → k < n → stands_before t (get_or us k d) ≡ false
-    before_all k d lt = places_rank.chain t (get_or us (n - 1) d) (get_or us k d) (here d) (sorted_far stands_before places_rank us s k (n - 1) d (omega arith) (omega arith))
+    before_all k d lt = tables_rank.chain t (get_or us (n - 1) d) (get_or us k d) (here d) (sorted_far stands_before tables_rank us s k (n - 1) d (omega arith) (omega arith))
 
 pub placed_at : (t : Table) (us : List Table) (n : ℕ) → take n us ≡ filter (λ u. not (stands_before t u)) us → drop n us ≡ filter (λ u. stands_before t u) us
     → insert us n t ≡ placed_in t us
@@ -115,10 +115,10 @@ each_placed t us a =
     let p : Table → Bool = λ u. stands_before t u in
     let q : Table → Bool = λ u. not (stands_before t u) in
     each_append (filter q us) (t ∷ filter p us) (each_filter q us a)
-    (λ y h. places_rank.one_way t y (filter_has p us y h).1, each_filter p us a)
+    (λ y h. tables_rank.one_way t y (filter_has p us y h).1, each_filter p us a)
     (λ f b hf hb. (let early = not_true (stands_before t f) (filter_has q us f hf).1 in elim hb [
       | inl same ↦ ap (λ z. stands_before z f) (sym same) ∙ early
-      | inr rest ↦ places_rank.chain b t f (places_rank.one_way t b (filter_has p us b rest).1) early
+      | inr rest ↦ tables_rank.chain b t f (tables_rank.one_way t b (filter_has p us b rest).1) early
     ]))
 
 -- a level with one more table is in order

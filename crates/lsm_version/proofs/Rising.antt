@@ -14,7 +14,7 @@ use Rattle.lsm_levels.specs.Ranges.{KeyLe, key_le}
 use Rattle.lsm_levels.proofs.CallerLemmas.{before_not_first, before_says, first_is_le, key_le_user, true_or_not}
 use Rattle.lsm_version.specs.Versions.{IsWhole, file_of, files_of, stands_before, user_of}
 use Rattle.lsm_version.specs.Reads.{IsSoundLevel, IsRising, reaches}
-use Rattle.lsm_version.proofs.Placing.{places_rank}
+use Rattle.lsm_version.proofs.Placing.{tables_rank}
 use Rattle.lsm_version.proofs.ChangedFiles.{has_files}
 use Rattle.std.specs.Ordering.{nat_cmp, is_lt, is_le, ordering_reverse}
 use Rattle.lsm_manifest.specs.FileOrder.{TableFile}
@@ -25,14 +25,14 @@ not_less Less p h = absurd (cc h)
 not_less Equal p h = refl
 not_less Greater p h = refl
 
-place_of : Table → TableFile
-place_of t = record { number = t.number; size = 0; smallest = t.smallest; largest = t.largest }
+row_of : Table → TableFile
+row_of t = record { number = t.number; size = 0; smallest = t.smallest; largest = t.largest }
 
 -- a table that does not stand before another one begins no earlier
 pub begins_later : (t u : Table) (k l : InternalKey) → IsKey t.smallest k → IsKey u.smallest l → stands_before u t ≡ false → KeyLe k l
-unfolding stands_before key_le place_of
+unfolding stands_before key_le row_of
 begins_later t u k l kt ku late =
-    ap is_le (key_cmp-swapped k l) ∙ not_less (key_cmp l k) (nat_cmp u.number t.number) (ap is_lt (sym (order_is (place_of u) (place_of t) l k ku kt)) ∙ late)
+    ap is_le (key_cmp-swapped k l) ∙ not_less (key_cmp l k) (nat_cmp u.number t.number) (ap is_lt (sym (order_is (row_of u) (row_of t) l k ku kt)) ∙ late)
 
 pub user_of-key : (bytes : List ℕ) (key : InternalKey) → IsKey bytes key → user_of bytes ≡ key.user
 user_of-key bytes key is = ap user_of is.bytes_are ∙ take-key_bytes key
@@ -70,7 +70,7 @@ ahead_or_same n ts pos s i j d le lt = elim (cases_eq (get_or ts i d).number (ge
   | inr other ↦ elim (s.lawful.in_order (file_of n (get_or ts i d)) (file_of n (get_or ts j d)) hi hj refl pos other) [
     | inl ahead ↦ inr ahead
     | inr back ↦ absurd (not_behind n n (get_or ts i d) (get_or ts j d) (s.whole (get_or ts i d) (has_at ts i d (omega arith))) (s.whole (get_or ts j d) (has_at ts j d lt))
-        (sorted_far stands_before places_rank ts s.order i j d le lt) back)
+        (sorted_far stands_before tables_rank ts s.order i j d le lt) back)
   ]
 ]
   where
@@ -92,7 +92,7 @@ ends_no_later F G f g ahead =
 pub level_rises : (n : ℕ) (ts : List Table) → 1 ≤ n → IsSoundLevel n ts → IsRising ts
 level_rises n ts pos s = record {
   lows = λ i j d le lt. begins_no_earlier (get_or ts i d) (get_or ts j d) (s.whole (get_or ts i d) (has_at ts i d (omega arith))) (s.whole (get_or ts j d) (has_at ts j d lt))
-      (sorted_far stands_before places_rank ts s.order i j d le lt);
+      (sorted_far stands_before tables_rank ts s.order i j d le lt);
   highs = λ i j d le lt. elim (ahead_or_same n ts pos s i j d le lt) [
     | inl same ↦ subst (λ (H : File). UserLe (file_of n (get_or ts i d)).high H.high) same (user_le_refl (file_of n (get_or ts i d)).high)
     | inr ahead ↦ ends_no_later (file_of n (get_or ts i d)) (file_of n (get_or ts j d)) (s.lawful.fits (file_of n (get_or ts i d)) (has_files n ts (get_or ts i d) (has_at ts i d (omega arith))))

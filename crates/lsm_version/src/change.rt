@@ -34,7 +34,7 @@ fn kept<N: Naming, S: Shelf>(
 }
 
 /// Puts the tables that come to a level into it.
-fn place_all<N: Naming, S: Shelf>(
+fn insert_all<N: Naming, S: Shelf>(
     registry: &Registry<N, S>,
     level: &mut Vec<TableRef<N, S>>,
     number: usize,
@@ -67,7 +67,7 @@ fn level_after<N: Naming, S: Shelf>(
     ensures { IfOk result (λ v. v.items ≡ level_after deleted.now added.now number level.now) }
 {
     let mut after = kept(alloc, registry, level, deleted)?;
-    place_all(registry, &mut after, number, added)?;
+    insert_all(registry, &mut after, number, added)?;
     Ok(after)
 }
 
@@ -109,7 +109,7 @@ fn with_pointer(
 
 impl<N: Naming, S: Shelf> Version<N, S> {
     /// The version without the tables of the deleted numbers and with the added ones, each at its
-    /// level, 0 to 6, and in its place there; the pointer of a level, 0 to 6, is replaced by an
+    /// level, 0 to 6, and where the order has it; the pointer of a level, 0 to 6, is replaced by an
     /// internal key, and the last sequence by another one. `AllocError` where a growth was refused.
     ///
     /// Deletions come before additions: a table that moves to another level is deleted and added

@@ -25,6 +25,6 @@ pub use change::{
 };
 pub use copies::{copies_of, copy_of};
 pub use lsm_levels::{KeyRange, Layout, laws, layout_of};
-pub use ordered_level::place_in;
+pub use ordered_level::index_in;
 pub use user_range::{begins_by, first_reaching, high_of, low_of, youngest_below};
 pub use version::Version;

@@ -32,7 +32,7 @@ fn stands_before<N: Naming, S: Shelf>(
 
 /// How many tables of a level in order the table does not stand before. It is looked for from the
 /// back, so that tables which come in order cost one comparison each.
-pub fn place_in<N: Naming, S: Shelf>(
+pub fn index_in<N: Naming, S: Shelf>(
     registry: &Registry<N, S>,
     level: &[TableRef<N, S>],
     table: &TableRef<N, S>,
@@ -43,14 +43,14 @@ pub fn place_in<N: Naming, S: Shelf>(
         ≡ filter (λ u. not (stands_before table.now u)) level.now }
     ensures behind { drop result level.now ≡ filter (λ u. stands_before table.now u) level.now }
 {
-    let mut place = level.len();
-    while place > 0 && stands_before(registry, table, &level[place - 1]) {
-        place -= 1;
+    let mut index = level.len();
+    while index > 0 && stands_before(registry, table, &level[index - 1]) {
+        index -= 1;
     }
-    place
+    index
 }
 
-/// Puts a table into its place in a level.
+/// Puts a table into a level, where the order has it.
 pub(crate) fn insert<N: Naming, S: Shelf>(
     registry: &Registry<N, S>,
     level: &mut Vec<TableRef<N, S>>,
@@ -61,7 +61,7 @@ pub(crate) fn insert<N: Naming, S: Shelf>(
     ensures order { IsSortedBy stands_before level.new.items }
     ensures err { OnErr result (level.new.items ≡ level.old.items) }
 {
-    let place = place_in(registry, level.as_slice(), &table);
-    level.insert(place, table)?;
+    let index = index_in(registry, level.as_slice(), &table);
+    level.insert(index, table)?;
     Ok(())
 }

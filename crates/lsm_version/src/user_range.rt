@@ -47,7 +47,7 @@ pub fn begins_by<N: Naming, S: Shelf>(
 }
 
 /// Whether the greatest user key of a table is at least this one.
-pub fn reaches<N: Naming, S: Shelf>(
+pub(crate) fn reaches<N: Naming, S: Shelf>(
     registry: &Registry<N, S>,
     table: &TableRef<N, S>,
     user: &[u8],

@@ -4,7 +4,7 @@ ghost use Rattle.std.specs.Prelude.{◌≡◌, ◌≤◌, ◌^◌, length};
 ghost use Rattle.lsm_storage.specs.FileNames.{table_name};
 
 use lsm_folder::Mark;
-use lsm_shelf::Slip;
+use lsm_shelf::TableReceipt;
 
 /// What a `FileShelf` hands out for an image: the number and size of the table's file, and the mark
 /// that the folder gave for it.
@@ -31,7 +31,7 @@ impl<M: Mark> FileReceipt<M> {
     }
 }
 
-impl<M: Mark + Send + Sync> Slip for FileReceipt<M> {
+impl<M: Mark + Send + Sync> TableReceipt for FileReceipt<M> {
     ghost number = { λ r. r.number };
 
     ghost image = { λ r. M.Mark.image r.mark };

@@ -4,7 +4,7 @@ ghost use Rattle.std.specs.Prelude.{◌≡◌, ◌≤◌, ◌^◌, length};
 
 use crate::memory::image::Image;
 use boxcar::Pushed;
-use lsm_shelf::Slip;
+use lsm_shelf::TableReceipt;
 
 /// What a `MemoryShelf` hands out for an image. The image stays in memory while any fork of the
 /// shelf lasts, whatever is removed from the directory.
@@ -18,7 +18,7 @@ pub struct MemoryReceipt {
     ghost limit: { size ≤ 2 ^ 30 },
 }
 
-impl Slip for MemoryReceipt {
+impl TableReceipt for MemoryReceipt {
     ghost number = { λ r. r.number };
 
     ghost image = { λ r. r.token.value.bytes.items };

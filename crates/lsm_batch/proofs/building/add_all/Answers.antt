@@ -9,5 +9,5 @@ add-requires-clause-ascends c =
     let ws = c.args.writes.now in
     let i = c.loop-i.i in
     let w = c.index-writes-i.result in
-    ascends_on (c.args.builder.now.entries ++ entries_from c.args.first ws) c.loop-i.builder.entries (written_at (c.args.first + i) w) (entries_from (c.args.first + i) (drop i ws)) (entries_from (c.args.first + (i + 1)) (drop (i + 1) ws))
+    ascends_on (c.args.table.now.entries ++ entries_from c.args.first ws) c.loop-i.table.entries (written_at (c.args.first + i) w) (entries_from (c.args.first + i) (drop i ws)) (entries_from (c.args.first + (i + 1)) (drop (i + 1) ws))
     c.requires.ascends c.loop-i.invariant.entries (entries_at ws c.args.first i w c.loop-i-test.true c.index-writes-i.is)

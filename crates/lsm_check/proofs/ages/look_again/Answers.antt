@@ -4,14 +4,14 @@ use Rattle.lsm_levels.specs.Merging.{Placed}
 use Rattle.lsm_check.proofs.AgeLaws.{merged_judged}
 use Rattle.lsm_check.proofs.ages.look_again.Goals as goal
 
-pub returns-in-Ok-against_age-clause-judged : goal.returns-in-Ok-against_age-clause-judged
-returns-in-Ok-against_age-clause-judged g c = λ h.
-    let runs = c.in-Ok.ensures.runs h in
-    let ls : List (List Placed) = map (λ r. r.placed) c.in-Ok.runs.items in
-    (ls, runs, merged_judged ls c.in_ok-merger.merger.placed c.in-Ok-against_age.user runs.ordered c.in_ok-merger.ensures.placed (c.in-Ok-against_age.ensures.judged h))
+pub returns-in-Ok-clause-judged : goal.returns-in-Ok-clause-judged
+returns-in-Ok-clause-judged g c = λ h.
+    let runs = c.in_ok-runs.ensures.runs h in
+    let ls : List (List Placed) = map (λ r. r.placed) c.in_ok-runs.runs.items in
+    (ls, runs, merged_judged ls c.in_ok-merger.merger.placed c.in-Ok.user runs.ordered c.in_ok-merger.ensures.placed (c.in-Ok.ensures.judged h))
 
 pub returns-clause-number : goal.returns-clause-number
 returns-clause-number g c =
-    let one = c.in-Err-against_age.ensures.number in
-    let file : ℕ × ℕ = (one.0, c.in-Err-against_age.fault.number) in
-    c.in-Ok.ensures.files file (subst (λ (fs : List (ℕ × ℕ)). Has fs file) c.in_ok-merger.ensures.files one.1)
+    let one = c.in-Err.ensures.number in
+    let file : ℕ × ℕ = (one.0, c.in-Err.fault.number) in
+    c.in_ok-runs.ensures.files file (subst (λ (fs : List (ℕ × ℕ)). Has fs file) c.in_ok-merger.ensures.files one.1)

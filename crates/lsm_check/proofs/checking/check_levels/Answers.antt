@@ -74,13 +74,13 @@ judge_ages-requires-clause-unsettled g c κs within =
 
 pub returns-in_err-levels-clause-refused : goal.returns-in_err-levels-clause-refused
 returns-in_err-levels-clause-refused g c =
-    let Stored : ℕ → List ℕ → Type 0 = λ number image. (r : g.row.S-Receipt.Denot) × g.S.Shelf.is_of g.N.Naming.place r × (g.S.Receipt.Slip.number r ≡ number) × (g.S.Receipt.Slip.image r ≡ image) in
+    let Stored : ℕ → List ℕ → Type 0 = λ number image. (r : g.row.S-Receipt.Denot) × g.S.Shelf.is_of g.N.Naming.place r × (g.S.Receipt.TableReceipt.number r ≡ number) × (g.S.Receipt.TableReceipt.image r ≡ image) in
     let p = err_from_is_err_and c.from_residual-in_err-levels.result c.from_residual-in_err-levels.ensures.1 in
     rw (p.1, p.2) (files_refused Stored (λ number. g.S.Shelf.refuses g.N.Naming.place (Load number)) g.S.Shelf.honest c.args.shape.now c.in_err-levels.field-0.0 c.in_ok-judge_numbers.ensures.ok c.in_err-levels.ensures.refused)
 
 pub returns-in_err-judge_layouts-clause-refused : goal.returns-in_err-judge_layouts-clause-refused
 returns-in_err-judge_layouts-clause-refused g c =
-    let Stored : ℕ → List ℕ → Type 0 = λ number image. (r : g.row.S-Receipt.Denot) × g.S.Shelf.is_of g.N.Naming.place r × (g.S.Receipt.Slip.number r ≡ number) × (g.S.Receipt.Slip.image r ≡ image) in
+    let Stored : ℕ → List ℕ → Type 0 = λ number image. (r : g.row.S-Receipt.Denot) × g.S.Shelf.is_of g.N.Naming.place r × (g.S.Receipt.TableReceipt.number r ≡ number) × (g.S.Receipt.TableReceipt.image r ≡ image) in
     let r = c.in_ok-levels.ensures.read in
     let fault = c.in_err-judge_layouts.field-0.0 in
     let tables : List (List Table) = map (λ l. l.items) c.in_ok-levels.levels.items in
@@ -92,7 +92,7 @@ returns-in_err-judge_layouts-clause-refused g c =
 
 pub returns-in_err-judge_ages-clause-refused : goal.returns-in_err-judge_ages-clause-refused
 returns-in_err-judge_ages-clause-refused g c =
-    let Stored : ℕ → List ℕ → Type 0 = λ number image. (r : g.row.S-Receipt.Denot) × g.S.Shelf.is_of g.N.Naming.place r × (g.S.Receipt.Slip.number r ≡ number) × (g.S.Receipt.Slip.image r ≡ image) in
+    let Stored : ℕ → List ℕ → Type 0 = λ number image. (r : g.row.S-Receipt.Denot) × g.S.Shelf.is_of g.N.Naming.place r × (g.S.Receipt.TableReceipt.number r ≡ number) × (g.S.Receipt.TableReceipt.image r ≡ image) in
     let r = c.in_ok-levels.ensures.read in
     let fault = c.in_err-judge_ages.field-0.0 in
     let tables : List (List Table) = map (λ l. l.items) c.in_ok-levels.levels.items in

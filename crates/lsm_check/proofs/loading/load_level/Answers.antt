@@ -10,7 +10,7 @@ use Rattle.lsm_check.proofs.loading.load_level.Goals as goal
 
 pub loop-file-init : goal.loop-file-init
 loop-file-init g c =
-    let Stored : ℕ → List ℕ → Type 0 = λ number image. (r : g.row.S-Receipt.Denot) × g.S.Shelf.is_of g.N.Naming.place r × (g.S.Receipt.Slip.number r ≡ number) × (g.S.Receipt.Slip.image r ≡ image) in
+    let Stored : ℕ → List ℕ → Type 0 = λ number image. (r : g.row.S-Receipt.Denot) × g.S.Shelf.is_of g.N.Naming.place r × (g.S.Receipt.TableReceipt.number r ≡ number) × (g.S.Receipt.TableReceipt.image r ≡ image) in
     record {
       told = becomes_same _;
       order = λ k d low lt. absurd (omega (arith, ap length c.new-tables.ensures.items));
@@ -20,14 +20,14 @@ loop-file-init g c =
 
 pub returns-in_err-table-clause-refused : goal.returns-in_err-table-clause-refused
 returns-in_err-table-clause-refused g c =
-    let Stored : ℕ → List ℕ → Type 0 = λ number image. (r : g.row.S-Receipt.Denot) × g.S.Shelf.is_of g.N.Naming.place r × (g.S.Receipt.Slip.number r ≡ number) × (g.S.Receipt.Slip.image r ≡ image) in
+    let Stored : ℕ → List ℕ → Type 0 = λ number image. (r : g.row.S-Receipt.Denot) × g.S.Shelf.is_of g.N.Naming.place r × (g.S.Receipt.TableReceipt.number r ≡ number) × (g.S.Receipt.TableReceipt.image r ≡ image) in
     let p = err_from_is_err_and c.from_residual.result c.from_residual.ensures.1 in
     rw (p.1, p.2) (refused_at Stored (λ number. g.S.Shelf.refuses g.N.Naming.place (Load number)) c.args.last c.args.files.now c.loop-file.file-index c.file-item.result c.in_err-table.field-0.0 c.loop-file.tables.items c.loop-file.sequences.items
     c.loop-file-test.true c.file-item.is c.loop-file.invariant.read c.in_err-table.ensures.refused)
 
 pub loop-file-preserved : goal.loop-file-preserved
 loop-file-preserved g c =
-    let Stored : ℕ → List ℕ → Type 0 = λ number image. (r : g.row.S-Receipt.Denot) × g.S.Shelf.is_of g.N.Naming.place r × (g.S.Receipt.Slip.number r ≡ number) × (g.S.Receipt.Slip.image r ≡ image) in
+    let Stored : ℕ → List ℕ → Type 0 = λ number image. (r : g.row.S-Receipt.Denot) × g.S.Shelf.is_of g.N.Naming.place r × (g.S.Receipt.TableReceipt.number r ≡ number) × (g.S.Receipt.TableReceipt.image r ≡ image) in
     record {
       told = becomes_then _ _ _ c.loop-file.invariant.told c.load_file.ensures.told;
       order = c.in_ok-place.ensures.order;

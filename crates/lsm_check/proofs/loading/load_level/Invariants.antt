@@ -7,8 +7,8 @@ use Rattle.lsm_check.proofs.loading.load_level.Given as goal
 
 abbrev pub invariant-loop-file : goal.invariant-loop-file
 invariant-loop-file g l = record {
-  told : Becomes (g.S.Shelf.told l.fn.shelf) (g.S.Shelf.told l.shelf);
+  told : Becomes l.fn.shelf l.shelf;
   order : IsSortedBy stands_before l.tables.items;
-  read : IsLevelRead (λ number image. (r : g.row.S-Receipt.Denot) × g.S.Shelf.is_of g.N.Naming.place r × (g.S.Receipt.Slip.number r ≡ number) × (g.S.Receipt.Slip.image r ≡ image))
+  read : IsLevelRead (λ number image. (r : g.row.S-Receipt.Denot) × g.S.Shelf.is_of g.N.Naming.place r × (g.S.Receipt.TableReceipt.number r ≡ number) × (g.S.Receipt.TableReceipt.image r ≡ image))
       l.last (take l.file-index l.files) l.tables.items l.sequences.items;
 }

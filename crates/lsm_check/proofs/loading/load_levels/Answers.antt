@@ -15,7 +15,7 @@ use Rattle.lsm_check.proofs.loading.load_levels.Goals as goal
 
 pub returns-in_err-here-clause-refused : goal.returns-in_err-here-clause-refused
 returns-in_err-here-clause-refused g c =
-    let Stored : ℕ → List ℕ → Type 0 = λ number image. (r : g.row.S-Receipt.Denot) × g.S.Shelf.is_of g.N.Naming.place r × (g.S.Receipt.Slip.number r ≡ number) × (g.S.Receipt.Slip.image r ≡ image) in
+    let Stored : ℕ → List ℕ → Type 0 = λ number image. (r : g.row.S-Receipt.Denot) × g.S.Shelf.is_of g.N.Naming.place r × (g.S.Receipt.TableReceipt.number r ≡ number) × (g.S.Receipt.TableReceipt.image r ≡ image) in
     let Refused : ℕ → ShelfFault → Type 0 = λ number. g.S.Shelf.refuses g.N.Naming.place (Load number) in
     let fault = c.in_err-here.field-0.0 in
     let p = err_from_is_err_and c.from_residual.result c.from_residual.ensures.1 in
@@ -25,7 +25,7 @@ returns-in_err-here-clause-refused g c =
 
 pub loop-level-preserved : goal.loop-level-preserved
 loop-level-preserved g c =
-    let Stored : ℕ → List ℕ → Type 0 = λ number image. (r : g.row.S-Receipt.Denot) × g.S.Shelf.is_of g.N.Naming.place r × (g.S.Receipt.Slip.number r ≡ number) × (g.S.Receipt.Slip.image r ≡ image) in
+    let Stored : ℕ → List ℕ → Type 0 = λ number image. (r : g.row.S-Receipt.Denot) × g.S.Shelf.is_of g.N.Naming.place r × (g.S.Receipt.TableReceipt.number r ≡ number) × (g.S.Receipt.TableReceipt.image r ≡ image) in
     let levels = c.args.shape.now.levels in
     let last = c.args.shape.now.last in
     let n = c.loop-level.level-index in

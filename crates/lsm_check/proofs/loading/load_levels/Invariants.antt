@@ -6,8 +6,8 @@ use Rattle.lsm_check.proofs.loading.load_levels.Given as goal
 
 abbrev pub invariant-loop-level : goal.invariant-loop-level
 invariant-loop-level g l = record {
-  told : Becomes (g.S.Shelf.told l.fn.shelf) (g.S.Shelf.told l.shelf);
+  told : Becomes l.fn.shelf l.shelf;
   order : AreInOrder (map (λ l. l.items) l.tables.items);
-  read : AreRead (λ number image. (r : g.row.S-Receipt.Denot) × g.S.Shelf.is_of g.N.Naming.place r × (g.S.Receipt.Slip.number r ≡ number) × (g.S.Receipt.Slip.image r ≡ image))
+  read : AreRead (λ number image. (r : g.row.S-Receipt.Denot) × g.S.Shelf.is_of g.N.Naming.place r × (g.S.Receipt.TableReceipt.number r ≡ number) × (g.S.Receipt.TableReceipt.image r ≡ image))
       l.shape.last (take l.level-index l.shape.levels) (map (λ l. l.items) l.tables.items) (map (λ l. l.items) l.sequences.items);
 }

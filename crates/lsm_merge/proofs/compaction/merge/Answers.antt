@@ -10,27 +10,19 @@ use Rattle.lsm_merge.specs.Outputs.{entries_of_last}
 use Rattle.lsm_merge.specs.Work.{job_of}
 use Rattle.lsm_merge.proofs.Limited.{no_size_reading}
 use Rattle.lsm_merge.proofs.Tickets.{asks_none, asks_then, names_put, names_reading}
-use Rattle.lsm_merge.proofs.PlaceLaws.{cause_after, cause_of_put, if_err, order_put, puts_all, puts_place, puts_rise, puts_then}
+use Rattle.lsm_merge.proofs.PlaceLaws.{cause_after, cause_of_put, err_is, if_err, order_put, puts_all, puts_rise, puts_then}
 use Rattle.lsm_merge.proofs.PutLaws.{on_ok}
 use Rattle.lsm_merge.proofs.UnderWay.{order_reading, under_ascends, under_done, under_last, under_limit, under_order, under_step}
 use Rattle.lsm_merge.proofs.compaction.merge.Goals as goal
 
-pub put_last-requires-clause-here : goal.put_last-requires-clause-here
-put_last-requires-clause-here g c = λ lts lives.
-    puts_place [] c.entries.outputs.put (g.S.Shelf.told c.args.shelf.now) (g.S.Shelf.told c.entries.shelf) c.entries.invariant.0.told ∙ c.requires.here
-
-pub step-requires-clause-here : goal.step-requires-clause-here
-step-requires-clause-here g c = λ lts lives.
-    puts_place [] c.entries.outputs.put (g.S.Shelf.told c.args.shelf.now) (g.S.Shelf.told c.entries.shelf) c.entries.invariant.0.told ∙ c.requires.here
-
 pub returns-then-is_at_end-clause-kept : goal.returns-then-is_at_end-clause-kept
 returns-then-is_at_end-clause-kept g c = λ honest.
     on_ok c.put_last.result
-    (λ goes. under_done g.S.Shelf.honest c.args.job.now (entries_of c.in-Ok.merger.placed) (g.S.Shelf.told c.args.shelf.now) (g.S.Shelf.told c.entries.shelf)
+    (λ goes. under_done g.S.Shelf.honest c.args.job.now (entries_of c.in_ok-merger.merger.placed) c.args.shelf.now c.entries.shelf
     (g.D.NumberSource.drew c.args.numbers.now) (g.D.NumberSource.drew c.entries.numbers) (g.D.NumberSource.refused c.args.numbers.now) (g.D.NumberSource.refused c.entries.numbers)
     (g.D.NumberSource.asked c.args.numbers.now) (g.D.NumberSource.asked c.entries.numbers)
     c.entries.outputs c.put_last.new.self c.entries.before c.entries.merger c.entries.invariant.0 c.streaming_keeps_the_kept.ensures.stream
-    (sym c.is_at_end.ensures ∙ c.if-is_at_end.true) c.in-Ok.ensures.merges goes honest)
+    (sym c.is_at_end.ensures ∙ c.if-is_at_end.true) c.in_ok-merger.ensures.merges goes honest)
     c.put_last.ensures.ok
 
 pub returns-then-is_at_end-clause-sizes : goal.returns-then-is_at_end-clause-sizes
@@ -39,54 +31,61 @@ returns-then-is_at_end-clause-sizes g c =
 
 pub returns-then-is_at_end-clause-told : goal.returns-then-is_at_end-clause-told
 returns-then-is_at_end-clause-told g c =
-    puts_all c.put_last.new.self.put (g.S.Shelf.told c.args.shelf.now) (g.S.Shelf.told c.put_last.new.shelf)
-    (puts_then [] c.entries.outputs.put c.put_last.new.self.put (g.S.Shelf.told c.args.shelf.now) (g.S.Shelf.told c.entries.shelf) (g.S.Shelf.told c.put_last.new.shelf)
+    puts_all c.put_last.new.self.put c.args.shelf.now c.put_last.new.shelf
+    (puts_then [] c.entries.outputs.put c.put_last.new.self.put c.args.shelf.now c.entries.shelf c.put_last.new.shelf
     c.entries.invariant.0.told c.put_last.ensures.told)
 
 pub returns-then-is_at_end-clause-cause : goal.returns-then-is_at_end-clause-cause
 returns-then-is_at_end-clause-cause g c =
-    if_err (λ (e : MergeFault). HasCause [] e (g.S.Shelf.told c.entries.shelf) (g.S.Shelf.told c.put_last.new.shelf))
-    (λ (e : MergeFault). HasCause (input_numbers c.args.job.now) e (g.S.Shelf.told c.args.shelf.now) (g.S.Shelf.told c.put_last.new.shelf))
+    if_err (λ (e : MergeFault). HasCause [] e c.entries.shelf c.put_last.new.shelf)
+    (λ (e : MergeFault). HasCause (input_numbers c.args.job.now) e c.args.shelf.now c.put_last.new.shelf)
     c.put_last.result
-    (λ e h. cause_after (input_numbers c.args.job.now) e (g.S.Shelf.told c.args.shelf.now) (g.S.Shelf.told c.entries.shelf) (g.S.Shelf.told c.put_last.new.shelf)
-    (puts_rise [] c.entries.outputs.put (g.S.Shelf.told c.args.shelf.now) (g.S.Shelf.told c.entries.shelf) c.entries.invariant.0.told)
-    (cause_of_put (input_numbers c.args.job.now) e (g.S.Shelf.told c.entries.shelf) (g.S.Shelf.told c.put_last.new.shelf) h))
+    (λ e h. cause_after (input_numbers c.args.job.now) e c.args.shelf.now c.entries.shelf c.put_last.new.shelf
+    (puts_rise [] c.entries.outputs.put c.args.shelf.now c.entries.shelf c.entries.invariant.0.told)
+    (cause_of_put (input_numbers c.args.job.now) e c.entries.shelf c.put_last.new.shelf h))
     c.put_last.ensures.cause
 
 pub entries-preserved : goal.entries-preserved
 entries-preserved g c = (
-  under_step g.S.Shelf.honest c.args.job.now (entries_of c.in-Ok.merger.placed) (g.S.Shelf.told c.args.shelf.now) (g.S.Shelf.told c.entries.shelf) (g.S.Shelf.told c.step.new.shelf)
+  under_step g.S.Shelf.honest c.args.job.now (entries_of c.in_ok-merger.merger.placed) c.args.shelf.now c.entries.shelf c.step.new.shelf
       (g.D.NumberSource.drew c.args.numbers.now) (g.D.NumberSource.drew c.entries.numbers) (g.D.NumberSource.drew c.step.new.numbers)
       (g.D.NumberSource.refused c.args.numbers.now) (g.D.NumberSource.refused c.entries.numbers) (g.D.NumberSource.refused c.step.new.numbers)
       (g.D.NumberSource.asked c.args.numbers.now) (g.D.NumberSource.asked c.entries.numbers) (g.D.NumberSource.asked c.step.new.numbers)
       c.entries.outputs c.step.new.outputs c.entries.before c.step.new.before c.entries.merger c.step.new.merger c.entries.invariant.0
-      (sym c.is_at_end.ensures ∙ c.if-is_at_end.false) c.in-Ok-step.ensures.ok c.in-Ok-step.ensures.drawn c.in-Ok-step.ensures.answered c.in-Ok-step.ensures.files c.step.ensures.told c.step.ensures.asked,
+      (sym c.is_at_end.ensures ∙ c.if-is_at_end.false) c.in_ok-step.ensures.ok c.in_ok-step.ensures.drawn c.in_ok-step.ensures.answered c.in_ok-step.ensures.files c.step.ensures.told c.step.ensures.asked,
   c.step.ensures.ready,
 )
 
-pub returns-in-Err-step-clause-told : goal.returns-in-Err-step-clause-told
-returns-in-Err-step-clause-told g c =
-    puts_all c.step.new.outputs.put (g.S.Shelf.told c.args.shelf.now) (g.S.Shelf.told c.step.new.shelf)
-    (puts_then [] c.entries.outputs.put c.step.new.outputs.put (g.S.Shelf.told c.args.shelf.now) (g.S.Shelf.told c.entries.shelf) (g.S.Shelf.told c.step.new.shelf)
+pub returns-in_err-step-clause-told : goal.returns-in_err-step-clause-told
+returns-in_err-step-clause-told g c =
+    puts_all c.step.new.outputs.put c.args.shelf.now c.step.new.shelf
+    (puts_then [] c.entries.outputs.put c.step.new.outputs.put c.args.shelf.now c.entries.shelf c.step.new.shelf
     c.entries.invariant.0.told c.step.ensures.told)
 
-pub returns-in-Err-step-clause-cause : goal.returns-in-Err-step-clause-cause
-returns-in-Err-step-clause-cause g c =
-    cause_after (input_numbers c.args.job.now) c.in-Err-step.fault (g.S.Shelf.told c.args.shelf.now) (g.S.Shelf.told c.entries.shelf) (g.S.Shelf.told c.step.new.shelf)
-    (puts_rise [] c.entries.outputs.put (g.S.Shelf.told c.args.shelf.now) (g.S.Shelf.told c.entries.shelf) c.entries.invariant.0.told)
-    (c.in-Err-step.ensures.cause (input_numbers c.args.job.now) c.entries.invariant.0.files)
+pub returns-in_err-step-clause-cause : goal.returns-in_err-step-clause-cause
+returns-in_err-step-clause-cause g c =
+    err_is (λ (e : MergeFault). HasCause (input_numbers c.args.job.now) e c.args.shelf.now c.step.new.shelf) c.from_residual-in_err-step.result c.in_err-step.field-0.0 c.from_residual-in_err-step.ensures.1
+    (cause_after (input_numbers c.args.job.now) c.in_err-step.field-0.0 c.args.shelf.now c.entries.shelf c.step.new.shelf
+    (puts_rise [] c.entries.outputs.put c.args.shelf.now c.entries.shelf c.entries.invariant.0.told)
+    (c.in_err-step.ensures.cause (input_numbers c.args.job.now) c.entries.invariant.0.files))
 
-pub returns-in-Err-clause-asked : goal.returns-in-Err-clause-asked
-returns-in-Err-clause-asked g c = asks_none c.args.job.now.ticket (g.D.NumberSource.asked c.args.numbers.now) (g.D.NumberSource.asked c.args.numbers.now) refl
+pub returns-in_err-merger-clause-asked : goal.returns-in_err-merger-clause-asked
+returns-in_err-merger-clause-asked g c = asks_none c.args.job.now.ticket (g.D.NumberSource.asked c.args.numbers.now) (g.D.NumberSource.asked c.args.numbers.now) refl
 
-pub returns-in-Err-clause-ticket : goal.returns-in-Err-clause-ticket
-returns-in-Err-clause-ticket g c = names_reading c.in-Err.fault c.args.job.now.ticket c.in-Err.ensures.kind
+pub returns-in_err-merger-clause-ticket : goal.returns-in_err-merger-clause-ticket
+returns-in_err-merger-clause-ticket g c =
+    err_is (λ (e : MergeFault). NamesTicket e c.args.job.now.ticket) c.from_residual.result c.in_err-merger.field-0.0 c.from_residual.ensures.1
+    (names_reading c.in_err-merger.field-0.0 c.args.job.now.ticket c.in_err-merger.ensures.kind)
 
-pub returns-in-Err-clause-large : goal.returns-in-Err-clause-large
-returns-in-Err-clause-large g c = λ honest size. absurd (no_size_reading c.in-Err.fault c.in-Err.ensures.kind size)
+pub returns-in_err-merger-clause-large : goal.returns-in_err-merger-clause-large
+returns-in_err-merger-clause-large g c = λ honest.
+    err_is (λ (e : MergeFault). IsSizeFault e → IsOverLimit c.args.job.now.table (all_entries (job_of c.args.job.now).inputs)) c.from_residual.result c.in_err-merger.field-0.0 c.from_residual.ensures.1
+    (λ size. absurd (no_size_reading c.in_err-merger.field-0.0 c.in_err-merger.ensures.kind size))
 
-pub returns-in-Err-clause-order : goal.returns-in-Err-clause-order
-returns-in-Err-clause-order g c = λ honest stand late. absurd (order_reading c.in-Err.fault c.in-Err.ensures.kind late)
+pub returns-in_err-merger-clause-order : goal.returns-in_err-merger-clause-order
+returns-in_err-merger-clause-order g c = λ honest stand.
+    err_is (λ (e : MergeFault). IsOrderFault e → HasTwins (all_entries (job_of c.args.job.now).inputs)) c.from_residual.result c.in_err-merger.field-0.0 c.from_residual.ensures.1
+    (λ late. absurd (order_reading c.in_err-merger.field-0.0 c.in_err-merger.ensures.kind late))
 
 pub returns-then-is_at_end-clause-asked : goal.returns-then-is_at_end-clause-asked
 returns-then-is_at_end-clause-asked g c = c.entries.invariant.0.asks
@@ -101,49 +100,53 @@ returns-then-is_at_end-clause-large g c = λ honest.
     if_err (λ (e : MergeFault). IsSizeFault e → IsOverLimit c.entries.outputs.options (entries_of_last c.entries.outputs.last))
     (λ (e : MergeFault). IsSizeFault e → IsOverLimit c.args.job.now.table (all_entries (job_of c.args.job.now).inputs))
     c.put_last.result
-    (λ e h size. under_last g.S.Shelf.honest c.args.job.now (entries_of c.in-Ok.merger.placed) (all_entries (job_of c.args.job.now).inputs) (g.S.Shelf.told c.args.shelf.now) (g.S.Shelf.told c.entries.shelf)
+    (λ e h size. under_last g.S.Shelf.honest c.args.job.now (entries_of c.in_ok-merger.merger.placed) (all_entries (job_of c.args.job.now).inputs) c.args.shelf.now c.entries.shelf
     (g.D.NumberSource.drew c.args.numbers.now) (g.D.NumberSource.drew c.entries.numbers) (g.D.NumberSource.refused c.args.numbers.now) (g.D.NumberSource.refused c.entries.numbers)
     (g.D.NumberSource.asked c.args.numbers.now) (g.D.NumberSource.asked c.entries.numbers)
     c.entries.outputs c.entries.before c.entries.merger c.entries.invariant.0 honest
-    (c.in-Ok.ensures.from honest) (h size))
+    (c.in_ok-merger.ensures.from honest) (h size))
     c.put_last.ensures.large
 
 pub returns-then-is_at_end-clause-order : goal.returns-then-is_at_end-clause-order
 returns-then-is_at_end-clause-order g c = λ honest stand.
-    if_err (λ (e : MergeFault). HasCause [] e (g.S.Shelf.told c.entries.shelf) (g.S.Shelf.told c.put_last.new.shelf))
+    if_err (λ (e : MergeFault). HasCause [] e c.entries.shelf c.put_last.new.shelf)
     (λ (e : MergeFault). IsOrderFault e → HasTwins (all_entries (job_of c.args.job.now).inputs))
-    c.put_last.result (λ e h late. absurd (order_put e (g.S.Shelf.told c.entries.shelf) (g.S.Shelf.told c.put_last.new.shelf) h late)) c.put_last.ensures.cause
+    c.put_last.result (λ e h late. absurd (order_put e c.entries.shelf c.put_last.new.shelf h late)) c.put_last.ensures.cause
 
-pub returns-in-Err-step-clause-asked : goal.returns-in-Err-step-clause-asked
-returns-in-Err-step-clause-asked g c =
+pub returns-in_err-step-clause-asked : goal.returns-in_err-step-clause-asked
+returns-in_err-step-clause-asked g c =
     asks_then c.args.job.now.ticket (g.D.NumberSource.asked c.args.numbers.now) (g.D.NumberSource.asked c.entries.numbers) (g.D.NumberSource.asked c.step.new.numbers) c.entries.invariant.0.asks
     (subst (λ (t : ℕ). AsksFor t (g.D.NumberSource.asked c.entries.numbers) (g.D.NumberSource.asked c.step.new.numbers)) (c.entries.invariant.0.sizes).ticket c.step.ensures.asked)
 
-pub returns-in-Err-step-clause-ticket : goal.returns-in-Err-step-clause-ticket
-returns-in-Err-step-clause-ticket g c = subst (NamesTicket c.in-Err-step.fault) (c.entries.invariant.0.sizes).ticket c.in-Err-step.ensures.ticket
+pub returns-in_err-step-clause-ticket : goal.returns-in_err-step-clause-ticket
+returns-in_err-step-clause-ticket g c =
+    err_is (λ (e : MergeFault). NamesTicket e c.args.job.now.ticket) c.from_residual-in_err-step.result c.in_err-step.field-0.0 c.from_residual-in_err-step.ensures.1
+    (subst (NamesTicket c.in_err-step.field-0.0) (c.entries.invariant.0.sizes).ticket c.in_err-step.ensures.ticket)
 
-pub returns-in-Err-step-clause-large : goal.returns-in-Err-step-clause-large
-returns-in-Err-step-clause-large g c = λ honest size.
-    under_limit g.S.Shelf.honest c.args.job.now (entries_of c.in-Ok.merger.placed) (all_entries (job_of c.args.job.now).inputs) (g.S.Shelf.told c.args.shelf.now) (g.S.Shelf.told c.entries.shelf)
+pub returns-in_err-step-clause-large : goal.returns-in_err-step-clause-large
+returns-in_err-step-clause-large g c = λ honest.
+    err_is (λ (e : MergeFault). IsSizeFault e → IsOverLimit c.args.job.now.table (all_entries (job_of c.args.job.now).inputs)) c.from_residual-in_err-step.result c.in_err-step.field-0.0 c.from_residual-in_err-step.ensures.1
+    (λ size. under_limit g.S.Shelf.honest c.args.job.now (entries_of c.in_ok-merger.merger.placed) (all_entries (job_of c.args.job.now).inputs) c.args.shelf.now c.entries.shelf
     (g.D.NumberSource.drew c.args.numbers.now) (g.D.NumberSource.drew c.entries.numbers) (g.D.NumberSource.refused c.args.numbers.now) (g.D.NumberSource.refused c.entries.numbers)
     (g.D.NumberSource.asked c.args.numbers.now) (g.D.NumberSource.asked c.entries.numbers)
     c.entries.outputs c.entries.before c.entries.merger c.entries.invariant.0
-    (sym c.is_at_end.ensures ∙ c.if-is_at_end.false) (c.in-Err-step.ensures.large size) honest (c.in-Ok.ensures.from honest)
+    (sym c.is_at_end.ensures ∙ c.if-is_at_end.false) (c.in_err-step.ensures.large size) honest (c.in_ok-merger.ensures.from honest))
 
-pub returns-in-Err-step-clause-order : goal.returns-in-Err-step-clause-order
-returns-in-Err-step-clause-order g c = λ honest stand late.
-    c.in-Ok.ensures.order honest stand
-    (under_order g.S.Shelf.honest c.args.job.now (entries_of c.in-Ok.merger.placed) (g.S.Shelf.told c.args.shelf.now) (g.S.Shelf.told c.entries.shelf)
+pub returns-in_err-step-clause-order : goal.returns-in_err-step-clause-order
+returns-in_err-step-clause-order g c = λ honest stand.
+    err_is (λ (e : MergeFault). IsOrderFault e → HasTwins (all_entries (job_of c.args.job.now).inputs)) c.from_residual-in_err-step.result c.in_err-step.field-0.0 c.from_residual-in_err-step.ensures.1
+    (λ late. c.in_ok-merger.ensures.order honest stand
+    (under_order g.S.Shelf.honest c.args.job.now (entries_of c.in_ok-merger.merger.placed) c.args.shelf.now c.entries.shelf
     (g.D.NumberSource.drew c.args.numbers.now) (g.D.NumberSource.drew c.entries.numbers) (g.D.NumberSource.refused c.args.numbers.now) (g.D.NumberSource.refused c.entries.numbers)
     (g.D.NumberSource.asked c.args.numbers.now) (g.D.NumberSource.asked c.entries.numbers)
     c.entries.outputs c.entries.before c.entries.merger c.entries.invariant.0
-    (sym c.is_at_end.ensures ∙ c.if-is_at_end.false) (c.in-Err-step.ensures.order late) honest)
+    (sym c.is_at_end.ensures ∙ c.if-is_at_end.false) (c.in_err-step.ensures.order late) honest))
 
 pub returns-then-is_at_end-clause-apart : goal.returns-then-is_at_end-clause-apart
 returns-then-is_at_end-clause-apart g c = λ honest stand.
     on_ok c.put_last.result
-    (λ goes. c.in-Ok.ensures.apart honest stand
-    (under_ascends g.S.Shelf.honest c.args.job.now (entries_of c.in-Ok.merger.placed) (g.S.Shelf.told c.args.shelf.now) (g.S.Shelf.told c.entries.shelf)
+    (λ goes. c.in_ok-merger.ensures.apart honest stand
+    (under_ascends g.S.Shelf.honest c.args.job.now (entries_of c.in_ok-merger.merger.placed) c.args.shelf.now c.entries.shelf
     (g.D.NumberSource.drew c.args.numbers.now) (g.D.NumberSource.drew c.entries.numbers) (g.D.NumberSource.refused c.args.numbers.now) (g.D.NumberSource.refused c.entries.numbers)
     (g.D.NumberSource.asked c.args.numbers.now) (g.D.NumberSource.asked c.entries.numbers)
     c.entries.outputs c.entries.before c.entries.merger c.entries.invariant.0 (sym c.is_at_end.ensures ∙ c.if-is_at_end.true) honest))

@@ -1,4 +1,4 @@
-use Rattle.std.proofs.Common.{◌≡◌, ℕ, List, [], ◌∷◌, ◌++◌, sym, ◌∙◌}
+use Rattle.std.proofs.Common.{◌≡◌, ℕ, List, [], ◌∷◌, ◌++◌, sym, ◌∙◌, subst}
 use Rattle.lsm_codec.specs.Entries.{Entry}
 use Rattle.lsm_codec.specs.KeyRef.{key_of}
 use Rattle.lsm_block.specs.Block.{entry_of}
@@ -12,7 +12,8 @@ use Rattle.lsm_merge.specs.Limits.{IsOverLimit, IsSizeFault}
 use Rattle.lsm_merge.proofs.Limited.{no_size_reading}
 use Rattle.lsm_merge.proofs.Tickets.{names_reading}
 use Rattle.lsm_merge.proofs.Dropped.{follows_says}
-use Rattle.lsm_merge.proofs.PlaceLaws.{ascends_after, cause_after, if_err, puts_place, puts_rise}
+use Rattle.lsm_merge.proofs.PlaceLaws.{ascends_after, cause_after, err_is, if_err, puts_rise}
+use Rattle.lsm_merge.proofs.Stepping.{first_entry, stepped}
 use Rattle.lsm_merge.proofs.UnderWay.{leaves_reading, order_reading, why_reading}
 use Rattle.lsm_merge.proofs.compaction.step.Goals as goal
 
@@ -22,27 +23,23 @@ take-requires-clause-ascends g c = λ lts lives.
     let f : Follows c.args.before.now e = follows_says c.args.before.now e (sym c.is_followed_by.ensures ∙ c.if-not-is_followed_by.false) in
     ascends_after _ c.args.before.now e c.tell_order.ensures c.requires.up f
 
-pub advance-requires-clause-here : goal.advance-requires-clause-here
-advance-requires-clause-here g c = λ lts lives.
-    puts_place c.args.outputs.now.put c.take.new.self.put (g.S.Shelf.told c.args.shelf.now) (g.S.Shelf.told c.take.new.shelf) c.take.ensures.told ∙ c.requires.here
-
 pub returns-clause-leaves : goal.returns-clause-leaves
 returns-clause-leaves g c =
     if_err IsOfReading (λ (e : MergeFault). (there : List ℕ) → g.D.NumberSource.drew c.args.numbers.now ≡ drawn_of c.args.outputs.now there → Leaves e c.take.new.self.put (g.D.NumberSource.drew c.take.new.numbers) there)
-    c.advance.result (λ e k there d. leaves_reading e c.take.new.self (g.D.NumberSource.drew c.take.new.numbers) there k (c.in-Ok.ensures.drawn there d)) c.advance.ensures.kind
+    c.advance.result (λ e k there d. leaves_reading e c.take.new.self (g.D.NumberSource.drew c.take.new.numbers) there k (c.in_ok-take.ensures.drawn there d)) c.advance.ensures.kind
 
 pub returns-clause-why : goal.returns-clause-why
 returns-clause-why g c =
     if_err IsOfReading (λ (e : MergeFault). AnswersOf e (g.D.NumberSource.refused c.args.numbers.now) (g.D.NumberSource.refused c.take.new.numbers))
-    c.advance.result (λ e k. why_reading e (g.D.NumberSource.refused c.args.numbers.now) (g.D.NumberSource.refused c.take.new.numbers) k c.in-Ok.ensures.answered) c.advance.ensures.kind
+    c.advance.result (λ e k. why_reading e (g.D.NumberSource.refused c.args.numbers.now) (g.D.NumberSource.refused c.take.new.numbers) k c.in_ok-take.ensures.answered) c.advance.ensures.kind
 
 pub returns-clause-cause : goal.returns-clause-cause
 returns-clause-cause g c =
-    if_err (λ (e : MergeFault). (inputs : List ℕ) → AreInputs c.args.merger.now.files inputs → HasCause inputs e (g.S.Shelf.told c.take.new.shelf) (g.S.Shelf.told c.advance.new.shelf))
-    (λ (e : MergeFault). (inputs : List ℕ) → AreInputs c.args.merger.now.files inputs → HasCause inputs e (g.S.Shelf.told c.args.shelf.now) (g.S.Shelf.told c.advance.new.shelf))
+    if_err (λ (e : MergeFault). (inputs : List ℕ) → AreInputs c.args.merger.now.files inputs → HasCause inputs e c.take.new.shelf c.advance.new.shelf)
+    (λ (e : MergeFault). (inputs : List ℕ) → AreInputs c.args.merger.now.files inputs → HasCause inputs e c.args.shelf.now c.advance.new.shelf)
     c.advance.result
-    (λ e h inputs i. cause_after inputs e (g.S.Shelf.told c.args.shelf.now) (g.S.Shelf.told c.take.new.shelf) (g.S.Shelf.told c.advance.new.shelf)
-    (puts_rise c.args.outputs.now.put c.take.new.self.put (g.S.Shelf.told c.args.shelf.now) (g.S.Shelf.told c.take.new.shelf) c.take.ensures.told) (h inputs i))
+    (λ e h inputs i. cause_after inputs e c.args.shelf.now c.take.new.shelf c.advance.new.shelf
+    (puts_rise c.args.outputs.now.put c.take.new.self.put c.args.shelf.now c.take.new.shelf c.take.ensures.told) (h inputs i))
     c.advance.ensures.cause
 
 pub returns-clause-order : goal.returns-clause-order
@@ -59,3 +56,20 @@ returns-clause-large g c =
     if_err IsOfReading (λ (e : MergeFault). IsSizeFault e → (p : Placed) (rest : List Placed) → c.args.merger.now.placed ≡ p ∷ rest
     → IsOverLimit c.args.outputs.now.options (entries_of_last c.args.outputs.now.last ++ p.1 ∷ []))
     c.advance.result (λ e k s p rest is. absurd (no_size_reading e k s)) c.advance.ensures.kind
+
+pub returns-in_err-take-clause-large : goal.returns-in_err-take-clause-large
+returns-in_err-take-clause-large g c =
+    err_is (λ (e : MergeFault). IsSizeFault e → (p : Placed) (rest : List Placed) → c.args.merger.now.placed ≡ p ∷ rest
+    → IsOverLimit c.args.outputs.now.options (entries_of_last c.args.outputs.now.last ++ p.1 ∷ []))
+    c.from_residual.result c.in_err-take.field-0.0 c.from_residual.ensures.1
+    (λ size p rest is. subst (λ (e : Entry). IsOverLimit c.args.outputs.now.options (entries_of_last c.args.outputs.now.last ++ e ∷ []))
+    (first_entry c.args.merger.now.placed p rest (key_of c.in-Some.key) c.value.result.now is c.in-Some.ensures.key c.value.ensures)
+    (c.in_err-take.ensures.large size))
+
+pub returns-clause-ok : goal.returns-clause-ok
+returns-clause-ok g c = λ p rest is.
+    let e : Entry = entry_of (key_of c.in-Some.key) c.value.result.now in
+    let f : Follows c.args.before.now e = follows_says c.args.before.now e (sym c.is_followed_by.ensures ∙ c.if-not-is_followed_by.false) in
+    stepped g.S.Shelf.honest c.args.job.now c.args.merger.now.placed p rest c.args.before.now c.remember.new.self c.args.outputs.now c.take.new.self c.advance.new.merger c.advance.result
+    (key_of c.in-Some.key) c.value.result.now c.is_kept-kept.result c.floor.result c.ranges-2.result.now is c.in-Some.ensures.key c.value.ensures f c.is_kept-kept.ensures c.floor.ensures c.ranges-2.ensures
+    c.in_ok-take.ensures.ok c.in_ok-remember.ensures c.advance.ensures.ok

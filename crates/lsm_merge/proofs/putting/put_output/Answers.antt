@@ -15,10 +15,10 @@ returns-clause-ok g c =
     (subst (λ (bytes : List ℕ). IsTable bytes c.args.output.entries) (sym ens.image) made.table) in
     record {
       table = c.in_ok-table.table;
-      whole = whole_of c.tables_are_whole.ensures c.in_ok-table.table c.args.output.entries c.in-Ok.image.smallest c.in-Ok.image.largest c.in-Ok.image.bytes.items made ens.smallest ens.largest ens.image;
+      whole = whole_of c.tables_are_whole.ensures c.in_ok-table.table c.args.output.entries c.in-Ok.image.smallest c.in-Ok.image.largest c.in-Ok.image.bytes made ens.smallest ens.largest ens.image;
       entries = same;
       built = ens.image ∙ c.in-Ok.ensures.bytes ∙ ap (table_bytes c.args.output.options) (sym same);
-      number = ens.number ∙ c.in-Ok.ensures.number;
+      number = ens.number ∙ c.number-number.ensures;
       tables_are = (let i = c.in-Ok-push.ensures.items in i ∙ ap (λ (l : List Table). l ++ c.in_ok-table.table ∷ []) c.in_ok-reserve.ensures.items);
-      put_are = ens.put ∙ ap (λ (n : ℕ). c.args.put.now.items ++ n ∷ []) c.in-Ok.ensures.number;
+      put_are = ens.put ∙ ap (λ (n : ℕ). c.args.put.now.items ++ n ∷ []) c.number-number.ensures;
     }

@@ -10,5 +10,5 @@ invariant-loop g l = record {
   told : Becomes (g.B.Blocks.told l.fn.blocks) (g.B.Blocks.told l.blocks);
   loan : g.B.Blocks.loan l.blocks ≡ g.B.Blocks.loan l.fn.blocks;
   files : ReadsNoOther l.fn.walk.left l.walk.left;
-  same : g.S.Shelf.honest → against_age None l.fn.walk.left.placed ≡ against_age (known_if l.before.place l.walk.passed l.before.seq) l.walk.left.placed;
+  same : g.S.Shelf.honest → against_age None l.fn.walk.left.placed ≡ against_age (known_if l.before.depth l.walk.passed l.before.seq) l.walk.left.placed;
 }

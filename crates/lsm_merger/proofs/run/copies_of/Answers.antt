@@ -15,8 +15,8 @@ loop-table-preserved g c =
     record {
       named = All-same (g.S.Shelf.is_of g.N.Naming.place) after (before ++ copy ∷ []) made
           (All-push (g.S.Shelf.is_of g.N.Naming.place) before copy c.loop-table.invariant.named (holds_of_copy (g.S.Shelf.is_of g.N.Naming.place) copy _ same c.record.ensures.here));
-      numbers = copied_more g.S.Receipt.Slip.number (λ (t : Table). t.number) c.args.tables.now c.loop-table.table-index table before after copy c.loop-table-test.true c.table-item.is
-          (ap g.S.Receipt.Slip.number same ∙ c.record.ensures.number) made c.loop-table.invariant.numbers;
-      images = copied_more g.S.Receipt.Slip.image image_of c.args.tables.now c.loop-table.table-index table before after copy c.loop-table-test.true c.table-item.is
-          (ap g.S.Receipt.Slip.image same ∙ c.record.ensures.image) made c.loop-table.invariant.images;
+      numbers = copied_more g.S.Receipt.TableReceipt.number (λ (t : Table). t.number) c.args.tables.now c.loop-table.table-index table before after copy c.loop-table-test.true c.table-item.is
+          (ap g.S.Receipt.TableReceipt.number same ∙ c.record.ensures.number) made c.loop-table.invariant.numbers;
+      images = copied_more g.S.Receipt.TableReceipt.image image_of c.args.tables.now c.loop-table.table-index table before after copy c.loop-table-test.true c.table-item.is
+          (ap g.S.Receipt.TableReceipt.image same ∙ c.record.ensures.image) made c.loop-table.invariant.images;
     }

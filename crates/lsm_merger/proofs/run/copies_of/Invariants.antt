@@ -5,6 +5,6 @@ use Rattle.lsm_merger.proofs.run.copies_of.Given as goal
 abbrev pub invariant-loop-table : goal.invariant-loop-table
 invariant-loop-table g l = record {
   named : All (g.S.Shelf.is_of g.N.Naming.place) l.copies.items;
-  numbers : map g.S.Receipt.Slip.number l.copies.items ≡ map (λ t. t.number) (take l.table-index l.tables);
-  images : map g.S.Receipt.Slip.image l.copies.items ≡ map image_of (take l.table-index l.tables);
+  numbers : map g.S.Receipt.TableReceipt.number l.copies.items ≡ map (λ t. t.number) (take l.table-index l.tables);
+  images : map g.S.Receipt.TableReceipt.image l.copies.items ≡ map image_of (take l.table-index l.tables);
 }

@@ -1,14 +1,12 @@
 use Rattle.std.proofs.Common.{◌≡◌, ◌+◌, ◌∙◌, ◌++◌, ◌∷◌, [], List, ℕ, take, map, ap, sym, subst, refl, inl, inr}
 use Rattle.std.proofs.lemmas.List.{map-append, take_all}
+use Rattle.std.proofs.lemmas.Result.{err_from_is_err_and}
 use Rattle.std.specs.List.{flat_map}
 use Rattle.lsm_codec.specs.Lists.{Has}
 use Rattle.lsm_table.specs.Registry.{Table}
-use Rattle.lsm_table.specs.ReadFault.{ReadCounted}
 use Rattle.lsm_table.proofs.CallerLemmas.{becomes_same, becomes_then, read_counted_later}
-use Rattle.lsm_reads.specs.declared.unread.Unread.{Unread}
 use Rattle.lsm_levels.specs.Merging.{placed_at}
 use Rattle.lsm_reads.specs.Depths.{AreNumbersOf, newer_count}
-use Rattle.lsm_reads.specs.Unread.{NamesOne}
 use Rattle.lsm_reads.specs.Runs.{AreNamed, AreRunsOf, IsNumberOf, entries_after}
 use Rattle.lsm_version.specs.Versions.{IsWhole, files_of}
 use Rattle.lsm_reads.proofs.NamedFiles.{named_table, none_named, number_within}
@@ -32,14 +30,14 @@ loop-table-preserved g c =
     record {
       told = becomes_then _ _ _ c.loop-table.invariant.told c.over_by.ensures.told;
       loan = c.over_by.ensures.loan ∙ c.loop-table.invariant.loan;
-      named = named_table c.args.level.now c.loop-table.runs.items c.push.new.self.items c.in-Ok.run' _ x c.again.result c.in_ok-push.ensures.items c.in-Ok.ensures.files c.again.ensures
+      named = named_table c.args.level.now c.loop-table.runs.items c.push.new.self.items c.in_ok-run.run' _ x c.again.result c.in_ok-push.ensures.items c.in_ok-run.ensures.files c.again.ensures
           (subst (λ (t : Table). Has c.args.level.now t) (sym c.table-item.is) (has_at c.args.level.now c.loop-table.table-index x c.loop-table-test.true)) c.loop-table.invariant.named;
       made = λ h. (let w : IsWhole x = c.requires.whole h x (subst (λ (t : Table). Has c.args.level.now t) (sym c.table-item.is) (has_at c.args.level.now c.loop-table.table-index x c.loop-table-test.true)) in
-          let grown : map (λ r. r.placed) c.push.new.self.items ≡ map (λ r. r.placed) c.loop-table.runs.items ++ c.in-Ok.run'.placed ∷ [] =
-          ap (map (λ r. r.placed)) c.in_ok-push.ensures.items ∙ map-append (λ r. r.placed) c.loop-table.runs.items (c.in-Ok.run' ∷ []) in
+          let grown : map (λ r. r.placed) c.push.new.self.items ≡ map (λ r. r.placed) c.loop-table.runs.items ++ c.in_ok-run.run'.placed ∷ [] =
+          ap (map (λ r. r.placed)) c.in_ok-push.ensures.items ∙ map-append (λ r. r.placed) c.loop-table.runs.items (c.in_ok-run.run' ∷ []) in
           subst (AreRunsOf c.args.level.now (Has (files_of 0 (take (c.loop-table.table-index + 1) c.args.level.now)))) (sym grown)
-          (shallow_more c.args.level.now c.args.level.now c.loop-table.table-index x (map (λ r. r.placed) c.loop-table.runs.items) c.in-Ok.run'.placed c.loop-table-test.true c.table-item.is w
-          (c.in-Ok.ensures.entries h ∙ ap (λ (n : ℕ). placed_at n (entries_after (c.again.result ∷ []))) (c.newer_count-depth.ensures c.args.level.now own ∙ ap (newer_count c.args.level.now) (c.number.ensures ∙ c.record.ensures.number))
+          (shallow_more c.args.level.now c.args.level.now c.loop-table.table-index x (map (λ r. r.placed) c.loop-table.runs.items) c.in_ok-run.run'.placed c.loop-table-test.true c.table-item.is w
+          (c.in_ok-run.ensures.entries h ∙ ap (λ (n : ℕ). placed_at n (entries_after (c.again.result ∷ []))) (c.newer_count-depth.ensures c.args.level.now own ∙ ap (newer_count c.args.level.now) (c.number.ensures ∙ c.record.ensures.number))
           ∙ ap (λ (t : Table). placed_at (newer_count c.args.level.now x.number) (entries_after (t ∷ []))) c.again.ensures)
           (c.loop-table.invariant.made h)));
     }
@@ -53,14 +51,14 @@ over_by-requires-clause-tables g c κs within = λ h.
     let w : IsWhole x = c.requires.whole h x (subst (λ (t : Table). Has c.args.level.now t) (sym c.table-item.is) (has_at c.args.level.now c.loop-table.table-index x c.loop-table-test.true)) in
     have_entries (c.again.result ∷ []) (λ t k. elim k [ inl same ↦ subst IsWhole (sym c.again.ensures ∙ same) w | inr none ↦ absurd none ])
 
-pub returns-in-Err-clause-number : goal.returns-in-Err-clause-number
-returns-in-Err-clause-number g c =
+pub returns-in_err-run-clause-number : goal.returns-in_err-run-clause-number
+returns-in_err-run-clause-number g c =
     let x = c.table-item.result in
     let there : Has c.args.level.now x = subst (λ (t : Table). Has c.args.level.now t) (sym c.table-item.is) (has_at c.args.level.now c.loop-table.table-index x c.loop-table-test.true) in
-    subst (λ (u : Unread). NamesOne (IsNumberOf c.args.level.now) u.file u.fault) (sym c.from.ensures)
-    (number_within c.args.level.now (c.again.result ∷ []) c.in-Err.fault.number (λ t k. elim k [ inl e ↦ subst (Has c.args.level.now) (sym c.again.ensures ∙ e) there | inr none ↦ absurd none ]) c.in-Err.ensures.number)
+    let p = err_from_is_err_and c.from_residual-in_err-run.result c.from_residual-in_err-run.ensures.1 in
+    rw (p.1, p.2) (number_within c.args.level.now (c.again.result ∷ []) c.in_err-run.field-0.0.number (λ t k. elim k [ inl e ↦ subst (Has c.args.level.now) (sym c.again.ensures ∙ e) there | inr none ↦ absurd none ]) c.in_err-run.ensures.number)
 
-pub returns-in-Err-clause-cause : goal.returns-in-Err-clause-cause
-returns-in-Err-clause-cause g c =
-    subst (λ (u : Unread). ReadCounted u.fault (g.B.Blocks.told c.args.blocks.now) (g.B.Blocks.told c.over_by.new.blocks)) (sym c.from.ensures)
-    (read_counted_later c.in-Err.fault.fault _ _ _ c.loop-table.invariant.told c.in-Err.ensures.cause)
+pub returns-in_err-run-clause-cause : goal.returns-in_err-run-clause-cause
+returns-in_err-run-clause-cause g c =
+    let p = err_from_is_err_and c.from_residual-in_err-run.result c.from_residual-in_err-run.ensures.1 in
+    rw (p.1, p.2) (read_counted_later c.in_err-run.field-0.0.fault _ _ _ c.loop-table.invariant.told c.in_err-run.ensures.cause)

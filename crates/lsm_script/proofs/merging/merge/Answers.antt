@@ -5,24 +5,26 @@ use Rattle.lsm_script.proofs.Drawings.{drawn_begins, drawn_keeps, merged_from, r
 use Rattle.lsm_script.proofs.Elements.{job_at, job_out}
 use Rattle.lsm_script.proofs.merging.merge.Goals as goal
 
-pub returns-clause-reply : goal.returns-clause-reply
-returns-clause-reply g c =
+pub returns : goal.returns
+returns g c =
     let done = c.in-Ok-merged.done in
     let by = rw c.in-Ok-merged.is at c.merge_job-state.ensures.ok in
-    let merged = merged_from g.S.Shelf.honest c.args.state c.merge_job-state.result.0 c.in-Ok.job done (g.S.Shelf.told c.args.shelf.now) (g.S.Shelf.told c.merge_job-state.new.shelf) by in
+    let merged = merged_from g.S.Shelf.honest c.args.state c.merge_job-state.result.0 c.in-Ok.job done c.args.shelf.now c.merge_job-state.new.shelf by in
     let out = job_out c.args.jobs.now.items c.remove.new.self.items c.deref.result.now c.in-Some.place c.args.ticket c.index.result.now done.work c.deref.ensures.value c.in-Some.ensures c.index.ensures (merged.its ∙ c.in-Ok.ensures) c.remove.ensures.items in
-    inl (
-      length c.put_numbers-tables.result.now,
-      refl,
-      record {
-        done = done;
-        its = out.0;
-        out = out.1;
-        kept = c.in-Ok-push.ensures.items ∙ ap (λ (l : List Done). l ++ done ∷ []) c.reserve.ensures.items;
-        count = ap length c.put_numbers-tables.ensures;
-        merged = subst (λ (w : Work). IsMerged g.S.Shelf.honest w done c.args.state c.merge_job-state.result.0 (g.S.Shelf.told c.args.shelf.now) (g.S.Shelf.told c.merge_job-state.new.shelf)) (sym merged.its) merged;
-      },
-    )
+    record {
+      reply = inl (
+        length c.put_numbers-tables.result.now,
+        refl,
+        record {
+          done = done;
+          its = out.0;
+          out = out.1;
+          kept = c.in-Ok-push.ensures.items ∙ ap (λ (l : List Done). l ++ done ∷ []) c.reserve.ensures.items;
+          count = ap length c.put_numbers-tables.ensures;
+          merged = subst (λ (w : Work). IsMerged g.S.Shelf.honest w done c.args.state c.merge_job-state.result.0 c.args.shelf.now c.merge_job-state.new.shelf) (sym merged.its) merged;
+        },
+      );
+    }
 
 pub merge_job-state-requires-clause-begins : goal.merge_job-state-requires-clause-begins
 merge_job-state-requires-clause-begins g c κs within = drawn_begins c.args.state
@@ -30,10 +32,10 @@ merge_job-state-requires-clause-begins g c κs within = drawn_begins c.args.stat
 pub merge_job-state-requires-clause-keeps : goal.merge_job-state-requires-clause-keeps
 merge_job-state-requires-clause-keeps g c κs within = drawn_keeps c.args.state
 
-pub returns-in-Err-clause-reply : goal.returns-in-Err-clause-reply
-returns-in-Err-clause-reply g c =
+pub returns-in-Err : goal.returns-in-Err
+returns-in-Err g c =
     let fault = c.in-Err.fault in
     let by = rw c.in-Err.is at c.merge_job-state.ensures.err in
-    let refused = refused_from g.S.Shelf.honest c.args.state c.merge_job-state.result.0 c.in-Ok.job fault (g.S.Shelf.told c.args.shelf.now) (g.S.Shelf.told c.merge_job-state.new.shelf) by in
+    let refused = refused_from g.S.Shelf.honest c.args.state c.merge_job-state.result.0 c.in-Ok.job fault c.args.shelf.now c.merge_job-state.new.shelf by in
     let there = job_at c.args.jobs.now.items c.deref.result.now c.in-Some.place c.args.ticket c.index.result.now c.in-Ok.job c.deref.ensures.value c.in-Some.ensures c.index.ensures c.in-Ok.ensures in
-    inr (inl (fault, refl, (c.in-Ok.job, there.0, there.1, refused), refl, c.reserve.ensures.items))
+    record { reply = inr (inl (fault, refl, (c.in-Ok.job, there.0, there.1, refused), refl, c.reserve.ensures.items)) }

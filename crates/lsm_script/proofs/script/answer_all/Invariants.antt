@@ -5,9 +5,8 @@ use Rattle.lsm_script.proofs.script.answer_all.Given as goal
 
 abbrev pub invariant-loop-command : goal.invariant-loop-command
 invariant-loop-command g l = record {
-  so_far : GoesOn {S = Stage} (IsStep g.S.Shelf.honest) (take l.command-index l.commands) l.replies.items (stage_of l.initial.state (g.S.Shelf.told l.initial.shelf))
-      record { state = l.state; told = g.S.Shelf.told l.shelf; jobs = l.jobs.items; results = l.results.items };
-  place : (g.S.Shelf.told l.shelf).place ≡ g.N.Naming.place;
+  so_far : GoesOn {S = Stage} (IsStep g.S.Shelf.honest) (take l.command-index l.commands) l.replies.items (stage_of l.initial.state l.initial.shelf)
+      record { state = l.state; told = l.shelf; jobs = l.jobs.items; results = l.results.items };
   len : vec_len l.replies ≡ l.command-index;
   room : length l.commands ≤ vec_capacity l.replies;
 }

@@ -1,7 +1,7 @@
 use Rattle.std.proofs.Common.{refl}
 use Rattle.lsm_script.proofs.script.answer_call.Goals as goal
 
-pub returns-in-ReserveRange-clause-step : goal.returns-in-ReserveRange-clause-step
-returns-in-ReserveRange-clause-step g c =
+pub returns-in-ReserveRange : goal.returns-in-ReserveRange
+returns-in-ReserveRange g c =
     let reply = rw (c.as_slice.ensures, c.as_slice-in-ReserveRange.ensures) at c.reserve_range.ensures in
-    rw c.in-ReserveRange.is (refl, refl, reply)
+    record { step = rw c.in-ReserveRange.is (refl, refl, reply) }

@@ -5,8 +5,8 @@ use Rattle.lsm_state.proofs.collect.remove_all.Given as goal
 
 abbrev pub invariant-loop-number : goal.invariant-loop-number
 invariant-loop-number g l = record {
-  gone : AreGone l.numbers l.removed.items (g.S.Shelf.told l.initial.shelf) (g.S.Shelf.told l.shelf) l.number-index;
-  counts : SameCounts (g.S.Shelf.told l.initial.shelf) (g.S.Shelf.told l.shelf);
+  gone : AreGone l.numbers l.removed.items l.initial.shelf l.shelf l.number-index;
+  counts : SameCounts l.initial.shelf l.shelf;
   len : vec_len l.removed ≡ l.number-index;
   room : length l.numbers ≤ vec_capacity l.removed;
 }

@@ -1,9 +1,8 @@
-use Rattle.std.proofs.Common.{◌≡◌, ◌+◌, ◌≤◌, All, vec_capacity, vec_len}
+use Rattle.std.proofs.Common.{◌≡◌, ◌+◌, ◌≤◌, vec_capacity, vec_len}
 use Rattle.lsm_store.proofs.workers.start_all.Given as goal
 
 abbrev pub invariant-loop-shelf : goal.invariant-loop-shelf
 invariant-loop-shelf g l = record {
-  here : All (λ s. (g.S.Shelf.told s).place ≡ g.N.Naming.place) l.shelves.items;
   room : vec_len l.handles + vec_len l.shelves ≤ vec_capacity l.handles;
   all : vec_len l.handles + vec_len l.shelves ≡ vec_len l.fn.shelves;
 }

@@ -4,4 +4,4 @@ use Rattle.lsm_table_tests.proofs.registry_tests.a_registry_gives_the_records_pu
 
 -- the records and the contents that were just made
 abbrev pub ghosts-keeps_records : goal.ghosts-keeps_records
-ghosts-keeps_records g a = record { registry = a.records; place = in_memory (arc_value a.shelf.now.contents).images }
+ghosts-keeps_records g a = record { registry = a.records; place = in_memory (arc_value a.shelf.contents).images }

@@ -7,9 +7,9 @@ use Rattle.lsm_version.proofs.Placing.{placed_at, placed_sorted}
 use Rattle.lsm_version.proofs.ordered_level.insert.Goals as goal
 
 pub returns-clause-ok : goal.returns-clause-ok
-returns-clause-ok g c = c.in_ok-insert.ensures.items ∙ placed_at c.args.table c.args.level.now.items c.place_in-place.result
-    (ap (take c.place_in-place.result) (sym c.as_slice.ensures.value) ∙ c.place_in-place.ensures.before ∙ ap (filter (λ u. not (stands_before c.args.table u))) c.as_slice.ensures.value)
-    (ap (drop c.place_in-place.result) (sym c.as_slice.ensures.value) ∙ c.place_in-place.ensures.behind ∙ ap (filter (λ u. stands_before c.args.table u)) c.as_slice.ensures.value)
+returns-clause-ok g c = c.in_ok-insert.ensures.items ∙ placed_at c.args.table c.args.level.now.items c.index_in-index.result
+    (ap (take c.index_in-index.result) (sym c.as_slice.ensures.value) ∙ c.index_in-index.ensures.before ∙ ap (filter (λ u. not (stands_before c.args.table u))) c.as_slice.ensures.value)
+    (ap (drop c.index_in-index.result) (sym c.as_slice.ensures.value) ∙ c.index_in-index.ensures.behind ∙ ap (filter (λ u. stands_before c.args.table u)) c.as_slice.ensures.value)
 
 pub returns-clause-order : goal.returns-clause-order
 returns-clause-order g c =

@@ -1,13 +1,11 @@
 use Rattle.std.proofs.Common.{◌≡◌, ◌-◌, ◌^◌, [], ◌∷◌, ◌++◌, ◌∙◌, ap, subst, arith}
 use Rattle.std.proofs.lemmas.Result.{err_from_is_err_and}
 use Rattle.lsm_codec.specs.Lists.{Has}
-use Rattle.lsm_shelf.specs.Told.{Place}
 use Rattle.lsm_shelf.specs.Asked.{Asked, ListTables}
 use Rattle.lsm_shelf.specs.declared.shelf_fault.ShelfFault.{ShelfFault}
 use Rattle.lsm_shelf.proofs.CallerLemmas.{want_or}
 use Rattle.lsm_table.proofs.CallerLemmas.{becomes_then}
 use Rattle.lsm_version.specs.Versions.{numbers_in}
-use Rattle.lsm_journal.specs.Recovering.{IsRecoverRefusal}
 use Rattle.lsm_journal.specs.Finding.{IsLeastFree, taken_numbers}
 use Rattle.lsm_journal.proofs.Finding.{found_there, loaded, no_version, taken_last, unlisted, without_room, without_room_listed}
 use Rattle.lsm_journal.proofs.found.Found.read.Goals as goal
@@ -15,10 +13,7 @@ use Rattle.lsm_journal.proofs.found.Found.read.Goals as goal
 pub returns-in_err-recovered-clause-refused : goal.returns-in_err-recovered-clause-refused
 returns-in_err-recovered-clause-refused g c =
     let p = err_from_is_err_and c.from_residual.result c.from_residual.ensures.1 in
-    let fault = c.in_err-recovered.field-0.0 in
-    let was = g.S.Shelf.told c.args.shelf.now in
-    let is = g.S.Shelf.told c.recover.new.shelf in
-    rw (p.1, p.2) (subst (λ (q : Place). IsRecoverRefusal (g.S.Shelf.refuses q) fault was is) c.requires.here c.in_err-recovered.ensures.refused)
+    rw (p.1, p.2) c.in_err-recovered.ensures.refused
 
 pub returns-in_err-shared-clause-refused : goal.returns-in_err-shared-clause-refused
 returns-in_err-shared-clause-refused g c =
@@ -30,7 +25,7 @@ pub returns-in_err-version-clause-refused : goal.returns-in_err-version-clause-r
 returns-in_err-version-clause-refused g c =
     let p = err_from_is_err_and c.from_residual-in_err-version.result c.from_residual-in_err-version.ensures.1 in
     let r = c.in_ok-recovered.recovered in
-    rw (p.1, p.2) (no_version _ _ g.S.Shelf.honest c.in_err-version.field-0.0 r.rest r.journal r.shape _ (g.S.Shelf.told c.recover.new.shelf) _ c.in_ok-recovered.ensures.recovered c.in_ok-recovered.ensures.found
+    rw (p.1, p.2) (no_version _ _ g.S.Shelf.honest c.in_err-version.field-0.0 r.rest r.journal r.shape _ c.recover.new.shelf _ c.in_ok-recovered.ensures.recovered c.in_ok-recovered.ensures.found
     c.in_err-version.ensures.refused c.in_err-version.ensures.cause c.check.ensures.told)
 
 pub returns-in_err-taken-clause-refused : goal.returns-in_err-taken-clause-refused
@@ -41,23 +36,22 @@ returns-in_err-taken-clause-refused g c =
     c.in_ok-version.ensures.settled c.in_ok-version.ensures.judged c.in_ok-version.ensures.sound in
     let fault = c.in_err-taken.field-0.0 in
     let Refused : Asked → ShelfFault → Type 0 = g.S.Shelf.refuses g.N.Naming.place in
-    let place = c.check.ensures.told.place ∙ c.in_ok-recovered.ensures.found.place ∙ c.requires.here in
-    let asked = want_or (Refused ListTables) fault (subst (λ (q : Place). g.S.Shelf.refuses q ListTables fault) place c.in_err-taken.ensures.refused) in
-    rw (p.1, p.2) (unlisted Refused g.S.Shelf.honest fault r.rest r.journal r.shape c.in_ok-version.version _ (g.S.Shelf.told c.check.new.shelf) _ l
+    let asked = want_or (Refused ListTables) fault c.in_err-taken.ensures.refused in
+    rw (p.1, p.2) (unlisted Refused g.S.Shelf.honest fault r.rest r.journal r.shape c.in_ok-version.version _ c.check.new.shelf _ l
     (becomes_then _ _ _ c.in_ok-recovered.ensures.found c.check.ensures.told) c.in_err-taken.ensures.cause asked c.in_err-taken.ensures.err)
 
 pub returns-in_err-push_numbers-clause-refused : goal.returns-in_err-push_numbers-clause-refused
 returns-in_err-push_numbers-clause-refused g c =
     let p = err_from_is_err_and c.from_residual-in_err-push_numbers.result c.from_residual-in_err-push_numbers.ensures.1 in
     let r = c.in_ok-recovered.recovered in
-    rw (p.1, p.2) (without_room_listed r.rest r.journal r.shape c.in_ok-taken.taken.items _ (g.S.Shelf.told c.check.new.shelf) _ c.in_ok-recovered.ensures.recovered
+    rw (p.1, p.2) (without_room_listed r.rest r.journal r.shape c.in_ok-taken.taken.items _ c.check.new.shelf _ c.in_ok-recovered.ensures.recovered
     (becomes_then _ _ _ c.in_ok-recovered.ensures.found c.check.ensures.told) c.in_ok-taken.ensures.ok)
 
 pub returns-in_err-push-clause-refused : goal.returns-in_err-push-clause-refused
 returns-in_err-push-clause-refused g c =
     let p = err_from_is_err_and c.from_residual-in_err-push.result c.from_residual-in_err-push.ensures.1 in
     let r = c.in_ok-recovered.recovered in
-    rw (p.1, p.2) (without_room_listed r.rest r.journal r.shape c.in_ok-taken.taken.items _ (g.S.Shelf.told c.check.new.shelf) _ c.in_ok-recovered.ensures.recovered
+    rw (p.1, p.2) (without_room_listed r.rest r.journal r.shape c.in_ok-taken.taken.items _ c.check.new.shelf _ c.in_ok-recovered.ensures.recovered
     (becomes_then _ _ _ c.in_ok-recovered.ensures.found c.check.ensures.told) c.in_ok-taken.ensures.ok)
 
 pub returns-in_err-next-clause-refused : goal.returns-in_err-next-clause-refused
@@ -70,7 +64,7 @@ returns-in_err-next-clause-refused g c =
     let listed = c.in_ok-taken.taken.items in
     let all : c.deref.result.now ≡ taken_numbers listed v r.journal.number = c.deref.ensures.value ∙ (c.in_ok-push.ensures.items
     ∙ (ap (λ xs. xs ++ c.number.result ∷ []) c.in_ok-push_numbers.ensures.ok ∙ ap (λ n. (listed ++ numbers_in v) ++ n ∷ []) c.number.ensures)) in
-    rw (p.1, p.2, c.in_err-next.ensures.err.0) (taken_last g.S.Shelf.honest r.rest r.journal r.shape v listed _ (g.S.Shelf.told c.check.new.shelf) _ l (subst (λ xs. Has xs (2 ^ 64 - 1)) all c.in_err-next.ensures.err.1)
+    rw (p.1, p.2, c.in_err-next.ensures.err.0) (taken_last g.S.Shelf.honest r.rest r.journal r.shape v listed _ c.check.new.shelf _ l (subst (λ xs. Has xs (2 ^ 64 - 1)) all c.in_err-next.ensures.err.1)
     (becomes_then _ _ _ c.in_ok-recovered.ensures.found c.check.ensures.told) c.in_ok-taken.ensures.ok)
 
 pub returns-clause-found : goal.returns-clause-found
@@ -82,5 +76,5 @@ returns-clause-found g c =
     let listed = c.in_ok-taken.taken.items in
     let all : c.deref.result.now ≡ taken_numbers listed v r.journal.number = c.deref.ensures.value ∙ (c.in_ok-push.ensures.items
     ∙ (ap (λ xs. xs ++ c.number.result ∷ []) c.in_ok-push_numbers.ensures.ok ∙ ap (λ n. (listed ++ numbers_in v) ++ n ∷ []) c.number.ensures)) in
-    found_there g.S.Shelf.honest c.args.limit r.rest r.journal r.shape v listed c.in_ok-next.next _ (g.S.Shelf.told c.check.new.shelf) _ l c.in_ok-recovered.ensures.limit
+    found_there g.S.Shelf.honest c.args.limit r.rest r.journal r.shape v listed c.in_ok-next.next _ c.check.new.shelf _ l c.in_ok-recovered.ensures.limit
     (subst (λ xs. IsLeastFree r.shape.next xs c.in_ok-next.next) all c.in_ok-next.ensures.ok) (omega arith) (becomes_then _ _ _ c.in_ok-recovered.ensures.found c.check.ensures.told) c.in_ok-taken.ensures.ok

@@ -1,7 +1,7 @@
 use Rattle.std.proofs.Common.{◌≡◌, ℕ, ◌<◌, List, length, get_or, set, sym, ◌∙◌, ap, subst}
 use Rattle.lsm_codec.specs.Lists.{Has}
 use Rattle.lsm_live.specs.Booked.{AreIncreasing, Booked, HasTicket, booked}
-use Rattle.lsm_live.proofs.Places.{on_ok, set_tickets, ticket_after, ticket_at}
+use Rattle.lsm_live.proofs.Indices.{on_ok, set_tickets, ticket_after, ticket_at}
 use Rattle.lsm_live.proofs.Tickets.{booked_at, booked_none}
 use Rattle.lsm_live.proofs.live_jobs.LiveJobs.draw.Goals as goal
 

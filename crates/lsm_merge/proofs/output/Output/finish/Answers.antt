@@ -1,18 +1,22 @@
-use Rattle.std.proofs.Common.{sym, ◌∙◌, ap, subst}
-use Rattle.std.specs.Option.{option_map}
-use Rattle.lsm_codec.specs.KeyRef.{key_of}
+use Rattle.std.proofs.Common.{◌≡◌, subst}
+use Rattle.std.specs.Prelude.{IfErr, IfOk}
+use Rattle.lsm_block.specs.declared.build_fault.BuildFault.{BuildFault}
+use Rattle.lsm_block.specs.declared.build_fault.BuildFault.TheVariants.{TooLarge}
 use Rattle.lsm_table.specs.Table.{IsImage}
+use Rattle.lsm_table.specs.TableBuilding.{table_bytes}
+use Rattle.lsm_table.specs.TableImage.{Imaged}
+use Rattle.lsm_merge.specs.Limits.{IsOverLimit}
 use Rattle.lsm_merge.specs.Outputs.{Unfinished}
-use Rattle.lsm_merge.proofs.Begun.{begun_has, image_of, last_none}
+use Rattle.lsm_merge.proofs.Limited.{over_whole}
 use Rattle.lsm_merge.proofs.output.Output.finish.Goals as goal
 
-pub unreachable-requires : goal.unreachable-requires
-unreachable-requires c =
-    begun_has c.self.inside.smallest c.self.inside.builder.entries c.self.invariant
-    (last_none c.self.inside.builder.entries (sym c.last_key.ensures.key ∙ ap (option_map key_of) c.in-None.is))
+pub returns-clause-bytes : goal.returns-clause-bytes
+returns-clause-bytes c = subst (λ (o : Unfinished). IfOk c.finish.result (λ (i : Imaged). i.bytes ≡ table_bytes o.options o.entries)) c.self.view_is c.finish.ensures.bytes
 
 pub returns-clause-image : goal.returns-clause-image
-returns-clause-image c =
-    subst (λ (o : Unfinished). IsImage o.entries c.self.inside.smallest c.in_ok-largest-in-Some.largest c.in_ok-bytes.bytes.items) c.self.view_is
-    (image_of c.self.inside.builder.entries c.self.inside.smallest c.in_ok-largest-in-Some.largest c.in_ok-bytes.bytes.items (key_of c.in-Some.key) c.self.invariant
-    (sym c.last_key.ensures.key ∙ ap (option_map key_of) c.in-Some.is) c.in_ok-largest-in-Some.ensures c.in_ok-bytes.ensures.table)
+returns-clause-image c = subst (λ (o : Unfinished). IfOk c.finish.result (λ (i : Imaged). IsImage o.entries i.smallest i.largest i.bytes)) c.self.view_is c.finish.ensures.image
+
+pub returns-clause-large : goal.returns-clause-large
+returns-clause-large c =
+    subst (λ (o : Unfinished). IfErr c.finish.result (λ (e : BuildFault). e ≡ TooLarge → IsOverLimit o.options o.entries)) c.self.view_is
+    (over_whole c.self.inside.table.options c.self.inside.table.entries c.finish.result c.last_key-last.ensures.ascends c.finish.ensures.large)

@@ -13,19 +13,19 @@ use Rattle.lsm_reader.proofs.open_table.OpenTable.get_by.Goals as goal
 
 pub returns-clause-exact : goal.returns-clause-exact
 returns-clause-exact g c honest =
-    let image = g.S.Receipt.Slip.image c.self.inside.receipt in
+    let image = g.S.Receipt.TableReceipt.image c.self.inside.receipt in
     let opened : opening_at image ≡ Ok (arc_value {X = HeldBlock} {Z = Global} c.in_ok-index.index).entries = cc (c.self.invariant.1 honest, c.in_ok-index.ensures) in
     subst (λ (x : List ℕ). Reads seen c.get_from.result (got x c.args.user.now c.args.seq)) c.self.view_is
     (subst (λ (r : Result (Option (Option (List ℕ))) TableFault). Reads seen c.get_from.result r) (got_then image c.args.user.now c.args.seq _ opened) (c.get_from.ensures.exact honest))
 
 pub returns-clause-found : goal.returns-clause-found
 returns-clause-found g c honest es t =
-    let image = g.S.Receipt.Slip.image c.self.inside.receipt in
+    let image = g.S.Receipt.TableReceipt.image c.self.inside.receipt in
     let opened : opening_at image ≡ Ok (arc_value {X = HeldBlock} {Z = Global} c.in_ok-index.index).entries = cc (c.self.invariant.1 honest, c.in_ok-index.ensures) in
     c.get_from.ensures.found honest es (opened_names image es _ (subst (λ (x : List ℕ). IsTable x es) (sym c.self.view_is) t) opened)
 
 pub returns-clause-sound : goal.returns-clause-sound
 returns-clause-sound g c honest es t =
-    let image = g.S.Receipt.Slip.image c.self.inside.receipt in
+    let image = g.S.Receipt.TableReceipt.image c.self.inside.receipt in
     let opened : opening_at image ≡ Ok (arc_value {X = HeldBlock} {Z = Global} c.in_ok-index.index).entries = cc (c.self.invariant.1 honest, c.in_ok-index.ensures) in
     c.get_from.ensures.sound honest es (opened_names image es _ (subst (λ (x : List ℕ). IsTable x es) (sym c.self.view_is) t) opened)

@@ -1,4 +1,5 @@
 use Rattle.std.proofs.Common.{Global, ◌≡◌, Bool, not, List, sym, ap, ◌∙◌, subst}
+use Rattle.std.proofs.lemmas.Result.{err_from_is_err_and}
 use Rattle.std.specs.Arc.{arc_value}
 use Rattle.lsm_codec.specs.Entries.{Entry}
 use Rattle.lsm_block.specs.Held.{HeldBlock}
@@ -8,31 +9,32 @@ use Rattle.lsm_reader.specs.Blocks.{left_at}
 use Rattle.lsm_reader.proofs.StepLaws.{steps_to, named_first, left_first}
 use Rattle.lsm_reader.proofs.table_reader.TableReader.next_by.Goals as goal
 
-pub returns-in-Err-first_by-clause-sound : goal.returns-in-Err-first_by-clause-sound
-returns-in-Err-first_by-clause-sound g c honest =
-    let image = g.S.Receipt.Slip.image c.self.inside.receipt in
+pub returns-in_err-first-clause-sound : goal.returns-in_err-first-clause-sound
+returns-in_err-first-clause-sound g c honest =
+    let p = err_from_is_err_and c.from_residual-in_err-first.result c.from_residual-in_err-first.ensures.1 in
+    rw (p.1, p.2) (let image = g.S.Receipt.TableReceipt.image c.self.inside.receipt in
     let same : (arc_value {X = HeldBlock} {Z = Global} c.in_ok-index.index).entries ≡ (arc_value {X = HeldBlock} {Z = Global} c.self.inside.index).entries = cc (c.in_ok-index.ensures) in
     let nm = named_first image _ c.self.inside.cursor c.in_default.is (c.self.invariant.1 honest) in
     let names = subst (λ (xs : List Entry). Names (body_of image) xs nm.0) (sym same) nm.1 in
-    c.in-Err-first_by.ensures.sound honest nm.0 names
+    c.in_err-first.ensures.sound honest nm.0 names)
 
 pub invariant_of-self-2 : goal.invariant_of-self-2
 invariant_of-self-2 g c = (
   c.self.invariant.0,
   λ honest. (
-      let image = g.S.Receipt.Slip.image c.self.inside.receipt in
+      let image = g.S.Receipt.TableReceipt.image c.self.inside.receipt in
       let same : (arc_value {X = HeldBlock} {Z = Global} c.in_ok-index.index).entries ≡ (arc_value {X = HeldBlock} {Z = Global} c.self.inside.index).entries = cc (c.in_ok-index.ensures) in
       let nm = named_first image _ c.self.inside.cursor c.in_default.is (c.self.invariant.1 honest) in
       let names = subst (λ (xs : List Entry). Names (body_of image) xs nm.0) (sym same) nm.1 in
-      (c.in-Ok-first_by.ensures.found honest nm.0 names).0),
+      (c.in_ok-first.ensures.found honest nm.0 names).0),
 )
 
 pub returns-clause-steps : goal.returns-clause-steps
 returns-clause-steps g c honest =
-    let image = g.S.Receipt.Slip.image c.self.inside.receipt in
+    let image = g.S.Receipt.TableReceipt.image c.self.inside.receipt in
     let same : (arc_value {X = HeldBlock} {Z = Global} c.in_ok-index.index).entries ≡ (arc_value {X = HeldBlock} {Z = Global} c.self.inside.index).entries = cc (c.in_ok-index.ensures) in
     let nm = named_first image _ c.self.inside.cursor c.in_default.is (c.self.invariant.1 honest) in
     let names = subst (λ (xs : List Entry). Names (body_of image) xs nm.0) (sym same) nm.1 in
-    let found = c.in-Ok-first_by.ensures.found honest nm.0 names in
-    steps_to (left_at image c.in-Ok-first_by.first) c.args.self.now _ (left_first image _ c.self.inside.cursor c.args.self.now nm.0 c.in_default.is c.self.view_is nm.1 ∙ sym found.1)
+    let found = c.in_ok-first.ensures.found honest nm.0 names in
+    steps_to (left_at image c.in_ok-first.first) c.args.self.now _ (left_first image _ c.self.inside.cursor c.args.self.now nm.0 c.in_default.is c.self.view_is nm.1 ∙ sym found.1)
     (ap (λ (b : Bool). not b) (c.is_at_end-more.ensures image))

@@ -25,7 +25,7 @@ invariant_of-self-2 g c =
     let inputs = subst (λ (x : Held). (b : Booked) → Has (live_after c.args.out x.live) b → HasInputs (changed_by d x.slots.version) b.work) (sym c.self.view_is) c.requires.inputs in
     let published = subst (λ (v : Levels). Published h.slots c.publish.new.self v) (c.in_ok-first.ensures.first ∙ back) c.publish.ensures.published in
     let recorded = subst (λ (v : Levels). IsRecorded 0 c.send-sent.new.self v c.in-Ok.next) (c.deref-2.ensures ∙ c.in_ok-first.ensures.first ∙ back) c.in-Ok.ensures.recorded in
-    let rises = next_rises d c.deref-2.result.now h.next c.in-Ok.next h.journal c.send-sent.new.self (g.S.Shelf.told c.args.shelf.now) (g.S.Shelf.told c.send-sent.new.shelf) c.in-Ok.ensures.sends in
+    let rises = next_rises d c.deref-2.result.now h.next c.in-Ok.next h.journal c.send-sent.new.self c.args.shelf.now c.send-sent.new.shelf c.in-Ok.ensures.sends in
     lawful_changed g.S.Shelf.honest g.N.Boarded.board h d c.args.out c.publish.new.self c.in-Ok.next c.take_out.new.live c.send-sent.new.self c.self.invariant
     after published c.take_out.ensures recorded rises inputs
 
@@ -33,7 +33,7 @@ pub returns-in-Err-clause-asked : goal.returns-in-Err-clause-asked
 returns-in-Err-clause-asked g c =
     let h : Held = record { options = c.self.inside.options; slots = c.self.inside.slots; snapshots = c.self.inside.snapshots; next = c.self.inside.next; next_ticket = c.self.inside.next_ticket; live = c.self.inside.live; journal = c.self.inside.journal; halted = c.self.inside.halted; pinners = c.self.inside.pinners.items } in
     let d : Difference = c.args.change.now in
-    let Refused : Asked → ShelfFault → Type 0 = g.S.Shelf.refuses (g.S.Shelf.told c.args.shelf.now).place in
+    let Refused : Asked → ShelfFault → Type 0 = g.S.Shelf.refuses g.N.Naming.place in
     let back = ap (λ (x : Held). changed_by d x.slots.version) (sym c.self.view_is) in
     let after = c.deref-2.ensures ∙ c.in_ok-first.ensures.first ∙ back in
     subst (λ (x : Held). IsWantOr (ChangeRefused Refused x d) c.in-Err.fault) c.self.view_is (subst (λ (v : Levels). IsWantOr (Refused (asked_by d v h.next h.journal)) c.in-Err.fault) after c.in-Err.ensures.asked)

@@ -1,29 +1,58 @@
-use Rattle.std.proofs.Common.{refl, ap, suc, subst, inl, inr, arith}
-use Rattle.lsm_shelf.specs.Told.{Place}
+use Rattle.std.proofs.Common.{ℕ, None, ◌∙◌, refl, ap, suc, sym, subst, inl, inr, arith}
 use Rattle.lsm_shelf.specs.Asked.{Asked}
 use Rattle.lsm_shelf.specs.declared.shelf_fault.ShelfFault.{ShelfFault}
-use Rattle.lsm_shelf.specs.Told.{Told}
+use Rattle.lsm_shelf.specs.Told.{Becomes, Told, putting}
+use Rattle.lsm_shelf.proofs.CallerLemmas.{becomes_same}
 use Rattle.lsm_table.specs.Registry.{Table}
+use Rattle.lsm_journal.specs.Difference.{Difference}
+use Rattle.lsm_slots.specs.Slots.{Slotted}
 use Rattle.lsm_batch.specs.declared.write.Write.{Write}
 use Rattle.std.specs.Prelude.{List}
 use Rattle.lsm_state.specs.Held.{Held, plain}
 use Rattle.lsm_state.specs.Asked.{ChangeRefused, IngestRefused, OnShelf, PutRefused}
+use Rattle.lsm_state.specs.Changing.{ChangesVersion, Sought}
 use Rattle.lsm_state.specs.Ingesting.{IsIngestRefusal, coming_in, entries_of, last_of}
+use Rattle.lsm_state.specs.declared.state_fault.StateFault.{StateFault}
+use Rattle.lsm_state.specs.declared.state_fault.StateFault.TheVariants.{OutOfMemory}
 use Rattle.lsm_state.proofs.AskedLaws.{bytes_looked, change_alike, early_asked, on_more, put_looked, slot_asked}
 use Rattle.lsm_state.proofs.IngestLaws.{change_of, change_spent, entries_gained, err_is, event_after, inputs_grown, law_grown, numbered, numbered_spends, put_spends, refused_change, refused_put, slots_spend, suits_grown, table_of, version_stays}
 use Rattle.lsm_state.proofs.Removing.{on_err}
 use Rattle.lsm_state.proofs.state.State.ingest.Goals as goal
+
+pub returns-in_err-may_ingest-clause-refused : goal.returns-in_err-may_ingest-clause-refused
+returns-in_err-may_ingest-clause-refused g c =
+    let h : Held = c.args.self.now in
+    let was : Told = c.args.shelf.now in
+    err_is (λ (e : StateFault). IsIngestRefusal h h c.args.batch.now e was was) c.from_residual.result c.in_err-may_ingest.field-0.0 c.from_residual.ensures.1 (inl (c.in_err-may_ingest.ensures.refused, refl, refl))
+
+pub returns-in_err-slot-clause-refused : goal.returns-in_err-slot-clause-refused
+returns-in_err-slot-clause-refused g c =
+    let h : Held = c.args.self.now in
+    let was : Told = c.args.shelf.now in
+    err_is (λ (e : StateFault). IsIngestRefusal h c.find_slot.new.self c.args.batch.now e was was) c.from_residual-in_err-slot.result c.in_err-slot.field-0.0 c.from_residual-in_err-slot.ensures.1
+    (inr (c.in_ok-may_ingest.ensures.ok, inl (c.find_slot.ensures.rest, c.find_slot.ensures.sought, c.in_err-slot.ensures.refused, refl)))
 
 pub returns-in_err-table-clause-refused : goal.returns-in_err-table-clause-refused
 returns-in_err-table-clause-refused g c =
     let h : Held = c.args.self.now in
     let y : Held = c.put_batch.new.self in
     let ws : List Write = c.args.batch.now in
-    let was : Told = g.S.Shelf.told c.args.shelf.now in
-    let is : Told = g.S.Shelf.told c.put_batch.new.shelf in
+    let was : Told = c.args.shelf.now in
+    let is : Told = c.put_batch.new.shelf in
     err_is (λ e. IsIngestRefusal h y ws e was is) c.from_residual-in_err-table.result c.in_err-table.field-0.0 c.from_residual-in_err-table.ensures.1
     (refused_put h c.find_slot.new.self y ws c.in_err-table.field-0.0 was is c.in_ok-may_ingest.ensures.ok c.find_slot.ensures.sought c.find_slot.ensures.rest (c.in_ok-slot.slot, c.in_ok-slot.ensures.ok.0, c.in_ok-slot.ensures.ok.1)
     c.in_err-table.ensures.slots c.in_err-table.ensures.refused)
+
+pub returns-in_err-change-clause-refused : goal.returns-in_err-change-clause-refused
+returns-in_err-change-clause-refused g c =
+    let h : Held = c.args.self.now in
+    let x : Held = c.put_batch.new.self in
+    let ws : List Write = c.args.batch.now in
+    let was : Told = c.args.shelf.now in
+    let mid : Told = c.put_batch.new.shelf in
+    err_is (λ (e : StateFault). IsIngestRefusal h x ws e was mid) c.from_residual-in_err-change.result OutOfMemory c.from_residual-in_err-change.ensures.1
+    (refused_change h c.find_slot.new.self x x ws OutOfMemory was mid mid c.in_ok-may_ingest.ensures.ok c.find_slot.ensures.sought c.find_slot.ensures.rest
+    (c.in_ok-slot.slot, c.in_ok-slot.ensures.ok.0, c.in_ok-slot.ensures.ok.1) c.in_ok-table.ensures.ok c.in_ok-table.ensures.told c.in_ok-table.ensures.counts (refl, refl) (becomes_same mid))
 
 pub change_version-requires-clause-suits : goal.change_version-requires-clause-suits
 change_version-requires-clause-suits g c κs within =
@@ -67,12 +96,43 @@ returns-in_err-change_version-clause-refused g c =
     let h : Held = c.args.self.now in
     let y : Held = c.change_version.new.self in
     let ws : List Write = c.args.batch.now in
-    let was : Told = g.S.Shelf.told c.args.shelf.now in
-    let mid : Told = g.S.Shelf.told c.put_batch.new.shelf in
-    let is : Told = g.S.Shelf.told c.change_version.new.shelf in
+    let was : Told = c.args.shelf.now in
+    let mid : Told = c.put_batch.new.shelf in
+    let is : Told = c.change_version.new.shelf in
     err_is (λ e. IsIngestRefusal h y ws e was is) c.from_residual-in_err-change_version.result c.in_err-change_version.field-0.0 c.from_residual-in_err-change_version.ensures.1
     (refused_change h c.find_slot.new.self c.put_batch.new.self y ws c.in_err-change_version.field-0.0 was mid is c.in_ok-may_ingest.ensures.ok c.find_slot.ensures.sought
     c.find_slot.ensures.rest (c.in_ok-slot.slot, c.in_ok-slot.ensures.ok.0, c.in_ok-slot.ensures.ok.1) c.in_ok-table.ensures.ok c.in_ok-table.ensures.told c.in_ok-table.ensures.counts c.in_err-change_version.ensures.refused c.in_err-change_version.ensures.unsent)
+
+pub returns-clause-ok : goal.returns-clause-ok
+returns-clause-ok g c =
+    let h : Held = c.args.self.now in
+    let m : Held = c.find_slot.new.self in
+    let x : Held = c.put_batch.new.self in
+    let y : Held = c.change_version.new.self in
+    let ws : List Write = c.args.batch.now in
+    let t : Table = c.in_ok-table.table in
+    let was : Told = c.args.shelf.now in
+    let mid : Told = c.put_batch.new.shelf in
+    let is : Told = c.change_version.new.shelf in
+    let next = ap (λ (z : Held). z.next) c.find_slot.ensures.rest in
+    let before = c.last-before.ensures.last in
+    let count = c.len.ensures in
+    let same = numbered h m x c.find_slot.ensures.rest c.in_ok-table.ensures.ok in
+    let change = change_of h ws t c.in_ok-change.change c.last-before.result c.len.result c.in_ok-change.ensures before count in
+    record {
+      file = c.next_file-file.ensures ∙ next;
+      first = omega arith;
+      last = omega arith;
+      slots = x.slots;
+      sought = subst (λ (s : Slotted). Sought h.slots s) (sym (ap (λ (z : Held). z.slots) c.in_ok-table.ensures.ok)) c.find_slot.ensures.sought;
+      table = t;
+      is_table = table_of h m ws t c.find_slot.ensures.rest c.find_slot.ensures.sought c.in_ok-table.ensures.table;
+      mid = mid;
+      put = subst (λ (n : ℕ). Becomes (putting n was) mid) next c.in_ok-table.ensures.told;
+      changes = subst (λ (z : Held). ChangesVersion z y (coming_in t (last_of h ws)) None mid is) same
+          (subst (λ (d : Difference). ChangesVersion x y d None mid is) change c.in_ok-change_version.ensures.ok);
+      bytes = bytes_looked h m ws t c.find_slot.ensures.rest c.find_slot.ensures.sought.looked.version c.in_ok-table.ensures.bytes;
+    }
 
 pub returns-clause-event : goal.returns-clause-event
 returns-clause-event g c =
@@ -85,7 +145,7 @@ returns-clause-event g c =
     let version = version_stays h m x c.find_slot.ensures.sought c.in_ok-table.ensures.ok in
     let same = numbered h m x c.find_slot.ensures.rest c.in_ok-table.ensures.ok in
     let change = change_of h ws t c.in_ok-change.change c.last-before.result c.len.result c.in_ok-change.ensures c.last-before.ensures.last c.len.ensures in
-    event_after c.changed_files.ensures c.whole_tables_fit.ensures h x c.change_version.new.self ws t c.in_ok-change.change (g.S.Shelf.told c.put_batch.new.shelf) (g.S.Shelf.told c.change_version.new.shelf)
+    event_after c.changed_files.ensures c.whole_tables_fit.ensures h x c.change_version.new.self ws t c.in_ok-change.change c.put_batch.new.shelf c.change_version.new.shelf
     c.last-before.ensures.levels is same version change c.in_ok-change_version.ensures.ok
 
 pub returns-clause-entries : goal.returns-clause-entries
@@ -101,8 +161,8 @@ returns-in_err-slot-clause-event_err g c =
 
 pub returns-in_err-table-clause-event_err : goal.returns-in_err-table-clause-event_err
 returns-in_err-table-clause-event_err g c =
-    let was : Told = g.S.Shelf.told c.args.shelf.now in
-    let is : Told = g.S.Shelf.told c.put_batch.new.shelf in
+    let was : Told = c.args.shelf.now in
+    let is : Told = c.put_batch.new.shelf in
     on_err c.from_residual-in_err-table.result
     (put_spends c.args.self.now c.find_slot.new.self c.put_batch.new.self c.args.batch.now c.in_err-table.field-0.0 was is c.find_slot.ensures.sought c.find_slot.ensures.rest c.in_err-table.ensures.slots
     c.in_err-table.ensures.refused)
@@ -113,26 +173,26 @@ returns-in_err-change-clause-event_err g c =
 
 pub returns-in_err-change_version-clause-event_err : goal.returns-in_err-change_version-clause-event_err
 returns-in_err-change_version-clause-event_err g c =
-    let mid : Told = g.S.Shelf.told c.put_batch.new.shelf in
-    let is : Told = g.S.Shelf.told c.change_version.new.shelf in
+    let mid : Told = c.put_batch.new.shelf in
+    let is : Told = c.change_version.new.shelf in
     on_err c.from_residual-in_err-change_version.result
     (change_spent c.args.self.now c.find_slot.new.self c.put_batch.new.self c.change_version.new.self c.in_err-change_version.field-0.0 mid is c.find_slot.ensures.sought c.find_slot.ensures.rest c.in_ok-table.ensures.ok
     c.in_err-change_version.ensures.refused)
 
 pub returns-in_err-may_ingest-clause-asked : goal.returns-in_err-may_ingest-clause-asked
 returns-in_err-may_ingest-clause-asked g c =
-    let R : ShelfFault → Type 0 = IngestRefused (g.S.Shelf.refuses (g.S.Shelf.told c.args.shelf.now).place) c.args.self.now c.args.batch.now in
+    let R : ShelfFault → Type 0 = IngestRefused (g.S.Shelf.refuses g.N.Naming.place) c.args.self.now c.args.batch.now in
     err_is (OnShelf R) c.from_residual.result c.in_err-may_ingest.field-0.0 c.from_residual.ensures.1 (early_asked R c.args.self.now c.args.batch.now c.in_err-may_ingest.field-0.0 c.in_err-may_ingest.ensures.refused)
 
 pub returns-in_err-slot-clause-asked : goal.returns-in_err-slot-clause-asked
 returns-in_err-slot-clause-asked g c =
-    let R : ShelfFault → Type 0 = IngestRefused (g.S.Shelf.refuses (g.S.Shelf.told c.args.shelf.now).place) c.args.self.now c.args.batch.now in
+    let R : ShelfFault → Type 0 = IngestRefused (g.S.Shelf.refuses g.N.Naming.place) c.args.self.now c.args.batch.now in
     err_is (OnShelf R) c.from_residual-in_err-slot.result c.in_err-slot.field-0.0 c.from_residual-in_err-slot.ensures.1
     (slot_asked R c.args.self.now.slots c.find_slot.new.self.slots c.in_err-slot.field-0.0 c.in_err-slot.ensures.refused)
 
 pub returns-in_err-table-clause-asked : goal.returns-in_err-table-clause-asked
 returns-in_err-table-clause-asked g c =
-    let Refused : Asked → ShelfFault → Type 0 = g.S.Shelf.refuses (g.S.Shelf.told c.args.shelf.now).place in
+    let Refused : Asked → ShelfFault → Type 0 = g.S.Shelf.refuses g.N.Naming.place in
     let h : Held = c.args.self.now in
     let m : Held = c.find_slot.new.self in
     let ws : List Write = c.args.batch.now in
@@ -142,8 +202,7 @@ returns-in_err-table-clause-asked g c =
 
 pub returns-in_err-change_version-clause-asked : goal.returns-in_err-change_version-clause-asked
 returns-in_err-change_version-clause-asked g c =
-    let Refused : Asked → ShelfFault → Type 0 = g.S.Shelf.refuses (g.S.Shelf.told c.args.shelf.now).place in
-    let After : Asked → ShelfFault → Type 0 = g.S.Shelf.refuses (g.S.Shelf.told c.put_batch.new.shelf).place in
+    let Refused : Asked → ShelfFault → Type 0 = g.S.Shelf.refuses g.N.Naming.place in
     let h : Held = c.args.self.now in
     let m : Held = c.find_slot.new.self in
     let x : Held = c.put_batch.new.self in
@@ -154,13 +213,11 @@ returns-in_err-change_version-clause-asked g c =
     let same = numbered h m x c.find_slot.ensures.rest c.in_ok-table.ensures.ok in
     let change = change_of h ws t c.in_ok-change.change c.last-before.result c.len.result c.in_ok-change.ensures c.last-before.ensures.last c.len.ensures in
     let bytes = bytes_looked h m ws t c.find_slot.ensures.rest c.find_slot.ensures.sought.looked.version c.in_ok-table.ensures.bytes in
-    let place = c.in_ok-table.ensures.told.place in
     err_is (OnShelf (IngestRefused Refused h ws)) c.from_residual-in_err-change_version.result c.in_err-change_version.field-0.0 c.from_residual-in_err-change_version.ensures.1
-    (on_more (ChangeRefused After x c.in_ok-change.change) (IngestRefused Refused h ws)
+    (on_more (ChangeRefused Refused x c.in_ok-change.change) (IngestRefused Refused h ws)
     (λ f r. inr (
       t,
       is,
       bytes,
-      change_alike Refused h x (suc h.next) c.in_ok-change.change (coming_in t (last_of h ws)) f version (ap (λ (z : Held). z.next) same) (ap (λ (z : Held). z.journal) same) change
-          (subst (λ (q : Place). ChangeRefused (g.S.Shelf.refuses q) x c.in_ok-change.change f) place r),
+      change_alike Refused h x (suc h.next) c.in_ok-change.change (coming_in t (last_of h ws)) f version (ap (λ (z : Held). z.next) same) (ap (λ (z : Held). z.journal) same) change r,
     )) c.in_err-change_version.field-0.0 c.in_err-change_version.ensures.asked)

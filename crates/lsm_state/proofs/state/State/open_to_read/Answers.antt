@@ -26,4 +26,4 @@ pub returns-clause-found : goal.returns-clause-found
 returns-clause-found g c =
     let f = c.in_ok-found.found in
     let sv : c.in_ok-slots.slots.version ≡ f.version = ap (λ (s : Slotted). s.version) c.in_ok-slots.ensures in
-    (f.rest, subst (λ (v : Levels). IsFound g.S.Shelf.honest c.args.options.manifest_limit f.journal v f.rest f.next (g.S.Shelf.told c.args.shelf.now) (g.S.Shelf.told c.read.new.shelf)) (sym sv) c.in_ok-found.ensures.found)
+    (f.rest, subst (λ (v : Levels). IsFound g.S.Shelf.honest c.args.options.manifest_limit f.journal v f.rest f.next c.args.shelf.now c.read.new.shelf) (sym sv) c.in_ok-found.ensures.found)

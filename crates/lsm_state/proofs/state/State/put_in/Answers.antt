@@ -68,8 +68,8 @@ returns-clause-answers g c fair =
     let same : c.version.result.now ≡ h.slots.version = c.version.ensures.version ∙ ap (λ (s : Held). s.slots.version) c.self.view_is in
     let i : IsInstallChange d h.slots.version.last x = subst (λ (n : ℕ). IsInstallChange d n x) (c.last-last.ensures.last ∙ ap (λ (v : Levels). v.last) same) c.in_ok-change.ensures in
     let seven : length h.slots.version.tables ≡ 7 = subst (λ (v : Levels). length v.tables ≡ 7) same c.last-last.ensures.levels in
-    let was = g.S.Shelf.told c.args.shelf.now in
-    let is = g.S.Shelf.told c.change_version.new.shelf in
+    let was = c.args.shelf.now in
+    let is = c.change_version.new.shelf in
     answers_of h c.change_version.new.self x (Some c.ticket-ticket.result) was is c.in_ok-change_version.ensures.ok
     (same_installed c.changed_files.ensures g.S.Shelf.honest g.N.Boarded.board h d x b.0 c.options-options.ensures.law seven b.1 c.job.ensures.finished i fair)
 
@@ -83,15 +83,15 @@ returns-clause-event g c =
     let i : IsInstallChange d h.slots.version.last x = subst (λ (n : ℕ). IsInstallChange d n x) (c.last-last.ensures.last ∙ ap (λ (v : Levels). v.last) same) c.in_ok-change.ensures in
     let seven : length h.slots.version.tables ≡ 7 = subst (λ (v : Levels). length v.tables ≡ 7) same c.last-last.ensures.levels in
     let ticket : c.ticket-ticket.result ≡ d.work.ticket = c.ticket-ticket.ensures.ticket ∙ ap (λ (w : Work). w.ticket) c.job.ensures.job in
-    let was = g.S.Shelf.told c.args.shelf.now in
-    let is = g.S.Shelf.told c.change_version.new.shelf in
+    let was = c.args.shelf.now in
+    let is = c.change_version.new.shelf in
     let new : Held = c.change_version.new.self in
     installing g.S.Shelf.honest h new x d.work.ticket was is (installs c.changed_files.ensures g.S.Shelf.honest h d x b.0 seven b.1 c.job.ensures.finished i)
     (subst (λ (n : ℕ). ChangesVersion h new x (Some n) was is) ticket c.in_ok-change_version.ensures.ok)
 
 pub returns-in_err-change_version-clause-asked : goal.returns-in_err-change_version-clause-asked
 returns-in_err-change_version-clause-asked g c =
-    let Refused : Asked → ShelfFault → Type 0 = g.S.Shelf.refuses (g.S.Shelf.told c.args.shelf.now).place in
+    let Refused : Asked → ShelfFault → Type 0 = g.S.Shelf.refuses g.N.Naming.place in
     let h : Held = c.args.self.now in
     let d : Done = c.args.done.now in
     let x : Difference = c.in_ok-change.change in

@@ -1,56 +1,40 @@
-use Rattle.std.proofs.Common.{◌≡◌, ◌≤◌, List, [], false, ap, sym, subst, ◌∙◌}
-use Rattle.lsm_codec.specs.Lists.{Has}
-use Rattle.lsm_version.specs.Versions.{Levels}
-use Rattle.lsm_choice.specs.Reservations.{IsClear, IsLeastConflict, Reserved}
-use Rattle.lsm_choice.specs.TablePlans.{IsPlanFrom, StandsIn, TablePlan, files_over, tables_over}
+use Rattle.std.proofs.Common.{◌≡◌, []}
+use Rattle.lsm_choice.specs.Reservations.{IsClear}
+use Rattle.lsm_choice.specs.TablePlans.{TablePlan, files_over, tables_over}
 use Rattle.lsm_live.specs.Reserving.{reserved_jobs}
 use Rattle.lsm_state.specs.Held.{Held}
-use Rattle.lsm_state.specs.Reserving.{IsRangeRefusal}
+use Rattle.lsm_state.specs.Reserving.{IsPlanAt, IsRangePlan, IsRangeRefusal}
 use Rattle.lsm_state.specs.declared.state_fault.StateFault.{StateFault}
-use Rattle.lsm_state.proofs.ReserveLaws.{closed_range, if_err, if_some, match_some, planned_at, refused_conflict, refused_range}
+use Rattle.lsm_state.proofs.IngestLaws.{err_is}
+use Rattle.lsm_state.proofs.ReserveLaws.{if_some, match_some, refused_range}
 use Rattle.lsm_state.proofs.state.State.reserve_range.Goals as goal
 
-pub returns-in-Some-conflict-clause-refused : goal.returns-in-Some-conflict-clause-refused
-returns-in-Some-conflict-clause-refused g c =
-    let h : Held = c.args.self.now in
-    let v : Levels = c.version-version.result.now in
-    let rs : List Reserved = c.deref-4.result.now in
+pub book-requires-clause-stands : goal.book-requires-clause-stands
+book-requires-clause-stands g c κs within =
     let p : TablePlan = c.in-Some.plan in
-    let at : v ≡ h.slots.version = c.version-version.ensures.version ∙ ap (λ (x : Held). x.slots.version) c.self.view_is in
-    let live : rs ≡ reserved_jobs h.live = c.deref-4.ensures.value ∙ (c.in_ok-reservations.ensures ∙ ap (λ (x : Held). reserved_jobs x.live) c.self.view_is) in
-    let going : h.halted ≡ false = ap (λ (x : Held). x.halted) (sym c.self.view_is) ∙ c.if-self.false in
-    let stands : StandsIn v p = if_some c.in_ok-plan.field-0 p (StandsIn v) c.in-Some.is c.in_ok-plan.ensures.stands in
-    let level : p.level ≡ c.args.level = if_some c.in_ok-plan.field-0 p (λ (q : TablePlan). q.level ≡ c.args.level) c.in-Some.is c.in_ok-plan.ensures.level in
-    let found : IsLeastConflict p rs c.in-Some-conflict.ticket = match_some c.conflict.result c.in-Some-conflict.ticket (IsClear p rs) (IsLeastConflict p rs) c.in-Some-conflict.is c.conflict.ensures in
-    refused_conflict g.S.Shelf.honest h c.args.level c.args.from.now c.args.to.now p rs c.in-Some-conflict.ticket going (subst (λ n. n ≤ 5) level stands.level)
-    (λ y. planned_at h v c.args.level c.args.from.now c.args.to.now p at
-    (match_some c.in_ok-plan.field-0 p (tables_over v c.args.level c.args.from.now c.args.to.now ≡ []) (λ (q : TablePlan). IsPlanFrom v (Has (files_over v c.args.level c.args.from.now c.args.to.now)) q) c.in-Some.is (c.in_ok-plan.ensures.planned y)))
-    live found (level, subst (λ (x : Levels). StandsIn x p) at stands)
+    let at : IsPlanAt c.args.self.now c.args.level p = if_some c.in_ok-plan.field-0 p (IsPlanAt c.args.self.now c.args.level) c.in-Some.is c.in_ok-plan.ensures.plan in at.1
+
+pub book-requires-clause-clear : goal.book-requires-clause-clear
+book-requires-clause-clear g c κs within =
+    if_some c.in_ok-plan.field-0 c.in-Some.plan (λ (q : TablePlan). IsClear q (reserved_jobs c.args.self.now.live)) c.in-Some.is c.in_ok-plan.ensures.clear
 
 pub book-requires-clause-closed : goal.book-requires-clause-closed
 book-requires-clause-closed g c κs within honest =
-    let h : Held = c.args.self.now in
-    let v : Levels = c.version-version.result.now in
-    let p : TablePlan = c.in-Some.plan in
-    closed_range h v (files_over v c.args.level c.args.from.now c.args.to.now) p (c.version-version.ensures.version ∙ ap (λ (x : Held). x.slots.version) c.self.view_is)
-    (match_some c.in_ok-plan.field-0 p (tables_over v c.args.level c.args.from.now c.args.to.now ≡ []) (λ (q : TablePlan). IsPlanFrom v (Has (files_over v c.args.level c.args.from.now c.args.to.now)) q) c.in-Some.is (c.in_ok-plan.ensures.planned honest))
+    let h : Held = c.args.self.now in (
+      files_over h.slots.version c.args.level c.args.from.now c.args.to.now,
+      match_some c.in_ok-plan.field-0 c.in-Some.plan (tables_over h.slots.version c.args.level c.args.from.now c.args.to.now ≡ []) (IsRangePlan h c.args.level c.args.from.now c.args.to.now) c.in-Some.is
+          (c.in_ok-plan.ensures.planned honest),
+    )
 
 pub returns-in_err-book-clause-refused : goal.returns-in_err-book-clause-refused
 returns-in_err-book-clause-refused g c =
     let h : Held = c.args.self.now in
-    let v : Levels = c.version-version.result.now in
-    let rs : List Reserved = c.deref-4.result.now in
     let p : TablePlan = c.in-Some.plan in
     let e : StateFault = c.in_err-book.field-0.0 in
-    let at : v ≡ h.slots.version = c.version-version.ensures.version ∙ ap (λ (x : Held). x.slots.version) c.self.view_is in
-    let live : rs ≡ reserved_jobs h.live = c.deref-4.ensures.value ∙ (c.in_ok-reservations.ensures ∙ ap (λ (x : Held). reserved_jobs x.live) c.self.view_is) in
-    let going : h.halted ≡ false = ap (λ (x : Held). x.halted) (sym c.self.view_is) ∙ c.if-self.false in
-    let stands : StandsIn v p = if_some c.in_ok-plan.field-0 p (StandsIn v) c.in-Some.is c.in_ok-plan.ensures.stands in
-    let level : p.level ≡ c.args.level = if_some c.in_ok-plan.field-0 p (λ (q : TablePlan). q.level ≡ c.args.level) c.in-Some.is c.in_ok-plan.ensures.level in
-    let clear : IsClear p (reserved_jobs h.live) = subst (IsClear p) live c.in_default-conflict.ensures in
-    let refused : IsRangeRefusal g.S.Shelf.honest h c.args.level c.args.from.now c.args.to.now e = refused_range g.S.Shelf.honest h c.args.level c.args.from.now c.args.to.now p e going (subst (λ n. n ≤ 5) level stands.level)
-    (λ y. planned_at h v c.args.level c.args.from.now c.args.to.now p at
-    (match_some c.in_ok-plan.field-0 p (tables_over v c.args.level c.args.from.now c.args.to.now ≡ []) (λ (q : TablePlan). IsPlanFrom v (Has (files_over v c.args.level c.args.from.now c.args.to.now)) q) c.in-Some.is (c.in_ok-plan.ensures.planned y)))
-    clear (level, subst (λ (x : Levels). StandsIn x p) at stands) c.in_err-book.ensures.refused in
-    if_err c.from_residual-in_err-book.result _ (IsRangeRefusal g.S.Shelf.honest h c.args.level c.args.from.now c.args.to.now) c.from_residual-in_err-book.ensures.1
-    (λ f k. subst (IsRangeRefusal g.S.Shelf.honest h c.args.level c.args.from.now c.args.to.now) (sym k) refused)
+    let at : IsPlanAt h c.args.level p = if_some c.in_ok-plan.field-0 p (IsPlanAt h c.args.level) c.in-Some.is c.in_ok-plan.ensures.plan in
+    let clear : IsClear p (reserved_jobs h.live) = if_some c.in_ok-plan.field-0 p (λ (q : TablePlan). IsClear q (reserved_jobs h.live)) c.in-Some.is c.in_ok-plan.ensures.clear in
+    err_is (IsRangeRefusal g.S.Shelf.honest h c.args.level c.args.from.now c.args.to.now) c.from_residual-in_err-book.result e c.from_residual-in_err-book.ensures.1
+    (refused_range g.S.Shelf.honest h c.args.level c.args.from.now c.args.to.now p e c.in_ok-plan.ensures.open.0 c.in_ok-plan.ensures.open.1
+    (λ y. match_some c.in_ok-plan.field-0 p (tables_over h.slots.version c.args.level c.args.from.now c.args.to.now ≡ []) (IsRangePlan h c.args.level c.args.from.now c.args.to.now) c.in-Some.is
+    (c.in_ok-plan.ensures.planned y))
+    clear at c.in_err-book.ensures.refused)

@@ -21,7 +21,7 @@ returns-in_err-slot-clause-refused g c =
     let h : Held = c.args.self.now in
     let mid : Held = c.find_slot.new.self in
     let d : Done = c.args.done.now in
-    let told = g.S.Shelf.told c.args.shelf.now in
+    let told = c.args.shelf.now in
     let e : StateFault = c.in_err-slot.field-0.0 in
     let refused : IsInstallRefusal h mid d e told told = inr (c.in_ok-admit.ensures.ok, c.in_err-slot.ensures.sought, slot_refused h mid e told told c.in_err-slot.ensures.rest c.in_err-slot.ensures.refused refl) in
     if_err c.from_residual-in_err-slot.result _ (λ (f : StateFault). IsInstallRefusal h mid d f told told) c.from_residual-in_err-slot.ensures.1
@@ -30,7 +30,7 @@ returns-in_err-slot-clause-refused g c =
 pub returns-clause-installed : goal.returns-clause-installed
 returns-clause-installed g c =
     on_ok_weaker c.put_in.result
-    (λ p. installed_looked c.args.self.now c.find_slot.new.self c.put_in.new.self c.args.done.now (g.S.Shelf.told c.args.shelf.now) (g.S.Shelf.told c.put_in.new.shelf) c.in_ok-slot.ensures.rest c.in_ok-slot.ensures.sought p)
+    (λ p. installed_looked c.args.self.now c.find_slot.new.self c.put_in.new.self c.args.done.now c.args.shelf.now c.put_in.new.shelf c.in_ok-slot.ensures.rest c.in_ok-slot.ensures.sought p)
     c.put_in.ensures.installed
 
 pub returns-clause-answers : goal.returns-clause-answers
@@ -49,8 +49,8 @@ returns-clause-refused g c =
     let mid : Held = c.find_slot.new.self in
     let new : Held = c.put_in.new.self in
     let d : Done = c.args.done.now in
-    let was = g.S.Shelf.told c.args.shelf.now in
-    let is = g.S.Shelf.told c.put_in.new.shelf in
+    let was = c.args.shelf.now in
+    let is = c.put_in.new.shelf in
     let room : HasSlot mid.slots = (c.in_ok-slot.slot, c.in_ok-slot.ensures.ok.0, c.in_ok-slot.ensures.ok.1) in
     IfErr-weaker c.put_in.result (λ (e : StateFault). IsChangeRefusal mid new e was is) (λ (e : StateFault). IsInstallRefusal h new d e was is)
     (λ e k. (let r = later_refused h mid new e was is c.in_ok-slot.ensures.rest c.in_ok-slot.ensures.sought room k in inr (c.in_ok-admit.ensures.ok, r.0, r.1))) c.put_in.ensures.refused
@@ -67,25 +67,25 @@ returns-clause-event_err g c =
     let h : Held = c.args.self.now in
     let mid : Held = c.find_slot.new.self in
     let new : Held = c.put_in.new.self in
-    let was = g.S.Shelf.told c.args.shelf.now in
-    let is = g.S.Shelf.told c.put_in.new.shelf in
+    let was = c.args.shelf.now in
+    let is = c.put_in.new.shelf in
     on_err_from c.put_in.result (λ (e : StateFault). IsChangeRefusal mid new e was is)
     (λ e k. later_spends h mid new e was is c.in_ok-slot.ensures.rest (c.in_ok-slot.ensures.sought).looked k) c.put_in.ensures.refused
 
 pub returns-in_err-admit-clause-asked : goal.returns-in_err-admit-clause-asked
 returns-in_err-admit-clause-asked g c =
-    let R : ShelfFault → Type 0 = InstallRefused (g.S.Shelf.refuses (g.S.Shelf.told c.args.shelf.now).place) c.args.self.now c.args.done.now in
+    let R : ShelfFault → Type 0 = InstallRefused (g.S.Shelf.refuses g.N.Naming.place) c.args.self.now c.args.done.now in
     err_is (OnShelf R) c.from_residual.result c.in_err-admit.field-0.0 c.from_residual.ensures.1 (at_once_asked R c.args.self.now c.args.done.now c.in_err-admit.field-0.0 c.in_err-admit.ensures.refused)
 
 pub returns-in_err-slot-clause-asked : goal.returns-in_err-slot-clause-asked
 returns-in_err-slot-clause-asked g c =
-    let R : ShelfFault → Type 0 = InstallRefused (g.S.Shelf.refuses (g.S.Shelf.told c.args.shelf.now).place) c.args.self.now c.args.done.now in
+    let R : ShelfFault → Type 0 = InstallRefused (g.S.Shelf.refuses g.N.Naming.place) c.args.self.now c.args.done.now in
     err_is (OnShelf R) c.from_residual-in_err-slot.result c.in_err-slot.field-0.0 c.from_residual-in_err-slot.ensures.1
     (slot_asked R c.args.self.now.slots c.find_slot.new.self.slots c.in_err-slot.field-0.0 c.in_err-slot.ensures.refused)
 
 pub returns-clause-asked : goal.returns-clause-asked
 returns-clause-asked g c =
-    let Refused : Asked → ShelfFault → Type 0 = g.S.Shelf.refuses (g.S.Shelf.told c.args.shelf.now).place in
+    let Refused : Asked → ShelfFault → Type 0 = g.S.Shelf.refuses g.N.Naming.place in
     let h : Held = c.args.self.now in
     let mid : Held = c.find_slot.new.self in
     let d : Done = c.args.done.now in

@@ -1,9 +1,12 @@
-use Rattle.std.proofs.Common.{◌≡◌, ◌^◌, ◌≤◌, length, subst, arith}
+use Rattle.std.proofs.Common.{◌≡◌, ◌^◌, ◌≤◌, length, Err, ap, subst, arith}
+use Rattle.std.proofs.lemmas.Result.{err_from_is_err_and}
+use Rattle.lsm_block.specs.declared.build_fault.BuildFault.{BuildFault}
+use Rattle.lsm_block.specs.declared.build_fault.BuildFault.TheVariants.{TooLarge}
 use Rattle.lsm_table.specs.Table.{IsTable}
 use Rattle.lsm_table.specs.TableBuilding.{index_block, groups_by, table_bytes}
 use Rattle.lsm_table.specs.TableMaking.{Making, entries_made}
 use Rattle.lsm_table.proofs.SettleLaws.{closing_ascends}
-use Rattle.lsm_table.proofs.StepLaws.{same_err, end_large, end_bytes, end_table}
+use Rattle.lsm_table.proofs.StepLaws.{end_large, end_bytes, end_table}
 use Rattle.lsm_table.proofs.builder.TableBuilder.finish.Goals as goal
 
 pub close-requires : goal.close-requires
@@ -11,25 +14,27 @@ close-requires c =
     let i = c.self.inside in
     closing_ascends i.options (entries_made i.front.items i.index.entries i.taken.entries) i.front.items i.taken i.index c.self.invariant
 
-pub returns-in-Err-clause-large : goal.returns-in-Err-clause-large
-returns-in-Err-clause-large c is =
+pub returns-in_err-close-clause-large : goal.returns-in_err-close-clause-large
+returns-in_err-close-clause-large c is =
     let i = c.self.inside in
     let es = entries_made i.front.items i.index.entries i.taken.entries in
+    let p = err_from_is_err_and c.from_residual.result c.from_residual.ensures.1 in
+    let same : c.in_err-close.field-0.0 ≡ TooLarge = cc (p.1, p.2, is) in
     subst (λ (x : Making). 2 ^ 32 ≤ length (index_block x.options.restart_interval (groups_by x.options x.entries))) c.self.view_is
-    (end_large i.options es i.front.items i.taken i.index c.self.invariant (c.in-Err.ensures.large (same_err c.in-Err.fault is)))
+    (end_large i.options es i.front.items i.taken i.index c.self.invariant (c.in_err-close.ensures.large (ap (λ (x : BuildFault). Err x) same)))
 
-pub returns-in-Ok-end-clause-bytes : goal.returns-in-Ok-end-clause-bytes
-returns-in-Ok-end-clause-bytes c =
+pub returns-clause-bytes : goal.returns-clause-bytes
+returns-clause-bytes c =
     let i = c.self.inside in
     let es = entries_made i.front.items i.index.entries i.taken.entries in
-    subst (λ (x : Making). c.in-Ok-end.file.items ≡ table_bytes x.options x.entries) c.self.view_is
-    (end_bytes i.options es i.front.items c.close.new.front.items c.in-Ok-end.file.items i.taken i.index c.close.new.index c.self.invariant c.in-Ok.ensures.ok c.in-Ok.ensures.indexed c.in-Ok-end.ensures.bytes)
+    subst (λ (x : Making). c.in_ok-end.field-0.items ≡ table_bytes x.options x.entries) c.self.view_is
+    (end_bytes i.options es i.front.items c.close.new.front.items c.in_ok-end.field-0.items i.taken i.index c.close.new.index c.self.invariant c.in_ok-close.ensures.ok c.in_ok-close.ensures.indexed c.in_ok-end.ensures.bytes)
 
-pub returns-in-Ok-end-clause-table : goal.returns-in-Ok-end-clause-table
-returns-in-Ok-end-clause-table c =
+pub returns-clause-table : goal.returns-clause-table
+returns-clause-table c =
     let i = c.self.inside in
     let es = entries_made i.front.items i.index.entries i.taken.entries in
-    let file = c.in-Ok-end.file in
+    let file = c.in_ok-end.field-0 in
     subst (λ (x : Making). IsTable file.items x.entries) c.self.view_is
-    (end_table i.options es i.front.items c.close.new.front.items file.items i.taken i.index c.close.new.index c.self.invariant c.in-Ok.ensures.ok c.in-Ok.ensures.indexed c.in-Ok-end.ensures.bytes
-    c.in-Ok.ensures.block c.in-Ok-end.ensures.block (omega (arith, file.small, file.ok.0, file.ok.1)))
+    (end_table i.options es i.front.items c.close.new.front.items file.items i.taken i.index c.close.new.index c.self.invariant c.in_ok-close.ensures.ok c.in_ok-close.ensures.indexed c.in_ok-end.ensures.bytes
+    c.in_ok-close.ensures.block c.in_ok-end.ensures.block (omega (arith, file.small, file.ok.0, file.ok.1)))

@@ -1,0 +1,8 @@
+use Rattle.lsm_commands.proofs.compacting.compact_to.Given as goal
+
+-- the name stands for the records and the board that were just made, and for the contents of the shelf
+abbrev pub ghosts-compact_as-N-Boarded : goal.ghosts-compact_as-N-Boarded
+ghosts-compact_as-N-Boarded g a = record { board = a.parts.publisher.board }
+
+abbrev pub ghosts-compact_as-N-Naming : goal.ghosts-compact_as-N-Naming
+ghosts-compact_as-N-Naming g a = record { registry = a.parts.records; place = (g.S.Shelf.told a.shelf).place }

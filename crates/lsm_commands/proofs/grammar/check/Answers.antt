@@ -1,9 +1,0 @@
-use Rattle.lsm_commands.specs.Grammar.{check}
-use Rattle.lsm_commands.proofs.grammar.check.Goals as goal
-
-pub returns : goal.returns
-unfolding check
-returns c =
-    c.also.ensures _ _
-    (c.also-check.ensures _ _ c.titled.ensures c.folder.ensures.rule c.folder.ensures.local)
-    c.progress.ensures.rule c.progress.ensures.local

@@ -1,6 +1,0 @@
-use Rattle.lsm_commands.specs.Grammar.{lsm}
-use Rattle.lsm_commands.proofs.grammar.lsm.Goals as goal
-
-pub returns : goal.returns
-unfolding lsm
-returns c = c.with.ensures _ _ (c.with-lsm-2.ensures _ _ (c.with-lsm.ensures _ _ c.with_looks.ensures c.ingest.ensures) c.compact.ensures) c.clean.ensures

@@ -1,5 +1,0 @@
-use Rattle.lsm_commands.proofs.PrintLaws.{entry_list-is}
-use Rattle.lsm_commands.proofs.laws.printed_list.Goals as goal
-
-pub returns : goal.returns
-returns c = entry_list-is

@@ -1,0 +1,7 @@
+use Rattle.lsm_commands.proofs.running.run_writing.Goals as goal
+
+pub returns-in-Ingest-clause-done : goal.returns-in-Ingest-clause-done
+returns-in-Ingest-clause-done g c = rw c.in-Ingest.is c.run_ingest.ensures.done
+
+pub returns-in-Ingest-clause-refused : goal.returns-in-Ingest-clause-refused
+returns-in-Ingest-clause-refused g c = rw c.in-Ingest.is c.run_ingest.ensures.refused

@@ -1,0 +1,167 @@
+//! One run of the program: what its words ask is done, and the exit status is answered.
+
+ghost use Rattle.std.specs.Prelude.{◌≡◌, ◌≢◌, ◌≤◌, map};
+ghost use Rattle.std.specs.Io.KnownBytes.{Appends, Keeps};
+ghost use Rattle.std.specs.IoError.{error_kind};
+ghost use Rattle.lsm_folder.specs.Calls.{AreHonest};
+ghost use Rattle.lsm_text.specs.Printing.{Begins};
+ghost use Rattle.lsm_commands.specs.Run.{AreDone, AreUsageFault, AreUndone, IsDone, IsUndone};
+ghost use Rattle.lsm_commands.specs.Run.{IsUnwritten, IsWritten, text_in};
+
+use crate::cleaning::program::run_clean;
+use crate::compacting::program::run_compact;
+use crate::converting::program::run_convert;
+use crate::ingesting::program::run_ingest;
+use crate::paths::Paths;
+use crate::playing::program::run_script;
+use crate::reading::program::run_look;
+use crate::telling::{Known, refuse, status_of};
+use lsm_folder::FolderCalls;
+use lsm_text::{CommandLine, Fault, Request, WritingCommand, WritingLine, read_line, write_output};
+use std::convert::AsStr;
+use std::io::{self, ErrorKind, Read, Write};
+use std::sync::Wait;
+use std::thread::Threads;
+
+/// Writes help on `out`, and answers the exit status: 0, or 1 where it can't be written.
+fn show_help<O: Write, E: Write>(text: &[u8], out: &mut O, err: &mut E) -> u8
+    ensures done { result ≡ 0 → Appends (O.contents out.old) (O.contents out.new) text.now }
+    ensures refused { result ≢ 0
+        → (result ≡ 1) × Begins (O.contents out.old) (O.contents out.new) text.now }
+{
+    let done = write_output(out, text);
+    status_of(done, Known::answered(None), err)
+}
+
+/// Writes on `err` what is wrong with a command line, and answers the exit status, 2.
+fn refuse_line<E: Write>(text: &[u8], err: &mut E) -> u8
+    ensures { result ≡ 2 }
+{
+    let _ = write_output(err, text);
+    2
+}
+
+/// What is answered where the words could not be had: 2 where one is no UTF-8, and 1 for want of
+/// memory.
+pub fn refuse_words<E: Write>(error: &io::Error, err: &mut E) -> u8
+    ensures memory { error_kind error.now ≡ ErrorKind.OutOfMemory → result ≡ 1 }
+    ensures other { error_kind error.now ≢ ErrorKind.OutOfMemory → result ≡ 2 }
+{
+    let (status, text) = if error.kind() == ErrorKind::OutOfMemory {
+        (1, b"refused 1 OutOfMemory\n".as_slice())
+    } else {
+        (
+            2,
+            b"error: a word of the command line is not UTF-8\na byte of a key is spelled in hex, or with --text as `\\xNN`\n".as_slice(),
+        )
+    };
+    let _ = write_output(err, text);
+    status
+}
+
+/// Does what a line asks of a folder that is written, and answers the exit status.
+fn run_writing<C, P, R, I, O, E>(
+    rt: &R,
+    paths: &P,
+    line: &WritingLine<'_>,
+    input: &mut I,
+    out: &mut O,
+    err: &mut E,
+) -> u8
+where
+    C: FolderCalls + Send + Sync,
+    C::Mark: Send + Sync,
+    P: Paths<C>,
+    R: Wait,
+    I: Read,
+    O: Write,
+    E: Write,
+    ensures done { result ≡ 0 → IsWritten (AreHonest C.calls)
+        (text_in (I.remaining input.old) (P.text paths.now)) line.now.path.now line.now.command
+        (O.contents out.old) (O.contents out.new) }
+    ensures refused { result ≢ 0 → (result ≡ 1) × IsUnwritten (AreHonest C.calls)
+        (text_in (I.remaining input.old) (P.text paths.now)) line.now.path.now line.now.command
+        (O.contents out.old) (O.contents out.new) }
+    ensures quiet { result ≡ 0 → Keeps (E.contents err.old) (E.contents err.new) }
+{
+    match line.command {
+        WritingCommand::Ingest(found, options) => {
+            run_ingest(rt, paths, line.path, options, found, input, out, err)
+        }
+        WritingCommand::Clean => run_clean(rt, paths, line.path, out, err),
+    }
+}
+
+/// Does what a request asks, and answers the exit status.
+fn obey<C, P, R, I, O, E>(
+    rt: &R,
+    paths: &P,
+    request: &Request<'_>,
+    input: I,
+    out: &mut O,
+    err: &mut E,
+) -> u8
+where
+    C: FolderCalls + Send + Sync,
+    C::Mark: Send + Sync,
+    P: Paths<C>,
+    R: Threads + Wait + Sync,
+    I: Read + Drop,
+    O: Write,
+    E: Write + Send,
+    ensures done { result ≡ 0 → IsDone (AreHonest C.calls)
+        (text_in (I.remaining input) (P.text paths.now)) request.now (O.contents out.old)
+        (O.contents out.new) (E.contents err.old) (E.contents err.new) }
+    ensures refused { result ≢ 0 → (result ≡ 1) × IsUndone (AreHonest C.calls)
+        (text_in (I.remaining input) (P.text paths.now)) request.now (O.contents out.old)
+        (O.contents out.new) }
+{
+    let mut input = input;
+    match request {
+        Request::Convert(conversion, found) => {
+            run_convert(paths, *conversion, *found, &mut input, out, err)
+        }
+        Request::Look(line) => run_look(rt, paths, line, out, err),
+        Request::Write(line) => run_writing(rt, paths, line, &mut input, out, err),
+        Request::Compact(line) => run_compact(rt, paths, line, out, err),
+        Request::Script(found) => run_script(rt, paths, *found, input, out, err),
+    }
+}
+
+/// Does what words ask, those behind the program's name, and answers the exit status: 0 where it is
+/// done, 1 where it is refused, and 2 where the words ask for nothing. Files and folders are those
+/// of `paths`.
+pub fn run<C, P, R, S, I, O, E>(
+    rt: &R,
+    paths: &P,
+    words: &[S],
+    input: I,
+    out: &mut O,
+    err: &mut E,
+) -> u8
+where
+    C: FolderCalls + Send + Sync,
+    C::Mark: Send + Sync,
+    P: Paths<C>,
+    R: Threads + Wait + Sync,
+    S: AsStr,
+    I: Read + Drop,
+    O: Write,
+    E: Write + Send,
+    ensures done { result ≡ 0 → AreDone (AreHonest C.calls)
+        (text_in (I.remaining input) (P.text paths.now)) (map S.text words.now)
+        (O.contents out.old) (O.contents out.new) (E.contents err.old) (E.contents err.new) }
+    ensures refused { result ≡ 1 → AreUndone (AreHonest C.calls)
+        (text_in (I.remaining input) (P.text paths.now)) (map S.text words.now)
+        (O.contents out.old) (O.contents out.new) }
+    ensures usage { result ≡ 2
+        → AreUsageFault (map S.text words.now) (O.contents out.old) (O.contents out.new) }
+    ensures status { result ≤ 2 }
+{
+    match read_line(paths.alloc(), words) {
+        Ok(CommandLine::Run(request)) => obey(rt, paths, &request, input, out, err),
+        Ok(CommandLine::Help(text)) => show_help(&text, out, err),
+        Ok(CommandLine::Bad(text)) => refuse_line(&text, err),
+        Err(_) => refuse(Fault::OutOfMemory, err),
+    }
+}

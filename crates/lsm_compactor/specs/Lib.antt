@@ -1,2 +1,0 @@
-pub mod CompactFault
-pub mod Compacting

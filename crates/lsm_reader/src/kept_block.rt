@@ -1,0 +1,36 @@
+//! A block that is kept.
+
+use lsm_block::Block;
+use lsm_table::{Handle, Naming, Shelf};
+use std::marker::{Model, PhantomData};
+use std::sync::Arc;
+
+/// A block that was read, its place, and the receipt that it was read by.
+#[derive(Drop)]
+pub struct KeptBlock<N: Naming, S: Shelf> {
+    pub(crate) receipt: S::Receipt,
+    pub(crate) handle: Handle,
+    pub(crate) block: Arc<Block>,
+    pub(crate) of: PhantomData<N>,
+}
+
+impl<N: Naming, S: Shelf> Model for KeptBlock<N, S> {
+    ghost use Rattle.std.specs.Arc.{arc_value};
+    ghost use Rattle.lsm_block.specs.Held.{HeldBlock};
+    ghost use Rattle.lsm_reader.specs.Parts.{BlockOf, IsBlockOf};
+
+    ghost Value = { BlockOf };
+
+    ghost view = { λ k. record {
+      image = S.Receipt.image k.receipt;
+      handle = k.handle;
+      entries = (arc_value {X = HeldBlock} k.block).entries;
+    } };
+
+    ghost invariant = { λ k. S.is_of N.place k.receipt
+        × (S.honest → IsBlockOf record {
+          image = S.Receipt.image k.receipt;
+          handle = k.handle;
+          entries = (arc_value {X = HeldBlock} k.block).entries;
+        }) };
+}

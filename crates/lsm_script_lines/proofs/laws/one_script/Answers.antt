@@ -1,5 +1,0 @@
-use Rattle.lsm_script_lines.proofs.OneScript.{script_one}
-use Rattle.lsm_script_lines.proofs.laws.one_script.Goals as goal
-
-pub returns : goal.returns
-returns c = script_one

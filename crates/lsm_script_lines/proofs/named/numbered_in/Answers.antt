@@ -1,9 +1,0 @@
-use Rattle.std.proofs.Common.{◌≡◌, rules}
-use Rattle.lsm_script_lines.proofs.CommandLaws.{no_numbered}
-use Rattle.lsm_script_lines.proofs.WordLaws.{texts}
-use Rattle.lsm_script_lines.proofs.named.numbered_in.Goals as goal
-
-pub returns-clause-none : goal.returns-clause-none
-returns-clause-none c =
-    let most : c.from.result ≡ 4294967295 = search rules in
-    no_numbered (texts c.args.words.now) (search rules) (search rules) (search rules) (search rules) (rw most at c.in_default-number_of-4.ensures.none)

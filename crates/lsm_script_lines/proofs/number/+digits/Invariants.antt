@@ -1,5 +1,0 @@
-use Rattle.std.proofs.Common.{length}
-use Rattle.lsm_script_lines.proofs.number.+digits.Given as goal
-
-abbrev pub decreases-digits : goal.decreases-digits
-decreases-digits l = length l.word.now

@@ -1,5 +1,0 @@
-pub mod Words
-pub mod CommandLine
-pub mod ReplyText
-pub mod Telling
-pub mod Played

@@ -1,0 +1,4 @@
+use Rattle.lsm_text.proofs.entry_printing.+print_decimal.Given as goal
+
+abbrev pub decreases-print_decimal : goal.decreases-print_decimal
+decreases-print_decimal g l = l.n

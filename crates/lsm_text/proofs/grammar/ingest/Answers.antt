@@ -1,0 +1,15 @@
+use Rattle.lsm_text.specs.Grammar.{ingest}
+use Rattle.lsm_text.proofs.grammar.ingest.Goals as goal
+
+pub returns : goal.returns
+unfolding ingest
+returns c =
+    c.also.ensures _ _
+    (c.also-ingest-4.ensures _ _
+    (c.also-ingest-3.ensures _ _
+    (c.also-ingest-2.ensures _ _
+    (c.also-ingest.ensures _ _ c.titled.ensures c.folder.ensures.rule c.folder.ensures.local)
+    c.word-keys.ensures.rule c.word-keys.ensures.local)
+    c.text.ensures.rule c.text.ensures.local)
+    c.flag-begin.ensures.rule c.flag-begin.ensures.local)
+    c.flag-beside_log.ensures.rule c.flag-beside_log.ensures.local

@@ -1,0 +1,15 @@
+use Rattle.lsm_text.specs.Grammar.{scan}
+use Rattle.lsm_text.proofs.grammar.scan.Goals as goal
+
+pub returns : goal.returns
+unfolding scan
+returns c =
+    c.also.ensures _ _
+    (c.also-scan-4.ensures _ _
+    (c.also-scan-3.ensures _ _
+    (c.also-scan-2.ensures _ _
+    (c.also-scan.ensures _ _ c.titled.ensures c.folder.ensures.rule c.folder.ensures.local)
+    c.valued-from.ensures.rule c.valued-from.ensures.local)
+    c.valued-to.ensures.rule c.valued-to.ensures.local)
+    c.text.ensures.rule c.text.ensures.local)
+    c.progress.ensures.rule c.progress.ensures.local

@@ -1,0 +1,204 @@
+-- What the words of a command line ask for, by what clap's grammar finds in them: this project's rule.
+use Rattle.std.specs.Prelude.{◌≡◌, ◌≢◌, ℕ, ◌+◌, ◌≤◌, ◌⊎◌, ⊤, Bool, false, if◌then◌else◌, List, [], ◌∷◌, codes, Option, Some, None}
+use Rattle.std.specs.Option.{option_map_or}
+use Rattle.std.specs.Str.{bytes_eq}
+use Rattle.clap.specs.Words.{IsAmong, Kinds, Row, Text, fault_of, first_of, found_of, rows_of, subcommand_of}
+use Rattle.clap.specs.declared.error.ErrorKind.{ErrorKind}
+use Rattle.clap.specs.declared.error.ErrorKind.TheVariants as kind
+use Rattle.clap.specs.declared.parser.ArgMatches.{ArgMatches}
+use Rattle.lsm_text.specs.Grammar.{lsm}
+use Rattle.lsm_text.specs.Spelling.{IsWord}
+use Rattle.lsm_text.specs.declared.command_line.CommandLine.{CommandLine}
+use Rattle.lsm_text.specs.declared.command_line.CommandLine.TheVariants.{Run, Help, Bad}
+use Rattle.lsm_text.specs.declared.command_name.CommandName.{CommandName}
+use Rattle.lsm_text.specs.declared.command_name.CommandName.TheVariants as name
+use Rattle.lsm_text.specs.declared.conversion.Conversion.{Conversion}
+use Rattle.lsm_text.specs.declared.conversion.Conversion.TheVariants as conversion
+use Rattle.lsm_text.specs.declared.directory_command.DirectoryCommand.{DirectoryCommand}
+use Rattle.lsm_text.specs.declared.directory_command.DirectoryCommand.TheVariants as look
+use Rattle.lsm_text.specs.declared.form.Form.{Form}
+use Rattle.lsm_text.specs.declared.form.Form.TheVariants.{Hex, Text as AsText}
+use Rattle.lsm_text.specs.declared.input.Input.{Input}
+use Rattle.lsm_text.specs.declared.input.Input.TheVariants.{Standard, File}
+use Rattle.lsm_text.specs.declared.key_bounds.KeyBounds.{KeyBounds}
+use Rattle.lsm_text.specs.declared.request.Request.{Request}
+use Rattle.lsm_text.specs.declared.request.Request.TheVariants.{Convert, Look, Write, Compact, Script}
+use Rattle.lsm_text.specs.declared.writing_command.WritingCommand.{WritingCommand}
+use Rattle.lsm_text.specs.declared.writing_command.WritingCommand.TheVariants.{Ingest, Clean}
+
+-- ---- what clap finds
+
+-- what is wrong with the words, as kinds of clap's errors (`fault_of`): nothing where they are of the grammar
+unfoldable pub faults_in : List Text → Kinds
+faults_in words = fault_of lsm words
+
+-- the name of the command that the words name, and the rows of its arguments (`subcommand_of`)
+unfoldable pub found_in : List Text → Option (Text × List Row)
+found_in words = subcommand_of lsm words
+
+-- the rows of a command's matches
+abbrev pub rows_in : ArgMatches → List Row
+rows_in m = rows_of (found_of m)
+
+-- the word of an argument of this name, or of an option its value (`get_str`)
+unfoldable pub word_in : Text → List Row → Option Text
+word_in name rows = first_of name rows
+
+-- an option without a value is there
+abbrev pub is_set : Text → List Row → Bool
+is_set name rows = option_map_or (λ word. bytes_eq word (codes "true")) (word_in name rows) false
+
+-- the form of keys and values: text where `--text` is there
+abbrev pub form_in : List Row → Form
+form_in rows = if is_set (codes "text") rows then AsText else Hex
+
+-- ---- which command it is
+
+unfoldable pub named : Text → Option CommandName
+named word =
+    if bytes_eq word (codes "mktable") then Some name.MakeTable
+    else if bytes_eq word (codes "dump") then Some name.Dump
+    else if bytes_eq word (codes "manifest") then Some name.Manifest
+    else if bytes_eq word (codes "script") then Some name.Script
+    else if bytes_eq word (codes "check") then Some name.Check
+    else if bytes_eq word (codes "list") then Some name.List
+    else if bytes_eq word (codes "get") then Some name.Get
+    else if bytes_eq word (codes "scan") then Some name.Scan
+    else if bytes_eq word (codes "ingest") then Some name.Ingest
+    else if bytes_eq word (codes "compact") then Some name.Compact
+    else if bytes_eq word (codes "clean") then Some name.Clean
+    else None
+
+abbrev pub name_of_conversion : Conversion → CommandName
+name_of_conversion conversion.MakeTable = name.MakeTable
+name_of_conversion conversion.Dump = name.Dump
+name_of_conversion conversion.Manifest = name.Manifest
+
+abbrev pub name_of_look : DirectoryCommand → CommandName
+name_of_look look.Check = name.Check
+name_of_look look.List = name.List
+name_of_look (look.Get key) = name.Get
+name_of_look (look.Scan bounds) = name.Scan
+
+abbrev pub name_of_write : WritingCommand → CommandName
+name_of_write (Ingest input options) = name.Ingest
+name_of_write Clean = name.Clean
+
+abbrev pub name_of : Request → CommandName
+name_of (Convert conversion input) = name_of_conversion conversion
+name_of (Look line) = name_of_look line.command
+name_of (Write line) = name_of_write line.command
+name_of (Compact line) = name.Compact
+name_of (Script input) = name.Script
+
+-- ---- what its words say
+
+-- `-` is standard input, and any other word the path of a file
+abbrev pub IsInput : Option Text → Input → Type 0
+IsInput None input = ⊥
+IsInput (Some word) Standard = word ≡ codes "-"
+IsInput (Some word) (File path) = (word ≢ codes "-") × (path.now ≡ word)
+
+-- the word spells a key in this form
+abbrev pub IsKey : Form → Option Text → List ℕ → Type 0
+IsKey form None key = ⊥
+IsKey form (Some word) key = IsWord form word key
+
+-- the word of an option spells a key, and there is a key only where there is the option
+abbrev pub IsBound : Form → Option Text → Option (List ℕ) → Type 0
+IsBound form None None = ⊤
+IsBound form None (Some key) = ⊥
+IsBound form (Some word) None = ⊥
+IsBound form (Some word) (Some key) = IsWord form word key
+
+abbrev pub AreBounds : List Row → KeyBounds → Type 0
+AreBounds rows bounds =
+    IsBound (form_in rows) (word_in (codes "from") rows) bounds.from
+    × IsBound (form_in rows) (word_in (codes "to") rows) bounds.to
+
+-- so many workers as one digit (48 is `0`), 1 to 8
+pub record IsWorkersWord (word : List ℕ) (workers : ℕ) : Type 0 where
+  pub some : 1 ≤ workers
+  pub few : workers ≤ 8
+  pub digit : word ≡ (48 + workers) ∷ []
+
+abbrev pub AreWorkers : Option Text → ℕ → Type 0
+AreWorkers None workers = ⊥
+AreWorkers (Some word) workers = IsWorkersWord word workers
+
+abbrev pub IsLook : List Row → DirectoryCommand → Type 0
+IsLook rows look.Check = ⊤
+IsLook rows look.List = ⊤
+IsLook rows (look.Get key) = IsKey (form_in rows) (word_in (codes "KEY") rows) key
+IsLook rows (look.Scan bounds) = AreBounds rows bounds
+
+abbrev pub IsWrite : List Row → WritingCommand → Type 0
+IsWrite rows (Ingest input options) =
+    IsInput (word_in (codes "FILE") rows) input × (options.form ≡ form_in rows) × (options.begins ≡ is_set (codes "begin") rows)
+    × (options.beside_log ≡ is_set (codes "beside-log") rows)
+IsWrite rows Clean = ⊤
+
+-- the request says what stands in the rows
+abbrev pub Says : List Row → Request → Type 0
+Says rows (Convert conversion input) = IsInput (word_in (codes "FILE") rows) input
+Says rows (Look line) =
+    (word_in (codes "DIR") rows ≡ Some line.path.now) × IsLook rows line.command × (line.form ≡ form_in rows)
+    × (line.progress ≡ is_set (codes "progress") rows)
+Says rows (Write line) = (word_in (codes "DIR") rows ≡ Some line.path.now) × IsWrite rows line.command
+Says rows (Compact line) =
+    (word_in (codes "DIR") rows ≡ Some line.path.now) × AreWorkers (word_in (codes "workers") rows) line.options.workers
+    × (line.options.progress ≡ is_set (codes "progress") rows)
+Says rows (Script input) = IsInput (word_in (codes "FILE") rows) input
+
+-- The command that was found is the request's, and the request says what its rows say.
+pub record IsAsked (found : Option (Text × List Row)) (request : Request) : Type 0 where
+  pub name : Text
+  pub rows : List Row
+  pub is : found ≡ Some (name, rows)
+  pub named : named name ≡ Some (name_of request)
+  pub says : Says rows request
+
+-- ---- what words ask
+
+-- The words are of the grammar, and what clap finds in them is the request.
+abbrev pub Asks : Request → List Text → Type 0
+Asks request words = (faults_in words ≡ []) × IsAsked (found_in words) request
+
+-- They ask for none of the commands: for help, say, or there is a fault in them.
+abbrev pub AskNothing : List Text → Type 0
+AskNothing words = (request : Request) → Asks request words → ⊥
+
+-- They ask for help or for the version: clap answers with that.
+abbrev pub AskHelp : List Text → Type 0
+AskHelp words = IsAmong kind.DisplayHelp (faults_in words) ⊎ IsAmong kind.DisplayVersion (faults_in words)
+
+-- There is a fault: the words are not of the grammar, and it is not help or the version that they ask for; or they are of the
+-- grammar, and a word is no key or no number of workers.
+abbrev pub HaveUsageFault : List Text → Type 0
+HaveUsageFault words =
+    (faults_in words ≡ []) ⊎ ((k : ErrorKind) × IsAmong k (faults_in words) × (k ≢ kind.DisplayHelp) × (k ≢ kind.DisplayVersion))
+
+-- what words come to
+abbrev pub IsLine : List Text → CommandLine → Type 0
+IsLine words (Run request) = Asks request words
+IsLine words (Help text) = AskNothing words × AskHelp words
+IsLine words (Bad text) = AskNothing words × HaveUsageFault words
+
+-- ---- how the code reads them
+
+-- the request of the command of this name that says what the rows say, or none where there is none
+abbrev pub Reads : CommandName → List Row → Option Request → Type 0
+Reads name rows (Some request) = (name_of request ≡ name) × Says rows request
+Reads name rows None = (request : Request) → name_of request ≡ name → Says rows request → ⊥
+
+-- the same, where something was found
+abbrev pub IsOf : Option (Text × List Row) → CommandLine → Type 0
+IsOf found (Run request) = IsAsked found request
+IsOf found (Help text) = ⊥
+IsOf found (Bad text) = (request : Request) → IsAsked found request → ⊥
+
+-- what an error of this kind comes to
+abbrev pub IsOfKind : ErrorKind → CommandLine → Type 0
+IsOfKind k (Run request) = ⊥
+IsOfKind k (Help text) = (k ≡ kind.DisplayHelp) ⊎ (k ≡ kind.DisplayVersion)
+IsOfKind k (Bad text) = (k ≢ kind.DisplayHelp) × (k ≢ kind.DisplayVersion)

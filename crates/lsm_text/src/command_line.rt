@@ -1,0 +1,93 @@
+//! The command line.
+
+ghost use Rattle.std.specs.Prelude.{◌≢◌, IfErr, IfOk, List, map, ℕ};
+ghost use Rattle.clap.specs.Words.{kind_of, subcommand_rows_of};
+ghost use Rattle.clap.specs.declared.error.ErrorKind.TheVariants.{OutOfMemory};
+ghost use Rattle.lsm_text.specs.Requests.{IsLine, IsOf, IsOfKind};
+
+use crate::asking::asked_in;
+use crate::grammar::found_in;
+use crate::pages::usage_of;
+use crate::request::Request;
+use crate::usage_fault::fault_in;
+use clap::ArgMatches;
+use clap::error::ErrorKind;
+use std::alloc::{AllocError, Global};
+use std::convert::AsStr;
+use std::io::{self, Write};
+
+/// What a command line asks for.
+#[derive(Debug, Drop)]
+pub enum CommandLine<'a> {
+    Run(Request<'a>),
+    /// Help, as text for standard output.
+    Help(Vec<u8>),
+    /// What is wrong with the command line, as text for standard error.
+    Bad(Vec<u8>),
+}
+
+fn text_of(alloc: Global, error: &clap::Error) -> Result<Vec<u8>, AllocError> {
+    let mut text = Vec::new(alloc);
+    match write!(text, "{error}") {
+        Ok(()) => Ok(text),
+        Err(_) => Err(AllocError),
+    }
+}
+
+/// Writes what is wrong with words that are of the grammar, and how their command is used.
+fn write_wrong<W: Write>(out: &mut W, matches: &ArgMatches<'_>) -> io::Result<()> {
+    match fault_in(matches) {
+        Some(fault) => writeln!(out, "error: {fault}")?,
+        None => out.write_all(b"error: the words ask for no command\n")?,
+    }
+    let usage = usage_of(matches.subcommand_name().unwrap_or(""));
+    writeln!(
+        out,
+        "\nUsage: {usage}\n\nFor more information, try '--help'."
+    )
+}
+
+/// What is wrong with words that are of the grammar.
+fn wrong(alloc: Global, matches: &ArgMatches<'_>) -> Result<Vec<u8>, AllocError> {
+    let mut text = Vec::new(alloc);
+    match write_wrong(&mut text, matches) {
+        Ok(()) => Ok(text),
+        Err(_) => Err(AllocError),
+    }
+}
+
+/// What is said of words in which something was found.
+fn line_of<'a>(alloc: Global, matches: &ArgMatches<'a>) -> Result<CommandLine<'a>, AllocError>
+    ensures { IfOk result (IsOf (subcommand_rows_of matches.now)) }
+{
+    match asked_in(alloc, matches)? {
+        Some(request) => Ok(CommandLine::Run(request)),
+        None => Ok(CommandLine::Bad(wrong(alloc, matches)?)),
+    }
+}
+
+/// What is said of words that are not of the grammar, or that ask for help.
+fn refused_by<'a>(alloc: Global, error: &clap::Error) -> Result<CommandLine<'a>, AllocError>
+    ensures line { IfOk result (IsOfKind (kind_of error.now)) }
+    ensures kind { IfOk result (λ _. kind_of error.now ≢ OutOfMemory) }
+{
+    match error.kind() {
+        ErrorKind::OutOfMemory => Err(AllocError),
+        ErrorKind::DisplayHelp | ErrorKind::DisplayVersion => {
+            Ok(CommandLine::Help(text_of(alloc, error)?))
+        }
+        _ => Ok(CommandLine::Bad(text_of(alloc, error)?)),
+    }
+}
+
+/// What the words after the program's name ask for: one request, or help, or nothing. They are read
+/// by the program's grammar, which `clap` has: options stand anywhere, a value stands behind its
+/// option or behind an `=` in its word, and after `--` no word is an option.
+pub fn read_line<'a, S: AsStr>(alloc: Global, words: &'a [S]) -> Result<CommandLine<'a>, AllocError>
+    ensures { IfOk result (IsLine (map S.text words.now)) }
+{
+    match found_in(alloc, words) {
+        Ok(matches) => line_of(alloc, &matches),
+        Err(error) => refused_by(alloc, &error),
+    }
+}

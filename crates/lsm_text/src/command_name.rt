@@ -1,0 +1,61 @@
+//! The names of the commands.
+
+ghost use Rattle.std.specs.Prelude.{◌≡◌};
+ghost use Rattle.lsm_text.specs.Requests.{named};
+
+/// Which command of the program it is.
+#[derive(Clone, Copy, Debug)]
+pub enum CommandName {
+    MakeTable,
+    Dump,
+    Manifest,
+    Script,
+    Check,
+    List,
+    Get,
+    Scan,
+    Ingest,
+    Compact,
+    Clean,
+}
+
+/// The command of this name.
+#[tactic(auto, unfolding(crate::specs::Requests::named))]
+pub(crate) fn named(word: &str) -> Option<CommandName>
+    ensures { result ≡ named word.now }
+{
+    if word == "mktable" {
+        return Some(CommandName::MakeTable);
+    }
+    if word == "dump" {
+        return Some(CommandName::Dump);
+    }
+    if word == "manifest" {
+        return Some(CommandName::Manifest);
+    }
+    if word == "script" {
+        return Some(CommandName::Script);
+    }
+    if word == "check" {
+        return Some(CommandName::Check);
+    }
+    if word == "list" {
+        return Some(CommandName::List);
+    }
+    if word == "get" {
+        return Some(CommandName::Get);
+    }
+    if word == "scan" {
+        return Some(CommandName::Scan);
+    }
+    if word == "ingest" {
+        return Some(CommandName::Ingest);
+    }
+    if word == "compact" {
+        return Some(CommandName::Compact);
+    }
+    if word == "clean" {
+        return Some(CommandName::Clean);
+    }
+    None
+}

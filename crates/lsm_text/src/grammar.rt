@@ -1,0 +1,294 @@
+//! The grammar of command lines: the commands as `clap` knows them.
+//!
+//! Each maker hands on what was made, or that memory ran out, so that no more than one call drops a
+//! command.
+
+ghost use Rattle.std.specs.Prelude.{◌≡◌, ◌≢◌, [], IfErr, IfOk, codes, false, map};
+ghost use Rattle.clap.specs.Words.{App, IsAmong, Rule, kind_of, new_app, rule_of};
+ghost use Rattle.clap.specs.Words.{subcommand_rows_of};
+ghost use Rattle.clap.specs.Words.{with_rule, with_subcommand};
+ghost use Rattle.clap.specs.declared.error.ErrorKind.TheVariants.{OutOfMemory};
+ghost use Rattle.lsm_text.specs.Grammar.{IsShaped, bare, check, clean, compact, dump, file};
+ghost use Rattle.lsm_text.specs.Grammar.{flag, folder, get, ingest, list, lsm, make_table};
+ghost use Rattle.lsm_text.specs.Grammar.{manifest, progress, scan, script, text, valued};
+ghost use Rattle.lsm_text.specs.Grammar.{with_inputs, with_looks, word, workers};
+ghost use Rattle.lsm_text.specs.Requests.{faults_in, found_in};
+
+use crate::pages::{
+    CHECK, CLEAN, COMPACT, DUMP, GET, INGEST, LIST, MAKE_TABLE, MANIFEST, OVERVIEW, Page, SCAN,
+    SCRIPT, VERSION,
+};
+use clap::builder::ValueParser;
+use clap::{Arg, ArgAction, ArgMatches, Command, Error};
+use std::alloc::{AllocError, Global};
+use std::convert::AsStr;
+
+/// A command in the making, or that memory ran out.
+type Made<'a> = Result<Command<'a>, AllocError>;
+
+/// A command with the texts of its help.
+fn titled<'a>(alloc: Global, page: Page) -> Made<'a>
+    ensures { IsShaped result (new_app page.name.now) }
+{
+    Ok(
+        Command::new(alloc, page.name)
+            .override_usage(page.usage)
+            .about(page.about)
+            .long_about(page.text)
+            .after_help(page.example),
+    )
+}
+
+/// A word that has to be there.
+fn word<'a>(alloc: Global, name: &'a str, help: &'a str) -> Arg<'a>
+    ensures rule { rule_of result ≡ word name.entry.now }
+    ensures local { result.global ≡ false }
+{
+    Arg::new(alloc, name).required(true).help(help)
+}
+
+/// The path of a folder.
+fn folder<'a>(alloc: Global) -> Arg<'a>
+    ensures rule { rule_of result ≡ folder }
+    ensures local { result.global ≡ false }
+{
+    word(alloc, "DIR", "The folder of a LevelDB database")
+}
+
+/// The file that is read.
+fn file<'a>(alloc: Global) -> Arg<'a>
+    ensures rule { rule_of result ≡ file }
+    ensures local { result.global ≡ false }
+{
+    Arg::new(alloc, "FILE")
+        .default_value("-")
+        .help("The file that is read; `-` is standard input")
+}
+
+/// An option with a word behind it.
+fn valued<'a>(alloc: Global, name: &'a str, value: &'a str, help: &'a str) -> Arg<'a>
+    ensures rule { rule_of result ≡ valued name.entry.now }
+    ensures local { result.global ≡ false }
+{
+    Arg::new(alloc, name)
+        .long(name)
+        .value_name(value)
+        .help(help)
+}
+
+/// The option for the number of threads.
+fn workers<'a>(alloc: Global) -> Arg<'a>
+    ensures rule { rule_of result ≡ workers }
+    ensures local { result.global ≡ false }
+{
+    valued(alloc, "workers", "N", "How many threads compact, 1 to 8")
+        .value_parser(ValueParser::Unsigned(1, 8))
+        .default_value("2")
+}
+
+/// An option without a word behind it.
+fn flag<'a>(alloc: Global, name: &'a str, help: &'a str) -> Arg<'a>
+    ensures rule { rule_of result ≡ flag name.entry.now }
+    ensures local { result.global ≡ false }
+{
+    Arg::new(alloc, name)
+        .long(name)
+        .action(ArgAction::SetTrue)
+        .help(help)
+}
+
+/// The option for words as text.
+fn text<'a>(alloc: Global) -> Arg<'a>
+    ensures rule { rule_of result ≡ text }
+    ensures local { result.global ≡ false }
+{
+    flag(
+        alloc,
+        "text",
+        "Keys and values are text, with `\\xNN` for bytes that do not print",
+    )
+}
+
+/// The option for lines that say how far a command is.
+fn progress<'a>(alloc: Global) -> Arg<'a>
+    ensures rule { rule_of result ≡ progress }
+    ensures local { result.global ≡ false }
+{
+    flag(alloc, "progress", "Say on standard error how far it is")
+}
+
+/// One argument more.
+fn also<'a>(command: Made<'a>, arg: Arg<'a>) -> Made<'a>
+    ensures { (app : App) (rule : Rule) → IsShaped command.entry app → rule_of arg.entry ≡ rule
+        → arg.entry.global ≡ false → IsShaped result (with_rule app rule) }
+{
+    command?.arg(arg)
+}
+
+/// The command that makes a table.
+fn make_table<'a>(alloc: Global) -> Made<'a>
+    ensures { IsShaped result make_table }
+{
+    also(titled(alloc, MAKE_TABLE), file(alloc))
+}
+
+/// The command that prints a table's entries.
+fn dump<'a>(alloc: Global) -> Made<'a>
+    ensures { IsShaped result dump }
+{
+    also(titled(alloc, DUMP), file(alloc))
+}
+
+/// The command that prints a manifest's edits.
+fn manifest<'a>(alloc: Global) -> Made<'a>
+    ensures { IsShaped result manifest }
+{
+    also(titled(alloc, MANIFEST), file(alloc))
+}
+
+/// The command that runs a script.
+fn script<'a>(alloc: Global) -> Made<'a>
+    ensures { IsShaped result script }
+{
+    also(titled(alloc, SCRIPT), file(alloc))
+}
+
+/// The command that verifies a folder.
+fn check<'a>(alloc: Global) -> Made<'a>
+    ensures { IsShaped result check }
+{
+    let check = also(titled(alloc, CHECK), folder(alloc));
+    also(check, progress(alloc))
+}
+
+/// The command that prints a folder's tables.
+fn list<'a>(alloc: Global) -> Made<'a>
+    ensures { IsShaped result list }
+{
+    let list = also(titled(alloc, LIST), folder(alloc));
+    also(list, text(alloc))
+}
+
+/// The command that reads a key.
+fn get<'a>(alloc: Global) -> Made<'a>
+    ensures { IsShaped result get }
+{
+    let get = also(titled(alloc, GET), folder(alloc));
+    let get = also(get, word(alloc, "KEY", "The key"));
+    also(get, text(alloc))
+}
+
+/// The command that prints a folder's live keys.
+fn scan<'a>(alloc: Global) -> Made<'a>
+    ensures { IsShaped result scan }
+{
+    let from = valued(alloc, "from", "KEY", "The first key that is printed");
+    let to = valued(alloc, "to", "KEY", "The last key that is printed");
+    let scan = also(titled(alloc, SCAN), folder(alloc));
+    let scan = also(scan, from);
+    let scan = also(scan, to);
+    let scan = also(scan, text(alloc));
+    also(scan, progress(alloc))
+}
+
+/// The command that brings keys in.
+fn ingest<'a>(alloc: Global) -> Made<'a>
+    ensures { IsShaped result ingest }
+{
+    let keys = word(
+        alloc,
+        "FILE",
+        "The file of the keys, a line each; `-` is standard input",
+    );
+    let begin = flag(
+        alloc,
+        "begin",
+        "Begin a database also where CURRENT was lost",
+    );
+    let beside_log = flag(
+        alloc,
+        "beside-log",
+        "Go on also where LevelDB has not flushed its log",
+    );
+    let ingest = also(titled(alloc, INGEST), folder(alloc));
+    let ingest = also(ingest, keys);
+    let ingest = also(ingest, text(alloc));
+    let ingest = also(ingest, begin);
+    also(ingest, beside_log)
+}
+
+/// The command that compacts a folder.
+fn compact<'a>(alloc: Global) -> Made<'a>
+    ensures { IsShaped result compact }
+{
+    let compact = also(titled(alloc, COMPACT), folder(alloc));
+    let compact = also(compact, workers(alloc));
+    also(compact, progress(alloc))
+}
+
+/// The command that removes what a folder does not need.
+fn clean<'a>(alloc: Global) -> Made<'a>
+    ensures { IsShaped result clean }
+{
+    also(titled(alloc, CLEAN), folder(alloc))
+}
+
+/// One command more.
+fn with<'a>(lsm: Made<'a>, more: Made<'a>) -> Made<'a>
+    ensures { (before added : App) → IsShaped lsm.entry before → IsShaped more.entry added
+        → IsShaped result (with_subcommand before added.top) }
+{
+    lsm?.subcommand(more?)
+}
+
+/// The program without its commands.
+fn bare<'a>(alloc: Global) -> Made<'a>
+    ensures { IsShaped result bare }
+{
+    Command::new(alloc, "lsm")
+        .about("Makes and reads LevelDB's files, and reads and writes its folders")
+        .after_help(OVERVIEW)
+        .version(VERSION)
+        .no_binary_name(true)
+        .subcommand_required(true)
+        .bin_name("lsm")
+}
+
+/// The program with the commands on an input.
+fn with_inputs<'a>(alloc: Global) -> Made<'a>
+    ensures { IsShaped result with_inputs }
+{
+    let lsm = with(bare(alloc), make_table(alloc));
+    let lsm = with(lsm, dump(alloc));
+    let lsm = with(lsm, manifest(alloc));
+    with(lsm, script(alloc))
+}
+
+/// The program with these and the commands that only read a folder.
+fn with_looks<'a>(alloc: Global) -> Made<'a>
+    ensures { IsShaped result with_looks }
+{
+    let lsm = with(with_inputs(alloc), check(alloc));
+    let lsm = with(lsm, list(alloc));
+    let lsm = with(lsm, get(alloc));
+    with(lsm, scan(alloc))
+}
+
+/// The program with all commands.
+fn lsm<'a>(alloc: Global) -> Made<'a>
+    ensures { IsShaped result lsm }
+{
+    let lsm = with(with_looks(alloc), ingest(alloc));
+    let lsm = with(lsm, compact(alloc));
+    with(lsm, clean(alloc))
+}
+
+/// What `clap` finds in words, or what is wrong with them.
+pub(crate) fn found_in<'a, S: AsStr>(alloc: Global, words: &'a [S]) -> Result<ArgMatches<'a>, Error>
+    ensures good { IfOk result (λ _. faults_in (map S.text words.now) ≡ []) }
+    ensures found { IfOk result (λ m. subcommand_rows_of m ≡ found_in (map S.text words.now)) }
+    ensures bad { IfErr result (λ e. kind_of e ≢ OutOfMemory
+        → IsAmong (kind_of e) (faults_in (map S.text words.now))) }
+{
+    lsm(alloc)?.try_get_matches_from(words)
+}

@@ -1,9 +1,0 @@
-use Rattle.std.proofs.Common.{length}
-use Rattle.lsm_writer.proofs.BatchLaws.{HasRead}
-use Rattle.lsm_writer.proofs.batch_text.batch_of.Given as goal
-
-abbrev pub invariant-lines : goal.invariant-lines
-invariant-lines l = HasRead l.form l.text l.count l.batch l.rest
-
-abbrev pub decreases-lines : goal.decreases-lines
-decreases-lines l = length l.rest

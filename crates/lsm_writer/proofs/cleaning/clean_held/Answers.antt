@@ -1,4 +1,0 @@
-use Rattle.lsm_writer.proofs.cleaning.clean_held.Goals as goal
-
-pub returns-in-Ok-clause-cleaned : goal.returns-in-Ok-clause-cleaned
-returns-in-Ok-clause-cleaned g c = (_, _, c.in_ok-kept.ensures.kept, c.in-Ok.ensures.tidied)
