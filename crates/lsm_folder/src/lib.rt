@@ -30,6 +30,7 @@ mod memory_mark;
 mod stops;
 
 // A folder of the system.
+mod open_files;
 mod reasons;
 mod system_calls;
 mod system_fault;

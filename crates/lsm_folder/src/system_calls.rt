@@ -13,16 +13,18 @@ use crate::folder_calls::FolderCalls;
 use crate::folder_fault::FolderFault;
 use crate::lock_kind::LockKind;
 use crate::log::{Appended, FolderSynced, Log, Made, Removed, Renamed, Synced, Wrote, answered};
+use crate::open_files::OpenFiles;
 use crate::reasons::Reasons;
 use crate::system_fault::SystemFault;
-use crate::system_files::{self, path_of};
+use crate::system_files::{self, open_regular, path_of};
 use crate::system_folder::SystemFolder;
 use crate::system_locks;
 use crate::system_mark::{Facts, SystemMark};
 use crate::tags::tag_of;
 use boxcar::tag::{Names, Tag};
 use std::alloc::Global;
-use std::fs::{self, File, Files};
+use std::fs::{self, File, Files, OpenOptions};
+use std::os::unix::fs::FileExt;
 use std::sync::{Arc, Wait};
 
 /// The image of a mark, for contracts alone.
@@ -86,10 +88,12 @@ impl<R: Files<File = File> + AllocGlobal + Clone + Drop> SystemFolder<R> {
             reasons.note("open", String::from_str(alloc, path), error);
             return Err(SystemFault::from(error).failed());
         }
+        let open_files = OpenFiles::new(&rt).map_err(|e| SystemFault::from(e).failed())?;
         Ok(SystemFolder {
             path: String::from_str(alloc, path)?,
             marks: Arc::new(alloc, boxcar::Vec::new(alloc)?)?,
             held: None,
+            open_files,
             reasons: reasons.again()?,
             rt,
             log: Log::opened(),
@@ -119,14 +123,22 @@ impl<R: Files<File = File> + AllocGlobal + Clone + Drop> SystemFolder<R> {
     }
 
     /// Makes a file. What its mark needs is taken before.
-    fn try_make<W: Wait>(&self, rt: &W, name: &str, bytes: &[u8]) -> Result<SystemMark, FolderFault>
+    fn try_make<W: Wait>(
+        &mut self,
+        rt: &W,
+        name: &str,
+        bytes: &[u8],
+    ) -> Result<SystemMark, FolderFault>
+        ensures log { self.new.log ≡ self.old.log }
+        ensures place { system_place self.new ≡ system_place self.old }
         ensures name { IfOk result (λ m. system_mark_name m ≡ name.now) }
         ensures image { IfOk result (λ m. system_mark_image m ≡ bytes.now) }
-        ensures here { IfOk result (λ m. Shows (arc_value self.now.marks) m.token) }
+        ensures here { IfOk result (λ m. Shows (arc_value self.old.marks) m.token) }
         ensures err { IfErr result NotMissing }
     {
         let mark = marked(rt, &self.marks, name, bytes)?;
-        match system_files::make(&self.rt, self.path.as_str(), name, bytes) {
+        let files = &mut self.open_files;
+        match system_files::make(&self.rt, files, self.path.as_str(), name, bytes) {
             Ok(()) => Ok(mark),
             Err(fault) => {
                 self.note("make", name, fault);
@@ -135,19 +147,23 @@ impl<R: Files<File = File> + AllocGlobal + Clone + Drop> SystemFolder<R> {
         }
     }
 
+    /// Reads a file whole.
     fn try_load<W: Wait>(
-        &self,
+        &mut self,
         rt: &W,
         alloc: Global,
         name: &str,
     ) -> Result<(SystemMark, Vec<u8>), FolderFault>
+        ensures log { self.new.log ≡ self.old.log }
+        ensures place { system_place self.new ≡ system_place self.old }
         ensures name { IfOk result (λ r. system_mark_name r.0 ≡ name.now) }
         ensures image { IfOk result (λ r. system_mark_image r.0 ≡ r.1.items) }
-        ensures here { IfOk result (λ r. Shows (arc_value self.now.marks) r.0.token) }
+        ensures here { IfOk result (λ r. Shows (arc_value self.old.marks) r.0.token) }
         ensures limit { IfOk result (λ r. length r.1.items ≤ 2 ^ 30) }
         ensures err { IfErr result NotExists }
     {
-        match system_files::load(&self.rt, alloc, self.path.as_str(), name) {
+        let files = &mut self.open_files;
+        match system_files::load(&self.rt, files, alloc, self.path.as_str(), name) {
             Ok(bytes) => {
                 let mark = marked(rt, &self.marks, name, bytes.as_slice())?;
                 Ok((mark, bytes))
@@ -156,13 +172,46 @@ impl<R: Files<File = File> + AllocGlobal + Clone + Drop> SystemFolder<R> {
         }
     }
 
+    /// Reads a part of a file: with the one that is kept open for the mark of this index, or it is
+    /// opened and kept.
+    fn try_read(
+        &mut self,
+        alloc: Global,
+        name: &str,
+        mark: usize,
+        offset: u64,
+        len: usize,
+    ) -> Result<Vec<u8>, SystemFault>
+        ensures log { self.new.log ≡ self.old.log }
+        ensures place { system_place self.new ≡ system_place self.old }
+    {
+        let mut bytes = vec![in alloc; 0u8; len]?;
+        let files = &mut self.open_files;
+        if let Some(file) = files.of(mark) {
+            let read = file.read_exact_at(bytes.as_mut_slice(), offset);
+            if read.is_err() {
+                files.make_room(mark);
+            }
+            read?;
+            return Ok(bytes);
+        }
+        files.make_room(mark);
+        let mut options = OpenOptions::new();
+        options.read(true);
+        let file = open_regular(&self.rt, files, self.path.as_str(), name, &options)?;
+        file.read_exact_at(bytes.as_mut_slice(), offset)?;
+        files.keep(mark, file);
+        Ok(bytes)
+    }
+
     /// Locks a file, and holds it where no other does.
     fn try_lock(&mut self, name: &str, kind: LockKind) -> Result<bool, FolderFault>
         ensures log { self.new.log ≡ self.old.log }
         ensures place { system_place self.new ≡ system_place self.old }
         ensures err { IfErr result NotExists }
     {
-        match system_locks::lock(&self.rt, self.path.as_str(), name, kind) {
+        let files = &mut self.open_files;
+        match system_locks::lock(&self.rt, files, self.path.as_str(), name, kind) {
             Ok(None) => Ok(false),
             Ok(held) => {
                 self.held = held;
@@ -202,28 +251,32 @@ impl<R: Files<File = File> + AllocGlobal + Clone + Drop> FolderCalls for SystemF
     }
 
     fn write<W: Wait>(&mut self, _rt: &W, name: &str, bytes: &[u8]) -> Result<(), FolderFault> {
-        let outcome = system_files::write(&self.rt, self.path.as_str(), name, bytes);
+        let files = &mut self.open_files;
+        let outcome = system_files::write(&self.rt, files, self.path.as_str(), name, bytes);
         let answer = outcome.map_err(|e| self.failed("write", name, e));
         self.log = self.log.with::<Wrote>(name.as_bytes(), bytes, &answer);
         answer
     }
 
     fn append<W: Wait>(&mut self, _rt: &W, name: &str, bytes: &[u8]) -> Result<(), FolderFault> {
-        let outcome = system_files::append(&self.rt, self.path.as_str(), name, bytes);
+        let files = &mut self.open_files;
+        let outcome = system_files::append(&self.rt, files, self.path.as_str(), name, bytes);
         let answer = outcome.map_err(|e| self.missing("append", name, e));
         self.log = self.log.with::<Appended>(name.as_bytes(), bytes, &answer);
         answer
     }
 
     fn sync<W: Wait>(&mut self, _rt: &W, name: &str) -> Result<(), FolderFault> {
-        let outcome = system_files::sync(&self.rt, self.path.as_str(), name);
+        let files = &mut self.open_files;
+        let outcome = system_files::sync(&self.rt, files, self.path.as_str(), name);
         let answer = outcome.map_err(|e| self.missing("sync", name, e));
         self.log = self.log.with::<Synced>(name.as_bytes(), &[], &answer);
         answer
     }
 
     fn sync_folder<W: Wait>(&mut self, _rt: &W) -> Result<(), FolderFault> {
-        let outcome = system_files::sync_folder(&self.rt, self.path.as_str());
+        let files = &mut self.open_files;
+        let outcome = system_files::sync_folder(&self.rt, files, self.path.as_str());
         let answer = outcome.map_err(|e| self.failed("sync", "", e));
         self.log = self.log.with::<FolderSynced>(&[], &[], &answer);
         answer
@@ -240,6 +293,7 @@ impl<R: Files<File = File> + AllocGlobal + Clone + Drop> FolderCalls for SystemF
 
     fn remove<W: Wait>(&mut self, _rt: &W, name: &str) -> Result<(), FolderFault> {
         let outcome = system_files::remove(&self.rt, self.path.as_str(), name);
+        self.open_files.removed();
         let answer = outcome.map_err(|e| self.missing("remove", name, e));
         self.log = self.log.with::<Removed>(name.as_bytes(), &[], &answer);
         answer
@@ -274,7 +328,7 @@ impl<R: Files<File = File> + AllocGlobal + Clone + Drop> FolderCalls for SystemF
         len: usize,
     ) -> Result<Vec<u8>, FolderFault> {
         let image = image_of(mark);
-        match system_files::read_part(&self.rt, alloc, self.path.as_str(), name, offset, len) {
+        match self.try_read(alloc, name, mark.token.index(), offset, len) {
             Ok(bytes) => {
                 self.log = self
                     .log
@@ -310,7 +364,8 @@ impl<R: Files<File = File> + AllocGlobal + Clone + Drop> FolderCalls for SystemF
     }
 
     fn list<W: Wait>(&mut self, _rt: &W, alloc: Global) -> Result<Vec<String>, FolderFault> {
-        match system_files::list(&self.rt, alloc, self.path.as_str()) {
+        let files = &mut self.open_files;
+        match system_files::list(&self.rt, files, alloc, self.path.as_str()) {
             Ok(names) => {
                 self.log = self.log.with_list(names.as_slice());
                 Ok(names)
@@ -329,6 +384,7 @@ impl<R: Files<File = File> + AllocGlobal + Clone + Drop> FolderCalls for SystemF
             path: self.path.clone()?,
             marks: Arc::try_clone(&self.marks)?,
             held: None,
+            open_files: self.open_files.fork(self.rt.alloc())?,
             reasons: self.reasons.again()?,
             log: Log::empty(),
         })

@@ -1,13 +1,14 @@
 //! One call of the system for each call on a folder, with what cannot be avoided: a file is looked
-//! at and opened to be read, written or synced. No contract says what these do; they are to be
-//! read.
+//! at and opened to be read whole, written or synced; one of which a part is read stays open. No
+//! contract says what these do; they are to be read.
 
 ghost use Rattle.std.specs.Prelude.{◌≤◌, ◌^◌, length, IfOk};
 
+use crate::open_files::OpenFiles;
 use crate::system_fault::SystemFault;
 use std::alloc::{AllocError, Global};
 use std::fs::{self, File, Files, OpenFile, OpenOptions};
-use std::io::{self, Read, Seek, SeekFrom, Write};
+use std::io::{self, Read, Write};
 
 /// The most bytes that a file may have to be read whole: 1 GiB.
 const MAX_LOAD: usize = 1 << 30;
@@ -22,43 +23,74 @@ fn irregular() -> SystemFault {
     SystemFault::Unacted(io::Error::other("not a regular file"))
 }
 
+/// What a file of the system says; nothing where it can't be read.
+pub(crate) fn text_of<R: Files<File = File> + AllocGlobal>(
+    rt: &R,
+    path: &str,
+) -> io::Result<String> {
+    match fs::read_to_string(rt, path) {
+        Err(error) if error.kind() != io::ErrorKind::OutOfMemory => Ok(String::new(rt.alloc())),
+        answer => answer,
+    }
+}
+
 /// Opens a file. What has its name is looked at before, links followed: the opening of a pipe would
-/// wait.
+/// wait. Where it is refused for want of a descriptor, here and below, the files that are kept open
+/// are closed, and it is tried once more.
 pub(crate) fn open_regular<R: Files<File = File> + AllocGlobal>(
     rt: &R,
+    open_files: &mut OpenFiles,
     folder: &str,
     name: &str,
     options: &OpenOptions,
 ) -> Result<File, SystemFault> {
     let path = path_of(rt.alloc(), folder, name)?;
     match fs::metadata(rt, path.as_str()) {
-        Ok(found) if !found.is_file() => Err(irregular()),
-        _ => options
-            .open(rt, path.as_str())
-            .map_err(|e| SystemFault::asked(e)),
+        Ok(found) if !found.is_file() => return Err(irregular()),
+        _ => {}
     }
+    let opened = match options.open(rt, path.as_str()) {
+        Err(error) if open_files.give_way(&error) => options.open(rt, path.as_str()),
+        answer => answer,
+    };
+    opened.map_err(|e| SystemFault::asked(e))
+}
+
+/// Makes a file that must not be there.
+fn create_new<R: Files<File = File>>(
+    rt: &R,
+    open_files: &mut OpenFiles,
+    path: &str,
+) -> Result<File, SystemFault> {
+    let made = match File::create_new(rt, path) {
+        Err(error) if open_files.give_way(&error) => File::create_new(rt, path),
+        answer => answer,
+    };
+    made.map_err(|e| SystemFault::asked(e))
 }
 
 pub(crate) fn make<R: Files<File = File> + AllocGlobal>(
     rt: &R,
+    open_files: &mut OpenFiles,
     folder: &str,
     name: &str,
     bytes: &[u8],
 ) -> Result<(), SystemFault> {
     let path = path_of(rt.alloc(), folder, name)?;
-    let mut file = File::create_new(rt, path.as_str()).map_err(|e| SystemFault::asked(e))?;
+    let mut file = create_new(rt, open_files, path.as_str())?;
     file.write_all(bytes).map_err(|e| SystemFault::Acted(e))
 }
 
 pub(crate) fn write<R: Files<File = File> + AllocGlobal>(
     rt: &R,
+    open_files: &mut OpenFiles,
     folder: &str,
     name: &str,
     bytes: &[u8],
 ) -> Result<(), SystemFault> {
     let path = path_of(rt.alloc(), folder, name)?;
     clear(rt, path.as_str())?;
-    let mut file = File::create_new(rt, path.as_str()).map_err(|e| SystemFault::asked(e))?;
+    let mut file = create_new(rt, open_files, path.as_str())?;
     file.write_all(bytes).map_err(|e| SystemFault::Acted(e))
 }
 
@@ -77,29 +109,38 @@ fn clear<R: Files<File = File>>(rt: &R, path: &str) -> Result<(), SystemFault> {
 
 pub(crate) fn append<R: Files<File = File> + AllocGlobal>(
     rt: &R,
+    open_files: &mut OpenFiles,
     folder: &str,
     name: &str,
     bytes: &[u8],
 ) -> Result<(), SystemFault> {
     let mut options = OpenOptions::new();
     options.append(true);
-    let mut file = open_regular(rt, folder, name, &options)?;
+    let mut file = open_regular(rt, open_files, folder, name, &options)?;
     file.write_all(bytes).map_err(|e| SystemFault::Acted(e))
 }
 
 pub(crate) fn sync<R: Files<File = File> + AllocGlobal>(
     rt: &R,
+    open_files: &mut OpenFiles,
     folder: &str,
     name: &str,
 ) -> Result<(), SystemFault> {
     let mut options = OpenOptions::new();
     options.append(true);
-    let file = open_regular(rt, folder, name, &options)?;
+    let file = open_regular(rt, open_files, folder, name, &options)?;
     file.sync_all().map_err(|e| SystemFault::Acted(e))
 }
 
-pub(crate) fn sync_folder<R: Files<File = File>>(rt: &R, folder: &str) -> Result<(), SystemFault> {
-    let opened = fs::open(rt, folder)?;
+pub(crate) fn sync_folder<R: Files<File = File>>(
+    rt: &R,
+    open_files: &mut OpenFiles,
+    folder: &str,
+) -> Result<(), SystemFault> {
+    let opened = match fs::open(rt, folder) {
+        Err(error) if open_files.give_way(&error) => fs::open(rt, folder),
+        answer => answer,
+    }?;
     opened.sync_all().map_err(|e| SystemFault::Acted(e))
 }
 
@@ -136,24 +177,10 @@ pub(crate) fn length<R: Files<File = File> + AllocGlobal>(
     Ok(found.len())
 }
 
-pub(crate) fn read_part<R: Files<File = File> + AllocGlobal>(
-    rt: &R,
-    alloc: Global,
-    folder: &str,
-    name: &str,
-    offset: u64,
-    len: usize,
-) -> Result<Vec<u8>, SystemFault> {
-    let mut bytes = vec![in alloc; 0u8; len]?;
-    let mut file = open_regular(rt, folder, name, OpenOptions::new().read(true))?;
-    file.seek(SeekFrom::Start(offset))?;
-    file.read_exact(bytes.as_mut_slice())?;
-    Ok(bytes)
-}
-
 /// Reads at most one byte more than 1 GiB, and refuses a file that has it.
 pub(crate) fn load<R: Files<File = File> + AllocGlobal>(
     rt: &R,
+    open_files: &mut OpenFiles,
     alloc: Global,
     folder: &str,
     name: &str,
@@ -161,7 +188,7 @@ pub(crate) fn load<R: Files<File = File> + AllocGlobal>(
     ensures { IfOk result (λ v. length v.items ≤ 2 ^ 30) }
 {
     let mut bytes = Vec::new(alloc);
-    open_regular(rt, folder, name, OpenOptions::new().read(true))?
+    open_regular(rt, open_files, folder, name, OpenOptions::new().read(true))?
         .take(MAX_LOAD as u64 + 1)
         .read_to_end(&mut bytes)?;
     if bytes.len() > MAX_LOAD {
@@ -188,11 +215,16 @@ fn name_of<R: Files<File = File> + Drop>(
 
 pub(crate) fn list<R: Files<File = File> + AllocGlobal + Clone + Drop>(
     rt: &R,
+    open_files: &mut OpenFiles,
     alloc: Global,
     folder: &str,
 ) -> Result<Vec<String>, SystemFault> {
     let mut names = Vec::new(alloc);
-    for entry in fs::read_dir(rt, folder)? {
+    let entries = match fs::read_dir(rt, folder) {
+        Err(error) if open_files.give_way(&error) => fs::read_dir(rt, folder),
+        answer => answer,
+    }?;
+    for entry in entries {
         if let Some(name) = name_of(rt, alloc, entry)? {
             names.push(name).map_err(|e| AllocError::from(e))?;
         }

@@ -1,19 +1,22 @@
 //! A folder of the system.
 
 use crate::log::Log;
+use crate::open_files::OpenFiles;
 use crate::reasons::Reasons;
 use crate::system_mark::Facts;
 use std::fs::{File, Files};
 use std::sync::Arc;
 
 /// A folder of the system, named by its path. Each method makes one call of `std::fs`, on the file
-/// that it notes (`system_files.rt`): that is to be read, since no contract says what a file has.
+/// that it notes (`system_files.rt`): that is to be read, since no contract says what a file has. A
+/// file of which a part was read stays open for the next one (`open_files.rt`).
 #[derive(Drop)]
 pub struct SystemFolder<R: Files<File = File> + AllocGlobal + Clone + Drop> {
     pub(crate) rt: R,
     pub(crate) path: String,
     pub(crate) marks: Arc<boxcar::Vec<Facts>>,
     pub(crate) held: Option<File>,
+    pub(crate) open_files: OpenFiles,
     pub(crate) reasons: Reasons,
     pub(crate) log: Log,
 }
