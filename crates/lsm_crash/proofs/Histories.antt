@@ -41,7 +41,7 @@ read_is known found r w i =
     let version : w.version ≡ r.version = one_version r.bytes w.version r.version (subst (λ b. ComesTo b w.version) bytes i.comes) r.comes in
     same_world w.manifest r.manifest w.bytes r.bytes w.version r.version w.tables known.tables number bytes version i.tables
 
-crashed : (d e : Disk) (known : Known) (found : Found) (w : World) → IsHeld d known → IsLeft d found → IsFresh found e → IsRead known found w → IsSettled e w
+pub crashed : (d e : Disk) (known : Known) (found : Found) (w : World) → IsHeld d known → IsLeft d found → IsFresh found e → IsRead known found w → IsSettled e w
 crashed d e known found w h l f i = elim (held_recovers d known found h l) [
   | inl none ↦ absurd (not_both (current_text w.manifest) (sym none.1 ∙ i.current))
   | inr r ↦ subst (λ x. IsSettled e x) (sym (read_is known found r w i)) (fresh_settled known found e r f)

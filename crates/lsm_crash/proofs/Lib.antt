@@ -13,3 +13,14 @@ mod Histories
 mod Asides
 mod Shelves
 mod Spoilt
+mod Forms
+mod Deeds
+mod Worlds
+mod Turning
+mod Opening
+mod Found
+mod Making
+mod Answering
+mod Lives
+mod Refusals
+mod Reopening

@@ -17,7 +17,7 @@ use Rattle.lsm_crash.proofs.Standing.{At, at_makes, at_step, at_syncs, stands_se
 use Rattle.lsm_crash.proofs.Held.{IsClear, gap_keeps, held_wider, only, settled_aside, settled_gap, settled_held, settled_step}
 use Rattle.lsm_crash.proofs.Appending.{pair}
 
-set_cases : {X : Type 0} (f : ℕ → X) (i : ℕ) (x : X) (j : ℕ) → ((j ≡ i) × (set f i x j ≡ x)) ⊎ ((j ≡ i → ⊥) × (set f i x j ≡ f j))
+pub set_cases : {X : Type 0} (f : ℕ → X) (i : ℕ) (x : X) (j : ℕ) → ((j ≡ i) × (set f i x j ≡ x)) ⊎ ((j ≡ i → ⊥) × (set f i x j ≡ f j))
 set_cases f i x j = elim (cases_Bool (j == i)) [
   | inl t ↦ inl (eqb-true j i t, ap (λ b. cond b x (f j)) t)
   | inr n ↦ inr ((λ e. absurd (let t = eq-eqb j i e in cc)), ap (λ b. cond b x (f j)) n)

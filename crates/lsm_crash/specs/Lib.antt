@@ -6,3 +6,6 @@ pub mod Known
 pub mod Operations
 pub mod Among
 pub mod History
+pub mod States
+pub mod Database
+pub mod Lives

@@ -1,0 +1,111 @@
+-- A refused call after which the state goes on leaves manifest and version.
+use Rattle.std.proofs.Common.{◌≡◌, ℕ, suc, ◌+◌, ◌-◌, ◌<◌, ◌≤◌, ◌^◌, Bool, true, false, List, refl, ◌∙◌, ap, inl, inr, arith}
+use Rattle.std.specs.Prelude.{if◌then◌else◌}
+use Rattle.std.proofs.lemmas.Bool.{cases_lt}
+use Rattle.lsm_shelf.specs.Told.{Told}
+use Rattle.lsm_batch.specs.declared.write.Write.{Write}
+use Rattle.lsm_journal.specs.HeldManifest.{is_at_limit}
+use Rattle.lsm_merge.specs.Work.{Done}
+use Rattle.lsm_slots.specs.Slots.{Slotted}
+use Rattle.lsm_state.specs.Changing.{IsChangeRefusal, halts, next_spent}
+use Rattle.lsm_state.specs.Collecting.{HasLookedAround}
+use Rattle.lsm_state.specs.Held.{Held}
+use Rattle.lsm_state.specs.Ingesting.{FailsToChange, FailsToPut, IsIngestRefusal, IsWelcome, with_number, with_slots}
+use Rattle.lsm_state.specs.Installing.{IsInstallRefusal, IsRefusedLater, MayInstall}
+use Rattle.lsm_state.specs.declared.state_fault.StateFault.{StateFault}
+use Rattle.lsm_state.specs.declared.state_fault.StateFault.TheVariants.{OutOfMemory, Shelf, Read, BadLevel, EmptyBatch, KeyOrder, TooLarge, LevelZeroFull, SequencesSpent, Halted, UnknownSnapshot, Conflict, UnknownTicket, NumbersSpent, Stale, SlotsHeld, VersionsSpent, PinsSpent}
+use Rattle.lsm_crash.specs.Database.{Stays}
+
+-- other slots of the same version, another next number
+stays_from : (old new : Held) (s : Slotted) (n : ℕ) (b : Bool) → new ≡ record old { slots = s; next = n; halted = b } → s.version ≡ old.slots.version → old.next ≤ n → n < 2 ^ 64 → new.halted ≡ false → Stays old new
+stays_from old new s n b is same le small going = record {
+  version = ap (λ (h : Held). h.slots.version) is ∙ same;
+  journal = ap (λ (h : Held). h.journal) is;
+  going = going;
+  next = (let e : new.next ≡ n = ap (λ (h : Held). h.next) is in omega arith);
+  fits = (let e : new.next ≡ n = ap (λ (h : Held). h.next) is in omega arith);
+}
+
+pub stays_same : (old new : Held) → new ≡ old → old.next < 2 ^ 64 → new.halted ≡ false → Stays old new
+stays_same old new is small going = stays_from old new old.slots old.next old.halted is refl (omega arith) small going
+
+spent_at : (b : Bool) (next : ℕ) → next ≤ (if b then next + 1 else next)
+spent_at true next = omega arith
+spent_at false next = omega arith
+
+spent_small : (b : Bool) (next : ℕ) → next + (if b then 2 else 1) < 2 ^ 64 → (suc next ≤ (if b then suc next + 1 else suc next)) × ((if b then suc next + 1 else suc next) < 2 ^ 64) × (suc next < 2 ^ 64)
+spent_small true next lt = (omega arith, omega arith, omega arith)
+spent_small false next lt = (omega arith, omega arith, omega arith)
+
+-- what a refused change leaves of a state whose number was spent
+changed : (ws : List Write) (old new : Held) (e : StateFault) (was is : Told) → IsWelcome old ws → new.slots.version ≡ old.slots.version → IsChangeRefusal (with_number old new.slots) new e was is → new.halted ≡ false → Stays old new × (old.next < new.next)
+changed ws old new OutOfMemory was is w same r going =
+    let p = spent_small (is_at_limit old.journal) old.next w.numbers in
+    (stays_from old new new.slots (suc old.next) old.halted r.0 same (omega arith) p.2 going, (let e : new.next ≡ suc old.next = ap (λ (h : Held). h.next) r.0 in omega arith))
+changed ws old new (Shelf fault) was is w same r going =
+    let p = spent_small (is_at_limit old.journal) old.next w.numbers in
+    let n = next_spent (with_number old new.slots) in
+    (stays_from old new new.slots n (halts fault) r.0 same (let le = p.0 in omega arith) p.1 going, (let e : new.next ≡ n = ap (λ (h : Held). h.next) r.0 in let le = p.0 in omega arith))
+changed ws old new (Read fault) was is w same r going = absurd r
+changed ws old new (BadLevel level) was is w same r going = absurd r
+changed ws old new EmptyBatch was is w same r going = absurd r
+changed ws old new (KeyOrder place) was is w same r going = absurd r
+changed ws old new TooLarge was is w same r going = absurd r
+changed ws old new LevelZeroFull was is w same r going = absurd r
+changed ws old new SequencesSpent was is w same r going = absurd r
+changed ws old new Halted was is w same r going = absurd r
+changed ws old new (UnknownSnapshot id) was is w same r going = absurd r
+changed ws old new (Conflict ticket) was is w same r going = absurd r
+changed ws old new (UnknownTicket ticket) was is w same r going = absurd r
+changed ws old new NumbersSpent was is w same r going = absurd r
+changed ws old new Stale was is w same r going = absurd r
+changed ws old new SlotsHeld was is w same r going = absurd r
+changed ws old new VersionsSpent was is w same r going = absurd r
+changed ws old new PinsSpent was is w same r going = absurd r
+
+pub ingest_stays : (old new : Held) (ws : List Write) (e : StateFault) (was is : Told) → IsIngestRefusal old new ws e was is → old.next < 2 ^ 64 → new.halted ≡ false → Stays old new
+ingest_stays old new ws e was is (inl r) small going = stays_same old new r.1 small going
+ingest_stays old new ws e was is (inr (w, inl r)) small going = stays_from old new new.slots old.next old.halted r.0 r.1.looked.version (omega arith) small going
+ingest_stays old new ws e was is (inr (w, inr (sought, slot, inl r))) small going = stays_from old new new.slots old.next old.halted r.0 sought.looked.version (omega arith) small going
+ingest_stays old new ws e was is (inr (w, inr (sought, slot, inr (inl r)))) small going =
+    stays_from old new new.slots (suc old.next) old.halted r.0 sought.looked.version (omega arith) (spent_small (is_at_limit old.journal) old.next w.numbers).2 going
+ingest_stays old new ws e was is (inr (w, inr (sought, slot, inr (inr r)))) small going = (changed ws old new e r.0 is w sought.looked.version r.3 going).0
+
+-- the number of a table that was put, or perhaps put, is spent
+pub put_spent : (old new : Held) (e : StateFault) (was is : Told) → FailsToPut old new e was is → old.next < new.next
+put_spent old new e was is r = (let n : new.next ≡ suc old.next = ap (λ (h : Held). h.next) r.0 in omega arith)
+
+pub change_spent : (old new : Held) (ws : List Write) (e : StateFault) (was is : Told) → IsWelcome old ws → new.slots.version ≡ old.slots.version → FailsToChange old new e was is → new.halted ≡ false → old.next < new.next
+change_spent old new ws e was is w same r going = (changed ws old new e r.0 is w same r.3 going).1
+
+room_at : (b : Bool) (next : ℕ) → (b ≡ true → next ≡ 2 ^ 64 - 1 → ⊥) → next < 2 ^ 64 → (if b then next + 1 else next) < 2 ^ 64
+room_at true next spare small = elim (cases_lt (next + 1) (2 ^ 64)) [ inl lt ↦ lt | inr le ↦ absurd (spare refl (omega arith)) ]
+room_at false next spare small = small
+
+later : (old new : Held) (d : Done) (e : StateFault) (was is : Told) → MayInstall old d → new.slots.version ≡ old.slots.version → old.next < 2 ^ 64 → IsRefusedLater old new e was is → new.halted ≡ false → Stays old new
+later old new d SlotsHeld was is may same small r going = stays_from old new new.slots old.next old.halted r.1 same (omega arith) small going
+later old new d VersionsSpent was is may same small r going = stays_from old new new.slots old.next old.halted r.1 same (omega arith) small going
+later old new d OutOfMemory was is may same small r going = stays_from old new new.slots old.next old.halted r.0 same (omega arith) small going
+later old new d (Shelf fault) was is may same small r going =
+    stays_from old new new.slots (next_spent old) (halts fault) r.0 same (spent_at (is_at_limit old.journal) old.next) (room_at (is_at_limit old.journal) old.next (λ t n. may.number (t, n)) small) going
+later old new d (Read fault) was is may same small r going = absurd r
+later old new d (BadLevel level) was is may same small r going = absurd r
+later old new d EmptyBatch was is may same small r going = absurd r
+later old new d (KeyOrder place) was is may same small r going = absurd r
+later old new d TooLarge was is may same small r going = absurd r
+later old new d LevelZeroFull was is may same small r going = absurd r
+later old new d SequencesSpent was is may same small r going = absurd r
+later old new d Halted was is may same small r going = absurd r
+later old new d (UnknownSnapshot id) was is may same small r going = absurd r
+later old new d (Conflict ticket) was is may same small r going = absurd r
+later old new d (UnknownTicket ticket) was is may same small r going = absurd r
+later old new d NumbersSpent was is may same small r going = absurd r
+later old new d Stale was is may same small r going = absurd r
+later old new d PinsSpent was is may same small r going = absurd r
+
+pub install_stays : (old new : Held) (d : Done) (e : StateFault) (was is : Told) → IsInstallRefusal old new d e was is → old.next < 2 ^ 64 → new.halted ≡ false → Stays old new
+install_stays old new d e was is (inl r) small going = stays_same old new r.1 small going
+install_stays old new d e was is (inr r) small going = later old new d e was is r.0 r.1.looked.version small r.2 going
+
+pub collect_stays : (old new : Held) → new ≡ with_slots old new.slots → HasLookedAround old new → old.next < 2 ^ 64 → new.halted ≡ false → Stays old new
+collect_stays old new is looked small going = stays_from old new new.slots old.next old.halted is looked.looked.version (omega arith) small going

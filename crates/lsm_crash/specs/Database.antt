@@ -1,0 +1,223 @@
+-- The calls of a database, as the contracts of its state have them: what each asks of its shelf, in
+-- which order, and what it leaves of the folder where other threads make calls between.
+use Rattle.std.specs.Prelude.{◌≡◌, ◌⊎◌, ℕ, ◌+◌, ◌^◌, ◌<◌, ◌≤◌, false, List, [], ◌∷◌, map, Some, None, if◌then◌else◌}
+use Rattle.atomic_table.specs.Seated.{TableId}
+use Rattle.lsm_codec.specs.Entries.{Entry}
+use Rattle.lsm_codec.specs.Lists.{Has}
+use Rattle.lsm_levels.specs.Plain.{Spends}
+use Rattle.lsm_levels.specs.Plain as machine
+use Rattle.lsm_levels.specs.Runs.{Event, Run, ingested}
+use Rattle.lsm_storage.specs.FileNames.{table_name, manifest_name, current_text}
+use Rattle.lsm_shelf.specs.Told.{Told}
+use Rattle.lsm_shelf.specs.Asked.{Asked}
+use Rattle.lsm_shelf.specs.Asked as shelf
+use Rattle.lsm_table.specs.Registry.{Table}
+use Rattle.lsm_version.specs.Versions.{level_in, numbers_in}
+use Rattle.lsm_pins.specs.Known.{Known as Pinned}
+use Rattle.lsm_batch.specs.declared.write.Write.{Write}
+use Rattle.lsm_live.specs.Booked.{Booked}
+use Rattle.lsm_merge.specs.Work.{Done}
+use Rattle.lsm_slots.specs.Slots.{AreSlots}
+use Rattle.lsm_state.specs.Asked.{changes_by}
+use Rattle.lsm_state.specs.Collecting.{AreCollected, HasLookedAround, is_in}
+use Rattle.lsm_state.specs.Held.{Held, IsLawfulState, plain}
+use Rattle.lsm_state.specs.Ingesting.{Ingests, IsWelcome, coming_in, entries_of, last_of, with_number, with_slots}
+use Rattle.lsm_state.specs.Installing.{Installed, IsInstalling, MayInstall}
+use Rattle.lsm_state.specs.Making.{created_state_under}
+use Rattle.lsm_state.specs.Opening.{IsBegun}
+use Rattle.lsm_state.specs.declared.options.Options.{Options}
+use Rattle.lsm_state.specs.declared.ingest.Ingested.{Ingested}
+use Rattle.lsm_crash.specs.Disk.{Disk, Shows}
+use Rattle.lsm_crash.specs.Versions.{ComesTo, Tables, Version}
+use Rattle.lsm_crash.specs.Known.{Known, Stands, World, current_name, known_of}
+use Rattle.lsm_crash.specs.Operations.{Allows, Append, Operation, Put, Remove, Start, after, either, plan_of}
+use Rattle.lsm_crash.specs.Among.{CutAmong, DoneAmong, FailsAmong, IsGap, counting, failed}
+
+-- ---- what a call asks of its shelf
+
+-- The operations that calls of a shelf are, where the manifest comes to this version after them;
+-- one that only reads is none.
+abbrev pub operations : Version → List Asked → List Operation
+operations v [] = []
+operations v (shelf.Put number image ∷ asks) = Put number image ∷ operations v asks
+operations v (shelf.ReadAt number offset len ∷ asks) = operations v asks
+operations v (shelf.Load number ∷ asks) = operations v asks
+operations v (shelf.Remove number ∷ asks) = Remove number ∷ operations v asks
+operations v (shelf.ListTables ∷ asks) = operations v asks
+operations v (shelf.ReadManifest ∷ asks) = operations v asks
+operations v (shelf.StartManifest number bytes ∷ asks) = Start number bytes v ∷ operations v asks
+operations v (shelf.AppendManifest text ∷ asks) = Append text v ∷ operations v asks
+
+-- a call that changes the version, or removes tables, with its Ok answer
+pub data Deed : Type 0 where
+  Ingest : (ws : List Write) (r : Ingested) → Deed
+  Install : (done : Done) → Deed
+  Collect : (removed : List ℕ) → Deed
+
+-- What the contract says of the call where it is answered Ok, and what it asks of the shelf then:
+-- an ingest puts its table, and then writes to the manifest; an install writes to the manifest; a
+-- collect lists, and removes what is not kept.
+abbrev pub Asks : (old new : Held) → Deed → List Asked → Type 0
+Asks old new (Ingest ws r) asks = (was : Told) × (is : Told) × IsWelcome old ws
+    × (i : Ingests old new ws r was is)
+    × (asks ≡ shelf.Put old.next i.table.image
+    ∷ changes_by (with_number old i.slots) (coming_in i.table (last_of old ws)) ∷ [])
+Asks old new (Install done) asks = (was : Told) × (is : Told) × MayInstall old done
+    × (i : Installed old new done was is)
+    × (asks ≡ changes_by (with_slots old i.slots) i.change ∷ [])
+Asks old new (Collect removed) asks = (was : Told) × (is : Told) × (old.halted ≡ false)
+    × HasLookedAround old new × (new ≡ with_slots old new.slots) × AreCollected new removed was is
+    × (asks ≡ shelf.ListTables ∷ map shelf.Remove removed)
+
+-- Each table that the result of a job brings in was put; numbers fit 64 bits.
+abbrev pub IsReady : Deed → World → Type 0
+IsReady (Ingest ws r) w = Unit {0}
+IsReady (Install done) w = (t : Table) → Has done.outputs t → w.tables t.number ≡ Some t.image
+IsReady (Collect removed) w = (number : ℕ) → Has removed number → number < 2 ^ 64
+
+-- ---- operations one after another
+
+-- what the database counts on once all were answered Ok
+abbrev pub after_all : World → List Operation → World
+after_all w [] = w
+after_all w (o ∷ os) = after_all (after w o) os
+
+-- each may be asked for when it comes
+abbrev pub AllowsAll : World → List Operation → Type 0
+AllowsAll w [] = Unit {0}
+AllowsAll w (o ∷ os) = Allows w o × AllowsAll (after w o) os
+
+-- all were answered Ok
+abbrev pub AllDone : World → List Operation → World → Disk → Disk → Type 0
+AllDone w [] u d e = (u ≡ w) × IsGap w.tables d e
+AllDone w (o ∷ os) u d e = (mid : Disk) × DoneAmong (after w o).tables (plan_of w o) d mid
+    × AllDone (after w o) os u mid e
+
+-- A front of them was Ok; the next one was not asked for, or it was refused so that the database
+-- goes on.
+abbrev pub AllFail : World → List Operation → World → Disk → Disk → Type 0
+AllFail w [] u d e = ⊥
+AllFail w (o ∷ os) u d e = ((u ≡ w) × IsGap w.tables d e) ⊎ ((FailsAmong w o d e × (u ≡ failed w o))
+    ⊎ ((mid : Disk) × DoneAmong (after w o).tables (plan_of w o) d mid
+    × AllFail (after w o) os u mid e))
+
+-- A front of them was Ok, and the next one was cut by a crash, or refused anyhow; so much is known.
+abbrev pub AllCut : World → List Operation → Known → Disk → Disk → Type 0
+AllCut w [] known d e = (known ≡ known_of w) × IsGap w.tables d e
+AllCut w (o ∷ os) known d e = (CutAmong (after w o).tables (plan_of w o) d e × (known ≡ either w o))
+    ⊎ ((mid : Disk) × DoneAmong (after w o).tables (plan_of w o) d mid
+    × AllCut (after w o) os known mid e)
+
+-- ---- calls one after another
+
+-- the law of a state, with that of its slots
+abbrev pub IsState : Type 0 → TableId → Held → Type 0
+IsState honest board h = IsLawfulState honest board h × AreSlots h.slots
+
+-- Manifest and version are as before, and the state goes on; numbers may be spent.
+pub record Stays (old new : Held) : Type 0 where
+  pub version : new.slots.version ≡ old.slots.version
+  pub journal : new.journal ≡ old.journal
+  pub going : new.halted ≡ false
+  pub next : old.next ≤ new.next
+  pub fits : new.next < 2 ^ 64
+
+-- a live job has drawn the number
+abbrev pub IsDrawn : Held → ℕ → Type 0
+IsDrawn h number = (b : Booked) × Has h.live b × Has b.drawn number
+
+pub data Turn : Type 0 where
+  -- a call that was answered Ok
+  Answered : Deed → Turn
+  -- one that was refused, and the state goes on
+  Refused : Deed → Turn
+  -- the worker of a live job has put a table
+  Builds : (number : ℕ) (image : List ℕ) → Turn
+  -- any call that leaves manifest and version, and asks the shelf for nothing but to read
+  Looks : Turn
+
+-- What a turn leaves: of the state, of what is counted on, of the disk. A refused call asked for a
+-- front of what it would have asked for where it had been answered Ok, and the number of a table
+-- that it put is spent.
+abbrev pub Turns : Type 0 → TableId → (old new : Held) → Turn → (w u : World) → (d e : Disk)
+    → Type 0
+Turns honest board old new (Answered deed) w u d e = (v : Version) × (asks : List Asked)
+    × Asks old new deed asks × IsReady deed w × ComesTo new.journal.bytes v
+    × AllDone w (operations v asks) u d e
+Turns honest board old new (Refused deed) w u d e = (ok : Held) × (v : Version)
+    × (asks : List Asked) × IsState honest board ok × Asks old ok deed asks × IsReady deed w
+    × ComesTo ok.journal.bytes v
+    × AllFail w (operations v asks) u d e × Stays old new
+    × ((number : ℕ) (image : List ℕ) → u.tables number ≡ Some image → number < new.next)
+Turns honest board old new (Builds number image) w u d e = (new ≡ old) × IsDrawn old number
+    × (u ≡ counting number image w)
+    × ((mid : Disk) × IsGap w.tables d mid × Stands mid (table_name number) image
+    × IsGap u.tables mid e)
+Turns honest board old new Looks w u d e = Stays old new × (u ≡ w) × IsGap w.tables d e
+
+-- nothing comes in
+abbrev pub IsQuiet : List Event → Type 0
+IsQuiet events = (es : List Entry) → ingested events es ≡ es
+
+-- What the contract says of a turn as an event of the plain machine.
+abbrev pub Follows : Type 0 → (old new : Held) → Turn → Type 0
+Follows honest old new (Answered (Ingest ws r)) = machine.Ingests (plain old) (entries_of old ws)
+    (plain new)
+Follows honest old new (Answered (Install done)) = IsInstalling honest old done.work.ticket new
+Follows honest old new (Answered (Collect removed)) = plain new ≡ plain old
+Follows honest old new (Refused deed) = Spends (plain old) (plain new)
+Follows honest old new (Builds number image) = Unit {0}
+Follows honest old new Looks = (events : List Event) × IsQuiet events
+    × Run honest (plain old) events (plain new)
+
+-- turns one after another
+abbrev pub Works : Type 0 → TableId → (old new : Held) → List Turn → (w u : World) → (d e : Disk)
+    → Type 0
+Works honest board old new [] w u d e = (new ≡ old) × (u ≡ w) × IsGap w.tables d e
+Works honest board old new (turn ∷ turns) w u d e = (mid : Held) × (x : World) × (m : Disk)
+    × IsState honest board mid × Turns honest board old mid turn w x d m
+    × Follows honest old mid turn × Works honest board mid new turns x u m e
+
+-- The call would have been answered Ok, and a crash cuts it in a call of its folder, or that call
+-- is refused; so much is known then.
+abbrev pub IsCut : Type 0 → TableId → (old new : Held) → Deed → World → Known → (d e : Disk)
+    → Type 0
+IsCut honest board old new deed w known d e = (v : Version) × (asks : List Asked)
+    × IsState honest board new × Asks old new deed asks × IsReady deed w
+    × ComesTo new.journal.bytes v × Follows honest old new (Answered deed)
+    × AllCut w (operations v asks) known d e
+
+-- ---- a database is opened, or made
+
+-- the tables of these numbers
+abbrev pub only_of : List ℕ → Tables → Tables
+only_of numbers tables n = if is_in numbers n then tables n else None
+
+-- what is counted on once a manifest of this version was started: the tables of the version
+abbrev pub opened_world : Held → Version → World → World
+opened_world h v w = record {
+  manifest = h.journal.number;
+  bytes = h.journal.bytes;
+  version = v;
+  tables = only_of (numbers_in h.slots.version) w.tables;
+}
+
+-- What the contract says of an `open` that is answered Ok, of the manifest that the folder shows;
+-- the tables of the version have the images that the folder shows.
+pub record Opens (honest : Type 0) (limit : ℕ) (h : Held) (d : Disk) : Type 0 where
+  pub was : Told
+  pub is : Told
+  pub begun : IsBegun honest limit h.journal h.slots.version h.next was is
+  pub current : Shows d current_name (current_text begun.before.number)
+  pub manifest : Shows d (manifest_name begun.before.number) begun.before.bytes
+  pub images : (level : ℕ) (t : Table) → Has (level_in h.slots.version.tables level) t
+      → Shows d (table_name t.number) t.image
+
+-- What the contract says of a new state, under the number of its manifest.
+pub record IsMade (h : Held) : Type 0 where
+  pub number : ℕ
+  pub options : Options
+  pub publisher : Pinned
+  pub pinners : List Pinned
+  pub is : h ≡ created_state_under number options publisher pinners
+  pub fits : number + 1 < 2 ^ 64

@@ -1,0 +1,102 @@
+-- Lives of a database, each of which begins with an opening and ends with a crash, or without one.
+use Rattle.std.specs.Prelude.{◌≡◌, ◌⊎◌, ℕ, ◌≤◌, List, [], ◌∷◌, ◌++◌}
+use Rattle.atomic_table.specs.Seated.{TableId}
+use Rattle.lsm_codec.specs.Entries.{Entry, answer}
+use Rattle.lsm_codec.specs.Keys.{UserKey}
+use Rattle.lsm_codec.specs.Lists.{Has}
+use Rattle.lsm_storage.specs.Plans.{start_plan}
+use Rattle.lsm_levels.specs.Files.{all_entries}
+use Rattle.lsm_version.specs.Versions.{Levels, files}
+use Rattle.lsm_batch.specs.Batches.{entries_from}
+use Rattle.lsm_state.specs.Held.{Held}
+use Rattle.lsm_crash.specs.Disk.{Disk}
+use Rattle.lsm_crash.specs.Crash.{Found, IsFresh, IsLeft}
+use Rattle.lsm_crash.specs.Versions.{ComesTo, Version}
+use Rattle.lsm_crash.specs.Known.{Known, World, known_of}
+use Rattle.lsm_crash.specs.Operations.{Start, either}
+use Rattle.lsm_crash.specs.Among.{CutAmong, DoneAmong}
+use Rattle.lsm_crash.specs.History.{IsRead}
+use Rattle.lsm_crash.specs.Database.{Answered, Builds, Collect, Deed, Ingest, Install, IsCut, IsState, Looks, Opens, Refused, Turn, Works, opened_world}
+
+-- ---- what ingests bring in, and what reads give
+
+-- the entries of all ingests that were answered Ok, the latest first
+abbrev pub brought : List Turn → List Entry
+brought [] = []
+brought (Answered (Ingest ws r) ∷ turns) = brought turns ++ entries_from r.first ws
+brought (Answered (Install done) ∷ turns) = brought turns
+brought (Answered (Collect removed) ∷ turns) = brought turns
+brought (Refused deed ∷ turns) = brought turns
+brought (Builds number image ∷ turns) = brought turns
+brought (Looks ∷ turns) = brought turns
+
+-- A read at the version's last sequence gives what it gives over all these entries, of which none
+-- is above that sequence.
+pub record Answers (v : Levels) (es : List Entry) : Type 0 where
+  pub reads : (k : UserKey) → answer (all_entries (files v)) k v.last ≡ answer es k v.last
+  pub upto : (e : Entry) → Has es e → e.seq ≤ v.last
+
+-- ---- one life
+
+pub data Life : Type 0 where
+  -- it was opened, and left between two calls of the database, without a crash
+  Closed : (h now : Held) (turns : List Turn) → Life
+  -- it was opened, and the crash came between two calls of the database
+  Worked : (h now : Held) (turns : List Turn) → Life
+  -- the crash came in a call, which would have left the state `new`
+  Struck : (h now new : Held) (turns : List Turn) (deed : Deed) → Life
+  -- the crash came while it was opened
+  Unopened : (h : Held) → Life
+
+-- it was opened
+abbrev pub Begins : Type 0 → TableId → ℕ → Held → (w u : World) → (d e : Disk) → Type 0
+Begins honest board limit h w u d e = (v : Version) × IsState honest board h
+    × Opens honest limit h d × ComesTo h.journal.bytes v
+    × DoneAmong w.tables (start_plan h.journal.number h.journal.bytes) d e
+    × (u ≡ opened_world h v w)
+
+-- a crash, after which this world is read of the folder that was found, on its disk
+abbrev pub Crashed : Known → (d : Disk) → (u : World) → (e : Disk) → Type 0
+Crashed known d u e = (found : Found) × IsLeft d found × IsFresh found e × IsRead known found u
+
+-- from the disk that is opened to the one that may be opened next, with what is counted on
+abbrev pub Lived : Type 0 → TableId → ℕ → Life → (w : World) → (d : Disk) → (u : World)
+    → (e : Disk) → Type 0
+Lived honest board limit (Closed h now turns) w d u e = (x : World) × (m : Disk)
+    × Begins honest board limit h w x d m × Works honest board h now turns x u m e
+Lived honest board limit (Worked h now turns) w d u e = (x : World) × (y : World) × (m : Disk)
+    × (n : Disk) × Begins honest board limit h w x d m × Works honest board h now turns x y m n
+    × Crashed (known_of y) n u e
+Lived honest board limit (Struck h now new turns deed) w d u e = (x : World) × (y : World)
+    × (m : Disk) × (n : Disk) × (known : Known) × (o : Disk) × Begins honest board limit h w x d m
+    × Works honest board h now turns x y m n × IsCut honest board now new deed y known n o
+    × Crashed known o u e
+Lived honest board limit (Unopened h) w d u e = (v : Version) × (m : Disk) × IsState honest board h
+    × Opens honest limit h d × ComesTo h.journal.bytes v
+    × CutAmong w.tables (start_plan h.journal.number h.journal.bytes) d m
+    × Crashed (either w (Start h.journal.number h.journal.bytes v)) m u e
+
+-- The version that is left, and all that came in until then: what was answered Ok, and perhaps what
+-- was being brought in.
+abbrev pub MayLeave : Life → List Entry → Levels → List Entry → Type 0
+MayLeave (Closed h now turns) es v fs = (v ≡ now.slots.version) × (fs ≡ brought turns ++ es)
+MayLeave (Worked h now turns) es v fs = (v ≡ now.slots.version) × (fs ≡ brought turns ++ es)
+MayLeave (Struck h now new turns deed) es v fs = ((v ≡ now.slots.version)
+    × (fs ≡ brought turns ++ es)) ⊎ ((v ≡ new.slots.version)
+    × (fs ≡ brought (Answered deed ∷ []) ++ (brought turns ++ es)))
+MayLeave (Unopened h) es v fs = (v ≡ h.slots.version) × (fs ≡ es)
+
+-- ---- many lives
+
+-- one after another, each over the folder that the one before it left
+abbrev pub Ages : Type 0 → TableId → ℕ → List Life → (w : World) → (d : Disk) → (u : World)
+    → (e : Disk) → Type 0
+Ages honest board limit [] w d u e = (u ≡ w) × (e ≡ d)
+Ages honest board limit (life ∷ lives) w d u e = (x : World) × (m : Disk)
+    × Lived honest board limit life w d x m × Ages honest board limit lives x m u e
+
+-- the version that the last one left, and all that came in until then
+abbrev pub AllLeave : List Life → (v : Levels) → (es : List Entry) → Levels → List Entry → Type 0
+AllLeave [] v es u fs = (u ≡ v) × (fs ≡ es)
+AllLeave (life ∷ lives) v es u fs = (x : Levels) × (gs : List Entry) × MayLeave life es x gs
+    × AllLeave lives x gs u fs

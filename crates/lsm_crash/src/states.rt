@@ -1,0 +1,173 @@
+//! Laws of what the calls of a database leave of its folder. Each function's contract is one law,
+//! or a few that belong together; its body is empty.
+
+ghost use Rattle.std.specs.Prelude.{◌≡◌, ◌⊎◌, ◌↔◌, ◌++◌, ◌<◌, ◌^◌, ℕ, List, [], None};
+ghost use Rattle.std.specs.Prelude.{false, length};
+ghost use Rattle.atomic_table.specs.Seated.{TableId};
+ghost use Rattle.lsm_codec.specs.Entries.{Entry};
+ghost use Rattle.lsm_codec.specs.Lists.{Has};
+ghost use Rattle.lsm_storage.specs.Plans.{start_plan};
+ghost use Rattle.lsm_levels.specs.Files.{File};
+ghost use Rattle.lsm_shelf.specs.Asked.{Asked};
+ghost use Rattle.lsm_shelf.specs.Told.{Told};
+ghost use Rattle.lsm_batch.specs.declared.write.Write.{Write};
+ghost use Rattle.lsm_merge.specs.Work.{Done};
+ghost use Rattle.lsm_state.specs.Collecting.{HasLookedAround};
+ghost use Rattle.lsm_state.specs.Held.{Held};
+ghost use Rattle.lsm_state.specs.Ingesting.{FailsToChange, FailsToPut, IsIngestRefusal, IsWelcome};
+ghost use Rattle.lsm_state.specs.Ingesting.{with_slots};
+ghost use Rattle.lsm_state.specs.Installing.{IsInstallRefusal};
+ghost use Rattle.lsm_state.specs.declared.state_fault.StateFault.{StateFault};
+ghost use Rattle.lsm_crash.specs.Disk.{Disk};
+ghost use Rattle.lsm_crash.specs.Crash.{Found, IsFresh, IsLeft};
+ghost use Rattle.lsm_crash.specs.Known.{IsHeld, IsSettled, IsVacant, Known, World};
+ghost use Rattle.lsm_crash.specs.Known.{current_name, nothing};
+ghost use Rattle.lsm_crash.specs.Operations.{started};
+ghost use Rattle.lsm_crash.specs.Among.{CutAmong, DoneAmong};
+ghost use Rattle.lsm_crash.specs.States.{Describes, Finds, IsWorldOf, Shown};
+ghost use Rattle.lsm_crash.specs.Database.{AllowsAll, Asks, Deed, IsCut, IsReady, IsState, Turn};
+ghost use Rattle.lsm_crash.specs.Database.{IsMade, Opens, Works, after_all, opened_world};
+ghost use Rattle.lsm_crash.specs.Database.{Stays, operations};
+ghost use Rattle.lsm_crash.specs.Lives.{Ages, AllLeave, Answers, Life, brought};
+ghost use Rattle.lsm_crash.specs.Versions.{ComesTo, Version};
+ghost use Rattle.lsm_journal.specs.HeldManifest.{HeldManifest};
+ghost use Rattle.lsm_journal.specs.Recorded.{IsRecorded};
+ghost use Rattle.lsm_version.specs.Versions.{Levels, files};
+
+use lsm_levels::machine::{Premise, runs_read_all_that_came};
+use lsm_version::changed_tables;
+
+/// A manifest that records a version comes to a shape, and to none but the one that describes the
+/// version.
+pub fn manifests_describe_their_version()
+    ensures comes { (rest : ℕ) (h : HeldManifest) (v : Levels) (next : ℕ) → IsRecorded rest h v next
+        → (shape : Version) × ComesTo h.bytes shape }
+    ensures describes { (rest : ℕ) (h : HeldManifest) (v : Levels) (next : ℕ) (shape : Version)
+        → IsRecorded rest h v next → ComesTo h.bytes shape → Describes shape v }
+{}
+
+/// What a call that is answered Ok asks of its shelf may be asked for, one after the other; and
+/// what is counted on then is what the new state stands for.
+pub fn calls_ask_for_what_is_allowed<P: Premise>()
+    ensures { (board : TableId) (old new : Held) (deed : Deed) (asks : List Asked) (w : World)
+        (v : Version)
+        → IsState P.holds board old → IsState P.holds board new
+        → IsWorldOf old w → ComesTo w.bytes w.version
+        → Asks old new deed asks → IsReady deed w → ComesTo new.journal.bytes v
+        → AllowsAll w (operations v asks) × IsWorldOf new (after_all w (operations v asks)) }
+{
+    changed_tables();
+}
+
+/// After any run of calls of a database, each answered Ok or refused so that the state goes on,
+/// with the puts of its workers and the calls of other threads between, all that the state stands
+/// for is durable. A crash between two calls leaves the current version; a crash in any call of the
+/// folder, or any refusal of one, leaves the version of before the database's call or that of after
+/// it.
+pub fn crashes_leave_a_version<P: Premise>()
+    ensures keeps { (board : TableId) (turns : List Turn) (old now : Held) (w u : World)
+        (d e : Disk) → IsState P.holds board old → IsSettled d w → IsWorldOf old w
+        → Works P.holds board old now turns w u d e
+        → IsSettled e u × IsWorldOf now u × IsState P.holds board now }
+    ensures between { (board : TableId) (turns : List Turn) (old now : Held) (w u : World)
+        (d e : Disk) (found : Found) → IsState P.holds board old → IsSettled d w → IsWorldOf old w
+        → Works P.holds board old now turns w u d e → IsLeft e found
+        → Finds now.slots.version found }
+    ensures within { (board : TableId) (turns : List Turn) (old now new : Held) (deed : Deed)
+        (w u : World) (known : Known) (d mid e : Disk) (found : Found)
+        → IsState P.holds board old → IsSettled d w → IsWorldOf old w
+        → Works P.holds board old now turns w u d mid
+        → IsCut P.holds board now new deed u known mid e → IsLeft e found
+        → Finds now.slots.version found ⊎ Finds new.slots.version found }
+{
+    changed_tables();
+}
+
+/// A call that was refused, and after which the state is not halted, leaves manifest and version;
+/// the number of a table that an ingest has put, or perhaps put, is spent.
+pub fn refused_calls_keep_the_version()
+    ensures ingest { (old new : Held) (ws : List Write) (fault : StateFault) (was is : Told)
+        → IsIngestRefusal old new ws fault was is → old.next < 2 ^ 64 → new.halted ≡ false
+        → Stays old new }
+    ensures not_put { (old new : Held) (fault : StateFault) (was is : Told)
+        → FailsToPut old new fault was is → old.next < new.next }
+    ensures put { (old new : Held) (ws : List Write) (fault : StateFault) (was is : Told)
+        → IsWelcome old ws → new.slots.version ≡ old.slots.version
+        → FailsToChange old new fault was is → new.halted ≡ false → old.next < new.next }
+    ensures install { (old new : Held) (done : Done) (fault : StateFault) (was is : Told)
+        → IsInstallRefusal old new done fault was is → old.next < 2 ^ 64 → new.halted ≡ false
+        → Stays old new }
+    ensures collect { (old new : Held) → new ≡ with_slots old new.slots → HasLookedAround old new
+        → old.next < 2 ^ 64 → new.halted ≡ false → Stays old new }
+{}
+
+/// A database that is opened over what is durable: once its manifest was started all that its state
+/// stands for is durable. A crash in any call of the folder leaves the version that is opened, and
+/// that is the one that was found: it has the same files. Where a call was refused and one can't tell
+/// what is durable (`unsure`), an opening without a crash opens one of the versions that are known,
+/// and then it alone is; the number of its manifest is above those that `CURRENT` may name.
+pub fn databases_open_on_what_was_found<P: Premise>()
+    ensures opened { (board : TableId) (limit : ℕ) (h : Held) (d e : Disk) (w : World) (v : Version)
+        → IsState P.holds board h → IsSettled d w → Opens P.holds limit h d
+        → ComesTo h.journal.bytes v
+        → DoneAmong w.tables (start_plan h.journal.number h.journal.bytes) d e
+        → IsSettled e (opened_world h v w) × IsWorldOf h (opened_world h v w) }
+    ensures cut { (board : TableId) (limit : ℕ) (h : Held) (d e : Disk) (w : World) (v : Version)
+        (found : Found)
+        → IsState P.holds board h → IsSettled d w → Opens P.holds limit h d
+        → ComesTo h.journal.bytes v
+        → CutAmong w.tables (start_plan h.journal.number h.journal.bytes) d e → IsLeft e found
+        → Finds h.slots.version found }
+    ensures unsure { (board : TableId) (limit : ℕ) (h : Held) (d e : Disk) (known : Known)
+        (v : Version)
+        → IsState P.holds board h → IsHeld d known → Opens P.holds limit h d
+        → ((m : ℕ) → Has known.manifests m → m < h.journal.number) → ComesTo h.journal.bytes v
+        → DoneAmong known.tables (start_plan h.journal.number h.journal.bytes) d e
+        → IsSettled e (opened_world h v (started known h.journal.number h.journal.bytes v))
+        × IsWorldOf h (opened_world h v (started known h.journal.number h.journal.bytes v))
+        × ((s : Version) × Has known.versions s × Describes s h.slots.version) }
+    ensures same { (limit : ℕ) (h : Held) (d : Disk) (v : Levels) → Shown v d
+        → Opens P.holds limit h d → length v.tables ≡ 7
+        → (F : File) → Has (files v) F ↔ Has (files h.slots.version) F }
+    ensures shown { (v : Levels) (found : Found) (d : Disk) → Finds v found → IsFresh found d
+        → Shown v d }
+{}
+
+/// A new database in a folder without `CURRENT`: once its manifest was started all that its state
+/// stands for is durable. A crash in any call of the folder leaves no `CURRENT`, or the new
+/// database.
+pub fn databases_are_made_or_not<P: Premise>()
+    ensures made { (board : TableId) (h : Held) (d e : Disk) (v : Version)
+        → IsState P.holds board h → IsVacant d → IsMade h → ComesTo h.journal.bytes v
+        → DoneAmong nothing.tables (start_plan h.journal.number h.journal.bytes) d e
+        → IsSettled e (started nothing h.journal.number h.journal.bytes v)
+        × IsWorldOf h (started nothing h.journal.number h.journal.bytes v) }
+    ensures cut { (board : TableId) (h : Held) (d e : Disk) (v : Version) (found : Found)
+        → IsState P.holds board h → IsVacant d → IsMade h → ComesTo h.journal.bytes v
+        → CutAmong nothing.tables (start_plan h.journal.number h.journal.bytes) d e
+        → IsLeft e found
+        → (found current_name ≡ None) ⊎ Finds h.slots.version found }
+{}
+
+/// Each ingest that was answered Ok is in the version that is found, after any number of crashes.
+/// After any lives of a database, one after another, each of which begins with an opening and ends
+/// with a crash in any call or without one, the folder shows a version, and all that is counted on
+/// is durable again. Where the shelf is honest, a read of that version at its last sequence gives
+/// what it gives over all entries that came in: those of every ingest that was answered Ok in any
+/// of these lives, and of one that a crash cut, whole or not at all.
+pub fn ingests_survive_crashes<P: Premise>()
+    ensures lives { (board : TableId) (limit : ℕ) (lives : List Life) (v : Levels)
+        (es : List Entry) (w u : World) (d e : Disk)
+        → IsSettled d w → Shown v d → length v.tables ≡ 7 → (P.holds → Answers v es)
+        → Ages P.holds board limit lives w d u e
+        → IsSettled e u × ((x : Levels) × (fs : List Entry) × AllLeave lives v es x fs
+        × Shown x e × (P.holds → Answers x fs)) }
+    ensures works { (board : TableId) (turns : List Turn) (old now : Held) (w u : World)
+        (d e : Disk) (es : List Entry) → P.holds → IsState P.holds board old
+        → Works P.holds board old now turns w u d e → Answers old.slots.version es
+        → Answers now.slots.version (brought turns ++ es) }
+    ensures made { (h : Held) → IsMade h → Answers h.slots.version [] }
+{
+    changed_tables();
+    runs_read_all_that_came::<P>();
+}
