@@ -8,7 +8,7 @@ use lsm_merge::{Finished, Job};
 use lsm_table::{Naming, Shelf};
 
 /// Where the job of a ticket stands.
-pub(crate) fn place_of_job<N: Naming, S: Shelf>(jobs: &[Job<N, S>], ticket: u64) -> Option<usize>
+pub(crate) fn index_of_job<N: Naming, S: Shelf>(jobs: &[Job<N, S>], ticket: u64) -> Option<usize>
     ensures { MatchOption result ((w : Work) → Has jobs.now w → w.ticket ≡ ticket → ⊥) (λ i.
         (i < length jobs.now) × ((d : Work) → (slice_index_or jobs.now i d).ticket ≡ ticket)) }
 {
@@ -21,7 +21,7 @@ pub(crate) fn place_of_job<N: Naming, S: Shelf>(jobs: &[Job<N, S>], ticket: u64)
 }
 
 /// Where the result of a ticket stands.
-pub(crate) fn place_of_result<N: Naming, S: Shelf>(
+pub(crate) fn index_of_result<N: Naming, S: Shelf>(
     results: &[Finished<N, S>],
     ticket: u64,
 ) -> Option<usize>

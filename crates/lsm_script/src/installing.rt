@@ -3,7 +3,7 @@
 ghost use Rattle.std.specs.Prelude.{◌≡◌};
 ghost use Rattle.lsm_script.specs.Replies.{IsInstallReply};
 
-use crate::held::place_of_result;
+use crate::held::index_of_result;
 use crate::reply::Reply;
 use lsm_codec::List;
 use lsm_merge::Finished;
@@ -26,14 +26,14 @@ pub(crate) fn install<N: Boarded, S: Shelf, R: Wait>(
     ensures reply { IsInstallReply S.honest ticket result state.old state.new results.old.items
         results.new.items shelf.old shelf.new }
 {
-    let Some(place) = place_of_result(results, ticket) else {
+    let Some(at) = index_of_result(results, ticket) else {
         return Reply::unknown(ticket);
     };
-    let done = results.remove(place);
+    let done = results.remove(at);
     match state.install(rt, alloc, shelf, done) {
         Ok(numbers) => Reply::Installed(List::of(numbers)),
         Err((fault, done)) => {
-            let Ok(()) = results.insert(place, done) else {
+            let Ok(()) = results.insert(at, done) else {
                 unreachable!()
             };
             Reply::refused(fault)

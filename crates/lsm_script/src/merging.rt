@@ -5,7 +5,7 @@ ghost use Rattle.lsm_script.specs.Drawing.{GivesNumber, Keeps};
 ghost use Rattle.lsm_script.specs.Replies.{IsMergeReply, IsMergedBy, IsRefusedBy};
 
 use crate::command_fault::CommandFault;
-use crate::held::place_of_job;
+use crate::held::index_of_job;
 use crate::numbers::{Noted, Numbers, drawn};
 use crate::reply::Reply;
 use boxcar::tag::Tag;
@@ -69,13 +69,13 @@ pub(crate) fn merge<N: Boarded, S: Shelf, R: Wait>(
     ensures reply { IsMergeReply S.honest ticket result.1 state result.0 jobs.old.items
         jobs.new.items results.old.items results.new.items shelf.old shelf.new }
 {
-    let Some(place) = place_of_job(jobs, ticket) else {
+    let Some(at) = index_of_job(jobs, ticket) else {
         return (state, Reply::unknown(ticket));
     };
     if results.reserve(1).is_err() {
         return (state, Reply::out_of_memory());
     }
-    let Ok(job) = jobs[place].try_copy(alloc) else {
+    let Ok(job) = jobs[at].try_copy(alloc) else {
         return (state, Reply::out_of_memory());
     };
     let (state, merged) = merge_job::<Brand, N, S, R>(rt, alloc, state, shelf, registry, job);
@@ -84,7 +84,7 @@ pub(crate) fn merge<N: Boarded, S: Shelf, R: Wait>(
         Err(fault) => return (state, Reply::Refused(CommandFault::Merge(fault))),
     };
     let tables = done.put_numbers().len();
-    jobs.remove(place);
+    jobs.remove(at);
     let Ok(()) = results.push(done) else {
         unreachable!()
     };

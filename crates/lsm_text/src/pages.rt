@@ -43,6 +43,10 @@ read, and `check` prints a line; `ingest` is `refused 51 UnflushedLog N`.
 Tables that are compressed, as LevelDB makes them unless told otherwise, are
 refused: `refused 16 Compressed 1`.
 
+Standard output has what was asked for, and nothing else. Standard error says
+why a command is refused or is none, names logs that are not read, and with
+--progress says how far a command is.
+
 Exit status:
   0  done
   1  refused; standard error says why: `refused N Name ..`, `write fault`,

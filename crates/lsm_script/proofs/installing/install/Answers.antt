@@ -5,7 +5,7 @@ use Rattle.lsm_script.proofs.installing.install.Goals as goal
 
 pub returns-in-Ok : goal.returns-in-Ok
 returns-in-Ok g c =
-    let out = result_out c.args.results.now.items c.remove-done.new.self.items c.deref.result.now c.in-Some.place c.args.ticket c.remove-done.result c.deref.ensures.value c.in-Some.ensures c.remove-done.ensures.value c.remove-done.ensures.items in
+    let out = result_out c.args.results.now.items c.remove-done.new.self.items c.deref.result.now c.in-Some.at c.args.ticket c.remove-done.result c.deref.ensures.value c.in-Some.ensures c.remove-done.ensures.value c.remove-done.ensures.items in
     record {
       reply = inl (
         c.of.result,

@@ -10,7 +10,7 @@ returns g c =
     let done = c.in-Ok-merged.done in
     let by = rw c.in-Ok-merged.is at c.merge_job-state.ensures.ok in
     let merged = merged_from g.S.Shelf.honest c.args.state c.merge_job-state.result.0 c.in-Ok.job done c.args.shelf.now c.merge_job-state.new.shelf by in
-    let out = job_out c.args.jobs.now.items c.remove.new.self.items c.deref.result.now c.in-Some.place c.args.ticket c.index.result.now done.work c.deref.ensures.value c.in-Some.ensures c.index.ensures (merged.its ∙ c.in-Ok.ensures) c.remove.ensures.items in
+    let out = job_out c.args.jobs.now.items c.remove.new.self.items c.deref.result.now c.in-Some.at c.args.ticket c.index.result.now done.work c.deref.ensures.value c.in-Some.ensures c.index.ensures (merged.its ∙ c.in-Ok.ensures) c.remove.ensures.items in
     record {
       reply = inl (
         length c.put_numbers-tables.result.now,
@@ -37,5 +37,5 @@ returns-in-Err g c =
     let fault = c.in-Err.fault in
     let by = rw c.in-Err.is at c.merge_job-state.ensures.err in
     let refused = refused_from g.S.Shelf.honest c.args.state c.merge_job-state.result.0 c.in-Ok.job fault c.args.shelf.now c.merge_job-state.new.shelf by in
-    let there = job_at c.args.jobs.now.items c.deref.result.now c.in-Some.place c.args.ticket c.index.result.now c.in-Ok.job c.deref.ensures.value c.in-Some.ensures c.index.ensures c.in-Ok.ensures in
+    let there = job_at c.args.jobs.now.items c.deref.result.now c.in-Some.at c.args.ticket c.index.result.now c.in-Ok.job c.deref.ensures.value c.in-Some.ensures c.index.ensures c.in-Ok.ensures in
     record { reply = inr (inl (fault, refl, (c.in-Ok.job, there.0, there.1, refused), refl, c.reserve.ensures.items)) }

@@ -1,7 +1,7 @@
 use Rattle.std.proofs.Common.{◌≡◌, ◌∙◌, ap}
 use Rattle.lsm_merge.specs.Work.{Done, Work}
 use Rattle.lsm_live.proofs.CallerLemmas.{each_more}
-use Rattle.lsm_script.proofs.held.place_of_result.Goals as goal
+use Rattle.lsm_script.proofs.held.index_of_result.Goals as goal
 
 pub loop-i-preserved : goal.loop-i-preserved
 loop-i-preserved g c =
