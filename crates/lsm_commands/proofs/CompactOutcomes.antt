@@ -11,14 +11,14 @@ use Rattle.lsm_state.specs.declared.state_fault.StateFault.{StateFault}
 use Rattle.lsm_store.specs.declared.worker_end.WorkerEnd.{WorkerEnd}
 use Rattle.lsm_commands.specs.WriterFault.{of_shelf}
 use Rattle.lsm_commands.specs.declared.faults.writer_fault.WriterFault.TheVariants.{Write as WriteFault, State}
-use Rattle.lsm_commands.specs.Compacting.{AreEnds, Compacts, IsCompactFault, IsFaultless, IsOpened, IsRefused, IsSwept, IsWorkersFault, Refuses}
+use Rattle.lsm_commands.specs.Compacting.{AreEnds, Compacts, IsCompactFault, IsFaultless, IsOpened, IsNotCompacted, IsSwept, IsWorkersFault, Refuses}
 use Rattle.lsm_commands.specs.declared.faults.compact_fault.CompactFault.{CompactFault}
 use Rattle.lsm_commands.specs.declared.faults.compact_fault.CompactFault.TheVariants.{Writer}
 
 pub is_refused : {T : Type 0} (r : Result T CompactFault) (status : ℕ) (Stored : ℕ → List ℕ → Type 0) (Refused : Asked → ShelfFault → Type 0) (Honest : Type 0) (workers : ℕ)
     (was is : Told) (old new : Option (List ℕ)) → OnOk r (status ≡ 0) → OnErr r (status ≡ 1)
     → IfErr r (λ e. IsCompactFault Stored Refused Honest workers e was is) → IfErr r (λ e. e ≢ Writer WriteFault → Keeps old new) → status ≢ 0
-    → (status ≡ 1) × ((fault : CompactFault) × IsRefused Stored Refused Honest workers fault was is old new)
+    → (status ≡ 1) × ((fault : CompactFault) × IsNotCompacted Stored Refused Honest workers fault was is old new)
 is_refused (Ok x) status Stored Refused Honest workers was is old new ok err says left other = absurd (other ok)
 is_refused (Err e) status Stored Refused Honest workers was is old new ok err says left other = (err, (e, record { says = says; left = left }))
 

@@ -83,7 +83,7 @@ bad_edit : (text : List ℕ) (records : List (List ℕ)) (rest i : ℕ) (before 
 bad_edit text records rest i before r fault logged h is p bad = record {
   records = records;
   rest = rest;
-  place = i;
+  index = i;
   edits = p.edits;
   logged = logged;
   within = h;

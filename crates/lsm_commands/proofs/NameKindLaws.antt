@@ -1,11 +1,11 @@
 -- A name is of one file at most.
-use Rattle.std.proofs.Common.{◌≡◌, ◌≢◌, ℕ, ◌+◌, ◌-◌, ◌<◌, ◌≤◌, ◌==◌, Bool, true, false, List, [], ◌∷◌, ◌++◌, length, get_or, take, drop, codes, refl, sym, ap, ◌∙◌, subst, arith, length-append}
+use Rattle.std.proofs.Common.{◌≡◌, ◌≢◌, ℕ, ◌+◌, ◌-◌, ◌<◌, ◌==◌, Bool, true, false, List, [], ◌∷◌, ◌++◌, length, get_or, take, drop, codes, refl, sym, ap, ◌∙◌, subst, arith, length-append}
 use Rattle.std.specs.Prelude.{if◌then◌else◌}
 use Rattle.std.specs.Char.{digit_value}
 use Rattle.std.specs.Str.Parse.{IsNumeral, digits_value}
 use Rattle.std.proofs.lemmas.Bool.{eqb-true}
 use Rattle.std.proofs.Math.Seq.{get_or-append_right, take-append_seam}
-use Rattle.lsm_commands.specs.FileNames.{IsFileName, IsNumberBefore}
+use Rattle.lsm_commands.specs.FileNames.{IsFileName}
 use Rattle.lsm_commands.specs.declared.folder.file_kind.FileKind.{FileKind}
 use Rattle.lsm_commands.specs.declared.folder.file_kind.FileKind.TheVariants.{Table, OldTable, Manifest, Temporary, Log, Current, Lock, Other}
 

@@ -1,10 +1,10 @@
 -- What names say, one after another.
-use Rattle.std.proofs.Common.{◌≡◌, ℕ, ◌+◌, ◌-◌, ◌^◌, ◌<◌, ◌≤◌, max, List, [], ◌∷◌, ◌++◌, length, suc, zero, get_or, take, map, codes, Option, Some, None, refl, sym, ap, ◌∙◌, subst, inl, inr, arith}
+use Rattle.std.proofs.Common.{◌≡◌, ℕ, ◌+◌, ◌<◌, ◌≤◌, max, List, [], ◌∷◌, ◌++◌, length, suc, zero, get_or, take, map, Option, Some, None, refl, sym, ap, ◌∙◌, subst, inl, inr, arith}
 use Rattle.std.specs.Prelude.{◌⊎◌, IfNone, MatchOption}
 use Rattle.std.proofs.lemmas.List.{map_more, take_all}
 use Rattle.lsm_codec.specs.Lists.{Has}
 use Rattle.lsm_codec.proofs.CallerLemmas.{has_cases, has_left, has_right}
-use Rattle.lsm_commands.specs.Names.{Among, IsHighestManifest, IsLeastUnused, IsManifestName, IsNumbered, IsUnused}
+use Rattle.lsm_commands.specs.Names.{Among, IsHighestManifest, IsLeastUnused, IsManifestName, IsNumbered}
 
 -- ---- names so far
 

@@ -1,9 +1,7 @@
 -- What a run answers, by what is done.
-use Rattle.std.proofs.Common.{◌≡◌, ◌≢◌, ℕ, ◌+◌, ◌<◌, ◌≤◌, Bool, true, false, List, [], ◌∷◌, ◌++◌, append_assoc, length, map, get_or, drop, Option, None, Some, refl, sym, ap, ◌∙◌, subst, arith, inl, inr}
-use Rattle.std.specs.Prelude.{◌⊎◌, Result, Ok, Err, IfErr, IfOk, IfSome, OnOk, ⊤}
+use Rattle.std.proofs.Common.{◌≡◌, ◌≢◌, ℕ, ◌+◌, ◌<◌, ◌≤◌, Bool, true, false, List, ◌∷◌, length, get_or, drop, Option, None, Some, refl, sym, ap, ◌∙◌, subst, arith, inl, inr}
+use Rattle.std.specs.Prelude.{◌⊎◌, Result, Ok, Err, IfErr, IfOk, IfSome, ⊤}
 use Rattle.std.specs.Io.KnownBytes.{Appends, Keeps}
-use Rattle.std.specs.Option.{option_map}
-use Rattle.std.proofs.KnownBytes.{Appends-kept, Appends-trans}
 use Rattle.std.proofs.lemmas.List.{drop_more, drop_all}
 use Rattle.lsm_codec.specs.Lists.{Has}
 use Rattle.lsm_codec.proofs.CallerLemmas.{contains_says}
@@ -22,9 +20,9 @@ use Rattle.lsm_script.specs.declared.reply.Reply.{Reply}
 use Rattle.lsm_commands.specs.Starting.{IsNew, usual}
 use Rattle.lsm_commands.specs.WriterFault.{of_shelf}
 use Rattle.lsm_commands.specs.declared.faults.writer_fault.WriterFault.{WriterFault}
-use Rattle.lsm_commands.specs.declared.faults.writer_fault.WriterFault.TheVariants.{OutOfMemory, Read, Write}
+use Rattle.lsm_commands.specs.declared.faults.writer_fault.WriterFault.TheVariants.{OutOfMemory, Write}
 use Rattle.lsm_script.specs.CommandLine.{IsScript}
-use Rattle.lsm_commands.specs.Played.{ArePlayed, ArePlayedInMemory, IsCutShort, IsDone, IsEnded, IsFault, IsInputFault, IsPlayFault, IsRefused, IsTextFault, IsUncreated, IsUnread, nothing}
+use Rattle.lsm_commands.specs.Played.{ArePlayed, ArePlayedInMemory, IsCutShort, IsScriptDone, IsEnded, IsScriptFault, IsInputFault, IsPlayFault, IsScriptRefused, IsScriptTextFault, IsUncreatedInMemory, nothing}
 use Rattle.lsm_script.specs.ReplyText.{replies_text}
 
 -- ---- a look for a reply that ends the list
@@ -71,7 +69,7 @@ in_memory (Ok rs) commands was e h = (was.place, subst (λ t. ArePlayed ⊤ comm
 in_memory (Err f) commands was e h = tt
 
 pub uncreated : (r : Result (List Reply) WriterFault) (was : Told) → was ≡ fresh was.place
-    → IfErr r (λ e. (e ≡ OutOfMemory) ⊎ ((fault : ShelfFault) × (is : Told) × (e ≡ of_shelf fault) × IsCreateRefusal fault was is)) → IfErr r (λ e. (e ≡ OutOfMemory) ⊎ IsUncreated e)
+    → IfErr r (λ e. (e ≡ OutOfMemory) ⊎ ((fault : ShelfFault) × (is : Told) × (e ≡ of_shelf fault) × IsCreateRefusal fault was is)) → IfErr r (λ e. (e ≡ OutOfMemory) ⊎ IsUncreatedInMemory e)
 uncreated (Ok rs) was e h = tt
 uncreated (Err f) was e h = elim h [
   | inl memory ↦ inl memory
@@ -92,24 +90,24 @@ cut_is None commands replies old new script played written cut = tt
 cut_is (Some text) commands replies old new script played written cut =
     inr (refl, (replies, record { commands = commands; spelled = script; played = played; written = written }, cut))
 
-pub input_fault : (known : Option (List ℕ)) (failed : Bool) (e : WriterFault) → IfSome known (λ text. IsInputFault text failed e) → IfSome known (λ text. IsFault text failed e)
+pub input_fault : (known : Option (List ℕ)) (failed : Bool) (e : WriterFault) → IfSome known (λ text. IsInputFault text failed e) → IfSome known (λ text. IsScriptFault text failed e)
 input_fault None failed e h = tt
 input_fault (Some text) failed e h = inl h
 
 pub play_fault : (known : Option (List ℕ)) (failed : Bool) (commands : List Command) (e : WriterFault) → IfSome known (λ text. IsScript text commands)
-    → (e ≡ OutOfMemory) ⊎ IsUncreated e → IfSome known (λ text. IsFault text failed e)
+    → (e ≡ OutOfMemory) ⊎ IsUncreatedInMemory e → IfSome known (λ text. IsScriptFault text failed e)
 play_fault None failed commands e script h = tt
 play_fault (Some text) failed commands e script h = elim h [
-  | inl memory ↦ inl (inl (subst (λ f. IsTextFault text f) (sym memory) tt))
+  | inl memory ↦ inl (inl (subst (λ f. IsScriptTextFault text f) (sym memory) tt))
   | inr why ↦ inr (commands, script, subst (λ f. IsPlayFault commands f) (sym why.3) (why.0, why.1, why.2, refl, why.4))
 ]
 
 pub print_fault : (known : Option (List ℕ)) (failed : Bool) (commands : List Command) (replies : List Reply) (e : WriterFault)
-    → IfSome known (λ text. IsScript text commands) → ArePlayedInMemory commands replies → (e ≡ Write) ⊎ (e ≡ OutOfMemory) → IfSome known (λ text. IsFault text failed e)
+    → IfSome known (λ text. IsScript text commands) → ArePlayedInMemory commands replies → (e ≡ Write) ⊎ (e ≡ OutOfMemory) → IfSome known (λ text. IsScriptFault text failed e)
 print_fault None failed commands replies e script played h = tt
 print_fault (Some text) failed commands replies e script played h = elim h [
   | inl write ↦ inr (commands, script, subst (λ f. IsPlayFault commands f) (sym write) (replies, played))
-  | inr memory ↦ inl (inl (subst (λ f. IsTextFault text f) (sym memory) tt))
+  | inr memory ↦ inl (inl (subst (λ f. IsScriptTextFault text f) (sym memory) tt))
 ]
 
 pub keeps_itself : (x : Option (List ℕ)) → Keeps x x
@@ -117,7 +115,7 @@ keeps_itself None = tt
 keeps_itself (Some xs) = refl
 
 pub ended_done : (known : Option (List ℕ)) (status : ℕ) (old new : Option (List ℕ)) → IfSome known (λ text. IsEnded text status old new) → status ≡ 0
-    → IfSome known (λ text. IsDone text old new)
+    → IfSome known (λ text. IsScriptDone text old new)
 ended_done None status old new h zero = tt
 ended_done (Some text) status old new h zero = elim h [
   | inl done ↦ done.1
@@ -125,14 +123,14 @@ ended_done (Some text) status old new h zero = elim h [
 ]
 
 pub ended_refused : (known : Option (List ℕ)) (failed : Bool) (status : ℕ) (old new : Option (List ℕ)) → status ≤ 1 → IfSome known (λ text. IsEnded text status old new)
-    → status ≢ 0 → (status ≡ 1) × IfSome known (λ text. IsRefused text failed old new)
+    → status ≢ 0 → (status ≡ 1) × IfSome known (λ text. IsScriptRefused text failed old new)
 ended_refused None failed status old new few h other = (omega (arith, few, other), tt)
 ended_refused (Some text) failed status old new few h other = elim h [
   | inl done ↦ absurd (other done.0)
   | inr cut ↦ (cut.0, inl cut.1)
 ]
 
-pub fault_refused : (known : Option (List ℕ)) (failed : Bool) (e : WriterFault) (old new : Option (List ℕ)) → IfSome known (λ text. IsFault text failed e)
-    → (e ≢ Write → Keeps old new) → IfSome known (λ text. IsRefused text failed old new)
+pub fault_refused : (known : Option (List ℕ)) (failed : Bool) (e : WriterFault) (old new : Option (List ℕ)) → IfSome known (λ text. IsScriptFault text failed e)
+    → (e ≢ Write → Keeps old new) → IfSome known (λ text. IsScriptRefused text failed old new)
 fault_refused None failed e old new h kept = tt
 fault_refused (Some text) failed e old new h kept = inr (e, h, kept)

@@ -1,6 +1,6 @@
 -- What a command answers, by what opening the directory and asking it answer.
-use Rattle.std.proofs.Common.{◌≢◌, ℕ, List, Bool, Option, IfErr, OnOk, ◌≡◌, ◌++◌, [], ◌∷◌, inl, inr, sym, subst, append_assoc}
-use Rattle.std.specs.Prelude.{Result, Ok, Err, Some, None, IfSome, IsFalse, codes}
+use Rattle.std.proofs.Common.{◌≢◌, ℕ, List, Bool, Option, IfErr, OnOk, ◌≡◌, inl, inr, sym}
+use Rattle.std.specs.Prelude.{Result, Ok, Err, IsFalse}
 use Rattle.std.specs.Io.KnownBytes.{Keeps}
 use Rattle.std.proofs.KnownBytes.{Keeps-refl, Keeps-trans}
 use Rattle.lsm_shelf.specs.Asked.{Asked}
@@ -22,7 +22,7 @@ use Rattle.lsm_journal.specs.declared.recover_fault.RecoverFault.TheVariants as 
 use Rattle.lsm_version.specs.Versions.{Levels}
 use Rattle.lsm_text.specs.declared.directory_command.DirectoryCommand.{DirectoryCommand}
 use Rattle.lsm_commands.specs.DirectoryFault.{of_open}
-use Rattle.lsm_commands.specs.Answers.{HasNoNote, IsDone, IsFault, IsRefused, Leaves, Prints, PrintsBefore}
+use Rattle.lsm_commands.specs.Answers.{HasNoNote, IsLookedInto, IsLookFault, IsNotLookedInto, Leaves, Prints, PrintsBefore}
 use Rattle.lsm_text.specs.declared.form.Form.{Form}
 use Rattle.lsm_commands.specs.Directory.{Holds, OnlyReads}
 use Rattle.lsm_commands.specs.Opening.{IsOpenRefusal}
@@ -75,7 +75,7 @@ module _ (Stored : ℕ → List ℕ → Type 0) (Refused : Asked → ShelfFault 
   open_refused (open_faults.Check e) was is h = h
   open_refused open_faults.NumbersSpent was is h = h
 
-  pub fault_from_open : (e : DirectoryFault) (was is : Told) → IsOpenRefusal Stored Refused Honest e was is → IsFault Stored Refused Honest e was is
+  pub fault_from_open : (e : DirectoryFault) (was is : Told) → IsOpenRefusal Stored Refused Honest e was is → IsLookFault Stored Refused Honest e was is
   fault_from_open OutOfMemory was is h = tt
   fault_from_open Write was is h = absurd h
   fault_from_open (Shelf e) was is h = h
@@ -100,7 +100,7 @@ module _ (Stored : ℕ → List ℕ → Type 0) (Refused : Asked → ShelfFault 
   -- ---- an open directory
 
   fault_later : (was mid is : Told) (v : Levels) (rest log prev : ℕ) (fault : DirectoryFault)
-      → Becomes mid is → Holds Honest was mid v rest log prev → IsAnswerFault Honest fault mid is → IsFault Stored Refused Honest fault was is
+      → Becomes mid is → Holds Honest was mid v rest log prev → IsAnswerFault Honest fault mid is → IsLookFault Stored Refused Honest fault was is
   fault_later was mid is v rest log prev OutOfMemory b h f = f
   fault_later was mid is v rest log prev Write b h f = (v, (rest, log, prev, holds_later Honest was mid is v rest log prev b h))
   fault_later was mid is v rest log prev (Shelf fault) b h f = absurd f
@@ -112,13 +112,13 @@ module _ (Stored : ℕ → List ℕ → Type 0) (Refused : Asked → ShelfFault 
   fault_later was mid is v rest log prev Locked b h f = absurd f
 
   pub is_fault : {T : Type 0} (r : Result T DirectoryFault) (was mid is : Told) (v : Levels) (rest log prev : ℕ)
-      → Becomes mid is → Holds Honest was mid v rest log prev → IfErr r (λ e. IsAnswerFault Honest e mid is) → IfErr r (λ e. IsFault Stored Refused Honest e was is)
+      → Becomes mid is → Holds Honest was mid v rest log prev → IfErr r (λ e. IsAnswerFault Honest e mid is) → IfErr r (λ e. IsLookFault Stored Refused Honest e was is)
   is_fault (Ok x) was mid is v rest log prev b h f = search
   is_fault (Err e) was mid is v rest log prev b h f = fault_later was mid is v rest log prev e b h f
 
 pub is_done : {T : Type 0} (r : Result T DirectoryFault) (form : Form) (command : DirectoryCommand) (others : List FolderFile) (progress : Bool) (Honest : Type 0) (was mid is : Told) (v : Levels) (rest log prev : ℕ)
     (old new said noted told : Option (List ℕ)) → Becomes mid is → Holds Honest was mid v rest log prev → (Honest → OnOk r (Prints form command v rest log prev others old new))
-    → (HasNoNote command log prev others → Keeps said noted) → (IsFalse progress → Keeps noted told) → OnOk r (IsDone form command others progress Honest was is old new said told)
+    → (HasNoNote command log prev others → Keeps said noted) → (IsFalse progress → Keeps noted told) → OnOk r (IsLookedInto form command others progress Honest was is old new said told)
 is_done (Ok x) form command others progress Honest was mid is v rest log prev old new said noted told b h w q k = record {
   version = v;
   rest = rest;
@@ -149,13 +149,13 @@ is_left (Ok x) form command Honest was mid is v rest log prev old new b h f p = 
 is_left (Err e) form command Honest was mid is v rest log prev old new b h f p = leaves_later form command Honest e was mid is v rest log prev old new b h f p
 
 pub is_refused : {T : Type 0} (r : Result T DirectoryFault) (form : Form) (command : DirectoryCommand) (Stored : ℕ → List ℕ → Type 0) (Refused : Asked → ShelfFault → Type 0) (Honest : Type 0) (was is : Told) (old new : Option (List ℕ))
-    → IfErr r (λ e. IsFault Stored Refused Honest e was is) → IfErr r (λ e. Leaves form command Honest e was is old new) → IfErr r (λ e. IsRefused form command e Stored Refused Honest was is old new)
+    → IfErr r (λ e. IsLookFault Stored Refused Honest e was is) → IfErr r (λ e. Leaves form command Honest e was is old new) → IfErr r (λ e. IsNotLookedInto form command e Stored Refused Honest was is old new)
 is_refused (Ok x) form command Stored Refused Honest was is old new f k = search
 is_refused (Err e) form command Stored Refused Honest was is old new f k = record { says = f; left = k }
 
 -- memory ran out before anything was written
 pub memory_refused : (form : Form) (command : DirectoryCommand) (Stored : ℕ → List ℕ → Type 0) (Refused : Asked → ShelfFault → Type 0) (Honest : Type 0) (was is : Told) (old : Option (List ℕ))
-    → IsRefused form command OutOfMemory Stored Refused Honest was is old old
+    → IsNotLookedInto form command OutOfMemory Stored Refused Honest was is old old
 memory_refused form command Stored Refused Honest was is old = record { says = tt; left = inl (Keeps-refl old) }
 
 -- ---- nothing but reads

@@ -1,146 +1,155 @@
 -- What a run says, by what its command says of the folder or the shelf that was opened.
-use Rattle.std.proofs.Common.{◌≡◌, ◌≢◌, ◌∙◌, ℕ, Bool, List, Option, IfErr, OnErr, OnOk, [], ◌∷◌, arith, inl, inr, subst, sym}
+use Rattle.std.proofs.Common.{◌≡◌, ◌≢◌, ◌∙◌, ℕ, Bool, List, Option, IfErr, IfOk, OnErr, OnOk, [], ◌∷◌, ap, arith, inr, subst, sym}
 use Rattle.std.specs.Prelude.{Result, Ok, Err}
 use Rattle.std.specs.Io.KnownBytes.{Keeps}
 use Rattle.std.proofs.KnownBytes.{Keeps-trans}
 use Rattle.lsm_batch.specs.declared.write.Write.{Write}
-use Rattle.lsm_folder.specs.Calls.{Call, opened}
+use Rattle.lsm_folder.specs.Calls.{AreHonest, Call, opened}
+use Rattle.lsm_folder.specs.declared.folder_calls.FolderCalls.{Ghosts}
 use Rattle.lsm_folder.specs.declared.lock_kind.LockKind.TheVariants.{Exclusive}
-use Rattle.lsm_shelf.specs.Asked.{Asked}
+use Rattle.lsm_folder.specs.declared.mark.Mark as mark
+use Rattle.lsm_shelf.specs.Asked.{MayRefuse}
 use Rattle.lsm_shelf.specs.Place.{IsAtPath, Place}
 use Rattle.lsm_shelf.specs.Told.{Told, fresh}
-use Rattle.lsm_shelf.specs.declared.shelf_fault.ShelfFault.{ShelfFault}
+use Rattle.lsm_storage.specs.FileShelf.{folder_of}
+use Rattle.lsm_storage.specs.declared.file.file_shelf.FileShelf.{FileShelf}
 use Rattle.lsm_text.specs.declared.directory_command.DirectoryCommand.{DirectoryCommand}
 use Rattle.lsm_text.specs.declared.form.Form.{Form}
 use Rattle.lsm_text.specs.declared.ingest_options.IngestOptions.{IngestOptions}
 use Rattle.lsm_text.specs.declared.request.CompactLine.{CompactLine}
 use Rattle.lsm_text.specs.declared.request.DirectoryLine.{DirectoryLine}
-use Rattle.lsm_commands.specs.Answers.{IsDone}
-use Rattle.lsm_commands.specs.Compacting.{Compacts, IsCompactFault, IsCompacted}
+use Rattle.lsm_commands.specs.Answers.{IsLookedInto, IsNotLookedInto}
+use Rattle.lsm_commands.specs.Cleaning.{HasNone, IsKept, IsUnkept, Needs}
+use Rattle.lsm_commands.specs.Compacting.{IsCompactFault, IsCompacted}
+use Rattle.lsm_commands.specs.Directory.{OnlyReads}
+use Rattle.lsm_commands.specs.Folders.{IsShelfAt, stored_at, told_by}
 use Rattle.lsm_commands.specs.Holding.{IsHeld}
-use Rattle.lsm_commands.specs.Ingesting.{ComesIn, IsBroughtIn, IsIngestFault}
+use Rattle.lsm_commands.specs.Ingesting.{IsBroughtIn, IsIngestFault}
+use Rattle.lsm_commands.specs.Looking.{TellsBeside}
 use Rattle.lsm_commands.specs.Preparing.{IsPrepared}
-use Rattle.lsm_commands.specs.Run.{ComesInAt, IsCompactedAt, IsUncompacted, LooksAt, StaysOutAt}
-use Rattle.lsm_commands.specs.Starting.{IsStartRefusal}
+use Rattle.lsm_commands.specs.Run.{ComesInAt, FailsToBringIn, FailsToLook, IsCompactedAt, IsUncompacted, LooksAt}
+use Rattle.lsm_commands.specs.declared.cleaning.kept.Kept.{Kept}
 use Rattle.lsm_commands.specs.declared.faults.compact_fault.CompactFault.{CompactFault}
 use Rattle.lsm_commands.specs.declared.faults.compact_fault.CompactFault.TheVariants.{Writer}
+use Rattle.lsm_commands.specs.declared.faults.directory_fault.DirectoryFault.{DirectoryFault}
 use Rattle.lsm_commands.specs.declared.faults.writer_fault.WriterFault.{WriterFault}
 use Rattle.lsm_commands.specs.declared.faults.writer_fault.WriterFault.TheVariants.{Write as WriteFault}
 use Rattle.lsm_commands.specs.declared.folder.folder_file.FolderFile.{FolderFile}
 use Rattle.lsm_commands.specs.declared.ingesting.start.Start.{Start}
-use Rattle.lsm_commands.specs.declared.ingesting.start.Start.TheVariants.{Open, Begin}
+
+-- what holds where a command is done
+pub done_by : {T F P : Type 0} (r : Result T F) (status : ℕ) → OnErr r (status ≡ 1) → OnOk r P → status ≡ 0 → P
+done_by (Ok x) status err done zero = done
+done_by (Err e) status err done zero = absurd (omega (arith, err, zero))
+
+-- ---- a directory that is read, and then nothing more is written on standard error
 
 module _ (Honest : Type 0) where
-  -- ---- a folder that is read, and then nothing more is written on standard error
-
-  pub done_on : {T F : Type 0} (r : Result T F) (status : ℕ) (form : Form) (command : DirectoryCommand) (others : List FolderFile) (progress : Bool) (was is : Told)
-      (old new said told last : Option (List ℕ)) → OnErr r (status ≡ 1) → OnOk r (IsDone form command others progress Honest was is old new said told)
-      → (status ≡ 0 → Keeps told last) → status ≡ 0 → IsDone form command others progress Honest was is old new said last
-  done_on (Ok x) status form command others progress was is old new said told last err done kept zero = record {
+  then_quiet : (form : Form) (command : DirectoryCommand) (others : List FolderFile) (progress : Bool) (was is : Told) (old new said told last : Option (List ℕ))
+      → IsLookedInto form command others progress Honest was is old new said told → Keeps told last → IsLookedInto form command others progress Honest was is old new said last
+  then_quiet form command others progress was is old new said told last done kept = record {
     version = done.version;
     rest = done.rest;
     log = done.log;
     prev = done.prev;
     holds = done.holds;
     printed = done.printed;
-    quiet = λ asked none. Keeps-trans said told last (done.quiet asked none) (kept zero);
+    quiet = λ asked none. Keeps-trans said told last (done.quiet asked none) kept;
   }
+
+  pub done_on : {T F : Type 0} (r : Result T F) (status : ℕ) (form : Form) (command : DirectoryCommand) (others : List FolderFile) (progress : Bool) (was is : Told)
+      (old new said told last : Option (List ℕ)) → OnErr r (status ≡ 1) → OnOk r (IsLookedInto form command others progress Honest was is old new said told)
+      → (status ≡ 0 → Keeps told last) → status ≡ 0 → IsLookedInto form command others progress Honest was is old new said last
+  done_on (Ok x) status form command others progress was is old new said told last err done kept zero = then_quiet form command others progress was is old new said told last done (kept zero)
   done_on (Err e) status form command others progress was is old new said told last err done kept zero = absurd (omega (arith, err, zero))
 
+module _ {C M : Type 0} (folders : Ghosts C M) where
+  -- ---- a shelf on the folder at a path
+
+  pub shelf_at : (path : List ℕ) (Called : List Call → List Call → Type 0) (first : C) (shelf : FileShelf C M) → IsAtPath path (folders.place first) → folders.calls first ≡ opened ∷ []
+      → Called (folders.calls first) (folders.calls (folder_of shelf)) → told_by folders shelf ≡ fresh (folders.place first) → IsShelfAt folders path Called shelf
+  shelf_at path Called first shelf at none called new =
+      let same : folders.place (folder_of shelf) ≡ folders.place first = ap (λ (t : Told). t.place) new in
+      record {
+        on = record {
+          at = subst (λ (p : Place). IsAtPath path p) (sym same) at;
+          called = subst (λ (cs : List Call). Called cs (folders.calls (folder_of shelf))) none called;
+        };
+        new = new ∙ ap fresh (sym same);
+      }
+
+  -- of a folder that was asked for something since it was opened
+  pub shelf_over : (path : List ℕ) (Called : List Call → List Call → Type 0) (first now : C) (shelf : FileShelf C M) → IsAtPath path (folders.place first) → folders.calls first ≡ opened ∷ []
+      → Called (folders.calls first) (folders.calls now) → folders.place now ≡ folders.place first → folder_of shelf ≡ now → told_by folders shelf ≡ fresh (folders.place now)
+      → IsShelfAt folders path Called shelf
+  shelf_over path Called first now shelf at none called same on new =
+      shelf_at path Called first shelf at none (subst (λ (f : C). Called (folders.calls first) (folders.calls f)) (sym on) called) (new ∙ ap fresh same)
+
+  -- ---- what was done on it
+
+  pub looks_at : {T F : Type 0} (r : Result T F) (line : DirectoryLine) (others : List FolderFile) (begun ended : FileShelf C M) (old new said told : Option (List ℕ))
+      → IsShelfAt folders line.path.now (TellsBeside others) begun
+      → OnOk r (IsLookedInto line.form line.command others line.progress (AreHonest folders.calls) (told_by folders begun) (told_by folders ended) old new said told)
+      → OnlyReads (told_by folders begun) (told_by folders ended) → OnOk r (LooksAt folders line old new said told)
+  looks_at (Ok x) line others begun ended old new said told on done reads = record { others = others; begun = begun; on = on; ended = ended; done = done; reads = reads }
+  looks_at (Err e) line others begun ended old new said told on done reads = tt
+
   pub looked_on : {T F : Type 0} (r : Result T F) (status : ℕ) (line : DirectoryLine) (old new said told last : Option (List ℕ)) → OnErr r (status ≡ 1)
-      → OnOk r (LooksAt Honest line old new said told) → (status ≡ 0 → Keeps told last) → status ≡ 0 → LooksAt Honest line old new said last
+      → OnOk r (LooksAt folders line old new said told) → (status ≡ 0 → Keeps told last) → status ≡ 0 → LooksAt folders line old new said last
   looked_on (Ok x) status line old new said told last err looked kept zero = record {
     others = looked.others;
-    place = looked.place;
-    opened_at = looked.opened_at;
-    is = looked.is;
-    done = record {
-      version = looked.done.version;
-      rest = looked.done.rest;
-      log = looked.done.log;
-      prev = looked.done.prev;
-      holds = looked.done.holds;
-      printed = looked.done.printed;
-      quiet = λ asked none. Keeps-trans said told last (looked.done.quiet asked none) (kept zero);
-    };
+    begun = looked.begun;
+    on = looked.on;
+    ended = looked.ended;
+    done = then_quiet (AreHonest folders.calls) line.form line.command looked.others line.progress (told_by folders looked.begun) (told_by folders looked.ended) old new said told last looked.done (kept zero);
+    reads = looked.reads;
   }
   looked_on (Err e) status line old new said told last err looked kept zero = absurd (omega (arith, err, zero))
 
-  -- ---- a folder that is written
+  pub comes_in_at : {T F : Type 0} (r : Result T F) (path : List ℕ) (options : IngestOptions) (ws : List Write) (start : Start) (logs : List FolderFile) (begun ended : FileShelf C M)
+      (old new : Option (List ℕ)) → IsShelfAt folders path (IsPrepared options start logs) begun
+      → OnOk r (IsBroughtIn (AreHonest folders.calls) start logs ws (told_by folders begun) (told_by folders ended) old new) → OnOk r (ComesInAt folders path options ws old new)
+  comes_in_at (Ok x) path options ws start logs begun ended old new on done = record { start = start; logs = logs; begun = begun; on = on; ended = ended; done = done }
+  comes_in_at (Err e) path options ws start logs begun ended old new on done = tt
 
-  pub comes_in_at : {T : Type 0} (r : Result T WriterFault) (path : List ℕ) (options : IngestOptions) (ws : List Write) (place : Place) (start : Start) (logs : List FolderFile) (calls : List Call)
-      (was is : Told) (old new : Option (List ℕ)) → IsAtPath path place → IsPrepared options start logs (opened ∷ []) calls → was ≡ fresh place
-      → OnOk r (IsBroughtIn Honest start logs ws was is old new) → OnOk r (ComesInAt Honest path options ws old new)
-  comes_in_at (Ok x) path options ws place start logs calls was is old new at prepared e done = record {
-    place = place;
-    at = at;
-    start = start;
-    logs = logs;
-    calls = calls;
-    prepared = prepared;
-    is = is;
-    done = subst (λ (t : Told). IsBroughtIn Honest start logs ws t is old new) e done;
-  }
-  comes_in_at (Err f) path options ws place start logs calls was is old new at prepared e done = tt
+  pub compacts_at : {T F : Type 0} (r : Result T F) (line : CompactLine) (begun ended : FileShelf C M) (old new : Option (List ℕ)) → IsShelfAt folders line.path.now (IsHeld Exclusive) begun
+      → OnOk r (IsCompacted (AreHonest folders.calls) line.options.workers (told_by folders begun) (told_by folders ended) old new) → OnOk r (IsCompactedAt folders line old new)
+  compacts_at (Ok x) line begun ended old new on done = record { begun = begun; on = on; ended = ended; done = done }
+  compacts_at (Err e) line begun ended old new on done = tt
 
-  pub compacts_at : {T F : Type 0} (r : Result T F) (line : CompactLine) (place : Place) (calls : List Call) (was is : Told) (old new : Option (List ℕ))
-      → IsAtPath line.path.now place → IsHeld Exclusive (opened ∷ []) calls → was ≡ fresh place
-      → OnOk r (IsCompacted Honest line.options.workers was is old new) → OnOk r (IsCompactedAt Honest line old new)
-  compacts_at (Ok x) line place calls was is old new at held e done = record {
-    place = place;
-    at = at;
-    calls = calls;
-    held = held;
-    is = is;
-    done = subst (λ (t : Told). IsCompacted Honest line.options.workers t is old new) e done;
-  }
-  compacts_at (Err f) line place calls was is old new at held e done = tt
+  -- ---- what its database needs
 
--- ---- a refusal that is no failed write
+  pub needs : {E : Type 0} (r : Result Kept E) (place : Place) (was : Told) (shelf : FileShelf C M) → was ≡ fresh place
+      → IfOk r (λ k. IsKept (AreHonest folders.calls) k.manifest k.tables.items was (told_by folders shelf)) → IfOk r (λ k. Needs folders place k.manifest k.tables.items)
+  needs (Ok k) place was shelf new kept = (shelf, subst (λ (t : Told). IsKept (AreHonest folders.calls) k.manifest k.tables.items t (told_by folders shelf)) new kept)
+  needs (Err e) place was shelf new kept = tt
 
-module _ (Stored : ℕ → List ℕ → Type 0) (Refused : Asked → ShelfFault → Type 0) (Honest : Type 0) where
-  start_fault : (start : Start) (logs : List FolderFile) (e : WriterFault) (was is : Told) → IsStartRefusal Stored Refused Honest start logs e was is → e ≢ WriteFault
-  start_fault Open logs e was is (inl (inl f)) = λ w. let bad = sym f.1 ∙ w in cc
-  start_fault Open logs e was is (inl (inr f)) = λ w. let bad = sym f.1 ∙ w in cc
-  start_fault Open logs e was is (inr f) = λ w. let bad = sym f.2.1 ∙ w in cc
-  start_fault (Begin number) logs e was is (inl f) = λ w. let bad = sym f.1 ∙ w in cc
-  start_fault (Begin number) logs e was is (inr (inl f)) = λ w. let bad = sym f.0 ∙ w in cc
-  start_fault (Begin number) logs e was is (inr (inr f)) = λ w. let bad = sym f.1 ∙ w in cc
+module _ {C M : Type 0} (folders : Ghosts C M) (marks : mark.Ghosts M) where
+  -- ---- what was not done on it
 
-  pub stays_out : {T : Type 0} (r : Result T WriterFault) (path : List ℕ) (options : IngestOptions) (ws : List Write) (place : Place) (start : Start) (logs : List FolderFile)
-      (calls : List Call) (was is : Told) (old new : Option (List ℕ)) → IsAtPath path place → IsPrepared options start logs (opened ∷ []) calls → was ≡ fresh place
-      → IfErr r (λ e. IsIngestFault Stored Refused Honest start logs ws e was is) → IfErr r (λ e. e ≢ WriteFault → Keeps old new)
-      → OnErr r (StaysOutAt Honest path options ws old new)
-  stays_out (Ok x) path options ws place start logs calls was is old new at prepared same says left = tt
-  stays_out (Err e) path options ws place start logs calls was is old new at prepared same (inl f) left = inl (left (λ w. let bad = sym f.0 ∙ w in cc))
-  stays_out (Err e) path options ws place start logs calls was is old new at prepared same (inr (inl begins)) left = inl (left (start_fault start logs e was is begins))
-  stays_out (Err e) path options ws place start logs calls was is old new at prepared same (inr (inr (inl f))) left = inl (left (λ w. let bad = sym f.1 ∙ w in cc))
-  stays_out (Err e) path options ws place start logs calls was is old new at prepared same (inr (inr (inr f))) left = inr record {
-    place = place;
-    at = at;
-    start = start;
-    logs = logs;
-    calls = calls;
-    prepared = prepared;
-    is = is;
-    done = (f.1.0, subst (λ (t : Told). ComesIn Honest start logs ws f.1.0 t is) same f.1.1);
-  }
+  pub has_none : {T : Type 0} (r : Result T WriterFault) (place : Place) (was : Told) (shelf : FileShelf C M) → was ≡ fresh place
+      → IfErr r (λ e. IsUnkept (stored_at folders marks was.place) MayRefuse (AreHonest folders.calls) e was (told_by folders shelf)) → IfErr r (λ e. HasNone folders marks place e)
+  has_none (Ok x) place was shelf new unkept = tt
+  has_none (Err e) place was shelf new unkept =
+      inr (shelf, subst (λ (t : Told). IsUnkept (stored_at folders marks t.place) MayRefuse (AreHonest folders.calls) e t (told_by folders shelf)) new unkept)
 
-  pub uncompacted : {T : Type 0} (r : Result T CompactFault) (line : CompactLine) (place : Place) (calls : List Call) (was is : Told) (old new : Option (List ℕ))
-      → IsAtPath line.path.now place → IsHeld Exclusive (opened ∷ []) calls → was ≡ fresh place
-      → IfErr r (λ e. IsCompactFault Stored Refused Honest line.options.workers e was is) → IfErr r (λ e. e ≢ Writer WriteFault → Keeps old new)
-      → OnErr r (IsUncompacted Honest line old new)
-  uncompacted (Ok x) line place calls was is old new at held same says left = tt
-  uncompacted (Err e) line place calls was is old new at held same (inl f) left = inl (left (λ w. let bad = sym f.0 ∙ w in cc))
-  uncompacted (Err e) line place calls was is old new at held same (inr (inl (inl f))) left = inl (left (λ w. let bad = sym f.1 ∙ w in cc))
-  uncompacted (Err e) line place calls was is old new at held same (inr (inl (inr f))) left = inl (left (λ w. let bad = sym f.1 ∙ w in cc))
-  uncompacted (Err e) line place calls was is old new at held same (inr (inr (inl f))) left = inl (left (λ w. let bad = sym f.0.1 ∙ w in cc))
-  uncompacted (Err e) line place calls was is old new at held same (inr (inr (inr (inl f)))) left = inl (left (λ w. let bad = sym f.1 ∙ w in cc))
-  uncompacted (Err e) line place calls was is old new at held same (inr (inr (inr (inr f)))) left = inr record {
-    place = place;
-    at = at;
-    calls = calls;
-    held = held;
-    is = is;
-    done = (f.1.0, subst (λ (t : Told). Compacts Honest line.options.workers f.1.0 t is) same f.1.1);
-  }
+  pub fails_at : {T : Type 0} (r : Result T DirectoryFault) (line : DirectoryLine) (others : List FolderFile) (begun ended : FileShelf C M) (old new : Option (List ℕ))
+      → IsShelfAt folders line.path.now (TellsBeside others) begun
+      → IfErr r (λ e. IsNotLookedInto line.form line.command e (stored_at folders marks (told_by folders begun).place) MayRefuse (AreHonest folders.calls) (told_by folders begun) (told_by folders ended) old new)
+      → OnlyReads (told_by folders begun) (told_by folders ended) → IfErr r (λ e. FailsToLook folders marks line e old new)
+  fails_at (Ok x) line others begun ended old new on refused reads = tt
+  fails_at (Err e) line others begun ended old new on refused reads = inr record { others = others; begun = begun; on = on; ended = ended; refused = refused; reads = reads }
+
+  pub fails_to_bring_in : {T : Type 0} (r : Result T WriterFault) (path : List ℕ) (options : IngestOptions) (ws : List Write) (start : Start) (logs : List FolderFile)
+      (begun ended : FileShelf C M) (old new : Option (List ℕ)) → IsShelfAt folders path (IsPrepared options start logs) begun
+      → IfErr r (λ e. IsIngestFault (stored_at folders marks (told_by folders begun).place) MayRefuse (AreHonest folders.calls) start logs ws e (told_by folders begun) (told_by folders ended))
+      → IfErr r (λ e. e ≢ WriteFault → Keeps old new) → OnErr r (FailsToBringIn folders marks path options ws old new)
+  fails_to_bring_in (Ok x) path options ws start logs begun ended old new on says left = tt
+  fails_to_bring_in (Err e) path options ws start logs begun ended old new on says left =
+      inr (e, record { start = start; logs = logs; begun = begun; on = on; ended = ended; refused = record { says = says; left = left } })
+
+  pub uncompacted : {T : Type 0} (r : Result T CompactFault) (line : CompactLine) (begun ended : FileShelf C M) (old new : Option (List ℕ)) → IsShelfAt folders line.path.now (IsHeld Exclusive) begun
+      → IfErr r (λ e. IsCompactFault (stored_at folders marks (told_by folders begun).place) MayRefuse (AreHonest folders.calls) line.options.workers e (told_by folders begun) (told_by folders ended))
+      → IfErr r (λ e. e ≢ Writer WriteFault → Keeps old new) → OnErr r (IsUncompacted folders marks line old new)
+  uncompacted (Ok x) line begun ended old new on says left = tt
+  uncompacted (Err e) line begun ended old new on says left = inr (e, record { begun = begun; on = on; ended = ended; refused = record { says = says; left = left } })

@@ -1,5 +1,5 @@
 -- Which files are spare.
-use Rattle.std.proofs.Common.{◌≡◌, ◌≢◌, ℕ, ◌==◌, nat_eq, Bool, true, false, List, Option, None, Some, refl, sym, ◌∙◌, subst, inl, inr}
+use Rattle.std.proofs.Common.{◌≡◌, ℕ, nat_eq, Bool, true, false, List, None, Some, refl, sym, ◌∙◌, subst, inl, inr}
 use Rattle.std.specs.Prelude.{MatchBool}
 use mathlib.Core.Bool.{not}
 use Rattle.std.proofs.lemmas.Bool.{eq-eqb, eqb-true}

@@ -8,7 +8,7 @@ use Rattle.lsm_storage.specs.FileNames.{padded, table_name}
 use Rattle.lsm_text.specs.declared.conversion.Conversion.{Conversion}
 use Rattle.lsm_text.specs.declared.fault.Fault.{Fault}
 use Rattle.lsm_text.specs.declared.fault.Fault.TheVariants.{Write}
-use Rattle.lsm_commands.specs.Commands.{BeginsAnswer, Explains, IsRefused}
+use Rattle.lsm_commands.specs.Commands.{BeginsAnswer, Explains, IsNotConverted}
 use Rattle.lsm_commands.specs.Telling.{file_behind, line_of, named_in, told_text}
 
 -- a text, and what ends its line
@@ -67,7 +67,7 @@ left_by (Err e) status Left ok err left other = (err, left)
 pub is_unconverted : {T : Type 0} (r : Result T Fault) (status : ℕ) (conversion : Conversion) (input old new : Option (List ℕ)) → OnOk r (status ≡ 0) → OnErr r (status ≡ 1)
     → IfErr r (λ e. IfSome input (λ text. Explains conversion text e)) → IfErr r (λ e. e ≢ Write → Keeps old new)
     → IfErr r (λ e. e ≡ Write → IfSome input (λ text. BeginsAnswer conversion text old new)) → status ≢ 0
-    → (status ≡ 1) × ((fault : Fault) × IsRefused conversion input fault old new)
+    → (status ≡ 1) × ((fault : Fault) × IsNotConverted conversion input fault old new)
 is_unconverted (Ok x) status conversion input old new ok err explained kept begun other = absurd (other ok)
 is_unconverted (Err e) status conversion input old new ok err explained kept begun other = (err, (e, record { explained = explained; kept = kept; begun = begun }))
 

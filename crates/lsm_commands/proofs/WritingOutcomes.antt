@@ -8,14 +8,14 @@ use Rattle.lsm_shelf.specs.Told.{Told}
 use Rattle.lsm_batch.specs.declared.write.Write.{Write}
 use Rattle.lsm_commands.specs.declared.folder.folder_file.FolderFile.{FolderFile}
 use Rattle.lsm_commands.specs.declared.ingesting.start.Start.{Start}
-use Rattle.lsm_commands.specs.Ingesting.{IsIngestFault, IsRefused}
+use Rattle.lsm_commands.specs.Ingesting.{IsIngestFault, IsNotBroughtIn}
 use Rattle.lsm_commands.specs.declared.faults.writer_fault.WriterFault.{WriterFault}
 use Rattle.lsm_commands.specs.declared.faults.writer_fault.WriterFault.TheVariants.{Write as WriteFault}
 
 pub is_refused : {T : Type 0} (r : Result T WriterFault) (status : ℕ) (Stored : ℕ → List ℕ → Type 0) (Refused : Asked → ShelfFault → Type 0) (Honest : Type 0) (start : Start) (logs : List FolderFile) (ws : List Write)
     (was is : Told) (old new : Option (List ℕ)) → OnOk r (status ≡ 0) → OnErr r (status ≡ 1)
     → IfErr r (λ e. IsIngestFault Stored Refused Honest start logs ws e was is) → IfErr r (λ e. e ≢ WriteFault → Keeps old new) → status ≢ 0
-    → (status ≡ 1) × ((fault : WriterFault) × IsRefused Stored Refused Honest start logs ws fault was is old new)
+    → (status ≡ 1) × ((fault : WriterFault) × IsNotBroughtIn Stored Refused Honest start logs ws fault was is old new)
 is_refused (Ok x) status Stored Refused Honest start logs ws was is old new ok err says left other = absurd (other ok)
 is_refused (Err e) status Stored Refused Honest start logs ws was is old new ok err says left other = (err, (e, record { says = says; left = left }))
 

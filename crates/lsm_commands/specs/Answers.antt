@@ -42,7 +42,7 @@ IsQuiet command progress log prev others old new = IsFalse progress → HasNoNot
 
 -- The shelf's directory holds a version, over an honest shelf what the command prints of it was written on standard output, and standard
 -- error is quiet.
-pub record IsDone (form : Form) (command : DirectoryCommand) (others : List FolderFile) (progress : Bool) (Honest : Type 0) (was is : Told) (old new said_old said_new : Option (List ℕ)) : Type 0 where
+pub record IsLookedInto (form : Form) (command : DirectoryCommand) (others : List FolderFile) (progress : Bool) (Honest : Type 0) (was is : Told) (old new said_old said_new : Option (List ℕ)) : Type 0 where
   pub version : Levels
   pub rest : ℕ
   pub log : ℕ
@@ -57,15 +57,15 @@ HoldsVersion Honest was is v = (rest : ℕ) × (log : ℕ) × (prev : ℕ) × Ho
 
 -- What a fault says of the directory: the first fault that opening it meets; or it was opened, and a write failed, or the shelf did.
 -- Want of memory says nothing.
-abbrev pub IsFault : (ℕ → List ℕ → Type 0) → (Asked → ShelfFault → Type 0) → Type 0 → DirectoryFault → Told → Told → Type 0
-IsFault Stored Refused Honest OutOfMemory was is = ⊤
-IsFault Stored Refused Honest Write was is = (v : Levels) × HoldsVersion Honest was is v
-IsFault Stored Refused Honest (Shelf fault) was is = IsOpenRefusal Stored Refused Honest (Shelf fault) was is
-IsFault Stored Refused Honest (Manifest fault) was is = IsOpenRefusal Stored Refused Honest (Manifest fault) was is
-IsFault Stored Refused Honest (Tables fault) was is = IsOpenRefusal Stored Refused Honest (Tables fault) was is
-IsFault Stored Refused Honest (Read fault) was is = (v : Levels) × HoldsVersion Honest was is v × (Honest → IsMemoryOrShelf fault) × ReadCounted fault was is
-IsFault Stored Refused Honest NumbersSpent was is = IsOpenRefusal Stored Refused Honest NumbersSpent was is
-IsFault Stored Refused Honest Locked was is = ⊥
+abbrev pub IsLookFault : (ℕ → List ℕ → Type 0) → (Asked → ShelfFault → Type 0) → Type 0 → DirectoryFault → Told → Told → Type 0
+IsLookFault Stored Refused Honest OutOfMemory was is = ⊤
+IsLookFault Stored Refused Honest Write was is = (v : Levels) × HoldsVersion Honest was is v
+IsLookFault Stored Refused Honest (Shelf fault) was is = IsOpenRefusal Stored Refused Honest (Shelf fault) was is
+IsLookFault Stored Refused Honest (Manifest fault) was is = IsOpenRefusal Stored Refused Honest (Manifest fault) was is
+IsLookFault Stored Refused Honest (Tables fault) was is = IsOpenRefusal Stored Refused Honest (Tables fault) was is
+IsLookFault Stored Refused Honest (Read fault) was is = (v : Levels) × HoldsVersion Honest was is v × (Honest → IsMemoryOrShelf fault) × ReadCounted fault was is
+IsLookFault Stored Refused Honest NumbersSpent was is = IsOpenRefusal Stored Refused Honest NumbersSpent was is
+IsLookFault Stored Refused Honest Locked was is = ⊥
 
 -- What is written of a version before a fault that is no failed write: nothing, or, by a scan and over an honest shelf, its first lines.
 abbrev pub PrintsBefore : Form → DirectoryCommand → Type 0 → Levels → Option (List ℕ) → Option (List ℕ) → Type 0
@@ -87,6 +87,6 @@ Leaves form command Honest NumbersSpent was is old new = Keeps old new
 Leaves form command Honest Locked was is old new = Keeps old new
 
 -- What a refusal is: what the fault says of the directory, and what it leaves on standard output.
-pub record IsRefused (form : Form) (command : DirectoryCommand) (fault : DirectoryFault) (Stored : ℕ → List ℕ → Type 0) (Refused : Asked → ShelfFault → Type 0) (Honest : Type 0) (was is : Told) (old new : Option (List ℕ)) : Type 0 where
-  pub says : IsFault Stored Refused Honest fault was is
+pub record IsNotLookedInto (form : Form) (command : DirectoryCommand) (fault : DirectoryFault) (Stored : ℕ → List ℕ → Type 0) (Refused : Asked → ShelfFault → Type 0) (Honest : Type 0) (was is : Told) (old new : Option (List ℕ)) : Type 0 where
+  pub says : IsLookFault Stored Refused Honest fault was is
   pub left : Leaves form command Honest fault was is old new

@@ -6,11 +6,15 @@ use Rattle.std.specs.List.Sorted.{IsPermutation, IsSorted}
 use Rattle.std.specs.Cmp.Lexicographic.{slice_cmp}
 use Rattle.std.specs.Ordering.{nat_cmp}
 use Rattle.lsm_codec.specs.Lists.{Has}
-use Rattle.lsm_folder.specs.Calls.{Call, listed, removed}
+use Rattle.lsm_folder.specs.Calls.{AreHonest, Call, folder_synced, listed, removed, synced}
+use Rattle.lsm_folder.specs.declared.folder_calls.FolderCalls.{Ghosts}
 use Rattle.lsm_folder.specs.declared.folder_fault.FolderFault.{FolderFault}
 use Rattle.lsm_folder.specs.declared.lock_kind.LockKind.TheVariants.{Exclusive}
-use Rattle.lsm_shelf.specs.Asked.{Asked}
+use Rattle.lsm_folder.specs.declared.mark.Mark as mark
+use Rattle.lsm_shelf.specs.Asked.{Asked, MayRefuse}
+use Rattle.lsm_storage.specs.FileNames.{manifest_name}
 use Rattle.lsm_storage.specs.FolderFault.{device_of}
+use Rattle.lsm_storage.specs.declared.file.file_shelf.FileShelf.{FileShelf}
 use Rattle.lsm_shelf.specs.Told.{Place, Told, fresh}
 use Rattle.lsm_shelf.specs.declared.shelf_fault.ShelfFault.{ShelfFault}
 use Rattle.lsm_version.specs.Versions.{Levels, numbers_in}
@@ -18,6 +22,7 @@ use Rattle.lsm_journal.specs.Finding.{IsFindRefusal, IsFound}
 use Rattle.lsm_journal.specs.HeldManifest.{HeldManifest}
 use Rattle.lsm_journal.specs.declared.open_fault.OpenFault.{OpenFault}
 use Rattle.lsm_commands.specs.FileNames.{IsFileName}
+use Rattle.lsm_commands.specs.Folders.{stored_at, told_by}
 use Rattle.lsm_commands.specs.Holding.{IsHeld, IsUnheld}
 use Rattle.lsm_commands.specs.Logs.{AreThose}
 use Rattle.lsm_commands.specs.Looking.{LooksStopped}
@@ -43,10 +48,6 @@ pub record IsKept (Honest : Type 0) (manifest : ℕ) (tables : List ℕ) (was is
 abbrev pub IsUnkept : (ℕ → List ℕ → Type 0) → (Asked → ShelfFault → Type 0) → Type 0 → WriterFault → Told → Told → Type 0
 IsUnkept Stored Refused Honest e was is =
     (e ≡ OutOfMemory) ⊎ ((fault : OpenFault) × (e ≡ of_open fault) × IsFindRefusal Stored Refused Honest fault was is)
-
--- memory ran out, or a refusal of opening
-abbrev pub IsUnopened : WriterFault → Type 0
-IsUnopened e = (e ≡ OutOfMemory) ⊎ ((fault : OpenFault) × (e ≡ of_open fault))
 
 -- The name is of another manifest, of a temporary file, or of a table that is none of these.
 abbrev pub IsSpare : ℕ → List ℕ → List ℕ → Type 0
@@ -119,29 +120,60 @@ IsUntidied manifest tables e old new before after =
     ⊎ (IsHalfTidied manifest tables e old new before after
     ⊎ ((e ≡ WriteFault) × ((mid : Option (List ℕ)) × IsTidied manifest tables old new before mid)))
 
+-- ---- what is needed is made durable first
+
+-- The manifest of this number was synced, and then the folder's names.
+abbrev pub IsDurable : ℕ → List Call → List Call → Type 0
+IsDurable manifest old new = new ≡ folder_synced (Ok tt) ∷ synced (manifest_name manifest) (Ok tt) ∷ old
+
+-- Memory ran out before either was asked for; or the folder refused the one or the other.
+abbrev pub IsUndurable : ℕ → WriterFault → List Call → List Call → Type 0
+IsUndurable manifest e old new =
+    ((e ≡ OutOfMemory) × (new ≡ old))
+    ⊎ ((fault : FolderFault)
+    × (e ≡ of_shelf (device_of fault))
+    × ((new ≡ synced (manifest_name manifest) (Err fault) ∷ old) ⊎ (new ≡ folder_synced (Err fault) ∷ synced (manifest_name manifest) (Ok tt) ∷ old)))
+
+-- The manifest and the folder's names were made durable, and then just the spare files were removed.
+abbrev pub IsCleared : ℕ → List ℕ → List Call → List Call → Option (List ℕ) → Option (List ℕ) → Type 0
+IsCleared manifest tables old new before after = (durable : List Call) × IsDurable manifest old durable × IsTidied manifest tables durable new before after
+
+-- They were not made durable, and no file was removed; or it was not tidied behind that.
+abbrev pub IsUncleared : ℕ → List ℕ → WriterFault → List Call → List Call → Option (List ℕ) → Option (List ℕ) → Type 0
+IsUncleared manifest tables e old new before after =
+    (IsUndurable manifest e old new × Keeps before after)
+    ⊎ ((durable : List Call) × IsDurable manifest old durable × IsUntidied manifest tables e durable new before after)
+
 -- ---- a clean
 
--- A database is in the folder of this place, which needs this manifest and these tables.
-abbrev pub Needs : Type 0 → Place → ℕ → List ℕ → Type 0
-Needs Honest place manifest tables = (is : Told) × IsKept Honest manifest tables (fresh place) is
+module _ {C M : Type 0} (folders : Ghosts C M) where
+  -- On a shelf of the folder of this place a database was found, which needs this manifest and these tables.
+  abbrev pub Needs : Place → ℕ → List ℕ → Type 0
+  Needs place manifest tables = (shelf : FileShelf C M) × IsKept (AreHonest folders.calls) manifest tables (fresh place) (told_by folders shelf)
 
--- What the database in the folder does not need was removed.
-abbrev pub AreSparesGone : Type 0 → Place → List Call → List Call → Option (List ℕ) → Option (List ℕ) → Type 0
-AreSparesGone Honest place old new before after =
-    (manifest : ℕ) × (tables : List ℕ) × Needs Honest place manifest tables × IsTidied manifest tables old new before after
+  -- What the database in the folder needs was made durable, and what it does not need was removed.
+  abbrev pub AreSparesGone : Place → List Call → List Call → Option (List ℕ) → Option (List ℕ) → Type 0
+  AreSparesGone place old new before after = (manifest : ℕ) × (tables : List ℕ) × Needs place manifest tables × IsCleared manifest tables old new before after
 
--- The lock was held, and then this was done.
-abbrev pub IsCleaned : Type 0 → Place → List Call → List Call → Option (List ℕ) → Option (List ℕ) → Type 0
-IsCleaned Honest place old new before after = (held : List Call) × IsHeld Exclusive old held × AreSparesGone Honest place held new before after
+  -- The lock was held, and then this was done.
+  abbrev pub IsCleaned : Place → List Call → List Call → Option (List ℕ) → Option (List ℕ) → Type 0
+  IsCleaned place old new before after = (held : List Call) × IsHeld Exclusive old held × AreSparesGone place held new before after
 
--- Behind the lock: no database was opened, and nothing was asked for; or what it does not need was not removed.
-abbrev pub StopsCleaning : Type 0 → Place → WriterFault → List Call → List Call → Option (List ℕ) → Option (List ℕ) → Type 0
-StopsCleaning Honest place e old new before after =
-    (IsUnopened e × (new ≡ old) × Keeps before after)
-    ⊎ ((manifest : ℕ) × (tables : List ℕ) × Needs Honest place manifest tables × IsUntidied manifest tables e old new before after)
+module _ {C M : Type 0} (folders : Ghosts C M) (marks : mark.Ghosts M) where
+  -- Memory ran out; or on a shelf of the folder of this place there was no database to be found.
+  abbrev pub HasNone : Place → WriterFault → Type 0
+  HasNone place e =
+      (e ≡ OutOfMemory)
+      ⊎ ((shelf : FileShelf C M) × IsUnkept (stored_at folders marks place) MayRefuse (AreHonest folders.calls) e (fresh place) (told_by folders shelf))
 
--- Why a folder is not cleaned: its lock was not held; or what follows.
-abbrev pub IsUncleaned : Type 0 → Place → WriterFault → List Call → List Call → Option (List ℕ) → Option (List ℕ) → Type 0
-IsUncleaned Honest place e old new before after =
-    ((fault : DirectoryFault) × (e ≡ Directory fault) × IsUnheld Exclusive fault old new × Keeps before after)
-    ⊎ ((held : List Call) × IsHeld Exclusive old held × StopsCleaning Honest place e held new before after)
+  -- Behind the lock: no database was found, and nothing was asked for; or what it does not need was not removed.
+  abbrev pub StopsCleaning : Place → WriterFault → List Call → List Call → Option (List ℕ) → Option (List ℕ) → Type 0
+  StopsCleaning place e old new before after =
+      (HasNone place e × (new ≡ old) × Keeps before after)
+      ⊎ ((manifest : ℕ) × (tables : List ℕ) × Needs folders place manifest tables × IsUncleared manifest tables e old new before after)
+
+  -- Why a folder is not cleaned: its lock was not held; or what follows.
+  abbrev pub IsUncleaned : Place → WriterFault → List Call → List Call → Option (List ℕ) → Option (List ℕ) → Type 0
+  IsUncleaned place e old new before after =
+      ((fault : DirectoryFault) × (e ≡ Directory fault) × IsUnheld Exclusive fault old new × Keeps before after)
+      ⊎ ((held : List Call) × IsHeld Exclusive old held × StopsCleaning place e held new before after)

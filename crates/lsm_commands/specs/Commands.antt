@@ -32,16 +32,16 @@ Answers MakeTable input output = (entries : List Entry) × IsEntryList input ent
 Answers Dump input output = (entries : List Entry) × IsTable input entries × (output ≡ entry_list entries)
 Answers Manifest input output = (edits : List Change) × (rest : ℕ) × IsManifest input edits rest × (output ≡ manifest_text edits rest)
 
--- The input is a log, and of its records the one at this place is the first that is no edit.
+-- The input is a log, and of its records the one at this index is the first that is no edit.
 pub record HasBadEdit (input : List ℕ) (fault : EditFault) : Type 0 where
   pub records : List (List ℕ)
   pub rest : ℕ
-  pub place : ℕ
+  pub index : ℕ
   pub edits : List Change
   pub logged : IsLog input records rest
-  pub within : place < length records
-  pub good : AreEdits (take place records) edits
-  pub bad : edit_at (get_or records place []) ≡ Err fault
+  pub within : index < length records
+  pub good : AreEdits (take index records) edits
+  pub bad : edit_at (get_or records index []) ≡ Err fault
 
 -- The input begins with entries with the last of which a block would pass 2 ^ 32 - 1 bytes, or with entries whose index block would.
 abbrev pub IsTooLarge : List ℕ → Type 0
@@ -82,7 +82,7 @@ abbrev pub IsConverted : Conversion → (input old new : Option (List ℕ)) → 
 IsConverted conversion input old new = IfSome input (λ text. (output : List ℕ) × Answers conversion text output × Appends old new output)
 
 -- A fault explains the input. A failed write leaves a beginning of the answer, any other fault nothing.
-pub record IsRefused (conversion : Conversion) (input : Option (List ℕ)) (fault : Fault) (old new : Option (List ℕ)) : Type 0 where
+pub record IsNotConverted (conversion : Conversion) (input : Option (List ℕ)) (fault : Fault) (old new : Option (List ℕ)) : Type 0 where
   pub explained : IfSome input (λ text. Explains conversion text fault)
   pub kept : fault ≢ Write → Keeps old new
   pub begun : fault ≡ Write → IfSome input (λ text. BeginsAnswer conversion text old new)

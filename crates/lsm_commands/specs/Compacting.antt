@@ -106,8 +106,8 @@ IsUnmanned Honest e was is = (fault : ShelfFault) × (e ≡ Writer (of_shelf fau
     × ((board : TableId) × IsOpened Honest board was is)
 
 -- No worker began.
-abbrev pub IsUnbegun : (ℕ → List ℕ → Type 0) → (Asked → ShelfFault → Type 0) → Type 0 → CompactFault → Told → Told → Type 0
-IsUnbegun Stored Refused Honest e was is = IsUnopened Stored Refused Honest e was is ⊎ IsUnmanned Honest e was is
+abbrev pub NoneBegan : (ℕ → List ℕ → Type 0) → (Asked → ShelfFault → Type 0) → Type 0 → CompactFault → Told → Told → Type 0
+NoneBegan Stored Refused Honest e was is = IsUnopened Stored Refused Honest e was is ⊎ IsUnmanned Honest e was is
 
 -- Workers ended, the first one in their order that has a fault with this one.
 abbrev pub IsWorkersFault : Type 0 → ℕ → CompactFault → Type 0
@@ -141,19 +141,19 @@ pub record IsUnswept (Refused : Asked → ShelfFault → Type 0) (Honest : Type 
   pub refuses : Refuses Refused Honest board fault mid is
 
 -- All was done, and the reply was not written.
-abbrev pub IsUnwritten : Type 0 → ℕ → CompactFault → Told → Told → Type 0
-IsUnwritten Honest workers e was is = (e ≡ Writer WriteFault) × ((ends : List WorkerEnd) × Compacts Honest workers ends was is)
+abbrev pub IsUntold : Type 0 → ℕ → CompactFault → Told → Told → Type 0
+IsUntold Honest workers e was is = (e ≡ Writer WriteFault) × ((ends : List WorkerEnd) × Compacts Honest workers ends was is)
 
 -- What a fault says.
 abbrev pub IsCompactFault : (ℕ → List ℕ → Type 0) → (Asked → ShelfFault → Type 0) → Type 0 → ℕ → CompactFault → Told → Told → Type 0
 IsCompactFault Stored Refused Honest workers e was is =
     IsOutOfMemory e was is
-    ⊎ (IsUnbegun Stored Refused Honest e was is
+    ⊎ (NoneBegan Stored Refused Honest e was is
     ⊎ (IsUnfinished Honest workers e was is
     ⊎ (((fault : StateFault) × (e ≡ Writer (State fault)) × IsUnswept Refused Honest workers fault was is)
-    ⊎ IsUnwritten Honest workers e was is)))
+    ⊎ IsUntold Honest workers e was is)))
 
 -- What a refusal is: what the fault says; and, unless a write failed, nothing was written on standard output.
-pub record IsRefused (Stored : ℕ → List ℕ → Type 0) (Refused : Asked → ShelfFault → Type 0) (Honest : Type 0) (workers : ℕ) (fault : CompactFault) (was is : Told) (old new : Option (List ℕ)) : Type 0 where
+pub record IsNotCompacted (Stored : ℕ → List ℕ → Type 0) (Refused : Asked → ShelfFault → Type 0) (Honest : Type 0) (workers : ℕ) (fault : CompactFault) (was is : Told) (old new : Option (List ℕ)) : Type 0 where
   pub says : IsCompactFault Stored Refused Honest workers fault was is
   pub left : fault ≢ Writer WriteFault → Keeps old new

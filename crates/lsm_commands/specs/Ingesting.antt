@@ -52,6 +52,6 @@ IsIngestFault Stored Refused Honest start logs ws e was is =
     ⊎ ((e ≡ WriteFault) × ((r : Ingested) × ComesIn Honest start logs ws r was is))))
 
 -- What a refusal is: what the fault says; and, unless a write failed, nothing was written on standard output.
-pub record IsRefused (Stored : ℕ → List ℕ → Type 0) (Refused : Asked → ShelfFault → Type 0) (Honest : Type 0) (start : Start) (logs : List FolderFile) (ws : List Write) (fault : WriterFault) (was is : Told) (old new : Option (List ℕ)) : Type 0 where
+pub record IsNotBroughtIn (Stored : ℕ → List ℕ → Type 0) (Refused : Asked → ShelfFault → Type 0) (Honest : Type 0) (start : Start) (logs : List FolderFile) (ws : List Write) (fault : WriterFault) (was is : Told) (old new : Option (List ℕ)) : Type 0 where
   pub says : IsIngestFault Stored Refused Honest start logs ws fault was is
   pub left : fault ≢ WriteFault → Keeps old new

@@ -1,15 +1,15 @@
+-- What public clauses cite, and so what a caller reads
 pub mod Commands
 pub mod Directory
 pub mod Holding
+pub mod Folders
 pub mod Looking
 pub mod Listing
 pub mod FileNames
 pub mod Logs
 pub mod Scanned
 pub mod DirectoryFault
-pub mod Telling
 pub mod Opening
-pub mod ReadFault
 pub mod Answers
 pub mod BatchInput
 pub mod Names
@@ -22,3 +22,6 @@ pub mod CompactFault
 pub mod Compacting
 pub mod Played
 pub mod Run
+-- What private functions and proofs cite alone
+pub mod Telling
+pub mod ReadFault

@@ -38,8 +38,8 @@ abbrev pub ArePlayedInMemory : List Command → List Reply → Type 0
 ArePlayedInMemory commands replies = (place : Place) × ArePlayed ⊤ commands replies (fresh place)
 
 -- why there is no database on such a shelf
-abbrev pub IsUncreated : WriterFault → Type 0
-IsUncreated e = (place : Place) × (fault : ShelfFault) × (is : Told) × (e ≡ of_shelf fault) × IsCreateRefusal fault (fresh place) is
+abbrev pub IsUncreatedInMemory : WriterFault → Type 0
+IsUncreatedInMemory e = (place : Place) × (fault : ShelfFault) × (is : Told) × (e ≡ of_shelf fault) × IsCreateRefusal fault (fresh place) is
 
 -- memory ran out within a command, whose reply is then the last
 abbrev pub IsCutShort : List Reply → Type 0
@@ -53,8 +53,8 @@ pub record IsPrinted (text : List ℕ) (replies : List Reply) (old new : Option 
   pub written : Appends old new (replies_text replies)
 
 -- every command was answered
-abbrev pub IsDone : List ℕ → Option (List ℕ) → Option (List ℕ) → Type 0
-IsDone text old new = (replies : List Reply) × IsPrinted text replies old new × (IsCutShort replies → ⊥)
+abbrev pub IsScriptDone : List ℕ → Option (List ℕ) → Option (List ℕ) → Type 0
+IsScriptDone text old new = (replies : List Reply) × IsPrinted text replies old new × (IsCutShort replies → ⊥)
 
 -- memory ran out within a command
 abbrev pub IsCut : List ℕ → Option (List ℕ) → Option (List ℕ) → Type 0
@@ -62,26 +62,26 @@ IsCut text old new = (replies : List Reply) × IsPrinted text replies old new ×
 
 -- replies were printed
 abbrev pub IsEnded : List ℕ → ℕ → Option (List ℕ) → Option (List ℕ) → Type 0
-IsEnded text status old new = ((status ≡ 0) × IsDone text old new) ⊎ ((status ≡ 1) × IsCut text old new)
+IsEnded text status old new = ((status ≡ 0) × IsScriptDone text old new) ⊎ ((status ≡ 1) × IsCut text old new)
 
 -- What a fault says of a text that is no script. Want of memory says nothing of it.
-abbrev pub IsTextFault : List ℕ → WriterFault → Type 0
-IsTextFault text OutOfMemory = ⊤
-IsTextFault text Read = ⊥
-IsTextFault text Write = ⊥
-IsTextFault text (BadLine i fault) = IsFirstBadLine text i
-IsTextFault text (Directory fault) = ⊥
-IsTextFault text (LostCurrent highest) = ⊥
-IsTextFault text (UnflushedLog n) = ⊥
-IsTextFault text (State fault) = ⊥
+abbrev pub IsScriptTextFault : List ℕ → WriterFault → Type 0
+IsScriptTextFault text OutOfMemory = ⊤
+IsScriptTextFault text Read = ⊥
+IsScriptTextFault text Write = ⊥
+IsScriptTextFault text (BadLine i fault) = IsFirstBadLine text i
+IsScriptTextFault text (Directory fault) = ⊥
+IsScriptTextFault text (LostCurrent highest) = ⊥
+IsScriptTextFault text (UnflushedLog n) = ⊥
+IsScriptTextFault text (State fault) = ⊥
 
 -- why a text is not read: the last read of its stream failed, or it has more than 64 MiB
-abbrev pub IsUnread : List ℕ → Bool → Type 0
-IsUnread text failed = (failed ≡ true) ⊎ (67108864 < length text)
+abbrev pub IsInputUnread : List ℕ → Bool → Type 0
+IsInputUnread text failed = (failed ≡ true) ⊎ (67108864 < length text)
 
 -- What a fault says of an input: its text is no script, or is not read.
 abbrev pub IsInputFault : List ℕ → Bool → WriterFault → Type 0
-IsInputFault text failed e = IsTextFault text e ⊎ ((e ≡ Read) × IsUnread text failed)
+IsInputFault text failed e = IsScriptTextFault text e ⊎ ((e ≡ Read) × IsInputUnread text failed)
 
 -- What a fault says of a script: no database was created; or a write failed, of its replies. Want of memory says nothing.
 abbrev pub IsPlayFault : List Command → WriterFault → Type 0
@@ -89,19 +89,19 @@ IsPlayFault commands OutOfMemory = ⊤
 IsPlayFault commands Read = ⊥
 IsPlayFault commands Write = (replies : List Reply) × ArePlayedInMemory commands replies
 IsPlayFault commands (BadLine i fault) = ⊥
-IsPlayFault commands (Directory fault) = IsUncreated (Directory fault)
+IsPlayFault commands (Directory fault) = IsUncreatedInMemory (Directory fault)
 IsPlayFault commands (LostCurrent highest) = ⊥
 IsPlayFault commands (UnflushedLog n) = ⊥
 IsPlayFault commands (State fault) = ⊥
 
 -- What a fault says: the text is no script, or is not read; or it is one.
-abbrev pub IsFault : List ℕ → Bool → WriterFault → Type 0
-IsFault text failed e = IsInputFault text failed e ⊎ ((commands : List Command) × IsScript text commands × IsPlayFault commands e)
+abbrev pub IsScriptFault : List ℕ → Bool → WriterFault → Type 0
+IsScriptFault text failed e = IsInputFault text failed e ⊎ ((commands : List Command) × IsScript text commands × IsPlayFault commands e)
 
 -- Why a script ends with status 1: memory ran out within a command; or a fault, and unless a write failed nothing was written. `failed` says
 -- whether the last read of the input failed.
-abbrev pub IsRefused : List ℕ → Bool → Option (List ℕ) → Option (List ℕ) → Type 0
-IsRefused text failed old new = IsCut text old new ⊎ ((fault : WriterFault) × IsFault text failed fault × (fault ≢ Write → Keeps old new))
+abbrev pub IsScriptRefused : List ℕ → Bool → Option (List ℕ) → Option (List ℕ) → Type 0
+IsScriptRefused text failed old new = IsCut text old new ⊎ ((fault : WriterFault) × IsScriptFault text failed fault × (fault ≢ Write → Keeps old new))
 
 -- ---- what is told of a fault
 

@@ -87,13 +87,13 @@ IsUnbegun number logs Refused e was is =
     ((n : ℕ) × (e ≡ UnflushedLog n) × IsFirstUnread 0 0 logs n × (is ≡ was)) ⊎ IsUncreated number Refused e was is
 
 -- Why the database that is there was not opened.
-abbrev pub IsUnopened : (ℕ → List ℕ → Type 0) → (Asked → ShelfFault → Type 0) → Type 0 → WriterFault → Told → Told → Type 0
-IsUnopened Stored Refused Honest e was is = (fault : OpenFault) × (e ≡ of_open fault) × IsOpenRefusal Stored Refused Honest usual.manifest_limit fault was is × IsReadOnce fault was is
+abbrev pub IsNotReopened : (ℕ → List ℕ → Type 0) → (Asked → ShelfFault → Type 0) → Type 0 → WriterFault → Told → Told → Type 0
+IsNotReopened Stored Refused Honest e was is = (fault : OpenFault) × (e ≡ of_open fault) × IsOpenRefusal Stored Refused Honest usual.manifest_limit fault was is × IsReadOnce fault was is
 
 -- Why it was not, with what the logs beside it may have to do with that.
 abbrev pub IsNotOpened : (ℕ → List ℕ → Type 0) → (Asked → ShelfFault → Type 0) → Type 0 → List FolderFile → WriterFault → Told → Told → Type 0
 IsNotOpened Stored Refused Honest logs e was is =
-    IsUnflushed Refused logs e was is ⊎ ((mid : Told) × IsFlushed logs was mid × IsUnopened Stored Refused Honest e mid is)
+    IsUnflushed Refused logs e was is ⊎ ((mid : Told) × IsFlushed logs was mid × IsNotReopened Stored Refused Honest e mid is)
 
 -- Why there is no such state. `Stored` says which images the shelf gave for which numbers, `Refused` which calls it may refuse with which
 -- faults.

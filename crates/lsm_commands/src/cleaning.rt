@@ -1,18 +1,21 @@
 //! The files of a folder that its database does not need are removed.
 
+mod durable;
 pub(crate) mod kept;
 pub(crate) mod program;
 
 ghost use Rattle.std.specs.Prelude.{◌≡◌, ◌++◌, ◌∷◌, [], Ok, IfErr, OnOk, map, string_bytes};
 ghost use Rattle.std.specs.Io.KnownBytes.{Appends};
-ghost use Rattle.lsm_folder.specs.Calls.{AreHonest, removed};
+ghost use Rattle.lsm_folder.specs.Calls.{removed};
 ghost use Rattle.lsm_storage.specs.FolderFault.{device_of};
 ghost use Rattle.lsm_shelf.specs.Told.{NotNamed};
-ghost use Rattle.lsm_commands.specs.Cleaning.{AreRemoved, AreSparesGone, IsCleaned, IsTidied};
-ghost use Rattle.lsm_commands.specs.Cleaning.{IsSpare, IsUncleaned, IsUnremoved, IsUntidied, Removes};
-ghost use Rattle.lsm_commands.specs.Cleaning.{StopsCleaning, StopsRemoving};
+ghost use Rattle.lsm_commands.specs.Cleaning.{AreRemoved, AreSparesGone, IsCleaned, IsCleared};
+ghost use Rattle.lsm_commands.specs.Cleaning.{IsTidied, IsUncleared};
+ghost use Rattle.lsm_commands.specs.Cleaning.{IsSpare, IsUncleaned, IsUnremoved, IsUntidied};
+ghost use Rattle.lsm_commands.specs.Cleaning.{Removes, StopsCleaning, StopsRemoving};
 ghost use Rattle.lsm_commands.specs.WriterFault.{of_shelf};
 
+use crate::cleaning::durable::make_durable;
 use crate::cleaning::kept::{Kept, kept_in};
 use crate::faults::writer_fault::WriterFault;
 use crate::folder::holding::hold;
@@ -57,6 +60,7 @@ fn remove_file<C: FolderCalls, R: Wait, O: Write>(
         (Appends (O.contents out.old) (O.contents out.new) (name.now ++ 10 ∷ [])) }
     ensures refused { IfErr result (λ e. IsUnremoved name.now e (C.calls folder.old)
         (C.calls folder.new) (O.contents out.old) (O.contents out.new)) }
+    ensures place { C.place folder.new ≡ C.place folder.old }
 {
     if let Err(fault) = folder.remove(rt, name) {
         return Err(refused_by(fault));
@@ -80,6 +84,7 @@ fn remove_spare<C: FolderCalls, R: Wait, O: Write>(
     ensures spare { IfErr result (λ _. IsSpare kept.now.manifest kept.now.tables.items name.now) }
     ensures refused { IfErr result (λ e. IsUnremoved name.now e (C.calls folder.old)
         (C.calls folder.new) (O.contents out.old) (O.contents out.new)) }
+    ensures place { C.place folder.new ≡ C.place folder.old }
 {
     if !kept.spares(name) {
         return Ok(());
@@ -105,6 +110,7 @@ fn remove_spares<C: FolderCalls, R: Wait, O: Write>(
     ensures refused { IfErr result (λ e.
         StopsRemoving kept.now.manifest kept.now.tables.items (map string_bytes names.now) e
         (C.calls folder.old) (C.calls folder.new) (O.contents out.old) (O.contents out.new)) }
+    ensures place { C.place folder.new ≡ C.place folder.old }
 {
     for name in names {
         remove_spare(rt, folder, kept, name.as_str(), out)?;
@@ -125,6 +131,7 @@ fn tidy<C: FolderCalls, R: Wait, O: Write>(
         (C.calls folder.old) (C.calls folder.new) (O.contents out.old) (O.contents out.new)) }
     ensures refused { IfErr result (λ e. IsUntidied kept.now.manifest kept.now.tables.items e
         (C.calls folder.old) (C.calls folder.new) (O.contents out.old) (O.contents out.new)) }
+    ensures place { C.place folder.new ≡ C.place folder.old }
 {
     let names = folder_names(rt, alloc, folder)?;
     remove_spares(rt, folder, kept, &names, out)?;
@@ -132,6 +139,24 @@ fn tidy<C: FolderCalls, R: Wait, O: Write>(
         Ok(()) => Ok(()),
         Err(_) => Err(WriterFault::Write),
     }
+}
+
+/// Makes durable what the database needs, and then removes the files that it does not need.
+fn clear<C: FolderCalls, R: Wait, O: Write>(
+    rt: &R,
+    alloc: Global,
+    folder: &mut C,
+    kept: &Kept,
+    out: &mut O,
+) -> Result<(), WriterFault>
+    ensures cleared { OnOk result (IsCleared kept.now.manifest kept.now.tables.items
+        (C.calls folder.old) (C.calls folder.new) (O.contents out.old) (O.contents out.new)) }
+    ensures refused { IfErr result (λ e. IsUncleared kept.now.manifest kept.now.tables.items e
+        (C.calls folder.old) (C.calls folder.new) (O.contents out.old) (O.contents out.new)) }
+    ensures place { C.place folder.new ≡ C.place folder.old }
+{
+    make_durable(rt, alloc, folder, kept.manifest)?;
+    tidy(rt, alloc, folder, kept, out)
 }
 
 /// Opens the database in a folder to read, and removes the files that it does not need.
@@ -143,13 +168,15 @@ fn clean_held<C: FolderCalls + Send + Sync, R: Wait, O: Write>(
 ) -> Result<(), WriterFault>
 where
     C::Mark: Send + Sync,
-    ensures cleaned { OnOk result (AreSparesGone (AreHonest C.calls) (C.place folder.old)
+    ensures cleaned { OnOk result (AreSparesGone C.FolderCalls (C.place folder.old)
         (C.calls folder.old) (C.calls folder.new) (O.contents out.old) (O.contents out.new)) }
-    ensures refused { IfErr result (λ e. StopsCleaning (AreHonest C.calls) (C.place folder.old) e
-        (C.calls folder.old) (C.calls folder.new) (O.contents out.old) (O.contents out.new)) }
+    ensures refused { IfErr result (λ e. StopsCleaning C.FolderCalls C.Mark.Mark
+        (C.place folder.old) e (C.calls folder.old) (C.calls folder.new) (O.contents out.old)
+        (O.contents out.new)) }
+    ensures place { C.place folder.new ≡ C.place folder.old }
 {
     let kept = kept_in(rt, alloc, &*folder)?;
-    match tidy(rt, alloc, folder, &kept, out) {
+    match clear(rt, alloc, folder, &kept, out) {
         Ok(()) => Ok(()),
         Err(fault) => Err(fault),
     }
@@ -165,10 +192,12 @@ pub(crate) fn clean_folder<C: FolderCalls + Send + Sync, R: Wait, O: Write>(
 ) -> Result<(), WriterFault>
 where
     C::Mark: Send + Sync,
-    ensures cleaned { OnOk result (IsCleaned (AreHonest C.calls) (C.place folder.old)
+    ensures cleaned { OnOk result (IsCleaned C.FolderCalls (C.place folder.old)
         (C.calls folder.old) (C.calls folder.new) (O.contents out.old) (O.contents out.new)) }
-    ensures refused { IfErr result (λ e. IsUncleaned (AreHonest C.calls) (C.place folder.old) e
-        (C.calls folder.old) (C.calls folder.new) (O.contents out.old) (O.contents out.new)) }
+    ensures refused { IfErr result (λ e. IsUncleaned C.FolderCalls C.Mark.Mark
+        (C.place folder.old) e (C.calls folder.old) (C.calls folder.new) (O.contents out.old)
+        (O.contents out.new)) }
+    ensures place { C.place folder.new ≡ C.place folder.old }
 {
     hold(rt, folder, LockKind::Exclusive)?;
     match clean_held(rt, alloc, folder, out) {

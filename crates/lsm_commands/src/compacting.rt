@@ -18,7 +18,7 @@ ghost use Rattle.lsm_commands.specs.WriterFault.{of_shelf};
 ghost use Rattle.lsm_commands.specs.Starting.{usual};
 ghost use Rattle.lsm_commands.specs.declared.faults.writer_fault.WriterFault.TheVariants.{Write as WriteFault};
 ghost use Rattle.lsm_commands.specs.Compacting.{AreEnds, IsCompactFault, IsCompacted, IsFaultless};
-ghost use Rattle.lsm_commands.specs.Compacting.{IsOpened, IsSwept, IsUnbegun, IsWorkersFault};
+ghost use Rattle.lsm_commands.specs.Compacting.{IsOpened, IsSwept, NoneBegan, IsWorkersFault};
 ghost use Rattle.lsm_commands.specs.Compacting.{Refuses, installed_text};
 ghost use Rattle.lsm_commands.specs.declared.faults.compact_fault.CompactFault.TheVariants.{Writer as WriterVariant};
 
@@ -58,7 +58,7 @@ fn begin<N: Boarded, S: Shelf, R: Wait, E: Write>(
     ensures count { IfOk result (λ c. vec_len c.shelves ≡ options.workers) }
     ensures opened { OnOk result (IsOpened S.honest N.board shelf.old shelf.new) }
     ensures refused { IfErr result (λ e.
-        IsUnbegun (Stored S.Receipt (S.is_of N.place) S.Receipt.number S.Receipt.image)
+        NoneBegan (Stored S.Receipt (S.is_of N.place) S.Receipt.number S.Receipt.image)
         (S.refuses N.place) S.honest e shelf.old shelf.new) }
     ensures quiet { IsFalse options.progress → Keeps (E.contents err.old) (E.contents err.new) }
 {

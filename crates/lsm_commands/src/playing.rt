@@ -9,7 +9,7 @@ ghost use Rattle.lsm_journal.specs.Sending.{IsCreateRefusal};
 ghost use Rattle.lsm_shelf.specs.Told.{Told};
 ghost use Rattle.lsm_shelf.specs.declared.shelf_fault.ShelfFault.{ShelfFault};
 ghost use Rattle.lsm_state.specs.Making.{IsNewBoard};
-ghost use Rattle.lsm_commands.specs.Played.{ArePlayed, ArePlayedInMemory, IsUncreated};
+ghost use Rattle.lsm_commands.specs.Played.{ArePlayed, ArePlayedInMemory, IsUncreatedInMemory};
 ghost use Rattle.lsm_commands.specs.Starting.{usual};
 ghost use Rattle.lsm_commands.specs.WriterFault.{of_shelf};
 ghost use Rattle.lsm_commands.specs.declared.faults.writer_fault.WriterFault.TheVariants.{OutOfMemory};
@@ -85,7 +85,7 @@ pub(crate) fn play<R: Wait>(
     commands: &[Command],
 ) -> Result<List<Reply>, WriterFault>
     ensures played { IfOk result (λ replies. ArePlayedInMemory commands.now replies) }
-    ensures fault { IfErr result (λ e. (e ≡ OutOfMemory) ⊎ IsUncreated e) }
+    ensures fault { IfErr result (λ e. (e ≡ OutOfMemory) ⊎ IsUncreatedInMemory e) }
 {
     let shelf = MemoryShelf::new(alloc)?;
     let parts = NewParts::make(alloc)?;

@@ -17,7 +17,8 @@ ghost use Rattle.lsm_codec.specs.Entries.{answer};
 ghost use Rattle.lsm_table.specs.Told.{Becomes};
 ghost use Rattle.lsm_levels.specs.Files.{all_entries};
 ghost use Rattle.lsm_version.specs.Versions.{files};
-ghost use Rattle.lsm_commands.specs.Answers.{IsDone, IsFault, Leaves, Prints, PrintsBefore};
+ghost use Rattle.lsm_commands.specs.Answers.{IsLookFault, IsLookedInto, Leaves, Prints};
+ghost use Rattle.lsm_commands.specs.Answers.{PrintsBefore};
 ghost use Rattle.lsm_commands.specs.Directory.{OnlyReads};
 ghost use Rattle.lsm_commands.specs.Listing.{answer_text, check_text};
 ghost use Rattle.lsm_commands.specs.Logs.{IsChecked};
@@ -181,11 +182,11 @@ fn perform<N: Naming, S: Shelf, R: Wait, O: Write, E: Write>(
     err: &mut E,
 ) -> Result<(), DirectoryFault>
     requires named { records ≡ N.registry }
-    ensures done { OnOk result (IsDone inquiry.now.form inquiry.now.command.now
+    ensures done { OnOk result (IsLookedInto inquiry.now.form inquiry.now.command.now
         inquiry.now.files.now inquiry.now.progress S.honest shelf.old shelf.new
         (O.contents out.old) (O.contents out.new) (E.contents err.old) (E.contents err.new)) }
-    ensures fault { IfErr result (λ e. IsFault (Stored S.Receipt (S.is_of N.place) S.Receipt.number
-        S.Receipt.image) (S.refuses N.place) S.honest e shelf.old shelf.new) }
+    ensures fault { IfErr result (λ e. IsLookFault (Stored S.Receipt (S.is_of N.place)
+        S.Receipt.number S.Receipt.image) (S.refuses N.place) S.honest e shelf.old shelf.new) }
     ensures left { IfErr result (λ e. Leaves inquiry.now.form inquiry.now.command.now S.honest e
         shelf.old shelf.new (O.contents out.old) (O.contents out.new)) }
     ensures reads { OnlyReads shelf.old shelf.new }
@@ -215,10 +216,10 @@ pub(crate) fn perform_as<N: Naming, S: Shelf, R: Wait, O: Write, E: Write>(
 ) -> (Result<(), DirectoryFault>, S)
     requires records { records ≡ N.registry }
     requires shelf { (S.told shelf).place ≡ N.place }
-    ensures done { OnOk result.0 (IsDone inquiry.now.form inquiry.now.command.now
+    ensures done { OnOk result.0 (IsLookedInto inquiry.now.form inquiry.now.command.now
         inquiry.now.files.now inquiry.now.progress S.honest (S.told shelf) (S.told result.1)
         (O.contents out.old) (O.contents out.new) (E.contents err.old) (E.contents err.new)) }
-    ensures fault { IfErr result.0 (λ e. IsFault (Stored S.Receipt (S.is_of N.place)
+    ensures fault { IfErr result.0 (λ e. IsLookFault (Stored S.Receipt (S.is_of N.place)
         S.Receipt.number S.Receipt.image) (S.refuses N.place) S.honest e
         (S.told shelf) (S.told result.1)) }
     ensures left { IfErr result.0 (λ e. Leaves inquiry.now.form inquiry.now.command.now S.honest e

@@ -3,7 +3,6 @@
 ghost use Rattle.std.specs.Prelude.{◌≡◌, ◌≢◌, ◌≤◌, map};
 ghost use Rattle.std.specs.Io.KnownBytes.{Appends, Keeps};
 ghost use Rattle.std.specs.IoError.{error_kind};
-ghost use Rattle.lsm_folder.specs.Calls.{AreHonest};
 ghost use Rattle.lsm_text.specs.Printing.{Begins};
 ghost use Rattle.lsm_commands.specs.Run.{AreDone, AreUsageFault, AreUndone, IsDone, IsUndone};
 ghost use Rattle.lsm_commands.specs.Run.{IsUnwritten, IsWritten, text_in};
@@ -28,6 +27,7 @@ fn show_help<O: Write, E: Write>(text: &[u8], out: &mut O, err: &mut E) -> u8
     ensures done { result ≡ 0 → Appends (O.contents out.old) (O.contents out.new) text.now }
     ensures refused { result ≢ 0
         → (result ≡ 1) × Begins (O.contents out.old) (O.contents out.new) text.now }
+    ensures quiet { result ≡ 0 → Keeps (E.contents err.old) (E.contents err.new) }
 {
     let done = write_output(out, text);
     status_of(done, Known::answered(None), err)
@@ -76,10 +76,10 @@ where
     I: Read,
     O: Write,
     E: Write,
-    ensures done { result ≡ 0 → IsWritten (AreHonest C.calls)
+    ensures done { result ≡ 0 → IsWritten C.FolderCalls
         (text_in (I.remaining input.old) (P.text paths.now)) line.now.path.now line.now.command
         (O.contents out.old) (O.contents out.new) }
-    ensures refused { result ≢ 0 → (result ≡ 1) × IsUnwritten (AreHonest C.calls)
+    ensures refused { result ≢ 0 → (result ≡ 1) × IsUnwritten C.FolderCalls C.Mark.Mark
         (text_in (I.remaining input.old) (P.text paths.now)) line.now.path.now line.now.command
         (O.contents out.old) (O.contents out.new) }
     ensures quiet { result ≡ 0 → Keeps (E.contents err.old) (E.contents err.new) }
@@ -109,10 +109,10 @@ where
     I: Read + Drop,
     O: Write,
     E: Write + Send,
-    ensures done { result ≡ 0 → IsDone (AreHonest C.calls)
+    ensures done { result ≡ 0 → IsDone C.FolderCalls
         (text_in (I.remaining input) (P.text paths.now)) request.now (O.contents out.old)
         (O.contents out.new) (E.contents err.old) (E.contents err.new) }
-    ensures refused { result ≢ 0 → (result ≡ 1) × IsUndone (AreHonest C.calls)
+    ensures refused { result ≢ 0 → (result ≡ 1) × IsUndone C.FolderCalls C.Mark.Mark
         (text_in (I.remaining input) (P.text paths.now)) request.now (O.contents out.old)
         (O.contents out.new) }
 {
@@ -148,10 +148,10 @@ where
     I: Read + Drop,
     O: Write,
     E: Write + Send,
-    ensures done { result ≡ 0 → AreDone (AreHonest C.calls)
+    ensures done { result ≡ 0 → AreDone C.FolderCalls
         (text_in (I.remaining input) (P.text paths.now)) (map S.text words.now)
         (O.contents out.old) (O.contents out.new) (E.contents err.old) (E.contents err.new) }
-    ensures refused { result ≡ 1 → AreUndone (AreHonest C.calls)
+    ensures refused { result ≡ 1 → AreUndone C.FolderCalls C.Mark.Mark
         (text_in (I.remaining input) (P.text paths.now)) (map S.text words.now)
         (O.contents out.old) (O.contents out.new) }
     ensures usage { result ≡ 2

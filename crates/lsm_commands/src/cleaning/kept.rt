@@ -3,10 +3,8 @@
 ghost use Rattle.std.specs.Prelude.{◌≡◌, ◌↔◌, ℕ, IfErr, IfOk, MatchBool};
 ghost use Rattle.std.specs.List.Sorted.{IsStrictlyIncreasing};
 ghost use Rattle.lsm_codec.specs.Lists.{Has};
-ghost use Rattle.lsm_folder.specs.Calls.{AreHonest};
-ghost use Rattle.lsm_commands.specs.Cleaning.{IsKept, IsSpare, IsUnkept, IsUnopened, Needs};
+ghost use Rattle.lsm_commands.specs.Cleaning.{HasNone, IsKept, IsSpare, IsUnkept, Needs};
 ghost use Rattle.lsm_shelf.specs.Stored.{Stored};
-ghost use Rattle.lsm_shelf.specs.Told.{Told};
 
 use crate::faults::writer_fault::WriterFault;
 use crate::folder::names::{is_temporary, manifest_in, table_in};
@@ -87,24 +85,24 @@ fn find_kept<N: Naming, S: Shelf, R: Wait>(
     })
 }
 
-/// The same under the name that was picked for the records and the shelf.
+/// The same under the name that was picked for the records and the shelf, which is given back.
 fn find_kept_as<N: Naming, S: Shelf, R: Wait>(
     rt: &R,
     alloc: Global,
     shelf: S,
     records: Records<S::Receipt>,
-) -> Result<Kept, WriterFault>
+) -> (Result<Kept, WriterFault>, S)
     requires records { records ≡ N.registry }
     requires shelf { (S.told shelf).place ≡ N.place }
-    ensures kept { IfOk result (λ k.
-        (is : Told) × IsKept S.honest k.manifest k.tables.items (S.told shelf) is) }
-    ensures fault { IfErr result IsUnopened }
+    ensures kept { IfOk result.0 (λ k.
+        IsKept S.honest k.manifest k.tables.items (S.told shelf) (S.told result.1)) }
+    ensures refused { IfErr result.0 (λ e.
+        IsUnkept (Stored S.Receipt (S.is_of N.place) S.Receipt.number S.Receipt.image)
+        (S.refuses N.place) S.honest e (S.told shelf) (S.told result.1)) }
 {
     let mut shelf: NamedShelf<N, S> = NamedShelf::of(shelf);
-    match find_kept(rt, alloc, &mut shelf, records) {
-        Ok(kept) => Ok(kept),
-        Err(fault) => Err(fault),
-    }
+    let kept = find_kept(rt, alloc, &mut shelf, records);
+    (kept, shelf.into_shelf())
 }
 
 /// What the database in a folder needs. The folder's value is asked for nothing but a fork.
@@ -116,16 +114,15 @@ pub(crate) fn kept_in<C: FolderCalls + Send + Sync, R: Wait>(
 where
     C::Mark: Send + Sync,
     ensures kept { IfOk result (λ k.
-        Needs (AreHonest C.calls) (C.place folder.now) k.manifest k.tables.items) }
-    ensures fault { IfErr result IsUnopened }
+        Needs C.FolderCalls (C.place folder.now) k.manifest k.tables.items) }
+    ensures refused { IfErr result (λ e.
+        HasNone C.FolderCalls C.Mark.Mark (C.place folder.now) e) }
 {
     let Ok(fork) = folder.fork() else {
         return Err(WriterFault::OutOfMemory);
     };
     let records = Records::new(alloc)?;
     let shelf = FileShelf::over(fork);
-    match find_kept_as::<Brand, FileShelf<C>, R>(rt, alloc, shelf, records) {
-        Ok(kept) => Ok(kept),
-        Err(fault) => Err(fault),
-    }
+    let (kept, _shelf) = find_kept_as::<Brand, FileShelf<C>, R>(rt, alloc, shelf, records);
+    kept
 }

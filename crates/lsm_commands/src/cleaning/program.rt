@@ -1,8 +1,7 @@
 //! One run of `clean`.
 
-ghost use Rattle.std.specs.Prelude.{◌≡◌, ◌≢◌, IfErr, OnOk};
+ghost use Rattle.std.specs.Prelude.{◌≡◌, ◌≢◌, OnErr, OnOk};
 ghost use Rattle.std.specs.Io.KnownBytes.{Keeps};
-ghost use Rattle.lsm_folder.specs.Calls.{AreHonest};
 ghost use Rattle.lsm_commands.specs.Cleaning.{IsCleaned, IsUncleaned};
 ghost use Rattle.lsm_commands.specs.Run.{IsCleanedAt, IsUncleanedAt};
 ghost use Rattle.lsm_commands.specs.declared.faults.writer_fault.WriterFault.{WriterFault};
@@ -32,11 +31,12 @@ pub fn clean<C: FolderCalls + Send + Sync, R: Wait, O: Write, E: Write>(
 ) -> u8
 where
     C::Mark: Send + Sync,
-    ensures done { result ≡ 0 → IsCleaned (AreHonest C.calls) (C.place folder.old)
+    ensures done { result ≡ 0 → IsCleaned C.FolderCalls (C.place folder.old)
         (C.calls folder.old) (C.calls folder.new) (O.contents out.old) (O.contents out.new) }
-    ensures refused { result ≢ 0 → (result ≡ 1)
-        × ((fault : WriterFault) × IsUncleaned (AreHonest C.calls) (C.place folder.old) fault
+    ensures refused { result ≢ 0 → (result ≡ 1) × ((fault : WriterFault)
+        × IsUncleaned C.FolderCalls C.Mark.Mark (C.place folder.old) fault
         (C.calls folder.old) (C.calls folder.new) (O.contents out.old) (O.contents out.new)) }
+    ensures place { C.place folder.new ≡ C.place folder.old }
     ensures quiet { result ≡ 0 → Keeps (E.contents err.old) (E.contents err.new) }
 {
     let done = clean_folder(rt, alloc, folder, out);
@@ -53,16 +53,14 @@ fn clean_at<C: FolderCalls + Send + Sync, P: Paths<C>, R: Wait, O: Write>(
 ) -> Result<(), WriterFault>
 where
     C::Mark: Send + Sync,
-    ensures done { OnOk result (IsCleanedAt (AreHonest C.calls) path.now (O.contents out.old)
+    ensures done { OnOk result (IsCleanedAt C.FolderCalls path.now (O.contents out.old)
         (O.contents out.new)) }
-    ensures refused { IfErr result (λ e. IsUncleanedAt (AreHonest C.calls) path.now e
+    ensures refused { OnErr result (IsUncleanedAt C.FolderCalls C.Mark.Mark path.now
         (O.contents out.old) (O.contents out.new)) }
 {
     let mut folder = open_at(paths, path, reasons)?;
-    match clean_folder(rt, paths.alloc(), &mut folder, out) {
-        Ok(()) => Ok(()),
-        Err(fault) => Err(fault),
-    }
+    clean_folder(rt, paths.alloc(), &mut folder, out)?;
+    Ok(())
 }
 
 /// Cleans the folder at a path, and answers the exit status.
@@ -75,10 +73,10 @@ pub(crate) fn run_clean<C: FolderCalls + Send + Sync, P: Paths<C>, R: Wait, O: W
 ) -> u8
 where
     C::Mark: Send + Sync,
-    ensures done { result ≡ 0 → IsCleanedAt (AreHonest C.calls) path.now (O.contents out.old)
+    ensures done { result ≡ 0 → IsCleanedAt C.FolderCalls path.now (O.contents out.old)
         (O.contents out.new) }
-    ensures refused { result ≢ 0 → (result ≡ 1) × ((fault : WriterFault) × IsUncleanedAt
-        (AreHonest C.calls) path.now fault (O.contents out.old) (O.contents out.new)) }
+    ensures refused { result ≢ 0 → (result ≡ 1) × IsUncleanedAt C.FolderCalls C.Mark.Mark
+        path.now (O.contents out.old) (O.contents out.new) }
     ensures quiet { result ≡ 0 → Keeps (E.contents err.old) (E.contents err.new) }
 {
     let reasons = match Reasons::new(paths.alloc()) {

@@ -2,8 +2,7 @@
 
 ghost use Rattle.std.specs.Prelude.{◌≡◌, ◌≢◌, IsFalse, OnErr, OnOk};
 ghost use Rattle.std.specs.Io.KnownBytes.{Keeps};
-ghost use Rattle.lsm_folder.specs.Calls.{AreHonest};
-ghost use Rattle.lsm_commands.specs.Compacting.{IsCompacted, IsRefused};
+ghost use Rattle.lsm_commands.specs.Compacting.{IsCompacted, IsNotCompacted};
 ghost use Rattle.lsm_commands.specs.Run.{IsCompactedAt, IsUncompacted};
 ghost use Rattle.lsm_commands.specs.declared.faults.compact_fault.CompactFault.{CompactFault};
 ghost use Rattle.lsm_shelf.specs.Stored.{Stored};
@@ -46,7 +45,7 @@ pub fn compact<S: Shelf, R: Threads + Wait + Sync, O: Write, E: Write + Send>(
     ensures done { result.0 ≡ 0 → IsCompacted S.honest options.workers (S.told shelf)
         (S.told result.1) (O.contents out.old) (O.contents out.new) }
     ensures refused { result.0 ≢ 0 → (result.0 ≡ 1) × ((fault : CompactFault)
-        × IsRefused (Stored S.Receipt (S.is_of (S.told shelf).place) S.Receipt.number
+        × IsNotCompacted (Stored S.Receipt (S.is_of (S.told shelf).place) S.Receipt.number
         S.Receipt.image) (S.refuses (S.told shelf).place) S.honest options.workers fault
         (S.told shelf) (S.told result.1) (O.contents out.old) (O.contents out.new)) }
     ensures quiet { result.0 ≡ 0 → IsFalse options.progress
@@ -73,9 +72,9 @@ where
     R: Threads + Wait + Sync,
     O: Write,
     E: Write + Send,
-    ensures done { OnOk result (IsCompactedAt (AreHonest C.calls) line.now (O.contents out.old)
+    ensures done { OnOk result (IsCompactedAt C.FolderCalls line.now (O.contents out.old)
         (O.contents out.new)) }
-    ensures refused { OnErr result (IsUncompacted (AreHonest C.calls) line.now
+    ensures refused { OnErr result (IsUncompacted C.FolderCalls C.Mark.Mark line.now
         (O.contents out.old) (O.contents out.new)) }
     ensures quiet { IsFalse line.now.options.progress
         → Keeps (E.contents err.old) (E.contents err.new) }
@@ -103,10 +102,10 @@ where
     R: Threads + Wait + Sync,
     O: Write,
     E: Write + Send,
-    ensures done { result ≡ 0 → IsCompactedAt (AreHonest C.calls) line.now (O.contents out.old)
+    ensures done { result ≡ 0 → IsCompactedAt C.FolderCalls line.now (O.contents out.old)
         (O.contents out.new) }
-    ensures refused { result ≢ 0 → (result ≡ 1) × IsUncompacted (AreHonest C.calls) line.now
-        (O.contents out.old) (O.contents out.new) }
+    ensures refused { result ≢ 0 → (result ≡ 1) × IsUncompacted C.FolderCalls C.Mark.Mark
+        line.now (O.contents out.old) (O.contents out.new) }
     ensures quiet { result ≡ 0 → IsFalse line.now.options.progress
         → Keeps (E.contents err.old) (E.contents err.new) }
 {

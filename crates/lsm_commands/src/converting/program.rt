@@ -2,7 +2,7 @@
 
 ghost use Rattle.std.specs.Prelude.{◌≡◌, ◌≢◌, None};
 ghost use Rattle.std.specs.Io.KnownBytes.{Keeps};
-ghost use Rattle.lsm_commands.specs.Commands.{IsConverted, IsRefused, meaning};
+ghost use Rattle.lsm_commands.specs.Commands.{IsConverted, IsNotConverted, meaning};
 ghost use Rattle.lsm_commands.specs.Run.{IsUnconverted, text_in};
 ghost use Rattle.lsm_text.specs.declared.fault.Fault.{Fault};
 
@@ -63,7 +63,7 @@ pub fn convert<R: Read, O: Write, E: Write>(
 ) -> u8
     ensures done { result ≡ 0
         → IsConverted conversion (R.remaining input.old) (O.contents out.old) (O.contents out.new) }
-    ensures refused { result ≢ 0 → (result ≡ 1) × ((fault : Fault) × IsRefused conversion
+    ensures refused { result ≢ 0 → (result ≡ 1) × ((fault : Fault) × IsNotConverted conversion
         (R.remaining input.old) fault (O.contents out.old) (O.contents out.new)) }
     ensures quiet { result ≡ 0 → Keeps (E.contents err.old) (E.contents err.new) }
 {

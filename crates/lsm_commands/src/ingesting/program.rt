@@ -2,10 +2,9 @@
 
 ghost use Rattle.std.specs.Prelude.{◌≡◌, ◌≢◌, IfErr, OnErr, OnOk};
 ghost use Rattle.std.specs.Io.KnownBytes.{Keeps};
-ghost use Rattle.lsm_folder.specs.Calls.{AreHonest};
 ghost use Rattle.lsm_shelf.specs.Stored.{Stored};
-ghost use Rattle.lsm_commands.specs.Ingesting.{IsBroughtIn, IsRefused};
-ghost use Rattle.lsm_commands.specs.Run.{ComesInAt, IsIngested, IsUningested, StaysOutAt};
+ghost use Rattle.lsm_commands.specs.Ingesting.{IsBroughtIn, IsNotBroughtIn};
+ghost use Rattle.lsm_commands.specs.Run.{ComesInAt, FailsToBringIn, IsIngested, IsUningested};
 ghost use Rattle.lsm_commands.specs.Run.{text_in};
 ghost use Rattle.lsm_commands.specs.declared.faults.writer_fault.WriterFault.{WriterFault};
 
@@ -44,10 +43,11 @@ pub fn ingest<S: Shelf, R: Wait, O: Write, E: Write>(
 ) -> (u8, S)
     ensures done { result.0 ≡ 0 → IsBroughtIn S.honest prepared.now.start prepared.now.logs.items
         batch.now (S.told shelf) (S.told result.1) (O.contents out.old) (O.contents out.new) }
-    ensures refused { result.0 ≢ 0 → (result.0 ≡ 1) × ((fault : WriterFault) × IsRefused (Stored
-        S.Receipt (S.is_of (S.told shelf).place) S.Receipt.number S.Receipt.image) (S.refuses
-        (S.told shelf).place) S.honest prepared.now.start prepared.now.logs.items batch.now
-        fault (S.told shelf) (S.told result.1) (O.contents out.old) (O.contents out.new)) }
+    ensures refused { result.0 ≢ 0 → (result.0 ≡ 1) × ((fault : WriterFault)
+        × IsNotBroughtIn (Stored S.Receipt (S.is_of (S.told shelf).place) S.Receipt.number
+        S.Receipt.image) (S.refuses (S.told shelf).place) S.honest prepared.now.start
+        prepared.now.logs.items batch.now fault (S.told shelf) (S.told result.1)
+        (O.contents out.old) (O.contents out.new)) }
     ensures quiet { result.0 ≡ 0 → Keeps (E.contents err.old) (E.contents err.new) }
 {
     let (done, shelf) = bring_in(rt, alloc, shelf, prepared, batch, out);
@@ -71,49 +71,16 @@ fn ingest_at<C: FolderCalls + Send + Sync, P: Paths<C>, R: Wait, O: Write>(
 ) -> Result<(), WriterFault>
 where
     C::Mark: Send + Sync,
-    ensures done { OnOk result (ComesInAt (AreHonest C.calls) path.now options batch.now
+    ensures done { OnOk result (ComesInAt C.FolderCalls path.now options batch.now
         (O.contents out.old) (O.contents out.new)) }
-    ensures refused { OnErr result (StaysOutAt (AreHonest C.calls) path.now options batch.now
-        (O.contents out.old) (O.contents out.new)) }
+    ensures refused { OnErr result (FailsToBringIn C.FolderCalls C.Mark.Mark path.now options
+        batch.now (O.contents out.old) (O.contents out.new)) }
 {
     let mut folder = open_at(paths, path, reasons)?;
     let prepared = prepare(rt, paths.alloc(), &mut folder, options)?;
     let shelf = FileShelf::over(folder);
     let (done, _shelf) = bring_in(rt, paths.alloc(), shelf, &prepared, batch, out);
     done
-}
-
-/// The same, with the lines of a fault on `err`.
-fn ingest_batch<'a, C, P, R, O, E>(
-    rt: &R,
-    paths: &P,
-    path: &str,
-    options: IngestOptions,
-    batch: &'a Batch,
-    reasons: &'a Reasons,
-    out: &mut O,
-    err: &mut E,
-) -> u8
-where
-    C: FolderCalls + Send + Sync,
-    C::Mark: Send + Sync,
-    P: Paths<C>,
-    R: Wait,
-    O: Write,
-    E: Write,
-    ensures done { result ≡ 0 → ComesInAt (AreHonest C.calls) path.now options batch.now
-        (O.contents out.old) (O.contents out.new) }
-    ensures refused { result ≢ 0 → (result ≡ 1) × StaysOutAt (AreHonest C.calls) path.now options
-        batch.now (O.contents out.old) (O.contents out.new) }
-    ensures quiet { result ≡ 0 → Keeps (E.contents err.old) (E.contents err.new) }
-{
-    let done = ingest_at(rt, paths, path, options, batch, reasons, out);
-    let known = Known {
-        writes: batch.writes(),
-        reasons: Some(reasons),
-        names_files: false,
-    };
-    status_of(done, known, err)
 }
 
 /// Brings the batch that an input spells into the folder at a path, and answers the exit status.
@@ -134,20 +101,27 @@ where
     I: Read,
     O: Write,
     E: Write,
-    ensures done { result ≡ 0 → IsIngested (AreHonest C.calls) path.now options
+    ensures done { result ≡ 0 → IsIngested C.FolderCalls path.now options
         (I.remaining input.old) (O.contents out.old) (O.contents out.new) }
-    ensures refused { result ≢ 0 → (result ≡ 1) × IsUningested (AreHonest C.calls) path.now
-        options (I.remaining input.old) (O.contents out.old) (O.contents out.new) }
+    ensures refused { result ≢ 0 → (result ≡ 1) × IsUningested C.FolderCalls C.Mark.Mark
+        path.now options (I.remaining input.old) (O.contents out.old) (O.contents out.new) }
     ensures quiet { result ≡ 0 → Keeps (E.contents err.old) (E.contents err.new) }
 {
     let reasons = match Reasons::new(paths.alloc()) {
         Ok(reasons) => reasons,
         Err(fault) => return refuse(WriterFault::from(fault), err),
     };
-    match read_batch(paths.alloc(), options.form, input) {
-        Ok(batch) => ingest_batch(rt, paths, path, options, &batch, &reasons, out, err),
-        Err(fault) => refuse(fault, err),
-    }
+    let batch = match read_batch(paths.alloc(), options.form, input) {
+        Ok(batch) => batch,
+        Err(fault) => return refuse(fault, err),
+    };
+    let done = ingest_at(rt, paths, path, options, &batch, &reasons, out);
+    let known = Known {
+        writes: batch.writes(),
+        reasons: Some(&reasons),
+        names_files: false,
+    };
+    status_of(done, known, err)
 }
 
 /// The same for the input that is found here, standard input or the file of a path.
@@ -169,11 +143,11 @@ where
     I: Read,
     O: Write,
     E: Write,
-    ensures done { result ≡ 0 → IsIngested (AreHonest C.calls) path.now options
+    ensures done { result ≡ 0 → IsIngested C.FolderCalls path.now options
         (text_in (I.remaining standard.old) (P.text paths.now) found.entry)
         (O.contents out.old) (O.contents out.new) }
-    ensures refused { result ≢ 0 → (result ≡ 1) × IsUningested (AreHonest C.calls) path.now
-        options (text_in (I.remaining standard.old) (P.text paths.now) found.entry)
+    ensures refused { result ≢ 0 → (result ≡ 1) × IsUningested C.FolderCalls C.Mark.Mark
+        path.now options (text_in (I.remaining standard.old) (P.text paths.now) found.entry)
         (O.contents out.old) (O.contents out.new) }
     ensures quiet { result ≡ 0 → Keeps (E.contents err.old) (E.contents err.new) }
 {

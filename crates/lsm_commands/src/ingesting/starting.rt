@@ -5,7 +5,7 @@ ghost use Rattle.lsm_commands.specs.Logs.{NoneUnread};
 ghost use Rattle.lsm_state.specs.Making.{IsNewBoard};
 ghost use Rattle.lsm_commands.specs.Starting.{IsFlushed, IsNew, IsNotOpened, IsReopened, IsStarted};
 ghost use Rattle.lsm_commands.specs.Starting.{IsStartRefusal, IsUnbegun, IsUncreated, IsUnflushed};
-ghost use Rattle.lsm_commands.specs.Starting.{IsUnopened, OpensBeside, usual};
+ghost use Rattle.lsm_commands.specs.Starting.{IsNotReopened, OpensBeside, usual};
 ghost use Rattle.lsm_shelf.specs.Stored.{Stored};
 
 use crate::faults::directory_fault::DirectoryFault;
@@ -118,7 +118,7 @@ fn reopen<N: Boarded, S: Shelf, R: Wait>(
     ensures opened { IfOk result (λ s.
         IsReopened S.honest s shelf.old shelf.new) }
     ensures refused { IfErr result (λ e.
-        IsUnopened (Stored S.Receipt (S.is_of N.place) S.Receipt.number S.Receipt.image)
+        IsNotReopened (Stored S.Receipt (S.is_of N.place) S.Receipt.number S.Receipt.image)
         (S.refuses N.place) S.honest e shelf.old shelf.new) }
 {
     let options = Options::usual();

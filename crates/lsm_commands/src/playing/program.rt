@@ -3,7 +3,8 @@
 ghost use Rattle.std.specs.Prelude.{◌≡◌, ◌≢◌, ◌≤◌, ◌⊎◌, ◌↔◌, IfErr, IfOk, IfSome, IsTrue};
 ghost use Rattle.std.specs.Prelude.{None, OnOk};
 ghost use Rattle.std.specs.Io.KnownBytes.{Appends, Keeps};
-ghost use Rattle.lsm_commands.specs.Played.{IsCutShort, IsDone, IsEnded, IsFault, IsRefused, meaning};
+ghost use Rattle.lsm_commands.specs.Played.{IsCutShort, IsEnded, IsScriptDone, IsScriptFault};
+ghost use Rattle.lsm_commands.specs.Played.{IsScriptRefused, meaning};
 ghost use Rattle.lsm_commands.specs.Run.{IsPlayed, IsUnplayed, text_in};
 ghost use Rattle.lsm_commands.specs.WriterFault.{fault_text};
 ghost use Rattle.lsm_script.specs.ReplyText.{replies_text};
@@ -109,7 +110,7 @@ fn perform<R: Wait, I: Read, O: Write>(
     ensures ended { IfOk result (λ status. IfSome (I.remaining input.old.inner) (λ text.
         IsEnded text status (O.contents out.old) (O.contents out.new))) }
     ensures fault { IfErr result (λ e.
-        IfSome (I.remaining input.old.inner) (λ text. IsFault text input.new.failed e)) }
+        IfSome (I.remaining input.old.inner) (λ text. IsScriptFault text input.new.failed e)) }
     ensures kept { IfErr result (λ e. e ≢ WriteFault
         → Keeps (O.contents out.old) (O.contents out.new)) }
 {
@@ -140,9 +141,9 @@ pub fn script<R: Wait, I: Read, O: Write, E: Write>(
     err: &mut E,
 ) -> u8
     ensures done { result ≡ 0 → IfSome (I.remaining input.old.inner) (λ text.
-        IsDone text (O.contents out.old) (O.contents out.new)) }
+        IsScriptDone text (O.contents out.old) (O.contents out.new)) }
     ensures refused { result ≢ 0 → (result ≡ 1) × IfSome (I.remaining input.old.inner) (λ text.
-        IsRefused text input.new.failed (O.contents out.old) (O.contents out.new)) }
+        IsScriptRefused text input.new.failed (O.contents out.old) (O.contents out.new)) }
     ensures quiet { result ≡ 0 → Keeps (E.contents err.old) (E.contents err.new) }
 {
     match perform(rt, alloc, input, out) {
@@ -168,7 +169,8 @@ where
     I: Read + Drop,
     O: Write,
     E: Write,
-    ensures done { result ≡ 0 → IsPlayed (text_in (I.remaining standard) (P.text paths.now) found.entry)
+    ensures done { result ≡ 0 → IsPlayed
+        (text_in (I.remaining standard) (P.text paths.now) found.entry)
         (O.contents out.old) (O.contents out.new) }
     ensures refused { result ≢ 0 → (result ≡ 1)
         × IsUnplayed (text_in (I.remaining standard) (P.text paths.now) found.entry)

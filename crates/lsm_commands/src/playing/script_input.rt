@@ -1,7 +1,7 @@
 //! A script that an input spells.
 
 ghost use Rattle.std.specs.Prelude.{◌≡◌, ◌⊎◌, ◌≤◌, IfErr, IfOk, IfSome, OnOk, length};
-ghost use Rattle.lsm_commands.specs.Played.{IsInputFault, IsTextFault, IsUnread};
+ghost use Rattle.lsm_commands.specs.Played.{IsInputFault, IsScriptTextFault, IsInputUnread};
 ghost use Rattle.lsm_script.specs.CommandLine.{IsScript};
 ghost use Rattle.lsm_commands.specs.declared.faults.writer_fault.WriterFault.TheVariants.{OutOfMemory};
 ghost use Rattle.lsm_commands.specs.declared.faults.writer_fault.WriterFault.TheVariants.{Read as ReadFault};
@@ -20,7 +20,7 @@ fn text_of<I: Read>(alloc: Global, input: &mut Watched<I>) -> Result<Vec<u8>, Wr
         IfSome (I.remaining input.old.inner) (λ text. bytes.items ≡ text)) }
     ensures limit { IfOk result (λ bytes. length bytes.items ≤ 67108864) }
     ensures fault { IfErr result (λ e. (e ≡ OutOfMemory) ⊎ ((e ≡ ReadFault)
-        × IfSome (I.remaining input.old.inner) (λ text. IsUnread text input.new.failed))) }
+        × IfSome (I.remaining input.old.inner) (λ text. IsInputUnread text input.new.failed))) }
 {
     let read = read_input(alloc, &mut *input);
     match read {
@@ -34,7 +34,7 @@ fn text_of<I: Read>(alloc: Global, input: &mut Watched<I>) -> Result<Vec<u8>, Wr
 /// The commands that a text spells, with the refusals of `script_in`.
 fn script_of(alloc: Global, text: &[u8]) -> Result<Vec<Command>, WriterFault>
     ensures script { IfOk result (λ commands. IsScript text.now commands.items) }
-    ensures refused { IfErr result (IsTextFault text.now) }
+    ensures refused { IfErr result (IsScriptTextFault text.now) }
 {
     match script_in(alloc, text) {
         Ok(commands) => Ok(commands),

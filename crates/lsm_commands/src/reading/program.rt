@@ -1,14 +1,11 @@
 //! One run of a command on a directory.
 
-ghost use Rattle.std.specs.Prelude.{◌≡◌, ◌≢◌, ◌∷◌, [], IfErr, IfOk, OnOk};
-ghost use Rattle.lsm_folder.specs.Calls.{AreHonest, opened};
-ghost use Rattle.lsm_shelf.specs.Place.{IsAtPath};
+ghost use Rattle.std.specs.Prelude.{◌≡◌, ◌≢◌, IfErr, IfOk, OnOk};
 ghost use Rattle.lsm_shelf.specs.Stored.{Stored};
-ghost use Rattle.lsm_shelf.specs.Told.{fresh};
-ghost use Rattle.lsm_storage.specs.FileShelf.{file_told, folder_of};
-ghost use Rattle.lsm_commands.specs.Answers.{IsDone, IsRefused};
+ghost use Rattle.lsm_commands.specs.Answers.{IsLookedInto, IsNotLookedInto};
 ghost use Rattle.lsm_commands.specs.Directory.{OnlyReads};
 ghost use Rattle.lsm_commands.specs.DirectoryFault.{names_files};
+ghost use Rattle.lsm_commands.specs.Folders.{IsShelfAt};
 ghost use Rattle.lsm_commands.specs.Holding.{IsFolderFault};
 ghost use Rattle.lsm_commands.specs.Run.{FailsToLook, LooksAt};
 ghost use Rattle.lsm_commands.specs.Looking.{TellsBeside};
@@ -50,12 +47,12 @@ fn begin<S: Shelf, R: Wait, O: Write, E: Write>(
     out: &mut O,
     err: &mut E,
 ) -> (Result<(), DirectoryFault>, S)
-    ensures done { OnOk result.0 (IsDone inquiry.now.form inquiry.now.command.now
+    ensures done { OnOk result.0 (IsLookedInto inquiry.now.form inquiry.now.command.now
         inquiry.now.files.now inquiry.now.progress S.honest (S.told shelf) (S.told result.1)
         (O.contents out.old) (O.contents out.new) (E.contents err.old) (E.contents err.new)) }
-    ensures refused { IfErr result.0 (λ e. IsRefused inquiry.now.form inquiry.now.command.now e
-        (Stored S.Receipt (S.is_of (S.told shelf).place) S.Receipt.number S.Receipt.image)
-        (S.refuses (S.told shelf).place) S.honest (S.told shelf) (S.told result.1)
+    ensures refused { IfErr result.0 (λ e. IsNotLookedInto inquiry.now.form
+        inquiry.now.command.now e (Stored S.Receipt (S.is_of (S.told shelf).place) S.Receipt.number
+        S.Receipt.image) (S.refuses (S.told shelf).place) S.honest (S.told shelf) (S.told result.1)
         (O.contents out.old) (O.contents out.new)) }
     ensures reads { OnlyReads (S.told shelf) (S.told result.1) }
 {
@@ -81,11 +78,11 @@ pub fn look<S: Shelf, R: Wait, O: Write, E: Write>(
     out: &mut O,
     err: &mut E,
 ) -> (u8, S)
-    ensures done { result.0 ≡ 0 → IsDone inquiry.now.form inquiry.now.command.now
+    ensures done { result.0 ≡ 0 → IsLookedInto inquiry.now.form inquiry.now.command.now
         inquiry.now.files.now inquiry.now.progress S.honest (S.told shelf) (S.told result.1)
         (O.contents out.old) (O.contents out.new) (E.contents err.old) (E.contents err.new) }
     ensures refused { result.0 ≢ 0 → (result.0 ≡ 1)
-        × ((fault : DirectoryFault) × IsRefused inquiry.now.form inquiry.now.command.now fault
+        × ((fault : DirectoryFault) × IsNotLookedInto inquiry.now.form inquiry.now.command.now fault
         (Stored S.Receipt (S.is_of (S.told shelf).place) S.Receipt.number S.Receipt.image)
         (S.refuses (S.told shelf).place) S.honest (S.told shelf) (S.told result.1)
         (O.contents out.old) (O.contents out.new)) }
@@ -108,11 +105,8 @@ fn open_shelf<C: FolderCalls, P: Paths<C>, R: Wait>(
     path: &str,
     reasons: &Reasons,
 ) -> Result<(FileShelf<C>, Vec<FolderFile>), DirectoryFault>
-    ensures told { IfOk result (λ o.
-        TellsBeside o.1.items (opened ∷ []) (C.calls (folder_of o.0))) }
-    ensures place { IfOk result (λ o. IsAtPath path.now (C.place (folder_of o.0))) }
-    ensures fresh { IfOk result (λ o.
-        file_told C.place o.0 ≡ fresh (C.place (folder_of o.0))) }
+    ensures found { IfOk result (λ o.
+        IsShelfAt C.FolderCalls path.now (TellsBeside o.1.items) o.0) }
     ensures fault { IfErr result IsFolderFault }
 {
     let mut folder = open_at(paths, path, reasons)?;
@@ -134,10 +128,10 @@ fn look_at<C: FolderCalls + Send + Sync, P: Paths<C>, R: Wait, O: Write, E: Writ
 ) -> Result<(), DirectoryFault>
 where
     C::Mark: Send + Sync,
-    ensures done { OnOk result (LooksAt (AreHonest C.calls) line.now (O.contents out.old)
+    ensures done { OnOk result (LooksAt C.FolderCalls line.now (O.contents out.old)
         (O.contents out.new) (E.contents err.old) (E.contents err.new)) }
-    ensures refused { IfErr result (λ e.
-        FailsToLook (AreHonest C.calls) line.now e (O.contents out.old) (O.contents out.new)) }
+    ensures refused { IfErr result (λ e. FailsToLook C.FolderCalls C.Mark.Mark line.now e
+        (O.contents out.old) (O.contents out.new)) }
 {
     let (shelf, files) = open_shelf(rt, paths, line.path, reasons)?;
     let inquiry = Inquiry {
@@ -162,10 +156,10 @@ pub(crate) fn run_look<C: FolderCalls + Send + Sync, P: Paths<C>, R: Wait, O: Wr
 ) -> u8
 where
     C::Mark: Send + Sync,
-    ensures done { result ≡ 0 → LooksAt (AreHonest C.calls) line.now (O.contents out.old)
+    ensures done { result ≡ 0 → LooksAt C.FolderCalls line.now (O.contents out.old)
         (O.contents out.new) (E.contents err.old) (E.contents err.new) }
     ensures refused { result ≢ 0 → (result ≡ 1) × ((fault : DirectoryFault)
-        × FailsToLook (AreHonest C.calls) line.now fault (O.contents out.old)
+        × FailsToLook C.FolderCalls C.Mark.Mark line.now fault (O.contents out.old)
         (O.contents out.new)) }
 {
     let reasons = match Reasons::new(paths.alloc()) {

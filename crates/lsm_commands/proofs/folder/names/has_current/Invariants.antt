@@ -1,5 +1,5 @@
 use Rattle.std.proofs.Common.{◌≡◌, codes, map, take, string_bytes}
-use Rattle.lsm_commands.specs.Names.{Among, IsOfDatabase}
+use Rattle.lsm_commands.specs.Names.{Among}
 use Rattle.lsm_commands.proofs.folder.names.has_current.Given as goal
 
 -- none so far is such a one

@@ -1,4 +1,4 @@
-use Rattle.std.proofs.Common.{◌≡◌, codes, string_bytes, rules}
+use Rattle.std.proofs.Common.{string_bytes}
 use Rattle.lsm_commands.specs.Names.{IsOfDatabase}
 use Rattle.lsm_commands.proofs.NameLaws.{among_at, none_all, none_more}
 use Rattle.lsm_commands.proofs.folder.names.has_database.Goals as goal

@@ -1,4 +1,4 @@
-use Rattle.std.proofs.Common.{◌≡◌, codes, map, take, string_bytes}
+use Rattle.std.proofs.Common.{map, take, string_bytes}
 use Rattle.lsm_commands.specs.Names.{Among, IsOfDatabase}
 use Rattle.lsm_commands.proofs.folder.names.has_database.Given as goal
 

@@ -1,4 +1,3 @@
-use Rattle.std.proofs.Common.{refl}
 use Rattle.lsm_commands.proofs.NameLaws.{unused_more, unused_same}
 use Rattle.lsm_commands.proofs.folder.names.next_above.Goals as goal
 

@@ -1,5 +1,4 @@
-use Rattle.std.proofs.Common.{inl, inr, refl}
-use Rattle.std.proofs.lemmas.Result.{err_from_is_err_and}
+use Rattle.std.proofs.Common.{inr}
 use Rattle.lsm_commands.proofs.Looked.{locks_alone, locks_then}
 use Rattle.lsm_commands.proofs.ingesting.preparing.prepare.Goals as goal
 

@@ -1,8 +1,11 @@
-use Rattle.lsm_folder.specs.Calls.{AreHonest}
 use Rattle.lsm_commands.proofs.RunLaws.{looked_on}
+use Rattle.lsm_commands.proofs.TellingLaws.{stopped_by}
 use Rattle.lsm_commands.proofs.reading.program.run_look.Goals as goal
 
 pub returns-clause-done : goal.returns-clause-done
 returns-clause-done g c =
-    looked_on (AreHonest g.C.FolderCalls.calls) c.look_at-done.result c.status_of.result c.args.line.now _ _ _ _ _ c.status_of.ensures.err c.look_at-done.ensures.done
+    looked_on g.C.FolderCalls c.look_at-done.result c.status_of.result c.args.line.now _ _ _ _ _ c.status_of.ensures.err c.look_at-done.ensures.done
     c.status_of.ensures.quiet
+
+pub returns-clause-refused : goal.returns-clause-refused
+returns-clause-refused g c = stopped_by c.look_at-done.result c.status_of.result _ c.status_of.ensures.ok c.status_of.ensures.err c.look_at-done.ensures.refused
