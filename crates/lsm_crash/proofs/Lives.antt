@@ -105,14 +105,15 @@ module _ (law : TablesChange) (honest : Type 0) (all : ReadsAll honest) (board :
         (opening_finds honest board limit h d w l.0 l.2.0 b.settled l.3 l.4 l.1 l.6.0 l.5 l.6.1) l.2.0.journaled.1.own.seven (λ fair. opened_reads v es w d h b l.2 l.3 fair);
   }
 
-  ages_born : (lives : List Life) (v : Levels) (es : List Entry) (w u : World) (d e : Disk) → IsBorn honest v es w d → Ages honest board limit lives w d u e → (x : Levels) × (fs : List Entry) × AllLeave lives v es x fs × IsBorn honest x fs u e
+module _ (law : TablesChange) (honest : Type 0) (all : ReadsAll honest) where
+  ages_born : (lives : List Life) (v : Levels) (es : List Entry) (w u : World) (d e : Disk) → IsBorn honest v es w d → Ages honest lives w d u e → (x : Levels) × (fs : List Entry) × AllLeave lives v es x fs × IsBorn honest x fs u e
   ages_born [] v es w u d e b h = (v, es, (refl, refl), subst (λ y. IsBorn honest v es u y) (sym h.1) (subst (λ y. IsBorn honest v es y d) (sym h.0) b))
   ages_born (life ∷ lives) v es w u d e b h =
-      let x = life_leaves life v es w h.0 d h.1 b h.2 in
-      let r = ages_born lives x.version x.entries h.0 u h.1 e x.born h.3 in
+      let x = life_leaves law honest all h.0 h.1 life v es w h.2 d h.3 b h.4 in
+      let r = ages_born lives x.version x.entries h.2 u h.3 e x.born h.5 in
       (r.0, r.1, (x.version, x.entries, x.may, r.2), r.3)
 
-  pub ages_keep : (lives : List Life) (v : Levels) (es : List Entry) (w u : World) (d e : Disk) → IsSettled d w → Shown v d → length v.tables ≡ 7 → (honest → Answers v es) → Ages honest board limit lives w d u e
+  pub ages_keep : (lives : List Life) (v : Levels) (es : List Entry) (w u : World) (d e : Disk) → IsSettled d w → Shown v d → length v.tables ≡ 7 → (honest → Answers v es) → Ages honest lives w d u e
       → IsSettled e u × ((x : Levels) × (fs : List Entry) × AllLeave lives v es x fs × Shown x e × (honest → Answers x fs))
   ages_keep lives v es w u d e i f seven a h =
       let r = ages_born lives v es w u d e record { settled = i; shown = f; seven = seven; answers = a } h in

@@ -88,12 +88,12 @@ MayLeave (Unopened h) es v fs = (v ≡ h.slots.version) × (fs ≡ es)
 
 -- ---- many lives
 
--- one after another, each over the folder that the one before it left
-abbrev pub Ages : Type 0 → TableId → ℕ → List Life → (w : World) → (d : Disk) → (u : World)
-    → (e : Disk) → Type 0
-Ages honest board limit [] w d u e = (u ≡ w) × (e ≡ d)
-Ages honest board limit (life ∷ lives) w d u e = (x : World) × (m : Disk)
-    × Lived honest board limit life w d x m × Ages honest board limit lives x m u e
+-- one after another, each over the folder that the one before it left, with a board and a limit of
+-- manifests of its own
+abbrev pub Ages : Type 0 → List Life → (w : World) → (d : Disk) → (u : World) → (e : Disk) → Type 0
+Ages honest [] w d u e = (u ≡ w) × (e ≡ d)
+Ages honest (life ∷ lives) w d u e = (board : TableId) × (limit : ℕ) × (x : World) × (m : Disk)
+    × Lived honest board limit life w d x m × Ages honest lives x m u e
 
 -- the version that the last one left, and all that came in until then
 abbrev pub AllLeave : List Life → (v : Levels) → (es : List Entry) → Levels → List Entry → Type 0

@@ -2,6 +2,7 @@
 //! or a few that belong together; its body is empty.
 
 ghost use Rattle.std.specs.Prelude.{◌≡◌, ◌⊎◌, ◌↔◌, ◌++◌, ◌<◌, ◌^◌, ℕ, List, [], None};
+ghost use Rattle.std.specs.Prelude.{◌∷◌};
 ghost use Rattle.std.specs.Prelude.{false, length};
 ghost use Rattle.atomic_table.specs.Seated.{TableId};
 ghost use Rattle.lsm_codec.specs.Entries.{Entry};
@@ -26,7 +27,8 @@ ghost use Rattle.lsm_crash.specs.Operations.{started};
 ghost use Rattle.lsm_crash.specs.Among.{CutAmong, DoneAmong};
 ghost use Rattle.lsm_crash.specs.States.{Describes, Finds, IsWorldOf, Shown};
 ghost use Rattle.lsm_crash.specs.Database.{AllowsAll, Asks, Deed, IsCut, IsReady, IsState, Turn};
-ghost use Rattle.lsm_crash.specs.Database.{IsMade, Opens, Works, after_all, opened_world};
+ghost use Rattle.lsm_crash.specs.Database.{Answered, Follows, IsMade, Opens, Works, after_all};
+ghost use Rattle.lsm_crash.specs.Database.{opened_world};
 ghost use Rattle.lsm_crash.specs.Database.{Stays, operations};
 ghost use Rattle.lsm_crash.specs.Lives.{Ages, AllLeave, Answers, Life, brought};
 ghost use Rattle.lsm_crash.specs.Versions.{ComesTo, Version};
@@ -128,7 +130,8 @@ pub fn databases_open_on_what_was_found<P: Premise>()
         × ((s : Version) × Has known.versions s × Describes s h.slots.version) }
     ensures same { (limit : ℕ) (h : Held) (d : Disk) (v : Levels) → Shown v d
         → Opens P.holds limit h d → length v.tables ≡ 7
-        → (F : File) → Has (files v) F ↔ Has (files h.slots.version) F }
+        → ((F : File) → Has (files v) F ↔ Has (files h.slots.version) F)
+        × (v.last ≡ h.slots.version.last) }
     ensures shown { (v : Levels) (found : Found) (d : Disk) → Finds v found → IsFresh found d
         → Shown v d }
 {}
@@ -156,10 +159,10 @@ pub fn databases_are_made_or_not<P: Premise>()
 /// what it gives over all entries that came in: those of every ingest that was answered Ok in any
 /// of these lives, and of one that a crash cut, whole or not at all.
 pub fn ingests_survive_crashes<P: Premise>()
-    ensures lives { (board : TableId) (limit : ℕ) (lives : List Life) (v : Levels)
+    ensures lives { (lives : List Life) (v : Levels)
         (es : List Entry) (w u : World) (d e : Disk)
         → IsSettled d w → Shown v d → length v.tables ≡ 7 → (P.holds → Answers v es)
-        → Ages P.holds board limit lives w d u e
+        → Ages P.holds lives w d u e
         → IsSettled e u × ((x : Levels) × (fs : List Entry) × AllLeave lives v es x fs
         × Shown x e × (P.holds → Answers x fs)) }
     ensures works { (board : TableId) (turns : List Turn) (old now : Held) (w u : World)
@@ -167,6 +170,10 @@ pub fn ingests_survive_crashes<P: Premise>()
         → Works P.holds board old now turns w u d e → Answers old.slots.version es
         → Answers now.slots.version (brought turns ++ es) }
     ensures made { (h : Held) → IsMade h → Answers h.slots.version [] }
+    ensures one { (board : TableId) (old new : Held) (deed : Deed) (asks : List Asked)
+        (es : List Entry) → P.holds → IsState P.holds board old → Asks old new deed asks
+        → Follows P.holds old new (Answered deed) → Answers old.slots.version es
+        → Answers new.slots.version (brought (Answered deed ∷ []) ++ es) }
 {
     changed_tables();
     runs_read_all_that_came::<P>();

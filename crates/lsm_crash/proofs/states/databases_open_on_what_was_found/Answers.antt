@@ -1,6 +1,6 @@
 use Rattle.lsm_crash.proofs.Opening.{opening_finds, opening_settled, opening_world}
 use Rattle.lsm_crash.proofs.Reopening.{reopened_settled, reopened_version, reopened_world}
-use Rattle.lsm_crash.proofs.Found.{found_shown, opened_same}
+use Rattle.lsm_crash.proofs.Found.{found_shown, opened_last, opened_same}
 use Rattle.lsm_crash.proofs.states.databases_open_on_what_was_found.Goals as goal
 
 pub returns-clause-opened : goal.returns-clause-opened
@@ -13,7 +13,7 @@ pub returns-clause-cut : goal.returns-clause-cut
 returns-clause-cut g c = λ board limit h d e w v found l i p to cut left. opening_finds g.P.Premise.holds board limit h d w v l.0 i p to e found cut left
 
 pub returns-clause-same : goal.returns-clause-same
-returns-clause-same g c = λ limit h d v f p seven. opened_same g.P.Premise.holds limit h d v f p seven
+returns-clause-same g c = λ limit h d v f p seven. (opened_same g.P.Premise.holds limit h d v f p seven, opened_last g.P.Premise.holds limit h d v f p seven)
 
 pub returns-clause-shown : goal.returns-clause-shown
 returns-clause-shown g c = found_shown
