@@ -8,7 +8,7 @@ use Rattle.lsm_version.specs.Versions.{stands_before}
 use Rattle.lsm_check.specs.declared.sequences.Sequences.{Sequences}
 use Rattle.lsm_check.proofs.LevelReads.{inserted_beside, length_beside}
 use Rattle.lsm_version.proofs.CallerLemmas.{placed_at, placed_sorted}
-use Rattle.lsm_check.proofs.loading.place.Goals as goal
+use Rattle.lsm_check.proofs.loading.insert_in_order.Goals as goal
 
 pub returns-clause-placed : goal.returns-clause-placed
 returns-clause-placed g c = c.in_ok-insert.ensures.items ∙ placed_at c.args.table c.args.tables.now.items c.index_in-index.result
