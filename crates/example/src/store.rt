@@ -6,13 +6,14 @@ ghost use Rattle.std.specs.Prelude.{◌≡◌, IfOk, length};
 ghost use Rattle.std.specs.Option.{option_map};
 ghost use Rattle.lsm_codec.specs.Entries.{answer};
 ghost use Rattle.lsm_levels.specs.Files.{all_entries};
-ghost use Rattle.lsm_state.specs.Making.{IsNewBoard};
+ghost use Rattle.lsm_state.specs.Making.{IsNewBoard, IsNewHistory};
 ghost use Rattle.lsm_state.specs.Options.{Fits};
 ghost use Rattle.lsm_version.specs.Versions.{files};
 
 use anyhow::Context;
 use lsm_batch::Batch;
 use lsm_codec::Bytes;
+use lsm_history::NewHistory;
 use lsm_pins::{Board, Pinner, Publisher};
 use lsm_slots::Boarded;
 use lsm_state::{Options, State};
@@ -236,12 +237,14 @@ fn create<N: Boarded, S: Shelf, R: Wait>(
     options: Options,
     registry: Arc<Registry<N, S>>,
     board: (Publisher, Vec<Pinner>),
+    history: NewHistory,
 ) -> Result<(Store<N, S>, Vec<Reader<N, S>>), ShelfFault>
     requires fits { Fits options }
     requires board { IsNewBoard N.board options board.0 board.1.items }
     requires seats { length board.1.items ≡ options.readers }
+    requires history { IsNewHistory N.history history }
 {
-    let state = State::<N, S>::create(rt, alloc, &mut shelf, options, registry, board)?;
+    let state = State::<N, S>::create(rt, alloc, &mut shelf, options, registry, board, history)?;
     made_states_seat_their_pinners();
     match Store::new(alloc, state, shelf) {
         Ok(made) => Ok(made),
@@ -249,8 +252,8 @@ fn create<N: Boarded, S: Shelf, R: Wait>(
     }
 }
 
-/// A new database at work. What is generic in `N` is of the registry, the shelf's contents and the
-/// board that the premises name; the caller picks them by
+/// A new database at work. What is generic in `N` is of the registry, the shelf's contents, the
+/// board and the history that the premises name; the caller picks them by
 /// `proofs/store/show_store/Invariants.antt`.
 fn serve<N: Boarded, S: Shelf, R: Threads + Wait + Print + Sync>(
     rt: &R,
@@ -259,17 +262,21 @@ fn serve<N: Boarded, S: Shelf, R: Threads + Wait + Print + Sync>(
     options: Options,
     records: Records<S::Receipt>,
     board: (Publisher, Vec<Pinner>),
+    history: NewHistory,
 ) -> anyhow::Result<()>
     requires fits { Fits options }
     requires records { records ≡ N.registry }
     requires named { (S.told shelf).place ≡ N.place }
     requires board { IsNewBoard N.board options board.0 board.1.items }
     requires seats { length board.1.items ≡ options.readers }
+    requires history { IsNewHistory N.history history }
 {
     let registry = Registry::shared(alloc, records)?;
     let mut shelf = NamedShelf::of(shelf);
     let mut writer = shelf.fork(alloc)?;
-    let (store, mut readers) = create::<N, S, R>(rt, alloc, shelf, options, registry, board)?;
+    let (store, mut readers) = create::<N, S, R>(
+        rt, alloc, shelf, options, registry, board, history,
+    )?;
     work(rt, alloc, &store, &mut readers, &mut writer)
 }
 
@@ -278,6 +285,7 @@ pub fn show_store<R: Threads + Wait + Print + Sync>(rt: &R, alloc: Global) -> an
     let options = Options::usual();
     let records = Records::new(alloc)?;
     let board = Board::new(alloc, options.readers, options.versions)?;
+    let history = NewHistory::new(alloc)?;
     let shelf = MemoryShelf::new(alloc)?;
-    serve::<Brand, MemoryShelf, _>(rt, alloc, shelf, options, records, board)
+    serve::<Brand, MemoryShelf, _>(rt, alloc, shelf, options, records, board, history)
 }

@@ -1,3 +1,4 @@
+-- What public clauses cite, and so what a caller reads
 pub mod CheckFault
 pub mod CheckedFiles
 pub mod FileRefusal
@@ -5,4 +6,5 @@ pub mod CheckRefusal
 pub mod Loading
 pub mod LevelLayouts
 pub mod Settled
+-- What private functions and proofs cite alone
 pub mod Chosen

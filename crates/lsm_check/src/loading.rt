@@ -51,8 +51,8 @@ fn load_file<N: Naming, S: Shelf, R: Wait>(
     }
 }
 
-/// Puts a table into its place in a level, and its sequences into the same place.
-fn place<N: Naming, S: Shelf>(
+/// Puts a table where it stands in the order of a level, and its sequences at the same index.
+fn insert_in_order<N: Naming, S: Shelf>(
     registry: &Registry<N, S>,
     tables: &mut Vec<TableRef<N, S>>,
     sequences: &mut Vec<Sequences>,
@@ -72,7 +72,7 @@ fn place<N: Naming, S: Shelf>(
     Ok(())
 }
 
-/// Reads the files of a level, and puts their tables into place one after another.
+/// Reads the files of a level, and puts their tables in order, one after another.
 fn load_level<N: Naming, S: Shelf, R: Wait>(
     shelf: &mut NamedShelf<N, S>,
     rt: &R,
@@ -94,7 +94,7 @@ fn load_level<N: Naming, S: Shelf, R: Wait>(
     let mut sequences = Vec::new(alloc);
     for file in files {
         let (table, own) = load_file(shelf, rt, alloc, registry, file, last)?;
-        place(registry, &mut tables, &mut sequences, table, own)?;
+        insert_in_order(registry, &mut tables, &mut sequences, table, own)?;
     }
     Ok((tables, sequences))
 }

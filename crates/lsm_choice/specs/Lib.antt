@@ -1,8 +1,10 @@
+-- What public clauses cite, and so what a caller reads
 pub mod TablePlans
 pub mod Reservations
 pub mod Scores
 pub mod Choice
 pub mod Moves
 pub mod RangesBelow
-pub mod TableRanges
 pub mod PlanFault
+-- What private functions and proofs cite alone
+pub mod TableRanges

@@ -12,7 +12,7 @@ ghost use Rattle.std.specs.Prelude.{◌≡◌, ◌≢◌, ◌⊎◌, All, IfErr,
 ghost use Rattle.std.specs.Io.KnownBytes.{Appends, Keeps};
 ghost use Rattle.lsm_shelf.specs.Stored.{Stored};
 ghost use Rattle.lsm_shelf.specs.declared.shelf_fault.ShelfFault.TheVariants.{OutOfMemory};
-ghost use Rattle.lsm_state.specs.Making.{IsNewBoard};
+ghost use Rattle.lsm_state.specs.Making.{IsNewBoard, IsNewHistory};
 ghost use Rattle.lsm_store.specs.Workers.{IsWorkersEnd};
 ghost use Rattle.lsm_commands.specs.WriterFault.{of_shelf};
 ghost use Rattle.lsm_commands.specs.Starting.{usual};
@@ -55,6 +55,7 @@ fn begin<N: Boarded, S: Shelf, R: Wait, E: Write>(
 ) -> Result<Compaction<N, S>, CompactFault>
     requires board { IsNewBoard N.board usual parts.publisher parts.pinners.items }
     requires seats { vec_len parts.pinners ≡ usual.readers }
+    requires history { IsNewHistory N.history parts.history }
     ensures count { IfOk result (λ c. vec_len c.shelves ≡ options.workers) }
     ensures opened { OnOk result (IsOpened S.honest N.board shelf.old shelf.new) }
     ensures refused { IfErr result (λ e.
@@ -159,6 +160,7 @@ fn compact_named<N: Boarded, S: Shelf, R: Threads + Wait + Sync, O: Write, E: Wr
     requires records { parts.records ≡ N.registry }
     requires board { IsNewBoard N.board usual parts.publisher parts.pinners.items }
     requires seats { vec_len parts.pinners ≡ usual.readers }
+    requires history { IsNewHistory N.history parts.history }
     ensures done { OnOk result (IsCompacted S.honest options.workers shelf.old
         shelf.new (O.contents out.old) (O.contents out.new)) }
     ensures fault { IfErr result (λ e.
@@ -192,6 +194,7 @@ fn compact_as<N: Boarded, S: Shelf, R: Threads + Wait + Sync, O: Write, E: Write
     requires shelf { (S.told shelf).place ≡ N.place }
     requires board { IsNewBoard N.board usual parts.publisher parts.pinners.items }
     requires seats { vec_len parts.pinners ≡ usual.readers }
+    requires history { IsNewHistory N.history parts.history }
     ensures done { OnOk result.0 (IsCompacted S.honest options.workers (S.told shelf)
         (S.told result.1) (O.contents out.old) (O.contents out.new)) }
     ensures fault { IfErr result.0 (λ e.

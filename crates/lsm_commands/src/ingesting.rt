@@ -9,7 +9,7 @@ pub(crate) mod starting;
 ghost use Rattle.std.specs.Prelude.{◌≡◌, ◌≢◌, IfErr, OnOk, vec_len};
 ghost use Rattle.std.specs.Io.KnownBytes.{Appends, Keeps};
 ghost use Rattle.lsm_shelf.specs.Stored.{Stored};
-ghost use Rattle.lsm_state.specs.Making.{IsNewBoard};
+ghost use Rattle.lsm_state.specs.Making.{IsNewBoard, IsNewHistory};
 ghost use Rattle.lsm_commands.specs.Ingesting.{IsBroughtIn, IsIngestFault, ingest_text};
 ghost use Rattle.lsm_commands.specs.Starting.{usual};
 ghost use Rattle.lsm_commands.specs.declared.faults.writer_fault.WriterFault.TheVariants.{Write as WriteFault};
@@ -50,6 +50,7 @@ fn bring_in_named<N: Boarded, S: Shelf, R: Wait, O: Write>(
     requires records { parts.records ≡ N.registry }
     requires board { IsNewBoard N.board usual parts.publisher parts.pinners.items }
     requires seats { vec_len parts.pinners ≡ usual.readers }
+    requires history { IsNewHistory N.history parts.history }
     ensures done { OnOk result (IsBroughtIn S.honest prepared.now.start prepared.now.logs.items
         batch.now shelf.old shelf.new (O.contents out.old) (O.contents out.new)) }
     ensures fault { IfErr result (λ e. IsIngestFault (Stored S.Receipt (S.is_of N.place)
@@ -81,6 +82,7 @@ fn bring_in_as<N: Boarded, S: Shelf, R: Wait, O: Write>(
     requires shelf { (S.told shelf).place ≡ N.place }
     requires board { IsNewBoard N.board usual parts.publisher parts.pinners.items }
     requires seats { vec_len parts.pinners ≡ usual.readers }
+    requires history { IsNewHistory N.history parts.history }
     ensures done { OnOk result.0 (IsBroughtIn S.honest prepared.now.start prepared.now.logs.items
         batch.now (S.told shelf) (S.told result.1) (O.contents out.old) (O.contents out.new)) }
     ensures fault { IfErr result.0 (λ e. IsIngestFault (Stored S.Receipt (S.is_of N.place)

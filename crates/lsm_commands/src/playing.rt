@@ -8,7 +8,7 @@ ghost use Rattle.std.specs.Prelude.{◌≡◌, ◌⊎◌, IfErr, IfOk, vec_len};
 ghost use Rattle.lsm_journal.specs.Sending.{IsCreateRefusal};
 ghost use Rattle.lsm_shelf.specs.Told.{Told};
 ghost use Rattle.lsm_shelf.specs.declared.shelf_fault.ShelfFault.{ShelfFault};
-ghost use Rattle.lsm_state.specs.Making.{IsNewBoard};
+ghost use Rattle.lsm_state.specs.Making.{IsNewBoard, IsNewHistory};
 ghost use Rattle.lsm_commands.specs.Played.{ArePlayed, ArePlayedInMemory, IsUncreatedInMemory};
 ghost use Rattle.lsm_commands.specs.Starting.{usual};
 ghost use Rattle.lsm_commands.specs.WriterFault.{of_shelf};
@@ -37,6 +37,7 @@ fn play_named<N: Boarded, S: Shelf, R: Wait>(
     requires records { parts.records ≡ N.registry }
     requires board { IsNewBoard N.board usual parts.publisher parts.pinners.items }
     requires seats { vec_len parts.pinners ≡ usual.readers }
+    requires history { IsNewHistory N.history parts.history }
     ensures played { IfOk result (λ replies. ArePlayed S.honest commands.now replies shelf.old) }
     ensures fault { IfErr result (λ e. (e ≡ OutOfMemory) ⊎ ((fault : ShelfFault)
         × (e ≡ of_shelf fault) × IsCreateRefusal fault shelf.old shelf.new)) }
@@ -45,9 +46,11 @@ fn play_named<N: Boarded, S: Shelf, R: Wait>(
         registry,
         publisher,
         pinners,
+        history,
     } = parts.named(alloc)?;
     let board = (publisher, pinners);
-    let state = match State::<N, S>::create(rt, alloc, shelf, Options::usual(), registry, board) {
+    let options = Options::usual();
+    let state = match State::<N, S>::create(rt, alloc, shelf, options, registry, board, history) {
         Ok(state) => state,
         Err(fault) => return Err(WriterFault::of_shelf(fault)),
     };
@@ -69,6 +72,7 @@ fn play_as<N: Boarded, S: Shelf, R: Wait>(
     requires shelf { (S.told shelf).place ≡ N.place }
     requires board { IsNewBoard N.board usual parts.publisher parts.pinners.items }
     requires seats { vec_len parts.pinners ≡ usual.readers }
+    requires history { IsNewHistory N.history parts.history }
     ensures played { IfOk result (λ replies.
         ArePlayed S.honest commands.now replies (S.told shelf)) }
     ensures fault { IfErr result (λ e. (e ≡ OutOfMemory) ⊎ ((fault : ShelfFault) × (is : Told)

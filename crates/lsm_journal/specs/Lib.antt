@@ -1,3 +1,4 @@
+-- What public clauses cite, and so what a caller reads
 pub mod HeldManifest
 pub mod Recorded
 pub mod Difference

@@ -1,7 +1,8 @@
 -- What proofs above may cite: laws of orders, of files and of merges, of plans, jobs and installs;
--- and of the machine's events, live jobs and snapshots.
+-- and of the machine's events, live jobs and snapshots, and of histories.
 pub use Rattle.lsm_levels.proofs.Beside.{in_order_distinct}
 pub use Rattle.lsm_levels.proofs.Checked.{file_fits}
+pub use Rattle.lsm_levels.proofs.Created.{created_law}
 pub use Rattle.lsm_levels.proofs.Cuts.{finished_holds, rising_numbers}
 pub use Rattle.lsm_levels.proofs.Depths.{depth_newest}
 pub use Rattle.lsm_levels.proofs.Drops.{drops_answer, newest_is, one_each_part}
@@ -17,5 +18,5 @@ pub use Rattle.lsm_levels.proofs.Moves.{move_answers, move_outputs}
 pub use Rattle.lsm_levels.proofs.Order.{before_not_first, before_says, first_says, first_total, first_trans, true_or_not}
 pub use Rattle.lsm_levels.proofs.Plans.{linked_in, plan_opens}
 pub use Rattle.lsm_levels.proofs.Ranges.{key_le_user}
-pub use Rattle.lsm_levels.proofs.Runs.{run_law, step_law}
+pub use Rattle.lsm_levels.proofs.Runs.{held_agrees, run_law, step_agrees, step_law}
 pub use Rattle.lsm_levels.proofs.Scanning.{scan_is}

@@ -12,7 +12,7 @@ use Rattle.lsm_levels.proofs.Drops.{drops_answer, newest_is}
 use Rattle.lsm_levels.proofs.Installs.{all_has, has_all, one_each}
 use Rattle.lsm_levels.specs.Plain.{Ingests, IsReadable, Plain, Reserves}
 use Rattle.lsm_levels.specs.Law.{Books, Law, Meaning}
-use Rattle.lsm_levels.specs.Runs.{Event, Ingest, Snapshot, Release, Reserve, Cancel, Draw, Install, Spend, Nothing, ReadsAs, Run, Step, ingested}
+use Rattle.lsm_levels.specs.Runs.{Agrees, Event, Ingest, Snapshot, Release, Reserve, Cancel, Draw, Install, Spend, Nothing, ReadsAs, Run, Step, ingested}
 use Rattle.lsm_levels.proofs.LiveLists.{left_snapshot, one_more}
 use Rattle.lsm_levels.proofs.PlainSteps.{cancel_books, cancel_meaning, draw_books, draw_meaning, ingest_books, ingest_meaning, release_books, reserve_books, reserve_meaning, snapshot_books, spend_books}
 use Rattle.lsm_levels.proofs.Installing.{install_law, install_same}
@@ -94,12 +94,6 @@ past_last es last q k one upto le = go (newest k last es) (newest_finds k last e
       allowed = record { key = n.allowed.key; seq = (let s = n.allowed.seq in omega arith) };
       most = λ y h a. n.most y h (at y h a);
     })
-
--- what the plain history is to the store
-pub record Agrees (s : Plain) (es : List Entry) : Type 0 where
-  pub upto : (e : Entry) → Has es e → e.seq ≤ s.last
-  pub one : OneEach es
-  pub reads : ReadsAs s es
 
 one_each_front : (new es : List Entry) → OneEach new → OneEach es → ((x y : Entry) → Has new x → Has es y → y.seq < x.seq) → OneEach (new ++ es)
 one_each_front new es one two above x y hx hy key same = elim (has_cases new es x hx) [
@@ -193,7 +187,10 @@ run_agrees H y s [] t es l h a = subst (λ (u : Plain). Agrees u es) (sym h) a
 run_agrees H y s (e ∷ events) t es l h a = subst (Agrees t) (sym (ingested_step e events es))
     (run_agrees H y h.0 events t (ingested (e ∷ []) es) (step_law H s e h.0 l h.1) h.2 (step_agrees H y s e h.0 es l h.1 a))
 
+-- what a lawful store holds is a history of it
+pub held_agrees : (H : Type 0) → H → (s : Plain) → Law H s → Agrees s (all_entries s.files)
+held_agrees H y s l = record { upto = (l.meaning y).reached; one = one_each s.files (l.meaning y).lawful; reads = λ k q r. refl }
+
 -- a run from a lawful store
 pub run_reads : (H : Type 0) → H → (s : Plain) (events : List Event) (t : Plain) → Law H s → Run H s events t → ReadsAs t (ingested events (all_entries s.files))
-run_reads H y s events t l r = (run_agrees H y s events t (all_entries s.files) l r
-    record { upto = (l.meaning y).reached; one = one_each s.files (l.meaning y).lawful; reads = λ k q r. refl }).reads
+run_reads H y s events t l r = (run_agrees H y s events t (all_entries s.files) l r (held_agrees H y s l)).reads

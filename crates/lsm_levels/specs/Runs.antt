@@ -1,8 +1,9 @@
 -- Runs of the plain machine, and what reads give after them.
-use Rattle.std.specs.Prelude.{◌≡◌, ℕ, List, [], ◌∷◌, ◌++◌}
+use Rattle.std.specs.Prelude.{◌≡◌, ℕ, ◌≤◌, List, [], ◌∷◌, ◌++◌}
 use Rattle.lsm_codec.specs.Keys.{UserKey}
+use Rattle.lsm_codec.specs.Lists.{Has}
 use Rattle.lsm_codec.specs.Entries.{Entry, answer}
-use Rattle.lsm_levels.specs.Files.{all_entries}
+use Rattle.lsm_levels.specs.Files.{OneEach, all_entries}
 use Rattle.lsm_levels.specs.Jobs.{Job}
 use Rattle.lsm_levels.specs.Plans.{Plan}
 use Rattle.lsm_levels.specs.Plain.{Cancels, Draws, Ingests, Installs, IsReadable, Plain, Releases, Reserves, Spends, TakesSnapshot}
@@ -50,3 +51,10 @@ ingested (Nothing ∷ events) es = ingested events es
 -- every read that is promised gives what it gives over the entries es
 abbrev pub ReadsAs : Plain → List Entry → Type 0
 ReadsAs s es = (k : UserKey) (q : ℕ) → IsReadable s q → answer (all_entries s.files) k q ≡ answer es k q
+
+-- The entries es are a history of the store: none is above the last sequence, no two have one user key, sequence
+-- and kind, and every read that is promised gives what it gives over them.
+pub record Agrees (s : Plain) (es : List Entry) : Type 0 where
+  pub upto : (e : Entry) → Has es e → e.seq ≤ s.last
+  pub one : OneEach es
+  pub reads : ReadsAs s es

@@ -1,5 +1,5 @@
+-- What public clauses cite, and so what a caller reads
 pub mod Causes
-pub mod Compacting
 pub mod Cuts
 pub mod Dropping
 pub mod InputOrder
@@ -10,3 +10,5 @@ pub mod NumberFault
 pub mod Outputs
 pub mod Remembered
 pub mod Work
+-- What private functions and proofs cite alone
+pub mod Compacting

@@ -8,7 +8,8 @@ ghost use Rattle.lsm_block.specs.Standing.{SharesFront};
 ghost use Rattle.lsm_table.specs.ReadFault.{ReadCounted, IsMemoryOrShelf};
 ghost use Rattle.lsm_table.specs.Told.{Becomes};
 ghost use Rattle.lsm_levels.specs.Merging.{merge_all};
-ghost use Rattle.lsm_merger.specs.Heads.{after_first, first_of, key_in, no_more, source_in, user_in};
+ghost use Rattle.lsm_merger.specs.Heads.{after_first, first_of, key_in, no_more, source_in};
+ghost use Rattle.lsm_merger.specs.Heads.{user_in};
 ghost use Rattle.lsm_merger.specs.Heads.{value_in};
 ghost use Rattle.lsm_merger.specs.Runs.{IsOfFirst, ReadsNoOther};
 

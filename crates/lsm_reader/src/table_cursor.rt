@@ -60,8 +60,8 @@ fn enter_by<N: Naming, S: Shelf, B: Blocks<N, S>>(
 ) -> Result<BlockIter, ReadFault>
     requires here { S.is_of N.place receipt.now }
     ensures some { IfOk result (λ i. IsSome (key_of_first i)) }
-    ensures exact { S.honest
-        → Reads (λ i. i) result (entered_there (body_of (S.Receipt.image receipt.now)) spelled.now) }
+    ensures exact { S.honest → Reads (λ i. i) result
+        (entered_there (body_of (S.Receipt.image receipt.now)) spelled.now) }
     ensures found { S.honest → (e : Entry) (es : List Entry)
         → DataBlock (body_of (S.Receipt.image receipt.now)) spelled.now (e ∷ es)
         → IfOk result (λ i. i ≡ e ∷ es) }

@@ -1,13 +1,14 @@
-//! A name for one registry, one shelf's contents and one board.
+//! A name for one registry, one shelf's contents, one board and one history.
 
 ghost use Rattle.std.specs.Prelude.{[]};
 
+use lsm_history::Historied;
 use lsm_table::Naming;
 use std::marker::Brand;
 
-/// Stands for a board of pins too. A program picks it once the board is made, and what is generic
-/// in it is of that board.
-pub trait Boarded: Naming {
+/// Stands for a board of pins and for a history too. A program picks it once both are made, and what
+/// is generic in it is of that board and that history.
+pub trait Boarded: Naming + Historied {
     ghost use Rattle.atomic_table.specs.Seated.{TableId};
 
     /// The board: the identity of its table of words.

@@ -13,7 +13,7 @@ use Rattle.lsm_version.specs.Changes.{changed}
 use Rattle.lsm_version.specs.Versions.{IsSound, IsWhole, Levels, files, numbers_in}
 use Rattle.lsm_levels.specs.Law.{Law}
 use Rattle.lsm_levels.specs.Plain.{Plain, Spends}
-use Rattle.lsm_levels.specs.Runs.{Spend}
+use Rattle.lsm_levels.specs.Runs.{Agrees, Spend}
 use Rattle.lsm_slots.specs.Slots.{Epoch, Looked, Published, Slotted, numbers_held}
 use Rattle.lsm_slots.proofs.CallerLemmas.{set_else, set_found}
 use Rattle.lsm_live.specs.Booked.{Booked, lives_of}
@@ -28,7 +28,7 @@ use Rattle.lsm_state.specs.Changing.{IsChangeRefusal, live_after, next_spent, pl
 use Rattle.lsm_state.specs.declared.state_fault.StateFault.{StateFault}
 use Rattle.lsm_state.specs.declared.state_fault.StateFault.TheVariants.{OutOfMemory, Shelf, Read, BadLevel, EmptyBatch, KeyOrder, TooLarge, LevelZeroFull, SequencesSpent, Halted, UnknownSnapshot, Conflict, UnknownTicket, NumbersSpent, Stale, SlotsHeld, VersionsSpent, PinsSpent}
 use Rattle.lsm_state.proofs.Numbers.{held_named, map_has, named_held, IsNamed}
-use Rattle.lsm_state.proofs.StateLaws.{stepped}
+use Rattle.lsm_state.proofs.StateLaws.{agreed, stepped}
 
 -- a change of files is one of sound versions (a law of versions)
 abbrev pub ChangesAreSound : Type 0
@@ -82,6 +82,7 @@ lawful_spent honest board h next halted l going le = record {
   pinners = l.pinners;
   fits = l.fits;
   inputs = l.inputs;
+  agrees = agreed honest (plain h) Spend (record (plain h) { next = next }) h.history l.law (next, le, refl) l.agrees;
 }
 
 pub spent_rises : (h : Held) → h.next ≤ next_spent h
@@ -135,11 +136,11 @@ plain_is h d out s next live j version is =
     ∙ (ap (λ (n : ℕ). record p { files = files (changed_by d h.slots.version); last = n; next = next; live = lives_of live }) (last_after d h.slots.version)
     ∙ ap (λ (l : List Booked). record p { next = next; live = lives_of l }) is)
 
-pub lawful_changed : (honest : Type 0) (board : TableId) (h : Held) (d : Difference) (out : Option ℕ) (s : Slotted) (next : ℕ) (live : List Booked) (j : HeldManifest)
+pub lawful_changed : (honest : Type 0) (board : TableId) (h : Held) (d : Difference) (out : Option ℕ) (s : Slotted) (next : ℕ) (live : List Booked) (j : HeldManifest) (es : List Entry)
     → IsLawfulState honest board h → Law honest (plain_after h d out) → Published h.slots s (changed_by d h.slots.version) → live ≡ live_after out h.live
     → IsRecorded 0 j (changed_by d h.slots.version) next → h.next ≤ next → ((b : Booked) → Has (live_after out h.live) b → HasInputs (changed_by d h.slots.version) b.work)
-    → IsLawfulState honest board (record h { slots = s; next = next; live = live; journal = j })
-lawful_changed honest board h d out s next live j l after p is recorded le inputs = record {
+    → (honest → Agrees (plain_after h d out) es) → IsLawfulState honest board (record h { slots = s; next = next; live = live; journal = j; history = es })
+lawful_changed honest board h d out s next live j es l after p is recorded le inputs agrees = record {
   law = subst (λ (q : Plain). Law honest q) (sym (plain_is h d out s next live j p.version_is is)) (spent_law honest (plain_after h d out) next after le);
   journaled = (0, subst (λ (v : Levels). IsRecorded 0 j v next) (sym p.version_is) recorded, λ e. refl);
   below = λ n k. elim (published_numbers h.slots s (changed_by d h.slots.version) n p k) [
@@ -149,4 +150,6 @@ lawful_changed honest board h d out s next live j l after p is recorded le input
   pinners = l.pinners;
   fits = l.fits;
   inputs = λ b k. subst (λ (v : Levels). HasInputs v b.work) (sym p.version_is) (inputs b (subst (λ (bs : List Booked). Has bs b) is k));
+  agrees = λ y. subst (λ (q : Plain). Agrees q es) (sym (plain_is h d out s next live j p.version_is is))
+      (agreed honest (plain_after h d out) Spend (record (plain_after h d out) { next = next }) es after (next, le, refl) agrees y);
 }

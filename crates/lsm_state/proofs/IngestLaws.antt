@@ -26,7 +26,7 @@ use Rattle.lsm_version.specs.Versions.{IsWhole, Levels, file_of, files, files_fr
 use Rattle.lsm_levels.specs.Law.{Law}
 use Rattle.lsm_levels.specs.Plain.{Plain, Spends}
 use Rattle.lsm_levels.specs.Plain as machine
-use Rattle.lsm_levels.specs.Runs.{Ingest}
+use Rattle.lsm_levels.specs.Runs.{Agrees, Ingest}
 use Rattle.lsm_slots.specs.Slots.{Slotted}
 use Rattle.lsm_live.specs.Booked.{Booked}
 use Rattle.lsm_journal.specs.Difference.{Difference, FitsComing, Suits, changed_by}
@@ -46,7 +46,7 @@ use Rattle.lsm_state.specs.declared.state_fault.StateFault.{StateFault}
 use Rattle.lsm_state.specs.declared.state_fault.StateFault.TheVariants.{OutOfMemory, Shelf, Read, BadLevel, EmptyBatch, KeyOrder, TooLarge, LevelZeroFull, SequencesSpent, Halted, UnknownSnapshot, Conflict, UnknownTicket, NumbersSpent, Stale, SlotsHeld, VersionsSpent, PinsSpent}
 use Rattle.lsm_state.proofs.Inputs.{TablesChange, inputs_stay}
 use Rattle.lsm_state.proofs.ChangeLaws.{change_spends, last_after, looked_plain, next_rises}
-use Rattle.lsm_state.proofs.StateLaws.{stepped}
+use Rattle.lsm_state.proofs.StateLaws.{agreed, stepped}
 
 -- laws of versions
 abbrev pub ChangesFiles : Type 0
@@ -116,6 +116,20 @@ law_grown law fit honest h x ws t d seven is l same version change =
     subst (λ (e : Difference). Law honest (plain_after x e None)) (sym change)
     (subst (λ (y : Held). Law honest (plain_after y (coming_in t (last_of h ws)) None)) (sym same)
     (subst (λ (v : Levels). Law honest (record p { files = files (changed_by (coming_in t (last_of h ws)) v) })) (sym version) after))
+
+-- the history after the change: the batch's entries came in front
+pub agrees_grown : ChangesFiles → FitsTables → (honest : Type 0) (board : TableId) (h x : Held) (ws : List Write) (t : Table) (d : Difference) (coming : List Entry) → length h.slots.version.tables ≡ 7
+    → IsTableOf (entries_of h ws) h.next t → IsLawfulState honest board h → x ≡ with_number h x.slots → x.slots.version ≡ h.slots.version → d ≡ coming_in t (last_of h ws) → coming ≡ entries_of h ws
+    → honest → Agrees (plain_after x d None) (coming ++ x.history)
+agrees_grown law fit honest board h x ws t d coming seven is l same version change came y =
+    let p : Plain = grown h t (last_of h ws) (suc h.next) in
+    let es : List Entry = entries_of h ws ++ h.history in
+    let after : Agrees p es = agreed honest (plain h) (Ingest (entries_of h ws)) p h.history l.law (event_of law fit h ws t (suc h.next) seven is (omega arith)) l.agrees y in
+    let all : coming ++ x.history ≡ es = ap (λ (xs : List Entry). xs ++ x.history) came ∙ ap (λ (z : Held). entries_of h ws ++ z.history) same in
+    subst (λ (xs : List Entry). Agrees (plain_after x d None) xs) (sym all)
+    (subst (λ (e : Difference). Agrees (plain_after x e None) es) (sym change)
+    (subst (λ (z : Held). Agrees (plain_after z (coming_in t (last_of h ws)) None) es) (sym same)
+    (subst (λ (v : Levels). Agrees (record p { files = files (changed_by (coming_in t (last_of h ws)) v) }) es) (sym version) after)))
 
 -- ---- the table of a batch
 
@@ -230,10 +244,10 @@ inputs_grown law honest board h x t last d l same version change b k =
 -- ---- what a change leaves
 
 -- the state after the change is the machine's after its event
-pub event_after : ChangesFiles → FitsTables → (h x y : Held) (ws : List Write) (t : Table) (d : Difference) (was is : Told) → length h.slots.version.tables ≡ 7 → IsTableOf (entries_of h ws) h.next t
-    → x ≡ with_number h x.slots → x.slots.version ≡ h.slots.version → d ≡ coming_in t (last_of h ws) → ChangesVersion x y d None was is
+pub event_after : ChangesFiles → FitsTables → (h x y : Held) (ws : List Write) (t : Table) (d : Difference) (coming : List Entry) (was is : Told) → length h.slots.version.tables ≡ 7 → IsTableOf (entries_of h ws) h.next t
+    → x ≡ with_number h x.slots → x.slots.version ≡ h.slots.version → d ≡ coming_in t (last_of h ws) → ChangesVersion x y d None coming was is
     → machine.Ingests (plain h) (entries_of h ws) (plain y)
-event_after law fit h x y ws t d was is seven table same version change c =
+event_after law fit h x y ws t d coming was is seven table same version change c =
     let d' : Difference = coming_in t (last_of h ws) in
     let next : x.next ≡ suc h.next = ap (λ (z : Held). z.next) same in
     let rises = next_rises d (changed_by d x.slots.version) x.next y.next x.journal y.journal was is c.sends in

@@ -7,7 +7,7 @@ use Rattle.std.proofs.lemmas.List.Elements.{All-nil, All-cons}
 use Rattle.std.proofs.lemmas.List.Sorted.{Contains-permutation, IsPermutation-sym}
 use Rattle.std.proofs.lemmas.List.Sums.{sum_by-cons}
 use Rattle.atomic_table.specs.Seated.{TableId}
-use Rattle.lsm_codec.specs.Entries.{answer}
+use Rattle.lsm_codec.specs.Entries.{Entry, answer}
 use Rattle.lsm_codec.specs.Keys.{UserKey}
 use Rattle.lsm_codec.specs.Lists.{Has}
 use Rattle.lsm_codec.proofs.CallerLemmas.{any_at, any_says, contains_from, contains_says, has_cases, has_left, has_right}
@@ -19,7 +19,7 @@ use Rattle.lsm_manifest.specs.EditFit.{FitsDeleted, FitsKey}
 use Rattle.lsm_manifest.specs.Replay.{Deletion}
 use Rattle.lsm_levels.specs.Law.{Law}
 use Rattle.lsm_levels.specs.Plain.{Installs, IsReadable, Live, Plain, Spends, without_job}
-use Rattle.lsm_levels.specs.Runs.{Install, Run, Spend}
+use Rattle.lsm_levels.specs.Runs.{Agrees, Install, Run, Spend}
 use Rattle.lsm_levels.proofs.CallerLemmas.{install_same, left_job}
 use Rattle.lsm_version.specs.Changes.{added_files, changed}
 use Rattle.lsm_version.specs.FileNumbers.{AreDistinct, times}
@@ -42,7 +42,7 @@ use Rattle.lsm_state.specs.declared.state_fault.StateFault.TheVariants.{OutOfMem
 use Rattle.lsm_state.proofs.Inputs.{TablesChange, inputs_stay}
 use Rattle.lsm_state.proofs.ChangeLaws.{change_spends, looked_plain}
 use Rattle.lsm_state.proofs.Numbers.{has_map, map_has}
-use Rattle.lsm_state.proofs.StateLaws.{stepped}
+use Rattle.lsm_state.proofs.StateLaws.{agreed, stepped}
 
 -- which files a changed version has (a law of versions)
 abbrev pub FilesChange : Type 0
@@ -251,6 +251,13 @@ pub law_installed : FilesChange → (honest : Type 0) (board : TableId) (h : Hel
 law_installed law honest board h d c b l seven r f i =
     stepped honest (plain h) (Install d.work.ticket) (plain_after h c (Some d.work.ticket)) l.law (installs law honest h d c b seven r f i)
 
+-- nothing came into the history
+pub agrees_installed : FilesChange → (honest : Type 0) (board : TableId) (h : Held) (d : Done) (c : Difference) (b : Booked) (coming : List Entry) → IsLawfulState honest board h → length h.slots.version.tables ≡ 7
+    → IsLiveResult h.live d b → IsFinished honest d → IsInstallChange d h.slots.version.last c → coming ≡ [] → honest → Agrees (plain_after h c (Some d.work.ticket)) (coming ++ h.history)
+agrees_installed law honest board h d c b coming l seven r f i none y =
+    subst (λ (xs : List Entry). Agrees (plain_after h c (Some d.work.ticket)) (xs ++ h.history)) (sym none)
+    (agreed honest (plain h) (Install d.work.ticket) (plain_after h c (Some d.work.ticket)) h.history l.law (installs law honest h d c b seven r f i) l.agrees y)
+
 pub same_installed : FilesChange → (honest : Type 0) (board : TableId) (h : Held) (d : Done) (c : Difference) (b : Booked) → IsLawfulState honest board h → length h.slots.version.tables ≡ 7
     → IsLiveResult h.live d b → IsFinished honest d → IsInstallChange d h.slots.version.last c → honest → (k : UserKey) (q : ℕ) → IsReadable (plain h) q
     → answer (all_entries (files (changed_by c h.slots.version))) k q ≡ answer (all_entries (files h.slots.version)) k q
@@ -335,28 +342,28 @@ sends_on : (b : Bool) (A B : Type 0) (next after : ℕ) → MatchBool b ((after 
 sends_on true A B next after m = (let e = m.0 in omega arith)
 sends_on false A B next after m = (let e = m.0 in omega arith)
 
-changed_plain : (old new : Held) (c : Difference) (out : Option ℕ) (was is : Told) → ChangesVersion old new c out was is → plain new ≡ record (plain_after old c out) { next = new.next }
-changed_plain old new c out was is k =
+changed_plain : (old new : Held) (c : Difference) (out : Option ℕ) (coming : List Entry) (was is : Told) → ChangesVersion old new c out coming was is → plain new ≡ record (plain_after old c out) { next = new.next }
+changed_plain old new c out coming was is k =
     let p : Plain = plain_after old c out in
     ap plain k.rest
     ∙ (ap (λ (v : Levels). let t : Plain = record p { files = files v; last = v.last; next = new.next } in t) (k.published).version_is
     ∙ ap (λ (n : ℕ). let t : Plain = record p { last = n; next = new.next } in t) (last_after c old.slots.version))
 
-pub installing : (honest : Type 0) (old new : Held) (c : Difference) (ticket : ℕ) (was is : Told) → Installs honest (plain old) ticket (plain_after old c (Some ticket)) → ChangesVersion old new c (Some ticket) was is
+pub installing : (honest : Type 0) (old new : Held) (c : Difference) (ticket : ℕ) (coming : List Entry) (was is : Told) → Installs honest (plain old) ticket (plain_after old c (Some ticket)) → ChangesVersion old new c (Some ticket) coming was is
     → IsInstalling honest old ticket new
-installing honest old new c ticket was is i k = (
+installing honest old new c ticket coming was is i k = (
   plain_after old c (Some ticket),
   i,
   (
     plain new,
-    (new.next, sends_on (is_at_limit old.journal) (RollsOver (changed_by c old.slots.version) old.next old.journal new.journal was is) (Grows (change_edit old.journal c old.next) old.journal new.journal was is) old.next new.next k.sends, changed_plain old new c (Some ticket) was is k),
+    (new.next, sends_on (is_at_limit old.journal) (RollsOver (changed_by c old.slots.version) old.next old.journal new.journal was is) (Grows (change_edit old.journal c old.next) old.journal new.journal was is) old.next new.next k.sends, changed_plain old new c (Some ticket) coming was is k),
     refl,
   ),
 )
 
-pub answers_of : (old new : Held) (c : Difference) (out : Option ℕ) (was is : Told) → ChangesVersion old new c out was is
+pub answers_of : (old new : Held) (c : Difference) (out : Option ℕ) (coming : List Entry) (was is : Told) → ChangesVersion old new c out coming was is
     → ((k : UserKey) (q : ℕ) → IsReadable (plain old) q → answer (all_entries (files (changed_by c old.slots.version))) k q ≡ answer (all_entries (files old.slots.version)) k q) → SameAnswers old new
-answers_of old new c out was is x same k q r = ap (λ (v : Levels). answer (all_entries (files v)) k q) (x.published).version_is ∙ same k q r
+answers_of old new c out coming was is x same k q r = ap (λ (v : Levels). answer (all_entries (files v)) k q) (x.published).version_is ∙ same k q r
 
 -- ---- looks came before
 
@@ -366,7 +373,7 @@ installed_looked old mid new d was is same k p = record {
   sought = k;
   change = p.0;
   its = subst (λ (n : ℕ). IsInstallChange d n p.0) (ap (λ (v : Levels). v.last) (k.looked).version) p.1;
-  changes = subst (λ (h : Held). ChangesVersion h new p.0 (Some d.work.ticket) was is) same p.2;
+  changes = subst (λ (h : Held). ChangesVersion h new p.0 (Some d.work.ticket) [] was is) same p.2;
 }
 
 pub installing_looked : (honest : Type 0) (old mid new : Held) (ticket : ℕ) → mid ≡ record old { slots = mid.slots } → Looked old.slots mid.slots → IsInstalling honest mid ticket new → IsInstalling honest old ticket new

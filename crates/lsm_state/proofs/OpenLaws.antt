@@ -3,15 +3,18 @@ use Rattle.std.proofs.Common.{◌≡◌, ℕ, zero, suc, ◌+◌, ◌-◌, ◌<�
 use Rattle.std.proofs.lemmas.Bool.{eq-eqb}
 use Rattle.std.proofs.lemmas.List.Sums.{sum_by-cons}
 use Rattle.atomic_table.specs.Seated.{TableId}
+use Rattle.lsm_codec.specs.Entries.{Entry}
 use Rattle.lsm_codec.specs.Lists.{Has}
 use Rattle.lsm_codec.proofs.CallerLemmas.{all_at, flat_has, has_cases}
 use Rattle.lsm_pins.specs.Known.{Known}
 use Rattle.lsm_pins.specs.Made.{IsNewPinner}
 use Rattle.lsm_pins.specs.declared.view.View.{View}
-use Rattle.lsm_levels.specs.Files.{File}
+use Rattle.lsm_levels.specs.Files.{File, all_entries}
+use Rattle.lsm_levels.proofs.CallerLemmas.{one_each}
 use Rattle.lsm_version.specs.FileNumbers.{AreDistinct, times}
 use Rattle.lsm_version.specs.Versions.{IsSound, Levels, files, numbers_in}
 use Rattle.lsm_levels.specs.Law.{Books, Meaning}
+use Rattle.lsm_levels.specs.Runs.{Agrees}
 use Rattle.lsm_slots.specs.Slots.{Slotted, first_slots, numbers_held}
 use Rattle.lsm_slots.specs.Snapshots.{Taken}
 use Rattle.lsm_live.specs.Booked.{Booked}
@@ -81,6 +84,13 @@ opened_meaning o publisher pinners v j next halted sound = record {
   are_open = λ a h. absurd h;
 }
 
+-- what the version holds is a history of it
+opened_agrees : (o : Options) (publisher : Known) (pinners : List Known) (v : Levels) (j : HeldManifest) (next : ℕ) (halted : Bool)
+    → IsSound v → Agrees (plain (opened_state o publisher pinners v j next halted)) (all_entries (files v))
+opened_agrees o publisher pinners v j next halted sound =
+    let m = opened_meaning o publisher pinners v j next halted sound in
+    record { upto = m.reached; one = one_each (files v) m.lawful; reads = λ k q r. refl }
+
 pub lawful_opened : (honest : Type 0) (board : TableId) (o : Options) (publisher : Known) (pinners : List Known) (v : Levels) (j : HeldManifest) (next : ℕ) (halted : Bool) (rest : ℕ)
     → Fits o → IsNewBoard board o publisher pinners → (honest → IsSound v) → IsRecorded rest j v next → (halted ≡ false → rest ≡ 0) → ((n : ℕ) → Has (numbers_in v) n → n < next)
     → IsLawfulState honest board (opened_state o publisher pinners v j next halted)
@@ -97,6 +107,7 @@ lawful_opened honest board o publisher pinners v j next halted rest fits new sou
   pinners = λ p k. (let one = all_at (IsNewPinner board o.versions new.id) pinners p new.readers k in (one.at, ap (λ (w : View). w.held) one.knows));
   fits = fits;
   inputs = λ b k. absurd k;
+  agrees = λ is. opened_agrees o publisher pinners v j next halted (sound is);
 }
   where
     none_held : (m n : ℕ) → Has (numbers_held (replicate m None)) n → ⊥
@@ -105,11 +116,12 @@ lawful_opened honest board o publisher pinners v j next halted rest fits new sou
 
 -- the same of its parts, as they were made
 pub opened_made : (honest : Type 0) (board : TableId) (o : Options) (publisher : Known) (pinners : List Known) (v : Levels) (j : HeldManifest) (next : ℕ) (halted : Bool) (s : Slotted) (taken : Taken)
-    (live : List Booked) → s ≡ first_slots publisher o.versions v → taken ≡ record { taken = []; next = 1 } → live ≡ []
+    (live : List Booked) (es : List Entry) → s ≡ first_slots publisher o.versions v → taken ≡ record { taken = []; next = 1 } → live ≡ [] → es ≡ all_entries (files v)
     → IsLawfulState honest board (opened_state o publisher pinners v j next halted)
-    → IsLawfulState honest board (record { options = o; slots = s; snapshots = taken; next = next; next_ticket = 1; live = live; journal = j; halted = halted; pinners = pinners })
-opened_made honest board o publisher pinners v j next halted s taken live a b c l =
+    → IsLawfulState honest board (record { options = o; slots = s; snapshots = taken; next = next; next_ticket = 1; live = live; journal = j; halted = halted; pinners = pinners; history = es })
+opened_made honest board o publisher pinners v j next halted s taken live es a b c d l =
     let h : Held = opened_state o publisher pinners v j next halted in
-    subst (λ (x : Slotted). IsLawfulState honest board (record h { slots = x; snapshots = taken; live = live })) (sym a)
-    (subst (λ (x : Taken). IsLawfulState honest board (record h { snapshots = x; live = live })) (sym b)
-    (subst (λ (x : List Booked). IsLawfulState honest board (record h { live = x })) (sym c) l))
+    subst (λ (x : Slotted). IsLawfulState honest board (record h { slots = x; snapshots = taken; live = live; history = es })) (sym a)
+    (subst (λ (x : Taken). IsLawfulState honest board (record h { snapshots = x; live = live; history = es })) (sym b)
+    (subst (λ (x : List Booked). IsLawfulState honest board (record h { live = x; history = es })) (sym c)
+    (subst (λ (x : List Entry). IsLawfulState honest board (record h { history = x })) (sym d) l)))

@@ -28,7 +28,7 @@ use Rattle.lsm_state.specs.Held.{HasInputs, Held, IsLawfulState, plain}
 use Rattle.lsm_state.specs.Reserving.{HasOrderedInputs, IsChosen, IsClosedPlan, IsOfMoment, IsPlanAt, IsRangePlan, IsRangeRefusal, IsReserveRefusal, IsReserving, plan_in, reserved}
 use Rattle.lsm_state.specs.declared.state_fault.StateFault.{StateFault}
 use Rattle.lsm_state.specs.declared.state_fault.StateFault.TheVariants.{Conflict, NumbersSpent, OutOfMemory}
-use Rattle.lsm_state.proofs.StateLaws.{stepped}
+use Rattle.lsm_state.proofs.StateLaws.{agreed, stepped}
 
 -- what the laws of plans say
 abbrev pub InputsStand : Type 0
@@ -86,6 +86,7 @@ lawful_reserved honest board h w l step s = record {
     | inl old ↦ l.inputs b old
     | inr new ↦ subst (λ (c : Booked). HasInputs h.slots.version c.work) new record { upper = s.upper; lower = s.lower }
   ];
+  agrees = agreed honest (plain h) (Reserve (plan_of (plan_in w)) (job_of w)) (plain (reserved w h)) h.history l.law step l.agrees;
 }
 
 -- the same of the parts, as they were made

@@ -1,16 +1,19 @@
 -- What the smaller calls leave of the law of a state.
-use Rattle.std.proofs.Common.{◌≡◌, ℕ, zero, suc, ◌+◌, ◌-◌, ◌==◌, Bool, true, false, cond, not, inl, inr, None, replicate, List, [], ◌∷◌, ◌++◌, refl, sym, ◌∙◌, ap, subst, arith}
+use Rattle.std.proofs.Common.{◌≡◌, ℕ, zero, suc, ◌+◌, ◌-◌, ◌==◌, Bool, true, false, cond, not, inl, inr, Option, None, Some, replicate, List, [], ◌∷◌, ◌++◌, refl, sym, ◌∙◌, ap, subst, arith}
 use Rattle.atomic_table.specs.Seated.{TableId}
+use Rattle.lsm_codec.specs.Entries.{Entry, answer}
+use Rattle.lsm_codec.specs.Keys.{UserKey}
 use Rattle.lsm_codec.specs.Lists.{Has}
 use Rattle.lsm_codec.proofs.CallerLemmas.{all_at, filter_has}
 use Rattle.lsm_pins.specs.Known.{Known}
 use Rattle.lsm_pins.specs.Made.{IsNewPinner}
 use Rattle.lsm_pins.specs.declared.view.View.{View}
 use Rattle.lsm_version.specs.Versions.{Levels, files, no_levels}
+use Rattle.lsm_levels.specs.Files.{all_entries}
 use Rattle.lsm_levels.specs.Law.{Law}
-use Rattle.lsm_levels.specs.Plain.{Cancels, Draws, Plain, Releases, TakesSnapshot, created, without_snapshot}
-use Rattle.lsm_levels.specs.Runs.{Event, Step, Snapshot, Release, Cancel, Draw}
-use Rattle.lsm_levels.proofs.CallerLemmas.{step_law}
+use Rattle.lsm_levels.specs.Plain.{Cancels, Draws, IsReadable, Plain, Releases, TakesSnapshot, created, without_snapshot}
+use Rattle.lsm_levels.specs.Runs.{Agrees, Event, Step, Snapshot, Release, Cancel, Draw, ingested}
+use Rattle.lsm_levels.proofs.CallerLemmas.{step_agrees, step_law}
 use Rattle.lsm_slots.specs.Slots.{Looked, PinsMove, Slotted, first_slots, numbers_held}
 use Rattle.lsm_slots.specs.Snapshots.{Taken}
 use Rattle.lsm_merge.specs.Work.{Work}
@@ -22,6 +25,7 @@ use Rattle.lsm_journal.specs.Writing.{created_under}
 use Rattle.lsm_journal.proofs.CallerLemmas.{later}
 use Rattle.lsm_state.specs.Making.{IsNewBoard, created_state_under}
 use Rattle.lsm_state.specs.Options.{Fits}
+use Rattle.lsm_state.specs.Reading.{IsSequence}
 use Rattle.lsm_state.specs.declared.options.Options.{Options}
 use Rattle.lsm_state.specs.Held.{HasInputs, Held, IsLawfulState, plain}
 use Rattle.lsm_state.proofs.Numbers.{looked_numbers, pinned_numbers}
@@ -29,6 +33,10 @@ use Rattle.lsm_state.proofs.Numbers.{looked_numbers, pinned_numbers}
 -- an event keeps the machine's law
 pub stepped : (honest : Type 0) (s : Plain) (e : Event) (t : Plain) → Law honest s → Step honest s e t → Law honest t
 stepped honest s e t l step = step_law honest s e t l step
+
+-- an event takes a history on by what came in
+pub agreed : (honest : Type 0) (s : Plain) (e : Event) (t : Plain) (es : List Entry) → Law honest s → Step honest s e t → (honest → Agrees s es) → honest → Agrees t (ingested (e ∷ []) es)
+agreed honest s e t es l step a y = step_agrees honest y s e t es l step (a y)
 
 -- ---- slots: the current version stays, and no number comes
 
@@ -45,6 +53,7 @@ lawful_slots honest board h s l same fewer = record {
   pinners = l.pinners;
   fits = l.fits;
   inputs = λ b k. subst (λ (v : Levels). HasInputs v b.work) (sym same) (l.inputs b k);
+  agrees = λ y. subst (λ (p : Plain). Agrees p h.history) (sym (nothing h s same)) (l.agrees y);
 }
 
 pub lawful_pinned : (honest : Type 0) (board : TableId) (h : Held) (s : Slotted) (id from to : ℕ) → IsLawfulState honest board h → PinsMove h.slots s id from to → IsLawfulState honest board (record h { slots = s })
@@ -80,6 +89,7 @@ lawful_taken honest board h taken l is = record {
   pinners = l.pinners;
   fits = l.fits;
   inputs = l.inputs;
+  agrees = agreed honest (plain h) Snapshot (plain (record h { snapshots = taken })) h.history l.law (takes h taken is) l.agrees;
 }
 
 pub lawful_released : (honest : Type 0) (board : TableId) (h : Held) (taken : Taken) (id : ℕ) → IsLawfulState honest board h
@@ -91,6 +101,7 @@ lawful_released honest board h taken id l is = record {
   pinners = l.pinners;
   fits = l.fits;
   inputs = l.inputs;
+  agrees = agreed honest (plain h) (Release id) (plain (record h { snapshots = taken })) h.history l.law (releases h taken id is) l.agrees;
 }
 
 -- ---- jobs
@@ -123,6 +134,7 @@ lawful_cancelled honest board h live ticket l is = record {
   pinners = l.pinners;
   fits = l.fits;
   inputs = λ b k. l.inputs b (filter_has (λ (c : Booked). not (c.work.ticket == ticket)) h.live b (subst (λ (bs : List Booked). Has bs b) is k)).0;
+  agrees = agreed honest (plain h) (Cancel ticket) (plain (record h { live = live })) h.history l.law (cancels h live ticket is) l.agrees;
 }
 
 pub lawful_drawn : (honest : Type 0) (board : TableId) (h : Held) (live : List Booked) (ticket next : ℕ) → IsLawfulState honest board h → live ≡ booked ticket h.next h.live → next ≡ suc h.next
@@ -134,6 +146,7 @@ lawful_drawn honest board h live ticket next l is more = record {
   pinners = l.pinners;
   fits = l.fits;
   inputs = λ b k. (let r = booked_from ticket h.next h.live b (subst (λ (bs : List Booked). Has bs b) is k) in subst (λ (w : Work). HasInputs h.slots.version w) r.2 (l.inputs r.0 r.1));
+  agrees = agreed honest (plain h) (Draw ticket) (plain (record h { live = live; next = next })) h.history l.law (draws h live ticket next is more) l.agrees;
 }
 
 -- ---- a new database
@@ -169,6 +182,7 @@ lawful_created number honest board o publisher pinners fits new law recorded = r
   pinners = λ p k. (let one = all_at (IsNewPinner board o.versions new.id) pinners p new.readers k in (one.at, ap (λ (v : View). v.held) one.knows));
   fits = fits;
   inputs = λ b k. absurd k;
+  agrees = λ y. record { upto = λ e k. absurd k; one = λ e f k m key same. absurd k; reads = λ k q r. refl };
 }
   where
     none_held : (m n : ℕ) → Has (numbers_held (replicate m None)) n → ⊥
@@ -176,12 +190,26 @@ lawful_created number honest board o publisher pinners fits new law recorded = r
     none_held (suc m) n h = none_held m n h
 
 -- the same of its parts, as they were made
-pub lawful_made : (number : ℕ) (honest : Type 0) (board : TableId) (o : Options) (publisher : Known) (pinners : List Known) (s : Slotted) (taken : Taken) (live : List Booked) (j : HeldManifest)
-    → s ≡ first_slots publisher o.versions no_levels → taken ≡ record { taken = []; next = 1 } → live ≡ [] → j ≡ created_under number o.manifest_limit → IsLawfulState honest board (created_state_under number o publisher pinners)
-    → IsLawfulState honest board (record { options = o; slots = s; snapshots = taken; next = number + 1; next_ticket = 1; live = live; journal = j; halted = false; pinners = pinners })
-lawful_made number honest board o publisher pinners s taken live j a b c d l =
+pub lawful_made : (number : ℕ) (honest : Type 0) (board : TableId) (o : Options) (publisher : Known) (pinners : List Known) (s : Slotted) (taken : Taken) (live : List Booked) (j : HeldManifest) (es : List Entry)
+    → s ≡ first_slots publisher o.versions no_levels → taken ≡ record { taken = []; next = 1 } → live ≡ [] → j ≡ created_under number o.manifest_limit → es ≡ [] → IsLawfulState honest board (created_state_under number o publisher pinners)
+    → IsLawfulState honest board (record { options = o; slots = s; snapshots = taken; next = number + 1; next_ticket = 1; live = live; journal = j; halted = false; pinners = pinners; history = es })
+lawful_made number honest board o publisher pinners s taken live j es a b c d e l =
     let h : Held = created_state_under number o publisher pinners in
-    subst (λ (x : Slotted). IsLawfulState honest board (record h { slots = x; snapshots = taken; live = live; journal = j })) (sym a)
-    (subst (λ (x : Taken). IsLawfulState honest board (record h { snapshots = x; live = live; journal = j })) (sym b)
-    (subst (λ (x : List Booked). IsLawfulState honest board (record h { live = x; journal = j })) (sym c)
-    (subst (λ (x : HeldManifest). IsLawfulState honest board (record h { journal = x })) (sym d) l)))
+    subst (λ (x : Slotted). IsLawfulState honest board (record h { slots = x; snapshots = taken; live = live; journal = j; history = es })) (sym a)
+    (subst (λ (x : Taken). IsLawfulState honest board (record h { snapshots = x; live = live; journal = j; history = es })) (sym b)
+    (subst (λ (x : List Booked). IsLawfulState honest board (record h { live = x; journal = j; history = es })) (sym c)
+    (subst (λ (x : HeldManifest). IsLawfulState honest board (record h { journal = x; history = es })) (sym d)
+    (subst (λ (x : List Entry). IsLawfulState honest board (record h { history = x })) (sym e) l))))
+
+-- ---- the history
+
+-- a live snapshot's sequence, or the last, is one at which reads are promised
+promised : (h : Held) (at : Option ℕ) (seq : ℕ) → IsSequence h at seq → IsReadable (plain h) seq
+promised h None seq is = inl is
+promised h (Some id) seq is = inr ((id, seq), is, refl)
+
+-- a read of the version is one of the history
+pub read_as : (honest : Type 0) (board : TableId) (h : Held) (at : Option ℕ) (seq : ℕ) (user : UserKey) (v : Levels) (value : Option (List ℕ)) → IsLawfulState honest board h → v ≡ h.slots.version
+    → IsSequence h at seq → honest → value ≡ answer (all_entries (files v)) user seq → value ≡ answer h.history user seq
+read_as honest board h at seq user v value l same s y is =
+    is ∙ (ap (λ (w : Levels). answer (all_entries (files w)) user seq) same ∙ (l.agrees y).reads user seq (promised h at seq s))

@@ -1,6 +1,7 @@
 -- What a change of the current version leaves of a state, and why it is refused (LevelDB's `VersionSet::LogAndApply`; slots, and a new
 -- manifest at a limit, are this project's rule).
-use Rattle.std.specs.Prelude.{◌≡◌, ℕ, ◌+◌, ◌-◌, ◌^◌, ◌<◌, ◌≤◌, Bool, true, false, if◌then◌else◌, List, Option, Some, None, Err}
+use Rattle.std.specs.Prelude.{◌≡◌, ℕ, ◌+◌, ◌-◌, ◌^◌, ◌<◌, ◌≤◌, Bool, true, false, if◌then◌else◌, List, ◌++◌, Option, Some, None, Err}
+use Rattle.lsm_codec.specs.Entries.{Entry}
 use Rattle.lsm_shelf.specs.Told.{Told, CountedBy}
 use Rattle.lsm_shelf.specs.declared.shelf_fault.ShelfFault.{ShelfFault}
 use Rattle.lsm_shelf.specs.declared.shelf_fault.ShelfFault.TheVariants as shelf
@@ -44,10 +45,10 @@ live_after (Some ticket) live = without ticket live
 abbrev pub plain_after : Held → Difference → Option ℕ → Plain
 plain_after h d out = record (plain h) { files = files (changed_by d h.slots.version); last = d.last; live = lives_of (live_after out h.live) }
 
--- The change is in the manifest, here and on the shelf, its version is current, in a slot that was free, and the job of the ticket is out. No
--- slot was looked at, and all else is as before.
-pub record ChangesVersion (old new : Held) (d : Difference) (out : Option ℕ) (was is : Told) : Type 0 where
-  pub rest : new ≡ record old { slots = new.slots; next = new.next; live = live_after out old.live; journal = new.journal }
+-- The change is in the manifest, here and on the shelf, its version is current, in a slot that was free, the job of the ticket is out, and
+-- just the entries that came with the change came into the history. No slot was looked at, and all else is as before.
+pub record ChangesVersion (old new : Held) (d : Difference) (out : Option ℕ) (coming : List Entry) (was is : Told) : Type 0 where
+  pub rest : new ≡ record old { slots = new.slots; next = new.next; live = live_after out old.live; journal = new.journal; history = coming ++ old.history }
   pub published : Published old.slots new.slots (changed_by d old.slots.version)
   pub looks : looks_of new.slots ≡ looks_of old.slots
   pub sends : Sends d (changed_by d old.slots.version) old.next new.next old.journal new.journal was is

@@ -1,12 +1,14 @@
 -- What contracts see of a state, and its law (this project's rule).
 use Rattle.std.specs.Prelude.{◌≡◌, ℕ, suc, ◌<◌, Bool, false, None, List}
 use Rattle.atomic_table.specs.Seated.{TableId}
+use Rattle.lsm_codec.specs.Entries.{Entry}
 use Rattle.lsm_codec.specs.Lists.{Has}
 use Rattle.lsm_pins.specs.Known.{Known}
 use Rattle.lsm_table.specs.Registry.{Table}
 use Rattle.lsm_version.specs.Versions.{Levels, files, level_in}
 use Rattle.lsm_levels.specs.Law.{Law}
 use Rattle.lsm_levels.specs.Plain.{Plain}
+use Rattle.lsm_levels.specs.Runs.{Agrees}
 use Rattle.lsm_slots.specs.Slots.{Slotted, numbers_held}
 use Rattle.lsm_slots.specs.Snapshots.{Taken}
 use Rattle.lsm_merge.specs.Work.{Work}
@@ -29,6 +31,8 @@ pub record Held : Type 0 where
   pub halted : Bool
   -- the pinners that were not taken yet
   pub pinners : List Known
+  -- all that ever came in, the latest batch first, and behind it what the version held that was opened
+  pub history : List Entry
 
 -- a state as the plain machine has it
 abbrev pub plain : Held → Plain
@@ -52,7 +56,8 @@ pub record HasInputs (v : Levels) (w : Work) : Type 0 where
   pub lower : (t : Table) → Has w.lower t → Has (level_in v.tables (suc w.level)) t
 
 -- The law of a state: it keeps the machine's, its manifest records its version, each number of a version in a slot is below the next, the
--- pinners not yet taken are at the board and hold nothing, and the inputs of live jobs are tables of the version.
+-- pinners not yet taken are at the board and hold nothing, and the inputs of live jobs are tables of the version. Over an honest shelf every
+-- read that is promised, at the last sequence or a live snapshot's, gives what it gives over the whole history.
 pub record IsLawfulState (Honest : Type 0) (board : TableId) (h : Held) : Type 0 where
   pub law : Law Honest (plain h)
   pub journaled : IsJournaled h
@@ -60,3 +65,4 @@ pub record IsLawfulState (Honest : Type 0) (board : TableId) (h : Held) : Type 0
   pub pinners : (p : Known) → Has h.pinners p → (p.board ≡ board) × (p.knows.held ≡ None)
   pub fits : Fits h.options
   pub inputs : (b : Booked) → Has h.live b → HasInputs h.slots.version b.work
+  pub agrees : Honest → Agrees (plain h) h.history

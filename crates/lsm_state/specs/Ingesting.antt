@@ -57,7 +57,7 @@ abbrev pub with_number : Held → Slotted → Held
 with_number h s = record h { slots = s; next = suc h.next }
 
 -- The batch came in: slots were looked at, where none was free; its table was put under the next number; and the version has it at level 0
--- from then on, with a greater last sequence.
+-- from then on, with a greater last sequence. Just its entries came into the history.
 pub record Ingests (old new : Held) (ws : List Write) (r : Ingested) (was is : Told) : Type 0 where
   pub file : r.file ≡ old.next
   pub first : r.first ≡ suc old.slots.version.last
@@ -68,7 +68,7 @@ pub record Ingests (old new : Held) (ws : List Write) (r : Ingested) (was is : T
   pub is_table : IsTableOf (entries_of old ws) old.next table
   pub mid : Told
   pub put : Becomes (putting old.next was) mid
-  pub changes : ChangesVersion (with_number old slots) new (coming_in table (last_of old ws)) None mid is
+  pub changes : ChangesVersion (with_number old slots) new (coming_in table (last_of old ws)) None (entries_of old ws) mid is
   -- the table is written with the options' sizes
   pub bytes : table.image ≡ table_bytes (sizes_of old.options) (entries_of old ws)
 

@@ -63,17 +63,17 @@ pub record IsInstallChange (d : Done) (last : ℕ) (c : Difference) : Type 0 whe
 -- ---- an install
 
 -- A free slot was sought, and the version changed by just this; the manifest was told; the job is out, and all else is as
--- before.
+-- before: nothing came into the history.
 pub record Installed (old new : Held) (d : Done) (was is : Told) : Type 0 where
   pub slots : Slotted
   pub sought : Sought old.slots slots
   pub change : Difference
   pub its : IsInstallChange d old.slots.version.last change
-  pub changes : ChangesVersion (record old { slots = slots }) new change (Some d.work.ticket) was is
+  pub changes : ChangesVersion (record old { slots = slots }) new change (Some d.work.ticket) [] was is
 
 -- the same, in a slot that was known to be free
 abbrev pub IsPutIn : Held → Held → Done → Told → Told → Type 0
-IsPutIn old new d was is = (c : Difference) × IsInstallChange d old.slots.version.last c × ChangesVersion old new c (Some d.work.ticket) was is
+IsPutIn old new d was is = (c : Difference) × IsInstallChange d old.slots.version.last c × ChangesVersion old new c (Some d.work.ticket) [] was is
 
 -- every read that is promised, at the last sequence or a live snapshot's, gives what it gave
 abbrev pub SameAnswers : Held → Held → Type 0

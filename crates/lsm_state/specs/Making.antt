@@ -2,6 +2,7 @@
 use Rattle.std.specs.Prelude.{◌≡◌, ℕ, ◌+◌, false, List, []}
 use Rattle.std.specs.List.{All}
 use Rattle.atomic_table.specs.Seated.{TableId}
+use Rattle.lsm_history.specs.declared.new_history.NewHistory.{NewHistory}
 use Rattle.lsm_pins.specs.Known.{Known}
 use Rattle.lsm_pins.specs.Made.{IsNewPinner}
 use Rattle.lsm_pins.specs.View.{after_making}
@@ -18,7 +19,11 @@ pub record IsNewBoard (board : TableId) (o : Options) (publisher : Known) (pinne
   pub made : publisher.knows ≡ after_making o.versions id o.readers
   pub readers : All (IsNewPinner board o.versions id) pinners
 
--- no table, no snapshot, no job; the manifest has this number, and the next number is one more
+-- A history that was just made, under the name that stands for it.
+abbrev pub IsNewHistory : TableId → NewHistory → Type 0
+IsNewHistory id history = history.table.shared.table_id ≡ id
+
+-- no table, no snapshot, no job, and nothing came in; the manifest has this number, and the next number is one more
 abbrev pub created_state_under : ℕ → Options → Known → List Known → Held
 created_state_under number o publisher pinners = record {
   options = o;
@@ -30,6 +35,7 @@ created_state_under number o publisher pinners = record {
   journal = created_under number o.manifest_limit;
   halted = false;
   pinners = pinners;
+  history = [];
 }
 
 -- the same with manifest 1, so 2 is the next number

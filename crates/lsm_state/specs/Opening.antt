@@ -4,7 +4,8 @@ use Rattle.lsm_pins.specs.Known.{Known}
 use Rattle.lsm_shelf.specs.Asked.{Asked, IsWantOr}
 use Rattle.lsm_shelf.specs.declared.shelf_fault.ShelfFault.{ShelfFault}
 use Rattle.lsm_shelf.specs.Told.{Told, Becomes, Counted, TakenIs}
-use Rattle.lsm_version.specs.Versions.{Levels}
+use Rattle.lsm_levels.specs.Files.{all_entries}
+use Rattle.lsm_version.specs.Versions.{Levels, files}
 use Rattle.lsm_slots.specs.Slots.{first_slots}
 use Rattle.lsm_journal.specs.HeldManifest.{HeldManifest}
 use Rattle.lsm_journal.specs.Sending.{RollsOver, started_by}
@@ -14,7 +15,8 @@ use Rattle.lsm_journal.specs.declared.open_fault.OpenFault.{OpenFault}
 use Rattle.lsm_journal.specs.declared.open_fault.OpenFault.TheVariants.{OutOfMemory, Shelf, Recover, Check, NumbersSpent}
 pub use Rattle.lsm_journal.specs.Finding.{IsFound, IsFindRefusal, IsReadOnce}
 
--- a state of this version and this manifest: the version in the first slot, no snapshot, no job
+-- A state of this version and this manifest: the version in the first slot, no snapshot, no job. Its history begins with all that the version
+-- holds.
 abbrev pub opened_state : Options → Known → List Known → Levels → HeldManifest → ℕ → Bool → Held
 opened_state o publisher pinners version journal next halted = record {
   options = o;
@@ -26,6 +28,7 @@ opened_state o publisher pinners version journal next halted = record {
   journal = journal;
   halted = halted;
   pinners = pinners;
+  history = all_entries (files version);
 }
 
 -- The manifest that was found records the version. The manifest held is a new one, whose one edit spells it, and has the number that was

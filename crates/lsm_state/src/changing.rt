@@ -1,13 +1,14 @@
 //! Changes of the current version.
 
 ghost use Rattle.std.specs.Prelude.{◌≡◌, ℕ, ◌+◌, ◌-◌, ◌<◌, ◌^◌, IfErr, IfOk, OnErr, OnOk, false};
-ghost use Rattle.std.specs.Prelude.{true};
+ghost use Rattle.std.specs.Prelude.{true, ◌++◌};
 ghost use Rattle.std.specs.Arc.{arc_value};
 ghost use Rattle.lsm_codec.specs.Lists.{Has};
 ghost use Rattle.lsm_shelf.specs.Told.{Becomes};
 ghost use Rattle.lsm_table.specs.Registry.{Table};
 ghost use Rattle.lsm_version.specs.Versions.{IsWhole};
 ghost use Rattle.lsm_levels.specs.Law.{Law};
+ghost use Rattle.lsm_levels.specs.Runs.{Agrees};
 ghost use Rattle.lsm_slots.specs.Slots.{IsFreeSlot, current_id};
 ghost use Rattle.lsm_live.specs.Booked.{Booked};
 ghost use Rattle.lsm_journal.specs.HeldManifest.{is_at_limit};
@@ -21,6 +22,7 @@ ghost use Rattle.lsm_state.specs.declared.state_fault.StateFault.TheVariants.{Ou
 
 use crate::state::State;
 use crate::state_fault::StateFault;
+use lsm_history::History;
 use lsm_journal::VersionChange;
 use lsm_live::LiveJobs;
 use lsm_slots::Boarded;
@@ -125,7 +127,7 @@ impl<N: Boarded, S: Shelf> State<N, S> {
     }
 
     // Makes a change of the current version: in the manifest, and then in a slot that is free. The
-    // job of the ticket, if one is named, goes out with it.
+    // job of the ticket, if one is named, goes out with it, and entries come into the history.
     //
     // All room is made before the manifest is written. `OutOfMemory` where a growth was refused;
     // then all is as before. Then the shelf's refusals: the number of a new manifest is spent, and
@@ -138,6 +140,7 @@ impl<N: Boarded, S: Shelf> State<N, S> {
         change: &VersionChange<N, S>,
         slot: u8,
         out: Option<u64>,
+        coming: &History,
     ) -> Result<(), StateFault>
         requires going { self.old.halted ≡ false }
         requires free { IsFreeSlot self.old.slots slot }
@@ -148,12 +151,15 @@ impl<N: Boarded, S: Shelf> State<N, S> {
         requires law { Law S.honest (plain_after self.old change.now out) }
         requires inputs { (b : Booked) → Has (live_after out self.old.live) b
             → HasInputs (changed_by change.now self.old.slots.version) b.work }
-        ensures ok { OnOk result (ChangesVersion self.old self.new change.now out shelf.old
-            shelf.new) }
+        requires agrees { S.honest → Agrees (plain_after self.old change.now out)
+            (coming.now.entries ++ self.old.history) }
+        ensures ok { OnOk result (ChangesVersion self.old self.new change.now out
+            coming.now.entries shelf.old shelf.new) }
         ensures refused { IfErr result (λ e.
             IsChangeRefusal self.old self.new e shelf.old shelf.new) }
         ensures asked { IfErr result
             (OnShelf (ChangeRefused (S.refuses N.place) self.old change.now)) }
+        ensures history_err { OnErr result (self.new.history ≡ self.old.history) }
         ensures unsent { OnErr result (Becomes shelf.old shelf.new) }
         ensures counts { OnOk result (SameCounts shelf.old shelf.new) }
     {
@@ -169,6 +175,7 @@ impl<N: Boarded, S: Shelf> State<N, S> {
         self.next = next;
         take_out(&mut self.live, out);
         self.slots.publish(slot, first, second);
+        self.keeper.grow(coming);
         Ok(())
     }
 }

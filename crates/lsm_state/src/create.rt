@@ -5,11 +5,13 @@ ghost use Rattle.lsm_shelf.specs.Told.{Becomes, Rose, next_count, sending};
 ghost use Rattle.lsm_journal.specs.Sending.{CreateCounted, CreateCountedUnder, IsCreateAsked};
 ghost use Rattle.lsm_journal.specs.Sending.{IsCreateAskedUnder, IsCreateRefusal};
 ghost use Rattle.lsm_journal.specs.Sending.{IsCreateRefusalUnder};
-ghost use Rattle.lsm_state.specs.Making.{IsNewBoard, created_state, created_state_under};
+ghost use Rattle.lsm_state.specs.Making.{IsNewBoard, IsNewHistory, created_state};
+ghost use Rattle.lsm_state.specs.Making.{created_state_under};
 ghost use Rattle.lsm_state.specs.Options.{Fits};
 
 use crate::options::Options;
 use crate::state::State;
+use lsm_history::NewHistory;
 use lsm_journal::Journal;
 use lsm_levels::machine::created_stores_are_lawful;
 use lsm_live::LiveJobs;
@@ -42,9 +44,11 @@ impl<N: Boarded, S: Shelf> State<N, S> {
         options: Options,
         registry: Arc<Registry<N, S>>,
         board: (Publisher, Vec<Pinner>),
+        history: NewHistory,
     ) -> Result<State<N, S>, ShelfFault>
         requires fits { Fits options }
         requires board { IsNewBoard N.board options board.0 board.1.items }
+        requires history { IsNewHistory N.history history }
         ensures created { IfOk result (λ s. s ≡ created_state options board.0 board.1.items) }
         ensures sent { IfOk result (λ s. Becomes (sending 1 s.journal.bytes shelf.old) shelf.new) }
         ensures missing { OnOk result (Rose shelf.old.misses shelf.new.misses) }
@@ -55,7 +59,7 @@ impl<N: Boarded, S: Shelf> State<N, S> {
             shelf.old shelf.new) }
         ensures counts_err { IfErr result (λ e. CreateCounted e shelf.old shelf.new) }
     {
-        State::create_under(rt, alloc, shelf, options, registry, board, 1)
+        State::create_under(rt, alloc, shelf, options, registry, board, history, 1)
     }
 
     /// The same under another number: the manifest has this number, and the next file number is one
@@ -72,10 +76,12 @@ impl<N: Boarded, S: Shelf> State<N, S> {
         options: Options,
         registry: Arc<Registry<N, S>>,
         board: (Publisher, Vec<Pinner>),
+        history: NewHistory,
         number: u64,
     ) -> Result<State<N, S>, ShelfFault>
         requires fits { Fits options }
         requires board { IsNewBoard N.board options board.0 board.1.items }
+        requires history { IsNewHistory N.history history }
         requires numbers { number + 1 < 2 ^ 64 }
         ensures created { IfOk result (λ s.
             s ≡ created_state_under number options board.0 board.1.items) }
@@ -105,6 +111,7 @@ impl<N: Boarded, S: Shelf> State<N, S> {
             journal,
             halted: false,
             pinners,
+            keeper: history.named(),
         })
     }
 }

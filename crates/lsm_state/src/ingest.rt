@@ -1,7 +1,7 @@
 //! Ingests.
 
 ghost use Rattle.std.specs.Prelude.{◌≡◌, suc, ◌+◌, ◌<◌, ◌^◌, ◌↔◌, ◌⊎◌, length, IfErr, IfOk};
-ghost use Rattle.std.specs.Prelude.{OnErr, OnOk};
+ghost use Rattle.std.specs.Prelude.{◌++◌, OnErr, OnOk};
 ghost use Rattle.lsm_codec.specs.Entries.{Entry};
 ghost use Rattle.lsm_codec.specs.Lists.{Has};
 ghost use Rattle.lsm_levels.specs.Files.{all_entries};
@@ -17,6 +17,7 @@ ghost use Rattle.lsm_state.specs.Ingesting.{IsIngestRefusal, IsTableOf, IsWelcom
 ghost use Rattle.lsm_state.specs.Ingesting.{entries_of, numbers_needed};
 ghost use Rattle.lsm_state.specs.Options.{sizes_of};
 
+use crate::coming::entries_of_batch;
 use crate::state::State;
 use crate::state_fault::StateFault;
 use lsm_batch::{Batch, BatchFault};
@@ -137,6 +138,7 @@ impl<N: Boarded, S: Shelf> State<N, S> {
             ⊎ FailsToPut self.old self.new e shelf.old shelf.new) }
         ensures asked { IfErr result (OnShelf (PutRefused (S.refuses N.place) self.old batch.now)) }
         ensures slots { OnErr result (self.new.slots ≡ self.old.slots) }
+        ensures history { self.new.history ≡ self.old.history }
     {
         tables_are_whole();
         entries_are();
@@ -165,7 +167,7 @@ impl<N: Boarded, S: Shelf> State<N, S> {
     }
 
     /// Brings a batch in: its entries, at sequences one after another from the one after the last,
-    /// are one table at level 0.
+    /// are one table at level 0, and come in front of the history.
     ///
     /// `Halted`, `EmptyBatch`, `TooLarge`, `KeyOrder`, `LevelZeroFull`, `SequencesSpent`,
     /// `NumbersSpent`, `SlotsHeld`, `VersionsSpent`, then `OutOfMemory`, `TooLarge` again where a
@@ -188,6 +190,9 @@ impl<N: Boarded, S: Shelf> State<N, S> {
         ensures entries { OnOk result ((e : Entry) → Has
             (all_entries (files self.new.slots.version)) e ↔ (Has (entries_of self.old batch.now) e
             ⊎ Has (all_entries (files self.old.slots.version)) e)) }
+        ensures history { OnOk result (self.new.history
+            ≡ entries_of self.old batch.now ++ self.old.history) }
+        ensures history_err { OnErr result (self.new.history ≡ self.old.history) }
         ensures counts { OnOk result (SameCounts shelf.old shelf.new) }
         ensures refused { IfErr result (λ e.
             IsIngestRefusal self.old self.new batch.now e shelf.old shelf.new) }
@@ -204,7 +209,8 @@ impl<N: Boarded, S: Shelf> State<N, S> {
         let table = self.put_batch(rt, alloc, shelf, batch)?;
         let last = before + batch.len() as u64;
         let change = self.bring_in(alloc, table, last)?;
-        self.change_version(rt, alloc, shelf, &change, slot, None)?;
+        let coming = entries_of_batch(batch, before + 1);
+        self.change_version(rt, alloc, shelf, &change, slot, None, &coming)?;
         Ok(Ingested {
             file,
             first: before + 1,

@@ -14,6 +14,7 @@ ghost use Rattle.lsm_state.specs.Installing.{IsRefusedAtOnce, MayInstall, SameAn
 use crate::install_change::change_of;
 use crate::state::State;
 use crate::state_fault::StateFault;
+use lsm_history::History;
 use lsm_merge::Finished;
 use lsm_slots::Boarded;
 use lsm_table::{NamedShelf, Naming, Registry, Shelf, TableRef};
@@ -71,6 +72,7 @@ impl<N: Boarded, S: Shelf> State<N, S> {
         ensures numbers { IfOk result (λ v. v.items ≡ map (λ t. t.number) done.now.outputs) }
         ensures answers { OnOk result (S.honest → SameAnswers self.old self.new) }
         ensures event { OnOk result (IsInstalling S.honest self.old done.now.work.ticket self.new) }
+        ensures history { self.new.history ≡ self.old.history }
         ensures counts { OnOk result (SameCounts shelf.old shelf.new) }
         ensures refused { IfErr result (λ e.
             IsChangeRefusal self.old self.new e shelf.old shelf.new) }
@@ -86,7 +88,8 @@ impl<N: Boarded, S: Shelf> State<N, S> {
         let last = self.slots.version().last();
         let change = change_of(alloc, &self.registry, done, last)?;
         let numbers = numbers_of(alloc, &self.registry, done.outputs())?;
-        self.change_version(rt, alloc, shelf, &change, slot, Some(ticket))?;
+        let nothing = History::empty();
+        self.change_version(rt, alloc, shelf, &change, slot, Some(ticket), &nothing)?;
         Ok(numbers)
     }
 
@@ -104,6 +107,7 @@ impl<N: Boarded, S: Shelf> State<N, S> {
         ensures answers { OnOk result (S.honest → SameAnswers self.old self.new) }
         ensures event { OnOk result (IsInstalling S.honest self.old done.now.work.ticket self.new) }
         ensures event_err { OnErr result (Spends (plain self.old) (plain self.new)) }
+        ensures history { self.new.history ≡ self.old.history }
         ensures counts { OnOk result (SameCounts shelf.old shelf.new) }
         ensures refused { IfErr result (λ e.
             IsInstallRefusal self.old self.new done.now e shelf.old shelf.new) }
@@ -138,6 +142,7 @@ impl<N: Boarded, S: Shelf> State<N, S> {
         ensures answers { OnOk result (S.honest → SameAnswers self.old self.new) }
         ensures event { OnOk result (IsInstalling S.honest self.old done.work.ticket self.new) }
         ensures event_err { OnErr result (Spends (plain self.old) (plain self.new)) }
+        ensures history { self.new.history ≡ self.old.history }
         ensures counts { OnOk result (SameCounts shelf.old shelf.new) }
         ensures back { IfErr result (λ e. e.1 ≡ done) }
         ensures refused { IfErr result (λ e.

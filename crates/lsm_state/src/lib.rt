@@ -1,9 +1,9 @@
 //! The value behind the lock of a database.
 //!
 //! Stands on `lsm_slots` for versions, pins and snapshots, on `lsm_live` for live jobs, on
-//! `lsm_journal` for the manifest, and on `lsm_levels` for the law of the store as a plain
-//! machine. Its contract: the law of a state holds after every call, and each call says all that it
-//! leaves.
+//! `lsm_journal` for the manifest, on `lsm_history` for the history of all that came in, and on
+//! `lsm_levels` for the law of the store as a plain machine. Its contract: the law of a state holds
+//! after every call, and each call says all that it leaves.
 //!
 //! # What holds
 //!
@@ -34,6 +34,11 @@
 //!   hands the result back (`back`).
 //! - Over an honest shelf a read gives the newest value at or before its sequence (`answer` of
 //!   `get`).
+//! - The state carries the history of all that ever came in, and over an honest shelf each promised
+//!   read gives what it gives over that history (`agrees`; `reads` of `law`, `history` of `get`).
+//!   An ingest adds just its batch to it (`history`), and nothing else adds or takes any. Who calls
+//!   `remember` and later `recall` knows that the history goes on from what was remembered
+//!   (`later`).
 //! - What changes entries, snapshots or jobs is an event of the plain machine (`event`), so the
 //!   laws of `lsm_levels` over whole runs speak of states.
 #![tactic(auto)]
@@ -47,6 +52,7 @@ mod state_fault;
 
 // What changes the version.
 mod changing;
+mod coming;
 mod ingest;
 mod install;
 mod install_change;

@@ -3,12 +3,14 @@
 ghost use Rattle.std.specs.Prelude.{◌≡◌, ℕ, false, true, IfErr, IfOk};
 ghost use Rattle.lsm_journal.specs.Finding.{IsFindRefusal, IsFound, IsReadOnce};
 ghost use Rattle.lsm_shelf.specs.Stored.{Stored};
-ghost use Rattle.lsm_state.specs.Making.{IsNewBoard};
+ghost use Rattle.lsm_state.specs.Making.{IsNewBoard, IsNewHistory};
 ghost use Rattle.lsm_state.specs.Opening.{IsBegun, IsOpenRefusal, opened_state};
 ghost use Rattle.lsm_state.specs.Options.{Fits};
 
+use crate::coming::entries_of_version;
 use crate::options::Options;
 use crate::state::State;
+use lsm_history::NewHistory;
 use lsm_journal::{Found, OpenFault};
 use lsm_live::LiveJobs;
 use lsm_pins::{Pinner, Publisher};
@@ -36,9 +38,11 @@ impl<N: Boarded, S: Shelf> State<N, S> {
         options: Options,
         registry: Arc<Registry<N, S>>,
         board: (Publisher, Vec<Pinner>),
+        history: NewHistory,
     ) -> Result<State<N, S>, OpenFault>
         requires fits { Fits options }
         requires board { IsNewBoard N.board options board.0 board.1.items }
+        requires history { IsNewHistory N.history history }
         ensures begun { IfOk result (λ s. IsBegun S.honest options.manifest_limit s.journal
             s.slots.version s.next shelf.old shelf.new) }
         ensures opened { IfOk result (λ s.
@@ -48,7 +52,7 @@ impl<N: Boarded, S: Shelf> State<N, S> {
             shelf.old shelf.new) }
         ensures counts_err { IfErr result (λ e. IsReadOnce e shelf.old shelf.new) }
     {
-        let mut state = State::open_to_read(rt, alloc, shelf, options, registry, board)?;
+        let mut state = State::open_to_read(rt, alloc, shelf, options, registry, board, history)?;
         let number = state.next;
         if number == u64::MAX {
             return Err(OpenFault::NumbersSpent);
@@ -76,9 +80,11 @@ impl<N: Boarded, S: Shelf> State<N, S> {
         options: Options,
         registry: Arc<Registry<N, S>>,
         board: (Publisher, Vec<Pinner>),
+        history: NewHistory,
     ) -> Result<State<N, S>, OpenFault>
         requires fits { Fits options }
         requires board { IsNewBoard N.board options board.0 board.1.items }
+        requires history { IsNewHistory N.history history }
         ensures found { IfOk result (λ s. (rest : ℕ) × IsFound S.honest options.manifest_limit
             s.journal s.slots.version rest s.next shelf.old shelf.new) }
         ensures opened { IfOk result (λ s.
@@ -90,6 +96,8 @@ impl<N: Boarded, S: Shelf> State<N, S> {
     {
         let (publisher, pinners) = board;
         let found: Found<N, S> = Found::read(rt, alloc, shelf, &registry, options.manifest_limit)?;
+        let mut keeper = history.named();
+        keeper.grow(&entries_of_version(&found.version));
         let slots = Slots::new(alloc, publisher, options.versions, found.version)?;
         Ok(State {
             registry,
@@ -102,6 +110,7 @@ impl<N: Boarded, S: Shelf> State<N, S> {
             journal: found.journal,
             halted: true,
             pinners,
+            keeper,
         })
     }
 }

@@ -49,6 +49,9 @@ impl<N: Boarded, S: Shelf> State<N, S> {
         ensures answer { IfOk result (λ v. (seq : ℕ) × IsSequence self.now at seq
             × (S.honest → option_map (λ b. b.items) v
             ≡ answer (all_entries (files self.now.slots.version)) user.now seq)) }
+        ensures history { IfOk result (λ v. (seq : ℕ) × IsSequence self.now at seq
+            × (S.honest → option_map (λ b. b.items) v
+            ≡ answer self.now.history user.now seq)) }
         ensures refused { IfErr result (IsReadRefusal self.now at shelf.old shelf.new) }
         ensures sound { S.honest → IfErr result IsNoBadTable }
         ensures told { Becomes shelf.old shelf.new }

@@ -2,10 +2,13 @@
 
 ghost use Rattle.std.specs.Prelude.{◌≡◌};
 ghost use Rattle.std.specs.Arc.{arc_value};
+ghost use Rattle.lsm_history.specs.History.{IsLater};
+ghost use Rattle.lsm_levels.specs.Runs.{Agrees, ReadsAs};
 ghost use Rattle.lsm_slots.specs.Slots.{AreSlots, current_id};
-ghost use Rattle.lsm_state.specs.Held.{IsLawfulState};
+ghost use Rattle.lsm_state.specs.Held.{IsLawfulState, plain};
 
 use crate::options::Options;
+use lsm_history::{Keeper, Memory};
 use lsm_journal::Journal;
 use lsm_levels::machine::Premise;
 use lsm_live::LiveJobs;
@@ -17,7 +20,8 @@ use std::marker::Model;
 use std::sync::Arc;
 
 /// What a database holds behind its lock: versions by slot, snapshots, live jobs, and the manifest.
-/// Contracts see it as that (`Held`).
+/// Contracts see it as that (`Held`), with the history of all that ever came in, which takes no
+/// memory.
 #[derive(Drop)]
 pub struct State<N: Boarded, S: Shelf> {
     pub(crate) registry: Arc<Registry<N, S>>,
@@ -30,6 +34,7 @@ pub struct State<N: Boarded, S: Shelf> {
     pub(crate) journal: Journal,
     pub(crate) halted: bool,
     pub(crate) pinners: Vec<Pinner>,
+    pub(crate) keeper: Keeper<N>,
 }
 
 /// What the laws of the plain machine suppose of a state: that its shelf is honest.
@@ -54,6 +59,7 @@ impl<N: Boarded, S: Shelf> Model for State<N, S> {
       journal = s.journal;
       halted = s.halted;
       pinners = s.pinners.items;
+      history = s.keeper;
     } };
 
     ghost invariant = { λ s. IsLawfulState S.honest N.board record {
@@ -66,6 +72,7 @@ impl<N: Boarded, S: Shelf> Model for State<N, S> {
       journal = s.journal;
       halted = s.halted;
       pinners = s.pinners.items;
+      history = s.keeper;
     } };
 }
 
@@ -93,5 +100,37 @@ impl<N: Boarded, S: Shelf> State<N, S> {
         ensures version { arc_value result.1.now ≡ self.now.slots.version }
     {
         (self.slots.id(), self.slots.current())
+    }
+
+    /// What holds of every state. Over an honest shelf the history is one of the store: none of its
+    /// entries is above the last sequence, no two have one user key and stamp, and each read that
+    /// is promised, at the last sequence or at a live snapshot's, gives what it gives over all that
+    /// ever came in.
+    pub fn law(&self)
+        ensures law { IsLawfulState S.honest N.board self.now }
+        ensures agrees { S.honest → Agrees (plain self.now) self.now.history }
+        ensures reads { S.honest → ReadsAs (plain self.now) self.now.history }
+    {
+        // What holds of the state is told by its parts.
+        let _options = &self.options;
+    }
+
+    /// The history as it is now, to be remembered: for a later call of `recall`, on this state,
+    /// wherever it was in between.
+    pub fn remember(&mut self) -> Memory<N>
+        ensures seen { result ≡ self.old.history }
+        ensures same { self.new ≡ self.old }
+    {
+        self.keeper.remember()
+    }
+
+    /// The history goes on from what was remembered: entries came in front of it, and no other
+    /// changed, whatever others did to the state since then. The memory is used up; `remember`
+    /// gives a later one.
+    pub fn recall(&mut self, memory: Memory<N>)
+        ensures later { IsLater self.old.history memory }
+        ensures same { self.new ≡ self.old }
+    {
+        self.keeper.recall(memory);
     }
 }

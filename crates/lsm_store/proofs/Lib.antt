@@ -1,3 +1,4 @@
+pub mod PromiseLaws
 pub mod ReaderLaws
 pub mod SeatLaws
 pub mod WorkerLaws

@@ -1,3 +1,4 @@
+pub mod Promised
 pub mod Readers
 pub mod WorkerFault
 pub mod Workers

@@ -1,22 +1,35 @@
 -- Readers outside the lock, and what each step of theirs leaves (this project's rule).
 use Rattle.std.specs.Prelude.{◌≡◌, ◌≢◌, ℕ, ◌^◌, ◌≤◌, List, length, None, Some}
 use Rattle.atomic_table.specs.Seated.{TableId}
+use Rattle.lsm_codec.specs.Entries.{Entry}
 use Rattle.lsm_shelf.specs.Told.{Place, Told, fresh}
 use Rattle.lsm_version.specs.Versions.{Levels, numbers_in}
 use Rattle.lsm_pins.specs.Known.{Known}
 use Rattle.lsm_pins.specs.View.{learnt_view, pinned_view, told_view, unpinned_view}
 use Rattle.lsm_slots.specs.Slots.{Epoch, HasEpoch, current_id, current_slot}
 use Rattle.lsm_state.specs.Held.{Held}
+use Rattle.lsm_store.specs.Promised.{AnswersAll, IsPromisedAt, snapshot_sequences}
 use Rattle.lsm_store.specs.declared.begin_fault.BeginFault.{BeginFault}
 use Rattle.lsm_store.specs.declared.begin_fault.BeginFault.TheVariants.{Moved, PinsSpent}
 
 -- What contracts see of a reader and of a view: the version that it has learnt and its id, its end of the board, and what the shelf
--- told by which it reads.
+-- told by which it reads; all that had come in when it learnt the version, the latest first, and the sequences of the snapshots that were
+-- live then.
 pub record Learnt : Type 0 where
   pub id : ℕ
   pub version : Levels
   pub pinner : Known
   pub told : Told
+  pub history : List Entry
+  pub snapshots : List ℕ
+
+-- a read at this sequence is promised
+abbrev pub IsPromised : Learnt → ℕ → Type 0
+IsPromised r seq = IsPromisedAt r.version r.snapshots seq
+
+-- each promised read of its version gives what it gives over all that had come in
+abbrev pub KnowsAll : Learnt → Type 0
+KnowsAll r = AnswersAll r.version r.snapshots r.history
 
 -- it holds no pin
 abbrev pub IsIdle : Learnt → Type 0
@@ -44,9 +57,15 @@ informed h r = record r { pinner = record r.pinner { knows = told_view r.pinner.
 abbrev pub learning : Held → Known → Known
 learning h p = record p { knows = learnt_view (told_view p.knows h.slots.board.knows) (current_id h.slots) (current_slot h.slots) }
 
--- it learnt the current version of the state
+-- it learnt the current version of the state, all that has come in, and which snapshots are live
 abbrev pub refreshed : Held → Learnt → Learnt
-refreshed h r = record r { id = current_id h.slots; version = h.slots.version; pinner = learning h r.pinner }
+refreshed h r = record r {
+  id = current_id h.slots;
+  version = h.slots.version;
+  pinner = learning h r.pinner;
+  history = h.history;
+  snapshots = snapshot_sequences h;
+}
 
 -- One step pinned the version that was learnt.
 abbrev pub IsBegun : Learnt → Learnt → Type 0
@@ -78,14 +97,33 @@ pub record KnownVersion : Type 0 where
   pub id : ℕ
   pub version : Levels
   pub told : Told
+  pub history : List Entry
+  pub snapshots : List ℕ
 
--- the current version is known, and nothing was told by the shelf yet
+-- the current version is known, with all that has come in, and nothing was told by the shelf yet
 abbrev pub known_at : Held → Place → KnownVersion
-known_at h place = record { id = current_id h.slots; version = h.slots.version; told = fresh place }
+known_at h place = record {
+  id = current_id h.slots;
+  version = h.slots.version;
+  told = fresh place;
+  history = h.history;
+  snapshots = snapshot_sequences h;
+}
 
--- the reader with this end of the board: it has learnt the current version, and nothing was told by its shelf yet
+-- the same, where another version was known before
+abbrev pub learning_all : Held → KnownVersion → KnownVersion
+learning_all h d = record (known_at h d.told.place) { told = d.told }
+
+-- the reader with this end of the board: it has learnt the current version and all that has come in, and nothing was told by its shelf yet
 abbrev pub seated : Held → Place → Known → Learnt
-seated h place p = record { id = current_id h.slots; version = h.slots.version; pinner = learning h p; told = fresh place }
+seated h place p = record {
+  id = current_id h.slots;
+  version = h.slots.version;
+  pinner = learning h p;
+  told = fresh place;
+  history = h.history;
+  snapshots = snapshot_sequences h;
+}
 
 -- an end of this board that holds no pin
 abbrev pub IsFreeEnd : TableId → Known → Type 0

@@ -3,8 +3,9 @@
 //! Stands on `lsm_state` for what the lock keeps, on `lsm_pins` for the board that readers pin
 //! versions on, and on `lsm_reader` for the blocks of each reader. Data flows from `store` to
 //! `reader` and from there to `view`, which a reader becomes while it holds a pin. Its contract:
-//! the lock lends a state that keeps its law, and what a view answers is of the version that it
-//! holds.
+//! the lock lends a state that keeps its law; what a view answers is of the version that it holds,
+//! and at a promised sequence it is the answer of all that had come in when its reader learnt the
+//! version.
 #![tactic(auto)]
 
 // The state behind its lock, and its readers.

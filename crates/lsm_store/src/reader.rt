@@ -1,8 +1,9 @@
 //! Readers, which hold no pin.
 
 ghost use Rattle.std.specs.Prelude.{◌≡◌, ◌^◌, IfErr, IfOk, IsErr, OnErr, OnOk};
+ghost use Rattle.lsm_history.specs.History.{IsLater};
 ghost use Rattle.lsm_pins.specs.View.{noted_view};
-ghost use Rattle.lsm_store.specs.Readers.{IsBegun, IsIdle, IsRefused, refreshed};
+ghost use Rattle.lsm_store.specs.Readers.{IsBegun, IsIdle, IsRefused, KnowsAll, refreshed};
 ghost use Rattle.lsm_store.specs.declared.begin_fault.BeginFault.TheVariants.{PinsSpent};
 
 use crate::begin_fault::BeginFault;
@@ -14,7 +15,6 @@ use lsm_state::State;
 use lsm_table::Shelf;
 use std::alloc::AllocError;
 use std::marker::Model;
-use std::sync::Arc;
 
 /// A reader outside the lock. It has learnt a version, and holds no pin.
 #[derive(Drop)]
@@ -34,6 +34,8 @@ impl<N: Boarded, S: Shelf> Model for Reader<N, S> {
       version = r.cache.version;
       pinner = r.pinner;
       told = r.cache.told;
+      history = r.cache.history;
+      snapshots = r.cache.snapshots;
     } };
 
     ghost invariant = { λ r. (r.pinner.board ≡ N.board) × (r.pinner.knows.held ≡ None) };
@@ -45,15 +47,18 @@ impl<N: Boarded, S: Shelf> Reader<N, S> {
         ensures id { result ≡ self.now.id }
         ensures idle { IsIdle self.now }
         ensures board { self.now.pinner.board ≡ N.board }
+        ensures history { S.honest → KnowsAll self.now }
     {
         self.cache.id
     }
 
-    /// Learns the current version of the state that the lock has lent. `AllocError` where the
-    /// version's count of owners is at its end.
+    /// Learns the current version of the state that the lock has lent, and all that has come in,
+    /// which goes on from what it knew. `AllocError` where the version's count of owners is at its
+    /// end.
     #[tactic(auto, using(crate::proofs::ReaderLaws::same_learnt))]
     pub fn refresh(&mut self, state: &mut State<N, S>) -> Result<(), AllocError>
         ensures ok { OnOk result (self.new ≡ refreshed state.old self.old) }
+        ensures later { OnOk result (IsLater self.new.history self.old.history) }
         ensures board { OnOk result ((state.new.slots.board.board ≡ state.old.slots.board.board)
             × (state.new.slots.board.knows
             ≡ noted_view state.old.slots.board.knows self.new.pinner.knows)) }
@@ -61,10 +66,8 @@ impl<N: Boarded, S: Shelf> Reader<N, S> {
             { slots = record state.old.slots { board = state.new.slots.board } } }
         ensures err { OnErr result ((self.new ≡ self.old) × (state.new ≡ state.old)) }
     {
-        let version = Arc::try_clone(state.current().1)?;
-        let (id, _) = state.learn(&mut self.pinner);
-        self.cache.id = id;
-        self.cache.version = version;
+        self.cache.learn(state)?;
+        state.learn(&mut self.pinner);
         Ok(())
     }
 

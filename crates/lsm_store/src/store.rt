@@ -20,20 +20,22 @@ use std::sync::{Mutex, MutexGuard, Wait};
 #[tactic(auto, using(lsm_shelf::proofs::CallerLemmas::forked_then, lsm_shelf::proofs::CallerLemmas::forked_none, lsm_shelf::proofs::CallerLemmas::counted_after_forks))]
 fn caches_for<N: Boarded, S: Shelf>(
     alloc: Global,
-    state: &State<N, S>,
+    state: &mut State<N, S>,
     shelf: &mut NamedShelf<N, S>,
 ) -> Result<Vec<ReaderCache<N, S>>, ShelfFault>
-    ensures caches { IfOk result (λ v. All (λ d. d ≡ known_at state.now N.place) v.items) }
-    ensures len { IfOk result (λ v. vec_len v ≡ state.now.options.readers) }
+    ensures caches { IfOk result (λ v. All (λ d. d ≡ known_at state.old N.place) v.items) }
+    ensures len { IfOk result (λ v. vec_len v ≡ state.old.options.readers) }
+    ensures same { state.new ≡ state.old }
     ensures told { Forked shelf.old shelf.new }
     ensures cause { IfErr result (λ e. NotNamed e × Counted e shelf.old shelf.new) }
 {
     let options = state.options();
+    let readers = options.readers;
     let Some(blocks) = NonZeroUsize::new(options.cache_blocks) else {
         unreachable!()
     };
     let mut caches = Vec::new(alloc);
-    for number in 0..options.readers {
+    for number in 0..readers {
         let cache = ReaderCache::new(alloc, state, shelf, blocks)?;
         caches.push(cache)?;
     }
@@ -89,13 +91,14 @@ fn seat_all<N: Boarded, S: Shelf>(
 /// Caches and room for the readers, and nothing is taken of the state yet.
 fn make_caches<N: Boarded, S: Shelf>(
     alloc: Global,
-    state: &State<N, S>,
+    state: &mut State<N, S>,
     shelf: &mut NamedShelf<N, S>,
 ) -> Result<(Vec<ReaderCache<N, S>>, Vec<Reader<N, S>>), ShelfFault>
-    ensures caches { IfOk result (λ r. All (λ d. d ≡ known_at state.now N.place) r.0.items) }
-    ensures len { IfOk result (λ r. vec_len r.0 ≡ state.now.options.readers) }
+    ensures caches { IfOk result (λ r. All (λ d. d ≡ known_at state.old N.place) r.0.items) }
+    ensures len { IfOk result (λ r. vec_len r.0 ≡ state.old.options.readers) }
     ensures none { IfOk result (λ r. (r.1.items ≡ []) × (vec_len r.1 ≡ 0)) }
-    ensures room { IfOk result (λ r. vec_capacity r.1 ≡ state.now.options.readers) }
+    ensures room { IfOk result (λ r. vec_capacity r.1 ≡ state.old.options.readers) }
+    ensures same { state.new ≡ state.old }
     ensures told { Forked shelf.old shelf.new }
     ensures cause { IfErr result (λ e. NotNamed e × Counted e shelf.old shelf.new) }
 {
@@ -144,7 +147,7 @@ impl<N: Boarded, S: Shelf> Store<N, S> {
     {
         let mut state = state;
         let mut shelf = shelf;
-        let (caches, readers) = match make_caches(alloc, &state, &mut shelf) {
+        let (caches, readers) = match make_caches(alloc, &mut state, &mut shelf) {
             Ok(made) => made,
             Err(fault) => return Err((state, shelf, fault)),
         };

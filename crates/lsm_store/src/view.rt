@@ -10,7 +10,8 @@ ghost use Rattle.lsm_merger.specs.Shown.{ShowsNext, ShowsPair};
 ghost use Rattle.lsm_pins.specs.View.{noted_view};
 ghost use Rattle.lsm_shelf.specs.Told.{Becomes};
 ghost use Rattle.lsm_state.specs.Collecting.{IsKeptNumber};
-ghost use Rattle.lsm_store.specs.Readers.{IsMet, IsPinning, informed, unpinned};
+ghost use Rattle.lsm_store.specs.Readers.{IsMet, IsPinning, IsPromised, KnowsAll, informed};
+ghost use Rattle.lsm_store.specs.Readers.{unpinned};
 ghost use Rattle.lsm_table.specs.ReadFault.{IsMemoryOrShelf, ReadCounted};
 ghost use Rattle.lsm_version.specs.Versions.{files};
 
@@ -43,6 +44,8 @@ impl<N: Boarded, S: Shelf> Model for View<N, S> {
       version = v.cache.version;
       pinner = v.pinner;
       told = v.cache.told;
+      history = v.cache.history;
+      snapshots = v.cache.snapshots;
     } };
 
     ghost invariant = { λ v. (v.pinner.board ≡ N.board)
@@ -55,6 +58,7 @@ impl<N: Boarded, S: Shelf> View<N, S> {
         ensures id { result ≡ self.now.id }
         ensures pinning { IsPinning self.now }
         ensures board { self.now.pinner.board ≡ N.board }
+        ensures history { S.honest → KnowsAll self.now }
     {
         self.cache.id
     }
@@ -67,8 +71,9 @@ impl<N: Boarded, S: Shelf> View<N, S> {
     }
 
     /// The value of a user key at a sequence, or none: that of the newest entry of its version with
-    /// a sequence at most `seq`, where it is a value. Blocks that its reader keeps are not read
-    /// again.
+    /// a sequence at most `seq`, where it is a value. At a promised sequence, the version's last or
+    /// that of a snapshot that was live when its reader learnt the version, it is that of all that
+    /// had come in by then. Blocks that its reader keeps are not read again.
     ///
     /// `Shelf` where the shelf refused. `Table` with `OutOfMemory` where a growth was refused, and
     /// with another refusal of a table only where the shelf's bytes are not those that were put.
@@ -80,6 +85,8 @@ impl<N: Boarded, S: Shelf> View<N, S> {
     ) -> Result<Option<Vec<u8>>, ReadFault>
         ensures answer { S.honest → IfOk result (λ v. option_map (λ b. b.items) v
             ≡ answer (all_entries (files self.old.version)) user.now seq) }
+        ensures history { S.honest → IsPromised self.old seq → IfOk result (λ v.
+            option_map (λ b. b.items) v ≡ answer self.old.history user.now seq) }
         ensures sound { S.honest → IfErr result IsMemoryOrShelf }
         ensures rest { self.new ≡ record self.old { told = self.new.told } }
         ensures told { Becomes self.old.told self.new.told }
@@ -94,11 +101,14 @@ impl<N: Boarded, S: Shelf> View<N, S> {
         )
     }
 
-    /// A scan of its version at a sequence: each user key that has an answer, with it, ascending.
-    /// `step` and `next` go on along it.
+    /// A scan of its version at a sequence: each user key that has an answer, with it, ascending; at
+    /// a promised sequence, each that has one in all that had come in. `step` and `next` go on along
+    /// it.
     pub fn scan(&mut self, alloc: Global, seq: u64) -> Result<Scan<N, S>, ReadFault>
         ensures scanned { S.honest
             → IfOk result (λ s. IsScan seq (all_entries (files self.old.version)) s.left) }
+        ensures history { S.honest → IsPromised self.old seq
+            → IfOk result (λ s. IsScan seq self.old.history s.left) }
         ensures here { IfOk result (λ s. s.here ≡ None) }
         ensures sound { S.honest → IfErr result IsMemoryOrShelf }
         ensures rest { self.new ≡ record self.old { told = self.new.told } }

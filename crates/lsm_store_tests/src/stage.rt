@@ -1,9 +1,11 @@
 //! A store, its readers, and a shelf for whoever writes.
 
 ghost use Rattle.std.specs.Prelude.{◌≡◌, IfOk};
+ghost use Rattle.lsm_state.specs.Making.{IsNewHistory};
 ghost use Rattle.lsm_store.specs.Readers.{SeatsPinners};
 ghost use Rattle.lsm_store_tests.specs.Parts.{IsMade};
 
+use lsm_history::NewHistory;
 use lsm_pins::{Board, Pinner, Publisher};
 use lsm_slots::Boarded;
 use lsm_state::{Options, State};
@@ -20,10 +22,11 @@ pub(crate) struct Parts<S: Shelf> {
     pub(crate) options: Options,
     pub(crate) records: Records<S::Receipt>,
     pub(crate) board: (Publisher, Vec<Pinner>),
+    pub(crate) history: NewHistory,
 }
 
 impl<S: Shelf> Parts<S> {
-    /// A shelf and options with new records and a new board.
+    /// A shelf and options with new records, a new board and a new history.
     #[tactic(auto, using(crate::proofs::Boards::new_parts))]
     pub(crate) fn of(alloc: Global, shelf: S, options: Options) -> Result<Parts<S>, Fail>
         ensures shelf { IfOk result (λ p. p.shelf ≡ shelf) }
@@ -35,11 +38,13 @@ impl<S: Shelf> Parts<S> {
         }
         let records = Records::new(alloc)?;
         let board = Board::new(alloc, options.readers, options.versions)?;
+        let history = NewHistory::new(alloc)?;
         Ok(Parts {
             shelf,
             options,
             records,
             board,
+            history,
         })
     }
 }
@@ -59,16 +64,20 @@ impl<N: Boarded, S: Shelf> Stage<N, S> {
         requires records { parts.records ≡ N.registry }
         requires named { (S.told parts.shelf).place ≡ N.place }
         requires made { IsMade N.board parts.options parts.board.0 parts.board.1.items }
+        requires history { IsNewHistory N.history parts.history }
     {
         let Parts {
             shelf,
             options,
             records,
             board,
+            history,
         } = parts;
         let mut shelf = NamedShelf::of(shelf);
         let registry = Registry::shared(alloc, records)?;
-        let created = State::<N, S>::create(rt, alloc, &mut shelf, options, registry, board);
+        let created = State::<N, S>::create(
+            rt, alloc, &mut shelf, options, registry, board, history,
+        );
         let Ok(state) = created else {
             return Err(Fail::new("the database was not created"));
         };

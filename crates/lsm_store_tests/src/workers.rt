@@ -1,6 +1,7 @@
 //! Workers merge at once, and leave nothing behind.
 
 ghost use Rattle.std.specs.Prelude.{◌≡◌};
+ghost use Rattle.lsm_state.specs.Making.{IsNewHistory};
 ghost use Rattle.lsm_store_tests.specs.Parts.{IsMade};
 
 use crate::stage::{Parts, Stage};
@@ -107,6 +108,7 @@ fn work_at_once<N: Boarded, S: Shelf, R: Threads + Wait + Abort + Sync>(
     requires records { parts.records ≡ N.registry }
     requires named { (S.told parts.shelf).place ≡ N.place }
     requires made { IsMade N.board parts.options parts.board.0 parts.board.1.items }
+    requires history { IsNewHistory N.history parts.history }
 {
     let Stage {
         store,
@@ -157,6 +159,7 @@ fn gives_up<N: Boarded, S: Shelf, R: Threads + Wait + Abort + Sync>(
     requires records { parts.records ≡ N.registry }
     requires named { (S.told parts.shelf).place ≡ N.place }
     requires made { IsMade N.board parts.options parts.board.0 parts.board.1.items }
+    requires history { IsNewHistory N.history parts.history }
 {
     let Stage {
         store,

@@ -1,8 +1,3 @@
-pub mod Versions
-pub mod Changes
-pub mod FileNumbers
-pub mod Reads
-pub mod Overlap
 pub use Rattle.lsm_levels.specs.Files
 pub use Rattle.lsm_levels.specs.Kept
 pub use Rattle.lsm_levels.specs.Jobs
@@ -13,3 +8,10 @@ pub use Rattle.lsm_levels.specs.Ranges
 pub use Rattle.lsm_levels.specs.Ages
 pub use Rattle.lsm_levels.specs.Scanning
 pub use Rattle.lsm_levels.specs.Checking
+-- What public clauses cite, and so what a caller reads
+pub mod Versions
+pub mod Changes
+pub mod Reads
+pub mod Overlap
+-- What crates above cite alone
+pub mod FileNumbers

@@ -5,7 +5,7 @@ ghost use Rattle.lsm_folder.specs.declared.lock_kind.LockKind.TheVariants.{Exclu
 ghost use Rattle.lsm_shelf.specs.Stored.{Stored};
 ghost use Rattle.lsm_storage.specs.FileShelf.{file_told, folder_of};
 ghost use Rattle.lsm_shelf.specs.Told.{fresh};
-ghost use Rattle.lsm_state.specs.Making.{IsNewBoard};
+ghost use Rattle.lsm_state.specs.Making.{IsNewBoard, IsNewHistory};
 ghost use Rattle.lsm_store.specs.Readers.{SeatsPinners};
 ghost use Rattle.lsm_commands.specs.Starting.{IsReopened, usual};
 ghost use Rattle.lsm_commands.specs.Holding.{IsHeld};
@@ -48,6 +48,7 @@ pub(crate) fn open<N: Boarded, S: Shelf, R: Wait>(
 ) -> Result<State<N, S>, CompactFault>
     requires board { IsNewBoard N.board usual parts.publisher parts.pinners.items }
     requires seats { vec_len parts.pinners ≡ usual.readers }
+    requires history { IsNewHistory N.history parts.history }
     ensures opened { IfOk result (λ s.
         IsReopened S.honest s shelf.old shelf.new) }
     ensures board { IfOk result (λ s. s.slots.board.board ≡ N.board) }
@@ -59,7 +60,15 @@ pub(crate) fn open<N: Boarded, S: Shelf, R: Wait>(
     made_states_seat_their_pinners();
     let options = Options::usual();
     let board = (parts.publisher, parts.pinners);
-    match State::open(rt, alloc, shelf, options, parts.registry, board) {
+    match State::open(
+        rt,
+        alloc,
+        shelf,
+        options,
+        parts.registry,
+        board,
+        parts.history,
+    ) {
         Ok(state) => {
             // The law of the state is told by this call.
             let _options = state.options();

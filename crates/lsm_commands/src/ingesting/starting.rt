@@ -2,7 +2,7 @@
 
 ghost use Rattle.std.specs.Prelude.{◌≡◌, IfErr, IfOk, OnOk};
 ghost use Rattle.lsm_commands.specs.Logs.{NoneUnread};
-ghost use Rattle.lsm_state.specs.Making.{IsNewBoard};
+ghost use Rattle.lsm_state.specs.Making.{IsNewBoard, IsNewHistory};
 ghost use Rattle.lsm_commands.specs.Starting.{IsFlushed, IsNew, IsNotOpened, IsReopened, IsStarted};
 ghost use Rattle.lsm_commands.specs.Starting.{IsStartRefusal, IsUnbegun, IsUncreated, IsUnflushed};
 ghost use Rattle.lsm_commands.specs.Starting.{IsNotReopened, OpensBeside, usual};
@@ -67,6 +67,7 @@ fn create<N: Boarded, S: Shelf, R: Wait>(
     parts: Parts<N, S>,
 ) -> Result<State<N, S>, WriterFault>
     requires board { IsNewBoard N.board usual parts.publisher parts.pinners.items }
+    requires history { IsNewHistory N.history parts.history }
     ensures created { IfOk result (λ s. IsNew number s shelf.old shelf.new) }
     ensures refused { IfErr result (λ e.
         IsUncreated number (S.refuses N.place) e shelf.old shelf.new) }
@@ -76,7 +77,16 @@ fn create<N: Boarded, S: Shelf, R: Wait>(
     }
     let options = Options::usual();
     let board = (parts.publisher, parts.pinners);
-    match State::create_under(rt, alloc, shelf, options, parts.registry, board, number) {
+    match State::create_under(
+        rt,
+        alloc,
+        shelf,
+        options,
+        parts.registry,
+        board,
+        parts.history,
+        number,
+    ) {
         Ok(state) => Ok(state),
         Err(fault) => Err(WriterFault::of_shelf(fault)),
     }
@@ -93,6 +103,7 @@ fn create_beside<N: Boarded, S: Shelf, R: Wait>(
     parts: Parts<N, S>,
 ) -> Result<State<N, S>, WriterFault>
     requires board { IsNewBoard N.board usual parts.publisher parts.pinners.items }
+    requires history { IsNewHistory N.history parts.history }
     ensures flushed { OnOk result (NoneUnread 0 0 logs.now) }
     ensures created { IfOk result (λ s. IsNew number s shelf.old shelf.new) }
     ensures refused { IfErr result (λ e.
@@ -115,6 +126,7 @@ fn reopen<N: Boarded, S: Shelf, R: Wait>(
     parts: Parts<N, S>,
 ) -> Result<State<N, S>, WriterFault>
     requires board { IsNewBoard N.board usual parts.publisher parts.pinners.items }
+    requires history { IsNewHistory N.history parts.history }
     ensures opened { IfOk result (λ s.
         IsReopened S.honest s shelf.old shelf.new) }
     ensures refused { IfErr result (λ e.
@@ -123,7 +135,15 @@ fn reopen<N: Boarded, S: Shelf, R: Wait>(
 {
     let options = Options::usual();
     let board = (parts.publisher, parts.pinners);
-    match State::open(rt, alloc, shelf, options, parts.registry, board) {
+    match State::open(
+        rt,
+        alloc,
+        shelf,
+        options,
+        parts.registry,
+        board,
+        parts.history,
+    ) {
         Ok(state) => Ok(state),
         Err(fault) => Err(WriterFault::of_open(fault)),
     }
@@ -139,6 +159,7 @@ fn open_beside<N: Boarded, S: Shelf, R: Wait>(
     parts: Parts<N, S>,
 ) -> Result<State<N, S>, WriterFault>
     requires board { IsNewBoard N.board usual parts.publisher parts.pinners.items }
+    requires history { IsNewHistory N.history parts.history }
     ensures opened { IfOk result (λ s.
         OpensBeside S.honest logs.now s shelf.old shelf.new) }
     ensures refused { IfErr result (λ e.
@@ -162,6 +183,7 @@ pub(crate) fn start<N: Boarded, S: Shelf, R: Wait>(
     parts: Parts<N, S>,
 ) -> Result<State<N, S>, WriterFault>
     requires board { IsNewBoard N.board usual parts.publisher parts.pinners.items }
+    requires history { IsNewHistory N.history parts.history }
     ensures started { IfOk result (λ s. IsStarted S.honest prepared.now.start
         prepared.now.logs.items s shelf.old shelf.new) }
     ensures refused { IfErr result (λ e. IsStartRefusal (Stored S.Receipt (S.is_of N.place)

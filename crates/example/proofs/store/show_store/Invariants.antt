@@ -9,3 +9,7 @@ ghosts-serve-N-Naming g a =
 -- and for the board
 abbrev pub ghosts-serve-N-Boarded : goal.ghosts-serve-N-Boarded
 ghosts-serve-N-Boarded g a = record { board = a.board.0.board }
+
+-- and for the history
+abbrev pub ghosts-serve-N-Historied : goal.ghosts-serve-N-Historied
+ghosts-serve-N-Historied g a = record { history = a.history.table.shared.table_id }

@@ -30,8 +30,8 @@ loop-file-preserved g c =
     let Stored : ℕ → List ℕ → Type 0 = λ number image. (r : g.row.S-Receipt.Denot) × g.S.Shelf.is_of g.N.Naming.place r × (g.S.Receipt.TableReceipt.number r ≡ number) × (g.S.Receipt.TableReceipt.image r ≡ image) in
     record {
       told = becomes_then _ _ _ c.loop-file.invariant.told c.load_file.ensures.told;
-      order = c.in_ok-place.ensures.order;
-      read = level_more Stored c.args.last c.args.files.now c.loop-file.file-index c.file-item.result c.in_ok-table.table c.loop-file.tables.items c.place.new.tables.items
-          c.loop-file.sequences.items c.place.new.sequences.items c.loop-file-test.true c.file-item.is c.in_ok-table.ensures.file c.in_ok-table.ensures.stored
-          c.in_ok-place.ensures.placed c.in_ok-place.ensures.beside c.loop-file.invariant.read;
+      order = c.in_ok-insert_in_order.ensures.order;
+      read = level_more Stored c.args.last c.args.files.now c.loop-file.file-index c.file-item.result c.in_ok-table.table c.loop-file.tables.items c.insert_in_order.new.tables.items
+          c.loop-file.sequences.items c.insert_in_order.new.sequences.items c.loop-file-test.true c.file-item.is c.in_ok-table.ensures.file c.in_ok-table.ensures.stored
+          c.in_ok-insert_in_order.ensures.placed c.in_ok-insert_in_order.ensures.beside c.loop-file.invariant.read;
     }

@@ -6,6 +6,7 @@ use Rattle.lsm_store.proofs.store.caches_for.Given as goal
 abbrev pub invariant-loop-number : goal.invariant-loop-number
 invariant-loop-number g l = record {
   told : Forked l.fn.shelf l.shelf;
-  caches : All (λ d. d ≡ known_at l.state g.N.Naming.place) l.caches.items;
+  same : l.state ≡ l.fn.state;
+  caches : All (λ d. d ≡ known_at l.fn.state g.N.Naming.place) l.caches.items;
   len : vec_len l.caches ≡ l.number;
 }

@@ -9,3 +9,7 @@ ghosts-gives_up-N-Naming g a = record { registry = a.parts.records; place = in_m
 -- so the board
 abbrev pub ghosts-gives_up-N-Boarded : goal.ghosts-gives_up-N-Boarded
 ghosts-gives_up-N-Boarded g a = record { board = a.parts.board.0.board }
+
+-- and the history
+abbrev pub ghosts-gives_up-N-Historied : goal.ghosts-gives_up-N-Historied
+ghosts-gives_up-N-Historied g a = record { history = a.parts.history.table.shared.table_id }

@@ -9,3 +9,7 @@ ghosts-work_at_once-N-Naming g a = record { registry = a.parts.records; place = 
 -- so the board
 abbrev pub ghosts-work_at_once-N-Boarded : goal.ghosts-work_at_once-N-Boarded
 ghosts-work_at_once-N-Boarded g a = record { board = a.parts.board.0.board }
+
+-- and the history
+abbrev pub ghosts-work_at_once-N-Historied : goal.ghosts-work_at_once-N-Historied
+ghosts-work_at_once-N-Historied g a = record { history = a.parts.history.table.shared.table_id }

@@ -11,12 +11,12 @@ use Rattle.lsm_state.proofs.state.State.book.Goals as goal
 
 pub add-requires-clause-newest : goal.add-requires-clause-newest
 add-requires-clause-newest g c κs within =
-    let h : Held = record { options = c.self.inside.options; slots = c.self.inside.slots; snapshots = c.self.inside.snapshots; next = c.self.inside.next; next_ticket = c.self.inside.next_ticket; live = c.self.inside.live; journal = c.self.inside.journal; halted = c.self.inside.halted; pinners = c.self.inside.pinners.items } in
+    let h : Held = record { options = c.self.inside.options; slots = c.self.inside.slots; snapshots = c.self.inside.snapshots; next = c.self.inside.next; next_ticket = c.self.inside.next_ticket; live = c.self.inside.live; journal = c.self.inside.journal; halted = c.self.inside.halted; pinners = c.self.inside.pinners.items; history = c.self.inside.keeper } in
     newest_kept g.S.Shelf.honest h c.in_ok-job.job c.in_ok-kept.kept c.self.invariant.law (subst (λ (x : Held). IsOfMoment x c.in_ok-job.job) (sym c.self.view_is) c.in_ok-job.ensures.moment) c.in_ok-kept.ensures
 
 pub invariant_of-self-2 : goal.invariant_of-self-2
 invariant_of-self-2 g c =
-    let h : Held = record { options = c.self.inside.options; slots = c.self.inside.slots; snapshots = c.self.inside.snapshots; next = c.self.inside.next; next_ticket = c.self.inside.next_ticket; live = c.self.inside.live; journal = c.self.inside.journal; halted = c.self.inside.halted; pinners = c.self.inside.pinners.items } in
+    let h : Held = record { options = c.self.inside.options; slots = c.self.inside.slots; snapshots = c.self.inside.snapshots; next = c.self.inside.next; next_ticket = c.self.inside.next_ticket; live = c.self.inside.live; journal = c.self.inside.journal; halted = c.self.inside.halted; pinners = c.self.inside.pinners.items; history = c.self.inside.keeper } in
     let w : Work = c.in_ok-job.job in
     let more : c.self.inside.next_ticket + 1 ≡ suc h.next_ticket = omega arith in
     let stands = subst (λ (x : Held). StandsIn x.slots.version c.args.plan) (sym c.self.view_is) c.requires.stands in
@@ -29,7 +29,7 @@ invariant_of-self-2 g c =
 
 pub returns-clause-event : goal.returns-clause-event
 returns-clause-event g c =
-    let h : Held = record { options = c.self.inside.options; slots = c.self.inside.slots; snapshots = c.self.inside.snapshots; next = c.self.inside.next; next_ticket = c.self.inside.next_ticket; live = c.self.inside.live; journal = c.self.inside.journal; halted = c.self.inside.halted; pinners = c.self.inside.pinners.items } in
+    let h : Held = record { options = c.self.inside.options; slots = c.self.inside.slots; snapshots = c.self.inside.snapshots; next = c.self.inside.next; next_ticket = c.self.inside.next_ticket; live = c.self.inside.live; journal = c.self.inside.journal; halted = c.self.inside.halted; pinners = c.self.inside.pinners.items; history = c.self.inside.keeper } in
     let w : Work = c.in_ok-job.job in
     let more : c.self.inside.next_ticket + 1 ≡ suc h.next_ticket = omega arith in
     let stands = subst (λ (x : Held). StandsIn x.slots.version c.args.plan) (sym c.self.view_is) c.requires.stands in

@@ -11,5 +11,5 @@ invariant_of-result g c =
     let o = c.args.options in
     let slots = c.in_ok-slots.ensures ∙ ap (λ (v : Levels). first_slots c.args.board.0 o.versions v) c.in_ok-empty.ensures in
     let recorded = subst (λ (j : HeldManifest). IsRecorded 0 j no_levels (c.args.number + 1)) c.in_ok-journal.ensures.created c.in_ok-journal.ensures.recorded in
-    lawful_made c.args.number g.S.Shelf.honest g.N.Boarded.board o c.args.board.0 c.args.board.1.items c.in_ok-slots.slots c.new-2.result c.new-3.result c.in_ok-journal.journal slots c.new-2.ensures c.new-3.ensures c.in_ok-journal.ensures.created
+    lawful_made c.args.number g.S.Shelf.honest g.N.Boarded.board o c.args.board.0 c.args.board.1.items c.in_ok-slots.slots c.new-2.result c.new-3.result c.in_ok-journal.journal c.named.result slots c.new-2.ensures c.new-3.ensures c.in_ok-journal.ensures.created c.named.ensures
     (lawful_created c.args.number g.S.Shelf.honest g.N.Boarded.board o c.args.board.0 c.args.board.1.items c.requires.fits c.requires.board c.created_stores_are_lawful.ensures recorded)

@@ -1,4 +1,6 @@
-use Rattle.std.proofs.Common.{ℕ, None, ◌∙◌, refl, ap, suc, sym, subst, inl, inr, arith}
+use Rattle.std.proofs.Common.{◌≡◌, ℕ, None, ◌++◌, ◌∙◌, refl, ap, suc, sym, subst, inl, inr, arith}
+use Rattle.lsm_codec.specs.Entries.{Entry}
+use Rattle.lsm_batch.specs.Batches.{entries_from}
 use Rattle.lsm_shelf.specs.Asked.{Asked}
 use Rattle.lsm_shelf.specs.declared.shelf_fault.ShelfFault.{ShelfFault}
 use Rattle.lsm_shelf.specs.Told.{Becomes, Told, putting}
@@ -15,7 +17,7 @@ use Rattle.lsm_state.specs.Ingesting.{IsIngestRefusal, coming_in, entries_of, la
 use Rattle.lsm_state.specs.declared.state_fault.StateFault.{StateFault}
 use Rattle.lsm_state.specs.declared.state_fault.StateFault.TheVariants.{OutOfMemory}
 use Rattle.lsm_state.proofs.AskedLaws.{bytes_looked, change_alike, early_asked, on_more, put_looked, slot_asked}
-use Rattle.lsm_state.proofs.IngestLaws.{change_of, change_spent, entries_gained, err_is, event_after, inputs_grown, law_grown, numbered, numbered_spends, put_spends, refused_change, refused_put, slots_spend, suits_grown, table_of, version_stays}
+use Rattle.lsm_state.proofs.IngestLaws.{agrees_grown, change_of, change_spent, entries_gained, err_is, event_after, inputs_grown, law_grown, next_of, numbered, numbered_spends, put_spends, refused_change, refused_put, slots_spend, suits_grown, table_of, version_stays}
 use Rattle.lsm_state.proofs.Removing.{on_err}
 use Rattle.lsm_state.proofs.state.State.ingest.Goals as goal
 
@@ -91,6 +93,21 @@ change_version-requires-clause-inputs g c κs within =
     let change = change_of h ws t c.in_ok-change.change c.last-before.result c.len.result c.in_ok-change.ensures c.last-before.ensures.last c.len.ensures in
     inputs_grown c.changed_tables.ensures g.S.Shelf.honest g.N.Boarded.board h x t (last_of h ws) c.in_ok-change.change c.last-before.ensures.law same version change
 
+pub change_version-requires-clause-agrees : goal.change_version-requires-clause-agrees
+change_version-requires-clause-agrees g c κs within =
+    let h : Held = c.args.self.now in
+    let m : Held = c.find_slot.new.self in
+    let x : Held = c.put_batch.new.self in
+    let ws : List Write = c.args.batch.now in
+    let t : Table = c.in_ok-table.table in
+    let is = table_of h m ws t c.find_slot.ensures.rest c.find_slot.ensures.sought c.in_ok-table.ensures.table in
+    let version = version_stays h m x c.find_slot.ensures.sought c.in_ok-table.ensures.ok in
+    let same = numbered h m x c.find_slot.ensures.rest c.in_ok-table.ensures.ok in
+    let change = change_of h ws t c.in_ok-change.change c.last-before.result c.len.result c.in_ok-change.ensures c.last-before.ensures.last c.len.ensures in
+    let es : List Entry = c.entries_of_batch-coming.result.entries in
+    let came : es ≡ entries_of h ws = c.entries_of_batch-coming.ensures ∙ ap (λ (n : ℕ). entries_from n ws) (next_of c.last-before.result h.slots.version.last c.last-before.ensures.last) in
+    agrees_grown c.changed_files.ensures c.whole_tables_fit.ensures g.S.Shelf.honest g.N.Boarded.board h x ws t c.in_ok-change.change es c.last-before.ensures.levels is c.last-before.ensures.law same version change came
+
 pub returns-in_err-change_version-clause-refused : goal.returns-in_err-change_version-clause-refused
 returns-in_err-change_version-clause-refused g c =
     let h : Held = c.args.self.now in
@@ -119,6 +136,7 @@ returns-clause-ok g c =
     let count = c.len.ensures in
     let same = numbered h m x c.find_slot.ensures.rest c.in_ok-table.ensures.ok in
     let change = change_of h ws t c.in_ok-change.change c.last-before.result c.len.result c.in_ok-change.ensures before count in
+    let came : c.entries_of_batch-coming.result.entries ≡ entries_of h ws = c.entries_of_batch-coming.ensures ∙ ap (λ (n : ℕ). entries_from n ws) (next_of c.last-before.result h.slots.version.last before) in
     record {
       file = c.next_file-file.ensures ∙ next;
       first = omega arith;
@@ -129,8 +147,9 @@ returns-clause-ok g c =
       is_table = table_of h m ws t c.find_slot.ensures.rest c.find_slot.ensures.sought c.in_ok-table.ensures.table;
       mid = mid;
       put = subst (λ (n : ℕ). Becomes (putting n was) mid) next c.in_ok-table.ensures.told;
-      changes = subst (λ (z : Held). ChangesVersion z y (coming_in t (last_of h ws)) None mid is) same
-          (subst (λ (d : Difference). ChangesVersion x y d None mid is) change c.in_ok-change_version.ensures.ok);
+      changes = subst (λ (z : Held). ChangesVersion z y (coming_in t (last_of h ws)) None (entries_of h ws) mid is) same
+          (subst (λ (d : Difference). ChangesVersion x y d None (entries_of h ws) mid is) change
+          (subst (λ (es : List Entry). ChangesVersion x y c.in_ok-change.change None es mid is) came c.in_ok-change_version.ensures.ok));
       bytes = bytes_looked h m ws t c.find_slot.ensures.rest c.find_slot.ensures.sought.looked.version c.in_ok-table.ensures.bytes;
     }
 
@@ -145,8 +164,34 @@ returns-clause-event g c =
     let version = version_stays h m x c.find_slot.ensures.sought c.in_ok-table.ensures.ok in
     let same = numbered h m x c.find_slot.ensures.rest c.in_ok-table.ensures.ok in
     let change = change_of h ws t c.in_ok-change.change c.last-before.result c.len.result c.in_ok-change.ensures c.last-before.ensures.last c.len.ensures in
-    event_after c.changed_files.ensures c.whole_tables_fit.ensures h x c.change_version.new.self ws t c.in_ok-change.change c.put_batch.new.shelf c.change_version.new.shelf
+    event_after c.changed_files.ensures c.whole_tables_fit.ensures h x c.change_version.new.self ws t c.in_ok-change.change c.entries_of_batch-coming.result.entries c.put_batch.new.shelf c.change_version.new.shelf
     c.last-before.ensures.levels is same version change c.in_ok-change_version.ensures.ok
+
+pub returns-clause-history : goal.returns-clause-history
+returns-clause-history g c =
+    let h : Held = c.args.self.now in
+    let m : Held = c.find_slot.new.self in
+    let x : Held = c.put_batch.new.self in
+    let y : Held = c.change_version.new.self in
+    let ws : List Write = c.args.batch.now in
+    let same = numbered h m x c.find_slot.ensures.rest c.in_ok-table.ensures.ok in
+    let es : List Entry = c.entries_of_batch-coming.result.entries in
+    let came : es ≡ entries_of h ws = c.entries_of_batch-coming.ensures ∙ ap (λ (n : ℕ). entries_from n ws) (next_of c.last-before.result h.slots.version.last c.last-before.ensures.last) in
+    let grew : y.history ≡ es ++ x.history = ap (λ (z : Held). z.history) (c.in_ok-change_version.ensures.ok).rest in
+    grew ∙ (ap (λ (xs : List Entry). xs ++ x.history) came ∙ ap (λ (z : Held). entries_of h ws ++ z.history) same)
+
+pub returns-in_err-slot-clause-history_err : goal.returns-in_err-slot-clause-history_err
+returns-in_err-slot-clause-history_err g c = on_err c.from_residual-in_err-slot.result (ap (λ (z : Held). z.history) c.find_slot.ensures.rest)
+
+pub returns-in_err-table-clause-history_err : goal.returns-in_err-table-clause-history_err
+returns-in_err-table-clause-history_err g c = on_err c.from_residual-in_err-table.result (c.put_batch.ensures.history ∙ ap (λ (z : Held). z.history) c.find_slot.ensures.rest)
+
+pub returns-in_err-change-clause-history_err : goal.returns-in_err-change-clause-history_err
+returns-in_err-change-clause-history_err g c = on_err c.from_residual-in_err-change.result (c.put_batch.ensures.history ∙ ap (λ (z : Held). z.history) c.find_slot.ensures.rest)
+
+pub returns-in_err-change_version-clause-history_err : goal.returns-in_err-change_version-clause-history_err
+returns-in_err-change_version-clause-history_err g c =
+    on_err c.from_residual-in_err-change_version.result (c.in_err-change_version.ensures.history_err ∙ (c.put_batch.ensures.history ∙ ap (λ (z : Held). z.history) c.find_slot.ensures.rest))
 
 pub returns-clause-entries : goal.returns-clause-entries
 returns-clause-entries g c = entries_gained (plain c.args.self.now) (entries_of c.args.self.now c.args.batch.now) (plain c.change_version.new.self) (returns-clause-event g c)

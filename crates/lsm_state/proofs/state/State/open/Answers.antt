@@ -1,4 +1,4 @@
-use Rattle.std.proofs.Common.{◌≡◌, ℕ, ◌+◌, ◌<◌, false, ap, ◌∙◌, refl, sym, subst, inr, arith}
+use Rattle.std.proofs.Common.{◌≡◌, ℕ, ◌+◌, ◌-◌, ◌^◌, ◌<◌, false, ap, ◌∙◌, refl, sym, subst, inr, arith}
 use Rattle.std.proofs.lemmas.Result.{err_from_is_err_and}
 use Rattle.lsm_codec.specs.Lists.{Has}
 use Rattle.lsm_version.specs.Versions.{Levels, numbers_in}
@@ -34,6 +34,18 @@ invariant_of-state g c =
     let below : (m : ℕ) → Has (numbers_in v) m → m < n = λ m k. (let lt = found_below _ _ s.journal v f.0 s.next _ _ f.1 m k in omega arith) in
     subst (λ (x : Held). IsLawfulState g.S.Shelf.honest g.N.Boarded.board (record x { journal = j; next = n; halted = false })) (sym (c.state.view_is ∙ c.in_ok-state.ensures.opened))
     (lawful_opened g.S.Shelf.honest g.N.Boarded.board o c.args.board.0 c.args.board.1.items v j n _ 0 c.requires.fits c.requires.board f.1.loaded.sound recorded (λ e. refl) below)
+
+pub returns-then-number-clause-refused : goal.returns-then-number-clause-refused
+returns-then-number-clause-refused g c =
+    let s : Held = c.in_ok-state.state in
+    let f = c.in_ok-state.ensures.found in
+    let next : s.next ≡ 2 ^ 64 - 1 = ap (λ (x : Held). x.next) (sym c.state.view_is) ∙ c.if-number.true in
+    inr record {
+      held = s.journal;
+      version = s.slots.version;
+      rest = f.0;
+      found = subst (λ (n : ℕ). IsFound g.S.Shelf.honest c.args.options.manifest_limit s.journal s.slots.version f.0 n c.args.shelf.now c.open_to_read.new.shelf) next f.1;
+    }
 
 pub returns-in_err-roll_over-clause-refused : goal.returns-in_err-roll_over-clause-refused
 returns-in_err-roll_over-clause-refused g c =

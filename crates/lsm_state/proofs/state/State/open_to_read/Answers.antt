@@ -1,6 +1,9 @@
-use Rattle.std.proofs.Common.{◌≡◌, ap, sym, subst}
+use Rattle.std.proofs.Common.{◌≡◌, List, ◌++◌, ap, ◌∙◌, sym, subst}
+use Rattle.std.proofs.lemmas.List.{append-nil}
 use Rattle.std.proofs.lemmas.Result.{err_from_is_err_and}
-use Rattle.lsm_version.specs.Versions.{Levels}
+use Rattle.lsm_codec.specs.Entries.{Entry}
+use Rattle.lsm_levels.specs.Files.{all_entries}
+use Rattle.lsm_version.specs.Versions.{Levels, files}
 use Rattle.lsm_slots.specs.Slots.{Slotted}
 use Rattle.lsm_journal.specs.Finding.{IsFound}
 use Rattle.lsm_journal.proofs.CallerLemmas.{found_below, found_recorded, found_without_room}
@@ -13,7 +16,9 @@ invariant_of-result g c =
     let f = c.in_ok-found.found in
     let is = c.in_ok-found.ensures.found in
     let r = found_recorded _ _ f.journal f.version f.rest f.next _ _ is in
-    opened_made g.S.Shelf.honest g.N.Boarded.board o c.args.board.0 c.args.board.1.items f.version f.journal f.next _ c.in_ok-slots.slots c.new-2.result c.new-3.result c.in_ok-slots.ensures c.new-2.ensures c.new-3.ensures
+    let es = all_entries (files f.version) in
+    let came : c.grow.new.self ≡ es = c.grow.ensures ∙ (ap (λ (x : List Entry). x ++ c.named-keeper.result) c.entries_of_version.ensures ∙ (ap (λ (x : List Entry). es ++ x) c.named-keeper.ensures ∙ append-nil es)) in
+    opened_made g.S.Shelf.honest g.N.Boarded.board o c.args.board.0 c.args.board.1.items f.version f.journal f.next _ c.in_ok-slots.slots c.new-2.result c.new-3.result c.grow.new.self c.in_ok-slots.ensures c.new-2.ensures c.new-3.ensures came
     (lawful_opened g.S.Shelf.honest g.N.Boarded.board o c.args.board.0 c.args.board.1.items f.version f.journal f.next _ f.rest c.requires.fits c.requires.board is.loaded.sound r (λ e. absurd (cc)) (found_below _ _ f.journal f.version f.rest f.next _ _ is))
 
 pub returns-in_err-slots-clause-refused : goal.returns-in_err-slots-clause-refused

@@ -1,4 +1,4 @@
-use Rattle.std.proofs.Common.{◌≡◌, ℕ, refl, ◌∙◌, ap, subst, inl, Err}
+use Rattle.std.proofs.Common.{◌≡◌, ℕ, ◌+◌, ◌≤◌, false, refl, ◌∙◌, ap, subst, inl, Err, arith}
 use Rattle.std.specs.Prelude.{List, ◌⊎◌}
 use Rattle.lsm_codec.specs.Entries.{Entry}
 use Rattle.lsm_shelf.specs.Asked.{IsWantOr, Put}
@@ -16,8 +16,23 @@ use Rattle.lsm_state.specs.Options.{sizes_of}
 use Rattle.lsm_state.specs.declared.state_fault.StateFault.{StateFault}
 use Rattle.lsm_state.specs.declared.state_fault.StateFault.TheVariants.{Shelf}
 use Rattle.lsm_state.proofs.AskedLaws.{build_asked}
+use Rattle.lsm_state.proofs.ChangeLaws.{lawful_spent}
 use Rattle.lsm_state.proofs.IngestLaws.{build_refused, built_as, err_is, next_of, passes, table_put}
 use Rattle.lsm_state.proofs.state.State.put_batch.Goals as goal
+
+pub invariant_of-self : goal.invariant_of-self
+invariant_of-self g c =
+    let h : Held = record { options = c.self.inside.options; slots = c.self.inside.slots; snapshots = c.self.inside.snapshots; next = c.self.inside.next; next_ticket = c.self.inside.next_ticket; live = c.self.inside.live; journal = c.self.inside.journal; halted = c.self.inside.halted; pinners = c.self.inside.pinners.items; history = c.self.inside.keeper } in
+    let going : h.halted ≡ false = ap (λ (x : Held). x.halted) c.self.view_is ∙ c.requires.welcome.takes.0 in
+    let more : h.next ≤ c.self.inside.next + 1 = omega arith in
+    lawful_spent g.S.Shelf.honest g.N.Boarded.board h (c.self.inside.next + 1) c.self.inside.halted c.self.invariant going more
+
+pub invariant_of-self-2 : goal.invariant_of-self-2
+invariant_of-self-2 g c =
+    let h : Held = record { options = c.self.inside.options; slots = c.self.inside.slots; snapshots = c.self.inside.snapshots; next = c.self.inside.next; next_ticket = c.self.inside.next_ticket; live = c.self.inside.live; journal = c.self.inside.journal; halted = c.self.inside.halted; pinners = c.self.inside.pinners.items; history = c.self.inside.keeper } in
+    let going : h.halted ≡ false = ap (λ (x : Held). x.halted) c.self.view_is ∙ c.requires.welcome.takes.0 in
+    let more : h.next ≤ c.self.inside.next + 1 = omega arith in
+    lawful_spent g.S.Shelf.honest g.N.Boarded.board h (c.self.inside.next + 1) c.self.inside.halted c.self.invariant going more
 
 pub returns-in_err-image-clause-refused : goal.returns-in_err-image-clause-refused
 returns-in_err-image-clause-refused g c =

@@ -10,7 +10,7 @@ returns-then-id-cache-clause-begun g c =
     let is = c.self.view_is in
     let slot = c.in-Ok.slot in
     let id : c.in-Ok.id ≡ c.args.self.id = c.if-id-cache.true ∙ ap (λ (d : KnownVersion). d.id) c.cache.view_is ∙ ap (λ (r : Learnt). r.id) is in
-    begun_at c.args.self _ slot (ap (λ (r : Learnt). r.id) is) (ap (λ (r : Learnt). r.version) is) (ap (λ (r : Learnt). r.told) is)
+    begun_at c.args.self _ slot (ap (λ (r : Learnt). r.id) is) (ap (λ (r : Learnt). r.version) is) (ap (λ (r : Learnt). r.told) is) (ap (λ (r : Learnt). r.history) is) (ap (λ (r : Learnt). r.snapshots) is)
     (c.in-Ok.ensures.board ∙ ap (λ (r : Learnt). r.pinner.board) is)
     (c.in-Ok.ensures.pinned ∙ ap (λ (r : Learnt). pinned_view r.pinner.knows c.in-Ok.id slot) is ∙ ap (λ (i : ℕ). pinned_view c.args.self.pinner.knows i slot) id)
 
@@ -21,6 +21,6 @@ returns-else-id-cache-clause-refused g c =
     let slot = c.in-Ok.slot in
     let id : c.cache.inside.id ≡ c.args.self.id = ap (λ (d : KnownVersion). d.id) c.cache.view_is ∙ ap (λ (r : Learnt). r.id) is in
     moved_at c.args.self _ c.in-Ok.id slot (λ e. c.if-id-cache.false (e ∙ sym id))
-    (ap (λ (r : Learnt). r.id) is) (ap (λ (r : Learnt). r.version) is) (ap (λ (r : Learnt). r.told) is)
+    (ap (λ (r : Learnt). r.id) is) (ap (λ (r : Learnt). r.version) is) (ap (λ (r : Learnt). r.told) is) (ap (λ (r : Learnt). r.history) is) (ap (λ (r : Learnt). r.snapshots) is)
     (c.unpin.ensures.board ∙ c.in-Ok.ensures.board ∙ ap (λ (r : Learnt). r.pinner.board) is)
     (c.unpin.ensures.unpinned ∙ ap unpinned_view (c.in-Ok.ensures.pinned ∙ ap (λ (r : Learnt). pinned_view r.pinner.knows c.in-Ok.id slot) is))

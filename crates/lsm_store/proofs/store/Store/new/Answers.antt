@@ -6,12 +6,12 @@ use Rattle.lsm_store.proofs.store.Store.new.Goals as goal
 
 pub seat_all-readers-requires-clause-caches : goal.seat_all-readers-requires-clause-caches
 seat_all-readers-requires-clause-caches g c κs within =
-    subst (λ (h : Held). All (λ (d : KnownVersion). d ≡ known_at h g.N.Naming.place) c.in-Ok.made.0.items) (sym c.take_ends-pinners.ensures.same) c.in-Ok.ensures.caches
+    let AreAt = (λ (h : Held). All (λ (d : KnownVersion). d ≡ known_at h g.N.Naming.place) c.in-Ok.made.0.items) in
+    subst AreAt (sym c.take_ends-pinners.ensures.same) (subst AreAt (sym c.make_caches.ensures.same) c.in-Ok.ensures.caches)
 
--- src/store.rt:132:5
 pub returns-clause-readers : goal.returns-clause-readers
 returns-clause-readers g c =
     let place = g.N.Naming.place in
-    c.seat_all-readers.ensures.readers
-    ∙ ap (λ (h : Held). map (seated h place) c.take_ends-pinners.result.items) c.take_ends-pinners.ensures.same
-    ∙ ap (λ (ps : List Known). map (seated c.args.state place) ps) c.take_ends-pinners.ensures.all
+    let readers = (λ (h : Held). map (seated h place) c.take_ends-pinners.result.items) in
+    c.seat_all-readers.ensures.readers ∙ ap readers c.take_ends-pinners.ensures.same ∙ ap readers c.make_caches.ensures.same
+    ∙ ap (λ (ps : List Known). map (seated c.args.state place) ps) (c.take_ends-pinners.ensures.all ∙ ap (λ (h : Held). h.pinners) c.make_caches.ensures.same)

@@ -1,0 +1,3 @@
+mod Laters
+mod HistorySteps
+pub mod CallerLemmas
