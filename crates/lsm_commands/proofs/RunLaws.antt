@@ -8,7 +8,7 @@ use Rattle.lsm_folder.specs.Calls.{AreHonest, Call, opened}
 use Rattle.lsm_folder.specs.declared.folder_calls.FolderCalls.{Ghosts}
 use Rattle.lsm_folder.specs.declared.lock_kind.LockKind.TheVariants.{Exclusive}
 use Rattle.lsm_folder.specs.declared.mark.Mark as mark
-use Rattle.lsm_shelf.specs.Asked.{MayRefuse}
+use Rattle.lsm_shelf.specs.Refusals.{MayRefuse}
 use Rattle.lsm_shelf.specs.Place.{IsAtPath, Place}
 use Rattle.lsm_shelf.specs.Told.{Told, fresh}
 use Rattle.lsm_storage.specs.FileShelf.{folder_of}

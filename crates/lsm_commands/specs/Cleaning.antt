@@ -11,7 +11,8 @@ use Rattle.lsm_folder.specs.declared.folder_calls.FolderCalls.{Ghosts}
 use Rattle.lsm_folder.specs.declared.folder_fault.FolderFault.{FolderFault}
 use Rattle.lsm_folder.specs.declared.lock_kind.LockKind.TheVariants.{Exclusive}
 use Rattle.lsm_folder.specs.declared.mark.Mark as mark
-use Rattle.lsm_shelf.specs.Asked.{Asked, MayRefuse}
+use Rattle.lsm_shelf.specs.Asked.{Asked}
+use Rattle.lsm_shelf.specs.Refusals.{MayRefuse}
 use Rattle.lsm_storage.specs.FileNames.{manifest_name}
 use Rattle.lsm_storage.specs.FolderFault.{device_of}
 use Rattle.lsm_storage.specs.declared.file.file_shelf.FileShelf.{FileShelf}

@@ -9,7 +9,7 @@ use Rattle.lsm_folder.specs.Calls.{AreHonest}
 use Rattle.lsm_folder.specs.declared.folder_calls.FolderCalls.{Ghosts}
 use Rattle.lsm_folder.specs.declared.lock_kind.LockKind.TheVariants.{Exclusive}
 use Rattle.lsm_folder.specs.declared.mark.Mark as mark
-use Rattle.lsm_shelf.specs.Asked.{MayRefuse}
+use Rattle.lsm_shelf.specs.Refusals.{MayRefuse}
 use Rattle.lsm_storage.specs.declared.file.file_shelf.FileShelf.{FileShelf}
 use Rattle.lsm_text.specs.BatchText.{IsBatchText}
 use Rattle.lsm_text.specs.Printing.{Begins}

@@ -2,7 +2,8 @@
 -- number comes next, are this project's rules).
 use Rattle.std.specs.Prelude.{◌≡◌, ℕ, ◌-◌, ◌^◌, ◌<◌, ◌≤◌, ◌⊎◌, List, [], ◌∷◌, ◌++◌}
 use Rattle.lsm_codec.specs.Lists.{Has}
-use Rattle.lsm_shelf.specs.Asked.{Asked, IsWantOr, ListTables, Load}
+use Rattle.lsm_shelf.specs.Asked.{Asked, ListTables, Load}
+use Rattle.lsm_shelf.specs.Refusals.{IsWantOr}
 use Rattle.lsm_shelf.specs.declared.shelf_fault.ShelfFault.{ShelfFault}
 use Rattle.lsm_shelf.specs.Told.{Told, Becomes, Counted, NotNamed, finding, listing}
 use Rattle.lsm_manifest.specs.Shape.{Form}

@@ -1,7 +1,7 @@
 //! A new manifest for a version.
 
 ghost use Rattle.std.specs.Prelude.{◌≡◌, ◌+◌, ◌<◌, ◌^◌, ℕ, IfErr, OnErr, OnOk};
-ghost use Rattle.lsm_shelf.specs.Asked.{IsWantOr};
+ghost use Rattle.lsm_shelf.specs.Refusals.{IsWantOr};
 ghost use Rattle.lsm_shelf.specs.Told.{Becomes, Counted, CountedBy, TakenIs};
 ghost use Rattle.lsm_journal.specs.Recorded.{IsRecorded};
 ghost use Rattle.lsm_journal.specs.Sending.{RollsOver, started_by};

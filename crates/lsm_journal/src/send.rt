@@ -1,7 +1,8 @@
 //! What a change sends to the shelf.
 
 ghost use Rattle.std.specs.Prelude.{◌≡◌, ◌+◌, ◌<◌, ◌^◌, ◌++◌, IfErr, IfOk, OnErr, OnOk, true};
-ghost use Rattle.lsm_shelf.specs.Asked.{AppendManifest, IsWantOr};
+ghost use Rattle.lsm_shelf.specs.Asked.{AppendManifest};
+ghost use Rattle.lsm_shelf.specs.Refusals.{IsWantOr};
 ghost use Rattle.lsm_shelf.specs.Told.{Becomes, Counted, CountedBy, NotTaken, TakenIs};
 ghost use Rattle.lsm_manifest.specs.Edit.{IsEdit};
 ghost use Rattle.lsm_manifest.specs.EditWriting.{edit_text};

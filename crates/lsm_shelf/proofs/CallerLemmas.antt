@@ -1,13 +1,13 @@
 -- Calls of a shelf one after another.
 use Rattle.std.proofs.Common.{◌≡◌, ◌+◌, refl, ◌∙◌, arith}
-use Rattle.lsm_shelf.specs.Asked.{IsWantOr}
+use Rattle.lsm_shelf.specs.Refusals.{IsWantOr}
 use Rattle.lsm_shelf.specs.Told.{Told, Becomes, Counted, Forked, forking}
 use Rattle.lsm_shelf.specs.declared.shelf_fault.ShelfFault.{ShelfFault}
 use Rattle.lsm_shelf.specs.declared.shelf_fault.ShelfFault.TheVariants as why
 
 -- no call
 pub becomes_same : (t : Told) → Becomes t t
-becomes_same t = record { place = refl; faults = omega arith; misses = omega arith; puts = refl; gone = refl; listed = refl; manifest = refl; sent = refl; found = refl; starts = refl; written = refl; forks = refl }
+becomes_same t = record { place = refl; faults = omega arith; misses = omega arith; puts = refl; gone = refl; listed = refl; manifest = refl; sent = refl; found = refl; starts = refl; written = refl; forks = refl; made = refl }
 
 pub becomes_then : (a b c : Told) → Becomes a b → Becomes b c → Becomes a c
 becomes_then a b c p q = record {
@@ -23,6 +23,7 @@ becomes_then a b c p q = record {
   starts = q.starts ∙ p.starts;
   written = q.written ∙ p.written;
   forks = q.forks ∙ p.forks;
+  made = q.made ∙ p.made;
 }
 
 pub place_then : (a b : Told) → Becomes a b → b.place ≡ a.place
@@ -45,7 +46,7 @@ counted_before (why.Taken n) a b c p q = let x = q.misses in omega arith
 -- ---- forks
 
 pub forked_none : (t : Told) → Forked t t
-forked_none t = (0, record { place = refl; faults = omega arith; misses = omega arith; puts = refl; gone = refl; listed = refl; manifest = refl; sent = refl; found = refl; starts = refl; written = refl; forks = omega arith })
+forked_none t = (0, record { place = refl; faults = omega arith; misses = omega arith; puts = refl; gone = refl; listed = refl; manifest = refl; sent = refl; found = refl; starts = refl; written = refl; forks = omega arith; made = refl })
 
 -- one fork
 pub forked_once : (a b : Told) → Becomes (forking 1 a) b → Forked a b
@@ -53,7 +54,7 @@ forked_once a b p = (1, p)
 
 -- other calls give none
 pub forked_same : (a b : Told) → Becomes a b → Forked a b
-forked_same a b p = (0, record { place = p.place; faults = p.faults; misses = p.misses; puts = p.puts; gone = p.gone; listed = p.listed; manifest = p.manifest; sent = p.sent; found = p.found; starts = p.starts; written = p.written; forks = (let x = p.forks in omega arith) })
+forked_same a b p = (0, record { place = p.place; faults = p.faults; misses = p.misses; puts = p.puts; gone = p.gone; listed = p.listed; manifest = p.manifest; sent = p.sent; found = p.found; starts = p.starts; written = p.written; forks = (let x = p.forks in omega arith); made = p.made })
 
 pub forked_then : (a b c : Told) → Forked a b → Forked b c → Forked a c
 forked_then a b c p q = (
@@ -71,6 +72,7 @@ forked_then a b c p q = (
     starts = q.1.starts ∙ p.1.starts;
     written = q.1.written ∙ p.1.written;
     forks = (let x = p.1.forks in let y = q.1.forks in omega arith);
+    made = q.1.made ∙ p.1.made;
   },
 )
 

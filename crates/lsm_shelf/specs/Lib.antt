@@ -3,4 +3,5 @@ pub mod Place
 pub mod ShelfFault
 pub mod Told
 pub mod Asked
+pub mod Refusals
 pub mod Stored

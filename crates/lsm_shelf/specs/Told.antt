@@ -1,6 +1,7 @@
 -- What contracts see of a shelf's value, and what a call leaves of it (this project's rule).
 use Rattle.std.specs.Prelude.{◌≡◌, ℕ, ◌+◌, ◌-◌, ◌^◌, ◌≤◌, min, List, [], ◌∷◌, ◌++◌, Option, None, Some, Result, Ok, Err}
 pub use Rattle.lsm_shelf.specs.Place.{Place, in_memory, at_path}
+use Rattle.lsm_shelf.specs.Asked.{Asked, Put, Remove, StartManifest, AppendManifest}
 use Rattle.lsm_shelf.specs.declared.shelf_fault.ShelfFault.{ShelfFault}
 use Rattle.lsm_shelf.specs.declared.shelf_fault.ShelfFault.TheVariants.{OutOfMemory, Device, Missing, Taken}
 
@@ -30,10 +31,13 @@ pub record Told : Type 0 where
   pub written : List ℕ
   -- how many forks it gave
   pub forks : ℕ
+  -- the calls by which it changed what lies there, the last first: puts, starts and appends that
+  -- were answered Ok, and removals that were asked of the device
+  pub made : List Asked
 
 -- a value to which nothing was told yet
 abbrev pub fresh : Place → Told
-fresh p = record { place = p; faults = 0; misses = 0; puts = []; gone = []; listed = None; manifest = None; sent = []; found = None; starts = []; written = []; forks = 0 }
+fresh p = record { place = p; faults = 0; misses = 0; puts = []; gone = []; listed = None; manifest = None; sent = []; found = None; starts = []; written = []; forks = 0; made = [] }
 
 -- the second is the first, but for counts, which do not fall
 pub record Becomes (old new : Told) : Type 0 where
@@ -49,14 +53,15 @@ pub record Becomes (old new : Told) : Type 0 where
   pub starts : new.starts ≡ old.starts
   pub written : new.written ≡ old.written
   pub forks : new.forks ≡ old.forks
+  pub made : new.made ≡ old.made
 
--- it put a table of this number
-abbrev pub putting : ℕ → Told → Told
-putting number t = record t { puts = number ∷ t.puts }
+-- it put a table of this number, with this image
+abbrev pub putting : ℕ → List ℕ → Told → Told
+putting number image t = record t { puts = number ∷ t.puts; made = Put number image ∷ t.made }
 
 -- it was asked to remove this number
 abbrev pub removing : ℕ → Told → Told
-removing number t = record t { gone = number ∷ t.gone }
+removing number t = record t { gone = number ∷ t.gone; made = Remove number ∷ t.made }
 
 -- it listed these numbers
 abbrev pub listing : List ℕ → Told → Told
@@ -64,11 +69,21 @@ listing numbers t = record t { listed = Some numbers }
 
 -- it started the manifest of this number, with these bytes
 abbrev pub sending : ℕ → List ℕ → Told → Told
-sending number bytes t = record t { manifest = Some number; sent = bytes; starts = number ∷ t.starts; written = t.written ++ bytes }
+sending number bytes t = record t {
+  manifest = Some number;
+  sent = bytes;
+  starts = number ∷ t.starts;
+  written = t.written ++ bytes;
+  made = StartManifest number bytes ∷ t.made;
+}
 
 -- it put these bytes behind those of the manifest
 abbrev pub appending : List ℕ → Told → Told
-appending bytes t = record t { sent = t.sent ++ bytes; written = t.written ++ bytes }
+appending bytes t = record t {
+  sent = t.sent ++ bytes;
+  written = t.written ++ bytes;
+  made = AppendManifest bytes ∷ t.made;
+}
 
 -- it read the manifest, which has this number and these bytes
 abbrev pub finding : ℕ → List ℕ → Told → Told

@@ -1,6 +1,7 @@
 -- Which call the shelf refused where a call of the state is refused (this project's rule).
 use Rattle.std.specs.Prelude.{◌≡◌, ℕ, suc, ◌⊎◌, List}
-use Rattle.lsm_shelf.specs.Asked.{Asked, IsWantOr, ListTables, Put, Remove}
+use Rattle.lsm_shelf.specs.Asked.{Asked, ListTables, Put, Remove}
+use Rattle.lsm_shelf.specs.Refusals.{IsWantOr}
 use Rattle.lsm_shelf.specs.declared.shelf_fault.ShelfFault.{ShelfFault}
 use Rattle.lsm_table.specs.Registry.{Table}
 use Rattle.lsm_table.specs.TableBuilding.{table_bytes}

@@ -1,7 +1,8 @@
 -- What a state is when its database is opened, and why it is not (that a new manifest begins each time is this project's rule).
 use Rattle.std.specs.Prelude.{◌≡◌, ℕ, ◌+◌, ◌-◌, ◌^◌, ◌<◌, ◌⊎◌, Bool, List, []}
 use Rattle.lsm_pins.specs.Known.{Known}
-use Rattle.lsm_shelf.specs.Asked.{Asked, IsWantOr}
+use Rattle.lsm_shelf.specs.Asked.{Asked}
+use Rattle.lsm_shelf.specs.Refusals.{IsWantOr}
 use Rattle.lsm_shelf.specs.declared.shelf_fault.ShelfFault.{ShelfFault}
 use Rattle.lsm_shelf.specs.Told.{Told, Becomes, Counted, TakenIs}
 use Rattle.lsm_levels.specs.Files.{all_entries}

@@ -2,3 +2,4 @@ mod Padding
 mod Ascending
 mod Tables
 mod Receipts
+mod Words

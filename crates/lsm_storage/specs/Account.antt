@@ -4,6 +4,7 @@ use Rattle.lsm_storage.specs.declared.account.Account.{Account}
 use Rattle.lsm_shelf.specs.declared.shelf_fault.ShelfFault.{ShelfFault}
 use Rattle.lsm_shelf.specs.declared.shelf_fault.ShelfFault.TheVariants.{OutOfMemory, Device, Missing, Taken}
 use Rattle.lsm_shelf.specs.Told.{Told, Place, next_count}
+use Rattle.lsm_storage.specs.Changes.{calls_in}
 
 -- a number, or nothing
 abbrev pub number_in : List ℕ → Option ℕ
@@ -34,6 +35,7 @@ told_in p a = record {
   starts = a.starts.numbers;
   written = a.written.numbers;
   forks = length a.forks.numbers;
+  made = calls_in a.made.numbers;
 }
 
 -- the counts after this answer

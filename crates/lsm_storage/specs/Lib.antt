@@ -1,5 +1,6 @@
 -- What public clauses cite, and so what a caller reads
 pub mod Account
+pub mod Changes
 pub mod MemoryShelf
 pub mod FileNames
 pub mod FolderFault

@@ -22,6 +22,7 @@ pub struct Account {
     pub starts: Tag,
     pub written: Tag,
     pub forks: Tag,
+    pub made: Tag,
 }
 
 /// One number.
@@ -106,6 +107,7 @@ impl Account {
         ensures starts { result.starts.numbers ≡ [] }
         ensures written { result.written.numbers ≡ [] }
         ensures forks { result.forks.numbers ≡ [] }
+        ensures made { result.made.numbers ≡ [] }
     {
         Account {
             faults: 0,
@@ -119,6 +121,7 @@ impl Account {
             starts: Tag::empty(),
             written: Tag::empty(),
             forks: Tag::empty(),
+            made: Tag::empty(),
         }
     }
 
@@ -137,6 +140,7 @@ impl Account {
         ensures starts { self.new.starts ≡ self.old.starts }
         ensures written { self.new.written ≡ self.old.written }
         ensures forks { self.new.forks ≡ self.old.forks }
+        ensures made { self.new.made ≡ self.old.made }
         ensures counts { (p : Place) → CountedBy result (told_in p self.old) (told_in p self.new) }
         ensures cause { IfErr result (λ e. (p : Place)
             → Counted e (told_in p self.old) (told_in p self.new)) }

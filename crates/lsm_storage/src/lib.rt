@@ -8,12 +8,14 @@
 
 // What a value was told, for those who write a shelf.
 mod account;
+mod changes;
 
 // The shelves.
 mod file;
 mod memory;
 
 pub use account::{Account, tag_of_both, tag_of_bytes, tag_of_more, tag_of_number, tag_of_numbers};
+pub use changes::{tag_of_append, tag_of_put, tag_of_removal, tag_of_start};
 pub use file::{FileReceipt, FileShelf, SystemShelf};
 pub use lsm_shelf::{Shelf, ShelfFault, TableReceipt};
 pub use memory::{MemoryReceipt, MemoryShelf};

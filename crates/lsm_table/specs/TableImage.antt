@@ -26,5 +26,7 @@ pub record IsPutAs (i : Imaged) (number : ℕ) (t : Table) : Type 0 where
   pub image : t.image ≡ i.bytes
 
 -- Why a put is refused, and what the shelf was told: nothing, or the table was put and its record found no memory.
-abbrev pub IsPutRefusal : ℕ → ShelfFault → Told → Told → Type 0
-IsPutRefusal number fault was is = TakenIs number fault × CountedBy {T = Unit {0}} (Err fault) was is × (Becomes was is ⊎ ((fault ≡ OutOfMemory) × Becomes (putting number was) is))
+abbrev pub IsPutRefusal : ℕ → List ℕ → ShelfFault → Told → Told → Type 0
+IsPutRefusal number image fault was is = TakenIs number fault
+    × CountedBy {T = Unit {0}} (Err fault) was is
+    × (Becomes was is ⊎ ((fault ≡ OutOfMemory) × Becomes (putting number image was) is))

@@ -67,7 +67,7 @@ impl<N: Naming, S: Shelf> NamedShelf<N, S> {
     ) -> Result<S::Receipt, ShelfFault>
         ensures receipt { IfOk result (λ r. (S.Receipt.number r ≡ number)
             × (S.Receipt.image r ≡ image.now) × S.is_of N.place r) }
-        ensures ok { OnOk result (Becomes (putting number self.old) self.new) }
+        ensures ok { OnOk result (Becomes (putting number image.now self.old) self.new) }
         ensures err { OnErr result (Becomes self.old self.new) }
         ensures refused { IfErr result (S.refuses N.place (Put number image.now)) }
         ensures cause { IfErr result (λ e. TakenIs number e × Counted e self.old self.new) }

@@ -6,7 +6,8 @@ ghost use Rattle.lsm_codec.specs.KeyRef.{key_of};
 ghost use Rattle.lsm_block.specs.Block.{Ascends, entry_of};
 ghost use Rattle.lsm_block.specs.Building.{last_key};
 ghost use Rattle.lsm_block.specs.declared.build_fault.BuildFault.TheVariants.{TooLarge};
-ghost use Rattle.lsm_shelf.specs.Asked.{IsWantOr, Put};
+ghost use Rattle.lsm_shelf.specs.Asked.{Put};
+ghost use Rattle.lsm_shelf.specs.Refusals.{IsWantOr};
 ghost use Rattle.lsm_shelf.specs.Told.{Becomes, Counted, CountedBy, TakenIs, putting};
 ghost use Rattle.lsm_table.specs.Options.{AreInRange};
 ghost use Rattle.lsm_table.specs.Table.{IsImage};
@@ -157,7 +158,7 @@ impl TableImage {
         ensures largest { IfOk result (λ r. r.largest ≡ self.largest) }
         ensures image { IfOk result (λ r. S.Receipt.image r.receipt ≡ self.bytes) }
         ensures here { IfOk result (λ r. S.is_of N.place r.receipt) }
-        ensures ok { OnOk result (Becomes (putting number shelf.old) shelf.new) }
+        ensures ok { OnOk result (Becomes (putting number self.bytes shelf.old) shelf.new) }
         ensures err { OnErr result (Becomes shelf.old shelf.new) }
         ensures refused { IfErr result (S.refuses N.place (Put number self.bytes)) }
         ensures cause { IfErr result (λ e. TakenIs number e × Counted e shelf.old shelf.new) }
@@ -190,10 +191,10 @@ impl TableImage {
         number: u64,
     ) -> Result<TableRef<N, S>, ShelfFault>
         ensures table { IfOk result (IsPutAs self number) }
-        ensures told { OnOk result (Becomes (putting number shelf.old) shelf.new) }
+        ensures told { OnOk result (Becomes (putting number self.bytes shelf.old) shelf.new) }
         ensures counts { OnOk result ((shelf.new.faults ≡ shelf.old.faults)
             × (shelf.new.misses ≡ shelf.old.misses)) }
-        ensures refused { IfErr result (λ e. IsPutRefusal number e shelf.old shelf.new) }
+        ensures refused { IfErr result (λ e. IsPutRefusal number self.bytes e shelf.old shelf.new) }
         ensures asked { IfErr result (IsWantOr (S.refuses N.place (Put number self.bytes))) }
     {
         let record = self.put_alone(rt, alloc, shelf, number)?;

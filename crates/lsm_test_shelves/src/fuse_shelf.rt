@@ -2,12 +2,13 @@
 
 ghost use Rattle.std.specs.Prelude.{◌≡◌};
 ghost use Rattle.lsm_storage.specs.Account.{told_in};
-ghost use Rattle.lsm_shelf.specs.Asked.{MayRefuse};
+ghost use Rattle.lsm_shelf.specs.Refusals.{MayRefuse};
 ghost use Rattle.lsm_shelf.specs.Told.{fresh};
 
 use crate::fuse::Fuse;
 use lsm_shelf::{Shelf, ShelfFault};
-use lsm_storage::{Account, tag_of_both, tag_of_bytes, tag_of_more, tag_of_number, tag_of_numbers};
+use lsm_storage::{Account, tag_of_append, tag_of_both, tag_of_bytes, tag_of_more, tag_of_number};
+use lsm_storage::{tag_of_numbers, tag_of_put, tag_of_removal, tag_of_start};
 use std::alloc::Global;
 use std::sync::Wait;
 
@@ -77,6 +78,7 @@ impl<S: Shelf> Shelf for FuseShelf<S> {
         };
         let receipt = self.account.count(outcome)?;
         self.account.puts = tag_of_both(&tag_of_number(number), &self.account.puts);
+        self.account.made = tag_of_put(number, image, &self.account.made);
         Ok(receipt)
     }
 
@@ -109,19 +111,23 @@ impl<S: Shelf> Shelf for FuseShelf<S> {
 
     fn remove<R: Wait>(&mut self, rt: &R, number: u64) -> Result<(), ShelfFault> {
         let asked = tag_of_both(&tag_of_number(number), &self.account.gone);
+        let made = tag_of_removal(number, &self.account.made);
         let fails = self.fuse.fails();
         if fails && !self.does {
             self.account.gone = asked;
+            self.account.made = made;
             return self.account.count(Err(ShelfFault::Device));
         }
         match self.inner.remove(rt, number) {
             Ok(()) if fails => {
                 self.account.gone = asked;
+                self.account.made = made;
                 self.account.count(Err(ShelfFault::Device))
             }
             Err(ShelfFault::OutOfMemory) => Err(ShelfFault::OutOfMemory),
             outcome => {
                 self.account.gone = asked;
+                self.account.made = made;
                 self.account.count(outcome)
             }
         }
@@ -173,6 +179,7 @@ impl<S: Shelf> Shelf for FuseShelf<S> {
         self.account.sent = tag_of_bytes(bytes);
         self.account.starts = tag_of_both(&self.account.manifest, &self.account.starts);
         self.account.written = tag_of_both(&self.account.written, &self.account.sent);
+        self.account.made = tag_of_start(number, bytes, &self.account.made);
         Ok(())
     }
 
@@ -194,6 +201,7 @@ impl<S: Shelf> Shelf for FuseShelf<S> {
         let appended = tag_of_bytes(bytes);
         self.account.sent = tag_of_both(&self.account.sent, &appended);
         self.account.written = tag_of_both(&self.account.written, &appended);
+        self.account.made = tag_of_append(bytes, &self.account.made);
         Ok(())
     }
 

@@ -4,7 +4,7 @@ ghost use Rattle.std.specs.Prelude.{◌≡◌, ◌<◌, ◌+◌, ◌≤◌, ◌^
 ghost use Rattle.std.specs.Prelude.{IfOk, IfErr, OnOk, OnErr, IsTrue, IsErrOf};
 ghost use Rattle.std.specs.List.Sorted.{IsStrictlyIncreasing};
 ghost use Rattle.lsm_folder.specs.Calls.{AreHonest, LastIsTrue, read, loaded, listed};
-ghost use Rattle.lsm_shelf.specs.Asked.{MayRefuse};
+ghost use Rattle.lsm_shelf.specs.Refusals.{MayRefuse};
 ghost use Rattle.lsm_storage.specs.FileNames.{table_name};
 ghost use Rattle.lsm_storage.specs.FileShelf.{folder_of, file_told, file_number, mark_of};
 ghost use Rattle.lsm_storage.specs.Plans.{done, PutStopped, PartUnread, TableUnread, RemoveStopped};
@@ -18,6 +18,7 @@ ghost use Rattle.lsm_shelf.specs.Told.{forking, fresh};
 use crate::account::{
     Account, tag_of_both, tag_of_bytes, tag_of_more, tag_of_number, tag_of_numbers,
 };
+use crate::changes::{tag_of_append, tag_of_put, tag_of_removal, tag_of_start};
 use crate::file::append::append_manifest;
 use crate::file::current::read_manifest;
 use crate::file::fault::device;
@@ -61,7 +62,7 @@ where
         ensures large { 2 ^ 30 < length image.now → IsErrOf result ShelfFault.Device
             × (C.calls (folder_of self.new) ≡ C.calls (folder_of self.old)) }
         ensures ok { OnOk result
-            (Becomes (putting number (file_told C.place self.old)) (file_told C.place self.new)) }
+            (Becomes (putting number image.now (file_told C.place self.old)) (file_told C.place self.new)) }
         ensures err { OnErr result
             (Becomes (file_told C.place self.old) (file_told C.place self.new)) }
         ensures refused { IfErr result (TakenIs number) }
@@ -73,6 +74,7 @@ where
         let outcome = put_table(&mut self.folder, rt, alloc, number, image);
         let receipt = self.account.count(outcome)?;
         self.account.puts = tag_of_both(&tag_of_number(receipt.number), &self.account.puts);
+        self.account.made = tag_of_put(receipt.number, image, &self.account.made);
         Ok(receipt)
     }
 
@@ -145,6 +147,7 @@ where
         let outcome = remove_table(&mut self.folder, rt, number);
         if outcome != Err(ShelfFault::OutOfMemory) {
             self.account.gone = tag_of_both(&tag_of_number(number), &self.account.gone);
+            self.account.made = tag_of_removal(number, &self.account.made);
         }
         self.account.count(outcome)
     }
@@ -228,6 +231,7 @@ where
                 self.account.sent = tag_of_bytes(bytes);
                 self.account.starts = tag_of_both(&self.account.manifest, &self.account.starts);
                 self.account.written = tag_of_both(&self.account.written, &self.account.sent);
+                self.account.made = tag_of_start(number, bytes, &self.account.made);
                 Ok(())
             }
             Err(fault) => Err(fault),
@@ -255,6 +259,7 @@ where
         let appended = tag_of_bytes(bytes);
         self.account.sent = tag_of_both(&self.account.sent, &appended);
         self.account.written = tag_of_both(&self.account.written, &appended);
+        self.account.made = tag_of_append(bytes, &self.account.made);
         Ok(())
     }
 

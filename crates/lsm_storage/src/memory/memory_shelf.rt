@@ -11,6 +11,7 @@ ghost use Rattle.lsm_shelf.specs.Told.{sending, appending, finding};
 use crate::account::{
     Account, tag_of_both, tag_of_bytes, tag_of_more, tag_of_number, tag_of_numbers,
 };
+use crate::changes::{tag_of_append, tag_of_put, tag_of_removal, tag_of_start};
 use crate::memory::contents::Contents;
 use crate::memory::image::Image;
 use crate::memory::memory_receipt::MemoryReceipt;
@@ -58,7 +59,7 @@ impl MemoryShelf {
 }
 
 impl Shelf for MemoryShelf {
-    ghost use Rattle.lsm_shelf.specs.Asked.{MemoryRefuses};
+    ghost use Rattle.lsm_shelf.specs.Refusals.{MemoryRefuses};
     ghost use Rattle.lsm_storage.specs.MemoryShelf.{IsOfMemory, memory_image, memory_number};
     ghost use Rattle.lsm_storage.specs.MemoryShelf.{memory_told};
 
@@ -82,7 +83,7 @@ impl Shelf for MemoryShelf {
         ensures receipt { IfOk result (λ r. (memory_number r ≡ number)
             × (memory_image r ≡ image.now) × IsOfMemory (memory_told self.old).place r) }
         ensures ok { OnOk result
-            (Becomes (putting number (memory_told self.old)) (memory_told self.new)) }
+            (Becomes (putting number image.now (memory_told self.old)) (memory_told self.new)) }
         ensures err { OnErr result (Becomes (memory_told self.old) (memory_told self.new)) }
         ensures refused { IfErr result (TakenIs number) }
         ensures cause { IfErr result (λ e. TakenIs number e
@@ -94,6 +95,7 @@ impl Shelf for MemoryShelf {
         let outcome = directory.lock(rt).put(rt, alloc, images, number, image);
         let receipt = self.account.count(outcome)?;
         self.account.puts = tag_of_both(&tag_of_number(receipt.number), &self.account.puts);
+        self.account.made = tag_of_put(receipt.number, image, &self.account.made);
         Ok(receipt)
     }
 
@@ -147,6 +149,7 @@ impl Shelf for MemoryShelf {
     {
         let (asked, outcome) = self.contents.directory.lock(rt).remove(number);
         self.account.gone = tag_of_both(&asked, &self.account.gone);
+        self.account.made = tag_of_removal(number, &self.account.made);
         self.account.count(outcome)
     }
 
@@ -209,6 +212,7 @@ impl Shelf for MemoryShelf {
         self.account.manifest = tag_of_number(number);
         self.account.starts = tag_of_both(&self.account.manifest, &self.account.starts);
         self.account.written = tag_of_both(&self.account.written, &self.account.sent);
+        self.account.made = tag_of_start(number, bytes, &self.account.made);
         Ok(())
     }
 
@@ -226,6 +230,7 @@ impl Shelf for MemoryShelf {
         let appended = self.account.count(outcome)?;
         self.account.sent = tag_of_both(&self.account.sent, &appended);
         self.account.written = tag_of_both(&self.account.written, &appended);
+        self.account.made = tag_of_append(bytes, &self.account.made);
         Ok(())
     }
 

@@ -1,7 +1,8 @@
 use Rattle.std.proofs.Common.{◌≡◌, ℕ, ◌+◌, ◌≤◌, false, refl, ◌∙◌, ap, subst, inl, Err, arith}
 use Rattle.std.specs.Prelude.{List, ◌⊎◌}
 use Rattle.lsm_codec.specs.Entries.{Entry}
-use Rattle.lsm_shelf.specs.Asked.{IsWantOr, Put}
+use Rattle.lsm_shelf.specs.Asked.{Put}
+use Rattle.lsm_shelf.specs.Refusals.{IsWantOr}
 use Rattle.lsm_shelf.specs.declared.shelf_fault.ShelfFault.{ShelfFault}
 use Rattle.lsm_shelf.specs.Told.{Told}
 use Rattle.lsm_version.specs.Versions.{Levels}
