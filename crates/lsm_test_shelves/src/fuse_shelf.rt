@@ -7,8 +7,10 @@ ghost use Rattle.lsm_shelf.specs.Told.{fresh};
 
 use crate::fuse::Fuse;
 use lsm_shelf::{Shelf, ShelfFault};
-use lsm_storage::{Account, tag_of_append, tag_of_both, tag_of_bytes, tag_of_more, tag_of_number};
-use lsm_storage::{tag_of_numbers, tag_of_put, tag_of_removal, tag_of_start};
+use lsm_storage::{
+    Account, tag_of_append, tag_of_both, tag_of_bytes, tag_of_more, tag_of_number, tag_of_numbers,
+    tag_of_put, tag_of_removal, tag_of_start,
+};
 use std::alloc::Global;
 use std::sync::Wait;
 
