@@ -30,7 +30,7 @@ publisher = record {
   records = records;
   note_id = 0;
   note_slot = 0;
-  looks = 0;
+  looks = [];
   found = 1;
 }
 
@@ -48,7 +48,7 @@ reader = record {
   records = first_records 3 0;
   note_id = 0;
   note_slot = 0;
-  looks = 0;
+  looks = [];
   found = 0;
 }
 

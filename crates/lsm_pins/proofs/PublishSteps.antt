@@ -1,5 +1,5 @@
 -- The publisher's steps keep the rule: a look at a slot, and a swap of the head.
-use Rattle.std.proofs.Common.{◌≡◌, ◌≢◌, ℕ, suc, ◌+◌, ◌-◌, ◌*◌, ◌<◌, ◌≤◌, ◌^◌, None, Bool, true, false, not, ◌&&◌, cond, eqb, eq-eqb, ne_eqb, Some, List, length, set, get_or, sym, refl, ap, ◌∙◌, subst, ⊎_elim, arith, length-set, get_or-set_same, get_or-set_other}
+use Rattle.std.proofs.Common.{◌≡◌, ◌≢◌, ℕ, suc, ◌+◌, ◌-◌, ◌*◌, ◌<◌, ◌≤◌, ◌^◌, None, Bool, true, false, not, ◌&&◌, cond, eqb, eq-eqb, ne_eqb, Some, List, ◌∷◌, length, set, get_or, sym, refl, ap, ◌∙◌, subst, ⊎_elim, arith, length-set, get_or-set_same, get_or-set_other}
 use Rattle.std.proofs.lemmas.List.{set-get_or}
 use mathlib.Core.Logic.{dite}
 use native.Mathlib.Decide.{ℕ_discrete}
@@ -36,9 +36,9 @@ module _ (b : BoardState) (words : List ℕ) (views : List View) (by : ℕ) (v :
   alone j u apart e l p = apart (((h.fits j u e l).publishes p).0 ∙ sym (mine.publishes publishes).0)
 
   -- the publisher's view changes in its trace alone
-  module _ (n : ℕ) where
+  module _ (t n : ℕ) where
     abbrev missed_view : View
-    missed_view = record v { looks = v.looks + 1; found = n }
+    missed_view = record v { looks = t ∷ v.looks; found = n }
 
     pub missed : IsKeptBy b words (set views by missed_view)
     missed = record {
@@ -78,7 +78,7 @@ module _ (b : BoardState) (words : List ℕ) (views : List View) (by : ℕ) (v :
     now = record b { records = marked }
 
     abbrev w : View
-    w = record v { looks = v.looks + 1; found = get_or words (suc t) 0; records = marked }
+    w = record v { looks = t ∷ v.looks; found = get_or words (suc t) 0; records = marked }
 
     abbrev after : List View
     after = set views by w
@@ -335,10 +335,10 @@ miss : (s : State (Unit {0}) View) (k : Start) (id : ℕ) (me : Me (Unit {0}) Vi
 miss s k id me t kept at live publishes never =
     let b = kept.0 in
     let x : ℕ = get_or s.words (suc t) 0 in
-    let w : View = missed_view b s.words s.views id me.0 kept.1 at live publishes x in (
+    let w : View = missed_view b s.words s.views id me.0 kept.1 at live publishes t x in (
       w,
-      (b, subst (λ ws. IsKeptBy b ws (set s.views id w)) (sym (set-get_or s.words (suc t) 0)) (missed b s.words s.views id me.0 kept.1 at live publishes x)),
-      λ i. record me.0 { looks = me.0.looks + 1; found = x; records = cond (sym never i) (freed_records me.0.records t) me.0.records },
+      (b, subst (λ ws. IsKeptBy b ws (set s.views id w)) (sym (set-get_or s.words (suc t) 0)) (missed b s.words s.views id me.0 kept.1 at live publishes t x)),
+      λ i. record me.0 { looks = t ∷ me.0.looks; found = x; records = cond (sym never i) (freed_records me.0.records t) me.0.records },
     )
 
 hit : (s : State (Unit {0}) View) (k : Start) (id : ℕ) (me : Me (Unit {0}) View) (t : ℕ) → BoardHolds k s → slice_get s.views id ≡ Some me.0 → me.0.live ≡ true → me.0.publishes ≡ true
@@ -355,12 +355,12 @@ hit s k id me t kept at live publishes below apart even =
     let here : slice_get b.records t ≡ Some r = slice_get-get_or b.records t unused (subst (λ rs. t < length rs) p.3 below) in
     let even_b : x ≡ r.total = even ∙ ap (λ rs. (record_at rs t).total) p.3 in
     let off : t ≢ current_slot b = λ z. apart (z ∙ slot_is) in
-    let w : View = record me.0 { looks = me.0.looks + 1; found = x; records = freed_records b.records t } in
+    let w : View = record me.0 { looks = t ∷ me.0.looks; found = x; records = freed_records b.records t } in
     let yes = unheld_yes me.0 t x apart even in
     let list : freed_records b.records t ≡ cond (is_unheld me.0 t x) (freed_records me.0.records t) me.0.records = ap (λ rs. freed_records rs t) (sym p.3) ∙ ap (λ c. cond c (freed_records me.0.records t) me.0.records) (sym yes) in (
       w,
       (record b { records = freed_records b.records t }, subst (λ ws. IsKeptBy (record b { records = freed_records b.records t }) ws (set s.views id w)) (sym (set-get_or s.words (suc t) 0)) (cleared b s.words s.views id me.0 h at live publishes t r here off even_b)),
-      λ i. record me.0 { looks = me.0.looks + 1; found = x; records = list i },
+      λ i. record me.0 { looks = t ∷ me.0.looks; found = x; records = list i },
     )
 
 pub looks_allowed : (k : Start) (slots id : ℕ) (me : Me (Unit {0}) View) (t : ℕ)

@@ -1,5 +1,5 @@
 -- What a seat at the board knows, and what each kind of step leaves it knowing. This project's rule.
-use Rattle.std.specs.Prelude.{◌≡◌, ℕ, ◌+◌, ◌-◌, ◌==◌, Bool, true, false, cond, Option, Some, None, List, [], length, slice_get, not, ◌&&◌}
+use Rattle.std.specs.Prelude.{◌≡◌, ℕ, ◌+◌, ◌-◌, ◌==◌, Bool, true, false, cond, Option, Some, None, List, [], ◌∷◌, length, slice_get, not, ◌&&◌}
 use Rattle.lsm_pins.specs.declared.view.View.{View}
 use Rattle.lsm_pins.specs.declared.rule.Start.{Start}
 use Rattle.lsm_pins.specs.SlotRecord.{record_at, ids_of, first_records, freed_records, published_records}
@@ -56,7 +56,7 @@ first_view start = record {
   records = first_records start.slots start.id;
   note_id = start.id;
   note_slot = 0;
-  looks = 0;
+  looks = [];
   found = 0;
 }
 
@@ -84,7 +84,7 @@ is_unheld v slot found = not (slot == v.slot) && (found == (record_at v.records 
 
 -- a look at the slot that found this word
 abbrev pub looked_view : View → ℕ → ℕ → View
-looked_view v slot found = record v { looks = v.looks + 1; found = found; records = cond (is_unheld v slot found) (freed_records v.records slot) v.records }
+looked_view v slot found = record v { looks = slot ∷ v.looks; found = found; records = cond (is_unheld v slot found) (freed_records v.records slot) v.records }
 
 -- a publication in the slot, whose swap found this count of pins of the version before it
 abbrev pub published_view : View → ℕ → ℕ → View
@@ -127,7 +127,7 @@ spent_view = record {
   records = [];
   note_id = 0;
   note_slot = 0;
-  looks = 0;
+  looks = [];
   found = 0;
 }
 

@@ -31,8 +31,8 @@ pub struct View {
     pub note_id: u64,
     /// The slot that that reader had seen.
     pub note_slot: u64,
-    /// How many looks the publisher has made.
-    pub looks: u64,
+    /// The slots that the publisher has looked at, one for each look, the latest first.
+    pub looks: LinkedList<u64>,
     /// What the publisher's last look found, or the count that its last publication found.
     pub found: u64,
 }

@@ -1,10 +1,8 @@
 -- What looks, publications and pins leave of the slots.
 use Rattle.std.proofs.Common.{◌≡◌, ◌≢◌, ℕ, zero, suc, ◌+◌, ◌-◌, ◌<◌, ◌≤◌, ◌==◌, Bool, true, false, not, List, [], ◌∷◌, ◌++◌, length, map, replicate, append-nil, append_assoc, Option, Some, None, set, take, get_or, refl, sym, ap, ◌∙◌, subst, inl, inr, arith, length-set}
-use Rattle.std.specs.Prelude.{◌⊎◌, slice_get, slice_set, option_map}
-use Rattle.std.specs.List.{count_by}
+use Rattle.std.specs.Prelude.{◌⊎◌, if◌then◌else◌, slice_get, slice_set, option_map}
 use Rattle.std.proofs.lemmas.Bool.{eq-eqb, eqb-true, both_ways, not-true, cases_eq}
 use Rattle.std.proofs.lemmas.List.{length-replicate, map-set, take_all, take_more}
-use Rattle.std.proofs.lemmas.List.Sums.{count_by_more_no, count_by_more_yes}
 use Rattle.std.proofs.lemmas.Option.{slice_get_within, slice_get-get_or, slice_get-map, get_or_from_slice_get}
 use Rattle.lsm_pins.specs.Known.{Known}
 use Rattle.lsm_pins.specs.declared.view.View.{View}
@@ -12,7 +10,7 @@ use Rattle.lsm_pins.specs.SlotRecord.{unused}
 use Rattle.lsm_pins.specs.View.{HasId, after_making, is_unheld, looked_view, slot_ids}
 use Rattle.lsm_slots.proofs.Elements.{both_true, map-replicate, replicate_at, set_else, set_found, set_here, set_same}
 use Rattle.lsm_version.specs.Versions.{Levels}
-use Rattle.lsm_slots.specs.Slots.{AreSlots, Epoch, Freed, HasEpoch, IsFreeSlot, Looked, MayFree, PinsMove, Slotted, current_id, current_slot, first_slots, id_of, is_unpinned, numbers_at, numbers_held}
+use Rattle.lsm_slots.specs.Slots.{AreSlots, Epoch, Freed, HasEpoch, IsFreeSlot, Looked, MayFree, PinsMove, Slotted, current_id, current_slot, first_slots, id_of, is_unpinned, numbers_at, numbers_held, onto, unpinned_from}
 
 -- the same slots, with another note of the board
 abbrev pub noted : Slotted → Known → Slotted
@@ -106,20 +104,59 @@ looked_then a b c x y = record {
     go n (inr f) (inl q) = inr record { epoch = f.epoch; had = f.had; unpinned = f.unpinned; retired = f.retired; free = q ∙ f.free }
     go n (inr f) (inr h) = inr record { epoch = f.epoch; had = f.had; unpinned = f.unpinned; retired = f.retired; free = h.free }
 
--- ---- how many looks
+-- ---- which slots were looked at
+
+onto_snoc : (ns : List ℕ) (n : ℕ) (there : List ℕ) → onto (ns ++ n ∷ []) there ≡ n ∷ onto ns there
+onto_snoc [] n there = refl
+onto_snoc (m ∷ ms) n there = onto_snoc ms n (m ∷ there)
+
+-- one place more or not, in front of two lists
+in_front : (place : ℕ) (b : Bool) (xs ys zs : List ℕ) → xs ≡ ys ++ zs
+    → (if b then place ∷ xs else xs) ≡ (if b then place ∷ ys else ys) ++ zs
+in_front place true xs ys zs same = ap (λ l. place ∷ l) same
+in_front place false xs ys zs same = same
+
+in_front_same : (place : ℕ) (b : Bool) (xs ys : List ℕ) → xs ≡ ys
+    → (if b then place ∷ xs else xs) ≡ (if b then place ∷ ys else ys)
+in_front_same place b xs ys same = ap (λ l. if b then place ∷ l else l) same
+
+-- one version more, which has no pin under the lock
+unpinned_yes : (es : List (Option Epoch)) (i j : ℕ) → i < length es
+    → is_unpinned (get_or es i None) ≡ true
+    → unpinned_from j (take (suc i) es) ≡ unpinned_from j (take i es) ++ (j + i) ∷ []
+unpinned_yes [] i j lt y = absurd (omega arith)
+unpinned_yes (e ∷ es) zero j lt y =
+    let at : j ≡ j + 0 = omega arith in
+    ap (λ b. if b then j ∷ [] else []) y ∙ ap (λ n. n ∷ []) at
+unpinned_yes (e ∷ es) (suc i) j lt y =
+    let at : suc j + i ≡ j + suc i = omega arith in
+    in_front j (is_unpinned e) (unpinned_from (suc j) (take (suc i) es))
+    (unpinned_from (suc j) (take i es)) ((j + suc i) ∷ [])
+    (unpinned_yes es i (suc j) (omega arith) y
+    ∙ ap (λ n. unpinned_from (suc j) (take i es) ++ n ∷ []) at)
+
+-- and one that has a pin, or a free slot
+unpinned_no : (es : List (Option Epoch)) (i j : ℕ) → i < length es
+    → is_unpinned (get_or es i None) ≡ false
+    → unpinned_from j (take (suc i) es) ≡ unpinned_from j (take i es)
+unpinned_no [] i j lt y = absurd (omega arith)
+unpinned_no (e ∷ es) zero j lt y = ap (λ b. if b then j ∷ [] else []) y
+unpinned_no (e ∷ es) (suc i) j lt y =
+    in_front_same j (is_unpinned e) (unpinned_from (suc j) (take (suc i) es))
+    (unpinned_from (suc j) (take i es)) (unpinned_no es i (suc j) (omega arith) y)
 
 -- the slots that a look may free, without the current one
 abbrev pub others : Slotted → List (Option Epoch)
 others s = slice_set s.epochs (current_slot s) None
 
--- How the looks stand, once the slots below this one were gone through: so many looks, and the slots from there on are as they were.
+-- How the looks stand, once the slots below this one were gone through: just those were looked at that a look may free, and the slots from there on are as they were.
 pub record AreGone (s now : Slotted) (slot : ℕ) : Type 0 where
   pub looked : Looked s now
-  pub looks : now.board.knows.looks ≡ s.board.knows.looks + count_by is_unpinned (take slot (others s))
+  pub looks : now.board.knows.looks ≡ onto (unpinned_from 0 (take slot (others s))) s.board.knows.looks
   pub rest : (i : ℕ) → slot ≤ i → slice_get now.epochs i ≡ slice_get s.epochs i
 
 pub gone_none : (s : Slotted) → AreGone s s 0
-gone_none s = record { looked = looked_start s; looks = omega arith; rest = λ i le. refl }
+gone_none s = record { looked = looked_start s; looks = refl; rest = λ i le. refl }
 
 may_count : (s : Slotted) (slot : ℕ) → MayFree s slot → is_unpinned (get_or (others s) slot None) ≡ true
 may_count s slot m =
@@ -149,15 +186,18 @@ pub may_now : (s now : Slotted) (slot : ℕ) → AreGone s now slot → MayFree 
 may_now s now slot g m = (λ e. m.0 (e ∙ g.looked.slot), (m.1.0, g.rest slot (omega arith) ∙ m.1.1, m.1.2))
 
 -- a slot was looked at
-pub gone_looked : (s now then : Slotted) (slot : ℕ) → slot < length s.epochs → AreGone s now slot → MayFree now slot → Looked now then → then.board.knows.looks ≡ now.board.knows.looks + 1
-    → ((i : ℕ) → (i ≡ slot → ⊥) → slice_get then.epochs i ≡ slice_get now.epochs i) → AreGone s then (slot + 1)
-gone_looked s now then slot lt g m l n r =
+pub gone_looked : (s now after : Slotted) (slot : ℕ) → slot < length s.epochs → AreGone s now slot → MayFree now slot → Looked now after → after.board.knows.looks ≡ slot ∷ now.board.knows.looks
+    → ((i : ℕ) → (i ≡ slot → ⊥) → slice_get after.epochs i ≡ slice_get now.epochs i) → AreGone s after (slot + 1)
+gone_looked s now after slot lt g m l k r =
     let longer = length-set s.epochs (current_slot s) None in
-    let more = count_by_more_yes is_unpinned (others s) slot None (omega arith) (may_count s slot (may_was s now slot g m)) in
-    let before = g.looks in
+    let on : slot + 1 ≡ suc slot = omega arith in
+    let more = unpinned_yes (others s) slot 0 (omega arith) (may_count s slot (may_was s now slot g m)) in
+    let place : slot ≡ 0 + slot = omega arith in
     record {
-      looked = looked_then s now then g.looked l;
-      looks = omega arith;
+      looked = looked_then s now after g.looked l;
+      looks = k ∙ (ap (λ ns. slot ∷ ns) g.looks ∙ (sym (onto_snoc (unpinned_from 0 (take slot (others s))) slot s.board.knows.looks)
+          ∙ ap (λ n. onto (unpinned_from 0 (take slot (others s)) ++ n ∷ []) s.board.knows.looks) place
+          ∙ ap (λ ns. onto ns s.board.knows.looks) (sym more ∙ ap (λ n. unpinned_from 0 (take n (others s))) (sym on))));
       rest = λ i le. r i (λ e. absurd (omega arith)) ∙ g.rest i (omega arith);
     }
 
@@ -166,15 +206,19 @@ pub gone_passed : (s now : Slotted) (slot : ℕ) → slot < length s.epochs → 
 gone_passed s now slot lt g m =
     let longer = length-set s.epochs (current_slot s) None in
     let at = slice_get-get_or (others s) slot None (omega arith) in
-    let more = count_by_more_no is_unpinned (others s) slot None (omega arith) (may_not s slot (λ h. m (may_now s now slot g h)) (get_or (others s) slot None) at) in
-    let before = g.looks in
-    record { looked = g.looked; looks = omega arith; rest = λ i le. g.rest i (omega arith) }
+    let on : slot + 1 ≡ suc slot = omega arith in
+    let more = unpinned_no (others s) slot 0 (omega arith) (may_not s slot (λ h. m (may_now s now slot g h)) (get_or (others s) slot None) at) in
+    record {
+      looked = g.looked;
+      looks = g.looks ∙ ap (λ ns. onto ns s.board.knows.looks) (sym more ∙ ap (λ n. unpinned_from 0 (take n (others s))) (sym on));
+      rest = λ i le. g.rest i (omega arith);
+    }
 
 -- all slots were gone through
-pub gone_all : (s now : Slotted) (slot : ℕ) → length s.epochs ≤ slot → AreGone s now slot → now.board.knows.looks ≡ s.board.knows.looks + count_by is_unpinned (others s)
+pub gone_all : (s now : Slotted) (slot : ℕ) → length s.epochs ≤ slot → AreGone s now slot → now.board.knows.looks ≡ onto (unpinned_from 0 (others s)) s.board.knows.looks
 gone_all s now slot le g =
     let longer = length-set s.epochs (current_slot s) None in
-    g.looks ∙ ap (λ l. s.board.knows.looks + count_by is_unpinned l) (take_all slot (others s) (omega arith))
+    g.looks ∙ ap (λ l. onto (unpinned_from 0 l) s.board.knows.looks) (take_all slot (others s) (omega arith))
 
 -- ---- publications
 

@@ -1,6 +1,5 @@
 -- The versions of a store, by the slots of its board of pins (this project's rule).
-use Rattle.std.specs.Prelude.{◌≡◌, ◌≢◌, ℕ, suc, ◌-◌, ◌≤◌, ◌<◌, ◌⊎◌, ◌==◌, Bool, false, List, [], ◌∷◌, ◌++◌, length, map, replicate, Option, Some, None, slice_get, slice_set}
-use Rattle.std.specs.List.{count_by}
+use Rattle.std.specs.Prelude.{◌≡◌, ◌≢◌, ℕ, suc, ◌-◌, ◌≤◌, ◌<◌, ◌⊎◌, ◌==◌, if◌then◌else◌, Bool, false, List, [], ◌∷◌, ◌++◌, length, map, replicate, Option, Some, None, slice_get, slice_set}
 use Rattle.lsm_version.specs.Versions.{Levels, numbers_in}
 use Rattle.lsm_pins.specs.Known.{Known}
 use Rattle.lsm_pins.specs.View.{HasId, slot_ids}
@@ -23,8 +22,8 @@ current_id s = s.board.knows.id
 abbrev pub current_slot : Slotted → ℕ
 current_slot s = s.board.knows.slot
 
--- how many looks the publisher has made
-abbrev pub looks_of : Slotted → ℕ
+-- the slots at which the publisher looked, one for each look, the latest first
+abbrev pub looks_of : Slotted → List ℕ
 looks_of s = s.board.knows.looks
 
 abbrev pub id_of : Option Epoch → Option ℕ
@@ -76,9 +75,21 @@ is_unpinned (Some e) = e.pins == 0
 abbrev pub MayFree : Slotted → ℕ → Type 0
 MayFree s slot = (slot ≢ current_slot s) × ((e : Epoch) × HasEpoch s slot e × (e.pins ≡ 0))
 
--- How many such slots there are: not the current one, and those whose version has no pin under the lock.
-abbrev pub count_to_look_at : Slotted → ℕ
-count_to_look_at s = count_by is_unpinned (slice_set s.epochs (current_slot s) None)
+-- the places, counted from this one on, of versions that have no pin under the lock
+abbrev pub unpinned_from : ℕ → List (Option Epoch) → List ℕ
+unpinned_from place [] = []
+unpinned_from place (e ∷ epochs) = if is_unpinned e then place ∷ unpinned_from (suc place) epochs
+    else unpinned_from (suc place) epochs
+
+-- these one after another, and then those that were there: the last comes first
+abbrev pub onto : List ℕ → List ℕ → List ℕ
+onto [] there = there
+onto (n ∷ ns) there = onto ns (n ∷ there)
+
+-- The looks once each such slot was looked at, in the order of the slots: each that is not the
+-- current one, and whose version has no pin under the lock.
+abbrev pub looks_around : Slotted → List ℕ
+looks_around s = onto (unpinned_from 0 (slice_set s.epochs (current_slot s) None)) (looks_of s)
 
 -- A look turned the slot free: it was not current, and its version had no pin under the lock.
 pub record Freed (old new : Slotted) (slot : ℕ) : Type 0 where

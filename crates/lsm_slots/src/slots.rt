@@ -6,8 +6,8 @@ ghost use Rattle.std.specs.Prelude.{slice_set};
 ghost use Rattle.std.specs.Arc.{arc_value};
 ghost use Rattle.lsm_pins.specs.View.{after_making, looked_view};
 ghost use Rattle.lsm_slots.specs.Slots.{AllHeld, AreSlots, Epoch as Held, IsFreeSlot, Looked};
-ghost use Rattle.lsm_slots.specs.Slots.{MayFree, Published, count_to_look_at, current_id};
-ghost use Rattle.lsm_slots.specs.Slots.{current_slot, first_slots, looks_of};
+ghost use Rattle.lsm_slots.specs.Slots.{MayFree, Published, current_id, current_slot, first_slots};
+ghost use Rattle.lsm_slots.specs.Slots.{looks_around, looks_of};
 
 use crate::boarded::Boarded;
 use crate::epoch::Epoch;
@@ -190,7 +190,7 @@ impl<N: Boarded, S: Shelf> Slots<N, S> {
     fn look(&mut self, slot: u8)
         requires { MayFree self.old slot }
         ensures looked { Looked self.old self.new }
-        ensures looks { looks_of self.new ≡ looks_of self.old + 1 }
+        ensures looks { looks_of self.new ≡ slot ∷ looks_of self.old }
         ensures seen { self.new.board.knows
             ≡ looked_view self.old.board.knows slot self.new.board.knows.found }
         ensures others { (i : ℕ) → (i ≡ slot → ⊥)
@@ -206,7 +206,7 @@ impl<N: Boarded, S: Shelf> Slots<N, S> {
     /// pin under the lock. Those that no reader holds are free from then on.
     pub fn look_around(&mut self)
         ensures looked { Looked self.old self.new }
-        ensures looks { looks_of self.new ≡ looks_of self.old + count_to_look_at self.old }
+        ensures looks { looks_of self.new ≡ looks_around self.old }
     {
         for slot in 0..self.count() {
             if self.may_free(slot) {
@@ -220,11 +220,10 @@ impl<N: Boarded, S: Shelf> Slots<N, S> {
     pub fn find_free(&mut self) -> Option<u8>
         ensures looked { Looked self.old self.new }
         ensures some { IfSome result (λ slot. IsFreeSlot self.new slot) }
-        ensures none { IfNone result (AllHeld self.new
-            × (looks_of self.new ≡ looks_of self.old + count_to_look_at self.old)) }
+        ensures none { IfNone result
+            (AllHeld self.new × (looks_of self.new ≡ looks_around self.old)) }
         ensures known { (slot : ℕ) → IsFreeSlot self.old slot → self.new ≡ self.old }
-        ensures looks { AllHeld self.old
-            → looks_of self.new ≡ looks_of self.old + count_to_look_at self.old }
+        ensures looks { AllHeld self.old → looks_of self.new ≡ looks_around self.old }
     {
         if let Some(slot) = self.free() {
             return Some(slot);

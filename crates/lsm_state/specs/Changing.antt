@@ -7,7 +7,7 @@ use Rattle.lsm_shelf.specs.declared.shelf_fault.ShelfFault.{ShelfFault}
 use Rattle.lsm_shelf.specs.declared.shelf_fault.ShelfFault.TheVariants as shelf
 use Rattle.lsm_version.specs.Versions.{files}
 use Rattle.lsm_levels.specs.Plain.{Plain}
-use Rattle.lsm_slots.specs.Slots.{AllHeld, IsFreeSlot, Looked, Slotted, Published, count_to_look_at, current_id, looks_of}
+use Rattle.lsm_slots.specs.Slots.{AllHeld, IsFreeSlot, Looked, Slotted, Published, current_id, looks_around, looks_of}
 use Rattle.lsm_live.specs.Booked.{Booked, lives_of, without}
 use Rattle.lsm_journal.specs.HeldManifest.{is_at_limit}
 use Rattle.lsm_journal.specs.Difference.{Difference, changed_by}
@@ -22,7 +22,7 @@ use Rattle.lsm_state.specs.declared.state_fault.StateFault.TheVariants.{OutOfMem
 pub record Sought (old new : Slotted) : Type 0 where
   pub looked : Looked old new
   pub known : (slot : ℕ) → IsFreeSlot old slot → new ≡ old
-  pub looks : AllHeld old → looks_of new ≡ looks_of old + count_to_look_at old
+  pub looks : AllHeld old → looks_of new ≡ looks_around old
 
 -- a slot is free, and an id is left for the version that comes next
 abbrev pub HasSlot : Slotted → Type 0
@@ -30,7 +30,7 @@ HasSlot s = (slot : ℕ) × IsFreeSlot s slot × (current_id s < 2 ^ 28 - 1)
 
 -- Why no slot is found: none is free after every slot that may turn free was looked at; or the current version's id is the last one.
 abbrev pub IsSlotRefusal : Slotted → Slotted → StateFault → Type 0
-IsSlotRefusal old new SlotsHeld = AllHeld new × (looks_of new ≡ looks_of old + count_to_look_at old)
+IsSlotRefusal old new SlotsHeld = AllHeld new × (looks_of new ≡ looks_around old)
 IsSlotRefusal old new VersionsSpent = (2 ^ 28 - 1 ≤ current_id old) × ((slot : ℕ) × IsFreeSlot new slot)
 IsSlotRefusal old new e = ⊥
 

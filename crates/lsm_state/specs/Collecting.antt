@@ -7,7 +7,7 @@ use Rattle.lsm_version.specs.Versions.{files}
 use Rattle.lsm_shelf.specs.Told.{Told, Becomes, Counted, CountedBy, NotTaken, listing}
 use Rattle.lsm_shelf.specs.declared.shelf_fault.ShelfFault.{ShelfFault}
 use Rattle.lsm_shelf.specs.declared.shelf_fault.ShelfFault.TheVariants as shelf
-use Rattle.lsm_slots.specs.Slots.{Epoch, HasEpoch, Looked, count_to_look_at, looks_of}
+use Rattle.lsm_slots.specs.Slots.{Epoch, HasEpoch, Looked, looks_around, looks_of}
 use Rattle.lsm_live.specs.Booked.{Booked}
 use Rattle.lsm_merge.specs.Outputs.{going}
 -- no count rose
@@ -79,10 +79,10 @@ IsCountedOnce Halted was is = SameCounts was is
 IsCountedOnce (Shelf fault) was is = NotTaken fault × CountedBy {T = Unit {0}} (Err fault) was is
 IsCountedOnce e was is = ⊥
 
--- just as many looks were made as there are slots that may turn free
+-- each slot that may turn free was looked at once, and no other
 pub record HasLookedAround (old new : Held) : Type 0 where
   pub looked : Looked old.slots new.slots
-  pub looks : looks_of new.slots ≡ looks_of old.slots + count_to_look_at old.slots
+  pub looks : looks_of new.slots ≡ looks_around old.slots
 
 -- Why a collect is refused: the state is halted, and nothing was done; else it stopped early.
 abbrev pub IsCollectRefusal : Held → Held → StateFault → List ℕ → Told → Told → Type 0
