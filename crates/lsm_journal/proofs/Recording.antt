@@ -1,16 +1,17 @@
 -- What the manifest held records before and after a change is sent.
-use Rattle.std.proofs.Common.{◌≡◌, ◌≢◌, ◌==◌, Bool, true, false, ℕ, ◌+◌, ◌<◌, ◌≤◌, List, [], ◌∷◌, ◌++◌, Option, Some, None, get_or, length, refl, sym, subst, inl, inr, arith}
+use Rattle.std.proofs.Common.{◌≡◌, ◌≢◌, ◌==◌, Bool, true, false, ℕ, ◌+◌, ◌<◌, ◌≤◌, List, [], ◌∷◌, ◌++◌, Option, Some, None, get_or, length, take, refl, sym, subst, inl, inr, arith}
 use Rattle.std.specs.Prelude.{IfSome, slice_set}
 use Rattle.std.proofs.lemmas.Bool.{eqb-true, eqb-false}
-use Rattle.std.proofs.lemmas.List.{get_or-set_other, get_or-set_same}
+use Rattle.std.proofs.lemmas.List.{get_or-set_other, get_or-set_same, take_all}
 use Rattle.lsm_codec.proofs.CallerLemmas.{all_at}
 use Rattle.lsm_manifest.specs.Edit.{IsEdit}
 use Rattle.lsm_manifest.specs.EditFit.{Change, FitsKey}
 use Rattle.lsm_manifest.specs.EditWriting.{edit_text}
-use Rattle.lsm_manifest.proofs.CallerLemmas.{grown, manifest_fits, none_spelled}
+use Rattle.lsm_manifest.proofs.CallerLemmas.{grown, manifest_fits, none_spelled, torn}
 use Rattle.lsm_version.specs.Changes.{with_pointer}
 use Rattle.lsm_version.specs.Versions.{Levels, no_levels}
 use Rattle.lsm_journal.specs.HeldManifest.{HeldManifest}
+use Rattle.lsm_journal.specs.Sending.{with_front}
 use Rattle.lsm_journal.specs.Difference.{Difference, FitsComing, FitsDifference, FitsPlace, LeadsTo, changed_by, deleted_numbers}
 use Rattle.lsm_journal.specs.Recorded.{ComesTo, FitsLevels, HasOwnNumbers, IsRecorded}
 use Rattle.lsm_journal.specs.Writing.{change_edit, created_under, first_edit_under, record_of, version_edit}
@@ -97,3 +98,27 @@ created_recorded number limit spelled = record {
   comes = created_comes number;
   own = created_own;
 }
+
+-- the record of a change is torn
+pub torn_recorded : (h : HeldManifest) (d : Difference) (v : Levels) (next m : ℕ) → IsRecorded 0 h v next
+    → m < length (record_of h.bytes (change_edit h d next))
+    → IsRecorded m (with_front h (change_edit h d next) m) v next
+torn_recorded h d v next m r lt = record {
+  edits = r.edits;
+  manifest = torn h.bytes (edit_text (change_edit h d next)) r.edits m r.manifest lt;
+  written = r.written;
+  upto = r.upto;
+  comes = r.comes;
+  own = r.own;
+}
+
+-- it is whole
+pub whole_recorded : TablesChange → (h : HeldManifest) (d : Difference) (w : Levels) (next m : ℕ)
+    → FitsDifference d → LeadsTo h d w next
+    → IsEdit (edit_text (change_edit h d next)) (change_edit h d next)
+    → length (record_of h.bytes (change_edit h d next)) ≤ m
+    → IsRecorded 0 (with_front h (change_edit h d next) m) w next
+whole_recorded law h d w next m fits l spelled le =
+    let all = take_all m (record_of h.bytes (change_edit h d next)) le in
+    subst (λ (bs : List ℕ). IsRecorded 0 (record h { bytes = h.bytes ++ bs }) w next) (sym all)
+    (grown_recorded law h (record h { bytes = h.bytes ++ record_of h.bytes (change_edit h d next) }) d w next fits l refl spelled)

@@ -1,6 +1,6 @@
 -- What is sent to the shelf, and what the journal holds then (LevelDB's `VersionSet::LogAndApply`; that a new manifest is due by its size
 -- is this project's rule).
-use Rattle.std.specs.Prelude.{◌≡◌, ℕ, ◌+◌, List, [], ◌++◌, ◌⊎◌, MatchBool, if◌then◌else◌}
+use Rattle.std.specs.Prelude.{◌≡◌, ℕ, ◌+◌, List, [], ◌++◌, take, ◌⊎◌, MatchBool, if◌then◌else◌}
 use Rattle.lsm_shelf.specs.declared.shelf_fault.ShelfFault.{ShelfFault}
 use Rattle.lsm_shelf.specs.declared.shelf_fault.ShelfFault.TheVariants.{OutOfMemory, Device, Missing, Taken}
 use Rattle.lsm_shelf.specs.Asked.{Asked, AppendManifest, ReadManifest, StartManifest}
@@ -18,6 +18,10 @@ pub record Grows (edit : Change) (old new : HeldManifest) (was is : Told) : Type
   pub held : new ≡ record old { bytes = old.bytes ++ record_of old.bytes edit }
   pub sent : Becomes (appending (record_of old.bytes edit) was) is
   pub spelled : IsEdit (edit_text edit) edit
+
+-- what a manifest holds once the first bytes of the edit's record stand behind it
+abbrev pub with_front : HeldManifest → Change → ℕ → HeldManifest
+with_front h edit count = record h { bytes = h.bytes ++ take count (record_of h.bytes edit) }
 
 -- A new manifest of this number, of one edit, took the place of the one before, here and on the shelf. Its bytes spell the edit.
 pub record Starts (number : ℕ) (edit : Change) (old new : HeldManifest) (was is : Told) : Type 0 where
