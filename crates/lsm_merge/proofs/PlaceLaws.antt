@@ -1,5 +1,5 @@
 -- One entry more: it comes after those of the output in the making, and that goes on.
-use Rattle.std.proofs.Common.{◌≡◌, ℕ, ◌≤◌, Bool, true, false, cond, List, [], ◌∷◌, ◌++◌, Option, Some, None, Ordering, Less, Equal, Greater, refl, sym, ◌∙◌, ap, subst, arith, append_assoc}
+use Rattle.std.proofs.Common.{◌≡◌, ℕ, ◌≤◌, Bool, true, false, cond, List, [], ◌∷◌, ◌++◌, Option, Some, None, map, Ordering, Less, Equal, Greater, refl, sym, ◌∙◌, ap, subst, arith, append_assoc}
 use Rattle.std.specs.Prelude.{Result, Ok, Err, IfErr, IsErrAnd}
 use Rattle.std.specs.Ordering.{is_le, is_lt}
 use Rattle.lsm_codec.specs.Lists.{Has}
@@ -10,11 +10,12 @@ use Rattle.lsm_block.specs.Block.{Ascends}
 use Rattle.lsm_block.specs.Building.{after_last, last_key}
 use Rattle.lsm_block.proofs.CallerLemmas.{ascends-push}
 use Rattle.lsm_table.proofs.CallerLemmas.{key_cmp_total}
-use Rattle.lsm_shelf.proofs.CallerLemmas.{becomes_then}
-use Rattle.lsm_shelf.specs.Told.{Told, Becomes, Counted, putting}
+use Rattle.lsm_shelf.specs.Asked.{Asked, Put}
+use Rattle.lsm_shelf.specs.Told.{Told, Becomes, Counted}
 use Rattle.lsm_shelf.specs.declared.shelf_fault.ShelfFault.{ShelfFault}
 use Rattle.lsm_shelf.specs.declared.shelf_fault.ShelfFault.TheVariants as why
 use Rattle.lsm_table.specs.ReadFault.{ReadCounted}
+use Rattle.lsm_table.specs.Registry.{Table}
 use Rattle.lsm_table.specs.declared.read_fault.ReadFault.TheVariants as read
 use Rattle.lsm_merge.specs.declared.merge_fault.InputFault.TheVariants.{Read, OutOfOrder}
 use Rattle.lsm_merge.specs.declared.merge_fault.OutputFault.TheVariants.{TooLarge, Shelf}
@@ -23,8 +24,9 @@ use Rattle.lsm_merge.specs.declared.merge_fault.MergeFault.TheVariants.{OutOfMem
 use Rattle.lsm_merge.specs.Causes.{HasCause}
 use Rattle.lsm_merge.specs.Cuts.{closes}
 use Rattle.lsm_merge.specs.Dropping.{Follows, IsAtMost, IsUpTo, Making, placed, shut, shut_before}
-use Rattle.lsm_merge.specs.Outputs.{Goes, Made, PutsMore, SameSizes, entries_of_last, making_of, putting_all}
+use Rattle.lsm_merge.specs.Outputs.{Goes, Made, PutsEach, PutsMore, PutsTables, SameSizes, entries_of_last, going, making_of, putting_all}
 use Rattle.lsm_merge.specs.Remembered.{bare}
+use Rattle.lsm_merge.specs.Work.{puts_of}
 use Rattle.lsm_merge.specs.Inputs.{IsOrderFault}
 use Rattle.lsm_merge.specs.Limits.{IsOverLimit}
 use Rattle.lsm_merge.proofs.Limited.{over_more}
@@ -91,41 +93,61 @@ sizes_then a b c p q = record { ticket = q.ticket ∙ p.ticket; options = q.opti
 
 -- ---- what the shelf was told
 
-putting_rises : (ns : List ℕ) (t : Told) → ((putting_all ns t).faults ≡ t.faults) × ((putting_all ns t).misses ≡ t.misses)
-putting_rises [] t = (refl, refl)
-putting_rises (n ∷ ns) t = putting_rises ns (putting n t)
+going_both : {X Y : Type 0} (f : X → Y) (xs ys : List X) (there : List Y) → going (map f (xs ++ ys)) there ≡ going (map f ys) (going (map f xs) there)
+going_both f [] ys there = refl
+going_both f (x ∷ xs) ys there = going_both f xs ys (f x ∷ there)
 
-becomes_putting : (ns : List ℕ) (t u : Told) → Becomes t u → Becomes (putting_all ns t) (putting_all ns u)
-becomes_putting [] t u b = b
-becomes_putting (n ∷ ns) t u b = becomes_putting ns (putting n t) (putting n u) (record {
-  place = b.place;
-  faults = b.faults;
-  misses = b.misses;
-  puts = ap (λ (l : List ℕ). n ∷ l) b.puts;
-  gone = b.gone;
-  listed = b.listed;
-  manifest = b.manifest;
-  sent = b.sent;
-  found = b.found;
-  starts = b.starts;
-  written = b.written;
-  forks = b.forks;
-})
+map_both : {X Y : Type 0} (f : X → Y) (xs ys : List X) → map f (xs ++ ys) ≡ map f xs ++ map f ys
+map_both f [] ys = refl
+map_both {Y = Y} f (x ∷ xs) ys = ap (λ (l : List Y). f x ∷ l) (map_both f xs ys)
 
-putting_both : (ns ms : List ℕ) (t : Told) → putting_all (ns ++ ms) t ≡ putting_all ms (putting_all ns t)
-putting_both [] ms t = refl
-putting_both (n ∷ ns) ms t = putting_both ns ms (putting n t)
+-- puts after puts
+becomes_both : (a b : List (ℕ × List ℕ)) (t u v : Told) → Becomes (putting_all a t) u → Becomes (putting_all b u) v → Becomes (putting_all (a ++ b) t) v
+becomes_both a b t u v p q = record {
+  place = q.place ∙ p.place;
+  faults = (let x = p.faults in let y = q.faults in omega arith);
+  misses = (let x = p.misses in let y = q.misses in omega arith);
+  puts = q.puts ∙ ap (λ (l : List ℕ). going (map (λ (x : ℕ × List ℕ). x.0) b) l) p.puts ∙ sym (going_both (λ (x : ℕ × List ℕ). x.0) a b t.puts);
+  gone = q.gone ∙ p.gone;
+  listed = q.listed ∙ p.listed;
+  manifest = q.manifest ∙ p.manifest;
+  sent = q.sent ∙ p.sent;
+  found = q.found ∙ p.found;
+  starts = q.starts ∙ p.starts;
+  written = q.written ∙ p.written;
+  forks = q.forks ∙ p.forks;
+  made = q.made ∙ ap (λ (l : List Asked). going (map (λ (x : ℕ × List ℕ). Put x.0 x.1) b) l) p.made ∙ sym (going_both (λ (x : ℕ × List ℕ). Put x.0 x.1) a b t.made);
+}
+
+each_then : (a b : List ℕ) (t u v : Told) → PutsEach a t u → PutsEach b u v → PutsEach (a ++ b) t v
+each_then a b t u v p q = record {
+  tables = p.tables ++ q.tables;
+  numbers_are = map_both (λ (x : ℕ × List ℕ). x.0) p.tables q.tables ∙ ap (λ (l : List ℕ). l ++ map (λ (x : ℕ × List ℕ). x.0) q.tables) p.numbers_are
+      ∙ ap (λ (l : List ℕ). a ++ l) q.numbers_are;
+  told = becomes_both p.tables q.tables t u v p.told q.told;
+}
 
 pub puts_then : (a b c : List ℕ) (t u v : Told) → PutsMore a b t u → PutsMore b c u v → PutsMore a c t v
 puts_then a b c t u v p q = record {
   more = p.more ++ q.more;
   grown = q.grown ∙ ap (λ (l : List ℕ). l ++ q.more) p.grown ∙ append_assoc a p.more q.more;
-  told = subst (λ (w : Told). Becomes w v) (sym (putting_both p.more q.more t)) (becomes_then (putting_all q.more (putting_all p.more t)) (putting_all q.more u) v (becomes_putting q.more (putting_all p.more t) u p.told) q.told);
+  told = each_then p.more q.more t u v p.told q.told;
 }
 
 -- all that was put from the start
-pub puts_all : (put : List ℕ) (t u : Told) → PutsMore [] put t u → Becomes (putting_all put t) u
-puts_all put t u p = subst (λ (l : List ℕ). Becomes (putting_all l t) u) (sym p.grown) p.told
+pub puts_all : (put : List ℕ) (t u : Told) → PutsMore [] put t u → PutsEach put t u
+puts_all put t u p = subst (λ (l : List ℕ). PutsEach l t u) (sym p.grown) p.told
+
+pub tables_then : (a b c : List Table) (t u v : Told) → PutsTables a b t u → PutsTables b c u v → PutsTables a c t v
+tables_then a b c t u v p q = record {
+  more = p.more ++ q.more;
+  grown = q.grown ∙ ap (λ (l : List Table). l ++ q.more) p.grown ∙ append_assoc a p.more q.more;
+  told = subst (λ (l : List (ℕ × List ℕ)). Becomes (putting_all l t) v) (sym (map_both (λ (x : Table). (x.number, x.image)) p.more q.more))
+      (becomes_both (puts_of p.more) (puts_of q.more) t u v p.told q.told);
+}
+
+pub tables_all : (ts : List Table) (t u : Told) → PutsTables [] ts t u → Becomes (putting_all (puts_of ts) t) u
+tables_all ts t u p = subst (λ (l : List Table). Becomes (putting_all (puts_of l) t) u) (sym p.grown) p.told
 
 -- ---- refusals
 
@@ -139,8 +161,8 @@ becomes_rises a b p = record { faults = p.faults; misses = p.misses }
 
 pub puts_rise : (old new : List ℕ) (t u : Told) → PutsMore old new t u → Rises t u
 puts_rise old new t u p = record {
-  faults = (let x = (p.told).faults in let y = (putting_rises p.more t).0 in omega arith);
-  misses = (let x = (p.told).misses in let y = (putting_rises p.more t).1 in omega arith);
+  faults = ((p.told).told).faults;
+  misses = ((p.told).told).misses;
 }
 
 counted_after : (f : ShelfFault) (a b c : Told) → Rises a b → Counted f b c → Counted f a c

@@ -1,10 +1,12 @@
 -- Outputs that are put one after another.
-use Rattle.std.proofs.Common.{◌≡◌, ℕ, Bool, false, cond, List, [], ◌∷◌, ◌++◌, Option, Some, None, map, refl, sym, ◌∙◌, ap, subst, inl, inr}
+use Rattle.std.proofs.Common.{◌≡◌, ℕ, Bool, true, false, cond, List, [], ◌∷◌, ◌++◌, Option, Some, None, map, refl, sym, ◌∙◌, ap, subst, append-nil, inl, inr}
 use Rattle.std.specs.Prelude.{Result, Ok, Err, OnOk}
 use Rattle.lsm_codec.specs.Lists.{Has}
 use Rattle.lsm_codec.specs.Keys.{IsKey}
 use Rattle.lsm_codec.specs.Entries.{Entry, internal_key}
 use Rattle.lsm_codec.proofs.CallerLemmas.{has_cases}
+use Rattle.lsm_shelf.proofs.CallerLemmas.{becomes_then}
+use Rattle.lsm_shelf.specs.Told.{Told, Becomes, putting}
 use Rattle.lsm_table.specs.Registry.{Table}
 use Rattle.lsm_table.specs.Table.{IsTable, IsImage}
 use Rattle.lsm_table.specs.HeldTable.{entries_in}
@@ -13,8 +15,8 @@ use Rattle.lsm_version.specs.Versions.{IsWhole}
 use Rattle.lsm_merge.specs.Causes.{DrewMore}
 use Rattle.lsm_merge.specs.Cuts.{is_empty}
 use Rattle.lsm_merge.specs.Dropping.{closed}
-use Rattle.lsm_merge.specs.Outputs.{AreGood, Goes, IsPut, Unfinished, drawn_of, entries_of_last, going, making_of}
-use Rattle.lsm_merge.specs.Work.{IsBuilt, contents_of}
+use Rattle.lsm_merge.specs.Outputs.{AreGood, Goes, IsPut, PutsEach, PutsMore, PutsTables, Unfinished, drawn_of, entries_of_last, going, making_of, putting_all}
+use Rattle.lsm_merge.specs.Work.{Done, IsBuilt, Work, contents_of, puts_by, puts_of}
 
 pub going_snoc : (ns : List ℕ) (n : ℕ) (there : List ℕ) → going (ns ++ n ∷ []) there ≡ n ∷ going ns there
 going_snoc [] n there = refl
@@ -22,6 +24,50 @@ going_snoc (m ∷ ns) n there = going_snoc ns n (m ∷ there)
 
 pub drew_put : (put put' : List ℕ) (n : ℕ) (there : List ℕ) → put' ≡ put ++ n ∷ [] → DrewMore put' (n ∷ going put there) there
 drew_put put put' n there e = inl (sym (ap (λ (p : List ℕ). going p there) e ∙ going_snoc put n there))
+
+-- ---- what the shelf was told
+
+pub each_none : (ns : List ℕ) (t u : Told) → ns ≡ [] → Becomes t u → PutsEach ns t u
+each_none ns t u none b = record { tables = []; numbers_are = sym none; told = b }
+
+pub puts_none : (ns ns' : List ℕ) (t u : Told) → ns' ≡ ns → Becomes t u → PutsMore ns ns' t u
+puts_none ns ns' t u same b = record { more = []; grown = same ∙ sym (append-nil ns); told = each_none [] t u refl b }
+
+pub puts_once : (ns ns' : List ℕ) (n : ℕ) (image : List ℕ) (t u : Told) → ns' ≡ ns ++ n ∷ [] → Becomes (putting n image t) u → PutsMore ns ns' t u
+puts_once ns ns' n image t u grown b = record { more = n ∷ []; grown = grown; told = record { tables = (n, image) ∷ []; numbers_are = refl; told = b } }
+
+pub puts_after : (ns ns' : List ℕ) (t u v : Told) → PutsMore ns ns' t u → Becomes u v → PutsMore ns ns' t v
+puts_after ns ns' t u v p b = record {
+  more = p.more;
+  grown = p.grown;
+  told = record { tables = (p.told).tables; numbers_are = (p.told).numbers_are; told = becomes_then (putting_all (p.told).tables t) u v (p.told).told b };
+}
+
+pub tables_none : (ts ts' : List Table) (t u : Told) → ts' ≡ ts → Becomes t u → PutsTables ts ts' t u
+tables_none ts ts' t u same b = record { more = []; grown = same ∙ sym (append-nil ts); told = b }
+
+pub tables_after : (ts ts' : List Table) (t u v : Told) → PutsTables ts ts' t u → Becomes u v → PutsTables ts ts' t v
+tables_after ts ts' t u v p b = record { more = p.more; grown = p.grown; told = becomes_then (putting_all (puts_of p.more) t) u v p.told b }
+
+pub tables_once : (ts ts' : List Table) (x : Table) (n : ℕ) (image : List ℕ) (t u : Told) → ts' ≡ ts ++ x ∷ [] → x.number ≡ n → x.image ≡ image → Becomes (putting n image t) u → PutsTables ts ts' t u
+tables_once ts ts' x n image t u grown number is b = record {
+  more = x ∷ [];
+  grown = grown;
+  told = subst (λ (m : ℕ). Becomes (putting m x.image t) u) (sym number) (subst (λ (i : List ℕ). Becomes (putting n i t) u) (sym is) b);
+}
+
+-- what was put of a merge that is finished: its tables
+pub merge_told : (w : Work) (ts ts' : List Table) (ns : List ℕ) (t u : Told) → w.is_move ≡ false → ts' ≡ ts → Becomes (putting_all (puts_of ts) t) u
+    → Becomes (putting_all (puts_by (record { work = w; outputs = ts'; put = ns })) t) u
+merge_told w ts ts' ns t u move same b =
+    subst (λ (m : Bool). Becomes (putting_all (cond {A = List (ℕ × List ℕ)} m [] (puts_of ts')) t) u) (sym move)
+    (subst (λ (l : List Table). Becomes (putting_all (puts_of l) t) u) (sym same) b)
+
+-- and of a move: nothing
+pub move_told : (d : Done) (t u : Told) → (d.work).is_move ≡ true → Becomes t u → Becomes (putting_all (puts_by d) t) u
+move_told d t u move b = subst (λ (m : Bool). Becomes (putting_all (cond {A = List (ℕ × List ℕ)} m [] (puts_of d.outputs)) t) u) (sym move) b
+
+-- ---- what was put
 
 -- the law of records that stand for a table
 abbrev pub AreWholeTables : Type 0
@@ -100,3 +146,7 @@ put_drawn ticket options target tables tables' put put' o (Some q) None at none 
 pub on_ok : {A E P Q : Type 0} (r : Result A E) → (P → Q) → OnOk r P → OnOk r Q
 on_ok (Ok x) f h = f h
 on_ok (Err e) f h = tt
+
+pub ok_if : {A E P : Type 0} (r : Result A E) → P → OnOk r P
+ok_if (Ok x) p = p
+ok_if (Err e) p = tt

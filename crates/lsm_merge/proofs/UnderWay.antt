@@ -15,14 +15,14 @@ use Rattle.lsm_merge.specs.Causes.{AnswersOf, AsksFor, DrewMore, Leaves}
 use Rattle.lsm_merge.specs.Compacting.{AreMergedOf, nothing_of}
 use Rattle.lsm_merge.specs.Dropping.{Follows, IsMerged, IsUpTo, Making, closed, is_kept, placed}
 use Rattle.lsm_merge.specs.Inputs.{AreInputs, IsOfReading, IsOrderFault, Stepped, input_numbers}
-use Rattle.lsm_merge.specs.Outputs.{AreGood, Goes, IsWrittenBy, Made, PutsMore, SameSizes, Unfinished, drawn_for, drawn_of, entries_of_last, making_of, number_of_last}
+use Rattle.lsm_merge.specs.Outputs.{AreGood, Goes, IsWrittenBy, Made, PutsMore, PutsTables, SameSizes, Unfinished, drawn_for, drawn_of, entries_of_last, making_of, number_of_last}
 use Rattle.lsm_merge.specs.Remembered.{bare}
 use Rattle.lsm_merge.specs.Work.{Work, finished, job_of}
 use Rattle.lsm_merge.proofs.Tickets.{asks_then}
 use Rattle.lsm_merge.proofs.Limited.{over_more, with_next_from, output_from}
 use Rattle.lsm_merge.specs.Limits.{IsOverLimit}
 use Rattle.lsm_merge.proofs.Dropped.{IsOnTheWay, StreamingKeeps, way_done, way_step}
-use Rattle.lsm_merge.proofs.PlaceLaws.{puts_then, sizes_then, up_to_taken}
+use Rattle.lsm_merge.proofs.PlaceLaws.{puts_then, sizes_then, tables_then, up_to_taken}
 
 -- ---- refusals
 
@@ -70,6 +70,7 @@ pub record IsUnderWay (Honest : Type 0) (w : Work) (whole : List Entry) (was is 
   pub good : AreGood m
   pub up : IsUpTo (entries_of_last m.last) before
   pub told : PutsMore [] m.put was is
+  pub tables : PutsTables [] m.tables was is
   pub drawn : drew ≡ drawn_of m drew0
   pub answered : answers ≡ answers0
   pub files : AreInputs left.files (input_numbers w)
@@ -81,9 +82,9 @@ pub under_step : (Honest : Type 0) (w : Work) (whole : List Entry) (was is is' :
     → no_more left.placed ≡ false
     → ((p : Placed) (rest : List Placed) → left.placed ≡ p ∷ rest → Stepped Honest w p rest before before' m m' left')
     → ((there : List ℕ) → drew ≡ drawn_of m there → drew' ≡ drawn_of m' there)
-    → answers' ≡ answers → ReadsNoOther left left' → PutsMore m.put m'.put is is' → AsksFor m.ticket asked asked'
+    → answers' ≡ answers → ReadsNoOther left left' → PutsMore m.put m'.put is is' → PutsTables m.tables m'.tables is is' → AsksFor m.ticket asked asked'
     → IsUnderWay Honest w whole was is' drew0 drew' answers0 answers' asked0 asked' m' before' left'
-under_step Honest w whole was is is' drew0 drew drew' answers0 answers answers' asked0 asked asked' m m' before before' left left' u more ok drawn answered files told later =
+under_step Honest w whole was is is' drew0 drew drew' answers0 answers answers' asked0 asked asked' m m' before before' left left' u more ok drawn answered files told tables later =
     let head = some_of left.placed more in
     let s = ok head.0 head.1 head.2 in
     let e : Entry = (head.0).1 in
@@ -94,6 +95,7 @@ under_step Honest w whole was is is' drew0 drew drew' answers0 answers answers' 
           (subst (λ (k : Making). IsUpTo k.output (Some (bare e))) (sym (s.goes).is)
           (up_to_taken (finished m.options) m.target (making_of m) (is_kept w.floor w.ranges before e) before e u.up s.follows));
       told = puts_then [] m.put m'.put was is is' u.told told;
+      tables = tables_then [] m.tables m'.tables was is is' u.tables tables;
       drawn = drawn drew0 u.drawn;
       answered = answered ∙ u.answered;
       files = λ f h. u.files f (files f h);

@@ -2,14 +2,15 @@
 use Rattle.std.specs.Prelude.{◌≡◌, ℕ, List, [], ◌∷◌, ◌++◌, map, Option, Some, None}
 use Rattle.lsm_codec.specs.Entries.{Entry}
 use Rattle.lsm_codec.specs.Lists.{Has}
-use Rattle.lsm_shelf.specs.Told.{Told, Becomes, putting}
+use Rattle.lsm_shelf.specs.Asked.{Put}
+use Rattle.lsm_shelf.specs.Told.{Told, Becomes}
 use Rattle.lsm_table.specs.Registry.{Table}
 use Rattle.lsm_table.specs.HeldTable.{entries_in}
 use Rattle.lsm_table.specs.Options.{AreInRange}
 use Rattle.lsm_table.specs.declared.table_options.TableOptions.{TableOptions}
 use Rattle.lsm_version.specs.Versions.{IsWhole}
 use Rattle.lsm_merge.specs.Dropping.{Making}
-use Rattle.lsm_merge.specs.Work.{IsBuilt, contents_of}
+use Rattle.lsm_merge.specs.Work.{IsBuilt, contents_of, puts_of}
 
 -- an output in the making, under its number
 pub record Unfinished : Type 0 where
@@ -73,21 +74,35 @@ pub record IsPut (output : Unfinished) (tables tables' : List Table) (put put' :
   pub tables_are : tables' ≡ tables ++ table ∷ []
   pub put_are : put' ≡ put ++ output.number ∷ []
 
--- these numbers one after another, and then those that were there: the last comes first
-abbrev pub going : List ℕ → List ℕ → List ℕ
+-- these one after another, and then those that were there: the last comes first
+abbrev pub going : {X : Type 0} → List X → List X → List X
 going [] there = there
-going (n ∷ ns) there = going ns (n ∷ there)
+going (x ∷ xs) there = going xs (x ∷ there)
 
--- it put tables of these numbers one after another
-abbrev pub putting_all : List ℕ → Told → Told
-putting_all [] t = t
-putting_all (n ∷ ns) t = putting_all ns (putting n t)
+-- it put tables of these numbers, with these images, one after another
+abbrev pub putting_all : List (ℕ × List ℕ) → Told → Told
+putting_all tables t = record t {
+  puts = going (map (λ p. p.0) tables) t.puts;
+  made = going (map (λ p. Put p.0 p.1) tables) t.made;
+}
+
+-- the shelf was told to put tables of just these numbers one after another, each with an image
+pub record PutsEach (numbers : List ℕ) (was is : Told) : Type 0 where
+  pub tables : List (ℕ × List ℕ)
+  pub numbers_are : map (λ p. p.0) tables ≡ numbers
+  pub told : Becomes (putting_all tables was) is
 
 -- the list of the numbers put grew by some, and the shelf was told to put just these
 pub record PutsMore (old new : List ℕ) (was is : Told) : Type 0 where
   pub more : List ℕ
   pub grown : new ≡ old ++ more
-  pub told : Becomes (putting_all more was) is
+  pub told : PutsEach more was is
+
+-- the list of the tables grew by some, and the shelf was told to put just these
+pub record PutsTables (old new : List Table) (was is : Told) : Type 0 where
+  pub more : List Table
+  pub grown : new ≡ old ++ more
+  pub told : Becomes (putting_all (puts_of more) was) is
 
 -- the numbers that were drawn: those that were put, and then that of the output in the making
 abbrev pub drawn_for : List ℕ → Option ℕ → List ℕ → List ℕ

@@ -1,5 +1,5 @@
 -- Jobs over tables, and what a finished one hands in (LevelDB's `doc/impl.md`, "Compactions").
-use Rattle.std.specs.Prelude.{◌≡◌, ℕ, suc, ◌≤◌, true, false, Bool, List, [], ◌∷◌, ◌++◌, length, map}
+use Rattle.std.specs.Prelude.{◌≡◌, ℕ, suc, ◌≤◌, true, false, Bool, List, [], ◌∷◌, ◌++◌, cond, length, map}
 use Rattle.lsm_codec.specs.Lists.{Has}
 use Rattle.lsm_codec.specs.Keys.{UserKey}
 use Rattle.lsm_codec.specs.Entries.{Entry}
@@ -56,6 +56,14 @@ pub record Done : Type 0 where
   pub work : Work
   pub outputs : List Table
   pub put : List ℕ
+
+-- each table's number, with the image for which it stands
+abbrev pub puts_of : List Table → List (ℕ × List ℕ)
+puts_of ts = map (λ t. (t.number, t.image)) ts
+
+-- what a shelf is told to put of a finished job: its outputs one after another, and of a move nothing
+abbrev pub puts_by : Done → List (ℕ × List ℕ)
+puts_by d = cond d.work.is_move [] (puts_of d.outputs)
 
 -- the entries of the image for which each table stands
 abbrev pub contents_of : List Table → List (List Entry)

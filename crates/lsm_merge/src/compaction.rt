@@ -14,9 +14,9 @@ ghost use Rattle.lsm_merge.specs.InputOrder.{HasTwins, StandInOrder};
 ghost use Rattle.lsm_merge.specs.Inputs.{AreInputs, IsOrderFault, IsReadable, Stepped};
 ghost use Rattle.lsm_merge.specs.Inputs.{input_numbers};
 ghost use Rattle.lsm_merge.specs.Limits.{IsOverLimit, IsSizeFault};
-ghost use Rattle.lsm_merge.specs.Outputs.{AreGood, PutsMore, drawn_of, entries_of_last, going};
-ghost use Rattle.lsm_merge.specs.Outputs.{putting_all};
-ghost use Rattle.lsm_merge.specs.Work.{job_of};
+ghost use Rattle.lsm_merge.specs.Outputs.{AreGood, PutsEach, PutsMore, PutsTables, drawn_of};
+ghost use Rattle.lsm_merge.specs.Outputs.{entries_of_last, going, putting_all};
+ghost use Rattle.lsm_merge.specs.Work.{job_of, puts_by, puts_of};
 ghost use Rattle.lsm_merge.specs.declared.merge_fault.MergeFault.TheVariants.{OutOfMemory};
 
 use crate::copies::again_all;
@@ -34,6 +34,7 @@ use std::alloc::Global;
 use std::sync::Wait;
 
 /// One step of the merge: the entry at hand is dropped or placed, and remembered.
+#[tactic(auto, using(crate::proofs::PutLaws::puts_none))]
 fn step<N: Naming, S: Shelf, R: Wait, D: NumberSource>(
     rt: &R,
     alloc: Global,
@@ -56,6 +57,8 @@ fn step<N: Naming, S: Shelf, R: Wait, D: NumberSource>(
     ensures answered { OnOk result (D.refused numbers.new ≡ D.refused numbers.old) }
     ensures files { OnOk result (ReadsNoOther merger.old merger.new) }
     ensures told { PutsMore outputs.old.put outputs.new.put shelf.old shelf.new }
+    ensures tables { OnOk result
+        (PutsTables outputs.old.tables outputs.new.tables shelf.old shelf.new) }
     ensures leaves { IfErr result (λ e. (there : List ℕ) → D.drew numbers.old
         ≡ drawn_of outputs.old there → Leaves e outputs.new.put (D.drew numbers.new) there) }
     ensures why { IfErr result (λ e. AnswersOf e (D.refused numbers.old) (D.refused numbers.new)) }
@@ -85,6 +88,7 @@ fn step<N: Naming, S: Shelf, R: Wait, D: NumberSource>(
 }
 
 /// Merges the inputs of a job into outputs.
+#[tactic(auto, using(crate::proofs::PutLaws::each_none, crate::proofs::PutLaws::puts_none, crate::proofs::PutLaws::tables_none))]
 fn merge<N: Naming, S: Shelf, R: Wait, D: NumberSource>(
     rt: &R,
     alloc: Global,
@@ -101,7 +105,9 @@ fn merge<N: Naming, S: Shelf, R: Wait, D: NumberSource>(
     ensures kept { S.honest → OnOk result (AreMergedOf job.now outputs.new.tables) }
     ensures drew { OnOk result (D.drew numbers.new ≡ going outputs.new.put (D.drew numbers.old)) }
     ensures answered { OnOk result (D.refused numbers.new ≡ D.refused numbers.old) }
-    ensures told { Becomes (putting_all outputs.new.put shelf.old) shelf.new }
+    ensures told { PutsEach outputs.new.put shelf.old shelf.new }
+    ensures tables { OnOk result
+        (Becomes (putting_all (puts_of outputs.new.tables) shelf.old) shelf.new) }
     ensures leaves { IfErr result (λ e.
         Leaves e outputs.new.put (D.drew numbers.new) (D.drew numbers.old)) }
     ensures why { IfErr result (λ e. AnswersOf e (D.refused numbers.old) (D.refused numbers.new)) }
@@ -175,6 +181,7 @@ fn hand_on<N: Naming, S: Shelf>(
 /// number of the input that could not be read or whose next entry has the internal key of the one
 /// before it; `PutFailed` with the number of the output that could not be built or put;
 /// `UnknownTicket` and `NumbersSpent` are the source's.
+#[tactic(auto, using(crate::proofs::PutLaws::each_none))]
 pub fn compact<N: Naming, S: Shelf, R: Wait, D: NumberSource>(
     rt: &R,
     alloc: Global,
@@ -188,14 +195,15 @@ pub fn compact<N: Naming, S: Shelf, R: Wait, D: NumberSource>(
     // What a finished job has, its type says (`Finished::job`).
     ensures work { IfOk result (λ f. f.work ≡ job) }
 
-    // The shelf was told to put just the outputs, and the numbers drawn are theirs.
-    ensures told { IfOk result (λ f. Becomes (putting_all f.put shelf.old) shelf.new) }
+    // The shelf was told to put just the outputs, in their order, each under its number with its
+    // image, and the numbers drawn are theirs.
+    ensures told { IfOk result (λ f. Becomes (putting_all (puts_by f) shelf.old) shelf.new) }
     ensures drew { IfOk result (λ f. D.drew numbers.new ≡ going f.put (D.drew numbers.old)) }
     ensures answered { OnOk result (D.refused numbers.new ≡ D.refused numbers.old) }
 
     // A refusal hands the job back, with just the numbers put.
     ensures back { IfErr result (λ e. e.1 ≡ job) }
-    ensures put { IfErr result (λ e. Becomes (putting_all e.2.items shelf.old) shelf.new) }
+    ensures put { IfErr result (λ e. PutsEach e.2.items shelf.old shelf.new) }
     ensures leaves { IfErr result (λ e.
         Leaves e.0 e.2.items (D.drew numbers.new) (D.drew numbers.old)) }
     ensures why { IfErr result (λ e.

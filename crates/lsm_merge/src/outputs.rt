@@ -10,8 +10,8 @@ ghost use Rattle.lsm_merge.specs.Cuts.{closes};
 ghost use Rattle.lsm_merge.specs.Causes.{AnswersOf, AsksFor, HasCause, Leaves, NamesTicket};
 ghost use Rattle.lsm_merge.specs.Dropping.{closed, placed, shut_before, with_entry};
 ghost use Rattle.lsm_merge.specs.Limits.{IsOverLimit, IsSizeFault};
-ghost use Rattle.lsm_merge.specs.Outputs.{AreGood, Goes, PutsMore, drawn_of, entries_of_last};
-ghost use Rattle.lsm_merge.specs.Outputs.{going, making_of};
+ghost use Rattle.lsm_merge.specs.Outputs.{AreGood, Goes, PutsMore, PutsTables, drawn_of};
+ghost use Rattle.lsm_merge.specs.Outputs.{entries_of_last, going, making_of};
 ghost use Rattle.lsm_merge.specs.Work.{finished};
 
 use crate::job::Job;
@@ -142,6 +142,7 @@ impl<N: Naming, S: Shelf> Outputs<N, S> {
     }
 
     /// Puts the output in the making, where there is one.
+    #[tactic(auto, using(crate::proofs::PutLaws::puts_none, crate::proofs::PutLaws::tables_none))]
     pub(crate) fn put_last<R: Wait>(
         &mut self,
         rt: &R,
@@ -154,6 +155,8 @@ impl<N: Naming, S: Shelf> Outputs<N, S> {
         ensures drawn { OnOk result ((there : List ℕ)
             → drawn_of self.new there ≡ drawn_of self.old there) }
         ensures told { PutsMore self.old.put self.new.put shelf.old shelf.new }
+        ensures tables { OnOk result
+            (PutsTables self.old.tables self.new.tables shelf.old shelf.new) }
         ensures leaves { IfErr result (λ e. (there : List ℕ)
             → Leaves e self.new.put (drawn_of self.old there) there) }
         ensures cause { IfErr result (λ e. HasCause [] e shelf.old shelf.new) }
@@ -188,6 +191,7 @@ impl<N: Naming, S: Shelf> Outputs<N, S> {
     }
 
     /// Puts the output in the making where it is closed before an entry of this user key.
+    #[tactic(auto, using(crate::proofs::PutLaws::puts_none, crate::proofs::PutLaws::tables_none))]
     pub(crate) fn close_before<R: Wait>(
         &mut self,
         rt: &R,
@@ -201,6 +205,8 @@ impl<N: Naming, S: Shelf> Outputs<N, S> {
         ensures drawn { OnOk result ((there : List ℕ)
             → drawn_of self.new there ≡ drawn_of self.old there) }
         ensures told { PutsMore self.old.put self.new.put shelf.old shelf.new }
+        ensures tables { OnOk result
+            (PutsTables self.old.tables self.new.tables shelf.old shelf.new) }
         ensures leaves { IfErr result (λ e. (there : List ℕ)
             → Leaves e self.new.put (drawn_of self.old there) there) }
         ensures cause { IfErr result (λ e. HasCause [] e shelf.old shelf.new) }
@@ -231,6 +237,7 @@ impl<N: Naming, S: Shelf> Outputs<N, S> {
         ensures drawn { OnOk result ((there : List ℕ) → D.drew numbers.old ≡ drawn_of self.old there
             → D.drew numbers.new ≡ drawn_of self.new there) }
         ensures put { self.new.put ≡ self.old.put }
+        ensures tables { self.new.tables ≡ self.old.tables }
         ensures answered { OnOk result (D.refused numbers.new ≡ D.refused numbers.old) }
         ensures leaves { IfErr result (λ e. (there : List ℕ) → D.drew numbers.old
             ≡ drawn_of self.old there → Leaves e self.new.put (D.drew numbers.new) there) }
@@ -277,6 +284,8 @@ impl<N: Naming, S: Shelf> Outputs<N, S> {
         ensures drawn { OnOk result ((there : List ℕ) → D.drew numbers.old ≡ drawn_of self.old there
             → D.drew numbers.new ≡ drawn_of self.new there) }
         ensures told { PutsMore self.old.put self.new.put shelf.old shelf.new }
+        ensures tables { OnOk result
+            (PutsTables self.old.tables self.new.tables shelf.old shelf.new) }
         ensures answered { OnOk result (D.refused numbers.new ≡ D.refused numbers.old) }
         ensures leaves { IfErr result (λ e. (there : List ℕ) → D.drew numbers.old
             ≡ drawn_of self.old there → Leaves e self.new.put (D.drew numbers.new) there) }
@@ -294,6 +303,7 @@ impl<N: Naming, S: Shelf> Outputs<N, S> {
     }
 
     /// Takes the next entry of the inputs: it is placed where it is kept.
+    #[tactic(auto, using(crate::proofs::PutLaws::puts_none, crate::proofs::PutLaws::tables_none))]
     pub(crate) fn take<R: Wait, D: NumberSource>(
         &mut self,
         rt: &R,
@@ -314,6 +324,8 @@ impl<N: Naming, S: Shelf> Outputs<N, S> {
         ensures drawn { OnOk result ((there : List ℕ) → D.drew numbers.old ≡ drawn_of self.old there
             → D.drew numbers.new ≡ drawn_of self.new there) }
         ensures told { PutsMore self.old.put self.new.put shelf.old shelf.new }
+        ensures tables { OnOk result
+            (PutsTables self.old.tables self.new.tables shelf.old shelf.new) }
         ensures answered { OnOk result (D.refused numbers.new ≡ D.refused numbers.old) }
         ensures leaves { IfErr result (λ e. (there : List ℕ) → D.drew numbers.old
             ≡ drawn_of self.old there → Leaves e self.new.put (D.drew numbers.new) there) }

@@ -1,9 +1,10 @@
 //! Putting an output on the shelf, and its record into the registry.
 
 ghost use Rattle.std.specs.Prelude.{◌≡◌, [], ◌∷◌, ◌++◌, ℕ, List, IfOk, IfErr, OnOk};
+ghost use Rattle.lsm_shelf.specs.Told.{Becomes, putting};
 ghost use Rattle.lsm_merge.specs.Causes.{AnswersOf, HasCause, Leaves};
 ghost use Rattle.lsm_merge.specs.Limits.{IsOverLimit, IsSizeFault};
-ghost use Rattle.lsm_merge.specs.Outputs.{IsPut, PutsMore, going};
+ghost use Rattle.lsm_merge.specs.Outputs.{IsPut, PutsMore, PutsTables, going};
 
 use crate::merge_fault::MergeFault;
 use crate::output::Output;
@@ -30,6 +31,7 @@ fn put_image<N: Naming, S: Shelf, R: Wait>(
     ensures image { IfOk result (λ t. t.image ≡ image.bytes) }
     ensures put { OnOk result (put.new.items ≡ put.old.items ++ number ∷ []) }
     ensures told { PutsMore put.old.items put.new.items shelf.old shelf.new }
+    ensures puts { OnOk result (Becomes (putting number image.bytes shelf.old) shelf.new) }
     ensures leaves { IfErr result (λ e. (there : List ℕ)
         → Leaves e put.new.items (number ∷ going put.old.items there) there) }
     ensures cause { IfErr result (λ e. HasCause [] e shelf.old shelf.new) }
@@ -52,6 +54,7 @@ fn put_image<N: Naming, S: Shelf, R: Wait>(
 }
 
 /// Puts the table of an output: its number then stands among those put, and it among the tables.
+#[tactic(auto, using(crate::proofs::PutLaws::puts_none))]
 pub(crate) fn put_output<N: Naming, S: Shelf, R: Wait>(
     rt: &R,
     alloc: Global,
@@ -64,6 +67,8 @@ pub(crate) fn put_output<N: Naming, S: Shelf, R: Wait>(
     ensures ok { OnOk result
         (IsPut output tables.old.items tables.new.items put.old.items put.new.items) }
     ensures told { PutsMore put.old.items put.new.items shelf.old shelf.new }
+    ensures tables { OnOk result
+        (PutsTables tables.old.items tables.new.items shelf.old shelf.new) }
     ensures leaves { IfErr result (λ e. (there : List ℕ)
         → Leaves e put.new.items (output.number ∷ going put.old.items there) there) }
     ensures cause { IfErr result (λ e. HasCause [] e shelf.old shelf.new) }

@@ -10,7 +10,7 @@ use Rattle.lsm_merge.specs.Outputs.{entries_of_last}
 use Rattle.lsm_merge.specs.Work.{job_of}
 use Rattle.lsm_merge.proofs.Limited.{no_size_reading}
 use Rattle.lsm_merge.proofs.Tickets.{asks_none, asks_then, names_put, names_reading}
-use Rattle.lsm_merge.proofs.PlaceLaws.{cause_after, cause_of_put, err_is, if_err, order_put, puts_all, puts_rise, puts_then}
+use Rattle.lsm_merge.proofs.PlaceLaws.{cause_after, cause_of_put, err_is, if_err, order_put, puts_all, puts_rise, puts_then, tables_all, tables_then}
 use Rattle.lsm_merge.proofs.PutLaws.{on_ok}
 use Rattle.lsm_merge.proofs.UnderWay.{order_reading, under_ascends, under_done, under_last, under_limit, under_order, under_step}
 use Rattle.lsm_merge.proofs.compaction.merge.Goals as goal
@@ -35,6 +35,14 @@ returns-then-is_at_end-clause-told g c =
     (puts_then [] c.entries.outputs.put c.put_last.new.self.put c.args.shelf.now c.entries.shelf c.put_last.new.shelf
     c.entries.invariant.0.told c.put_last.ensures.told)
 
+pub returns-then-is_at_end-clause-tables : goal.returns-then-is_at_end-clause-tables
+returns-then-is_at_end-clause-tables g c =
+    on_ok c.put_last.result
+    (λ more. tables_all c.put_last.new.self.tables c.args.shelf.now c.put_last.new.shelf
+    (tables_then [] c.entries.outputs.tables c.put_last.new.self.tables c.args.shelf.now c.entries.shelf c.put_last.new.shelf
+    c.entries.invariant.0.tables more))
+    c.put_last.ensures.tables
+
 pub returns-then-is_at_end-clause-cause : goal.returns-then-is_at_end-clause-cause
 returns-then-is_at_end-clause-cause g c =
     if_err (λ (e : MergeFault). HasCause [] e c.entries.shelf c.put_last.new.shelf)
@@ -52,7 +60,7 @@ entries-preserved g c = (
       (g.D.NumberSource.refused c.args.numbers.now) (g.D.NumberSource.refused c.entries.numbers) (g.D.NumberSource.refused c.step.new.numbers)
       (g.D.NumberSource.asked c.args.numbers.now) (g.D.NumberSource.asked c.entries.numbers) (g.D.NumberSource.asked c.step.new.numbers)
       c.entries.outputs c.step.new.outputs c.entries.before c.step.new.before c.entries.merger c.step.new.merger c.entries.invariant.0
-      (sym c.is_at_end.ensures ∙ c.if-is_at_end.false) c.in_ok-step.ensures.ok c.in_ok-step.ensures.drawn c.in_ok-step.ensures.answered c.in_ok-step.ensures.files c.step.ensures.told c.step.ensures.asked,
+      (sym c.is_at_end.ensures ∙ c.if-is_at_end.false) c.in_ok-step.ensures.ok c.in_ok-step.ensures.drawn c.in_ok-step.ensures.answered c.in_ok-step.ensures.files c.step.ensures.told c.in_ok-step.ensures.tables c.step.ensures.asked,
   c.step.ensures.ready,
 )
 

@@ -13,6 +13,7 @@ use Rattle.lsm_merge.proofs.Limited.{no_size_reading}
 use Rattle.lsm_merge.proofs.Tickets.{names_reading}
 use Rattle.lsm_merge.proofs.Dropped.{follows_says}
 use Rattle.lsm_merge.proofs.PlaceLaws.{ascends_after, cause_after, err_is, if_err, puts_rise}
+use Rattle.lsm_merge.proofs.PutLaws.{ok_if, puts_after, tables_after}
 use Rattle.lsm_merge.proofs.Stepping.{first_entry, stepped}
 use Rattle.lsm_merge.proofs.UnderWay.{leaves_reading, order_reading, why_reading}
 use Rattle.lsm_merge.proofs.compaction.step.Goals as goal
@@ -73,3 +74,12 @@ returns-clause-ok g c = λ p rest is.
     stepped g.S.Shelf.honest c.args.job.now c.args.merger.now.placed p rest c.args.before.now c.remember.new.self c.args.outputs.now c.take.new.self c.advance.new.merger c.advance.result
     (key_of c.in-Some.key) c.value.result.now c.is_kept-kept.result c.floor.result c.ranges-2.result.now is c.in-Some.ensures.key c.value.ensures f c.is_kept-kept.ensures c.floor.ensures c.ranges-2.ensures
     c.in_ok-take.ensures.ok c.in_ok-remember.ensures c.advance.ensures.ok
+
+pub returns-clause-told : goal.returns-clause-told
+returns-clause-told g c =
+    puts_after c.args.outputs.now.put c.take.new.self.put c.args.shelf.now c.take.new.shelf c.advance.new.shelf c.take.ensures.told c.advance.ensures.told
+
+pub returns-clause-tables : goal.returns-clause-tables
+returns-clause-tables g c =
+    ok_if c.advance.result
+    (tables_after c.args.outputs.now.tables c.take.new.self.tables c.args.shelf.now c.take.new.shelf c.advance.new.shelf c.in_ok-take.ensures.tables c.advance.ensures.told)

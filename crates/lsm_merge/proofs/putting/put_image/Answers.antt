@@ -1,5 +1,6 @@
 use Rattle.std.proofs.Common.{◌≡◌, ℕ, List, [], ◌∷◌, ◌++◌, ◌∙◌, ap}
-use Rattle.lsm_merge.proofs.PutLaws.{drew_put}
+use Rattle.lsm_shelf.proofs.CallerLemmas.{becomes_same}
+use Rattle.lsm_merge.proofs.PutLaws.{drew_put, puts_none, puts_once}
 use Rattle.lsm_merge.proofs.putting.put_image.Goals as goal
 
 pub returns-in-Err-push-2-clause-leaves : goal.returns-in-Err-push-2-clause-leaves
@@ -7,3 +8,23 @@ returns-in-Err-push-2-clause-leaves g c = λ there.
     let pushed : c.push.new.self.items ≡ c.args.put.now.items ++ c.args.number ∷ [] =
     (let i = c.in-Ok-push.ensures.items in i ∙ ap (λ (l : List ℕ). l ++ c.args.number ∷ []) c.in_ok-reserve.ensures.items) in
     drew_put c.args.put.now.items c.push.new.self.items c.args.number there pushed
+
+pub returns-in_err-reserve-clause-told : goal.returns-in_err-reserve-clause-told
+returns-in_err-reserve-clause-told g c =
+    puts_none c.args.put.now.items c.reserve.new.self.items c.args.shelf.now c.args.shelf.now c.in_err-reserve.ensures.items (becomes_same c.args.shelf.now)
+
+pub returns-in-Err-clause-told : goal.returns-in-Err-clause-told
+returns-in-Err-clause-told g c =
+    puts_none c.args.put.now.items c.reserve.new.self.items c.args.shelf.now c.put_alone.new.shelf c.in_ok-reserve.ensures.items c.in-Err.ensures.err
+
+pub returns-in-Ok-push-2-clause-told : goal.returns-in-Ok-push-2-clause-told
+returns-in-Ok-push-2-clause-told g c =
+    let i = c.in-Ok-push.ensures.items in
+    puts_once c.args.put.now.items c.push.new.self.items c.args.number c.args.image.bytes c.args.shelf.now c.put_alone.new.shelf
+    (i ∙ ap (λ (l : List ℕ). l ++ c.args.number ∷ []) c.in_ok-reserve.ensures.items) c.in-Ok.ensures.ok
+
+pub returns-in-Err-push-2-clause-told : goal.returns-in-Err-push-2-clause-told
+returns-in-Err-push-2-clause-told g c =
+    let i = c.in-Ok-push.ensures.items in
+    puts_once c.args.put.now.items c.push.new.self.items c.args.number c.args.image.bytes c.args.shelf.now c.put_alone.new.shelf
+    (i ∙ ap (λ (l : List ℕ). l ++ c.args.number ∷ []) c.in_ok-reserve.ensures.items) c.in-Ok.ensures.ok

@@ -3,7 +3,7 @@ use Rattle.lsm_table.specs.Registry.{Table}
 use Rattle.lsm_table.specs.Table.{IsTable}
 use Rattle.lsm_table.specs.HeldTable.{entries_in}
 use Rattle.lsm_table.specs.TableBuilding.{table_bytes}
-use Rattle.lsm_merge.proofs.PutLaws.{whole_of}
+use Rattle.lsm_merge.proofs.PutLaws.{tables_once, whole_of}
 use Rattle.lsm_merge.proofs.putting.put_output.Goals as goal
 
 pub returns-clause-ok : goal.returns-clause-ok
@@ -22,3 +22,10 @@ returns-clause-ok g c =
       tables_are = (let i = c.in-Ok-push.ensures.items in i ∙ ap (λ (l : List Table). l ++ c.in_ok-table.table ∷ []) c.in_ok-reserve.ensures.items);
       put_are = ens.put ∙ ap (λ (n : ℕ). c.args.put.now.items ++ n ∷ []) c.number-number.ensures;
     }
+
+pub returns-clause-tables : goal.returns-clause-tables
+returns-clause-tables g c =
+    let ens = c.in_ok-table.ensures in
+    let i = c.in-Ok-push.ensures.items in
+    tables_once c.args.tables.now.items c.push.new.self.items c.in_ok-table.table c.number-number.result c.in-Ok.image.bytes c.args.shelf.now c.put_image-table.new.shelf
+    (i ∙ ap (λ (l : List Table). l ++ c.in_ok-table.table ∷ []) c.in_ok-reserve.ensures.items) ens.number ens.image ens.puts
