@@ -27,5 +27,5 @@ pub returns-clause-tables : goal.returns-clause-tables
 returns-clause-tables g c =
     let ens = c.in_ok-table.ensures in
     let i = c.in-Ok-push.ensures.items in
-    tables_once c.args.tables.now.items c.push.new.self.items c.in_ok-table.table c.number-number.result c.in-Ok.image.bytes c.args.shelf.now c.put_image-table.new.shelf
+    tables_once c.args.tables.now.items c.push.new.self.items c.in_ok-table.table c.number-number.result c.in-Ok.image.bytes c.args.shelf.now c.put_image.new.shelf
     (i ∙ ap (λ (l : List Table). l ++ c.in_ok-table.table ∷ []) c.in_ok-reserve.ensures.items) ens.number ens.image ens.puts
