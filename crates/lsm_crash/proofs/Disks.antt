@@ -8,7 +8,7 @@ use Rattle.lsm_folder.specs.Calls.{Call, opened, made, wrote, appended, synced, 
 use Rattle.lsm_crash.specs.Known.{IsSound, Holds, IsFile}
 use Rattle.lsm_crash.specs.Among.{Avoids}
 use Rattle.lsm_crash.specs.Crash.{May}
-use Rattle.lsm_crash.specs.Disk.{Disk, Names, Step, set, named, moved, with_file, with_names, filled}
+use Rattle.lsm_crash.specs.Disk.{Disk, Names, Step, Writes, set, named, moved, with_file, with_names, without, filled}
 
 pub some_is : (m n : ℕ) → Some m ≡ Some n → m ≡ n
 some_is m n p = cc
@@ -84,7 +84,7 @@ sound_moved d from to i s at = sound_names d (moved d.names from to i) s
 gone_at : (names : Names) (name p : List ℕ) (i : ℕ) → named names name None p ≡ Some i → names p ≡ Some i
 gone_at names name p i at = elim (named_cases names name None p) [ inl h ↦ absurd (none_is i (sym h.1 ∙ at)) | inr h ↦ sym h.1 ∙ at ]
 
-sound_gone : (d : Disk) (name : List ℕ) → IsSound d → IsSound (with_names (named d.names name None) d)
+pub sound_gone : (d : Disk) (name : List ℕ) → IsSound d → IsSound (with_names (named d.names name None) d)
 sound_gone d name s = sound_names d (named d.names name None) s (λ p i at. (p, gone_at d.names name p i at))
     (λ p q i hp hq. s.one p q i (gone_at d.names name p i hp) (gone_at d.names name q i hq))
 
@@ -97,6 +97,11 @@ sound_settled d s = record { now = inl refl; below = s.below; one = s.one }
 pub along : (P : Disk → Type 0) (d e : Disk) → e ≡ d → P d → P e
 along P d e same = subst P (sym same)
 
+sound_written : (d e : Disk) (name bytes : List ℕ) → IsSound d → Writes d name bytes e → IsSound e
+sound_written d e name bytes s (inl m) = along IsSound (with_file name bytes d) e m (sound_file d name bytes s)
+sound_written d e name bytes s (inr (inl w)) = along IsSound (filled w.0 bytes 0 d) e w.2 (sound_filled d w.0 bytes 0 s)
+sound_written d e name bytes s (inr (inr m)) = along IsSound (with_file name bytes (without name d)) e m (sound_file (without name d) name bytes (sound_gone d name s))
+
 pub step_sound : (d e : Disk) (c : Call) → IsSound d → Step d c e → IsSound e
 step_sound d e opened s h = along IsSound d e h s
 step_sound d e (made name bytes (Ok v)) s h = along IsSound (with_file name bytes d) e h.1 (sound_file d name bytes s)
@@ -104,16 +109,10 @@ step_sound d e (made name bytes (Err f)) s h = elim h [
   | inl same ↦ along IsSound d e same s
   | inr m ↦ along IsSound (with_file name (take m.0 bytes) d) e m.1.1 (sound_file d name (take m.0 bytes) s)
 ]
-step_sound d e (wrote name bytes (Ok v)) s h = elim h [
-  | inl m ↦ along IsSound (with_file name bytes d) e m (sound_file d name bytes s)
-  | inr w ↦ along IsSound (filled w.0 bytes 0 d) e w.2 (sound_filled d w.0 bytes 0 s)
-]
+step_sound d e (wrote name bytes (Ok v)) s h = sound_written d e name bytes s h
 step_sound d e (wrote name bytes (Err f)) s h = elim h [
   | inl same ↦ along IsSound d e same s
-  | inr m ↦ elim m.1 [
-    | inl n ↦ along IsSound (with_file name (take m.0 bytes) d) e n (sound_file d name (take m.0 bytes) s)
-    | inr w ↦ along IsSound (filled w.0 (take m.0 bytes) 0 d) e w.2 (sound_filled d w.0 (take m.0 bytes) 0 s)
-  ]
+  | inr m ↦ elim m [ inl gone ↦ along IsSound _ e gone (sound_gone d name s) | inr w ↦ sound_written d e name (take w.0 bytes) s w.1 ]
 ]
 step_sound d e (appended name bytes (Ok v)) s h = along IsSound _ e h.2 (sound_filled d h.0 (d.bytes h.0 ++ bytes) (d.kept h.0) s)
 step_sound d e (appended name bytes (Err f)) s h = elim h [
@@ -197,6 +196,12 @@ holds_moved miss P q d from to i s a b at H = holds_names miss P q d (moved d.na
 holds_gone : (miss : Bool) (P : ℕ → List ℕ → ℕ → Type 0) (q : List ℕ) (d : Disk) (name : List ℕ) → IsSound d → (name ≡ q → ⊥) → Holds miss d q P → Holds miss (with_names (named d.names name None) d) q P
 holds_gone miss P q d name s other H = holds_names miss P q d (named d.names name None) s (named_else d.names name None q other) (λ p i at. (p, gone_at d.names name p i at, λ e. e)) H
 
+holds_written : (miss : Bool) (P : ℕ → List ℕ → ℕ → Type 0) (q : List ℕ) (d e : Disk) (name bytes : List ℕ) → IsSound d → (name ≡ q → ⊥) → Writes d name bytes e → Holds miss d q P → Holds miss e q P
+holds_written miss P q d e name bytes s other (inl m) H = along (λ x. Holds miss x q P) _ e m (holds_file miss P q d name bytes s other H)
+holds_written miss P q d e name bytes s other (inr (inl w)) H = along (λ x. Holds miss x q P) _ e w.2 (holds_filled miss P q d name w.0 bytes 0 other w.1 H)
+holds_written miss P q d e name bytes s other (inr (inr m)) H =
+    along (λ x. Holds miss x q P) _ e m (holds_file miss P q (without name d) name bytes (sound_gone d name s) other (holds_gone miss P q d name s other H))
+
 -- the folder was synced
 pub holds_settled : (miss : Bool) (P : ℕ → List ℕ → ℕ → Type 0) (q : List ℕ) (d : Disk) → IsSound d → Holds miss d q P → Holds miss (record d { past = d.names ∷ [] }) q P
 holds_settled miss P q d s = holds_by miss P q d (record d { past = d.names ∷ [] })
@@ -209,16 +214,10 @@ step_holds miss P q d e (made name bytes (Err f)) s a h H = elim h [
   | inl same ↦ along (λ x. Holds miss x q P) d e same H
   | inr m ↦ along (λ x. Holds miss x q P) _ e m.1.1 (holds_file miss P q d name (take m.0 bytes) s a H)
 ]
-step_holds miss P q d e (wrote name bytes (Ok v)) s a h H = elim h [
-  | inl m ↦ along (λ x. Holds miss x q P) _ e m (holds_file miss P q d name bytes s a H)
-  | inr w ↦ along (λ x. Holds miss x q P) _ e w.2 (holds_filled miss P q d name w.0 bytes 0 a w.1 H)
-]
+step_holds miss P q d e (wrote name bytes (Ok v)) s a h H = holds_written miss P q d e name bytes s a h H
 step_holds miss P q d e (wrote name bytes (Err f)) s a h H = elim h [
   | inl same ↦ along (λ x. Holds miss x q P) d e same H
-  | inr m ↦ elim m.1 [
-    | inl n ↦ along (λ x. Holds miss x q P) _ e n (holds_file miss P q d name (take m.0 bytes) s a H)
-    | inr w ↦ along (λ x. Holds miss x q P) _ e w.2 (holds_filled miss P q d name w.0 (take m.0 bytes) 0 a w.1 H)
-  ]
+  | inr m ↦ elim m [ inl gone ↦ along (λ x. Holds miss x q P) _ e gone (holds_gone miss P q d name s a H) | inr w ↦ holds_written miss P q d e name (take w.0 bytes) s a w.1 H ]
 ]
 step_holds miss P q d e (appended name bytes (Ok v)) s a h H = along (λ x. Holds miss x q P) _ e h.2 (holds_filled miss P q d name h.0 (d.bytes h.0 ++ bytes) (d.kept h.0) a h.1 H)
 step_holds miss P q d e (appended name bytes (Err f)) s a h H = elim h [

@@ -9,6 +9,7 @@ mod Starting
 mod Runs
 mod Calls
 mod Instances
+mod Width
 mod Histories
 mod Asides
 mod Shelves

@@ -4,10 +4,10 @@ use Rattle.std.proofs.lemmas.List.{take_all, take-take}
 use Rattle.lsm_folder.specs.Calls.{Call, opened, made, wrote, appended, synced, folder_synced, renamed, removed, measured, read, loaded, listed, locked}
 use Rattle.std.specs.Prelude.{Bool, true, false, Option, Ok, Err}
 use Rattle.lsm_crash.specs.Crash.{May}
-use Rattle.lsm_crash.specs.Disk.{Disk, Names, Step, Shows, moved, with_names, Makes, Writes, Appends, Syncs, SyncsFolder, Renames, set, named, with_file, filled}
+use Rattle.lsm_crash.specs.Disk.{Disk, Names, Step, Shows, moved, with_names, Makes, Writes, Appends, Syncs, SyncsFolder, Renames, set, named, with_file, without, filled}
 use Rattle.lsm_crash.specs.Known.{IsSound, Holds, IsFile, Is, Stands}
 use Rattle.lsm_crash.specs.Among.{Avoids}
-use Rattle.lsm_crash.proofs.Disks.{along, some_is, set_at, set_else, named_at, named_else, moved_cases, step_holds}
+use Rattle.lsm_crash.proofs.Disks.{along, sound_gone, some_is, set_at, set_else, named_at, named_else, moved_cases, step_holds}
 
 -- the name has this file now, with these bytes, so many of which are durable
 pub record At (d : Disk) (q : List ℕ) (i : ℕ) (bytes : List ℕ) (kept : ℕ) : Type 0 where
@@ -49,6 +49,15 @@ at_other d name j more k q i bytes kept s other at a =
 at_names : (d : Disk) (names : Names) (q : List ℕ) (i : ℕ) (bytes : List ℕ) (kept : ℕ) → names q ≡ d.names q → At d q i bytes kept → At (with_names names d) q i bytes kept
 at_names d names q i bytes kept same a = record { names = same ∙ a.names; bytes_are = a.bytes_are; kept_is = a.kept_is }
 
+at_gone : (d : Disk) (name q : List ℕ) (i : ℕ) (bytes : List ℕ) (kept : ℕ) → (name ≡ q → ⊥) → At d q i bytes kept → At (without name d) q i bytes kept
+at_gone d name q i bytes kept other a = at_names d (named d.names name None) q i bytes kept (named_else d.names name None q other) a
+
+at_written : (d e : Disk) (name more : List ℕ) (q : List ℕ) (i : ℕ) (bytes : List ℕ) (kept : ℕ) → IsSound d → (name ≡ q → ⊥) → Writes d name more e → At d q i bytes kept → At e q i bytes kept
+at_written d e name more q i bytes kept s other (inl m) a = along (λ x. At x q i bytes kept) _ e m (at_file d name more q i bytes kept s other a)
+at_written d e name more q i bytes kept s other (inr (inl w)) a = along (λ x. At x q i bytes kept) _ e w.2 (at_other d name w.0 more 0 q i bytes kept s other w.1 a)
+at_written d e name more q i bytes kept s other (inr (inr m)) a =
+    along (λ x. At x q i bytes kept) _ e m (at_file (without name d) name more q i bytes kept (sound_gone d name s) other (at_gone d name q i bytes kept other a))
+
 at_settled : (d : Disk) (q : List ℕ) (i : ℕ) (bytes : List ℕ) (kept : ℕ) → At d q i bytes kept → At (record d { past = d.names ∷ [] }) q i bytes kept
 at_settled d q i bytes kept a = record { names = a.names; bytes_are = a.bytes_are; kept_is = a.kept_is }
 
@@ -59,16 +68,10 @@ at_step d e (made name more (Err f)) q i bytes kept s o h a = elim h [
   | inl same ↦ along (λ x. At x q i bytes kept) d e same a
   | inr m ↦ along (λ x. At x q i bytes kept) _ e m.1.1 (at_file d name (take m.0 more) q i bytes kept s o a)
 ]
-at_step d e (wrote name more (Ok v)) q i bytes kept s o h a = elim h [
-  | inl m ↦ along (λ x. At x q i bytes kept) _ e m (at_file d name more q i bytes kept s o a)
-  | inr w ↦ along (λ x. At x q i bytes kept) _ e w.2 (at_other d name w.0 more 0 q i bytes kept s o w.1 a)
-]
+at_step d e (wrote name more (Ok v)) q i bytes kept s o h a = at_written d e name more q i bytes kept s o h a
 at_step d e (wrote name more (Err f)) q i bytes kept s o h a = elim h [
   | inl same ↦ along (λ x. At x q i bytes kept) d e same a
-  | inr m ↦ elim m.1 [
-    | inl n ↦ along (λ x. At x q i bytes kept) _ e n (at_file d name (take m.0 more) q i bytes kept s o a)
-    | inr w ↦ along (λ x. At x q i bytes kept) _ e w.2 (at_other d name w.0 (take m.0 more) 0 q i bytes kept s o w.1 a)
-  ]
+  | inr m ↦ elim m [ inl gone ↦ along (λ x. At x q i bytes kept) _ e gone (at_gone d name q i bytes kept o a) | inr w ↦ at_written d e name (take w.0 more) q i bytes kept s o w.1 a ]
 ]
 at_step d e (appended name more (Ok v)) q i bytes kept s o h a = along (λ x. At x q i bytes kept) _ e h.2 (at_other d name h.0 (d.bytes h.0 ++ more) (d.kept h.0) q i bytes kept s o h.1 a)
 at_step d e (appended name more (Err f)) q i bytes kept s o h a = elim h [
@@ -88,10 +91,10 @@ at_step d e (renamed from to (Err f)) q i bytes kept s o h a = elim h [
   | inl same ↦ along (λ x. At x q i bytes kept) d e same a
   | inr m ↦ along (λ x. At x q i bytes kept) _ e m.2 (at_names d (moved d.names from to m.0) q i bytes kept (named_else (named d.names to (Some m.0)) from None q o.0 ∙ named_else d.names to (Some m.0) q o.1) a)
 ]
-at_step d e (removed name (Ok v)) q i bytes kept s o h a = along (λ x. At x q i bytes kept) _ e h (at_names d (named d.names name None) q i bytes kept (named_else d.names name None q o) a)
+at_step d e (removed name (Ok v)) q i bytes kept s o h a = along (λ x. At x q i bytes kept) _ e h (at_gone d name q i bytes kept o a)
 at_step d e (removed name (Err f)) q i bytes kept s o h a = elim h [
   | inl same ↦ along (λ x. At x q i bytes kept) d e same a
-  | inr m ↦ along (λ x. At x q i bytes kept) _ e m (at_names d (named d.names name None) q i bytes kept (named_else d.names name None q o) a)
+  | inr m ↦ along (λ x. At x q i bytes kept) _ e m (at_gone d name q i bytes kept o a)
 ]
 at_step d e (measured name answer) q i bytes kept s o h a = along (λ x. At x q i bytes kept) d e h a
 at_step d e (read name image offset len answer) q i bytes kept s o h a = along (λ x. At x q i bytes kept) d e h a
@@ -116,7 +119,8 @@ at_makes d e q bytes m = (d.next, along (λ x. At x q d.next bytes 0) _ e m.1 (a
 
 pub at_writes : (d e : Disk) (q bytes : List ℕ) → Writes d q bytes e → (i : ℕ) × At e q i bytes 0
 at_writes d e q bytes (inl m) = (d.next, along (λ x. At x q d.next bytes 0) _ e m (at_made d q bytes))
-at_writes d e q bytes (inr w) = (w.0, along (λ x. At x q w.0 bytes 0) _ e w.2 (at_filled d q w.0 bytes 0 w.1))
+at_writes d e q bytes (inr (inl w)) = (w.0, along (λ x. At x q w.0 bytes 0) _ e w.2 (at_filled d q w.0 bytes 0 w.1))
+at_writes d e q bytes (inr (inr m)) = (d.next, along (λ x. At x q d.next bytes 0) _ e m (at_made (without q d) q bytes))
 
 pub at_syncs : (d e : Disk) (q : List ℕ) (i : ℕ) (bytes : List ℕ) (kept : ℕ) → At d q i bytes kept → Syncs d q e → At e q i bytes (length bytes)
 at_syncs d e q i bytes kept a h =

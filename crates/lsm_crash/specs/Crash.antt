@@ -26,6 +26,22 @@ Found = List ℕ → Option (List ℕ)
 pub record IsLeft (d : Disk) (found : Found) : Type 0 where
   pub each : (name : List ℕ) → (o : Option ℕ) × May d name o × IsFileLeft d o (found name)
 
+-- what is found where each name has the file that it had at a moment of its own, and each file a
+-- beginning of a length of its own
+abbrev pub front_of : Disk → (ℕ → ℕ) → Option ℕ → Option (List ℕ)
+front_of d fronts None = None
+front_of d fronts (Some i) = Some (take (fronts i) (d.bytes i))
+
+abbrev pub mixed : Disk → (List ℕ → Names) → (ℕ → ℕ) → Found
+mixed d moments fronts name = front_of d fronts (moments name name)
+
+-- a crash may leave this of the name, or this of two names
+abbrev pub MayFind : Disk → List ℕ → Option (List ℕ) → Type 0
+MayFind d name o = (found : Found) × IsLeft d found × (found name ≡ o)
+
+abbrev pub MayFindBoth : Disk → (p q : List ℕ) → (of_p of_q : Option (List ℕ)) → Type 0
+MayFindBoth d p q of_p of_q = (found : Found) × IsLeft d found × (found p ≡ of_p) × (found q ≡ of_q)
+
 -- A crash of a worse disk: of a file its durable bytes are left, and behind them anything, up to
 -- its length.
 abbrev pub IsFileSpoilt : Disk → Option ℕ → Option (List ℕ) → Type 0

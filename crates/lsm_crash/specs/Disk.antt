@@ -50,6 +50,10 @@ filled i bytes kept d = record d { bytes = set d.bytes i bytes; kept = set d.kep
 abbrev pub with_names : Names → Disk → Disk
 with_names names d = record d { names = names; past = names ∷ d.past }
 
+-- the name has no file
+abbrev pub without : List ℕ → Disk → Disk
+without name d = with_names (named d.names name None) d
+
 -- the second name has the first one's file, and the first name none
 abbrev pub moved : Names → List ℕ → List ℕ → ℕ → Names
 moved names from to i = named (named names to (Some i)) from None
@@ -58,10 +62,12 @@ abbrev pub Makes : Disk → List ℕ → List ℕ → Disk → Type 0
 Makes d name bytes e = (d.names name ≡ None) × (e ≡ with_file name bytes d)
 
 -- A file that is emptied and written may show its old bytes after a crash: that is as if the name
--- had got another file.
+-- had got another file. Or the name is taken away first, and then a file is made: after a crash
+-- there may be none.
 abbrev pub Writes : Disk → List ℕ → List ℕ → Disk → Type 0
 Writes d name bytes e = (e ≡ with_file name bytes d)
-    ⊎ ((i : ℕ) × (d.names name ≡ Some i) × (e ≡ filled i bytes 0 d))
+    ⊎ (((i : ℕ) × (d.names name ≡ Some i) × (e ≡ filled i bytes 0 d))
+    ⊎ (e ≡ with_file name bytes (without name d)))
 
 abbrev pub Appends : Disk → List ℕ → List ℕ → Disk → Type 0
 Appends d name bytes e = (i : ℕ) × (d.names name ≡ Some i)
@@ -79,21 +85,21 @@ Renames d from to e = (i : ℕ) × (d.names from ≡ Some i)
     × (e ≡ with_names (moved d.names from to i) d)
 
 abbrev pub Removes : Disk → List ℕ → Disk → Type 0
-Removes d name e = e ≡ with_names (named d.names name None) d
+Removes d name e = e ≡ without name d
 
 -- the name has a file of these bytes now
 abbrev pub Shows : Disk → List ℕ → List ℕ → Type 0
 Shows d name bytes = (i : ℕ) × (d.names name ≡ Some i) × (d.bytes i ≡ bytes)
 
 -- What an answered call left. One that was refused, or was cut by a crash, has acted or not; a
--- write, with a beginning of its bytes. An append for which memory was refused has not. What is
+-- write, with a beginning of its bytes, or it has only taken the name away. An append for which memory was refused has not. What is
 -- loaded is what the file has now. A lock may make its file.
 abbrev pub Step : Disk → Call → Disk → Type 0
 Step d opened e = e ≡ d
 Step d (made name bytes (Ok v)) e = Makes d name bytes e
 Step d (made name bytes (Err f)) e = (e ≡ d) ⊎ ((k : ℕ) × Makes d name (take k bytes) e)
 Step d (wrote name bytes (Ok v)) e = Writes d name bytes e
-Step d (wrote name bytes (Err f)) e = (e ≡ d) ⊎ ((k : ℕ) × Writes d name (take k bytes) e)
+Step d (wrote name bytes (Err f)) e = (e ≡ d) ⊎ (Removes d name e ⊎ ((k : ℕ) × Writes d name (take k bytes) e))
 Step d (appended name bytes (Ok v)) e = Appends d name bytes e
 Step d (appended name bytes (Err f)) e = (e ≡ d) ⊎ ((f ≡ folder.OutOfMemory → ⊥) × (k : ℕ) × Appends d name (take k bytes) e)
 Step d (synced name (Ok v)) e = Syncs d name e

@@ -2,10 +2,10 @@
 //! belong together; its body is empty.
 
 ghost use Rattle.std.specs.Prelude.{◌≡◌, ◌<◌, ◌≤◌, ◌^◌, ◌⊎◌, ◌%◌, ℕ, List, [], ◌∷◌, ◌++◌, length};
-ghost use Rattle.std.specs.Prelude.{take, Bool, true, Some, None, Result, Ok, codes};
+ghost use Rattle.std.specs.Prelude.{take, Bool, true, Some, None, Result, Ok, Err, codes};
 ghost use Rattle.lsm_codec.specs.Lists.{Has};
 ghost use Rattle.lsm_folder.specs.Calls.{Answer, Call, made, wrote, appended, synced};
-ghost use Rattle.lsm_folder.specs.Calls.{folder_synced, removed, loaded, locked};
+ghost use Rattle.lsm_folder.specs.Calls.{folder_synced, renamed, removed, loaded, locked};
 ghost use Rattle.lsm_folder.specs.declared.folder_fault.FolderFault as folder_fault;
 ghost use Rattle.lsm_folder.specs.declared.lock_kind.LockKind.{LockKind};
 ghost use Rattle.lsm_storage.specs.FileNames.{table_name, manifest_name, current_text};
@@ -19,8 +19,10 @@ ghost use Rattle.lsm_manifest.specs.Edit.{IsEdit};
 ghost use Rattle.lsm_manifest.specs.LogWriting.{record_text};
 ghost use Rattle.lsm_manifest.specs.Shape.{IsShape};
 ghost use Rattle.lsm_manifest.specs.WholeEdit.{whole_edit};
-ghost use Rattle.lsm_crash.specs.Disk.{After, Disk, Leaves, Shows, Step, empty_disk};
-ghost use Rattle.lsm_crash.specs.Crash.{Found, IsFresh, IsLeft, IsSpoilt};
+ghost use Rattle.lsm_crash.specs.Disk.{After, Disk, Leaves, Names, Shows, Step};
+ghost use Rattle.lsm_crash.specs.Disk.{empty_disk};
+ghost use Rattle.lsm_crash.specs.Crash.{Found, IsFresh, IsLeft, IsSpoilt, MayFind};
+ghost use Rattle.lsm_crash.specs.Crash.{MayFindBoth, mixed};
 ghost use Rattle.lsm_crash.specs.Versions.{AreSmall, ComesTo, IsNamed, LeadsTo, Tables, Version};
 ghost use Rattle.lsm_crash.specs.Known.{IsHeld, IsSettled, IsSound, IsVacant, KeepsFront, Known};
 ghost use Rattle.lsm_crash.specs.Known.{Recovers, Stands, World, current_name, known_of, nothing};
@@ -269,6 +271,53 @@ pub fn premises_are_met()
         → (d : Disk) × IsSettled d (started nothing 1 (record_text 0 own) v) }
     ensures crash { (d : Disk) → IsSound d → (found : Found) × (e : Disk) × IsLeft d found
         × IsFresh found e }
+{}
+
+/// The disk is as wide as its rule says, so that a law over it speaks of all that. After a crash
+/// each name, for itself, has the file that it had at any moment since the last sync of the folder,
+/// and each file its durable bytes with any beginning of those behind them. So a file that was made
+/// may be lost, or empty; a removal may be undone; of a rename one half may be lost, or the other;
+/// of an append any beginning may be there; a file that was written anew may have its old bytes, or
+/// be missing. A call that was refused, or was cut, may have done nothing, or all, or a beginning.
+pub fn disks_may()
+    ensures mixed { (d : Disk) (moments : List ℕ → Names) (fronts : ℕ → ℕ)
+        → ((name : List ℕ) → Has d.past (moments name)) → ((i : ℕ) → d.kept i ≤ fronts i)
+        → IsLeft d (mixed d moments fronts) }
+    ensures made { (d e : Disk) (name bytes : List ℕ) (k : ℕ) → IsSound d
+        → Step d (made name bytes (Ok tt)) e
+        → MayFind e name None × MayFind e name (Some (take k bytes)) }
+    ensures removed { (d e : Disk) (name bytes : List ℕ) → IsSound d → Shows d name bytes
+        → Step d (removed name (Ok tt)) e → MayFind e name None × MayFind e name (Some bytes) }
+    ensures renamed { (d e : Disk) (from to bytes old : List ℕ) → IsSound d → (from ≡ to → ⊥)
+        → Shows d from bytes → Shows d to old → Step d (renamed from to (Ok tt)) e
+        → MayFindBoth e from to (Some bytes) (Some old)
+        × MayFindBoth e from to (Some bytes) (Some bytes)
+        × MayFindBoth e from to None (Some old) × MayFindBoth e from to None (Some bytes) }
+    ensures appended { (d e : Disk) (name old bytes : List ℕ) (k : ℕ) → IsSound d
+        → Stands d name old → Step d (appended name bytes (Ok tt)) e
+        → MayFind e name (Some (old ++ take k bytes)) }
+    ensures wrote { (d : Disk) (name old bytes : List ℕ) (k : ℕ) → IsSound d → Shows d name old
+        → ((e : Disk) × Step d (wrote name bytes (Ok tt)) e × MayFind e name (Some old))
+        × ((e : Disk) × Step d (wrote name bytes (Ok tt)) e × MayFind e name None)
+        × ((e : Disk) × Step d (wrote name bytes (Ok tt)) e
+        × MayFind e name (Some (take k bytes))) }
+    ensures nothing { (d : Disk) (name other bytes : List ℕ) (fault : folder_fault.FolderFault)
+        → Step d (made name bytes (Err fault)) d × Step d (wrote name bytes (Err fault)) d
+        × Step d (appended name bytes (Err fault)) d × Step d (synced name (Err fault)) d
+        × Step d (folder_synced (Err fault)) d × Step d (renamed name other (Err fault)) d
+        × Step d (removed name (Err fault)) d }
+    ensures all { (d e : Disk) (name other : List ℕ) (fault : folder_fault.FolderFault)
+        → (Step d (synced name (Ok tt)) e → Step d (synced name (Err fault)) e)
+        × (Step d (folder_synced (Ok tt)) e → Step d (folder_synced (Err fault)) e)
+        × (Step d (renamed name other (Ok tt)) e → Step d (renamed name other (Err fault)) e)
+        × (Step d (removed name (Ok tt)) e → Step d (removed name (Err fault)) e) }
+    ensures begun { (d e : Disk) (name bytes : List ℕ) (k : ℕ) (fault : folder_fault.FolderFault)
+        → (Step d (made name (take k bytes) (Ok tt)) e → Step d (made name bytes (Err fault)) e)
+        × (Step d (wrote name (take k bytes) (Ok tt)) e → Step d (wrote name bytes (Err fault)) e)
+        × (Step d (removed name (Ok tt)) e → Step d (wrote name bytes (Err fault)) e)
+        × ((fault ≡ folder_fault.FolderFault.OutOfMemory → ⊥)
+        → Step d (appended name (take k bytes) (Ok tt)) e
+        → Step d (appended name bytes (Err fault)) e) }
 {}
 
 /// Other orders are not safe, so the laws say something of these: a table that is not synced may be
