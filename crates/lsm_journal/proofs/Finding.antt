@@ -50,6 +50,7 @@ then_listed ns a b c x y = record {
   starts = y.starts ∙ x.starts;
   written = y.written ∙ x.written;
   forks = y.forks ∙ x.forks;
+  made = y.made ∙ x.made;
 }
 
 -- reading a manifest counts nothing

@@ -10,4 +10,5 @@ mod Alike
 mod Recording
 mod FreeNumbers
 mod Finding
+mod Made
 pub mod CallerLemmas

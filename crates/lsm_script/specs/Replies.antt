@@ -17,8 +17,8 @@ use Rattle.lsm_slots.specs.Slots.{Epoch, HasEpoch, IsPinned, PinsMove, current_i
 use Rattle.lsm_slots.specs.Snapshots.{HasId}
 use Rattle.lsm_merge.specs.Causes.{AnswersOf, AsksFor, HasCause, Leaves, NamesTicket}
 use Rattle.lsm_merge.specs.Inputs.{IsReadable, input_numbers}
-use Rattle.lsm_merge.specs.Outputs.{going, putting_all}
-use Rattle.lsm_merge.specs.Work.{Done, IsFinished, Work}
+use Rattle.lsm_merge.specs.Outputs.{PutsEach, going, putting_all}
+use Rattle.lsm_merge.specs.Work.{Done, IsFinished, Work, puts_by}
 use Rattle.lsm_merge.specs.declared.merge_fault.MergeFault.{MergeFault}
 use Rattle.lsm_merge.specs.declared.merge_fault.MergeFault.TheVariants as merging
 use Rattle.lsm_live.specs.Booked.{HasTicket, without}
@@ -197,18 +197,18 @@ pub record IsTakenOut {T : Type 0} (x : T) (old new : List T) : Type 0 where
   pub old_is : old ≡ front ++ x ∷ back
   pub new_is : new ≡ front ++ back
 
--- The job was merged: the numbers that were put were drawn under its ticket, and no others, and just their tables were put.
+-- The job was merged: the numbers that were put were drawn under its ticket, and no others, and just its outputs were put, in order.
 pub record IsMerged (honest : Type 0) (w : Work) (done : Done) (old new : Held) (was is : Told) : Type 0 where
   pub its : done.work ≡ w
   pub finished : IsFinished honest done
   pub drawn : AreDrawn w.ticket (going done.put []) old new
-  pub told : Becomes (putting_all done.put was) is
+  pub told : Becomes (putting_all (puts_by done) was) is
 
 -- The same, with what holds of the state after the draws.
 pub record IsMergedBy (honest : Type 0) (holds : Held → List ℕ → List ℕ → List ℕ → Type 0) (w : Work) (done : Done) (new : Held) (was is : Told) : Type 0 where
   pub its : done.work ≡ w
   pub finished : IsFinished honest done
-  pub told : Becomes (putting_all done.put was) is
+  pub told : Becomes (putting_all (puts_by done) was) is
   pub refused : List ℕ
   pub asked : List ℕ
   pub asks : AsksFor w.ticket [] asked
@@ -226,7 +226,7 @@ pub record IsRefusedMerge (honest : Type 0) (w : Work) (e : MergeFault) (old new
   pub drew : List ℕ
   pub leaves : Leaves e put drew []
   pub drawn : AreDrawn w.ticket drew old new
-  pub told : Becomes (putting_all put was) is
+  pub told : PutsEach put was is
   pub cause : HasCause (input_numbers w) e was is
   pub number : IsNumberCause w.ticket new e
   pub sound : honest → IsReadable e
@@ -238,7 +238,7 @@ pub record IsRefusedBy (honest : Type 0) (holds : Held → List ℕ → List ℕ
   pub refused : List ℕ
   pub asked : List ℕ
   pub leaves : Leaves e put drew []
-  pub told : Becomes (putting_all put was) is
+  pub told : PutsEach put was is
   pub cause : HasCause (input_numbers w) e was is
   pub why : AnswersOf e [] refused
   pub ticket : NamesTicket e w.ticket

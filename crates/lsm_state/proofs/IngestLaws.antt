@@ -41,7 +41,7 @@ use Rattle.lsm_state.specs.Held.{HasInputs, Held, IsLawfulState, plain}
 use Rattle.lsm_state.specs.Options.{sizes_of}
 use Rattle.lsm_state.specs.Collecting.{SameCounts}
 use Rattle.lsm_state.specs.Changing.{ChangesVersion, HasSlot, IsChangeRefusal, Sought, plain_after}
-use Rattle.lsm_state.specs.Ingesting.{FailsToBuild, FailsToPut, IsBuildRefusal, IsEarlyRefusal, IsIngestRefusal, IsTableOf, IsWelcome, coming_in, entries_of, last_of, of_batch, of_build, with_number, with_slots}
+use Rattle.lsm_state.specs.Ingesting.{FailsToBuild, FailsToPut, IsBuildRefusal, IsEarlyRefusal, IsIngestRefusal, IsPutFault, IsTableOf, IsWelcome, coming_in, entries_of, last_of, of_batch, of_build, table_bytes_of, with_number, with_slots}
 use Rattle.lsm_state.specs.declared.state_fault.StateFault.{StateFault}
 use Rattle.lsm_state.specs.declared.state_fault.StateFault.TheVariants.{OutOfMemory, Shelf, Read, BadLevel, EmptyBatch, KeyOrder, TooLarge, LevelZeroFull, SequencesSpent, Halted, UnknownSnapshot, Conflict, UnknownTicket, NumbersSpent, Stale, SlotsHeld, VersionsSpent, PinsSpent}
 use Rattle.lsm_state.proofs.Inputs.{TablesChange, inputs_stay}
@@ -309,16 +309,16 @@ batch_refused h ws (batch.KeyOrder n) going p = (going, p)
 batch_refused h ws batch.TooLarge going p = (going, p)
 
 pub refused_put : (h m y : Held) (ws : List Write) (e : StateFault) (was is : Told) → IsWelcome h ws → Sought h.slots m.slots → m ≡ with_slots h m.slots → HasSlot m.slots
-    → y.slots ≡ m.slots → FailsToBuild m y ws e was is ⊎ FailsToPut m y e was is → IsIngestRefusal h y ws e was is
+    → y.slots ≡ m.slots → FailsToBuild m y ws e was is ⊎ FailsToPut m y ws e was is → IsIngestRefusal h y ws e was is
 refused_put h m y ws e was is welcome sought looked room slots fails =
     inr (
       welcome,
       inr (
         subst (λ (s : Slotted). Sought h.slots s) (sym slots) sought,
         subst HasSlot (sym slots) room,
-        elim (subst (λ (z : Held). FailsToBuild z y ws e was is ⊎ FailsToPut z y e was is) looked fails) [
+        elim (subst (λ (z : Held). FailsToBuild z y ws e was is ⊎ FailsToPut z y ws e was is) looked fails) [
           | inl built ↦ inl (built.0, subst (λ (v : Levels). IsBuildRefusal (sizes_of h.options) (entries_from (suc v.last) ws) e) sought.looked.version built.1, built.2)
-          | inr put ↦ inr (inl put)
+          | inr put ↦ inr (inl (put.0, subst (λ (v : Levels). IsPutFault h.next (table_bytes (sizes_of h.options) (entries_from (suc v.last) ws)) e was is) sought.looked.version put.1))
         ],
       ),
     )
@@ -344,9 +344,17 @@ slots_stay x y SlotsHeld was is p = absurd p
 slots_stay x y VersionsSpent was is p = absurd p
 slots_stay x y PinsSpent was is p = absurd p
 
-pub refused_change : (h m x y : Held) (ws : List Write) (e : StateFault) (was mid is : Told) → IsWelcome h ws → Sought h.slots m.slots → m ≡ with_slots h m.slots → HasSlot m.slots
-    → x ≡ record m { next = suc m.next } → Becomes (putting m.next was) mid → SameCounts was mid → IsChangeRefusal x y e mid is → Becomes mid is → IsIngestRefusal h y ws e was is
-refused_change h m x y ws e was mid is welcome sought looked room put told counts fails unsent =
+-- slots were looked at before the put
+put_as : (h m : Held) (ws : List Write) (t : Table) (was mid : Told) → m ≡ with_slots h m.slots → m.slots.version ≡ h.slots.version → t.image ≡ table_bytes_of m ws
+    → Becomes (putting m.next t.image was) mid → Becomes (putting h.next (table_bytes_of h ws) was) mid
+put_as h m ws t was mid looked version bytes told =
+    subst (λ (v : Levels). Becomes (putting h.next (table_bytes (sizes_of h.options) (entries_from (suc v.last) ws)) was) mid) version
+    (subst (λ (z : Held). Becomes (putting z.next (table_bytes (sizes_of z.options) (entries_of m ws)) was) mid) looked
+    (subst (λ (image : List ℕ). Becomes (putting m.next image was) mid) bytes told))
+
+pub refused_change : (h m x y : Held) (ws : List Write) (t : Table) (e : StateFault) (was mid is : Told) → IsWelcome h ws → Sought h.slots m.slots → m ≡ with_slots h m.slots → HasSlot m.slots
+    → x ≡ record m { next = suc m.next } → t.image ≡ table_bytes_of m ws → Becomes (putting m.next t.image was) mid → SameCounts was mid → IsChangeRefusal x y e mid is → Becomes mid is → IsIngestRefusal h y ws e was is
+refused_change h m x y ws t e was mid is welcome sought looked room put bytes told counts fails unsent =
     let slots : y.slots ≡ m.slots = slots_stay x y e mid is fails ∙ ap (λ (z : Held). z.slots) put in
     let spent : x ≡ with_number h y.slots = put ∙ (ap (λ (z : Held). record z { next = suc z.next }) looked ∙ ap (λ (s : Slotted). with_number h s) (sym slots)) in
     inr (
@@ -354,7 +362,7 @@ refused_change h m x y ws e was mid is welcome sought looked room put told count
       inr (
         subst (λ (s : Slotted). Sought h.slots s) (sym slots) sought,
         subst HasSlot (sym slots) room,
-        inr (inr (mid, subst (λ (n : ℕ). Becomes (putting n was) mid) (ap (λ (z : Held). z.next) looked) told, counts, subst (λ (z : Held). IsChangeRefusal z y e mid is) spent fails, unsent)),
+        inr (inr (mid, put_as h m ws t was mid looked sought.looked.version bytes told, counts, subst (λ (z : Held). IsChangeRefusal z y e mid is) spent fails, unsent)),
       ),
     )
 
@@ -368,7 +376,7 @@ number_spends h y s sought is =
     (suc h.next, omega arith, ap plain is ∙ ap (λ (v : Levels). let t : Plain = record (plain h) { files = files v; last = v.last; next = suc h.next } in t) sought.looked.version)
 
 pub put_spends : (h m y : Held) (ws : List Write) (e : StateFault) (was is : Told) → Sought h.slots m.slots → m ≡ with_slots h m.slots → y.slots ≡ m.slots
-    → FailsToBuild m y ws e was is ⊎ FailsToPut m y e was is → Spends (plain h) (plain y)
+    → FailsToBuild m y ws e was is ⊎ FailsToPut m y ws e was is → Spends (plain h) (plain y)
 put_spends h m y ws e was is sought looked slots fails =
     let found : Sought h.slots y.slots = subst (λ (s : Slotted). Sought h.slots s) (sym slots) sought in
     elim fails [

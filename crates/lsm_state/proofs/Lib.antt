@@ -10,3 +10,4 @@ mod IngestLaws
 mod Inputs
 mod LargestKeys
 mod InstallLaws
+pub mod CallerLemmas

@@ -2,11 +2,14 @@
 use Rattle.std.proofs.Common.{◌≡◌, ℕ, ◌+◌, ◌<◌, List, [], ◌∷◌, ◌++◌, length, get_or, take, drop, refl, sym, ◌∙◌, ap, subst, inl, inr, arith}
 use Rattle.std.specs.Prelude.{◌⊎◌, Result, Ok, Err, OnErr}
 use Rattle.std.proofs.lemmas.List.{drop_more, take_more, take-append-drop}
+use Rattle.lsm_codec.specs.Lists.{Has}
+use Rattle.lsm_codec.proofs.CallerLemmas.{has_right}
+use Rattle.lsm_shelf.specs.Asked.{Asked, Remove}
 use Rattle.lsm_shelf.specs.Told.{Told, Becomes, removed_by, removing}
 use Rattle.lsm_shelf.specs.declared.shelf_fault.ShelfFault.{ShelfFault}
 use Rattle.lsm_shelf.specs.declared.shelf_fault.ShelfFault.TheVariants.{OutOfMemory, Device, Missing, Taken}
 use Rattle.lsm_merge.specs.Outputs.{going}
-use Rattle.lsm_state.specs.Collecting.{IsStopped, removing_all}
+use Rattle.lsm_state.specs.Collecting.{IsStopped, removals_of, removing_all}
 
 -- what was told before numbers were removed
 pub becomes_removing : (ns : List ℕ) (a b c : Told) → Becomes a b → Becomes (removing_all ns b) c → Becomes (removing_all ns a) c
@@ -23,11 +26,16 @@ becomes_removing ns a b c x y = record {
   starts = y.starts ∙ x.starts;
   written = y.written ∙ x.written;
   forks = y.forks ∙ x.forks;
+  made = y.made ∙ ap (going (removals_of ns)) x.made;
 }
 
 going-push : (ns : List ℕ) (n : ℕ) (gone : List ℕ) → going (ns ++ n ∷ []) gone ≡ n ∷ going ns gone
 going-push [] n gone = refl
 going-push (m ∷ ns) n gone = going-push ns n (m ∷ gone)
+
+pub removals-push : (ns : List ℕ) (n : ℕ) (made : List Asked) → going (removals_of (ns ++ n ∷ [])) made ≡ Remove n ∷ going (removals_of ns) made
+removals-push [] n made = refl
+removals-push (m ∷ ns) n made = removals-push ns n (Remove m ∷ made)
 
 -- one more was removed
 pub removed_more : (ns : List ℕ) (n : ℕ) (a b c : Told) → Becomes (removing_all ns a) b → Becomes (removing n b) c → Becomes (removing_all (ns ++ n ∷ []) a) c
@@ -44,6 +52,7 @@ removed_more ns n a b c x y = record {
   starts = y.starts ∙ x.starts;
   written = y.written ∙ x.written;
   forks = y.forks ∙ x.forks;
+  made = y.made ∙ (ap (λ m. Remove n ∷ m) x.made ∙ sym (removals-push ns n a.made));
 }
 
 then_same : (ns : List ℕ) (a b c : Told) → Becomes (removing_all ns a) b → Becomes b c → Becomes (removing_all ns a) c
@@ -60,6 +69,7 @@ then_same ns a b c x y = record {
   starts = y.starts ∙ x.starts;
   written = y.written ∙ x.written;
   forks = y.forks ∙ x.forks;
+  made = y.made ∙ x.made;
 }
 
 -- How the removal of the first numbers stands.
@@ -72,6 +82,10 @@ gone_more ns removed was now is i lt g y = record {
   noted = ap (λ l. l ++ get_or ns i 0 ∷ []) g.noted ∙ sym (take_more ns i 0 lt);
   asked = subst (λ l. Becomes (removing_all l was) is) (sym (take_more ns i 0 lt)) (removed_more (take i ns) (get_or ns i 0) was now is g.asked y);
 }
+
+-- the next number is one of those that were to go
+pub stopped_next : (ns removed back : List ℕ) (n : ℕ) (rest : List ℕ) → ns ≡ removed ++ back → back ≡ n ∷ rest → Has ns n
+stopped_next ns removed back n rest parts next = subst (λ l. Has l n) (sym (parts ∙ ap (λ l. removed ++ l) next)) (has_right removed (n ∷ rest) n (inl refl))
 
 -- the removal of the next number stopped
 pub stopped_at : (ns removed : List ℕ) (was now is : Told) (i : ℕ) → i < length ns → AreGone ns removed was now i → Becomes now is ⊎ Becomes (removing (get_or ns i 0) now) is → IsStopped ns removed was is

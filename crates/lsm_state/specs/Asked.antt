@@ -4,16 +4,14 @@ use Rattle.lsm_shelf.specs.Asked.{Asked, ListTables, Put, Remove}
 use Rattle.lsm_shelf.specs.Refusals.{IsWantOr}
 use Rattle.lsm_shelf.specs.declared.shelf_fault.ShelfFault.{ShelfFault}
 use Rattle.lsm_table.specs.Registry.{Table}
-use Rattle.lsm_table.specs.TableBuilding.{table_bytes}
 use Rattle.lsm_batch.specs.declared.write.Write.{Write}
 use Rattle.lsm_journal.specs.Difference.{Difference, changed_by}
 use Rattle.lsm_journal.specs.Sending.{asked_by}
 use Rattle.lsm_merge.specs.Work.{Done}
 use Rattle.lsm_state.specs.Collecting.{IsKeptNumber}
 use Rattle.lsm_state.specs.Held.{Held}
-use Rattle.lsm_state.specs.Ingesting.{IsTableOf, coming_in, entries_of, last_of}
+use Rattle.lsm_state.specs.Ingesting.{IsTableOf, coming_in, entries_of, last_of, table_bytes_of}
 use Rattle.lsm_state.specs.Installing.{IsInstallChange}
-use Rattle.lsm_state.specs.Options.{sizes_of}
 use Rattle.lsm_state.specs.declared.state_fault.StateFault.{StateFault}
 use Rattle.lsm_state.specs.declared.state_fault.StateFault.TheVariants.{Shelf}
 
@@ -31,12 +29,12 @@ ChangeRefused Refused h d fault = Refused (changes_by h d) fault
 
 -- the put of the table that a batch makes, under the next number
 abbrev pub PutRefused : (Asked → ShelfFault → Type 0) → Held → List Write → ShelfFault → Type 0
-PutRefused Refused h ws fault = Refused (Put h.next (table_bytes (sizes_of h.options) (entries_of h ws))) fault
+PutRefused Refused h ws fault = Refused (Put h.next (table_bytes_of h ws)) fault
 
 -- that put, or the write of the manifest by which its table comes in
 abbrev pub IngestRefused : (Asked → ShelfFault → Type 0) → Held → List Write → ShelfFault → Type 0
 IngestRefused Refused h ws fault = PutRefused Refused h ws fault
-    ⊎ ((t : Table) × IsTableOf (entries_of h ws) h.next t × (t.image ≡ table_bytes (sizes_of h.options) (entries_of h ws))
+    ⊎ ((t : Table) × IsTableOf (entries_of h ws) h.next t × (t.image ≡ table_bytes_of h ws)
     × ChangeRefused Refused (record h { next = suc h.next }) (coming_in t (last_of h ws)) fault)
 
 -- the write of the manifest by which a result is installed

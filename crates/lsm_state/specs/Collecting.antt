@@ -1,9 +1,10 @@
 -- What is kept of the tables on the shelf, and what a collect removes (this project's rule).
-use Rattle.std.specs.Prelude.{◌≡◌, ℕ, ◌+◌, ◌⊎◌, ◌↔◌, Bool, true, false, List, [], ◌∷◌, ◌++◌, not, ◌==◌, Err}
+use Rattle.std.specs.Prelude.{◌≡◌, ℕ, ◌+◌, ◌⊎◌, ◌↔◌, Bool, true, false, List, [], ◌∷◌, ◌++◌, map, not, ◌==◌, Err}
 use Rattle.std.specs.List.{filter, list_any}
 use Rattle.lsm_codec.specs.Lists.{Has}
 use Rattle.lsm_levels.specs.Files.{File}
 use Rattle.lsm_version.specs.Versions.{files}
+use Rattle.lsm_shelf.specs.Asked.{Asked, Remove}
 use Rattle.lsm_shelf.specs.Told.{Told, Becomes, Counted, CountedBy, NotTaken, listing}
 use Rattle.lsm_shelf.specs.declared.shelf_fault.ShelfFault.{ShelfFault}
 use Rattle.lsm_shelf.specs.declared.shelf_fault.ShelfFault.TheVariants as shelf
@@ -28,9 +29,13 @@ is_in ns n = list_any (λ m. m == n) ns
 abbrev pub outside : List ℕ → List ℕ → List ℕ
 outside kept ns = filter (λ n. not (is_in kept n)) ns
 
+-- removals of these numbers, in order
+abbrev pub removals_of : List ℕ → List Asked
+removals_of ns = map (λ n. Remove n) ns
+
 -- these numbers were removed one after another
 abbrev pub removing_all : List ℕ → Told → Told
-removing_all ns t = record t { gone = going ns t.gone }
+removing_all ns t = record t { gone = going ns t.gone; made = going (removals_of ns) t.made }
 
 -- just the listed numbers that are not kept were removed
 pub record AreCollected (h : Held) (removed : List ℕ) (was is : Told) : Type 0 where
@@ -51,9 +56,9 @@ abbrev pub StoppedEarly : Held → List ℕ → Told → Told → Type 0
 StoppedEarly h removed was is = ((removed ≡ []) × Becomes was is)
     ⊎ ((listed : List ℕ) × (kept : List ℕ) × ((n : ℕ) → Has kept n ↔ IsKeptNumber h n) × IsStopped (outside kept listed) removed (listing listed was) is)
 
--- no table went but those of the list
+-- no table went but those of the list, and nothing else was changed
 abbrev pub TellsAll : List ℕ → Told → Told → Type 0
-TellsAll removed was is = is.gone ≡ going removed was.gone
+TellsAll removed was is = (is.gone ≡ going removed was.gone) × (is.made ≡ going (removals_of removed) was.made)
 
 -- the shelf was refused memory
 abbrev pub IsRefusedMemory : ShelfFault → Type 0

@@ -46,6 +46,10 @@ pub record IsTableOf (es : List Entry) (number : ℕ) (t : Table) : Type 0 where
   pub entries : entries_in t.image ≡ es
   pub number_is : t.number ≡ number
 
+-- the bytes of the batch's table, written with the options' sizes
+abbrev pub table_bytes_of : Held → List Write → List ℕ
+table_bytes_of h ws = table_bytes (sizes_of h.options) (entries_of h ws)
+
 -- ---- what is left
 
 -- the state with these slots, of which some may have turned free
@@ -56,7 +60,7 @@ with_slots h s = record h { slots = s }
 abbrev pub with_number : Held → Slotted → Held
 with_number h s = record h { slots = s; next = suc h.next }
 
--- The batch came in: slots were looked at, where none was free; its table was put under the next number; and the version has it at level 0
+-- The batch came in: slots were looked at, where none was free; its table, with its image, was put under the next number; and the version has it at level 0
 -- from then on, with a greater last sequence. Just its entries came into the history.
 pub record Ingests (old new : Held) (ws : List Write) (r : Ingested) (was is : Told) : Type 0 where
   pub file : r.file ≡ old.next
@@ -67,10 +71,10 @@ pub record Ingests (old new : Held) (ws : List Write) (r : Ingested) (was is : T
   pub table : Table
   pub is_table : IsTableOf (entries_of old ws) old.next table
   pub mid : Told
-  pub put : Becomes (putting old.next was) mid
+  pub put : Becomes (putting old.next table.image was) mid
   pub changes : ChangesVersion (with_number old slots) new (coming_in table (last_of old ws)) None (entries_of old ws) mid is
   -- the table is written with the options' sizes
-  pub bytes : table.image ≡ table_bytes (sizes_of old.options) (entries_of old ws)
+  pub bytes : table.image ≡ table_bytes_of old ws
 
 -- ---- refusals before anything is tried
 
@@ -127,17 +131,18 @@ IsBuildRefusal sizes es e = ⊥
 abbrev pub FailsToBuild : Held → Held → List Write → StateFault → Told → Told → Type 0
 FailsToBuild old new ws e was is = (new ≡ with_slots old new.slots) × IsBuildRefusal (sizes_of old.options) (entries_of old ws) e × (is ≡ was)
 
--- the table was not put, or its record found no memory
-abbrev pub IsPutFault : ℕ → StateFault → Told → Told → Type 0
-IsPutFault number (Shelf fault) was is = IsPutRefusal number fault was is
-IsPutFault number e was is = ⊥
+-- the table of this image was not put, or its record found no memory
+abbrev pub IsPutFault : ℕ → List ℕ → StateFault → Told → Told → Type 0
+IsPutFault number image (Shelf fault) was is = IsPutRefusal number image fault was is
+IsPutFault number image e was is = ⊥
 
-abbrev pub FailsToPut : Held → Held → StateFault → Told → Told → Type 0
-FailsToPut old new e was is = (new ≡ with_number old new.slots) × IsPutFault old.next e was is
+abbrev pub FailsToPut : Held → Held → List Write → StateFault → Told → Told → Type 0
+FailsToPut old new ws e was is = (new ≡ with_number old new.slots) × IsPutFault old.next (table_bytes_of old ws) e was is
 
--- the table was put, and then the change was refused
-abbrev pub FailsToChange : Held → Held → StateFault → Told → Told → Type 0
-FailsToChange old new e was is = (mid : Told) × Becomes (putting old.next was) mid × SameCounts was mid × IsChangeRefusal (with_number old new.slots) new e mid is × Becomes mid is
+-- the batch's table was put, and then the change was refused
+abbrev pub FailsToChange : Held → Held → List Write → StateFault → Told → Told → Type 0
+FailsToChange old new ws e was is = (mid : Told) × Becomes (putting old.next (table_bytes_of old ws) was) mid × SameCounts was mid × IsChangeRefusal (with_number old new.slots) new e mid is
+    × Becomes mid is
 
 -- Why an ingest is refused, and what it leaves. What can be tested first comes first, and leaves all as it was; then a slot is looked for; then,
 -- where one is free and an id is left, the table is built. From its put on the number is spent.
@@ -145,7 +150,7 @@ abbrev pub IsIngestRefusal : Held → Held → List Write → StateFault → Tol
 IsIngestRefusal old new ws e was is =
     (IsEarlyRefusal old ws e × (new ≡ old) × (is ≡ was))
     ⊎ (IsWelcome old ws × (LacksSlot old new e was is ⊎ (Sought old.slots new.slots × HasSlot new.slots
-    × (FailsToBuild old new ws e was is ⊎ (FailsToPut old new e was is ⊎ FailsToChange old new e was is)))))
+    × (FailsToBuild old new ws e was is ⊎ (FailsToPut old new ws e was is ⊎ FailsToChange old new ws e was is)))))
 
 -- ---- names of refusals
 

@@ -6,7 +6,6 @@ ghost use Rattle.lsm_codec.specs.Entries.{Entry};
 ghost use Rattle.lsm_codec.specs.Lists.{Has};
 ghost use Rattle.lsm_levels.specs.Files.{all_entries};
 ghost use Rattle.lsm_shelf.specs.Told.{Becomes, putting};
-ghost use Rattle.lsm_table.specs.TableBuilding.{table_bytes};
 ghost use Rattle.lsm_version.specs.Versions.{IsWhole, files};
 ghost use Rattle.lsm_levels.specs.Plain as machine;
 ghost use Rattle.lsm_state.specs.Asked.{IngestRefused, OnShelf, PutRefused};
@@ -14,8 +13,7 @@ ghost use Rattle.lsm_state.specs.Collecting.{SameCounts};
 ghost use Rattle.lsm_state.specs.Held.{IsLawfulState, plain};
 ghost use Rattle.lsm_state.specs.Ingesting.{FailsToBuild, FailsToPut, Ingests, IsEarlyRefusal};
 ghost use Rattle.lsm_state.specs.Ingesting.{IsIngestRefusal, IsTableOf, IsWelcome, coming_in};
-ghost use Rattle.lsm_state.specs.Ingesting.{entries_of, numbers_needed};
-ghost use Rattle.lsm_state.specs.Options.{sizes_of};
+ghost use Rattle.lsm_state.specs.Ingesting.{entries_of, numbers_needed, table_bytes_of};
 
 use crate::coming::entries_of_batch;
 use crate::state::State;
@@ -129,13 +127,14 @@ impl<N: Boarded, S: Shelf> State<N, S> {
         requires welcome { IsWelcome self.old batch.now }
         ensures table { IfOk result (IsTableOf (entries_of self.old batch.now) self.old.next) }
         ensures bytes { IfOk result (λ t.
-            t.image ≡ table_bytes (sizes_of self.old.options) (entries_of self.old batch.now)) }
+            t.image ≡ table_bytes_of self.old batch.now) }
         ensures ok { OnOk result (self.new ≡ record self.old { next = suc self.old.next }) }
-        ensures told { OnOk result (Becomes (putting self.old.next shelf.old) shelf.new) }
+        ensures told { IfOk result (λ t.
+            Becomes (putting self.old.next t.image shelf.old) shelf.new) }
         ensures counts { OnOk result (SameCounts shelf.old shelf.new) }
         ensures refused { IfErr result (λ e.
             FailsToBuild self.old self.new batch.now e shelf.old shelf.new
-            ⊎ FailsToPut self.old self.new e shelf.old shelf.new) }
+            ⊎ FailsToPut self.old self.new batch.now e shelf.old shelf.new) }
         ensures asked { IfErr result (OnShelf (PutRefused (S.refuses N.place) self.old batch.now)) }
         ensures slots { OnErr result (self.new.slots ≡ self.old.slots) }
         ensures history { self.new.history ≡ self.old.history }

@@ -53,8 +53,8 @@ returns-in_err-change-clause-refused g c =
     let was : Told = c.args.shelf.now in
     let mid : Told = c.put_batch.new.shelf in
     err_is (λ (e : StateFault). IsIngestRefusal h x ws e was mid) c.from_residual-in_err-change.result OutOfMemory c.from_residual-in_err-change.ensures.1
-    (refused_change h c.find_slot.new.self x x ws OutOfMemory was mid mid c.in_ok-may_ingest.ensures.ok c.find_slot.ensures.sought c.find_slot.ensures.rest
-    (c.in_ok-slot.slot, c.in_ok-slot.ensures.ok.0, c.in_ok-slot.ensures.ok.1) c.in_ok-table.ensures.ok c.in_ok-table.ensures.told c.in_ok-table.ensures.counts (refl, refl) (becomes_same mid))
+    (refused_change h c.find_slot.new.self x x ws c.in_ok-table.table OutOfMemory was mid mid c.in_ok-may_ingest.ensures.ok c.find_slot.ensures.sought c.find_slot.ensures.rest
+    (c.in_ok-slot.slot, c.in_ok-slot.ensures.ok.0, c.in_ok-slot.ensures.ok.1) c.in_ok-table.ensures.ok c.in_ok-table.ensures.bytes c.in_ok-table.ensures.told c.in_ok-table.ensures.counts (refl, refl) (becomes_same mid))
 
 pub change_version-requires-clause-suits : goal.change_version-requires-clause-suits
 change_version-requires-clause-suits g c κs within =
@@ -117,8 +117,8 @@ returns-in_err-change_version-clause-refused g c =
     let mid : Told = c.put_batch.new.shelf in
     let is : Told = c.change_version.new.shelf in
     err_is (λ e. IsIngestRefusal h y ws e was is) c.from_residual-in_err-change_version.result c.in_err-change_version.field-0.0 c.from_residual-in_err-change_version.ensures.1
-    (refused_change h c.find_slot.new.self c.put_batch.new.self y ws c.in_err-change_version.field-0.0 was mid is c.in_ok-may_ingest.ensures.ok c.find_slot.ensures.sought
-    c.find_slot.ensures.rest (c.in_ok-slot.slot, c.in_ok-slot.ensures.ok.0, c.in_ok-slot.ensures.ok.1) c.in_ok-table.ensures.ok c.in_ok-table.ensures.told c.in_ok-table.ensures.counts c.in_err-change_version.ensures.refused c.in_err-change_version.ensures.unsent)
+    (refused_change h c.find_slot.new.self c.put_batch.new.self y ws c.in_ok-table.table c.in_err-change_version.field-0.0 was mid is c.in_ok-may_ingest.ensures.ok c.find_slot.ensures.sought
+    c.find_slot.ensures.rest (c.in_ok-slot.slot, c.in_ok-slot.ensures.ok.0, c.in_ok-slot.ensures.ok.1) c.in_ok-table.ensures.ok c.in_ok-table.ensures.bytes c.in_ok-table.ensures.told c.in_ok-table.ensures.counts c.in_err-change_version.ensures.refused c.in_err-change_version.ensures.unsent)
 
 pub returns-clause-ok : goal.returns-clause-ok
 returns-clause-ok g c =
@@ -146,7 +146,7 @@ returns-clause-ok g c =
       table = t;
       is_table = table_of h m ws t c.find_slot.ensures.rest c.find_slot.ensures.sought c.in_ok-table.ensures.table;
       mid = mid;
-      put = subst (λ (n : ℕ). Becomes (putting n was) mid) next c.in_ok-table.ensures.told;
+      put = subst (λ (n : ℕ). Becomes (putting n t.image was) mid) next c.in_ok-table.ensures.told;
       changes = subst (λ (z : Held). ChangesVersion z y (coming_in t (last_of h ws)) None (entries_of h ws) mid is) same
           (subst (λ (d : Difference). ChangesVersion x y d None (entries_of h ws) mid is) change
           (subst (λ (es : List Entry). ChangesVersion x y c.in_ok-change.change None es mid is) came c.in_ok-change_version.ensures.ok));
