@@ -1,4 +1,5 @@
--- Histories: all that ever came in, the latest first (this project's rule).
+-- Histories: all that ever came in, the latest batch first, and within a batch in its own order
+-- (this project's rule).
 use Rattle.std.specs.Prelude.{◌≡◌, List, ◌++◌}
 use Rattle.lsm_codec.specs.Entries.{Entry}
 

@@ -27,7 +27,7 @@ asking v w = record v { asked = w.seen }
 abbrev pub Fits : ℕ → List Entry → ℕ → View → Type 0
 Fits seat all by v = (v.keeps ≡ true → (by ≡ seat) × (v.seen.entries ≡ all)) × IsLater all v.seen.entries × IsLater all v.asked.entries
 
--- one seat at most knows all, and what each other one remembers was all once
+-- one seat at most knows all, and what each other one remembers stands at the end of it
 abbrev pub IsKept : State History View → Type 0
 IsKept s = (seat : ℕ) × (all : List Entry) × ((by : ℕ) (v : View) → get_elem? s.views by ≡ some v → Fits seat all by v)
 
@@ -39,6 +39,6 @@ Told (some h) es after = after.0 ≡ knowing (h.entries ++ es)
 abbrev pub Grown : Step History → Me History View → ℕ → Me History View → Type 0
 Grown s before found after = Told s.said before.0.seen.entries after × (after.1 ≡ before.1)
 
--- what was to be compared was all once
+-- what was to be compared stands at the end of all
 abbrev pub Compared : Step History → Me History View → ℕ → Me History View → Type 0
 Compared s before found after = (after.0 ≡ knowing before.0.seen.entries) × (after.1 ≡ before.1) × IsLater before.0.seen.entries before.0.asked.entries

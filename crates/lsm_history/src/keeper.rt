@@ -13,7 +13,7 @@ use atomic_table::Seat;
 use std::marker::{Model, PhantomData};
 
 /// The end of a history that knows all of it. Contracts see it as that: all entries that came in,
-/// the latest first.
+/// the latest batch first.
 #[derive(Drop)]
 pub struct Keeper<N: Historied> {
     pub(crate) table: Words,
