@@ -1,5 +1,5 @@
 -- Outputs that are put one after another.
-use Rattle.std.proofs.Common.{◌≡◌, ℕ, Bool, true, false, cond, List, [], ◌∷◌, ◌++◌, Option, Some, None, map, refl, sym, ◌∙◌, ap, subst, append-nil, inl, inr}
+use Rattle.std.proofs.Common.{◌≡◌, ℕ, Bool, false, cond, List, [], ◌∷◌, ◌++◌, Option, Some, None, map, refl, sym, ◌∙◌, ap, subst, append-nil, inl, inr}
 use Rattle.std.specs.Prelude.{Result, Ok, Err, OnOk}
 use Rattle.lsm_codec.specs.Lists.{Has}
 use Rattle.lsm_codec.specs.Keys.{IsKey}
@@ -16,7 +16,7 @@ use Rattle.lsm_merge.specs.Causes.{DrewMore}
 use Rattle.lsm_merge.specs.Cuts.{is_empty}
 use Rattle.lsm_merge.specs.Dropping.{closed}
 use Rattle.lsm_merge.specs.Outputs.{AreGood, Goes, IsPut, PutsEach, PutsMore, PutsTables, Unfinished, drawn_of, entries_of_last, going, making_of, putting_all}
-use Rattle.lsm_merge.specs.Work.{Done, IsBuilt, Work, contents_of, puts_by, puts_of}
+use Rattle.lsm_merge.specs.Work.{IsBuilt, contents_of, puts_of}
 
 pub going_snoc : (ns : List ℕ) (n : ℕ) (there : List ℕ) → going (ns ++ n ∷ []) there ≡ n ∷ going ns there
 going_snoc [] n there = refl
@@ -55,17 +55,6 @@ tables_once ts ts' x n image t u grown number is b = record {
   grown = grown;
   told = subst (λ (m : ℕ). Becomes (putting m x.image t) u) (sym number) (subst (λ (i : List ℕ). Becomes (putting n i t) u) (sym is) b);
 }
-
--- what was put of a merge that is finished: its tables
-pub merge_told : (w : Work) (ts ts' : List Table) (ns : List ℕ) (t u : Told) → w.is_move ≡ false → ts' ≡ ts → Becomes (putting_all (puts_of ts) t) u
-    → Becomes (putting_all (puts_by (record { work = w; outputs = ts'; put = ns })) t) u
-merge_told w ts ts' ns t u move same b =
-    subst (λ (m : Bool). Becomes (putting_all (cond {A = List (ℕ × List ℕ)} m [] (puts_of ts')) t) u) (sym move)
-    (subst (λ (l : List Table). Becomes (putting_all (puts_of l) t) u) (sym same) b)
-
--- and of a move: nothing
-pub move_told : (d : Done) (t u : Told) → (d.work).is_move ≡ true → Becomes t u → Becomes (putting_all (puts_by d) t) u
-move_told d t u move b = subst (λ (m : Bool). Becomes (putting_all (cond {A = List (ℕ × List ℕ)} m [] (puts_of d.outputs)) t) u) (sym move) b
 
 -- ---- what was put
 
