@@ -5,7 +5,8 @@ manifest and behind each rename, before it synced them, while the system goes on
   cleaned.py LSM FOLDER CRASHES SEED
 
 LSM is the program, FOLDER an empty folder, CRASHES how many power cuts are drawn behind each `clean`. After each, `lsm check` is done and
-`lsm scan` gives what all batches come to. Ends with status 1 at the first loss.
+`lsm scan` gives what all batches come to. Ends with status 1 at the first loss, and where no kill was within an install or none within a
+roll-over.
 """
 import os
 import random
@@ -63,7 +64,7 @@ class Cleaner:
         for at, (kind, number) in enumerate(run.steps):
             call = run.calls[number]
             if kind == "end" and (call.kind == "rename" or (call.kind == "write" and call.words[0].startswith("MANIFEST"))):
-                yield at + 1, f"{call.kind} {call.words[0]}"
+                yield at + 1, f"{call.kind} {call.words[0]}", run.cuts[at + 1]
 
     def cleaned(self, killed):
         """The disk after `clean`, which goes on where a program was killed."""
@@ -84,21 +85,21 @@ class Cleaner:
         want, start = self.done("scan", self.db), self.whole()
         trace = f"{self.folder}/compact"
         self.done("compact", self.db, "--workers", "1", trace=trace)
-        cuts = kills = 0
-        for at, what in list(self.kills(disk.Run(trace, self.db, start, "none"))):
+        cuts, kills = 0, []
+        for at, what, within in list(self.kills(disk.Run(trace, self.db, start, "none"))):
             run = disk.Run(trace, self.db, start, "none")
             run.go(at)
             left = self.cleaned(run.disk)
-            kills += 1
+            kills.append(within)
             for _ in range(self.crashes):
-                self.put(left.found(self.rng), self.left)
+                self.put(left.found(self.rng)[0], self.left)
                 cuts += 1
                 status, _, error = self.run("check", self.left)
                 if status or self.done("scan", self.left) != want:
                     sys.exit(f"killed behind {what}, cleaned, power cut {cuts}: a loss: {error}the folder is {self.left}")
-        if kills < 3:
-            sys.exit(f"only {kills} places to be killed at")
-        print(f"{cuts} power cuts behind clean, of {kills} kills of a compaction: nothing was lost")
+        if not cuts or not {"install", "roll-over"} <= set(kills):
+            sys.exit(f"{cuts} power cuts of {len(kills)} kills: none within an install, or none within a roll-over, so the check says nothing")
+        print(f"{cuts} power cuts behind clean, of {len(kills)} kills of a compaction: nothing was lost")
 
 
 if __name__ == "__main__":

@@ -183,20 +183,23 @@ class Disk:
                 self.dropped[name] = self.dropped.get(name, 0) + older
 
     def found(self, rng, garbage=False):
-        """What a power cut leaves, drawn: the bytes of each name. With garbage there may be any bytes behind the durable ones."""
+        """What a power cut leaves, drawn: the bytes of each name; and of each that has other bytes than were written the place of the first.
+        With garbage there may be such behind the durable ones."""
         names, data = rng.choice(["first", "last", "any", "any"]), rng.choice(["first", "last", "any", "any"])
 
         def pick(how, low, high):
             return low if how == "first" else high if how == "last" else rng.randint(low, high)
 
-        found = {}
+        found, other = {}, {}
         for name, files in self.past.items():
             file = files[pick(names, 0, len(files) - 1)]
             if file is not None:
                 whole, kept = self.files[file]
                 left = whole[: pick(data, kept, len(whole))]
                 found[name] = whole[:kept] + spoilt(rng, left[kept:]) if garbage else left
-        return found
+                if found[name] != left:
+                    other[name] = next(at for at in range(kept, len(left)) if found[name][at] != left[at])
+        return found, other
 
 
 def spoilt(rng, data):
@@ -204,6 +207,35 @@ def spoilt(rng, data):
     kind, at = rng.randrange(5), rng.randint(0, len(data))
     other = bytes(len(data)) if rng.random() < 0.5 else rng.randbytes(len(data))
     return [data, other, other, data[:at] + other[at:], other[:at] + data[at:]][kind]
+
+
+def named(found):
+    """The manifest that CURRENT names, or None."""
+    return found["CURRENT"].decode(errors="replace").rstrip("\n") if "CURRENT" in found else None
+
+
+def cuts(steps, calls, manifest):
+    """What a power cut behind so many steps cuts: `install` from where a record begins to be appended to the manifest that CURRENT names to
+    the end of its sync; `roll-over` from where another manifest begins to be made to the end of the sync of the folder behind the rename to
+    CURRENT; `None` elsewhere, and where CURRENT named none before."""
+    under, ends, coming, cut = None, set(), None, [None]
+    for kind, number in steps:
+        call = calls[number]
+        if kind == "begin":
+            if under is None and call.kind == "write" and call.words[0] == manifest:
+                under = "install"
+            elif under is None and call.kind == "make" and call.words[0].startswith("MANIFEST-"):
+                under, coming = "roll-over" if manifest else "beginning", call.words[0]
+            elif under == "install" and call.kind == "sync" and call.words[0] == manifest:
+                ends = {number}
+            elif under is not None and call.kind == "sync_folder" and manifest == coming:
+                ends.add(number)
+        elif call.kind == "rename" and call.words[1] == "CURRENT":
+            manifest = coming
+        elif number in ends:
+            under, ends, coming = None, set(), None
+        cut.append(under if under != "beginning" else None)
+    return cut
 
 
 class Run:
@@ -214,6 +246,7 @@ class Run:
         # a cut between steps that do nothing to the folder is like the one before
         self.steps = [(kind, number) for kind, number in self.steps if self.calls[number] is not None]
         self.disk, self.begun, self.at, self.replied = Disk(found, forget), {}, 0, False
+        self.cuts = cuts(self.steps, self.calls, named(found))
 
     def go(self, at):
         """Makes the steps up to this place."""
@@ -227,7 +260,7 @@ class Run:
         self.at = max(self.at, at)
 
     def cut(self, rng, garbage=False):
-        """What a power cut here leaves: each call that is under way has acted or not, or in part."""
+        """What a power cut here leaves, as `Disk.found`: each call that is under way has acted or not, or in part."""
         disk = self.disk.copy()
         for number, begun in self.begun.items():
             call = self.calls[number]
