@@ -19,7 +19,7 @@ use Rattle.lsm_text.specs.declared.ingest_options.IngestOptions.{IngestOptions}
 use Rattle.lsm_text.specs.declared.request.CompactLine.{CompactLine}
 use Rattle.lsm_text.specs.declared.request.DirectoryLine.{DirectoryLine}
 use Rattle.lsm_commands.specs.Answers.{IsLookedInto, IsNotLookedInto}
-use Rattle.lsm_commands.specs.Cleaning.{HasNone, IsKept, IsUnkept, Needs}
+use Rattle.lsm_commands.specs.Cleaning.{HasNone, IsCleaned, IsKept, IsUncleaned, IsUnkept, Needs}
 use Rattle.lsm_commands.specs.Compacting.{IsCompactFault, IsCompacted}
 use Rattle.lsm_commands.specs.Directory.{OnlyReads}
 use Rattle.lsm_commands.specs.Folders.{IsShelfAt, stored_at, told_by}
@@ -27,7 +27,7 @@ use Rattle.lsm_commands.specs.Holding.{IsHeld}
 use Rattle.lsm_commands.specs.Ingesting.{IsBroughtIn, IsIngestFault}
 use Rattle.lsm_commands.specs.Looking.{TellsBeside}
 use Rattle.lsm_commands.specs.Preparing.{IsPrepared}
-use Rattle.lsm_commands.specs.Run.{ComesInAt, FailsToBringIn, FailsToLook, IsCompactedAt, IsUncompacted, LooksAt}
+use Rattle.lsm_commands.specs.Run.{ComesInAt, FailsToBringIn, FailsToClean, FailsToLook, IsCleanedAt, IsCompactedAt, IsUncompacted, LooksAt}
 use Rattle.lsm_commands.specs.declared.cleaning.kept.Kept.{Kept}
 use Rattle.lsm_commands.specs.declared.faults.compact_fault.CompactFault.{CompactFault}
 use Rattle.lsm_commands.specs.declared.faults.compact_fault.CompactFault.TheVariants.{Writer}
@@ -117,6 +117,12 @@ module _ {C M : Type 0} (folders : Ghosts C M) where
   compacts_at (Ok x) line begun ended old new on done = record { begun = begun; on = on; ended = ended; done = done }
   compacts_at (Err e) line begun ended old new on done = tt
 
+  pub cleans_at : {T F : Type 0} (r : Result T F) (path : List ℕ) (begun ended : C) (old new : Option (List ℕ)) → IsAtPath path (folders.place begun)
+      → folders.calls begun ≡ opened ∷ [] → folders.place ended ≡ folders.place begun
+      → OnOk r (IsCleaned folders (folders.place begun) (folders.calls begun) (folders.calls ended) old new) → OnOk r (IsCleanedAt folders path old new)
+  cleans_at (Ok x) path begun ended old new at none same done = record { begun = begun; on = record { at = at; called = none }; ended = ended; same = same; done = done }
+  cleans_at (Err e) path begun ended old new at none same done = tt
+
   -- ---- what its database needs
 
   pub needs : {E : Type 0} (r : Result Kept E) (place : Place) (was : Told) (shelf : FileShelf C M) → was ≡ fresh place
@@ -153,3 +159,11 @@ module _ {C M : Type 0} (folders : Ghosts C M) (marks : mark.Ghosts M) where
       → IfErr r (λ e. e ≢ Writer WriteFault → Keeps old new) → OnErr r (IsUncompacted folders marks line old new)
   uncompacted (Ok x) line begun ended old new on says left = tt
   uncompacted (Err e) line begun ended old new on says left = inr (e, record { begun = begun; on = on; ended = ended; refused = record { says = says; left = left } })
+
+  pub fails_to_clean : {T : Type 0} (r : Result T WriterFault) (path : List ℕ) (begun ended : C) (old new : Option (List ℕ)) → IsAtPath path (folders.place begun)
+      → folders.calls begun ≡ opened ∷ [] → folders.place ended ≡ folders.place begun
+      → IfErr r (λ e. IsUncleaned folders marks (folders.place begun) e (folders.calls begun) (folders.calls ended) old new)
+      → IfErr r (λ e. FailsToClean folders marks path e old new)
+  fails_to_clean (Ok x) path begun ended old new at none same stopped = tt
+  fails_to_clean (Err e) path begun ended old new at none same stopped =
+      inr record { begun = begun; on = record { at = at; called = none }; ended = ended; same = same; stopped = stopped }

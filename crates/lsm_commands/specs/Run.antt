@@ -40,6 +40,7 @@ use Rattle.lsm_commands.specs.declared.faults.compact_fault.CompactFault.{Compac
 use Rattle.lsm_commands.specs.declared.faults.directory_fault.DirectoryFault.{DirectoryFault}
 use Rattle.lsm_commands.specs.declared.faults.directory_fault.DirectoryFault.TheVariants.{OutOfMemory}
 use Rattle.lsm_commands.specs.declared.faults.writer_fault.WriterFault.{WriterFault}
+use Rattle.lsm_commands.specs.declared.faults.writer_fault.WriterFault.TheVariants.{OutOfMemory as NoMemory, Directory}
 use Rattle.lsm_commands.specs.declared.folder.folder_file.FolderFile.{FolderFile}
 use Rattle.lsm_commands.specs.declared.ingesting.start.Start.{Start}
 
@@ -132,6 +133,10 @@ module _ {C M : Type 0} (folders : Ghosts C M) where
 
 -- ---- what status 1 means
 
+-- the folder was not opened
+abbrev pub IsUnopenedBy : WriterFault → Type 0
+IsUnopenedBy e = (fault : DirectoryFault) × (e ≡ Directory fault) × IsFolderFault fault
+
 module _ {C M : Type 0} (folders : Ghosts C M) (marks : mark.Ghosts M) where
   -- The lock of the folder at the path was held, and these files were found beside its tables. On a shelf of it, which was only read, this
   -- fault was met: what that says of the folder, and what it leaves.
@@ -179,13 +184,13 @@ module _ {C M : Type 0} (folders : Ghosts C M) (marks : mark.Ghosts M) where
     pub stopped : IsUncleaned folders marks (folders.place begun) fault (folders.calls begun) (folders.calls ended) old new
 
   -- memory ran out, or the folder was not opened, and nothing was written; or that
-  abbrev pub IsUncleanedAt : List ℕ → (old new : Option (List ℕ)) → Type 0
-  IsUncleanedAt path old new = Keeps old new ⊎ ((fault : WriterFault) × StopsAt path fault old new)
+  abbrev pub FailsToClean : List ℕ → WriterFault → (old new : Option (List ℕ)) → Type 0
+  FailsToClean path fault old new = ((IsUnopenedBy fault ⊎ (fault ≡ NoMemory)) × Keeps old new) ⊎ StopsAt path fault old new
 
   -- neither a batch came in, and was told, nor was the folder cleaned
   abbrev pub IsUnwritten : (Input → Option (List ℕ)) → List ℕ → WritingCommand → (old new : Option (List ℕ)) → Type 0
   IsUnwritten text path (Ingest input options) old new = IsUningested path options (text input) old new
-  IsUnwritten text path Clean old new = IsUncleanedAt path old new
+  IsUnwritten text path Clean old new = (fault : WriterFault) × FailsToClean path fault old new
 
   -- The lock of the folder at the path was held. On a shelf of it this fault was met.
   pub record IsUncompactedAt (line : CompactLine) (fault : CompactFault) (old new : Option (List ℕ)) : Type 0 where

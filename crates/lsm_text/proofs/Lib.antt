@@ -15,4 +15,6 @@ pub mod BatchLaws
 pub mod WriteWordLaws
 pub mod WriteLineLaws
 pub mod OneBatch
+pub mod HelpLaws
+pub mod HelpLines
 pub mod CallerLemmas

@@ -17,6 +17,10 @@ word name = record (new_rule name) { required = true }
 abbrev pub file : Rule
 file = record (new_rule (codes "FILE")) { defaults = codes "-" ∷ [] }
 
+-- the command of which help is asked
+abbrev pub topic : Rule
+topic = new_rule (codes "COMMAND")
+
 -- an option with a value
 abbrev pub valued : Text → Rule
 valued name = record (new_rule name) { long = Some name; value_names = 1 }
@@ -86,11 +90,16 @@ compact = three (codes "compact") folder workers progress
 unfoldable pub clean : App
 clean = one (codes "clean") folder
 
+unfoldable pub help : App
+help = one (codes "help") topic
+
 -- ---- the program
 
--- It has a version, and a command is to be named; the words are those behind the program's name.
+-- It has a version, a command is to be named, and `help` is a command of its own; the words are those behind the program's name.
 unfoldable pub bare : App
-bare = on_top (λ s. record s { has_version = true; no_binary_name = true; subcommand_required = true }) (new_app (codes "lsm"))
+bare =
+    on_top (λ s. record s { has_version = true; no_binary_name = true; subcommand_required = true; disable_help_subcommand = true })
+    (new_app (codes "lsm"))
 
 -- with the commands on an input
 unfoldable pub with_inputs : App
@@ -103,7 +112,7 @@ with_looks = with_subcommand (with_subcommand (with_subcommand (with_subcommand 
 
 -- all commands
 unfoldable pub lsm : App
-lsm = with_subcommand (with_subcommand (with_subcommand with_looks ingest.top) compact.top) clean.top
+lsm = with_subcommand (with_subcommand (with_subcommand (with_subcommand with_looks ingest.top) compact.top) clean.top) help.top
 
 -- ---- how the code shows it
 

@@ -1,5 +1,5 @@
 -- What the words of a command line ask for, by what clap's grammar finds in them: this project's rule.
-use Rattle.std.specs.Prelude.{◌≡◌, ◌≢◌, ℕ, ◌+◌, ◌≤◌, ◌⊎◌, ⊤, Bool, false, if◌then◌else◌, List, [], ◌∷◌, codes, Option, Some, None}
+use Rattle.std.specs.Prelude.{◌≡◌, ◌≢◌, ℕ, ◌+◌, ◌≤◌, ◌⊎◌, ⊤, Bool, true, false, if◌then◌else◌, List, [], ◌∷◌, codes, Option, Some, None, is_some, option_map}
 use Rattle.std.specs.Option.{option_map_or}
 use Rattle.std.specs.Str.{bytes_eq}
 use Rattle.clap.specs.Words.{IsAmong, Kinds, Row, Text, fault_of, first_of, found_of, rows_of, subcommand_of}
@@ -67,7 +67,23 @@ named word =
     else if bytes_eq word (codes "ingest") then Some name.Ingest
     else if bytes_eq word (codes "compact") then Some name.Compact
     else if bytes_eq word (codes "clean") then Some name.Clean
+    else if bytes_eq word (codes "help") then Some name.Help
     else None
+
+-- the word that names a command
+abbrev pub word_of : CommandName → Text
+word_of name.MakeTable = codes "mktable"
+word_of name.Dump = codes "dump"
+word_of name.Manifest = codes "manifest"
+word_of name.Script = codes "script"
+word_of name.Check = codes "check"
+word_of name.List = codes "list"
+word_of name.Get = codes "get"
+word_of name.Scan = codes "scan"
+word_of name.Ingest = codes "ingest"
+word_of name.Compact = codes "compact"
+word_of name.Clean = codes "clean"
+word_of name.Help = codes "help"
 
 abbrev pub name_of_conversion : Conversion → CommandName
 name_of_conversion conversion.MakeTable = name.MakeTable
@@ -168,15 +184,28 @@ Asks request words = (faults_in words ≡ []) × IsAsked (found_in words) reques
 abbrev pub AskNothing : List Text → Type 0
 AskNothing words = (request : Request) → Asks request words → ⊥
 
--- They ask for help or for the version: clap answers with that.
+-- Of which command `help` is asked by the word behind it: of none where there is no word. None where it names no command.
+abbrev pub topic_of : Option Text → Option (Option CommandName)
+topic_of None = Some None
+topic_of (Some word) = option_map Some (named word)
+
+-- Of what `help` is asked: none where it is not the command that was found, or is asked of no command.
+abbrev pub topic_in : Option (Text × List Row) → Option (Option CommandName)
+topic_in None = None
+topic_in (Some (name, rows)) = if bytes_eq name (codes "help") then topic_of (word_in (codes "COMMAND") rows) else None
+
+-- They ask for help or for the version: clap answers with that; or it is `help` that they name, alone or of a command.
 abbrev pub AskHelp : List Text → Type 0
-AskHelp words = IsAmong kind.DisplayHelp (faults_in words) ⊎ IsAmong kind.DisplayVersion (faults_in words)
+AskHelp words =
+    (IsAmong kind.DisplayHelp (faults_in words) ⊎ IsAmong kind.DisplayVersion (faults_in words))
+    ⊎ ((faults_in words ≡ []) × (is_some (topic_in (found_in words)) ≡ true))
 
 -- There is a fault: the words are not of the grammar, and it is not help or the version that they ask for; or they are of the
--- grammar, and a word is no key or no number of workers.
+-- grammar, and a word is no key or no number of workers, or behind `help` no command.
 abbrev pub HaveUsageFault : List Text → Type 0
 HaveUsageFault words =
-    (faults_in words ≡ []) ⊎ ((k : ErrorKind) × IsAmong k (faults_in words) × (k ≢ kind.DisplayHelp) × (k ≢ kind.DisplayVersion))
+    ((faults_in words ≡ []) × (is_some (topic_in (found_in words)) ≡ false))
+    ⊎ ((k : ErrorKind) × IsAmong k (faults_in words) × (k ≢ kind.DisplayHelp) × (k ≢ kind.DisplayVersion))
 
 -- what words come to
 abbrev pub IsLine : List Text → CommandLine → Type 0
@@ -191,11 +220,23 @@ abbrev pub Reads : CommandName → List Row → Option Request → Type 0
 Reads name rows (Some request) = (name_of request ≡ name) × Says rows request
 Reads name rows None = (request : Request) → name_of request ≡ name → Says rows request → ⊥
 
--- the same, where something was found
+-- a page of help
+abbrev pub IsPage : CommandLine → Type 0
+IsPage (Run request) = ⊥
+IsPage (Help text) = ⊤
+IsPage (Bad text) = ⊥
+
+-- what is said where something was found that is no request: help where that is asked for
+abbrev pub IsUnasked : Option (Text × List Row) → CommandLine → Type 0
+IsUnasked found (Run request) = ⊥
+IsUnasked found (Help text) = is_some (topic_in found) ≡ true
+IsUnasked found (Bad text) = is_some (topic_in found) ≡ false
+
+-- what is said where something was found
 abbrev pub IsOf : Option (Text × List Row) → CommandLine → Type 0
 IsOf found (Run request) = IsAsked found request
-IsOf found (Help text) = ⊥
-IsOf found (Bad text) = (request : Request) → IsAsked found request → ⊥
+IsOf found (Help text) = ((request : Request) → IsAsked found request → ⊥) × (is_some (topic_in found) ≡ true)
+IsOf found (Bad text) = ((request : Request) → IsAsked found request → ⊥) × (is_some (topic_in found) ≡ false)
 
 -- what an error of this kind comes to
 abbrev pub IsOfKind : ErrorKind → CommandLine → Type 0

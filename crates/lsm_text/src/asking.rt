@@ -5,7 +5,8 @@ ghost use Rattle.std.specs.Prelude.{option_map, ℕ};
 ghost use Rattle.clap.specs.Words.{subcommand_rows_of};
 ghost use Rattle.lsm_text.specs.Requests.{AreBounds, AreWorkers, IsAsked, IsBound, IsInput};
 ghost use Rattle.lsm_text.specs.Requests.{IsKey, IsLook, IsWorkersWord, Reads, form_in, is_set};
-ghost use Rattle.lsm_text.specs.Requests.{name_of_conversion, name_of_look, rows_in, word_in};
+ghost use Rattle.lsm_text.specs.Requests.{name_of_conversion, name_of_look, rows_in, topic_in};
+ghost use Rattle.lsm_text.specs.Requests.{topic_of, word_in};
 
 use crate::command_name::{CommandName, named};
 use crate::compact_options::CompactOptions;
@@ -239,11 +240,12 @@ fn request_in<'a>(
         CommandName::Ingest => Ok(ingest_in(found)),
         CommandName::Compact => Ok(compact_in(found)),
         CommandName::Clean => Ok(clean_in(found)),
+        CommandName::Help => Ok(None),
     }
 }
 
-/// What is asked for by the command that was found, and by the words under its names; none where
-/// one of these is no key or no number of workers.
+/// What is asked for by the command that was found, and by the words under its names; none where it
+/// is `help`, or one of these is no key or no number of workers.
 pub(crate) fn asked_in<'a>(
     alloc: Global,
     matches: &ArgMatches<'a>,
@@ -259,4 +261,26 @@ pub(crate) fn asked_in<'a>(
         Some(name) => request_in(alloc, name, found),
         None => Ok(None),
     }
+}
+
+/// Of which command `help` is asked: none where no command is named. `None` where the word behind it
+/// names no command.
+fn topic_of(found: &ArgMatches<'_>) -> Option<Option<CommandName>>
+    ensures { result ≡ topic_of (word_in (codes "COMMAND") (rows_in found.now)) }
+{
+    let Some(word) = word_in(found, "COMMAND") else {
+        return Some(None);
+    };
+    Some(Some(named(word)?))
+}
+
+/// Of what `help` is asked; `None` where it is not asked for by its name, or of no command.
+pub(crate) fn topic_in(matches: &ArgMatches<'_>) -> Option<Option<CommandName>>
+    ensures { result ≡ topic_in (subcommand_rows_of matches.now) }
+{
+    let (name, found) = matches.subcommand()?;
+    if name == "help" {
+        return topic_of(found);
+    }
+    None
 }

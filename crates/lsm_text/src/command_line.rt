@@ -1,11 +1,13 @@
 //! The command line.
 
-ghost use Rattle.std.specs.Prelude.{◌≢◌, IfErr, IfOk, List, map, ℕ};
+ghost use Rattle.std.specs.Prelude.{◌≡◌, ◌≢◌, ◌∷◌, [], IfOk, map};
 ghost use Rattle.clap.specs.Words.{kind_of, subcommand_rows_of};
-ghost use Rattle.clap.specs.declared.error.ErrorKind.TheVariants.{OutOfMemory};
-ghost use Rattle.lsm_text.specs.Requests.{IsLine, IsOf, IsOfKind};
+ghost use Rattle.clap.specs.declared.error.ErrorKind.TheVariants.{DisplayHelp, OutOfMemory};
+ghost use Rattle.lsm_text.specs.Requests.{IsLine, IsOf, IsOfKind, IsPage, IsUnasked};
+ghost use Rattle.lsm_text.specs.Requests.{faults_in};
 
-use crate::asking::asked_in;
+use crate::asking::{asked_in, topic_in};
+use crate::command_name::CommandName;
 use crate::grammar::found_in;
 use crate::pages::usage_of;
 use crate::request::Request;
@@ -56,16 +58,6 @@ fn wrong(alloc: Global, matches: &ArgMatches<'_>) -> Result<Vec<u8>, AllocError>
     }
 }
 
-/// What is said of words in which something was found.
-fn line_of<'a>(alloc: Global, matches: &ArgMatches<'a>) -> Result<CommandLine<'a>, AllocError>
-    ensures { IfOk result (IsOf (subcommand_rows_of matches.now)) }
-{
-    match asked_in(alloc, matches)? {
-        Some(request) => Ok(CommandLine::Run(request)),
-        None => Ok(CommandLine::Bad(wrong(alloc, matches)?)),
-    }
-}
-
 /// What is said of words that are not of the grammar, or that ask for help.
 fn refused_by<'a>(alloc: Global, error: &clap::Error) -> Result<CommandLine<'a>, AllocError>
     ensures line { IfOk result (IsOfKind (kind_of error.now)) }
@@ -80,9 +72,52 @@ fn refused_by<'a>(alloc: Global, error: &clap::Error) -> Result<CommandLine<'a>,
     }
 }
 
+/// What is said of words that ask for help.
+fn page_of<'a>(alloc: Global, words: &[&str]) -> Result<CommandLine<'a>, AllocError>
+    requires { faults_in (map (λ w. w.now) words.now) ≡ DisplayHelp ∷ [] }
+    ensures { IfOk result IsPage }
+{
+    match found_in(alloc, words) {
+        Ok(_) => unreachable!(),
+        Err(error) => refused_by(alloc, &error),
+    }
+}
+
+/// The page of a command, or the overview: what `--help` shows behind the command's name, or alone.
+fn help_on<'a>(alloc: Global, topic: Option<CommandName>) -> Result<CommandLine<'a>, AllocError>
+    ensures { IfOk result IsPage }
+{
+    match topic {
+        Some(name) => page_of(alloc, &[name.word(), "--help"]),
+        None => page_of(alloc, &["--help"]),
+    }
+}
+
+/// What is said of words that are of the grammar, and ask for no request.
+fn unasked<'a>(alloc: Global, matches: &ArgMatches<'a>) -> Result<CommandLine<'a>, AllocError>
+    ensures { IfOk result (IsUnasked (subcommand_rows_of matches.now)) }
+{
+    match topic_in(matches) {
+        Some(topic) => help_on(alloc, topic),
+        None => Ok(CommandLine::Bad(wrong(alloc, matches)?)),
+    }
+}
+
+/// What is said of words in which something was found.
+#[tactic(auto, using(crate::proofs::HelpLines::no_request))]
+fn line_of<'a>(alloc: Global, matches: &ArgMatches<'a>) -> Result<CommandLine<'a>, AllocError>
+    ensures { IfOk result (IsOf (subcommand_rows_of matches.now)) }
+{
+    match asked_in(alloc, matches)? {
+        Some(request) => Ok(CommandLine::Run(request)),
+        None => unasked(alloc, matches),
+    }
+}
+
 /// What the words after the program's name ask for: one request, or help, or nothing. They are read
 /// by the program's grammar, which `clap` has: options stand anywhere, a value stands behind its
-/// option or behind an `=` in its word, and after `--` no word is an option.
+/// option or behind an `=` in its word, and after `--` no word is an option. `help` asks for what
+/// `--help` shows, behind the name of a command for its page.
 pub fn read_line<'a, S: AsStr>(alloc: Global, words: &'a [S]) -> Result<CommandLine<'a>, AllocError>
     ensures { IfOk result (IsLine (map S.text words.now)) }
 {

@@ -1,7 +1,7 @@
 //! The names of the commands.
 
 ghost use Rattle.std.specs.Prelude.{◌≡◌};
-ghost use Rattle.lsm_text.specs.Requests.{named};
+ghost use Rattle.lsm_text.specs.Requests.{named, word_of};
 
 /// Which command of the program it is.
 #[derive(Clone, Copy, Debug)]
@@ -17,6 +17,29 @@ pub enum CommandName {
     Ingest,
     Compact,
     Clean,
+    Help,
+}
+
+impl CommandName {
+    /// The word that names it.
+    pub(crate) fn word(self) -> &'static str
+        ensures { result.now ≡ word_of self }
+    {
+        match self {
+            CommandName::MakeTable => "mktable",
+            CommandName::Dump => "dump",
+            CommandName::Manifest => "manifest",
+            CommandName::Script => "script",
+            CommandName::Check => "check",
+            CommandName::List => "list",
+            CommandName::Get => "get",
+            CommandName::Scan => "scan",
+            CommandName::Ingest => "ingest",
+            CommandName::Compact => "compact",
+            CommandName::Clean => "clean",
+            CommandName::Help => "help",
+        }
+    }
 }
 
 /// The command of this name.
@@ -56,6 +79,9 @@ pub(crate) fn named(word: &str) -> Option<CommandName>
     }
     if word == "clean" {
         return Some(CommandName::Clean);
+    }
+    if word == "help" {
+        return Some(CommandName::Help);
     }
     None
 }

@@ -9,14 +9,14 @@ ghost use Rattle.clap.specs.Words.{subcommand_rows_of};
 ghost use Rattle.clap.specs.Words.{with_rule, with_subcommand};
 ghost use Rattle.clap.specs.declared.error.ErrorKind.TheVariants.{OutOfMemory};
 ghost use Rattle.lsm_text.specs.Grammar.{IsShaped, bare, check, clean, compact, dump, file};
-ghost use Rattle.lsm_text.specs.Grammar.{flag, folder, get, ingest, list, lsm, make_table};
-ghost use Rattle.lsm_text.specs.Grammar.{manifest, progress, scan, script, text, valued};
+ghost use Rattle.lsm_text.specs.Grammar.{flag, folder, get, help, ingest, list, lsm, make_table};
+ghost use Rattle.lsm_text.specs.Grammar.{manifest, progress, scan, script, text, topic, valued};
 ghost use Rattle.lsm_text.specs.Grammar.{with_inputs, with_looks, word, workers};
 ghost use Rattle.lsm_text.specs.Requests.{faults_in, found_in};
 
 use crate::pages::{
-    CHECK, CLEAN, COMPACT, DUMP, GET, INGEST, LIST, MAKE_TABLE, MANIFEST, OVERVIEW, Page, SCAN,
-    SCRIPT, VERSION,
+    CHECK, CLEAN, COMPACT, DUMP, GET, HELP, INGEST, LIST, MAKE_TABLE, MANIFEST, OVERVIEW, Page,
+    SCAN, SCRIPT, VERSION,
 };
 use clap::builder::ValueParser;
 use clap::{Arg, ArgAction, ArgMatches, Command, Error};
@@ -63,6 +63,14 @@ fn file<'a>(alloc: Global) -> Arg<'a>
     Arg::new(alloc, "FILE")
         .default_value("-")
         .help("The file that is read; `-` is standard input")
+}
+
+/// The command of which help is asked.
+fn topic<'a>(alloc: Global) -> Arg<'a>
+    ensures rule { rule_of result ≡ topic }
+    ensures local { result.global ≡ false }
+{
+    Arg::new(alloc, "COMMAND").help("The command whose page is printed")
 }
 
 /// An option with a word behind it.
@@ -233,6 +241,13 @@ fn clean<'a>(alloc: Global) -> Made<'a>
     also(titled(alloc, CLEAN), folder(alloc))
 }
 
+/// The command that prints a page of help.
+fn help<'a>(alloc: Global) -> Made<'a>
+    ensures { IsShaped result help }
+{
+    also(titled(alloc, HELP), topic(alloc))
+}
+
 /// One command more.
 fn with<'a>(lsm: Made<'a>, more: Made<'a>) -> Made<'a>
     ensures { (before added : App) → IsShaped lsm.entry before → IsShaped more.entry added
@@ -251,6 +266,7 @@ fn bare<'a>(alloc: Global) -> Made<'a>
         .version(VERSION)
         .no_binary_name(true)
         .subcommand_required(true)
+        .disable_help_subcommand(true)
         .bin_name("lsm")
 }
 
@@ -280,7 +296,8 @@ fn lsm<'a>(alloc: Global) -> Made<'a>
 {
     let lsm = with(with_looks(alloc), ingest(alloc));
     let lsm = with(lsm, compact(alloc));
-    with(lsm, clean(alloc))
+    let lsm = with(lsm, clean(alloc));
+    with(lsm, help(alloc))
 }
 
 /// What `clap` finds in words, or what is wrong with them.

@@ -70,7 +70,7 @@ pub use form::Form;
 pub use ingest_options::IngestOptions;
 pub use input::Input;
 pub use key_bounds::KeyBounds;
-pub use laws::{one_batch, one_list, one_word, printed_list};
+pub use laws::{help_is_no_fault, one_batch, one_list, one_word, printed_list};
 pub use line_syntax::LineSyntaxFault;
 pub use number::number_in;
 pub use printer::Printer;

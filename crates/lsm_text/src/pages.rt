@@ -320,9 +320,20 @@ command line.",
     example: "Example: lsm clean db",
 };
 
+pub(crate) const HELP: Page = Page {
+    name: "help",
+    usage: "lsm help [COMMAND]",
+    about: "Prints this overview, or the page of a command",
+    text: "Prints the page of COMMAND, as `lsm COMMAND --help` does; without COMMAND the
+overview, as `lsm --help` does.
+
+Exit status: 0 done, 1 refused, 2 bad command line, also where COMMAND is none.",
+    example: "Example: lsm help check",
+};
+
 /// The pages of the commands.
-const PAGES: [Page; 11] = [
-    MAKE_TABLE, DUMP, MANIFEST, SCRIPT, CHECK, LIST, GET, SCAN, INGEST, COMPACT, CLEAN,
+const PAGES: [Page; 12] = [
+    MAKE_TABLE, DUMP, MANIFEST, SCRIPT, CHECK, LIST, GET, SCAN, INGEST, COMPACT, CLEAN, HELP,
 ];
 
 /// How the command of this name is used.

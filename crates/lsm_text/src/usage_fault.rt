@@ -13,6 +13,8 @@ pub(crate) enum UsageFault<'a> {
     Key(&'a str, SyntaxFault),
     /// No number of workers, though `clap` reads it as one.
     Workers(&'a str),
+    /// No command, where one stands behind `help`.
+    Command(&'a str),
 }
 
 /// Why the word under this name is no KEY of this form.
@@ -37,6 +39,9 @@ pub(crate) fn fault_in<'a>(matches: &ArgMatches<'a>) -> Option<UsageFault<'a>> {
     let (_, found) = matches.subcommand()?;
     if let Some(fault) = first_wrong_key(found, &["KEY", "from", "to"]) {
         return Some(fault);
+    }
+    if let Some(word) = word_in(found, "COMMAND") {
+        return Some(UsageFault::Command(word));
     }
     Some(UsageFault::Workers(word_in(found, "workers")?))
 }
@@ -71,6 +76,7 @@ impl<'a> fmt::Display for UsageFault<'a> {
         match self {
             UsageFault::Key(word, fault) => write_key(f, word, *fault),
             UsageFault::Workers(word) => write!(f, "`{word}` is no number of workers, 1 to 8"),
+            UsageFault::Command(word) => write!(f, "`{word}` is no command"),
         }
     }
 }

@@ -1,9 +1,9 @@
 //! One run of `clean`.
 
-ghost use Rattle.std.specs.Prelude.{◌≡◌, ◌≢◌, OnErr, OnOk};
+ghost use Rattle.std.specs.Prelude.{◌≡◌, ◌≢◌, IfErr, OnOk};
 ghost use Rattle.std.specs.Io.KnownBytes.{Keeps};
 ghost use Rattle.lsm_commands.specs.Cleaning.{IsCleaned, IsUncleaned};
-ghost use Rattle.lsm_commands.specs.Run.{IsCleanedAt, IsUncleanedAt};
+ghost use Rattle.lsm_commands.specs.Run.{FailsToClean, IsCleanedAt};
 ghost use Rattle.lsm_commands.specs.declared.faults.writer_fault.WriterFault.{WriterFault};
 
 use crate::cleaning::clean_folder;
@@ -55,12 +55,11 @@ where
     C::Mark: Send + Sync,
     ensures done { OnOk result (IsCleanedAt C.FolderCalls path.now (O.contents out.old)
         (O.contents out.new)) }
-    ensures refused { OnErr result (IsUncleanedAt C.FolderCalls C.Mark.Mark path.now
+    ensures refused { IfErr result (λ e. FailsToClean C.FolderCalls C.Mark.Mark path.now e
         (O.contents out.old) (O.contents out.new)) }
 {
     let mut folder = open_at(paths, path, reasons)?;
-    clean_folder(rt, paths.alloc(), &mut folder, out)?;
-    Ok(())
+    clean_folder(rt, paths.alloc(), &mut folder, out)
 }
 
 /// Cleans the folder at a path, and answers the exit status.
@@ -75,13 +74,14 @@ where
     C::Mark: Send + Sync,
     ensures done { result ≡ 0 → IsCleanedAt C.FolderCalls path.now (O.contents out.old)
         (O.contents out.new) }
-    ensures refused { result ≢ 0 → (result ≡ 1) × IsUncleanedAt C.FolderCalls C.Mark.Mark
-        path.now (O.contents out.old) (O.contents out.new) }
+    ensures refused { result ≢ 0 → (result ≡ 1) × ((fault : WriterFault)
+        × FailsToClean C.FolderCalls C.Mark.Mark path.now fault (O.contents out.old)
+        (O.contents out.new)) }
     ensures quiet { result ≡ 0 → Keeps (E.contents err.old) (E.contents err.new) }
 {
     let reasons = match Reasons::new(paths.alloc()) {
         Ok(reasons) => reasons,
-        Err(fault) => return refuse(WriterFault::from(fault), err),
+        Err(_) => return refuse(WriterFault::OutOfMemory, err),
     };
     let done = clean_at(rt, paths, path, &reasons, out);
     status_of(done, Known::answered(Some(&reasons)), err)

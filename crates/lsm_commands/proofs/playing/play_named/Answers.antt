@@ -8,7 +8,7 @@ returns-in-Ok-run-clause-played g c =
     record {
       publisher = c.in_ok-registry.field-0.publisher;
       pinners = c.in_ok-registry.field-0.pinners.items;
-      state = rw c.usual.ensures at c.in-Ok.ensures.created;
+      state = rw c.usual-options.ensures at c.in-Ok.ensures.created;
       sent = c.in-Ok.ensures.sent;
       missing = c.in-Ok.ensures.missing;
     }
