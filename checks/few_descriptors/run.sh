@@ -2,7 +2,8 @@
 # Runs `lsm` on a folder of some 40 tables under `ulimit -n 16`: `get`, `scan`, `check`, `list`, and
 # `compact --workers 4` give what they give without it. Then it stops a scan in the middle, counts
 # its descriptors, takes from it all that it has not open yet, and lets it go on: it closes what it
-# keeps open, and prints what an undisturbed scan prints.
+# keeps open, and prints what an undisturbed scan prints. Last it counts how many tables one reader
+# and all workers keep open (limits.py).
 #
 # Needs python3 and prlimit (util-linux). LSM=/path/to/lsm names a built program.
 set -euo pipefail
@@ -79,3 +80,5 @@ cat <&9 > rest
 wait "$scan" || stop "a scan whose descriptors were taken ends with $?"
 cat front rest | cmp -s - whole || stop "a scan whose descriptors were taken prints other things"
 echo "few_descriptors: the same with 16 descriptors as without; $(tables db) tables, $open descriptors in mid-scan"
+mkdir limits
+python3 "$here/limits.py" "$program" limits
