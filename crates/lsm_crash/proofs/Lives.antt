@@ -15,7 +15,7 @@ use Rattle.lsm_crash.proofs.Histories.{crashed}
 use Rattle.lsm_crash.proofs.Runs.{cut_held}
 use Rattle.lsm_crash.proofs.Worlds.{TablesChange}
 use Rattle.lsm_crash.proofs.Turning.{cut_known, cut_leaves, describes, settled_finds, works_keep}
-use Rattle.lsm_crash.proofs.Opening.{opening_allowed, opening_finds, opening_settled, opening_world}
+use Rattle.lsm_crash.proofs.Opening.{opening_allowed, opening_cut, opening_done, opening_finds, opening_settled, opening_world}
 use Rattle.lsm_crash.proofs.Found.{found_shown, opened_last, opened_same, settled_shown}
 use Rattle.lsm_crash.proofs.Answering.{ReadsAll, deed_reads, same_answers, works_read}
 
@@ -42,8 +42,8 @@ module _ (law : TablesChange) (honest : Type 0) (all : ReadsAll honest) (board :
 
   begun : (h : Held) (w u : World) (d m : Disk) → IsSettled d w → Begins honest board limit h w u d m → IsSettled m u × IsWorldOf h u
   begun h w u d m i b = (
-    subst (λ x. IsSettled m x) (sym b.5) (opening_settled honest board limit h d w b.0 b.1.0 i b.2 b.3 m b.4),
-    subst (λ x. IsWorldOf h x) (sym b.5) (opening_world honest board limit h d w b.0 b.1.0 i b.2 b.3),
+    subst (λ x. IsSettled m x) (sym b.7) (opening_settled honest board limit h d w b.0 b.2.0 i b.3 b.5 m (opening_done honest limit h d b.3 b.1 b.4 w.tables m b.6)),
+    subst (λ x. IsWorldOf h x) (sym b.7) (opening_world honest board limit h d w b.0 b.2.0 i b.3 b.5),
   )
 
   -- after a crash
@@ -53,7 +53,7 @@ module _ (law : TablesChange) (honest : Type 0) (all : ReadsAll honest) (board :
   life_leaves : (life : Life) (v : Levels) (es : List Entry) (w u : World) (d e : Disk) → IsBorn honest v es w d → Lived honest board limit life w d u e → IsDead honest life es u e
   life_leaves (Closed h now turns) v es w u d e b l =
       let s = begun h w l.0 d l.1 b.settled l.2 in
-      let r = works_keep law honest board turns h now l.0 u l.1 e l.2.1 s.0 s.1 l.3 in
+      let r = works_keep law honest board turns h now l.0 u l.1 e l.2.2 s.0 s.1 l.3 in
       record {
         version = now.slots.version;
         entries = brought turns ++ es;
@@ -62,25 +62,25 @@ module _ (law : TablesChange) (honest : Type 0) (all : ReadsAll honest) (board :
           settled = r.0;
           shown = settled_shown now.slots.version u e r.0 (describes honest board now u r.2.0 r.1 r.0.comes) r.1.tables;
           seven = r.2.0.journaled.1.own.seven;
-          answers = λ fair. works_read honest all board fair turns h now l.0 u l.1 e es l.2.1 l.3 (opened_reads v es w d h b l.2.1 l.2.2 fair);
+          answers = λ fair. works_read honest all board fair turns h now l.0 u l.1 e es l.2.2 l.3 (opened_reads v es w d h b l.2.2 l.2.3 fair);
         };
       }
   life_leaves (Worked h now turns) v es w u d e b l =
       let s = begun h w l.0 d l.2 b.settled l.4 in
-      let r = works_keep law honest board turns h now l.0 l.1 l.2 l.3 l.4.1 s.0 s.1 l.5 in
+      let r = works_keep law honest board turns h now l.0 l.1 l.2 l.3 l.4.2 s.0 s.1 l.5 in
       record {
         version = now.slots.version;
         entries = brought turns ++ es;
         may = (refl, refl);
         born = reborn (known_of l.1) l.3 e u now.slots.version (brought turns ++ es) (settled_held l.3 l.1 r.0) l.6
             (settled_finds l.3 now l.1 l.6.0 r.0 r.1 (describes honest board now l.1 r.2.0 r.1 r.0.comes) l.6.1) r.2.0.journaled.1.own.seven
-            (λ fair. works_read honest all board fair turns h now l.0 l.1 l.2 l.3 es l.4.1 l.5 (opened_reads v es w d h b l.4.1 l.4.2 fair));
+            (λ fair. works_read honest all board fair turns h now l.0 l.1 l.2 l.3 es l.4.2 l.5 (opened_reads v es w d h b l.4.2 l.4.3 fair));
       }
   life_leaves (Struck h now new turns deed) v es w u d e b l =
       let s = begun h w l.0 d l.2 b.settled l.6 in
-      let r = works_keep law honest board turns h now l.0 l.1 l.2 l.3 l.6.1 s.0 s.1 l.7 in
+      let r = works_keep law honest board turns h now l.0 l.1 l.2 l.3 l.6.2 s.0 s.1 l.7 in
       let held = (cut_known law honest board now new deed l.1 l.4 l.3 l.5 r.2 r.0 r.1 l.8).0 in
-      let reads : honest → Answers now.slots.version (brought turns ++ es) = λ fair. works_read honest all board fair turns h now l.0 l.1 l.2 l.3 es l.6.1 l.7 (opened_reads v es w d h b l.6.1 l.6.2 fair) in
+      let reads : honest → Answers now.slots.version (brought turns ++ es) = λ fair. works_read honest all board fair turns h now l.0 l.1 l.2 l.3 es l.6.2 l.7 (opened_reads v es w d h b l.6.2 l.6.3 fair) in
       elim (cut_leaves law honest board now new deed l.1 l.4 l.3 l.5 l.9.0 r.2 r.0 r.1 l.8 l.9.1) [
         | inl f ↦ record {
           version = now.slots.version;
@@ -96,14 +96,16 @@ module _ (law : TablesChange) (honest : Type 0) (all : ReadsAll honest) (board :
               (λ fair. deed_reads honest all board fair now new deed l.8.1 (brought turns ++ es) r.2 l.8.3 l.8.6 (reads fair));
         }
       ]
-  life_leaves (Unopened h) v es w u d e b l = record {
-    version = h.slots.version;
-    entries = es;
-    may = (refl, refl);
-    born = reborn (either w (Start h.journal.number h.journal.bytes l.0)) l.1 e u h.slots.version es
-        (cut_held d l.1 w (Start h.journal.number h.journal.bytes l.0) b.settled (opening_allowed honest board limit h d w l.0 l.2.0 b.settled l.3 l.4) l.5) l.6
-        (opening_finds honest board limit h d w l.0 l.2.0 b.settled l.3 l.4 l.1 l.6.0 l.5 l.6.1) l.2.0.journaled.1.own.seven (λ fair. opened_reads v es w d h b l.2 l.3 fair);
-  }
+  life_leaves (Unopened h) v es w u d e b l =
+      let cut = opening_cut honest limit h d l.4 l.2 l.5 w.tables l.1 l.7 in
+      record {
+        version = h.slots.version;
+        entries = es;
+        may = (refl, refl);
+        born = reborn (either w (Start h.journal.number h.journal.bytes l.0)) l.1 e u h.slots.version es
+            (cut_held d l.1 w (Start h.journal.number h.journal.bytes l.0) b.settled (opening_allowed honest board limit h d w l.0 l.3.0 b.settled l.4 l.6) cut) l.8
+            (opening_finds honest board limit h d w l.0 l.3.0 b.settled l.4 l.6 l.1 l.8.0 cut l.8.1) l.3.0.journaled.1.own.seven (λ fair. opened_reads v es w d h b l.3 l.4 fair);
+      }
 
 module _ (law : TablesChange) (honest : Type 0) (all : ReadsAll honest) where
   ages_born : (lives : List Life) (v : Levels) (es : List Entry) (w u : World) (d e : Disk) → IsBorn honest v es w d → Ages honest lives w d u e → (x : Levels) × (fs : List Entry) × AllLeave lives v es x fs × IsBorn honest x fs u e

@@ -3,6 +3,7 @@ use Rattle.std.proofs.Common.{◌≡◌, ℕ, zero, suc, ◌+◌, List, [], ◌�
 use Rattle.atomic_table.specs.Seated.{TableId}
 use Rattle.lsm_codec.specs.Lists.{Has}
 use Rattle.lsm_storage.specs.Plans.{start_plan}
+use Rattle.lsm_shelf.specs.Asked.{Asked}
 use Rattle.lsm_table.specs.Registry.{Table}
 use Rattle.lsm_version.specs.Versions.{level_in, no_levels}
 use Rattle.lsm_state.specs.Held.{Held, IsLawfulState}
@@ -13,12 +14,13 @@ use Rattle.lsm_crash.specs.Known.{IsSettled, IsVacant, current_name, nothing}
 use Rattle.lsm_crash.specs.Operations.{MayStart, started, starting}
 use Rattle.lsm_crash.specs.Among.{CutAmong, DoneAmong}
 use Rattle.lsm_crash.specs.States.{Describes, Finds, HasTables, IsWorldOf}
-use Rattle.lsm_crash.specs.Database.{IsMade}
+use Rattle.lsm_crash.specs.Database.{HasMade, IsMade, plans_of}
 use Rattle.lsm_crash.proofs.Held.{vacant_held}
 use Rattle.lsm_crash.proofs.Starting.{start_done}
 use Rattle.lsm_crash.proofs.Runs.{begin_cut}
 use Rattle.lsm_crash.proofs.Forms.{recorded_describes}
 use Rattle.lsm_crash.proofs.Deeds.{are_there}
+use Rattle.lsm_crash.proofs.Asking.{create_asks}
 use Rattle.lsm_crash.proofs.Turning.{finds}
 
 nothing_in : (levels : List (List Table)) → ((ts : List Table) → Has levels ts → ts ≡ []) → (level : ℕ) (t : Table) → Has (level_in levels level) t → ⊥
@@ -38,6 +40,14 @@ each_none n levels e ts h = go (subst (λ ls. Has ls ts) e h)
     go (inr (inr (inr (inr (inr (inl a)))))) = sym a
     go (inr (inr (inr (inr (inr (inr (inl a))))))) = sym a
     go (inr (inr (inr (inr (inr (inr (inr none))))))) = absurd none
+
+-- the calls that the making of a database makes
+module _ (h : Held) (m : IsMade h) (asks : List Asked) (made : HasMade asks m.was m.now) (d e : Disk) where
+  pub making_done : DoneAmong nothing.tables (plans_of m.number asks) d e → DoneAmong nothing.tables (start_plan h.journal.number h.journal.bytes) d e
+  making_done done = subst (λ xs. DoneAmong nothing.tables (plans_of m.number xs) d e) (create_asks h m asks made) done
+
+  pub making_cut : CutAmong nothing.tables (plans_of m.number asks) d e → CutAmong nothing.tables (start_plan h.journal.number h.journal.bytes) d e
+  making_cut cut = subst (λ xs. CutAmong nothing.tables (plans_of m.number xs) d e) (create_asks h m asks made) cut
 
 module _ (honest : Type 0) (board : TableId) (h : Held) (v : Version) (l : IsLawfulState honest board h) (m : IsMade h) (to : ComesTo h.journal.bytes v) where
   number_is : h.journal.number ≡ m.number

@@ -7,6 +7,7 @@ use Rattle.lsm_codec.specs.Lists.{Has}
 use Rattle.lsm_codec.proofs.CallerLemmas.{any_at, any_says, has_left, has_right}
 use Rattle.lsm_storage.specs.FileNames.{table_name, manifest_name, current_text}
 use Rattle.lsm_storage.specs.Plans.{start_plan}
+use Rattle.lsm_shelf.specs.Asked.{Asked}
 use Rattle.lsm_table.specs.Registry.{Table}
 use Rattle.lsm_levels.specs.Files.{File}
 use Rattle.lsm_version.specs.Versions.{Levels, file_of, files, level_in, numbers_in}
@@ -22,13 +23,14 @@ use Rattle.lsm_crash.specs.Known.{IsSettled, World, current_name}
 use Rattle.lsm_crash.specs.Operations.{Allows, Start, after, either}
 use Rattle.lsm_crash.specs.Among.{CutAmong, DoneAmong}
 use Rattle.lsm_crash.specs.States.{Describes, Finds, HasTables, IsWorldOf}
-use Rattle.lsm_crash.specs.Database.{Opens, only_of, opened_world}
+use Rattle.lsm_crash.specs.Database.{HasMade, Opens, only_of, opened_world, plans_of}
 use Rattle.lsm_crash.proofs.Names.{texts_apart}
 use Rattle.lsm_crash.proofs.Standing.{stands_shows}
 use Rattle.lsm_crash.proofs.Held.{surely_recovers}
 use Rattle.lsm_crash.proofs.Runs.{cut_held, done_settled}
 use Rattle.lsm_crash.proofs.Forms.{recorded_describes, table_named}
 use Rattle.lsm_crash.proofs.Deeds.{are_there}
+use Rattle.lsm_crash.proofs.Asking.{open_asks}
 use Rattle.lsm_crash.proofs.Turning.{finds}
 
 -- ---- a name shows one text
@@ -69,6 +71,15 @@ has_number (g ∷ fs) f (inr h) = inr (has_number fs f h)
 
 pub number_in : (v : Levels) (level : ℕ) (t : Table) → Has (level_in v.tables level) t → Has (numbers_in v) t.number
 number_in v level t h = has_number (files v) (file_of (0 + level) t) (in_files 0 v.tables level t h)
+
+-- ---- the calls that an opening makes
+
+module _ (honest : Type 0) (limit : ℕ) (h : Held) (d : Disk) (p : Opens honest limit h d) (asks : List Asked) (made : HasMade asks p.was p.is) where
+  pub opening_done : (tables : Tables) (e : Disk) → DoneAmong tables (plans_of p.begun.before.number asks) d e → DoneAmong tables (start_plan h.journal.number h.journal.bytes) d e
+  opening_done tables e done = subst (λ xs. DoneAmong tables (plans_of p.begun.before.number xs) d e) (open_asks honest limit h d p asks made) done
+
+  pub opening_cut : (tables : Tables) (e : Disk) → CutAmong tables (plans_of p.begun.before.number asks) d e → CutAmong tables (start_plan h.journal.number h.journal.bytes) d e
+  opening_cut tables e cut = subst (λ xs. CutAmong tables (plans_of p.begun.before.number xs) d e) (open_asks honest limit h d p asks made) cut
 
 -- ---- an opening
 

@@ -72,10 +72,10 @@ ingest_stays old new ws e was is (inr (w, inr (sought, slot, inr (inl r)))) smal
 ingest_stays old new ws e was is (inr (w, inr (sought, slot, inr (inr r)))) small going = (changed ws old new e r.0 is w sought.looked.version r.3 going).0
 
 -- the number of a table that was put, or perhaps put, is spent
-pub put_spent : (old new : Held) (e : StateFault) (was is : Told) → FailsToPut old new e was is → old.next < new.next
-put_spent old new e was is r = (let n : new.next ≡ suc old.next = ap (λ (h : Held). h.next) r.0 in omega arith)
+pub put_spent : (old new : Held) (ws : List Write) (e : StateFault) (was is : Told) → FailsToPut old new ws e was is → old.next < new.next
+put_spent old new ws e was is r = (let n : new.next ≡ suc old.next = ap (λ (h : Held). h.next) r.0 in omega arith)
 
-pub change_spent : (old new : Held) (ws : List Write) (e : StateFault) (was is : Told) → IsWelcome old ws → new.slots.version ≡ old.slots.version → FailsToChange old new e was is → new.halted ≡ false → old.next < new.next
+pub change_spent : (old new : Held) (ws : List Write) (e : StateFault) (was is : Told) → IsWelcome old ws → new.slots.version ≡ old.slots.version → FailsToChange old new ws e was is → new.halted ≡ false → old.next < new.next
 change_spent old new ws e was is w same r going = (changed ws old new e r.0 is w same r.3 going).1
 
 room_at : (b : Bool) (next : ℕ) → (b ≡ true → next ≡ 2 ^ 64 - 1 → ⊥) → next < 2 ^ 64 → (if b then next + 1 else next) < 2 ^ 64

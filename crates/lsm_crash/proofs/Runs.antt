@@ -25,11 +25,11 @@ done_settled d e w (Start number bytes v) i ok h = start_done (known_of w) numbe
 -- ---- refusals after which the database goes on
 
 -- whatever these calls are answered, they are about other names
-abbrev AllClear : World → List Asked → Type 0
+abbrev pub AllClear : World → List Asked → Type 0
 AllClear w [] = Unit {0}
 AllClear w (s ∷ ss) = ((d : Disk) (a : Answer) → IsSettled d w → IsClear (w.manifest ∷ []) w.tables (s a)) × AllClear w ss
 
-clear_cut : (w : World) (ss : List Asked) (d e : Disk) → AllClear w ss → IsSettled d w → CutAmong w.tables ss d e → IsSettled e w
+pub clear_cut : (w : World) (ss : List Asked) (d e : Disk) → AllClear w ss → IsSettled d w → CutAmong w.tables ss d e → IsSettled e w
 clear_cut w [] d e c i h = settled_gap w d e h i
 clear_cut w (s ∷ ss) d e c i (m, g, inl same) = subst (λ x. IsSettled x w) (sym same) (settled_gap w d m g i)
 clear_cut w (s ∷ ss) d e c i (m, g, inr (inl r)) = (let j = settled_gap w d m g i in settled_gap w r.1 e r.3 (settled_step m r.1 w (s (Err r.0)) (c.0 m (Err r.0) j) r.2 j))

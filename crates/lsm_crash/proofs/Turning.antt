@@ -16,10 +16,12 @@ use Rattle.lsm_crash.specs.Known.{IsHeld, IsSettled, Known, Recovers, World, kno
 use Rattle.lsm_crash.specs.Operations.{Allows, Operation, Put, Remove, after, either, sure}
 use Rattle.lsm_crash.specs.Among.{failed}
 use Rattle.lsm_crash.specs.States.{Describes, Finds, HasTables, IsWorldOf}
-use Rattle.lsm_crash.specs.Database.{AllCut, AllDone, AllFail, AllowsAll, Answered, Asks, Builds, Collect, Deed, Ingest, Install, IsCut, IsReady, IsState, Looks, Refused, Stays, Turn, Turns, Works, after_all, operations}
+use Rattle.lsm_crash.specs.Database.{AllCut, AllDone, AllFail, AllowsAll, Answered, Asks, Builds, Collect, Deed, Ingest, Install, IsCut, IsState, Looks, Refused, Refuses, Turn, Turns, Works, after_all, operations}
 use Rattle.lsm_crash.proofs.Held.{settled_gap, settled_held, surely_recovers}
 use Rattle.lsm_crash.proofs.Tables.{count_settled}
-use Rattle.lsm_crash.proofs.Runs.{cut_held, done_settled, fails_settled}
+use Rattle.lsm_crash.proofs.Runs.{cut_held, done_settled}
+use Rattle.lsm_crash.proofs.Asking.{collect_asks, ingest_asks, install_asks, ready_tables}
+use Rattle.lsm_crash.proofs.Failing.{collect_fails, ingest_fails, install_fails}
 use Rattle.lsm_crash.proofs.Forms.{recorded_describes}
 use Rattle.lsm_crash.proofs.Worlds.{AreOut, Changes, Fewer, OfIngest, TablesChange, collect_may, collect_out, deed_allowed, drawn_world, fewer_more, fewer_one, fewer_same, ingest_is, install_changes, install_turned, stays_world}
 
@@ -28,34 +30,6 @@ use Rattle.lsm_crash.proofs.Worlds.{AreOut, Changes, Fewer, OfIngest, TablesChan
 pub all_done : (os : List Operation) (w u : World) (d e : Disk) → IsSettled d w → AllowsAll w os → AllDone w os u d e → IsSettled e u × (u ≡ after_all w os)
 all_done [] w u d e i ok h = (subst (λ x. IsSettled e x) (sym h.0) (settled_gap w d e h.1 i), h.0)
 all_done (o ∷ os) w u d e i ok h = all_done os (after w o) u h.0 e (done_settled d h.0 w o i ok.0 h.1) ok.1 h.2
-
--- ---- refused calls
-
--- the world is the first one or the second
-abbrev OneOf : World → World → World → Type 0
-OneOf w x u = (u ≡ w) ⊎ (u ≡ x)
-
-one_fails : (w : World) (o : Operation) (u : World) (d e : Disk) → IsSettled d w → Allows w o → failed w o ≡ w → AllFail w (o ∷ []) u d e → IsSettled e u × (u ≡ w)
-one_fails w o u d e i ok same (inl h) = (subst (λ x. IsSettled e x) (sym h.0) (settled_gap w d e h.1 i), h.0)
-one_fails w o u d e i ok same (inr (inl h)) = (let is : u ≡ w = h.1 ∙ same in (subst (λ x. IsSettled e x) (sym h.1) (fails_settled d e w o i ok h.0), is))
-one_fails w o u d e i ok same (inr (inr h)) = absurd h.2
-
-put_fails : (w : World) (number : ℕ) (image : List ℕ) (o : Operation) (u : World) (d e : Disk) → IsSettled d w → Allows w (Put number image) → Allows (after w (Put number image)) o
-    → failed (after w (Put number image)) o ≡ after w (Put number image) → AllFail w (Put number image ∷ o ∷ []) u d e → IsSettled e u × OneOf w (after w (Put number image)) u
-put_fails w number image o u d e i ok next same (inl h) = (subst (λ x. IsSettled e x) (sym h.0) (settled_gap w d e h.1 i), inl h.0)
-put_fails w number image o u d e i ok next same (inr (inl h)) = (subst (λ x. IsSettled e x) (sym h.1) (fails_settled d e w (Put number image) i ok h.0), inl h.1)
-put_fails w number image o u d e i ok next same (inr (inr h)) =
-    let r = one_fails (after w (Put number image)) o u h.0 e (done_settled d h.0 w (Put number image) i ok h.1) next same h.2 in
-    (r.0, inr r.1)
-
-removes_fail : (v : Version) (ns : List ℕ) (w u : World) (d e : Disk) → IsSettled d w → AreOut w ns → AllFail w (operations v (map shelf.Remove ns)) u d e → IsSettled e u × Fewer w u ns
-removes_fail v [] w u d e i out h = absurd h
-removes_fail v (n ∷ ns) w u d e i out (inl h) = (subst (λ x. IsSettled e x) (sym h.0) (settled_gap w d e h.1 i), subst (λ x. Fewer w x (n ∷ ns)) (sym h.0) (fewer_same w (n ∷ ns)))
-removes_fail v (n ∷ ns) w u d e i out (inr (inl h)) =
-    (subst (λ x. IsSettled e x) (sym h.1) (fails_settled d e w (Remove n) i (out n (inl refl)) h.0), subst (λ x. Fewer w x (n ∷ ns)) (sym h.1) (fewer_one w n ns))
-removes_fail v (n ∷ ns) w u d e i out (inr (inr h)) =
-    let r = removes_fail v ns (after w (Remove n)) u h.0 e (done_settled d h.0 w (Remove n) i (out n (inl refl)) h.1) (λ m k. out m (inr k)) h.2 in
-    (r.0, fewer_more w (after w (Remove n)) u n ns (fewer_one w n []) r.1)
 
 -- ---- calls that were cut
 
@@ -159,35 +133,18 @@ describes honest board h w l o c = recorded_describes l.journaled.0 h.journal h.
 
 module _ (law : TablesChange) (honest : Type 0) (board : TableId) where
   -- a refused call leaves what the state stands for, whatever it was
-  refused_at : (old ok new : Held) (deed : Deed) (asks : List Asked) (v : Version) (w u : World) (d e : Disk) → IsState honest board old → IsState honest board ok → IsWorldOf old w → IsSettled d w → Asks old ok deed asks → IsReady deed w → ComesTo ok.journal.bytes v
-      → Stays old new → ((n : ℕ) (image : List ℕ) → u.tables n ≡ Some image → n < new.next) → AllFail w (operations v asks) u d e → IsSettled e u × IsWorldOf new u
-  refused_at old ok new (Ingest ws r) asks v w u d e lo lk o i a ready to s below h =
-      let g = ingest_is law honest board old ok w v lo.0 lk.0 o i.comes to ws r a.0 a.1 a.2 a.3 in
-      let p = put_fails w old.next g.image g.o u d e i g.put g.changes.allowed g.changes.fails (subst (λ os. AllFail w os u d e) g.is (subst (λ xs. AllFail w (operations v xs) u d e) a.4 h)) in (
-        p.0,
-        elim p.1 [
-          | inl same ↦ stays_world old new u s (ap (λ (x : World). x.manifest) same ∙ o.manifest) (ap (λ (x : World). x.bytes) same ∙ o.bytes) (subst (λ (x : World). HasTables x.tables old.slots.version) (sym same) o.tables) below o.own
-          | inr same ↦ stays_world old new u s (ap (λ (x : World). x.manifest) same ∙ o.manifest) (ap (λ (x : World). x.bytes) same ∙ o.bytes) (subst (λ (x : World). HasTables x.tables old.slots.version) (sym same) g.has) below o.own
-        ],
-      )
-  refused_at old ok new (Install done) asks v w u d e lo lk o i a ready to s below h =
-      let t = install_turned law honest board old ok w v lo.0 lk.0 o i.comes to done a.0 a.1 a.2 a.3 ready in
-      let c = install_changes law honest board old ok w v lo.0 lk.0 o i.comes to done a.0 a.1 a.2 a.3 ready in
-      let p = one_fails w t.o u d e i c.allowed c.fails (subst (λ os. AllFail w os u d e) t.is (subst (λ xs. AllFail w (operations v xs) u d e) a.4 h)) in
-      (p.0, stays_world old new u s (ap (λ (x : World). x.manifest) p.1 ∙ o.manifest) (ap (λ (x : World). x.bytes) p.1 ∙ o.bytes) (subst (λ (x : World). HasTables x.tables old.slots.version) (sym p.1) o.tables) below o.own)
-  refused_at old ok new (Collect removed) asks v w u d e lo lk o i a ready to s below h =
-      let p = removes_fail v removed w u d e i (collect_may law honest board old ok w v lo lk o i.comes to removed a.0 a.1 a.3 a.5 ready) (subst (λ xs. AllFail w (operations v xs) u d e) a.6 h) in (
-        p.0,
-        stays_world old new u s (p.1.manifest ∙ o.manifest) (p.1.bytes ∙ o.bytes)
-            (λ level t k. p.1.more t.number t.image (o.tables level t k) (collect_out law honest board old ok w v lo lk o i.comes to removed a.0 a.1 a.3 a.5 level t k)) below o.own,
-      )
+  refused_at : (old new : Held) (deed : Deed) (asks next : List Asked) (w u : World) (d e : Disk) → IsState honest board old → IsState honest board new → IsWorldOf old w → IsSettled d w → Refuses old new deed asks next → new.halted ≡ false
+      → AllFail w (operations w.version asks) (operations w.version next) u d e → IsSettled e u × IsWorldOf new u
+  refused_at old new (Ingest ws r) asks next w u d e lo ln o i x going h = ingest_fails old new w u d e o i ws r asks next x going h
+  refused_at old new (Install done) asks next w u d e lo ln o i x going h = install_fails old new w u d e o i [] done asks next x going h
+  refused_at old new (Collect removed) asks next w u d e lo ln o i x going h = collect_fails honest board old new w u d e lo ln o i removed asks next x going h
 
   turn_keeps : (old new : Held) (turn : Turn) (w u : World) (d e : Disk) → IsState honest board old → IsState honest board new → IsSettled d w → IsWorldOf old w → Turns honest board old new turn w u d e → IsSettled e u × IsWorldOf new u
   turn_keeps old new (Answered deed) w u d e lo ln i o h =
       let ok = deed_allowed law honest board old new deed h.1 w h.0 lo ln o i.comes h.2 h.3 h.4 in
       let r = all_done (operations h.0 h.1) w u d e i ok.0 h.5 in
       (r.0, subst (λ x. IsWorldOf new x) (sym r.1) ok.1)
-  turn_keeps old new (Refused deed) w u d e lo ln i o h = refused_at old h.0 new deed h.2 h.1 w u d e lo h.3 o i h.4 h.5 h.6 h.8 h.9 h.7
+  turn_keeps old new (Refused deed) w u d e lo ln i o h = refused_at old new deed h.0 h.1 w u d e lo ln o i h.2 h.3 h.4
   turn_keeps old new (Builds number image) w u d e lo ln i o h =
       let mid = h.3.0 in
       let at = settled_gap w d mid h.3.1 i in
@@ -216,16 +173,16 @@ module _ (law : TablesChange) (honest : Type 0) (board : TableId) where
   cut_known old new (Ingest ws r) w known d e lo i o h =
       let a = h.3 in
       let g = ingest_is law honest board old new w h.0 lo.0 h.2.0 o i.comes h.5 ws r a.0 a.1 a.2 a.3 in
-      ingest_cut old new w h.0 known d e i o g (subst (λ os. AllCut w os known d e) g.is (subst (λ xs. AllCut w (operations h.0 xs) known d e) a.4 h.7))
+      ingest_cut old new w h.0 known d e i o g (subst (λ os. AllCut w os known d e) g.is (subst (λ xs. AllCut w (operations h.0 xs) known d e) (ingest_asks old new ws r a.0 a.1 a.3 h.1 a.4) h.7))
   cut_known old new (Install done) w known d e lo i o h =
       let a = h.3 in
-      let t = install_turned law honest board old new w h.0 lo.0 h.2.0 o i.comes h.5 done a.0 a.1 a.2 a.3 h.4 in
-      let c = install_changes law honest board old new w h.0 lo.0 h.2.0 o i.comes h.5 done a.0 a.1 a.2 a.3 h.4 in
-      change_cut old new w w h.0 t.o known d e i refl o.tables c (subst (λ os. AllCut w os known d e) t.is (subst (λ xs. AllCut w (operations h.0 xs) known d e) a.4 h.7))
+      let t = install_turned law honest board old new w h.0 lo.0 h.2.0 o i.comes h.5 done a.0 a.1 a.2 a.3 (ready_tables honest board old w done lo.0 o a.2 h.4) in
+      let c = install_changes law honest board old new w h.0 lo.0 h.2.0 o i.comes h.5 done a.0 a.1 a.2 a.3 (ready_tables honest board old w done lo.0 o a.2 h.4) in
+      change_cut old new w w h.0 t.o known d e i refl o.tables c (subst (λ os. AllCut w os known d e) t.is (subst (λ xs. AllCut w (operations h.0 xs) known d e) (install_asks old new done a.0 a.1 a.3 h.1 a.4) h.7))
   cut_known old new (Collect removed) w known d e lo i o h =
       let a = h.3 in
       removes_cut old.slots.version new.slots.version w w h.0 removed known d e i refl (collect_may law honest board old new w h.0 lo h.2 o i.comes h.5 removed a.0 a.1 a.3 a.5 h.4) o.tables
-      (collect_out law honest board old new w h.0 lo h.2 o i.comes h.5 removed a.0 a.1 a.3 a.5) (subst (λ xs. AllCut w (operations h.0 xs) known d e) a.6 h.7)
+      (collect_out law honest board old new w h.0 lo h.2 o i.comes h.5 removed a.0 a.1 a.3 a.5) (subst (λ xs. AllCut w (operations h.0 xs) known d e) (collect_asks new removed a.0 a.1 a.5 h.1 a.6) h.7)
 
   pub cut_leaves : (old new : Held) (deed : Deed) (w : World) (known : Known) (d e : Disk) (found : Found) → IsState honest board old → IsSettled d w → IsWorldOf old w → IsCut honest board old new deed w known d e → IsLeft e found
       → Finds old.slots.version found ⊎ Finds new.slots.version found

@@ -3,6 +3,7 @@ use Rattle.std.proofs.Common.{◌≡◌, ℕ, suc, ◌+◌, ◌<◌, ◌≤◌, 
 use Rattle.std.specs.Prelude.{◌↔◌, ◌==◌, not, if◌then◌else◌}
 use Rattle.std.proofs.lemmas.Bool.{cases_lt, eq-eqb}
 use Rattle.atomic_table.specs.Seated.{TableId}
+use Rattle.lsm_codec.specs.Entries.{Entry}
 use Rattle.lsm_codec.specs.Lists.{Has}
 use Rattle.lsm_codec.proofs.CallerLemmas.{any_at, filter_has}
 use Rattle.lsm_shelf.specs.Told.{Told}
@@ -24,7 +25,7 @@ use Rattle.lsm_state.specs.Asked.{changes_by}
 use Rattle.lsm_state.specs.Changing.{ChangesVersion}
 use Rattle.lsm_state.specs.Collecting.{AreCollected, HasLookedAround, is_in}
 use Rattle.lsm_state.specs.Held.{Held, IsLawfulState}
-use Rattle.lsm_state.specs.Ingesting.{Ingests, IsWelcome, coming_in, last_of, with_number, with_slots}
+use Rattle.lsm_state.specs.Ingesting.{Ingests, IsWelcome, coming_in, entries_of, last_of, with_number, with_slots}
 use Rattle.lsm_state.specs.Installing.{Installed, MayInstall, added_at}
 use Rattle.lsm_state.specs.declared.ingest.Ingested.{Ingested}
 use Rattle.lsm_crash.specs.Versions.{ComesTo, Tables, Version}
@@ -36,6 +37,7 @@ use Rattle.lsm_crash.specs.Database.{AllowsAll, Asks, Collect, Deed, Ingest, Ins
 use Rattle.lsm_crash.proofs.Tables.{set_cases}
 use Rattle.lsm_crash.proofs.Forms.{named_table, recorded_describes}
 use Rattle.lsm_crash.proofs.Deeds.{Rises, Turned, rises, turned}
+use Rattle.lsm_crash.proofs.Asking.{collect_asks, ingest_asks, install_asks, ready_tables}
 
 -- what a change says of tables (a law of versions)
 abbrev pub TablesChange : Type 0
@@ -63,12 +65,12 @@ pub record Changes (x : World) (new : Held) (v : Version) (o : Operation) : Type
   pub world : IsWorldOf new (after x o)
 
 -- between the states: with these tables, from this next number on
-module _ (honest : Type 0) (board : TableId) (mid new : Held) (d : Difference) (out : Option ℕ) (n0 : ℕ) (x : World) (v : Version) (was is : Told)
+module _ (honest : Type 0) (board : TableId) (mid new : Held) (d : Difference) (out : Option ℕ) (coming : List Entry) (n0 : ℕ) (x : World) (v : Version) (was is : Told)
     (ln : IsLawfulState honest board new) (before : IsRecorded 0 mid.journal mid.slots.version n0)
     (number : x.manifest ≡ mid.journal.number) (text : x.bytes ≡ mid.journal.bytes) (comes : ComesTo x.bytes x.version) (to : ComesTo new.journal.bytes v)
     (has : HasTables x.tables new.slots.version) (below : (n : ℕ) (image : List ℕ) → x.tables n ≡ Some image → n < mid.next)
     (own : mid.journal.number < mid.next) (small : mid.next < 2 ^ 64) (room : is_at_limit mid.journal ≡ true → mid.next + 1 < 2 ^ 64)
-    (c : ChangesVersion mid new d out was is) where
+    (c : ChangesVersion mid new d out coming was is) where
   abbrev W : Levels
   W = changed_by d mid.slots.version
 
@@ -103,7 +105,7 @@ module _ (honest : Type 0) (board : TableId) (mid new : Held) (d : Difference) (
 
 -- ---- an ingest
 
-none_or : (o : Option (List ℕ)) → ((image : List ℕ) → o ≡ Some image → ⊥) → o ≡ None
+pub none_or : (o : Option (List ℕ)) → ((image : List ℕ) → o ≡ Some image → ⊥) → o ≡ None
 none_or None h = refl
 none_or (Some image) h = absurd (h image refl)
 
@@ -181,7 +183,7 @@ module _ (law : TablesChange) (honest : Type 0) (board : TableId) (old new : Hel
     room e = needs_two (is_at_limit old.journal) old.next e welcome.numbers
 
     abbrev T : Turned x new.journal v (changes_by (with_number old i.slots) d)
-    T = change_turned honest board (with_number old i.slots) new d None old.next x v i.mid is ln before o.manifest o.bytes comes to new_has below own small room i.changes
+    T = change_turned honest board (with_number old i.slots) new d None (entries_of old ws) old.next x v i.mid is ln before o.manifest o.bytes comes to new_has below own small room i.changes
 
     pub ingest_is : OfIngest old new w v (operations v (shelf.Put old.next i.table.image ∷ changes_by (with_number old i.slots) d ∷ []))
     ingest_is = record {
@@ -190,7 +192,7 @@ module _ (law : TablesChange) (honest : Type 0) (board : TableId) (old new : Hel
       is = ap (λ os. P ∷ os) T.is;
       put = ((let a = o.fits in omega arith), none_or (w.tables old.next) (λ image k. (let lt = o.below old.next image k in omega arith)));
       has = old_has;
-      changes = change_changes honest board (with_number old i.slots) new d None old.next x v i.mid is ln before o.manifest o.bytes comes to new_has below own small room i.changes;
+      changes = change_changes honest board (with_number old i.slots) new d None (entries_of old ws) old.next x v i.mid is ln before o.manifest o.bytes comes to new_has below own small room i.changes;
     }
 
   -- ---- an install
@@ -223,11 +225,11 @@ module _ (law : TablesChange) (honest : Type 0) (board : TableId) (old new : Hel
     ]
 
     pub install_turned : Turned w new.journal v (changes_by (with_slots old i.slots) i.change)
-    install_turned = change_turned honest board (with_slots old i.slots) new i.change (Some done.work.ticket) old.next w v was is ln recorded o.manifest o.bytes comes to installed_has o.below o.own o.fits spare i.changes
+    install_turned = change_turned honest board (with_slots old i.slots) new i.change (Some done.work.ticket) [] old.next w v was is ln recorded o.manifest o.bytes comes to installed_has o.below o.own o.fits spare i.changes
 
     pub install_changes : Changes w new v install_turned.o
     unfolding install_turned change_turned
-    install_changes = change_changes honest board (with_slots old i.slots) new i.change (Some done.work.ticket) old.next w v was is ln recorded o.manifest o.bytes comes to installed_has o.below o.own o.fits spare i.changes
+    install_changes = change_changes honest board (with_slots old i.slots) new i.change (Some done.work.ticket) [] old.next w v was is ln recorded o.manifest o.bytes comes to installed_has o.below o.own o.fits spare i.changes
 
 -- ---- a collect
 
@@ -275,11 +277,11 @@ pub removes_fewer : (v : Version) (ns : List ℕ) (w : World) → Fewer w (after
 removes_fewer v [] w = fewer_same w []
 removes_fewer v (n ∷ ns) w = fewer_more w (after w (Remove n)) (after_all (after w (Remove n)) (operations v (map shelf.Remove ns))) n ns (fewer_one w n []) (removes_fewer v ns (after w (Remove n)))
 
-not_both : (b : Bool) → not b ≡ true → b ≡ true → ⊥
+pub not_both : (b : Bool) → not b ≡ true → b ≡ true → ⊥
 not_both true h k = cc
 not_both false h k = cc
 
-has_file : (v : Levels) (level : ℕ) (t : Table) → Has (level_in v.tables level) t → Has (files v) (file_of level t)
+pub has_file : (v : Levels) (level : ℕ) (t : Table) → Has (level_in v.tables level) t → Has (files v) (file_of level t)
 has_file v level t h = (let e : 0 + level ≡ level = omega arith in subst (λ (m : ℕ). Has (files v) (file_of m t)) e (in_files 0 v.tables level t h))
 
 -- no table of the current version is removed
@@ -366,20 +368,20 @@ module _ (law : TablesChange) (honest : Type 0) (board : TableId) (old new : Hel
   abbrev Good : List Operation → Type 0
   Good os = AllowsAll w os × IsWorldOf new (after_all w os)
 
-  pub allowed_at : (deed : Deed) (asks : List Asked) → Asks old new deed asks → IsReady deed w → AllowsAll w (operations v asks) × IsWorldOf new (after_all w (operations v asks))
+  pub allowed_at : (deed : Deed) (asks : List Asked) → Asks old new deed asks → IsReady honest deed w → AllowsAll w (operations v asks) × IsWorldOf new (after_all w (operations v asks))
   allowed_at (Ingest ws r) asks a ready =
       let i = ingest_is law honest board old new w v lo.0 ln.0 o comes to ws r a.0 a.1 a.2 a.3 in
       let one : Good (Put old.next i.image ∷ i.o ∷ []) = ((i.put, (i.changes.allowed, tt)), i.changes.world) in
-      subst (λ xs. Good (operations v xs)) (sym a.4) (subst Good (sym i.is) one)
+      subst (λ xs. Good (operations v xs)) (sym (ingest_asks old new ws r a.0 a.1 a.3 asks a.4)) (subst Good (sym i.is) one)
   allowed_at (Install done) asks a ready =
-      let t = install_turned law honest board old new w v lo.0 ln.0 o comes to done a.0 a.1 a.2 a.3 ready in
-      let c = install_changes law honest board old new w v lo.0 ln.0 o comes to done a.0 a.1 a.2 a.3 ready in
+      let t = install_turned law honest board old new w v lo.0 ln.0 o comes to done a.0 a.1 a.2 a.3 (ready_tables honest board old w done lo.0 o a.2 ready) in
+      let c = install_changes law honest board old new w v lo.0 ln.0 o comes to done a.0 a.1 a.2 a.3 (ready_tables honest board old w done lo.0 o a.2 ready) in
       let one : Good (t.o ∷ []) = ((c.allowed, tt), c.world) in
-      subst (λ xs. Good (operations v xs)) (sym a.4) (subst Good (sym t.is) one)
+      subst (λ xs. Good (operations v xs)) (sym (install_asks old new done a.0 a.1 a.3 asks a.4)) (subst Good (sym t.is) one)
   allowed_at (Collect removed) asks a ready =
       let one : Good (operations v (map shelf.Remove removed)) = (removes_allowed v removed w (collect_may removed a.0 a.1 a.3 a.5 ready), collect_world removed a.0 a.1 a.3 a.4 a.5) in
-      subst (λ xs. Good (operations v xs)) (sym a.6) one
+      subst (λ xs. Good (operations v xs)) (sym (collect_asks new removed a.0 a.1 a.5 asks a.6)) one
 
 pub deed_allowed : TablesChange → (honest : Type 0) (board : TableId) (old new : Held) (deed : Deed) (asks : List Asked) (w : World) (v : Version) → IsState honest board old → IsState honest board new → IsWorldOf old w → ComesTo w.bytes w.version
-    → Asks old new deed asks → IsReady deed w → ComesTo new.journal.bytes v → AllowsAll w (operations v asks) × IsWorldOf new (after_all w (operations v asks))
+    → Asks old new deed asks → IsReady honest deed w → ComesTo new.journal.bytes v → AllowsAll w (operations v asks) × IsWorldOf new (after_all w (operations v asks))
 deed_allowed law honest board old new deed asks w v lo ln o comes a ready to = allowed_at law honest board old new w v lo ln o comes to deed asks a ready

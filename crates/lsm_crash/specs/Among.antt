@@ -1,6 +1,6 @@
 -- Operations on the manifest among calls of other threads, which put their tables meanwhile.
-use Rattle.std.specs.Prelude.{◌≡◌, ◌⊎◌, ℕ, ◌^◌, ◌<◌, List, [], ◌∷◌, Ok, Err, Some}
-use Rattle.lsm_folder.specs.Calls.{Call, opened, made, wrote, appended, synced, folder_synced, renamed, removed, measured, read, loaded, listed, locked}
+use Rattle.std.specs.Prelude.{◌≡◌, ◌⊎◌, ℕ, ◌^◌, ◌<◌, List, [], ◌∷◌, Ok, Err, Some, None}
+use Rattle.lsm_folder.specs.Calls.{Answer, Call, opened, made, wrote, appended, synced, folder_synced, renamed, removed, measured, read, loaded, listed, locked}
 use Rattle.lsm_folder.specs.declared.folder_fault.FolderFault.{FolderFault}
 use Rattle.lsm_folder.specs.declared.folder_fault.FolderFault.TheVariants as folder
 use Rattle.lsm_storage.specs.FileNames.{table_name, manifest_name, temporary_name}
@@ -96,3 +96,17 @@ Goes w (Does o ∷ es) u d e = Allows w o × ((mid : Disk) × ((DoneAmong (after
 abbrev pub Spares : List ℕ → List Call → Disk → Disk → Type 0
 Spares q [] d e = e ≡ d
 Spares q (c ∷ cs) d e = Avoids q c × ((mid : Disk) × Step d c mid × Spares q cs mid e)
+
+-- ---- a cleaning
+
+-- The name is of another manifest, of a temporary file, or of a table that is not counted on.
+abbrev pub IsSpare : World → List ℕ → Type 0
+IsSpare w name = ((n : ℕ) × (n < 2 ^ 64) × (n ≡ w.manifest → ⊥) × (name ≡ manifest_name n))
+    ⊎ (((n : ℕ) × (n < 2 ^ 64) × (name ≡ temporary_name n))
+    ⊎ ((n : ℕ) × (n < 2 ^ 64) × (w.tables n ≡ None) × (name ≡ table_name n)))
+
+-- spare names are removed one after another, whatever is answered
+abbrev pub Cleans : World → List (List ℕ) → Disk → Disk → Type 0
+Cleans w [] d e = e ≡ d
+Cleans w (name ∷ names) d e = IsSpare w name
+    × ((answer : Answer) × (mid : Disk) × Step d (removed name answer) mid × Cleans w names mid e)

@@ -4,7 +4,7 @@ use Rattle.atomic_table.specs.Seated.{TableId}
 use Rattle.lsm_codec.specs.Entries.{Entry, answer}
 use Rattle.lsm_codec.specs.Keys.{UserKey}
 use Rattle.lsm_codec.specs.Lists.{Has}
-use Rattle.lsm_storage.specs.Plans.{start_plan}
+use Rattle.lsm_shelf.specs.Asked.{Asked}
 use Rattle.lsm_levels.specs.Files.{all_entries}
 use Rattle.lsm_version.specs.Versions.{Levels, files}
 use Rattle.lsm_batch.specs.Batches.{entries_from}
@@ -16,7 +16,7 @@ use Rattle.lsm_crash.specs.Known.{Known, World, known_of}
 use Rattle.lsm_crash.specs.Operations.{Start, either}
 use Rattle.lsm_crash.specs.Among.{CutAmong, DoneAmong}
 use Rattle.lsm_crash.specs.History.{IsRead}
-use Rattle.lsm_crash.specs.Database.{Answered, Builds, Collect, Deed, Ingest, Install, IsCut, IsState, Looks, Opens, Refused, Turn, Works, opened_world}
+use Rattle.lsm_crash.specs.Database.{Answered, Builds, Collect, Deed, HasMade, Ingest, Install, IsCut, IsState, Looks, Opens, Refused, Turn, Works, opened_world, plans_of}
 
 -- ---- what ingests bring in, and what reads give
 
@@ -50,10 +50,10 @@ pub data Life : Type 0 where
 
 -- it was opened
 abbrev pub Begins : Type 0 → TableId → ℕ → Held → (w u : World) → (d e : Disk) → Type 0
-Begins honest board limit h w u d e = (v : Version) × IsState honest board h
-    × Opens honest limit h d × ComesTo h.journal.bytes v
-    × DoneAmong w.tables (start_plan h.journal.number h.journal.bytes) d e
-    × (u ≡ opened_world h v w)
+Begins honest board limit h w u d e = (v : Version) × (asks : List Asked)
+    × IsState honest board h × (p : Opens honest limit h d) × HasMade asks p.was p.is
+    × ComesTo h.journal.bytes v
+    × DoneAmong w.tables (plans_of p.begun.before.number asks) d e × (u ≡ opened_world h v w)
 
 -- a crash, after which this world is read of the folder that was found, on its disk
 abbrev pub Crashed : Known → (d : Disk) → (u : World) → (e : Disk) → Type 0
@@ -71,9 +71,10 @@ Lived honest board limit (Struck h now new turns deed) w d u e = (x : World) × 
     × (m : Disk) × (n : Disk) × (known : Known) × (o : Disk) × Begins honest board limit h w x d m
     × Works honest board h now turns x y m n × IsCut honest board now new deed y known n o
     × Crashed known o u e
-Lived honest board limit (Unopened h) w d u e = (v : Version) × (m : Disk) × IsState honest board h
-    × Opens honest limit h d × ComesTo h.journal.bytes v
-    × CutAmong w.tables (start_plan h.journal.number h.journal.bytes) d m
+Lived honest board limit (Unopened h) w d u e = (v : Version) × (m : Disk) × (asks : List Asked)
+    × IsState honest board h × (p : Opens honest limit h d) × HasMade asks p.was p.is
+    × ComesTo h.journal.bytes v
+    × CutAmong w.tables (plans_of p.begun.before.number asks) d m
     × Crashed (either w (Start h.journal.number h.journal.bytes v)) m u e
 
 -- The version that is left, and all that came in until then: what was answered Ok, and perhaps what

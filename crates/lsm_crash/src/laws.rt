@@ -23,13 +23,13 @@ ghost use Rattle.lsm_crash.specs.Disk.{After, Disk, Leaves, Names, Shows, Step};
 ghost use Rattle.lsm_crash.specs.Disk.{empty_disk};
 ghost use Rattle.lsm_crash.specs.Crash.{Found, IsFresh, IsLeft, IsSpoilt, MayFind};
 ghost use Rattle.lsm_crash.specs.Crash.{MayFindBoth, mixed};
-ghost use Rattle.lsm_crash.specs.Versions.{AreSmall, ComesTo, IsNamed, LeadsTo, Tables, Version};
+ghost use Rattle.lsm_crash.specs.Versions.{AreSmall, AreThere, ComesTo, IsNamed, LeadsTo, Tables, Version};
 ghost use Rattle.lsm_crash.specs.Known.{IsHeld, IsSettled, IsSound, IsVacant, KeepsFront, Known};
 ghost use Rattle.lsm_crash.specs.Known.{Recovers, Stands, World, current_name, known_of, nothing};
 ghost use Rattle.lsm_crash.specs.Known.{world_of};
 ghost use Rattle.lsm_crash.specs.Operations.{Allows, Append, MayStart, Operation, Put, Remove};
 ghost use Rattle.lsm_crash.specs.Operations.{Start, after, either, plan_of, started, starting};
-ghost use Rattle.lsm_crash.specs.Among.{CutAmong, DoneAmong, Event, Goes, IsAside, IsGap, Spares};
+ghost use Rattle.lsm_crash.specs.Among.{Cleans, CutAmong, DoneAmong, Event, Goes, IsAside, IsGap, Spares};
 ghost use Rattle.lsm_crash.specs.History.{History, IsPhase, IsRead, Move, Phase};
 
 /// A crash in any call of an operation, after any run of operations, among calls of other threads:
@@ -231,6 +231,25 @@ pub fn refused_calls_of_a_shelf_leave_before_or_after()
         (answer : Result (List ℕ) folder_fault.FolderFault)
         → Leaves d old (λ e. IsSettled e w) → Leaves d (loaded name answer ∷ old)
         (λ e. IsSettled e w) }
+{}
+
+/// What a cleaning of a folder does may be done, as where a program was killed between an append or a
+/// rename and the sync behind it: once the manifest that `CURRENT` shows and the folder were synced,
+/// what is shown is durable, and its version is one that was known. Then the names of other
+/// manifests, of temporary files, and of tables that are not counted on may be removed, whatever is
+/// answered.
+pub fn cleanings_keep_what_is_shown()
+    ensures synced { (known : Known) (number : ℕ) (bytes : List ℕ) (d mid e : Disk)
+        → IsHeld d known → number < 2 ^ 64 → Shows d current_name (current_text number)
+        → Shows d (manifest_name number) bytes
+        → Step d (synced (manifest_name number) (Ok tt)) mid → Step mid (folder_synced (Ok tt)) e
+        → (v : Version) × Has known.versions v × IsSettled e (started known number bytes v) }
+    ensures fewer { (d : Disk) (w : World) (tables : Tables) → IsSettled d w
+        → ((number : ℕ) (image : List ℕ) → tables number ≡ Some image
+        → w.tables number ≡ Some image) → AreThere w.version tables
+        → IsSettled d (record w { tables = tables }) }
+    ensures removed { (w : World) (names : List (List ℕ)) (d e : Disk) → IsSettled d w
+        → Cleans w names d e → IsSettled e w }
 {}
 
 /// Other threads may make, sync and remove tables that are not counted on, whatever is answered,

@@ -3,21 +3,26 @@
 
 ghost use Rattle.std.specs.Prelude.{◌≡◌, ◌⊎◌, ◌↔◌, ◌++◌, ◌<◌, ◌^◌, ℕ, List, [], None};
 ghost use Rattle.std.specs.Prelude.{◌∷◌};
-ghost use Rattle.std.specs.Prelude.{false, length};
+ghost use Rattle.std.specs.Prelude.{false, length, map};
 ghost use Rattle.atomic_table.specs.Seated.{TableId};
 ghost use Rattle.lsm_codec.specs.Entries.{Entry};
 ghost use Rattle.lsm_codec.specs.Lists.{Has};
-ghost use Rattle.lsm_storage.specs.Plans.{start_plan};
 ghost use Rattle.lsm_levels.specs.Files.{File};
-ghost use Rattle.lsm_shelf.specs.Asked.{Asked};
-ghost use Rattle.lsm_shelf.specs.Told.{Told};
+ghost use Rattle.lsm_storage.specs.FileNames.{table_name};
+ghost use Rattle.lsm_shelf.specs.Asked.{Asked, Put, Remove, StartManifest};
+ghost use Rattle.lsm_shelf.specs.Told.{Becomes, Told};
 ghost use Rattle.lsm_batch.specs.declared.write.Write.{Write};
-ghost use Rattle.lsm_merge.specs.Work.{Done};
-ghost use Rattle.lsm_state.specs.Collecting.{HasLookedAround};
+ghost use Rattle.lsm_merge.specs.Outputs.{putting_all};
+ghost use Rattle.lsm_merge.specs.Work.{Done, puts_by};
+ghost use Rattle.lsm_state.specs.Asked.{changes_by};
+ghost use Rattle.lsm_state.specs.Collecting.{AreCollected, HasLookedAround, IsCollectRefusal};
+ghost use Rattle.lsm_state.specs.Collecting.{IsKeptNumber};
 ghost use Rattle.lsm_state.specs.Held.{Held};
-ghost use Rattle.lsm_state.specs.Ingesting.{FailsToChange, FailsToPut, IsIngestRefusal, IsWelcome};
-ghost use Rattle.lsm_state.specs.Ingesting.{with_slots};
-ghost use Rattle.lsm_state.specs.Installing.{IsInstallRefusal};
+ghost use Rattle.lsm_state.specs.Ingesting.{FailsToChange, FailsToPut, Ingests, IsIngestRefusal};
+ghost use Rattle.lsm_state.specs.Ingesting.{IsWelcome, coming_in, last_of, table_bytes_of};
+ghost use Rattle.lsm_state.specs.Ingesting.{with_number, with_slots};
+ghost use Rattle.lsm_state.specs.Installing.{Installed, IsInstallRefusal};
+ghost use Rattle.lsm_state.specs.declared.ingest.Ingested.{Ingested};
 ghost use Rattle.lsm_state.specs.declared.state_fault.StateFault.{StateFault};
 ghost use Rattle.lsm_crash.specs.Disk.{Disk};
 ghost use Rattle.lsm_crash.specs.Crash.{Found, IsFresh, IsLeft};
@@ -27,11 +32,12 @@ ghost use Rattle.lsm_crash.specs.Operations.{started};
 ghost use Rattle.lsm_crash.specs.Among.{CutAmong, DoneAmong};
 ghost use Rattle.lsm_crash.specs.States.{Describes, Finds, IsWorldOf, Shown};
 ghost use Rattle.lsm_crash.specs.Database.{AllowsAll, Asks, Deed, IsCut, IsReady, IsState, Turn};
-ghost use Rattle.lsm_crash.specs.Database.{Answered, Follows, IsMade, Opens, Works, after_all};
-ghost use Rattle.lsm_crash.specs.Database.{opened_world};
+ghost use Rattle.lsm_crash.specs.Database.{Answered, Follows, HasMade, IsMade, Opens};
+ghost use Rattle.lsm_crash.specs.Database.{Ingest, SmallRun, Works, after_all, opened_world};
+ghost use Rattle.lsm_crash.specs.Database.{plans_of};
 ghost use Rattle.lsm_crash.specs.Database.{Stays, operations};
 ghost use Rattle.lsm_crash.specs.Lives.{Ages, AllLeave, Answers, Life, brought};
-ghost use Rattle.lsm_crash.specs.Versions.{ComesTo, Version};
+ghost use Rattle.lsm_crash.specs.Versions.{ComesTo, Tables, Version};
 ghost use Rattle.lsm_journal.specs.HeldManifest.{HeldManifest};
 ghost use Rattle.lsm_journal.specs.Recorded.{IsRecorded};
 ghost use Rattle.lsm_version.specs.Versions.{Levels, files};
@@ -48,6 +54,43 @@ pub fn manifests_describe_their_version()
         → IsRecorded rest h v next → ComesTo h.bytes shape → Describes shape v }
 {}
 
+/// Which calls of its shelf a call of the state makes: the shelf's value keeps a list of the calls by
+/// which it changed what lies there, and the contract of the call of the state says by which of them
+/// that list grew. An ingest puts its table, and then writes to the manifest; an install writes to
+/// the manifest; a collect removes what is not kept; an opening and the making of a new database
+/// start one manifest. A merge puts its outputs. A refused ingest put its table or nothing; a refused
+/// install made nothing; a refused collect removed some, and the last one perhaps not.
+pub fn shelves_tell_what_was_asked<P: Premise>()
+    ensures one { (xs ys : List Asked) (was is : Told) → HasMade xs was is → HasMade ys was is
+        → xs ≡ ys }
+    ensures ingest { (old new : Held) (ws : List Write) (r : Ingested) (was is : Told)
+        (asks : List Asked) → (i : Ingests old new ws r was is) → HasMade asks was is
+        → asks ≡ Put old.next (table_bytes_of old ws)
+        ∷ changes_by (with_number old i.slots) (coming_in i.table (last_of old ws)) ∷ [] }
+    ensures install { (old new : Held) (done : Done) (was is : Told) (asks : List Asked)
+        → (i : Installed old new done was is) → HasMade asks was is
+        → asks ≡ changes_by (with_slots old i.slots) i.change ∷ [] }
+    ensures collect { (h : Held) (removed : List ℕ) (was is : Told) (asks : List Asked)
+        → AreCollected h removed was is → HasMade asks was is → asks ≡ map Remove removed }
+    ensures open { (limit : ℕ) (h : Held) (d : Disk) (asks : List Asked)
+        → (p : Opens P.holds limit h d) → HasMade asks p.was p.is
+        → asks ≡ StartManifest h.journal.number h.journal.bytes ∷ [] }
+    ensures create { (h : Held) (asks : List Asked) → (m : IsMade h) → HasMade asks m.was m.now
+        → asks ≡ StartManifest h.journal.number h.journal.bytes ∷ [] }
+    ensures merge { (done : Done) (was is : Told) (asks : List Asked)
+        → Becomes (putting_all (puts_by done) was) is → HasMade asks was is
+        → asks ≡ map (λ p. Put p.0 p.1) (puts_by done) }
+    ensures ingest_err { (old new : Held) (ws : List Write) (fault : StateFault) (was is : Told)
+        (asks : List Asked) → IsIngestRefusal old new ws fault was is → HasMade asks was is
+        → (asks ≡ []) ⊎ (asks ≡ Put old.next (table_bytes_of old ws) ∷ []) }
+    ensures none { (was is : Told) (asks : List Asked) → Becomes was is → HasMade asks was is
+        → asks ≡ [] }
+    ensures collect_err { (old new : Held) (fault : StateFault) (removed : List ℕ) (was is : Told)
+        (asks : List Asked) → IsCollectRefusal old new fault removed was is → HasMade asks was is
+        → (asks ≡ map Remove removed) ⊎ ((n : ℕ) × (IsKeptNumber new n → ⊥)
+        × (asks ≡ map Remove removed ++ Remove n ∷ [])) }
+{}
+
 /// What a call that is answered Ok asks of its shelf may be asked for, one after the other; and
 /// what is counted on then is what the new state stands for.
 pub fn calls_ask_for_what_is_allowed<P: Premise>()
@@ -55,7 +98,7 @@ pub fn calls_ask_for_what_is_allowed<P: Premise>()
         (v : Version)
         → IsState P.holds board old → IsState P.holds board new
         → IsWorldOf old w → ComesTo w.bytes w.version
-        → Asks old new deed asks → IsReady deed w → ComesTo new.journal.bytes v
+        → Asks old new deed asks → IsReady P.holds deed w → ComesTo new.journal.bytes v
         → AllowsAll w (operations v asks) × IsWorldOf new (after_all w (operations v asks)) }
 {
     changed_tables();
@@ -91,11 +134,11 @@ pub fn refused_calls_keep_the_version()
     ensures ingest { (old new : Held) (ws : List Write) (fault : StateFault) (was is : Told)
         → IsIngestRefusal old new ws fault was is → old.next < 2 ^ 64 → new.halted ≡ false
         → Stays old new }
-    ensures not_put { (old new : Held) (fault : StateFault) (was is : Told)
-        → FailsToPut old new fault was is → old.next < new.next }
+    ensures not_put { (old new : Held) (ws : List Write) (fault : StateFault) (was is : Told)
+        → FailsToPut old new ws fault was is → old.next < new.next }
     ensures put { (old new : Held) (ws : List Write) (fault : StateFault) (was is : Told)
         → IsWelcome old ws → new.slots.version ≡ old.slots.version
-        → FailsToChange old new fault was is → new.halted ≡ false → old.next < new.next }
+        → FailsToChange old new ws fault was is → new.halted ≡ false → old.next < new.next }
     ensures install { (old new : Held) (done : Done) (fault : StateFault) (was is : Told)
         → IsInstallRefusal old new done fault was is → old.next < 2 ^ 64 → new.halted ≡ false
         → Stays old new }
@@ -110,21 +153,23 @@ pub fn refused_calls_keep_the_version()
 /// and then it alone is; the number of its manifest is above those that `CURRENT` may name.
 pub fn databases_open_on_what_was_found<P: Premise>()
     ensures opened { (board : TableId) (limit : ℕ) (h : Held) (d e : Disk) (w : World) (v : Version)
-        → IsState P.holds board h → IsSettled d w → Opens P.holds limit h d
-        → ComesTo h.journal.bytes v
-        → DoneAmong w.tables (start_plan h.journal.number h.journal.bytes) d e
+        (asks : List Asked)
+        → IsState P.holds board h → IsSettled d w → (p : Opens P.holds limit h d)
+        → HasMade asks p.was p.is → ComesTo h.journal.bytes v
+        → DoneAmong w.tables (plans_of p.begun.before.number asks) d e
         → IsSettled e (opened_world h v w) × IsWorldOf h (opened_world h v w) }
     ensures cut { (board : TableId) (limit : ℕ) (h : Held) (d e : Disk) (w : World) (v : Version)
-        (found : Found)
-        → IsState P.holds board h → IsSettled d w → Opens P.holds limit h d
-        → ComesTo h.journal.bytes v
-        → CutAmong w.tables (start_plan h.journal.number h.journal.bytes) d e → IsLeft e found
+        (asks : List Asked) (found : Found)
+        → IsState P.holds board h → IsSettled d w → (p : Opens P.holds limit h d)
+        → HasMade asks p.was p.is → ComesTo h.journal.bytes v
+        → CutAmong w.tables (plans_of p.begun.before.number asks) d e → IsLeft e found
         → Finds h.slots.version found }
     ensures unsure { (board : TableId) (limit : ℕ) (h : Held) (d e : Disk) (known : Known)
-        (v : Version)
-        → IsState P.holds board h → IsHeld d known → Opens P.holds limit h d
+        (v : Version) (asks : List Asked)
+        → IsState P.holds board h → IsHeld d known → (p : Opens P.holds limit h d)
+        → HasMade asks p.was p.is
         → ((m : ℕ) → Has known.manifests m → m < h.journal.number) → ComesTo h.journal.bytes v
-        → DoneAmong known.tables (start_plan h.journal.number h.journal.bytes) d e
+        → DoneAmong known.tables (plans_of p.begun.before.number asks) d e
         → IsSettled e (opened_world h v (started known h.journal.number h.journal.bytes v))
         × IsWorldOf h (opened_world h v (started known h.journal.number h.journal.bytes v))
         × ((s : Version) × Has known.versions s × Describes s h.slots.version) }
@@ -140,15 +185,17 @@ pub fn databases_open_on_what_was_found<P: Premise>()
 /// stands for is durable. A crash in any call of the folder leaves no `CURRENT`, or the new
 /// database.
 pub fn databases_are_made_or_not<P: Premise>()
-    ensures made { (board : TableId) (h : Held) (d e : Disk) (v : Version)
-        → IsState P.holds board h → IsVacant d → IsMade h → ComesTo h.journal.bytes v
-        → DoneAmong nothing.tables (start_plan h.journal.number h.journal.bytes) d e
+    ensures made { (board : TableId) (h : Held) (d e : Disk) (v : Version) (asks : List Asked)
+        → IsState P.holds board h → IsVacant d → (m : IsMade h) → HasMade asks m.was m.now
+        → ComesTo h.journal.bytes v
+        → DoneAmong nothing.tables (plans_of m.number asks) d e
         → IsSettled e (started nothing h.journal.number h.journal.bytes v)
         × IsWorldOf h (started nothing h.journal.number h.journal.bytes v) }
-    ensures cut { (board : TableId) (h : Held) (d e : Disk) (v : Version) (found : Found)
-        → IsState P.holds board h → IsVacant d → IsMade h → ComesTo h.journal.bytes v
-        → CutAmong nothing.tables (start_plan h.journal.number h.journal.bytes) d e
-        → IsLeft e found
+    ensures cut { (board : TableId) (h : Held) (d e : Disk) (v : Version) (asks : List Asked)
+        (found : Found)
+        → IsState P.holds board h → IsVacant d → (m : IsMade h) → HasMade asks m.was m.now
+        → ComesTo h.journal.bytes v
+        → CutAmong nothing.tables (plans_of m.number asks) d e → IsLeft e found
         → (found current_name ≡ None) ⊎ Finds h.slots.version found }
 {}
 
@@ -177,4 +224,30 @@ pub fn ingests_survive_crashes<P: Premise>()
 {
     changed_tables();
     runs_read_all_that_came::<P>();
+}
+
+/// The premises of these laws can be met on a disk. What a call that is answered Ok asks of its shelf
+/// can be answered Ok by the folder, where no file has the name of the next table (`answered`); so can
+/// what an opening asks (`opened`). And from states that are so by the contracts of `create` and
+/// `ingest`: in an empty folder a database can be made, the batch be put, and power be cut, and then
+/// its version is found (`small`).
+pub fn premises_of_runs_are_met<P: Premise>()
+    ensures answered { (board : TableId) (old new : Held) (deed : Deed) (asks : List Asked)
+        (w : World) (v : Version) (d : Disk) → IsState P.holds board new → IsSettled d w
+        → IsWorldOf old w → d.names (table_name old.next) ≡ None
+        → Asks old new deed asks → IsReady P.holds deed w → ComesTo new.journal.bytes v
+        → Follows P.holds old new (Answered deed)
+        → (u : World) × (e : Disk)
+        × Works P.holds board old new (Answered deed ∷ []) w u d e }
+    ensures opened { (limit : ℕ) (h : Held) (d : Disk) (asks : List Asked) (tables : Tables)
+        → (p : Opens P.holds limit h d) → HasMade asks p.was p.is
+        → (e : Disk) × DoneAmong tables (plans_of p.begun.before.number asks) d e }
+    ensures small { (board : TableId) (h new : Held) (first asks : List Asked) (ws : List Write)
+        (r : Ingested) (v s : Version) → IsState P.holds board h → IsState P.holds board new
+        → (m : IsMade h) → HasMade first m.was m.now → ComesTo h.journal.bytes v
+        → Asks h new (Ingest ws r) asks → ComesTo new.journal.bytes s
+        → Follows P.holds h new (Answered (Ingest ws r))
+        → SmallRun P.holds board h new v first m.number (Ingest ws r) }
+{
+    changed_tables();
 }
