@@ -48,40 +48,55 @@ only_going asks these was is h e = (same_going asks these was.made was.made refl
 
 -- ---- calls that were answered Ok
 
+pub ingest_made : (old new : Held) (ws : List Write) (r : Ingested) (was is : Told) (i : Ingests old new ws r was is)
+    → HasMade (Put old.next i.table.image ∷ changes_by (with_number old i.slots) (coming_in i.table (last_of old ws)) ∷ []) was is
+ingest_made old new ws r was is i =
+    let d = coming_in i.table (last_of old ws) in
+    sent_made d (changed_by d i.slots.version) (suc old.next) new.next old.journal new.journal i.mid is i.changes.sends
+    ∙ ap (λ (m : List Asked). changes_by (with_number old i.slots) d ∷ m) i.put.made
+
 pub ingest_asks : (old new : Held) (ws : List Write) (r : Ingested) (was is : Told) (i : Ingests old new ws r was is) (asks : List Asked) → HasMade asks was is
     → asks ≡ Put old.next i.table.image ∷ changes_by (with_number old i.slots) (coming_in i.table (last_of old ws)) ∷ []
 ingest_asks old new ws r was is i asks h =
-    let d = coming_in i.table (last_of old ws) in
-    only_going asks (Put old.next i.table.image ∷ changes_by (with_number old i.slots) d ∷ []) was is h
-    (sent_made d (changed_by d i.slots.version) (suc old.next) new.next old.journal new.journal i.mid is i.changes.sends
-    ∙ ap (λ (m : List Asked). changes_by (with_number old i.slots) d ∷ m) i.put.made)
+    only_going asks (Put old.next i.table.image ∷ changes_by (with_number old i.slots) (coming_in i.table (last_of old ws)) ∷ []) was is h
+    (ingest_made old new ws r was is i)
+
+pub install_made : (old new : Held) (done : Done) (was is : Told) (i : Installed old new done was is)
+    → HasMade (changes_by (with_slots old i.slots) i.change ∷ []) was is
+install_made old new done was is i =
+    sent_made i.change (changed_by i.change i.slots.version) old.next new.next old.journal new.journal was is i.changes.sends
 
 pub install_asks : (old new : Held) (done : Done) (was is : Told) (i : Installed old new done was is) (asks : List Asked) → HasMade asks was is → asks ≡ changes_by (with_slots old i.slots) i.change ∷ []
 install_asks old new done was is i asks h =
-    only_going asks (changes_by (with_slots old i.slots) i.change ∷ []) was is h
-    (sent_made i.change (changed_by i.change i.slots.version) old.next new.next old.journal new.journal was is i.changes.sends)
+    only_going asks (changes_by (with_slots old i.slots) i.change ∷ []) was is h (install_made old new done was is i)
 
 pub collect_asks : (h : Held) (removed : List ℕ) (was is : Told) → AreCollected h removed was is → (asks : List Asked) → HasMade asks was is → asks ≡ map Remove removed
 collect_asks h removed was is c asks made = only_going asks (map Remove removed) was is made c.told.made
 
+pub open_made : (honest : Type 0) (limit : ℕ) (h : Held) (d : Disk) (p : Opens honest limit h d) → HasMade (StartManifest h.journal.number h.journal.bytes ∷ []) p.was p.is
+open_made honest limit h d p = begun_made honest limit h.journal h.slots.version h.next p.was p.is p.begun
+
 pub open_asks : (honest : Type 0) (limit : ℕ) (h : Held) (d : Disk) (p : Opens honest limit h d) (asks : List Asked) → HasMade asks p.was p.is → asks ≡ StartManifest h.journal.number h.journal.bytes ∷ []
 open_asks honest limit h d p asks made =
-    only_going asks (StartManifest h.journal.number h.journal.bytes ∷ []) p.was p.is made (begun_made honest limit h.journal h.slots.version h.next p.was p.is p.begun)
+    only_going asks (StartManifest h.journal.number h.journal.bytes ∷ []) p.was p.is made (open_made honest limit h d p)
+
+pub create_made : (h : Held) (m : IsCreated h) → HasMade (StartManifest h.journal.number h.journal.bytes ∷ []) m.was m.now
+create_made h m =
+    m.sent.made ∙ ap (λ n. StartManifest n h.journal.bytes ∷ m.was.made) (sym (ap (λ (x : Held). x.journal.number) m.is))
 
 pub create_asks : (h : Held) (m : IsCreated h) (asks : List Asked) → HasMade asks m.was m.now → asks ≡ StartManifest h.journal.number h.journal.bytes ∷ []
 create_asks h m asks made =
-    only_going asks (StartManifest m.number h.journal.bytes ∷ []) m.was m.now made m.sent.made
-    ∙ ap (λ n. StartManifest n h.journal.bytes ∷ []) (sym (ap (λ (x : Held). x.journal.number) m.is))
-
--- a merge put its outputs
-pub merge_asks : (done : Done) (was is : Told) (asks : List Asked) → Becomes (putting_all (puts_by done) was) is → HasMade asks was is → asks ≡ map (λ p. Put p.0 p.1) (puts_by done)
-merge_asks done was is asks told made = only_going asks (map (λ p. Put p.0 p.1) (puts_by done)) was is made told.made
+    only_going asks (StartManifest h.journal.number h.journal.bytes ∷ []) m.was m.now made (create_made h m)
 
 -- ---- calls that were refused
 
+pub ingest_err_made : (old new : Held) (ws : List Write) (fault : StateFault) (was is : Told) → IsIngestRefusal old new ws fault was is
+    → HasMade [] was is ⊎ HasMade (Put old.next (table_bytes_of old ws) ∷ []) was is
+ingest_err_made old new ws fault was is r = ingest_refused_made old new ws fault was is r
+
 pub ingest_err_asks : (old new : Held) (ws : List Write) (fault : StateFault) (was is : Told) (asks : List Asked) → IsIngestRefusal old new ws fault was is → HasMade asks was is
     → (asks ≡ []) ⊎ (asks ≡ Put old.next (table_bytes_of old ws) ∷ [])
-ingest_err_asks old new ws fault was is asks r made = elim (ingest_refused_made old new ws fault was is r) [
+ingest_err_asks old new ws fault was is asks r made = elim (ingest_err_made old new ws fault was is r) [
   | inl none ↦ inl (only_going asks [] was is made none)
   | inr put ↦ inr (only_going asks (Put old.next (table_bytes_of old ws) ∷ []) was is made put)
 ]
@@ -90,11 +105,18 @@ one_more : (xs : List Asked) (x : Asked) (l : List Asked) → going (xs ++ x ∷
 one_more [] x l = refl
 one_more (y ∷ xs) x l = one_more xs x (y ∷ l)
 
+pub collect_err_made : (old new : Held) (fault : StateFault) (removed : List ℕ) (was is : Told) → IsCollectRefusal old new fault removed was is
+    → HasMade (map Remove removed) was is ⊎ ((n : ℕ) × (IsKeptNumber new n → ⊥) × HasMade (map Remove removed ++ Remove n ∷ []) was is)
+collect_err_made old new fault removed was is r = elim (collect_refused_made old new fault removed was is r) [
+  | inl told ↦ inl told
+  | inr (n, free, told) ↦ inr (n, free, told ∙ sym (one_more (map Remove removed) (Remove n) was.made))
+]
+
 pub collect_err_asks : (old new : Held) (fault : StateFault) (removed : List ℕ) (was is : Told) (asks : List Asked) → IsCollectRefusal old new fault removed was is → HasMade asks was is
     → (asks ≡ map Remove removed) ⊎ ((n : ℕ) × (IsKeptNumber new n → ⊥) × (asks ≡ map Remove removed ++ Remove n ∷ []))
-collect_err_asks old new fault removed was is asks r made = elim (collect_refused_made old new fault removed was is r) [
+collect_err_asks old new fault removed was is asks r made = elim (collect_err_made old new fault removed was is r) [
   | inl told ↦ inl (only_going asks (map Remove removed) was is made told)
-  | inr (n, free, told) ↦ inr (n, free, only_going asks (map Remove removed ++ Remove n ∷ []) was is made (told ∙ sym (one_more (map Remove removed) (Remove n) was.made)))
+  | inr (n, free, told) ↦ inr (n, free, only_going asks (map Remove removed ++ Remove n ∷ []) was is made told)
 ]
 
 -- ---- the outputs of a job were put, or are its input

@@ -64,31 +64,28 @@ pub fn shelves_tell_what_was_asked<P: Premise>()
     ensures one { (xs ys : List Asked) (was is : Told) → HasMade xs was is → HasMade ys was is
         → xs ≡ ys }
     ensures ingest { (old new : Held) (ws : List Write) (r : Ingested) (was is : Told)
-        (asks : List Asked) → (i : Ingests old new ws r was is) → HasMade asks was is
-        → asks ≡ Put old.next (table_bytes_of old ws)
-        ∷ changes_by (with_number old i.slots) (coming_in i.table (last_of old ws)) ∷ [] }
-    ensures install { (old new : Held) (done : Done) (was is : Told) (asks : List Asked)
-        → (i : Installed old new done was is) → HasMade asks was is
-        → asks ≡ changes_by (with_slots old i.slots) i.change ∷ [] }
-    ensures collect { (h : Held) (removed : List ℕ) (was is : Told) (asks : List Asked)
-        → AreCollected h removed was is → HasMade asks was is → asks ≡ map Remove removed }
-    ensures open { (limit : ℕ) (h : Held) (d : Disk) (asks : List Asked)
-        → (p : Opens P.holds limit h d) → HasMade asks p.was p.is
-        → asks ≡ StartManifest h.journal.number h.journal.bytes ∷ [] }
-    ensures create { (h : Held) (asks : List Asked) → (m : IsMade h) → HasMade asks m.was m.now
-        → asks ≡ StartManifest h.journal.number h.journal.bytes ∷ [] }
-    ensures merge { (done : Done) (was is : Told) (asks : List Asked)
-        → Becomes (putting_all (puts_by done) was) is → HasMade asks was is
-        → asks ≡ map (λ p. Put p.0 p.1) (puts_by done) }
+        → (i : Ingests old new ws r was is)
+        → HasMade (Put old.next (table_bytes_of old ws)
+        ∷ changes_by (with_number old i.slots) (coming_in i.table (last_of old ws)) ∷ []) was is }
+    ensures install { (old new : Held) (done : Done) (was is : Told)
+        → (i : Installed old new done was is)
+        → HasMade (changes_by (with_slots old i.slots) i.change ∷ []) was is }
+    ensures collect { (h : Held) (removed : List ℕ) (was is : Told)
+        → AreCollected h removed was is → HasMade (map Remove removed) was is }
+    ensures open { (limit : ℕ) (h : Held) (d : Disk) → (p : Opens P.holds limit h d)
+        → HasMade (StartManifest h.journal.number h.journal.bytes ∷ []) p.was p.is }
+    ensures create { (h : Held) → (m : IsMade h)
+        → HasMade (StartManifest h.journal.number h.journal.bytes ∷ []) m.was m.now }
+    ensures merge { (done : Done) (was is : Told) → Becomes (putting_all (puts_by done) was) is
+        → HasMade (map (λ p. Put p.0 p.1) (puts_by done)) was is }
+    ensures none { (was is : Told) → Becomes was is → HasMade [] was is }
     ensures ingest_err { (old new : Held) (ws : List Write) (fault : StateFault) (was is : Told)
-        (asks : List Asked) → IsIngestRefusal old new ws fault was is → HasMade asks was is
-        → (asks ≡ []) ⊎ (asks ≡ Put old.next (table_bytes_of old ws) ∷ []) }
-    ensures none { (was is : Told) (asks : List Asked) → Becomes was is → HasMade asks was is
-        → asks ≡ [] }
+        → IsIngestRefusal old new ws fault was is
+        → HasMade [] was is ⊎ HasMade (Put old.next (table_bytes_of old ws) ∷ []) was is }
     ensures collect_err { (old new : Held) (fault : StateFault) (removed : List ℕ) (was is : Told)
-        (asks : List Asked) → IsCollectRefusal old new fault removed was is → HasMade asks was is
-        → (asks ≡ map Remove removed) ⊎ ((n : ℕ) × (IsKeptNumber new n → ⊥)
-        × (asks ≡ map Remove removed ++ Remove n ∷ [])) }
+        → IsCollectRefusal old new fault removed was is
+        → HasMade (map Remove removed) was is ⊎ ((n : ℕ) × (IsKeptNumber new n → ⊥)
+        × HasMade (map Remove removed ++ Remove n ∷ []) was is) }
 {}
 
 /// What a call that is answered Ok asks of its shelf may be asked for, one after the other; and
