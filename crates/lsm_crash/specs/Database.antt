@@ -137,7 +137,8 @@ AllDone w [] u d e = (u ≡ w) × IsGap w.tables d e
 AllDone w (o ∷ os) u d e = (mid : Disk) × DoneAmong (after w o).tables (plan_of w o) d mid
     × AllDone (after w o) os u mid e
 
--- All of the first ones were Ok; then one was refused so that the database goes on, if there is any.
+-- All of the first ones were Ok; then one was refused so that the database goes on, if there is
+-- any.
 abbrev pub AllFail : World → (os next : List Operation) → World → Disk → Disk → Type 0
 AllFail w [] [] u d e = (u ≡ w) × IsGap w.tables d e
 AllFail w [] (o ∷ next) u d e = FailsAmong w o d e × (u ≡ failed w o)
@@ -230,8 +231,8 @@ IsCut honest board old new deed w known d e = (v : Version) × (asks : List Aske
 
 -- ---- a database is opened, or made
 
--- the calls on the folder by which calls of a shelf change it, one after another, where the manifest
--- has this number
+-- the calls on the folder by which calls of a shelf change it, one after another, where the
+-- manifest has this number
 abbrev pub plans_of : ℕ → List Asked → List Planned
 plans_of manifest [] = []
 plans_of manifest (shelf.Put number image ∷ asks) = put_plan number image ++ plans_of manifest asks
@@ -285,7 +286,8 @@ pub record IsMade (h : Held) : Type 0 where
 
 -- A new database in an empty folder, a call that is answered Ok, and a crash behind it: the disks
 -- between, and what is found.
-pub record SmallRun (honest : Type 0) (board : TableId) (h new : Held) (v : Version) (first : List Asked) (manifest : ℕ) (deed : Deed) : Type 0 where
+pub record SmallRun (honest : Type 0) (board : TableId) (h new : Held) (v : Version)
+    (first : List Asked) (manifest : ℕ) (deed : Deed) : Type 0 where
   pub made : Disk
   pub world : World
   pub now : Disk

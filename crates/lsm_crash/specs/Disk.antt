@@ -92,8 +92,8 @@ abbrev pub Shows : Disk → List ℕ → List ℕ → Type 0
 Shows d name bytes = (i : ℕ) × (d.names name ≡ Some i) × (d.bytes i ≡ bytes)
 
 -- What an answered call left. One that was refused, or was cut by a crash, has acted or not; a
--- write, with a beginning of its bytes, or it has only taken the name away. An append for which memory was refused has not. What is
--- loaded is what the file has now. A lock may make its file.
+-- write, with a beginning of its bytes, or it has only taken the name away. An append for which
+-- memory was refused has not. What is loaded is what the file has now. A lock may make its file.
 abbrev pub Step : Disk → Call → Disk → Type 0
 Step d opened e = e ≡ d
 Step d (made name bytes (Ok v)) e = Makes d name bytes e

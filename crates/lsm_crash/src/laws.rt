@@ -23,13 +23,15 @@ ghost use Rattle.lsm_crash.specs.Disk.{After, Disk, Leaves, Names, Shows, Step};
 ghost use Rattle.lsm_crash.specs.Disk.{empty_disk};
 ghost use Rattle.lsm_crash.specs.Crash.{Found, IsFresh, IsLeft, IsSpoilt, MayFind};
 ghost use Rattle.lsm_crash.specs.Crash.{MayFindBoth, mixed};
-ghost use Rattle.lsm_crash.specs.Versions.{AreSmall, AreThere, ComesTo, IsNamed, LeadsTo, Tables, Version};
+ghost use Rattle.lsm_crash.specs.Versions.{AreSmall, AreThere, ComesTo, IsNamed, LeadsTo, Tables};
+ghost use Rattle.lsm_crash.specs.Versions.{Version};
 ghost use Rattle.lsm_crash.specs.Known.{IsHeld, IsSettled, IsSound, IsVacant, KeepsFront, Known};
 ghost use Rattle.lsm_crash.specs.Known.{Recovers, Stands, World, current_name, known_of, nothing};
 ghost use Rattle.lsm_crash.specs.Known.{world_of};
 ghost use Rattle.lsm_crash.specs.Operations.{Allows, Append, MayStart, Operation, Put, Remove};
 ghost use Rattle.lsm_crash.specs.Operations.{Start, after, either, plan_of, started, starting};
-ghost use Rattle.lsm_crash.specs.Among.{Cleans, CutAmong, DoneAmong, Event, Goes, IsAside, IsGap, Spares};
+ghost use Rattle.lsm_crash.specs.Among.{Cleans, CutAmong, DoneAmong, Event, Goes, IsAside, IsGap};
+ghost use Rattle.lsm_crash.specs.Among.{Spares};
 ghost use Rattle.lsm_crash.specs.History.{History, IsPhase, IsRead, Move, Phase};
 
 /// A crash in any call of an operation, after any run of operations, among calls of other threads:
@@ -112,7 +114,7 @@ pub fn reads_show_what_is_known()
 {}
 
 /// On a worse disk, where anything may stand behind the durable bytes of a file, `CURRENT` and the
-/// tables are spared, and a front of the manifest, its durable bytes, comes to one of the versions
+/// tables are spared, and a front of the manifest comes to one of the versions
 /// that are known. What its reader makes of the bytes behind that is not said.
 pub fn garbage_spares_what_is_durable()
     ensures { (known : Known) (d : Disk) (found : Found) → IsHeld d known → IsSpoilt d found
@@ -233,9 +235,9 @@ pub fn refused_calls_of_a_shelf_leave_before_or_after()
         (λ e. IsSettled e w) }
 {}
 
-/// What a cleaning of a folder does may be done, as where a program was killed between an append or a
-/// rename and the sync behind it: once the manifest that `CURRENT` shows and the folder were synced,
-/// what is shown is durable, and its version is one that was known. Then the names of other
+/// What a cleaning of a folder does may be done, as where a program was killed between an append or
+/// a rename and the sync behind it: once the manifest that `CURRENT` shows and the folder were
+/// synced, what is shown is durable, and its version is one that was known. Then the names of other
 /// manifests, of temporary files, and of tables that are not counted on may be removed, whatever is
 /// answered.
 pub fn cleanings_keep_what_is_shown()

@@ -54,12 +54,13 @@ pub fn manifests_describe_their_version()
         → IsRecorded rest h v next → ComesTo h.bytes shape → Describes shape v }
 {}
 
-/// Which calls of its shelf a call of the state makes: the shelf's value keeps a list of the calls by
-/// which it changed what lies there, and the contract of the call of the state says by which of them
-/// that list grew. An ingest puts its table, and then writes to the manifest; an install writes to
-/// the manifest; a collect removes what is not kept; an opening and the making of a new database
-/// start one manifest. A merge puts its outputs. A refused ingest put its table or nothing; a refused
-/// install made nothing; a refused collect removed some, and the last one perhaps not.
+/// Which calls of its shelf a call of the state makes: the shelf's value keeps a list of the calls
+/// by which it changed what lies there, and the contract of the call of the state says by which of
+/// them that list grew. An ingest puts its table, and then writes to the manifest; an install
+/// writes to the manifest; a collect removes what is not kept; an opening and the making of a new
+/// database start one manifest. A merge puts its outputs. A refused ingest put its table or
+/// nothing; a refused install made nothing; a refused collect removed some, and the last one
+/// perhaps not.
 pub fn shelves_tell_what_was_asked<P: Premise>()
     ensures one { (xs ys : List Asked) (was is : Told) → HasMade xs was is → HasMade ys was is
         → xs ≡ ys }
@@ -223,11 +224,11 @@ pub fn ingests_survive_crashes<P: Premise>()
     runs_read_all_that_came::<P>();
 }
 
-/// The premises of these laws can be met on a disk. What a call that is answered Ok asks of its shelf
-/// can be answered Ok by the folder, where no file has the name of the next table (`answered`); so can
-/// what an opening asks (`opened`). And from states that are so by the contracts of `create` and
-/// `ingest`: in an empty folder a database can be made, the batch be put, and power be cut, and then
-/// its version is found (`small`).
+/// The premises of these laws can be met on a disk. What a call that is answered Ok asks of its
+/// shelf can be answered Ok by the folder, where no file has the name of the next table
+/// (`answered`); so can what an opening asks (`opened`). And from states of which the contracts of
+/// `create` and `ingest` are supposed: in an empty folder a database can be made, the batch be put,
+/// and power be cut, and then its version is found (`small`).
 pub fn premises_of_runs_are_met<P: Premise>()
     ensures answered { (board : TableId) (old new : Held) (deed : Deed) (asks : List Asked)
         (w : World) (v : Version) (d : Disk) → IsState P.holds board new → IsSettled d w
