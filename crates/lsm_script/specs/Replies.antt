@@ -205,7 +205,7 @@ pub record IsMerged (honest : Type 0) (w : Work) (done : Done) (old new : Held) 
   pub told : Becomes (putting_all (puts_by done) was) is
 
 -- The same, with what holds of the state after the draws.
-pub record IsMergedBy (honest : Type 0) (holds : Held → List ℕ → List ℕ → List ℕ → Type 0) (w : Work) (done : Done) (new : Held) (was is : Told) : Type 0 where
+pub record IsMergedBy {X : Type 0} (honest : Type 0) (holds : X → List ℕ → List ℕ → List ℕ → Type 0) (w : Work) (done : Done) (new : X) (was is : Told) : Type 0 where
   pub its : done.work ≡ w
   pub finished : IsFinished honest done
   pub told : Becomes (putting_all (puts_by done) was) is
@@ -232,7 +232,7 @@ pub record IsRefusedMerge (honest : Type 0) (w : Work) (e : MergeFault) (old new
   pub sound : honest → IsReadable e
 
 -- The same, with what holds of the state after the draws.
-pub record IsRefusedBy (honest : Type 0) (holds : Held → List ℕ → List ℕ → List ℕ → Type 0) (w : Work) (e : MergeFault) (new : Held) (was is : Told) : Type 0 where
+pub record IsRefusedBy {X : Type 0} (honest : Type 0) (holds : X → List ℕ → List ℕ → List ℕ → Type 0) (w : Work) (e : MergeFault) (new : X) (was is : Told) : Type 0 where
   pub put : List ℕ
   pub drew : List ℕ
   pub refused : List ℕ

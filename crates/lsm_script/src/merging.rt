@@ -6,7 +6,7 @@ ghost use Rattle.lsm_script.specs.Replies.{IsMergeReply, IsMergedBy, IsRefusedBy
 
 use crate::command_fault::CommandFault;
 use crate::held::index_of_job;
-use crate::numbers::{Noted, Numbers, drawn};
+use crate::numbers::{Noted, Numbers, StandsFor, drawn};
 use crate::reply::Reply;
 use boxcar::tag::Tag;
 use lsm_merge::{Finished, Job, MergeFault, compact};
@@ -18,16 +18,16 @@ use std::marker::{Brand, PhantomData};
 use std::sync::Wait;
 
 /// Merges a job, with numbers of the state.
-fn merge_job<M: Noted<State<N, S>>, N: Boarded, S: Shelf, R: Wait>(
+fn merge_job<M: Noted<X>, X: StandsFor<State<N, S>>, N: Boarded, S: Shelf, R: Wait>(
     rt: &R,
     alloc: Global,
-    state: State<N, S>,
+    state: X,
     shelf: &mut NamedShelf<N, S>,
     registry: &Registry<N, S>,
     job: Job<N, S>,
-) -> (State<N, S>, Result<Finished<N, S>, MergeFault>)
+) -> (X, Result<Finished<N, S>, MergeFault>)
     requires begins { M.holds state [] [] [] }
-    requires keeps { Keeps GivesNumber M.holds }
+    requires keeps { Keeps (λ x t y r. GivesNumber (X.value x) t (X.value y) r) M.holds }
     ensures ok { IfOk result.1 (λ d.
         IsMergedBy S.honest M.holds job d result.0 shelf.old shelf.new) }
     ensures err { IfErr result.1 (λ e.
@@ -35,7 +35,10 @@ fn merge_job<M: Noted<State<N, S>>, N: Boarded, S: Shelf, R: Wait>(
 {
     let mut numbers = Numbers {
         state: Some(state),
-        draw: |state, ticket| drawn(state, ticket),
+        draw: |state: X, ticket| {
+            let (state, answer) = drawn(state.into_value(), ticket);
+            (X::of(state), answer)
+        },
         drew: Tag::empty(),
         refused: Tag::empty(),
         asked: Tag::empty(),
@@ -78,7 +81,9 @@ pub(crate) fn merge<N: Boarded, S: Shelf, R: Wait>(
     let Ok(job) = jobs[at].try_copy(alloc) else {
         return (state, Reply::out_of_memory());
     };
-    let (state, merged) = merge_job::<Brand, N, S, R>(rt, alloc, state, shelf, registry, job);
+    let (state, merged) = merge_job::<Brand, State<N, S>, N, S, R>(
+        rt, alloc, state, shelf, registry, job,
+    );
     let done = match merged {
         Ok(done) => done,
         Err(fault) => return (state, Reply::Refused(CommandFault::Merge(fault))),

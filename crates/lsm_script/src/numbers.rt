@@ -25,6 +25,30 @@ impl<X> Noted<X> for Brand {
     ghost holds = { λ state drew refused asked. Unit {0} };
 }
 
+/// What a value is put into and taken out of. A merge has a state as such a thing alone: what is
+/// proved of its numbers does not depend on the parts of a state.
+pub(crate) trait StandsFor<T>: Drop {
+    ghost value: { Self → T };
+
+    fn of(inner: T) -> Self
+        ensures { value result ≡ inner };
+
+    fn into_value(self) -> T
+        ensures { result ≡ value self };
+}
+
+impl<T: Drop> StandsFor<T> for T {
+    ghost value = { λ t. t };
+
+    fn of(inner: T) -> T {
+        inner
+    }
+
+    fn into_value(self) -> T {
+        self
+    }
+}
+
 /// A state, and the function that draws a number from it. It has no bound: a method of an impl may
 /// call no function that is bounded by a shelf, so the function is a value.
 #[derive(Drop)]
