@@ -3,6 +3,7 @@ use Rattle.std.specs.Io.KnownBytes.{Appends}
 use Rattle.std.proofs.lemmas.Result.{err_from_is_err_and}
 use Rattle.lsm_commands.specs.Compacting.{installed_by, installed_text}
 use Rattle.lsm_commands.proofs.CompactOutcomes.{compacts, unfinished, unswept}
+use Rattle.lsm_commands.proofs.Quiet.{quiet_then}
 use Rattle.lsm_commands.proofs.compacting.compact_named.Goals as goal
 
 pub returns-in_err-store-clause-fault : goal.returns-in_err-store-clause-fault
@@ -47,3 +48,13 @@ returns-in-Ok-clause-done g c =
           c.in_ok-done.ensures.ends c.in_ok-done.ensures.faultless c.in_ok-sweep_all.ensures.ok,
       written,
     )
+
+pub returns-clause-quiet : goal.returns-clause-quiet
+returns-clause-quiet g c =
+    let asked = c.args.options.progress in
+    let first = g.E.Write.contents c.args.err.now in
+    let begun = g.E.Write.contents c.begin.new.err in
+    let worked = g.E.Write.contents c.work.new.err in
+    let swept = g.E.Write.contents c.sweep_all.new.err in
+    quiet_then asked first worked swept (quiet_then asked first begun worked c.in_ok-store.ensures.quiet c.in_ok-done.ensures.quiet)
+    c.in_ok-sweep_all.ensures.quiet
