@@ -2,15 +2,14 @@
 use Rattle.std.proofs.Common.{◌≡◌, ℕ, suc, ◌+◌, Bool, true, false, cond, List, [], ◌∷◌, ◌++◌, length, map, refl, sym, ◌∙◌, ap, subst, inl, inr, ◌⊎◌, arith, Some, zero-add}
 use Rattle.atomic_table.specs.Seated.{TableId}
 use Rattle.lsm_codec.specs.Lists.{Has}
-use Rattle.lsm_shelf.specs.Told.{Becomes, Told}
+use Rattle.lsm_shelf.specs.Told.{Told}
 use Rattle.lsm_shelf.specs.Asked.{Asked, Put, Remove, StartManifest}
 use Rattle.lsm_table.specs.Registry.{Table}
-use Rattle.lsm_version.specs.Versions.{level_in}
 use Rattle.lsm_batch.specs.declared.write.Write.{Write}
 use Rattle.lsm_journal.specs.Difference.{changed_by}
 use Rattle.lsm_journal.proofs.CallerLemmas.{sent_made}
 use Rattle.lsm_live.specs.Booked.{Booked}
-use Rattle.lsm_merge.specs.Outputs.{going, putting_all}
+use Rattle.lsm_merge.specs.Outputs.{going}
 use Rattle.lsm_merge.specs.Work.{Done, IsMade, Work, puts_by, puts_of}
 use Rattle.lsm_state.specs.Asked.{changes_by}
 use Rattle.lsm_state.specs.Collecting.{AreCollected, IsCollectRefusal, IsKeptNumber}

@@ -5,23 +5,23 @@ use Rattle.std.proofs.lemmas.Bool.{eq-eqb}
 use Rattle.atomic_table.specs.Seated.{TableId}
 use Rattle.lsm_codec.specs.Lists.{Has}
 use Rattle.lsm_codec.proofs.CallerLemmas.{any_at, filter_has, has_cases, has_left, has_right}
-use Rattle.lsm_folder.specs.Calls.{Answer, Call, synced, wrote}
+use Rattle.lsm_folder.specs.Calls.{Call, synced, wrote}
 use Rattle.lsm_storage.specs.FileNames.{current_text, manifest_name, table_name, temporary_name}
 use Rattle.lsm_storage.specs.Plans.{unnamed_plan}
 use Rattle.lsm_shelf.specs.Told.{Told}
-use Rattle.lsm_shelf.specs.Asked.{Asked, AppendManifest, Put as PutTable, Remove as RemoveTable, StartManifest}
+use Rattle.lsm_shelf.specs.Asked.{Asked, AppendManifest, Put as PutTable, Remove as RemoveTable}
 use Rattle.lsm_table.specs.Registry.{Table}
 use Rattle.lsm_version.specs.Versions.{Levels, level_in}
 use Rattle.lsm_batch.specs.declared.write.Write.{Write}
-use Rattle.lsm_journal.specs.HeldManifest.{HeldManifest, is_at_limit}
+use Rattle.lsm_journal.specs.HeldManifest.{is_at_limit}
 use Rattle.lsm_journal.specs.Difference.{Difference, changed_by}
 use Rattle.lsm_journal.specs.Sending.{started_by}
 use Rattle.lsm_journal.specs.Writing.{change_edit, record_of, version_edit}
 use Rattle.lsm_merge.specs.Outputs.{going}
 use Rattle.lsm_merge.specs.Work.{Done}
-use Rattle.lsm_slots.specs.Slots.{AreSlots, current_slot}
+use Rattle.lsm_slots.specs.Slots.{current_slot}
 use Rattle.lsm_state.specs.Asked.{changes_by}
-use Rattle.lsm_state.specs.Collecting.{IsCollectRefusal, IsKeptNumber, StoppedEarly, is_in, outside, removals_of}
+use Rattle.lsm_state.specs.Collecting.{IsKeptNumber, StoppedEarly, is_in, outside}
 use Rattle.lsm_state.specs.Held.{Held}
 use Rattle.lsm_state.specs.Ingesting.{IsIngestRefusal, IsWelcome, coming_in, last_of, table_bytes_of}
 use Rattle.lsm_state.specs.declared.ingest.Ingested.{Ingested}
@@ -30,10 +30,10 @@ use Rattle.lsm_state.proofs.CallerLemmas.{ingest_refused_made}
 use Rattle.lsm_crash.specs.Disk.{Disk}
 use Rattle.lsm_crash.specs.Versions.{ComesTo, Version}
 use Rattle.lsm_crash.specs.Known.{IsSettled, World, current_name}
-use Rattle.lsm_crash.specs.Operations.{Allows, Append, Put, Remove, Start, after}
+use Rattle.lsm_crash.specs.Operations.{Allows, Put, Remove, after}
 use Rattle.lsm_crash.specs.Among.{Avoids}
 use Rattle.lsm_crash.specs.States.{Describes, HasTables, IsWorldOf}
-use Rattle.lsm_crash.specs.Database.{AllFail, Collect, Deed, HasMade, Ingest, Install, IsNextOfIngest, IsState, Refuses, Stays, operations}
+use Rattle.lsm_crash.specs.Database.{AllFail, Collect, HasMade, Ingest, Install, IsNextOfIngest, IsState, Refuses, Stays, operations}
 use Rattle.lsm_crash.proofs.Names.{manifest_current, manifests_apart, table_manifest, table_temporary, temporary_current, temporary_manifest}
 use Rattle.lsm_crash.proofs.Held.{IsClear, settled_gap}
 use Rattle.lsm_crash.proofs.Tables.{clear_folder, set_cases}

@@ -56,7 +56,7 @@ settled_shown v w d i a has = record {
 abbrev file : (level number : ℕ) (smallest largest image : List ℕ) → File
 file level number smallest largest image = file_of level record { index = 0; number = number; smallest = smallest; largest = largest; image = image }
 
-same_file : (level : ℕ) (t u : Table) → t.number ≡ u.number → t.smallest ≡ u.smallest → t.largest ≡ u.largest → t.image ≡ u.image → file_of level t ≡ file_of level u
+pub same_file : (level : ℕ) (t u : Table) → t.number ≡ u.number → t.smallest ≡ u.smallest → t.largest ≡ u.largest → t.image ≡ u.image → file_of level t ≡ file_of level u
 same_file level t u n s l i = ap (λ x. file level x t.smallest t.largest t.image) n ∙ (ap (λ x. file level u.number x t.largest t.image) s ∙ (ap (λ x. file level u.number u.smallest x t.image) l ∙ ap (λ x. file level u.number u.smallest u.largest x) i))
 
 -- versions of one shape, whose tables have the same images, have the same files

@@ -24,6 +24,9 @@ mod Failing
 mod Turning
 mod Opening
 mod Found
+mod LogsAgain
+mod EditsAgain
+mod Refusing
 mod Making
 mod Possible
 mod Answering

@@ -1,5 +1,5 @@
 -- Calls of a database one after another, refused ones among them, and cut by a crash.
-use Rattle.std.proofs.Common.{◌≡◌, ℕ, ◌<◌, ◌^◌, false, List, [], ◌∷◌, map, refl, sym, ◌∙◌, ap, subst, inl, inr, ◌⊎◌, arith, Some}
+use Rattle.std.proofs.Common.{◌≡◌, ℕ, ◌<◌, ◌^◌, false, List, [], ◌∷◌, map, refl, sym, ◌∙◌, ap, subst, inl, inr, ◌⊎◌, arith}
 use Rattle.atomic_table.specs.Seated.{TableId}
 use Rattle.lsm_codec.specs.Lists.{Has}
 use Rattle.lsm_shelf.specs.Asked.{Asked}
@@ -13,17 +13,16 @@ use Rattle.lsm_crash.specs.Disk.{Disk}
 use Rattle.lsm_crash.specs.Crash.{Found, IsLeft}
 use Rattle.lsm_crash.specs.Versions.{ComesTo, Tables, Version}
 use Rattle.lsm_crash.specs.Known.{IsHeld, IsSettled, Known, Recovers, World, known_of}
-use Rattle.lsm_crash.specs.Operations.{Allows, Operation, Put, Remove, after, either, sure}
-use Rattle.lsm_crash.specs.Among.{failed}
+use Rattle.lsm_crash.specs.Operations.{Operation, Put, Remove, after, either, sure}
 use Rattle.lsm_crash.specs.States.{Describes, Finds, HasTables, IsWorldOf}
-use Rattle.lsm_crash.specs.Database.{AllCut, AllDone, AllFail, AllowsAll, Answered, Asks, Builds, Collect, Deed, Ingest, Install, IsCut, IsState, Looks, Refused, Refuses, Turn, Turns, Works, after_all, operations}
+use Rattle.lsm_crash.specs.Database.{AllCut, AllDone, AllFail, AllowsAll, Answered, Builds, Collect, Deed, Ingest, Install, IsCut, IsState, Looks, Refused, Refuses, Turn, Turns, Works, after_all, operations}
 use Rattle.lsm_crash.proofs.Held.{settled_gap, settled_held, surely_recovers}
 use Rattle.lsm_crash.proofs.Tables.{count_settled}
 use Rattle.lsm_crash.proofs.Runs.{cut_held, done_settled}
 use Rattle.lsm_crash.proofs.Asking.{collect_asks, ingest_asks, install_asks, ready_tables}
 use Rattle.lsm_crash.proofs.Failing.{collect_fails, ingest_fails, install_fails}
 use Rattle.lsm_crash.proofs.Forms.{recorded_describes}
-use Rattle.lsm_crash.proofs.Worlds.{AreOut, Changes, Fewer, OfIngest, TablesChange, collect_may, collect_out, deed_allowed, drawn_world, fewer_more, fewer_one, fewer_same, ingest_is, install_changes, install_turned, stays_world}
+use Rattle.lsm_crash.proofs.Worlds.{AreOut, Changes, OfIngest, TablesChange, collect_may, collect_out, deed_allowed, drawn_world, fewer_one, ingest_is, install_changes, install_turned, stays_world}
 
 -- ---- operations one after another
 

@@ -9,3 +9,4 @@ pub mod History
 pub mod States
 pub mod Database
 pub mod Lives
+pub mod Refusing

@@ -1,7 +1,7 @@
 //! Laws of what the calls of a database leave of its folder. Each function's contract is one law,
 //! or a few that belong together; its body is empty.
 
-ghost use Rattle.std.specs.Prelude.{◌≡◌, ◌⊎◌, ◌↔◌, ◌++◌, ◌<◌, ◌^◌, ℕ, List, [], None};
+ghost use Rattle.std.specs.Prelude.{◌≡◌, ◌⊎◌, ◌↔◌, ◌++◌, ◌<◌, ◌-◌, ◌^◌, ℕ, List, [], None};
 ghost use Rattle.std.specs.Prelude.{◌∷◌};
 ghost use Rattle.std.specs.Prelude.{false, length, map};
 ghost use Rattle.atomic_table.specs.Seated.{TableId};
@@ -10,7 +10,8 @@ ghost use Rattle.lsm_codec.specs.Lists.{Has};
 ghost use Rattle.lsm_levels.specs.Files.{File};
 ghost use Rattle.lsm_storage.specs.FileNames.{table_name};
 ghost use Rattle.lsm_shelf.specs.Asked.{Asked, Put, Remove, StartManifest};
-ghost use Rattle.lsm_shelf.specs.Told.{Becomes, Told};
+ghost use Rattle.lsm_shelf.specs.Stored.{Stored};
+ghost use Rattle.lsm_shelf.specs.Told.{Becomes, Counted, Told};
 ghost use Rattle.lsm_batch.specs.declared.write.Write.{Write};
 ghost use Rattle.lsm_merge.specs.Outputs.{putting_all};
 ghost use Rattle.lsm_merge.specs.Work.{Done, puts_by};
@@ -40,9 +41,15 @@ ghost use Rattle.lsm_crash.specs.Lives.{Ages, AllLeave, Answers, Life, brought};
 ghost use Rattle.lsm_crash.specs.Versions.{ComesTo, Tables, Version};
 ghost use Rattle.lsm_journal.specs.HeldManifest.{HeldManifest};
 ghost use Rattle.lsm_journal.specs.Recorded.{IsRecorded};
-ghost use Rattle.lsm_version.specs.Versions.{Levels, files};
+ghost use Rattle.lsm_journal.specs.Finding.{IsFindRefusal};
+ghost use Rattle.lsm_journal.specs.declared.open_fault.OpenFault.{OpenFault};
+ghost use Rattle.lsm_state.specs.Opening.{IsOpenRefusal};
+ghost use Rattle.lsm_crash.specs.Refusing.{IsNotWhatWasFound, IsWantOrDevice, ReadsShown};
+ghost use Rattle.lsm_version.specs.Versions.{IsSound, Levels, files};
 
+use lsm_check::shapes_in_order;
 use lsm_levels::machine::{Premise, runs_read_all_that_came};
+use lsm_table::{Naming, Shelf};
 use lsm_version::changed_tables;
 
 /// A manifest that records a version comes to a shape, and to none but the one that describes the
@@ -178,6 +185,34 @@ pub fn databases_open_on_what_was_found<P: Premise>()
     ensures shown { (v : Levels) (found : Found) (d : Disk) → Finds v found → IsFresh found d
         → Shown v d }
 {}
+
+/// An opening is not refused for what is found. Over an honest shelf, where the folder shows a
+/// version that is sound, as the type of a version says, and the shelf gave what the folder shows:
+/// a refusal says that memory ran out, that no number is left, or that the shelf refused, with a
+/// count that rose (`open`; `read` of an opening for reading alone). Where the shelf counted
+/// nothing that is missing or taken, memory ran out or the device failed (`device`).
+pub fn openings_are_not_refused_for_what_is_shown<N: Naming, S: Shelf>()
+    ensures open { (limit : ℕ) (e : OpenFault) (v : Levels) (d : Disk) (was is : Told) → S.honest
+        → IsSound v → Shown v d
+        → ReadsShown (Stored S.Receipt (S.is_of N.place) S.Receipt.number S.Receipt.image) v d was is
+        → IsOpenRefusal (Stored S.Receipt (S.is_of N.place) S.Receipt.number S.Receipt.image)
+        (S.refuses N.place) S.honest limit e was is
+        → IsNotWhatWasFound (λ fault. Counted fault was is) e }
+    ensures device { (limit : ℕ) (e : OpenFault) (v : Levels) (d : Disk) (was is : Told) → S.honest
+        → IsSound v → Shown v d
+        → ReadsShown (Stored S.Receipt (S.is_of N.place) S.Receipt.number S.Receipt.image) v d was is
+        → IsOpenRefusal (Stored S.Receipt (S.is_of N.place) S.Receipt.number S.Receipt.image)
+        (S.refuses N.place) S.honest limit e was is
+        → was.misses < 2 ^ 64 - 1 → is.misses ≡ was.misses → IsNotWhatWasFound IsWantOrDevice e }
+    ensures read { (e : OpenFault) (v : Levels) (d : Disk) (was is : Told) → S.honest → IsSound v
+        → Shown v d
+        → ReadsShown (Stored S.Receipt (S.is_of N.place) S.Receipt.number S.Receipt.image) v d was is
+        → IsFindRefusal (Stored S.Receipt (S.is_of N.place) S.Receipt.number S.Receipt.image)
+        (S.refuses N.place) S.honest e was is
+        → IsNotWhatWasFound (λ fault. Counted fault was is) e }
+{
+    shapes_in_order();
+}
 
 /// A new database in a folder without `CURRENT`: once its manifest was started all that its state
 /// stands for is durable. A crash in any call of the folder leaves no `CURRENT`, or the new
