@@ -1,4 +1,5 @@
--- What is spelled as a log is read as one.
+-- What is spelled as a log is read as one. `read_log` says so of a call (`only`); here it is said of
+-- lists, for a refusal tells what reading on lists gives.
 use Rattle.std.proofs.Common.{◌≡◌, ℕ, zero, suc, ◌+◌, ◌-◌, ◌^◌, ◌<◌, ◌≤◌, ◌⊎◌, Bool, true, false, eqb, ltb, leb, List, [], ◌∷◌, ◌++◌, length, take, drop, Some, None, Result, Ok, refl, sym, ap, ◌∙◌, subst, append_assoc, arith, inl, inr}
 use Rattle.std.specs.Prelude.{◌&&◌, ◌||◌}
 use Rattle.std.specs.Str.{bytes_eq}

@@ -153,9 +153,9 @@ pub fn refused_calls_keep_the_version()
 
 /// A database that is opened over what is durable: once its manifest was started all that its state
 /// stands for is durable. A crash in any call of the folder leaves the version that is opened, and
-/// that is the one that was found: it has the same files. Where a call was refused and one can't tell
-/// what is durable (`unsure`), an opening without a crash opens one of the versions that are known,
-/// and then it alone is; the number of its manifest is above those that `CURRENT` may name.
+/// that is the one that was found: it has the same files. Where a call was refused and one can't
+/// tell what is durable (`unsure`), an opening without a crash opens one of the versions that are
+/// known, and then it alone is; the number of its manifest is above those that `CURRENT` may name.
 pub fn databases_open_on_what_was_found<P: Premise>()
     ensures opened { (board : TableId) (limit : ℕ) (h : Held) (d e : Disk) (w : World) (v : Version)
         (asks : List Asked)
@@ -194,19 +194,22 @@ pub fn databases_open_on_what_was_found<P: Premise>()
 pub fn openings_are_not_refused_for_what_is_shown<N: Naming, S: Shelf>()
     ensures open { (limit : ℕ) (e : OpenFault) (v : Levels) (d : Disk) (was is : Told) → S.honest
         → IsSound v → Shown v d
-        → ReadsShown (Stored S.Receipt (S.is_of N.place) S.Receipt.number S.Receipt.image) v d was is
+        → ReadsShown (Stored S.Receipt (S.is_of N.place) S.Receipt.number S.Receipt.image) v d
+        was is
         → IsOpenRefusal (Stored S.Receipt (S.is_of N.place) S.Receipt.number S.Receipt.image)
         (S.refuses N.place) S.honest limit e was is
         → IsNotWhatWasFound (λ fault. Counted fault was is) e }
     ensures device { (limit : ℕ) (e : OpenFault) (v : Levels) (d : Disk) (was is : Told) → S.honest
         → IsSound v → Shown v d
-        → ReadsShown (Stored S.Receipt (S.is_of N.place) S.Receipt.number S.Receipt.image) v d was is
+        → ReadsShown (Stored S.Receipt (S.is_of N.place) S.Receipt.number S.Receipt.image) v d
+        was is
         → IsOpenRefusal (Stored S.Receipt (S.is_of N.place) S.Receipt.number S.Receipt.image)
         (S.refuses N.place) S.honest limit e was is
         → was.misses < 2 ^ 64 - 1 → is.misses ≡ was.misses → IsNotWhatWasFound IsWantOrDevice e }
     ensures read { (e : OpenFault) (v : Levels) (d : Disk) (was is : Told) → S.honest → IsSound v
         → Shown v d
-        → ReadsShown (Stored S.Receipt (S.is_of N.place) S.Receipt.number S.Receipt.image) v d was is
+        → ReadsShown (Stored S.Receipt (S.is_of N.place) S.Receipt.number S.Receipt.image) v d
+        was is
         → IsFindRefusal (Stored S.Receipt (S.is_of N.place) S.Receipt.number S.Receipt.image)
         (S.refuses N.place) S.honest e was is
         → IsNotWhatWasFound (λ fault. Counted fault was is) e }
