@@ -30,5 +30,6 @@ mod Refusing
 mod Making
 mod Possible
 mod Answering
+mod Soundness
 mod Lives
 mod Reopening

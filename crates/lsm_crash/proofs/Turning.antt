@@ -138,7 +138,7 @@ module _ (law : TablesChange) (honest : Type 0) (board : TableId) where
   refused_at old new (Install done) asks next w u d e lo ln o i x going h = install_fails old new w u d e o i [] done asks next x going h
   refused_at old new (Collect removed) asks next w u d e lo ln o i x going h = collect_fails honest board old new w u d e lo ln o i removed asks next x going h
 
-  turn_keeps : (old new : Held) (turn : Turn) (w u : World) (d e : Disk) → IsState honest board old → IsState honest board new → IsSettled d w → IsWorldOf old w → Turns honest board old new turn w u d e → IsSettled e u × IsWorldOf new u
+  pub turn_keeps : (old new : Held) (turn : Turn) (w u : World) (d e : Disk) → IsState honest board old → IsState honest board new → IsSettled d w → IsWorldOf old w → Turns honest board old new turn w u d e → IsSettled e u × IsWorldOf new u
   turn_keeps old new (Answered deed) w u d e lo ln i o h =
       let ok = deed_allowed law honest board old new deed h.1 w h.0 lo ln o i.comes h.2 h.3 h.4 in
       let r = all_done (operations h.0 h.1) w u d e i ok.0 h.5 in

@@ -44,7 +44,7 @@ abbrev pub TablesChange : Type 0
 TablesChange = (deleted : List ℕ) (added : List (ℕ × Table)) (pointer : Option (ℕ × List ℕ)) (last : ℕ) (v : Levels) (n : ℕ) (t : Table) → n < length v.tables
     → (Has (level_in (changed deleted added pointer last v).tables n) t ↔ ((Has (level_in v.tables n) t × (Has deleted t.number → ⊥)) ⊎ Has added (n, t)))
 
-from_either : TablesChange → (d : Difference) (u : Levels) (n : ℕ) (t : Table) → length u.tables ≡ 7 → length (changed_by d u).tables ≡ 7 → Has (level_in (changed_by d u).tables n) t
+pub from_either : TablesChange → (d : Difference) (u : Levels) (n : ℕ) (t : Table) → length u.tables ≡ 7 → length (changed_by d u).tables ≡ 7 → Has (level_in (changed_by d u).tables n) t
     → Has (level_in u.tables n) t ⊎ Has d.added (n, t)
 from_either law d u n t seven seven' h =
     let lt = inside (changed_by d u).tables n t h in
