@@ -1,0 +1,53 @@
+-- What calls of a state leave of its answers, and of the tables that it keeps.
+use Rattle.std.proofs.Common.{◌≡◌, ℕ, ◌≤◌, ◌<◌, true, List, ◌++◌, Result, Ok, Err, refl, sym, ap, ◌∙◌, subst, inr, arith}
+use Rattle.std.specs.Prelude.{IfOk, OnOk, ◌↔◌, ◌==◌, not}
+use Rattle.std.proofs.lemmas.Bool.{eq-eqb}
+use Rattle.lsm_codec.specs.Keys.{UserKey}
+use Rattle.lsm_codec.specs.Lists.{Has}
+use Rattle.lsm_codec.specs.Entries.{Entry, answer, value_in}
+use Rattle.lsm_codec.proofs.CallerLemmas.{any_at, filter_has}
+use Rattle.lsm_levels.specs.Law.{Books, Law}
+use Rattle.lsm_levels.specs.Plain.{Ingests, Plain}
+use Rattle.lsm_levels.specs.Runs.{Agrees}
+use Rattle.lsm_shelf.specs.Told.{Told}
+use Rattle.lsm_state.specs.Collecting.{AreCollected, IsKeptNumber, is_in, outside}
+use Rattle.lsm_state.specs.Held.{Held, plain}
+use Rattle.lsm_theorems.specs.Unchanged.{read_of}
+use Rattle.lsm_theorems.proofs.ReadLaws.{later_unseen}
+
+-- ---- an ingest, and the snapshots that were live before it
+
+snapshot_so : (was is : Held) (new : List Entry) → Ingests (plain was) new (plain is) → is.history ≡ new ++ was.history → Books (plain was)
+    → Agrees (plain was) was.history → Agrees (plain is) is.history → (id seq : ℕ) (k : UserKey) → Has was.snapshots.taken (id, seq) → read_of is k seq ≡ read_of was k seq
+snapshot_so was is new i history books before after id seq k has =
+    let there : Has is.snapshots.taken (id, seq) = subst (λ (x : Plain). Has x.snapshots (id, seq)) (sym i.is) has in
+    let early : seq ≤ was.slots.version.last = books.snapshots (id, seq) has in
+    let unseen = later_unseen k seq new was.history (λ e h. omega (arith, early, i.above e h)) in
+    after.reads k seq (inr ((id, seq), there, refl)) ∙ (ap (λ (es : List Entry). answer es k seq) history ∙ (ap value_in unseen ∙ sym (before.reads k seq (inr ((id, seq), has, refl)))))
+
+pub snapshots_so : {T E : Type 0} (H : Type 0) (r : Result T E) (was is : Held) (new : List Entry) → OnOk r (Ingests (plain was) new (plain is)) → OnOk r (is.history ≡ new ++ was.history) → Law H (plain was)
+    → (H → Agrees (plain was) was.history) → (H → Agrees (plain is) is.history) → H → OnOk r ((id seq : ℕ) (k : UserKey) → Has was.snapshots.taken (id, seq) → read_of is k seq ≡ read_of was k seq)
+snapshots_so H (Ok v) was is new i history law before after fair = snapshot_so was is new i history law.books (before fair) (after fair)
+snapshots_so H (Err e) was is new i history law before after fair = tt
+
+-- ---- what is kept
+
+removed_unkept : (h : Held) (kept listed : List ℕ) → ((n : ℕ) → Has kept n ↔ IsKeptNumber h n) → (n : ℕ) → Has (outside kept listed) n → IsKeptNumber h n → ⊥
+removed_unkept h kept listed are n out k =
+    let other = (filter_has (λ m. not (is_in kept m)) listed n out).1 in
+    let found : is_in kept n ≡ true = any_at (λ m. m == n) kept n ((are n).1 k) (eq-eqb n n refl) in
+    absurd (cc)
+
+kept_apart : (h is : Held) (removed held : List ℕ) (was now : Told) → is ≡ record h { slots = record h.slots { board = is.slots.board } } → AreCollected h removed was now
+    → ((n : ℕ) → Has held n → IsKeptNumber is n) → (n : ℕ) → Has removed n → Has held n → ⊥
+kept_apart h is removed held was now rest c kept n gone there =
+    let back : IsKeptNumber h n = subst (λ (x : Held). IsKeptNumber x n) rest (kept n there) in
+    removed_unkept h c.kept c.listed c.kept_are n (subst (λ (ns : List ℕ). Has ns n) c.removed_are gone) back
+
+-- what was removed, and what a view holds after that
+pub kept_so : {V E W F : Type 0} (see : V → List ℕ) (its : W → List ℕ) (A B : Type 0) (r : Result V E) (m : Result W F) (h is : Held) (was now : Told)
+    → IfOk r (λ v. A × B × AreCollected h (see v) was now) → IfOk m (λ w. (n : ℕ) → Has (its w) n → IsKeptNumber is n) → is ≡ record h { slots = record h.slots { board = is.slots.board } }
+    → IfOk r (λ v. IfOk m (λ w. (n : ℕ) → Has (see v) n → Has (its w) n → ⊥))
+kept_so see its A B (Ok v) (Ok w) h is was now c kept rest = kept_apart h is (see v) (its w) was now rest c.2 kept
+kept_so see its A B (Ok v) (Err f) h is was now c kept rest = tt
+kept_so see its A B (Err e) m h is was now c kept rest = tt

@@ -1,0 +1,26 @@
+//! What was answered Ok survives crashes.
+
+ghost use Rattle.std.specs.Prelude.{◌≡◌, ℕ, List, length};
+ghost use Rattle.lsm_codec.specs.Entries.{Entry};
+ghost use Rattle.lsm_crash.specs.Disk.{Disk};
+ghost use Rattle.lsm_crash.specs.Known.{IsSettled, World};
+ghost use Rattle.lsm_crash.specs.Lives.{Ages, AllLeave, Answers, Life};
+ghost use Rattle.lsm_crash.specs.States.{Shown};
+ghost use Rattle.lsm_version.specs.Versions.{Levels};
+
+use lsm_crash::states::ingests_survive_crashes;
+use lsm_levels::machine::Premise;
+
+/// After any lives of a database, one after another, each of which ends with a crash in any call on
+/// its folder, or without one: all that is counted on is durable, and the folder shows a version
+/// whose read at the last sequence gives what it gives over all that came in, which is what every
+/// ingest that was answered Ok brought, and what one that a crash cut did, whole or not at all.
+pub fn ingests_survive<P: Premise>()
+    ensures { (lives : List Life) (v : Levels) (es : List Entry) (w u : World) (d e : Disk)
+        → IsSettled d w → Shown v d → length v.tables ≡ 7 → (P.holds → Answers v es)
+        → Ages P.holds lives w d u e
+        → IsSettled e u × ((x : Levels) × (fs : List Entry) × AllLeave lives v es x fs
+        × Shown x e × (P.holds → Answers x fs)) }
+{
+    ingests_survive_crashes::<P>();
+}
