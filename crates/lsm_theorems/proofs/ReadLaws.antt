@@ -7,8 +7,7 @@ use Rattle.lsm_codec.specs.Keys.{UserKey}
 use Rattle.lsm_codec.specs.Lists.{Has}
 use Rattle.lsm_codec.specs.Entries.{Entry, answer, first_of_two, is_allowed, newest, shown, value_in}
 use Rattle.lsm_codec.proofs.CallerLemmas as codec
-use Rattle.lsm_history.specs.History.{IsLater}
-use Rattle.lsm_theorems.specs.Newest.{IsNewest, IsReadOf, IsSeen}
+use Rattle.lsm_theorems.specs.Newest.{IsNewest, IsReadOf, IsReadOfAll, IsSeen}
 
 seen_allowed : (k : UserKey) (s : ℕ) (e : Entry) → IsSeen k s e → codec.IsAllowed k s e
 seen_allowed k s e p = record { key = p.0; seq = p.1 }
@@ -43,14 +42,13 @@ pub view_so : {V E : Type 0} (r : Result V E) (see : V → Option (List ℕ)) (h
 view_so (Ok v) see h k s p = subst (IsReadOf h k s) (sym p) (answer_read h k s)
 view_so (Err e) see h k s p = tt
 
--- a read over a history that goes on from what was remembered
-pub later_so : {V E : Type 0} (Fair : Type 0) (r : Result V E) (see : V → Option (List ℕ)) (now memory : List Entry) (k : UserKey) (last : ℕ)
-    → IsLater now memory → (Fair → (e : Entry) → Has now e → e.seq ≤ last)
-    → IfOk r (λ v. (seq : ℕ) × (seq ≡ last) × (Fair → see v ≡ answer now k seq)) → Fair
-    → IfOk r (λ v. (all : List Entry) × (seq : ℕ) × IsLater all memory × ((e : Entry) → Has all e → e.seq ≤ seq) × IsReadOf all k seq (see v))
-later_so Fair (Ok v) see now memory k last later upto p fair =
-    (now, p.0, later, (λ e has. subst (λ (q : ℕ). e.seq ≤ q) (sym p.1) (upto fair e has)), subst (IsReadOf now k p.0) (sym (p.2 fair)) (answer_read now k p.0))
-later_so Fair (Err e) see now memory k last later upto p fair = tt
+-- a read at the last sequence, with the history as it was remembered then
+pub all_so : {V E : Type 0} (Fair : Type 0) (r : Result V E) (see : V → Option (List ℕ)) (now history : List Entry) (k : UserKey) (last : ℕ)
+    → now ≡ history → (Fair → (e : Entry) → Has history e → e.seq ≤ last)
+    → IfOk r (λ v. (seq : ℕ) × (seq ≡ last) × (Fair → see v ≡ answer history k seq)) → Fair → IfOk r (λ v. IsReadOfAll now k (see v))
+all_so Fair (Ok v) see now history k last same upto p fair = subst (λ (es : List Entry). IsReadOfAll es k (see v)) (sym same)
+    (p.0, (λ e has. subst (λ (q : ℕ). e.seq ≤ q) (sym p.1) (upto fair e has)), subst (IsReadOf history k p.0) (sym (p.2 fair)) (answer_read history k p.0))
+all_so Fair (Err e) see now history k last same upto p fair = tt
 
 -- what comes in later than a read's sequence is not seen by it
 pub later_unseen : (k : UserKey) (s : ℕ) (new old : List Entry) → ((e : Entry) → Has new e → s < e.seq) → newest k s (new ++ old) ≡ newest k s old

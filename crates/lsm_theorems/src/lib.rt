@@ -1,10 +1,11 @@
 //! The headline theorems of the database, each the contract of one function: a law without a body,
 //! or a few calls and what is known behind them.
 //!
-//! Stands on all libraries of the database below its commands, by their public contracts alone, and
-//! nothing stands on it. Its contract: reads give the newest of all that came in, compactions change
-//! no answer, an ingest adds just its batch, what a reader holds is kept, a later history goes on
-//! from an earlier one, and bytes are read as they were written.
+//! Stands on the libraries of the database below its commands, by their public contracts alone, and
+//! nothing stands on it. Its contract: reads give the newest of all that came in, compactions
+//! change no answer, an ingest adds just its batch, what a reader holds is kept, a later history
+//! goes on from an earlier one, bytes are read as they were written, and what was answered Ok
+//! survives crashes.
 #![tactic(auto)]
 
 // What is answered.

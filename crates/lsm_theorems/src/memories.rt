@@ -1,11 +1,9 @@
 //! What is known of two takings of the lock.
 
-ghost use Rattle.std.specs.Prelude.{◌≡◌, ◌≤◌, ℕ, List, IfOk};
+ghost use Rattle.std.specs.Prelude.{◌≡◌, IfOk};
 ghost use Rattle.std.specs.Option.{option_map};
-ghost use Rattle.lsm_codec.specs.Entries.{Entry};
-ghost use Rattle.lsm_codec.specs.Lists.{Has};
 ghost use Rattle.lsm_history.specs.History.{IsLater};
-ghost use Rattle.lsm_theorems.specs.Newest.{IsReadOf};
+ghost use Rattle.lsm_theorems.specs.Newest.{IsReadOfAll};
 
 use lsm_history::Memory;
 use lsm_slots::Boarded;
@@ -15,14 +13,23 @@ use lsm_table::{NamedShelf, Shelf};
 use std::alloc::Global;
 use std::sync::Wait;
 
-/// The history, as it is under this taking of the lock.
-pub fn remember<N: Boarded, S: Shelf, R: Wait>(rt: &R, store: &Store<N, S>) -> Memory<N> {
-    store.lock(rt).remember()
+/// A read at the last sequence, with all that had come in by then, to be remembered: it gives the
+/// newest of that.
+pub fn first_reads_are_remembered<N: Boarded, S: Shelf, R: Wait>(
+    rt: &R,
+    alloc: Global,
+    store: &Store<N, S>,
+    shelf: &mut NamedShelf<N, S>,
+    user: &[u8],
+) -> (Result<Option<Vec<u8>>, StateFault>, Memory<N>)
+    ensures { S.honest → IfOk result.0 (λ v.
+        IsReadOfAll result.1 user.now (option_map (λ b. b.items) v)) }
+{
+    read_first(alloc, &mut store.lock(rt), shelf, user)
 }
 
-/// A read under a later taking of the lock, whatever any threads did in between: it gives the newest
-/// of a history that goes on from the one that was remembered, and nothing of it is later than the
-/// sequence of the read.
+/// A read under a later taking of the lock, whatever any threads did in between: it gives the
+/// newest of all that has come in (`read`), and that goes on from what was remembered (`later`).
 pub fn later_reads_go_on<N: Boarded, S: Shelf, R: Wait>(
     rt: &R,
     alloc: Global,
@@ -30,12 +37,28 @@ pub fn later_reads_go_on<N: Boarded, S: Shelf, R: Wait>(
     shelf: &mut NamedShelf<N, S>,
     memory: Memory<N>,
     user: &[u8],
-) -> Result<Option<Vec<u8>>, StateFault>
-    ensures { S.honest → IfOk result (λ v. (now : List Entry) × (seq : ℕ) × IsLater now memory
-        × ((e : Entry) → Has now e → e.seq ≤ seq)
-        × IsReadOf now user.now seq (option_map (λ b. b.items) v)) }
+) -> (Result<Option<Vec<u8>>, StateFault>, Memory<N>)
+    ensures later { IsLater result.1 memory }
+    ensures read { S.honest → IfOk result.0 (λ v.
+        IsReadOfAll result.1 user.now (option_map (λ b. b.items) v)) }
 {
     read_on(alloc, &mut store.lock(rt), shelf, memory, user)
+}
+
+fn read_first<N: Boarded, S: Shelf>(
+    alloc: Global,
+    state: &mut State<N, S>,
+    shelf: &mut NamedShelf<N, S>,
+    user: &[u8],
+) -> (Result<Option<Vec<u8>>, StateFault>, Memory<N>)
+    ensures seen { result.1 ≡ state.old.history }
+    ensures read { S.honest → IfOk result.0 (λ v.
+        IsReadOfAll result.1 user.now (option_map (λ b. b.items) v)) }
+{
+    state.law();
+    let now = state.remember();
+    let value = state.get(shelf, alloc, user, None);
+    (value, now)
 }
 
 fn read_on<N: Boarded, S: Shelf>(
@@ -44,12 +67,11 @@ fn read_on<N: Boarded, S: Shelf>(
     shelf: &mut NamedShelf<N, S>,
     memory: Memory<N>,
     user: &[u8],
-) -> Result<Option<Vec<u8>>, StateFault>
-    ensures { S.honest → IfOk result (λ v. (now : List Entry) × (seq : ℕ) × IsLater now memory
-        × ((e : Entry) → Has now e → e.seq ≤ seq)
-        × IsReadOf now user.now seq (option_map (λ b. b.items) v)) }
+) -> (Result<Option<Vec<u8>>, StateFault>, Memory<N>)
+    ensures later { IsLater result.1 memory }
+    ensures read { S.honest → IfOk result.0 (λ v.
+        IsReadOfAll result.1 user.now (option_map (λ b. b.items) v)) }
 {
-    state.law();
     state.recall(memory);
-    state.get(shelf, alloc, user, None)
+    read_first(alloc, state, shelf, user)
 }
