@@ -1,5 +1,4 @@
 use Rattle.std.proofs.Common.{ℕ, refl, inl, inr}
-use Rattle.lsm_codec.specs.Lists.{Has}
 use Rattle.lsm_theorems.proofs.ReadLaws.{has_map}
 use Rattle.lsm_theorems.proofs.reads.such_reads_are_promised.Goals as goal
 
