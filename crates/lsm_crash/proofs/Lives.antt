@@ -129,7 +129,14 @@ module _ (given : Type 0) (law : TablesChange) (honest : Type 0) (all : ReadsAll
       → IsSettled e u × ((x : Levels) × (fs : List Entry) × AllLeave lives v es x fs × Shown x e × (honest → Answers x fs) × (given → honest → IsSound x))
   ages_leave lives v es w u d e b h = (let r = ages_born lives v es w u d e b h in (r.3.settled, (r.0, r.1, r.2, r.3.shown, r.3.answers, r.3.sound)))
 
+pub ages_sound : (law : TablesChange) (honest : Type 0) (all : ReadsAll honest) (lives : List Life) (v : Levels) (es : List Entry) (w u : World) (d e : Disk) → IsSettled d w → Shown v d → length v.tables ≡ 7 → (honest → Answers v es) → (honest → IsSound v) → Ages honest lives w d u e
+    → (x : Levels) × (fs : List Entry) × AllLeave lives v es x fs × Shown x e × (honest → Answers x fs) × (honest → IsSound x)
+ages_sound law honest all lives v es w u d e i f seven a sound h =
+    let r = ages_leave (honest → IsSound v) law honest all lives v es w u d e record { settled = i; shown = f; seven = seven; answers = a; sound = λ k. k } h in
+    (r.1.0, r.1.1, r.1.2, r.1.3, r.1.4, r.1.5 sound)
+
 pub ages_keep : (law : TablesChange) (honest : Type 0) (all : ReadsAll honest) (lives : List Life) (v : Levels) (es : List Entry) (w u : World) (d e : Disk) → IsSettled d w → Shown v d → length v.tables ≡ 7 → (honest → Answers v es) → Ages honest lives w d u e
-    → IsSettled e u × ((x : Levels) × (fs : List Entry) × AllLeave lives v es x fs × Shown x e × (honest → Answers x fs) × ((honest → IsSound v) → honest → IsSound x))
+    → IsSettled e u × ((x : Levels) × (fs : List Entry) × AllLeave lives v es x fs × Shown x e × (honest → Answers x fs))
 ages_keep law honest all lives v es w u d e i f seven a h =
-    ages_leave (honest → IsSound v) law honest all lives v es w u d e record { settled = i; shown = f; seven = seven; answers = a; sound = λ k. k } h
+    let r = ages_leave (honest → IsSound v) law honest all lives v es w u d e record { settled = i; shown = f; seven = seven; answers = a; sound = λ k. k } h in
+    (r.0, (r.1.0, r.1.1, r.1.2, r.1.3, r.1.4))

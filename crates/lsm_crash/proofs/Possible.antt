@@ -1,11 +1,10 @@
 -- What the calls of a database ask for can be answered Ok on a disk, so the premises of the laws of runs can be met.
-use Rattle.std.proofs.Common.{◌≡◌, ℕ, suc, ◌+◌, ◌<◌, ◌^◌, Bool, true, false, List, [], ◌∷◌, length, map, refl, sym, ◌∙◌, ap, subst, inl, arith, Some, None}
+use Rattle.std.proofs.Common.{◌≡◌, ℕ, ◌+◌, ◌<◌, ◌^◌, Bool, true, false, List, [], ◌∷◌, length, map, refl, sym, ◌∙◌, ap, subst, inl, arith, Some, None}
 use Rattle.std.specs.Prelude.{if◌then◌else◌}
 use Rattle.atomic_table.specs.Seated.{TableId}
 use Rattle.lsm_storage.specs.FileNames.{table_name, manifest_name, temporary_name, current_text}
 use Rattle.lsm_storage.specs.Plans.{start_plan}
-use Rattle.lsm_shelf.specs.Asked.{Asked, AppendManifest, Remove as RemoveTable, StartManifest}
-use Rattle.lsm_version.specs.Versions.{Levels}
+use Rattle.lsm_shelf.specs.Asked.{Asked, AppendManifest, Remove as RemoveTable}
 use Rattle.lsm_batch.specs.declared.write.Write.{Write}
 use Rattle.lsm_journal.specs.Difference.{Difference, changed_by}
 use Rattle.lsm_journal.specs.Sending.{started_by}
@@ -18,7 +17,7 @@ use Rattle.lsm_state.specs.declared.ingest.Ingested.{Ingested}
 use Rattle.lsm_crash.specs.Disk.{Disk, empty_disk, filled, moved, named, with_file, with_names}
 use Rattle.lsm_crash.specs.Versions.{ComesTo, Tables, Version}
 use Rattle.lsm_crash.specs.Known.{Is, IsSettled, World, current_name, nothing}
-use Rattle.lsm_crash.specs.Operations.{Allows, Append, Put, Remove, Start, after, started}
+use Rattle.lsm_crash.specs.Operations.{Allows, Put, Remove, after, started}
 use Rattle.lsm_crash.specs.Among.{DoneAmong}
 use Rattle.lsm_crash.specs.States.{IsWorldOf}
 use Rattle.lsm_crash.specs.Database.{AllDone, Answered, Asks, Collect, Deed, Follows, HasMade, Ingest, Install, IsMade, IsReady, IsState, Opens, SmallRun, Works, after_all, operations, plans_of}

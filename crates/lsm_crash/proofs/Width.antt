@@ -1,5 +1,5 @@
 -- A disk is as wide as its rule says: instances of all that a crash may leave.
-use Rattle.std.proofs.Common.{◌≡◌, ℕ, ◌+◌, ◌≤◌, List, [], ◌∷◌, ◌++◌, length, take, refl, sym, ◌∙◌, ap, subst, inl, inr, arith, Some, None, zero-add, cond}
+use Rattle.std.proofs.Common.{◌≡◌, ℕ, ◌+◌, ◌≤◌, List, ◌++◌, length, take, refl, sym, ◌∙◌, ap, subst, inl, inr, arith, Some, None, zero-add, cond}
 use Rattle.std.specs.Prelude.{Option, Ok}
 use Rattle.std.specs.Str.{bytes_eq}
 use Rattle.std.proofs.lemmas.Bool.{cases_Bool}
@@ -8,7 +8,7 @@ use Rattle.std.proofs.lemmas.Slice.Eq.{bytes_eq-Decides}
 use Rattle.lsm_codec.specs.Lists.{Has}
 use Rattle.lsm_folder.specs.Calls.{appended, made, renamed, removed, wrote}
 use Rattle.lsm_crash.specs.Disk.{Disk, Names, Shows, Step, filled, moved, named, set, with_file, with_names, without}
-use Rattle.lsm_crash.specs.Crash.{Found, IsFileLeft, IsLeft, MayFind, MayFindBoth, front_of, mixed}
+use Rattle.lsm_crash.specs.Crash.{IsFileLeft, IsLeft, MayFind, MayFindBoth, front_of, mixed}
 use Rattle.lsm_crash.specs.Known.{Is, IsSound, Stands}
 use Rattle.lsm_crash.proofs.Disks.{along, named_at, named_else, set_at, set_else, some_is}
 use Rattle.lsm_crash.proofs.Standing.{sure, take_past}

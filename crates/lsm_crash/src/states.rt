@@ -240,8 +240,8 @@ pub fn databases_are_made_or_not<P: Premise>()
 /// with a crash in any call or without one, the folder shows a version, and all that is counted on
 /// is durable again. Where the shelf is honest, a read of that version at its last sequence gives
 /// what it gives over all entries that came in: those of every ingest that was answered Ok in any
-/// of these lives, and of one that a crash cut, whole or not at all. And that version is sound,
-/// where the first one is: so an opening is not refused for it
+/// of these lives, and of one that a crash cut, whole or not at all. Where the first
+/// version is sound, so is that one (`sound`), and an opening is not refused for it
 /// (`openings_are_not_refused_for_what_is_shown`).
 pub fn ingests_survive_crashes<P: Premise>()
     ensures lives { (lives : List Life) (v : Levels)
@@ -249,8 +249,12 @@ pub fn ingests_survive_crashes<P: Premise>()
         → IsSettled d w → Shown v d → length v.tables ≡ 7 → (P.holds → Answers v es)
         → Ages P.holds lives w d u e
         → IsSettled e u × ((x : Levels) × (fs : List Entry) × AllLeave lives v es x fs
-        × Shown x e × (P.holds → Answers x fs)
-        × ((P.holds → IsSound v) → P.holds → IsSound x)) }
+        × Shown x e × (P.holds → Answers x fs)) }
+    ensures sound { (lives : List Life) (v : Levels) (es : List Entry) (w u : World) (d e : Disk)
+        → IsSettled d w → Shown v d → length v.tables ≡ 7 → (P.holds → Answers v es)
+        → (P.holds → IsSound v) → Ages P.holds lives w d u e
+        → (x : Levels) × (fs : List Entry) × AllLeave lives v es x fs × Shown x e
+        × (P.holds → Answers x fs) × (P.holds → IsSound x) }
     ensures works { (board : TableId) (turns : List Turn) (old now : Held) (w u : World)
         (d e : Disk) (es : List Entry) → P.holds → IsState P.holds board old
         → Works P.holds board old now turns w u d e → Answers old.slots.version es

@@ -1,4 +1,4 @@
-use Rattle.lsm_crash.proofs.Lives.{ages_keep}
+use Rattle.lsm_crash.proofs.Lives.{ages_keep, ages_sound}
 use Rattle.lsm_crash.proofs.Answering.{deed_reads, made_answers, works_read}
 use Rattle.lsm_crash.proofs.states.ingests_survive_crashes.Goals as goal
 
@@ -14,3 +14,7 @@ returns-clause-made g c = made_answers
 
 pub returns-clause-one : goal.returns-clause-one
 returns-clause-one g c = λ board old new deed asks es fair l a follows answers. deed_reads g.P.Premise.holds c.runs_read_all_that_came.ensures board fair old new deed asks es l a follows answers
+
+pub returns-clause-sound : goal.returns-clause-sound
+returns-clause-sound g c = λ lives v es w u d e i f seven a sound h.
+    ages_sound c.changed_tables.ensures g.P.Premise.holds c.runs_read_all_that_came.ensures lives v es w u d e i f seven a sound h
