@@ -1,7 +1,5 @@
 //! What lies under the lock.
 
-ghost use Rattle.std.specs.Prelude.{◌≡◌};
-
 use crate::invariant::{Invariant, Lawful};
 use lsm_slots::Boarded;
 use lsm_state::State;

@@ -94,11 +94,7 @@ fn withdraw<N: Boarded, S: Shelf>(state: &mut State<N, S>, ticket: u64)
 }
 
 /// Cancels the job of the ticket under the lock.
-fn give_up<N: Boarded, S: Shelf, K: Invariant, R: Wait>(
-    rt: &R,
-    store: &Store<N, S, K>,
-    ticket: u64,
-)
+fn give_up<N: Boarded, S: Shelf, K: Invariant, R: Wait>(rt: &R, store: &Store<N, S, K>, ticket: u64)
     requires kept { IsKeptByCompaction S.honest K.keeps }
 {
     withdraw(&mut store.lock(rt).state, ticket);

@@ -34,15 +34,7 @@ impl<S: Shelf> Promise<WorkerEnd> for Ends<S> {
 type Thread<S> = Option<PromisedHandle<WorkerEnd, Ends<S>>>;
 
 /// Starts a worker for each shelf, the last one first.
-fn start_all<
-    's,
-    'e,
-    N: Boarded,
-    S: Shelf,
-    K: Invariant,
-    G: Gate + Sync,
-    R: Threads + Wait + Sync,
->(
+fn start_all<'s, 'e, N: Boarded, S: Shelf, K: Invariant, G: Gate + Sync, R: Threads + Wait + Sync>(
     scope: &'s Scope<'s, &'e ()>,
     rt: &'e R,
     alloc: Global,
@@ -129,13 +121,7 @@ fn join_all<S: Shelf, R: Threads + Wait>(
 /// worker's fault, `NoThread`.
 ///
 /// Where there is no memory for the answer nothing is done, and the shelves come back.
-pub fn run_workers<
-    N: Boarded,
-    S: Shelf,
-    K: Invariant,
-    G: Gate + Sync,
-    R: Threads + Wait + Sync,
->(
+pub fn run_workers<N: Boarded, S: Shelf, K: Invariant, G: Gate + Sync, R: Threads + Wait + Sync>(
     rt: &R,
     alloc: Global,
     store: &Store<N, S, K>,
