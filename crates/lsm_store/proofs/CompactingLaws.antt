@@ -2,6 +2,7 @@
 use Rattle.std.proofs.Common.{◌≡◌, ℕ, zero, suc, ◌==◌, if◌then◌else◌, Bool, true, false, Option, Some, None, List, [], ◌∷◌, refl, sym, ap, ◌∙◌, inl, inr, arith, subst}
 use Rattle.std.specs.Prelude.{slice_get, sum_by}
 use Rattle.std.specs.Option.{option_map}
+use Rattle.std.proofs.Math.Logic.{∥∥₁_map}
 use Rattle.std.proofs.lemmas.List.Sums.{sum_by-cons, sum_by-set}
 use Rattle.std.proofs.lemmas.Option.{slice_get_within, get_or_from_slice_get}
 use Rattle.lsm_levels.specs.Plain.{Cancels, Draws, Spends}
@@ -20,7 +21,7 @@ use Rattle.lsm_state.specs.Installing.{Installed, IsInstallRefusal, IsInstalling
 use Rattle.lsm_state.specs.Reserving.{IsReserving, plan_in, reserved}
 use Rattle.lsm_state.specs.declared.state_fault.StateFault.{StateFault}
 use Rattle.lsm_state.specs.declared.state_fault.StateFault.TheVariants.{OutOfMemory, Shelf, Read, BadLevel, EmptyBatch, KeyOrder, TooLarge, LevelZeroFull, SequencesSpent, Halted, UnknownSnapshot, Conflict, UnknownTicket, NumbersSpent, Stale, SlotsHeld, VersionsSpent, PinsSpent}
-use Rattle.lsm_store.specs.Compacting.{IsAsFound, IsCompactingStep, IsOfWorkers, pins_in, pins_of}
+use Rattle.lsm_store.specs.Compacting.{IsAsFound, IsCompactingStep, IsKeptByCompaction, IsOfWorkers, pins_in, pins_of}
 
 -- ---- pins
 
@@ -174,3 +175,9 @@ step_refused Honest was is d e t u refused event = elim refused [
         };
       }
 ]
+
+-- ---- the fact
+
+-- a fact that compaction keeps holds still
+pub still : (Honest : Type 0) (keeps : Held → Type 0) → IsKeptByCompaction Honest keeps → (was is : Held) → IsCompactingStep Honest was is → ∥ keeps was ∥₁ → ∥ keeps is ∥₁
+still Honest keeps kept was is step t = ∥∥₁_map t (kept was is step)
