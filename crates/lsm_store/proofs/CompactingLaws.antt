@@ -9,6 +9,8 @@ use Rattle.lsm_levels.specs.Plain.{Cancels, Draws, Spends}
 use Rattle.lsm_levels.specs.Runs.{Event, Run, Cancel, Draw, Install, Reserve, Spend}
 use Rattle.lsm_codec.specs.Lists.{Has}
 use Rattle.lsm_version.specs.Versions.{Levels, files}
+use Rattle.lsm_version.specs.Changes.{changed}
+use Rattle.lsm_journal.specs.Difference.{Difference, changed_by}
 use Rattle.lsm_levels.specs.Files.{all_entries}
 use Rattle.lsm_codec.specs.Entries.{answer}
 use Rattle.lsm_slots.specs.Slots.{Epoch, Slotted, Freed, Looked, Published, current_id}
@@ -114,6 +116,10 @@ step_drawn Honest was is ticket e event =
 two_events : (a b : Event) → IsOfWorkers a → IsOfWorkers b → (v : Event) → Has (a ∷ b ∷ []) v → IsOfWorkers v
 two_events a b x y v h = elim h [ inl s ↦ subst IsOfWorkers s x | inr t ↦ one_event b y v t ]
 
+last_after : (d : Difference) (v : Levels) → (changed_by d v).last ≡ d.last
+unfolding changed
+last_after d v = refl
+
 pub step_installed : (Honest : Type 0) (was is : Held) (d : Done) (t u : Told) → Installed was is d t u → (Honest → SameAnswers was is) → IsInstalling Honest was d.work.ticket is → IsCompactingStep Honest was is
 step_installed Honest was is d t u i answers event =
     let rest = i.changes.rest in
@@ -125,7 +131,7 @@ step_installed Honest was is d t u i answers event =
       pinners = ap (λ (h : Held). h.pinners) rest;
       found = record {
         history = ap (λ (h : Held). h.history) rest;
-        last = ap (λ (v : Levels). v.last) i.changes.published.version_is ∙ i.its.last_is;
+        last = ap (λ (v : Levels). v.last) i.changes.published.version_is ∙ last_after i.change i.slots.version ∙ i.its.last_is;
         snapshots = ap (λ (h : Held). h.snapshots) rest;
         pins = λ id. pins_published i.slots is.slots _ i.changes.published id ∙ pins_looked was.slots i.slots i.sought.looked id;
         answers = answers;

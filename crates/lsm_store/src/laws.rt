@@ -17,7 +17,7 @@ use lsm_levels::machine::Premise;
 /// come in, the last sequence, the snapshots, the pins, and each answer that is promised. It holds
 /// of the state that goes into the store, each step of a worker keeps it, and it can be taken out
 /// of what a guard or `Store::into_state` says. `P` is the premise of answers: that of a `State`.
-#[tactic(auto, using(crate::proofs::FoundLaws::found_seated, crate::proofs::FoundLaws::found_kept, crate::proofs::FoundLaws::found_out))]
+#[tactic(auto, using(crate::proofs::FoundLaws::found_seated, crate::proofs::FoundLaws::found_out))]
 pub fn what_was_found_is_kept<P: Premise>()
     ensures seated { (found h : Held) → IsSeated found h → IsAsFound P.holds found h }
     ensures kept { (found : Held) → IsKeptByCompaction P.holds (IsAsFound P.holds found) }

@@ -49,7 +49,6 @@ fn reserve<N: Boarded, S: Shelf, K: Invariant, R: Wait>(
 }
 
 /// Puts the result into the state. A refused one is let go.
-#[tactic(auto, using(crate::proofs::CompactingLaws::step_installed, crate::proofs::CompactingLaws::step_refused))]
 fn put_in<N: Boarded, S: Shelf, R: Wait>(
     state: &mut State<N, S>,
     rt: &R,
