@@ -5,7 +5,9 @@ use Rattle.std.specs.Option.{option_map}
 use Rattle.std.proofs.Math.Logic.{∥∥₁_map}
 use Rattle.std.proofs.lemmas.List.Sums.{sum_by-cons, sum_by-set}
 use Rattle.std.proofs.lemmas.Option.{slice_get_within, get_or_from_slice_get}
-use Rattle.lsm_levels.specs.Plain.{Cancels, Draws, Spends}
+use Rattle.lsm_levels.specs.Jobs.{Job}
+use Rattle.lsm_levels.specs.Plans.{Plan}
+use Rattle.lsm_levels.specs.Plain.{Cancels, Draws, Reserves, Spends}
 use Rattle.lsm_levels.specs.Runs.{Event, Run, Cancel, Draw, Install, Reserve, Spend}
 use Rattle.lsm_codec.specs.Lists.{Has}
 use Rattle.lsm_version.specs.Versions.{Levels, files}
@@ -16,11 +18,10 @@ use Rattle.lsm_codec.specs.Entries.{answer}
 use Rattle.lsm_slots.specs.Slots.{Epoch, Slotted, Freed, Looked, Published, current_id}
 use Rattle.lsm_shelf.specs.Told.{Told}
 use Rattle.lsm_live.specs.Booked.{booked, without}
-use Rattle.lsm_choice.specs.TablePlans.{plan_of}
-use Rattle.lsm_merge.specs.Work.{Done, Work, job_of}
+use Rattle.lsm_merge.specs.Work.{Done, Work}
 use Rattle.lsm_state.specs.Held.{Held, plain}
 use Rattle.lsm_state.specs.Installing.{Installed, IsInstallRefusal, IsInstalling, IsRefusedLater, SameAnswers}
-use Rattle.lsm_state.specs.Reserving.{IsReserving, plan_in, reserved}
+use Rattle.lsm_state.specs.Reserving.{reserved}
 use Rattle.lsm_state.specs.declared.state_fault.StateFault.{StateFault}
 use Rattle.lsm_state.specs.declared.state_fault.StateFault.TheVariants.{OutOfMemory, Shelf, Read, BadLevel, EmptyBatch, KeyOrder, TooLarge, LevelZeroFull, SequencesSpent, Halted, UnknownSnapshot, Conflict, UnknownTicket, NumbersSpent, Stale, SlotsHeld, VersionsSpent, PinsSpent}
 use Rattle.lsm_store.specs.Compacting.{IsAsFound, IsCompactingStep, IsKeptByCompaction, IsOfWorkers, pins_in, pins_of}
@@ -99,9 +100,9 @@ step_beside Honest was is mid events e b only run = record {
 pub step_none : (Honest : Type 0) (was is : Held) → is ≡ was → IsCompactingStep Honest was is
 step_none Honest was is e = step_beside Honest was is was [] e (refl, refl, refl, refl, refl) (λ v h. absurd h) (ap plain e)
 
-pub step_reserved : (Honest : Type 0) (was is : Held) (w : Work) → is ≡ reserved w was → IsReserving Honest was w is → IsCompactingStep Honest was is
-step_reserved Honest was is w e event =
-    step_beside Honest was is (reserved w was) (Reserve (plan_of (plan_in w)) (job_of w) ∷ []) e (refl, refl, refl, refl, refl) (one_event _ tt) (plain is, event, refl)
+pub step_reserved : (Honest : Type 0) (was is : Held) (w : Work) (plan : Plan) (job : Job) → is ≡ reserved w was → Reserves Honest (plain was) plan job (plain is)
+    → IsCompactingStep Honest was is
+step_reserved Honest was is w plan job e event = step_beside Honest was is (reserved w was) (Reserve plan job ∷ []) e (refl, refl, refl, refl, refl) (one_event _ tt) (plain is, event, refl)
 
 pub step_cancelled : (Honest : Type 0) (was is : Held) (ticket : ℕ) → is ≡ record was { live = without ticket was.live } → Cancels (plain was) ticket (plain is) → IsCompactingStep Honest was is
 step_cancelled Honest was is ticket e event =
