@@ -33,7 +33,6 @@ fn draw<N: Boarded, S: Shelf>(state: &mut State<N, S>, ticket: u64) -> Result<u6
 }
 
 /// A number drawn under the lock.
-#[tactic(auto, using(crate::proofs::CompactingLaws::still))]
 fn draw_under_lock<N: Boarded, S: Shelf, K: Invariant, R: Wait>(
     rt: &R,
     store: &Store<N, S, K>,

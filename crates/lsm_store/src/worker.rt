@@ -20,7 +20,7 @@ use std::alloc::{AllocError, Global};
 use std::sync::{Arc, Wait};
 
 /// The next job of the state; none where there is no choice.
-#[tactic(auto, using(crate::proofs::CompactingLaws::step_none, crate::proofs::CompactingLaws::step_reserved))]
+#[tactic(auto, using(crate::proofs::CompactingLaws::step_none))]
 fn next_job<N: Boarded, S: Shelf>(
     state: &mut State<N, S>,
     alloc: Global,
@@ -36,7 +36,6 @@ fn next_job<N: Boarded, S: Shelf>(
 }
 
 /// The next job, which the state reserves under the lock; none where there is no choice.
-#[tactic(auto, using(crate::proofs::CompactingLaws::still))]
 fn reserve<N: Boarded, S: Shelf, K: Invariant, R: Wait>(
     rt: &R,
     alloc: Global,
@@ -66,7 +65,6 @@ fn put_in<N: Boarded, S: Shelf, R: Wait>(
 }
 
 /// Installs the result under the lock. A refused one is let go.
-#[tactic(auto, using(crate::proofs::CompactingLaws::still))]
 fn install<N: Boarded, S: Shelf, K: Invariant, R: Wait>(
     rt: &R,
     alloc: Global,
@@ -95,7 +93,6 @@ fn withdraw<N: Boarded, S: Shelf>(state: &mut State<N, S>, ticket: u64)
 }
 
 /// Cancels the job of the ticket under the lock.
-#[tactic(auto, using(crate::proofs::CompactingLaws::still))]
 fn give_up<N: Boarded, S: Shelf, K: Invariant, R: Wait>(rt: &R, store: &Store<N, S, K>, ticket: u64)
     requires kept { IsKeptByCompaction S.honest K.keeps }
 {
