@@ -51,7 +51,7 @@ fn bring_in<N: Boarded, S: Shelf, R: Wait + Print>(
     shelf: &mut NamedShelf<N, S>,
     batch: &Batch,
 ) -> anyhow::Result<()> {
-    let came = store.lock(rt).ingest(rt, alloc, shelf, batch)?;
+    let came = store.lock(rt).state.ingest(rt, alloc, shelf, batch)?;
     Ok(println!(rt;
         "table {} has sequences {} to {}",
         came.file, came.first, came.last
@@ -79,7 +79,7 @@ fn view_of<N: Boarded, S: Shelf, R: Wait>(
     readers: &mut Vec<Reader<N, S>>,
 ) -> anyhow::Result<View<N, S>> {
     let mut reader = readers.pop().context("no reader is left")?;
-    reader.refresh(&mut store.lock(rt))?;
+    reader.refresh(&mut store.lock(rt).state)?;
     match reader.begin() {
         Ok(view) => Ok(view),
         Err((_reader, fault)) => Err(fault.into()),
@@ -165,7 +165,7 @@ fn collect<N: Boarded, S: Shelf, R: Wait + Print>(
     store: &Store<N, S>,
     shelf: &mut NamedShelf<N, S>,
 ) -> anyhow::Result<()> {
-    match store.lock(rt).collect(rt, alloc, shelf) {
+    match store.lock(rt).state.collect(rt, alloc, shelf) {
         Ok(removed) => Ok(println!(rt; "{} tables went", removed.len())?),
         Err((fault, _removed)) => Err(fault.into()),
     }

@@ -1,3 +1,5 @@
+pub mod CompactingLaws
+pub mod FoundLaws
 pub mod PromiseLaws
 pub mod ReaderLaws
 pub mod SeatLaws

@@ -3,7 +3,9 @@
 ghost use Rattle.std.specs.Prelude.{◌≡◌, suc, IfErr, IfOk, OnErr};
 ghost use Rattle.lsm_live.specs.Booked.{booked};
 ghost use Rattle.lsm_merge.specs.NumberFault.{IsOfTicket};
+ghost use Rattle.lsm_store.specs.Compacting.{IsCompactingStep, IsKeptByCompaction};
 
+use crate::invariant::Invariant;
 use crate::number_service::NumberService;
 use crate::store::Store;
 use lsm_merge::NumberFault;
@@ -13,11 +15,13 @@ use lsm_table::Shelf;
 use std::sync::Wait;
 
 /// The state's next number, booked under the ticket.
+#[tactic(auto, using(crate::proofs::CompactingLaws::step_none, crate::proofs::CompactingLaws::step_drawn))]
 fn draw<N: Boarded, S: Shelf>(state: &mut State<N, S>, ticket: u64) -> Result<u64, NumberFault>
     ensures ok { IfOk result (λ n. (n ≡ state.old.next)
         × (state.new ≡ record state.old { live = booked ticket n state.old.live; next = suc n })) }
     ensures err { OnErr result (state.new ≡ state.old) }
     ensures named { IfErr result (λ e. IsOfTicket e ticket) }
+    ensures step { IsCompactingStep S.honest state.old state.new }
 {
     match state.new_number(ticket) {
         Ok(number) => Ok(number),
@@ -29,20 +33,24 @@ fn draw<N: Boarded, S: Shelf>(state: &mut State<N, S>, ticket: u64) -> Result<u6
 }
 
 /// A number drawn under the lock.
-fn draw_under_lock<N: Boarded, S: Shelf, R: Wait>(
+fn draw_under_lock<N: Boarded, S: Shelf, K: Invariant, R: Wait>(
     rt: &R,
-    store: &Store<N, S>,
+    store: &Store<N, S, K>,
     ticket: u64,
-) -> Result<u64, NumberFault> {
-    draw(&mut store.lock(rt), ticket)
+) -> Result<u64, NumberFault>
+    requires kept { IsKeptByCompaction S.honest K.keeps }
+{
+    draw(&mut store.lock(rt).state, ticket)
 }
 
 /// Draws a number for each worker that asks, until none may ask any more.
-pub(crate) fn draw_for_all<N: Boarded, S: Shelf, R: Wait>(
+pub(crate) fn draw_for_all<N: Boarded, S: Shelf, K: Invariant, R: Wait>(
     rt: &R,
-    store: &Store<N, S>,
+    store: &Store<N, S, K>,
     service: &NumberService,
-) {
+)
+    requires kept { IsKeptByCompaction S.honest K.keeps }
+{
     for _ in rt.forever() {
         let Some(ticket) = service.next(rt) else {
             return;

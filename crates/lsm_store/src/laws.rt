@@ -3,11 +3,26 @@
 ghost use Rattle.std.specs.Prelude.{◌≡◌, ℕ, Bool, List, length};
 ghost use Rattle.lsm_journal.specs.HeldManifest.{HeldManifest};
 ghost use Rattle.lsm_pins.specs.Known.{Known};
+ghost use Rattle.lsm_state.specs.Held.{Held};
 ghost use Rattle.lsm_state.specs.Making.{created_state, created_state_under};
 ghost use Rattle.lsm_state.specs.Opening.{opened_state};
 ghost use Rattle.lsm_state.specs.declared.options.Options.{Options};
+ghost use Rattle.lsm_store.specs.Compacting.{IsAsFound, IsKeptByCompaction, IsSeated};
 ghost use Rattle.lsm_store.specs.Readers.{SeatsPinners};
 ghost use Rattle.lsm_version.specs.Versions.{Levels};
+
+use lsm_levels::machine::Premise;
+
+/// A fact for a store's lock: that all stays as it was found of a state (`IsAsFound`), all that had
+/// come in, the last sequence, the snapshots, the pins, and each answer that is promised. It holds
+/// of the state that goes into the store, each step of a worker keeps it, and it can be taken out
+/// of what a guard or `Store::into_state` says. `P` is the premise of answers: that of a `State`.
+#[tactic(auto, using(crate::proofs::FoundLaws::found_seated, crate::proofs::FoundLaws::found_out))]
+pub fn what_was_found_is_kept<P: Premise>()
+    ensures seated { (found h : Held) → IsSeated found h → IsAsFound P.holds found h }
+    ensures kept { (found : Held) → IsKeptByCompaction P.holds (IsAsFound P.holds found) }
+    ensures out { (found h : Held) → ∥ IsAsFound P.holds found h ∥₁ → IsAsFound P.holds found h }
+{}
 
 /// What `State::create`, `State::create_under`, `State::open` and `State::open_to_read` make has no
 /// more pinners than readers, where the board has as many as the options say. So it is of a board

@@ -10,6 +10,8 @@
 
 // The state behind its lock, and its readers.
 mod begin_fault;
+mod guarded;
+mod invariant;
 mod reader;
 mod reader_cache;
 mod store;
@@ -32,6 +34,8 @@ pub mod laws;
 
 pub use begin_fault::BeginFault;
 pub use gate::{Gate, NoGate};
+pub use guarded::Guarded;
+pub use invariant::{Invariant, Lawful};
 pub use lsm_storage::{FileReceipt, FileShelf, MemoryReceipt, MemoryShelf, SystemShelf};
 pub use reader::Reader;
 pub use reader_cache::ReaderCache;

@@ -4,8 +4,12 @@ ghost use Rattle.std.specs.Prelude.{◌≡◌, ◌≤◌, [], All, IfErr, IfOk, 
 ghost use Rattle.std.specs.Prelude.{vec_len};
 ghost use Rattle.lsm_shelf.specs.Told.{Counted, Forked, NotNamed};
 ghost use Rattle.lsm_pins.specs.Known.{Known};
+ghost use Rattle.lsm_state.specs.Held.{Held};
+ghost use Rattle.lsm_store.specs.Compacting.{IsSeated};
 ghost use Rattle.lsm_store.specs.Readers.{IsFreeEnd, SeatsPinners, known_at, seated};
 
+use crate::guarded::{Fact, Guarded};
+use crate::invariant::{Invariant, Lawful};
 use crate::reader::Reader;
 use crate::reader_cache::ReaderCache;
 use lsm_pins::Pinner;
@@ -51,6 +55,8 @@ fn seat<N: Boarded, S: Shelf>(
     requires pinner { IsFreeEnd N.board pinner }
     requires cache { cache ≡ known_at state.old N.place }
     ensures seated { result ≡ seated state.old N.place pinner }
+    ensures rest { state.new
+        ≡ record state.old { slots = record state.old.slots { board = state.new.slots.board } } }
     ensures same { known_at state.new N.place ≡ known_at state.old N.place }
     ensures others { (p : Known) → seated state.new N.place p ≡ seated state.old N.place p }
 {
@@ -73,6 +79,8 @@ fn seat_all<N: Boarded, S: Shelf>(
     requires room { vec_len pinners ≤ vec_capacity readers }
     ensures readers { result.items ≡ map (seated state.old N.place) pinners.items }
     ensures len { vec_len result ≡ vec_len pinners }
+    ensures rest { state.new
+        ≡ record state.old { slots = record state.old.slots { board = state.new.slots.board } } }
 {
     let mut caches = caches;
     let mut readers = readers;
@@ -120,11 +128,11 @@ fn take_ends<N: Boarded, S: Shelf>(state: &mut State<N, S>, alloc: Global) -> Ve
 
 /// The state of a database behind its lock.
 #[derive(Drop)]
-pub struct Store<N: Boarded, S: Shelf> {
-    state: Mutex<State<N, S>>,
+pub struct Store<N: Boarded, S: Shelf, K: Invariant = Lawful> {
+    state: Mutex<Guarded<N, S, K>>,
 }
 
-impl<N: Boarded, S: Shelf> Store<N, S> {
+impl<N: Boarded, S: Shelf, K: Invariant> Store<N, S, K> {
     /// The store of a state, and a reader for each pinner that was not taken yet, in their order.
     /// Each has a fork of the shelf and an empty cache of blocks, and has learnt the current
     /// version. All of that is made before the pinners are taken.
@@ -138,8 +146,9 @@ impl<N: Boarded, S: Shelf> Store<N, S> {
         alloc: Global,
         state: State<N, S>,
         shelf: NamedShelf<N, S>,
-    ) -> Result<(Store<N, S>, Vec<Reader<N, S>>), (State<N, S>, NamedShelf<N, S>, ShelfFault)>
+    ) -> Result<(Store<N, S, K>, Vec<Reader<N, S>>), (State<N, S>, NamedShelf<N, S>, ShelfFault)>
         requires seats { SeatsPinners state }
+        requires kept { (h : Held) → IsSeated state h → K.keeps h }
         ensures readers { IfOk result (λ r. r.1.items ≡ map (seated state N.place) state.pinners) }
         ensures len { IfOk result (λ r. vec_len r.1 ≡ length state.pinners) }
         ensures err { IfErr result (λ e. (e.0 ≡ state) × Forked shelf e.1) }
@@ -154,14 +163,24 @@ impl<N: Boarded, S: Shelf> Store<N, S> {
         let pinners = take_ends(&mut state, alloc);
         let readers = seat_all(&mut state, pinners, caches, readers);
         let store = Store {
-            state: Mutex::new(state),
+            state: Mutex::new(Guarded {
+                state,
+                fact: Fact::new(),
+            }),
         };
         Ok((store, readers))
     }
 
-    /// Lends the state, which keeps its law (`State::options` tells it); calls are made on the
-    /// guard.
-    pub fn lock<'a, R: Wait>(&'a self, rt: &R) -> MutexGuard<'a, State<N, S>> {
+    /// Lends the state, which keeps its law (`State::options` tells it), and the fact of the store,
+    /// which is `kept` of the guard. Calls are made on the guard's `state`.
+    pub fn lock<'a, R: Wait>(&'a self, rt: &R) -> MutexGuard<'a, Guarded<N, S, K>> {
         self.state.lock(rt)
+    }
+
+    /// The state, of which the fact holds.
+    pub fn into_state(self) -> State<N, S>
+        ensures kept { ∥ K.keeps result ∥₁ }
+    {
+        self.state.into_inner().state
     }
 }

@@ -2,9 +2,11 @@
 
 ghost use Rattle.std.specs.Prelude.{◌≡◌, IfErr, IfOk};
 ghost use Rattle.lsm_live.specs.Booked.{HasTicket, without};
+ghost use Rattle.lsm_store.specs.Compacting.{IsCompactingStep, IsKeptByCompaction};
 ghost use Rattle.lsm_store.specs.Workers.{IsOfInstalling, IsOfReserving, IsOfTurn, IsWorkersEnd};
 
 use crate::gate::Gate;
+use crate::invariant::Invariant;
 use crate::number_service::NumberService;
 use crate::store::Store;
 use crate::ticket_numbers::TicketNumbers;
@@ -17,38 +19,71 @@ use lsm_table::{NamedShelf, Registry, Shelf};
 use std::alloc::{AllocError, Global};
 use std::sync::{Arc, Wait};
 
-/// The next job, which the state reserves under the lock; none where there is no choice.
-fn reserve<N: Boarded, S: Shelf, R: Wait>(
-    rt: &R,
+/// The next job of the state; none where there is no choice.
+#[tactic(auto, using(crate::proofs::CompactingLaws::step_none))]
+fn next_job<N: Boarded, S: Shelf>(
+    state: &mut State<N, S>,
     alloc: Global,
-    store: &Store<N, S>,
 ) -> Result<Option<Job<N, S>>, StateFault>
-    ensures { IfErr result IsOfReserving }
+    ensures step { IsCompactingStep S.honest state.old state.new }
+    ensures refused { IfErr result IsOfReserving }
 {
-    store.lock(rt).reserve(alloc)
+    match state.reserve(alloc) {
+        Ok(Some(job)) => Ok(Some(job)),
+        Ok(None) => Ok(None),
+        Err(fault) => Err(fault),
+    }
 }
 
-/// Installs the result under the lock. A refused one is let go.
-fn install<N: Boarded, S: Shelf, R: Wait>(
+/// The next job, which the state reserves under the lock; none where there is no choice.
+fn reserve<N: Boarded, S: Shelf, K: Invariant, R: Wait>(
     rt: &R,
     alloc: Global,
-    store: &Store<N, S>,
+    store: &Store<N, S, K>,
+) -> Result<Option<Job<N, S>>, StateFault>
+    requires kept { IsKeptByCompaction S.honest K.keeps }
+    ensures { IfErr result IsOfReserving }
+{
+    next_job(&mut store.lock(rt).state, alloc)
+}
+
+/// Puts the result into the state. A refused one is let go.
+fn put_in<N: Boarded, S: Shelf, R: Wait>(
+    state: &mut State<N, S>,
+    rt: &R,
+    alloc: Global,
     shelf: &mut NamedShelf<N, S>,
     done: Finished<N, S>,
 ) -> Result<(), StateFault>
+    ensures step { IsCompactingStep S.honest state.old state.new }
     ensures refused { IfErr result IsOfInstalling }
 {
-    match store.lock(rt).install(rt, alloc, shelf, done) {
+    match state.install(rt, alloc, shelf, done) {
         Ok(_numbers) => Ok(()),
         Err((fault, _done)) => Err(fault),
     }
 }
 
+/// Installs the result under the lock. A refused one is let go.
+fn install<N: Boarded, S: Shelf, K: Invariant, R: Wait>(
+    rt: &R,
+    alloc: Global,
+    store: &Store<N, S, K>,
+    shelf: &mut NamedShelf<N, S>,
+    done: Finished<N, S>,
+) -> Result<(), StateFault>
+    requires kept { IsKeptByCompaction S.honest K.keeps }
+    ensures refused { IfErr result IsOfInstalling }
+{
+    put_in(&mut store.lock(rt).state, rt, alloc, shelf, done)
+}
+
 /// Cancels the job of the ticket, if it is still live.
-#[tactic(auto, using(crate::proofs::WorkerLaws::without_absent))]
+#[tactic(auto, using(crate::proofs::WorkerLaws::without_absent, crate::proofs::CompactingLaws::step_none, crate::proofs::CompactingLaws::step_cancelled))]
 fn withdraw<N: Boarded, S: Shelf>(state: &mut State<N, S>, ticket: u64)
     ensures gone { HasTicket state.new.live ticket → ⊥ }
     ensures rest { state.new ≡ record state.old { live = without ticket state.old.live } }
+    ensures step { IsCompactingStep S.honest state.old state.new }
 {
     match state.cancel(ticket) {
         Ok(()) => {}
@@ -58,20 +93,23 @@ fn withdraw<N: Boarded, S: Shelf>(state: &mut State<N, S>, ticket: u64)
 }
 
 /// Cancels the job of the ticket under the lock.
-fn give_up<N: Boarded, S: Shelf, R: Wait>(rt: &R, store: &Store<N, S>, ticket: u64) {
-    withdraw(&mut store.lock(rt), ticket);
+fn give_up<N: Boarded, S: Shelf, K: Invariant, R: Wait>(rt: &R, store: &Store<N, S, K>, ticket: u64)
+    requires kept { IsKeptByCompaction S.honest K.keeps }
+{
+    withdraw(&mut store.lock(rt).state, ticket);
 }
 
 /// Merges a job outside the lock, with numbers that it asks for, and installs the result.
-fn finish<N: Boarded, S: Shelf, R: Wait>(
+fn finish<N: Boarded, S: Shelf, K: Invariant, R: Wait>(
     rt: &R,
     alloc: Global,
-    store: &Store<N, S>,
+    store: &Store<N, S, K>,
     registry: &Registry<N, S>,
     service: &NumberService,
     shelf: &mut NamedShelf<N, S>,
     job: Job<N, S>,
 ) -> Result<(), WorkerFault>
+    requires kept { IsKeptByCompaction S.honest K.keeps }
     ensures refused { IfErr result (IsOfTurn S.honest) }
 {
     let mut numbers = TicketNumbers::of(service);
@@ -82,16 +120,17 @@ fn finish<N: Boarded, S: Shelf, R: Wait>(
 }
 
 /// One compaction: whether there was one to do. After a fault its job is not live.
-fn turn<N: Boarded, S: Shelf, G: Gate, R: Wait>(
+fn turn<N: Boarded, S: Shelf, K: Invariant, G: Gate, R: Wait>(
     rt: &R,
     alloc: Global,
-    store: &Store<N, S>,
+    store: &Store<N, S, K>,
     registry: &Registry<N, S>,
     service: &NumberService,
     shelf: &mut NamedShelf<N, S>,
     gate: &G,
     worker: usize,
 ) -> Result<bool, WorkerFault>
+    requires kept { IsKeptByCompaction S.honest K.keeps }
     ensures refused { IfErr result (IsOfTurn S.honest) }
 {
     let Some(job) = reserve(rt, alloc, store)? else {
@@ -109,23 +148,24 @@ fn turn<N: Boarded, S: Shelf, G: Gate, R: Wait>(
 }
 
 /// The registry of the store's tables.
-fn registry_of<N: Boarded, S: Shelf, R: Wait>(
+fn registry_of<N: Boarded, S: Shelf, K: Invariant, R: Wait>(
     rt: &R,
-    store: &Store<N, S>,
+    store: &Store<N, S, K>,
 ) -> Result<Arc<Registry<N, S>>, AllocError> {
-    Arc::try_clone(store.lock(rt).registry())
+    Arc::try_clone(store.lock(rt).state.registry())
 }
 
 /// One compaction after another, until there is nothing left to reserve, or a fault.
-pub(crate) fn work<N: Boarded, S: Shelf, G: Gate, R: Wait>(
+pub(crate) fn work<N: Boarded, S: Shelf, K: Invariant, G: Gate, R: Wait>(
     rt: &R,
     alloc: Global,
-    store: &Store<N, S>,
+    store: &Store<N, S, K>,
     service: &NumberService,
     shelf: NamedShelf<N, S>,
     gate: &G,
     worker: usize,
 ) -> WorkerEnd
+    requires kept { IsKeptByCompaction S.honest K.keeps }
     ensures { IsWorkersEnd S.honest result }
 {
     let mut shelf = shelf;

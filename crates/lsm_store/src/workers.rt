@@ -1,10 +1,12 @@
 //! Workers, each in a thread of its own.
 
 ghost use Rattle.std.specs.Prelude.{◌≡◌, ◌≤◌, [], All, IfErr, IfOk, vec_capacity, vec_len};
+ghost use Rattle.lsm_store.specs.Compacting.{IsKeptByCompaction};
 ghost use Rattle.lsm_store.specs.Workers.{IsWorkersEnd};
 
 use crate::drawing::draw_for_all;
 use crate::gate::Gate;
+use crate::invariant::Invariant;
 use crate::number_service::NumberService;
 use crate::store::Store;
 use crate::worker::work;
@@ -32,16 +34,17 @@ impl<S: Shelf> Promise<WorkerEnd> for Ends<S> {
 type Thread<S> = Option<PromisedHandle<WorkerEnd, Ends<S>>>;
 
 /// Starts a worker for each shelf, the last one first.
-fn start_all<'s, 'e, N: Boarded, S: Shelf, G: Gate + Sync, R: Threads + Wait + Sync>(
+fn start_all<'s, 'e, N: Boarded, S: Shelf, K: Invariant, G: Gate + Sync, R: Threads + Wait + Sync>(
     scope: &'s Scope<'s, &'e ()>,
     rt: &'e R,
     alloc: Global,
-    store: &'e Store<N, S>,
+    store: &'e Store<N, S, K>,
     service: &'e NumberService,
     shelves: Vec<NamedShelf<N, S>>,
     gate: &'e G,
     handles: Vec<Thread<S>>,
 ) -> Vec<Thread<S>>
+    requires kept { IsKeptByCompaction S.honest K.keeps }
     requires none { vec_len handles ≡ 0 }
     requires room { vec_len shelves ≤ vec_capacity handles }
     ensures len { vec_len result ≡ vec_len shelves }
@@ -54,6 +57,7 @@ fn start_all<'s, 'e, N: Boarded, S: Shelf, G: Gate + Sync, R: Threads + Wait + S
         let handle = scope.spawn_with(
             promise,
             move || -> WorkerEnd
+                requires kept { IsKeptByCompaction S.honest K.keeps }
                 ensures { IsWorkersEnd S.honest result }
             {
                 let end = work(rt, alloc, store, service, shelf, gate, worker);
@@ -117,13 +121,14 @@ fn join_all<S: Shelf, R: Threads + Wait>(
 /// worker's fault, `NoThread`.
 ///
 /// Where there is no memory for the answer nothing is done, and the shelves come back.
-pub fn run_workers<N: Boarded, S: Shelf, G: Gate + Sync, R: Threads + Wait + Sync>(
+pub fn run_workers<N: Boarded, S: Shelf, K: Invariant, G: Gate + Sync, R: Threads + Wait + Sync>(
     rt: &R,
     alloc: Global,
-    store: &Store<N, S>,
+    store: &Store<N, S, K>,
     shelves: Vec<NamedShelf<N, S>>,
     gate: &G,
 ) -> Result<Vec<WorkerEnd>, AllocFailed<Vec<NamedShelf<N, S>>>>
+    requires kept { IsKeptByCompaction S.honest K.keeps }
     ensures len { IfOk result (λ v. vec_len v ≡ vec_len shelves) }
     ensures ends { IfOk result (λ v. All (IsWorkersEnd S.honest) v.items) }
     ensures back { IfErr result (λ e. e.value ≡ shelves) }
@@ -140,6 +145,7 @@ pub fn run_workers<N: Boarded, S: Shelf, G: Gate + Sync, R: Threads + Wait + Syn
         thread::scope_env(),
         rt,
         move |scope| -> Vec<WorkerEnd>
+            requires kept { IsKeptByCompaction S.honest K.keeps }
             requires none { (vec_len handles ≡ 0) × (ends.items ≡ []) × (vec_len ends ≡ 0) }
             requires room { (vec_len shelves ≤ vec_capacity handles)
                 × (vec_len shelves ≤ vec_capacity ends) }

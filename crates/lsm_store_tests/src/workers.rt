@@ -61,7 +61,8 @@ fn shows_filled<N: Boarded, S: Shelf, R: Wait + Abort>(
     alloc: Global,
     store: &Store<N, S>,
 ) -> Result<(), Fail> {
-    let mut state = store.lock(rt);
+    let mut guard = store.lock(rt);
+    let state = &mut guard.state;
     assert_eq!(rt; state.snapshot(), Ok(1));
     assert_eq!(rt; state.sequence_of(1), Ok(8));
     assert_eq!(rt;
@@ -79,7 +80,7 @@ fn levels<N: Boarded, S: Shelf, R: Wait>(
     alloc: Global,
     store: &Store<N, S>,
 ) -> Result<Vec<u8>, Fail> {
-    let files = store.lock(rt).files(alloc)?;
+    let files = store.lock(rt).state.files(alloc)?;
     let mut levels = Vec::new(alloc);
     for file in &files {
         levels.push(file.0)?;

@@ -27,6 +27,6 @@ pub(crate) fn put<N: Boarded, S: Shelf, R: Wait>(
     value: &[u8],
 ) -> Result<u64, StateFault> {
     let batch = batch_of(alloc, key, value)?;
-    let came = store.lock(rt).ingest(rt, alloc, shelf, &batch)?;
+    let came = store.lock(rt).state.ingest(rt, alloc, shelf, &batch)?;
     Ok(came.last)
 }

@@ -41,5 +41,5 @@ pub(crate) fn sweep<N: Boarded, S: Shelf, R: Wait>(
     ensures refused { IfErr result (λ e.
         Refuses (S.refuses N.place) S.honest N.board e shelf.old shelf.new) }
 {
-    sweep_state(rt, alloc, &mut store.lock(rt), shelf)
+    sweep_state(rt, alloc, &mut store.lock(rt).state, shelf)
 }

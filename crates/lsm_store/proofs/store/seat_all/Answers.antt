@@ -1,6 +1,7 @@
 use Rattle.std.proofs.Common.{◌≡◌, ◌++◌, ◌∷◌, [], Some, ap, ◌∙◌, arith}
 use Rattle.std.specs.Vec.Iter.{into_iter_items}
 use Rattle.lsm_pins.specs.Known.{Known}
+use Rattle.lsm_state.specs.Held.{Held}
 use Rattle.lsm_store.specs.Readers.{KnownVersion, IsFreeEnd, Learnt, known_at, seated}
 use Rattle.lsm_store.proofs.SeatLaws.{all_popped, all_rest, one_more}
 use Rattle.lsm_store.proofs.store.seat_all.Goals as goal
@@ -30,5 +31,6 @@ loop-pinner-preserved g c =
       readers = one_more (seated state place) c.loop-pinner.readers.items c.push.new.self.items (into_iter_items c.loop-pinner.pinner-iterator) (into_iter_items c.next.new.self) pinner _ before.readers first
           (c.in-Ok.ensures.items ∙ ap (λ (r : Learnt). c.loop-pinner.readers.items ++ r ∷ []) (c.seat-reader.ensures.seated ∙ before.others pinner));
       same = c.seat-reader.ensures.same ∙ before.same;
+      rest = c.seat-reader.ensures.rest ∙ ap (λ (h : Held). record h { slots = record h.slots { board = c.seat-reader.new.state.slots.board } }) before.rest;
       others = λ (p : Known). c.seat-reader.ensures.others p ∙ before.others p;
     }

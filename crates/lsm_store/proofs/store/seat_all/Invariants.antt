@@ -16,5 +16,6 @@ invariant-loop-pinner g l =
       all : vec_len l.readers + into_iter_len left ≡ vec_len l.fn.pinners;
       readers : l.readers.items ++ map (seated l.fn.state place) (into_iter_items left) ≡ map (seated l.fn.state place) l.fn.pinners.items;
       same : known_at l.state place ≡ known_at l.fn.state place;
+      rest : l.state ≡ record l.fn.state { slots = record l.fn.state.slots { board = l.state.slots.board } };
       others : (p : Known) → seated l.state place p ≡ seated l.fn.state place p;
     }

@@ -1,4 +1,4 @@
-use Rattle.std.proofs.Common.{◌≡◌, All, List, map, sym, subst, ap, ◌∙◌}
+use Rattle.std.proofs.Common.{◌≡◌, [], All, List, map, sym, subst, ap, ◌∙◌}
 use Rattle.lsm_pins.specs.Known.{Known}
 use Rattle.lsm_state.specs.Held.{Held}
 use Rattle.lsm_store.specs.Readers.{KnownVersion, known_at, seated}
@@ -15,3 +15,12 @@ returns-clause-readers g c =
     let readers = (λ (h : Held). map (seated h place) c.take_ends-pinners.result.items) in
     c.seat_all-readers.ensures.readers ∙ ap readers c.take_ends-pinners.ensures.same ∙ ap readers c.make_caches.ensures.same
     ∙ ap (λ (ps : List Known). map (seated c.args.state place) ps) (c.take_ends-pinners.ensures.all ∙ ap (λ (h : Held). h.pinners) c.make_caches.ensures.same)
+
+-- the fact holds of the state that goes into the store
+pub invariant_of-new : goal.invariant_of-new
+invariant_of-new g c =
+    let board = c.seat_all-readers.new.state.slots.board in
+    let learnt = (λ (h : Held). record h { slots = record h.slots { board = board } }) in
+    let taken = (λ (h : Held). record h { pinners = [] }) in
+    let same = c.seat_all-readers.ensures.rest ∙ ap learnt (c.take_ends-pinners.ensures.same ∙ ap taken c.make_caches.ensures.same) in
+    record { kept = ∣ c.requires.kept c.seat_all-readers.new.state (board, same) ∣₁ }

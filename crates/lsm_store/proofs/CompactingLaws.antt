@@ -1,0 +1,190 @@
+-- What workers leave of a state.
+use Rattle.std.proofs.Common.{◌≡◌, ℕ, zero, suc, ◌==◌, if◌then◌else◌, Bool, true, false, Option, Some, None, List, [], ◌∷◌, refl, sym, ap, ◌∙◌, inl, inr, arith, subst}
+use Rattle.std.specs.Prelude.{slice_get, sum_by}
+use Rattle.std.specs.Option.{option_map}
+use Rattle.std.proofs.Math.Logic.{∥∥₁_map}
+use Rattle.std.proofs.lemmas.List.Sums.{sum_by-cons, sum_by-set}
+use Rattle.std.proofs.lemmas.Option.{slice_get_within, get_or_from_slice_get}
+use Rattle.lsm_levels.specs.Jobs.{Job}
+use Rattle.lsm_levels.specs.Plans.{Plan}
+use Rattle.lsm_levels.specs.Plain.{Cancels, Draws, Reserves, Spends}
+use Rattle.lsm_levels.specs.Runs.{Event, Run, Cancel, Draw, Install, Reserve, Spend}
+use Rattle.lsm_codec.specs.Lists.{Has}
+use Rattle.lsm_version.specs.Versions.{Levels, files}
+use Rattle.lsm_version.specs.Changes.{changed}
+use Rattle.lsm_journal.specs.Difference.{Difference, changed_by}
+use Rattle.lsm_levels.specs.Files.{all_entries}
+use Rattle.lsm_codec.specs.Entries.{answer}
+use Rattle.lsm_slots.specs.Slots.{Epoch, Slotted, Freed, Looked, Published, current_id}
+use Rattle.lsm_shelf.specs.Told.{Told}
+use Rattle.lsm_live.specs.Booked.{booked, without}
+use Rattle.lsm_merge.specs.Work.{Done, Work}
+use Rattle.lsm_state.specs.Held.{Held, plain}
+use Rattle.lsm_state.specs.Installing.{Installed, IsInstallRefusal, IsInstalling, IsRefusedLater, SameAnswers}
+use Rattle.lsm_state.specs.Reserving.{reserved}
+use Rattle.lsm_state.specs.declared.state_fault.StateFault.{StateFault}
+use Rattle.lsm_state.specs.declared.state_fault.StateFault.TheVariants.{OutOfMemory, Shelf, Read, BadLevel, EmptyBatch, KeyOrder, TooLarge, LevelZeroFull, SequencesSpent, Halted, UnknownSnapshot, Conflict, UnknownTicket, NumbersSpent, Stale, SlotsHeld, VersionsSpent, PinsSpent}
+use Rattle.lsm_store.specs.Compacting.{IsAsFound, IsCompactingStep, IsKeptByCompaction, IsOfWorkers, pins_in, pins_of}
+
+-- ---- pins
+
+pub same_sum : {X : Type 0} (f : X → ℕ) (xs ys : List X) → ((i : ℕ) → option_map f (slice_get xs i) ≡ option_map f (slice_get ys i)) → sum_by f xs ≡ sum_by f ys
+same_sum f [] [] same = refl
+same_sum f [] (y ∷ ys) same = (let d : None ≡ Some (f y) = same 0 in cc)
+same_sum f (x ∷ xs) [] same = (let d : Some (f x) ≡ None = same 0 in cc)
+same_sum f (x ∷ xs) (y ∷ ys) same =
+    let first : Some (f x) ≡ Some (f y) = same 0 in
+    let here : f x ≡ f y = cc in
+    let rest = same_sum f xs ys (λ i. same (suc i)) in
+    omega (arith, sum_by-cons f x xs, sum_by-cons f y ys)
+
+none_of : (b : Bool) (n : ℕ) → n ≡ 0 → (if b then n else 0) ≡ 0
+none_of true n e = e
+none_of false n e = refl
+
+no_pins : (e : Epoch) (id : ℕ) → e.pins ≡ 0 → pins_in id (Some e) ≡ 0
+no_pins e id none = none_of (e.id == id) e.pins none
+
+-- looks free no slot whose version is pinned under the lock
+pub pins_looked : (old new : Slotted) → Looked old new → (id : ℕ) → pins_of new id ≡ pins_of old id
+pins_looked old new looked id = same_sum (pins_in id) new.epochs old.epochs (λ i. elim (looked.each i) [
+  | inl e ↦ ap (option_map (pins_in id)) e
+  | inr f ↦ ap (option_map (pins_in id)) f.free ∙ sym (ap (option_map (pins_in id)) f.had ∙ ap Some (no_pins f.epoch id f.unpinned))
+])
+
+-- a version that was just published has no pin, and came into a slot without a version
+pub pins_published : (old new : Slotted) (v : Levels) → Published old new v → (id : ℕ) → pins_of new id ≡ pins_of old id
+pins_published old new v p id =
+    let e : Epoch = record { id = suc (current_id old); version = v; pins = 0 } in
+    let put = sum_by-set (pins_in id) old.epochs p.slot (Some e) None (slice_get_within old.epochs p.slot None p.was_free) in
+    let was = ap (pins_in id) (get_or_from_slice_get old.epochs p.slot None None p.was_free) in
+    let is = no_pins e id refl in
+    ap (sum_by (pins_in id)) p.epochs ∙ omega (arith, put, was, is)
+
+-- ---- what was found stays
+
+same_answers : (was is : Held) → is.slots.version ≡ was.slots.version → SameAnswers was is
+same_answers was is e k q r = ap (λ (v : Levels). answer (all_entries (files v)) k q) e
+
+pub found_by_parts : (Honest : Type 0) (was is : Held) → is.slots.version ≡ was.slots.version → is.slots.epochs ≡ was.slots.epochs → is.history ≡ was.history
+    → is.snapshots ≡ was.snapshots → IsAsFound Honest was is
+found_by_parts Honest was is version epochs history snapshots = record {
+  history = history;
+  last = ap (λ (v : Levels). v.last) version;
+  snapshots = snapshots;
+  pins = λ id. ap (λ (es : List (Option Epoch)). sum_by (pins_in id) es) epochs;
+  answers = λ h. same_answers was is version;
+}
+
+-- ---- steps
+
+one_event : (e : Event) → IsOfWorkers e → (v : Event) → Has (e ∷ []) v → IsOfWorkers v
+one_event e w v h = elim h [ inl s ↦ subst IsOfWorkers s w | inr t ↦ absurd t ]
+
+-- what a step leaves that changes no slot, where `mid` spells it
+abbrev Beside : Held → Held → Type 0
+Beside was mid = (mid.slots ≡ was.slots) × (mid.history ≡ was.history) × (mid.snapshots ≡ was.snapshots) × (mid.options ≡ was.options) × (mid.pinners ≡ was.pinners)
+
+step_beside : (Honest : Type 0) (was is mid : Held) (events : List Event) → is ≡ mid → Beside was mid → ((e : Event) → Has events e → IsOfWorkers e)
+    → Run Honest (plain was) events (plain is) → IsCompactingStep Honest was is
+step_beside Honest was is mid events e b only run = record {
+  events = events;
+  only = only;
+  run = run;
+  options = ap (λ (h : Held). h.options) e ∙ b.3;
+  pinners = ap (λ (h : Held). h.pinners) e ∙ b.4;
+  found = found_by_parts Honest was is (ap (λ (h : Held). h.slots.version) e ∙ ap (λ (s : Slotted). s.version) b.0) (ap (λ (h : Held). h.slots.epochs) e ∙ ap (λ (s : Slotted). s.epochs) b.0)
+      (ap (λ (h : Held). h.history) e ∙ b.1) (ap (λ (h : Held). h.snapshots) e ∙ b.2);
+}
+
+pub step_none : (Honest : Type 0) (was is : Held) → is ≡ was → IsCompactingStep Honest was is
+step_none Honest was is e = step_beside Honest was is was [] e (refl, refl, refl, refl, refl) (λ v h. absurd h) (ap plain e)
+
+pub step_reserved : (Honest : Type 0) (was is : Held) (w : Work) (plan : Plan) (job : Job) → is ≡ reserved w was → Reserves Honest (plain was) plan job (plain is)
+    → IsCompactingStep Honest was is
+step_reserved Honest was is w plan job e event = step_beside Honest was is (reserved w was) (Reserve plan job ∷ []) e (refl, refl, refl, refl, refl) (one_event _ tt) (plain is, event, refl)
+
+pub step_cancelled : (Honest : Type 0) (was is : Held) (ticket : ℕ) → is ≡ record was { live = without ticket was.live } → Cancels (plain was) ticket (plain is) → IsCompactingStep Honest was is
+step_cancelled Honest was is ticket e event =
+    step_beside Honest was is (record was { live = without ticket was.live }) (Cancel ticket ∷ []) e (refl, refl, refl, refl, refl) (one_event _ tt) (plain is, event, refl)
+
+pub step_drawn : (Honest : Type 0) (was is : Held) (ticket : ℕ) → is ≡ record was { live = booked ticket was.next was.live; next = suc was.next } → Draws (plain was) ticket (plain is) → IsCompactingStep Honest was is
+step_drawn Honest was is ticket e event =
+    step_beside Honest was is (record was { live = booked ticket was.next was.live; next = suc was.next }) (Draw ticket ∷ []) e (refl, refl, refl, refl, refl) (one_event _ tt) (plain is, event, refl)
+
+-- ---- installs
+
+two_events : (a b : Event) → IsOfWorkers a → IsOfWorkers b → (v : Event) → Has (a ∷ b ∷ []) v → IsOfWorkers v
+two_events a b x y v h = elim h [ inl s ↦ subst IsOfWorkers s x | inr t ↦ one_event b y v t ]
+
+last_after : (d : Difference) (v : Levels) → (changed_by d v).last ≡ d.last
+unfolding changed
+last_after d v = refl
+
+pub step_installed : (Honest : Type 0) (was is : Held) (d : Done) (t u : Told) → Installed was is d t u → (Honest → SameAnswers was is) → IsInstalling Honest was d.work.ticket is → IsCompactingStep Honest was is
+step_installed Honest was is d t u i answers event =
+    let rest = i.changes.rest in
+    record {
+      events = Install d.work.ticket ∷ Spend ∷ [];
+      only = two_events _ _ tt tt;
+      run = event;
+      options = ap (λ (h : Held). h.options) rest;
+      pinners = ap (λ (h : Held). h.pinners) rest;
+      found = record {
+        history = ap (λ (h : Held). h.history) rest;
+        last = ap (λ (v : Levels). v.last) i.changes.published.version_is ∙ last_after i.change i.slots.version ∙ i.its.last_is;
+        snapshots = ap (λ (h : Held). h.snapshots) rest;
+        pins = λ id. pins_published i.slots is.slots _ i.changes.published id ∙ pins_looked was.slots i.slots i.sought.looked id;
+        answers = answers;
+      };
+    }
+
+-- what a refused install may change: the slots, by looks, the next number, and whether the state is halted
+later : (was is : Held) (e : StateFault) (t u : Told) → IsRefusedLater was is e t u
+    → (is.history ≡ was.history) × (is.snapshots ≡ was.snapshots) × (is.options ≡ was.options) × (is.pinners ≡ was.pinners)
+later was is SlotsHeld t u r = (ap (λ (h : Held). h.history) r.1, ap (λ (h : Held). h.snapshots) r.1, ap (λ (h : Held). h.options) r.1, ap (λ (h : Held). h.pinners) r.1)
+later was is VersionsSpent t u r = (ap (λ (h : Held). h.history) r.1, ap (λ (h : Held). h.snapshots) r.1, ap (λ (h : Held). h.options) r.1, ap (λ (h : Held). h.pinners) r.1)
+later was is OutOfMemory t u r = (ap (λ (h : Held). h.history) r.0, ap (λ (h : Held). h.snapshots) r.0, ap (λ (h : Held). h.options) r.0, ap (λ (h : Held). h.pinners) r.0)
+later was is (Shelf fault) t u r = (ap (λ (h : Held). h.history) r.0, ap (λ (h : Held). h.snapshots) r.0, ap (λ (h : Held). h.options) r.0, ap (λ (h : Held). h.pinners) r.0)
+later was is (Read fault) t u r = absurd r
+later was is (BadLevel n) t u r = absurd r
+later was is EmptyBatch t u r = absurd r
+later was is (KeyOrder n) t u r = absurd r
+later was is TooLarge t u r = absurd r
+later was is LevelZeroFull t u r = absurd r
+later was is SequencesSpent t u r = absurd r
+later was is Halted t u r = absurd r
+later was is (UnknownSnapshot n) t u r = absurd r
+later was is (Conflict n) t u r = absurd r
+later was is (UnknownTicket n) t u r = absurd r
+later was is NumbersSpent t u r = absurd r
+later was is Stale t u r = absurd r
+later was is PinsSpent t u r = absurd r
+
+pub step_refused : (Honest : Type 0) (was is : Held) (d : Done) (e : StateFault) (t u : Told) → IsInstallRefusal was is d e t u → Spends (plain was) (plain is) → IsCompactingStep Honest was is
+step_refused Honest was is d e t u refused event = elim refused [
+  | inl once ↦ step_none Honest was is once.1
+  | inr r ↦
+      let same = later was is e t u r.2 in
+      let looked = r.1.looked in
+      record {
+        events = Spend ∷ [];
+        only = one_event _ tt;
+        run = (plain is, event, refl);
+        options = same.2;
+        pinners = same.3;
+        found = record {
+          history = same.0;
+          last = ap (λ (v : Levels). v.last) looked.version;
+          snapshots = same.1;
+          pins = λ id. pins_looked was.slots is.slots looked id;
+          answers = λ h. same_answers was is looked.version;
+        };
+      }
+]
+
+-- ---- the fact
+
+-- a fact that compaction keeps holds still
+pub still : (Honest : Type 0) (keeps : Held → Type 0) → IsKeptByCompaction Honest keeps → (was is : Held) → IsCompactingStep Honest was is → ∥ keeps was ∥₁ → ∥ keeps is ∥₁
+still Honest keeps kept was is step t = ∥∥₁_map t (kept was is step)

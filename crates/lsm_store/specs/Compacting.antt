@@ -1,0 +1,56 @@
+-- What workers leave of a state, and which facts of it they keep (this project's rule).
+use Rattle.std.specs.Prelude.{◌≡◌, ℕ, ◌==◌, if◌then◌else◌, List, [], Option, None, Some, sum_by}
+use Rattle.lsm_codec.specs.Lists.{Has}
+use Rattle.lsm_levels.specs.Runs.{Event, Ingest, Snapshot, Release, Reserve, Cancel, Draw, Install, Spend, Nothing, Run}
+use Rattle.lsm_pins.specs.Known.{Known}
+use Rattle.lsm_slots.specs.Slots.{Epoch, Slotted}
+use Rattle.lsm_state.specs.Held.{Held, plain}
+use Rattle.lsm_state.specs.Installing.{SameAnswers}
+
+-- how often a slot's version is pinned under the lock, where it is the version of this id
+abbrev pub pins_in : ℕ → Option Epoch → ℕ
+pins_in id None = 0
+pins_in id (Some e) = if e.id == id then e.pins else 0
+
+-- how often the version of this id is pinned under the lock; no two slots have one id
+abbrev pub pins_of : Slotted → ℕ → ℕ
+pins_of s id = sum_by (pins_in id) s.epochs
+
+-- an event of the plain machine that a worker may be
+abbrev pub IsOfWorkers : Event → Type 0
+IsOfWorkers (Ingest entries) = ⊥
+IsOfWorkers Snapshot = ⊥
+IsOfWorkers (Release id) = ⊥
+IsOfWorkers (Reserve plan job) = Unit {0}
+IsOfWorkers (Cancel ticket) = Unit {0}
+IsOfWorkers (Draw ticket) = Unit {0}
+IsOfWorkers (Install ticket) = Unit {0}
+IsOfWorkers Spend = Unit {0}
+IsOfWorkers Nothing = Unit {0}
+
+-- What was found of a state stays: all that came in, the last sequence, the snapshots and the pins under the lock; and over an honest shelf
+-- each read that is promised gives what it gave.
+pub record IsAsFound (Honest : Type 0) (found h : Held) : Type 0 where
+  pub history : h.history ≡ found.history
+  pub last : h.slots.version.last ≡ found.slots.version.last
+  pub snapshots : h.snapshots ≡ found.snapshots
+  pub pins : (id : ℕ) → pins_of h.slots id ≡ pins_of found.slots id
+  pub answers : Honest → SameAnswers found h
+
+-- What one taking of the lock by a worker leaves. On the plain machine it is a run of reservations, cancels, draws of numbers, installs and
+-- spent numbers; and what was found stays.
+pub record IsCompactingStep (Honest : Type 0) (was is : Held) : Type 0 where
+  pub events : List Event
+  pub only : (e : Event) → Has events e → IsOfWorkers e
+  pub run : Run Honest (plain was) events (plain is)
+  pub options : is.options ≡ was.options
+  pub pinners : is.pinners ≡ was.pinners
+  pub found : IsAsFound Honest was is
+
+-- each such step keeps the fact
+abbrev pub IsKeptByCompaction : Type 0 → (Held → Type 0) → Type 0
+IsKeptByCompaction Honest keeps = (was is : Held) → IsCompactingStep Honest was is → keeps was → keeps is
+
+-- the state that goes into a store: its pinners were taken, and its end of the board has learnt more
+abbrev pub IsSeated : Held → Held → Type 0
+IsSeated was is = (board : Known) × (is ≡ record was { pinners = []; slots = record was.slots { board = board } })
