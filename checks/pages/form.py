@@ -1,0 +1,65 @@
+#!/usr/bin/env python3
+"""The form of the book: each page has at most 1,200 words, its first page names it, each drawing in
+docs is well-formed and shown by some page, and no page has a block of code without fences.
+
+form.py PAGE.. looks for such blocks in these pages.
+"""
+
+import sys
+import xml.etree.ElementTree as xml
+from pathlib import Path
+
+from markdown import FENCE, TOP, links
+
+MOST_WORDS = 1200
+BOOK = TOP / "docs" / "book"
+passed = failed = 0
+
+
+def judge(is_right, text):
+    """Counts a judgment, and tells what is wrong."""
+    global passed, failed
+    passed, failed = passed + is_right, failed + (not is_right)
+    if not is_right:
+        print(text)
+
+
+def is_well_formed(drawing):
+    try:
+        return xml.parse(drawing).getroot().tag.endswith("svg")
+    except xml.ParseError:
+        return False
+
+
+def indented_blocks(page):
+    """The lines at which a block without fences begins."""
+    inside, before = False, ""
+    for number, line in enumerate(page.read_text().split("\n"), 1):
+        if FENCE.match(line):
+            inside = not inside
+        elif not inside and not before.strip() and line.startswith("    "):
+            yield number
+        before = line
+
+
+def shown(pages):
+    """The drawings that pages show or lead to."""
+    return {(page.parent / link).resolve() for page in pages for _, link in links(page) if link.endswith(".svg")}
+
+
+named = {(BOOK / link).resolve() for _, link in links(BOOK / "README.md")}
+for page in sorted(BOOK.glob("*.md")):
+    words = len(page.read_text().split())
+    judge(words <= MOST_WORDS, f"{page.relative_to(TOP)}: {words} words, {MOST_WORDS} at most")
+    if page.name != "README.md":
+        judge(page in named, f"{page.relative_to(TOP)}: README.md beside it does not name it")
+in_pages = shown([TOP / "README.md", *(TOP / "docs").glob("**/*.md"), *(TOP / "crates").glob("*/*.md")])
+for drawing in sorted((TOP / "docs").glob("**/*.svg")):
+    judge(is_well_formed(drawing), f"{drawing.relative_to(TOP)}: no well-formed drawing")
+    judge(drawing in in_pages, f"{drawing.relative_to(TOP)}: no page shows it")
+for name in sys.argv[1:]:
+    page = Path(name).resolve()
+    at = list(indented_blocks(page))
+    judge(not at, f"{page.relative_to(TOP)}: blocks without fences at lines {at}")
+print(f"{passed} passed, {failed} failed")
+sys.exit(failed != 0)

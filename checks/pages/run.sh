@@ -1,0 +1,51 @@
+#!/usr/bin/env bash
+# Checks the pages for strangers: README.md, docs/COMMANDS.md, and the book, docs/book.
+#
+#   sessions.py   each command of their shell sessions is run in a scratch folder and prints what the
+#                 page says
+#   code.py       each line of Rattle that they show is a line of a source file in crates; so in
+#                 docs/CALLING.md
+#   form.py       the book's pages are short, its drawings are well-formed, and each is shown
+#   links.py      of every page of the repository: each link leads to a file, and to a heading of it
+#
+# Names of pages as words choose which pages' sessions and code are looked at. Runs the proved
+# program, or else the unproved build, which is made first where it is not there (some minutes);
+# LSM=/path/to/lsm names another one. Needs python3, git, and rt where a program has to be built.
+# Prints each fault with its file and line. The last line is `N passed, M failed`; the status is 1
+# where M is not 0.
+set -uo pipefail
+here=$(cd "$(dirname "$0")" && pwd)
+top=$(cd "$here/../.." && pwd)
+program=${LSM:-$top/lsm}
+passed=0 failed=0
+export PYTHONDONTWRITEBYTECODE=1
+
+pages=("$@") code=("$@")
+if [[ $# -eq 0 ]]; then
+  pages=("$top/README.md" "$top/docs/COMMANDS.md" "$top"/docs/book/*.md)
+  code=("${pages[@]}" "$top/docs/CALLING.md")
+fi
+"$program" --version > /dev/null || { echo "0 passed, 1 failed"; exit 1; }
+
+count() { # NAME COMMAND..: runs it, and adds its last line `N passed, M failed`
+  local name=$1 said line
+  shift
+  said=$("$@")
+  line=${said##*$'\n'}
+  if [[ $line =~ ^([0-9]+)\ passed,\ ([0-9]+)\ failed$ ]]; then
+    passed=$((passed + BASH_REMATCH[1])) failed=$((failed + BASH_REMATCH[2]))
+    [[ $said == "$line" ]] || echo "${said%$'\n'*}"
+    echo "$name: $line"
+  else
+    failed=$((failed + 1))
+    echo "$said"
+    echo "$name: ended without a count"
+  fi
+}
+
+count sessions python3 "$here/sessions.py" "$program" "${pages[@]}"
+count code python3 "$here/code.py" "${code[@]}"
+count form python3 "$here/form.py" "${pages[@]}"
+count links python3 "$here/links.py"
+echo "$passed passed, $failed failed"
+((failed == 0))
