@@ -2,11 +2,10 @@
 """Whether the code of pages is code of this repository: code.py PAGE..
 
 Each block of a page says what it is: `console` (a session, see sessions.py), `rust` (Rattle),
-`antt` (a definition or a proof), `output` (what a program of crates prints), `text` (anything else,
-which nothing compares). The lines of a block of Rattle have to be lines of one source file in
-`crates`, to the letter and one after another; so those of `antt`, and those of `output` in the file
-`stdout` of a program. The whole may be indented otherwise. A line `..` parts the block in two: both
-are in the file, in this order.
+`antt` (a definition or a proof), `edit` (one that must fail), `output` (what a program of `crates`
+prints: its file `stdout`), `text` (anything else, which nothing compares). The lines of a block have
+to be lines of one file of its kind, to the letter and one after another. The whole may be indented
+otherwise. A line `..` parts the block in two: both are in the file, in this order.
 """
 
 import sys
@@ -14,16 +13,22 @@ from pathlib import Path
 
 from markdown import TOP, blocks
 
-KINDS = {"rust": "*/src/**/*.rt", "antt": "*/**/*.antt", "output": "*/stdout"}
+KINDS = {
+    "rust": ["crates/*/src/**/*.rt"],
+    "antt": ["crates/*/specs/**/*.antt", "crates/*/proofs/**/*.antt"],
+    "output": ["crates/*/stdout"],
+    "edit": ["crates/*/must-fail/*.edit", "checks/more_edits/*/*.edit"],
+}
 
 
-def sources(pattern):
-    """The source files, each as its lines."""
-    found = {}
-    for path in sorted((TOP / "crates").glob(pattern)):
-        if "out" not in path.relative_to(TOP).parts:
-            found[path] = [line.rstrip() for line in path.read_text().split("\n")]
-    return found
+def sources(patterns):
+    """The files of a kind, each as its lines."""
+    paths = [path for pattern in patterns for path in sorted(TOP.glob(pattern))]
+    return [[line.rstrip() for line in path.read_text().split("\n")] for path in paths]
+
+
+def indentation(line):
+    return len(line) - len(line.lstrip())
 
 
 def parts(lines):
@@ -38,7 +43,7 @@ def parts(lines):
         while part and not part[-1]:
             part.pop()
         if part:
-            shift = min(len(text) - len(text.lstrip()) for text in part if text)
+            shift = min(indentation(text) for text in part if text)
             found.append([text[shift:] for text in part])
         part = []
     return found
@@ -47,7 +52,7 @@ def parts(lines):
 def ends_of(part, lines, begin):
     """Where the part may end in a file when it begins at the line `begin` or behind it."""
     for at in range(begin, len(lines) - len(part) + 1):
-        shift = lines[at][: len(lines[at]) - len(lines[at].lstrip())]
+        shift = " " * (indentation(lines[at]) - indentation(part[0]))
         if all(lines[at + k] == (shift + text if text else "") for k, text in enumerate(part)):
             yield at + len(part)
 
@@ -62,7 +67,7 @@ def stands_in(all_parts, lines):
     return True
 
 
-files = {tag: sources(pattern) for tag, pattern in KINDS.items()}
+files = {tag: sources(patterns) for tag, patterns in KINDS.items()}
 passed = failed = 0
 for name in sys.argv[1:]:
     for block in blocks(Path(name).resolve()):
@@ -72,11 +77,11 @@ for name in sys.argv[1:]:
             why = f"`{block.tag}` is no kind of block"
         elif not parts(block.lines):
             why = "nothing to compare"
-        elif any(stands_in(parts(block.lines), lines) for lines in files[block.tag].values()):
+        elif any(stands_in(parts(block.lines), lines) for lines in files[block.tag]):
             passed += 1
             continue
         else:
-            why = f"no file {KINDS[block.tag]} in crates has these lines"
+            why = f"no file {' or '.join(KINDS[block.tag])} has these lines"
         failed += 1
         print(f"{block.place()}: {why}")
         print("".join(f"    {line}\n" for line in block.lines), end="")
