@@ -1,8 +1,8 @@
 #!/usr/bin/env python3
-"""The form of the book: each page has at most 1,200 words, its first page names it, each drawing in
-docs is well-formed and shown by some page, and no page has a block of code without fences.
+"""The form of the book: each page has at most 1,200 words, and its first page names it. Each drawing
+in docs is well-formed and shown by some page; those of docs/book/draw.py are as it draws them.
 
-form.py PAGE.. looks for such blocks in these pages.
+form.py PAGE.. also looks for blocks of code without fences in these pages.
 """
 
 import sys
@@ -11,8 +11,12 @@ from pathlib import Path
 
 from markdown import FENCE, TOP, links
 
+DOCS = TOP / "docs"
+BOOK = DOCS / "book"
+sys.path.append(str(BOOK))
+from draw import DRAWINGS  # noqa: E402
+
 MOST_WORDS = 1200
-BOOK = TOP / "docs" / "book"
 passed = failed = 0
 
 
@@ -53,8 +57,10 @@ for page in sorted(BOOK.glob("*.md")):
     judge(words <= MOST_WORDS, f"{page.relative_to(TOP)}: {words} words, {MOST_WORDS} at most")
     if page.name != "README.md":
         judge(page in named, f"{page.relative_to(TOP)}: README.md beside it does not name it")
-in_pages = shown([TOP / "README.md", *(TOP / "docs").glob("**/*.md"), *(TOP / "crates").glob("*/*.md")])
-for drawing in sorted((TOP / "docs").glob("**/*.svg")):
+for name, draw in DRAWINGS.items():
+    judge((DOCS / name).read_text() == draw().svg(), f"docs/{name}: not as docs/book/draw.py draws it")
+in_pages = shown([TOP / "README.md", *DOCS.glob("**/*.md"), *(TOP / "crates").glob("*/*.md")])
+for drawing in sorted(DOCS.glob("**/*.svg")):
     judge(is_well_formed(drawing), f"{drawing.relative_to(TOP)}: no well-formed drawing")
     judge(drawing in in_pages, f"{drawing.relative_to(TOP)}: no page shows it")
 for name in sys.argv[1:]:

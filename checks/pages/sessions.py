@@ -18,6 +18,7 @@ from pathlib import Path
 
 from markdown import TOP, blocks
 
+SECONDS = 300
 OF_THE_BUILD = ("lsm: unproved build", "lsm: built first, once,")
 
 
@@ -52,10 +53,13 @@ def is_as_said(said, printed):
 def run(command, folder):
     """What a command of a page prints."""
     inner = command.replace("/tmp/", f"{folder}/tmp/")
-    done = subprocess.run(
-        ["bash", "-c", inner], cwd=folder, timeout=300, stdin=subprocess.DEVNULL,
-        stdout=subprocess.PIPE, stderr=subprocess.STDOUT,
-    )
+    try:
+        done = subprocess.run(
+            ["bash", "-c", inner], cwd=folder, timeout=SECONDS, stdin=subprocess.DEVNULL,
+            stdout=subprocess.PIPE, stderr=subprocess.STDOUT,
+        )
+    except subprocess.TimeoutExpired:
+        return [f"(no end within {SECONDS} seconds)"]
     text = done.stdout.decode(errors="replace").replace(f"{folder}/tmp/", "/tmp/")
     return without_build(text.split("\n")[:-1] if text.endswith("\n") or not text else text.split("\n"))
 

@@ -1,5 +1,5 @@
 #!/usr/bin/env python3
-"""Draws the pictures of the book, and that of a table's bytes in docs: draw.py writes them anew.
+"""Draws the book's pictures, and the bytes of a table for FORMATS.md. It writes each one anew.
 
 Plain SVG, without a tool to see it. Colours: sand is what is chosen or current, red what goes, green
 what comes or is safe, blue what is kept or read, grey all else.
@@ -7,7 +7,7 @@ what comes or is safe, blue what is kept or read, grey all else.
 
 from pathlib import Path
 
-HERE = Path(__file__).resolve().parent
+DOCS = Path(__file__).resolve().parents[1]
 FILLS = {
     "grey": ("#eee", "#888"),
     "sand": ("#fff4d6", "#c09020"),
@@ -66,13 +66,13 @@ class Drawing:
         self.path([(x1 + 2, y), (x1 + 2, y + 5), (x2 - 2, y + 5), (x2 - 2, y)], "#999", head=False)
         self.lines((x1 + x2) / 2, y + 18, texts, step, size=size, anchor="middle", fill="#444")
 
-    def write(self, path):
+    def svg(self):
         head = (
             f'<svg xmlns="http://www.w3.org/2000/svg" viewBox="0 0 {self.width} {self.height}" width="{self.width}" '
             f'height="{self.height}" font-family="Helvetica, Arial, sans-serif" font-size="12" fill="#222">\n'
             f"<title>{escaped(self.title)}</title>\n"
             f'<rect width="{self.width}" height="{self.height}" fill="#fff"/>\n')
-        path.write_text(head + "\n".join(self.parts) + "\n</svg>\n")
+        return head + "\n".join(self.parts) + "\n</svg>\n"
 
 
 def levels():
@@ -102,7 +102,7 @@ def levels():
     d.lines(640, 150, ["Tables of level 0 may have the same keys.", "A greater number is newer."], 17)
     d.lines(640, 198, ["A compaction merges tables of one level", "with those of the next that they meet.", "Old values and needless deletions go."], 17, fill="#8a6510")
     d.lines(640, 272, ["From level 1 on the tables of a level are", "in the order of their keys. So a read asks", "few of them."], 17)
-    d.write(HERE / "levels.svg")
+    return d
 
 
 def folder():
@@ -133,7 +133,7 @@ def folder():
     d.lines(680, 96, ["To read it, lsm follows the arrows:"], 17, bold=True)
     d.lines(680, 120, ["CURRENT gives the manifest,", "its edits give the list of tables,", "each table is read and judged."], 17)
     d.lines(680, 192, ["To change it, a new table is written first.", "Then an edit in a manifest lists it.", "No table is written over."], 17)
-    d.write(HERE / "folder.svg")
+    return d
 
 
 def table():
@@ -172,7 +172,7 @@ def table():
         d.box(x, 384, 18, 13, colour)
         d.text(x + 25, 395, text)
         x += 60 + 6.1 * len(text)
-    d.write(HERE / "table.svg")
+    return d
 
 
 def bytes_of_a_table():
@@ -216,7 +216,7 @@ def bytes_of_a_table():
         d.box(x, 470, 18, 13, colour)
         d.text(x + 25, 481, text)
         x += 56 + 6.1 * len(text)
-    d.write(HERE.parent / "table_bytes.svg")
+    return d
 
 
 def store():
@@ -251,7 +251,7 @@ def store():
     d.lines(838, 222, ["merges tables", "outside the lock"], 15, size=11, fill="#555")
     d.path([(620, 180), (650, 180), (650, 336)])
     d.lines(658, 250, ["puts a table, then", "appends an edit"], 15, size=11, fill="#555")
-    d.write(HERE / "store.svg")
+    return d
 
 
 def read():
@@ -294,7 +294,7 @@ def read():
     d.path([(780, 390), (806, 390)])
     d.lines(814, 386, ["the newest entry", "of h that it allows"], 17)
     d.text(30, 446, "A reader of a store keeps the blocks that it used last, and asks the shelf for the others alone.", 12, fill="#555")
-    d.write(HERE / "read.svg")
+    return d
 
 
 def pin():
@@ -330,7 +330,7 @@ def pin():
         y += 54
         d.line(30, y - 7, 930, y - 7, "#ddd")
     d.text(30, 540, "The head shows slot, id and pins. Every step is one atomic operation, so no thread sees half of it, and no reader waits for a lock.", 12, fill="#555")
-    d.write(HERE / "pin.svg")
+    return d
 
 
 def proof():
@@ -357,8 +357,21 @@ def proof():
     d.text(330, 242, "follows from", 11, "middle", fill="#555")
     d.lines(30, 292, ["You have to read the definition and the clauses. You need not read the body, nor the proof files: the prover checks them.",
                       "You have to trust the prover, the compiler, the C library, the processor; and of a disk what one page says."], 18, size=12)
-    d.write(HERE / "proof.svg")
+    return d
 
 
-for draw in (levels, folder, table, bytes_of_a_table, store, read, pin, proof):
-    draw()
+# by their place in docs
+DRAWINGS = {
+    "book/levels.svg": levels,
+    "book/folder.svg": folder,
+    "book/table.svg": table,
+    "table_bytes.svg": bytes_of_a_table,
+    "book/store.svg": store,
+    "book/read.svg": read,
+    "book/pin.svg": pin,
+    "book/proof.svg": proof,
+}
+
+if __name__ == "__main__":
+    for name, draw in DRAWINGS.items():
+        (DOCS / name).write_text(draw().svg())
