@@ -293,7 +293,7 @@ def read():
     d.path([(490, 390), (516, 390)])
     d.path([(780, 390), (806, 390)])
     d.lines(814, 386, ["the newest entry", "of h that it allows"], 17)
-    d.text(30, 446, "A reader of a store keeps the blocks that it used last, and asks the shelf for the others alone.", 12, fill="#555")
+    d.text(30, 446, "A reader of a store keeps the blocks that it used last, and asks the shelf only for the others.", 12, fill="#555")
     return d
 
 
