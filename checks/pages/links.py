@@ -1,19 +1,16 @@
 #!/usr/bin/env python3
 """Whether each link of each page leads to a file of this repository, and to a heading of it."""
 
-import subprocess
 import sys
 
 from markdown import TOP, anchors, links
 
+NO_PAGES = {".git", "out", "target"}
+
 
 def pages():
-    """The pages that are in the repository, or new there."""
-    names = subprocess.run(
-        ["git", "ls-files", "--cached", "--others", "--exclude-standard", "*.md"],
-        cwd=TOP, check=True, capture_output=True, text=True,
-    ).stdout.split("\n")
-    return [TOP / name for name in names if name and (TOP / name).exists()]
+    """The pages of the repository."""
+    return [page for page in sorted(TOP.rglob("*.md")) if not NO_PAGES & set(page.relative_to(TOP).parts)]
 
 
 def fault(page, link):

@@ -10,15 +10,15 @@
 #
 # Names of pages as words choose which pages' sessions and code are looked at. Runs the proved
 # program, or else the unproved build, which is made first where it is not there (some minutes);
-# LSM=/path/to/lsm names another one. Needs python3, git, and rt where a program has to be built.
-# Prints each fault with its file and line. The last line is `N passed, M failed`; the status is 1
-# where M is not 0.
+# LSM=/path/to/lsm names another one. Needs python3, and rt where a program has to be built. Prints
+# each fault with its file and line. The last line is `N passed, M failed`; the status is 1 where M
+# is not 0.
 set -uo pipefail
 here=$(cd "$(dirname "$0")" && pwd)
 top=$(cd "$here/../.." && pwd)
 program=${LSM:-$top/lsm}
 passed=0 failed=0
-export PYTHONDONTWRITEBYTECODE=1
+export PYTHONDONTWRITEBYTECODE=1 LC_ALL=C.UTF-8
 
 pages=("$@") code=("$@")
 if [[ $# -eq 0 ]]; then
