@@ -1,0 +1,51 @@
+# Completion of lsm for bash. Made by tools/manual.py from the help of the program.
+_lsm() {
+  local current=${COMP_WORDS[COMP_CWORD]} command= options= places= place=0 index word kind
+  COMPREPLY=()
+  if ((COMP_CWORD == 1)); then
+    COMPREPLY=($(compgen -W 'mktable dump manifest script check list get scan ingest compact clean help --help --version' -- "$current"))
+    return
+  fi
+  command=${COMP_WORDS[1]}
+  case $command in
+    mktable) options='--help' places='FILE' ;;
+    dump) options='--help' places='FILE' ;;
+    manifest) options='--help' places='FILE' ;;
+    script) options='--help' places='FILE' ;;
+    check) options='--progress --help' places='DIR' ;;
+    list) options='--text --help' places='DIR' ;;
+    get) options='--text --help' places='DIR KEY' ;;
+    scan) options='--from --to --text --progress --help' places='DIR' ;;
+    ingest) options='--text --begin --beside-log --help' places='DIR FILE' ;;
+    compact) options='--workers --progress --help' places='DIR' ;;
+    clean) options='--help' places='DIR' ;;
+    help) options='--help' places='COMMAND' ;;
+    *) return ;;
+  esac
+  for ((index = 2; index < COMP_CWORD; index++)); do
+    word=${COMP_WORDS[index]}
+    case $word in
+      --from|--to|--workers)
+        # Bash takes `=` for a word of its own.
+        ((index++))
+        [[ ${COMP_WORDS[index]-} != = ]] || ((index++))
+        ;;
+      --*) ;;
+      *) ((place++)) ;;
+    esac
+  done
+  # The word behind an option that wants a value is not completed.
+  ((index == COMP_CWORD)) || return
+  if [[ $current == -* ]]; then
+    COMPREPLY=($(compgen -W "$options" -- "$current"))
+    return
+  fi
+  kind=$(set -- $places; shift "$place" 2> /dev/null && echo "${1-}")
+  case $kind in
+    DIR) mapfile -t COMPREPLY < <(compgen -d -- "$current") ;;
+    FILE) mapfile -t COMPREPLY < <(compgen -f -- "$current") ;;
+    COMMAND) COMPREPLY=($(compgen -W 'mktable dump manifest script check list get scan ingest compact clean help' -- "$current")) ;;
+    *) COMPREPLY=($(compgen -W "$options" -- "$current")) ;;
+  esac
+}
+complete -o filenames -F _lsm lsm

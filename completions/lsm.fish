@@ -1,0 +1,40 @@
+# Completion of lsm for fish. Made by tools/manual.py from the help of the program.
+complete -c lsm -f
+complete -c lsm -n __fish_use_subcommand -l help -d 'Print help'
+complete -c lsm -n __fish_use_subcommand -l version -d 'Print version'
+complete -c lsm -n __fish_use_subcommand -a mktable -d 'Makes a table of the entries in a file'
+complete -c lsm -n '__fish_seen_subcommand_from mktable' -F
+complete -c lsm -n __fish_use_subcommand -a dump -d 'Prints the entries of a table file'
+complete -c lsm -n '__fish_seen_subcommand_from dump' -F
+complete -c lsm -n __fish_use_subcommand -a manifest -d 'Prints the edits of a manifest'
+complete -c lsm -n '__fish_seen_subcommand_from manifest' -F
+complete -c lsm -n __fish_use_subcommand -a script -d 'Runs the commands in a file on a database in memory'
+complete -c lsm -n '__fish_seen_subcommand_from script' -F
+complete -c lsm -n __fish_use_subcommand -a check -d 'Verifies a folder, and counts what is in it'
+complete -c lsm -n '__fish_seen_subcommand_from check' -a '(__fish_complete_directories)'
+complete -c lsm -n '__fish_seen_subcommand_from check' -l progress -d 'Say on standard error how far it is'
+complete -c lsm -n __fish_use_subcommand -a list -d 'Prints the tables of a folder, level by level'
+complete -c lsm -n '__fish_seen_subcommand_from list' -a '(__fish_complete_directories)'
+complete -c lsm -n '__fish_seen_subcommand_from list' -l text -d 'Keys and values are text, with `\\xNN` for bytes that do not print'
+complete -c lsm -n __fish_use_subcommand -a get -d 'Prints the value of a key in a folder'
+complete -c lsm -n '__fish_seen_subcommand_from get' -a '(__fish_complete_directories)'
+complete -c lsm -n '__fish_seen_subcommand_from get' -l text -d 'Keys and values are text, with `\\xNN` for bytes that do not print'
+complete -c lsm -n __fish_use_subcommand -a scan -d 'Prints the live keys of a folder and their values'
+complete -c lsm -n '__fish_seen_subcommand_from scan' -a '(__fish_complete_directories)'
+complete -c lsm -n '__fish_seen_subcommand_from scan' -l from -x -d 'The first key that is printed'
+complete -c lsm -n '__fish_seen_subcommand_from scan' -l to -x -d 'The last key that is printed'
+complete -c lsm -n '__fish_seen_subcommand_from scan' -l text -d 'Keys and values are text, with `\\xNN` for bytes that do not print'
+complete -c lsm -n '__fish_seen_subcommand_from scan' -l progress -d 'Say on standard error how far it is'
+complete -c lsm -n __fish_use_subcommand -a ingest -d 'Brings keys into a folder, or begins a database there'
+complete -c lsm -n '__fish_seen_subcommand_from ingest' -F
+complete -c lsm -n '__fish_seen_subcommand_from ingest' -l text -d 'Keys and values are text, with `\\xNN` for bytes that do not print'
+complete -c lsm -n '__fish_seen_subcommand_from ingest' -l begin -d 'Begin a database also where CURRENT was lost'
+complete -c lsm -n '__fish_seen_subcommand_from ingest' -l beside-log -d 'Go on also where LevelDB has not flushed its log'
+complete -c lsm -n __fish_use_subcommand -a compact -d 'Compacts a folder until no level is too large'
+complete -c lsm -n '__fish_seen_subcommand_from compact' -a '(__fish_complete_directories)'
+complete -c lsm -n '__fish_seen_subcommand_from compact' -l workers -x -d 'How many threads compact, 1 to 8 [default: 2]'
+complete -c lsm -n '__fish_seen_subcommand_from compact' -l progress -d 'Say on standard error how far it is'
+complete -c lsm -n __fish_use_subcommand -a clean -d 'Removes old files that a folder does not need'
+complete -c lsm -n '__fish_seen_subcommand_from clean' -a '(__fish_complete_directories)'
+complete -c lsm -n __fish_use_subcommand -a help -d 'Prints this overview, or the page of a command'
+complete -c lsm -n '__fish_seen_subcommand_from help' -a 'mktable dump manifest script check list get scan ingest compact clean help'
