@@ -155,7 +155,8 @@ pub fn refused_calls_keep_the_version()
 /// stands for is durable. A crash in any call of the folder leaves the version that is opened, and
 /// that is the one that was found: it has the same files. Where a call was refused and one can't
 /// tell what is durable (`unsure`), an opening without a crash opens one of the versions that are
-/// known, and then it alone is; the number of its manifest is above those that `CURRENT` may name.
+/// known, and then it alone is, where the number of its manifest is above those that `CURRENT` may
+/// name.
 pub fn databases_open_on_what_was_found<P: Premise>()
     ensures opened { (board : TableId) (limit : ℕ) (h : Held) (d e : Disk) (w : World) (v : Version)
         (asks : List Asked)
@@ -190,7 +191,7 @@ pub fn databases_open_on_what_was_found<P: Premise>()
 /// version that is sound, as the type of a version says, and the shelf gave what the folder shows:
 /// a refusal says that memory ran out, that no number is left, or that the shelf refused, with a
 /// count that rose (`open`; `read` of an opening for reading alone). Where the shelf counted
-/// nothing that is missing or taken, memory ran out or the device failed (`device`).
+/// nothing that is missing or taken, what it refused was for memory or for the device (`device`).
 pub fn openings_are_not_refused_for_what_is_shown<N: Naming, S: Shelf>()
     ensures open { (limit : ℕ) (e : OpenFault) (v : Levels) (d : Disk) (was is : Told) → S.honest
         → IsSound v → Shown v d
