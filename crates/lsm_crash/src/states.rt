@@ -11,7 +11,7 @@ ghost use Rattle.lsm_levels.specs.Files.{File};
 ghost use Rattle.lsm_storage.specs.FileNames.{table_name};
 ghost use Rattle.lsm_shelf.specs.Asked.{Asked, Put, Remove, StartManifest};
 ghost use Rattle.lsm_shelf.specs.Stored.{Stored};
-ghost use Rattle.lsm_shelf.specs.Told.{Becomes, Counted, Told};
+ghost use Rattle.lsm_shelf.specs.Told.{Becomes, Counted, Told, finding};
 ghost use Rattle.lsm_batch.specs.declared.write.Write.{Write};
 ghost use Rattle.lsm_merge.specs.Outputs.{putting_all};
 ghost use Rattle.lsm_merge.specs.Work.{Done, puts_by};
@@ -25,7 +25,7 @@ ghost use Rattle.lsm_state.specs.Ingesting.{with_number, with_slots};
 ghost use Rattle.lsm_state.specs.Installing.{Installed, IsInstallRefusal};
 ghost use Rattle.lsm_state.specs.declared.ingest.Ingested.{Ingested};
 ghost use Rattle.lsm_state.specs.declared.state_fault.StateFault.{StateFault};
-ghost use Rattle.lsm_crash.specs.Disk.{Disk};
+ghost use Rattle.lsm_crash.specs.Disk.{Disk, Shows};
 ghost use Rattle.lsm_crash.specs.Crash.{Found, IsFresh, IsLeft};
 ghost use Rattle.lsm_crash.specs.Known.{IsHeld, IsSettled, IsVacant, Known, World};
 ghost use Rattle.lsm_crash.specs.Known.{current_name, nothing};
@@ -274,7 +274,8 @@ pub fn ingests_survive_crashes<P: Premise>()
 /// shelf can be answered Ok by the folder, where no file has the name of the next table
 /// (`answered`); so can what an opening asks (`opened`). And from states of which the contracts of
 /// `create` and `ingest` are supposed: in an empty folder a database can be made, the batch be put,
-/// and power be cut, and then its version is found (`small`).
+/// and power be cut, and then its version is found (`small`). Where a shelf holds just what the
+/// folder shows, an opening is given that (`given`).
 pub fn premises_of_runs_are_met<P: Premise>()
     ensures answered { (board : TableId) (old new : Held) (deed : Deed) (asks : List Asked)
         (w : World) (v : Version) (d : Disk) → IsState P.holds board new → IsSettled d w
@@ -292,6 +293,9 @@ pub fn premises_of_runs_are_met<P: Premise>()
         → Asks h new (Ingest ws r) asks → ComesTo new.journal.bytes s
         → Follows P.holds h new (Answered (Ingest ws r))
         → SmallRun P.holds board h new v first m.number (Ingest ws r) }
+    ensures given { (v : Levels) (d : Disk) (was : Told) → (s : Shown v d)
+        → ReadsShown (λ number image. Shows d (table_name number) image) v d was
+        (finding s.manifest s.bytes was) }
 {
     changed_tables();
 }
