@@ -18,7 +18,10 @@ mod store;
 mod view;
 
 // Workers, each in a thread of its own.
+mod background;
+mod bell;
 mod gate;
+mod with_workers;
 mod worker;
 mod worker_end;
 mod worker_fault;
@@ -32,6 +35,7 @@ mod ticket_numbers;
 // What callers learn of both.
 pub mod laws;
 
+pub use background::Background;
 pub use begin_fault::BeginFault;
 pub use gate::{Gate, NoGate};
 pub use guarded::Guarded;
@@ -41,6 +45,7 @@ pub use reader::Reader;
 pub use reader_cache::ReaderCache;
 pub use store::Store;
 pub use view::View;
+pub use with_workers::with_workers;
 pub use worker_end::WorkerEnd;
 pub use worker_fault::WorkerFault;
 pub use workers::run_workers;
