@@ -19,9 +19,9 @@ mod view;
 
 // Workers, each in a thread of its own.
 mod background;
+mod background_workers;
 mod bell;
 mod gate;
-mod with_workers;
 mod worker;
 mod worker_end;
 mod worker_fault;
@@ -36,6 +36,7 @@ mod ticket_numbers;
 pub mod laws;
 
 pub use background::Background;
+pub use background_workers::with_workers;
 pub use begin_fault::BeginFault;
 pub use gate::{Gate, NoGate};
 pub use guarded::Guarded;
@@ -45,7 +46,6 @@ pub use reader::Reader;
 pub use reader_cache::ReaderCache;
 pub use store::Store;
 pub use view::View;
-pub use with_workers::with_workers;
 pub use worker_end::WorkerEnd;
 pub use worker_fault::WorkerFault;
 pub use workers::run_workers;
