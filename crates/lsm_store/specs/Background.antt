@@ -35,8 +35,8 @@ pub record KeepsOut (Refused : Asked → ShelfFault → Type 0) (was is : Held) 
 -- what one ingest leaves of a state, whatever its shelf was told
 abbrev pub IsIngestStep : (Asked → ShelfFault → Type 0) → List Write → Held → Held → Type 0
 IsIngestStep Refused ws was is =
-    ((r : Ingested) × ((t : Told) × ((u : Told) × BringsIn was is ws r t u)))
-    ⊎ ((e : StateFault) × ((t : Told) × ((u : Told) × KeepsOut Refused was is ws e t u)))
+    ((r : Ingested) × (t : Told) × (u : Told) × BringsIn was is ws r t u)
+    ⊎ ((e : StateFault) × (t : Told) × (u : Told) × KeepsOut Refused was is ws e t u)
 
 -- each such step keeps the fact
 abbrev pub IsKeptByIngest : (Asked → ShelfFault → Type 0) → List Write → (Held → Type 0) → Type 0
@@ -44,8 +44,8 @@ IsKeptByIngest Refused ws keeps = (was is : Held) → IsIngestStep Refused ws wa
 
 -- The batch came in at one taking of the lock, where the fact held.
 abbrev pub IsBroughtIn : (Held → Type 0) → List Write → Ingested → Told → Told → Type 0
-IsBroughtIn keeps ws r t u = (was : Held) × ((is : Held) × (∥ keeps was ∥₁ × BringsIn was is ws r t u))
+IsBroughtIn keeps ws r t u = (was : Held) × (is : Held) × ∥ keeps was ∥₁ × BringsIn was is ws r t u
 
 -- It was refused at one taking of the lock, where the fact held.
 abbrev pub IsKeptOut : (Asked → ShelfFault → Type 0) → (Held → Type 0) → List Write → StateFault → Told → Told → Type 0
-IsKeptOut Refused keeps ws e t u = (was : Held) × ((is : Held) × (∥ keeps was ∥₁ × KeepsOut Refused was is ws e t u))
+IsKeptOut Refused keeps ws e t u = (was : Held) × (is : Held) × ∥ keeps was ∥₁ × KeepsOut Refused was is ws e t u

@@ -86,6 +86,7 @@ impl Background {
     /// The refusals are those of `State::ingest`. `LevelZeroFull` only where no worker can make
     /// room: each has ended, or found nothing to reserve, as where a job of the caller's own holds
     /// the files of level 0.
+    #[tactic(auto, using(crate::proofs::BackgroundLaws::full_asks_nothing))]
     pub fn ingest<N: Boarded, S: Shelf, K: Invariant, R: Wait>(
         &self,
         rt: &R,
@@ -128,6 +129,7 @@ impl Background {
 
     // Tries again each time that the bell has rung. It is rung here first: workers look again, also
     // where no one rang after that by which level 0 became full.
+    #[tactic(auto, using(crate::proofs::BackgroundLaws::full_asks_nothing))]
     fn ingest_stalled<N: Boarded, S: Shelf, K: Invariant, R: Wait>(
         &self,
         rt: &R,
