@@ -36,6 +36,10 @@ case ${1-} in
     ;;
 esac
 [[ $forget == none && ! $garbage && ! $cleaned ]] || shift
+if [[ $# -gt 1 || ${1-} == -* ]]; then
+  echo "power_cuts: other words than those of run.sh: $*; see its head" >&2
+  exit 2
+fi
 scratch=$(mktemp -d)
 program=$(readlink -f "${1:-${LSM:-$("$here/../../tools/program")}}")
 seed=${SEED:-$RANDOM$RANDOM}

@@ -5,6 +5,8 @@ use Rattle.atomic_table.specs.Seated.{TableId}
 use Rattle.lsm_storage.specs.FileNames.{table_name, manifest_name, temporary_name, current_text}
 use Rattle.lsm_storage.specs.Plans.{start_plan}
 use Rattle.lsm_shelf.specs.Asked.{Asked, AppendManifest, Remove as RemoveTable}
+use Rattle.lsm_shelf.specs.Told.{Told, finding}
+use Rattle.lsm_version.specs.Versions.{Levels}
 use Rattle.lsm_batch.specs.declared.write.Write.{Write}
 use Rattle.lsm_journal.specs.Difference.{Difference, changed_by}
 use Rattle.lsm_journal.specs.Sending.{started_by}
@@ -14,15 +16,16 @@ use Rattle.lsm_state.specs.Asked.{changes_by}
 use Rattle.lsm_state.specs.Held.{Held}
 use Rattle.lsm_state.specs.Ingesting.{coming_in, last_of, with_number, with_slots}
 use Rattle.lsm_state.specs.declared.ingest.Ingested.{Ingested}
-use Rattle.lsm_crash.specs.Disk.{Disk, empty_disk, filled, moved, named, with_file, with_names}
+use Rattle.lsm_crash.specs.Disk.{Disk, Shows, empty_disk, filled, moved, named, with_file, with_names}
 use Rattle.lsm_crash.specs.Versions.{ComesTo, Tables, Version}
 use Rattle.lsm_crash.specs.Known.{Is, IsSettled, World, current_name, nothing}
 use Rattle.lsm_crash.specs.Operations.{Allows, Put, Remove, after, started}
 use Rattle.lsm_crash.specs.Among.{DoneAmong}
-use Rattle.lsm_crash.specs.States.{IsWorldOf}
+use Rattle.lsm_crash.specs.Refusing.{ReadsShown}
+use Rattle.lsm_crash.specs.States.{IsWorldOf, Shown}
 use Rattle.lsm_crash.specs.Database.{AllDone, Answered, Asks, Collect, Deed, Follows, HasMade, Ingest, Install, IsMade, IsReady, IsState, Opens, SmallRun, Works, after_all, operations, plans_of}
 use Rattle.lsm_crash.proofs.Names.{table_current, table_manifest, table_temporary}
-use Rattle.lsm_crash.proofs.Disks.{named_else}
+use Rattle.lsm_crash.proofs.Disks.{named_else, some_is}
 use Rattle.lsm_crash.proofs.Standing.{at_writes, sure}
 use Rattle.lsm_crash.proofs.Calls.{no_gap}
 use Rattle.lsm_crash.proofs.Instances.{append_can, crash_can, empty_vacant, put_can, remove_can, start_can}
@@ -132,3 +135,13 @@ small_run law honest board h new m first asks ws r v s l ln made to a later f =
       left = crash.2;
       finds = rest_leaves law honest board (Answered (Ingest ws r) ∷ []) h new w works.0 start.0 works.1 crash.0 l i o works.2 crash.2;
     }
+
+-- ---- a shelf that holds just what the folder shows
+
+pub given_shows : (v : Levels) (d : Disk) (was : Told) → (s : Shown v d) → ReadsShown (λ number image. Shows d (table_name number) image) v d was (finding s.manifest s.bytes was)
+given_shows v d was s = record {
+  small = λ number bytes b. subst (λ n. n < 2 ^ 64) (some_is s.manifest number b.manifest) s.small;
+  current = λ number bytes b. subst (λ n. Shows d current_name (current_text n)) (some_is s.manifest number b.manifest) s.current;
+  manifest = λ number bytes b. subst (λ n. Shows d (manifest_name n) bytes) (some_is s.manifest number b.manifest) (subst (λ bs. Shows d (manifest_name s.manifest) bs) b.sent s.its);
+  images = λ level t image has held. held;
+}

@@ -11,7 +11,7 @@ ghost use Rattle.lsm_levels.specs.Files.{File};
 ghost use Rattle.lsm_storage.specs.FileNames.{table_name};
 ghost use Rattle.lsm_shelf.specs.Asked.{Asked, Put, Remove, StartManifest};
 ghost use Rattle.lsm_shelf.specs.Stored.{Stored};
-ghost use Rattle.lsm_shelf.specs.Told.{Becomes, Counted, Told};
+ghost use Rattle.lsm_shelf.specs.Told.{Becomes, Counted, Told, finding};
 ghost use Rattle.lsm_batch.specs.declared.write.Write.{Write};
 ghost use Rattle.lsm_merge.specs.Outputs.{putting_all};
 ghost use Rattle.lsm_merge.specs.Work.{Done, puts_by};
@@ -25,7 +25,7 @@ ghost use Rattle.lsm_state.specs.Ingesting.{with_number, with_slots};
 ghost use Rattle.lsm_state.specs.Installing.{Installed, IsInstallRefusal};
 ghost use Rattle.lsm_state.specs.declared.ingest.Ingested.{Ingested};
 ghost use Rattle.lsm_state.specs.declared.state_fault.StateFault.{StateFault};
-ghost use Rattle.lsm_crash.specs.Disk.{Disk};
+ghost use Rattle.lsm_crash.specs.Disk.{Disk, Shows};
 ghost use Rattle.lsm_crash.specs.Crash.{Found, IsFresh, IsLeft};
 ghost use Rattle.lsm_crash.specs.Known.{IsHeld, IsSettled, IsVacant, Known, World};
 ghost use Rattle.lsm_crash.specs.Known.{current_name, nothing};
@@ -155,7 +155,8 @@ pub fn refused_calls_keep_the_version()
 /// stands for is durable. A crash in any call of the folder leaves the version that is opened, and
 /// that is the one that was found: it has the same files. Where a call was refused and one can't
 /// tell what is durable (`unsure`), an opening without a crash opens one of the versions that are
-/// known, and then it alone is; the number of its manifest is above those that `CURRENT` may name.
+/// known, and then it alone is, where the number of its manifest is above those that `CURRENT` may
+/// name.
 pub fn databases_open_on_what_was_found<P: Premise>()
     ensures opened { (board : TableId) (limit : ℕ) (h : Held) (d e : Disk) (w : World) (v : Version)
         (asks : List Asked)
@@ -190,7 +191,7 @@ pub fn databases_open_on_what_was_found<P: Premise>()
 /// version that is sound, as the type of a version says, and the shelf gave what the folder shows:
 /// a refusal says that memory ran out, that no number is left, or that the shelf refused, with a
 /// count that rose (`open`; `read` of an opening for reading alone). Where the shelf counted
-/// nothing that is missing or taken, memory ran out or the device failed (`device`).
+/// nothing that is missing or taken, what it refused was for memory or for the device (`device`).
 pub fn openings_are_not_refused_for_what_is_shown<N: Naming, S: Shelf>()
     ensures open { (limit : ℕ) (e : OpenFault) (v : Levels) (d : Disk) (was is : Told) → S.honest
         → IsSound v → Shown v d
@@ -273,7 +274,8 @@ pub fn ingests_survive_crashes<P: Premise>()
 /// shelf can be answered Ok by the folder, where no file has the name of the next table
 /// (`answered`); so can what an opening asks (`opened`). And from states of which the contracts of
 /// `create` and `ingest` are supposed: in an empty folder a database can be made, the batch be put,
-/// and power be cut, and then its version is found (`small`).
+/// and power be cut, and then its version is found (`small`). Where a shelf holds just what the
+/// folder shows, an opening is given that (`given`).
 pub fn premises_of_runs_are_met<P: Premise>()
     ensures answered { (board : TableId) (old new : Held) (deed : Deed) (asks : List Asked)
         (w : World) (v : Version) (d : Disk) → IsState P.holds board new → IsSettled d w
@@ -291,6 +293,9 @@ pub fn premises_of_runs_are_met<P: Premise>()
         → Asks h new (Ingest ws r) asks → ComesTo new.journal.bytes s
         → Follows P.holds h new (Answered (Ingest ws r))
         → SmallRun P.holds board h new v first m.number (Ingest ws r) }
+    ensures given { (v : Levels) (d : Disk) (was : Told) → (s : Shown v d)
+        → ReadsShown (λ number image. Shows d (table_name number) image) v d was
+        (finding s.manifest s.bytes was) }
 {
     changed_tables();
 }

@@ -1,3 +1,4 @@
+pub mod BackgroundLaws
 pub mod CompactingLaws
 pub mod FoundLaws
 pub mod PromiseLaws

@@ -1,3 +1,4 @@
+pub mod Background
 pub mod Compacting
 pub mod Promised
 pub mod Readers

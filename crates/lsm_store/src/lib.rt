@@ -18,6 +18,9 @@ mod store;
 mod view;
 
 // Workers, each in a thread of its own.
+mod background;
+mod background_workers;
+mod bell;
 mod gate;
 mod worker;
 mod worker_end;
@@ -32,6 +35,8 @@ mod ticket_numbers;
 // What callers learn of both.
 pub mod laws;
 
+pub use background::Background;
+pub use background_workers::with_workers;
 pub use begin_fault::BeginFault;
 pub use gate::{Gate, NoGate};
 pub use guarded::Guarded;

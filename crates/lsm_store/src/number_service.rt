@@ -1,5 +1,4 @@
-//! Numbers for the outputs of merges: workers ask, and the thread that started them draws under the
-//! lock.
+//! Numbers for the outputs of merges: workers ask, and one other thread draws under the lock.
 
 ghost use Rattle.std.specs.Prelude.{IfErr};
 ghost use Rattle.lsm_merge.specs.NumberFault.{IsOfTicket};
@@ -15,7 +14,8 @@ struct Question {
     answer: Option<Result<u64, NumberFault>>,
 }
 
-/// Where workers ask for numbers, one at a time, and where the thread that started them answers.
+/// Where workers ask for numbers, one at a time, and where another thread answers: the one that
+/// started them, or one that was started with them.
 ///
 /// A merge draws its numbers through a trait (`NumberSource`), and the toolchain proves no call in
 /// a method of a trait's impl of a function whose type parameters may be sent to a thread, as those

@@ -5,6 +5,7 @@ ghost use Rattle.lsm_live.specs.Booked.{HasTicket, without};
 ghost use Rattle.lsm_store.specs.Compacting.{IsCompactingStep, IsKeptByCompaction};
 ghost use Rattle.lsm_store.specs.Workers.{IsOfInstalling, IsOfReserving, IsOfTurn, IsWorkersEnd};
 
+use crate::bell::Bell;
 use crate::gate::Gate;
 use crate::invariant::Invariant;
 use crate::number_service::NumberService;
@@ -155,12 +156,14 @@ fn registry_of<N: Boarded, S: Shelf, K: Invariant, R: Wait>(
     Arc::try_clone(store.lock(rt).state.registry())
 }
 
-/// One compaction after another, until there is nothing left to reserve, or a fault.
+/// One compaction after another, until the bell is closed, or a fault. Where there is nothing to
+/// reserve it sleeps until the bell rings. It rings after each install.
 pub(crate) fn work<N: Boarded, S: Shelf, K: Invariant, G: Gate, R: Wait>(
     rt: &R,
     alloc: Global,
     store: &Store<N, S, K>,
     service: &NumberService,
+    bell: &Bell,
     shelf: NamedShelf<N, S>,
     gate: &G,
     worker: usize,
@@ -177,16 +180,20 @@ pub(crate) fn work<N: Boarded, S: Shelf, K: Invariant, G: Gate, R: Wait>(
         };
     };
     for _ in rt.forever() {
+        let Some(rings) = bell.rings(rt) else {
+            return WorkerEnd {
+                installed,
+                fault: None,
+            };
+        };
         match turn(
             rt, alloc, store, &registry, service, &mut shelf, gate, worker,
         ) {
-            Ok(true) => installed = installed.saturating_add(1),
-            Ok(false) => {
-                return WorkerEnd {
-                    installed,
-                    fault: None,
-                };
+            Ok(true) => {
+                installed = installed.saturating_add(1);
+                bell.ring(rt);
             }
+            Ok(false) => bell.wait_for_work(rt, rings),
             Err(fault) => {
                 return WorkerEnd {
                     installed,

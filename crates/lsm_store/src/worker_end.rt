@@ -7,6 +7,7 @@ use crate::worker_fault::WorkerFault;
 pub struct WorkerEnd {
     /// How many results it has installed.
     pub installed: u64,
-    /// Why it ended early; none where nothing was left to reserve.
+    /// Why it ended early; none where nothing was left to reserve, or the body had answered beside
+    /// which it worked.
     pub fault: Option<WorkerFault>,
 }

@@ -4,6 +4,7 @@ ghost use Rattle.std.specs.Prelude.{◌≡◌, ◌≤◌, [], All, IfErr, IfOk, 
 ghost use Rattle.lsm_store.specs.Compacting.{IsKeptByCompaction};
 ghost use Rattle.lsm_store.specs.Workers.{IsWorkersEnd};
 
+use crate::bell::Bell;
 use crate::drawing::draw_for_all;
 use crate::gate::Gate;
 use crate::invariant::Invariant;
@@ -22,7 +23,7 @@ use std::thread::{Promise, PromisedHandle, Scope, Threads};
 
 /// What the thread of a worker over a shelf of this type promises of its answer.
 #[derive(Drop)]
-struct Ends<S: Shelf> {
+pub(crate) struct Ends<S: Shelf> {
     of: PhantomData<S>,
 }
 
@@ -31,15 +32,24 @@ impl<S: Shelf> Promise<WorkerEnd> for Ends<S> {
 }
 
 /// The thread of a worker, or none where it could not be made.
-type Thread<S> = Option<PromisedHandle<WorkerEnd, Ends<S>>>;
+pub(crate) type Thread<S> = Option<PromisedHandle<WorkerEnd, Ends<S>>>;
 
 /// Starts a worker for each shelf, the last one first.
-fn start_all<'s, 'e, N: Boarded, S: Shelf, K: Invariant, G: Gate + Sync, R: Threads + Wait + Sync>(
+pub(crate) fn start_all<
+    's,
+    'e,
+    N: Boarded,
+    S: Shelf,
+    K: Invariant,
+    G: Gate + Sync,
+    R: Threads + Wait + Sync,
+>(
     scope: &'s Scope<'s, &'e ()>,
     rt: &'e R,
     alloc: Global,
     store: &'e Store<N, S, K>,
     service: &'e NumberService,
+    bell: &'e Bell,
     shelves: Vec<NamedShelf<N, S>>,
     gate: &'e G,
     handles: Vec<Thread<S>>,
@@ -60,13 +70,15 @@ fn start_all<'s, 'e, N: Boarded, S: Shelf, K: Invariant, G: Gate + Sync, R: Thre
                 requires kept { IsKeptByCompaction S.honest K.keeps }
                 ensures { IsWorkersEnd S.honest result }
             {
-                let end = work(rt, alloc, store, service, shelf, gate, worker);
+                let end = work(rt, alloc, store, service, bell, shelf, gate, worker);
                 service.leave(rt);
+                bell.leave(rt);
                 end
             },
         );
         if handle.is_err() {
             service.leave(rt);
+            bell.leave(rt);
         }
         let Ok(()) = handles.push(handle.ok()) else {
             unreachable!()
@@ -89,7 +101,7 @@ fn end_of<S: Shelf, R: Threads>(rt: &R, thread: Thread<S>) -> WorkerEnd
 }
 
 /// Waits for each worker, the last one first; there is room for what they have done.
-fn join_all<S: Shelf, R: Threads + Wait>(
+pub(crate) fn join_all<S: Shelf, R: Threads + Wait>(
     rt: &R,
     handles: Vec<Thread<S>>,
     ends: Vec<WorkerEnd>,
@@ -141,6 +153,8 @@ pub fn run_workers<N: Boarded, S: Shelf, K: Invariant, G: Gate + Sync, R: Thread
     };
     let service = NumberService::new(shelves.len());
     let service = &service;
+    let bell = Bell::closing_when_idle(shelves.len());
+    let bell = &bell;
     Ok(thread::scope(
         thread::scope_env(),
         rt,
@@ -152,7 +166,9 @@ pub fn run_workers<N: Boarded, S: Shelf, K: Invariant, G: Gate + Sync, R: Thread
             ensures ends { All (IsWorkersEnd S.honest) result.items }
             ensures len { vec_len result ≡ vec_len shelves }
         {
-            let handles = start_all(scope, rt, alloc, store, service, shelves, gate, handles);
+            let handles = start_all(
+                scope, rt, alloc, store, service, bell, shelves, gate, handles,
+            );
             draw_for_all(rt, store, service);
             join_all(rt, handles, ends)
         },

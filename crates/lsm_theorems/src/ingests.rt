@@ -14,8 +14,8 @@ use std::alloc::Global;
 use std::sync::Wait;
 
 /// An ingest that is answered Ok puts just the entries of its batch in front of all that came in
-/// before (`brought`), and no live snapshot's read changes (`snapshots`). A refused one changes
-/// nothing (`refused`).
+/// before (`brought`), and no live snapshot's read changes (`snapshots`). A refused one changes no
+/// answer (`refused`).
 pub fn ingests_add_their_batch<N: Boarded, S: Shelf, R: Wait>(
     rt: &R,
     alloc: Global,

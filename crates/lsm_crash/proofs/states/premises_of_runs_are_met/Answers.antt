@@ -1,4 +1,4 @@
-use Rattle.lsm_crash.proofs.Possible.{opened_can, small_run, works_can}
+use Rattle.lsm_crash.proofs.Possible.{given_shows, opened_can, small_run, works_can}
 use Rattle.lsm_crash.proofs.states.premises_of_runs_are_met.Goals as goal
 
 pub returns-clause-answered : goal.returns-clause-answered
@@ -9,3 +9,6 @@ returns-clause-opened g c = λ limit h d asks tables p made. opened_can g.P.Prem
 
 pub returns-clause-small : goal.returns-clause-small
 returns-clause-small g c = λ board h new first asks ws r v s l ln m made to a later f. small_run c.changed_tables.ensures g.P.Premise.holds board h new m first asks ws r v s l ln made to a later f
+
+pub returns-clause-given : goal.returns-clause-given
+returns-clause-given g c = given_shows

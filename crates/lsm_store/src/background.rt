@@ -1,0 +1,158 @@
+//! What a program has of the workers beside it.
+
+ghost use Rattle.std.specs.Prelude.{IfErr, IfOk};
+ghost use Rattle.lsm_store.specs.Background.{BringsIn, IsBroughtIn, IsIngestStep, IsKeptByIngest};
+ghost use Rattle.lsm_store.specs.Background.{IsKeptOut, KeepsOut};
+
+use crate::bell::Bell;
+use crate::invariant::Invariant;
+use crate::store::Store;
+use lsm_batch::Batch;
+use lsm_slots::Boarded;
+use lsm_state::{Ingested, State, StateFault};
+use lsm_table::{NamedShelf, Shelf};
+use std::alloc::Global;
+use std::sync::Wait;
+
+/// Brings the batch into the state.
+fn bring_in<N: Boarded, S: Shelf, R: Wait>(
+    state: &mut State<N, S>,
+    rt: &R,
+    alloc: Global,
+    shelf: &mut NamedShelf<N, S>,
+    batch: &Batch,
+) -> Result<Ingested, StateFault>
+    ensures ok { IfOk result (λ r. BringsIn state.old state.new batch.now r shelf.old shelf.new) }
+    ensures refused { IfErr result (λ e.
+        KeepsOut (S.refuses N.place) state.old state.new batch.now e shelf.old shelf.new) }
+    ensures step { IsIngestStep (S.refuses N.place) batch.now state.old state.new }
+{
+    match state.ingest(rt, alloc, shelf, batch) {
+        Ok(came) => Ok(came),
+        Err(fault) => Err(fault),
+    }
+}
+
+/// Brings the batch in under the lock.
+fn bring_in_under_lock<N: Boarded, S: Shelf, K: Invariant, R: Wait>(
+    rt: &R,
+    alloc: Global,
+    store: &Store<N, S, K>,
+    shelf: &mut NamedShelf<N, S>,
+    batch: &Batch,
+) -> Result<Ingested, StateFault>
+    requires kept { IsKeptByIngest (S.refuses N.place) batch.now K.keeps }
+    ensures ok { IfOk result (λ r. IsBroughtIn K.keeps batch.now r shelf.old shelf.new) }
+    ensures refused { IfErr result (λ e.
+        IsKeptOut (S.refuses N.place) K.keeps batch.now e shelf.old shelf.new) }
+{
+    bring_in(&mut store.lock(rt).state, rt, alloc, shelf, batch)
+}
+
+/// The workers that compact beside a program, as the program sees them. Threads may share it.
+///
+/// Hold no guard of the store while you call it: workers need the lock, and some calls wait for
+/// workers.
+#[derive(Drop)]
+pub struct Background {
+    pub(crate) bell: Bell,
+}
+
+impl Background {
+    /// So many workers, none of which has begun.
+    pub(crate) fn of(workers: usize) -> Background {
+        Background {
+            bell: Bell::new(workers),
+        }
+    }
+
+    /// Wakes the workers that sleep, for a look whether there is something to reserve; and writers
+    /// that wait try again. To be called after a call under the lock by which there may be more to
+    /// compact, or room at level 0: an ingest, a cancel, an install, a release.
+    pub fn wake<R: Wait>(&self, rt: &R) {
+        self.bell.ring(rt);
+    }
+
+    /// Waits until there is nothing to compact: each worker has looked since this call began and
+    /// found nothing to reserve, or has ended. No worker has a job then.
+    pub fn wait_until_idle<R: Wait>(&self, rt: &R) {
+        self.bell.ring(rt);
+        self.bell.wait_until_idle(rt);
+    }
+
+    /// Brings a batch into the store of these workers, as `State::ingest` does under the lock, and
+    /// wakes the workers. Where level 0 is full it waits until they have made room there.
+    ///
+    /// The refusals are those of `State::ingest`. `LevelZeroFull` only where no worker can make
+    /// room: each has ended, or found nothing to reserve, as where a job of the caller's own holds
+    /// the files of level 0.
+    #[tactic(auto, using(crate::proofs::BackgroundLaws::full_asks_nothing))]
+    pub fn ingest<N: Boarded, S: Shelf, K: Invariant, R: Wait>(
+        &self,
+        rt: &R,
+        alloc: Global,
+        store: &Store<N, S, K>,
+        shelf: &mut NamedShelf<N, S>,
+        batch: &Batch,
+    ) -> Result<Ingested, StateFault>
+        requires kept { IsKeptByIngest (S.refuses N.place) batch.now K.keeps }
+        ensures ok { IfOk result (λ r. IsBroughtIn K.keeps batch.now r shelf.old shelf.new) }
+        ensures refused { IfErr result (λ e.
+            IsKeptOut (S.refuses N.place) K.keeps batch.now e shelf.old shelf.new) }
+    {
+        match self.try_ingest(rt, alloc, store, shelf, batch) {
+            Err(StateFault::LevelZeroFull) => self.ingest_stalled(rt, alloc, store, shelf, batch),
+            came => came,
+        }
+    }
+
+    // One try. Where the batch came in, workers are woken.
+    fn try_ingest<N: Boarded, S: Shelf, K: Invariant, R: Wait>(
+        &self,
+        rt: &R,
+        alloc: Global,
+        store: &Store<N, S, K>,
+        shelf: &mut NamedShelf<N, S>,
+        batch: &Batch,
+    ) -> Result<Ingested, StateFault>
+        requires kept { IsKeptByIngest (S.refuses N.place) batch.now K.keeps }
+        ensures ok { IfOk result (λ r. IsBroughtIn K.keeps batch.now r shelf.old shelf.new) }
+        ensures refused { IfErr result (λ e.
+            IsKeptOut (S.refuses N.place) K.keeps batch.now e shelf.old shelf.new) }
+    {
+        let came = bring_in_under_lock(rt, alloc, store, shelf, batch);
+        if came.is_ok() {
+            self.bell.ring(rt);
+        }
+        came
+    }
+
+    // Tries again each time that the bell has rung. It is rung here first: workers look again, also
+    // where no one rang after that by which level 0 became full.
+    #[tactic(auto, using(crate::proofs::BackgroundLaws::full_asks_nothing))]
+    fn ingest_stalled<N: Boarded, S: Shelf, K: Invariant, R: Wait>(
+        &self,
+        rt: &R,
+        alloc: Global,
+        store: &Store<N, S, K>,
+        shelf: &mut NamedShelf<N, S>,
+        batch: &Batch,
+    ) -> Result<Ingested, StateFault>
+        requires kept { IsKeptByIngest (S.refuses N.place) batch.now K.keeps }
+        ensures ok { IfOk result (λ r. IsBroughtIn K.keeps batch.now r shelf.old shelf.new) }
+        ensures refused { IfErr result (λ e.
+            IsKeptOut (S.refuses N.place) K.keeps batch.now e shelf.old shelf.new) }
+    {
+        let mut rings = self.bell.ring(rt);
+        for _ in rt.forever() {
+            match self.try_ingest(rt, alloc, store, shelf, batch) {
+                Err(StateFault::LevelZeroFull) => match self.bell.wait_for_room(rt, rings) {
+                    Some(rung) => rings = rung,
+                    None => return Err(StateFault::LevelZeroFull),
+                },
+                came => return came,
+            }
+        }
+        unreachable!()
+    }
+}

@@ -1,0 +1,139 @@
+//! The bell of workers that run beside a program.
+
+use std::sync::{Condvar, Mutex, Wait};
+
+/// How often the bell was rung, and how many workers have nothing to do.
+#[derive(Drop)]
+struct Rung {
+    // How often it was rung. The count wraps.
+    rings: u64,
+    // How many workers have not ended.
+    working: usize,
+    // How many of these have found nothing to reserve since it was rung last.
+    idle: usize,
+    // Whether workers are to end.
+    closed: bool,
+    // Whether they are to end once all of them are idle.
+    closes_when_idle: bool,
+}
+
+impl Rung {
+    // It rings: whoever waits looks again.
+    fn ring(&mut self) {
+        self.rings = self.rings.wrapping_add(1);
+        self.idle = 0;
+    }
+}
+
+/// A bell that is rung after each change by which there may be more to reserve, or room at level 0.
+/// Workers sleep until it rings, and so do writers that found level 0 full.
+///
+/// Nothing here takes the lock of the store. Whoever waits has read before its last look at the
+/// state how often the bell was rung, and waits only while that is still so. So no ring is missed.
+#[derive(Drop)]
+pub(crate) struct Bell {
+    rung: Mutex<Rung>,
+    changed: Condvar,
+}
+
+impl Bell {
+    fn of(workers: usize, closes_when_idle: bool) -> Bell {
+        Bell {
+            rung: Mutex::new(Rung {
+                rings: 0,
+                working: workers,
+                idle: 0,
+                closed: false,
+                closes_when_idle,
+            }),
+            changed: Condvar::new(),
+        }
+    }
+
+    /// A bell for so many workers, which go on until it is closed. Each of them leaves it once.
+    pub(crate) fn new(workers: usize) -> Bell {
+        Bell::of(workers, false)
+    }
+
+    /// A bell for so many workers, which is closed once all of them are idle.
+    pub(crate) fn closing_when_idle(workers: usize) -> Bell {
+        Bell::of(workers, true)
+    }
+
+    /// Rings. How often it was rung, with this time.
+    pub(crate) fn ring<R: Wait>(&self, rt: &R) -> u64 {
+        let mut rung = self.rung.lock(rt);
+        rung.ring();
+        self.changed.notify_all();
+        rung.rings
+    }
+
+    /// A worker ends. The others are to look again: its job may be left to them.
+    pub(crate) fn leave<R: Wait>(&self, rt: &R) {
+        let mut rung = self.rung.lock(rt);
+        rung.working = rung.working.saturating_sub(1);
+        rung.ring();
+        self.changed.notify_all();
+    }
+
+    /// Workers are to end.
+    pub(crate) fn close<R: Wait>(&self, rt: &R) {
+        let mut rung = self.rung.lock(rt);
+        rung.closed = true;
+        self.changed.notify_all();
+    }
+
+    /// How often it was rung; none where it is closed.
+    pub(crate) fn rings<R: Wait>(&self, rt: &R) -> Option<u64> {
+        let rung = self.rung.lock(rt);
+        if rung.closed { None } else { Some(rung.rings) }
+    }
+
+    /// A worker has found nothing to reserve since the bell had rung so often. It waits until it
+    /// rings again, or is closed.
+    pub(crate) fn wait_for_work<R: Wait>(&self, rt: &R, rings: u64) {
+        let mut rung = self.rung.lock(rt);
+        if rung.rings == rings {
+            rung.idle = rung.idle.saturating_add(1);
+            if rung.closes_when_idle && rung.idle >= rung.working {
+                rung.closed = true;
+            }
+            self.changed.notify_all();
+        }
+        for _ in rt.forever() {
+            if rung.rings != rings || rung.closed {
+                return;
+            }
+            rung = self.changed.wait(rt, rung);
+        }
+        unreachable!()
+    }
+
+    /// A writer has found level 0 full since the bell had rung so often. It waits until it rings
+    /// again: how often it was rung then. None where each worker is idle, or has ended.
+    pub(crate) fn wait_for_room<R: Wait>(&self, rt: &R, rings: u64) -> Option<u64> {
+        let mut rung = self.rung.lock(rt);
+        for _ in rt.forever() {
+            if rung.rings != rings {
+                return Some(rung.rings);
+            }
+            if rung.idle >= rung.working {
+                return None;
+            }
+            rung = self.changed.wait(rt, rung);
+        }
+        unreachable!()
+    }
+
+    /// Waits until each worker is idle, or has ended.
+    pub(crate) fn wait_until_idle<R: Wait>(&self, rt: &R) {
+        let mut rung = self.rung.lock(rt);
+        for _ in rt.forever() {
+            if rung.idle >= rung.working {
+                return;
+            }
+            rung = self.changed.wait(rt, rung);
+        }
+        unreachable!()
+    }
+}
