@@ -2,13 +2,13 @@
 
 ghost use Rattle.std.specs.Prelude.{◌≡◌, IfOk};
 ghost use Rattle.std.specs.Option.{option_map};
-ghost use Rattle.lsm_reading.specs.Listing.{answer_text};
+ghost use Rattle.lsm_reading.specs.Listing.{answer_text, shown_answer};
 
-use lsm_text::Form;
+use lsm_text::{Form, GetOutput};
 use std::alloc::{AllocError, Global};
 
 /// The line of an answer: `value V`, or `absent`.
-pub(crate) fn answer_line(
+fn answer_line(
     alloc: Global,
     form: Form,
     answer: Option<Vec<u8>>,
@@ -26,4 +26,32 @@ pub(crate) fn answer_line(
         }
     }
     Ok(text)
+}
+
+/// Nothing, where there is a value.
+fn nothing_for(alloc: Global, answer: Option<Vec<u8>>) -> Option<Vec<u8>>
+    ensures { (form : Form) → option_map (λ v. v.items) result
+        ≡ shown_answer form GetOutput.Nothing (option_map (λ v. v.items) answer) }
+{
+    match answer {
+        Some(_) => Some(Vec::new(alloc)),
+        None => None,
+    }
+}
+
+/// What is written of an answer; none where that is of an absent key, and no line is asked for.
+pub(crate) fn shown_answer(
+    alloc: Global,
+    form: Form,
+    output: GetOutput,
+    answer: Option<Vec<u8>>,
+) -> Result<Option<Vec<u8>>, AllocError>
+    ensures { IfOk result (λ text. option_map (λ v. v.items) text
+        ≡ shown_answer form output (option_map (λ v. v.items) answer)) }
+{
+    match output {
+        GetOutput::Line => Ok(Some(answer_line(alloc, form, answer)?)),
+        GetOutput::Raw => Ok(answer),
+        GetOutput::Nothing => Ok(nothing_for(alloc, answer)),
+    }
 }

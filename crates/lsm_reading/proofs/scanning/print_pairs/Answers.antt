@@ -1,29 +1,38 @@
-use Rattle.std.proofs.Common.{◌∙◌}
+use Rattle.std.proofs.Common.{◌∙◌, sym, inl, inr, arith, refl}
+use Rattle.std.proofs.KnownBytes.{Keeps-refl}
 use Rattle.std.proofs.lemmas.Result.{err_from_is_err_and}
 use Rattle.lsm_shelf.proofs.CallerLemmas.{becomes_then}
-use Rattle.lsm_reading.proofs.ScanLaws.{front_all, front_begun, front_more, next_ascend}
 use Rattle.lsm_directory.proofs.CallerLemmas.{keeps_then}
+use Rattle.lsm_reading.proofs.ScanLaws.{fits_next, passes_ascend, passes_begun, passes_done, passes_then}
 use Rattle.lsm_reading.proofs.scanning.print_pairs.Goals as goal
+
+pub print_next-requires-clause-ascending : goal.print_next-requires-clause-ascending
+print_next-requires-clause-ascending g c = λ honest. passes_ascend _ _ _ c.loop-passed.scan.left _ _ _ _ (c.loop-passed.invariant.printed honest) (c.requires.ascending honest)
+
+pub returns-then-is_full-clause-done : goal.returns-then-is_full-clause-done
+returns-then-is_full-clause-done g c = λ honest.
+    passes_done _ _ _ c.loop-passed.scan.left _ _ _ (c.loop-passed.invariant.printed honest) c.loop-passed.invariant.fits (inl (sym c.is_full.ensures ∙ c.if-is_full.true))
 
 pub returns-in_err-print_next-clause-left : goal.returns-in_err-print_next-clause-left
 returns-in_err-print_next-clause-left g c = λ honest.
     let p = err_from_is_err_and c.from_residual.result c.from_residual.ensures.1 in
-    rw (p.1, p.2) (λ other. front_begun _ _ _ c.loop-passed.scan.left _ _ _ (c.loop-passed.invariant.printed honest) (c.in_err-print_next.ensures.left other))
+    rw (p.1, p.2) (λ other. passes_begun _ _ _ c.loop-passed.scan.left _ _ _ _ (c.loop-passed.invariant.printed honest) c.loop-passed.invariant.fits (c.in_err-print_next.ensures.left other))
 
 pub returns-then-not-branch-clause-done : goal.returns-then-not-branch-clause-done
 returns-then-not-branch-clause-done g c = λ honest.
     let next = rw c.if-not-branch.true at (c.in_ok-print_next.ensures.next honest) in
-    front_all _ _ _ c.loop-passed.scan.left c.print_next.new.scan.left _ _ _ (c.loop-passed.invariant.printed honest) next
+    let all = passes_then _ _ _ _ c.print_next.new.scan.left _ _ _ _ _ _ (c.loop-passed.invariant.printed honest) next.0 in
+    let fits = fits_next _ _ _ (sym c.is_full.ensures ∙ c.if-is_full.false) c.print_next.ensures.one in
+    passes_done _ _ _ c.print_next.new.scan.left _ _ _ all fits (inr (next.1 refl))
 
 pub loop-passed-preserved : goal.loop-passed-preserved
 loop-passed-preserved g c = record {
   told = becomes_then _ _ _ c.loop-passed.invariant.told c.print_next.ensures.told;
   quiet = λ asked. keeps_then _ _ _ (c.loop-passed.invariant.quiet asked) (c.tell_keys.ensures.quiet asked);
   loan = c.print_next.ensures.loan ∙ c.loop-passed.invariant.loan;
-  ascending = λ honest.
-      let next = rw c.if-not-branch.false at (c.in_ok-print_next.ensures.next honest) in
-      next_ascend _ _ _ _ _ _ next (c.loop-passed.invariant.ascending honest);
+  few = omega (arith, c.loop-passed.invariant.few, c.print_next.ensures.one);
+  fits = fits_next _ _ _ (sym c.is_full.ensures ∙ c.if-is_full.false) c.print_next.ensures.one;
   printed = λ honest.
       let next = rw c.if-not-branch.false at (c.in_ok-print_next.ensures.next honest) in
-      front_more _ _ _ c.loop-passed.scan.left c.print_next.new.scan.left _ _ _ (c.loop-passed.invariant.printed honest) next;
+      passes_then _ _ _ _ c.print_next.new.scan.left _ _ _ _ _ _ (c.loop-passed.invariant.printed honest) next.0;
 }
