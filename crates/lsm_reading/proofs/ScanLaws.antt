@@ -136,8 +136,8 @@ module _ (form : Form) where
         f.1 ∙ ap (λ (l : List Pair). f.0 ++ l) g.1 ∙ sym (append_assoc f.0 g.0 left),
         omega (arith, count, f.2, g.2),
         subst (λ (ps : List Pair). Appends a c (lines_of form options.output ps)) (sym both)
-        (subst (Appends a c) (sym (lines_append options.output first second))
-        (Appends-trans a b c (lines_of form options.output first) (lines_of form options.output second) f.3 g.3)),
+            (subst (Appends a c) (sym (lines_append options.output first second))
+            (Appends-trans a b c (lines_of form options.output first) (lines_of form options.output second) f.3 g.3)),
       )
 
   ascend_behind : (front left : List Pair) → UsersAscend (front ++ left) → UsersAscend left

@@ -8,11 +8,7 @@ use lsm_text::{Form, GetOutput};
 use std::alloc::{AllocError, Global};
 
 /// The line of an answer: `value V`, or `absent`.
-fn answer_line(
-    alloc: Global,
-    form: Form,
-    answer: Option<Vec<u8>>,
-) -> Result<Vec<u8>, AllocError>
+fn answer_line(alloc: Global, form: Form, answer: Option<Vec<u8>>) -> Result<Vec<u8>, AllocError>
     ensures { IfOk result (λ text.
         text.items ≡ answer_text form (option_map (λ v. v.items) answer)) }
 {

@@ -206,7 +206,17 @@ fn print_pairs<N: Naming, S: Shelf, B: Blocks<N, S>, O: Write, E: Write>(
         if is_full(options.limit, printed) {
             return Ok(printed);
         }
-        if !print_next(scan, blocks, alloc, form, options, &mut line, &mut printed, out)? {
+        let more = print_next(
+            scan,
+            blocks,
+            alloc,
+            form,
+            options,
+            &mut line,
+            &mut printed,
+            out,
+        )?;
+        if !more {
             return Ok(printed);
         }
         tell_keys(err, progress, passed + 1);

@@ -13,14 +13,14 @@ pub returns-then-is_full-clause-done : goal.returns-then-is_full-clause-done
 returns-then-is_full-clause-done g c = λ honest.
     passes_done _ _ _ c.loop-passed.scan.left _ _ _ (c.loop-passed.invariant.printed honest) c.loop-passed.invariant.fits (inl (sym c.is_full.ensures ∙ c.if-is_full.true))
 
-pub returns-in_err-print_next-clause-left : goal.returns-in_err-print_next-clause-left
-returns-in_err-print_next-clause-left g c = λ honest.
+pub returns-in_err-more-clause-left : goal.returns-in_err-more-clause-left
+returns-in_err-more-clause-left g c = λ honest.
     let p = err_from_is_err_and c.from_residual.result c.from_residual.ensures.1 in
-    rw (p.1, p.2) (λ other. passes_begun _ _ _ c.loop-passed.scan.left _ _ _ _ (c.loop-passed.invariant.printed honest) c.loop-passed.invariant.fits (c.in_err-print_next.ensures.left other))
+    rw (p.1, p.2) (λ other. passes_begun _ _ _ c.loop-passed.scan.left _ _ _ _ (c.loop-passed.invariant.printed honest) c.loop-passed.invariant.fits (c.in_err-more.ensures.left other))
 
-pub returns-then-not-branch-clause-done : goal.returns-then-not-branch-clause-done
-returns-then-not-branch-clause-done g c = λ honest.
-    let next = rw c.if-not-branch.true at (c.in_ok-print_next.ensures.next honest) in
+pub returns-then-not-more-clause-done : goal.returns-then-not-more-clause-done
+returns-then-not-more-clause-done g c = λ honest.
+    let next = rw c.if-not-more.true at (c.in_ok-more.ensures.next honest) in
     let all = passes_then _ _ _ _ c.print_next.new.scan.left _ _ _ _ _ _ (c.loop-passed.invariant.printed honest) next.0 in
     let fits = fits_next _ _ _ (sym c.is_full.ensures ∙ c.if-is_full.false) c.print_next.ensures.one in
     passes_done _ _ _ c.print_next.new.scan.left _ _ _ all fits (inr (next.1 refl))
@@ -33,6 +33,6 @@ loop-passed-preserved g c = record {
   few = omega (arith, c.loop-passed.invariant.few, c.print_next.ensures.one);
   fits = fits_next _ _ _ (sym c.is_full.ensures ∙ c.if-is_full.false) c.print_next.ensures.one;
   printed = λ honest.
-      let next = rw c.if-not-branch.false at (c.in_ok-print_next.ensures.next honest) in
+      let next = rw c.if-not-more.false at (c.in_ok-more.ensures.next honest) in
       passes_then _ _ _ _ c.print_next.new.scan.left _ _ _ _ _ _ (c.loop-passed.invariant.printed honest) next.0;
 }
