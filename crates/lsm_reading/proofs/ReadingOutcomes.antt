@@ -1,5 +1,5 @@
 -- What a command answers, by what opening the directory and asking it answer.
-use Rattle.std.proofs.Common.{◌≢◌, ℕ, List, Bool, Option, IfErr, OnOk, ◌≡◌, ◌∙◌, inl, inr, sym, subst}
+use Rattle.std.proofs.Common.{◌≢◌, ℕ, List, Bool, Option, IfErr, OnOk, ◌≡◌, inl, inr, sym}
 use Rattle.std.specs.Prelude.{Result, Ok, Err, IsFalse}
 use Rattle.std.specs.Io.KnownBytes.{Keeps}
 use Rattle.std.proofs.KnownBytes.{Keeps-refl, Keeps-trans}
@@ -27,7 +27,6 @@ use Rattle.lsm_reading.specs.Answers.{HasNoNote, IsLookedInto, IsLookFault, IsNo
 use Rattle.lsm_text.specs.declared.form.Form.{Form}
 use Rattle.lsm_reading.specs.Directory.{Holds, OnlyReads}
 use Rattle.lsm_reading.specs.Opening.{IsOpenRefusal}
-use Rattle.lsm_reading.specs.ReadFault.{IsAnswerFault}
 use Rattle.lsm_directory.specs.declared.folder.folder_file.FolderFile.{FolderFile}
 use Rattle.lsm_directory.specs.declared.faults.directory_fault.DirectoryFault.{DirectoryFault}
 use Rattle.lsm_directory.specs.declared.faults.directory_fault.DirectoryFault.TheVariants.{OutOfMemory, Write, Shelf, Manifest, Tables, Read, NumbersSpent, Locked, Absent}
@@ -104,7 +103,7 @@ module _ (Stored : ℕ → List ℕ → Type 0) (Refused : Asked → ShelfFault 
   -- ---- an open directory
 
   fault_later : (command : DirectoryCommand) (was mid is : Told) (v : Levels) (rest log prev : ℕ) (fault : DirectoryFault)
-      → Becomes mid is → Holds Honest was mid v rest log prev → IsAnswerFault Honest fault mid is → IsLookFault Stored Refused Honest command fault was is
+      → Becomes mid is → Holds Honest was mid v rest log prev → IsPerformFault Honest command v fault mid is → IsLookFault Stored Refused Honest command fault was is
   fault_later command was mid is v rest log prev OutOfMemory b h f = f
   fault_later command was mid is v rest log prev Write b h f = (v, (rest, log, prev, holds_later Honest was mid is v rest log prev b h))
   fault_later command was mid is v rest log prev (Shelf fault) b h f = absurd f
@@ -114,19 +113,13 @@ module _ (Stored : ℕ → List ℕ → Type 0) (Refused : Asked → ShelfFault 
       (v, (rest, log, prev, holds_later Honest was mid is v rest log prev b h), f.0, read_counted_from Honest fault was mid is v rest log prev h f.1)
   fault_later command was mid is v rest log prev NumbersSpent b h f = absurd f
   fault_later command was mid is v rest log prev Locked b h f = absurd f
-  fault_later command was mid is v rest log prev Absent b h f = absurd f
-
-  either_later : (command : DirectoryCommand) (was mid is : Told) (v : Levels) (rest log prev : ℕ) (fault : DirectoryFault)
-      → Becomes mid is → Holds Honest was mid v rest log prev → IsPerformFault Honest command v fault mid is → IsLookFault Stored Refused Honest command fault was is
-  either_later command was mid is v rest log prev fault b h (inl f) = fault_later command was mid is v rest log prev fault b h f
-  either_later command was mid is v rest log prev fault b h (inr f) =
-      subst (λ (e : DirectoryFault). IsLookFault Stored Refused Honest command e was is) (sym f.0) (v, (rest, log, prev, holds_later Honest was mid is v rest log prev b h), f.1)
+  fault_later command was mid is v rest log prev Absent b h f = (v, (rest, log, prev, holds_later Honest was mid is v rest log prev b h), f)
 
   pub is_fault : {T : Type 0} (r : Result T DirectoryFault) (command : DirectoryCommand) (was mid is : Told) (v : Levels) (rest log prev : ℕ)
       → Becomes mid is → Holds Honest was mid v rest log prev → IfErr r (λ e. IsPerformFault Honest command v e mid is)
       → IfErr r (λ e. IsLookFault Stored Refused Honest command e was is)
   is_fault (Ok x) command was mid is v rest log prev b h f = search
-  is_fault (Err e) command was mid is v rest log prev b h f = either_later command was mid is v rest log prev e b h f
+  is_fault (Err e) command was mid is v rest log prev b h f = fault_later command was mid is v rest log prev e b h f
 
 pub is_done : {T : Type 0} (r : Result T DirectoryFault) (form : Form) (command : DirectoryCommand) (others : List FolderFile) (progress : Bool) (Honest : Type 0) (was mid is : Told) (v : Levels) (rest log prev : ℕ)
     (old new said noted told : Option (List ℕ)) → Becomes mid is → Holds Honest was mid v rest log prev → (Honest → OnOk r (Prints form command v rest log prev others old new))
@@ -142,8 +135,16 @@ is_done (Ok x) form command others progress Honest was mid is v rest log prev ol
 }
 is_done (Err e) form command others progress Honest was mid is v rest log prev old new said noted told b h w q k = search
 
+-- an absent key leaves what is written before a fault by a read of a key: nothing
+absent_leaves : (form : Form) (command : DirectoryCommand) (Honest : Type 0) (v : Levels) (old new : Option (List ℕ)) → SaysAbsent Honest command v
+    → PrintsBefore form command Honest v old new → Keeps old new
+absent_leaves form Check Honest v old new says p = p
+absent_leaves form ListFiles Honest v old new says p = p
+absent_leaves form (Get key output) Honest v old new says p = p
+absent_leaves form (Scan options) Honest v old new says p = absurd says
+
 leaves_later : (form : Form) (command : DirectoryCommand) (Honest : Type 0) (fault : DirectoryFault) (was mid is : Told) (v : Levels) (rest log prev : ℕ) (old new : Option (List ℕ))
-    → Becomes mid is → Holds Honest was mid v rest log prev → IsAnswerFault Honest fault mid is → (fault ≢ Write → PrintsBefore form command Honest v old new)
+    → Becomes mid is → Holds Honest was mid v rest log prev → IsPerformFault Honest command v fault mid is → (fault ≢ Write → PrintsBefore form command Honest v old new)
     → Leaves form command Honest fault was is old new
 leaves_later form command Honest OutOfMemory was mid is v rest log prev old new b h f p = inr (v, (rest, log, prev, holds_later Honest was mid is v rest log prev b h), p (λ e. cc))
 leaves_later form command Honest Write was mid is v rest log prev old new b h f p = tt
@@ -153,29 +154,13 @@ leaves_later form command Honest (Tables fault) was mid is v rest log prev old n
 leaves_later form command Honest (Read fault) was mid is v rest log prev old new b h f p = (v, (rest, log, prev, holds_later Honest was mid is v rest log prev b h), p (λ e. cc))
 leaves_later form command Honest NumbersSpent was mid is v rest log prev old new b h f p = absurd f
 leaves_later form command Honest Locked was mid is v rest log prev old new b h f p = absurd f
-leaves_later form command Honest Absent was mid is v rest log prev old new b h f p = absurd f
-
--- an absent key leaves what is written before a fault by a read of a key: nothing
-absent_leaves : (form : Form) (command : DirectoryCommand) (Honest : Type 0) (v : Levels) (old new : Option (List ℕ)) → SaysAbsent Honest command v
-    → PrintsBefore form command Honest v old new → Keeps old new
-absent_leaves form Check Honest v old new says p = p
-absent_leaves form ListFiles Honest v old new says p = p
-absent_leaves form (Get key output) Honest v old new says p = p
-absent_leaves form (Scan options) Honest v old new says p = absurd says
-
-either_leaves : (form : Form) (command : DirectoryCommand) (Honest : Type 0) (fault : DirectoryFault) (was mid is : Told) (v : Levels) (rest log prev : ℕ) (old new : Option (List ℕ))
-    → Becomes mid is → Holds Honest was mid v rest log prev → IsPerformFault Honest command v fault mid is → (fault ≢ Write → PrintsBefore form command Honest v old new)
-    → Leaves form command Honest fault was is old new
-either_leaves form command Honest fault was mid is v rest log prev old new b h (inl f) p = leaves_later form command Honest fault was mid is v rest log prev old new b h f p
-either_leaves form command Honest fault was mid is v rest log prev old new b h (inr f) p =
-    let other : fault ≢ Write = λ e. (let no : Absent ≡ Write = sym f.0 ∙ e in cc) in
-    subst (λ (e : DirectoryFault). Leaves form command Honest e was is old new) (sym f.0) (absent_leaves form command Honest v old new f.1 (p other))
+leaves_later form command Honest Absent was mid is v rest log prev old new b h f p = absent_leaves form command Honest v old new f (p (λ e. cc))
 
 pub is_left : {T : Type 0} (r : Result T DirectoryFault) (form : Form) (command : DirectoryCommand) (Honest : Type 0) (was mid is : Told) (v : Levels) (rest log prev : ℕ) (old new : Option (List ℕ))
     → Becomes mid is → Holds Honest was mid v rest log prev → IfErr r (λ e. IsPerformFault Honest command v e mid is) → IfErr r (λ e. e ≢ Write → PrintsBefore form command Honest v old new)
     → IfErr r (λ e. Leaves form command Honest e was is old new)
 is_left (Ok x) form command Honest was mid is v rest log prev old new b h f p = search
-is_left (Err e) form command Honest was mid is v rest log prev old new b h f p = either_leaves form command Honest e was mid is v rest log prev old new b h f p
+is_left (Err e) form command Honest was mid is v rest log prev old new b h f p = leaves_later form command Honest e was mid is v rest log prev old new b h f p
 
 pub is_refused : {T : Type 0} (r : Result T DirectoryFault) (form : Form) (command : DirectoryCommand) (Stored : ℕ → List ℕ → Type 0) (Refused : Asked → ShelfFault → Type 0) (Honest : Type 0) (was is : Told) (old new : Option (List ℕ))
     → IfErr r (λ e. IsLookFault Stored Refused Honest command e was is) → IfErr r (λ e. Leaves form command Honest e was is old new) → IfErr r (λ e. IsNotLookedInto form command e Stored Refused Honest was is old new)

@@ -99,12 +99,13 @@ module _ (form : Form) where
   nothing : (options : ScanOptions) (pairs front left : List Pair) (n : ℕ) (a : Option (List ℕ)) → pairs ≡ front ++ left → within options.bounds front ≡ []
       → Passes form options pairs left n n a a
   nothing options pairs front left n a is none =
-      let zero : n ≡ n + 0 = omega arith in (
-        front,
-        is,
-        subst (λ (ps : List Pair). n ≡ n + length ps) (sym none) zero,
-        subst (λ (ps : List Pair). Appends a a (lines_of form options.output ps)) (sym none) (subst (Appends a a) (sym (lines_none options.output)) (Appends-nil a)),
-      )
+      let zero : n ≡ n + 0 = omega arith in
+      record {
+        front = front;
+        is = is;
+        count = subst (λ (ps : List Pair). n ≡ n + length ps) (sym none) zero;
+        lines = subst (λ (ps : List Pair). Appends a a (lines_of form options.output ps)) (sym none) (subst (Appends a a) (sym (lines_none options.output)) (Appends-nil a));
+      }
 
   pub passes_none : (options : ScanOptions) (pairs : List Pair) (n : ℕ) (a : Option (List ℕ)) → Passes form options pairs pairs n n a a
   passes_none options pairs n a = nothing options pairs [] pairs n a refl (within_none options.bounds)
@@ -118,27 +119,32 @@ module _ (form : Form) where
   pub one_within : (options : ScanOptions) (p : Pair) (left : List Pair) (n : ℕ) (a b : Option (List ℕ)) → is_within options.bounds p.0 ≡ true
       → Appends a b (line_of form options.output p) → Passes form options (p ∷ left) left n (n + 1) a b
   one_within options p left n a b inside printed =
-      let one = within_one options.bounds p inside in (
-        p ∷ [],
-        refl,
-        subst (λ (ps : List Pair). n + 1 ≡ n + length ps) (sym one) refl,
-        subst (λ (ps : List Pair). Appends a b (lines_of form options.output ps)) (sym one) (subst (Appends a b) (sym (lines_one options.output p)) printed),
-      )
+      let one = within_one options.bounds p inside in
+      record {
+        front = p ∷ [];
+        is = refl;
+        count = subst (λ (ps : List Pair). n + 1 ≡ n + length ps) (sym one) refl;
+        lines = subst (λ (ps : List Pair). Appends a b (lines_of form options.output ps)) (sym one) (subst (Appends a b) (sym (lines_one options.output p)) printed);
+      }
 
   pub passes_then : (options : ScanOptions) (pairs mid left : List Pair) (n m k : ℕ) (a b c : Option (List ℕ)) → Passes form options pairs mid n m a b
       → Passes form options mid left m k b c → Passes form options pairs left n k a c
   passes_then options pairs mid left n m k a b c f g =
-      let both = within_append options.bounds f.0 g.0 in
-      let first = within options.bounds f.0 in
-      let second = within options.bounds g.0 in
-      let count : length (within options.bounds (f.0 ++ g.0)) ≡ length first + length second = ap (λ (ps : List Pair). length ps) both ∙ length-append first second in (
-        f.0 ++ g.0,
-        f.1 ∙ ap (λ (l : List Pair). f.0 ++ l) g.1 ∙ sym (append_assoc f.0 g.0 left),
-        omega (arith, count, f.2, g.2),
-        subst (λ (ps : List Pair). Appends a c (lines_of form options.output ps)) (sym both)
+      let both = within_append options.bounds f.front g.front in
+      let first = within options.bounds f.front in
+      let second = within options.bounds g.front in
+      let count : length (within options.bounds (f.front ++ g.front)) ≡ length first + length second =
+      ap (λ (ps : List Pair). length ps) both ∙ length-append first second
+      in
+      record {
+        front = f.front ++ g.front;
+        is = f.is ∙ ap (λ (l : List Pair). f.front ++ l) g.is ∙ sym (append_assoc f.front g.front left);
+        count = omega (arith, count, f.count, g.count);
+        lines =
+            subst (λ (ps : List Pair). Appends a c (lines_of form options.output ps)) (sym both)
             (subst (Appends a c) (sym (lines_append options.output first second))
-            (Appends-trans a b c (lines_of form options.output first) (lines_of form options.output second) f.3 g.3)),
-      )
+            (Appends-trans a b c (lines_of form options.output first) (lines_of form options.output second) f.lines g.lines));
+      }
 
   ascend_behind : (front left : List Pair) → UsersAscend (front ++ left) → UsersAscend left
   ascend_behind [] left up = up
@@ -146,7 +152,7 @@ module _ (form : Form) where
 
   pub passes_ascend : (options : ScanOptions) (pairs left : List Pair) (n m : ℕ) (a b : Option (List ℕ)) → Passes form options pairs left n m a b → UsersAscend pairs
       → UsersAscend left
-  passes_ascend options pairs left n m a b f up = ascend_behind f.0 left (subst UsersAscend f.1 up)
+  passes_ascend options pairs left n m a b f up = ascend_behind f.front left (subst UsersAscend f.is up)
 
   -- ---- a step of the scan
 
@@ -185,18 +191,20 @@ module _ (form : Form) where
   pub passes_done : (options : ScanOptions) (pairs left : List Pair) (n : ℕ) (a b : Option (List ℕ)) → Passes form options pairs left 0 n a b → Fits options.limit n
       → (is_full options.limit n ≡ true) ⊎ (within options.bounds left ≡ []) → PrintsLines form options pairs n a b
   passes_done options pairs left n a b f fits end =
-      let count : n ≡ length (within options.bounds f.0) = omega (arith, f.2) in
-      let same : asked_for options pairs ≡ within options.bounds f.0 =
-      within_parts options pairs f.0 left f.1 ∙ taken options.limit (within options.bounds f.0) (within options.bounds left) n count fits end
+      let front = within options.bounds f.front in
+      let count : n ≡ length front = omega (arith, f.count) in
+      let same : asked_for options pairs ≡ front =
+      within_parts options pairs f.front left f.is ∙ taken options.limit front (within options.bounds left) n count fits end
       in
-      (count ∙ ap (λ (ps : List Pair). length ps) (sym same), subst (λ (ps : List Pair). Appends a b (lines_of form options.output ps)) (sym same) f.3)
+      (count ∙ ap (λ (ps : List Pair). length ps) (sym same), subst (λ (ps : List Pair). Appends a b (lines_of form options.output ps)) (sym same) f.lines)
 
   pub passes_begun : (options : ScanOptions) (pairs left : List Pair) (n : ℕ) (a b c : Option (List ℕ)) → Passes form options pairs left 0 n a b → Fits options.limit n → Keeps b c
       → BeginsPrinting form options pairs a c
   passes_begun options pairs left n a b c f fits kept =
-      let count : n ≡ length (within options.bounds f.0) = omega (arith, f.2) in
-      let back = begun options.limit (within options.bounds f.0) (within options.bounds left) n count fits in
-      (within options.bounds f.0, back.0, within_parts options pairs f.0 left f.1 ∙ back.1, Appends-kept a b c (lines_of form options.output (within options.bounds f.0)) f.3 kept)
+      let front = within options.bounds f.front in
+      let count : n ≡ length front = omega (arith, f.count) in
+      let back = begun options.limit front (within options.bounds left) n count fits in
+      (front, back.0, within_parts options pairs f.front left f.is ∙ back.1, Appends-kept a b c (lines_of form options.output front) f.lines kept)
 
   pub lines_and_count : (options : ScanOptions) (pairs : List Pair) (n : ℕ) (a b c : Option (List ℕ)) → PrintsLines form options pairs n a b
       → Appends b c (count_line options.output n) → Appends a c (scan_text form options pairs)

@@ -17,7 +17,6 @@ use Rattle.lsm_reading.specs.Listing.{IsChecked, list_text, shown_answer}
 use Rattle.lsm_directory.specs.Logs.{AreThose, IsUnread, NoneUnread, log_lines, note_line}
 use Rattle.lsm_reading.specs.Scanned.{LeavesScan, PrintsScan}
 use Rattle.lsm_reading.specs.Opening.{IsOpenRefusal}
-use Rattle.lsm_reading.specs.ReadFault.{IsAnswerFault}
 use Rattle.lsm_directory.specs.declared.folder.folder_file.FolderFile.{FolderFile}
 use Rattle.lsm_directory.specs.declared.faults.directory_fault.DirectoryFault.{DirectoryFault}
 use Rattle.lsm_directory.specs.declared.faults.directory_fault.DirectoryFault.TheVariants.{OutOfMemory, Write, Shelf, Manifest, Tables, Read, NumbersSpent, Locked, Absent}
@@ -119,4 +118,12 @@ names_files (Scan options) = true
 
 -- why a command on a directory that is open ends with a fault
 abbrev pub IsPerformFault : Type 0 → DirectoryCommand → Levels → DirectoryFault → Told → Told → Type 0
-IsPerformFault Honest command v e was is = IsAnswerFault Honest e was is ⊎ ((e ≡ Absent) × SaysAbsent Honest command v)
+IsPerformFault Honest command v OutOfMemory was is = ⊤
+IsPerformFault Honest command v Write was is = ⊤
+IsPerformFault Honest command v (Shelf fault) was is = ⊥
+IsPerformFault Honest command v (Manifest fault) was is = ⊥
+IsPerformFault Honest command v (Tables fault) was is = ⊥
+IsPerformFault Honest command v (Read fault) was is = (Honest → IsMemoryOrShelf fault) × ReadCounted fault was is
+IsPerformFault Honest command v NumbersSpent was is = ⊥
+IsPerformFault Honest command v Locked was is = ⊥
+IsPerformFault Honest command v Absent was is = SaysAbsent Honest command v

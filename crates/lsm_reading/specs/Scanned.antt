@@ -2,6 +2,7 @@
 use Rattle.std.specs.Prelude.{◌≡◌, ◌⊎◌, ℕ, ◌+◌, ◌≤◌, Bool, true, false, nat_le, List, [], ◌∷◌, ◌++◌, length, take, decimal, Option, None, Some, ⊤}
 use Rattle.std.specs.List.{flat_map, filter}
 use Rattle.std.specs.Io.KnownBytes.{Appends, Keeps}
+use Rattle.lsm_codec.specs.Keys.{UserKey}
 use Rattle.lsm_levels.specs.Files.{all_entries}
 use Rattle.lsm_levels.specs.Scanning.{IsScan, Pair}
 use Rattle.lsm_version.specs.Versions.{Levels, files}
@@ -35,13 +36,13 @@ module _ (form : Form) where
   pair_line p = spelled form p.0 ++ (61 ∷ (spelled form p.1 ++ (10 ∷ [])))
 
   -- `KEY`
-  unfoldable pub key_line : Pair → List ℕ
-  key_line p = spelled form p.0 ++ (10 ∷ [])
+  unfoldable pub key_line : UserKey → List ℕ
+  key_line key = spelled form key ++ (10 ∷ [])
 
   -- the line of a pair; nothing where they are counted
   abbrev pub line_of : ScanOutput → Pair → List ℕ
   line_of Pairs p = pair_line p
-  line_of Keys p = key_line p
+  line_of Keys p = key_line p.0
   line_of Count p = []
 
   unfoldable pub lines_of : ScanOutput → List Pair → List ℕ
@@ -89,10 +90,11 @@ Fits (Some limit) n = n ≤ limit
 module _ (form : Form) where
   -- The first of these pairs are passed, and those of `left` are not. Of the passed ones that are within the bounds the lines were written,
   -- and with them n have become m.
-  abbrev pub Passes : ScanOptions → (pairs left : List Pair) → (n m : ℕ) → Option (List ℕ) → Option (List ℕ) → Type 0
-  Passes options pairs left n m old new =
-      (front : List Pair) × (pairs ≡ front ++ left) × (m ≡ n + length (within options.bounds front))
-      × Appends old new (lines_of form options.output (within options.bounds front))
+  pub record Passes (options : ScanOptions) (pairs left : List Pair) (n m : ℕ) (old new : Option (List ℕ)) : Type 0 where
+    pub front : List Pair
+    pub is : pairs ≡ front ++ left
+    pub count : m ≡ n + length (within options.bounds front)
+    pub lines : Appends old new (lines_of form options.output (within options.bounds front))
 
   -- that, and where there are no more, none that is left is within the bounds
   abbrev pub PassesNext : ScanOptions → (more : Bool) → (pairs left : List Pair) → (n m : ℕ) → Option (List ℕ) → Option (List ℕ) → Type 0

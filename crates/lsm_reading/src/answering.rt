@@ -24,17 +24,6 @@ fn answer_line(alloc: Global, form: Form, answer: Option<Vec<u8>>) -> Result<Vec
     Ok(text)
 }
 
-/// Nothing, where there is a value.
-fn nothing_for(alloc: Global, answer: Option<Vec<u8>>) -> Option<Vec<u8>>
-    ensures { (form : Form) → option_map (λ v. v.items) result
-        ≡ shown_answer form GetOutput.Nothing (option_map (λ v. v.items) answer) }
-{
-    match answer {
-        Some(_) => Some(Vec::new(alloc)),
-        None => None,
-    }
-}
-
 /// What is written of an answer; none where that is of an absent key, and no line is asked for.
 pub(crate) fn shown_answer(
     alloc: Global,
@@ -48,6 +37,9 @@ pub(crate) fn shown_answer(
     match output {
         GetOutput::Line => Ok(Some(answer_line(alloc, form, answer)?)),
         GetOutput::Raw => Ok(answer),
-        GetOutput::Nothing => Ok(nothing_for(alloc, answer)),
+        GetOutput::Nothing => match answer {
+            Some(_) => Ok(Some(Vec::new(alloc))),
+            None => Ok(None),
+        },
     }
 }

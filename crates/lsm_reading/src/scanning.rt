@@ -33,10 +33,10 @@ fn push_pair(out: &mut Vec<u8>, form: Form, user: &[u8], value: &[u8]) -> Result
     Ok(())
 }
 
-/// Appends the line of a pair without its value: `KEY`.
+/// Appends the line of a key: `KEY`.
 #[tactic(auto, unfolding(crate::specs::Scanned::key_line))]
-fn push_key(out: &mut Vec<u8>, form: Form, user: &[u8], value: &[u8]) -> Result<(), AllocError>
-    ensures { OnOk result (out.new.items ≡ out.old.items ++ key_line form (user.now, value.now)) }
+fn push_key(out: &mut Vec<u8>, form: Form, user: &[u8]) -> Result<(), AllocError>
+    ensures { OnOk result (out.new.items ≡ out.old.items ++ key_line form user.now) }
 {
     form.push_bytes(out, user)?;
     out.push(b'\n')?;
@@ -56,7 +56,7 @@ fn push_line(
 {
     match output {
         ScanOutput::Pairs => push_pair(out, form, user, value),
-        ScanOutput::Keys => push_key(out, form, user, value),
+        ScanOutput::Keys => push_key(out, form, user),
         ScanOutput::Count => Ok(()),
     }
 }
@@ -105,7 +105,6 @@ fn write_count<O: Write>(count: u64, out: &mut O) -> Result<(), OutputFault>
 }
 
 /// Prints the line of a pair that is within the bounds, and counts it.
-#[tactic(auto, using(crate::proofs::ScanLaws::one_outside))]
 fn print_within<O: Write>(
     form: Form,
     options: &ScanOptions,
@@ -178,7 +177,7 @@ fn is_full(limit: Option<u64>, printed: u64) -> bool
 /// Prints the lines of those that are asked for among the pairs that are left of a scan, as it goes
 /// on, and answers how many these are. It goes no further than to the last of them, where the order
 /// of keys or the limit tells that it is the last one.
-#[tactic(auto, using(crate::proofs::ScanLaws::passes_none, crate::proofs::ScanLaws::passes_begun, crate::proofs::FaultLaws::answer_fault_later, lsm_directory::proofs::CallerLemmas::keeps_same, lsm_directory::proofs::CallerLemmas::keeps_then))]
+#[tactic(auto, using(crate::proofs::ScanLaws::passes_none, crate::proofs::ScanLaws::fits_none, crate::proofs::FaultLaws::answer_fault_later, lsm_directory::proofs::CallerLemmas::keeps_same, lsm_directory::proofs::CallerLemmas::keeps_then))]
 fn print_pairs<N: Naming, S: Shelf, B: Blocks<N, S>, O: Write, E: Write>(
     scan: &mut Scan<N, S>,
     blocks: &mut B,
