@@ -220,8 +220,7 @@ Exit status: 0 done, also where `absent` was printed, 1 refused, or absent with
 
 pub(crate) const SCAN: Page = Page {
     name: "scan",
-    usage: "lsm scan <DIR> [--from <KEY>] [--to <KEY>] [--prefix <KEY>] [--limit <N>]
-                [--text] [--keys] [--count] [--progress]",
+    usage: "lsm scan <DIR> [--from <KEY>] [--to <KEY>] [--prefix <KEY>] [--limit <N>] [--text] [--keys] [--count] [--progress]",
     about: "Prints the live keys of a folder and their values",
     text: "Prints the live keys of the LevelDB folder DIR with their values, a line
 `KEY=VALUE` each, ascending by the bytes of the keys, from the key of --from to
