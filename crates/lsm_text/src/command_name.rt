@@ -15,6 +15,8 @@ pub enum CommandName {
     Get,
     Scan,
     Ingest,
+    Put,
+    Delete,
     Compact,
     Clean,
     Help,
@@ -35,6 +37,8 @@ impl CommandName {
             CommandName::Get => "get",
             CommandName::Scan => "scan",
             CommandName::Ingest => "ingest",
+            CommandName::Put => "put",
+            CommandName::Delete => "delete",
             CommandName::Compact => "compact",
             CommandName::Clean => "clean",
             CommandName::Help => "help",
@@ -73,6 +77,12 @@ pub(crate) fn named(word: &str) -> Option<CommandName>
     }
     if word == "ingest" {
         return Some(CommandName::Ingest);
+    }
+    if word == "put" {
+        return Some(CommandName::Put);
+    }
+    if word == "delete" {
+        return Some(CommandName::Delete);
     }
     if word == "compact" {
         return Some(CommandName::Compact);

@@ -19,7 +19,7 @@ pub struct DirectoryLine<'a> {
 }
 
 /// A command that writes a directory, and the path of that.
-#[derive(Clone, Copy, Debug)]
+#[derive(Debug, Drop)]
 pub struct WritingLine<'a> {
     pub path: &'a str,
     pub command: WritingCommand<'a>,
@@ -39,7 +39,7 @@ pub enum Request<'a> {
     Convert(Conversion, Input<'a>),
     /// `check`, `list`, `get` or `scan`.
     Look(DirectoryLine<'a>),
-    /// `ingest` or `clean`.
+    /// `ingest`, `put`, `delete` or `clean`.
     Write(WritingLine<'a>),
     /// `compact`.
     Compact(CompactLine<'a>),
