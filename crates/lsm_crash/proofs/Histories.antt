@@ -18,7 +18,7 @@ use Rattle.lsm_crash.proofs.Runs.{cut_held, goes_settled}
 text_is : (a b : List ℕ) → Some a ≡ Some b → a ≡ b
 text_is a b e = cc
 
-not_both : (t : List ℕ) → None ≡ Some t → ⊥
+pub not_both : (t : List ℕ) → None ≡ Some t → ⊥
 not_both t e = cc
 
 -- bytes come to one version at most
@@ -48,7 +48,7 @@ crashed d e known found w h l f i = elim (held_recovers d known found h l) [
 ]
 
 -- where a start was cut, what was known before, and the new manifest
-stopped : (d : Disk) (known : Known) (number : ℕ) (bytes : List ℕ) (v : Version) → MayStart known number bytes v → IsHeld d known → IsHeld d (starting known number v)
+pub stopped : (d : Disk) (known : Known) (number : ℕ) (bytes : List ℕ) (v : Version) → MayStart known number bytes v → IsHeld d known → IsHeld d (starting known number v)
 stopped d known number bytes v ok h = held_wider d known (starting known number v) record {
   may_miss = λ e. e;
   manifests = λ m at. inr at;

@@ -10,13 +10,14 @@ use Rattle.lsm_state.specs.Held.{Held, IsLawfulState}
 use Rattle.lsm_crash.specs.Disk.{Disk}
 use Rattle.lsm_crash.specs.Crash.{Found, IsLeft}
 use Rattle.lsm_crash.specs.Versions.{ComesTo, Version}
-use Rattle.lsm_crash.specs.Known.{IsSettled, IsVacant, current_name, nothing}
+use Rattle.lsm_crash.specs.Known.{IsHeld, IsSettled, IsVacant, current_name, nothing}
 use Rattle.lsm_crash.specs.Operations.{MayStart, started, starting}
 use Rattle.lsm_crash.specs.Among.{CutAmong, DoneAmong}
 use Rattle.lsm_crash.specs.States.{Describes, Finds, HasTables, IsWorldOf}
 use Rattle.lsm_crash.specs.Database.{HasMade, IsMade, plans_of}
 use Rattle.lsm_crash.proofs.Held.{vacant_held}
-use Rattle.lsm_crash.proofs.Starting.{start_done}
+use Rattle.lsm_crash.proofs.Starting.{start_cut, start_done}
+use Rattle.lsm_crash.proofs.Histories.{stopped}
 use Rattle.lsm_crash.proofs.Runs.{begin_cut}
 use Rattle.lsm_crash.proofs.Forms.{recorded_describes}
 use Rattle.lsm_crash.proofs.Deeds.{are_there}
@@ -53,13 +54,13 @@ module _ (honest : Type 0) (board : TableId) (h : Held) (v : Version) (l : IsLaw
   number_is : h.journal.number ≡ m.number
   number_is = ap (λ (x : Held). x.journal.number) m.is
 
-  no_table : HasTables nothing.tables h.slots.version
+  pub no_table : HasTables nothing.tables h.slots.version
   no_table level t k = absurd (nothing_in h.slots.version.tables (each_none 7 h.slots.version.tables (ap (λ (x : Held). x.slots.version.tables) m.is)) level t k)
 
   new_describes : Describes v h.slots.version
   new_describes = recorded_describes l.journaled.0 h.journal h.slots.version h.next v l.journaled.1 to
 
-  may : MayStart nothing h.journal.number h.journal.bytes v
+  pub may : MayStart nothing h.journal.number h.journal.bytes v
   may = record {
     small = (let a = m.fits in let e = number_is in omega arith);
     other = λ k. k;
@@ -79,6 +80,16 @@ module _ (honest : Type 0) (board : TableId) (h : Held) (v : Version) (l : IsLaw
     own = (let e = number_is in let n : h.next ≡ m.number + 1 = ap (λ (x : Held). x.next) m.is in omega arith);
     fits = (let n : h.next ≡ m.number + 1 = ap (λ (x : Held). x.next) m.is in let a = m.fits in omega arith);
   }
+
+  -- of which no table can be wrong
+  pub no_tables : (level : ℕ) (t : Table) → Has (level_in h.slots.version.tables level) t → ⊥
+  no_tables = nothing_in h.slots.version.tables (each_none 7 h.slots.version.tables (ap (λ (x : Held). x.slots.version.tables) m.is))
+
+  pub made_held : (d e : Disk) → IsVacant d → CutAmong nothing.tables (start_plan h.journal.number h.journal.bytes) d e → IsHeld e (starting nothing h.journal.number v)
+  made_held d e vacant cut = elim (start_cut nothing h.journal.number h.journal.bytes v may d e (vacant_held d vacant) cut) [
+    | inl same ↦ stopped e nothing h.journal.number h.journal.bytes v may same
+    | inr turned ↦ turned.0
+  ]
 
   pub made_finds : (d e : Disk) (found : Found) → IsVacant d → CutAmong nothing.tables (start_plan h.journal.number h.journal.bytes) d e → IsLeft e found → (found current_name ≡ None) ⊎ Finds h.slots.version found
   made_finds d e found vacant cut left = elim (begin_cut h.journal.number h.journal.bytes v d e found vacant may cut left) [

@@ -1,5 +1,6 @@
--- Lives of a database, each of which begins with an opening and ends with a crash, or without one.
-use Rattle.std.specs.Prelude.{◌≡◌, ◌⊎◌, ℕ, ◌≤◌, List, [], ◌∷◌, ◌++◌}
+-- Lives of a database, each of which begins with an opening, the first one with the making of the
+-- database; and ends with a crash, or without one.
+use Rattle.std.specs.Prelude.{◌≡◌, ◌⊎◌, ℕ, ◌≤◌, List, [], ◌∷◌, ◌++◌, Option, Some, None}
 use Rattle.atomic_table.specs.Seated.{TableId}
 use Rattle.lsm_codec.specs.Entries.{Entry, answer}
 use Rattle.lsm_codec.specs.Keys.{UserKey}
@@ -12,11 +13,11 @@ use Rattle.lsm_state.specs.Held.{Held}
 use Rattle.lsm_crash.specs.Disk.{Disk}
 use Rattle.lsm_crash.specs.Crash.{Found, IsFresh, IsLeft}
 use Rattle.lsm_crash.specs.Versions.{ComesTo, Version}
-use Rattle.lsm_crash.specs.Known.{Known, World, known_of}
-use Rattle.lsm_crash.specs.Operations.{Start, either}
+use Rattle.lsm_crash.specs.Known.{Known, World, current_name, known_of, nothing}
+use Rattle.lsm_crash.specs.Operations.{Start, either, started, starting}
 use Rattle.lsm_crash.specs.Among.{CutAmong, DoneAmong}
 use Rattle.lsm_crash.specs.History.{IsRead}
-use Rattle.lsm_crash.specs.Database.{Answered, Builds, Collect, Deed, HasMade, Ingest, Install, IsCut, IsState, Looks, Opens, Refused, Turn, Works, opened_world, plans_of}
+use Rattle.lsm_crash.specs.Database.{Answered, Builds, Collect, Deed, HasMade, Ingest, Install, IsCut, IsMade, IsState, Looks, Opens, Refused, Turn, Works, opened_world, plans_of}
 
 -- ---- what ingests bring in, and what reads give
 
@@ -39,14 +40,33 @@ pub record Answers (v : Levels) (es : List Entry) : Type 0 where
 -- ---- one life
 
 pub data Life : Type 0 where
-  -- it was opened, and left between two calls of the database, without a crash
+  -- it was opened, or made, and left between two calls of the database, without a crash
   Closed : (h now : Held) (turns : List Turn) → Life
-  -- it was opened, and the crash came between two calls of the database
+  -- it was opened, or made, and the crash came between two calls of the database
   Worked : (h now : Held) (turns : List Turn) → Life
   -- the crash came in a call, which would have left the state `new`
   Struck : (h now new : Held) (turns : List Turn) (deed : Deed) → Life
-  -- the crash came while it was opened
+  -- the crash came while it was opened, or made
   Unopened : (h : Held) → Life
+
+-- a crash, after which this world is read of the folder that was found, on its disk
+abbrev pub Crashed : Known → (d : Disk) → (u : World) → (e : Disk) → Type 0
+Crashed known d u e = (found : Found) × IsLeft d found × IsFresh found e × IsRead known found u
+
+-- From a life's beginning, which was answered Ok or was cut by a crash, to the disk that may be
+-- opened next, with what is counted on.
+abbrev pub LivedFrom : Type 0 → TableId → (Begun : Held → World → Disk → Type 0)
+    → (Cut : Held → Known → Disk → Type 0) → Life → (u : World) → (e : Disk) → Type 0
+LivedFrom honest board Begun Cut (Closed h now turns) u e = (x : World) × (m : Disk)
+    × Begun h x m × Works honest board h now turns x u m e
+LivedFrom honest board Begun Cut (Worked h now turns) u e = (x : World) × (y : World) × (m : Disk)
+    × (n : Disk) × Begun h x m × Works honest board h now turns x y m n × Crashed (known_of y) n u e
+LivedFrom honest board Begun Cut (Struck h now new turns deed) u e = (x : World) × (y : World)
+    × (m : Disk) × (n : Disk) × (known : Known) × (o : Disk) × Begun h x m
+    × Works honest board h now turns x y m n × IsCut honest board now new deed y known n o
+    × Crashed known o u e
+LivedFrom honest board Begun Cut (Unopened h) u e = (known : Known) × (m : Disk)
+    × Cut h known m × Crashed known m u e
 
 -- it was opened
 abbrev pub Begins : Type 0 → TableId → ℕ → Held → (w u : World) → (d e : Disk) → Type 0
@@ -55,27 +75,20 @@ Begins honest board limit h w u d e = (v : Version) × (asks : List Asked)
     × ComesTo h.journal.bytes v
     × DoneAmong w.tables (plans_of p.begun.before.number asks) d e × (u ≡ opened_world h v w)
 
--- a crash, after which this world is read of the folder that was found, on its disk
-abbrev pub Crashed : Known → (d : Disk) → (u : World) → (e : Disk) → Type 0
-Crashed known d u e = (found : Found) × IsLeft d found × IsFresh found e × IsRead known found u
-
--- from the disk that is opened to the one that may be opened next, with what is counted on
-abbrev pub Lived : Type 0 → TableId → ℕ → Life → (w : World) → (d : Disk) → (u : World)
-    → (e : Disk) → Type 0
-Lived honest board limit (Closed h now turns) w d u e = (x : World) × (m : Disk)
-    × Begins honest board limit h w x d m × Works honest board h now turns x u m e
-Lived honest board limit (Worked h now turns) w d u e = (x : World) × (y : World) × (m : Disk)
-    × (n : Disk) × Begins honest board limit h w x d m × Works honest board h now turns x y m n
-    × Crashed (known_of y) n u e
-Lived honest board limit (Struck h now new turns deed) w d u e = (x : World) × (y : World)
-    × (m : Disk) × (n : Disk) × (known : Known) × (o : Disk) × Begins honest board limit h w x d m
-    × Works honest board h now turns x y m n × IsCut honest board now new deed y known n o
-    × Crashed known o u e
-Lived honest board limit (Unopened h) w d u e = (v : Version) × (m : Disk) × (asks : List Asked)
+-- the opening was cut; so much is known
+abbrev pub BeginsCut : Type 0 → TableId → ℕ → Held → World → Known → (d e : Disk) → Type 0
+BeginsCut honest board limit h w known d e = (v : Version) × (asks : List Asked)
     × IsState honest board h × (p : Opens honest limit h d) × HasMade asks p.was p.is
     × ComesTo h.journal.bytes v
-    × CutAmong w.tables (plans_of p.begun.before.number asks) d m
-    × Crashed (either w (Start h.journal.number h.journal.bytes v)) m u e
+    × CutAmong w.tables (plans_of p.begun.before.number asks) d e
+    × (known ≡ either w (Start h.journal.number h.journal.bytes v))
+
+-- from the disk that is opened
+abbrev pub Lived : Type 0 → TableId → ℕ → Life → (w : World) → (d : Disk) → (u : World)
+    → (e : Disk) → Type 0
+Lived honest board limit life w d u e = LivedFrom honest board
+    (λ h x m. Begins honest board limit h w x d m)
+    (λ h known m. BeginsCut honest board limit h w known d m) life u e
 
 -- The version that is left, and all that came in until then: what was answered Ok, and perhaps what
 -- was being brought in.
@@ -101,3 +114,39 @@ abbrev pub AllLeave : List Life → (v : Levels) → (es : List Entry) → Level
 AllLeave [] v es u fs = (u ≡ v) × (fs ≡ es)
 AllLeave (life ∷ lives) v es u fs = (x : Levels) × (gs : List Entry) × MayLeave life es x gs
     × AllLeave lives x gs u fs
+
+-- ---- from a folder without a database
+
+-- it was made there
+abbrev pub Makes : Type 0 → TableId → Held → World → (d e : Disk) → Type 0
+Makes honest board h u d e = (v : Version) × (asks : List Asked) × IsState honest board h
+    × (m : IsMade h) × HasMade asks m.was m.now × ComesTo h.journal.bytes v
+    × DoneAmong nothing.tables (plans_of m.number asks) d e
+    × (u ≡ started nothing h.journal.number h.journal.bytes v)
+
+-- that was cut; so much is known
+abbrev pub MakesCut : Type 0 → TableId → Held → Known → (d e : Disk) → Type 0
+MakesCut honest board h known d e = (v : Version) × (asks : List Asked) × IsState honest board h
+    × (m : IsMade h) × HasMade asks m.was m.now × ComesTo h.journal.bytes v
+    × CutAmong nothing.tables (plans_of m.number asks) d e
+    × (known ≡ starting nothing h.journal.number v)
+
+-- the first life, over a folder without `CURRENT`
+abbrev pub FirstLived : Type 0 → TableId → Life → (d : Disk) → (u : World) → (e : Disk) → Type 0
+FirstLived honest board life d u e = LivedFrom honest board
+    (λ h x m. Makes honest board h x d m) (λ h known m. MakesCut honest board h known d m) life u e
+
+-- a crash, after which there is no `CURRENT`
+abbrev pub Emptied : (d e : Disk) → Type 0
+Emptied d e = (found : Found) × IsLeft d found × IsFresh found e × (found current_name ≡ None)
+
+-- From a folder without `CURRENT` on: tries to make a database, each of which a crash cut so that
+-- there is none; then a first life and others, or none yet. What is counted on where there is one.
+abbrev pub FromNothing : Type 0 → (tries : List Held) → List Life → (d : Disk)
+    → (o : Option World) → (e : Disk) → Type 0
+FromNothing honest [] [] d o e = (o ≡ None) × (e ≡ d)
+FromNothing honest [] (life ∷ lives) d o e = (board : TableId) × (x : World) × (m : Disk)
+    × (u : World) × FirstLived honest board life d x m × Ages honest lives x m u e × (o ≡ Some u)
+FromNothing honest (h ∷ tries) lives d o e = (board : TableId) × (known : Known) × (m : Disk)
+    × (n : Disk) × MakesCut honest board h known d m × Emptied m n
+    × FromNothing honest tries lives n o e

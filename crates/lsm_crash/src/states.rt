@@ -2,7 +2,7 @@
 //! or a few that belong together; its body is empty.
 
 ghost use Rattle.std.specs.Prelude.{◌≡◌, ◌⊎◌, ◌↔◌, ◌++◌, ◌<◌, ◌-◌, ◌^◌, ℕ, List, [], None};
-ghost use Rattle.std.specs.Prelude.{◌∷◌};
+ghost use Rattle.std.specs.Prelude.{◌∷◌, Option, Some};
 ghost use Rattle.std.specs.Prelude.{false, length, map};
 ghost use Rattle.atomic_table.specs.Seated.{TableId};
 ghost use Rattle.lsm_codec.specs.Entries.{Entry};
@@ -37,7 +37,8 @@ ghost use Rattle.lsm_crash.specs.Database.{Answered, Follows, HasMade, IsMade, O
 ghost use Rattle.lsm_crash.specs.Database.{Ingest, SmallRun, Works, after_all, opened_world};
 ghost use Rattle.lsm_crash.specs.Database.{plans_of};
 ghost use Rattle.lsm_crash.specs.Database.{Stays, operations};
-ghost use Rattle.lsm_crash.specs.Lives.{Ages, AllLeave, Answers, Life, brought};
+ghost use Rattle.lsm_crash.specs.Lives.{Ages, AllLeave, Answers, FromNothing, Life};
+ghost use Rattle.lsm_crash.specs.Lives.{brought};
 ghost use Rattle.lsm_crash.specs.Versions.{ComesTo, Tables, Version};
 ghost use Rattle.lsm_journal.specs.HeldManifest.{HeldManifest};
 ghost use Rattle.lsm_journal.specs.Recorded.{IsRecorded};
@@ -45,7 +46,7 @@ ghost use Rattle.lsm_journal.specs.Finding.{IsFindRefusal};
 ghost use Rattle.lsm_journal.specs.declared.open_fault.OpenFault.{OpenFault};
 ghost use Rattle.lsm_state.specs.Opening.{IsOpenRefusal};
 ghost use Rattle.lsm_crash.specs.Refusing.{IsNotWhatWasFound, IsWantOrDevice, ReadsShown};
-ghost use Rattle.lsm_version.specs.Versions.{IsSound, Levels, files};
+ghost use Rattle.lsm_version.specs.Versions.{IsSound, Levels, files, no_levels};
 
 use lsm_check::shapes_in_order;
 use lsm_levels::machine::{Premise, runs_read_all_that_came};
@@ -244,6 +245,11 @@ pub fn databases_are_made_or_not<P: Premise>()
 /// of these lives, and of one that a crash cut, whole or not at all. Where the first
 /// version is sound, so is that one (`sound`), and an opening is not refused for it
 /// (`openings_are_not_refused_for_what_is_shown`).
+///
+/// So from a folder without a database on (`new`): after tries to make one, each of which a crash
+/// cut before `CURRENT` was there, then a first life, which begins with the making of the database,
+/// and others, there is no database, where there was no life yet; or the folder shows a version.
+/// Where the shelf is honest that is sound, and a read of it gives all that came in.
 pub fn ingests_survive_crashes<P: Premise>()
     ensures lives { (lives : List Life) (v : Levels)
         (es : List Entry) (w u : World) (d e : Disk)
@@ -256,6 +262,11 @@ pub fn ingests_survive_crashes<P: Premise>()
         → (P.holds → IsSound v) → Ages P.holds lives w d u e
         → (x : Levels) × (fs : List Entry) × AllLeave lives v es x fs × Shown x e
         × (P.holds → Answers x fs) × (P.holds → IsSound x) }
+    ensures new { (tries : List Held) (lives : List Life) (d e : Disk) (o : Option World)
+        → IsVacant d → FromNothing P.holds tries lives d o e
+        → ((o ≡ None) × (lives ≡ []) × IsVacant e) ⊎ ((u : World) × (o ≡ Some u) × IsSettled e u
+        × ((x : Levels) × (fs : List Entry) × AllLeave lives no_levels [] x fs × Shown x e
+        × (P.holds → Answers x fs) × (P.holds → IsSound x))) }
     ensures works { (board : TableId) (turns : List Turn) (old now : Held) (w u : World)
         (d e : Disk) (es : List Entry) → P.holds → IsState P.holds board old
         → Works P.holds board old now turns w u d e → Answers old.slots.version es
