@@ -106,7 +106,6 @@ pub fn cancels_change_no_answer<N: Boarded, S: Shelf>(
 
 /// Workers, one for each shelf, in threads of their own, whatever each of them reserves, merges,
 /// installs or gives up: the state that they leave.
-#[tactic(auto, using(crate::proofs::CallLaws::left_unchanged))]
 pub fn workers_change_no_answer<N: Boarded, S: Shelf, R: Threads + Wait + Sync>(
     rt: &R,
     alloc: Global,
@@ -118,8 +117,7 @@ pub fn workers_change_no_answer<N: Boarded, S: Shelf, R: Threads + Wait + Sync>(
     ensures { IfOk result (IsUnchanged S.honest state) }
 {
     what_was_found_is_kept::<State<N, S>>();
-    let worked = let_work::<N, S, Brand, R>(rt, alloc, state, reading, shelves);
-    worked
+    let_work::<N, S, Brand, R>(rt, alloc, state, reading, shelves)
 }
 
 /// The state that workers leave, of which the fact holds that the lock kept.

@@ -10,7 +10,6 @@ use Rattle.lsm_codec.specs.Entries.{answer}
 use Rattle.lsm_levels.specs.Files.{all_entries}
 use Rattle.lsm_version.specs.Versions.{files}
 use Rattle.lsm_slots.specs.Slots.{Looked, Slotted}
-use Rattle.lsm_state.specs.Collecting.{IsCollectRefusal}
 use Rattle.lsm_state.specs.Held.{Held}
 use Rattle.lsm_state.specs.declared.state_fault.StateFault.{StateFault}
 use Rattle.lsm_store.specs.Compacting.{IsLeftByWorkers}
@@ -32,13 +31,6 @@ is_refused (Err e) status Stored Refused Honest workers was is old new ok err sa
 
 pub looked_same : (s : Slotted) → Looked s s
 looked_same s = record { board = refl; id = refl; slot = refl; version = refl; length = refl; each = λ i. inl refl }
-
--- a refused collect has at most looked at slots
-pub refused_looked : (old new : Held) (e : StateFault) (removed : List ℕ) (was is : Told) → IsCollectRefusal old new e removed was is → Looked old.slots new.slots
-refused_looked old new e removed was is r = elim r [
-  | inl halted ↦ subst (λ (h : Held). Looked old.slots h.slots) (sym halted.2) (looked_same old.slots)
-  | inr stopped ↦ stopped.1.looked
-]
 
 -- what workers left is all of it, and each user key shows what it showed
 pub leaves : (Honest : Type 0) (found left : Held) → IsLeftByWorkers Honest found left → LeavesAll Honest found left

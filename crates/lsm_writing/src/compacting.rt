@@ -159,6 +159,7 @@ fn reply<O: Write>(out: &mut O, installed: u128) -> io::Result<()>
 
 /// Opens the directory of a shelf, lets so many workers compact it, removes what nothing names any
 /// more, and writes the reply.
+#[tactic(auto, using(lsm_directory::proofs::CallerLemmas::keeps_same, crate::proofs::Quiet::quiet_then))]
 fn compact_named<N: Boarded, S: Shelf, R: Threads + Wait + Sync, O: Write, E: Write + Send>(
     rt: &R,
     alloc: Global,
@@ -185,10 +186,10 @@ fn compact_named<N: Boarded, S: Shelf, R: Threads + Wait + Sync, O: Write, E: Wr
     let state = open(rt, alloc, shelf, parts)?;
     tell_opened(&state, options.progress, err);
     what_was_found_is_kept::<State<N, S>>();
-    let (mut state, ends) = compact_state::<N, S, Brand, R, E>(
+    let (mut left, ends) = compact_state::<N, S, Brand, R, E>(
         rt, alloc, state, shelf, options, err,
     )?;
-    sweep_all(rt, alloc, &mut state, shelf, options.progress, err)?;
+    sweep_all(rt, alloc, &mut left, shelf, options.progress, err)?;
     match reply(out, installed_by(&ends)) {
         Ok(()) => Ok(()),
         Err(_) => Err(CompactFault::Writer(WriterFault::Write)),
