@@ -1,0 +1,2 @@
+mod AheadLaws
+mod LineLaws

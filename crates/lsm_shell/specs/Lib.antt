@@ -1,0 +1,3 @@
+-- What clauses cite
+pub mod Reading
+pub mod Pieces
