@@ -35,10 +35,13 @@ ingested_text r = two_numbers (codes "file ") r.file (codes " first ") r.first +
 unfoldable pub reserved_text : List ℕ → List ℕ → Reserved → List ℕ
 reserved_text what inputs r = two_numbers what r.ticket (codes " level ") r.level ++ (inputs ++ numbers_text r.inputs)
 
--- `LEVEL NUMBER SIZE SMALLEST LARGEST`, the last two as `KEY@SEQ+` or `KEY@SEQ-`
+-- `NUMBER SIZE SMALLEST LARGEST`, the last two as `KEY@SEQ+` or `KEY@SEQ-`
+unfoldable pub file_words_in : Form → FileMeta → List ℕ
+file_words_in form f = decimal f.number ++ (32 ∷ (decimal f.size ++ (32 ∷ (key_word_in form f.smallest ++ (32 ∷ key_word_in form f.largest)))))
+
+-- the same behind the level
 unfoldable pub listed_line : Form → ℕ × FileMeta → List ℕ
-listed_line form f =
-    decimal f.0 ++ (number_text f.1.number ++ (number_text f.1.size ++ (32 ∷ (key_word_in form f.1.smallest ++ (32 ∷ (key_word_in form f.1.largest ++ (10 ∷ [])))))))
+listed_line form f = decimal f.0 ++ (32 ∷ (file_words_in form f.1 ++ (10 ∷ [])))
 
 -- a line a file
 abbrev pub listed_lines : Form → List (ℕ × FileMeta) → List ℕ

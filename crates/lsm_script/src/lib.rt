@@ -49,5 +49,6 @@ pub use refusals::{cause_of_merge, of_merge, of_state};
 pub use reply::{Reply, Reserved};
 pub use reply_text::{push_replies, push_reply};
 pub use script::run;
-pub use session::Session;
 pub use script_text::{ScriptFault, script_in};
+pub use session::Session;
+pub use words::words_in;

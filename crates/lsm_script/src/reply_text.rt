@@ -1,8 +1,8 @@
 //! Replies as text.
 
 ghost use Rattle.std.specs.Prelude.{◌≡◌, ◌++◌, OnOk, decimal};
-ghost use Rattle.lsm_script.specs.ReplyText.{ingested_text, line_of, listed_line};
-ghost use Rattle.lsm_script.specs.ReplyText.{listed_lines, numbers_text, replies_text};
+ghost use Rattle.lsm_script.specs.ReplyText.{file_words_in, ingested_text, line_of};
+ghost use Rattle.lsm_script.specs.ReplyText.{listed_line, listed_lines, numbers_text, replies_text};
 ghost use Rattle.lsm_script.specs.ReplyText.{reply_text, reserved_text, two_numbers};
 
 use crate::refusal_text::push_refused;
@@ -76,28 +76,35 @@ fn push_reserved(
     push_numbers(out, reserved.inputs.as_slice())
 }
 
+/// Appends the words of a file, its keys in this form: its number, its size, its smallest and its
+/// largest key.
+#[tactic(auto, unfolding(crate::specs::ReplyText::file_words_in))]
+fn push_file_words(out: &mut Vec<u8>, form: Form, file: &FileMeta) -> Result<(), AllocError>
+    ensures { OnOk result (out.new.items ≡ out.old.items ++ file_words_in form file.now) }
+{
+    push_decimal(out, file.number)?;
+    out.push(b' ')?;
+    push_decimal(out, file.size)?;
+    out.push(b' ')?;
+    form.push_key(out, file.smallest.as_slice())?;
+    out.push(b' ')?;
+    form.push_key(out, file.largest.as_slice())
+}
+
 /// Appends the line of a file.
 #[tactic(auto, unfolding(crate::specs::ReplyText::listed_line))]
 fn push_file(out: &mut Vec<u8>, form: Form, file: &(u8, FileMeta)) -> Result<(), AllocError>
     ensures { OnOk result (out.new.items ≡ out.old.items ++ listed_line form file.now) }
 {
     push_decimal(out, u64::from(file.0))?;
-    push_number(out, b" ", file.1.number)?;
-    push_number(out, b" ", file.1.size)?;
     out.push(b' ')?;
-    form.push_key(out, file.1.smallest.as_slice())?;
-    out.push(b' ')?;
-    form.push_key(out, file.1.largest.as_slice())?;
+    push_file_words(out, form, &file.1)?;
     out.push(b'\n')?;
     Ok(())
 }
 
 /// Appends the lines of files.
-fn push_files(
-    out: &mut Vec<u8>,
-    form: Form,
-    files: &[(u8, FileMeta)],
-) -> Result<(), AllocError>
+fn push_files(out: &mut Vec<u8>, form: Form, files: &[(u8, FileMeta)]) -> Result<(), AllocError>
     ensures { OnOk result (out.new.items ≡ out.old.items ++ listed_lines form files.now) }
 {
     for file in files {

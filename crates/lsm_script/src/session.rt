@@ -97,35 +97,38 @@ impl<N: Boarded, S: Shelf> Session<N, S> {
             jobs,
             results,
         } = self;
-        let mut state = state;
         let mut jobs = jobs;
         let mut results = results;
-        let reply = match command {
-            Command::Merge(ticket) => {
-                let (after, reply) = merge(
-                    rt,
-                    alloc,
-                    state,
-                    shelf,
-                    &registry,
-                    &mut jobs,
-                    &mut results,
-                    *ticket,
-                );
-                state = after;
-                reply
-            }
-            _ => answer_call(
+        if let Command::Merge(ticket) = command {
+            let (state, reply) = merge(
                 rt,
                 alloc,
-                &mut state,
+                state,
                 shelf,
                 &registry,
                 &mut jobs,
                 &mut results,
-                command,
-            ),
-        };
+                *ticket,
+            );
+            let session = Session {
+                state,
+                registry,
+                jobs,
+                results,
+            };
+            return (session, reply);
+        }
+        let mut state = state;
+        let reply = answer_call(
+            rt,
+            alloc,
+            &mut state,
+            shelf,
+            &registry,
+            &mut jobs,
+            &mut results,
+            command,
+        );
         let session = Session {
             state,
             registry,
