@@ -25,8 +25,8 @@ use Rattle.lsm_state.specs.declared.state_fault.StateFault.{StateFault}
 use Rattle.lsm_state.specs.declared.state_fault.StateFault.TheVariants as fault
 use Rattle.lsm_script.specs.History.{History, IsAnswer, IsAnswered, IsAt, IsOf, IsUnknownAt, history_of}
 use Rattle.lsm_script.specs.Replies.{IsCancelReply, IsCollectReply, IsGetReply, IsIngestReply, IsInstallReply, IsJobReply, IsKeepReply, IsListReply, IsMergeReply, IsPinReply, IsRangeReply, IsReleaseReply, IsReserveReply, IsSnapshotReply, IsUnpinReply, read_reply}
-use Rattle.lsm_script.specs.Scripts.{AreReplies, ends_list}
-use Rattle.lsm_script.specs.Steps.{IsStep, Stage, stage_of}
+use Rattle.lsm_script.specs.Scripts.{AreReplies, AreSteps, ends_list}
+use Rattle.lsm_script.specs.Steps.{IsLaterStep, IsStep, Stage, stage_of}
 use Rattle.lsm_script.specs.declared.command.Command.{Command}
 use Rattle.lsm_script.specs.declared.command.Command.TheVariants as asks
 use Rattle.lsm_script.specs.declared.command_fault.CommandFault.{CommandFault}
@@ -312,6 +312,28 @@ replies_go H start s (c ∷ cs) (r ∷ rs) a b g f e = (let one = step_goes H st
         → (u : History) × MatchBool x ((rs ≡ []) × (u ≡ t)) (AreReplies (IsAnswered H) cs rs t u) × Follows H start u b.state
     rest t f' go true k = (t, (k.0, refl), subst (λ (x : Stage). Follows H start t x.state) (sym k.1) f')
     rest t f' go false k = go t f' k
+
+-- the same, whatever the replies are and whatever the shelf is told between steps
+pub steps_go : (H : Type 0) (start : Held) (s : History) (cs : List Command) (rs : List Reply) (a b : Stage) → Ground H start → Follows H start s a.state → AreSteps (IsLaterStep H) cs rs a b
+    → (t : History) × AreSteps (IsAnswered H) cs rs s t × Follows H start t b.state
+steps_go H start s [] [] a b g f e = (s, refl, subst (λ (x : Stage). Follows H start s x.state) (sym e) f)
+steps_go H start s [] (r ∷ rs) a b g f e = absurd e
+steps_go H start s (c ∷ cs) [] a b g f e = absurd e
+steps_go H start s (c ∷ cs) (r ∷ rs) a b g f e =
+    let one = step_goes H start s c r (record a { told = e.1.0 }) e.0 g f e.1.1 in
+    let more = steps_go H start one.0 cs rs e.0 b g one.2 e.2 in
+    (more.0, (one.0, one.1, more.1), more.2)
+
+-- the history of any steps on a state that keeps its law
+pub steps_history : (H : Type 0) (start : Held) (cs : List Command) (rs : List Reply) (told : Told) (b : Stage)
+    → Law H (plain start)
+    → ((s t : Plain) (events : List Event) → H → Law H s → Run H s events t → ReadsAs t (ingested events (all_entries s.files)))
+    → AreSteps (IsLaterStep H) cs rs (stage_of start told) b
+    → (t : History) × AreSteps (IsAnswered H) cs rs (history_of start) t × IsOf H t b.state
+steps_history H start cs rs told b law reads k =
+    let ground : Ground H start = record { law = law; reads = λ t events y run. reads (plain start) t events y law run } in
+    let r = steps_go H start (history_of start) cs rs (stage_of start told) b ground (follows_start H start) k in
+    (r.0, r.1, follows_is H start r.0 b.state ground r.2)
 
 -- the history of a script on a state that keeps its law
 pub script_history : (H : Type 0) (start : Held) (cs : List Command) (rs : List Reply) (told : Told) (b : Stage)

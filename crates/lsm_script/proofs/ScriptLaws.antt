@@ -5,6 +5,7 @@ use Rattle.lsm_script.specs.declared.command.Command.{Command}
 use Rattle.lsm_text.specs.EntryList.{lines_of}
 use Rattle.lsm_text.proofs.CallerLemmas.{lines_of-nil}
 use Rattle.lsm_text.proofs.CallerLemmas.{goes_on, next_is}
+use Rattle.lsm_text.specs.declared.form.Form.TheVariants.{Hex}
 use Rattle.lsm_script.specs.CommandLine.{AreCommandLines, IsScript, IsFirstBadLine, IsCommandLine}
 
 -- So many lines of the text were read, as these commands, and this is left of it.
@@ -13,7 +14,7 @@ pub record HasRead (text : List ℕ) (n : ℕ) (ws : List Command) (rest : List 
   pub back : drop n (lines_of text) ≡ lines_of rest
   pub few : n + length rest ≤ length text
 
-lines_snoc : (ls : List (List ℕ)) (ws : List Command) (l : List ℕ) (w : Command) → AreCommandLines ls ws → IsCommandLine l w → AreCommandLines (ls ++ l ∷ []) (ws ++ w ∷ [])
+lines_snoc : (ls : List (List ℕ)) (ws : List Command) (l : List ℕ) (w : Command) → AreCommandLines ls ws → IsCommandLine Hex l w → AreCommandLines (ls ++ l ∷ []) (ws ++ w ∷ [])
 lines_snoc [] [] l w h k = (k, tt)
 lines_snoc [] (x ∷ ws) l w h k = absurd h
 lines_snoc (x ∷ ls) [] l w h k = absurd h
@@ -23,7 +24,7 @@ pub read_start : (text : List ℕ) → HasRead text 0 [] text
 read_start text = record { front = tt; back = refl; few = omega arith }
 
 pub read_more : (text : List ℕ) (n : ℕ) (ws : List Command) (rest line after : List ℕ) (w : Command) → HasRead text n ws rest
-    → lines_of rest ≡ line ∷ lines_of after → length after < length rest → IsCommandLine line w → HasRead text (n + 1) (ws ++ w ∷ []) after
+    → lines_of rest ≡ line ∷ lines_of after → length after < length rest → IsCommandLine Hex line w → HasRead text (n + 1) (ws ++ w ∷ []) after
 read_more text n ws rest line after w r parts shorter spells =
     let ls = lines_of text in
     let left : drop n ls ≡ line ∷ lines_of after = r.back ∙ parts in
@@ -45,7 +46,7 @@ read_all text n ws [] r end =
 read_all text n ws (c ∷ cs) r end = absurd (omega (arith, end))
 
 pub read_bad : (text : List ℕ) (n i : ℕ) (ws : List Command) (rest line after : List ℕ) → HasRead text n ws rest → i ≡ n + 1
-    → lines_of rest ≡ line ∷ lines_of after → ((w : Command) → IsCommandLine line w → ⊥) → IsFirstBadLine text i
+    → lines_of rest ≡ line ∷ lines_of after → ((w : Command) → IsCommandLine Hex line w → ⊥) → IsFirstBadLine text i
 read_bad text n i ws rest line after r at parts none =
     let ls = lines_of text in
     let left : drop n ls ≡ line ∷ lines_of after = r.back ∙ parts in
@@ -56,5 +57,5 @@ read_bad text n i ws rest line after r at parts none =
       from_one = omega (arith, at);
       within = omega (arith, at, within);
       good = (ws, subst (λ k. AreCommandLines (take k ls) ws) (sym place) r.front);
-      bad = λ w h. none w (subst (λ (x : List ℕ). IsCommandLine x w) (ap (λ k. get_or ls k []) place ∙ next.0) h);
+      bad = λ w h. none w (subst (λ (x : List ℕ). IsCommandLine Hex x w) (ap (λ k. get_or ls k []) place ∙ next.0) h);
     }

@@ -1,20 +1,16 @@
 -- A script goes on, one command after another.
 use Rattle.std.proofs.Common.{◌≡◌, ℕ, suc, ◌+◌, ◌<◌, ◌≤◌, true, false, length, get_or, take, drop, List, [], ◌∷◌, ◌++◌, refl, sym, ◌∙◌, ap, subst}
 use Rattle.std.proofs.lemmas.List.{take_all, take_more}
-use Rattle.lsm_shelf.specs.Told.{Told}
-use Rattle.lsm_merge.specs.Work.{Done, Work}
-use Rattle.lsm_state.specs.Held.{Held}
 use Rattle.lsm_script.specs.Scripts.{AreReplies, ends_list}
-use Rattle.lsm_script.specs.Steps.{IsStep, Stage, stage_of}
+use Rattle.lsm_script.specs.Steps.{IsStep, Stage}
 use Rattle.lsm_script.specs.declared.command.Command.{Command}
 use Rattle.lsm_script.specs.declared.reply.Reply.{Reply}
 use Rattle.lsm_script.proofs.Chains.{GoesOn, all_there, last_one, one_more}
 use Rattle.lsm_script.proofs.Elements.{parted_at}
 
 -- nothing was asked yet
-pub turn_none : (H : Type 0) (rs : List Reply) (h : Held) (t : Told) (js : List Work) (ds : List Done) → rs ≡ [] → js ≡ [] → ds ≡ [] → GoesOn (IsStep H) [] rs (stage_of h t) record { state = h; told = t; jobs = js; results = ds }
-turn_none H rs h t js ds e f k = subst (λ (l : List Reply). GoesOn (IsStep H) [] l (stage_of h t) record { state = h; told = t; jobs = js; results = ds }) (sym e)
-    (subst (λ (l : List Work). record { state = h; told = t; jobs = l; results = ds } ≡ stage_of h t) (sym f) (subst (λ (l : List Done). record { state = h; told = t; jobs = []; results = l } ≡ stage_of h t) (sym k) refl))
+pub turn_none : (H : Type 0) (rs : List Reply) (s : Stage) → rs ≡ [] → GoesOn (IsStep H) [] rs s s
+turn_none H rs s e = subst (λ (l : List Reply). GoesOn (IsStep H) [] l s s) (sym e) refl
 
 pub turn_more : (H : Type 0) (cs : List Command) (i : ℕ) (c : Command) (rs rs' : List Reply) (r : Reply) (s t u : Stage) → i < length cs → c ≡ get_or cs i c → rs' ≡ rs ++ r ∷ []
     → GoesOn (IsStep H) (take i cs) rs s t → IsStep H c r t u → ends_list r ≡ false → GoesOn (IsStep H) (take (i + 1) cs) rs' s u

@@ -15,9 +15,22 @@ pub record Stage : Type 0 where
   pub jobs : List Work
   pub results : List Done
 
--- a script that has done nothing has no job and no result
+-- a state, and the jobs and results of those who drive it by commands
+pub record Driven : Type 0 where
+  pub state : Held
+  pub jobs : List Work
+  pub results : List Done
+
+-- who has done nothing has no job and no result
+abbrev pub begun_with : Held → Driven
+begun_with h = record { state = h; jobs = []; results = [] }
+
+-- with what the shelf was told
+abbrev pub stage : Driven → Told → Stage
+stage d t = record { state = d.state; told = t; jobs = d.jobs; results = d.results }
+
 abbrev pub stage_of : Held → Told → Stage
-stage_of h t = record { state = h; told = t; jobs = []; results = [] }
+stage_of h t = stage (begun_with h) t
 
 -- the script's jobs and results are as before
 abbrev pub KeepsAll : Stage → Stage → Type 0
@@ -37,3 +50,7 @@ IsStep honest Pin r s t = KeepsAll s t × (t.told ≡ s.told) × IsPinReply r s.
 IsStep honest (Unpin id) r s t = KeepsAll s t × (t.told ≡ s.told) × IsUnpinReply id r s.state t.state
 IsStep honest Collect r s t = KeepsAll s t × IsCollectReply r s.state t.state s.told t.told
 IsStep honest Listing r s t = KeepsAll s t × (t.told ≡ s.told) × (t.state ≡ s.state) × IsListReply r s.state
+
+-- such a step, before which the shelf may have been told more, by others who only read
+abbrev pub IsLaterStep : Type 0 → Command → Reply → Stage → Stage → Type 0
+IsLaterStep honest c r s t = (told : Told) × IsStep honest c r (record s { told = told }) t

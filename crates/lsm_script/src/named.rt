@@ -3,6 +3,7 @@
 ghost use Rattle.std.specs.Prelude.{◌≡◌, ◌∷◌, ◌↔◌, [], ℕ, IfNone, IfSome, IsTrue, map};
 ghost use Rattle.lsm_script.specs.declared.command.Command.{Command};
 ghost use Rattle.lsm_script.specs.CommandLine.{HasNumber, IsBare, IsCommand, IsNumbered};
+ghost use Rattle.lsm_text.specs.declared.form.Form.{Form};
 
 use crate::command::Command;
 use lsm_text::number_in;
@@ -31,9 +32,9 @@ fn number_of(words: &[&[u8]], name: &[u8], most: u64) -> Option<u64>
 
 /// The command of one word that the words ask for.
 pub(crate) fn bare_in(words: &[&[u8]]) -> Option<Command>
-    ensures some { IfSome result (IsCommand (map (λ w. w.now) words.now)) }
-    ensures none { IfNone result ((c : Command) → IsBare c
-        → IsCommand (map (λ w. w.now) words.now) c → ⊥) }
+    ensures some { (form : Form) → IfSome result (IsCommand form (map (λ w. w.now) words.now)) }
+    ensures none { IfNone result ((form : Form) (c : Command) → IsBare c
+        → IsCommand form (map (λ w. w.now) words.now) c → ⊥) }
 {
     if is_alone(words, b"snapshot") {
         return Some(Command::Snapshot);
@@ -55,9 +56,9 @@ pub(crate) fn bare_in(words: &[&[u8]]) -> Option<Command>
 
 /// The command of a name and a number that the words ask for.
 pub(crate) fn numbered_in(words: &[&[u8]]) -> Option<Command>
-    ensures some { IfSome result (IsCommand (map (λ w. w.now) words.now)) }
-    ensures none { IfNone result ((c : Command) → HasNumber c
-        → IsCommand (map (λ w. w.now) words.now) c → ⊥) }
+    ensures some { (form : Form) → IfSome result (IsCommand form (map (λ w. w.now) words.now)) }
+    ensures none { IfNone result ((form : Form) (c : Command) → HasNumber c
+        → IsCommand form (map (λ w. w.now) words.now) c → ⊥) }
 {
     if let Some(id) = number_of(words, b"release", u64::MAX) {
         return Some(Command::Release(id));

@@ -1,15 +1,15 @@
 //! Replies as text.
 
 ghost use Rattle.std.specs.Prelude.{◌≡◌, ◌++◌, OnOk, decimal};
-ghost use Rattle.lsm_script.specs.ReplyText.{ingested_text, line_of, listed_line};
-ghost use Rattle.lsm_script.specs.ReplyText.{listed_lines, numbers_text, replies_text};
+ghost use Rattle.lsm_script.specs.ReplyText.{file_words_in, ingested_text, line_of};
+ghost use Rattle.lsm_script.specs.ReplyText.{listed_line, listed_lines, numbers_text, replies_text};
 ghost use Rattle.lsm_script.specs.ReplyText.{reply_text, reserved_text, two_numbers};
 
 use crate::refusal_text::push_refused;
 use crate::reply::{Reply, Reserved};
 use lsm_manifest::FileMeta;
 use lsm_state::Ingested;
-use lsm_text::{push_bytes, push_decimal, push_file_words};
+use lsm_text::{Form, push_decimal};
 use std::alloc::AllocError;
 
 /// Appends a word and a number.
@@ -76,37 +76,52 @@ fn push_reserved(
     push_numbers(out, reserved.inputs.as_slice())
 }
 
+/// Appends the words of a file, its keys in this form: its number, its size, its smallest and its
+/// largest key.
+#[tactic(auto, unfolding(crate::specs::ReplyText::file_words_in))]
+fn push_file_words(out: &mut Vec<u8>, form: Form, file: &FileMeta) -> Result<(), AllocError>
+    ensures { OnOk result (out.new.items ≡ out.old.items ++ file_words_in form file.now) }
+{
+    push_decimal(out, file.number)?;
+    out.push(b' ')?;
+    push_decimal(out, file.size)?;
+    out.push(b' ')?;
+    form.push_key(out, file.smallest.as_slice())?;
+    out.push(b' ')?;
+    form.push_key(out, file.largest.as_slice())
+}
+
 /// Appends the line of a file.
 #[tactic(auto, unfolding(crate::specs::ReplyText::listed_line))]
-fn push_file(out: &mut Vec<u8>, file: &(u8, FileMeta)) -> Result<(), AllocError>
-    ensures { OnOk result (out.new.items ≡ out.old.items ++ listed_line file.now) }
+fn push_file(out: &mut Vec<u8>, form: Form, file: &(u8, FileMeta)) -> Result<(), AllocError>
+    ensures { OnOk result (out.new.items ≡ out.old.items ++ listed_line form file.now) }
 {
     push_decimal(out, u64::from(file.0))?;
     out.push(b' ')?;
-    push_file_words(out, &file.1)?;
+    push_file_words(out, form, &file.1)?;
     out.push(b'\n')?;
     Ok(())
 }
 
 /// Appends the lines of files.
-fn push_files(out: &mut Vec<u8>, files: &[(u8, FileMeta)]) -> Result<(), AllocError>
-    ensures { OnOk result (out.new.items ≡ out.old.items ++ listed_lines files.now) }
+fn push_files(out: &mut Vec<u8>, form: Form, files: &[(u8, FileMeta)]) -> Result<(), AllocError>
+    ensures { OnOk result (out.new.items ≡ out.old.items ++ listed_lines form files.now) }
 {
     for file in files {
-        push_file(out, file)?;
+        push_file(out, form, file)?;
     }
     Ok(())
 }
 
 /// Appends a reply, without its newline.
-fn push_line(out: &mut Vec<u8>, reply: &Reply) -> Result<(), AllocError>
-    ensures { OnOk result (out.new.items ≡ out.old.items ++ line_of reply.now) }
+fn push_line(out: &mut Vec<u8>, form: Form, reply: &Reply) -> Result<(), AllocError>
+    ensures { OnOk result (out.new.items ≡ out.old.items ++ line_of form reply.now) }
 {
     match reply {
         Reply::Ingested(ingested) => push_ingested(out, ingested),
         Reply::Value(value) => {
             out.extend_from_slice(b"value ")?;
-            push_bytes(out, value.as_slice())
+            form.push_bytes(out, value.as_slice())
         }
         Reply::Absent => out.extend_from_slice(b"absent"),
         Reply::Snapshot(id, seq) => push_two(out, b"snapshot ", *id, b" seq ", *seq),
@@ -129,29 +144,30 @@ fn push_line(out: &mut Vec<u8>, reply: &Reply) -> Result<(), AllocError>
             push_numbers(out, numbers.as_slice())
         }
         Reply::Files(files) => {
-            push_files(out, files.as_slice())?;
+            push_files(out, form, files.as_slice())?;
             out.extend_from_slice(b"end")
         }
         Reply::Refused(refusal) => push_refused(out, refusal),
     }
 }
 
-/// Appends a reply.
+/// Appends a reply, keys and values in this form: a line, and for a list of files a line each and
+/// `end`.
 #[tactic(auto, unfolding(crate::specs::ReplyText::reply_text))]
-fn push_reply(out: &mut Vec<u8>, reply: &Reply) -> Result<(), AllocError>
-    ensures { OnOk result (out.new.items ≡ out.old.items ++ reply_text reply.now) }
+pub fn push_reply(out: &mut Vec<u8>, form: Form, reply: &Reply) -> Result<(), AllocError>
+    ensures { OnOk result (out.new.items ≡ out.old.items ++ reply_text form reply.now) }
 {
-    push_line(out, reply)?;
+    push_line(out, form, reply)?;
     out.push(b'\n')?;
     Ok(())
 }
 
-/// Appends replies, one after another: a line each, and for a list of files a line each and `end`.
+/// Appends the replies of a script, one after another, keys and values in hex.
 pub fn push_replies(out: &mut Vec<u8>, replies: &[Reply]) -> Result<(), AllocError>
     ensures { OnOk result (out.new.items ≡ out.old.items ++ replies_text replies.now) }
 {
     for reply in replies {
-        push_reply(out, reply)?;
+        push_reply(out, Form::Hex, reply)?;
     }
     Ok(())
 }

@@ -6,7 +6,7 @@ ghost use Rattle.lsm_script.specs.declared.script_text.ScriptFault.TheVariants.{
 
 use crate::command::Command;
 use crate::command_line::command_in;
-use lsm_text::first_line;
+use lsm_text::{Form, first_line};
 use std::alloc::{AllocError, AllocFailed, Global};
 
 /// Why a text is no script.
@@ -46,7 +46,7 @@ pub fn script_in(alloc: Global, text: &[u8]) -> Result<Vec<Command>, ScriptFault
     let mut count = 0;
     'lines: while !rest.is_empty() {
         let (line, after) = first_line(rest);
-        let Some(command) = command_in(alloc, line)? else {
+        let Some(command) = command_in(alloc, Form::Hex, line)? else {
             return Err(ScriptFault::BadLine(count + 1));
         };
         commands.push(command)?;

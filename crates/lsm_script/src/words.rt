@@ -6,7 +6,7 @@ ghost use Rattle.lsm_script.specs.Words.{words_of};
 use std::alloc::{AllocError, Global};
 
 /// The words of a line: one space parts two.
-pub(crate) fn words_in<'a>(alloc: Global, line: &'a [u8]) -> Result<Vec<&'a [u8]>, AllocError>
+pub fn words_in<'a>(alloc: Global, line: &'a [u8]) -> Result<Vec<&'a [u8]>, AllocError>
     ensures { IfOk result (λ words. map (λ w. w.now) words.items ≡ words_of line.now) }
 {
     let mut words = Vec::new(alloc);

@@ -1,5 +1,5 @@
 use Rattle.std.proofs.Common.{◌≡◌, ◌∷◌, ◌∙◌, [], ℕ, List, ap, codes, get_or, rules}
-use Rattle.lsm_text.specs.EntryList.{IsBytesWord}
+use Rattle.lsm_text.specs.Spelling.{IsWord}
 use Rattle.lsm_script.specs.CommandLine.{most}
 use Rattle.lsm_text.specs.Numbers.{IsNumberWord}
 use Rattle.lsm_script.proofs.WordLaws.{blank, three_texts}
@@ -9,7 +9,7 @@ pub returns-in-Some-2-clause-some : goal.returns-in-Some-2-clause-some
 returns-in-Some-2-clause-some c =
     let words = c.args.words.now in
     let name : (get_or words 0 blank).now ≡ codes "get" = search rules in
-    let key : IsBytesWord (get_or words 1 blank).now c.in-Some-2.key = rw c.in-Some-2.is at c.in_ok-key-in-len3.ensures.only in
+    let key : IsWord c.args.form (get_or words 1 blank).now c.in-Some-2.key = rw c.in-Some-2.is at c.in_ok-key-in-len3.ensures.only in
     let id : IsNumberWord most (get_or words 2 blank).now c.in-Some.id = c.in-Some.ensures.some in (
       (get_or words 1 blank).now,
       (get_or words 2 blank).now,

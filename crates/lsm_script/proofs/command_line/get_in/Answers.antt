@@ -1,5 +1,5 @@
 use Rattle.std.proofs.Common.{◌≡◌, ◌∷◌, ◌∙◌, [], ℕ, List, ap, codes, get_or, rules}
-use Rattle.lsm_text.specs.EntryList.{IsBytesWord}
+use Rattle.lsm_text.specs.Spelling.{IsWord}
 use Rattle.lsm_script.proofs.WordLaws.{blank, two_texts}
 use Rattle.lsm_script.proofs.command_line.get_in.Goals as goal
 
@@ -7,5 +7,5 @@ pub returns-in-Some-clause-some : goal.returns-in-Some-clause-some
 returns-in-Some-clause-some c =
     let words = c.args.words.now in
     let name : (get_or words 0 blank).now ≡ codes "get" = search rules in
-    let key : IsBytesWord (get_or words 1 blank).now c.in-Some.key = rw c.in-Some.is at c.in_ok-key-in-len2.ensures.only in
+    let key : IsWord c.args.form (get_or words 1 blank).now c.in-Some.key = rw c.in-Some.is at c.in_ok-key-in-len2.ensures.only in
     ((get_or words 1 blank).now, two_texts words c.in-len2.len_at_least c.in-len2.len_below ∙ ap (λ (x : List ℕ). x ∷ (get_or words 1 blank).now ∷ []) name, key)

@@ -4,4 +4,4 @@ use Rattle.lsm_script.specs.ReplyText.{listed_line}
 use Rattle.lsm_script.proofs.reply_text.push_files.Given as goal
 
 abbrev pub invariant-loop-file : goal.invariant-loop-file
-invariant-loop-file l = l.out.items ≡ l.initial.out.items ++ flat_map listed_line (take l.file-index l.files)
+invariant-loop-file l = l.out.items ≡ l.initial.out.items ++ flat_map (listed_line l.form) (take l.file-index l.files)

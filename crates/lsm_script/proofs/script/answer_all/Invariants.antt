@@ -1,12 +1,11 @@
 use Rattle.std.proofs.Common.{◌≡◌, ◌≤◌, length, take, vec_capacity, vec_len}
-use Rattle.lsm_script.specs.Steps.{IsStep, Stage, stage_of}
+use Rattle.lsm_script.specs.Steps.{IsStep, Stage, stage}
 use Rattle.lsm_script.proofs.Chains.{GoesOn}
 use Rattle.lsm_script.proofs.script.answer_all.Given as goal
 
 abbrev pub invariant-loop-command : goal.invariant-loop-command
 invariant-loop-command g l = record {
-  so_far : GoesOn {S = Stage} (IsStep g.S.Shelf.honest) (take l.command-index l.commands) l.replies.items (stage_of l.initial.state l.initial.shelf)
-      record { state = l.state; told = l.shelf; jobs = l.jobs.items; results = l.results.items };
+  so_far : GoesOn {S = Stage} (IsStep g.S.Shelf.honest) (take l.command-index l.commands) l.replies.items (stage l.initial.session l.initial.shelf) (stage l.session l.shelf);
   len : vec_len l.replies ≡ l.command-index;
   room : length l.commands ≤ vec_capacity l.replies;
 }

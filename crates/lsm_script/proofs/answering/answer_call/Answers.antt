@@ -1,5 +1,5 @@
 use Rattle.std.proofs.Common.{refl}
-use Rattle.lsm_script.proofs.script.answer_call.Goals as goal
+use Rattle.lsm_script.proofs.answering.answer_call.Goals as goal
 
 pub returns-in-ReserveRange : goal.returns-in-ReserveRange
 returns-in-ReserveRange g c =

@@ -1,0 +1,5 @@
+mod AheadLaws
+mod LineLaws
+mod PairLaws
+mod TalkLaws
+mod WordTexts

@@ -1,0 +1,6 @@
+-- What clauses cite
+pub mod Reading
+pub mod Pieces
+pub mod Asks
+pub mod Pairs
+pub mod Talk

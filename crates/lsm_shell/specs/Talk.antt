@@ -1,0 +1,143 @@
+-- A conversation: lines and the replies to them (this project's rule).
+use Rattle.std.specs.Prelude.{◌≡◌, ◌≢◌, ◌⊎◌, ℕ, ◌<◌, Bool, true, false, ⊤, List, [], ◌∷◌, ◌++◌, length, codes, Option, Some, None, Result, Ok, Err}
+use Rattle.std.specs.Io.KnownBytes.{Appends, IsAtEnd, Keeps}
+use Rattle.lsm_codec.specs.Keys.{UserKey}
+use Rattle.lsm_levels.specs.Files.{all_entries}
+use Rattle.lsm_levels.specs.Scanning.{IsScan, Pair}
+use Rattle.lsm_shelf.specs.Told.{Told, Becomes}
+use Rattle.lsm_table.specs.ReadFault.{IsMemoryOrShelf, ReadCounted}
+use Rattle.lsm_table.specs.declared.read_fault.ReadFault.{ReadFault}
+use Rattle.lsm_version.specs.Versions.{Levels, files}
+use Rattle.lsm_state.specs.Held.{Held}
+use Rattle.lsm_state.specs.declared.state_fault.StateFault.TheVariants.{Read as ReadRefused}
+use Rattle.lsm_text.specs.EntryList.{lines_of}
+use Rattle.lsm_text.specs.declared.form.Form.{Form}
+use Rattle.lsm_text.specs.declared.key_bounds.KeyBounds.{KeyBounds}
+use Rattle.lsm_script.specs.ReplyText.{reply_text}
+use Rattle.lsm_script.specs.Steps.{IsStep, Stage}
+use Rattle.lsm_script.specs.declared.command.Command.{Command}
+use Rattle.lsm_script.specs.declared.command_fault.CommandFault.TheVariants.{State}
+use Rattle.lsm_script.specs.declared.reply.Reply.{Reply}
+use Rattle.lsm_script.specs.declared.reply.Reply.TheVariants.{Refused}
+use Rattle.lsm_shell.specs.Asks.{IsAsk}
+use Rattle.lsm_shell.specs.Pairs.{pairs_text, shown}
+use Rattle.lsm_shell.specs.Reading.{Lined, TakesLine, most_of_line}
+use Rattle.lsm_shell.specs.declared.ask.Ask.{Ask}
+use Rattle.lsm_shell.specs.declared.ask.Ask.TheVariants.{Do, Scan, Help}
+use Rattle.lsm_shell.specs.declared.help.TheConstants.{HELP}
+use Rattle.lsm_shell.specs.declared.talk_fault.TalkFault.{TalkFault}
+use Rattle.lsm_shell.specs.declared.talk_fault.TalkFault.TheVariants.{Read, Write}
+
+-- ---- replies to lines that are no command of a script
+
+-- memory was refused, and nothing was done
+abbrev pub no_memory : List ℕ
+no_memory = codes "refused 1 OutOfMemory\n"
+
+-- a command was done, and memory was refused for its reply
+abbrev pub unsaid : List ℕ
+unsaid = codes "done, but there is no memory for the reply\n"
+
+-- the line asks for nothing
+abbrev pub bad_line : List ℕ
+bad_line = codes "bad line: help tells what lines there are\n"
+
+-- the line is too long
+abbrev pub long_line : List ℕ
+long_line = codes "bad line: it has more than 8388608 bytes\n"
+
+-- ---- a scan
+
+-- the last line of a scan's reply: that it is whole; or why it is not, a table that could not be read, over an honest shelf only since the
+-- shelf refused, or want of memory
+abbrev pub StopsScan : Type 0 → Form → List ℕ → Told → Told → Type 0
+StopsScan honest form last was is =
+    (last ≡ no_memory)
+    ⊎ ((fault : ReadFault) × (last ≡ reply_text form (Refused (State (ReadRefused fault)))) × (honest → IsMemoryOrShelf fault) × ReadCounted fault was is)
+
+-- Of the keys of the version that have a value at its last sequence those that are asked for are shown, in order.
+abbrev pub ShowsAll : KeyBounds → Option ℕ → Levels → List Pair → Type 0
+ShowsAll bounds limit v front = (pairs : List Pair) × IsScan v.last (all_entries (files v)) pairs × (front ≡ shown bounds limit pairs)
+
+-- the first of them
+abbrev pub ShowsSome : KeyBounds → Option ℕ → Levels → List Pair → Type 0
+ShowsSome bounds limit v front = (pairs : List Pair) × (back : List Pair) × IsScan v.last (all_entries (files v)) pairs × (shown bounds limit pairs ≡ front ++ back)
+
+-- Lines for pairs, and a last line. Nothing changed but what the shelf was told.
+pub record IsScanned (honest : Type 0) (form : Form) (bounds : KeyBounds) (limit : Option ℕ) (said : List ℕ) (s t : Stage) : Type 0 where
+  pub front : List Pair
+  pub last : List ℕ
+  pub said_is : said ≡ pairs_text form front ++ last
+  pub shows :
+      ((last ≡ codes "end\n") × (honest → ShowsAll bounds limit s.state.slots.version front))
+      ⊎ (StopsScan honest form last s.told t.told × ((front ≡ []) ⊎ (honest → ShowsSome bounds limit s.state.slots.version front)))
+  pub told : Becomes s.told t.told
+  pub same : t ≡ record s { told = t.told }
+
+-- ---- one line
+
+-- What is said to a line, and what it leaves.
+pub data IsReplied (honest : Type 0) (form : Form) (line said : List ℕ) (s t : Stage) : Type 0 where
+  -- a command was done, which is a step of the state's, and its reply said
+  done : (c : Command) (r : Reply) → IsAsk form line (Do c) → IsStep honest c r s t → said ≡ reply_text form r → IsReplied honest form line said s t
+  -- it was done, and its reply could not be said
+  done_unsaid : (c : Command) (r : Reply) → IsAsk form line (Do c) → IsStep honest c r s t → said ≡ unsaid → IsReplied honest form line said s t
+  -- a scan
+  scanned : (bounds : KeyBounds) (limit : Option ℕ) → IsAsk form line (Scan bounds limit) → IsScanned honest form bounds limit said s t → IsReplied honest form line said s t
+  -- the lines that there are
+  helped : IsAsk form line Help → said ≡ HELP.now → t ≡ s → IsReplied honest form line said s t
+  -- nothing is asked for, nor is it `quit`
+  bad : ((a : Ask) → IsAsk form line a → ⊥) → line ≢ codes "quit" → said ≡ bad_line → t ≡ s → IsReplied honest form line said s t
+  -- the line is too long
+  long : most_of_line < length line → said ≡ long_line → t ≡ s → IsReplied honest form line said s t
+  -- memory was refused, and nothing was done
+  spent : said ≡ no_memory → t ≡ s → IsReplied honest form line said s t
+
+-- ---- line after line
+
+abbrev pub AreReplied : Type 0 → Form → List (List ℕ) → List ℕ → Stage → Stage → Type 0
+AreReplied honest form [] said s t = (said ≡ []) × (t ≡ s)
+AreReplied honest form (line ∷ lines) said s t =
+    (mid : Stage) × (one : List ℕ) × (rest : List ℕ) × (said ≡ one ++ rest) × IsReplied honest form line one s mid × AreReplied honest form lines rest mid t
+
+-- behind the lines that were replied to stands `quit`, or nothing
+abbrev pub IsEnd : List (List ℕ) → Type 0
+IsEnd [] = ⊤
+IsEnd (line ∷ lines) = line ≡ codes "quit"
+
+-- The lines that were replied to are the first of the input's; all up to its end, or to a `quit`, unless the conversation was stopped.
+abbrev pub AreFirst : Result (Unit {0}) TalkFault → List (List ℕ) → List (List ℕ) → Type 0
+AreFirst (Ok done) lines all = (rest : List (List ℕ)) × (all ≡ lines ++ rest) × IsEnd rest
+AreFirst (Err fault) lines all = (rest : List (List ℕ)) × (all ≡ lines ++ rest)
+
+-- the same where the input is known
+abbrev pub AreFirstOf : Result (Unit {0}) TalkFault → List (List ℕ) → Option (List ℕ) → Type 0
+AreFirstOf r lines None = ⊤
+AreFirstOf r lines (Some text) = AreFirst r lines (lines_of text)
+
+-- a write failed
+abbrev pub IsWrite : {T : Type 0} → Result T TalkFault → Type 0
+IsWrite (Ok done) = ⊥
+IsWrite (Err Write) = ⊤
+IsWrite (Err Read) = ⊥
+
+-- A conversation: just the first lines of the input were replied to, each by what it asks for, in their order; and these replies were written,
+-- unless a write failed.
+pub record IsTalk (honest : Type 0) (form : Form) (input : Option (List ℕ)) (r : Result (Unit {0}) TalkFault) (s t : Stage) (old new : Option (List ℕ)) : Type 0 where
+  pub lines : List (List ℕ)
+  pub said : List ℕ
+  pub replied : AreReplied honest form lines said s t
+  pub first : AreFirstOf r lines input
+  pub written : (IsWrite r → ⊥) → Appends old new said
+
+-- ---- one turn
+
+-- The next line was replied to; or the conversation ended, at the end of the input or by `quit`; or it was stopped.
+abbrev pub IsTurn : Type 0 → Form → Result Bool TalkFault → Lined → Lined → Stage → Stage → Option (List ℕ) → Option (List ℕ) → Type 0
+IsTurn honest form (Ok true) in_old in_new s t old new =
+    (line : List ℕ) × (said : List ℕ) × TakesLine line in_old.left in_new.left × IsReplied honest form line said s t × Appends old new said
+IsTurn honest form (Ok false) in_old in_new s t old new =
+    (IsAtEnd in_old.left ⊎ TakesLine (codes "quit") in_old.left in_new.left) × (t ≡ s) × Keeps old new
+IsTurn honest form (Err Read) in_old in_new s t old new = (t ≡ s) × Keeps old new
+IsTurn honest form (Err Write) in_old in_new s t old new =
+    (line : List ℕ) × (said : List ℕ) × TakesLine line in_old.left in_new.left × IsReplied honest form line said s t

@@ -1,0 +1,34 @@
+//! A conversation with a database: commands on an input, one a line, and a reply to each.
+//!
+//! Stands on `lsm_script` for commands and their replies, on `lsm_reads` for scans, and on `lsm_text`
+//! for words. Data flows from the input through a `line_reader` to lines, from a line to what it
+//! asks for, and from there to its reply. Its contract: what is written is the replies to just the
+//! lines that were read, in their order, each of them a step of the state's.
+#![tactic(auto)]
+
+// Lines that are read.
+mod ahead;
+mod line_reader;
+
+// What a line asks for.
+mod ask;
+mod ask_line;
+mod scan_line;
+mod writes;
+
+// The replies.
+mod help;
+mod pairs;
+mod replying;
+
+// The conversation.
+mod talk_fault;
+mod talking;
+
+pub use ahead::ReadFailed;
+pub use ask::Ask;
+pub use ask_line::ask_in;
+pub use line_reader::{LineReader, NextLine};
+pub use pairs::{ScanFault, Step};
+pub use talk_fault::TalkFault;
+pub use talking::talk;

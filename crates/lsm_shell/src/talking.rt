@@ -1,0 +1,98 @@
+//! A conversation, line after line.
+
+ghost use Rattle.std.specs.Prelude.{◌≡◌};
+ghost use Rattle.lsm_script.specs.Steps.{stage};
+ghost use Rattle.lsm_shell.specs.Talk.{IsTalk, IsTurn};
+
+use crate::line_reader::{LineReader, NextLine};
+use crate::replying::{Unsaid, reply_to, say};
+use crate::talk_fault::TalkFault;
+use lsm_script::Session;
+use lsm_slots::Boarded;
+use lsm_table::{NamedShelf, Shelf};
+use lsm_text::Form;
+use std::alloc::Global;
+use std::io::{Read, Write};
+use std::sync::Wait;
+
+/// Whether there is a next turn: a reply was said.
+fn went_on(said: Result<(), Unsaid>) -> Result<bool, TalkFault> {
+    match said {
+        Ok(()) => Ok(true),
+        Err(Unsaid) => Err(TalkFault::Write),
+    }
+}
+
+/// Reads the next line, and replies to it. `false` at the end of the input, and at `quit`.
+fn take_turn<N: Boarded, S: Shelf, R: Wait, I: Read + Drop, O: Write>(
+    rt: &R,
+    alloc: Global,
+    session: Session<N, S>,
+    shelf: &mut NamedShelf<N, S>,
+    form: Form,
+    lines: &mut LineReader<I>,
+    text: &mut Vec<u8>,
+    out: &mut O,
+) -> (Session<N, S>, Result<bool, TalkFault>)
+    ensures turn { IsTurn S.honest form result.1 lines.old lines.new (stage session shelf.old)
+        (stage result.0 shelf.new) (O.contents out.old) (O.contents out.new) }
+{
+    match lines.next() {
+        Ok(NextLine::End) => (session, Ok(false)),
+        Ok(NextLine::Line) if lines.line() == b"quit".as_slice() => (session, Ok(false)),
+        Ok(NextLine::Line) => {
+            let (session, said) = reply_to(
+                rt,
+                alloc,
+                session,
+                shelf,
+                form,
+                lines.line(),
+                text,
+                out,
+            );
+            (session, went_on(said))
+        }
+        Ok(NextLine::TooLong) => {
+            let said = say(out, b"bad line: it has more than 8388608 bytes\n");
+            (session, went_on(said))
+        }
+        Ok(NextLine::NoMemory) => {
+            let said = say(out, b"refused 1 OutOfMemory\n");
+            (session, went_on(said))
+        }
+        Err(_) => (session, Err(TalkFault::Read)),
+    }
+}
+
+/// Replies to lines, one after another, up to `quit` or the end of the input. Each reply is flushed
+/// before the next line is read. A refusal is a reply, also for want of memory.
+///
+/// # Errors
+/// `Read` where the input can't be read, `Write` where a reply can't be written. What was done until
+/// then stays.
+pub fn talk<N: Boarded, S: Shelf, R: Wait, I: Read + Drop, O: Write>(
+    rt: &R,
+    alloc: Global,
+    session: Session<N, S>,
+    shelf: &mut NamedShelf<N, S>,
+    form: Form,
+    lines: &mut LineReader<I>,
+    out: &mut O,
+) -> (Session<N, S>, Result<(), TalkFault>)
+    ensures talk { IsTalk S.honest form lines.old.left result.1 (stage session shelf.old)
+        (stage result.0 shelf.new) (O.contents out.old) (O.contents out.new) }
+{
+    let mut session = session;
+    let mut text = Vec::new(alloc);
+    for _turn in 0..u64::MAX {
+        let (after, turn) = take_turn(rt, alloc, session, shelf, form, lines, &mut text, out);
+        session = after;
+        match turn {
+            Ok(true) => {}
+            Ok(false) => return (session, Ok(())),
+            Err(fault) => return (session, Err(fault)),
+        }
+    }
+    (session, Err(TalkFault::Read))
+}

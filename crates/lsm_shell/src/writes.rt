@@ -1,0 +1,78 @@
+//! Lines that write one key.
+
+ghost use Rattle.std.specs.Prelude.{◌≡◌, ◌∷◌, [], IfNone, IfOk, IfSome, map};
+ghost use Rattle.lsm_batch.specs.declared.write.Write.{Write};
+ghost use Rattle.lsm_shell.specs.Asks.{IsDelete, IsOneWrite, IsPut};
+ghost use Rattle.lsm_script.specs.declared.command.Command.{Command};
+ghost use Rattle.lsm_script.specs.declared.command.Command.TheVariants.{Ingest};
+
+use lsm_batch::{Batch, Write};
+use lsm_script::Command;
+use lsm_text::{Form, push_write};
+use std::alloc::{AllocError, Global};
+
+/// What `put KEY VALUE` writes.
+fn put_in(alloc: Global, form: Form, words: &[&[u8]]) -> Result<Option<Write>, AllocError>
+    ensures some { IfOk result (λ o. IfSome o (IsPut form (map (λ w. w.now) words.now))) }
+    ensures none { IfOk result (λ o.
+        IfNone o ((w : Write) → IsPut form (map (λ w. w.now) words.now) w → ⊥)) }
+{
+    match words {
+        [name, key, value] if *name == b"put".as_slice() => {
+            let Some(key) = form.read_bytes(alloc, key)? else {
+                return Ok(None);
+            };
+            match form.read_bytes(alloc, value)? {
+                Some(value) => Ok(Some(Write {
+                    key,
+                    value: Some(value),
+                })),
+                None => Ok(None),
+            }
+        }
+        _ => Ok(None),
+    }
+}
+
+/// What `delete KEY` writes.
+fn delete_in(alloc: Global, form: Form, words: &[&[u8]]) -> Result<Option<Write>, AllocError>
+    ensures some { IfOk result (λ o. IfSome o (IsDelete form (map (λ w. w.now) words.now))) }
+    ensures none { IfOk result (λ o.
+        IfNone o ((w : Write) → IsDelete form (map (λ w. w.now) words.now) w → ⊥)) }
+{
+    match words {
+        [name, key] if *name == b"delete".as_slice() => match form.read_bytes(alloc, key)? {
+            Some(key) => Ok(Some(Write { key, value: None })),
+            None => Ok(None),
+        },
+        _ => Ok(None),
+    }
+}
+
+/// A batch of one write.
+fn ingest_of(alloc: Global, write: Write) -> Result<Command, AllocError>
+    ensures { IfOk result (λ c. c ≡ Ingest (write ∷ [])) }
+{
+    let mut batch = Batch::new(alloc);
+    push_write(&mut batch, write)?;
+    Ok(Command::Ingest(batch))
+}
+
+/// The batch of one write that the words ask for.
+pub(crate) fn one_write_in(
+    alloc: Global,
+    form: Form,
+    words: &[&[u8]],
+) -> Result<Option<Command>, AllocError>
+    ensures some { IfOk result (λ o. IfSome o (IsOneWrite form (map (λ w. w.now) words.now))) }
+    ensures none { IfOk result (λ o.
+        IfNone o ((c : Command) → IsOneWrite form (map (λ w. w.now) words.now) c → ⊥)) }
+{
+    if let Some(write) = put_in(alloc, form, words)? {
+        return Ok(Some(ingest_of(alloc, write)?));
+    }
+    match delete_in(alloc, form, words)? {
+        Some(write) => Ok(Some(ingest_of(alloc, write)?)),
+        None => Ok(None),
+    }
+}
