@@ -1,4 +1,4 @@
-use Rattle.std.proofs.Common.{◌≡◌, ℕ, List, inl, inr, refl, rules}
+use Rattle.std.proofs.Common.{◌≡◌, ℕ, List, inr, refl, rules}
 use Rattle.std.specs.Io.KnownBytes.{Appends}
 use Rattle.std.proofs.lemmas.Result.{err_from_is_err_and}
 use Rattle.lsm_directory.proofs.CallerLemmas.{keeps_same}
