@@ -7,13 +7,12 @@ use Rattle.lsm_shelf.specs.declared.shelf_fault.ShelfFault.{ShelfFault}
 use Rattle.lsm_batch.specs.declared.write.Write.{Write}
 use Rattle.lsm_state.specs.Held.{Held}
 use Rattle.lsm_state.specs.Ingesting.{IsIngestRefusal}
-use Rattle.lsm_state.specs.declared.state_fault.StateFault.{StateFault}
 use Rattle.lsm_state.specs.declared.state_fault.StateFault.TheVariants.{LevelZeroFull}
 use Rattle.lsm_store.specs.Background.{IsKeptOut}
 
-pub ok_then : {T E : Type 0} (P Q : T → Type 0) (r : Result T E) → ((x : T) → P x → Q x) → IfOk r P → IfOk r Q
-ok_then P Q (Ok x) f p = f x p
-ok_then P Q (Err e) f p = tt
+pub ok_both : {T E : Type 0} (P Q R : T → Type 0) (r : Result T E) → ((x : T) → P x → Q x → R x) → IfOk r P → IfOk r Q → IfOk r R
+ok_both P Q R (Ok x) f p q = f x p q
+ok_both P Q R (Err e) f p q = tt
 
 pub err_then : {T E : Type 0} (P Q : E → Type 0) (r : Result T E) → ((e : E) → P e → Q e) → IfErr r P → IfErr r Q
 err_then P Q (Ok x) f p = tt

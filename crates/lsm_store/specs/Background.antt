@@ -42,9 +42,9 @@ IsIngestStep Refused ws was is =
 abbrev pub IsKeptByIngest : (Asked → ShelfFault → Type 0) → List Write → (Held → Type 0) → Type 0
 IsKeptByIngest Refused ws keeps = (was is : Held) → IsIngestStep Refused ws was is → keeps was → keeps is
 
--- The batch came in at one taking of the lock, where the fact held.
-abbrev pub IsBroughtIn : (Held → Type 0) → List Write → Ingested → Told → Told → Type 0
-IsBroughtIn keeps ws r t u = (was : Held) × (is : Held) × ∥ keeps was ∥₁ × BringsIn was is ws r t u
+-- The batch came in at one taking of the lock, where the fact held; beside the answer stands the history that it left.
+abbrev pub IsBroughtIn : (Held → Type 0) → List Write → (Ingested × List Entry) → Told → Told → Type 0
+IsBroughtIn keeps ws r t u = (was : Held) × (is : Held) × ∥ keeps was ∥₁ × BringsIn was is ws r.0 t u × (r.1 ≡ is.history)
 
 -- It was refused at one taking of the lock, where the fact held.
 abbrev pub IsKeptOut : (Asked → ShelfFault → Type 0) → (Held → Type 0) → List Write → StateFault → Told → Told → Type 0

@@ -1,6 +1,6 @@
 //! What a program has of the workers beside it.
 
-ghost use Rattle.std.specs.Prelude.{IfErr, IfOk};
+ghost use Rattle.std.specs.Prelude.{◌≡◌, IfErr, IfOk};
 ghost use Rattle.lsm_store.specs.Background.{BringsIn, IsBroughtIn, IsIngestStep, IsKeptByIngest};
 ghost use Rattle.lsm_store.specs.Background.{IsKeptOut, KeepsOut};
 
@@ -8,27 +8,29 @@ use crate::bell::Bell;
 use crate::invariant::Invariant;
 use crate::store::Store;
 use lsm_batch::Batch;
+use lsm_history::Memory;
 use lsm_slots::Boarded;
 use lsm_state::{Ingested, State, StateFault};
 use lsm_table::{NamedShelf, Shelf};
 use std::alloc::Global;
 use std::sync::Wait;
 
-/// Brings the batch into the state.
+/// Brings the batch into the state, and remembers the history with it.
 fn bring_in<N: Boarded, S: Shelf, R: Wait>(
     state: &mut State<N, S>,
     rt: &R,
     alloc: Global,
     shelf: &mut NamedShelf<N, S>,
     batch: &Batch,
-) -> Result<Ingested, StateFault>
-    ensures ok { IfOk result (λ r. BringsIn state.old state.new batch.now r shelf.old shelf.new) }
+) -> Result<(Ingested, Memory<N>), StateFault>
+    ensures ok { IfOk result (λ r. BringsIn state.old state.new batch.now r.0 shelf.old shelf.new) }
+    ensures memory { IfOk result (λ r. r.1 ≡ state.new.history) }
     ensures refused { IfErr result (λ e.
         KeepsOut (S.refuses N.place) state.old state.new batch.now e shelf.old shelf.new) }
     ensures step { IsIngestStep (S.refuses N.place) batch.now state.old state.new }
 {
     match state.ingest(rt, alloc, shelf, batch) {
-        Ok(came) => Ok(came),
+        Ok(came) => Ok((came, state.remember())),
         Err(fault) => Err(fault),
     }
 }
@@ -40,7 +42,7 @@ fn bring_in_under_lock<N: Boarded, S: Shelf, K: Invariant, R: Wait>(
     store: &Store<N, S, K>,
     shelf: &mut NamedShelf<N, S>,
     batch: &Batch,
-) -> Result<Ingested, StateFault>
+) -> Result<(Ingested, Memory<N>), StateFault>
     requires kept { IsKeptByIngest (S.refuses N.place) batch.now K.keeps }
     ensures ok { IfOk result (λ r. IsBroughtIn K.keeps batch.now r shelf.old shelf.new) }
     ensures refused { IfErr result (λ e.
@@ -83,6 +85,9 @@ impl Background {
     /// Brings a batch into the store of these workers, as `State::ingest` does under the lock, and
     /// wakes the workers. Where level 0 is full it waits until they have made room there.
     ///
+    /// Ok has the history with the batch, as it was in the same taking of the lock: to be recalled
+    /// (`State::recall`) at any later one, whose history goes on from it.
+    ///
     /// The refusals are those of `State::ingest`. `LevelZeroFull` only where no worker can make
     /// room: each has ended, or found nothing to reserve, as where a job of the caller's own holds
     /// the files of level 0.
@@ -94,7 +99,7 @@ impl Background {
         store: &Store<N, S, K>,
         shelf: &mut NamedShelf<N, S>,
         batch: &Batch,
-    ) -> Result<Ingested, StateFault>
+    ) -> Result<(Ingested, Memory<N>), StateFault>
         requires kept { IsKeptByIngest (S.refuses N.place) batch.now K.keeps }
         ensures ok { IfOk result (λ r. IsBroughtIn K.keeps batch.now r shelf.old shelf.new) }
         ensures refused { IfErr result (λ e.
@@ -114,7 +119,7 @@ impl Background {
         store: &Store<N, S, K>,
         shelf: &mut NamedShelf<N, S>,
         batch: &Batch,
-    ) -> Result<Ingested, StateFault>
+    ) -> Result<(Ingested, Memory<N>), StateFault>
         requires kept { IsKeptByIngest (S.refuses N.place) batch.now K.keeps }
         ensures ok { IfOk result (λ r. IsBroughtIn K.keeps batch.now r shelf.old shelf.new) }
         ensures refused { IfErr result (λ e.
@@ -137,7 +142,7 @@ impl Background {
         store: &Store<N, S, K>,
         shelf: &mut NamedShelf<N, S>,
         batch: &Batch,
-    ) -> Result<Ingested, StateFault>
+    ) -> Result<(Ingested, Memory<N>), StateFault>
         requires kept { IsKeptByIngest (S.refuses N.place) batch.now K.keeps }
         ensures ok { IfOk result (λ r. IsBroughtIn K.keeps batch.now r shelf.old shelf.new) }
         ensures refused { IfErr result (λ e.
