@@ -25,20 +25,21 @@ ghost use Rattle.lsm_state.specs.Ingesting.{with_number, with_slots};
 ghost use Rattle.lsm_state.specs.Installing.{Installed, IsInstallRefusal};
 ghost use Rattle.lsm_state.specs.declared.ingest.Ingested.{Ingested};
 ghost use Rattle.lsm_state.specs.declared.state_fault.StateFault.{StateFault};
-ghost use Rattle.lsm_crash.specs.Disk.{Disk, Shows};
+ghost use Rattle.lsm_crash.specs.Disk.{Disk, Shows, empty_disk};
 ghost use Rattle.lsm_crash.specs.Crash.{Found, IsFresh, IsLeft};
 ghost use Rattle.lsm_crash.specs.Known.{IsHeld, IsSettled, IsVacant, Known, World};
 ghost use Rattle.lsm_crash.specs.Known.{current_name, nothing};
 ghost use Rattle.lsm_crash.specs.Operations.{started};
-ghost use Rattle.lsm_crash.specs.Among.{CutAmong, DoneAmong};
+ghost use Rattle.lsm_crash.specs.Among.{CutAmong, DoneAmong, counting};
 ghost use Rattle.lsm_crash.specs.States.{Describes, Finds, IsWorldOf, Shown};
 ghost use Rattle.lsm_crash.specs.Database.{AllowsAll, Asks, Deed, IsCut, IsReady, IsState, Turn};
 ghost use Rattle.lsm_crash.specs.Database.{Answered, Follows, HasMade, IsMade, Opens};
 ghost use Rattle.lsm_crash.specs.Database.{Ingest, SmallRun, Works, after_all, opened_world};
 ghost use Rattle.lsm_crash.specs.Database.{plans_of};
-ghost use Rattle.lsm_crash.specs.Database.{Stays, operations};
+ghost use Rattle.lsm_crash.specs.Database.{Builds, Install, IsDrawn, Looks, Refused, Stays};
+ghost use Rattle.lsm_crash.specs.Database.{operations};
 ghost use Rattle.lsm_crash.specs.Lives.{Ages, AllLeave, Answers, FromNothing, Life};
-ghost use Rattle.lsm_crash.specs.Lives.{brought};
+ghost use Rattle.lsm_crash.specs.Lives.{SmallAges, Struck, Worked, brought};
 ghost use Rattle.lsm_crash.specs.Versions.{ComesTo, Tables, Version};
 ghost use Rattle.lsm_journal.specs.HeldManifest.{HeldManifest};
 ghost use Rattle.lsm_journal.specs.Recorded.{IsRecorded};
@@ -287,6 +288,14 @@ pub fn ingests_survive_crashes<P: Premise>()
 /// `create` and `ingest` are supposed: in an empty folder a database can be made, the batch be put,
 /// and power be cut, and then its version is found (`small`). Where a shelf holds just what the
 /// folder shows, an opening is given that (`given`).
+///
+/// So can the premises of runs with other turns, and of lives. A call that changes nothing is a turn
+/// (`looks`); a table is put whose number a live job has drawn (`builds`); and where the contract of
+/// an ingest or of an install tells of a refusal, that is a turn (`refused`, `install_err`). A call
+/// that would be answered Ok may be cut in its first call of the folder (`cut`), or behind its last
+/// (`cut_late`). A database is opened, an ingest is answered Ok, the next one is cut, and any
+/// opening of what is left is a life more (`ages`). In an empty folder a try to make a database is
+/// cut; then it is made, the batch is put, and power is cut (`new`).
 pub fn premises_of_runs_are_met<P: Premise>()
     ensures answered { (board : TableId) (old new : Held) (deed : Deed) (asks : List Asked)
         (w : World) (v : Version) (d : Disk) → IsState P.holds board new → IsSettled d w
@@ -304,6 +313,55 @@ pub fn premises_of_runs_are_met<P: Premise>()
         → Asks h new (Ingest ws r) asks → ComesTo new.journal.bytes s
         → Follows P.holds h new (Answered (Ingest ws r))
         → SmallRun P.holds board h new v first m.number (Ingest ws r) }
+    ensures looks { (board : TableId) (h : Held) (w : World) (d : Disk) → IsState P.holds board h
+        → h.halted ≡ false → h.next < 2 ^ 64 → Works P.holds board h h (Looks ∷ []) w w d d }
+    ensures builds { (board : TableId) (h : Held) (number : ℕ) (image : List ℕ) (w : World)
+        (d : Disk) → IsState P.holds board h → IsSettled d w → IsWorldOf h w → IsDrawn h number
+        → w.tables number ≡ None → d.names (table_name number) ≡ None
+        → (e : Disk) × Works P.holds board h h (Builds number image ∷ []) w
+        (counting number image w) d e }
+    ensures refused { (board : TableId) (old new : Held) (ws : List Write) (r : Ingested)
+        (fault : StateFault) (was is : Told) (w : World) (d : Disk)
+        → IsState P.holds board new → IsSettled d w → IsWorldOf old w
+        → d.names (table_name old.next) ≡ None → IsIngestRefusal old new ws fault was is
+        → new.halted ≡ false → Follows P.holds old new (Refused (Ingest ws r))
+        → (u : World) × (e : Disk)
+        × Works P.holds board old new (Refused (Ingest ws r) ∷ []) w u d e }
+    ensures install_err { (board : TableId) (old new : Held) (done : Done) (fault : StateFault)
+        (was is : Told) (w : World) (d : Disk) → IsState P.holds board new
+        → IsInstallRefusal old new done fault was is → Becomes was is → new.halted ≡ false
+        → Follows P.holds old new (Refused (Install done))
+        → (u : World) × (e : Disk)
+        × Works P.holds board old new (Refused (Install done) ∷ []) w u d e }
+    ensures cut { (board : TableId) (old new : Held) (deed : Deed) (asks : List Asked) (w : World)
+        (v : Version) (d : Disk) → IsState P.holds board new → Asks old new deed asks
+        → IsReady P.holds deed w → ComesTo new.journal.bytes v
+        → Follows P.holds old new (Answered deed)
+        → (known : Known) × IsCut P.holds board old new deed w known d d }
+    ensures cut_late { (board : TableId) (old new : Held) (deed : Deed) (asks : List Asked)
+        (w : World) (v : Version) (d : Disk) → IsSettled d w → IsWorldOf old w
+        → d.names (table_name old.next) ≡ None → IsState P.holds board new
+        → Asks old new deed asks → IsReady P.holds deed w → ComesTo new.journal.bytes v
+        → Follows P.holds old new (Answered deed)
+        → (known : Known) × (e : Disk) × IsCut P.holds board old new deed w known d e }
+    ensures ages { (board : TableId) (limit : ℕ) (h now new : Held) (first second third : List Asked)
+        (ws xs : List Write) (r s : Ingested) (w : World) (d : Disk) (v x y : Version)
+        → IsState P.holds board h → IsState P.holds board now → IsState P.holds board new
+        → IsSettled d w → d.names (table_name h.next) ≡ None
+        → (p : Opens P.holds limit h d) → HasMade first p.was p.is → ComesTo h.journal.bytes v
+        → Asks h now (Ingest ws r) second → ComesTo now.journal.bytes x
+        → Follows P.holds h now (Answered (Ingest ws r))
+        → Asks now new (Ingest xs s) third → ComesTo new.journal.bytes y
+        → Follows P.holds now new (Answered (Ingest xs s))
+        → SmallAges P.holds board limit
+        (Struck h now new (Answered (Ingest ws r) ∷ []) (Ingest xs s)) w d }
+    ensures new { (board : TableId) (h new : Held) (first asks : List Asked) (ws : List Write)
+        (r : Ingested) (v s : Version) → IsState P.holds board h → IsState P.holds board new
+        → (m : IsMade h) → HasMade first m.was m.now → ComesTo h.journal.bytes v
+        → Asks h new (Ingest ws r) asks → ComesTo new.journal.bytes s
+        → Follows P.holds h new (Answered (Ingest ws r))
+        → (u : World) × (e : Disk) × FromNothing P.holds (h ∷ [])
+        (Worked h new (Answered (Ingest ws r) ∷ []) ∷ []) empty_disk (Some u) e }
     ensures given { (v : Levels) (d : Disk) (was : Told) → (s : Shown v d)
         → ReadsShown (λ number image. Shows d (table_name number) image) v d was
         (finding s.manifest s.bytes was) }
