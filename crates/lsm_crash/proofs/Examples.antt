@@ -1,19 +1,24 @@
 -- Runs and lives that meet the premises of the laws: each turn, each way to end a life, two lives, and the first life.
-use Rattle.std.proofs.Common.{◌≡◌, ℕ, ◌+◌, ◌<◌, ◌^◌, false, List, [], ◌∷◌, ◌++◌, length, refl, sym, ap, subst, inl, inr, arith, Some, None}
+use Rattle.std.proofs.Common.{◌≡◌, ℕ, ◌+◌, ◌<◌, ◌^◌, false, List, [], ◌∷◌, ◌++◌, length, map, refl, sym, ap, subst, inl, inr, arith, Some, None}
 use Rattle.std.specs.Prelude.{Ok}
+use Rattle.std.proofs.lemmas.List.{append-nil}
 use Rattle.atomic_table.specs.Seated.{TableId}
+use Rattle.lsm_codec.specs.Lists.{Has}
 use Rattle.lsm_folder.specs.Calls.{folder_synced, made as made_file, synced}
 use Rattle.lsm_folder.specs.declared.folder_fault.FolderFault.TheVariants as folder
 use Rattle.lsm_storage.specs.FileNames.{table_name}
 use Rattle.lsm_storage.specs.Plans.{start_plan}
-use Rattle.lsm_shelf.specs.Asked.{Asked, Put as PutTable}
+use Rattle.lsm_shelf.specs.Asked.{Asked, Put as PutTable, Remove as RemoveTable, StartManifest}
+use Rattle.lsm_shelf.specs.declared.shelf_fault.ShelfFault.TheVariants as shelf_fault
 use Rattle.lsm_shelf.specs.Told.{Told, Becomes}
 use Rattle.lsm_batch.specs.declared.write.Write.{Write}
 use Rattle.lsm_live.specs.Booked.{live_of}
 use Rattle.lsm_live.proofs.CallerLemmas.{live_has}
 use Rattle.lsm_merge.specs.Work.{Done}
+use Rattle.lsm_state.specs.Asked.{changes_by}
+use Rattle.lsm_state.specs.Collecting.{IsCollectRefusal}
 use Rattle.lsm_state.specs.Held.{Held}
-use Rattle.lsm_state.specs.Ingesting.{IsIngestRefusal, table_bytes_of}
+use Rattle.lsm_state.specs.Ingesting.{IsIngestRefusal, IsWelcome, Ingests, coming_in, last_of, table_bytes_of, with_number, with_slots}
 use Rattle.lsm_state.specs.Installing.{IsInstallRefusal}
 use Rattle.lsm_state.specs.declared.ingest.Ingested.{Ingested}
 use Rattle.lsm_state.specs.declared.state_fault.StateFault.{StateFault}
@@ -24,8 +29,8 @@ use Rattle.lsm_crash.specs.Known.{IsHeld, IsSettled, Known, World, known_of, not
 use Rattle.lsm_crash.specs.Operations.{Append, Operation, Put, Remove, Start, after, either, plan_of, started, starting}
 use Rattle.lsm_crash.specs.Among.{CutAmong, DoneAmong, FailsAmong, IsGap, counting, failed}
 use Rattle.lsm_crash.specs.States.{IsWorldOf}
-use Rattle.lsm_crash.specs.Database.{AllCut, AllDone, AllFail, Answered, Asks, Builds, Deed, Follows, HasMade, Ingest, Install, IsCut, IsDrawn, IsMade, IsReady, IsState, Looks, Opens, Refused, Refuses, Works, after_all, opened_world, operations, plans_of}
-use Rattle.lsm_crash.specs.Lives.{Begins, Closed, Crashed, FromNothing, Lived, MakesCut, SmallAges, Struck, Worked}
+use Rattle.lsm_crash.specs.Database.{AllCut, AllDone, AllFail, Answered, Asks, Builds, Collect, Deed, Follows, HasMade, Ingest, Install, IsCut, IsDrawn, IsMade, IsReady, IsState, Looks, Opens, Refused, Refuses, Works, after_all, opened_world, operations, plans_of}
+use Rattle.lsm_crash.specs.Lives.{Begins, Crashed, FromNothing, Lived, MakesCut, SmallAges, Struck, Worked}
 use Rattle.lsm_crash.proofs.Names.{table_current, table_manifest, table_temporary}
 use Rattle.lsm_crash.proofs.Disks.{none_is}
 use Rattle.lsm_crash.proofs.Standing.{at_makes}
@@ -34,12 +39,13 @@ use Rattle.lsm_crash.proofs.Tables.{put_stands}
 use Rattle.lsm_crash.proofs.Asides.{aside_folder, aside_made, aside_synced}
 use Rattle.lsm_crash.proofs.Calls.{no_gap}
 use Rattle.lsm_crash.proofs.Instances.{crash_can, empty_vacant, put_can}
-use Rattle.lsm_crash.proofs.Asking.{create_asks, ingest_err_made, open_asks}
+use Rattle.lsm_crash.proofs.Asking.{collect_err_made, create_made, ingest_err_made, ingest_made, open_asks, open_made}
+use Rattle.lsm_crash.proofs.Forms.{recorded_comes}
 use Rattle.lsm_crash.proofs.Worlds.{TablesChange}
-use Rattle.lsm_crash.proofs.Making.{made_settled, made_world, making_done}
+use Rattle.lsm_crash.proofs.Making.{made_settled, made_world}
 use Rattle.lsm_crash.proofs.Opening.{opening_done, opening_settled, opening_world}
 use Rattle.lsm_crash.proofs.Turning.{cut_known, works_keep}
-use Rattle.lsm_crash.proofs.Possible.{Can, deed_can, opened_can, start_free, works_can}
+use Rattle.lsm_crash.proofs.Possible.{Can, deed_can, opened_can, removes_can, start_free, works_can}
 
 -- ---- operations that are refused, or cut
 
@@ -79,6 +85,14 @@ crashed_can known d held sure =
     let r = surely_recovers d known c.0 sure held c.2 in
     (world_of known c.0 r, c.1, (c.0, c.2, c.3, record { small = r.small; current = r.current; its = r.its; comes = r.comes; tables = refl }))
 
+-- what a state's manifest comes to
+state_comes : (honest : Type 0) (board : TableId) (h : Held) → IsState honest board h → (v : Version) × ComesTo h.journal.bytes v
+state_comes honest board h l = recorded_comes l.0.journaled.0 h.journal h.slots.version h.next l.0.journaled.1
+
+-- the calls of an ingest
+asked : (old new : Held) (ws : List Write) (r : Ingested) (was is : Told) → IsWelcome old ws → Ingests old new ws r was is → (asks : List Asked) × Asks old new (Ingest ws r) asks
+asked old new ws r was is welcome i = (PutTable old.next i.table.image ∷ changes_by (with_number old i.slots) (coming_in i.table (last_of old ws)) ∷ [], (was, is, welcome, i, ingest_made old new ws r was is i))
+
 -- ---- each turn
 
 module _ (honest : Type 0) (board : TableId) where
@@ -111,8 +125,7 @@ module _ (honest : Type 0) (board : TableId) where
         made_file q image (Ok tt) ∷ synced q (Ok tt) ∷ folder_synced (Ok tt) ∷ [],
         (aside_made w.tables number image (Ok tt) below small none, (d1, s1, (aside_synced w.tables number (Ok tt) below small none, (d2, s2, (aside_folder w.tables (Ok tt), (d3, s3, refl)))))),
       ) in
-      let u = counting number image w in
-      (
+      let u = counting number image w in (
         d3,
         (
           h,
@@ -146,19 +159,33 @@ module _ (honest : Type 0) (board : TableId) where
       → (u : World) × (e : Disk) × Works honest board old new (Refused (Install done) ∷ []) w u d e
   refused_install old new done fault was is w d l x same going f = refused_can old new (Install done) [] [] w d l (fault, was, is, x, same, same.made, inl refl) going f (d, (refl, no_gap w.tables d))
 
-  -- ---- a call that is cut, in its first call of the folder or behind its last
+  -- the last removal of a refused collect may have come to the device, or not
+  pub refused_collect : (old new : Held) (removed : List ℕ) (fault : StateFault) (was is : Told) (w : World) (d : Disk) → IsState honest board new → new ≡ with_slots old new.slots → IsCollectRefusal old new fault removed was is
+      → ((asks : List Asked) (number : ℕ) → HasMade asks was is → Has asks (RemoveTable number) → number < 2 ^ 64) → new.halted ≡ false → Follows honest old new (Refused (Collect removed))
+      → (u : World) × (e : Disk) × Works honest board old new (Refused (Collect removed) ∷ []) w u d e
+  refused_collect old new removed fault was is w d l same x small going f =
+      let can = removes_can w.version removed w d in
+      elim (collect_err_made old new fault removed was is x) [
+        | inl told ↦ refused_can old new (Collect removed) (map RemoveTable removed) [] w d l (fault, was, is, same, x, inl told, inl refl, λ n h. small (map RemoveTable removed) n told (subst (λ xs. Has xs (RemoveTable n)) (append-nil (map RemoveTable removed)) h)) going f can
+        | inr (n, free, told) ↦ refused_can old new (Collect removed) (map RemoveTable removed) (RemoveTable n ∷ []) w d l (fault, was, is, same, x, inr told, inr (shelf_fault.Device, inr (n, free, refl)), λ m h. small (map RemoveTable removed ++ RemoveTable n ∷ []) m told h) going f can
+      ]
+
+  -- ---- an ingest that is cut, in its first call of the folder or behind its last
 
   pub cut_can : (old new : Held) (deed : Deed) (asks : List Asked) (w : World) (v : Version) (d : Disk) → IsState honest board new → Asks old new deed asks → IsReady honest deed w → ComesTo new.journal.bytes v → Follows honest old new (Answered deed)
       → (known : Known) × IsCut honest board old new deed w known d d
   cut_can old new deed asks w v d l a ready to f = (let r = all_first (operations v asks) w d in (r.0, (v, asks, l, a, ready, to, f, r.1)))
 
-  pub cut_late : (old new : Held) (deed : Deed) (asks : List Asked) (w : World) (v : Version) (d : Disk) → IsSettled d w → IsWorldOf old w → d.names (table_name old.next) ≡ None
-      → IsState honest board new → Asks old new deed asks → IsReady honest deed w → ComesTo new.journal.bytes v → Follows honest old new (Answered deed)
-      → (known : Known) × (e : Disk) × IsCut honest board old new deed w known d e
-  cut_late old new deed asks w v d i o free l a ready to f =
-      let can = deed_can honest board old new w v d i o free deed asks a in
-      let r = all_last (operations v asks) w (after_all w (operations v asks)) d can.0 can.1 in
-      (r.0, can.0, (v, asks, l, a, ready, to, f, r.1))
+  pub ingest_cut : (old new : Held) (ws : List Write) (r : Ingested) (was is : Told) (w : World) (d : Disk) → IsState honest board new → IsSettled d w → IsWorldOf old w → d.names (table_name old.next) ≡ None
+      → IsWelcome old ws → Ingests old new ws r was is → Follows honest old new (Answered (Ingest ws r))
+      → (known : Known) × (all : Known) × (e : Disk) × IsCut honest board old new (Ingest ws r) w known d d × IsCut honest board old new (Ingest ws r) w all d e
+  ingest_cut old new ws r was is w d l i o free welcome came f =
+      let v = state_comes honest board new l in
+      let a = asked old new ws r was is welcome came in
+      let can = deed_can honest board old new w v.0 d i o free (Ingest ws r) a.0 a.1 in
+      let first = cut_can old new (Ingest ws r) a.0 w v.0 d l a.1 tt v.1 f in
+      let last = all_last (operations v.0 a.0) w (after_all w (operations v.0 a.0)) d can.0 can.1 in
+      (first.0, last.0, can.0, first.1, (v.0, a.0, l, a.1, tt, v.1, f, last.1))
 
 -- ---- a life that is cut in a call, and one more
 
@@ -170,35 +197,43 @@ begins_can honest limit h w d p asks n made free small =
     (start.0, subst (λ xs. DoneAmong w.tables (plans_of p.begun.before.number xs) d start.0) (sym (open_asks honest limit h d p asks made)) start.1, start.2)
 
 -- an opening, whatever is there
-opens_can : (honest : Type 0) (board : TableId) (limit : ℕ) (h : Held) (w : World) (d : Disk) (p : Opens honest limit h d) (asks : List Asked) (v : Version) → IsState honest board h → HasMade asks p.was p.is → ComesTo h.journal.bytes v
-    → (m : Disk) × Begins honest board limit h w (opened_world h v w) d m
-opens_can honest board limit h w d p asks v l made to = (let can = opened_can honest limit h d p asks made w.tables in (can.0, (v, asks, l, p, made, to, can.1, refl)))
+opens_can : (honest : Type 0) (board : TableId) (limit : ℕ) (h : Held) (w : World) (d : Disk) (p : Opens honest limit h d) → IsState honest board h → (u : World) × (m : Disk) × Begins honest board limit h w u d m
+opens_can honest board limit h w d p l =
+    let asks = StartManifest h.journal.number h.journal.bytes ∷ [] in
+    let made = open_made honest limit h d p in
+    let v = state_comes honest board h l in
+    let can = opened_can honest limit h d p asks made w.tables in
+    (opened_world h v.0 w, can.0, (v.0, asks, l, p, made, v.1, can.1, refl))
 
-module _ (law : TablesChange) (honest : Type 0) (board : TableId) (limit : ℕ) (h now new : Held) (first second third : List Asked) (ws xs : List Write) (r s : Ingested) (w : World) (d : Disk) (v x y : Version) where
-  pub small_ages : IsState honest board h → IsState honest board now → IsState honest board new → IsSettled d w → d.names (table_name h.next) ≡ None
-      → (p : Opens honest limit h d) → HasMade first p.was p.is → ComesTo h.journal.bytes v
-      → Asks h now (Ingest ws r) second → ComesTo now.journal.bytes x → Follows honest h now (Answered (Ingest ws r))
-      → Asks now new (Ingest xs s) third → ComesTo new.journal.bytes y → Follows honest now new (Answered (Ingest xs s))
+module _ (law : TablesChange) (honest : Type 0) (board : TableId) (limit : ℕ) (h now new : Held) (ws xs : List Write) (r s : Ingested) (w : World) (d : Disk) where
+  pub small_ages : (was is then so : Told) → IsState honest board h → IsState honest board now → IsState honest board new → IsSettled d w → d.names (table_name h.next) ≡ None → Opens honest limit h d
+      → IsWelcome h ws → Ingests h now ws r was is → Follows honest h now (Answered (Ingest ws r)) → IsWelcome now xs → Ingests now new xs s then so → Follows honest now new (Answered (Ingest xs s))
       → SmallAges honest board limit (Struck h now new (Answered (Ingest ws r) ∷ []) (Ingest xs s)) w d
-  small_ages l ln lx i free p made to a toa fa b tob fb =
+  small_ages was is then so l ln lx i free p hw hi fa nw ni fb =
+      let first = StartManifest h.journal.number h.journal.bytes ∷ [] in
+      let made = open_made honest limit h d p in
+      let v = state_comes honest board h l in
+      let x = state_comes honest board now ln in
+      let y = state_comes honest board new lx in
+      let a = asked h now ws r was is hw hi in
+      let b = asked now new xs s then so nw ni in
       let begun = begins_can honest limit h w d p first h.next made free (let f = p.begun.fits in omega arith) in
-      let u = opened_world h v w in
-      let settled = opening_settled honest board limit h d w v l.0 i p to begun.0 (opening_done honest limit h d p first made w.tables begun.0 begun.1) in
-      let world = opening_world honest board limit h d w v l.0 i p to in
-      let works = works_can honest board h now u x begun.0 settled world begun.2 (Ingest ws r) second ln a tt toa fa in
+      let u = opened_world h v.0 w in
+      let settled = opening_settled honest board limit h d w v.0 l.0 i p v.1 begun.0 (opening_done honest limit h d p first made w.tables begun.0 begun.1) in
+      let world = opening_world honest board limit h d w v.0 l.0 i p v.1 in
+      let works = works_can honest board h now u x.0 begun.0 settled world begun.2 (Ingest ws r) a.0 ln a.1 tt x.1 fa in
       let kept = works_keep law honest board (Answered (Ingest ws r) ∷ []) h now u works.0 begun.0 works.1 l settled world works.2 in
-      let cut = cut_can honest board now new (Ingest xs s) third works.0 y works.1 lx b tt tob fb in
+      let cut = cut_can honest board now new (Ingest xs s) b.0 works.0 y.0 works.1 lx b.1 tt y.1 fb in
       let held = cut_known law honest board now new (Ingest xs s) works.0 cut.0 works.1 works.1 kept.2 kept.0 kept.1 cut.1 in
       let crash = crashed_can cut.0 works.1 held.0 held.1.sure_of in
-      let lived : Lived honest board limit (Struck h now new (Answered (Ingest ws r) ∷ []) (Ingest xs s)) w d crash.0 crash.1 = (u, works.0, begun.0, works.1, cut.0, works.1, (v, first, l, p, made, to, begun.1, refl {a = u}), works.2, cut.1, crash.2) in
+      let lived : Lived honest board limit (Struck h now new (Answered (Ingest ws r) ∷ []) (Ingest xs s)) w d crash.0 crash.1 = (u, works.0, begun.0, works.1, cut.0, works.1, (v.0, first, l, p, made, v.1, begun.1, refl {a = u}), works.2, cut.1, crash.2) in
       record {
         world = crash.0;
         left = crash.1;
         lived = lived;
-        again = λ other more g q asks z lg mg tg.
-            (let m = opens_can honest other more g crash.0 crash.1 q asks z lg mg tg in
-            let n = opened_world g z crash.0 in
-            (n, m.0, (board, limit, crash.0, crash.1, lived, (other, more, n, m.0, (n, m.0, m.1, (refl, refl, no_gap n.tables m.0)), (refl, refl)))));
+        again = λ other more g q lg.
+            (let m = opens_can honest other more g crash.0 crash.1 q lg in
+            (m.0, m.1, (board, limit, crash.0, crash.1, lived, (other, more, m.0, m.1, (m.0, m.1, m.2, (refl, refl, no_gap m.0.tables m.1)), (refl, refl)))));
       }
 
 -- ---- from an empty folder
@@ -215,36 +250,48 @@ empty_fresh = record {
   one = λ p q i e f. absurd (none_is i e);
 }
 
-module _ (honest : Type 0) (board : TableId) (h : Held) (m : IsMade h) (asks : List Asked) (v : Version) (l : IsState honest board h) (made : HasMade asks m.was m.now) (to : ComesTo h.journal.bytes v) where
-  -- a crash before its first call has acted
-  unmade_can : (d : Disk) → MakesCut honest board h (starting nothing h.journal.number v) d d
+module _ (honest : Type 0) (board : TableId) (h : Held) (m : IsMade h) (l : IsState honest board h) where
+  abbrev first : List Asked
+  first = StartManifest h.journal.number h.journal.bytes ∷ []
+
+  made : HasMade first m.was m.now
+  made = create_made h m
+
+  v : (v : Version) × ComesTo h.journal.bytes v
+  v = state_comes honest board h l
+
+  w : World
+  w = started nothing h.journal.number h.journal.bytes v.0
+
+  -- a crash in its first call, which has not acted
+  unmade_can : (d : Disk) → MakesCut honest board h (starting nothing h.journal.number v.0) d d
   unmade_can d =
       let cut : CutAmong nothing.tables (start_plan h.journal.number h.journal.bytes) d d = (d, no_gap nothing.tables d, inr (inl (folder.Failed, d, inl refl, no_gap nothing.tables d))) in
-      (v, asks, l, m, made, to, subst (λ xs. CutAmong nothing.tables (plans_of m.number xs) d d) (sym (create_asks h m asks made)) cut, refl)
+      (v.0, first, l, m, made, v.1, cut, refl)
 
-  pub first_lives : TablesChange → (new : Held) (more : List Asked) (ws : List Write) (r : Ingested) (s : Version) → IsState honest board new → Asks h new (Ingest ws r) more → ComesTo new.journal.bytes s → Follows honest h new (Answered (Ingest ws r))
+  pub first_lives : TablesChange → (new : Held) (ws : List Write) (r : Ingested) (was is : Told) → IsState honest board new → IsWelcome h ws → Ingests h new ws r was is → Follows honest h new (Answered (Ingest ws r))
       → (u : World) × (e : Disk) × FromNothing honest (h ∷ []) (Worked h new (Answered (Ingest ws r) ∷ []) ∷ []) empty_disk (Some u) e
-  first_lives law new more ws r s ln a later f =
+  unfolding w
+  first_lives law new ws r was is ln welcome came f =
       let q = table_name h.next in
       let small : h.next < 2 ^ 64 = (let n : h.next ≡ m.number + 1 = ap (λ (x : Held). x.next) m.is in let x = m.fits in omega arith) in
       let start = start_free nothing.tables empty_disk h.journal.number h.journal.bytes q refl (λ e. table_manifest h.next h.journal.number small (sym e)) (λ e. table_temporary h.next h.journal.number (sym e)) (λ e. table_current h.next (sym e)) in
-      let done = subst (λ xs. DoneAmong nothing.tables (plans_of m.number xs) empty_disk start.0) (sym (create_asks h m asks made)) start.1 in
-      let w = started nothing h.journal.number h.journal.bytes v in
-      let i = made_settled honest board h v l.0 m to empty_disk start.0 empty_vacant (making_done h m asks made empty_disk start.0 done) in
-      let o = made_world honest board h v l.0 m to in
-      let works = works_can honest board h new w s start.0 i o start.2 (Ingest ws r) more ln a tt later f in
+      let i = made_settled honest board h v.0 l.0 m v.1 empty_disk start.0 empty_vacant start.1 in
+      let o = made_world honest board h v.0 l.0 m v.1 in
+      let s = state_comes honest board new ln in
+      let a = asked h new ws r was is welcome came in
+      let works = works_can honest board h new w s.0 start.0 i o start.2 (Ingest ws r) a.0 ln a.1 tt s.1 f in
       let kept = works_keep law honest board (Answered (Ingest ws r) ∷ []) h new w works.0 start.0 works.1 l i o works.2 in
-      let crash = crashed_can (known_of works.0) works.1 (settled_held works.1 works.0 kept.0) refl in
-      (
+      let crash = crashed_can (known_of works.0) works.1 (settled_held works.1 works.0 kept.0) refl in (
         crash.0,
         crash.1,
         (
           board,
-          starting nothing h.journal.number v,
+          starting nothing h.journal.number v.0,
           empty_disk,
           empty_disk,
           unmade_can empty_disk,
           ((λ name. None), empty_left, empty_fresh, refl),
-          (board, crash.0, crash.1, crash.0, (w, works.0, start.0, works.1, (v, asks, l, m, made, to, done, refl), works.2, crash.2), (refl, refl), refl),
+          (board, crash.0, crash.1, crash.0, (w, works.0, start.0, works.1, (v.0, first, l, m, made, v.1, start.1, refl), works.2, crash.2), (refl, refl), refl),
         ),
       )

@@ -54,7 +54,7 @@ module _ (h : Held) (c : Difference) (v : Version) (w : World) (d : Disk) (i : I
   pub write_can : Can w v (changes_by h c ∷ []) d
   write_can = write_at (is_at_limit h.journal)
 
-removes_can : (v : Version) (ns : List ℕ) (w : World) (d : Disk) → Can w v (map RemoveTable ns) d
+pub removes_can : (v : Version) (ns : List ℕ) (w : World) (d : Disk) → Can w v (map RemoveTable ns) d
 removes_can v [] w d = (d, (refl, no_gap w.tables d))
 removes_can v (n ∷ ns) w d =
     let r = remove_can (after w (Remove n)).tables n d in

@@ -159,7 +159,6 @@ pub record SmallAges (honest : Type 0) (board : TableId) (limit : ℕ) (life : L
   pub world : World
   pub left : Disk
   pub lived : Lived honest board limit life w d world left
-  pub again : (other : TableId) (more : ℕ) (h : Held) (p : Opens honest more h left)
-      (asks : List Asked) (v : Version) → IsState honest other h → HasMade asks p.was p.is
-      → ComesTo h.journal.bytes v
+  pub again : (other : TableId) (more : ℕ) (h : Held) → Opens honest more h left
+      → IsState honest other h
       → (u : World) × (e : Disk) × Ages honest (life ∷ Closed h h [] ∷ []) w d u e

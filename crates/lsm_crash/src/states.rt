@@ -8,6 +8,8 @@ ghost use Rattle.atomic_table.specs.Seated.{TableId};
 ghost use Rattle.lsm_codec.specs.Entries.{Entry};
 ghost use Rattle.lsm_codec.specs.Lists.{Has};
 ghost use Rattle.lsm_levels.specs.Files.{File};
+ghost use Rattle.lsm_levels.specs.Plain as machine;
+ghost use Rattle.lsm_levels.specs.Plain.{Spends};
 ghost use Rattle.lsm_storage.specs.FileNames.{table_name};
 ghost use Rattle.lsm_shelf.specs.Asked.{Asked, Put, Remove, StartManifest};
 ghost use Rattle.lsm_shelf.specs.Stored.{Stored};
@@ -18,9 +20,10 @@ ghost use Rattle.lsm_merge.specs.Work.{Done, puts_by};
 ghost use Rattle.lsm_state.specs.Asked.{changes_by};
 ghost use Rattle.lsm_state.specs.Collecting.{AreCollected, HasLookedAround, IsCollectRefusal};
 ghost use Rattle.lsm_state.specs.Collecting.{IsKeptNumber};
-ghost use Rattle.lsm_state.specs.Held.{Held};
+ghost use Rattle.lsm_state.specs.Held.{Held, plain};
 ghost use Rattle.lsm_state.specs.Ingesting.{FailsToChange, FailsToPut, Ingests, IsIngestRefusal};
-ghost use Rattle.lsm_state.specs.Ingesting.{IsWelcome, coming_in, last_of, table_bytes_of};
+ghost use Rattle.lsm_state.specs.Ingesting.{IsWelcome, coming_in, entries_of, last_of};
+ghost use Rattle.lsm_state.specs.Ingesting.{table_bytes_of};
 ghost use Rattle.lsm_state.specs.Ingesting.{with_number, with_slots};
 ghost use Rattle.lsm_state.specs.Installing.{Installed, IsInstallRefusal};
 ghost use Rattle.lsm_state.specs.declared.ingest.Ingested.{Ingested};
@@ -36,8 +39,8 @@ ghost use Rattle.lsm_crash.specs.Database.{AllowsAll, Asks, Deed, IsCut, IsReady
 ghost use Rattle.lsm_crash.specs.Database.{Answered, Follows, HasMade, IsMade, Opens};
 ghost use Rattle.lsm_crash.specs.Database.{Ingest, SmallRun, Works, after_all, opened_world};
 ghost use Rattle.lsm_crash.specs.Database.{plans_of};
-ghost use Rattle.lsm_crash.specs.Database.{Builds, Install, IsDrawn, Looks, Refused, Stays};
-ghost use Rattle.lsm_crash.specs.Database.{operations};
+ghost use Rattle.lsm_crash.specs.Database.{Builds, Collect, Install, IsDrawn, Looks, Refused};
+ghost use Rattle.lsm_crash.specs.Database.{Stays, operations};
 ghost use Rattle.lsm_crash.specs.Lives.{Ages, AllLeave, Answers, FromNothing, Life};
 ghost use Rattle.lsm_crash.specs.Lives.{SmallAges, Struck, Worked, brought};
 ghost use Rattle.lsm_crash.specs.Versions.{ComesTo, Tables, Version};
@@ -289,13 +292,13 @@ pub fn ingests_survive_crashes<P: Premise>()
 /// and power be cut, and then its version is found (`small`). Where a shelf holds just what the
 /// folder shows, an opening is given that (`given`).
 ///
-/// So can the premises of runs with other turns, and of lives. A call that changes nothing is a turn
-/// (`looks`); a table is put whose number a live job has drawn (`builds`); and where the contract of
-/// an ingest or of an install tells of a refusal, that is a turn (`refused`, `install_err`). A call
-/// that would be answered Ok may be cut in its first call of the folder (`cut`), or behind its last
-/// (`cut_late`). A database is opened, an ingest is answered Ok, the next one is cut, and any
-/// opening of what is left is a life more (`ages`). In an empty folder a try to make a database is
-/// cut; then it is made, the batch is put, and power is cut (`new`).
+/// So can the premises of runs with other turns, and of lives. A call that changes nothing is a
+/// turn (`looks`); a table is put whose number a live job has drawn (`builds`); and what contracts
+/// say of a refused call is a turn (`ingest_err`, `install_err`, `collect_err`). An ingest may be
+/// cut in its first call of the folder, or behind its last (`cut`). A database is opened, an ingest
+/// is answered Ok, the next one is cut, and any opening of what is left is a life more (`ages`). In
+/// an empty folder a try to make a database is cut; then it is made, an ingest is answered Ok, and
+/// power is cut (`new`).
 pub fn premises_of_runs_are_met<P: Premise>()
     ensures answered { (board : TableId) (old new : Held) (deed : Deed) (asks : List Asked)
         (w : World) (v : Version) (d : Disk) → IsState P.holds board new → IsSettled d w
@@ -320,46 +323,48 @@ pub fn premises_of_runs_are_met<P: Premise>()
         → w.tables number ≡ None → d.names (table_name number) ≡ None
         → (e : Disk) × Works P.holds board h h (Builds number image ∷ []) w
         (counting number image w) d e }
-    ensures refused { (board : TableId) (old new : Held) (ws : List Write) (r : Ingested)
+    ensures ingest_err { (board : TableId) (old new : Held) (ws : List Write) (r : Ingested)
         (fault : StateFault) (was is : Told) (w : World) (d : Disk)
         → IsState P.holds board new → IsSettled d w → IsWorldOf old w
         → d.names (table_name old.next) ≡ None → IsIngestRefusal old new ws fault was is
-        → new.halted ≡ false → Follows P.holds old new (Refused (Ingest ws r))
+        → new.halted ≡ false → Spends (plain old) (plain new)
         → (u : World) × (e : Disk)
         × Works P.holds board old new (Refused (Ingest ws r) ∷ []) w u d e }
     ensures install_err { (board : TableId) (old new : Held) (done : Done) (fault : StateFault)
         (was is : Told) (w : World) (d : Disk) → IsState P.holds board new
         → IsInstallRefusal old new done fault was is → Becomes was is → new.halted ≡ false
-        → Follows P.holds old new (Refused (Install done))
+        → Spends (plain old) (plain new)
         → (u : World) × (e : Disk)
         × Works P.holds board old new (Refused (Install done) ∷ []) w u d e }
-    ensures cut { (board : TableId) (old new : Held) (deed : Deed) (asks : List Asked) (w : World)
-        (v : Version) (d : Disk) → IsState P.holds board new → Asks old new deed asks
-        → IsReady P.holds deed w → ComesTo new.journal.bytes v
-        → Follows P.holds old new (Answered deed)
-        → (known : Known) × IsCut P.holds board old new deed w known d d }
-    ensures cut_late { (board : TableId) (old new : Held) (deed : Deed) (asks : List Asked)
-        (w : World) (v : Version) (d : Disk) → IsSettled d w → IsWorldOf old w
-        → d.names (table_name old.next) ≡ None → IsState P.holds board new
-        → Asks old new deed asks → IsReady P.holds deed w → ComesTo new.journal.bytes v
-        → Follows P.holds old new (Answered deed)
-        → (known : Known) × (e : Disk) × IsCut P.holds board old new deed w known d e }
-    ensures ages { (board : TableId) (limit : ℕ) (h now new : Held) (first second third : List Asked)
-        (ws xs : List Write) (r s : Ingested) (w : World) (d : Disk) (v x y : Version)
+    ensures collect_err { (board : TableId) (old new : Held) (removed : List ℕ)
+        (fault : StateFault) (was is : Told) (w : World) (d : Disk) → IsState P.holds board new
+        → new ≡ with_slots old new.slots → IsCollectRefusal old new fault removed was is
+        → ((asks : List Asked) (number : ℕ) → HasMade asks was is → Has asks (Remove number)
+        → number < 2 ^ 64) → new.halted ≡ false → Spends (plain old) (plain new)
+        → (u : World) × (e : Disk)
+        × Works P.holds board old new (Refused (Collect removed) ∷ []) w u d e }
+    ensures cut { (board : TableId) (old new : Held) (ws : List Write) (r : Ingested)
+        (was is : Told) (w : World) (d : Disk) → IsState P.holds board new → IsSettled d w
+        → IsWorldOf old w → d.names (table_name old.next) ≡ None
+        → IsWelcome old ws → Ingests old new ws r was is
+        → machine.Ingests (plain old) (entries_of old ws) (plain new)
+        → (known : Known) × (all : Known) × (e : Disk)
+        × IsCut P.holds board old new (Ingest ws r) w known d d
+        × IsCut P.holds board old new (Ingest ws r) w all d e }
+    ensures ages { (board : TableId) (limit : ℕ) (h now new : Held) (ws xs : List Write)
+        (r s : Ingested) (w : World) (d : Disk) (was is then so : Told)
         → IsState P.holds board h → IsState P.holds board now → IsState P.holds board new
-        → IsSettled d w → d.names (table_name h.next) ≡ None
-        → (p : Opens P.holds limit h d) → HasMade first p.was p.is → ComesTo h.journal.bytes v
-        → Asks h now (Ingest ws r) second → ComesTo now.journal.bytes x
-        → Follows P.holds h now (Answered (Ingest ws r))
-        → Asks now new (Ingest xs s) third → ComesTo new.journal.bytes y
-        → Follows P.holds now new (Answered (Ingest xs s))
+        → IsSettled d w → d.names (table_name h.next) ≡ None → Opens P.holds limit h d
+        → IsWelcome h ws → Ingests h now ws r was is
+        → machine.Ingests (plain h) (entries_of h ws) (plain now)
+        → IsWelcome now xs → Ingests now new xs s then so
+        → machine.Ingests (plain now) (entries_of now xs) (plain new)
         → SmallAges P.holds board limit
         (Struck h now new (Answered (Ingest ws r) ∷ []) (Ingest xs s)) w d }
-    ensures new { (board : TableId) (h new : Held) (first asks : List Asked) (ws : List Write)
-        (r : Ingested) (v s : Version) → IsState P.holds board h → IsState P.holds board new
-        → (m : IsMade h) → HasMade first m.was m.now → ComesTo h.journal.bytes v
-        → Asks h new (Ingest ws r) asks → ComesTo new.journal.bytes s
-        → Follows P.holds h new (Answered (Ingest ws r))
+    ensures new { (board : TableId) (h new : Held) (ws : List Write) (r : Ingested)
+        (was is : Told) → IsState P.holds board h → IsState P.holds board new → IsMade h
+        → IsWelcome h ws → Ingests h new ws r was is
+        → machine.Ingests (plain h) (entries_of h ws) (plain new)
         → (u : World) × (e : Disk) × FromNothing P.holds (h ∷ [])
         (Worked h new (Answered (Ingest ws r) ∷ []) ∷ []) empty_disk (Some u) e }
     ensures given { (v : Levels) (d : Disk) (was : Told) → (s : Shown v d)

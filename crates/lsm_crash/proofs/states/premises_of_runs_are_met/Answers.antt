@@ -1,4 +1,4 @@
-use Rattle.lsm_crash.proofs.Examples.{builds_can, cut_can, cut_late, first_lives, looks_can, refused_ingest, refused_install, small_ages}
+use Rattle.lsm_crash.proofs.Examples.{builds_can, first_lives, ingest_cut, looks_can, refused_collect, refused_ingest, refused_install, small_ages}
 use Rattle.lsm_crash.proofs.Possible.{given_shows, opened_can, small_run, works_can}
 use Rattle.lsm_crash.proofs.states.premises_of_runs_are_met.Goals as goal
 
@@ -20,20 +20,20 @@ returns-clause-looks g c = λ board. looks_can g.P.Premise.holds board
 pub returns-clause-builds : goal.returns-clause-builds
 returns-clause-builds g c = λ board. builds_can g.P.Premise.holds board
 
-pub returns-clause-refused : goal.returns-clause-refused
-returns-clause-refused g c = λ board. refused_ingest g.P.Premise.holds board
+pub returns-clause-ingest_err : goal.returns-clause-ingest_err
+returns-clause-ingest_err g c = λ board. refused_ingest g.P.Premise.holds board
 
 pub returns-clause-install_err : goal.returns-clause-install_err
 returns-clause-install_err g c = λ board. refused_install g.P.Premise.holds board
 
-pub returns-clause-cut : goal.returns-clause-cut
-returns-clause-cut g c = λ board. cut_can g.P.Premise.holds board
+pub returns-clause-collect_err : goal.returns-clause-collect_err
+returns-clause-collect_err g c = λ board. refused_collect g.P.Premise.holds board
 
-pub returns-clause-cut_late : goal.returns-clause-cut_late
-returns-clause-cut_late g c = λ board. cut_late g.P.Premise.holds board
+pub returns-clause-cut : goal.returns-clause-cut
+returns-clause-cut g c = λ board. ingest_cut g.P.Premise.holds board
 
 pub returns-clause-ages : goal.returns-clause-ages
-returns-clause-ages g c = λ board limit h now new first second third ws xs r s w d v x y. small_ages c.changed_tables.ensures g.P.Premise.holds board limit h now new first second third ws xs r s w d v x y
+returns-clause-ages g c = λ board limit h now new ws xs r s w d. small_ages c.changed_tables.ensures g.P.Premise.holds board limit h now new ws xs r s w d
 
 pub returns-clause-new : goal.returns-clause-new
-returns-clause-new g c = λ board h new first asks ws r v s l ln m made to a later f. first_lives g.P.Premise.holds board h m first v l made to c.changed_tables.ensures new asks ws r s ln a later f
+returns-clause-new g c = λ board h new ws r was is l ln m. first_lives g.P.Premise.holds board h m l c.changed_tables.ensures new ws r was is ln
