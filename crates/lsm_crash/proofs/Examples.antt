@@ -37,13 +37,15 @@ use Rattle.lsm_crash.proofs.Standing.{at_makes}
 use Rattle.lsm_crash.proofs.Held.{settled_held, surely_recovers}
 use Rattle.lsm_crash.proofs.Tables.{put_stands}
 use Rattle.lsm_crash.proofs.Asides.{aside_folder, aside_made, aside_synced}
+use Rattle.lsm_crash.proofs.Histories.{crashed}
+use Rattle.lsm_crash.proofs.Runs.{cut_held}
 use Rattle.lsm_crash.proofs.Calls.{no_gap}
 use Rattle.lsm_crash.proofs.Instances.{crash_can, empty_vacant, put_can}
 use Rattle.lsm_crash.proofs.Asking.{collect_err_made, create_made, ingest_err_made, ingest_made, open_asks, open_made}
 use Rattle.lsm_crash.proofs.Forms.{recorded_comes}
 use Rattle.lsm_crash.proofs.Worlds.{TablesChange}
 use Rattle.lsm_crash.proofs.Making.{made_settled, made_world}
-use Rattle.lsm_crash.proofs.Opening.{opening_done, opening_settled, opening_world}
+use Rattle.lsm_crash.proofs.Opening.{opening_allowed, opening_done, opening_settled, opening_world}
 use Rattle.lsm_crash.proofs.Turning.{cut_known, works_keep}
 use Rattle.lsm_crash.proofs.Possible.{Can, deed_can, opened_can, removes_can, start_free, works_can}
 
@@ -234,6 +236,13 @@ module _ (law : TablesChange) (honest : Type 0) (board : TableId) (limit : ℕ) 
         again = λ other more g q lg.
             (let m = opens_can honest other more g crash.0 crash.1 q lg in
             (m.0, m.1, (board, limit, crash.0, crash.1, lived, (other, more, m.0, m.1, (m.0, m.1, m.2, (refl, refl, no_gap m.0.tables m.1)), (refl, refl)))));
+        cut = λ other more g q lg.
+            (let z = state_comes honest other g lg in
+            let o = Start g.journal.number g.journal.bytes z.0 in
+            let alive = crashed works.1 crash.1 cut.0 crash.2.0 crash.0 held.0 crash.2.1 crash.2.2 crash.2.3 in
+            let c : CutAmong crash.0.tables (start_plan g.journal.number g.journal.bytes) crash.1 crash.1 = cut_first crash.0 o crash.1 in
+            let m = crashed_can (either crash.0 o) crash.1 (cut_held crash.1 crash.1 crash.0 o alive (opening_allowed honest other more g crash.1 crash.0 z.0 lg.0 alive q z.1) c) refl in
+            (m.0, m.1, (board, limit, crash.0, crash.1, lived, (other, more, m.0, m.1, (either crash.0 o, crash.1, (z.0, StartManifest g.journal.number g.journal.bytes ∷ [], lg, q, open_made honest more g crash.1 q, z.1, c, refl), m.2), (refl, refl)))));
       }
 
 -- ---- from an empty folder
