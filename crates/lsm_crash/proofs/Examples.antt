@@ -59,7 +59,7 @@ fails_can w (Append text version) d = (d, no_gap w.tables d, inl refl)
 fails_can w (Start number bytes version) d = (d, no_gap w.tables d, inl refl)
 
 -- behind those that are Ok
-all_fail : (os next : List Operation) (w u : World) (d e : Disk) → AllDone w os u d e → (x : World) × (m : Disk) × AllFail w os next x d m
+pub all_fail : (os next : List Operation) (w u : World) (d e : Disk) → AllDone w os u d e → (x : World) × (m : Disk) × AllFail w os next x d m
 all_fail [] [] w u d e h = (w, e, (refl, h.1))
 all_fail [] (o ∷ next) w u d e h = (failed w o, d, (fails_can w o d, refl))
 all_fail (o ∷ os) next w u d e h = (let r = all_fail os next (after w o) u h.0 e h.2 in (r.0, r.1, (h.0, h.1, r.2)))

@@ -32,7 +32,7 @@ ghost use Rattle.lsm_crash.specs.Disk.{Disk, Shows, empty_disk};
 ghost use Rattle.lsm_crash.specs.Crash.{Found, IsFresh, IsLeft};
 ghost use Rattle.lsm_crash.specs.Known.{IsHeld, IsSettled, IsVacant, Known, World};
 ghost use Rattle.lsm_crash.specs.Known.{current_name, nothing};
-ghost use Rattle.lsm_crash.specs.Operations.{started};
+ghost use Rattle.lsm_crash.specs.Operations.{Operation, started};
 ghost use Rattle.lsm_crash.specs.Among.{CutAmong, DoneAmong, counting};
 ghost use Rattle.lsm_crash.specs.States.{Describes, Finds, IsWorldOf, Shown};
 ghost use Rattle.lsm_crash.specs.Database.{AllowsAll, Asks, Deed, IsCut, IsReady, IsState, Turn};
@@ -40,7 +40,7 @@ ghost use Rattle.lsm_crash.specs.Database.{Answered, Follows, HasMade, IsMade, O
 ghost use Rattle.lsm_crash.specs.Database.{Ingest, SmallRun, Works, after_all, opened_world};
 ghost use Rattle.lsm_crash.specs.Database.{plans_of};
 ghost use Rattle.lsm_crash.specs.Database.{Builds, Collect, Install, IsDrawn, Looks, Refused};
-ghost use Rattle.lsm_crash.specs.Database.{Stays, operations};
+ghost use Rattle.lsm_crash.specs.Database.{AllDone, AllFail, Stays, operations};
 ghost use Rattle.lsm_crash.specs.Lives.{Ages, AllLeave, Answers, FromNothing, Life};
 ghost use Rattle.lsm_crash.specs.Lives.{SmallAges, Struck, Worked, brought};
 ghost use Rattle.lsm_crash.specs.Versions.{ComesTo, Tables, Version};
@@ -293,11 +293,12 @@ pub fn ingests_survive_crashes<P: Premise>()
 /// folder shows, an opening is given that (`given`).
 ///
 /// So can the premises of runs with other turns, and of lives. A call that changes nothing is a
-/// turn (`looks`); a table is put whose number a live job has drawn (`builds`); and what contracts
-/// say of a refused call is a turn (`ingest_err`, `install_err`, `collect_err`). An ingest may be
-/// cut in its first call of the folder, or behind its last (`cut`). A database is opened, an ingest
-/// is answered Ok, the next one is cut, and any opening of what is left is a life more, or is cut
-/// (`ages`). In an empty folder a try to make a database is cut; then it is made, an ingest is
+/// turn (`looks`); a table is put whose number a live job has drawn (`builds`). Behind what was
+/// answered Ok any operation may be refused so that the database goes on (`fails`), and what
+/// contracts say of a refused call is a turn (`ingest_err`, `install_err`, `collect_err`). An ingest
+/// may be cut in its first call of the folder, or behind its last (`cut`). A database is opened, an
+/// ingest is answered Ok, the next one is cut, and any opening of what is left is a life more, or is
+/// cut (`ages`). In an empty folder a try to make a database is cut; then it is made, an ingest is
 /// answered Ok, and power is cut (`new`).
 pub fn premises_of_runs_are_met<P: Premise>()
     ensures answered { (board : TableId) (old new : Held) (deed : Deed) (asks : List Asked)
@@ -323,6 +324,8 @@ pub fn premises_of_runs_are_met<P: Premise>()
         → w.tables number ≡ None → d.names (table_name number) ≡ None
         → (e : Disk) × Works P.holds board h h (Builds number image ∷ []) w
         (counting number image w) d e }
+    ensures fails { (os next : List Operation) (w u : World) (d e : Disk) → AllDone w os u d e
+        → (x : World) × (m : Disk) × AllFail w os next x d m }
     ensures ingest_err { (board : TableId) (old new : Held) (ws : List Write) (r : Ingested)
         (fault : StateFault) (was is : Told) (w : World) (d : Disk)
         → IsState P.holds board new → IsSettled d w → IsWorldOf old w
