@@ -33,3 +33,4 @@ mod Answering
 mod Soundness
 mod Lives
 mod Reopening
+mod Examples

@@ -81,7 +81,7 @@ module _ (honest : Type 0) (board : TableId) (h : Held) (v : Version) (l : IsLaw
     fits = (let n : h.next ≡ m.number + 1 = ap (λ (x : Held). x.next) m.is in let a = m.fits in omega arith);
   }
 
-  -- of which no table can be wrong
+  -- it has no table
   pub no_tables : (level : ℕ) (t : Table) → Has (level_in h.slots.version.tables level) t → ⊥
   no_tables = nothing_in h.slots.version.tables (each_none 7 h.slots.version.tables (ap (λ (x : Held). x.slots.version.tables) m.is))
 

@@ -36,7 +36,7 @@ use Rattle.lsm_crash.proofs.Making.{made_settled, made_world, making_done}
 use Rattle.lsm_crash.proofs.Turning.{rest_leaves, works_keep}
 
 -- these can be done, one after another, from this disk
-abbrev Can : World → Version → List Asked → Disk → Type 0
+abbrev pub Can : World → Version → List Asked → Disk → Type 0
 Can w v asks d = (e : Disk) × AllDone w (operations v asks) (after_all w (operations v asks)) d e
 
 -- the write of a manifest
@@ -54,7 +54,7 @@ module _ (h : Held) (c : Difference) (v : Version) (w : World) (d : Disk) (i : I
   pub write_can : Can w v (changes_by h c ∷ []) d
   write_can = write_at (is_at_limit h.journal)
 
-removes_can : (v : Version) (ns : List ℕ) (w : World) (d : Disk) → Can w v (map RemoveTable ns) d
+pub removes_can : (v : Version) (ns : List ℕ) (w : World) (d : Disk) → Can w v (map RemoveTable ns) d
 removes_can v [] w d = (d, (refl, no_gap w.tables d))
 removes_can v (n ∷ ns) w d =
     let r = remove_can (after w (Remove n)).tables n d in
@@ -86,15 +86,13 @@ pub opened_can : (honest : Type 0) (limit : ℕ) (h : Held) (d : Disk) (p : Open
 opened_can honest limit h d p asks made tables =
     subst (λ xs. (e : Disk) × DoneAmong tables (plans_of p.begun.before.number xs) d e) (sym (open_asks honest limit h d p asks made)) (start_can tables h.journal.number h.journal.bytes d)
 
--- a manifest in an empty folder, of which a table has no name
-start_empty : (number : ℕ) (bytes q : List ℕ) → (manifest_name number ≡ q → ⊥) → (temporary_name number ≡ q → ⊥) → (current_name ≡ q → ⊥)
-    → (e : Disk) × DoneAmong nothing.tables (start_plan number bytes) empty_disk e × (e.names q ≡ None)
-start_empty number bytes q m t c =
-    let tables = nothing.tables in
+-- a manifest is started, and a name that had no file has none
+pub start_free : (tables : Tables) (d : Disk) (number : ℕ) (bytes q : List ℕ) → d.names q ≡ None → (manifest_name number ≡ q → ⊥) → (temporary_name number ≡ q → ⊥) → (current_name ≡ q → ⊥)
+    → (e : Disk) × DoneAmong tables (start_plan number bytes) d e × (e.names q ≡ None)
+start_free tables d number bytes q free m t c =
     let M = manifest_name number in
     let T = temporary_name number in
     let text = current_text number in
-    let d = empty_disk in
     let d1 = with_file M bytes d in
     let a1 = at_writes d d1 M bytes (inl refl) in
     let d2 = filled a1.0 (d1.bytes a1.0) (length (d1.bytes a1.0)) d1 in
@@ -105,7 +103,7 @@ start_empty number bytes q m t c =
     let d6 = with_names (moved d5.names T current_name a4.0) d5 in
     let d7 : Disk = record d6 { past = d6.names ∷ [] } in
     let names = named_else (named d5.names current_name (Some a4.0)) T None q t
-    ∙ (named_else d5.names current_name (Some a4.0) q c ∙ (named_else d3.names T (Some d3.next) q t ∙ named_else d.names M (Some d.next) q m)) in
+    ∙ (named_else d5.names current_name (Some a4.0) q c ∙ (named_else d3.names T (Some d3.next) q t ∙ (named_else d.names M (Some d.next) q m ∙ free))) in
     (d7, (d, no_gap tables d, (d1, inl refl, (d1, no_gap tables d1, (d2, (a1.0, a1.1.names, refl), (d2, no_gap tables d2, (d3, refl, (d3, no_gap tables d3, (d4, inl refl, (d4, no_gap tables d4, (d5, (a4.0, a4.1.names, refl), (d5, no_gap tables d5, (d6, (a4.0, a4.1.names, refl), (d6, no_gap tables d6, (d7, refl, no_gap tables d7)))))))))))))), names)
 
 -- ---- a new database, an ingest, and a crash behind it
@@ -117,7 +115,7 @@ small_run law honest board h new m first asks ws r v s l ln made to a later f =
     let q = table_name h.next in
     let small : m.number < 2 ^ 64 = (let x = m.fits in omega arith) in
     let number : h.journal.number ≡ m.number = ap (λ (x : Held). x.journal.number) m.is in
-    let start = start_empty h.journal.number h.journal.bytes q (λ e. table_manifest h.next h.journal.number (let n : h.next ≡ m.number + 1 = ap (λ (x : Held). x.next) m.is in let x = m.fits in omega arith) (sym e))
+    let start = start_free nothing.tables empty_disk h.journal.number h.journal.bytes q refl (λ e. table_manifest h.next h.journal.number (let n : h.next ≡ m.number + 1 = ap (λ (x : Held). x.next) m.is in let x = m.fits in omega arith) (sym e))
     (λ e. table_temporary h.next h.journal.number (sym e)) (λ e. table_current h.next (sym e)) in
     let done = subst (λ xs. DoneAmong nothing.tables (plans_of m.number xs) empty_disk start.0) (sym (create_asks h m first made)) start.1 in
     let w = started nothing h.journal.number h.journal.bytes v in

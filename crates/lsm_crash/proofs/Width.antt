@@ -3,12 +3,12 @@ use Rattle.std.proofs.Common.{◌≡◌, ℕ, ◌+◌, ◌≤◌, List, ◌++◌
 use Rattle.std.specs.Prelude.{Option, Ok}
 use Rattle.std.specs.Str.{bytes_eq}
 use Rattle.std.proofs.lemmas.Bool.{cases_Bool}
-use Rattle.std.proofs.lemmas.List.{take_all}
+use Rattle.std.proofs.lemmas.List.{length-append, length-take-le, take_all, take_at}
 use Rattle.std.proofs.lemmas.Slice.Eq.{bytes_eq-Decides}
 use Rattle.lsm_codec.specs.Lists.{Has}
 use Rattle.lsm_folder.specs.Calls.{appended, made, renamed, removed, wrote}
 use Rattle.lsm_crash.specs.Disk.{Disk, Names, Shows, Step, filled, moved, named, set, with_file, with_names, without}
-use Rattle.lsm_crash.specs.Crash.{IsFileLeft, IsLeft, MayFind, MayFindBoth, front_of, mixed}
+use Rattle.lsm_crash.specs.Crash.{IsFileLeft, IsFileSpoilt, IsLeft, IsSpoilt, MayFind, MayFindBoth, front_of, mixed, rest_of, spoilt}
 use Rattle.lsm_crash.specs.Known.{Is, IsSound, Stands}
 use Rattle.lsm_crash.proofs.Disks.{along, named_at, named_else, set_at, set_else, some_is}
 use Rattle.lsm_crash.proofs.Standing.{sure, take_past}
@@ -19,6 +19,18 @@ front_left d fronts (Some i) above = (fronts i, above i, refl)
 
 pub mixed_left : (d : Disk) (moments : List ℕ → Names) (fronts : ℕ → ℕ) → ((name : List ℕ) → Has d.past (moments name)) → ((i : ℕ) → d.kept i ≤ fronts i) → IsLeft d (mixed d moments fronts)
 mixed_left d moments fronts past above = record { each = λ name. (moments name name, (moments name, past name, refl), front_left d fronts (moments name name) above) }
+
+rest_left : (d : Disk) (garbage : ℕ → List ℕ) (o : Option ℕ) → ((i : ℕ) → d.kept i + length (garbage i) ≤ length (d.bytes i)) → IsFileSpoilt d o (rest_of d garbage o)
+rest_left d garbage None fits = tt
+rest_left d garbage (Some i) fits =
+    let front = take (d.kept i) (d.bytes i) in
+    let f = fits i in
+    let kept : length front ≡ d.kept i = length-take-le (d.kept i) (d.bytes i) (omega arith) in
+    let all : length (front ++ garbage i) ≡ length front + length (garbage i) = length-append front (garbage i) in
+    (omega arith, omega arith, take_at front (garbage i) (d.kept i) kept)
+
+pub spoilt_left : (d : Disk) (moments : List ℕ → Names) (garbage : ℕ → List ℕ) → ((name : List ℕ) → Has d.past (moments name)) → ((i : ℕ) → d.kept i + length (garbage i) ≤ length (d.bytes i)) → IsSpoilt d (spoilt d moments garbage)
+spoilt_left d moments garbage past fits = record { each = λ name. (moments name name, (moments name, past name, refl), rest_left d garbage (moments name name) fits) }
 
 -- ---- all names as they were at one moment, all files whole
 

@@ -2,7 +2,7 @@
 -- lost in half, and names may come back in any mixture; of bytes that are not durable any
 -- beginning. That what stands behind the durable bytes is such a beginning, and no other bytes, is
 -- a premise.
-use Rattle.std.specs.Prelude.{◌≡◌, ℕ, ◌<◌, ◌≤◌, List, [], ◌∷◌, length, take, Option, None, Some}
+use Rattle.std.specs.Prelude.{◌≡◌, ℕ, ◌<◌, ◌≤◌, List, [], ◌∷◌, ◌++◌, length, take, Option, None, Some}
 use Rattle.lsm_codec.specs.Lists.{Has}
 use Rattle.lsm_crash.specs.Disk.{Disk, Names}
 
@@ -54,6 +54,15 @@ IsFileSpoilt d (Some i) (Some bytes) = (d.kept i ≤ length bytes)
 
 pub record IsSpoilt (d : Disk) (found : Found) : Type 0 where
   pub each : (name : List ℕ) → (o : Option ℕ) × May d name o × IsFileSpoilt d o (found name)
+
+-- what is found where each name has the file that it had at a moment of its own, and behind the
+-- durable bytes of each file stand other bytes
+abbrev pub rest_of : Disk → (ℕ → List ℕ) → Option ℕ → Option (List ℕ)
+rest_of d garbage None = None
+rest_of d garbage (Some i) = Some (take (d.kept i) (d.bytes i) ++ garbage i)
+
+abbrev pub spoilt : Disk → (List ℕ → Names) → (ℕ → List ℕ) → Found
+spoilt d moments garbage name = rest_of d garbage (moments name name)
 
 -- The disk of a folder that was found and is used again: what was found is durable.
 pub record IsFresh (found : Found) (d : Disk) : Type 0 where

@@ -150,3 +150,19 @@ FromNothing honest [] (life ∷ lives) d o e = (board : TableId) × (x : World) 
 FromNothing honest (h ∷ tries) lives d o e = (board : TableId) × (known : Known) × (m : Disk)
     × (n : Disk) × MakesCut honest board h known d m × Emptied m n
     × FromNothing honest tries lives n o e
+
+-- ---- two small lives
+
+-- From this disk on there is such a life; and any opening of what it left is a life more, or is
+-- one where a crash cuts it.
+pub record SmallAges (honest : Type 0) (board : TableId) (limit : ℕ) (life : Life) (w : World)
+    (d : Disk) : Type 0 where
+  pub world : World
+  pub left : Disk
+  pub lived : Lived honest board limit life w d world left
+  pub again : (other : TableId) (more : ℕ) (h : Held) → Opens honest more h left
+      → IsState honest other h
+      → (u : World) × (e : Disk) × Ages honest (life ∷ Closed h h [] ∷ []) w d u e
+  pub cut : (other : TableId) (more : ℕ) (h : Held) → Opens honest more h left
+      → IsState honest other h
+      → (u : World) × (e : Disk) × Ages honest (life ∷ Unopened h ∷ []) w d u e

@@ -1,8 +1,8 @@
 //! Laws of what a crash leaves of a database. Each function's contract is one law, or a few that
 //! belong together; its body is empty.
 
-ghost use Rattle.std.specs.Prelude.{◌≡◌, ◌<◌, ◌≤◌, ◌^◌, ◌⊎◌, ◌%◌, ℕ, List, [], ◌∷◌, ◌++◌, length};
-ghost use Rattle.std.specs.Prelude.{take, Bool, true, Some, None, Result, Ok, Err, codes};
+ghost use Rattle.std.specs.Prelude.{◌≡◌, ◌<◌, ◌≤◌, ◌^◌, ◌⊎◌, ◌%◌, ◌+◌, ℕ, List, [], ◌∷◌, ◌++◌};
+ghost use Rattle.std.specs.Prelude.{length, take, Bool, true, Some, None, Result, Ok, Err, codes};
 ghost use Rattle.lsm_codec.specs.Lists.{Has};
 ghost use Rattle.lsm_folder.specs.Calls.{Answer, Call, made, wrote, appended, synced};
 ghost use Rattle.lsm_folder.specs.Calls.{folder_synced, renamed, removed, loaded, locked};
@@ -22,7 +22,7 @@ ghost use Rattle.lsm_manifest.specs.WholeEdit.{whole_edit};
 ghost use Rattle.lsm_crash.specs.Disk.{After, Disk, Leaves, Names, Shows, Step};
 ghost use Rattle.lsm_crash.specs.Disk.{empty_disk};
 ghost use Rattle.lsm_crash.specs.Crash.{Found, IsFresh, IsLeft, IsSpoilt, MayFind};
-ghost use Rattle.lsm_crash.specs.Crash.{MayFindBoth, mixed};
+ghost use Rattle.lsm_crash.specs.Crash.{MayFindBoth, mixed, spoilt};
 ghost use Rattle.lsm_crash.specs.Versions.{AreSmall, AreThere, ComesTo, IsNamed, LeadsTo, Tables};
 ghost use Rattle.lsm_crash.specs.Versions.{Version};
 ghost use Rattle.lsm_crash.specs.Known.{IsHeld, IsSettled, IsSound, IsVacant, KeepsFront, Known};
@@ -300,6 +300,8 @@ pub fn premises_are_met()
 /// may be lost, or empty; a removal may be undone; of a rename one half may be lost, or the other;
 /// of an append any beginning may be there; a file that was written anew may have its old bytes, or
 /// be missing. A call that was refused, or was cut, may have done nothing, or all, or a beginning.
+/// A lock may have made its file, whatever it was answered. On a worse disk any bytes may stand
+/// behind the durable ones, up to the length (`spoilt`).
 pub fn disks_may()
     ensures mixed { (d : Disk) (moments : List ℕ → Names) (fronts : ℕ → ℕ)
         → ((name : List ℕ) → Has d.past (moments name)) → ((i : ℕ) → d.kept i ≤ fronts i)
@@ -339,6 +341,14 @@ pub fn disks_may()
         × ((fault ≡ folder_fault.FolderFault.OutOfMemory → ⊥)
         → Step d (appended name (take k bytes) (Ok tt)) e
         → Step d (appended name bytes (Err fault)) e) }
+    ensures locked { (d e : Disk) (name : List ℕ) (kind : LockKind)
+        (answer : Result Bool folder_fault.FolderFault)
+        → Step d (locked name kind answer) d
+        × (Step d (made name [] (Ok tt)) e → Step d (locked name kind answer) e) }
+    ensures spoilt { (d : Disk) (moments : List ℕ → Names) (garbage : ℕ → List ℕ)
+        → ((name : List ℕ) → Has d.past (moments name))
+        → ((i : ℕ) → d.kept i + length (garbage i) ≤ length (d.bytes i))
+        → IsSpoilt d (spoilt d moments garbage) }
 {}
 
 /// Other orders are not safe, so the laws say something of these: a table that is not synced may be

@@ -8,6 +8,8 @@ ghost use Rattle.atomic_table.specs.Seated.{TableId};
 ghost use Rattle.lsm_codec.specs.Entries.{Entry};
 ghost use Rattle.lsm_codec.specs.Lists.{Has};
 ghost use Rattle.lsm_levels.specs.Files.{File};
+ghost use Rattle.lsm_levels.specs.Plain as machine;
+ghost use Rattle.lsm_levels.specs.Plain.{Spends};
 ghost use Rattle.lsm_storage.specs.FileNames.{table_name};
 ghost use Rattle.lsm_shelf.specs.Asked.{Asked, Put, Remove, StartManifest};
 ghost use Rattle.lsm_shelf.specs.Stored.{Stored};
@@ -18,27 +20,29 @@ ghost use Rattle.lsm_merge.specs.Work.{Done, puts_by};
 ghost use Rattle.lsm_state.specs.Asked.{changes_by};
 ghost use Rattle.lsm_state.specs.Collecting.{AreCollected, HasLookedAround, IsCollectRefusal};
 ghost use Rattle.lsm_state.specs.Collecting.{IsKeptNumber};
-ghost use Rattle.lsm_state.specs.Held.{Held};
+ghost use Rattle.lsm_state.specs.Held.{Held, plain};
 ghost use Rattle.lsm_state.specs.Ingesting.{FailsToChange, FailsToPut, Ingests, IsIngestRefusal};
-ghost use Rattle.lsm_state.specs.Ingesting.{IsWelcome, coming_in, last_of, table_bytes_of};
+ghost use Rattle.lsm_state.specs.Ingesting.{IsWelcome, coming_in, entries_of, last_of};
+ghost use Rattle.lsm_state.specs.Ingesting.{table_bytes_of};
 ghost use Rattle.lsm_state.specs.Ingesting.{with_number, with_slots};
 ghost use Rattle.lsm_state.specs.Installing.{Installed, IsInstallRefusal};
 ghost use Rattle.lsm_state.specs.declared.ingest.Ingested.{Ingested};
 ghost use Rattle.lsm_state.specs.declared.state_fault.StateFault.{StateFault};
-ghost use Rattle.lsm_crash.specs.Disk.{Disk, Shows};
+ghost use Rattle.lsm_crash.specs.Disk.{Disk, Shows, empty_disk};
 ghost use Rattle.lsm_crash.specs.Crash.{Found, IsFresh, IsLeft};
 ghost use Rattle.lsm_crash.specs.Known.{IsHeld, IsSettled, IsVacant, Known, World};
 ghost use Rattle.lsm_crash.specs.Known.{current_name, nothing};
-ghost use Rattle.lsm_crash.specs.Operations.{started};
-ghost use Rattle.lsm_crash.specs.Among.{CutAmong, DoneAmong};
+ghost use Rattle.lsm_crash.specs.Operations.{Operation, started};
+ghost use Rattle.lsm_crash.specs.Among.{CutAmong, DoneAmong, counting};
 ghost use Rattle.lsm_crash.specs.States.{Describes, Finds, IsWorldOf, Shown};
 ghost use Rattle.lsm_crash.specs.Database.{AllowsAll, Asks, Deed, IsCut, IsReady, IsState, Turn};
 ghost use Rattle.lsm_crash.specs.Database.{Answered, Follows, HasMade, IsMade, Opens};
 ghost use Rattle.lsm_crash.specs.Database.{Ingest, SmallRun, Works, after_all, opened_world};
 ghost use Rattle.lsm_crash.specs.Database.{plans_of};
-ghost use Rattle.lsm_crash.specs.Database.{Stays, operations};
+ghost use Rattle.lsm_crash.specs.Database.{Builds, Collect, Install, IsDrawn, Looks, Refused};
+ghost use Rattle.lsm_crash.specs.Database.{AllDone, AllFail, Stays, operations};
 ghost use Rattle.lsm_crash.specs.Lives.{Ages, AllLeave, Answers, FromNothing, Life};
-ghost use Rattle.lsm_crash.specs.Lives.{brought};
+ghost use Rattle.lsm_crash.specs.Lives.{SmallAges, Struck, Worked, brought};
 ghost use Rattle.lsm_crash.specs.Versions.{ComesTo, Tables, Version};
 ghost use Rattle.lsm_journal.specs.HeldManifest.{HeldManifest};
 ghost use Rattle.lsm_journal.specs.Recorded.{IsRecorded};
@@ -287,6 +291,15 @@ pub fn ingests_survive_crashes<P: Premise>()
 /// `create` and `ingest` are supposed: in an empty folder a database can be made, the batch be put,
 /// and power be cut, and then its version is found (`small`). Where a shelf holds just what the
 /// folder shows, an opening is given that (`given`).
+///
+/// So can the premises of runs with other turns, and of lives. A call that changes nothing is a
+/// turn (`looks`); a table is put whose number a live job has drawn (`builds`). Behind what was
+/// answered Ok any operation may be refused so that the database goes on (`fails`), and what
+/// contracts say of a refused call is a turn (`ingest_err`, `install_err`, `collect_err`). An ingest
+/// may be cut in its first call of the folder, or behind its last (`cut`). A database is opened, an
+/// ingest is answered Ok, the next one is cut, and any opening of what is left is a life more, or is
+/// cut (`ages`). In an empty folder a try to make a database is cut; then it is made, an ingest is
+/// answered Ok, and power is cut (`new`).
 pub fn premises_of_runs_are_met<P: Premise>()
     ensures answered { (board : TableId) (old new : Held) (deed : Deed) (asks : List Asked)
         (w : World) (v : Version) (d : Disk) → IsState P.holds board new → IsSettled d w
@@ -304,6 +317,59 @@ pub fn premises_of_runs_are_met<P: Premise>()
         → Asks h new (Ingest ws r) asks → ComesTo new.journal.bytes s
         → Follows P.holds h new (Answered (Ingest ws r))
         → SmallRun P.holds board h new v first m.number (Ingest ws r) }
+    ensures looks { (board : TableId) (h : Held) (w : World) (d : Disk) → IsState P.holds board h
+        → h.halted ≡ false → h.next < 2 ^ 64 → Works P.holds board h h (Looks ∷ []) w w d d }
+    ensures builds { (board : TableId) (h : Held) (number : ℕ) (image : List ℕ) (w : World)
+        (d : Disk) → IsState P.holds board h → IsSettled d w → IsWorldOf h w → IsDrawn h number
+        → w.tables number ≡ None → d.names (table_name number) ≡ None
+        → (e : Disk) × Works P.holds board h h (Builds number image ∷ []) w
+        (counting number image w) d e }
+    ensures fails { (os next : List Operation) (w u : World) (d e : Disk) → AllDone w os u d e
+        → (x : World) × (m : Disk) × AllFail w os next x d m }
+    ensures ingest_err { (board : TableId) (old new : Held) (ws : List Write) (r : Ingested)
+        (fault : StateFault) (was is : Told) (w : World) (d : Disk)
+        → IsState P.holds board new → IsSettled d w → IsWorldOf old w
+        → d.names (table_name old.next) ≡ None → IsIngestRefusal old new ws fault was is
+        → new.halted ≡ false → Spends (plain old) (plain new)
+        → (u : World) × (e : Disk)
+        × Works P.holds board old new (Refused (Ingest ws r) ∷ []) w u d e }
+    ensures install_err { (board : TableId) (old new : Held) (done : Done) (fault : StateFault)
+        (was is : Told) (w : World) (d : Disk) → IsState P.holds board new
+        → IsInstallRefusal old new done fault was is → Becomes was is → new.halted ≡ false
+        → Spends (plain old) (plain new)
+        → (u : World) × (e : Disk)
+        × Works P.holds board old new (Refused (Install done) ∷ []) w u d e }
+    ensures collect_err { (board : TableId) (old new : Held) (removed : List ℕ)
+        (fault : StateFault) (was is : Told) (w : World) (d : Disk) → IsState P.holds board new
+        → new ≡ with_slots old new.slots → IsCollectRefusal old new fault removed was is
+        → ((asks : List Asked) (number : ℕ) → HasMade asks was is → Has asks (Remove number)
+        → number < 2 ^ 64) → new.halted ≡ false → Spends (plain old) (plain new)
+        → (u : World) × (e : Disk)
+        × Works P.holds board old new (Refused (Collect removed) ∷ []) w u d e }
+    ensures cut { (board : TableId) (old new : Held) (ws : List Write) (r : Ingested)
+        (was is : Told) (w : World) (d : Disk) → IsState P.holds board new → IsSettled d w
+        → IsWorldOf old w → d.names (table_name old.next) ≡ None
+        → IsWelcome old ws → Ingests old new ws r was is
+        → machine.Ingests (plain old) (entries_of old ws) (plain new)
+        → (known : Known) × (all : Known) × (e : Disk)
+        × IsCut P.holds board old new (Ingest ws r) w known d d
+        × IsCut P.holds board old new (Ingest ws r) w all d e }
+    ensures ages { (board : TableId) (limit : ℕ) (h now new : Held) (ws xs : List Write)
+        (r s : Ingested) (w : World) (d : Disk) (was is then so : Told)
+        → IsState P.holds board h → IsState P.holds board now → IsState P.holds board new
+        → IsSettled d w → d.names (table_name h.next) ≡ None → Opens P.holds limit h d
+        → IsWelcome h ws → Ingests h now ws r was is
+        → machine.Ingests (plain h) (entries_of h ws) (plain now)
+        → IsWelcome now xs → Ingests now new xs s then so
+        → machine.Ingests (plain now) (entries_of now xs) (plain new)
+        → SmallAges P.holds board limit
+        (Struck h now new (Answered (Ingest ws r) ∷ []) (Ingest xs s)) w d }
+    ensures new { (board : TableId) (h new : Held) (ws : List Write) (r : Ingested)
+        (was is : Told) → IsState P.holds board h → IsState P.holds board new → IsMade h
+        → IsWelcome h ws → Ingests h new ws r was is
+        → machine.Ingests (plain h) (entries_of h ws) (plain new)
+        → (u : World) × (e : Disk) × FromNothing P.holds (h ∷ [])
+        (Worked h new (Answered (Ingest ws r) ∷ []) ∷ []) empty_disk (Some u) e }
     ensures given { (v : Levels) (d : Disk) (was : Told) → (s : Shown v d)
         → ReadsShown (λ number image. Shows d (table_name number) image) v d was
         (finding s.manifest s.bytes was) }

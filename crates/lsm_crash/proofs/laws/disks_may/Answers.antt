@@ -1,5 +1,5 @@
 use Rattle.std.proofs.Common.{refl, inl, inr}
-use Rattle.lsm_crash.proofs.Width.{appended_may, made_may, mixed_left, removed_may, renamed_may, wrote_may}
+use Rattle.lsm_crash.proofs.Width.{appended_may, made_may, mixed_left, removed_may, renamed_may, spoilt_left, wrote_may}
 use Rattle.lsm_crash.proofs.laws.disks_may.Goals as goal
 
 pub returns-clause-mixed : goal.returns-clause-mixed
@@ -28,3 +28,9 @@ returns-clause-all c d e name other fault = (inr, inr, inr, inr)
 
 pub returns-clause-begun : goal.returns-clause-begun
 returns-clause-begun c d e name bytes k fault = (λ h. inr (k, h), λ h. inr (inr (k, h)), λ h. inr (inl h), λ own h. inr (own, k, h))
+
+pub returns-clause-locked : goal.returns-clause-locked
+returns-clause-locked c d e name kind answer = (inl refl, inr)
+
+pub returns-clause-spoilt : goal.returns-clause-spoilt
+returns-clause-spoilt c = spoilt_left

@@ -1,3 +1,4 @@
+use Rattle.lsm_crash.proofs.Examples.{all_fail, builds_can, first_lives, ingest_cut, looks_can, refused_collect, refused_ingest, refused_install, small_ages}
 use Rattle.lsm_crash.proofs.Possible.{given_shows, opened_can, small_run, works_can}
 use Rattle.lsm_crash.proofs.states.premises_of_runs_are_met.Goals as goal
 
@@ -12,3 +13,30 @@ returns-clause-small g c = λ board h new first asks ws r v s l ln m made to a l
 
 pub returns-clause-given : goal.returns-clause-given
 returns-clause-given g c = given_shows
+
+pub returns-clause-looks : goal.returns-clause-looks
+returns-clause-looks g c = λ board. looks_can g.P.Premise.holds board
+
+pub returns-clause-builds : goal.returns-clause-builds
+returns-clause-builds g c = λ board. builds_can g.P.Premise.holds board
+
+pub returns-clause-fails : goal.returns-clause-fails
+returns-clause-fails g c = all_fail
+
+pub returns-clause-ingest_err : goal.returns-clause-ingest_err
+returns-clause-ingest_err g c = λ board. refused_ingest g.P.Premise.holds board
+
+pub returns-clause-install_err : goal.returns-clause-install_err
+returns-clause-install_err g c = λ board. refused_install g.P.Premise.holds board
+
+pub returns-clause-collect_err : goal.returns-clause-collect_err
+returns-clause-collect_err g c = λ board. refused_collect g.P.Premise.holds board
+
+pub returns-clause-cut : goal.returns-clause-cut
+returns-clause-cut g c = λ board. ingest_cut g.P.Premise.holds board
+
+pub returns-clause-ages : goal.returns-clause-ages
+returns-clause-ages g c = λ board limit h now new ws xs r s w d. small_ages c.changed_tables.ensures g.P.Premise.holds board limit h now new ws xs r s w d
+
+pub returns-clause-new : goal.returns-clause-new
+returns-clause-new g c = λ board h new ws r was is l ln m. first_lives g.P.Premise.holds board h m l c.changed_tables.ensures new ws r was is ln
