@@ -1,5 +1,8 @@
 mod AheadLaws
 mod LineLaws
-mod PairLaws
-mod TalkLaws
 mod WordTexts
+mod AskLaws
+mod ScanWords
+mod PairLaws
+mod ScanTalk
+mod TalkLaws

@@ -1,9 +1,9 @@
 -- What a scan shows, pair by pair.
 use Rattle.std.proofs.Common.{◌≡◌, ◌≢◌, ℕ, ◌-◌, ◌<◌, zero, suc, Bool, true, false, List, [], ◌∷◌, ◌++◌, take, Option, Some, None, refl, sym, ap, ◌∙◌, subst, append_assoc, append-nil, inl, inr, arith}
-use Rattle.std.specs.Prelude.{◌Prelude.{◌&&◌, Result&◌, ◌⊎◌, Result, Ok, Err, IfErr}
+use Rattle.std.specs.Prelude.{◌&&◌, ◌⊎◌, Result, Ok, Err, IfErr}
 use Rattle.std.specs.List.{flat_map, filter}
 use Rattle.std.specs.Io.KnownBytes.{Appends, Keeps}
-use Rattle.std.proofs.KnownBytes.{Appends-kept, Appends-nil, Appends-trans}
+use Rattle.std.proofs.KnownBytes.{Appends-kept, Appends-nil, Appends-trans, Keeps-refl}
 use Rattle.std.proofs.lemmas.Bool.{cases_Bool}
 use Rattle.std.proofs.lemmas.Grind.{flat_map-append}
 use Rattle.lsm_codec.specs.Keys.{UserKey, UserLe, user_le}
@@ -18,7 +18,7 @@ use Rattle.lsm_version.specs.Versions.{Levels, files}
 use Rattle.lsm_text.specs.KeyBounds.{is_from, is_to, is_within}
 use Rattle.lsm_text.specs.declared.form.Form.{Form}
 use Rattle.lsm_text.specs.declared.key_bounds.KeyBounds.{KeyBounds}
-use Rattle.lsm_shell.specs.Pairs.{IsFront, IsScanFault, IsWrite, PrintsLeft, PrintsVersion, Steps, limited, one_less, pair_line, pairs_text, shown}
+use Rattle.lsm_shell.specs.Pairs.{IsFront, IsScanFault, IsWrite, PrintsLeft, PrintsNext, PrintsVersion, Steps, limited, one_less, pair_line, pairs_text, shown}
 use Rattle.lsm_shell.specs.declared.pairs.ScanFault.{ScanFault}
 use Rattle.lsm_shell.specs.declared.pairs.ScanFault.TheVariants.{Read, NoMemory, Write}
 use Rattle.lsm_shell.specs.declared.pairs.Step.TheVariants.{End, Outside, Within}
@@ -128,35 +128,53 @@ pub record SoFar (honest : Type 0) (form : Form) (bounds : KeyBounds) (first lim
 pub none_yet : (honest : Type 0) (form : Form) (bounds : KeyBounds) (limit : Option ℕ) (all : List Pair) (old : Option (List ℕ)) → SoFar honest form bounds limit limit all all old old
 none_yet honest form bounds limit all old = record { front = []; written = subst (Appends old old) (sym (text_none form)) (Appends-nil old); rest = λ h. refl }
 
-pub so_far_outside : (honest : Type 0) (form : Form) (bounds : KeyBounds) (first limit : Option ℕ) (all left : List Pair) (show : Showing) (old new : Option (List ℕ)) → SoFar honest form bounds first limit all left old new
-    → (honest → Steps bounds left show Outside) → SoFar honest form bounds first limit all show.left old new
-so_far_outside honest form bounds first limit all left show old new s step = record {
-  front = s.front;
-  written = s.written;
-  rest = λ h. (let p = step h in s.rest h ∙ ap (λ (l : List Pair). s.front ++ l) (ap (shown bounds limit) p.1 ∙ shown_outside bounds limit p.0 show.left p.2));
-}
+pub next_end : (honest : Type 0) (form : Form) (bounds : KeyBounds) (limit limit' : Option ℕ) (left : List Pair) (show : Showing) (old : Option (List ℕ))
+    → (honest → Steps bounds left show End) → PrintsNext honest form bounds limit limit' left show.left (Ok false) old old
+next_end honest form bounds limit limit' left show old step = (Keeps-refl old, λ h. shown_end bounds limit left (step h))
+
+pub next_outside : (honest : Type 0) (form : Form) (bounds : KeyBounds) (limit : Option ℕ) (left : List Pair) (show : Showing) (old : Option (List ℕ))
+    → (honest → Steps bounds left show Outside) → (honest → UsersAscend left) → PrintsNext honest form bounds limit limit left show.left (Ok true) old old
+next_outside honest form bounds limit left show old step up = (
+  [],
+  subst (Appends old old) (sym (text_none form)) (Appends-nil old),
+  λ h. (let p = step h in (ap (shown bounds limit) p.1 ∙ shown_outside bounds limit p.0 show.left p.2, (subst UsersAscend p.1 (up h)).1)),
+)
 
 -- Whatever the shelf is, a line of some pair is written.
-pub so_far_within : (honest : Type 0) (form : Form) (bounds : KeyBounds) (first limit : Option ℕ) (all left : List Pair) (show : Showing) (old mid new : Option (List ℕ)) → SoFar honest form bounds first limit all left old mid
-    → (honest → Steps bounds left show Within) → limit ≢ Some 0 → Appends mid new (pair_line form (user_shown show.here, value_shown show.here))
-    → SoFar honest form bounds first (one_less limit) all show.left old new
-so_far_within honest form bounds first limit all left show old mid new s step more line = record {
-  front = s.front ++ at ∷ [];
-  written = subst (Appends old new) (sym (text_more form s.front at)) (Appends-trans old mid new (pairs_text form s.front) (pair_line form at) s.written line);
-  rest = λ h. (let p = step h in
-      let same : p.0 ≡ at = ap (λ (o : Option Pair). (user_shown o, value_shown o)) (sym p.3) in
-      s.rest h ∙ ap (λ (l : List Pair). s.front ++ l) (ap (shown bounds limit) p.1 ∙ shown_within bounds limit p.0 show.left p.2 more ∙ ap (λ (q : Pair). q ∷ shown bounds (one_less limit) show.left) same)
-      ∙ sym (append_assoc s.front (at ∷ []) (shown bounds (one_less limit) show.left)));
-}
+pub next_within : (honest : Type 0) (form : Form) (bounds : KeyBounds) (limit limit' : Option ℕ) (left : List Pair) (show : Showing) (old new : Option (List ℕ))
+    → (honest → Steps bounds left show Within) → (honest → UsersAscend left) → limit ≢ Some 0 → limit' ≡ one_less limit → Appends old new (pair_line form (user_shown show.here, value_shown show.here))
+    → PrintsNext honest form bounds limit limit' left show.left (Ok true) old new
+next_within honest form bounds limit limit' left show old new step up more less line = (
+  at ∷ [],
+  subst (Appends old new) (sym (text_more form [] at ∙ ap (λ (l : List ℕ). l ++ pair_line form at) (text_none form))) line,
+  λ h. (let p = step h in
+      let same : p.0 ≡ at = ap (λ (o : Option Pair). (user_shown o, value_shown o)) (sym p.3) in (
+        ap (shown bounds limit) p.1 ∙ shown_within bounds limit p.0 show.left p.2 more ∙ ap (λ (q : Pair). q ∷ shown bounds (one_less limit) show.left) same
+            ∙ ap (λ (l : Option ℕ). at ∷ shown bounds l show.left) (sym less),
+        (subst UsersAscend p.1 (up h)).1,
+      )),
+)
   where
     at : Pair
     at = (user_shown show.here, value_shown show.here)
 
-pub all_printed : (honest : Type 0) (form : Form) (bounds : KeyBounds) (first limit : Option ℕ) (all left : List Pair) (old new : Option (List ℕ)) → SoFar honest form bounds first limit all left old new
-    → (honest → shown bounds limit left ≡ []) → PrintsLeft honest form bounds first all (Ok tt) old new
-all_printed honest form bounds first limit all left old new s none = record {
+text_append : (form : Form) (front back : List Pair) → pairs_text form (front ++ back) ≡ pairs_text form front ++ pairs_text form back
+unfolding pairs_text
+text_append form front back = flat_map-append (pair_line form) front back
+
+pub one_more : (honest : Type 0) (form : Form) (bounds : KeyBounds) (first limit limit' : Option ℕ) (all left left' : List Pair) (old mid new : Option (List ℕ)) → SoFar honest form bounds first limit all left old mid
+    → PrintsNext honest form bounds limit limit' left left' (Ok true) mid new → SoFar honest form bounds first limit' all left' old new
+one_more honest form bounds first limit limit' all left left' old mid new s n = record {
+  front = s.front ++ n.0;
+  written = subst (Appends old new) (sym (text_append form s.front n.0)) (Appends-trans old mid new (pairs_text form s.front) (pairs_text form n.0) s.written n.1);
+  rest = λ h. s.rest h ∙ ap (λ (l : List Pair). s.front ++ l) (n.2 h).0 ∙ sym (append_assoc s.front n.0 (shown bounds limit' left'));
+}
+
+pub all_printed : (honest : Type 0) (form : Form) (bounds : KeyBounds) (first limit : Option ℕ) (all left : List Pair) (old mid new : Option (List ℕ)) → SoFar honest form bounds first limit all left old mid
+    → Keeps mid new × (honest → shown bounds limit left ≡ []) → PrintsLeft honest form bounds first all (Ok tt) old new
+all_printed honest form bounds first limit all left old mid new s (kept, none) = record {
   front = s.front;
-  written = λ h. s.written;
+  written = λ h. Appends-kept old mid new (pairs_text form s.front) s.written kept;
   shows = λ h. sym (s.rest h ∙ ap (λ (l : List Pair). s.front ++ l) (none h) ∙ append-nil s.front);
 }
 
@@ -197,5 +215,5 @@ pub none_printed : (honest : Type 0) (form : Form) (bounds : KeyBounds) (limit :
 none_printed honest form bounds limit v fault old = record {
   front = [];
   written = λ h. subst (Appends old old) (sym (text_none form)) (Appends-nil old);
-  shows = inl (refl, λ e. cc);
+  shows = inl (refl, λ e. e);
 }

@@ -1,6 +1,6 @@
 -- A conversation, turn by turn.
 use Rattle.std.proofs.Common.{◌≡◌, ◌≢◌, ℕ, Bool, true, false, List, [], ◌∷◌, ◌++◌, codes, Option, Some, None, refl, sym, ap, ◌∙◌, subst, append_assoc, append-nil, inl, inr}
-use Rattle.std.specs.Prelude.{◌⊎◌, Result, Ok, Err}
+use Rattle.std.specs.Prelude.{◌⊎◌, OnErr, OnOk, Result, Ok, Err}
 use Rattle.std.specs.Io.KnownBytes.{Appends, IsAtEnd, Keeps}
 use Rattle.std.proofs.KnownBytes.{Appends-kept, Appends-nil, Appends-trans}
 use Rattle.lsm_text.specs.EntryList.{lines_of}
@@ -12,7 +12,7 @@ use Rattle.lsm_script.specs.declared.command.Command.{Command}
 use Rattle.lsm_script.specs.declared.reply.Reply.{Reply}
 use Rattle.lsm_shell.specs.Asks.{IsAsk}
 use Rattle.lsm_shell.specs.Reading.{Lined, TakesLine}
-use Rattle.lsm_shell.specs.Talk.{AreFirst, AreFirstOf, AreReplied, IsReplied, IsTalk, IsTurn, IsWrite, done, done_unsaid, unsaid}
+use Rattle.lsm_shell.specs.Talk.{AreFirst, AreFirstOf, AreReplied, IsReplied, IsTalk, IsTurn, IsWrite, Done, DoneUnsaid, Long, Scanned, Spent, unsaid}
 use Rattle.lsm_shell.specs.declared.ask.Ask.TheVariants.{Do}
 use Rattle.lsm_shell.specs.declared.talk_fault.TalkFault.{TalkFault}
 use Rattle.lsm_shell.specs.declared.talk_fault.TalkFault.TheVariants.{Read, Write}
@@ -21,8 +21,8 @@ use Rattle.lsm_shell.specs.declared.talk_fault.TalkFault.TheVariants.{Read, Writ
 
 pub replied_to_command : (honest : Type 0) (form : Form) (line said : List ℕ) (s t : Stage) (c : Command) (r : Reply) → IsAsk form line (Do c) → IsStep honest c r s t
     → (said ≡ reply_text form r) ⊎ (said ≡ unsaid) → IsReplied honest form line said s t
-replied_to_command honest form line said s t c r ask step (inl e) = done c r ask step e
-replied_to_command honest form line said s t c r ask step (inr e) = done_unsaid c r ask step e
+replied_to_command honest form line said s t c r ask step (inl e) = Done c r ask step e
+replied_to_command honest form line said s t c r ask step (inr e) = DoneUnsaid c r ask step e
 
 -- ---- line after line
 
@@ -114,3 +114,10 @@ stopped Write honest form start now new s t u a b c f k = record {
 
 pub spent : (honest : Type 0) (form : Form) (start now : Option (List ℕ)) (s t : Stage) (a b : Option (List ℕ)) → SoFar honest form start now s t a b → IsTalk honest form start (Err Read) s t a b
 spent honest form start now s t a b f = record { lines = f.lines; said = f.said; replied = f.replied; first = first_stopped f.lines Read start now f.read; written = λ h. f.written }
+
+-- ---- a turn that replied
+
+pub turn_said : {E : Type 0} (honest : Type 0) (form : Form) (now next : Lined) (s t : Stage) (old new : Option (List ℕ)) (line said : List ℕ) (r : Result (Unit {0}) E) (turn : Result Bool TalkFault)
+    → TakesLine line now.left next.left → IsReplied honest form line said s t → OnOk r (Appends old new said) → OnOk r (turn ≡ Ok true) → OnErr r (turn ≡ Err Write) → IsTurn honest form turn now next s t old new
+turn_said honest form now next s t old new line said (Ok x) turn took replied written ok err = subst (λ (u : Result Bool TalkFault). IsTurn honest form u now next s t old new) (sym ok) (line, said, took, replied, written)
+turn_said honest form now next s t old new line said (Err e) turn took replied written ok err = subst (λ (u : Result Bool TalkFault). IsTurn honest form u now next s t old new) (sym err) (line, said, took, replied)

@@ -1,5 +1,5 @@
 -- The lines of a conversation: those of a script, and some more (this project's rule). Words for bytes are of one form.
-use Rattle.std.specs.Prelude.{◌≡◌, ◌≢◌, ◌⊎◌, ℕ, ◌-◌, ◌^◌, List, [], ◌∷◌, ◌++◌, codes, Option, None, Some}
+use Rattle.std.specs.Prelude.{◌≡◌, ◌≢◌, ◌⊎◌, ℕ, ◌-◌, ◌^◌, List, [], ◌∷◌, ◌++◌, ◌≤◌, length, get_or, codes, Option, None, Some}
 use Rattle.lsm_batch.specs.declared.write.Write.{Write}
 use Rattle.lsm_text.specs.Numbers.{IsNumberWord}
 use Rattle.lsm_text.specs.Spelling.{IsWord}
@@ -49,6 +49,10 @@ AreEnds form (f ∷ t ∷ w ∷ ws) b = ⊥
 abbrev pub IsLimit : List (List ℕ) → Option ℕ → Type 0
 IsLimit tail None = tail ≡ []
 IsLimit tail (Some n) = (word : List ℕ) × (tail ≡ codes "limit" ∷ word ∷ []) × IsNumberWord (2 ^ 64 - 1) word n
+
+-- the last word but one is `limit`
+abbrev pub HasLimit : List (List ℕ) → Type 0
+HasLimit words = (2 ≤ length words) × (get_or words (length words - 2) [] ≡ codes "limit")
 
 -- both, one behind the other
 pub record IsScanRest (form : Form) (rest : List (List ℕ)) (bounds : KeyBounds) (limit : Option ℕ) : Type 0 where

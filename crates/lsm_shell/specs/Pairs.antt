@@ -1,9 +1,9 @@
 -- What is printed of a scan (this project's rule). Keys and values stand in a form.
-use Rattle.std.specs.Prelude.{◌≡◌, ◌⊎◌, ℕ, ◌-◌, true, false, ⊤, List, [], ◌∷◌, ◌++◌, take, codes, Option, Some, None, Result, Ok, Err}
+use Rattle.std.specs.Prelude.{◌≡◌, ◌⊎◌, ℕ, ◌-◌, Bool, true, false, ⊤, List, [], ◌∷◌, ◌++◌, take, codes, Option, Some, None, Result, Ok, Err}
 use Rattle.std.specs.List.{flat_map, filter}
-use Rattle.std.specs.Io.KnownBytes.{Appends}
+use Rattle.std.specs.Io.KnownBytes.{Appends, Keeps}
 use Rattle.lsm_levels.specs.Files.{all_entries}
-use Rattle.lsm_levels.specs.Scanning.{IsScan, Pair}
+use Rattle.lsm_levels.specs.Scanning.{IsScan, Pair, UsersAscend}
 use Rattle.lsm_merger.specs.Shown.{Showing}
 use Rattle.lsm_shelf.specs.Told.{Told}
 use Rattle.lsm_table.specs.ReadFault.{IsMemoryOrShelf, ReadCounted}
@@ -48,6 +48,13 @@ Steps bounds left new End = filter (λ p. is_within bounds p.0) left ≡ []
 Steps bounds left new Outside = (p : Pair) × (left ≡ p ∷ new.left) × (is_within bounds p.0 ≡ false)
 Steps bounds left new Within = (p : Pair) × (left ≡ p ∷ new.left) × (is_within bounds p.0 ≡ true) × (new.here ≡ Some p)
 
+-- Lines were written for the first of those that are to be shown, at most one; or none is left; or, unless a write failed, nothing was written.
+abbrev pub PrintsNext : Type 0 → Form → KeyBounds → (limit limit' : Option ℕ) → (left left' : List Pair) → Result Bool ScanFault → (old new : Option (List ℕ)) → Type 0
+PrintsNext honest form bounds limit limit' left left' (Ok true) old new =
+    (front : List Pair) × Appends old new (pairs_text form front) × (honest → (shown bounds limit left ≡ front ++ shown bounds limit' left') × UsersAscend left')
+PrintsNext honest form bounds limit limit' left left' (Ok false) old new = Keeps old new × (honest → shown bounds limit left ≡ [])
+PrintsNext honest form bounds limit limit' left left' (Err fault) old new = (fault ≡ Write → ⊥) → Keeps old new
+
 -- ---- a scan
 
 -- a write failed
@@ -56,6 +63,11 @@ IsWrite (Ok done) = ⊥
 IsWrite (Err Write) = ⊤
 IsWrite (Err (Read fault)) = ⊥
 IsWrite (Err NoMemory) = ⊥
+
+-- it was not stopped
+abbrev pub IsWhole : Result (Unit {0}) ScanFault → Type 0
+IsWhole (Ok done) = ⊤
+IsWhole (Err fault) = ⊥
 
 -- all of the pairs that are to be shown, or the first of them, where it was stopped
 abbrev pub IsFront : Result (Unit {0}) ScanFault → List Pair → List Pair → Type 0
@@ -79,4 +91,4 @@ IsScanFault honest was is (Read fault) = (honest → IsMemoryOrShelf fault) × R
 pub record PrintsVersion (honest : Type 0) (form : Form) (bounds : KeyBounds) (limit : Option ℕ) (v : Levels) (r : Result (Unit {0}) ScanFault) (old new : Option (List ℕ)) : Type 0 where
   pub front : List Pair
   pub written : (IsWrite r → ⊥) → Appends old new (pairs_text form front)
-  pub shows : ((front ≡ []) × (Ok tt ≡ r → ⊥)) ⊎ (honest → (pairs : List Pair) × IsScan v.last (all_entries (files v)) pairs × IsFront r front (shown bounds limit pairs))
+  pub shows : ((front ≡ []) × (IsWhole r → ⊥)) ⊎ (honest → (pairs : List Pair) × IsScan v.last (all_entries (files v)) pairs × IsFront r front (shown bounds limit pairs))

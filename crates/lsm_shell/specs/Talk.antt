@@ -79,19 +79,19 @@ pub record IsScanned (honest : Type 0) (form : Form) (bounds : KeyBounds) (limit
 -- What is said to a line, and what it leaves.
 pub data IsReplied (honest : Type 0) (form : Form) (line said : List ℕ) (s t : Stage) : Type 0 where
   -- a command was done, which is a step of the state's, and its reply said
-  done : (c : Command) (r : Reply) → IsAsk form line (Do c) → IsStep honest c r s t → said ≡ reply_text form r → IsReplied honest form line said s t
+  Done : (c : Command) (r : Reply) → IsAsk form line (Do c) → IsStep honest c r s t → said ≡ reply_text form r → IsReplied honest form line said s t
   -- it was done, and its reply could not be said
-  done_unsaid : (c : Command) (r : Reply) → IsAsk form line (Do c) → IsStep honest c r s t → said ≡ unsaid → IsReplied honest form line said s t
+  DoneUnsaid : (c : Command) (r : Reply) → IsAsk form line (Do c) → IsStep honest c r s t → said ≡ unsaid → IsReplied honest form line said s t
   -- a scan
-  scanned : (bounds : KeyBounds) (limit : Option ℕ) → IsAsk form line (Scan bounds limit) → IsScanned honest form bounds limit said s t → IsReplied honest form line said s t
+  Scanned : (bounds : KeyBounds) (limit : Option ℕ) → IsAsk form line (Scan bounds limit) → IsScanned honest form bounds limit said s t → IsReplied honest form line said s t
   -- the lines that there are
-  helped : IsAsk form line Help → said ≡ HELP.now → t ≡ s → IsReplied honest form line said s t
+  Helped : IsAsk form line Help → said ≡ HELP.now → t ≡ s → IsReplied honest form line said s t
   -- nothing is asked for, nor is it `quit`
-  bad : ((a : Ask) → IsAsk form line a → ⊥) → line ≢ codes "quit" → said ≡ bad_line → t ≡ s → IsReplied honest form line said s t
+  Bad : ((a : Ask) → IsAsk form line a → ⊥) → line ≢ codes "quit" → said ≡ bad_line → t ≡ s → IsReplied honest form line said s t
   -- the line is too long
-  long : most_of_line < length line → said ≡ long_line → t ≡ s → IsReplied honest form line said s t
+  Long : most_of_line < length line → said ≡ long_line → t ≡ s → IsReplied honest form line said s t
   -- memory was refused, and nothing was done
-  spent : said ≡ no_memory → t ≡ s → IsReplied honest form line said s t
+  Spent : said ≡ no_memory → t ≡ s → IsReplied honest form line said s t
 
 -- ---- line after line
 

@@ -1,11 +1,11 @@
 //! The pairs of a scan, printed as it goes.
 
-ghost use Rattle.std.specs.Prelude.{◌≡◌, ◌≢◌, ◌⊎◌, ◌++◌, IfErr, IfOk, OnOk};
+ghost use Rattle.std.specs.Prelude.{◌≡◌, ◌≢◌, ◌⊎◌, ◌++◌, IfErr, IfOk, OnOk, Some};
 ghost use Rattle.std.specs.Io.KnownBytes.{Appends, Keeps};
 ghost use Rattle.lsm_levels.specs.Scanning.{UsersAscend};
 ghost use Rattle.lsm_table.specs.ReadFault.{IsMemoryOrShelf, ReadCounted};
 ghost use Rattle.lsm_table.specs.Told.{Becomes};
-ghost use Rattle.lsm_shell.specs.Pairs.{IsScanFault, PrintsLeft, PrintsVersion, Steps, one_less};
+ghost use Rattle.lsm_shell.specs.Pairs.{IsScanFault, PrintsLeft, PrintsNext, PrintsVersion, Steps, one_less};
 ghost use Rattle.lsm_shell.specs.Pairs.{pair_line};
 ghost use Rattle.lsm_shell.specs.declared.pairs.ScanFault.TheVariants.{NoMemory};
 ghost use Rattle.lsm_shell.specs.declared.pairs.ScanFault.TheVariants.{Write as WriteFault};
@@ -113,6 +113,40 @@ fn one_less(limit: Option<u64>) -> Option<u64>
     }
 }
 
+/// Goes on to the next pair, and prints it where it is within the bounds. `false` where none is left
+/// that is.
+fn print_next<N: Naming, S: Shelf, B: Blocks<N, S>, O: Write>(
+    scan: &mut Scan<N, S>,
+    blocks: &mut B,
+    alloc: Global,
+    form: Form,
+    bounds: &KeyBounds,
+    limit: &mut Option<u64>,
+    line: &mut Vec<u8>,
+    out: &mut O,
+) -> Result<bool, ScanFault>
+    requires ascending { S.honest → UsersAscend scan.old.left }
+    requires more { limit.old ≢ Some 0 }
+    ensures next { PrintsNext S.honest form bounds.now limit.old limit.new scan.old.left
+        scan.new.left result (O.contents out.old) (O.contents out.new) }
+    ensures fault { IfErr result (IsScanFault S.honest (B.told blocks.old) (B.told blocks.new)) }
+    ensures told { Becomes (B.told blocks.old) (B.told blocks.new) }
+    ensures loan { B.loan blocks.new ≡ B.loan blocks.old }
+{
+    match take_step(scan, blocks, alloc, bounds) {
+        Ok(Step::End) => Ok(false),
+        Ok(Step::Outside) => Ok(true),
+        Ok(Step::Within) => match print_pair(line, form, scan.user(), scan.value(), out) {
+            Ok(()) => {
+                *limit = one_less(*limit);
+                Ok(true)
+            }
+            Err(fault) => Err(fault),
+        },
+        Err(fault) => Err(ScanFault::Read(fault)),
+    }
+}
+
 /// Prints the pairs that are left of a scan and to be shown, as it goes on.
 fn print_left<N: Naming, S: Shelf, B: Blocks<N, S>, O: Write>(
     scan: &mut Scan<N, S>,
@@ -131,22 +165,15 @@ fn print_left<N: Naming, S: Shelf, B: Blocks<N, S>, O: Write>(
     ensures loan { B.loan blocks.new ≡ B.loan blocks.old }
 {
     let mut line = Vec::new(alloc);
-    let mut limit = limit;
+    let mut left = limit;
     for _turn in 0..u64::MAX {
-        if limit == Some(0) {
+        if left == Some(0) {
             return Ok(());
         }
-        match take_step(scan, blocks, alloc, bounds) {
-            Ok(Step::End) => return Ok(()),
-            Ok(Step::Outside) => {}
-            Ok(Step::Within) => {
-                let printed = print_pair(&mut line, form, scan.user(), scan.value(), out);
-                if let Err(fault) = printed {
-                    return Err(fault);
-                }
-                limit = one_less(limit);
-            }
-            Err(fault) => return Err(ScanFault::Read(fault)),
+        match print_next(scan, blocks, alloc, form, bounds, &mut left, &mut line, out) {
+            Ok(true) => {}
+            Ok(false) => return Ok(()),
+            Err(fault) => return Err(fault),
         }
     }
     // Only a shelf that is not honest could give so many.

@@ -1,8 +1,9 @@
 //! A conversation, line after line.
 
-ghost use Rattle.std.specs.Prelude.{◌≡◌};
+ghost use Rattle.std.specs.Prelude.{◌≡◌, true, Err, Ok, OnErr, OnOk};
 ghost use Rattle.lsm_script.specs.Steps.{stage};
 ghost use Rattle.lsm_shell.specs.Talk.{IsTalk, IsTurn};
+ghost use Rattle.lsm_shell.specs.declared.talk_fault.TalkFault.TheVariants.{Write as WriteFault};
 
 use crate::line_reader::{LineReader, NextLine};
 use crate::replying::{Unsaid, reply_to, say};
@@ -16,7 +17,10 @@ use std::io::{Read, Write};
 use std::sync::Wait;
 
 /// Whether there is a next turn: a reply was said.
-fn went_on(said: Result<(), Unsaid>) -> Result<bool, TalkFault> {
+fn went_on(said: Result<(), Unsaid>) -> Result<bool, TalkFault>
+    ensures ok { OnOk said (result ≡ Ok true) }
+    ensures err { OnErr said (result ≡ Err WriteFault) }
+{
     match said {
         Ok(()) => Ok(true),
         Err(Unsaid) => Err(TalkFault::Write),
