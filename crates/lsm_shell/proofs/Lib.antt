@@ -6,3 +6,4 @@ mod ScanWords
 mod PairLaws
 mod ScanTalk
 mod TalkLaws
+mod ShelledLaws

@@ -39,10 +39,10 @@ IsOneWrite form words c = (w : Write) × (c ≡ Ingest (w ∷ [])) × (IsPut for
 
 -- `[FROM [TO]]`; where both stand, FROM is not the word `limit`
 abbrev pub AreEnds : Form → List (List ℕ) → KeyBounds → Type 0
-AreEnds form [] b = (b.from ≡ None) × (b.to ≡ None)
-AreEnds form (f ∷ []) b = (from : List ℕ) × (b.from ≡ Some from) × (b.to ≡ None) × IsWord form f from
+AreEnds form [] b = (b.from ≡ None) × (b.to ≡ None) × (b.prefix ≡ None)
+AreEnds form (f ∷ []) b = (from : List ℕ) × (b.from ≡ Some from) × (b.to ≡ None) × IsWord form f from × (b.prefix ≡ None)
 AreEnds form (f ∷ t ∷ []) b =
-    (from : List ℕ) × (to : List ℕ) × (b.from ≡ Some from) × (b.to ≡ Some to) × (f ≢ codes "limit") × IsWord form f from × IsWord form t to
+    (from : List ℕ) × (to : List ℕ) × (b.from ≡ Some from) × (b.to ≡ Some to) × (f ≢ codes "limit") × IsWord form f from × IsWord form t to × (b.prefix ≡ None)
 AreEnds form (f ∷ t ∷ w ∷ ws) b = ⊥
 
 -- `[limit N]`

@@ -4,3 +4,5 @@ pub mod Pieces
 pub mod Asks
 pub mod Pairs
 pub mod Talk
+pub mod Conversing
+pub mod Shelled
