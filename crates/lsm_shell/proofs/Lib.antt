@@ -6,4 +6,5 @@ mod ScanWords
 mod PairLaws
 mod ScanTalk
 mod TalkLaws
-mod ShelledLaws
+mod HistoryLaws
+mod RunLaws
