@@ -17,10 +17,10 @@ use Rattle.lsm_script.specs.Scripts.{AreReplies, ends_list}
 use Rattle.lsm_script.specs.Steps.{IsStep, stage_of}
 use Rattle.lsm_script.specs.declared.command.Command.{Command}
 use Rattle.lsm_script.specs.declared.reply.Reply.{Reply}
-use Rattle.lsm_commands.specs.Starting.{IsNew, usual}
-use Rattle.lsm_commands.specs.WriterFault.{of_shelf}
-use Rattle.lsm_commands.specs.declared.faults.writer_fault.WriterFault.{WriterFault}
-use Rattle.lsm_commands.specs.declared.faults.writer_fault.WriterFault.TheVariants.{OutOfMemory, Write}
+use Rattle.lsm_writing.specs.Starting.{IsNew, usual}
+use Rattle.lsm_writing.specs.WriterFault.{of_shelf}
+use Rattle.lsm_writing.specs.declared.faults.writer_fault.WriterFault.{WriterFault}
+use Rattle.lsm_writing.specs.declared.faults.writer_fault.WriterFault.TheVariants.{OutOfMemory, Write}
 use Rattle.lsm_script.specs.CommandLine.{IsScript}
 use Rattle.lsm_commands.specs.Played.{ArePlayed, ArePlayedInMemory, IsCutShort, IsScriptDone, IsEnded, IsScriptFault, IsInputFault, IsPlayFault, IsScriptRefused, IsScriptTextFault, IsUncreatedInMemory, nothing}
 use Rattle.lsm_script.specs.ReplyText.{replies_text}

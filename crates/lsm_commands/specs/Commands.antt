@@ -1,5 +1,5 @@
 -- What the commands answer, and what their faults say.
-use Rattle.std.specs.Prelude.{◌≡◌, ◌≢◌, ℕ, ◌^◌, ◌<◌, ◌≤◌, ◌⊎◌, ⊤, List, [], ◌∷◌, ◌++◌, length, take, get_or, codes, decimal, Err, Option, Some, IfSome}
+use Rattle.std.specs.Prelude.{◌≡◌, ◌≢◌, ℕ, ◌^◌, ◌<◌, ◌≤◌, ◌⊎◌, ⊤, List, [], ◌∷◌, ◌++◌, length, take, get_or, Err, Option, IfSome}
 use Rattle.std.specs.Io.KnownBytes.{Appends, Keeps}
 use Rattle.lsm_codec.specs.Entries.{Entry}
 use Rattle.lsm_manifest.specs.declared.edit_fault.EditFault.{EditFault}
@@ -86,16 +86,3 @@ pub record IsNotConverted (conversion : Conversion) (input : Option (List ℕ)) 
   pub explained : IfSome input (λ text. Explains conversion text fault)
   pub kept : fault ≢ Write → Keeps old new
   pub begun : fault ≡ Write → IfSome input (λ text. BeginsAnswer conversion text old new)
-
--- ---- what is told of a fault
-
--- what it may mean of the input, as a line of its own
-abbrev pub meaning : Fault → Option (List ℕ)
-meaning Read = Some (codes "the input could not be read, or has more than 64 MiB\n")
-meaning Write = Some []
-meaning (BadLine i) = Some (codes "line " ++ (decimal i ++ codes " is not of the form KEY SEQ put VALUE or KEY SEQ del, in hex, or is out of order\n"))
-meaning OutOfMemory = Some []
-meaning (Table fault) = Some []
-meaning TooLarge = Some []
-meaning (Log fault) = Some []
-meaning (Edit fault) = Some []

@@ -11,10 +11,10 @@ use Rattle.lsm_script.specs.Scripts.{AreReplies, ends_list}
 use Rattle.lsm_script.specs.Steps.{IsStep, Stage, stage_of}
 use Rattle.lsm_script.specs.declared.command.Command.{Command}
 use Rattle.lsm_script.specs.declared.reply.Reply.{Reply}
-use Rattle.lsm_commands.specs.Starting.{IsNew}
-use Rattle.lsm_commands.specs.WriterFault.{of_shelf}
-use Rattle.lsm_commands.specs.declared.faults.writer_fault.WriterFault.{WriterFault}
-use Rattle.lsm_commands.specs.declared.faults.writer_fault.WriterFault.TheVariants.{OutOfMemory, Read, Write, BadLine, Directory, LostCurrent, UnflushedLog, State}
+use Rattle.lsm_writing.specs.Starting.{IsNew}
+use Rattle.lsm_writing.specs.WriterFault.{of_shelf}
+use Rattle.lsm_writing.specs.declared.faults.writer_fault.WriterFault.{WriterFault}
+use Rattle.lsm_writing.specs.declared.faults.writer_fault.WriterFault.TheVariants.{OutOfMemory, Read, Write, BadLine, Directory, LostCurrent, UnflushedLog, State}
 use Rattle.lsm_script.specs.CommandLine.{IsFirstBadLine, IsScript}
 use Rattle.lsm_script.specs.ReplyText.{replies_text}
 

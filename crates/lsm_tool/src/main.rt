@@ -6,7 +6,8 @@
 
 mod streams;
 
-use lsm_commands::{SystemPaths, refuse_words, run};
+use lsm_commands::{refuse_words, run};
+use lsm_directory::SystemPaths;
 use std::env::{self, Env};
 use std::io::{self, BufWriter};
 use std::process::ExitCode;

@@ -1,50 +1,18 @@
 //! What is answered on standard input and output, and with which exit status.
 
-ghost use Rattle.std.specs.Prelude.{◌≡◌, ◌≢◌, None};
+ghost use Rattle.std.specs.Prelude.{◌≡◌, ◌≢◌};
 ghost use Rattle.std.specs.Io.KnownBytes.{Keeps};
-ghost use Rattle.lsm_commands.specs.Commands.{IsConverted, IsNotConverted, meaning};
-ghost use Rattle.lsm_commands.specs.Run.{IsUnconverted, text_in};
+ghost use Rattle.lsm_commands.specs.Commands.{IsConverted, IsNotConverted};
+ghost use Rattle.lsm_directory.specs.Inputs.{text_in};
+ghost use Rattle.lsm_commands.specs.Run.{IsUnconverted};
 ghost use Rattle.lsm_text.specs.declared.fault.Fault.{Fault};
 
 use crate::converting::perform;
-use crate::paths::Paths;
-use crate::telling::unopened::Unopened;
-use crate::telling::{Exit, Known, refuse, status_of};
-use lsm_batch::Write as KeyWrite;
+use lsm_directory::{Known, Paths, Unopened, refuse, status_of};
 use lsm_folder::FolderCalls;
 use lsm_text::{Conversion, Fault, Input};
 use std::alloc::Global;
-use std::io::{self, Read, Write};
-
-impl Exit for Fault {
-    ghost file = { λ _. None };
-
-    ghost meaning = { meaning };
-
-    fn table_file(&self) -> Option<u64> {
-        None
-    }
-
-    fn refusal(&self) -> Option<u64> {
-        None
-    }
-
-    fn explain<E: Write>(&self, err: &mut E, _writes: &[KeyWrite]) -> io::Result<()> {
-        match self {
-            Fault::Read => writeln!(err, "the input could not be read, or has more than 64 MiB"),
-            Fault::BadLine(line) => writeln!(
-                err,
-                "line {line} is not of the form KEY SEQ put VALUE or KEY SEQ del, in hex, or is out of order"
-            ),
-            Fault::Write
-            | Fault::OutOfMemory
-            | Fault::TooLarge
-            | Fault::Table(_)
-            | Fault::Log(_)
-            | Fault::Edit(_) => Ok(()),
-        }
-    }
-}
+use std::io::{Read, Write};
 
 /// Reads an input whole, writes on `out` what it is converted to, and answers the exit status: 0
 /// where it is done, and 1 where it is refused. A fault is one line on `err`, which for `read

@@ -3,13 +3,13 @@
 ghost use Rattle.std.specs.Prelude.{◌≡◌, ◌⊎◌, ◌≤◌, IfErr, IfOk, IfSome, OnOk, length};
 ghost use Rattle.lsm_commands.specs.Played.{IsInputFault, IsScriptTextFault, IsInputUnread};
 ghost use Rattle.lsm_script.specs.CommandLine.{IsScript};
-ghost use Rattle.lsm_commands.specs.declared.faults.writer_fault.WriterFault.TheVariants.{OutOfMemory};
-ghost use Rattle.lsm_commands.specs.declared.faults.writer_fault.WriterFault.TheVariants.{Read as ReadFault};
+ghost use Rattle.lsm_writing.specs.declared.faults.writer_fault.WriterFault.TheVariants.{OutOfMemory};
+ghost use Rattle.lsm_writing.specs.declared.faults.writer_fault.WriterFault.TheVariants.{Read as ReadFault};
 
-use crate::faults::writer_fault::WriterFault;
 use crate::playing::watched::Watched;
 use lsm_script::{Command, ScriptFault, script_in};
 use lsm_text::{InputFault, read_input};
+use lsm_writing::WriterFault;
 use std::alloc::Global;
 use std::io::Read;
 

@@ -5,8 +5,7 @@ use Rattle.lsm_codec.specs.KeyRef.{key_of}
 use Rattle.lsm_block.specs.Block.{entry_of}
 use Rattle.lsm_text.specs.EntryPrinting.{entry_list}
 use Rattle.lsm_text.specs.Printing.{Passes, Stops}
-use Rattle.lsm_text.proofs.CallerLemmas.{list_none, list_one, list_split}
-use Rattle.lsm_text.proofs.CallerLemmas.{on_err, printed_ends, printed_more, printed_none, printed_stops}
+use Rattle.lsm_text.proofs.CallerLemmas.{list_none, list_one, list_split, on_err, printed_ends, printed_more, printed_none, printed_stops}
 use Rattle.lsm_commands.proofs.converting.print_left.Goals as goal
 
 key_is : (a b : InternalKey) → Some a ≡ Some b → b ≡ a

@@ -1,4 +1,4 @@
-use Rattle.lsm_commands.proofs.TellingLaws.{left_by}
+use Rattle.lsm_commands.proofs.StatusLaws.{left_by}
 use Rattle.lsm_commands.proofs.running.show_help.Goals as goal
 
 pub returns-clause-refused : goal.returns-clause-refused

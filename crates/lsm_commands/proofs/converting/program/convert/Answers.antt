@@ -1,4 +1,4 @@
-use Rattle.lsm_commands.proofs.TellingLaws.{is_unconverted}
+use Rattle.lsm_commands.proofs.StatusLaws.{is_unconverted}
 use Rattle.lsm_commands.proofs.converting.program.convert.Goals as goal
 
 pub returns-clause-refused : goal.returns-clause-refused

@@ -1,7 +1,0 @@
-use Rattle.std.proofs.Common.{take}
-use Rattle.lsm_commands.specs.Logs.{NoneUnread}
-use Rattle.lsm_commands.proofs.folder.logs.first_unread.Given as goal
-
--- none of the files so far
-abbrev pub invariant-loop-file : goal.invariant-loop-file
-invariant-loop-file l = NoneUnread l.log l.prev_log (take l.file-index l.files)

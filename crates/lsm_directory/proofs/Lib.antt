@@ -1,0 +1,9 @@
+mod Padding
+mod Quiet
+mod TellingLaws
+mod LogLaws
+mod LookLaws
+mod NameNumberLaws
+mod FileKindLaws
+mod FolderLaws
+pub mod CallerLemmas

@@ -1,0 +1,103 @@
+-- Why a command on a directory is refused, and what it prints of that: this project's rule.
+use Rattle.std.specs.Prelude.{ℕ, List, [], codes, Option, Some, None}
+use Rattle.lsm_text.specs.declared.directory_command.DirectoryCommand.TheVariants.{Check}
+use Rattle.lsm_table.specs.declared.read_fault.ReadFault.{ReadFault}
+use Rattle.lsm_shelf.specs.declared.shelf_fault.ShelfFault.{ShelfFault}
+use Rattle.lsm_shelf.specs.ShelfFault as shelf
+use Rattle.lsm_manifest.specs.LogFault as log
+use Rattle.lsm_manifest.specs.EditFault as edit
+use Rattle.lsm_manifest.specs.ReplayFault as replay
+use Rattle.lsm_manifest.specs.declared.replay_fault.ReplayFault.{ReplayFault}
+use Rattle.lsm_table.specs.ReadFault as read
+use Rattle.lsm_check.specs.CheckFault as check
+use Rattle.lsm_journal.specs.RecoverFault as recover
+use Rattle.lsm_journal.specs.declared.recover_fault.RecoverFault.{RecoverFault}
+use Rattle.lsm_journal.specs.declared.recover_fault.RecoverFault.TheVariants as recover_faults
+use Rattle.lsm_journal.specs.declared.open_fault.OpenFault.{OpenFault}
+use Rattle.lsm_journal.specs.declared.open_fault.OpenFault.TheVariants as open_faults
+use Rattle.lsm_check.specs.declared.check_fault.CheckFault.{CheckFault}
+use Rattle.lsm_check.specs.declared.check_fault.CheckFault.TheVariants as check_faults
+use Rattle.lsm_text.specs.FaultText.{edit_field, log_field, read_field, refusal_text, replay_field, shelf_field}
+use Rattle.lsm_directory.specs.declared.faults.directory_fault.DirectoryFault.{DirectoryFault}
+use Rattle.lsm_directory.specs.declared.faults.directory_fault.DirectoryFault.TheVariants.{OutOfMemory, Write, Shelf, Manifest, Tables, Read, NumbersSpent, Locked}
+
+-- a directory that could not be opened
+abbrev pub of_open : OpenFault → DirectoryFault
+of_open open_faults.OutOfMemory = OutOfMemory
+of_open (open_faults.Shelf fault) = Shelf fault
+of_open (open_faults.Recover fault) = Manifest fault
+of_open (open_faults.Check fault) = Tables fault
+of_open open_faults.NumbersSpent = NumbersSpent
+
+abbrev pub shelf_text : ShelfFault → List ℕ
+shelf_text fault = refusal_text (shelf.number_of fault) (shelf.name_of fault) (shelf_field fault)
+
+abbrev pub replay_text : ReplayFault → List ℕ
+replay_text fault = refusal_text (replay.number_of fault) (replay.name_of fault) (replay_field fault)
+
+abbrev pub read_text : ReadFault → List ℕ
+read_text fault = refusal_text (read.number_of fault) (read.name_of fault) (read_field fault)
+
+abbrev pub recover_text : RecoverFault → List ℕ
+recover_text (recover_faults.Shelf fault) = shelf_text fault
+recover_text (recover_faults.Log fault) = refusal_text (log.number_of fault) (log.name_of fault) (log_field fault)
+recover_text (recover_faults.Edit fault) = refusal_text (edit.number_of fault) (edit.name_of fault) (edit_field fault)
+recover_text (recover_faults.Replay fault) = replay_text fault
+
+-- A key against age is spelled as a word, which is tested.
+abbrev pub check_text : CheckFault → Option (List ℕ)
+check_text (check_faults.Read file fault) = Some (read_text fault)
+check_text (check_faults.DoubleFile number) = Some (refusal_text 30 (codes "DoubleFile") (Some number))
+check_text (check_faults.Overlap level) = Some (refusal_text 31 (codes "Overlap") (Some level))
+check_text (check_faults.WrongRange number) = Some (refusal_text 32 (codes "WrongRange") (Some number))
+check_text (check_faults.AgeOrder user) = None
+
+abbrev pub fault_text : DirectoryFault → Option (List ℕ)
+fault_text OutOfMemory = Some (refusal_text 1 (codes "OutOfMemory") None)
+fault_text Write = Some (codes "write fault")
+fault_text (Shelf fault) = Some (shelf_text fault)
+fault_text (Manifest fault) = Some (recover_text fault)
+fault_text (Tables fault) = check_text fault
+fault_text (Read fault) = Some (read_text fault)
+fault_text NumbersSpent = Some (refusal_text 46 (codes "NumbersSpent") None)
+fault_text Locked = Some (refusal_text 52 (codes "Locked") None)
+
+-- the number of a refusal; none of a write that failed
+abbrev pub number_of : DirectoryFault → Option ℕ
+number_of OutOfMemory = Some 1
+number_of Write = None
+number_of (Shelf fault) = Some (shelf.number_of fault)
+number_of (Manifest fault) = Some (recover.number_of fault)
+number_of (Tables fault) = Some (check.number_of fault)
+number_of (Read fault) = Some (read.number_of fault)
+number_of NumbersSpent = Some 46
+number_of Locked = Some 52
+
+-- the number of the file that a refusal of its table names
+abbrev pub file_in : CheckFault → Option ℕ
+file_in (check_faults.Read file fault) = file
+file_in (check_faults.DoubleFile number) = None
+file_in (check_faults.Overlap level) = None
+file_in (check_faults.WrongRange number) = None
+file_in (check_faults.AgeOrder user) = None
+
+abbrev pub file_of : DirectoryFault → Option ℕ
+file_of OutOfMemory = None
+file_of Write = None
+file_of (Shelf fault) = None
+file_of (Manifest fault) = None
+file_of (Tables fault) = file_in fault
+file_of (Read fault) = None
+file_of NumbersSpent = None
+file_of Locked = None
+
+-- what a fault means, as a line of its own, beside the file that it names
+abbrev pub meaning : DirectoryFault → Option (List ℕ)
+meaning OutOfMemory = Some []
+meaning Write = Some []
+meaning (Shelf fault) = Some []
+meaning (Manifest fault) = Some []
+meaning (Tables fault) = Some []
+meaning (Read fault) = Some []
+meaning NumbersSpent = Some []
+meaning Locked = Some (codes "another program has the folder open\n")

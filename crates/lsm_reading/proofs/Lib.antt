@@ -1,0 +1,6 @@
+mod LevelLaws
+mod ReadingOutcomes
+mod ScanLaws
+mod FaultLaws
+mod NoteLaws
+mod LookedLaws

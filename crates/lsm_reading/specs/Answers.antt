@@ -1,0 +1,103 @@
+-- What stands on standard output after a command on a directory, and what its faults say: this project's rule.
+use Rattle.std.specs.Prelude.{◌⊎◌, ℕ, Bool, true, false, IsFalse, List, Option, ⊤}
+use Rattle.std.specs.Io.KnownBytes.{Appends, Keeps}
+use Rattle.lsm_codec.specs.Entries.{answer}
+use Rattle.lsm_shelf.specs.Asked.{Asked}
+use Rattle.lsm_shelf.specs.declared.shelf_fault.ShelfFault.{ShelfFault}
+use Rattle.lsm_shelf.specs.Told.{Told}
+use Rattle.lsm_table.specs.ReadFault.{IsMemoryOrShelf, ReadCounted}
+use Rattle.lsm_levels.specs.Files.{all_entries}
+use Rattle.lsm_version.specs.Versions.{Levels, files}
+use Rattle.lsm_text.specs.declared.directory_command.DirectoryCommand.{DirectoryCommand}
+use Rattle.lsm_text.specs.declared.directory_command.DirectoryCommand.TheVariants.{Check, List as ListFiles, Get, Scan}
+use Rattle.lsm_text.specs.declared.form.Form.{Form}
+use Rattle.lsm_reading.specs.Directory.{Holds}
+use Rattle.lsm_reading.specs.Listing.{IsChecked, answer_text, list_text}
+use Rattle.lsm_directory.specs.Logs.{AreThose, IsUnread, NoneUnread, log_lines, note_line}
+use Rattle.lsm_reading.specs.Scanned.{LeavesScan, PrintsScan}
+use Rattle.lsm_reading.specs.Opening.{IsOpenRefusal}
+use Rattle.lsm_directory.specs.declared.folder.folder_file.FolderFile.{FolderFile}
+use Rattle.lsm_directory.specs.declared.faults.directory_fault.DirectoryFault.{DirectoryFault}
+use Rattle.lsm_directory.specs.declared.faults.directory_fault.DirectoryFault.TheVariants.{OutOfMemory, Write, Shelf, Manifest, Tables, Read, NumbersSpent, Locked}
+
+-- what a command writes for a version, for a manifest with so many bytes at its end that hold no whole record and with these log numbers,
+-- and for the files beside it
+abbrev pub Prints : Form → DirectoryCommand → Levels → (rest log prev : ℕ) → List FolderFile → Option (List ℕ) → Option (List ℕ) → Type 0
+Prints form Check v rest log prev others old new = (text : List ℕ) × IsChecked v rest log prev others text × Appends old new text
+Prints form ListFiles v rest log prev others old new = Appends old new (list_text form v)
+Prints form (Get key) v rest log prev others old new = Appends old new (answer_text form (answer (all_entries (files v)) key v.last))
+Prints form (Scan bounds) v rest log prev others old new = PrintsScan form bounds v old new
+
+-- A note was written for each log among these files that is not read.
+abbrev pub WritesNotes : (log prev : ℕ) → List FolderFile → Option (List ℕ) → Option (List ℕ) → Type 0
+WritesNotes log prev files old new = (logs : List FolderFile) × AreThose (IsUnread log prev) files logs × Appends old new (log_lines note_line logs)
+
+-- Of these files beside the tables a command says nothing on standard error: a check says what it has to say on standard output, and any
+-- other command notes each log that is not read.
+abbrev pub HasNoNote : DirectoryCommand → (log prev : ℕ) → List FolderFile → Type 0
+HasNoNote Check log prev others = ⊤
+HasNoNote ListFiles log prev others = NoneUnread log prev others
+HasNoNote (Get key) log prev others = NoneUnread log prev others
+HasNoNote (Scan bounds) log prev others = NoneUnread log prev others
+
+-- Standard error is kept where no progress is asked for and there is nothing to note.
+abbrev pub IsQuiet : DirectoryCommand → Bool → (log prev : ℕ) → List FolderFile → Option (List ℕ) → Option (List ℕ) → Type 0
+IsQuiet command progress log prev others old new = IsFalse progress → HasNoNote command log prev others → Keeps old new
+
+-- The shelf's directory holds a version, over an honest shelf what the command prints of it was written on standard output, and standard
+-- error is quiet.
+pub record IsLookedInto (form : Form) (command : DirectoryCommand) (others : List FolderFile) (progress : Bool) (Honest : Type 0) (was is : Told) (old new said_old said_new : Option (List ℕ)) : Type 0 where
+  pub version : Levels
+  pub rest : ℕ
+  pub log : ℕ
+  pub prev : ℕ
+  pub holds : Holds Honest was is version rest log prev
+  pub printed : Honest → Prints form command version rest log prev others old new
+  pub quiet : IsQuiet command progress log prev others said_old said_new
+
+-- the directory holds a version
+abbrev pub HoldsVersion : Type 0 → Told → Told → Levels → Type 0
+HoldsVersion Honest was is v = (rest : ℕ) × (log : ℕ) × (prev : ℕ) × Holds Honest was is v rest log prev
+
+-- What a fault says of the directory: the first fault that opening it meets; or it was opened, and a write failed, or the shelf did.
+-- Want of memory says nothing.
+abbrev pub IsLookFault : (ℕ → List ℕ → Type 0) → (Asked → ShelfFault → Type 0) → Type 0 → DirectoryFault → Told → Told → Type 0
+IsLookFault Stored Refused Honest OutOfMemory was is = ⊤
+IsLookFault Stored Refused Honest Write was is = (v : Levels) × HoldsVersion Honest was is v
+IsLookFault Stored Refused Honest (Shelf fault) was is = IsOpenRefusal Stored Refused Honest (Shelf fault) was is
+IsLookFault Stored Refused Honest (Manifest fault) was is = IsOpenRefusal Stored Refused Honest (Manifest fault) was is
+IsLookFault Stored Refused Honest (Tables fault) was is = IsOpenRefusal Stored Refused Honest (Tables fault) was is
+IsLookFault Stored Refused Honest (Read fault) was is = (v : Levels) × HoldsVersion Honest was is v × (Honest → IsMemoryOrShelf fault) × ReadCounted fault was is
+IsLookFault Stored Refused Honest NumbersSpent was is = IsOpenRefusal Stored Refused Honest NumbersSpent was is
+IsLookFault Stored Refused Honest Locked was is = ⊥
+
+-- What is written of a version before a fault that is no failed write: nothing, or, by a scan and over an honest shelf, its first lines.
+abbrev pub PrintsBefore : Form → DirectoryCommand → Type 0 → Levels → Option (List ℕ) → Option (List ℕ) → Type 0
+PrintsBefore form Check Honest v old new = Keeps old new
+PrintsBefore form ListFiles Honest v old new = Keeps old new
+PrintsBefore form (Get key) Honest v old new = Keeps old new
+PrintsBefore form (Scan bounds) Honest v old new = LeavesScan form bounds Honest v old new
+
+-- What a fault leaves on standard output: nothing where the directory could not be opened.
+abbrev pub Leaves : Form → DirectoryCommand → Type 0 → DirectoryFault → Told → Told → Option (List ℕ) → Option (List ℕ) → Type 0
+Leaves form command Honest OutOfMemory was is old new =
+    Keeps old new ⊎ ((v : Levels) × HoldsVersion Honest was is v × PrintsBefore form command Honest v old new)
+Leaves form command Honest Write was is old new = ⊤
+Leaves form command Honest (Shelf fault) was is old new = Keeps old new
+Leaves form command Honest (Manifest fault) was is old new = Keeps old new
+Leaves form command Honest (Tables fault) was is old new = Keeps old new
+Leaves form command Honest (Read fault) was is old new = (v : Levels) × HoldsVersion Honest was is v × PrintsBefore form command Honest v old new
+Leaves form command Honest NumbersSpent was is old new = Keeps old new
+Leaves form command Honest Locked was is old new = Keeps old new
+
+-- What a refusal is: what the fault says of the directory, and what it leaves on standard output.
+pub record IsNotLookedInto (form : Form) (command : DirectoryCommand) (fault : DirectoryFault) (Stored : ℕ → List ℕ → Type 0) (Refused : Asked → ShelfFault → Type 0) (Honest : Type 0) (was is : Told) (old new : Option (List ℕ)) : Type 0 where
+  pub says : IsLookFault Stored Refused Honest fault was is
+  pub left : Leaves form command Honest fault was is old new
+
+-- a command whose refusals name the file of a table
+abbrev pub names_files : DirectoryCommand → Bool
+names_files Check = true
+names_files ListFiles = false
+names_files (Get key) = false
+names_files (Scan bounds) = true

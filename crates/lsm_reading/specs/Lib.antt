@@ -1,0 +1,9 @@
+-- What public clauses cite, and so what a caller reads
+pub mod Directory
+pub mod Listing
+pub mod Scanned
+pub mod Opening
+pub mod Answers
+pub mod Looked
+-- What private functions and proofs cite alone
+pub mod ReadFault

@@ -1,0 +1,52 @@
+//! A directory that is opened to be read.
+
+ghost use Rattle.std.specs.Prelude.{◌≡◌, IfErr, IfOk};
+ghost use Rattle.lsm_reading.specs.Directory.{Holds, OnlyReads};
+ghost use Rattle.lsm_reading.specs.Opening.{IsOpenRefusal};
+ghost use Rattle.lsm_shelf.specs.Stored.{Stored};
+
+use lsm_directory::DirectoryFault;
+use lsm_journal::Found;
+use lsm_table::{NamedShelf, Naming, Registry, Shelf};
+use lsm_version::Version;
+use std::alloc::Global;
+use std::sync::{Arc, Wait};
+
+/// A directory that is opened to be read: its version, how many bytes at the end of its manifest
+/// hold no whole record, and the numbers that the manifest gives of the write-ahead log and of the
+/// one before it.
+#[derive(Drop)]
+pub struct Opened<N: Naming, S: Shelf> {
+    pub version: Version<N, S>,
+    pub rest: u64,
+    pub log: u64,
+    pub prev_log: u64,
+}
+
+/// Opens the directory of a shelf to read, as `Found::read` does: reads the manifest that it names,
+/// reads and judges every table, and lists those that are there. Nothing is written.
+///
+/// The refusals of `Found::read`: those of `Journal::recover`, then those of `lsm_check::check`,
+/// those of listing the tables, and `NumbersSpent`.
+pub fn open<N: Naming, S: Shelf, R: Wait>(
+    rt: &R,
+    alloc: Global,
+    shelf: &mut NamedShelf<N, S>,
+    registry: &Arc<Registry<N, S>>,
+) -> Result<Opened<N, S>, DirectoryFault>
+    ensures opened { IfOk result (λ o.
+        Holds S.honest shelf.old shelf.new o.version o.rest o.log o.prev_log) }
+    ensures refused { IfErr result (λ e.
+        IsOpenRefusal (Stored S.Receipt (S.is_of N.place) S.Receipt.number S.Receipt.image)
+        (S.refuses N.place) S.honest e shelf.old shelf.new) }
+    ensures reads { OnlyReads shelf.old shelf.new }
+{
+    // A journal that nothing is sent through has no use for its limit.
+    let found = Found::read(rt, alloc, shelf, registry, u64::MAX)?;
+    Ok(Opened {
+        version: found.version,
+        rest: found.rest,
+        log: found.journal.log(),
+        prev_log: found.journal.prev_log(),
+    })
+}

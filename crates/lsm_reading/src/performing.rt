@@ -1,0 +1,217 @@
+//! What the commands on a directory do. Each opens it to read, and writes nothing there.
+
+ghost use Rattle.std.specs.Prelude.{◌≡◌, ◌≢◌, IfErr, IfOk, IsFalse, OnOk};
+ghost use Rattle.std.specs.Io.KnownBytes.{Keeps};
+ghost use Rattle.lsm_codec.specs.Entries.{answer};
+ghost use Rattle.lsm_table.specs.Told.{Becomes};
+ghost use Rattle.lsm_levels.specs.Files.{all_entries};
+ghost use Rattle.lsm_version.specs.Versions.{files};
+ghost use Rattle.lsm_reading.specs.Answers.{IsLookFault, IsLookedInto, Leaves, Prints};
+ghost use Rattle.lsm_reading.specs.Answers.{PrintsBefore};
+ghost use Rattle.lsm_reading.specs.Directory.{OnlyReads};
+ghost use Rattle.lsm_reading.specs.Listing.{IsChecked, answer_text, check_text};
+ghost use Rattle.lsm_reading.specs.ReadFault.{IsAnswerFault, IsReadFault};
+ghost use Rattle.lsm_directory.specs.declared.faults.directory_fault.DirectoryFault.TheVariants.{Write as WriteFault};
+ghost use Rattle.lsm_shelf.specs.Stored.{Stored};
+
+use crate::answering::answer_line;
+use crate::checking::describe;
+use crate::inquiry::Inquiry;
+use crate::listing::list_files;
+use crate::notes::tell_notes;
+use crate::opened::{Opened, open};
+use crate::scanning::print_scan;
+use lsm_directory::{DirectoryFault, Wording, push_logs, write_output};
+use lsm_reader::Direct;
+use lsm_table::{NamedShelf, Naming, Records, Registry, Shelf};
+use lsm_text::{DirectoryCommand, Form};
+use lsm_version::Version;
+use std::alloc::Global;
+use std::io::Write;
+use std::sync::Wait;
+
+/// The line of what a version answers for a key.
+fn answer_of<N: Naming, S: Shelf>(
+    shelf: &mut NamedShelf<N, S>,
+    alloc: Global,
+    version: &Version<N, S>,
+    form: Form,
+    key: &[u8],
+) -> Result<Vec<u8>, DirectoryFault>
+    ensures text { S.honest → IfOk result (λ text. text.items
+        ≡ answer_text form (answer (all_entries (files version.now)) key.now version.now.last)) }
+    ensures fault { IfErr result (λ e.
+        IsReadFault S.honest e shelf.old shelf.new) }
+    ensures told { Becomes shelf.old shelf.new }
+{
+    let answer = lsm_reads::get(version, shelf, alloc, key, version.last())?;
+    Ok(answer_line(alloc, form, answer)?)
+}
+
+/// What a check prints of a version.
+fn description_of<N: Naming, S: Shelf, E: Write>(
+    shelf: &mut NamedShelf<N, S>,
+    alloc: Global,
+    registry: &Registry<N, S>,
+    opened: &Opened<N, S>,
+    progress: bool,
+    err: &mut E,
+) -> Result<Vec<u8>, DirectoryFault>
+    ensures text { S.honest
+        → IfOk result (λ text. text.items ≡ check_text opened.now.version opened.now.rest) }
+    ensures fault { IfErr result (λ e.
+        IsReadFault S.honest e shelf.old shelf.new) }
+    ensures told { Becomes shelf.old shelf.new }
+    ensures quiet { IsFalse progress → Keeps (E.contents err.old) (E.contents err.new) }
+{
+    let mut direct = Direct::new(shelf);
+    let version = &opened.version;
+    describe(
+        &mut direct,
+        alloc,
+        registry,
+        version,
+        opened.rest,
+        progress,
+        err,
+    )
+}
+
+/// What a check prints: that, and the logs that are not read.
+fn checked<N: Naming, S: Shelf, E: Write>(
+    shelf: &mut NamedShelf<N, S>,
+    alloc: Global,
+    registry: &Registry<N, S>,
+    opened: &Opened<N, S>,
+    inquiry: &Inquiry<'_>,
+    err: &mut E,
+) -> Result<Vec<u8>, DirectoryFault>
+    ensures text { S.honest → IfOk result (λ text. IsChecked opened.now.version opened.now.rest
+        opened.now.log opened.now.prev_log inquiry.now.files.now text.items) }
+    ensures fault { IfErr result (λ e.
+        IsReadFault S.honest e shelf.old shelf.new) }
+    ensures told { Becomes shelf.old shelf.new }
+    ensures quiet { IsFalse inquiry.now.progress → Keeps (E.contents err.old) (E.contents err.new) }
+{
+    let mut text = description_of(shelf, alloc, registry, opened, inquiry.progress, err)?;
+    push_logs(
+        &mut text,
+        Wording::Listed,
+        inquiry.files,
+        opened.log,
+        opened.prev_log,
+    )?;
+    Ok(text)
+}
+
+/// Does what a command asks of a directory that is open.
+#[tactic(auto, using(crate::proofs::FaultLaws::answer_fault_from_read, crate::proofs::FaultLaws::answer_fault_from_output, lsm_directory::proofs::CallerLemmas::keeps_same))]
+fn perform_on<N: Naming, S: Shelf, O: Write, E: Write>(
+    shelf: &mut NamedShelf<N, S>,
+    alloc: Global,
+    registry: &Registry<N, S>,
+    opened: &Opened<N, S>,
+    inquiry: &Inquiry<'_>,
+    out: &mut O,
+    err: &mut E,
+) -> Result<(), DirectoryFault>
+    ensures done { S.honest → OnOk result (Prints inquiry.now.form inquiry.now.command.now
+        opened.now.version opened.now.rest opened.now.log opened.now.prev_log inquiry.now.files.now
+        (O.contents out.old) (O.contents out.new)) }
+    ensures left { IfErr result (λ e. e ≢ WriteFault
+        → PrintsBefore inquiry.now.form inquiry.now.command.now S.honest opened.now.version
+        (O.contents out.old) (O.contents out.new)) }
+    ensures fault { IfErr result (λ e.
+        IsAnswerFault S.honest e shelf.old shelf.new) }
+    ensures told { Becomes shelf.old shelf.new }
+    ensures quiet { IsFalse inquiry.now.progress → Keeps (E.contents err.old) (E.contents err.new) }
+{
+    let version = &opened.version;
+    let text = match inquiry.command {
+        DirectoryCommand::Check => checked(shelf, alloc, registry, opened, inquiry, err)?,
+        DirectoryCommand::List => list_files(alloc, inquiry.form, registry, version)?,
+        DirectoryCommand::Get(key) => answer_of(
+            shelf,
+            alloc,
+            version,
+            inquiry.form,
+            key.as_slice(),
+        )?,
+        DirectoryCommand::Scan(bounds) => {
+            return print_scan(
+                shelf,
+                alloc,
+                version,
+                inquiry.form,
+                bounds,
+                inquiry.progress,
+                out,
+                err,
+            );
+        }
+    };
+    write_output(out, text.as_slice())?;
+    Ok(())
+}
+
+/// Opens the directory of a shelf to read, notes the logs that are not read, and does what a
+/// command asks of it. Nothing is written there.
+#[tactic(auto, using(crate::proofs::ReadingOutcomes::reads_none, crate::proofs::ReadingOutcomes::reads_later, lsm_directory::proofs::CallerLemmas::keeps_same))]
+fn perform<N: Naming, S: Shelf, R: Wait, O: Write, E: Write>(
+    rt: &R,
+    alloc: Global,
+    shelf: &mut NamedShelf<N, S>,
+    records: Records<S::Receipt>,
+    inquiry: &Inquiry<'_>,
+    out: &mut O,
+    err: &mut E,
+) -> Result<(), DirectoryFault>
+    requires named { records ≡ N.registry }
+    ensures done { OnOk result (IsLookedInto inquiry.now.form inquiry.now.command.now
+        inquiry.now.files.now inquiry.now.progress S.honest shelf.old shelf.new
+        (O.contents out.old) (O.contents out.new) (E.contents err.old) (E.contents err.new)) }
+    ensures fault { IfErr result (λ e. IsLookFault (Stored S.Receipt (S.is_of N.place)
+        S.Receipt.number S.Receipt.image) (S.refuses N.place) S.honest e shelf.old shelf.new) }
+    ensures left { IfErr result (λ e. Leaves inquiry.now.form inquiry.now.command.now S.honest e
+        shelf.old shelf.new (O.contents out.old) (O.contents out.new)) }
+    ensures reads { OnlyReads shelf.old shelf.new }
+{
+    let registry = Registry::shared(alloc, records)?;
+    let opened: Opened<N, S> = open(rt, alloc, shelf, &registry)?;
+    tell_notes(
+        alloc,
+        inquiry.command,
+        inquiry.files,
+        opened.log,
+        opened.prev_log,
+        err,
+    );
+    perform_on(shelf, alloc, &registry, &opened, inquiry, out, err)
+}
+
+/// The same under the name that was picked for the records and the shelf, which is given back.
+pub(crate) fn perform_as<N: Naming, S: Shelf, R: Wait, O: Write, E: Write>(
+    rt: &R,
+    alloc: Global,
+    shelf: S,
+    records: Records<S::Receipt>,
+    inquiry: &Inquiry<'_>,
+    out: &mut O,
+    err: &mut E,
+) -> (Result<(), DirectoryFault>, S)
+    requires records { records ≡ N.registry }
+    requires shelf { (S.told shelf).place ≡ N.place }
+    ensures done { OnOk result.0 (IsLookedInto inquiry.now.form inquiry.now.command.now
+        inquiry.now.files.now inquiry.now.progress S.honest (S.told shelf) (S.told result.1)
+        (O.contents out.old) (O.contents out.new) (E.contents err.old) (E.contents err.new)) }
+    ensures fault { IfErr result.0 (λ e. IsLookFault (Stored S.Receipt (S.is_of N.place)
+        S.Receipt.number S.Receipt.image) (S.refuses N.place) S.honest e
+        (S.told shelf) (S.told result.1)) }
+    ensures left { IfErr result.0 (λ e. Leaves inquiry.now.form inquiry.now.command.now S.honest e
+        (S.told shelf) (S.told result.1) (O.contents out.old) (O.contents out.new)) }
+    ensures reads { OnlyReads (S.told shelf) (S.told result.1) }
+{
+    let mut shelf: NamedShelf<N, S> = NamedShelf::of(shelf);
+    let done = perform(rt, alloc, &mut shelf, records, inquiry, out, err);
+    (done, shelf.into_shelf())
+}

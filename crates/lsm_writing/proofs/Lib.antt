@@ -1,0 +1,11 @@
+mod Quiet
+mod NameKindLaws
+mod NameLaws
+mod Looked
+mod WritingOutcomes
+mod Numbers
+mod SpareFiles
+mod SpareLaws
+mod Ends
+mod CompactOutcomes
+mod RunLaws

@@ -1,0 +1,159 @@
+-- What a `compact` leaves, and why it is refused (this project's rule).
+use Rattle.std.specs.Prelude.{◌≡◌, ◌≢◌, ℕ, ◌⊎◌, false, List, [], ◌∷◌, ◌++◌, length, codes, decimal, All, sum_by, Option, None, Some}
+use Rattle.std.specs.Io.KnownBytes.{Appends, Keeps}
+use Rattle.atomic_table.specs.Seated.{TableId}
+use Rattle.lsm_folder.specs.Calls.{Call}
+use Rattle.lsm_folder.specs.declared.lock_kind.LockKind.TheVariants.{Exclusive}
+use Rattle.lsm_shelf.specs.Asked.{Asked}
+use Rattle.lsm_shelf.specs.declared.shelf_fault.ShelfFault.{ShelfFault}
+use Rattle.lsm_shelf.specs.Told.{Told, Forked, NotNamed}
+use Rattle.lsm_state.specs.Asked.{CollectRefused, OnShelf}
+use Rattle.lsm_state.specs.Collecting.{AreCollected, IsCollectRefusal, IsCountedOnce, SameCounts}
+use Rattle.lsm_state.specs.Held.{Held, IsLawfulState}
+use Rattle.lsm_state.specs.Opening.{IsOpenRefusal, IsReadOnce}
+use Rattle.lsm_journal.specs.declared.open_fault.OpenFault.{OpenFault}
+use Rattle.lsm_state.specs.declared.state_fault.StateFault.{StateFault}
+use Rattle.lsm_store.specs.Workers.{IsWorkersEnd}
+use Rattle.lsm_store.specs.declared.worker_end.WorkerEnd.{WorkerEnd}
+use Rattle.lsm_store.specs.declared.worker_fault.WorkerFault.{WorkerFault}
+use Rattle.lsm_directory.specs.Holding.{IsUnheld}
+use Rattle.lsm_directory.specs.declared.faults.directory_fault.DirectoryFault.{DirectoryFault}
+use Rattle.lsm_writing.specs.Starting.{IsReopened, usual}
+use Rattle.lsm_writing.specs.WriterFault.{of_open, of_shelf}
+use Rattle.lsm_writing.specs.declared.faults.writer_fault.WriterFault.TheVariants.{OutOfMemory, Write as WriteFault, Directory, State}
+use Rattle.lsm_writing.specs.declared.faults.compact_fault.CompactFault.{CompactFault}
+use Rattle.lsm_writing.specs.declared.faults.compact_fault.CompactFault.TheVariants.{Writer, Worker}
+
+-- `installed M`
+abbrev pub installed_text : ℕ → List ℕ
+installed_text installed = codes "installed " ++ (decimal installed ++ (10 ∷ []))
+
+-- ---- workers
+
+-- how many results all of them installed
+abbrev pub installed_by : List WorkerEnd → ℕ
+installed_by ends = sum_by (λ e. e.installed) ends
+
+abbrev pub IsFaultless : WorkerEnd → Type 0
+IsFaultless e = e.fault ≡ None
+
+-- the fault of the first worker that has one
+pub record IsFirstFault (fault : WorkerFault) (ends : List WorkerEnd) : Type 0 where
+  pub front : List WorkerEnd
+  pub first : WorkerEnd
+  pub back : List WorkerEnd
+  pub parts : ends ≡ front ++ first ∷ back
+  pub faultless : All IsFaultless front
+  pub its : first.fault ≡ Some fault
+
+-- So many workers ended, each as workers do.
+pub record AreEnds (Honest : Type 0) (workers : ℕ) (ends : List WorkerEnd) : Type 0 where
+  pub count : length ends ≡ workers
+  pub each : All (IsWorkersEnd Honest) ends
+
+-- ---- what the shelf was told
+
+-- The directory was opened, as a state with this board; after that the shelf was asked for forks alone.
+pub record IsOpened (Honest : Type 0) (board : TableId) (was is : Told) : Type 0 where
+  pub before : Held
+  pub mid : Told
+  pub opened : IsReopened Honest before was mid
+  pub on : before.slots.board.board ≡ board
+  pub forked : Forked mid is
+
+-- The tables that are listed and that a state with this board does not keep were removed. It is a lawful one, which may write.
+pub record IsSwept (Honest : Type 0) (board : TableId) (was is : Told) : Type 0 where
+  pub held : Held
+  pub lawful : IsLawfulState Honest board held
+  pub on : held.slots.board.board ≡ board
+  pub running : held.halted ≡ false
+  pub removed : List ℕ
+  pub collected : AreCollected held removed was is
+  pub counts : SameCounts was is
+
+-- The directory was opened, no worker ended with a fault, and what nothing names was removed, by a state with the board of the one opened.
+pub record Compacts (Honest : Type 0) (workers : ℕ) (ends : List WorkerEnd) (was is : Told) : Type 0 where
+  pub board : TableId
+  pub mid : Told
+  pub opened : IsOpened Honest board was mid
+  pub ends_are : AreEnds Honest workers ends
+  pub faultless : All IsFaultless ends
+  pub swept : IsSwept Honest board mid is
+
+-- That was done, and how many results were installed was written.
+abbrev pub IsCompacted : Type 0 → ℕ → Told → Told → Option (List ℕ) → Option (List ℕ) → Type 0
+IsCompacted Honest workers was is old new =
+    (ends : List WorkerEnd) × Compacts Honest workers ends was is × Appends old new (installed_text (installed_by ends))
+
+-- ---- refusals
+
+-- The lock was asked for, and not held: another has it, or the folder refused.
+abbrev pub NoLock : List Call → CompactFault → Type 0
+NoLock calls e = (fault : DirectoryFault) × (after : List Call) × (e ≡ Writer (Directory fault)) × IsUnheld Exclusive fault calls after
+
+-- Memory ran out before the shelf was asked for anything.
+abbrev pub IsOutOfMemory : CompactFault → Told → Told → Type 0
+IsOutOfMemory e was is = (e ≡ Writer OutOfMemory) × (is ≡ was)
+
+-- The directory was not opened.
+abbrev pub IsUnopened : (ℕ → List ℕ → Type 0) → (Asked → ShelfFault → Type 0) → Type 0 → CompactFault → Told → Told → Type 0
+IsUnopened Stored Refused Honest e was is = (fault : OpenFault) × (e ≡ Writer (of_open fault))
+    × IsOpenRefusal Stored Refused Honest usual.manifest_limit fault was is × IsReadOnce fault was is
+
+-- It was opened, and no worker began: memory ran out, or a shelf failed to fork.
+abbrev pub IsUnmanned : Type 0 → CompactFault → Told → Told → Type 0
+IsUnmanned Honest e was is = (fault : ShelfFault) × (e ≡ Writer (of_shelf fault)) × NotNamed fault
+    × ((board : TableId) × IsOpened Honest board was is)
+
+-- No worker began.
+abbrev pub NoneBegan : (ℕ → List ℕ → Type 0) → (Asked → ShelfFault → Type 0) → Type 0 → CompactFault → Told → Told → Type 0
+NoneBegan Stored Refused Honest e was is = IsUnopened Stored Refused Honest e was is ⊎ IsUnmanned Honest e was is
+
+-- Workers ended, the first one in their order that has a fault with this one.
+abbrev pub IsWorkersFault : Type 0 → ℕ → CompactFault → Type 0
+IsWorkersFault Honest workers e = (fault : WorkerFault) × (e ≡ Worker fault)
+    × ((ends : List WorkerEnd) × AreEnds Honest workers ends × IsFirstFault fault ends)
+
+-- A worker ended with a fault, and nothing was removed.
+abbrev pub IsUnfinished : Type 0 → ℕ → CompactFault → Told → Told → Type 0
+IsUnfinished Honest workers e was is = IsWorkersFault Honest workers e × ((board : TableId) × IsOpened Honest board was is)
+
+-- A lawful state with this board refused to collect; its refusal says what was removed until then. Where it was the shelf, other than for
+-- want of memory, it refused to list its tables, or to remove one that is not kept.
+pub record Refuses (Refused : Asked → ShelfFault → Type 0) (Honest : Type 0) (board : TableId) (fault : StateFault) (was is : Told) : Type 0 where
+  pub before : Held
+  pub after : Held
+  pub lawful : IsLawfulState Honest board after
+  pub on : after.slots.board.board ≡ board
+  pub removed : List ℕ
+  pub refused : IsCollectRefusal before after fault removed was is
+  pub counts : IsCountedOnce fault was is
+  pub asked : OnShelf (CollectRefused Refused after) fault
+
+-- No worker ended with a fault, and the collect was refused.
+pub record IsUnswept (Refused : Asked → ShelfFault → Type 0) (Honest : Type 0) (workers : ℕ) (fault : StateFault) (was is : Told) : Type 0 where
+  pub board : TableId
+  pub mid : Told
+  pub opened : IsOpened Honest board was mid
+  pub ends : List WorkerEnd
+  pub ends_are : AreEnds Honest workers ends
+  pub faultless : All IsFaultless ends
+  pub refuses : Refuses Refused Honest board fault mid is
+
+-- All was done, and the reply was not written.
+abbrev pub IsUntold : Type 0 → ℕ → CompactFault → Told → Told → Type 0
+IsUntold Honest workers e was is = (e ≡ Writer WriteFault) × ((ends : List WorkerEnd) × Compacts Honest workers ends was is)
+
+-- What a fault says.
+abbrev pub IsCompactFault : (ℕ → List ℕ → Type 0) → (Asked → ShelfFault → Type 0) → Type 0 → ℕ → CompactFault → Told → Told → Type 0
+IsCompactFault Stored Refused Honest workers e was is =
+    IsOutOfMemory e was is
+    ⊎ (NoneBegan Stored Refused Honest e was is
+    ⊎ (IsUnfinished Honest workers e was is
+    ⊎ (((fault : StateFault) × (e ≡ Writer (State fault)) × IsUnswept Refused Honest workers fault was is)
+    ⊎ IsUntold Honest workers e was is)))
+
+-- What a refusal is: what the fault says; and, unless a write failed, nothing was written on standard output.
+pub record IsNotCompacted (Stored : ℕ → List ℕ → Type 0) (Refused : Asked → ShelfFault → Type 0) (Honest : Type 0) (workers : ℕ) (fault : CompactFault) (was is : Told) (old new : Option (List ℕ)) : Type 0 where
+  pub says : IsCompactFault Stored Refused Honest workers fault was is
+  pub left : fault ≢ Writer WriteFault → Keeps old new

@@ -1,0 +1,13 @@
+-- What public clauses cite, and so what a caller reads
+pub mod WriterFault
+pub mod BatchInput
+pub mod Names
+pub mod Preparing
+pub mod Starting
+pub mod Ingesting
+pub mod Ingested
+pub mod Cleaning
+pub mod Cleaned
+pub mod CompactFault
+pub mod Compacting
+pub mod Compacted

@@ -1,0 +1,31 @@
+//! The commands of the program `lsm` that write in a LevelDB folder: `ingest`, `compact` and
+//! `clean`.
+//!
+//! Stands on `lsm_directory` for the folder, its lock and its logs, on `lsm_state` for what comes
+//! in, and on `lsm_store` for the workers that compact. Its contract: `run_ingest`, `run_compact` and
+//! `run_clean` do what the words of a command line ask, and answer the exit status, by one clause for
+//! each.
+#![tactic(auto)]
+
+// A command each.
+mod cleaning;
+mod compacting;
+mod ingesting;
+
+// What they share: names that lead to a database, what a state is made with.
+mod names;
+mod parts;
+
+// Why a command ends with status 1.
+mod faults;
+
+pub use cleaning::program::{clean, run_clean};
+pub use compacting::opening::held_shelf;
+pub use compacting::program::{compact, run_compact};
+pub use faults::compact_fault::CompactFault;
+pub use faults::writer_fault::WriterFault;
+pub use ingesting::batch_input::read_batch;
+pub use ingesting::preparing::prepare;
+pub use ingesting::program::{ingest, run_ingest};
+pub use ingesting::start::{Prepared, Start};
+pub use parts::{NewParts, Parts};
