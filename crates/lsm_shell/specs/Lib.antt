@@ -4,3 +4,4 @@ pub mod Pieces
 pub mod Asks
 pub mod Pairs
 pub mod Talk
+pub mod Conversing

@@ -25,9 +25,13 @@ mod replying;
 mod talk_fault;
 mod talking;
 
+// The conversation with the database of a folder.
+mod conversing;
+
 pub use ahead::ReadFailed;
 pub use ask::Ask;
 pub use ask_line::ask_in;
+pub use conversing::converse;
 pub use line_reader::{LineReader, NextLine};
 pub use pairs::{ScanFault, Step};
 pub use talk_fault::TalkFault;

@@ -28,4 +28,5 @@ pub use ingesting::batch_input::read_batch;
 pub use ingesting::preparing::prepare;
 pub use ingesting::program::{ingest, run_ingest};
 pub use ingesting::start::{Prepared, Start};
+pub use ingesting::starting::start;
 pub use parts::{NewParts, Parts};

@@ -173,7 +173,7 @@ fn open_beside<N: Boarded, S: Shelf, R: Wait>(
 
 /// The state of a new database on the shelf, or of the one that is there, with the usual options.
 /// Neither is done beside a log that LevelDB would then read, if logs were looked at.
-pub(crate) fn start<N: Boarded, S: Shelf, R: Wait>(
+pub fn start<N: Boarded, S: Shelf, R: Wait>(
     rt: &R,
     alloc: Global,
     shelf: &mut NamedShelf<N, S>,
