@@ -6,3 +6,5 @@ mod ScanWords
 mod PairLaws
 mod ScanTalk
 mod TalkLaws
+mod HistoryLaws
+mod RunLaws

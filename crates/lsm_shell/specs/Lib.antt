@@ -5,3 +5,4 @@ pub mod Asks
 pub mod Pairs
 pub mod Talk
 pub mod Conversing
+pub mod Talked

@@ -25,14 +25,20 @@ mod replying;
 mod talk_fault;
 mod talking;
 
+// What holds of a conversation.
+mod laws;
+
 // The conversation with the database of a folder.
 mod conversing;
+mod program;
 
 pub use ahead::ReadFailed;
 pub use ask::Ask;
 pub use ask_line::ask_in;
 pub use conversing::converse;
+pub use laws::talks_are_of_the_history;
 pub use line_reader::{LineReader, NextLine};
 pub use pairs::{ScanFault, Step};
+pub use program::run_shell;
 pub use talk_fault::TalkFault;
 pub use talking::talk;
