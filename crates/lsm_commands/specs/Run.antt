@@ -21,7 +21,7 @@ use Rattle.lsm_commands.specs.Played.{IsScriptDone, IsScriptRefused}
 use Rattle.lsm_directory.specs.declared.faults.directory_fault.DirectoryFault.{DirectoryFault}
 use Rattle.lsm_writing.specs.declared.faults.writer_fault.WriterFault.{WriterFault}
 use Rattle.lsm_reading.specs.Looked.{FailsToLook, LooksAt}
-use Rattle.lsm_shell.specs.Shelled.{ConversesAt, FailsToConverse}
+use Rattle.lsm_shell.specs.Talked.{FailsToTalk, TalksAt}
 use Rattle.lsm_writing.specs.Cleaned.{FailsToClean, IsCleanedAt}
 use Rattle.lsm_writing.specs.Compacted.{IsCompactedAt, IsUncompacted}
 use Rattle.lsm_writing.specs.Ingested.{ComesInAt, FailsToBringIn, IsIngested, IsUningested}
@@ -58,7 +58,7 @@ module _ {C M : Type 0} (folders : Ghosts C M) where
   IsDone text (WriteFolder line) old new said_old said_new = IsWritten text line.path.now line.command old new × Keeps said_old said_new
   IsDone text (Compact line) old new said_old said_new = IsCompactedAt folders line old new × (IsFalse line.options.progress → Keeps said_old said_new)
   IsDone text (Script input) old new said_old said_new = IsPlayed (text input) old new × Keeps said_old said_new
-  IsDone text (Shell line) old new said_old said_new = ConversesAt folders line.path.now line.options (text Standard) old new × Keeps said_old said_new
+  IsDone text (Shell line) old new said_old said_new = TalksAt folders line.path.now line.options (text Standard) old new × Keeps said_old said_new
 
   -- The words ask for a command, which was done; or they ask for help, which was written, and nothing was on standard error.
   abbrev pub AreDone : (Input → Option (List ℕ)) → List Text → (old new said_old said_new : Option (List ℕ)) → Type 0
@@ -82,7 +82,7 @@ module _ {C M : Type 0} (folders : Ghosts C M) (marks : mark.Ghosts M) where
   IsUndone text (WriteFolder line) old new = IsUnwritten text line.path.now line.command old new
   IsUndone text (Compact line) old new = IsUncompacted folders marks line old new
   IsUndone text (Script input) old new = IsUnplayed (text input) old new
-  IsUndone text (Shell line) old new = FailsToConverse folders marks line.path.now line.options (text Standard) old new
+  IsUndone text (Shell line) old new = FailsToTalk folders marks line.path.now line.options (text Standard) old new
 
   -- The words ask for a command, which was not done; or for help, of which a beginning was written; or memory ran out before they were read.
   abbrev pub AreUndone : (Input → Option (List ℕ)) → List Text → (old new : Option (List ℕ)) → Type 0

@@ -100,6 +100,12 @@ AreReplied honest form [] said s t = (said ≡ []) × (t ≡ s)
 AreReplied honest form (line ∷ lines) said s t =
     (mid : Stage) × (one : List ℕ) × (rest : List ℕ) × (said ≡ one ++ rest) × IsReplied honest form line one s mid × AreReplied honest form lines rest mid t
 
+-- These commands are asked for by lines, in their order, each by one of its own.
+abbrev pub AreAsked : Form → List (List ℕ) → List Command → Type 0
+AreAsked form [] commands = commands ≡ []
+AreAsked form (line ∷ lines) commands =
+    ((c : Command) × (cs : List Command) × (commands ≡ c ∷ cs) × IsAsk form line (Do c) × AreAsked form lines cs) ⊎ AreAsked form lines commands
+
 -- behind the lines that were replied to stands `quit`, or nothing
 abbrev pub IsEnd : List (List ℕ) → Type 0
 IsEnd [] = ⊤
