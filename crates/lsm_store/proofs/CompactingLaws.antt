@@ -76,6 +76,16 @@ found_by_parts Honest was is version epochs history snapshots = record {
   answers = λ h. same_answers was is version;
 }
 
+-- where slots were looked at, and nothing else was done, so it stays
+pub found_looked : (Honest : Type 0) (was is : Held) → Looked was.slots is.slots → is ≡ record was { slots = is.slots } → IsAsFound Honest was is
+found_looked Honest was is looked e = record {
+  history = ap (λ (h : Held). h.history) e;
+  last = ap (λ (v : Levels). v.last) looked.version;
+  snapshots = ap (λ (h : Held). h.snapshots) e;
+  pins = λ id. pins_looked was.slots is.slots looked id;
+  answers = λ h. same_answers was is looked.version;
+}
+
 -- ---- steps
 
 one_event : (e : Event) → IsOfWorkers e → (v : Event) → Has (e ∷ []) v → IsOfWorkers v
@@ -88,9 +98,7 @@ Beside was mid = (mid.slots ≡ was.slots) × (mid.history ≡ was.history) × (
 step_beside : (Honest : Type 0) (was is mid : Held) (events : List Event) → is ≡ mid → Beside was mid → ((e : Event) → Has events e → IsOfWorkers e)
     → Run Honest (plain was) events (plain is) → IsCompactingStep Honest was is
 step_beside Honest was is mid events e b only run = record {
-  events = events;
-  only = only;
-  run = run;
+  run = record { events = events; only = only; run = run };
   options = ap (λ (h : Held). h.options) e ∙ b.3;
   pinners = ap (λ (h : Held). h.pinners) e ∙ b.4;
   found = found_by_parts Honest was is (ap (λ (h : Held). h.slots.version) e ∙ ap (λ (s : Slotted). s.version) b.0) (ap (λ (h : Held). h.slots.epochs) e ∙ ap (λ (s : Slotted). s.epochs) b.0)
@@ -125,9 +133,7 @@ pub step_installed : (Honest : Type 0) (was is : Held) (d : Done) (t u : Told) �
 step_installed Honest was is d t u i answers event =
     let rest = i.changes.rest in
     record {
-      events = Install d.work.ticket ∷ Spend ∷ [];
-      only = two_events _ _ tt tt;
-      run = event;
+      run = record { events = Install d.work.ticket ∷ Spend ∷ []; only = two_events _ _ tt tt; run = event };
       options = ap (λ (h : Held). h.options) rest;
       pinners = ap (λ (h : Held). h.pinners) rest;
       found = record {
@@ -168,9 +174,7 @@ step_refused Honest was is d e t u refused event = elim refused [
       let same = later was is e t u r.2 in
       let looked = r.1.looked in
       record {
-        events = Spend ∷ [];
-        only = one_event _ tt;
-        run = (plain is, event, refl);
+        run = record { events = Spend ∷ []; only = one_event _ tt; run = (plain is, event, refl) };
         options = same.2;
         pinners = same.3;
         found = record {

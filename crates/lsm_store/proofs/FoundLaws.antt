@@ -1,14 +1,16 @@
--- What was found of a state, and stays.
-use Rattle.std.proofs.Common.{◌≡◌, ℕ, List, sym, ap, ◌∙◌, inl, inr, subst, refl}
-use Rattle.std.proofs.Math.Logic.{∥∥₁_elim}
+-- What was found of a state, and stays; and what workers leave.
+use Rattle.std.proofs.Common.{◌≡◌, ℕ, ◌⊎◌, List, [], ◌∷◌, ◌++◌, sym, ap, ◌∙◌, inl, inr, subst, refl}
+use Rattle.std.proofs.Math.Logic.{∥∥₁_elim, ∥∥₁_map, ∥∥₁_prop}
 use Rattle.std.proofs.Props.{props}
 use Rattle.lsm_codec.specs.Lists.{Has}
-use Rattle.lsm_levels.specs.Plain.{IsReadable}
-use Rattle.lsm_pins.specs.Known.{Known}
+use Rattle.lsm_levels.specs.Plain.{IsReadable, Plain}
+use Rattle.lsm_levels.specs.Runs.{Event, Run}
+use Rattle.lsm_slots.specs.Slots.{Looked}
 use Rattle.lsm_slots.specs.Snapshots.{Taken}
 use Rattle.lsm_state.specs.Held.{Held, plain}
-use Rattle.lsm_store.specs.Compacting.{IsAsFound, IsCompactingStep, IsKeptByCompaction, IsSeated}
-use Rattle.lsm_store.proofs.CompactingLaws.{found_by_parts}
+use Rattle.lsm_version.specs.Versions.{Levels}
+use Rattle.lsm_store.specs.Compacting.{IsAsFound, IsCompactingStep, IsKeptByCompaction, IsLeftByWorkers, IsSeated, IsWorkersRun}
+use Rattle.lsm_store.proofs.CompactingLaws.{found_by_parts, found_looked}
 
 -- where the last sequence and the snapshots stay, so do the reads that are promised
 readable : (found was : Held) (q : ℕ) → was.slots.version.last ≡ found.slots.version.last → was.snapshots ≡ found.snapshots → IsReadable (plain found) q → IsReadable (plain was) q
@@ -26,18 +28,64 @@ found_then Honest found was is a b = record {
   answers = λ h k q r. b.answers h k q (readable found was q a.last a.snapshots r) ∙ a.answers h k q r;
 }
 
-pub found_kept : (Honest : Type 0) (found : Held) → IsKeptByCompaction Honest (IsAsFound Honest found)
-found_kept Honest found was is step a = found_then Honest found was is a step.found
+-- ---- what workers leave
 
-pub found_seated : (Honest : Type 0) (found h : Held) → IsSeated found h → IsAsFound Honest found h
-found_seated Honest found h s = found_by_parts Honest found h (ap (λ (x : Held). x.slots.version) s.1) (ap (λ (x : Held). x.slots.epochs) s.1)
-    (ap (λ (x : Held). x.history) s.1) (ap (λ (x : Held). x.snapshots) s.1)
+ran : (Honest : Type 0) (s t u : Plain) (es fs : List Event) → Run Honest s es t → Run Honest t fs u → Run Honest s (es ++ fs) u
+ran Honest s t u [] fs first second = subst (λ (p : Plain). Run Honest p fs u) first second
+ran Honest s t u (e ∷ es) fs first second = (first.0, first.1, ran Honest first.0 t u es fs first.2 second)
 
-pub found_out : (Honest : Type 0) (found h : Held) → ∥ IsAsFound Honest found h ∥₁ → IsAsFound Honest found h
-found_out Honest found h t = record {
-  history = ∥∥₁_elim t (Prim.hlevel props) (λ f. f.history);
-  last = ∥∥₁_elim t (Prim.hlevel props) (λ f. f.last);
-  snapshots = ∥∥₁_elim t (Prim.hlevel props) (λ f. f.snapshots);
-  pins = λ id. ∥∥₁_elim t (Prim.hlevel props) (λ f. f.pins id);
-  answers = λ x k q r. ∥∥₁_elim t (Prim.hlevel props) (λ f. f.answers x k q r);
+among : (es fs : List Event) (e : Event) → Has (es ++ fs) e → Has es e ⊎ Has fs e
+among [] fs e h = inr h
+among (x ∷ es) fs e h = elim h [
+  | inl s ↦ inl (inl s)
+  | inr t ↦ elim (among es fs e t) [ inl l ↦ inl (inr l) | inr r ↦ inr r ]
+]
+
+run_then : (Honest : Type 0) (a b c : Held) → IsWorkersRun Honest a b → IsWorkersRun Honest b c → IsWorkersRun Honest a c
+run_then Honest a b c first second = record {
+  events = first.events ++ second.events;
+  only = λ e h. elim (among first.events second.events e h) [ inl l ↦ first.only e l | inr r ↦ second.only e r ];
+  run = ran Honest (plain a) (plain b) (plain c) first.events second.events first.run second.run;
+}
+
+-- nothing was done that the plain machine sees
+run_none : (Honest : Type 0) (was is : Held) → plain is ≡ plain was → IsWorkersRun Honest was is
+run_none Honest was is same = record { events = []; only = λ e h. absurd h; run = same }
+
+pub left_kept : (Honest : Type 0) (found : Held) → IsKeptByCompaction Honest (IsLeftByWorkers Honest found)
+left_kept Honest found was is step l = record {
+  reached = ∥∥₁_map l.reached (λ r. run_then Honest found was is r step.run);
+  as_found = found_then Honest found was is l.as_found step.found;
+}
+
+plain_seated : (found h : Held) → IsSeated found h → plain h ≡ plain found
+plain_seated found h s = ap plain s.1
+
+pub left_seated : (Honest : Type 0) (found h : Held) → IsSeated found h → IsLeftByWorkers Honest found h
+left_seated Honest found h s = record {
+  reached = ∣ run_none Honest found h (plain_seated found h s) ∣₁;
+  as_found = found_by_parts Honest found h (ap (λ (x : Held). x.slots.version) s.1) (ap (λ (x : Held). x.slots.epochs) s.1)
+      (ap (λ (x : Held). x.history) s.1) (ap (λ (x : Held). x.snapshots) s.1);
+}
+
+plain_looked : (was is : Held) → Looked was.slots is.slots → is ≡ record was { slots = is.slots } → plain is ≡ plain was
+plain_looked was is looked e = ap plain e ∙ ap (λ (v : Levels). plain (record was { slots = record is.slots { version = v } })) looked.version
+
+pub left_looked : (Honest : Type 0) (found was is : Held) → IsLeftByWorkers Honest found was → Looked was.slots is.slots → is ≡ record was { slots = is.slots }
+    → IsLeftByWorkers Honest found is
+left_looked Honest found was is l looked e = record {
+  reached = ∥∥₁_map l.reached (λ r. run_then Honest found was is r (run_none Honest was is (plain_looked was is looked e)));
+  as_found = found_then Honest found was is l.as_found (found_looked Honest was is looked e);
+}
+
+pub left_out : (Honest : Type 0) (found h : Held) → ∥ IsLeftByWorkers Honest found h ∥₁ → IsLeftByWorkers Honest found h
+left_out Honest found h t = record {
+  reached = ∥∥₁_elim t ∥∥₁_prop (λ l. l.reached);
+  as_found = record {
+    history = ∥∥₁_elim t (Prim.hlevel props) (λ l. l.as_found.history);
+    last = ∥∥₁_elim t (Prim.hlevel props) (λ l. l.as_found.last);
+    snapshots = ∥∥₁_elim t (Prim.hlevel props) (λ l. l.as_found.snapshots);
+    pins = λ id. ∥∥₁_elim t (Prim.hlevel props) (λ l. l.as_found.pins id);
+    answers = λ x k q r. ∥∥₁_elim t (Prim.hlevel props) (λ l. l.as_found.answers x k q r);
+  };
 }

@@ -37,12 +37,20 @@ pub record IsAsFound (Honest : Type 0) (found h : Held) : Type 0 where
   pub pins : (id : ℕ) → pins_of h.slots id ≡ pins_of found.slots id
   pub answers : Honest → SameAnswers found h
 
--- What one taking of the lock by a worker leaves. On the plain machine it is a run of reservations, cancels, draws of numbers, installs and
--- spent numbers; and what was found stays.
-pub record IsCompactingStep (Honest : Type 0) (was is : Held) : Type 0 where
+-- On the plain machine the state was reached by reservations, cancels, draws of numbers, installs and spent numbers alone.
+pub record IsWorkersRun (Honest : Type 0) (was is : Held) : Type 0 where
   pub events : List Event
   pub only : (e : Event) → Has events e → IsOfWorkers e
   pub run : Run Honest (plain was) events (plain is)
+
+-- What workers leave of a state that was found: it was reached by what workers do, and what was found stays.
+pub record IsLeftByWorkers (Honest : Type 0) (found h : Held) : Type 0 where
+  pub reached : ∥ IsWorkersRun Honest found h ∥₁
+  pub as_found : IsAsFound Honest found h
+
+-- What one taking of the lock by a worker leaves. On the plain machine it is a run of what workers do; and what was found stays.
+pub record IsCompactingStep (Honest : Type 0) (was is : Held) : Type 0 where
+  pub run : IsWorkersRun Honest was is
   pub options : is.options ≡ was.options
   pub pinners : is.pinners ≡ was.pinners
   pub found : IsAsFound Honest was is

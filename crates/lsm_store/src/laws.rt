@@ -3,25 +3,32 @@
 ghost use Rattle.std.specs.Prelude.{◌≡◌, ℕ, Bool, List, length};
 ghost use Rattle.lsm_journal.specs.HeldManifest.{HeldManifest};
 ghost use Rattle.lsm_pins.specs.Known.{Known};
+ghost use Rattle.lsm_slots.specs.Slots.{Looked};
 ghost use Rattle.lsm_state.specs.Held.{Held};
 ghost use Rattle.lsm_state.specs.Making.{created_state, created_state_under};
 ghost use Rattle.lsm_state.specs.Opening.{opened_state};
 ghost use Rattle.lsm_state.specs.declared.options.Options.{Options};
-ghost use Rattle.lsm_store.specs.Compacting.{IsAsFound, IsKeptByCompaction, IsSeated};
+ghost use Rattle.lsm_store.specs.Compacting.{IsKeptByCompaction, IsLeftByWorkers, IsSeated};
 ghost use Rattle.lsm_store.specs.Readers.{SeatsPinners};
 ghost use Rattle.lsm_version.specs.Versions.{Levels};
 
 use lsm_levels::machine::Premise;
 
-/// A fact for a store's lock: that all stays as it was found of a state (`IsAsFound`), all that had
-/// come in, the last sequence, the snapshots, the pins, and each answer that is promised. It holds
-/// of the state that goes into the store, each step of a worker keeps it, and it can be taken out
-/// of what a guard or `Store::into_state` says. `P` is the premise of answers: that of a `State`.
-#[tactic(auto, using(crate::proofs::FoundLaws::found_seated, crate::proofs::FoundLaws::found_out))]
+/// A fact for a store's lock: since a state was found, workers alone changed it, and all stays as
+/// it was found, all that had come in, the last sequence, the snapshots, the pins, and each answer
+/// that is promised (`IsLeftByWorkers`, `IsAsFound`). It holds of the state that goes into the
+/// store, each step of a worker keeps it, it can be taken out of what a guard or
+/// `Store::into_state` says, and it stays where slots are looked at, as by `State::collect`. `P` is
+/// the premise of answers: that of a `State`.
+#[tactic(auto, using(crate::proofs::FoundLaws::left_seated))]
 pub fn what_was_found_is_kept<P: Premise>()
-    ensures seated { (found h : Held) → IsSeated found h → IsAsFound P.holds found h }
-    ensures kept { (found : Held) → IsKeptByCompaction P.holds (IsAsFound P.holds found) }
-    ensures out { (found h : Held) → ∥ IsAsFound P.holds found h ∥₁ → IsAsFound P.holds found h }
+    ensures seated { (found h : Held) → IsSeated found h → IsLeftByWorkers P.holds found h }
+    ensures kept { (found : Held) → IsKeptByCompaction P.holds (IsLeftByWorkers P.holds found) }
+    ensures out { (found h : Held) → ∥ IsLeftByWorkers P.holds found h ∥₁
+        → IsLeftByWorkers P.holds found h }
+    ensures looked { (found was is : Held) → IsLeftByWorkers P.holds found was
+        → Looked was.slots is.slots → is ≡ record was { slots = is.slots }
+        → IsLeftByWorkers P.holds found is }
 {}
 
 /// What `State::create`, `State::create_under`, `State::open` and `State::open_to_read` make has no

@@ -10,9 +10,11 @@ use Rattle.lsm_levels.specs.Law.{Books, Law}
 use Rattle.lsm_levels.specs.Plain.{Ingests, Plain}
 use Rattle.lsm_levels.specs.Runs.{Agrees}
 use Rattle.lsm_shelf.specs.Told.{Told}
+use Rattle.lsm_slots.specs.Snapshots.{Taken}
 use Rattle.lsm_state.specs.Collecting.{AreCollected, IsKeptNumber, is_in, outside}
 use Rattle.lsm_state.specs.Held.{Held, plain}
-use Rattle.lsm_theorems.specs.Unchanged.{read_of}
+use Rattle.lsm_store.specs.Compacting.{IsLeftByWorkers}
+use Rattle.lsm_theorems.specs.Unchanged.{IsUnchanged, read_of}
 use Rattle.lsm_theorems.proofs.ReadLaws.{later_unseen}
 
 -- ---- an ingest, and the snapshots that were live before it
@@ -29,6 +31,21 @@ pub snapshots_so : {T E : Type 0} (H : Type 0) (r : Result T E) (was is : Held) 
     → (H → Agrees (plain was) was.history) → (H → Agrees (plain is) is.history) → H → OnOk r ((id seq : ℕ) (k : UserKey) → Has was.snapshots.taken (id, seq) → read_of is k seq ≡ read_of was k seq)
 snapshots_so H (Ok v) was is new i history law before after fair = snapshot_so was is new i history law.books (before fair) (after fair)
 snapshots_so H (Err e) was is new i history law before after fair = tt
+
+-- ---- workers
+
+left_unchanged : (Honest : Type 0) (found left : Held) → IsLeftByWorkers Honest found left → IsUnchanged Honest found left
+left_unchanged Honest found left l = record {
+  history = l.as_found.history;
+  last = l.as_found.last;
+  snapshots = ap (λ (t : Taken). t.taken) l.as_found.snapshots;
+  reads = l.as_found.answers;
+}
+
+pub left_so : {E : Type 0} (Honest : Type 0) (found : Held) (r : Result Held E) → ((found h : Held) → ∥ IsLeftByWorkers Honest found h ∥₁ → IsLeftByWorkers Honest found h)
+    → IfOk r (λ h. ∥ IsLeftByWorkers Honest found h ∥₁) → IfOk r (IsUnchanged Honest found)
+left_so Honest found (Ok h) out kept = left_unchanged Honest found h (out found h kept)
+left_so Honest found (Err e) out kept = tt
 
 -- ---- what is kept
 

@@ -1,13 +1,21 @@
 //! Compactions, and what goes with them, change no answer.
 
+ghost use Rattle.std.specs.Prelude.{IfOk};
+ghost use Rattle.lsm_state.specs.Held.{Held};
+ghost use Rattle.lsm_store.specs.Compacting.{IsKeptByCompaction, IsSeated};
+ghost use Rattle.lsm_store.specs.Readers.{SeatsPinners};
 ghost use Rattle.lsm_theorems.specs.Unchanged.{IsUnchanged};
 
 use lsm_merge::{Finished, Job};
 use lsm_slots::Boarded;
 use lsm_state::{State, StateFault};
-use lsm_table::{NamedShelf, Shelf};
+use lsm_store::laws::what_was_found_is_kept;
+use lsm_store::{Invariant, NoGate, Store, run_workers};
+use lsm_table::{NamedShelf, Shelf, ShelfFault};
 use std::alloc::Global;
+use std::marker::Brand;
 use std::sync::Wait;
+use std::thread::Threads;
 
 /// The result of a compaction, installed or refused, whatever came in since the compaction was
 /// reserved.
@@ -94,4 +102,38 @@ pub fn cancels_change_no_answer<N: Boarded, S: Shelf>(
     let cancelled = state.cancel(ticket);
     state.law();
     cancelled
+}
+
+/// Workers, one for each shelf, in threads of their own, whatever each of them reserves, merges,
+/// installs or gives up: the state that they leave.
+pub fn workers_change_no_answer<N: Boarded, S: Shelf, R: Threads + Wait + Sync>(
+    rt: &R,
+    alloc: Global,
+    state: State<N, S>,
+    reading: NamedShelf<N, S>,
+    shelves: Vec<NamedShelf<N, S>>,
+) -> Result<State<N, S>, (State<N, S>, NamedShelf<N, S>, ShelfFault)>
+    requires seats { SeatsPinners state }
+    ensures { IfOk result (IsUnchanged S.honest state) }
+{
+    what_was_found_is_kept::<State<N, S>>();
+    let_work::<N, S, Brand, R>(rt, alloc, state, reading, shelves)
+}
+
+/// The state that workers leave, of which the fact holds that the lock kept.
+fn let_work<N: Boarded, S: Shelf, K: Invariant, R: Threads + Wait + Sync>(
+    rt: &R,
+    alloc: Global,
+    state: State<N, S>,
+    reading: NamedShelf<N, S>,
+    shelves: Vec<NamedShelf<N, S>>,
+) -> Result<State<N, S>, (State<N, S>, NamedShelf<N, S>, ShelfFault)>
+    requires seats { SeatsPinners state }
+    requires kept { (h : Held) → IsSeated state h → K.keeps h }
+    requires steps { IsKeptByCompaction S.honest K.keeps }
+    ensures { IfOk result (λ s. ∥ K.keeps s ∥₁) }
+{
+    let (store, _readers) = Store::<N, S, K>::new(alloc, state, reading)?;
+    let _ends = run_workers(rt, alloc, &store, shelves, &NoGate);
+    Ok(store.into_state())
 }

@@ -25,7 +25,7 @@ pub fn first_reads_are_remembered<N: Boarded, S: Shelf, R: Wait>(
     ensures { S.honest → IfOk result.0 (λ v.
         IsReadOfAll result.1 user.now (option_map (λ b. b.items) v)) }
 {
-    read_first(alloc, &mut store.lock(rt), shelf, user)
+    read_first(alloc, &mut store.lock(rt).state, shelf, user)
 }
 
 /// A read under a later taking of the lock, whatever any threads did in between: it gives the
@@ -42,7 +42,7 @@ pub fn later_reads_go_on<N: Boarded, S: Shelf, R: Wait>(
     ensures read { S.honest → IfOk result.0 (λ v.
         IsReadOfAll result.1 user.now (option_map (λ b. b.items) v)) }
 {
-    read_on(alloc, &mut store.lock(rt), shelf, memory, user)
+    read_on(alloc, &mut store.lock(rt).state, shelf, memory, user)
 }
 
 fn read_first<N: Boarded, S: Shelf>(

@@ -1,17 +1,22 @@
 -- What a compaction answers, by what is done.
-use Rattle.std.proofs.Common.{◌≡◌, ◌≢◌, ℕ, inl, inr, All, List, Option, IfErr, OnErr, OnOk, refl, subst}
+use Rattle.std.proofs.Common.{◌≡◌, ◌≢◌, ℕ, inl, inr, All, List, Option, IfErr, OnErr, OnOk, refl, ap, ◌∙◌}
 use Rattle.std.specs.Prelude.{◌⊎◌, Result, Ok, Err}
 use Rattle.std.specs.Io.KnownBytes.{Keeps}
 use Rattle.atomic_table.specs.Seated.{TableId}
 use Rattle.lsm_shelf.specs.Asked.{Asked}
 use Rattle.lsm_shelf.specs.declared.shelf_fault.ShelfFault.{ShelfFault}
-use Rattle.lsm_shelf.specs.declared.shelf_fault.ShelfFault.TheVariants.{OutOfMemory}
-use Rattle.lsm_shelf.specs.Told.{Told}
+use Rattle.lsm_shelf.specs.Told.{Forked, Told}
+use Rattle.lsm_codec.specs.Entries.{answer}
+use Rattle.lsm_levels.specs.Files.{all_entries}
+use Rattle.lsm_version.specs.Versions.{files}
+use Rattle.lsm_slots.specs.Slots.{Looked, Slotted}
+use Rattle.lsm_state.specs.Held.{Held}
 use Rattle.lsm_state.specs.declared.state_fault.StateFault.{StateFault}
+use Rattle.lsm_store.specs.Compacting.{IsLeftByWorkers}
 use Rattle.lsm_store.specs.declared.worker_end.WorkerEnd.{WorkerEnd}
-use Rattle.lsm_writing.specs.WriterFault.{of_shelf}
+use Rattle.lsm_writing.specs.Starting.{IsReopened}
 use Rattle.lsm_writing.specs.declared.faults.writer_fault.WriterFault.TheVariants.{Write as WriteFault, State}
-use Rattle.lsm_writing.specs.Compacting.{AreEnds, Compacts, IsCompactFault, IsFaultless, IsOpened, IsNotCompacted, IsSwept, IsWorkersFault, Refuses}
+use Rattle.lsm_writing.specs.Compacting.{AreEnds, Compacts, IsCompactFault, IsFaultless, IsOfManning, IsOpened, IsNotCompacted, IsSwept, IsWorkersFault, LeavesAll, Refuses}
 use Rattle.lsm_writing.specs.declared.faults.compact_fault.CompactFault.{CompactFault}
 use Rattle.lsm_writing.specs.declared.faults.compact_fault.CompactFault.TheVariants.{Writer}
 
@@ -24,40 +29,59 @@ is_refused (Err e) status Stored Refused Honest workers was is old new ok err sa
 
 -- ---- after the opening
 
--- memory ran out before the workers began, or one of them has a fault
-pub unfinished : (Stored : ℕ → List ℕ → Type 0) (Refused : Asked → ShelfFault → Type 0) (Honest : Type 0) (board : TableId) (workers count : ℕ) (e : CompactFault) (was is : Told) → count ≡ workers
-    → IsOpened Honest board was is → (e ≡ Writer (of_shelf OutOfMemory)) ⊎ IsWorkersFault Honest count e → IsCompactFault Stored Refused Honest workers e was is
-unfinished Stored Refused Honest board workers count e was is same opened stops = elim stops [
-  | inl memory ↦ inr (inl (inr (OutOfMemory, memory, tt, (board, opened))))
-  | inr fault ↦ inr (inr (inl (subst (λ n. IsWorkersFault Honest n e) same fault, (board, opened))))
+pub looked_same : (s : Slotted) → Looked s s
+looked_same s = record { board = refl; id = refl; slot = refl; version = refl; length = refl; each = λ i. inl refl }
+
+-- what workers left is all of it, and each user key shows what it showed
+pub leaves : (Honest : Type 0) (found left : Held) → IsLeftByWorkers Honest found left → LeavesAll Honest found left
+leaves Honest found left l = record {
+  by_workers = l;
+  shows = λ h k. ap (λ (q : ℕ). answer (all_entries (files left.slots.version)) k q) l.as_found.last ∙ l.as_found.answers h k found.slots.version.last (inl refl);
+}
+
+pub opens : (Honest : Type 0) (board : TableId) (found : Held) (was mid is : Told) → IsReopened Honest found was mid → found.slots.board.board ≡ board → Forked mid is → IsOpened Honest board found was is
+opens Honest board found was mid is opened on forked = record { mid = mid; opened = opened; on = on; forked = forked }
+
+-- no worker began, or one of them has a fault
+pub unfinished : (Stored : ℕ → List ℕ → Type 0) (Refused : Asked → ShelfFault → Type 0) (Honest : Type 0) (board : TableId) (found : Held) (workers : ℕ) (e : CompactFault) (was is : Told)
+    → IsOpened Honest board found was is → IsOfManning e ⊎ IsWorkersFault Honest workers e → IsCompactFault Stored Refused Honest workers e was is
+unfinished Stored Refused Honest board found workers e was is opened stops = elim stops [
+  | inl manning ↦ inr (inl (inr (manning, (board, (found, opened)))))
+  | inr fault ↦ inr (inr (inl (fault, (board, (found, opened)))))
 ]
 
 -- the collect was refused
-pub unswept : (Stored : ℕ → List ℕ → Type 0) (Refused : Asked → ShelfFault → Type 0) (Honest : Type 0) (board : TableId) (workers count : ℕ) (ends : List WorkerEnd) (fault : StateFault) (was mid is : Told)
-    → count ≡ workers → IsOpened Honest board was mid → AreEnds Honest count ends → All IsFaultless ends → Refuses Refused Honest board fault mid is
+pub unswept : (Stored : ℕ → List ℕ → Type 0) (Refused : Asked → ShelfFault → Type 0) (Honest : Type 0) (board : TableId) (found left : Held) (workers : ℕ) (ends : List WorkerEnd) (fault : StateFault) (was mid is : Told)
+    → IsOpened Honest board found was mid → AreEnds Honest workers ends → All IsFaultless ends → IsLeftByWorkers Honest found left → Refuses Refused Honest board left fault mid is
     → IsCompactFault Stored Refused Honest workers (Writer (State fault)) was is
-unswept Stored Refused Honest board workers count ends fault was mid is same opened each faultless refuses = inr (inr (inr (inl (
+unswept Stored Refused Honest board found left workers ends fault was mid is opened each faultless by refuses = inr (inr (inr (inl (
   fault,
   refl,
   record {
     board = board;
+    found = found;
+    left = left;
     mid = mid;
     opened = opened;
     ends = ends;
-    ends_are = subst (λ n. AreEnds Honest n ends) same each;
+    ends_are = each;
     faultless = faultless;
+    leaves = leaves Honest found left by;
     refuses = refuses;
   },
 ))))
 
 -- all was done
-pub compacts : (Honest : Type 0) (board : TableId) (workers count : ℕ) (ends : List WorkerEnd) (was mid is : Told) → count ≡ workers
-    → IsOpened Honest board was mid → AreEnds Honest count ends → All IsFaultless ends → IsSwept Honest board mid is → Compacts Honest workers ends was is
-compacts Honest board workers count ends was mid is same opened each faultless swept = record {
+pub compacts : (Honest : Type 0) (board : TableId) (found left : Held) (workers : ℕ) (ends : List WorkerEnd) (was mid is : Told)
+    → IsOpened Honest board found was mid → AreEnds Honest workers ends → All IsFaultless ends → IsLeftByWorkers Honest found left → IsSwept Honest board left mid is → Compacts Honest workers ends was is
+compacts Honest board found left workers ends was mid is opened each faultless by swept = record {
   board = board;
+  found = found;
+  left = left;
   mid = mid;
   opened = opened;
-  ends_are = subst (λ n. AreEnds Honest n ends) same each;
+  ends_are = each;
   faultless = faultless;
+  leaves = leaves Honest found left by;
   swept = swept;
 }

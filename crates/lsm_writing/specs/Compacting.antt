@@ -2,17 +2,22 @@
 use Rattle.std.specs.Prelude.{◌≡◌, ◌≢◌, ℕ, ◌⊎◌, false, List, [], ◌∷◌, ◌++◌, length, codes, decimal, All, sum_by, Option, None, Some}
 use Rattle.std.specs.Io.KnownBytes.{Appends, Keeps}
 use Rattle.atomic_table.specs.Seated.{TableId}
+use Rattle.lsm_codec.specs.Entries.{answer}
+use Rattle.lsm_codec.specs.Keys.{UserKey}
 use Rattle.lsm_folder.specs.Calls.{Call}
 use Rattle.lsm_folder.specs.declared.lock_kind.LockKind.TheVariants.{Exclusive}
 use Rattle.lsm_shelf.specs.Asked.{Asked}
 use Rattle.lsm_shelf.specs.declared.shelf_fault.ShelfFault.{ShelfFault}
 use Rattle.lsm_shelf.specs.Told.{Told, Forked, NotNamed}
+use Rattle.lsm_levels.specs.Files.{all_entries}
+use Rattle.lsm_version.specs.Versions.{files}
 use Rattle.lsm_state.specs.Asked.{CollectRefused, OnShelf}
 use Rattle.lsm_state.specs.Collecting.{AreCollected, IsCollectRefusal, IsCountedOnce, SameCounts}
 use Rattle.lsm_state.specs.Held.{Held, IsLawfulState}
 use Rattle.lsm_state.specs.Opening.{IsOpenRefusal, IsReadOnce}
 use Rattle.lsm_journal.specs.declared.open_fault.OpenFault.{OpenFault}
 use Rattle.lsm_state.specs.declared.state_fault.StateFault.{StateFault}
+use Rattle.lsm_store.specs.Compacting.{IsLeftByWorkers}
 use Rattle.lsm_store.specs.Workers.{IsWorkersEnd}
 use Rattle.lsm_store.specs.declared.worker_end.WorkerEnd.{WorkerEnd}
 use Rattle.lsm_store.specs.declared.worker_fault.WorkerFault.{WorkerFault}
@@ -51,34 +56,48 @@ pub record AreEnds (Honest : Type 0) (workers : ℕ) (ends : List WorkerEnd) : T
   pub count : length ends ≡ workers
   pub each : All (IsWorkersEnd Honest) ends
 
+-- ---- what a database shows
+
+-- the newest answer of a user key: at the last sequence
+abbrev pub newest : Held → UserKey → Option (List ℕ)
+newest h k = answer (all_entries (files h.slots.version)) k h.slots.version.last
+
+-- What a compaction leaves of the state that was opened: workers alone changed it; all that had come in, the last sequence, the snapshots
+-- and the pins are as they were found; and over an honest shelf each user key shows what it showed.
+pub record LeavesAll (Honest : Type 0) (found left : Held) : Type 0 where
+  pub by_workers : IsLeftByWorkers Honest found left
+  pub shows : Honest → (k : UserKey) → newest left k ≡ newest found k
+
 -- ---- what the shelf was told
 
--- The directory was opened, as a state with this board; after that the shelf was asked for forks alone.
-pub record IsOpened (Honest : Type 0) (board : TableId) (was is : Told) : Type 0 where
-  pub before : Held
+-- The directory was opened as this state, which has this board; after that the shelf was asked for forks alone.
+pub record IsOpened (Honest : Type 0) (board : TableId) (found : Held) (was is : Told) : Type 0 where
   pub mid : Told
-  pub opened : IsReopened Honest before was mid
-  pub on : before.slots.board.board ≡ board
+  pub opened : IsReopened Honest found was mid
+  pub on : found.slots.board.board ≡ board
   pub forked : Forked mid is
 
--- The tables that are listed and that a state with this board does not keep were removed. It is a lawful one, which may write.
-pub record IsSwept (Honest : Type 0) (board : TableId) (was is : Told) : Type 0 where
-  pub held : Held
-  pub lawful : IsLawfulState Honest board held
-  pub on : held.slots.board.board ≡ board
-  pub running : held.halted ≡ false
+-- The tables that are listed and that this state does not keep were removed. It is a lawful one, which has this board, and may write.
+pub record IsSwept (Honest : Type 0) (board : TableId) (left : Held) (was is : Told) : Type 0 where
+  pub lawful : IsLawfulState Honest board left
+  pub on : left.slots.board.board ≡ board
+  pub running : left.halted ≡ false
   pub removed : List ℕ
-  pub collected : AreCollected held removed was is
+  pub collected : AreCollected left removed was is
   pub counts : SameCounts was is
 
--- The directory was opened, no worker ended with a fault, and what nothing names was removed, by a state with the board of the one opened.
+-- The directory was opened, no worker ended with a fault, and what nothing names was removed, by a state with the board of the one opened,
+-- of which all is left.
 pub record Compacts (Honest : Type 0) (workers : ℕ) (ends : List WorkerEnd) (was is : Told) : Type 0 where
   pub board : TableId
+  pub found : Held
+  pub left : Held
   pub mid : Told
-  pub opened : IsOpened Honest board was mid
+  pub opened : IsOpened Honest board found was mid
   pub ends_are : AreEnds Honest workers ends
   pub faultless : All IsFaultless ends
-  pub swept : IsSwept Honest board mid is
+  pub leaves : LeavesAll Honest found left
+  pub swept : IsSwept Honest board left mid is
 
 -- That was done, and how many results were installed was written.
 abbrev pub IsCompacted : Type 0 → ℕ → Told → Told → Option (List ℕ) → Option (List ℕ) → Type 0
@@ -100,10 +119,13 @@ abbrev pub IsUnopened : (ℕ → List ℕ → Type 0) → (Asked → ShelfFault 
 IsUnopened Stored Refused Honest e was is = (fault : OpenFault) × (e ≡ Writer (of_open fault))
     × IsOpenRefusal Stored Refused Honest usual.manifest_limit fault was is × IsReadOnce fault was is
 
--- It was opened, and no worker began: memory ran out, or a shelf failed to fork.
+-- Memory ran out before a worker began, or a shelf failed to fork.
+abbrev pub IsOfManning : CompactFault → Type 0
+IsOfManning e = (fault : ShelfFault) × (e ≡ Writer (of_shelf fault)) × NotNamed fault
+
+-- The directory was opened, and no worker began.
 abbrev pub IsUnmanned : Type 0 → CompactFault → Told → Told → Type 0
-IsUnmanned Honest e was is = (fault : ShelfFault) × (e ≡ Writer (of_shelf fault)) × NotNamed fault
-    × ((board : TableId) × IsOpened Honest board was is)
+IsUnmanned Honest e was is = IsOfManning e × ((board : TableId) × ((found : Held) × IsOpened Honest board found was is))
 
 -- No worker began.
 abbrev pub NoneBegan : (ℕ → List ℕ → Type 0) → (Asked → ShelfFault → Type 0) → Type 0 → CompactFault → Told → Told → Type 0
@@ -116,29 +138,31 @@ IsWorkersFault Honest workers e = (fault : WorkerFault) × (e ≡ Worker fault)
 
 -- A worker ended with a fault, and nothing was removed.
 abbrev pub IsUnfinished : Type 0 → ℕ → CompactFault → Told → Told → Type 0
-IsUnfinished Honest workers e was is = IsWorkersFault Honest workers e × ((board : TableId) × IsOpened Honest board was is)
+IsUnfinished Honest workers e was is = IsWorkersFault Honest workers e × ((board : TableId) × ((found : Held) × IsOpened Honest board found was is))
 
--- A lawful state with this board refused to collect; its refusal says what was removed until then. Where it was the shelf, other than for
+-- This lawful state with this board refused to collect; its refusal says what was removed until then. Where it was the shelf, other than for
 -- want of memory, it refused to list its tables, or to remove one that is not kept.
-pub record Refuses (Refused : Asked → ShelfFault → Type 0) (Honest : Type 0) (board : TableId) (fault : StateFault) (was is : Told) : Type 0 where
+pub record Refuses (Refused : Asked → ShelfFault → Type 0) (Honest : Type 0) (board : TableId) (left : Held) (fault : StateFault) (was is : Told) : Type 0 where
   pub before : Held
-  pub after : Held
-  pub lawful : IsLawfulState Honest board after
-  pub on : after.slots.board.board ≡ board
+  pub lawful : IsLawfulState Honest board left
+  pub on : left.slots.board.board ≡ board
   pub removed : List ℕ
-  pub refused : IsCollectRefusal before after fault removed was is
+  pub refused : IsCollectRefusal before left fault removed was is
   pub counts : IsCountedOnce fault was is
-  pub asked : OnShelf (CollectRefused Refused after) fault
+  pub asked : OnShelf (CollectRefused Refused left) fault
 
--- No worker ended with a fault, and the collect was refused.
+-- No worker ended with a fault, and the collect was refused, by a state with the board of the one opened, of which all is left.
 pub record IsUnswept (Refused : Asked → ShelfFault → Type 0) (Honest : Type 0) (workers : ℕ) (fault : StateFault) (was is : Told) : Type 0 where
   pub board : TableId
+  pub found : Held
+  pub left : Held
   pub mid : Told
-  pub opened : IsOpened Honest board was mid
+  pub opened : IsOpened Honest board found was mid
   pub ends : List WorkerEnd
   pub ends_are : AreEnds Honest workers ends
   pub faultless : All IsFaultless ends
-  pub refuses : Refuses Refused Honest board fault mid is
+  pub leaves : LeavesAll Honest found left
+  pub refuses : Refuses Refused Honest board left fault mid is
 
 -- All was done, and the reply was not written.
 abbrev pub IsUntold : Type 0 → ℕ → CompactFault → Told → Told → Type 0

@@ -11,15 +11,20 @@ pub(crate) mod tally;
 ghost use Rattle.std.specs.Prelude.{◌≡◌, ◌≢◌, ◌⊎◌, All, IfErr, IfOk, IsFalse, OnOk, vec_len};
 ghost use Rattle.std.specs.Io.KnownBytes.{Appends, Keeps};
 ghost use Rattle.lsm_shelf.specs.Stored.{Stored};
+ghost use Rattle.lsm_shelf.specs.Told.{Forked};
 ghost use Rattle.lsm_shelf.specs.declared.shelf_fault.ShelfFault.TheVariants.{OutOfMemory};
+ghost use Rattle.lsm_slots.specs.Slots.{Looked};
+ghost use Rattle.lsm_state.specs.Held.{Held};
 ghost use Rattle.lsm_state.specs.Making.{IsNewBoard, IsNewHistory};
+ghost use Rattle.lsm_store.specs.Compacting.{IsKeptByCompaction, IsSeated};
+ghost use Rattle.lsm_store.specs.Readers.{SeatsPinners};
 ghost use Rattle.lsm_store.specs.Workers.{IsWorkersEnd};
 ghost use Rattle.lsm_writing.specs.WriterFault.{of_shelf};
 ghost use Rattle.lsm_writing.specs.Starting.{usual};
 ghost use Rattle.lsm_writing.specs.declared.faults.writer_fault.WriterFault.TheVariants.{Write as WriteFault};
 ghost use Rattle.lsm_writing.specs.Compacting.{AreEnds, IsCompactFault, IsCompacted, IsFaultless};
-ghost use Rattle.lsm_writing.specs.Compacting.{IsOpened, IsSwept, NoneBegan, IsWorkersFault};
-ghost use Rattle.lsm_writing.specs.Compacting.{Refuses, installed_text};
+ghost use Rattle.lsm_writing.specs.Compacting.{IsOfManning, IsSwept, IsWorkersFault, Refuses};
+ghost use Rattle.lsm_writing.specs.Compacting.{installed_text};
 ghost use Rattle.lsm_writing.specs.declared.faults.compact_fault.CompactFault.TheVariants.{Writer as WriterVariant};
 
 use crate::compacting::compaction::Compaction;
@@ -30,10 +35,11 @@ use crate::compacting::sweeping::sweep;
 use crate::compacting::tally::{installed_by, judge};
 use crate::faults::compact_fault::CompactFault;
 use crate::faults::writer_fault::WriterFault;
-use crate::parts::{NewParts, Parts};
+use crate::parts::NewParts;
 use lsm_slots::Boarded;
-use lsm_state::StateFault;
-use lsm_store::{NoGate, Store, WorkerEnd, run_workers};
+use lsm_state::{State, StateFault};
+use lsm_store::laws::what_was_found_is_kept;
+use lsm_store::{Invariant, NoGate, Store, WorkerEnd, run_workers};
 use lsm_table::{NamedShelf, Shelf, ShelfFault};
 use lsm_text::CompactOptions;
 use std::alloc::{AllocFailed, Global};
@@ -42,46 +48,18 @@ use std::marker::Brand;
 use std::sync::Wait;
 use std::thread::Threads;
 
-/// Opens the directory of a shelf, says so where that is asked for, and mans it with so many
-/// workers.
-#[tactic(auto, using(lsm_directory::proofs::CallerLemmas::keeps_same))]
-fn begin<N: Boarded, S: Shelf, R: Wait, E: Write>(
-    rt: &R,
-    alloc: Global,
-    shelf: &mut NamedShelf<N, S>,
-    options: CompactOptions,
-    parts: Parts<N, S>,
-    err: &mut E,
-) -> Result<Compaction<N, S>, CompactFault>
-    requires board { IsNewBoard N.board usual parts.publisher parts.pinners.items }
-    requires seats { vec_len parts.pinners ≡ usual.readers }
-    requires history { IsNewHistory N.history parts.history }
-    ensures count { IfOk result (λ c. vec_len c.shelves ≡ options.workers) }
-    ensures opened { OnOk result (IsOpened S.honest N.board shelf.old shelf.new) }
-    ensures refused { IfErr result (λ e.
-        NoneBegan (Stored S.Receipt (S.is_of N.place) S.Receipt.number S.Receipt.image)
-        (S.refuses N.place) S.honest e shelf.old shelf.new) }
-    ensures quiet { IsFalse options.progress → Keeps (E.contents err.old) (E.contents err.new) }
-{
-    let state = open(rt, alloc, shelf, parts)?;
-    tell_opened(&state, options.progress, err);
-    match Compaction::new(alloc, state, shelf, options.workers) {
-        Ok(compaction) => Ok(compaction),
-        Err(fault) => Err(CompactFault::of_shelf(fault)),
-    }
-}
-
 /// Lets workers compact a store, one for each shelf; each job that they begin is said where that is
 /// asked for.
 #[tactic(auto, using(lsm_directory::proofs::CallerLemmas::keeps_same))]
-fn run_all<N: Boarded, S: Shelf, R: Threads + Wait + Sync, E: Write + Send>(
+fn run_all<N: Boarded, S: Shelf, K: Invariant, R: Threads + Wait + Sync, E: Write + Send>(
     rt: &R,
     alloc: Global,
-    store: &Store<N, S>,
+    store: &Store<N, S, K>,
     shelves: Vec<NamedShelf<N, S>>,
     progress: bool,
     err: &mut E,
 ) -> Result<Vec<WorkerEnd>, AllocFailed<Vec<NamedShelf<N, S>>>>
+    requires kept { IsKeptByCompaction S.honest K.keeps }
     ensures len { IfOk result (λ v. vec_len v ≡ vec_len shelves) }
     ensures ends { IfOk result (λ v. All (IsWorkersEnd S.honest) v.items) }
     ensures quiet { IsFalse progress → Keeps (E.contents err.old) (E.contents err.new) }
@@ -95,14 +73,15 @@ fn run_all<N: Boarded, S: Shelf, R: Threads + Wait + Sync, E: Write + Send>(
 
 /// What the workers of a store have done, one for each shelf, when none of them ends with a fault.
 #[tactic(auto, using(lsm_directory::proofs::CallerLemmas::keeps_same, crate::proofs::Quiet::quiet_then))]
-fn work<N: Boarded, S: Shelf, R: Threads + Wait + Sync, E: Write + Send>(
+fn work<N: Boarded, S: Shelf, K: Invariant, R: Threads + Wait + Sync, E: Write + Send>(
     rt: &R,
     alloc: Global,
-    store: &Store<N, S>,
+    store: &Store<N, S, K>,
     shelves: Vec<NamedShelf<N, S>>,
     progress: bool,
     err: &mut E,
 ) -> Result<Vec<WorkerEnd>, CompactFault>
+    requires kept { IsKeptByCompaction S.honest K.keeps }
     ensures ends { IfOk result (λ v. AreEnds S.honest (vec_len shelves) v.items) }
     ensures faultless { IfOk result (λ v. All IsFaultless v.items) }
     ensures refused { IfErr result (λ e. (e ≡ WriterVariant (of_shelf OutOfMemory))
@@ -117,22 +96,54 @@ fn work<N: Boarded, S: Shelf, R: Threads + Wait + Sync, E: Write + Send>(
     Ok(ends)
 }
 
-/// Removes what the store's state does not keep, and says how much where that is asked for.
+/// Lets so many workers compact a state, beside which a lock keeps a fact: the state, of which the
+/// fact holds, and what each worker has done, when none of them ends with a fault.
+fn compact_state<N: Boarded, S: Shelf, K: Invariant, R: Threads + Wait + Sync, E: Write + Send>(
+    rt: &R,
+    alloc: Global,
+    state: State<N, S>,
+    shelf: &mut NamedShelf<N, S>,
+    options: CompactOptions,
+    err: &mut E,
+) -> Result<(State<N, S>, Vec<WorkerEnd>), CompactFault>
+    requires seats { SeatsPinners state }
+    requires kept { (h : Held) → IsSeated state h → K.keeps h }
+    requires steps { IsKeptByCompaction S.honest K.keeps }
+    ensures kept { IfOk result (λ r. ∥ K.keeps r.0 ∥₁) }
+    ensures ends { IfOk result (λ r. AreEnds S.honest options.workers r.1.items) }
+    ensures faultless { IfOk result (λ r. All IsFaultless r.1.items) }
+    ensures refused { IfErr result (λ e.
+        IsOfManning e ⊎ IsWorkersFault S.honest options.workers e) }
+    ensures told { Forked shelf.old shelf.new }
+    ensures quiet { IsFalse options.progress → Keeps (E.contents err.old) (E.contents err.new) }
+{
+    let made: Compaction<N, S, K> = match Compaction::new(alloc, state, shelf, options.workers) {
+        Ok(compaction) => compaction,
+        Err(fault) => return Err(CompactFault::of_shelf(fault)),
+    };
+    let Compaction { store, shelves } = made;
+    let ends = work(rt, alloc, &store, shelves, options.progress, err)?;
+    Ok((store.into_state(), ends))
+}
+
+/// Removes what a state does not keep, and says how much where that is asked for.
 #[tactic(auto, using(lsm_directory::proofs::CallerLemmas::keeps_same))]
 fn sweep_all<N: Boarded, S: Shelf, R: Wait, E: Write>(
     rt: &R,
     alloc: Global,
-    store: &Store<N, S>,
+    state: &mut State<N, S>,
     shelf: &mut NamedShelf<N, S>,
     progress: bool,
     err: &mut E,
 ) -> Result<(), StateFault>
-    ensures ok { OnOk result (IsSwept S.honest N.board shelf.old shelf.new) }
+    ensures ok { OnOk result (IsSwept S.honest N.board state.new shelf.old shelf.new) }
     ensures refused { IfErr result (λ e.
-        Refuses (S.refuses N.place) S.honest N.board e shelf.old shelf.new) }
+        Refuses (S.refuses N.place) S.honest N.board state.new e shelf.old shelf.new) }
+    ensures looked { Looked state.old.slots state.new.slots }
+    ensures rest { state.new ≡ record state.old { slots = state.new.slots } }
     ensures quiet { IsFalse progress → Keeps (E.contents err.old) (E.contents err.new) }
 {
-    let removed = sweep(rt, alloc, store, shelf)?;
+    let removed = sweep(rt, alloc, state, shelf)?;
     tell_removed(removed, progress, err);
     Ok(())
 }
@@ -148,6 +159,7 @@ fn reply<O: Write>(out: &mut O, installed: u128) -> io::Result<()>
 
 /// Opens the directory of a shelf, lets so many workers compact it, removes what nothing names any
 /// more, and writes the reply.
+#[tactic(auto, using(lsm_directory::proofs::CallerLemmas::keeps_same, crate::proofs::Quiet::quiet_then))]
 fn compact_named<N: Boarded, S: Shelf, R: Threads + Wait + Sync, O: Write, E: Write + Send>(
     rt: &R,
     alloc: Global,
@@ -171,10 +183,14 @@ fn compact_named<N: Boarded, S: Shelf, R: Threads + Wait + Sync, O: Write, E: Wr
     ensures quiet { IsFalse options.progress → Keeps (E.contents err.old) (E.contents err.new) }
 {
     let parts = parts.named(alloc)?;
-    let Compaction { store, shelves } = begin::<N, S, R, E>(rt, alloc, shelf, options, parts, err)?;
-    let done = work(rt, alloc, &store, shelves, options.progress, err)?;
-    sweep_all(rt, alloc, &store, shelf, options.progress, err)?;
-    match reply(out, installed_by(&done)) {
+    let state = open(rt, alloc, shelf, parts)?;
+    tell_opened(&state, options.progress, err);
+    what_was_found_is_kept::<State<N, S>>();
+    let (mut left, ends) = compact_state::<N, S, Brand, R, E>(
+        rt, alloc, state, shelf, options, err,
+    )?;
+    sweep_all(rt, alloc, &mut left, shelf, options.progress, err)?;
+    match reply(out, installed_by(&ends)) {
         Ok(()) => Ok(()),
         Err(_) => Err(CompactFault::Writer(WriterFault::Write)),
     }

@@ -2,11 +2,13 @@
 
 ghost use Rattle.std.specs.Prelude.{◌≡◌, IfErr, IfOk, vec_len};
 ghost use Rattle.lsm_shelf.specs.Told.{Forked, NotNamed};
+ghost use Rattle.lsm_state.specs.Held.{Held};
+ghost use Rattle.lsm_store.specs.Compacting.{IsSeated};
 ghost use Rattle.lsm_store.specs.Readers.{SeatsPinners};
 
 use lsm_slots::Boarded;
 use lsm_state::State;
-use lsm_store::Store;
+use lsm_store::{Invariant, Store};
 use lsm_table::{NamedShelf, Shelf, ShelfFault};
 use std::alloc::Global;
 
@@ -29,14 +31,14 @@ fn forks<N: Boarded, S: Shelf>(
     Ok(forks)
 }
 
-/// A store that is to be compacted, and a shelf for each worker.
+/// A store that is to be compacted, whose lock keeps a fact, and a shelf for each worker.
 #[derive(Drop)]
-pub(crate) struct Compaction<N: Boarded, S: Shelf> {
-    pub(crate) store: Store<N, S>,
+pub(crate) struct Compaction<N: Boarded, S: Shelf, K: Invariant> {
+    pub(crate) store: Store<N, S, K>,
     pub(crate) shelves: Vec<NamedShelf<N, S>>,
 }
 
-impl<N: Boarded, S: Shelf> Compaction<N, S> {
+impl<N: Boarded, S: Shelf, K: Invariant> Compaction<N, S, K> {
     /// The store of a state, and so many forks of its shelf.
     #[tactic(auto, using(lsm_shelf::proofs::CallerLemmas::forked_then, lsm_shelf::proofs::CallerLemmas::forked_once, lsm_shelf::proofs::CallerLemmas::forked_same))]
     pub(crate) fn new(
@@ -44,8 +46,9 @@ impl<N: Boarded, S: Shelf> Compaction<N, S> {
         state: State<N, S>,
         shelf: &mut NamedShelf<N, S>,
         workers: usize,
-    ) -> Result<Compaction<N, S>, ShelfFault>
+    ) -> Result<Compaction<N, S, K>, ShelfFault>
         requires seats { SeatsPinners state }
+        requires kept { (h : Held) → IsSeated state h → K.keeps h }
         ensures count { IfOk result (λ c. vec_len c.shelves ≡ workers) }
         ensures told { Forked shelf.old shelf.new }
         ensures cause { IfErr result NotNamed }
