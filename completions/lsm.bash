@@ -3,7 +3,7 @@ _lsm() {
   local current=${COMP_WORDS[COMP_CWORD]} command= options= places= place=0 index word kind
   COMPREPLY=()
   if ((COMP_CWORD == 1)); then
-    COMPREPLY=($(compgen -W 'mktable dump manifest script check list get scan ingest compact clean help --help --version' -- "$current"))
+    COMPREPLY=($(compgen -W 'mktable dump manifest script check list get scan ingest put delete compact clean shell help --help --version' -- "$current"))
     return
   fi
   command=${COMP_WORDS[1]}
@@ -14,18 +14,21 @@ _lsm() {
     script) options='--help' places='FILE' ;;
     check) options='--progress --help' places='DIR' ;;
     list) options='--text --help' places='DIR' ;;
-    get) options='--text --help' places='DIR KEY' ;;
-    scan) options='--from --to --text --progress --help' places='DIR' ;;
+    get) options='--text --raw --exists --help' places='DIR KEY' ;;
+    scan) options='--from --to --prefix --limit --text --keys --count --progress --help' places='DIR' ;;
     ingest) options='--text --begin --beside-log --help' places='DIR FILE' ;;
+    put) options='--text --begin --beside-log --help' places='DIR KEY VALUE' ;;
+    delete) options='--text --begin --beside-log --help' places='DIR KEY' ;;
     compact) options='--workers --progress --help' places='DIR' ;;
     clean) options='--help' places='DIR' ;;
+    shell) options='--text --begin --beside-log --help' places='DIR' ;;
     help) options='--help' places='COMMAND' ;;
     *) return ;;
   esac
   for ((index = 2; index < COMP_CWORD; index++)); do
     word=${COMP_WORDS[index]}
     case $word in
-      --from|--to|--workers)
+      --from|--limit|--prefix|--to|--workers)
         # Bash takes `=` for a word of its own.
         ((index++))
         [[ ${COMP_WORDS[index]-} != = ]] || ((index++))
@@ -44,7 +47,7 @@ _lsm() {
   case $kind in
     DIR) mapfile -t COMPREPLY < <(compgen -d -- "$current") ;;
     FILE) mapfile -t COMPREPLY < <(compgen -f -- "$current") ;;
-    COMMAND) COMPREPLY=($(compgen -W 'mktable dump manifest script check list get scan ingest compact clean help' -- "$current")) ;;
+    COMMAND) COMPREPLY=($(compgen -W 'mktable dump manifest script check list get scan ingest put delete compact clean shell help' -- "$current")) ;;
     *) COMPREPLY=($(compgen -W "$options" -- "$current")) ;;
   esac
 }
