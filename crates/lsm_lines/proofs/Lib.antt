@@ -1,0 +1,4 @@
+mod AheadLaws
+mod LineLaws
+mod BufferLaws
+mod LastLaws
