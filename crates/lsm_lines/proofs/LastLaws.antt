@@ -69,6 +69,7 @@ last_write-some key (w ∷ ws) v (inl same) e = first (last_write key ws)
   where
     here : write_at key w ≡ Some w
     here = write_at-same key w (ap (λ (u : Write). u.key) same ∙ e)
+
     first : (o : Option Write) → (u : Write) × (option_or o (write_at key w) ≡ Some u)
     first None = (w, here)
     first (Some u) = (u, refl)
@@ -84,6 +85,7 @@ last_write-has key (v ∷ ws) w e = first (last_write key ws) refl e (λ p. last
     at : (b : Bool) → (if_it : Option Write) → if_it ≡ cond b (Some v) None → if_it ≡ Some w → v ≡ w
     at true o p q = let z : Some v ≡ Some w = sym p ∙ q in cc
     at false o p q = let z : None ≡ Some w = sym p ∙ q in absurd (cc z)
+
     first : (o : Option Write) → last_write key ws ≡ o → option_or o (write_at key v) ≡ Some w → (last_write key ws ≡ Some w → Has ws w) → Has (v ∷ ws) w
     first None p q later = inl (at (bytes_eq v.key key) (write_at key v) refl q)
     first (Some u) p q later = inr (later (p ∙ q))
@@ -173,21 +175,24 @@ falls_from [] s = tt
 falls_from (w ∷ []) s = ((λ v h. absurd h), tt)
 falls_from (w ∷ u ∷ ws) s =
     let rest : Falls (u ∷ ws) = falls_from (u ∷ ws) (sorted_tail w (u ∷ ws) s) in
-    let next : UserLe u.key w.key = le_from u.key w.key (s 0 w (omega arith) (omega arith)) in
-    ((λ v h. elim h [
-      | inl same ↦ subst (λ (x : Write). UserLe x.key w.key) same next
-      | inr k ↦ user_le_trans v.key u.key w.key (rest.0 v k) next
-    ]), rest)
+    let next : UserLe u.key w.key = le_from u.key w.key (s 0 w (omega arith) (omega arith)) in (
+      (λ v h. elim h [
+        | inl same ↦ subst (λ (x : Write). UserLe x.key w.key) same next
+        | inr k ↦ user_le_trans v.key u.key w.key (rest.0 v k) next
+      ]),
+      rest,
+    )
 
 pub falls_front : (ws : List Write) (w : Write) → Falls (ws ++ w ∷ []) → Falls ws × ((v : Write) → Has ws v → UserLe w.key v.key)
 falls_front [] w f = (tt, λ v h. absurd h)
 falls_front (a ∷ ws) w f =
-    let rest = falls_front ws w f.1 in
-    (((λ v h. f.0 v (has_left ws (w ∷ []) v h)), rest.0),
-    (λ v h. elim h [
-      | inl same ↦ subst (λ (x : Write). UserLe w.key x.key) same (f.0 w (has_right ws (w ∷ []) w (inl refl)))
-      | inr k ↦ rest.1 v k
-    ]))
+    let rest = falls_front ws w f.1 in (
+      ((λ v h. f.0 v (has_left ws (w ∷ []) v h)), rest.0),
+      (λ v h. elim h [
+        | inl same ↦ subst (λ (x : Write). UserLe w.key x.key) same (f.0 w (has_right ws (w ∷ []) w (inl refl)))
+        | inr k ↦ rest.1 v k
+      ]),
+    )
 
 -- ---- a stable sort
 

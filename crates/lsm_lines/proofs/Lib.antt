@@ -1,4 +1,7 @@
-mod AheadLaws
-mod LineLaws
-mod BufferLaws
-mod LastLaws
+pub mod AheadLaws
+pub mod LineLaws
+pub mod BufferLaws
+pub mod LastLaws
+pub mod GatherLaws
+pub mod CutLaws
+pub mod CallerLemmas

@@ -4,3 +4,6 @@ pub mod Pieces
 pub mod LastWrites
 pub mod Falling
 pub mod Buffering
+pub mod Gathering
+pub mod Filling
+pub mod Cuts

@@ -17,6 +17,7 @@ const MOST_WRITES: usize = 65_536;
 const MOST_BYTES: usize = 4_194_304;
 // The most bytes of a key, and of a value.
 const MOST_KEY: usize = 4_096;
+
 const MOST_VALUE: usize = 1_048_576;
 
 /// Why a write is not put.
