@@ -1,0 +1,14 @@
+//! Lines of writes that come into a database, batch by batch.
+#![tactic(auto)]
+
+// What compacts a database between batches.
+mod compactor;
+mod relieving;
+
+// How much is loaded, and why not all is.
+mod load_fault;
+mod progress;
+
+pub use compactor::Compactor;
+pub use load_fault::LoadFault;
+pub use progress::Progress;
