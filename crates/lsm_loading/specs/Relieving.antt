@@ -1,7 +1,9 @@
 -- A state whose level 0 is relieved between batches (this project's rule; the four files are LevelDB's `kL0_CompactionTrigger`).
-use Rattle.std.specs.Prelude.{◌≡◌, ◌⊎◌, ℕ, ◌≤◌, length}
+use Rattle.std.specs.Prelude.{◌≡◌, ◌⊎◌, ℕ, ◌≤◌, ⊤, length}
 use Rattle.lsm_version.specs.Versions.{level_in}
 use Rattle.lsm_state.specs.Held.{Held, plain}
+use Rattle.lsm_loading.specs.declared.load_fault.LoadFault.{LoadFault}
+use Rattle.lsm_loading.specs.declared.load_fault.LoadFault.TheVariants.{Compaction, Sweep}
 
 -- Nothing came in.
 pub record KeepsHistory (old new : Held) : Type 0 where
@@ -23,3 +25,9 @@ pub record IsRelieved (Leaves : Held → Held → Type 0) (old new : Held) : Typ
 -- It was relieved where level 0 was due.
 abbrev pub IsReady : (Held → Held → Type 0) → Held → Held → Type 0
 IsReady Leaves old new = (IsDue old × IsRelieved Leaves old new) ⊎ ((IsDue old → ⊥) × (new ≡ old))
+
+-- the compaction failed, or tables were not removed
+abbrev pub IsOfRelief : {F : Type 0} → LoadFault F → Type 0
+IsOfRelief (Compaction fault) = ⊤
+IsOfRelief (Sweep fault) = ⊤
+IsOfRelief fault = ⊥

@@ -9,6 +9,11 @@ mod relieving;
 mod load_fault;
 mod progress;
 
+// The lines come in.
+mod bringing;
+mod loading;
+
 pub use compactor::Compactor;
 pub use load_fault::LoadFault;
+pub use loading::load;
 pub use progress::Progress;

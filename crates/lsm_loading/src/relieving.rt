@@ -1,7 +1,7 @@
 //! Level 0 is relieved between batches.
 
 ghost use Rattle.std.specs.Prelude.{◌↔◌, IfErr, IfOk, IsTrue};
-ghost use Rattle.lsm_loading.specs.Relieving.{IsDue, IsReady, IsRelieved};
+ghost use Rattle.lsm_loading.specs.Relieving.{IsDue, IsOfRelief, IsReady, IsRelieved};
 
 use crate::compactor::Compactor;
 use crate::load_fault::LoadFault;
@@ -30,7 +30,8 @@ pub(crate) fn relieve<N: Boarded, S: Shelf, R: Wait, C: Compactor<N, S>>(
     shelf: &mut NamedShelf<N, S>,
     compactor: &mut C,
 ) -> Result<State<N, S>, LoadFault<C::Fault>>
-    ensures { IfOk result (IsRelieved C.leaves state) }
+    ensures relieved { IfOk result (IsRelieved C.leaves state) }
+    ensures refused { IfErr result IsOfRelief }
 {
     let mut state = match compactor.compact(state, shelf) {
         Ok(state) => state,
@@ -50,7 +51,8 @@ pub(crate) fn make_ready<N: Boarded, S: Shelf, R: Wait, C: Compactor<N, S>>(
     shelf: &mut NamedShelf<N, S>,
     compactor: &mut C,
 ) -> Result<State<N, S>, LoadFault<C::Fault>>
-    ensures { IfOk result (IsReady C.leaves state) }
+    ensures ready { IfOk result (IsReady C.leaves state) }
+    ensures refused { IfErr result (λ e. IsDue state × IsOfRelief e) }
 {
     if !is_due(&state) {
         return Ok(state);
