@@ -13,7 +13,11 @@ mod progress;
 mod bringing;
 mod loading;
 
+// What holds of it.
+mod laws;
+
 pub use compactor::Compactor;
+pub use laws::each_key_shows_its_last_line;
 pub use load_fault::LoadFault;
 pub use loading::load;
 pub use progress::Progress;
