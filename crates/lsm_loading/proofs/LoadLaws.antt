@@ -10,6 +10,7 @@ use Rattle.lsm_batch.specs.Batches.{entries_from}
 use Rattle.lsm_batch.specs.declared.write.Write.{Write}
 use Rattle.lsm_levels.specs.Plain.{Plain}
 use Rattle.lsm_shelf.specs.Told.{Told}
+use Rattle.lsm_version.specs.Changes.{changed}
 use Rattle.lsm_version.specs.Versions.{Levels}
 use Rattle.lsm_state.specs.Held.{Held}
 use Rattle.lsm_state.specs.Ingesting.{Ingests}
@@ -155,6 +156,7 @@ ready_keeps Leaves old new (inr r) = record { history = ap (λ (h : Held). h.his
 
 -- the last sequence after an ingest
 pub ingested_last : (old new : Held) (ws : List Write) (r : Ingested) (was is : Told) → Ingests old new ws r was is → new.slots.version.last ≡ old.slots.version.last + length ws
+unfolding changed
 ingested_last old new ws r was is i = ap (λ (v : Levels). v.last) i.changes.published.version_is
 
 pub came_history : (Leaves : Held → Held → Type 0) (old ready now : Held) (ws : List Write) → IsReady Leaves old ready → now.history ≡ entries_from (suc ready.slots.version.last) ws ++ ready.history
@@ -262,3 +264,21 @@ stopped_behind old mid new found was now p q lines.LargeWrite form l t = stops_b
 stopped_behind old mid new found was now p q lines.Read form l t = stops_behind old mid new found was now p q lines.Read form l t t.ends.0 t.ends.1 t.ends.2
 stopped_behind old mid new found was now p q lines.OutOfMemory form l t =
     (now, t.ends.0, t.ends.1, on old mid new t.ends.0 t.ends.1 found was now p q (Stopped lines.OutOfMemory) form l t t.ends.2, tt)
+
+-- ---- how much one batch adds
+
+pub counted : (mid new : Pending) (was now : Held) (p q : Progress) (end : BatchEnd) → TakesBatch mid new was now p q end
+    → (q.lines ≤ p.lines + 18446744073709551616) × (q.batches ≤ p.batches + 1)
+counted mid new was now p q end t = at t.came
+  where
+    at : NoneCame t.ws was now p q ⊎ BatchCame t.ws was now p q → (q.lines ≤ p.lines + 18446744073709551616) × (q.batches ≤ p.batches + 1)
+    at (inl n) = (omega (arith, ap (λ (s : Progress). s.lines) n.2), omega (arith, ap (λ (s : Progress). s.batches) n.2))
+    at (inr c) = (omega (arith, c.lines, t.few), omega (arith, c.count))
+
+-- after one turn more
+pub few_lines : (turn p q : ℕ) → p ≤ turn * 18446744073709551616 → q ≤ p + 18446744073709551616 → q ≤ (turn + 1) * 18446744073709551616
+few_lines turn p q h k = omega (arith, h, k)
+
+-- there is room for the lines of one turn more
+pub room : (turn p : ℕ) → p ≤ turn * 18446744073709551616 → turn < 18446744073709551615 → p + 18446744073709551616 ≤ 340282366920938463463374607431768211456
+room turn p h k = omega (arith, h, k)
