@@ -39,6 +39,7 @@ stays k s e f es is older = at (is_allowed k s e) (newest k s es) is
         let same : g ≡ f = (let q : Some g ≡ Some f = p in cc) in
         let less : nat_lt (stamp e) (stamp g) ≡ true = lt-ltb (stamp e) (stamp g) (subst (λ (x : Entry). stamp e < stamp x) (sym same) (stamp_lt e f older)) in
         rw less same
+
     at : (b : Bool) → (o : Option Entry) → o ≡ Some f → cond b (Some (first_of_two e o)) o ≡ Some f
     at true o p = ap Some (first o p)
     at false o p = p

@@ -63,7 +63,7 @@ gathers_then old mid left held ws vs form g h = (
   g.0 ++ h.0,
   reads_then old.form old.left mid.left left g.0 h.0 g.1 (subst (λ (f : Form). Reads f mid.left left h.0) form h.1),
   sym (append_assoc old.held g.0 h.0) ∙ ap (λ (l : List Write). l ++ h.0) g.2 ∙ append_assoc ws mid.held h.0
-  ∙ ap (λ (l : List Write). ws ++ l) h.2 ∙ sym (append_assoc ws vs held),
+      ∙ ap (λ (l : List Write). ws ++ l) h.2 ∙ sym (append_assoc ws vs held),
 )
 
 -- ---- batches, one after another
