@@ -88,9 +88,9 @@ impl WriteBuffer {
         self.writes.len()
     }
 
-    /// Puts a write behind the others. `Full` where a batch may have it, but not beside them: 65,536
-    /// writes, 4 MiB of keys and values. `Large` where no batch may have it: 4,096 bytes of a key, 1
-    /// MiB of a value. `OutOfMemory`.
+    /// Puts a write behind the others. `Full` where a batch may have it, but not beside them:
+    /// 65,536 writes, 4 MiB of keys and values. `Large` where no batch may have it: 4,096 bytes of
+    /// a key, 1 MiB of a value. `OutOfMemory`.
     pub fn put(&mut self, write: Write) -> Result<(), PutFault>
         ensures ok { OnOk result (self.new ≡ self.old ++ write ∷ []) }
         ensures err { OnErr result (self.new ≡ self.old) }
