@@ -106,6 +106,9 @@ compact = command (codes "compact") (folder ∷ workers ∷ progress ∷ [])
 unfoldable pub clean : App
 clean = command (codes "clean") (folder ∷ [])
 
+unfoldable pub shell : App
+shell = command (codes "shell") (folder ∷ text ∷ begin ∷ beside_log ∷ [])
+
 unfoldable pub help : App
 help = command (codes "help") (topic ∷ [])
 
@@ -132,7 +135,7 @@ with_writes = with_subcommand (with_subcommand (with_subcommand with_looks inges
 
 -- all commands
 unfoldable pub lsm : App
-lsm = with_subcommand (with_subcommand (with_subcommand with_writes compact.top) clean.top) help.top
+lsm = with_subcommand (with_subcommand (with_subcommand (with_subcommand with_writes compact.top) clean.top) shell.top) help.top
 
 -- ---- how the code shows it
 

@@ -27,7 +27,7 @@ use Rattle.lsm_text.specs.declared.input.Input.{Input}
 use Rattle.lsm_text.specs.declared.input.Input.TheVariants.{Standard, File}
 use Rattle.lsm_text.specs.declared.key_bounds.KeyBounds.{KeyBounds}
 use Rattle.lsm_text.specs.declared.request.Request.{Request}
-use Rattle.lsm_text.specs.declared.request.Request.TheVariants.{Convert, Look, Write as WriteFolder, Compact, Script}
+use Rattle.lsm_text.specs.declared.request.Request.TheVariants.{Convert, Look, Write as WriteFolder, Compact, Script, Shell}
 use Rattle.lsm_text.specs.declared.scan_options.ScanOptions.{ScanOptions}
 use Rattle.lsm_text.specs.declared.scan_output.ScanOutput.{ScanOutput}
 use Rattle.lsm_text.specs.declared.scan_output.ScanOutput.TheVariants.{Pairs, Keys, Count}
@@ -77,6 +77,7 @@ named word =
     else if bytes_eq word (codes "delete") then Some name.Delete
     else if bytes_eq word (codes "compact") then Some name.Compact
     else if bytes_eq word (codes "clean") then Some name.Clean
+    else if bytes_eq word (codes "shell") then Some name.Shell
     else if bytes_eq word (codes "help") then Some name.Help
     else None
 
@@ -95,6 +96,7 @@ word_of name.Put = codes "put"
 word_of name.Delete = codes "delete"
 word_of name.Compact = codes "compact"
 word_of name.Clean = codes "clean"
+word_of name.Shell = codes "shell"
 word_of name.Help = codes "help"
 
 abbrev pub name_of_conversion : Conversion → CommandName
@@ -124,6 +126,7 @@ name_of (Look line) = name_of_look line.command
 name_of (WriteFolder line) = name_of_write line.command
 name_of (Compact line) = name.Compact
 name_of (Script input) = name.Script
+name_of (Shell line) = name.Shell
 
 -- ---- what its words say
 
@@ -214,6 +217,7 @@ Says rows (Compact line) =
     (word_in (codes "DIR") rows ≡ Some line.path.now) × AreWorkers (word_in (codes "workers") rows) line.options.workers
     × (line.options.progress ≡ is_set (codes "progress") rows)
 Says rows (Script input) = IsInput (word_in (codes "FILE") rows) input
+Says rows (Shell line) = (word_in (codes "DIR") rows ≡ Some line.path.now) × AreIngestOptions rows line.options
 
 -- The command that was found is the request's, and the request says what its rows say.
 pub record IsAsked (found : Option (Text × List Row)) (request : Request) : Type 0 where

@@ -20,7 +20,7 @@ use crate::ingest_options::IngestOptions;
 use crate::input::Input;
 use crate::key_bounds::KeyBounds;
 use crate::number::number_in;
-use crate::request::{CompactLine, DirectoryLine, Request, WritingLine};
+use crate::request::{CompactLine, DirectoryLine, Request, ShellLine, WritingLine};
 use crate::scan_options::ScanOptions;
 use crate::scan_output::ScanOutput;
 use crate::writing_command::WritingCommand;
@@ -332,6 +332,15 @@ fn compact_in<'a>(found: &ArgMatches<'a>) -> Option<Request<'a>>
     Some(Request::Compact(CompactLine { path, options }))
 }
 
+/// Commands on a folder, from standard input.
+fn shell_in<'a>(found: &ArgMatches<'a>) -> Option<Request<'a>>
+    ensures { Reads CommandName.Shell (rows_in found.now) result }
+{
+    let path = word_in(found, "DIR")?;
+    let options = ingest_options_in(found);
+    Some(Request::Shell(ShellLine { path, options }))
+}
+
 /// What the command of this name is asked for.
 fn request_in<'a>(
     alloc: Global,
@@ -354,6 +363,7 @@ fn request_in<'a>(
         CommandName::Delete => delete_in(alloc, found),
         CommandName::Compact => Ok(compact_in(found)),
         CommandName::Clean => Ok(clean_in(found)),
+        CommandName::Shell => Ok(shell_in(found)),
         CommandName::Help => Ok(None),
     }
 }

@@ -19,6 +19,7 @@ pub enum CommandName {
     Delete,
     Compact,
     Clean,
+    Shell,
     Help,
 }
 
@@ -41,6 +42,7 @@ impl CommandName {
             CommandName::Delete => "delete",
             CommandName::Compact => "compact",
             CommandName::Clean => "clean",
+            CommandName::Shell => "shell",
             CommandName::Help => "help",
         }
     }
@@ -89,6 +91,9 @@ pub(crate) fn named(word: &str) -> Option<CommandName>
     }
     if word == "clean" {
         return Some(CommandName::Clean);
+    }
+    if word == "shell" {
+        return Some(CommandName::Shell);
     }
     if word == "help" {
         return Some(CommandName::Help);

@@ -11,13 +11,13 @@ ghost use Rattle.clap.specs.declared.error.ErrorKind.TheVariants.{OutOfMemory};
 ghost use Rattle.lsm_text.specs.Grammar.{IsShaped, bare, begin, beside_log, check, clean, compact};
 ghost use Rattle.lsm_text.specs.Grammar.{delete, dump, file, flag, folder, get, help, ingest, key};
 ghost use Rattle.lsm_text.specs.Grammar.{limit, list, lsm, make_table, manifest, progress, put};
-ghost use Rattle.lsm_text.specs.Grammar.{scan, script, text, topic, valued, with_inputs};
+ghost use Rattle.lsm_text.specs.Grammar.{scan, script, shell, text, topic, valued, with_inputs};
 ghost use Rattle.lsm_text.specs.Grammar.{with_looks, with_writes, word, workers};
 ghost use Rattle.lsm_text.specs.Requests.{faults_in, found_in};
 
 use crate::pages::{
     CHECK, CLEAN, COMPACT, DELETE, DUMP, GET, HELP, INGEST, LIST, MAKE_TABLE, MANIFEST, OVERVIEW,
-    PUT, Page, SCAN, SCRIPT, VERSION,
+    PUT, Page, SCAN, SCRIPT, SHELL, VERSION,
 };
 use clap::builder::ValueParser;
 use clap::{Arg, ArgAction, ArgMatches, Command, Error};
@@ -317,6 +317,16 @@ fn clean<'a>(alloc: Global) -> Made<'a>
     also(titled(alloc, CLEAN), folder(alloc))
 }
 
+/// The command that reads commands on a folder.
+fn shell<'a>(alloc: Global) -> Made<'a>
+    ensures { IsShaped result shell }
+{
+    let shell = also(titled(alloc, SHELL), folder(alloc));
+    let shell = also(shell, text(alloc));
+    let shell = also(shell, begin(alloc));
+    also(shell, beside_log(alloc))
+}
+
 /// The command that prints a page of help.
 fn help<'a>(alloc: Global) -> Made<'a>
     ensures { IsShaped result help }
@@ -381,6 +391,7 @@ fn lsm<'a>(alloc: Global) -> Made<'a>
 {
     let lsm = with(with_writes(alloc), compact(alloc));
     let lsm = with(lsm, clean(alloc));
+    let lsm = with(lsm, shell(alloc));
     with(lsm, help(alloc))
 }
 

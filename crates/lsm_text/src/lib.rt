@@ -79,7 +79,7 @@ pub use line_syntax::LineSyntaxFault;
 pub use number::number_in;
 pub use printer::Printer;
 pub use refusal::Refusal;
-pub use request::{CompactLine, DirectoryLine, Request, WritingLine};
+pub use request::{CompactLine, DirectoryLine, Request, ShellLine, WritingLine};
 pub use scan_options::ScanOptions;
 pub use scan_output::ScanOutput;
 pub use spelling::{push_bytes, push_decimal};

@@ -26,21 +26,21 @@ option, or behind `=` in its word: `--from 61`, `--from=61`. Behind `--` no word
 is an option: `lsm get db --text -- -key`.
 
 A DIR that is not there is `refused 9 Device`, one without a file CURRENT
-`refused 10 Missing`; but `ingest`, `put` and `delete` begin a database in a DIR
-that has no manifest and no table either. A DIR that is a symbolic link is the
+`refused 10 Missing`; but `ingest`, `put`, `delete` and `shell` begin a database
+in a DIR that has no manifest and no table either. A DIR that is a symbolic link is the
 folder that it leads to; what is no regular file is not read.
 
-`ingest`, `put`, `delete`, `compact` and `clean` hold LevelDB's lock file,
-DIR/LOCK, alone, and make it where it is not there; the other commands share it
-where it is there. Where another program holds it, also a LevelDB, it is
+`ingest`, `put`, `delete`, `compact`, `clean` and `shell` hold LevelDB's lock
+file, DIR/LOCK, alone, and make it where it is not there; the other commands
+share it where it is there. Where another program holds it, also a LevelDB, it is
 `refused 52 Locked`, and nothing is read or written. A LevelDB is noticed where
 the system has the file /proc/locks; it does not notice `lsm`: do not open DIR
 while `lsm` writes there.
 
 No command reads a write-ahead log (`N.log`). Of each one that LevelDB has not
 flushed, `list`, `get` and `scan` say on standard error how many bytes are not
-read, and `check` prints a line; `ingest`, `put` and `delete` are `refused 51
-UnflushedLog N`.
+read, and `check` prints a line; `ingest`, `put`, `delete` and `shell` are
+`refused 51 UnflushedLog N`.
 
 Tables that are compressed, as LevelDB makes them unless told otherwise, are
 refused: `refused 16 Compressed 1`.
@@ -385,6 +385,53 @@ command line.",
     example: "Example: lsm clean db",
 };
 
+pub(crate) const SHELL: Page = Page {
+    name: "shell",
+    usage: "lsm shell <DIR> [--text] [--begin] [--beside-log]",
+    about: "Runs commands from standard input on a folder",
+    text: "Opens the LevelDB folder DIR once, or begins a database there, as `ingest` does,
+and holds its lock; then it reads commands on standard input, one a line, and
+prints a reply for each, which is written out before the next line is read.
+
+  put KEY VALUE      the key has this value      file N first F last L
+  delete KEY         the key is deleted          file N first F last L
+  ingest W W ..      W is KEY=VALUE or KEY!,     file N first F last L
+                     keys ascending: one batch
+  get KEY            the newest                  value V, or absent
+  get KEY ID         at the snapshot ID          value V, or absent
+  scan [FROM [TO]] [limit N]                     KEY=VALUE a pair, then end
+  snapshot                                       snapshot ID seq S
+  release ID                                     released
+  compact            until nothing is due        installed M
+  reserve            the compaction that is due  job T level L inputs N N ..,
+                                                 move T level L input N, or none
+  reserve L FROM TO  of level L, of the tables   the same
+                     that meet these keys
+  merge T            the job of the ticket T     merged T tables M
+  install T          what it made                installed N N ..
+  cancel T                                       cancelled
+  pin, unpin ID      the current version         pin ID, unpinned
+  collect            tables not needed any more  removed N N ..
+  list               LEVEL NUMBER SIZE SMALLEST LARGEST a table, then end
+  stats              level L files F bytes B a level, last S, then end
+  help               these lines, then end
+  quit               no reply; so does the end of the input
+
+KEY, VALUE, FROM and TO are hex, or text with --text, `.` for no bytes; a space
+parts two words. A refusal is a reply too, `refused N Name ..`, in a list in
+place of `end`. A line of another form is answered `bad line: REASON`. The shell
+goes on behind both. A line has at most 8388608 bytes.
+
+Of --begin and --beside-log, and of all that is refused before the first line,
+the page of `ingest` says more. A second program that wants to write in DIR is
+`refused 52 Locked` as long as the shell runs.
+
+Exit status: 0 behind `quit` or the end of the input, 1 where the folder is
+refused, a reply cannot be written or the input cannot be read, 2 bad command
+line.",
+    example: "Example: printf 'put apple red\\nget apple\\n' | lsm shell db --text",
+};
+
 pub(crate) const HELP: Page = Page {
     name: "help",
     usage: "lsm help [COMMAND]",
@@ -397,9 +444,9 @@ Exit status: 0 done, 1 refused, 2 bad command line, also where COMMAND is none."
 };
 
 /// The pages of the commands.
-const PAGES: [Page; 14] = [
+const PAGES: [Page; 15] = [
     MAKE_TABLE, DUMP, MANIFEST, SCRIPT, CHECK, LIST, GET, SCAN, INGEST, PUT, DELETE, COMPACT,
-    CLEAN, HELP,
+    CLEAN, SHELL, HELP,
 ];
 
 /// How the command of this name is used.

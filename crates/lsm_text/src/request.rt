@@ -4,6 +4,7 @@ use crate::compact_options::CompactOptions;
 use crate::conversion::Conversion;
 use crate::directory_command::DirectoryCommand;
 use crate::form::Form;
+use crate::ingest_options::IngestOptions;
 use crate::input::Input;
 use crate::writing_command::WritingCommand;
 
@@ -32,6 +33,14 @@ pub struct CompactLine<'a> {
     pub options: CompactOptions,
 }
 
+/// Commands on the folder of this path, one a line of standard input: it is opened or begun as a
+/// batch that is to come in asks for.
+#[derive(Clone, Copy, Debug)]
+pub struct ShellLine<'a> {
+    pub path: &'a str,
+    pub options: IngestOptions,
+}
+
 /// What a command line asks for: one command of the program, with all that its words say.
 #[derive(Debug, Drop)]
 pub enum Request<'a> {
@@ -45,4 +54,6 @@ pub enum Request<'a> {
     Compact(CompactLine<'a>),
     /// `script`: the commands that an input spells.
     Script(Input<'a>),
+    /// `shell`: the commands that standard input spells, on a folder.
+    Shell(ShellLine<'a>),
 }
