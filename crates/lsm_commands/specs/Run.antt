@@ -43,18 +43,18 @@ module _ {C M : Type 0} (folders : Ghosts C M) where
 
   -- a batch came in, that of one write too; or the folder was cleaned
   abbrev pub IsWritten : (Input → Option (List ℕ)) → List ℕ → WritingCommand → (old new : Option (List ℕ)) → Type 0
-  IsWritten text path (Ingest input options) old new = IsIngested path options (text input) old new
-  IsWritten text path (WriteKey w options) old new = ComesInAt path options (w ∷ []) old new
-  IsWritten text path Clean old new = IsCleanedAt path old new
+  IsWritten text path (Ingest input options) old new = IsIngested folders path options (text input) old new
+  IsWritten text path (WriteKey w options) old new = ComesInAt folders path options (w ∷ []) old new
+  IsWritten text path Clean old new = IsCleanedAt folders path old new
 
   -- ---- what status 0 means
 
   -- what was done, and what stands on standard output and standard error
   abbrev pub IsDone : (Input → Option (List ℕ)) → Request → (old new said_old said_new : Option (List ℕ)) → Type 0
   IsDone text (Convert conversion input) old new said_old said_new = IsConverted conversion (text input) old new × Keeps said_old said_new
-  IsDone text (Look line) old new said_old said_new = LooksAt line old new said_old said_new
+  IsDone text (Look line) old new said_old said_new = LooksAt folders line old new said_old said_new
   IsDone text (WriteFolder line) old new said_old said_new = IsWritten text line.path.now line.command old new × Keeps said_old said_new
-  IsDone text (Compact line) old new said_old said_new = IsCompactedAt line old new × (IsFalse line.options.progress → Keeps said_old said_new)
+  IsDone text (Compact line) old new said_old said_new = IsCompactedAt folders line old new × (IsFalse line.options.progress → Keeps said_old said_new)
   IsDone text (Script input) old new said_old said_new = IsPlayed (text input) old new × Keeps said_old said_new
 
   -- The words ask for a command, which was done; or they ask for help, which was written, and nothing was on standard error.
@@ -68,16 +68,16 @@ module _ {C M : Type 0} (folders : Ghosts C M) where
 module _ {C M : Type 0} (folders : Ghosts C M) (marks : mark.Ghosts M) where
   -- neither a batch came in, and was told, nor was the folder cleaned
   abbrev pub IsUnwritten : (Input → Option (List ℕ)) → List ℕ → WritingCommand → (old new : Option (List ℕ)) → Type 0
-  IsUnwritten text path (Ingest input options) old new = IsUningested path options (text input) old new
-  IsUnwritten text path (WriteKey w options) old new = FailsToBringIn path options (w ∷ []) old new
-  IsUnwritten text path Clean old new = (fault : WriterFault) × FailsToClean path fault old new
+  IsUnwritten text path (Ingest input options) old new = IsUningested folders marks path options (text input) old new
+  IsUnwritten text path (WriteKey w options) old new = FailsToBringIn folders marks path options (w ∷ []) old new
+  IsUnwritten text path Clean old new = (fault : WriterFault) × FailsToClean folders marks path fault old new
 
   -- why it was not done, and what stands on standard output
   abbrev pub IsUndone : (Input → Option (List ℕ)) → Request → (old new : Option (List ℕ)) → Type 0
   IsUndone text (Convert conversion input) old new = IsUnconverted conversion (text input) old new
-  IsUndone text (Look line) old new = (fault : DirectoryFault) × FailsToLook line fault old new
+  IsUndone text (Look line) old new = (fault : DirectoryFault) × FailsToLook folders marks line fault old new
   IsUndone text (WriteFolder line) old new = IsUnwritten text line.path.now line.command old new
-  IsUndone text (Compact line) old new = IsUncompacted line old new
+  IsUndone text (Compact line) old new = IsUncompacted folders marks line old new
   IsUndone text (Script input) old new = IsUnplayed (text input) old new
 
   -- The words ask for a command, which was not done; or for help, of which a beginning was written; or memory ran out before they were read.
