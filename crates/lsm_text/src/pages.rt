@@ -39,8 +39,8 @@ while `lsm` writes there.
 
 No command reads a write-ahead log (`N.log`). Of each one that LevelDB has not
 flushed, `list`, `get` and `scan` say on standard error how many bytes are not
-read, and `check` prints a line; `ingest`, `put`, `delete` and `shell` are
-`refused 51 UnflushedLog N`.
+read, and `check` prints a line. `ingest`, `put`, `delete` and `shell` are
+`refused 51 UnflushedLog N` beside it.
 
 Tables that are compressed, as LevelDB makes them unless told otherwise, are
 refused: `refused 16 Compressed 1`.
@@ -302,16 +302,16 @@ prints `file N first L last L`: the table's number and its sequence, as `ingest`
 does with the one line `KEY=VALUE`. DIR has to be there. KEY and VALUE are hex,
 or text with --text, `.` for no bytes.
 
-Limits: 4096 bytes of KEY, 1048576 bytes of VALUE; past them it is `refused 39
-TooLarge`. The system limits a word of a command line too, Linux to 131071
-bytes: `ingest` brings a longer VALUE in.
+Limits: 4096 bytes of KEY, 1048576 bytes of VALUE; past them it is
+`refused 39 TooLarge`. The system limits a word of a command line too, Linux to
+131071 bytes: `ingest` brings a longer VALUE in.
 
 Each run makes a table and a manifest, so `ingest` is better for many keys. Of
 --begin and --beside-log, and of all that is refused, its page says more: where
 CURRENT was lost it is `refused 10 Missing`, beside a log that LevelDB has not
-flushed `refused 51 UnflushedLog N`, where another program has DIR open `refused
-52 Locked`, and at 12 tables in level 0 `refused 40 LevelZeroFull`: run `lsm
-compact DIR`, and then put again.
+flushed `refused 51 UnflushedLog N`, where another program has DIR open
+`refused 52 Locked`, and at 12 tables in level 0 `refused 40 LevelZeroFull`: run
+`lsm compact DIR`, and then put again.
 
 Exit status: 0 the key has the value, 1 refused, 2 bad command line. After a
 `write fault` it has it; after `refused 9 Device` it may.",
@@ -333,9 +333,9 @@ Limit: 4096 bytes of KEY; past it it is `refused 39 TooLarge`.
 Each run makes a table and a manifest, so `ingest` is better for many keys. Of
 --begin and --beside-log, and of all that is refused, its page says more: where
 CURRENT was lost it is `refused 10 Missing`, beside a log that LevelDB has not
-flushed `refused 51 UnflushedLog N`, where another program has DIR open `refused
-52 Locked`, and at 12 tables in level 0 `refused 40 LevelZeroFull`: run `lsm
-compact DIR`, and then delete again.
+flushed `refused 51 UnflushedLog N`, where another program has DIR open
+`refused 52 Locked`, and at 12 tables in level 0 `refused 40 LevelZeroFull`: run
+`lsm compact DIR`, and then delete again.
 
 Exit status: 0 the key is deleted, 1 refused, 2 bad command line. After a `write
 fault` it is; after `refused 9 Device` it may be.",
