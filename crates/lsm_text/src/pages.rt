@@ -27,15 +27,15 @@ is an option: `lsm get db --text -- -key`.
 
 A DIR that is not there is `refused 9 Device`, one without a file CURRENT
 `refused 10 Missing`; but `ingest`, `put`, `delete` and `shell` begin a database
-in a DIR that has no manifest and no table either. A DIR that is a symbolic link is the
-folder that it leads to; what is no regular file is not read.
+in a DIR that has no manifest and no table either. A DIR that is a symbolic link
+is the folder that it leads to; what is no regular file is not read.
 
 `ingest`, `put`, `delete`, `compact`, `clean` and `shell` hold LevelDB's lock
 file, DIR/LOCK, alone, and make it where it is not there; the other commands
-share it where it is there. Where another program holds it, also a LevelDB, it is
-`refused 52 Locked`, and nothing is read or written. A LevelDB is noticed where
-the system has the file /proc/locks; it does not notice `lsm`: do not open DIR
-while `lsm` writes there.
+share it where it is there. Where another program holds it, also a LevelDB, it
+is `refused 52 Locked`, and nothing is read or written. A LevelDB is noticed
+where the system has the file /proc/locks; it does not notice `lsm`: do not open
+DIR while `lsm` writes there.
 
 No command reads a write-ahead log (`N.log`). Of each one that LevelDB has not
 flushed, `list`, `get` and `scan` say on standard error how many bytes are not
