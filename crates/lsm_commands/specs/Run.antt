@@ -1,7 +1,7 @@
 -- What the program does for the words of its command line: this project's rule. Each command has a relation for what status 0 means, and one
 -- for what status 1 does. Those of a command on a folder are about a folder that was opened at the path of its words, and the calls on it, and
 -- about shelves on its place; that such a shelf is the run's own is to be read.
-use Rattle.std.specs.Prelude.{◌⊎◌, ℕ, Bool, IsFalse, List, Option, IfSome}
+use Rattle.std.specs.Prelude.{◌⊎◌, ℕ, Bool, IsFalse, List, [], ◌∷◌, Option, IfSome}
 use Rattle.std.specs.Io.KnownBytes.{Appends, Keeps}
 use Rattle.clap.specs.Words.{Text}
 use Rattle.lsm_folder.specs.declared.folder_calls.FolderCalls.{Ghosts}
@@ -14,7 +14,7 @@ use Rattle.lsm_text.specs.declared.input.Input.{Input}
 use Rattle.lsm_text.specs.declared.request.Request.{Request}
 use Rattle.lsm_text.specs.declared.request.Request.TheVariants.{Convert, Look, Write as WriteFolder, Compact, Script}
 use Rattle.lsm_text.specs.declared.writing_command.WritingCommand.{WritingCommand}
-use Rattle.lsm_text.specs.declared.writing_command.WritingCommand.TheVariants.{Ingest, Clean}
+use Rattle.lsm_text.specs.declared.writing_command.WritingCommand.TheVariants.{Ingest, WriteKey, Clean}
 use Rattle.lsm_commands.specs.Commands.{IsConverted, IsNotConverted}
 use Rattle.lsm_commands.specs.Played.{IsScriptDone, IsScriptRefused}
 use Rattle.lsm_directory.specs.declared.faults.directory_fault.DirectoryFault.{DirectoryFault}
@@ -22,7 +22,7 @@ use Rattle.lsm_writing.specs.declared.faults.writer_fault.WriterFault.{WriterFau
 use Rattle.lsm_reading.specs.Looked.{FailsToLook, LooksAt}
 use Rattle.lsm_writing.specs.Cleaned.{FailsToClean, IsCleanedAt}
 use Rattle.lsm_writing.specs.Compacted.{IsCompactedAt, IsUncompacted}
-use Rattle.lsm_writing.specs.Ingested.{IsIngested, IsUningested}
+use Rattle.lsm_writing.specs.Ingested.{ComesInAt, FailsToBringIn, IsIngested, IsUningested}
 
 -- ---- mktable, dump, manifest, script
 
@@ -39,11 +39,12 @@ abbrev pub IsUnplayed : Option (List ℕ) → (old new : Option (List ℕ)) → 
 IsUnplayed text old new = Keeps old new ⊎ IfSome text (λ t. (failed : Bool) × IsScriptRefused t failed old new)
 
 module _ {C M : Type 0} (folders : Ghosts C M) where
-  -- ---- ingest, clean
+  -- ---- ingest, put, delete, clean
 
-  -- a batch came in, or the folder was cleaned
+  -- a batch came in, that of one write too; or the folder was cleaned
   abbrev pub IsWritten : (Input → Option (List ℕ)) → List ℕ → WritingCommand → (old new : Option (List ℕ)) → Type 0
   IsWritten text path (Ingest input options) old new = IsIngested folders path options (text input) old new
+  IsWritten text path (WriteKey w options) old new = ComesInAt folders path options (w ∷ []) old new
   IsWritten text path Clean old new = IsCleanedAt folders path old new
 
   -- ---- what status 0 means
@@ -68,6 +69,7 @@ module _ {C M : Type 0} (folders : Ghosts C M) (marks : mark.Ghosts M) where
   -- neither a batch came in, and was told, nor was the folder cleaned
   abbrev pub IsUnwritten : (Input → Option (List ℕ)) → List ℕ → WritingCommand → (old new : Option (List ℕ)) → Type 0
   IsUnwritten text path (Ingest input options) old new = IsUningested folders marks path options (text input) old new
+  IsUnwritten text path (WriteKey w options) old new = FailsToBringIn folders marks path options (w ∷ []) old new
   IsUnwritten text path Clean old new = (fault : WriterFault) × FailsToClean folders marks path fault old new
 
   -- why it was not done, and what stands on standard output
@@ -86,7 +88,7 @@ module _ {C M : Type 0} (folders : Ghosts C M) (marks : mark.Ghosts M) where
 
 -- ---- what status 2 means
 
--- The words ask for nothing: clap finds a fault in them that is no wish for help or for the version; or it finds none, and a word is no key or
--- no number of workers. Nothing was written on standard output.
+-- The words ask for nothing: clap finds a fault in them that is no wish for help or for the version; or it finds none, and a word spells no
+-- bytes or writes no number. Nothing was written on standard output.
 abbrev pub AreUsageFault : List Text → (old new : Option (List ℕ)) → Type 0
 AreUsageFault words old new = AskNothing words × HaveUsageFault words × Keeps old new

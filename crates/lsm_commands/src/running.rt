@@ -14,7 +14,7 @@ use lsm_directory::{Known, Paths, refuse, status_of};
 use lsm_folder::FolderCalls;
 use lsm_reading::run_look;
 use lsm_text::{CommandLine, Fault, Request, WritingCommand, WritingLine, read_line, write_output};
-use lsm_writing::{run_clean, run_compact, run_ingest};
+use lsm_writing::{run_clean, run_compact, run_ingest, run_write};
 use std::convert::AsStr;
 use std::io::{self, ErrorKind, Read, Write};
 use std::sync::Wait;
@@ -82,9 +82,12 @@ where
         (O.contents out.old) (O.contents out.new) }
     ensures quiet { result ≡ 0 → Keeps (E.contents err.old) (E.contents err.new) }
 {
-    match line.command {
+    match &line.command {
         WritingCommand::Ingest(found, options) => {
-            run_ingest(rt, paths, line.path, options, found, input, out, err)
+            run_ingest(rt, paths, line.path, *options, *found, input, out, err)
+        }
+        WritingCommand::WriteKey(write, options) => {
+            run_write(rt, paths, line.path, *options, write, out, err)
         }
         WritingCommand::Clean => run_clean(rt, paths, line.path, out, err),
     }

@@ -19,7 +19,7 @@ use Rattle.lsm_check.specs.declared.check_fault.CheckFault.{CheckFault}
 use Rattle.lsm_check.specs.declared.check_fault.CheckFault.TheVariants as check_faults
 use Rattle.lsm_text.specs.FaultText.{edit_field, log_field, read_field, refusal_text, replay_field, shelf_field}
 use Rattle.lsm_directory.specs.declared.faults.directory_fault.DirectoryFault.{DirectoryFault}
-use Rattle.lsm_directory.specs.declared.faults.directory_fault.DirectoryFault.TheVariants.{OutOfMemory, Write, Shelf, Manifest, Tables, Read, NumbersSpent, Locked}
+use Rattle.lsm_directory.specs.declared.faults.directory_fault.DirectoryFault.TheVariants.{OutOfMemory, Write, Shelf, Manifest, Tables, Read, NumbersSpent, Locked, Absent}
 
 -- a directory that could not be opened
 abbrev pub of_open : OpenFault → DirectoryFault
@@ -61,8 +61,9 @@ fault_text (Tables fault) = check_text fault
 fault_text (Read fault) = Some (read_text fault)
 fault_text NumbersSpent = Some (refusal_text 46 (codes "NumbersSpent") None)
 fault_text Locked = Some (refusal_text 52 (codes "Locked") None)
+fault_text Absent = Some (codes "absent")
 
--- the number of a refusal; none of a write that failed
+-- the number of a refusal; none of a write that failed, and of a key that is absent
 abbrev pub number_of : DirectoryFault → Option ℕ
 number_of OutOfMemory = Some 1
 number_of Write = None
@@ -72,6 +73,7 @@ number_of (Tables fault) = Some (check.number_of fault)
 number_of (Read fault) = Some (read.number_of fault)
 number_of NumbersSpent = Some 46
 number_of Locked = Some 52
+number_of Absent = None
 
 -- the number of the file that a refusal of its table names
 abbrev pub file_in : CheckFault → Option ℕ
@@ -90,6 +92,7 @@ file_of (Tables fault) = file_in fault
 file_of (Read fault) = None
 file_of NumbersSpent = None
 file_of Locked = None
+file_of Absent = None
 
 -- what a fault means, as a line of its own, beside the file that it names
 abbrev pub meaning : DirectoryFault → Option (List ℕ)
@@ -101,3 +104,4 @@ meaning (Tables fault) = Some []
 meaning (Read fault) = Some []
 meaning NumbersSpent = Some []
 meaning Locked = Some (codes "another program has the folder open\n")
+meaning Absent = Some []

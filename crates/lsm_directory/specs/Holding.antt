@@ -8,7 +8,7 @@ use Rattle.lsm_folder.specs.declared.lock_kind.LockKind.TheVariants.{Shared, Exc
 use Rattle.lsm_storage.specs.FolderFault.{device_of}
 use Rattle.lsm_shelf.specs.Told.{NotNamed}
 use Rattle.lsm_directory.specs.declared.faults.directory_fault.DirectoryFault.{DirectoryFault}
-use Rattle.lsm_directory.specs.declared.faults.directory_fault.DirectoryFault.TheVariants.{OutOfMemory, Write, Shelf, Manifest, Tables, Read, NumbersSpent, Locked}
+use Rattle.lsm_directory.specs.declared.faults.directory_fault.DirectoryFault.TheVariants.{OutOfMemory, Write, Shelf, Manifest, Tables, Read, NumbersSpent, Locked, Absent}
 
 -- With this answer a command goes on: the lock is held; or the command only reads, and there is no file to lock.
 abbrev pub LetsGoOn : Result Bool FolderFault → LockKind → Type 0
@@ -31,6 +31,7 @@ IsUnheld kind (Manifest fault) old new = ⊥
 IsUnheld kind (Tables fault) old new = ⊥
 IsUnheld kind (Read fault) old new = ⊥
 IsUnheld kind NumbersSpent old new = ⊥
+IsUnheld kind Absent old new = ⊥
 
 -- a refusal before a directory is read: another has the lock, or the folder refused
 abbrev pub IsFolderFault : DirectoryFault → Type 0
@@ -42,3 +43,4 @@ IsFolderFault (Manifest fault) = ⊥
 IsFolderFault (Tables fault) = ⊥
 IsFolderFault (Read fault) = ⊥
 IsFolderFault NumbersSpent = ⊥
+IsFolderFault Absent = ⊥

@@ -2,5 +2,6 @@ mod LevelLaws
 mod ReadingOutcomes
 mod ScanLaws
 mod FaultLaws
+mod PerformLaws
 mod NoteLaws
 mod LookedLaws

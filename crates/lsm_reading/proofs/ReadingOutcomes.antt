@@ -21,15 +21,15 @@ use Rattle.lsm_journal.specs.declared.recover_fault.RecoverFault.{RecoverFault}
 use Rattle.lsm_journal.specs.declared.recover_fault.RecoverFault.TheVariants as recover_faults
 use Rattle.lsm_version.specs.Versions.{Levels}
 use Rattle.lsm_text.specs.declared.directory_command.DirectoryCommand.{DirectoryCommand}
+use Rattle.lsm_text.specs.declared.directory_command.DirectoryCommand.TheVariants.{Check, List as ListFiles, Get, Scan}
 use Rattle.lsm_directory.specs.DirectoryFault.{of_open}
-use Rattle.lsm_reading.specs.Answers.{HasNoNote, IsLookedInto, IsLookFault, IsNotLookedInto, Leaves, Prints, PrintsBefore}
+use Rattle.lsm_reading.specs.Answers.{HasNoNote, IsLookedInto, IsLookFault, IsNotLookedInto, IsPerformFault, Leaves, Prints, PrintsBefore, SaysAbsent}
 use Rattle.lsm_text.specs.declared.form.Form.{Form}
 use Rattle.lsm_reading.specs.Directory.{Holds, OnlyReads}
 use Rattle.lsm_reading.specs.Opening.{IsOpenRefusal}
-use Rattle.lsm_reading.specs.ReadFault.{IsAnswerFault}
 use Rattle.lsm_directory.specs.declared.folder.folder_file.FolderFile.{FolderFile}
 use Rattle.lsm_directory.specs.declared.faults.directory_fault.DirectoryFault.{DirectoryFault}
-use Rattle.lsm_directory.specs.declared.faults.directory_fault.DirectoryFault.TheVariants.{OutOfMemory, Write, Shelf, Manifest, Tables, Read, NumbersSpent, Locked}
+use Rattle.lsm_directory.specs.declared.faults.directory_fault.DirectoryFault.TheVariants.{OutOfMemory, Write, Shelf, Manifest, Tables, Read, NumbersSpent, Locked, Absent}
 
 -- after later reads of tables
 pub holds_later : (Honest : Type 0) (was mid is : Told) (v : Levels) (rest log prev : ℕ) → Becomes mid is → Holds Honest was mid v rest log prev → Holds Honest was is v rest log prev
@@ -75,15 +75,17 @@ module _ (Stored : ℕ → List ℕ → Type 0) (Refused : Asked → ShelfFault 
   open_refused (open_faults.Check e) was is h = h
   open_refused open_faults.NumbersSpent was is h = h
 
-  pub fault_from_open : (e : DirectoryFault) (was is : Told) → IsOpenRefusal Stored Refused Honest e was is → IsLookFault Stored Refused Honest e was is
-  fault_from_open OutOfMemory was is h = tt
-  fault_from_open Write was is h = absurd h
-  fault_from_open (Shelf e) was is h = h
-  fault_from_open (Manifest e) was is h = h
-  fault_from_open (Tables e) was is h = h
-  fault_from_open (Read e) was is h = absurd h
-  fault_from_open NumbersSpent was is h = h
-  fault_from_open Locked was is h = absurd h
+  pub fault_from_open : (command : DirectoryCommand) (e : DirectoryFault) (was is : Told) → IsOpenRefusal Stored Refused Honest e was is
+      → IsLookFault Stored Refused Honest command e was is
+  fault_from_open command OutOfMemory was is h = tt
+  fault_from_open command Write was is h = absurd h
+  fault_from_open command (Shelf e) was is h = h
+  fault_from_open command (Manifest e) was is h = h
+  fault_from_open command (Tables e) was is h = h
+  fault_from_open command (Read e) was is h = absurd h
+  fault_from_open command NumbersSpent was is h = h
+  fault_from_open command Locked was is h = absurd h
+  fault_from_open command Absent was is h = absurd h
 
   -- where nothing was written, a refusal to open leaves what it may
   pub keeps_leaves : (form : Form) (command : DirectoryCommand) (fault : DirectoryFault) (was is : Told) (old : Option (List ℕ))
@@ -96,25 +98,28 @@ module _ (Stored : ℕ → List ℕ → Type 0) (Refused : Asked → ShelfFault 
   keeps_leaves form command (Read fault) was is old f = absurd f
   keeps_leaves form command NumbersSpent was is old f = Keeps-refl old
   keeps_leaves form command Locked was is old f = absurd f
+  keeps_leaves form command Absent was is old f = absurd f
 
   -- ---- an open directory
 
-  fault_later : (was mid is : Told) (v : Levels) (rest log prev : ℕ) (fault : DirectoryFault)
-      → Becomes mid is → Holds Honest was mid v rest log prev → IsAnswerFault Honest fault mid is → IsLookFault Stored Refused Honest fault was is
-  fault_later was mid is v rest log prev OutOfMemory b h f = f
-  fault_later was mid is v rest log prev Write b h f = (v, (rest, log, prev, holds_later Honest was mid is v rest log prev b h))
-  fault_later was mid is v rest log prev (Shelf fault) b h f = absurd f
-  fault_later was mid is v rest log prev (Manifest fault) b h f = absurd f
-  fault_later was mid is v rest log prev (Tables fault) b h f = absurd f
-  fault_later was mid is v rest log prev (Read fault) b h f =
+  fault_later : (command : DirectoryCommand) (was mid is : Told) (v : Levels) (rest log prev : ℕ) (fault : DirectoryFault)
+      → Becomes mid is → Holds Honest was mid v rest log prev → IsPerformFault Honest command v fault mid is → IsLookFault Stored Refused Honest command fault was is
+  fault_later command was mid is v rest log prev OutOfMemory b h f = f
+  fault_later command was mid is v rest log prev Write b h f = (v, (rest, log, prev, holds_later Honest was mid is v rest log prev b h))
+  fault_later command was mid is v rest log prev (Shelf fault) b h f = absurd f
+  fault_later command was mid is v rest log prev (Manifest fault) b h f = absurd f
+  fault_later command was mid is v rest log prev (Tables fault) b h f = absurd f
+  fault_later command was mid is v rest log prev (Read fault) b h f =
       (v, (rest, log, prev, holds_later Honest was mid is v rest log prev b h), f.0, read_counted_from Honest fault was mid is v rest log prev h f.1)
-  fault_later was mid is v rest log prev NumbersSpent b h f = absurd f
-  fault_later was mid is v rest log prev Locked b h f = absurd f
+  fault_later command was mid is v rest log prev NumbersSpent b h f = absurd f
+  fault_later command was mid is v rest log prev Locked b h f = absurd f
+  fault_later command was mid is v rest log prev Absent b h f = (v, (rest, log, prev, holds_later Honest was mid is v rest log prev b h), f)
 
-  pub is_fault : {T : Type 0} (r : Result T DirectoryFault) (was mid is : Told) (v : Levels) (rest log prev : ℕ)
-      → Becomes mid is → Holds Honest was mid v rest log prev → IfErr r (λ e. IsAnswerFault Honest e mid is) → IfErr r (λ e. IsLookFault Stored Refused Honest e was is)
-  is_fault (Ok x) was mid is v rest log prev b h f = search
-  is_fault (Err e) was mid is v rest log prev b h f = fault_later was mid is v rest log prev e b h f
+  pub is_fault : {T : Type 0} (r : Result T DirectoryFault) (command : DirectoryCommand) (was mid is : Told) (v : Levels) (rest log prev : ℕ)
+      → Becomes mid is → Holds Honest was mid v rest log prev → IfErr r (λ e. IsPerformFault Honest command v e mid is)
+      → IfErr r (λ e. IsLookFault Stored Refused Honest command e was is)
+  is_fault (Ok x) command was mid is v rest log prev b h f = search
+  is_fault (Err e) command was mid is v rest log prev b h f = fault_later command was mid is v rest log prev e b h f
 
 pub is_done : {T : Type 0} (r : Result T DirectoryFault) (form : Form) (command : DirectoryCommand) (others : List FolderFile) (progress : Bool) (Honest : Type 0) (was mid is : Told) (v : Levels) (rest log prev : ℕ)
     (old new said noted told : Option (List ℕ)) → Becomes mid is → Holds Honest was mid v rest log prev → (Honest → OnOk r (Prints form command v rest log prev others old new))
@@ -130,8 +135,16 @@ is_done (Ok x) form command others progress Honest was mid is v rest log prev ol
 }
 is_done (Err e) form command others progress Honest was mid is v rest log prev old new said noted told b h w q k = search
 
+-- an absent key leaves what is written before a fault by a read of a key: nothing
+absent_leaves : (form : Form) (command : DirectoryCommand) (Honest : Type 0) (v : Levels) (old new : Option (List ℕ)) → SaysAbsent Honest command v
+    → PrintsBefore form command Honest v old new → Keeps old new
+absent_leaves form Check Honest v old new says p = p
+absent_leaves form ListFiles Honest v old new says p = p
+absent_leaves form (Get key output) Honest v old new says p = p
+absent_leaves form (Scan options) Honest v old new says p = absurd says
+
 leaves_later : (form : Form) (command : DirectoryCommand) (Honest : Type 0) (fault : DirectoryFault) (was mid is : Told) (v : Levels) (rest log prev : ℕ) (old new : Option (List ℕ))
-    → Becomes mid is → Holds Honest was mid v rest log prev → IsAnswerFault Honest fault mid is → (fault ≢ Write → PrintsBefore form command Honest v old new)
+    → Becomes mid is → Holds Honest was mid v rest log prev → IsPerformFault Honest command v fault mid is → (fault ≢ Write → PrintsBefore form command Honest v old new)
     → Leaves form command Honest fault was is old new
 leaves_later form command Honest OutOfMemory was mid is v rest log prev old new b h f p = inr (v, (rest, log, prev, holds_later Honest was mid is v rest log prev b h), p (λ e. cc))
 leaves_later form command Honest Write was mid is v rest log prev old new b h f p = tt
@@ -141,15 +154,16 @@ leaves_later form command Honest (Tables fault) was mid is v rest log prev old n
 leaves_later form command Honest (Read fault) was mid is v rest log prev old new b h f p = (v, (rest, log, prev, holds_later Honest was mid is v rest log prev b h), p (λ e. cc))
 leaves_later form command Honest NumbersSpent was mid is v rest log prev old new b h f p = absurd f
 leaves_later form command Honest Locked was mid is v rest log prev old new b h f p = absurd f
+leaves_later form command Honest Absent was mid is v rest log prev old new b h f p = absent_leaves form command Honest v old new f (p (λ e. cc))
 
 pub is_left : {T : Type 0} (r : Result T DirectoryFault) (form : Form) (command : DirectoryCommand) (Honest : Type 0) (was mid is : Told) (v : Levels) (rest log prev : ℕ) (old new : Option (List ℕ))
-    → Becomes mid is → Holds Honest was mid v rest log prev → IfErr r (λ e. IsAnswerFault Honest e mid is) → IfErr r (λ e. e ≢ Write → PrintsBefore form command Honest v old new)
+    → Becomes mid is → Holds Honest was mid v rest log prev → IfErr r (λ e. IsPerformFault Honest command v e mid is) → IfErr r (λ e. e ≢ Write → PrintsBefore form command Honest v old new)
     → IfErr r (λ e. Leaves form command Honest e was is old new)
 is_left (Ok x) form command Honest was mid is v rest log prev old new b h f p = search
 is_left (Err e) form command Honest was mid is v rest log prev old new b h f p = leaves_later form command Honest e was mid is v rest log prev old new b h f p
 
 pub is_refused : {T : Type 0} (r : Result T DirectoryFault) (form : Form) (command : DirectoryCommand) (Stored : ℕ → List ℕ → Type 0) (Refused : Asked → ShelfFault → Type 0) (Honest : Type 0) (was is : Told) (old new : Option (List ℕ))
-    → IfErr r (λ e. IsLookFault Stored Refused Honest e was is) → IfErr r (λ e. Leaves form command Honest e was is old new) → IfErr r (λ e. IsNotLookedInto form command e Stored Refused Honest was is old new)
+    → IfErr r (λ e. IsLookFault Stored Refused Honest command e was is) → IfErr r (λ e. Leaves form command Honest e was is old new) → IfErr r (λ e. IsNotLookedInto form command e Stored Refused Honest was is old new)
 is_refused (Ok x) form command Stored Refused Honest was is old new f k = search
 is_refused (Err e) form command Stored Refused Honest was is old new f k = record { says = f; left = k }
 

@@ -1,14 +1,15 @@
 -- What a scan prints, pair by pair.
-use Rattle.std.proofs.Common.{◌≡◌, ◌≢◌, ℕ, Bool, true, false, List, [], ◌∷◌, ◌++◌, Option, Some, None, refl, sym, ap, ◌∙◌, subst, append_assoc, append-nil, inl, inr}
-use Rattle.std.specs.Prelude.{◌&&◌, Result, Ok, Err, IfErr}
+use Rattle.std.proofs.Common.{◌≡◌, ◌≢◌, ℕ, ◌+◌, ◌-◌, ◌≤◌, ◌<◌, Bool, true, false, List, [], ◌∷◌, ◌++◌, Option, Some, None, refl, sym, ap, ◌∙◌, subst, append_assoc, append-nil, inl, inr, arith, length, take, length-append}
+use Rattle.std.specs.Prelude.{◌⊎◌, Result, Ok, Err, IfErr, not, nat_le}
 use Rattle.std.specs.List.{flat_map, filter}
 use Rattle.std.specs.Io.KnownBytes.{Appends, Keeps}
 use Rattle.std.proofs.KnownBytes.{Appends-nil, Appends-trans, Appends-kept, Keeps-refl}
-use Rattle.std.proofs.lemmas.Bool.{cases_Bool}
+use Rattle.std.proofs.Math.Seq.{take-append_seam, take-append-add}
+use Rattle.std.proofs.lemmas.Bool.{leb-true, leb-false}
 use Rattle.std.proofs.lemmas.Grind.{flat_map-append}
+use Rattle.std.proofs.lemmas.List.{take_all}
 use Rattle.std.proofs.lemmas.List.Elements.{filter-append}
-use Rattle.lsm_codec.specs.Keys.{UserKey, UserLe, user_le}
-use Rattle.lsm_codec.proofs.CallerLemmas.{user_le_trans}
+use Rattle.lsm_codec.specs.Keys.{UserKey, UserLe}
 use Rattle.lsm_codec.specs.Lists.{Has}
 use Rattle.lsm_levels.specs.Scanning.{IsScan, Pair, UsersAscend}
 use Rattle.lsm_levels.specs.Files.{all_entries}
@@ -16,129 +17,204 @@ use Rattle.lsm_version.specs.Versions.{Levels, files}
 use Rattle.lsm_directory.specs.declared.faults.directory_fault.DirectoryFault.{DirectoryFault}
 use Rattle.lsm_directory.specs.declared.faults.directory_fault.DirectoryFault.TheVariants.{Write}
 use Rattle.lsm_merger.specs.Shown.{Showing, ShowsNext, user_shown, value_shown}
-use Rattle.lsm_text.specs.KeyBounds.{is_from, is_to, is_within}
+use Rattle.lsm_text.specs.KeyBounds.{is_within}
 use Rattle.lsm_text.specs.declared.key_bounds.KeyBounds.{KeyBounds}
 use Rattle.lsm_text.specs.declared.form.Form.{Form}
-use Rattle.lsm_reading.specs.Scanned.{BeginsPrinting, LeavesScan, PrintsNext, pair_line, scan_text}
+use Rattle.lsm_text.specs.declared.scan_options.ScanOptions.{ScanOptions}
+use Rattle.lsm_text.specs.declared.scan_output.ScanOutput.{ScanOutput}
+use Rattle.lsm_reading.specs.Scanned.{BeginsPrinting, Fits, LeavesScan, Passes, PassesNext, PrintsLines, asked_for, at_most, count_line, is_full, line_of, lines_of, scan_text, within}
+
+-- ---- the pairs within the bounds
+
+within_none : (bounds : KeyBounds) → within bounds [] ≡ []
+unfolding within
+within_none bounds = refl
+
+within_one : (bounds : KeyBounds) (p : Pair) → is_within bounds p.0 ≡ true → within bounds (p ∷ []) ≡ p ∷ []
+unfolding within
+within_one bounds p h = rw h refl
+
+within_other : (bounds : KeyBounds) (p : Pair) → is_within bounds p.0 ≡ false → within bounds (p ∷ []) ≡ []
+unfolding within
+within_other bounds p h = rw h refl
+
+within_append : (bounds : KeyBounds) (ps qs : List Pair) → within bounds (ps ++ qs) ≡ within bounds ps ++ within bounds qs
+unfolding within
+within_append bounds ps qs = filter-append (λ p. is_within bounds p.0) ps qs
+
+none_among : (bounds : KeyBounds) (ps : List Pair) → ((q : Pair) → Has ps q → is_within bounds q.0 ≡ false) → within bounds ps ≡ []
+unfolding within
+none_among bounds [] none = refl
+none_among bounds (q ∷ qs) none = rw (none q (inl refl)) (none_among bounds qs (λ r has. none r (inr has)))
+
+-- behind a key at which the bounds end
+none_behind : (bounds : KeyBounds) (p : Pair) (left : List Pair) → UsersAscend (p ∷ left)
+    → ((later : UserKey) → UserLe p.0 later → p.0 ≢ later → is_within bounds later ≡ false) → within bounds left ≡ []
+none_behind bounds p left up none = none_among bounds left (λ q has. none q.0 (up.0 q has).0 (up.0 q has).1)
+
+-- ---- as many as the limit says
+
+taken : (limit : Option ℕ) (front behind : List Pair) (n : ℕ) → n ≡ length front → Fits limit n → (is_full limit n ≡ true) ⊎ (behind ≡ [])
+    → at_most limit (front ++ behind) ≡ front
+taken None front behind n is fits (inl full) = absurd cc
+taken None front behind n is fits (inr none) = ap (λ (l : List Pair). front ++ l) none ∙ append-nil front
+taken (Some l) front behind n is fits (inl full) =
+    let reached : l ≤ n = leb-true l n full in
+    let same : l ≡ length front = omega (arith, is, fits, reached) in
+    ap (λ (k : ℕ). take k (front ++ behind)) same ∙ take-append_seam front behind
+taken (Some l) front behind n is fits (inr none) =
+    ap (λ (rest : List Pair). take l (front ++ rest)) none ∙ ap (take l) (append-nil front) ∙ take_all l front (omega (arith, is, fits))
+
+begun : (limit : Option ℕ) (front behind : List Pair) (n : ℕ) → n ≡ length front → Fits limit n → (back : List Pair) × (at_most limit (front ++ behind) ≡ front ++ back)
+begun None front behind n is fits = (behind, refl)
+begun (Some l) front behind n is fits =
+    let parts : l ≡ length front + (l - length front) = omega (arith, is, fits) in
+    (take (l - length front) behind, ap (λ (k : ℕ). take k (front ++ behind)) parts ∙ take-append-add front behind (l - length front))
+
+pub fits_none : (limit : Option ℕ) → Fits limit 0
+fits_none None = tt
+fits_none (Some l) = omega arith
+
+pub fits_next : (limit : Option ℕ) (n m : ℕ) → is_full limit n ≡ false → m ≤ n + 1 → Fits limit m
+fits_next None n m free one = tt
+fits_next (Some l) n m free one = let room : n < l = leb-false l n free in omega (arith, room, one)
 
 module _ (form : Form) where
-  -- ---- a pair
+  -- ---- lines
 
-  within_both : (a b : Bool) → a ≡ true → b ≡ true → (a && b) ≡ true
-  within_both true b h k = k
-  within_both false b h k = absurd cc
+  lines_none : (output : ScanOutput) → lines_of form output [] ≡ []
+  unfolding lines_of
+  lines_none output = refl
 
-  within_not : (a b : Bool) → b ≡ false → (a && b) ≡ false
-  within_not true b k = k
-  within_not false b k = refl
+  lines_one : (output : ScanOutput) (p : Pair) → lines_of form output (p ∷ []) ≡ line_of form output p
+  unfolding lines_of
+  lines_one output p = append-nil (line_of form output p)
 
-  pub text_of_one : (bounds : KeyBounds) (p : Pair) → is_within bounds p.0 ≡ true → scan_text form bounds (p ∷ []) ≡ pair_line form p
-  unfolding scan_text
-  text_of_one bounds p h = rw h (append-nil (pair_line form p))
+  lines_append : (output : ScanOutput) (ps qs : List Pair) → lines_of form output (ps ++ qs) ≡ lines_of form output ps ++ lines_of form output qs
+  unfolding lines_of
+  lines_append output ps qs = flat_map-append (line_of form output) ps qs
 
-  pub text_of_other : (bounds : KeyBounds) (p : Pair) → is_within bounds p.0 ≡ false → scan_text form bounds (p ∷ []) ≡ []
-  unfolding scan_text
-  text_of_other bounds p h = rw h refl
+  -- ---- pairs that are passed
 
-  pub text_append : (bounds : KeyBounds) (ps qs : List Pair) → scan_text form bounds (ps ++ qs) ≡ scan_text form bounds ps ++ scan_text form bounds qs
-  unfolding scan_text
-  text_append bounds ps qs =
-      ap (flat_map (pair_line form)) (filter-append (λ p. is_within bounds p.0) ps qs)
-      ∙ flat_map-append (pair_line form) (filter (λ p. is_within bounds p.0) ps) (filter (λ p. is_within bounds p.0) qs)
+  nothing : (options : ScanOptions) (pairs front left : List Pair) (n : ℕ) (a : Option (List ℕ)) → pairs ≡ front ++ left → within options.bounds front ≡ []
+      → Passes form options pairs left n n a a
+  nothing options pairs front left n a is none =
+      let zero : n ≡ n + 0 = omega arith in
+      record {
+        front = front;
+        is = is;
+        count = subst (λ (ps : List Pair). n ≡ n + length ps) (sym none) zero;
+        lines = subst (λ (ps : List Pair). Appends a a (lines_of form options.output ps)) (sym none) (subst (Appends a a) (sym (lines_none options.output)) (Appends-nil a));
+      }
 
-  pub text_none : (bounds : KeyBounds) → scan_text form bounds [] ≡ []
-  unfolding scan_text
-  text_none bounds = refl
+  pub passes_none : (options : ScanOptions) (pairs : List Pair) (n : ℕ) (a : Option (List ℕ)) → Passes form options pairs pairs n n a a
+  passes_none options pairs n a = nothing options pairs [] pairs n a refl (within_none options.bounds)
 
-  -- ---- a key above the bounds, and all behind it
+  -- a pair out of the bounds
+  pub one_outside : (options : ScanOptions) (p : Pair) (left : List Pair) (n : ℕ) (a : Option (List ℕ)) → is_within options.bounds p.0 ≡ false
+      → Passes form options (p ∷ left) left n n a a
+  one_outside options p left n a out = nothing options (p ∷ left) (p ∷ []) left n a refl (within_other options.bounds p out)
 
-  above_to : (to : Option UserKey) (a b : UserKey) → UserLe a b → is_to to a ≡ false → is_to to b ≡ false
-  above_to None a b le h = absurd cc
-  above_to (Some to) a b le h = elim (cases_Bool (user_le b to)) [
-    | inl in_bounds ↦ let reaches : user_le a to ≡ true = user_le_trans a b to le in_bounds in absurd cc
-    | inr past ↦ past
-  ]
+  -- and one within them, whose line was written
+  pub one_within : (options : ScanOptions) (p : Pair) (left : List Pair) (n : ℕ) (a b : Option (List ℕ)) → is_within options.bounds p.0 ≡ true
+      → Appends a b (line_of form options.output p) → Passes form options (p ∷ left) left n (n + 1) a b
+  one_within options p left n a b inside printed =
+      let one = within_one options.bounds p inside in
+      record {
+        front = p ∷ [];
+        is = refl;
+        count = subst (λ (ps : List Pair). n + 1 ≡ n + length ps) (sym one) refl;
+        lines = subst (λ (ps : List Pair). Appends a b (lines_of form options.output ps)) (sym one) (subst (Appends a b) (sym (lines_one options.output p)) printed);
+      }
 
-  all_above : (bounds : KeyBounds) (a : UserKey) (ps : List Pair) → ((q : Pair) → Has ps q → UserLe a q.0 × (a ≡ q.0 → ⊥)) → is_to bounds.to a ≡ false
-      → filter (λ p. is_within bounds p.0) ps ≡ []
-  all_above bounds a [] below h = refl
-  all_above bounds a (q ∷ qs) below h =
-      let past : is_within bounds q.0 ≡ false = within_not (is_from bounds.from q.0) (is_to bounds.to q.0) (above_to bounds.to a q.0 (below q (inl refl)).0 h) in
-      rw past (all_above bounds a qs (λ r has. below r (inr has)) h)
+  pub passes_then : (options : ScanOptions) (pairs mid left : List Pair) (n m k : ℕ) (a b c : Option (List ℕ)) → Passes form options pairs mid n m a b
+      → Passes form options mid left m k b c → Passes form options pairs left n k a c
+  passes_then options pairs mid left n m k a b c f g =
+      let both = within_append options.bounds f.front g.front in
+      let first = within options.bounds f.front in
+      let second = within options.bounds g.front in
+      let count : length (within options.bounds (f.front ++ g.front)) ≡ length first + length second =
+      ap (λ (ps : List Pair). length ps) both ∙ length-append first second
+      in
+      record {
+        front = f.front ++ g.front;
+        is = f.is ∙ ap (λ (l : List Pair). f.front ++ l) g.is ∙ sym (append_assoc f.front g.front left);
+        count = omega (arith, count, f.count, g.count);
+        lines =
+            subst (λ (ps : List Pair). Appends a c (lines_of form options.output ps)) (sym both)
+            (subst (Appends a c) (sym (lines_append options.output first second))
+            (Appends-trans a b c (lines_of form options.output first) (lines_of form options.output second) f.lines g.lines));
+      }
 
-  text_above : (bounds : KeyBounds) (p : Pair) (ps : List Pair) → UsersAscend (p ∷ ps) → is_to bounds.to p.0 ≡ false → scan_text form bounds (p ∷ ps) ≡ []
-  unfolding scan_text
-  text_above bounds p ps up h =
-      let past : is_within bounds p.0 ≡ false = within_not (is_from bounds.from p.0) (is_to bounds.to p.0) h in
-      rw past (ap (flat_map (pair_line form)) (all_above bounds p.0 ps up.0 h))
+  ascend_behind : (front left : List Pair) → UsersAscend (front ++ left) → UsersAscend left
+  ascend_behind [] left up = up
+  ascend_behind (p ∷ ps) left up = ascend_behind ps left up.1
+
+  pub passes_ascend : (options : ScanOptions) (pairs left : List Pair) (n m : ℕ) (a b : Option (List ℕ)) → Passes form options pairs left n m a b → UsersAscend pairs
+      → UsersAscend left
+  passes_ascend options pairs left n m a b f up = ascend_behind f.front left (subst UsersAscend f.is up)
 
   -- ---- a step of the scan
 
-  pub none_left : (bounds : KeyBounds) (old new : Showing) (a : Option (List ℕ)) → ShowsNext false old new → PrintsNext form false bounds old.left new.left a a
-  none_left bounds old new a step = (ap (scan_text form bounds) step.1 ∙ text_none bounds, Keeps-refl a)
+  pub next_none : (options : ScanOptions) (old new : Showing) (n : ℕ) (a : Option (List ℕ)) → ShowsNext false old new → PassesNext form options false old.left new.left n n a a
+  next_none options old new n a step =
+      let none : within options.bounds new.left ≡ [] = ap (within options.bounds) step.2 ∙ within_none options.bounds in
+      (nothing options old.left [] new.left n a (step.1 ∙ sym step.2) (within_none options.bounds), λ more. none)
 
-  pub none_above : (bounds : KeyBounds) (old new : Showing) (a : Option (List ℕ)) → ShowsNext true old new → UsersAscend old.left
-      → is_to bounds.to (user_shown new.here) ≡ false → PrintsNext form false bounds old.left new.left a a
-  none_above bounds old new a step up h =
+  ends_true : (ends : Bool) → not ends ≡ false → ends ≡ true
+  ends_true true h = refl
+  ends_true false h = absurd cc
+
+  pub next_passed : (options : ScanOptions) (ends : Bool) (old new : Showing) (n m : ℕ) (a b : Option (List ℕ)) → ShowsNext true old new → UsersAscend old.left
+      → ((left : List Pair) → Passes form options ((user_shown new.here, value_shown new.here) ∷ left) left n m a b)
+      → (ends ≡ true → (later : UserKey) → UserLe (user_shown new.here) later → user_shown new.here ≢ later → is_within options.bounds later ≡ false)
+      → PassesNext form options (not ends) old.left new.left n m a b
+  next_passed options ends old new n m a b step up all none =
       let p = step.0 in
-      let above : is_to bounds.to p.0 ≡ false = subst (λ o. is_to bounds.to (user_shown o) ≡ false) step.1 h in
-      (ap (scan_text form bounds) step.2 ∙ text_above bounds p new.left (subst UsersAscend step.2 up) above, Keeps-refl a)
-
-  pub passed_below : (bounds : KeyBounds) (old new : Showing) (a : Option (List ℕ)) → ShowsNext true old new → is_from bounds.from (user_shown new.here) ≡ false
-      → PrintsNext form true bounds old.left new.left a a
-  passed_below bounds old new a step h =
-      let p = step.0 in
-      let below : is_from bounds.from p.0 ≡ false = subst (λ o. is_from bounds.from (user_shown o) ≡ false) step.1 h in
-      let out : is_within bounds p.0 ≡ false = rw below refl in
-      (p, step.2, subst (Appends a a) (sym (text_of_other bounds p out)) (Appends-nil a))
-
-  pub printed_within : (bounds : KeyBounds) (old new : Showing) (a b : Option (List ℕ)) → ShowsNext true old new
-      → is_to bounds.to (user_shown new.here) ≡ true → is_from bounds.from (user_shown new.here) ≡ true
-      → Appends a b (pair_line form (user_shown new.here, value_shown new.here)) → PrintsNext form true bounds old.left new.left a b
-  printed_within bounds old new a b step h k printed =
-      let p = step.0 in
-      let to : is_to bounds.to p.0 ≡ true = subst (λ o. is_to bounds.to (user_shown o) ≡ true) step.1 h in
-      let from : is_from bounds.from p.0 ≡ true = subst (λ o. is_from bounds.from (user_shown o) ≡ true) step.1 k in
-      let inside : is_within bounds p.0 ≡ true = within_both (is_from bounds.from p.0) (is_to bounds.to p.0) from to in
-      let line : Appends a b (pair_line form (p.0, p.1)) = subst (λ o. Appends a b (pair_line form (user_shown o, value_shown o))) step.1 printed in
-      (p, step.2, subst (Appends a b) (sym (text_of_one bounds p inside)) line)
-
-  -- ---- the pairs so far
-
-  -- What was written of the first pairs, where these are the others.
-  abbrev pub PrintsFront : KeyBounds → List Pair → List Pair → Option (List ℕ) → Option (List ℕ) → Type 0
-  PrintsFront bounds pairs left old new = (front : List Pair) × (pairs ≡ front ++ left) × Appends old new (scan_text form bounds front)
-
-  pub front_none : (bounds : KeyBounds) (pairs : List Pair) (a : Option (List ℕ)) → PrintsFront bounds pairs pairs a a
-  front_none bounds pairs a = ([], refl, subst (Appends a a) (sym (text_none bounds)) (Appends-nil a))
-
-  pub front_more : (bounds : KeyBounds) (pairs left rest : List Pair) (a b c : Option (List ℕ)) → PrintsFront bounds pairs left a b → PrintsNext form true bounds left rest b c
-      → PrintsFront bounds pairs rest a c
-  front_more bounds pairs left rest a b c f n =
-      let front = f.0 in
-      let p = n.0 in (
-        front ++ p ∷ [],
-        f.1 ∙ ap (λ (l : List Pair). front ++ l) n.1 ∙ sym (append_assoc front (p ∷ []) rest),
-        subst (Appends a c) (sym (text_append bounds front (p ∷ []))) (Appends-trans a b c (scan_text form bounds front) (scan_text form bounds (p ∷ [])) f.2 n.2),
+      let passed : Passes form options (p ∷ new.left) new.left n m a b =
+      subst (λ (o : Option Pair). Passes form options ((user_shown o, value_shown o) ∷ new.left) new.left n m a b) step.1 (all new.left)
+      in
+      let behind : ends ≡ true → (later : UserKey) → UserLe p.0 later → p.0 ≢ later → is_within options.bounds later ≡ false =
+      subst (λ (o : Option Pair). ends ≡ true → (later : UserKey) → UserLe (user_shown o) later → user_shown o ≢ later → is_within options.bounds later ≡ false) step.1 none
+      in (
+        subst (λ (l : List Pair). Passes form options l new.left n m a b) (sym step.2) passed,
+        λ more. none_behind options.bounds p new.left (subst UsersAscend step.2 up) (behind (ends_true ends more)),
       )
 
-  pub front_all : (bounds : KeyBounds) (pairs left rest : List Pair) (a b c : Option (List ℕ)) → PrintsFront bounds pairs left a b → PrintsNext form false bounds left rest b c
-      → Appends a c (scan_text form bounds pairs)
-  front_all bounds pairs left rest a b c f n =
-      let whole : scan_text form bounds f.0 ≡ scan_text form bounds pairs =
-      sym (ap (scan_text form bounds) f.1 ∙ text_append bounds f.0 left ∙ ap (λ (t : List ℕ). scan_text form bounds f.0 ++ t) n.0 ∙ append-nil (scan_text form bounds f.0)) in
-      subst (Appends a c) whole (Appends-kept a b c (scan_text form bounds f.0) f.2 n.1)
+  -- ---- the end, and a fault
 
-  pub front_begun : (bounds : KeyBounds) (pairs left : List Pair) (a b c : Option (List ℕ)) → PrintsFront bounds pairs left a b → Keeps b c → BeginsPrinting form bounds pairs a c
-  front_begun bounds pairs left a b c f kept = (f.0, left, f.1, Appends-kept a b c (scan_text form bounds f.0) f.2 kept)
+  within_parts : (options : ScanOptions) (pairs front left : List Pair) → pairs ≡ front ++ left
+      → asked_for options pairs ≡ at_most options.limit (within options.bounds front ++ within options.bounds left)
+  within_parts options pairs front left is =
+      ap (λ (ps : List Pair). at_most options.limit ps) (ap (within options.bounds) is ∙ within_append options.bounds front left)
 
-  -- ascending from the next on
-  pub next_ascend : (bounds : KeyBounds) (pairs left : List Pair) (a b : Option (List ℕ)) → PrintsNext form true bounds pairs left a b → UsersAscend pairs → UsersAscend left
-  next_ascend bounds pairs left a b n up = (subst UsersAscend n.1 up).1
+  pub passes_done : (options : ScanOptions) (pairs left : List Pair) (n : ℕ) (a b : Option (List ℕ)) → Passes form options pairs left 0 n a b → Fits options.limit n
+      → (is_full options.limit n ≡ true) ⊎ (within options.bounds left ≡ []) → PrintsLines form options pairs n a b
+  passes_done options pairs left n a b f fits end =
+      let front = within options.bounds f.front in
+      let count : n ≡ length front = omega (arith, f.count) in
+      let same : asked_for options pairs ≡ front =
+      within_parts options pairs f.front left f.is ∙ taken options.limit front (within options.bounds left) n count fits end
+      in
+      (count ∙ ap (λ (ps : List Pair). length ps) (sym same), subst (λ (ps : List Pair). Appends a b (lines_of form options.output ps)) (sym same) f.lines)
+
+  pub passes_begun : (options : ScanOptions) (pairs left : List Pair) (n : ℕ) (a b c : Option (List ℕ)) → Passes form options pairs left 0 n a b → Fits options.limit n → Keeps b c
+      → BeginsPrinting form options pairs a c
+  passes_begun options pairs left n a b c f fits kept =
+      let front = within options.bounds f.front in
+      let count : n ≡ length front = omega (arith, f.count) in
+      let back = begun options.limit front (within options.bounds left) n count fits in
+      (front, back.0, within_parts options pairs f.front left f.is ∙ back.1, Appends-kept a b c (lines_of form options.output front) f.lines kept)
+
+  pub lines_and_count : (options : ScanOptions) (pairs : List Pair) (n : ℕ) (a b c : Option (List ℕ)) → PrintsLines form options pairs n a b
+      → Appends b c (count_line options.output n) → Appends a c (scan_text form options pairs)
+  lines_and_count options pairs n a b c lines counted =
+      Appends-trans a b c (lines_of form options.output (asked_for options pairs)) (count_line options.output (length (asked_for options pairs))) lines.1
+      (subst (λ (k : ℕ). Appends b c (count_line options.output k)) lines.0 counted)
 
   -- what a scan that was begun leaves
-  pub left_scan : (r : Result Unit DirectoryFault) (Honest : Type 0) (bounds : KeyBounds) (v : Levels) (pairs : List Pair) (a b : Option (List ℕ))
-      → (Honest → IsScan v.last (all_entries (files v)) pairs) → (Honest → IfErr r (λ e. e ≢ Write → BeginsPrinting form bounds pairs a b))
-      → IfErr r (λ e. e ≢ Write → LeavesScan form bounds Honest v a b)
-  left_scan (Ok x) Honest bounds v pairs a b scanned h = tt
-  left_scan (Err e) Honest bounds v pairs a b scanned h = λ other. inr (λ honest. (pairs, scanned honest, h honest other))
+  pub left_scan : (r : Result Unit DirectoryFault) (Honest : Type 0) (options : ScanOptions) (v : Levels) (pairs : List Pair) (a b : Option (List ℕ))
+      → (Honest → IsScan v.last (all_entries (files v)) pairs) → (Honest → IfErr r (λ e. e ≢ Write → BeginsPrinting form options pairs a b))
+      → IfErr r (λ e. e ≢ Write → LeavesScan form options Honest v a b)
+  left_scan (Ok x) Honest options v pairs a b scanned h = tt
+  left_scan (Err e) Honest options v pairs a b scanned h = λ other. inr (λ honest. (pairs, scanned honest, h honest other))

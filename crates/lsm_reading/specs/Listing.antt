@@ -7,6 +7,8 @@ use Rattle.lsm_version.specs.Versions.{Levels, level_in}
 use Rattle.lsm_text.specs.ManifestPrinting.{key_word_in, number_line}
 use Rattle.lsm_text.specs.Spelling.{spelled}
 use Rattle.lsm_text.specs.declared.form.Form.{Form}
+use Rattle.lsm_text.specs.declared.get_output.GetOutput.{GetOutput}
+use Rattle.lsm_text.specs.declared.get_output.GetOutput.TheVariants.{Line, Raw, Nothing}
 use Rattle.lsm_directory.specs.Logs.{AppendsLogs, log_line}
 use Rattle.lsm_directory.specs.declared.folder.folder_file.FolderFile.{FolderFile}
 
@@ -39,6 +41,13 @@ list_text form v = level_texts (λ n. file_lines form n (level_in v.tables n)) 7
 abbrev pub answer_text : Form → Option (List ℕ) → List ℕ
 answer_text form None = codes "absent\n"
 answer_text form (Some value) = codes "value " ++ (spelled form value ++ (10 ∷ []))
+
+-- what is written of an answer: a line; the bytes of the value; or nothing. None where it is that of an absent key, and no line is asked for.
+abbrev pub shown_answer : Form → GetOutput → Option (List ℕ) → Option (List ℕ)
+shown_answer form Line answer = Some (answer_text form answer)
+shown_answer form Raw answer = answer
+shown_answer form Nothing None = None
+shown_answer form Nothing (Some value) = Some []
 
 -- ---- `check`
 

@@ -6,7 +6,7 @@ use Rattle.lsm_shelf.specs.Told.{Told}
 use Rattle.lsm_journal.specs.Finding.{IsNoVersion, IsTakenLast, IsUnlisted, IsWithoutRoom}
 use Rattle.lsm_journal.specs.Recovering.{IsRecoverRefusal}
 use Rattle.lsm_directory.specs.declared.faults.directory_fault.DirectoryFault.{DirectoryFault}
-use Rattle.lsm_directory.specs.declared.faults.directory_fault.DirectoryFault.TheVariants.{OutOfMemory, Write, Shelf, Manifest, Tables, Read, NumbersSpent, Locked}
+use Rattle.lsm_directory.specs.declared.faults.directory_fault.DirectoryFault.TheVariants.{OutOfMemory, Write, Shelf, Manifest, Tables, Read, NumbersSpent, Locked, Absent}
 
 -- The manifest is refused; or it was read and comes to a shape whose tables are refused; or these are a version, and the shelf did not list
 -- its tables; or a number of them is the last one. Memory may run out on the way. `Stored` says which images the shelf gave for which
@@ -20,3 +20,4 @@ IsOpenRefusal Stored Refused Honest OutOfMemory was is = IsWithoutRoom was is
 IsOpenRefusal Stored Refused Honest Write was is = ⊥
 IsOpenRefusal Stored Refused Honest (Read fault) was is = ⊥
 IsOpenRefusal Stored Refused Honest Locked was is = ⊥
+IsOpenRefusal Stored Refused Honest Absent was is = ⊥

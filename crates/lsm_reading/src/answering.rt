@@ -2,17 +2,13 @@
 
 ghost use Rattle.std.specs.Prelude.{◌≡◌, IfOk};
 ghost use Rattle.std.specs.Option.{option_map};
-ghost use Rattle.lsm_reading.specs.Listing.{answer_text};
+ghost use Rattle.lsm_reading.specs.Listing.{answer_text, shown_answer};
 
-use lsm_text::Form;
+use lsm_text::{Form, GetOutput};
 use std::alloc::{AllocError, Global};
 
 /// The line of an answer: `value V`, or `absent`.
-pub(crate) fn answer_line(
-    alloc: Global,
-    form: Form,
-    answer: Option<Vec<u8>>,
-) -> Result<Vec<u8>, AllocError>
+fn answer_line(alloc: Global, form: Form, answer: Option<Vec<u8>>) -> Result<Vec<u8>, AllocError>
     ensures { IfOk result (λ text.
         text.items ≡ answer_text form (option_map (λ v. v.items) answer)) }
 {
@@ -26,4 +22,24 @@ pub(crate) fn answer_line(
         }
     }
     Ok(text)
+}
+
+/// What is written of an answer; none where that is of an absent key, and no line is asked for.
+pub(crate) fn shown_answer(
+    alloc: Global,
+    form: Form,
+    output: GetOutput,
+    answer: Option<Vec<u8>>,
+) -> Result<Option<Vec<u8>>, AllocError>
+    ensures { IfOk result (λ text. option_map (λ v. v.items) text
+        ≡ shown_answer form output (option_map (λ v. v.items) answer)) }
+{
+    match output {
+        GetOutput::Line => Ok(Some(answer_line(alloc, form, answer)?)),
+        GetOutput::Raw => Ok(answer),
+        GetOutput::Nothing => match answer {
+            Some(_) => Ok(Some(Vec::new(alloc))),
+            None => Ok(None),
+        },
+    }
 }

@@ -49,7 +49,7 @@ pub(crate) fn tell_notes<E: Write>(
 {
     match command {
         DirectoryCommand::Check => {}
-        DirectoryCommand::List | DirectoryCommand::Get(_) | DirectoryCommand::Scan(_) => {
+        DirectoryCommand::List | DirectoryCommand::Get(_, _) | DirectoryCommand::Scan(_) => {
             let _ = write_notes(alloc, files, log, prev_log, err);
         }
     }

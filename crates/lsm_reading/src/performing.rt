@@ -1,51 +1,57 @@
 //! What the commands on a directory do. Each opens it to read, and writes nothing there.
 
-ghost use Rattle.std.specs.Prelude.{◌≡◌, ◌≢◌, IfErr, IfOk, IsFalse, OnOk};
+ghost use Rattle.std.specs.Prelude.{◌≡◌, ◌≢◌, IfErr, IfOk, IsFalse, OnOk, Some};
 ghost use Rattle.std.specs.Io.KnownBytes.{Keeps};
 ghost use Rattle.lsm_codec.specs.Entries.{answer};
 ghost use Rattle.lsm_table.specs.Told.{Becomes};
 ghost use Rattle.lsm_levels.specs.Files.{all_entries};
 ghost use Rattle.lsm_version.specs.Versions.{files};
-ghost use Rattle.lsm_reading.specs.Answers.{IsLookFault, IsLookedInto, Leaves, Prints};
-ghost use Rattle.lsm_reading.specs.Answers.{PrintsBefore};
+ghost use Rattle.lsm_reading.specs.Answers.{IsLookFault, IsLookedInto, IsPerformFault, Leaves};
+ghost use Rattle.lsm_reading.specs.Answers.{Prints, PrintsBefore};
 ghost use Rattle.lsm_reading.specs.Directory.{OnlyReads};
-ghost use Rattle.lsm_reading.specs.Listing.{IsChecked, answer_text, check_text};
-ghost use Rattle.lsm_reading.specs.ReadFault.{IsAnswerFault, IsReadFault};
+ghost use Rattle.lsm_reading.specs.Listing.{IsChecked, check_text, shown_answer};
+ghost use Rattle.lsm_reading.specs.ReadFault.{IsReadFault};
 ghost use Rattle.lsm_directory.specs.declared.faults.directory_fault.DirectoryFault.TheVariants.{Write as WriteFault};
 ghost use Rattle.lsm_shelf.specs.Stored.{Stored};
 
-use crate::answering::answer_line;
+use crate::answering::shown_answer;
 use crate::checking::describe;
 use crate::inquiry::Inquiry;
 use crate::listing::list_files;
 use crate::notes::tell_notes;
 use crate::opened::{Opened, open};
 use crate::scanning::print_scan;
+use lsm_codec::Bytes;
 use lsm_directory::{DirectoryFault, Wording, push_logs, write_output};
 use lsm_reader::Direct;
 use lsm_table::{NamedShelf, Naming, Records, Registry, Shelf};
-use lsm_text::{DirectoryCommand, Form};
+use lsm_text::{DirectoryCommand, Form, GetOutput};
 use lsm_version::Version;
 use std::alloc::Global;
 use std::io::Write;
 use std::sync::Wait;
 
-/// The line of what a version answers for a key.
+/// What is written of what a version answers for a key. `Absent` where there is no answer, and no
+/// line is asked for.
 fn answer_of<N: Naming, S: Shelf>(
     shelf: &mut NamedShelf<N, S>,
     alloc: Global,
     version: &Version<N, S>,
     form: Form,
-    key: &[u8],
+    key: &Bytes,
+    output: GetOutput,
 ) -> Result<Vec<u8>, DirectoryFault>
-    ensures text { S.honest → IfOk result (λ text. text.items
-        ≡ answer_text form (answer (all_entries (files version.now)) key.now version.now.last)) }
-    ensures fault { IfErr result (λ e.
-        IsReadFault S.honest e shelf.old shelf.new) }
+    ensures text { S.honest → IfOk result (λ text. shown_answer form output
+        (answer (all_entries (files version.now)) key.now version.now.last) ≡ Some text.items) }
+    ensures fault { IfErr result (λ e. IsPerformFault S.honest
+        (DirectoryCommand.Get key.now output) version.now e shelf.old shelf.new) }
     ensures told { Becomes shelf.old shelf.new }
 {
-    let answer = lsm_reads::get(version, shelf, alloc, key, version.last())?;
-    Ok(answer_line(alloc, form, answer)?)
+    let answer = lsm_reads::get(version, shelf, alloc, key.as_slice(), version.last())?;
+    match shown_answer(alloc, form, output, answer)? {
+        Some(text) => Ok(text),
+        None => Err(DirectoryFault::Absent),
+    }
 }
 
 /// What a check prints of a version.
@@ -105,7 +111,7 @@ fn checked<N: Naming, S: Shelf, E: Write>(
 }
 
 /// Does what a command asks of a directory that is open.
-#[tactic(auto, using(crate::proofs::FaultLaws::answer_fault_from_read, crate::proofs::FaultLaws::answer_fault_from_output, lsm_directory::proofs::CallerLemmas::keeps_same))]
+#[tactic(auto, using(crate::proofs::PerformLaws::perform_from_read, crate::proofs::PerformLaws::perform_from_output, crate::proofs::PerformLaws::perform_from_answer, lsm_directory::proofs::CallerLemmas::keeps_same))]
 fn perform_on<N: Naming, S: Shelf, O: Write, E: Write>(
     shelf: &mut NamedShelf<N, S>,
     alloc: Global,
@@ -121,8 +127,8 @@ fn perform_on<N: Naming, S: Shelf, O: Write, E: Write>(
     ensures left { IfErr result (λ e. e ≢ WriteFault
         → PrintsBefore inquiry.now.form inquiry.now.command.now S.honest opened.now.version
         (O.contents out.old) (O.contents out.new)) }
-    ensures fault { IfErr result (λ e.
-        IsAnswerFault S.honest e shelf.old shelf.new) }
+    ensures fault { IfErr result (λ e. IsPerformFault S.honest inquiry.now.command.now
+        opened.now.version e shelf.old shelf.new) }
     ensures told { Becomes shelf.old shelf.new }
     ensures quiet { IsFalse inquiry.now.progress → Keeps (E.contents err.old) (E.contents err.new) }
 {
@@ -130,20 +136,16 @@ fn perform_on<N: Naming, S: Shelf, O: Write, E: Write>(
     let text = match inquiry.command {
         DirectoryCommand::Check => checked(shelf, alloc, registry, opened, inquiry, err)?,
         DirectoryCommand::List => list_files(alloc, inquiry.form, registry, version)?,
-        DirectoryCommand::Get(key) => answer_of(
-            shelf,
-            alloc,
-            version,
-            inquiry.form,
-            key.as_slice(),
-        )?,
-        DirectoryCommand::Scan(bounds) => {
+        DirectoryCommand::Get(key, output) => {
+            answer_of(shelf, alloc, version, inquiry.form, key, *output)?
+        }
+        DirectoryCommand::Scan(options) => {
             return print_scan(
                 shelf,
                 alloc,
                 version,
                 inquiry.form,
-                bounds,
+                options,
                 inquiry.progress,
                 out,
                 err,
@@ -171,7 +173,8 @@ fn perform<N: Naming, S: Shelf, R: Wait, O: Write, E: Write>(
         inquiry.now.files.now inquiry.now.progress S.honest shelf.old shelf.new
         (O.contents out.old) (O.contents out.new) (E.contents err.old) (E.contents err.new)) }
     ensures fault { IfErr result (λ e. IsLookFault (Stored S.Receipt (S.is_of N.place)
-        S.Receipt.number S.Receipt.image) (S.refuses N.place) S.honest e shelf.old shelf.new) }
+        S.Receipt.number S.Receipt.image) (S.refuses N.place) S.honest inquiry.now.command.now e
+        shelf.old shelf.new) }
     ensures left { IfErr result (λ e. Leaves inquiry.now.form inquiry.now.command.now S.honest e
         shelf.old shelf.new (O.contents out.old) (O.contents out.new)) }
     ensures reads { OnlyReads shelf.old shelf.new }
@@ -205,7 +208,7 @@ pub(crate) fn perform_as<N: Naming, S: Shelf, R: Wait, O: Write, E: Write>(
         inquiry.now.files.now inquiry.now.progress S.honest (S.told shelf) (S.told result.1)
         (O.contents out.old) (O.contents out.new) (E.contents err.old) (E.contents err.new)) }
     ensures fault { IfErr result.0 (λ e. IsLookFault (Stored S.Receipt (S.is_of N.place)
-        S.Receipt.number S.Receipt.image) (S.refuses N.place) S.honest e
+        S.Receipt.number S.Receipt.image) (S.refuses N.place) S.honest inquiry.now.command.now e
         (S.told shelf) (S.told result.1)) }
     ensures left { IfErr result.0 (λ e. Leaves inquiry.now.form inquiry.now.command.now S.honest e
         (S.told shelf) (S.told result.1) (O.contents out.old) (O.contents out.new)) }

@@ -30,7 +30,7 @@ fn names_files(command: &DirectoryCommand) -> bool
 {
     match command {
         DirectoryCommand::Check | DirectoryCommand::Scan(_) => true,
-        DirectoryCommand::List | DirectoryCommand::Get(_) => false,
+        DirectoryCommand::List | DirectoryCommand::Get(_, _) => false,
     }
 }
 
@@ -65,8 +65,9 @@ fn begin<S: Shelf, R: Wait, O: Write, E: Write>(
 /// where it is done, and 1 where it is refused. `list`, `get` and `scan` note on `err` each log
 /// that is not read. A fault is one line on `err`; `check` and `scan` name in it the file of which
 /// a table is refused, and `list` and `get` in a second one. Where it is `9 Device` or
-/// `10 Missing`, what the system answered stands behind it. Nothing is written in the directory. The
-/// shelf is given back.
+/// `10 Missing`, what the system answered stands behind it. A `get` that prints no line of its
+/// answer is `absent` where the key has none. Nothing is written in the directory. The shelf is
+/// given back.
 pub fn look<S: Shelf, R: Wait, O: Write, E: Write>(
     rt: &R,
     alloc: Global,

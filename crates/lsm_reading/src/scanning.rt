@@ -1,20 +1,22 @@
 //! A scan, printed as it goes.
 
-ghost use Rattle.std.specs.Prelude.{◌≡◌, ◌≢◌, ◌++◌, IfErr, IfOk, IsFalse, OnOk};
+ghost use Rattle.std.specs.Prelude.{◌≡◌, ◌≢◌, ◌≤◌, ◌<◌, ◌+◌, ◌^◌, ◌++◌, ◌∷◌, List};
+ghost use Rattle.std.specs.Prelude.{IfErr, IfOk, IsFalse, OnOk};
 ghost use Rattle.std.specs.Io.KnownBytes.{Appends, Keeps};
 ghost use Rattle.lsm_table.specs.Told.{Becomes};
-ghost use Rattle.lsm_levels.specs.Scanning.{UsersAscend};
-ghost use Rattle.lsm_reading.specs.Scanned.{BeginsPrinting, LeavesScan, PrintsNext, PrintsScan};
-ghost use Rattle.lsm_reading.specs.Scanned.{pair_line, scan_text};
+ghost use Rattle.lsm_levels.specs.Scanning.{Pair, UsersAscend};
+ghost use Rattle.lsm_reading.specs.Scanned.{BeginsPrinting, LeavesScan, Passes, PassesNext};
+ghost use Rattle.lsm_reading.specs.Scanned.{PrintsLines, PrintsScan, count_line, is_full, key_line};
+ghost use Rattle.lsm_reading.specs.Scanned.{line_of, pair_line, scan_text};
 ghost use Rattle.lsm_reading.specs.ReadFault.{IsAnswerFault, IsOutputFault};
 ghost use Rattle.lsm_directory.specs.declared.faults.directory_fault.DirectoryFault.TheVariants.{Write as WriteFault};
 
 use crate::progress::tell_keys;
-use lsm_directory::{DirectoryFault, flush, write_bytes};
+use lsm_directory::{DirectoryFault, OutputFault, flush, write_bytes};
 use lsm_reader::{Blocks, Direct};
 use lsm_reads::Scan;
 use lsm_table::{NamedShelf, Naming, Shelf};
-use lsm_text::{Form, KeyBounds};
+use lsm_text::{Form, ScanOptions, ScanOutput};
 use lsm_version::Version;
 use std::alloc::{AllocError, Global};
 use std::io::Write;
@@ -31,41 +33,122 @@ fn push_pair(out: &mut Vec<u8>, form: Form, user: &[u8], value: &[u8]) -> Result
     Ok(())
 }
 
+/// Appends the line of a key: `KEY`.
+#[tactic(auto, unfolding(crate::specs::Scanned::key_line))]
+fn push_key(out: &mut Vec<u8>, form: Form, user: &[u8]) -> Result<(), AllocError>
+    ensures { OnOk result (out.new.items ≡ out.old.items ++ key_line form user.now) }
+{
+    form.push_bytes(out, user)?;
+    out.push(b'\n')?;
+    Ok(())
+}
+
+/// Appends the line of a pair; nothing where they are counted.
+fn push_line(
+    out: &mut Vec<u8>,
+    form: Form,
+    output: ScanOutput,
+    user: &[u8],
+    value: &[u8],
+) -> Result<(), AllocError>
+    ensures { OnOk result
+        (out.new.items ≡ out.old.items ++ line_of form output (user.now, value.now)) }
+{
+    match output {
+        ScanOutput::Pairs => push_pair(out, form, user, value),
+        ScanOutput::Keys => push_key(out, form, user),
+        ScanOutput::Count => Ok(()),
+    }
+}
+
 /// Prints the line of a pair. `line` is memory for it.
 fn print_pair<O: Write>(
     line: &mut Vec<u8>,
     form: Form,
+    output: ScanOutput,
     user: &[u8],
     value: &[u8],
     out: &mut O,
 ) -> Result<(), DirectoryFault>
-    ensures printed { OnOk result
-        (Appends (O.contents out.old) (O.contents out.new) (pair_line form (user.now, value.now))) }
+    ensures printed { OnOk result (Appends (O.contents out.old) (O.contents out.new)
+        (line_of form output (user.now, value.now))) }
     ensures left { IfErr result (λ e. e ≢ WriteFault
         → Keeps (O.contents out.old) (O.contents out.new)) }
     ensures fault { IfErr result IsOutputFault }
 {
     line.clear();
-    push_pair(line, form, user, value)?;
+    push_line(line, form, output, user, value)?;
     write_bytes(out, line.as_slice())?;
     Ok(())
 }
 
-/// Goes on to the next pair, and prints it where it is within the bounds. `false` where none is
-/// left that is.
+/// Prints how many pairs there are, where they are counted.
+fn print_count<O: Write>(output: ScanOutput, count: u64, out: &mut O) -> Result<(), OutputFault>
+    ensures { OnOk result
+        (Appends (O.contents out.old) (O.contents out.new) (count_line output count)) }
+{
+    match output {
+        ScanOutput::Pairs | ScanOutput::Keys => Ok(()),
+        ScanOutput::Count => write_count(count, out),
+    }
+}
+
+/// Prints a number on a line.
+fn write_count<O: Write>(count: u64, out: &mut O) -> Result<(), OutputFault>
+    ensures { OnOk result
+        (Appends (O.contents out.old) (O.contents out.new) (count_line ScanOutput.Count count)) }
+{
+    match writeln!(out, "{count}") {
+        Ok(()) => Ok(()),
+        Err(_) => Err(OutputFault),
+    }
+}
+
+/// Prints the line of a pair that is within the bounds, and counts it.
+fn print_within<O: Write>(
+    form: Form,
+    options: &ScanOptions,
+    user: &[u8],
+    value: &[u8],
+    line: &mut Vec<u8>,
+    printed: &mut u64,
+    out: &mut O,
+) -> Result<(), DirectoryFault>
+    requires room { printed.old + 1 < 2 ^ 64 }
+    ensures passed { OnOk result ((left : List Pair) → Passes form options.now
+        ((user.now, value.now) ∷ left) left printed.old printed.new (O.contents out.old)
+        (O.contents out.new)) }
+    ensures one { printed.new ≤ printed.old + 1 }
+    ensures left { IfErr result (λ e. e ≢ WriteFault
+        → Keeps (O.contents out.old) (O.contents out.new)) }
+    ensures fault { IfErr result IsOutputFault }
+{
+    if !options.bounds.is_within(user) {
+        return Ok(());
+    }
+    print_pair(line, form, options.output, user, value, out)?;
+    *printed += 1;
+    Ok(())
+}
+
+/// Goes on to the next pair, prints it where it is within the bounds, and counts it then. `false`
+/// where none that is left is within them.
 #[tactic(auto, using(crate::proofs::FaultLaws::answer_fault_later, crate::proofs::FaultLaws::answer_fault_from_output))]
 fn print_next<N: Naming, S: Shelf, B: Blocks<N, S>, O: Write>(
     scan: &mut Scan<N, S>,
     blocks: &mut B,
     alloc: Global,
     form: Form,
-    bounds: &KeyBounds,
+    options: &ScanOptions,
     line: &mut Vec<u8>,
+    printed: &mut u64,
     out: &mut O,
 ) -> Result<bool, DirectoryFault>
     requires ascending { S.honest → UsersAscend scan.old.left }
-    ensures next { S.honest → IfOk result (λ more. PrintsNext form more bounds.now scan.old.left
-        scan.new.left (O.contents out.old) (O.contents out.new)) }
+    requires room { printed.old + 1 < 2 ^ 64 }
+    ensures next { S.honest → IfOk result (λ more. PassesNext form options.now more scan.old.left
+        scan.new.left printed.old printed.new (O.contents out.old) (O.contents out.new)) }
+    ensures one { printed.new ≤ printed.old + 1 }
     ensures left { IfErr result (λ e. e ≢ WriteFault
         → Keeps (O.contents out.old) (O.contents out.new)) }
     ensures fault { IfErr result (λ e.
@@ -77,33 +160,39 @@ fn print_next<N: Naming, S: Shelf, B: Blocks<N, S>, O: Write>(
         return Ok(false);
     }
     let key = scan.user();
-    if !bounds.is_to(key) {
-        return Ok(false);
-    }
-    if !bounds.is_from(key) {
-        return Ok(true);
-    }
-    print_pair(line, form, key, scan.value(), out)?;
-    Ok(true)
+    print_within(form, options, key, scan.value(), line, printed, out)?;
+    Ok(!options.bounds.ends_at(key))
 }
 
-/// Prints the pairs that are left of a scan and within the bounds, as it goes on.
-#[tactic(auto, using(crate::proofs::ScanLaws::front_none, crate::proofs::ScanLaws::front_begun, crate::proofs::FaultLaws::answer_fault_later, lsm_directory::proofs::CallerLemmas::keeps_same, lsm_directory::proofs::CallerLemmas::keeps_then))]
+/// Whether so many pairs are as many as the limit says.
+fn is_full(limit: Option<u64>, printed: u64) -> bool
+    ensures { result ≡ is_full limit printed }
+{
+    match limit {
+        None => false,
+        Some(limit) => limit <= printed,
+    }
+}
+
+/// Prints the lines of those that are asked for among the pairs that are left of a scan, as it goes
+/// on, and answers how many these are. It goes no further than to the last of them, where the order
+/// of keys or the limit tells that it is the last one.
+#[tactic(auto, using(crate::proofs::ScanLaws::passes_none, crate::proofs::ScanLaws::fits_none, crate::proofs::FaultLaws::answer_fault_later, lsm_directory::proofs::CallerLemmas::keeps_same, lsm_directory::proofs::CallerLemmas::keeps_then))]
 fn print_pairs<N: Naming, S: Shelf, B: Blocks<N, S>, O: Write, E: Write>(
     scan: &mut Scan<N, S>,
     blocks: &mut B,
     alloc: Global,
     form: Form,
-    bounds: &KeyBounds,
+    options: &ScanOptions,
     progress: bool,
     out: &mut O,
     err: &mut E,
-) -> Result<(), DirectoryFault>
+) -> Result<u64, DirectoryFault>
     requires ascending { S.honest → UsersAscend scan.old.left }
-    ensures done { S.honest → OnOk result (Appends (O.contents out.old) (O.contents out.new)
-        (scan_text form bounds.now scan.old.left)) }
-    ensures left { S.honest → IfErr result (λ e. e ≢ WriteFault
-        → BeginsPrinting form bounds.now scan.old.left (O.contents out.old) (O.contents out.new)) }
+    ensures done { S.honest → IfOk result (λ n. PrintsLines form options.now scan.old.left n
+        (O.contents out.old) (O.contents out.new)) }
+    ensures left { S.honest → IfErr result (λ e. e ≢ WriteFault → BeginsPrinting form options.now
+        scan.old.left (O.contents out.old) (O.contents out.new)) }
     ensures fault { IfErr result (λ e.
         IsAnswerFault S.honest e (B.told blocks.old) (B.told blocks.new)) }
     ensures told { Becomes (B.told blocks.old) (B.told blocks.new) }
@@ -111,14 +200,55 @@ fn print_pairs<N: Naming, S: Shelf, B: Blocks<N, S>, O: Write, E: Write>(
     ensures quiet { IsFalse progress → Keeps (E.contents err.old) (E.contents err.new) }
 {
     let mut line = Vec::new(alloc);
+    let mut printed = 0u64;
     for passed in 0..u64::MAX {
-        if !print_next(scan, blocks, alloc, form, bounds, &mut line, out)? {
-            return Ok(());
+        if is_full(options.limit, printed) {
+            return Ok(printed);
+        }
+        let more = print_next(
+            scan,
+            blocks,
+            alloc,
+            form,
+            options,
+            &mut line,
+            &mut printed,
+            out,
+        )?;
+        if !more {
+            return Ok(printed);
         }
         tell_keys(err, progress, passed + 1);
     }
     // Only a shelf that is not honest could give so many.
     Err(DirectoryFault::OutOfMemory)
+}
+
+/// The same, and prints how many they are, where that is asked for.
+fn print_asked<N: Naming, S: Shelf, O: Write, E: Write>(
+    shelf: &mut NamedShelf<N, S>,
+    alloc: Global,
+    scan: &mut Scan<N, S>,
+    form: Form,
+    options: &ScanOptions,
+    progress: bool,
+    out: &mut O,
+    err: &mut E,
+) -> Result<(), DirectoryFault>
+    requires ascending { S.honest → UsersAscend scan.old.left }
+    ensures done { S.honest → OnOk result (Appends (O.contents out.old) (O.contents out.new)
+        (scan_text form options.now scan.old.left)) }
+    ensures left { S.honest → IfErr result (λ e. e ≢ WriteFault → BeginsPrinting form options.now
+        scan.old.left (O.contents out.old) (O.contents out.new)) }
+    ensures fault { IfErr result (λ e.
+        IsAnswerFault S.honest e shelf.old shelf.new) }
+    ensures told { Becomes shelf.old shelf.new }
+    ensures quiet { IsFalse progress → Keeps (E.contents err.old) (E.contents err.new) }
+{
+    let mut direct = Direct::new(shelf);
+    let printed = print_pairs(scan, &mut direct, alloc, form, options, progress, out, err)?;
+    print_count(options.output, printed, out)?;
+    Ok(())
 }
 
 /// The same, and flushes: what was printed before a fault of the shelf is not held back.
@@ -127,44 +257,44 @@ fn print_open<N: Naming, S: Shelf, O: Write, E: Write>(
     alloc: Global,
     scan: &mut Scan<N, S>,
     form: Form,
-    bounds: &KeyBounds,
+    options: &ScanOptions,
     progress: bool,
     out: &mut O,
     err: &mut E,
 ) -> Result<(), DirectoryFault>
     requires ascending { S.honest → UsersAscend scan.old.left }
     ensures done { S.honest → OnOk result (Appends (O.contents out.old) (O.contents out.new)
-        (scan_text form bounds.now scan.old.left)) }
-    ensures left { S.honest → IfErr result (λ e. e ≢ WriteFault
-        → BeginsPrinting form bounds.now scan.old.left (O.contents out.old) (O.contents out.new)) }
+        (scan_text form options.now scan.old.left)) }
+    ensures left { S.honest → IfErr result (λ e. e ≢ WriteFault → BeginsPrinting form options.now
+        scan.old.left (O.contents out.old) (O.contents out.new)) }
     ensures fault { IfErr result (λ e.
         IsAnswerFault S.honest e shelf.old shelf.new) }
     ensures told { Becomes shelf.old shelf.new }
     ensures quiet { IsFalse progress → Keeps (E.contents err.old) (E.contents err.new) }
 {
-    let mut direct = Direct::new(shelf);
-    let printed = print_pairs(scan, &mut direct, alloc, form, bounds, progress, out, err);
+    let printed = print_asked(shelf, alloc, scan, form, options, progress, out, err);
     let flushed = flush(out);
     printed?;
     flushed?;
     Ok(())
 }
 
-/// Prints what a version shows within bounds. What was printed before a fault of the shelf stands.
+/// Prints what is asked for of the pairs that a version shows. What was printed before a fault of
+/// the shelf stands.
 #[tactic(auto, using(lsm_directory::proofs::CallerLemmas::keeps_same))]
 pub(crate) fn print_scan<N: Naming, S: Shelf, O: Write, E: Write>(
     shelf: &mut NamedShelf<N, S>,
     alloc: Global,
     version: &Version<N, S>,
     form: Form,
-    bounds: &KeyBounds,
+    options: &ScanOptions,
     progress: bool,
     out: &mut O,
     err: &mut E,
 ) -> Result<(), DirectoryFault>
     ensures done { S.honest → OnOk result
-        (PrintsScan form bounds.now version.now (O.contents out.old) (O.contents out.new)) }
-    ensures left { IfErr result (λ e. e ≢ WriteFault → LeavesScan form bounds.now S.honest
+        (PrintsScan form options.now version.now (O.contents out.old) (O.contents out.new)) }
+    ensures left { IfErr result (λ e. e ≢ WriteFault → LeavesScan form options.now S.honest
         version.now (O.contents out.old) (O.contents out.new)) }
     ensures fault { IfErr result (λ e.
         IsAnswerFault S.honest e shelf.old shelf.new) }
@@ -172,5 +302,5 @@ pub(crate) fn print_scan<N: Naming, S: Shelf, O: Write, E: Write>(
     ensures quiet { IsFalse progress → Keeps (E.contents err.old) (E.contents err.new) }
 {
     let mut scan = lsm_reads::scan(version, shelf, alloc, version.last())?;
-    print_open(shelf, alloc, &mut scan, form, bounds, progress, out, err)
+    print_open(shelf, alloc, &mut scan, form, options, progress, out, err)
 }

@@ -1,3 +1,4 @@
+pub mod KeyBoundLaws
 pub mod PartLaws
 pub mod WordLaws
 pub mod NumberLaws

@@ -1,5 +1,5 @@
 -- The grammar of command lines, as what clap reads of its commands (its `specs/Simple.antt`).
-use Rattle.std.specs.Prelude.{◌≡◌, false, true, [], ◌∷◌, codes, Some, Result, IfOk}
+use Rattle.std.specs.Prelude.{◌≡◌, false, true, List, [], ◌∷◌, codes, Some, Result, IfOk}
 use Rattle.clap.specs.Simple.{on_top}
 use Rattle.clap.specs.Words.{App, Rule, Text, app_of, new_app, new_rule, with_rule, with_subcommand}
 use Rattle.clap.specs.declared.builder.Command.{Command}
@@ -29,6 +29,10 @@ valued name = record (new_rule name) { long = Some name; value_names = 1 }
 abbrev pub workers : Rule
 workers = record (valued (codes "workers")) { defaults = codes "2" ∷ []; parser = Some (parser.Unsigned 1 8) }
 
+-- `--limit N`, a number below 2^64
+abbrev pub limit : Rule
+limit = record (valued (codes "limit")) { parser = Some (parser.Unsigned 0 18446744073709551615) }
+
 -- an option without a value
 abbrev pub flag : Text → Rule
 flag name = record (new_rule name) { long = Some name; action = Some SetTrue }
@@ -36,62 +40,77 @@ flag name = record (new_rule name) { long = Some name; action = Some SetTrue }
 abbrev pub folder : Rule
 folder = word (codes "DIR")
 
+abbrev pub key : Rule
+key = word (codes "KEY")
+
 abbrev pub text : Rule
 text = flag (codes "text")
+
+abbrev pub begin : Rule
+begin = flag (codes "begin")
+
+abbrev pub beside_log : Rule
+beside_log = flag (codes "beside-log")
 
 abbrev pub progress : Rule
 progress = flag (codes "progress")
 
 -- ---- commands
 
--- a command, with one argument after another
-abbrev pub one : Text → Rule → App
-one name a = with_rule (new_app name) a
+-- a command with these arguments, one after another
+abbrev pub with_rules : App → List Rule → App
+with_rules app [] = app
+with_rules app (rule ∷ rules) = with_rules (with_rule app rule) rules
 
-abbrev pub two : Text → Rule → Rule → App
-two name a b = with_rule (one name a) b
-
-abbrev pub three : Text → Rule → Rule → Rule → App
-three name a b c = with_rule (two name a b) c
-
-abbrev pub five : Text → Rule → Rule → Rule → Rule → Rule → App
-five name a b c d e = with_rule (with_rule (three name a b c) d) e
+abbrev pub command : Text → List Rule → App
+command name rules = with_rules (new_app name) rules
 
 unfoldable pub make_table : App
-make_table = one (codes "mktable") file
+make_table = command (codes "mktable") (file ∷ [])
 
 unfoldable pub dump : App
-dump = one (codes "dump") file
+dump = command (codes "dump") (file ∷ [])
 
 unfoldable pub manifest : App
-manifest = one (codes "manifest") file
+manifest = command (codes "manifest") (file ∷ [])
 
 unfoldable pub script : App
-script = one (codes "script") file
+script = command (codes "script") (file ∷ [])
 
 unfoldable pub check : App
-check = two (codes "check") folder progress
+check = command (codes "check") (folder ∷ progress ∷ [])
 
 unfoldable pub list : App
-list = two (codes "list") folder text
+list = command (codes "list") (folder ∷ text ∷ [])
 
 unfoldable pub get : App
-get = three (codes "get") folder (word (codes "KEY")) text
+get = command (codes "get") (folder ∷ key ∷ text ∷ flag (codes "raw") ∷ flag (codes "exists") ∷ [])
 
 unfoldable pub scan : App
-scan = five (codes "scan") folder (valued (codes "from")) (valued (codes "to")) text progress
+scan =
+    command (codes "scan")
+    (folder ∷ valued (codes "from") ∷ valued (codes "to") ∷ valued (codes "prefix") ∷ limit ∷ text ∷ flag (codes "keys") ∷ flag (codes "count") ∷ progress ∷ [])
 
 unfoldable pub ingest : App
-ingest = five (codes "ingest") folder (word (codes "FILE")) text (flag (codes "begin")) (flag (codes "beside-log"))
+ingest = command (codes "ingest") (folder ∷ word (codes "FILE") ∷ text ∷ begin ∷ beside_log ∷ [])
+
+unfoldable pub put : App
+put = command (codes "put") (folder ∷ key ∷ word (codes "VALUE") ∷ text ∷ begin ∷ beside_log ∷ [])
+
+unfoldable pub delete : App
+delete = command (codes "delete") (folder ∷ key ∷ text ∷ begin ∷ beside_log ∷ [])
 
 unfoldable pub compact : App
-compact = three (codes "compact") folder workers progress
+compact = command (codes "compact") (folder ∷ workers ∷ progress ∷ [])
 
 unfoldable pub clean : App
-clean = one (codes "clean") folder
+clean = command (codes "clean") (folder ∷ [])
+
+unfoldable pub shell : App
+shell = command (codes "shell") (folder ∷ text ∷ begin ∷ beside_log ∷ [])
 
 unfoldable pub help : App
-help = one (codes "help") topic
+help = command (codes "help") (topic ∷ [])
 
 -- ---- the program
 
@@ -110,9 +129,13 @@ with_inputs =
 unfoldable pub with_looks : App
 with_looks = with_subcommand (with_subcommand (with_subcommand (with_subcommand with_inputs check.top) list.top) get.top) scan.top
 
+-- with those that write keys into a folder
+unfoldable pub with_writes : App
+with_writes = with_subcommand (with_subcommand (with_subcommand with_looks ingest.top) put.top) delete.top
+
 -- all commands
 unfoldable pub lsm : App
-lsm = with_subcommand (with_subcommand (with_subcommand (with_subcommand with_looks ingest.top) compact.top) clean.top) help.top
+lsm = with_subcommand (with_subcommand (with_subcommand (with_subcommand with_writes compact.top) clean.top) shell.top) help.top
 
 -- ---- how the code shows it
 

@@ -6,7 +6,9 @@ use Rattle.clap.specs.Words.{IsAmong, Kinds, Row, Text, fault_of, first_of, foun
 use Rattle.clap.specs.declared.error.ErrorKind.{ErrorKind}
 use Rattle.clap.specs.declared.error.ErrorKind.TheVariants as kind
 use Rattle.clap.specs.declared.parser.ArgMatches.{ArgMatches}
+use Rattle.lsm_batch.specs.declared.write.Write.{Write}
 use Rattle.lsm_text.specs.Grammar.{lsm}
+use Rattle.lsm_text.specs.Numbers.{IsNumberWord}
 use Rattle.lsm_text.specs.Spelling.{IsWord}
 use Rattle.lsm_text.specs.declared.command_line.CommandLine.{CommandLine}
 use Rattle.lsm_text.specs.declared.command_line.CommandLine.TheVariants.{Run, Help, Bad}
@@ -18,13 +20,19 @@ use Rattle.lsm_text.specs.declared.directory_command.DirectoryCommand.{Directory
 use Rattle.lsm_text.specs.declared.directory_command.DirectoryCommand.TheVariants as look
 use Rattle.lsm_text.specs.declared.form.Form.{Form}
 use Rattle.lsm_text.specs.declared.form.Form.TheVariants.{Hex, Text as AsText}
+use Rattle.lsm_text.specs.declared.get_output.GetOutput.{GetOutput}
+use Rattle.lsm_text.specs.declared.get_output.GetOutput.TheVariants.{Line, Raw, Nothing}
+use Rattle.lsm_text.specs.declared.ingest_options.IngestOptions.{IngestOptions}
 use Rattle.lsm_text.specs.declared.input.Input.{Input}
 use Rattle.lsm_text.specs.declared.input.Input.TheVariants.{Standard, File}
 use Rattle.lsm_text.specs.declared.key_bounds.KeyBounds.{KeyBounds}
 use Rattle.lsm_text.specs.declared.request.Request.{Request}
-use Rattle.lsm_text.specs.declared.request.Request.TheVariants.{Convert, Look, Write, Compact, Script}
+use Rattle.lsm_text.specs.declared.request.Request.TheVariants.{Convert, Look, Write as WriteFolder, Compact, Script, Shell}
+use Rattle.lsm_text.specs.declared.scan_options.ScanOptions.{ScanOptions}
+use Rattle.lsm_text.specs.declared.scan_output.ScanOutput.{ScanOutput}
+use Rattle.lsm_text.specs.declared.scan_output.ScanOutput.TheVariants.{Pairs, Keys, Count}
 use Rattle.lsm_text.specs.declared.writing_command.WritingCommand.{WritingCommand}
-use Rattle.lsm_text.specs.declared.writing_command.WritingCommand.TheVariants.{Ingest, Clean}
+use Rattle.lsm_text.specs.declared.writing_command.WritingCommand.TheVariants.{Ingest, WriteKey, Clean}
 
 -- ---- what clap finds
 
@@ -65,8 +73,11 @@ named word =
     else if bytes_eq word (codes "get") then Some name.Get
     else if bytes_eq word (codes "scan") then Some name.Scan
     else if bytes_eq word (codes "ingest") then Some name.Ingest
+    else if bytes_eq word (codes "put") then Some name.Put
+    else if bytes_eq word (codes "delete") then Some name.Delete
     else if bytes_eq word (codes "compact") then Some name.Compact
     else if bytes_eq word (codes "clean") then Some name.Clean
+    else if bytes_eq word (codes "shell") then Some name.Shell
     else if bytes_eq word (codes "help") then Some name.Help
     else None
 
@@ -81,8 +92,11 @@ word_of name.List = codes "list"
 word_of name.Get = codes "get"
 word_of name.Scan = codes "scan"
 word_of name.Ingest = codes "ingest"
+word_of name.Put = codes "put"
+word_of name.Delete = codes "delete"
 word_of name.Compact = codes "compact"
 word_of name.Clean = codes "clean"
+word_of name.Shell = codes "shell"
 word_of name.Help = codes "help"
 
 abbrev pub name_of_conversion : Conversion → CommandName
@@ -93,19 +107,26 @@ name_of_conversion conversion.Manifest = name.Manifest
 abbrev pub name_of_look : DirectoryCommand → CommandName
 name_of_look look.Check = name.Check
 name_of_look look.List = name.List
-name_of_look (look.Get key) = name.Get
-name_of_look (look.Scan bounds) = name.Scan
+name_of_look (look.Get key output) = name.Get
+name_of_look (look.Scan options) = name.Scan
+
+-- of a key that gets this value, or is deleted
+abbrev pub name_of_value : Option (List ℕ) → CommandName
+name_of_value None = name.Delete
+name_of_value (Some value) = name.Put
 
 abbrev pub name_of_write : WritingCommand → CommandName
 name_of_write (Ingest input options) = name.Ingest
+name_of_write (WriteKey w options) = name_of_value w.value
 name_of_write Clean = name.Clean
 
 abbrev pub name_of : Request → CommandName
 name_of (Convert conversion input) = name_of_conversion conversion
 name_of (Look line) = name_of_look line.command
-name_of (Write line) = name_of_write line.command
+name_of (WriteFolder line) = name_of_write line.command
 name_of (Compact line) = name.Compact
 name_of (Script input) = name.Script
+name_of (Shell line) = name.Shell
 
 -- ---- what its words say
 
@@ -115,10 +136,10 @@ IsInput None input = ⊥
 IsInput (Some word) Standard = word ≡ codes "-"
 IsInput (Some word) (File path) = (word ≢ codes "-") × (path.now ≡ word)
 
--- the word spells a key in this form
-abbrev pub IsKey : Form → Option Text → List ℕ → Type 0
-IsKey form None key = ⊥
-IsKey form (Some word) key = IsWord form word key
+-- the word spells these bytes in this form
+abbrev pub IsSpelled : Form → Option Text → List ℕ → Type 0
+IsSpelled form None bytes = ⊥
+IsSpelled form (Some word) bytes = IsWord form word bytes
 
 -- the word of an option spells a key, and there is a key only where there is the option
 abbrev pub IsBound : Form → Option Text → Option (List ℕ) → Type 0
@@ -131,6 +152,22 @@ abbrev pub AreBounds : List Row → KeyBounds → Type 0
 AreBounds rows bounds =
     IsBound (form_in rows) (word_in (codes "from") rows) bounds.from
     × IsBound (form_in rows) (word_in (codes "to") rows) bounds.to
+    × IsBound (form_in rows) (word_in (codes "prefix") rows) bounds.prefix
+
+-- the word of an option writes a number below 2^64, and there is a number only where there is the option
+abbrev pub IsLimit : Option Text → Option ℕ → Type 0
+IsLimit None None = ⊤
+IsLimit None (Some n) = ⊥
+IsLimit (Some word) None = ⊥
+IsLimit (Some word) (Some n) = IsNumberWord 18446744073709551615 word n
+
+-- `--exists` rules over `--raw`
+abbrev pub get_output_in : List Row → GetOutput
+get_output_in rows = if is_set (codes "exists") rows then Nothing else if is_set (codes "raw") rows then Raw else Line
+
+-- `--count` rules over `--keys`
+abbrev pub scan_output_in : List Row → ScanOutput
+scan_output_in rows = if is_set (codes "count") rows then Count else if is_set (codes "keys") rows then Keys else Pairs
 
 -- so many workers as one digit (48 is `0`), 1 to 8
 pub record IsWorkersWord (word : List ℕ) (workers : ℕ) : Type 0 where
@@ -142,16 +179,31 @@ abbrev pub AreWorkers : Option Text → ℕ → Type 0
 AreWorkers None workers = ⊥
 AreWorkers (Some word) workers = IsWorkersWord word workers
 
+abbrev pub AreScanOptions : List Row → ScanOptions → Type 0
+AreScanOptions rows options =
+    AreBounds rows options.bounds × IsLimit (word_in (codes "limit") rows) options.limit × (options.output ≡ scan_output_in rows)
+
 abbrev pub IsLook : List Row → DirectoryCommand → Type 0
 IsLook rows look.Check = ⊤
 IsLook rows look.List = ⊤
-IsLook rows (look.Get key) = IsKey (form_in rows) (word_in (codes "KEY") rows) key
-IsLook rows (look.Scan bounds) = AreBounds rows bounds
+IsLook rows (look.Get key output) = IsSpelled (form_in rows) (word_in (codes "KEY") rows) key × (output ≡ get_output_in rows)
+IsLook rows (look.Scan options) = AreScanOptions rows options
+
+abbrev pub AreIngestOptions : List Row → IngestOptions → Type 0
+AreIngestOptions rows options =
+    (options.form ≡ form_in rows) × (options.begins ≡ is_set (codes "begin") rows) × (options.beside_log ≡ is_set (codes "beside-log") rows)
+
+-- a new value is what VALUE spells
+abbrev pub IsNewValue : List Row → Option (List ℕ) → Type 0
+IsNewValue rows None = ⊤
+IsNewValue rows (Some value) = IsSpelled (form_in rows) (word_in (codes "VALUE") rows) value
+
+abbrev pub IsKeyWrite : List Row → Write → Type 0
+IsKeyWrite rows w = IsSpelled (form_in rows) (word_in (codes "KEY") rows) w.key × IsNewValue rows w.value
 
 abbrev pub IsWrite : List Row → WritingCommand → Type 0
-IsWrite rows (Ingest input options) =
-    IsInput (word_in (codes "FILE") rows) input × (options.form ≡ form_in rows) × (options.begins ≡ is_set (codes "begin") rows)
-    × (options.beside_log ≡ is_set (codes "beside-log") rows)
+IsWrite rows (Ingest input options) = IsInput (word_in (codes "FILE") rows) input × AreIngestOptions rows options
+IsWrite rows (WriteKey w options) = IsKeyWrite rows w × AreIngestOptions rows options
 IsWrite rows Clean = ⊤
 
 -- the request says what stands in the rows
@@ -160,11 +212,12 @@ Says rows (Convert conversion input) = IsInput (word_in (codes "FILE") rows) inp
 Says rows (Look line) =
     (word_in (codes "DIR") rows ≡ Some line.path.now) × IsLook rows line.command × (line.form ≡ form_in rows)
     × (line.progress ≡ is_set (codes "progress") rows)
-Says rows (Write line) = (word_in (codes "DIR") rows ≡ Some line.path.now) × IsWrite rows line.command
+Says rows (WriteFolder line) = (word_in (codes "DIR") rows ≡ Some line.path.now) × IsWrite rows line.command
 Says rows (Compact line) =
     (word_in (codes "DIR") rows ≡ Some line.path.now) × AreWorkers (word_in (codes "workers") rows) line.options.workers
     × (line.options.progress ≡ is_set (codes "progress") rows)
 Says rows (Script input) = IsInput (word_in (codes "FILE") rows) input
+Says rows (Shell line) = (word_in (codes "DIR") rows ≡ Some line.path.now) × AreIngestOptions rows line.options
 
 -- The command that was found is the request's, and the request says what its rows say.
 pub record IsAsked (found : Option (Text × List Row)) (request : Request) : Type 0 where
@@ -201,7 +254,7 @@ AskHelp words =
     ⊎ ((faults_in words ≡ []) × (is_some (topic_in (found_in words)) ≡ true))
 
 -- There is a fault: the words are not of the grammar, and it is not help or the version that they ask for; or they are of the
--- grammar, and a word is no key or no number of workers, or behind `help` no command.
+-- grammar, and a word spells no bytes or writes no number, or behind `help` is no command.
 abbrev pub HaveUsageFault : List Text → Type 0
 HaveUsageFault words =
     ((faults_in words ≡ []) × (is_some (topic_in (found_in words)) ≡ false))

@@ -3,22 +3,29 @@
 ghost use Rattle.std.specs.Prelude.{◌≡◌, IfNone, IfOk, IfSome, List, None, Option, Some, codes};
 ghost use Rattle.std.specs.Prelude.{option_map, ℕ};
 ghost use Rattle.clap.specs.Words.{subcommand_rows_of};
-ghost use Rattle.lsm_text.specs.Requests.{AreBounds, AreWorkers, IsAsked, IsBound, IsInput};
-ghost use Rattle.lsm_text.specs.Requests.{IsKey, IsLook, IsWorkersWord, Reads, form_in, is_set};
-ghost use Rattle.lsm_text.specs.Requests.{name_of_conversion, name_of_look, rows_in, topic_in};
-ghost use Rattle.lsm_text.specs.Requests.{topic_of, word_in};
+ghost use Rattle.lsm_text.specs.Requests.{AreBounds, AreIngestOptions, AreScanOptions, AreWorkers};
+ghost use Rattle.lsm_text.specs.Requests.{IsAsked, IsBound, IsInput, IsKeyWrite, IsLimit, IsLook};
+ghost use Rattle.lsm_text.specs.Requests.{IsSpelled, IsWorkersWord, IsWrite, Reads, form_in};
+ghost use Rattle.lsm_text.specs.Requests.{get_output_in, is_set, name_of_conversion};
+ghost use Rattle.lsm_text.specs.Requests.{name_of_look, name_of_value, name_of_write, rows_in};
+ghost use Rattle.lsm_text.specs.Requests.{scan_output_in, topic_in, topic_of, word_in};
 
 use crate::command_name::{CommandName, named};
 use crate::compact_options::CompactOptions;
 use crate::conversion::Conversion;
 use crate::directory_command::DirectoryCommand;
 use crate::form::Form;
+use crate::get_output::GetOutput;
 use crate::ingest_options::IngestOptions;
 use crate::input::Input;
 use crate::key_bounds::KeyBounds;
-use crate::request::{CompactLine, DirectoryLine, Request, WritingLine};
+use crate::number::number_in;
+use crate::request::{CompactLine, DirectoryLine, Request, ShellLine, WritingLine};
+use crate::scan_options::ScanOptions;
+use crate::scan_output::ScanOutput;
 use crate::writing_command::WritingCommand;
 use clap::ArgMatches;
+use lsm_batch::Write;
 use lsm_codec::Bytes;
 use std::alloc::{AllocError, Global};
 
@@ -61,14 +68,51 @@ fn input_in<'a>(found: &ArgMatches<'a>) -> Option<Input<'a>>
     Some(Input::File(word))
 }
 
-/// The key that the word KEY spells; none where it spells none.
-fn key_in(alloc: Global, found: &ArgMatches<'_>) -> Result<Option<Bytes>, AllocError>
-    ensures only { IfOk result (λ o. IfSome o
-        (IsKey (form_in (rows_in found.now)) (word_in (codes "KEY") (rows_in found.now)))) }
-    ensures none { IfOk result (λ o. IfNone o ((key : List ℕ) → IsKey (form_in (rows_in found.now))
-        (word_in (codes "KEY") (rows_in found.now)) key → ⊥)) }
+/// How a batch is to come in.
+fn ingest_options_in(found: &ArgMatches<'_>) -> IngestOptions
+    ensures { AreIngestOptions (rows_in found.now) result }
 {
-    match word_in(found, "KEY") {
+    IngestOptions {
+        form: form_in(found),
+        begins: is_set(found, "begin"),
+        beside_log: is_set(found, "beside-log"),
+    }
+}
+
+/// What is written of a key's answer.
+fn get_output_in(found: &ArgMatches<'_>) -> GetOutput
+    ensures { result ≡ get_output_in (rows_in found.now) }
+{
+    if is_set(found, "exists") {
+        return GetOutput::Nothing;
+    }
+    if is_set(found, "raw") {
+        return GetOutput::Raw;
+    }
+    GetOutput::Line
+}
+
+/// What is written of the pairs of a scan.
+fn scan_output_in(found: &ArgMatches<'_>) -> ScanOutput
+    ensures { result ≡ scan_output_in (rows_in found.now) }
+{
+    if is_set(found, "count") {
+        return ScanOutput::Count;
+    }
+    if is_set(found, "keys") {
+        return ScanOutput::Keys;
+    }
+    ScanOutput::Pairs
+}
+
+/// The bytes that the word under a name spells; none where it spells none.
+fn bytes_in(alloc: Global, found: &ArgMatches<'_>, name: &str) -> Result<Option<Bytes>, AllocError>
+    ensures only { IfOk result (λ o. IfSome o
+        (IsSpelled (form_in (rows_in found.now)) (word_in name.now (rows_in found.now)))) }
+    ensures none { IfOk result (λ o. IfNone o ((bytes : List ℕ) → IsSpelled
+        (form_in (rows_in found.now)) (word_in name.now (rows_in found.now)) bytes → ⊥)) }
+{
+    match word_in(found, name) {
         Some(word) => form_in(found).read_bytes(alloc, word.as_bytes()),
         None => Ok(None),
     }
@@ -94,7 +138,7 @@ fn bound_in(
     }
 }
 
-/// The bounds that `--from` and `--to` spell. `None` where a word spells no key.
+/// The bounds that `--from`, `--to` and `--prefix` spell. `None` where a word spells no key.
 fn bounds_in(alloc: Global, found: &ArgMatches<'_>) -> Result<Option<KeyBounds>, AllocError>
     ensures only { IfOk result (λ o. IfSome o (AreBounds (rows_in found.now))) }
     ensures found { (bounds : KeyBounds) → AreBounds (rows_in found.now) bounds
@@ -107,7 +151,42 @@ fn bounds_in(alloc: Global, found: &ArgMatches<'_>) -> Result<Option<KeyBounds>,
     let Some(to) = bound_in(alloc, form, word_in(found, "to"))? else {
         return Ok(None);
     };
-    Ok(Some(KeyBounds { from, to }))
+    let Some(prefix) = bound_in(alloc, form, word_in(found, "prefix"))? else {
+        return Ok(None);
+    };
+    Ok(Some(KeyBounds { from, to, prefix }))
+}
+
+/// The most pairs that the word of an option names: none where there is no option. `None` where the
+/// word is no number.
+fn limit_of(word: Option<&str>) -> Option<Option<u64>>
+    ensures some { IfSome result (IsLimit (option_map (λ w. w.now) word.entry)) }
+    ensures none { IfNone result ((n : Option ℕ)
+        → IsLimit (option_map (λ w. w.now) word.entry) n → ⊥) }
+{
+    match word {
+        Some(word) => Some(Some(number_in(word.as_bytes(), u64::MAX)?)),
+        None => Some(None),
+    }
+}
+
+/// What a scan is to print. `None` where a word spells no key, or that of `--limit` is no number.
+fn scan_options_in(alloc: Global, found: &ArgMatches<'_>) -> Result<Option<ScanOptions>, AllocError>
+    ensures only { IfOk result (λ o. IfSome o (AreScanOptions (rows_in found.now))) }
+    ensures none { IfOk result (λ o. IfNone o ((options : ScanOptions)
+        → AreScanOptions (rows_in found.now) options → ⊥)) }
+{
+    let Some(bounds) = bounds_in(alloc, found)? else {
+        return Ok(None);
+    };
+    let Some(limit) = limit_of(word_in(found, "limit")) else {
+        return Ok(None);
+    };
+    Ok(Some(ScanOptions {
+        bounds,
+        limit,
+        output: scan_output_in(found),
+    }))
 }
 
 /// How many workers a word names: one digit, 1 to 8.
@@ -164,8 +243,11 @@ fn look_in<'a>(command: DirectoryCommand, found: &ArgMatches<'a>) -> Option<Requ
 fn get_in<'a>(alloc: Global, found: &ArgMatches<'a>) -> Result<Option<Request<'a>>, AllocError>
     ensures { IfOk result (Reads CommandName.Get (rows_in found.now)) }
 {
-    match key_in(alloc, found)? {
-        Some(key) => Ok(look_in(DirectoryCommand::Get(key), found)),
+    match bytes_in(alloc, found, "KEY")? {
+        Some(key) => {
+            let command = DirectoryCommand::Get(key, get_output_in(found));
+            Ok(look_in(command, found))
+        }
         None => Ok(None),
     }
 }
@@ -174,38 +256,68 @@ fn get_in<'a>(alloc: Global, found: &ArgMatches<'a>) -> Result<Option<Request<'a
 fn scan_in<'a>(alloc: Global, found: &ArgMatches<'a>) -> Result<Option<Request<'a>>, AllocError>
     ensures { IfOk result (Reads CommandName.Scan (rows_in found.now)) }
 {
-    match bounds_in(alloc, found)? {
-        Some(bounds) => Ok(look_in(DirectoryCommand::Scan(bounds), found)),
+    match scan_options_in(alloc, found)? {
+        Some(options) => Ok(look_in(DirectoryCommand::Scan(options), found)),
         None => Ok(None),
     }
+}
+
+/// A command that writes a directory.
+fn write_in<'a>(command: WritingCommand<'a>, found: &ArgMatches<'a>) -> Option<Request<'a>>
+    ensures { IsWrite (rows_in found.now) command.entry
+        → Reads (name_of_write command.entry) (rows_in found.now) result }
+{
+    let path = word_in(found, "DIR")?;
+    Some(Request::Write(WritingLine { path, command }))
 }
 
 /// An ingest.
 fn ingest_in<'a>(found: &ArgMatches<'a>) -> Option<Request<'a>>
     ensures { Reads CommandName.Ingest (rows_in found.now) result }
 {
-    let path = word_in(found, "DIR")?;
     let input = input_in(found)?;
-    let options = IngestOptions {
-        form: form_in(found),
-        begins: is_set(found, "begin"),
-        beside_log: is_set(found, "beside-log"),
+    let options = ingest_options_in(found);
+    write_in(WritingCommand::Ingest(input, options), found)
+}
+
+/// A write of a key.
+fn write_key_in<'a>(write: Write, found: &ArgMatches<'a>) -> Option<Request<'a>>
+    ensures { IsKeyWrite (rows_in found.now) write
+        → Reads (name_of_value write.value) (rows_in found.now) result }
+{
+    let options = ingest_options_in(found);
+    write_in(WritingCommand::WriteKey(write, options), found)
+}
+
+/// A key that gets a value.
+fn put_in<'a>(alloc: Global, found: &ArgMatches<'a>) -> Result<Option<Request<'a>>, AllocError>
+    ensures { IfOk result (Reads CommandName.Put (rows_in found.now)) }
+{
+    let Some(key) = bytes_in(alloc, found, "KEY")? else {
+        return Ok(None);
     };
-    Some(Request::Write(WritingLine {
-        path,
-        command: WritingCommand::Ingest(input, options),
-    }))
+    let Some(value) = bytes_in(alloc, found, "VALUE")? else {
+        return Ok(None);
+    };
+    let value = Some(value);
+    Ok(write_key_in(Write { key, value }, found))
+}
+
+/// A key that is deleted.
+fn delete_in<'a>(alloc: Global, found: &ArgMatches<'a>) -> Result<Option<Request<'a>>, AllocError>
+    ensures { IfOk result (Reads CommandName.Delete (rows_in found.now)) }
+{
+    match bytes_in(alloc, found, "KEY")? {
+        Some(key) => Ok(write_key_in(Write { key, value: None }, found)),
+        None => Ok(None),
+    }
 }
 
 /// A cleaning.
 fn clean_in<'a>(found: &ArgMatches<'a>) -> Option<Request<'a>>
     ensures { Reads CommandName.Clean (rows_in found.now) result }
 {
-    let path = word_in(found, "DIR")?;
-    Some(Request::Write(WritingLine {
-        path,
-        command: WritingCommand::Clean,
-    }))
+    write_in(WritingCommand::Clean, found)
 }
 
 /// A compaction.
@@ -218,6 +330,15 @@ fn compact_in<'a>(found: &ArgMatches<'a>) -> Option<Request<'a>>
         progress: is_set(found, "progress"),
     };
     Some(Request::Compact(CompactLine { path, options }))
+}
+
+/// Commands on a folder, from standard input.
+fn shell_in<'a>(found: &ArgMatches<'a>) -> Option<Request<'a>>
+    ensures { Reads CommandName.Shell (rows_in found.now) result }
+{
+    let path = word_in(found, "DIR")?;
+    let options = ingest_options_in(found);
+    Some(Request::Shell(ShellLine { path, options }))
 }
 
 /// What the command of this name is asked for.
@@ -238,14 +359,17 @@ fn request_in<'a>(
         CommandName::Get => get_in(alloc, found),
         CommandName::Scan => scan_in(alloc, found),
         CommandName::Ingest => Ok(ingest_in(found)),
+        CommandName::Put => put_in(alloc, found),
+        CommandName::Delete => delete_in(alloc, found),
         CommandName::Compact => Ok(compact_in(found)),
         CommandName::Clean => Ok(clean_in(found)),
+        CommandName::Shell => Ok(shell_in(found)),
         CommandName::Help => Ok(None),
     }
 }
 
 /// What is asked for by the command that was found, and by the words under its names; none where it
-/// is `help`, or one of these is no key or no number of workers.
+/// is `help`, or one of these spells no bytes or writes no number.
 pub(crate) fn asked_in<'a>(
     alloc: Global,
     matches: &ArgMatches<'a>,

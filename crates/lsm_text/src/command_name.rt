@@ -15,8 +15,11 @@ pub enum CommandName {
     Get,
     Scan,
     Ingest,
+    Put,
+    Delete,
     Compact,
     Clean,
+    Shell,
     Help,
 }
 
@@ -35,8 +38,11 @@ impl CommandName {
             CommandName::Get => "get",
             CommandName::Scan => "scan",
             CommandName::Ingest => "ingest",
+            CommandName::Put => "put",
+            CommandName::Delete => "delete",
             CommandName::Compact => "compact",
             CommandName::Clean => "clean",
+            CommandName::Shell => "shell",
             CommandName::Help => "help",
         }
     }
@@ -74,11 +80,20 @@ pub(crate) fn named(word: &str) -> Option<CommandName>
     if word == "ingest" {
         return Some(CommandName::Ingest);
     }
+    if word == "put" {
+        return Some(CommandName::Put);
+    }
+    if word == "delete" {
+        return Some(CommandName::Delete);
+    }
     if word == "compact" {
         return Some(CommandName::Compact);
     }
     if word == "clean" {
         return Some(CommandName::Clean);
+    }
+    if word == "shell" {
+        return Some(CommandName::Shell);
     }
     if word == "help" {
         return Some(CommandName::Help);

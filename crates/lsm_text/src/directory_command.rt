@@ -1,6 +1,7 @@
 //! What is asked of a directory.
 
-use crate::key_bounds::KeyBounds;
+use crate::get_output::GetOutput;
+use crate::scan_options::ScanOptions;
 use lsm_codec::Bytes;
 
 /// A command on a directory.
@@ -11,7 +12,7 @@ pub enum DirectoryCommand {
     /// The files.
     List,
     /// The value of a key.
-    Get(Bytes),
+    Get(Bytes, GetOutput),
     /// The live keys within bounds, with their values.
-    Scan(KeyBounds),
+    Scan(ScanOptions),
 }

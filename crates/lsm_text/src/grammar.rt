@@ -8,15 +8,16 @@ ghost use Rattle.clap.specs.Words.{App, IsAmong, Rule, kind_of, new_app, rule_of
 ghost use Rattle.clap.specs.Words.{subcommand_rows_of};
 ghost use Rattle.clap.specs.Words.{with_rule, with_subcommand};
 ghost use Rattle.clap.specs.declared.error.ErrorKind.TheVariants.{OutOfMemory};
-ghost use Rattle.lsm_text.specs.Grammar.{IsShaped, bare, check, clean, compact, dump, file};
-ghost use Rattle.lsm_text.specs.Grammar.{flag, folder, get, help, ingest, list, lsm, make_table};
-ghost use Rattle.lsm_text.specs.Grammar.{manifest, progress, scan, script, text, topic, valued};
-ghost use Rattle.lsm_text.specs.Grammar.{with_inputs, with_looks, word, workers};
+ghost use Rattle.lsm_text.specs.Grammar.{IsShaped, bare, begin, beside_log, check, clean, compact};
+ghost use Rattle.lsm_text.specs.Grammar.{delete, dump, file, flag, folder, get, help, ingest, key};
+ghost use Rattle.lsm_text.specs.Grammar.{limit, list, lsm, make_table, manifest, progress, put};
+ghost use Rattle.lsm_text.specs.Grammar.{scan, script, shell, text, topic, valued, with_inputs};
+ghost use Rattle.lsm_text.specs.Grammar.{with_looks, with_writes, word, workers};
 ghost use Rattle.lsm_text.specs.Requests.{faults_in, found_in};
 
 use crate::pages::{
-    CHECK, CLEAN, COMPACT, DUMP, GET, HELP, INGEST, LIST, MAKE_TABLE, MANIFEST, OVERVIEW, Page,
-    SCAN, SCRIPT, VERSION,
+    CHECK, CLEAN, COMPACT, DELETE, DUMP, GET, HELP, INGEST, LIST, MAKE_TABLE, MANIFEST, OVERVIEW,
+    PUT, Page, SCAN, SCRIPT, SHELL, VERSION,
 };
 use clap::builder::ValueParser;
 use clap::{Arg, ArgAction, ArgMatches, Command, Error};
@@ -53,6 +54,14 @@ fn folder<'a>(alloc: Global) -> Arg<'a>
     ensures local { result.global ≡ false }
 {
     word(alloc, "DIR", "The folder of a LevelDB database")
+}
+
+/// The key of a command on one key.
+fn key<'a>(alloc: Global) -> Arg<'a>
+    ensures rule { rule_of result ≡ key }
+    ensures local { result.global ≡ false }
+{
+    word(alloc, "KEY", "The key")
 }
 
 /// The file that is read.
@@ -94,6 +103,16 @@ fn workers<'a>(alloc: Global) -> Arg<'a>
         .default_value("2")
 }
 
+/// The option for the most pairs of a scan.
+fn limit<'a>(alloc: Global) -> Arg<'a>
+    ensures rule { rule_of result ≡ limit }
+    ensures local { result.global ≡ false }
+{
+    valued(alloc, "limit", "N", "How many pairs are printed at most").value_parser(
+        ValueParser::Unsigned(0, u64::MAX),
+    )
+}
+
 /// An option without a word behind it.
 fn flag<'a>(alloc: Global, name: &'a str, help: &'a str) -> Arg<'a>
     ensures rule { rule_of result ≡ flag name.entry.now }
@@ -114,6 +133,30 @@ fn text<'a>(alloc: Global) -> Arg<'a>
         alloc,
         "text",
         "Keys and values are text, with `\\xNN` for bytes that do not print",
+    )
+}
+
+/// The option to begin a database.
+fn begin<'a>(alloc: Global) -> Arg<'a>
+    ensures rule { rule_of result ≡ begin }
+    ensures local { result.global ≡ false }
+{
+    flag(
+        alloc,
+        "begin",
+        "Begin a database also where CURRENT was lost",
+    )
+}
+
+/// The option to write beside a log that is not flushed.
+fn beside_log<'a>(alloc: Global) -> Arg<'a>
+    ensures rule { rule_of result ≡ beside_log }
+    ensures local { result.global ≡ false }
+{
+    flag(
+        alloc,
+        "beside-log",
+        "Go on also where LevelDB has not flushed its log",
     )
 }
 
@@ -181,9 +224,17 @@ fn list<'a>(alloc: Global) -> Made<'a>
 fn get<'a>(alloc: Global) -> Made<'a>
     ensures { IsShaped result get }
 {
+    let raw = flag(alloc, "raw", "Write the bytes of the value alone");
+    let exists = flag(
+        alloc,
+        "exists",
+        "Write nothing; status 1 where it is absent",
+    );
     let get = also(titled(alloc, GET), folder(alloc));
-    let get = also(get, word(alloc, "KEY", "The key"));
-    also(get, text(alloc))
+    let get = also(get, key(alloc));
+    let get = also(get, text(alloc));
+    let get = also(get, raw);
+    also(get, exists)
 }
 
 /// The command that prints a folder's live keys.
@@ -192,10 +243,22 @@ fn scan<'a>(alloc: Global) -> Made<'a>
 {
     let from = valued(alloc, "from", "KEY", "The first key that is printed");
     let to = valued(alloc, "to", "KEY", "The last key that is printed");
+    let prefix = valued(
+        alloc,
+        "prefix",
+        "KEY",
+        "How each key begins that is printed",
+    );
+    let keys = flag(alloc, "keys", "Print the keys alone");
+    let count = flag(alloc, "count", "Print how many there are alone");
     let scan = also(titled(alloc, SCAN), folder(alloc));
     let scan = also(scan, from);
     let scan = also(scan, to);
+    let scan = also(scan, prefix);
+    let scan = also(scan, limit(alloc));
     let scan = also(scan, text(alloc));
+    let scan = also(scan, keys);
+    let scan = also(scan, count);
     also(scan, progress(alloc))
 }
 
@@ -208,21 +271,34 @@ fn ingest<'a>(alloc: Global) -> Made<'a>
         "FILE",
         "The file of the keys, a line each; `-` is standard input",
     );
-    let begin = flag(
-        alloc,
-        "begin",
-        "Begin a database also where CURRENT was lost",
-    );
-    let beside_log = flag(
-        alloc,
-        "beside-log",
-        "Go on also where LevelDB has not flushed its log",
-    );
     let ingest = also(titled(alloc, INGEST), folder(alloc));
     let ingest = also(ingest, keys);
     let ingest = also(ingest, text(alloc));
-    let ingest = also(ingest, begin);
-    also(ingest, beside_log)
+    let ingest = also(ingest, begin(alloc));
+    also(ingest, beside_log(alloc))
+}
+
+/// The command that writes the value of a key.
+fn put<'a>(alloc: Global) -> Made<'a>
+    ensures { IsShaped result put }
+{
+    let put = also(titled(alloc, PUT), folder(alloc));
+    let put = also(put, key(alloc));
+    let put = also(put, word(alloc, "VALUE", "Its new value"));
+    let put = also(put, text(alloc));
+    let put = also(put, begin(alloc));
+    also(put, beside_log(alloc))
+}
+
+/// The command that deletes a key.
+fn delete<'a>(alloc: Global) -> Made<'a>
+    ensures { IsShaped result delete }
+{
+    let delete = also(titled(alloc, DELETE), folder(alloc));
+    let delete = also(delete, key(alloc));
+    let delete = also(delete, text(alloc));
+    let delete = also(delete, begin(alloc));
+    also(delete, beside_log(alloc))
 }
 
 /// The command that compacts a folder.
@@ -239,6 +315,16 @@ fn clean<'a>(alloc: Global) -> Made<'a>
     ensures { IsShaped result clean }
 {
     also(titled(alloc, CLEAN), folder(alloc))
+}
+
+/// The command that reads commands on a folder.
+fn shell<'a>(alloc: Global) -> Made<'a>
+    ensures { IsShaped result shell }
+{
+    let shell = also(titled(alloc, SHELL), folder(alloc));
+    let shell = also(shell, text(alloc));
+    let shell = also(shell, begin(alloc));
+    also(shell, beside_log(alloc))
 }
 
 /// The command that prints a page of help.
@@ -290,13 +376,22 @@ fn with_looks<'a>(alloc: Global) -> Made<'a>
     with(lsm, scan(alloc))
 }
 
+/// The program with these and the commands that write keys into a folder.
+fn with_writes<'a>(alloc: Global) -> Made<'a>
+    ensures { IsShaped result with_writes }
+{
+    let lsm = with(with_looks(alloc), ingest(alloc));
+    let lsm = with(lsm, put(alloc));
+    with(lsm, delete(alloc))
+}
+
 /// The program with all commands.
 fn lsm<'a>(alloc: Global) -> Made<'a>
     ensures { IsShaped result lsm }
 {
-    let lsm = with(with_looks(alloc), ingest(alloc));
-    let lsm = with(lsm, compact(alloc));
+    let lsm = with(with_writes(alloc), compact(alloc));
     let lsm = with(lsm, clean(alloc));
+    let lsm = with(lsm, shell(alloc));
     with(lsm, help(alloc))
 }
 

@@ -10,10 +10,13 @@
 mod compact_options;
 mod conversion;
 mod directory_command;
+mod get_output;
 mod ingest_options;
 mod input;
 mod key_bounds;
 mod request;
+mod scan_options;
+mod scan_output;
 mod writing_command;
 
 // How words ask for it: the grammar, what it finds in words, and what that says.
@@ -67,6 +70,7 @@ pub use entry_printing::print_entry;
 pub use entry_reader::{EntryReader, LineFault};
 pub use fault::Fault;
 pub use form::Form;
+pub use get_output::GetOutput;
 pub use ingest_options::IngestOptions;
 pub use input::Input;
 pub use key_bounds::KeyBounds;
@@ -75,7 +79,9 @@ pub use line_syntax::LineSyntaxFault;
 pub use number::number_in;
 pub use printer::Printer;
 pub use refusal::Refusal;
-pub use request::{CompactLine, DirectoryLine, Request, WritingLine};
+pub use request::{CompactLine, DirectoryLine, Request, ShellLine, WritingLine};
+pub use scan_options::ScanOptions;
+pub use scan_output::ScanOutput;
 pub use spelling::{push_bytes, push_decimal};
 pub use streams::{InputFault, read_input, write_output};
 pub use syntax_fault::{SyntaxFault, syntax_fault_in};

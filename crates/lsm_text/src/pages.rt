@@ -26,19 +26,21 @@ option, or behind `=` in its word: `--from 61`, `--from=61`. Behind `--` no word
 is an option: `lsm get db --text -- -key`.
 
 A DIR that is not there is `refused 9 Device`, one without a file CURRENT
-`refused 10 Missing`; but `ingest` begins a database in a DIR that has no
-manifest and no table either. A DIR that is a symbolic link is the folder that
-it leads to; what is no regular file is not read.
+`refused 10 Missing`; but `ingest`, `put`, `delete` and `shell` begin a database
+in a DIR that has no manifest and no table either. A DIR that is a symbolic link
+is the folder that it leads to; what is no regular file is not read.
 
-`ingest`, `compact` and `clean` hold LevelDB's lock file, DIR/LOCK, alone, and
-make it where it is not there; the other commands share it where it is there.
-Where another program holds it, also a LevelDB, it is `refused 52 Locked`, and
-nothing is read or written. A LevelDB is noticed where the system has the file
-/proc/locks; it does not notice `lsm`: do not open DIR while `lsm` writes there.
+`ingest`, `put`, `delete`, `compact`, `clean` and `shell` hold LevelDB's lock
+file, DIR/LOCK, alone, and make it where it is not there; the other commands
+share it where it is there. Where another program holds it, also a LevelDB, it
+is `refused 52 Locked`, and nothing is read or written. A LevelDB is noticed
+where the system has the file /proc/locks; it does not notice `lsm`: do not open
+DIR while `lsm` writes there.
 
 No command reads a write-ahead log (`N.log`). Of each one that LevelDB has not
 flushed, `list`, `get` and `scan` say on standard error how many bytes are not
-read, and `check` prints a line; `ingest` is `refused 51 UnflushedLog N`.
+read, and `check` prints a line. `ingest`, `put`, `delete` and `shell` are
+`refused 51 UnflushedLog N` beside it.
 
 Tables that are compressed, as LevelDB makes them unless told otherwise, are
 refused: `refused 16 Compressed 1`.
@@ -52,7 +54,8 @@ Exit status:
   1  refused; standard error says why: `refused N Name ..`, `write fault`,
      `read fault` or `bad line I`. A second line may say more: the call that the
      system refused, with its path and the system's reason, the file of a fault,
-     the place in a line, or what is to be done
+     the place in a line, or what is to be done. `get` with --raw or --exists:
+     the key is absent, and standard error says `absent`
   2  bad command line
 
 Example: lsm check db";
@@ -194,30 +197,41 @@ Exit status: 0 done, 1 refused, 2 bad command line.",
 
 pub(crate) const GET: Page = Page {
     name: "get",
-    usage: "lsm get <DIR> <KEY> [--text]",
+    usage: "lsm get <DIR> <KEY> [--text] [--raw] [--exists]",
     about: "Prints the value of a key in a folder",
     text: "Prints what the LevelDB folder DIR answers for KEY: `value V`, or `absent`. KEY
 and V are hex, or text with --text, `.` for no bytes.
+
+--raw writes the bytes of the value alone, as they are, without a newline behind
+them. --exists writes nothing. With either of them status 1 and the line
+`absent` on standard error say that there is no value. With both --exists rules.
 
 Every table is verified first. Nothing is written in DIR. A line on standard
 error names each write-ahead log (`N.log`) that is not read: what was written
 last may stand there.
 
-Exit status: 0 done, also where the key is absent, 1 refused, 2 bad command
-line.",
+Exit status: 0 done, also where `absent` was printed, 1 refused, or absent with
+--raw or --exists, 2 bad command line.",
     example: "Examples: lsm get db 6170706c65
-          lsm get db apple --text",
+          lsm get db apple --text
+          lsm get db apple --text --raw > value
+          lsm get db apple --text --exists && echo here",
 };
 
 pub(crate) const SCAN: Page = Page {
     name: "scan",
-    usage: "lsm scan <DIR> [--from <KEY>] [--to <KEY>] [--text] [--progress]",
+    usage: "lsm scan <DIR> [--from <KEY>] [--to <KEY>] [--prefix <KEY>] [--limit <N>] [--text] [--keys] [--count] [--progress]",
     about: "Prints the live keys of a folder and their values",
     text: "Prints the live keys of the LevelDB folder DIR with their values, a line
 `KEY=VALUE` each, ascending by the bytes of the keys, from the key of --from to
-that of --to, both included; without them from the first to the last. KEY and
-VALUE are hex, or text with --text, `.` for no bytes: the lines that `ingest`
-reads, within its limits.
+that of --to, both included, and of these the keys that begin with the bytes of
+--prefix; without them from the first to the last. KEY and VALUE are hex, or
+text with --text, `.` for no bytes: the lines that `ingest` reads, within its
+limits.
+
+--limit N prints the first N of these lines at most, N a decimal number up to
+18446744073709551615. --keys prints lines `KEY`, without values. --count prints
+one line, how many lines there would be, and nothing else; it rules over --keys.
 
 Every table is verified before the first line. Lines are printed as the folder
 is read, in memory that does not grow with it; what is before --from is read
@@ -230,7 +244,8 @@ A refusal of a table names its file, as in `refused 15 BadChecksum 0 in
 Exit status: 0 where all was printed, 1 at a fault: lines that were printed
 before it stand, 2 bad command line.",
     example: "Examples: lsm scan db --from 61 --to 6dff
-          lsm scan db --text --progress",
+          lsm scan db --text --prefix user: --limit 10
+          lsm scan db --count --progress",
 };
 
 pub(crate) const INGEST: Page = Page {
@@ -278,6 +293,56 @@ fault` the batch is in; after `refused 9 Device` it may be.",
     example: "Example: printf 'apple=red\\nbanana!\\n' | lsm ingest db - --text",
 };
 
+pub(crate) const PUT: Page = Page {
+    name: "put",
+    usage: "lsm put <DIR> <KEY> <VALUE> [--text] [--begin] [--beside-log]",
+    about: "Gives a key of a folder a value",
+    text: "Gives KEY the value VALUE in the LevelDB folder DIR, as one table at level 0, and
+prints `file N first L last L`: the table's number and its sequence, as `ingest`
+does with the one line `KEY=VALUE`. DIR has to be there. KEY and VALUE are hex,
+or text with --text, `.` for no bytes.
+
+Limits: 4096 bytes of KEY, 1048576 bytes of VALUE; past them it is
+`refused 39 TooLarge`. The system limits a word of a command line too, Linux to
+131071 bytes: `ingest` brings a longer VALUE in.
+
+Each run makes a table and a manifest, so `ingest` is better for many keys. Of
+--begin and --beside-log, and of all that is refused, its page says more: where
+CURRENT was lost it is `refused 10 Missing`, beside a log that LevelDB has not
+flushed `refused 51 UnflushedLog N`, where another program has DIR open
+`refused 52 Locked`, and at 12 tables in level 0 `refused 40 LevelZeroFull`: run
+`lsm compact DIR`, and then put again.
+
+Exit status: 0 the key has the value, 1 refused, 2 bad command line. After a
+`write fault` it has it; after `refused 9 Device` it may.",
+    example: "Examples: lsm put db 6170706c65 726564
+          lsm put db apple red --text",
+};
+
+pub(crate) const DELETE: Page = Page {
+    name: "delete",
+    usage: "lsm delete <DIR> <KEY> [--text] [--begin] [--beside-log]",
+    about: "Deletes a key of a folder",
+    text: "Deletes KEY in the LevelDB folder DIR, whether it has a value or not, by one
+table at level 0, and prints `file N first L last L`: the table's number and its
+sequence, as `ingest` does with the one line `KEY!`. DIR has to be there. KEY is
+hex, or text with --text, `.` for no bytes.
+
+Limit: 4096 bytes of KEY; past it it is `refused 39 TooLarge`.
+
+Each run makes a table and a manifest, so `ingest` is better for many keys. Of
+--begin and --beside-log, and of all that is refused, its page says more: where
+CURRENT was lost it is `refused 10 Missing`, beside a log that LevelDB has not
+flushed `refused 51 UnflushedLog N`, where another program has DIR open
+`refused 52 Locked`, and at 12 tables in level 0 `refused 40 LevelZeroFull`: run
+`lsm compact DIR`, and then delete again.
+
+Exit status: 0 the key is deleted, 1 refused, 2 bad command line. After a `write
+fault` it is; after `refused 9 Device` it may be.",
+    example: "Examples: lsm delete db 6170706c65
+          lsm delete db apple --text",
+};
+
 pub(crate) const COMPACT: Page = Page {
     name: "compact",
     usage: "lsm compact <DIR> [--workers <N>] [--progress]",
@@ -320,6 +385,53 @@ command line.",
     example: "Example: lsm clean db",
 };
 
+pub(crate) const SHELL: Page = Page {
+    name: "shell",
+    usage: "lsm shell <DIR> [--text] [--begin] [--beside-log]",
+    about: "Runs commands from standard input on a folder",
+    text: "Opens the LevelDB folder DIR once, or begins a database there, as `ingest` does,
+and holds its lock; then it reads commands on standard input, one a line, and
+prints a reply for each, which is written out before the next line is read.
+
+  put KEY VALUE      the key has this value      file N first F last L
+  delete KEY         the key is deleted          file N first F last L
+  ingest W W ..      W is KEY=VALUE or KEY!,     file N first F last L
+                     keys ascending: one batch
+  get KEY            the newest                  value V, or absent
+  get KEY ID         at the snapshot ID          value V, or absent
+  scan [FROM [TO]] [limit N]                     KEY=VALUE a pair, then end
+  snapshot                                       snapshot ID seq S
+  release ID                                     released
+  compact            until nothing is due        installed M
+  reserve            the compaction that is due  job T level L inputs N N ..,
+                                                 move T level L input N, or none
+  reserve L FROM TO  of level L, of the tables   the same
+                     that meet these keys
+  merge T            the job of the ticket T     merged T tables M
+  install T          what it made                installed N N ..
+  cancel T                                       cancelled
+  pin, unpin ID      the current version         pin ID, unpinned
+  collect            tables not needed any more  removed N N ..
+  list               LEVEL NUMBER SIZE SMALLEST LARGEST a table, then end
+  stats              level L files F bytes B a level, last S, then end
+  help               these lines, then end
+  quit               no reply; so does the end of the input
+
+KEY, VALUE, FROM and TO are hex, or text with --text, `.` for no bytes; a space
+parts two words. A refusal is a reply too, `refused N Name ..`, in a list in
+place of `end`. A line of another form is answered `bad line: REASON`. The shell
+goes on behind both. A line has at most 8388608 bytes.
+
+Of --begin and --beside-log, and of all that is refused before the first line,
+the page of `ingest` says more. A second program that wants to write in DIR is
+`refused 52 Locked` as long as the shell runs.
+
+Exit status: 0 behind `quit` or the end of the input, 1 where the folder is
+refused, a reply cannot be written or the input cannot be read, 2 bad command
+line.",
+    example: "Example: printf 'put apple red\\nget apple\\n' | lsm shell db --text",
+};
+
 pub(crate) const HELP: Page = Page {
     name: "help",
     usage: "lsm help [COMMAND]",
@@ -332,8 +444,9 @@ Exit status: 0 done, 1 refused, 2 bad command line, also where COMMAND is none."
 };
 
 /// The pages of the commands.
-const PAGES: [Page; 12] = [
-    MAKE_TABLE, DUMP, MANIFEST, SCRIPT, CHECK, LIST, GET, SCAN, INGEST, COMPACT, CLEAN, HELP,
+const PAGES: [Page; 15] = [
+    MAKE_TABLE, DUMP, MANIFEST, SCRIPT, CHECK, LIST, GET, SCAN, INGEST, PUT, DELETE, COMPACT,
+    CLEAN, SHELL, HELP,
 ];
 
 /// How the command of this name is used.

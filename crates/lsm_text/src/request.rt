@@ -4,6 +4,7 @@ use crate::compact_options::CompactOptions;
 use crate::conversion::Conversion;
 use crate::directory_command::DirectoryCommand;
 use crate::form::Form;
+use crate::ingest_options::IngestOptions;
 use crate::input::Input;
 use crate::writing_command::WritingCommand;
 
@@ -19,7 +20,7 @@ pub struct DirectoryLine<'a> {
 }
 
 /// A command that writes a directory, and the path of that.
-#[derive(Clone, Copy, Debug)]
+#[derive(Debug, Drop)]
 pub struct WritingLine<'a> {
     pub path: &'a str,
     pub command: WritingCommand<'a>,
@@ -32,6 +33,14 @@ pub struct CompactLine<'a> {
     pub options: CompactOptions,
 }
 
+/// Commands on the folder of this path, one a line of standard input: it is opened or begun as a
+/// batch that is to come in asks for.
+#[derive(Clone, Copy, Debug)]
+pub struct ShellLine<'a> {
+    pub path: &'a str,
+    pub options: IngestOptions,
+}
+
 /// What a command line asks for: one command of the program, with all that its words say.
 #[derive(Debug, Drop)]
 pub enum Request<'a> {
@@ -39,10 +48,12 @@ pub enum Request<'a> {
     Convert(Conversion, Input<'a>),
     /// `check`, `list`, `get` or `scan`.
     Look(DirectoryLine<'a>),
-    /// `ingest` or `clean`.
+    /// `ingest`, `put`, `delete` or `clean`.
     Write(WritingLine<'a>),
     /// `compact`.
     Compact(CompactLine<'a>),
     /// `script`: the commands that an input spells.
     Script(Input<'a>),
+    /// `shell`: the commands that standard input spells, on a folder.
+    Shell(ShellLine<'a>),
 }

@@ -9,46 +9,59 @@ use std::fmt;
 /// A word that stands wrong in a command line, and why. It prints as a text without a newline.
 #[derive(Clone, Copy)]
 pub(crate) enum UsageFault<'a> {
-    /// A KEY that is no word of its form, and where it stops being one.
-    Key(&'a str, SyntaxFault),
+    /// What it is to spell, KEY or VALUE, a word that is none of its form, and where it stops being
+    /// one.
+    Bytes(&'static str, &'a str, SyntaxFault),
+    /// No number of pairs, though `clap` reads it as one.
+    Limit(&'a str),
     /// No number of workers, though `clap` reads it as one.
     Workers(&'a str),
     /// No command, where one stands behind `help`.
     Command(&'a str),
 }
 
-/// Why the word under this name is no KEY of this form.
-fn wrong_key<'a>(form: Form, found: &ArgMatches<'a>, name: &str) -> Option<UsageFault<'a>> {
+/// Why the word under this name spells no bytes in this form; `what` it is to spell.
+fn wrong_bytes<'a>(
+    form: Form,
+    found: &ArgMatches<'a>,
+    name: &str,
+    what: &'static str,
+) -> Option<UsageFault<'a>> {
     let word = word_in(found, name)?;
-    Some(UsageFault::Key(word, syntax_fault_in(form, word.as_bytes())?))
+    let fault = syntax_fault_in(form, word.as_bytes())?;
+    Some(UsageFault::Bytes(what, word, fault))
 }
 
-/// The first word under these names that is no KEY.
-fn first_wrong_key<'a>(found: &ArgMatches<'a>, names: &[&str]) -> Option<UsageFault<'a>> {
+/// The first word that spells no bytes.
+fn first_wrong_bytes<'a>(found: &ArgMatches<'a>) -> Option<UsageFault<'a>> {
     let form = form_in(found);
-    for name in names {
-        if let Some(fault) = wrong_key(form, found, name) {
+    for name in ["KEY", "from", "to", "prefix"] {
+        if let Some(fault) = wrong_bytes(form, found, name, "KEY") {
             return Some(fault);
         }
     }
-    None
+    wrong_bytes(form, found, "VALUE", "VALUE")
 }
 
 /// What is wrong with the words of the command that was found; none where nothing is seen here.
 pub(crate) fn fault_in<'a>(matches: &ArgMatches<'a>) -> Option<UsageFault<'a>> {
     let (_, found) = matches.subcommand()?;
-    if let Some(fault) = first_wrong_key(found, &["KEY", "from", "to"]) {
+    if let Some(fault) = first_wrong_bytes(found) {
         return Some(fault);
     }
     if let Some(word) = word_in(found, "COMMAND") {
         return Some(UsageFault::Command(word));
     }
+    if let Some(word) = word_in(found, "limit") {
+        return Some(UsageFault::Limit(word));
+    }
     Some(UsageFault::Workers(word_in(found, "workers")?))
 }
 
-/// Writes why a word is no KEY.
-fn write_key<W: fmt::Write>(
+/// Writes why a word spells no KEY or VALUE.
+fn write_bytes<W: fmt::Write>(
     f: &mut fmt::Formatter<W>,
+    what: &str,
     word: &str,
     fault: SyntaxFault,
 ) -> fmt::Result {
@@ -56,12 +69,12 @@ fn write_key<W: fmt::Write>(
     match fault.form {
         Form::Text => write!(
             f,
-            "KEY `{word}` is no word of text: column {column}: {fault}"
+            "{what} `{word}` is no word of text: column {column}: {fault}"
         ),
         Form::Hex => {
             write!(
                 f,
-                "KEY `{word}` is no word in hex: column {column}: {fault}"
+                "{what} `{word}` is no word in hex: column {column}: {fault}"
             )?;
             if syntax_fault_in(Form::Text, word.as_bytes()).is_none() {
                 f.write_str("; with --text it is one")?;
@@ -74,7 +87,8 @@ fn write_key<W: fmt::Write>(
 impl<'a> fmt::Display for UsageFault<'a> {
     fn fmt<W: fmt::Write>(&self, f: &mut fmt::Formatter<W>) -> fmt::Result {
         match self {
-            UsageFault::Key(word, fault) => write_key(f, word, *fault),
+            UsageFault::Bytes(what, word, fault) => write_bytes(f, what, word, *fault),
+            UsageFault::Limit(word) => write!(f, "`{word}` is no number of pairs"),
             UsageFault::Workers(word) => write!(f, "`{word}` is no number of workers, 1 to 8"),
             UsageFault::Command(word) => write!(f, "`{word}` is no command"),
         }

@@ -2,12 +2,15 @@
 
 use crate::ingest_options::IngestOptions;
 use crate::input::Input;
+use lsm_batch::Write;
 
 /// A command that writes a directory.
-#[derive(Clone, Copy, Debug)]
+#[derive(Debug, Drop)]
 pub enum WritingCommand<'a> {
     /// The batch that this input spells comes in.
     Ingest(Input<'a>, IngestOptions),
+    /// The batch of this one write comes in.
+    WriteKey(Write, IngestOptions),
     /// The files that no version needs any more are removed.
     Clean,
 }

@@ -1,6 +1,7 @@
 //! A batch comes into a directory.
 
 pub(crate) mod batch_input;
+pub(crate) mod one_write;
 pub(crate) mod preparing;
 pub(crate) mod program;
 pub(crate) mod start;

@@ -1,10 +1,10 @@
-//! The commands of the program `lsm` that write in a LevelDB folder: `ingest`, `compact` and
-//! `clean`.
+//! The commands of the program `lsm` that write in a LevelDB folder: `ingest`, `put` and `delete`,
+//! `compact` and `clean`.
 //!
 //! Stands on `lsm_directory` for the folder, its lock and its logs, on `lsm_state` for what comes
-//! in, and on `lsm_store` for the workers that compact. Its contract: `run_ingest`, `run_compact` and
-//! `run_clean` do what the words of a command line ask, and answer the exit status, by one clause for
-//! each.
+//! in, and on `lsm_store` for the workers that compact. Its contract: `run_ingest`, `run_write`,
+//! `run_compact` and `run_clean` do what the words of a command line ask, and answer the exit
+//! status, by one clause for each.
 #![tactic(auto)]
 
 // A command each.
@@ -26,7 +26,7 @@ pub use faults::compact_fault::CompactFault;
 pub use faults::writer_fault::WriterFault;
 pub use ingesting::batch_input::read_batch;
 pub use ingesting::preparing::prepare;
-pub use ingesting::program::{ingest, run_ingest};
+pub use ingesting::program::{ingest, run_ingest, run_write};
 pub use ingesting::start::{Prepared, Start};
 pub use ingesting::starting::start;
 pub use parts::{NewParts, Parts};

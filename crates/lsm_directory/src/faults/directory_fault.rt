@@ -40,10 +40,13 @@ pub enum DirectoryFault {
     NumbersSpent,
     /// Another program holds the lock of the folder.
     Locked,
+    /// The key has no value, where the exit status is to tell that.
+    Absent,
 }
 
 impl DirectoryFault {
-    /// The number of the refusal in docs/FORMATS.md; none of a write that failed.
+    /// The number of the refusal in docs/FORMATS.md; none of a write that failed, and of a key that
+    /// is absent.
     pub fn number(&self) -> Option<u8>
         ensures { result ≡ number_of self.now }
     {
@@ -56,6 +59,7 @@ impl DirectoryFault {
             DirectoryFault::Read(fault) => Some(fault.number()),
             DirectoryFault::NumbersSpent => Some(46),
             DirectoryFault::Locked => Some(52),
+            DirectoryFault::Absent => None,
         }
     }
 
@@ -76,6 +80,7 @@ impl fmt::Display for DirectoryFault {
     fn fmt<W: fmt::Write>(&self, f: &mut fmt::Formatter<W>) -> fmt::Result {
         let refusal = match self {
             DirectoryFault::Write => return f.write_str("write fault"),
+            DirectoryFault::Absent => return f.write_str("absent"),
             DirectoryFault::OutOfMemory => Refusal::of_table(TableFault::OutOfMemory),
             DirectoryFault::Shelf(fault) => Refusal::of_shelf(*fault),
             DirectoryFault::Manifest(fault) => of_manifest(*fault),

@@ -1,6 +1,6 @@
-//! One run of `ingest`.
+//! One run of `ingest`, `put` or `delete`.
 
-ghost use Rattle.std.specs.Prelude.{◌≡◌, ◌≢◌, IfErr, OnErr, OnOk};
+ghost use Rattle.std.specs.Prelude.{◌≡◌, ◌≢◌, ◌∷◌, [], IfErr, OnErr, OnOk};
 ghost use Rattle.std.specs.Io.KnownBytes.{Keeps};
 ghost use Rattle.lsm_shelf.specs.Stored.{Stored};
 ghost use Rattle.lsm_writing.specs.Ingesting.{IsBroughtIn, IsNotBroughtIn};
@@ -11,9 +11,10 @@ ghost use Rattle.lsm_writing.specs.declared.faults.writer_fault.WriterFault.{Wri
 use crate::faults::writer_fault::WriterFault;
 use crate::ingesting::batch_input::read_batch;
 use crate::ingesting::bring_in;
+use crate::ingesting::one_write::batch_of;
 use crate::ingesting::preparing::prepare;
 use crate::ingesting::start::Prepared;
-use lsm_batch::Batch;
+use lsm_batch::{Batch, Write as KeyWrite};
 use lsm_directory::{Known, Paths, Unopened, open_at, refuse, status_of};
 use lsm_folder::{FolderCalls, Reasons};
 use lsm_storage::FileShelf;
@@ -79,6 +80,47 @@ where
     let shelf = FileShelf::over(folder);
     let (done, _shelf) = bring_in(rt, paths.alloc(), shelf, &prepared, batch, out);
     done
+}
+
+/// Brings the batch of one write into the folder at a path, writes `file N first L last L`, and
+/// answers the exit status, as `ingest` does.
+pub fn run_write<C, P, R, O, E>(
+    rt: &R,
+    paths: &P,
+    path: &str,
+    options: IngestOptions,
+    write: &KeyWrite,
+    out: &mut O,
+    err: &mut E,
+) -> u8
+where
+    C: FolderCalls + Send + Sync,
+    C::Mark: Send + Sync,
+    P: Paths<C>,
+    R: Wait,
+    O: Write,
+    E: Write,
+    ensures done { result ≡ 0 → ComesInAt C.FolderCalls path.now options (write.now ∷ [])
+        (O.contents out.old) (O.contents out.new) }
+    ensures refused { result ≢ 0 → (result ≡ 1) × FailsToBringIn C.FolderCalls C.Mark.Mark
+        path.now options (write.now ∷ []) (O.contents out.old) (O.contents out.new) }
+    ensures quiet { result ≡ 0 → Keeps (E.contents err.old) (E.contents err.new) }
+{
+    let reasons = match Reasons::new(paths.alloc()) {
+        Ok(reasons) => reasons,
+        Err(fault) => return refuse(WriterFault::from(fault), err),
+    };
+    let batch = match batch_of(paths.alloc(), write) {
+        Ok(batch) => batch,
+        Err(fault) => return refuse(WriterFault::from(fault), err),
+    };
+    let done = ingest_at(rt, paths, path, options, &batch, &reasons, out);
+    let known = Known {
+        writes: batch.writes(),
+        reasons: Some(&reasons),
+        names_files: false,
+    };
+    status_of(done, known, err)
 }
 
 /// Brings the batch that an input spells into the folder at a path, and answers the exit status.

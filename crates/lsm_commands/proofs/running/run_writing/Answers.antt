@@ -5,3 +5,9 @@ returns-in-Ingest-clause-done g c = rw c.in-Ingest.is c.run_ingest.ensures.done
 
 pub returns-in-Ingest-clause-refused : goal.returns-in-Ingest-clause-refused
 returns-in-Ingest-clause-refused g c = rw c.in-Ingest.is c.run_ingest.ensures.refused
+
+pub returns-in-WriteKey-clause-done : goal.returns-in-WriteKey-clause-done
+returns-in-WriteKey-clause-done g c = rw c.in-WriteKey.is c.run_write.ensures.done
+
+pub returns-in-WriteKey-clause-refused : goal.returns-in-WriteKey-clause-refused
+returns-in-WriteKey-clause-refused g c = rw c.in-WriteKey.is c.run_write.ensures.refused

@@ -11,7 +11,7 @@ returns-clause-done g c =
 pub returns-clause-fault : goal.returns-clause-fault
 returns-clause-fault g c =
     let Stored : ℕ → List ℕ → Type 0 = λ number image. (r : g.row.S-Receipt.Denot) × g.S.Shelf.is_of g.N.Naming.place r × (g.S.Receipt.TableReceipt.number r ≡ number) × (g.S.Receipt.TableReceipt.image r ≡ image) in
-    is_fault Stored (g.S.Shelf.refuses g.N.Naming.place) g.S.Shelf.honest c.perform_on.result _ _ _ _ _ _ _ c.perform_on.ensures.told c.in_ok-opened.ensures.opened c.perform_on.ensures.fault
+    is_fault Stored (g.S.Shelf.refuses g.N.Naming.place) g.S.Shelf.honest c.perform_on.result c.args.inquiry.now.command.now _ _ _ _ _ _ _ c.perform_on.ensures.told c.in_ok-opened.ensures.opened c.perform_on.ensures.fault
 
 pub returns-clause-left : goal.returns-clause-left
 returns-clause-left g c =
@@ -22,7 +22,7 @@ pub returns-in_err-opened-clause-fault : goal.returns-in_err-opened-clause-fault
 returns-in_err-opened-clause-fault g c =
     let p = err_from_is_err_and c.from_residual-in_err-opened.result c.from_residual-in_err-opened.ensures.1 in
     let Stored : ℕ → List ℕ → Type 0 = λ number image. (r : g.row.S-Receipt.Denot) × g.S.Shelf.is_of g.N.Naming.place r × (g.S.Receipt.TableReceipt.number r ≡ number) × (g.S.Receipt.TableReceipt.image r ≡ image) in
-    rw (p.1, p.2) (fault_from_open Stored (g.S.Shelf.refuses g.N.Naming.place) g.S.Shelf.honest c.in_err-opened.field-0.0 _ _ c.in_err-opened.ensures.refused)
+    rw (p.1, p.2) (fault_from_open Stored (g.S.Shelf.refuses g.N.Naming.place) g.S.Shelf.honest c.args.inquiry.now.command.now c.in_err-opened.field-0.0 _ _ c.in_err-opened.ensures.refused)
 
 pub returns-in_err-opened-clause-left : goal.returns-in_err-opened-clause-left
 returns-in_err-opened-clause-left g c =

@@ -1,37 +1,25 @@
-use Rattle.std.proofs.Common.{◌≡◌, true, false, sym, ap, ◌∙◌}
-use Rattle.std.specs.Io.KnownBytes.{Appends}
+use Rattle.std.proofs.Common.{◌≢◌, List, true, false, ◌≡◌, ◌∷◌}
+use Rattle.lsm_codec.specs.Keys.{UserKey, UserLe}
+use Rattle.lsm_levels.specs.Scanning.{Pair}
 use Rattle.lsm_merger.specs.Shown.{user_shown, value_shown}
-use Rattle.lsm_text.specs.KeyBounds.{is_from, is_to}
-use Rattle.lsm_reading.specs.Scanned.{pair_line}
-use Rattle.lsm_reading.proofs.ScanLaws.{none_above, none_left, passed_below, printed_within}
+use Rattle.lsm_text.specs.KeyBounds.{is_within}
+use Rattle.lsm_reading.specs.Scanned.{Passes}
+use Rattle.lsm_reading.proofs.ScanLaws.{next_none, next_passed}
 use Rattle.lsm_reading.proofs.scanning.print_next.Goals as goal
 
 pub returns-then-not-branch-clause-next : goal.returns-then-not-branch-clause-next
 returns-then-not-branch-clause-next g c = λ honest.
     let step = rw c.if-not-branch.true at (c.in_ok-step_by.ensures.ok honest) in
-    none_left c.args.form c.args.bounds.now c.args.scan.now c.step_by.new.self _ step
-
-pub returns-then-not-is_to-clause-next : goal.returns-then-not-is_to-clause-next
-returns-then-not-is_to-clause-next g c = λ honest.
-    let step = rw c.if-not-branch.false at (c.in_ok-step_by.ensures.ok honest) in
-    let here = c.step_by.new.self.here in
-    let above : is_to c.args.bounds.now.to (user_shown here) ≡ false = ap (is_to c.args.bounds.now.to) (sym c.user-key.ensures) ∙ sym c.is_to.ensures ∙ c.if-not-is_to.true in
-    none_above c.args.form c.args.bounds.now c.args.scan.now c.step_by.new.self _ step (c.requires.ascending honest) above
-
-pub returns-then-not-is_from-clause-next : goal.returns-then-not-is_from-clause-next
-returns-then-not-is_from-clause-next g c = λ honest.
-    let step = rw c.if-not-branch.false at (c.in_ok-step_by.ensures.ok honest) in
-    let here = c.step_by.new.self.here in
-    let below : is_from c.args.bounds.now.from (user_shown here) ≡ false = ap (is_from c.args.bounds.now.from) (sym c.user-key.ensures) ∙ sym c.is_from.ensures ∙ c.if-not-is_from.true in
-    passed_below c.args.form c.args.bounds.now c.args.scan.now c.step_by.new.self _ step below
+    next_none c.args.form c.args.options.now c.args.scan.now c.step_by.new.self c.args.printed.now _ step
 
 pub returns-clause-next : goal.returns-clause-next
 returns-clause-next g c = λ honest.
     let step = rw c.if-not-branch.false at (c.in_ok-step_by.ensures.ok honest) in
     let here = c.step_by.new.self.here in
-    let to : is_to c.args.bounds.now.to (user_shown here) ≡ true = ap (is_to c.args.bounds.now.to) (sym c.user-key.ensures) ∙ sym c.is_to.ensures ∙ c.if-not-is_to.false in
-    let from : is_from c.args.bounds.now.from (user_shown here) ≡ true = ap (is_from c.args.bounds.now.from) (sym c.user-key.ensures) ∙ sym c.is_from.ensures ∙ c.if-not-is_from.false in
-    let printed : Appends (g.O.Write.contents c.args.out.now) (g.O.Write.contents c.print_pair.new.out) (pair_line c.args.form (user_shown here, value_shown here)) =
-    rw (← c.user-key.ensures, ← c.value.ensures) c.in_ok-print_pair.ensures.printed
+    let options = c.args.options.now in
+    let passed : (left : List Pair) → Passes c.args.form options ((user_shown here, value_shown here) ∷ left) left c.args.printed.now c.print_within.new.printed
+    (g.O.Write.contents c.args.out.now) (g.O.Write.contents c.print_within.new.out) = rw (← c.user-key.ensures, ← c.value.ensures) c.in_ok-print_within.ensures.passed in
+    let none : c.ends_at.result ≡ true → (later : UserKey) → UserLe (user_shown here) later → user_shown here ≢ later → is_within options.bounds later ≡ false =
+    rw (← c.user-key.ensures) c.ends_at.ensures.none
     in
-    printed_within c.args.form c.args.bounds.now c.args.scan.now c.step_by.new.self _ _ step to from printed
+    next_passed c.args.form options c.ends_at.result c.args.scan.now c.step_by.new.self _ _ _ _ step (c.requires.ascending honest) passed none

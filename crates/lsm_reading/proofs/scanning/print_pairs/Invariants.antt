@@ -1,9 +1,9 @@
-use Rattle.std.proofs.Common.{◌≡◌}
+use Rattle.std.proofs.Common.{◌≡◌, ◌≤◌}
 use Rattle.std.specs.Prelude.{IsFalse}
 use Rattle.std.specs.Io.KnownBytes.{Keeps}
 use Rattle.lsm_table.specs.Told.{Becomes}
 use Rattle.lsm_levels.specs.Scanning.{UsersAscend}
-use Rattle.lsm_reading.proofs.ScanLaws.{PrintsFront}
+use Rattle.lsm_reading.specs.Scanned.{Fits, Passes}
 use Rattle.lsm_reading.proofs.scanning.print_pairs.Given as goal
 
 abbrev pub invariant-loop-passed : goal.invariant-loop-passed
@@ -12,5 +12,7 @@ invariant-loop-passed g l = record {
   loan : g.B.Blocks.loan l.blocks ≡ g.B.Blocks.loan l.fn.blocks;
   quiet : IsFalse l.progress → Keeps (g.E.Write.contents l.fn.err) (g.E.Write.contents l.err);
   ascending : g.S.Shelf.honest → UsersAscend l.scan.left;
-  printed : g.S.Shelf.honest → PrintsFront l.form l.bounds l.fn.scan.left l.scan.left (g.O.Write.contents l.fn.out) (g.O.Write.contents l.out);
+  few : l.printed ≤ l.passed;
+  fits : Fits l.options.limit l.printed;
+  printed : g.S.Shelf.honest → Passes l.form l.options l.fn.scan.left l.scan.left 0 l.printed (g.O.Write.contents l.fn.out) (g.O.Write.contents l.out);
 }

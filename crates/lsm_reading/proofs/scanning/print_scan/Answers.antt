@@ -14,6 +14,6 @@ returns-in_err-scan-clause-left g c =
 
 pub returns-clause-left : goal.returns-clause-left
 returns-clause-left g c =
-    left_scan c.args.form c.print_open.result g.S.Shelf.honest c.args.bounds.now c.args.version.now c.in_ok-scan.scan.left _ _
+    left_scan c.args.form c.print_open.result g.S.Shelf.honest c.args.options.now c.args.version.now c.in_ok-scan.scan.left _ _
     (λ honest. subst (λ last. IsScan last (all_entries (files c.args.version.now)) c.in_ok-scan.scan.left) c.last.ensures.last (c.in_ok-scan.ensures.scanned honest))
     c.print_open.ensures.left

@@ -11,5 +11,5 @@ returns c =
     (c.also-ingest.ensures _ _ c.titled.ensures c.folder.ensures.rule c.folder.ensures.local)
     c.word-keys.ensures.rule c.word-keys.ensures.local)
     c.text.ensures.rule c.text.ensures.local)
-    c.flag-begin.ensures.rule c.flag-begin.ensures.local)
-    c.flag-beside_log.ensures.rule c.flag-beside_log.ensures.local
+    c.begin.ensures.rule c.begin.ensures.local)
+    c.beside_log.ensures.rule c.beside_log.ensures.local
