@@ -11,8 +11,9 @@ use Rattle.lsm_text.specs.Requests.{AskHelp, AskNothing, Asks, HaveUsageFault}
 use Rattle.lsm_text.specs.declared.conversion.Conversion.{Conversion}
 use Rattle.lsm_text.specs.declared.fault.Fault.{Fault}
 use Rattle.lsm_text.specs.declared.input.Input.{Input}
+use Rattle.lsm_text.specs.declared.input.Input.TheVariants.{Standard}
 use Rattle.lsm_text.specs.declared.request.Request.{Request}
-use Rattle.lsm_text.specs.declared.request.Request.TheVariants.{Convert, Look, Write as WriteFolder, Compact, Script}
+use Rattle.lsm_text.specs.declared.request.Request.TheVariants.{Convert, Look, Write as WriteFolder, Compact, Script, Shell}
 use Rattle.lsm_text.specs.declared.writing_command.WritingCommand.{WritingCommand}
 use Rattle.lsm_text.specs.declared.writing_command.WritingCommand.TheVariants.{Ingest, WriteKey, Clean}
 use Rattle.lsm_commands.specs.Commands.{IsConverted, IsNotConverted}
@@ -20,6 +21,7 @@ use Rattle.lsm_commands.specs.Played.{IsScriptDone, IsScriptRefused}
 use Rattle.lsm_directory.specs.declared.faults.directory_fault.DirectoryFault.{DirectoryFault}
 use Rattle.lsm_writing.specs.declared.faults.writer_fault.WriterFault.{WriterFault}
 use Rattle.lsm_reading.specs.Looked.{FailsToLook, LooksAt}
+use Rattle.lsm_shell.specs.Talked.{FailsToTalk, TalksAt}
 use Rattle.lsm_writing.specs.Cleaned.{FailsToClean, IsCleanedAt}
 use Rattle.lsm_writing.specs.Compacted.{IsCompactedAt, IsUncompacted}
 use Rattle.lsm_writing.specs.Ingested.{ComesInAt, FailsToBringIn, IsIngested, IsUningested}
@@ -56,6 +58,7 @@ module _ {C M : Type 0} (folders : Ghosts C M) where
   IsDone text (WriteFolder line) old new said_old said_new = IsWritten text line.path.now line.command old new × Keeps said_old said_new
   IsDone text (Compact line) old new said_old said_new = IsCompactedAt folders line old new × (IsFalse line.options.progress → Keeps said_old said_new)
   IsDone text (Script input) old new said_old said_new = IsPlayed (text input) old new × Keeps said_old said_new
+  IsDone text (Shell line) old new said_old said_new = TalksAt folders line.path.now line.options (text Standard) old new × Keeps said_old said_new
 
   -- The words ask for a command, which was done; or they ask for help, which was written, and nothing was on standard error.
   abbrev pub AreDone : (Input → Option (List ℕ)) → List Text → (old new said_old said_new : Option (List ℕ)) → Type 0
@@ -79,6 +82,7 @@ module _ {C M : Type 0} (folders : Ghosts C M) (marks : mark.Ghosts M) where
   IsUndone text (WriteFolder line) old new = IsUnwritten text line.path.now line.command old new
   IsUndone text (Compact line) old new = IsUncompacted folders marks line old new
   IsUndone text (Script input) old new = IsUnplayed (text input) old new
+  IsUndone text (Shell line) old new = FailsToTalk folders marks line.path.now line.options (text Standard) old new
 
   -- The words ask for a command, which was not done; or for help, of which a beginning was written; or memory ran out before they were read.
   abbrev pub AreUndone : (Input → Option (List ℕ)) → List Text → (old new : Option (List ℕ)) → Type 0

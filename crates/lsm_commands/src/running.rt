@@ -13,6 +13,7 @@ use crate::playing::program::run_script;
 use lsm_directory::{Known, Paths, refuse, status_of};
 use lsm_folder::FolderCalls;
 use lsm_reading::run_look;
+use lsm_shell::run_shell;
 use lsm_text::{CommandLine, Fault, Request, WritingCommand, WritingLine, read_line, write_output};
 use lsm_writing::{run_clean, run_compact, run_ingest, run_write};
 use std::convert::AsStr;
@@ -126,6 +127,7 @@ where
         Request::Write(line) => run_writing(rt, paths, line, &mut input, out, err),
         Request::Compact(line) => run_compact(rt, paths, line, out, err),
         Request::Script(found) => run_script(rt, paths, *found, input, out, err),
+        Request::Shell(line) => run_shell(rt, paths, line.path, line.options, input, out, err),
     }
 }
 
