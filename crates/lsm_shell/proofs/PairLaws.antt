@@ -1,13 +1,11 @@
 -- What a scan shows, pair by pair.
 use Rattle.std.proofs.Common.{◌≡◌, ◌≢◌, ℕ, ◌-◌, ◌<◌, zero, suc, Bool, true, false, List, [], ◌∷◌, ◌++◌, take, Option, Some, None, refl, sym, ap, ◌∙◌, subst, append_assoc, append-nil, inl, inr, arith}
-use Rattle.std.specs.Prelude.{◌&&◌, ◌⊎◌, Result, Ok, Err, IfErr}
+use Rattle.std.specs.Prelude.{◌⊎◌, Result, Ok, Err, IfErr}
 use Rattle.std.specs.List.{flat_map, filter}
 use Rattle.std.specs.Io.KnownBytes.{Appends, Keeps}
 use Rattle.std.proofs.KnownBytes.{Appends-kept, Appends-nil, Appends-trans, Keeps-refl}
-use Rattle.std.proofs.lemmas.Bool.{cases_Bool}
 use Rattle.std.proofs.lemmas.Grind.{flat_map-append}
-use Rattle.lsm_codec.specs.Keys.{UserKey, UserLe, user_le}
-use Rattle.lsm_codec.proofs.CallerLemmas.{user_le_trans}
+use Rattle.lsm_codec.specs.Keys.{UserKey, UserLe}
 use Rattle.lsm_codec.specs.Lists.{Has}
 use Rattle.lsm_levels.specs.Files.{all_entries}
 use Rattle.lsm_levels.specs.Scanning.{IsScan, Pair, UsersAscend}
@@ -15,7 +13,7 @@ use Rattle.lsm_merger.specs.Shown.{Showing, ShowsNext, user_shown, value_shown}
 use Rattle.lsm_shelf.specs.Told.{Becomes, Told}
 use Rattle.lsm_table.proofs.CallerLemmas.{read_counted_later}
 use Rattle.lsm_version.specs.Versions.{Levels, files}
-use Rattle.lsm_text.specs.KeyBounds.{is_from, is_to, is_within}
+use Rattle.lsm_text.specs.KeyBounds.{is_within}
 use Rattle.lsm_text.specs.declared.form.Form.{Form}
 use Rattle.lsm_text.specs.declared.key_bounds.KeyBounds.{KeyBounds}
 use Rattle.lsm_shell.specs.Pairs.{IsFront, IsScanFault, IsWrite, PrintsLeft, PrintsNext, PrintsVersion, Steps, limited, one_less, pair_line, pairs_text, shown}
@@ -27,60 +25,34 @@ use Rattle.lsm_shell.specs.declared.pairs.Step.TheVariants.{End, Outside, Within
 abbrev pub within : KeyBounds → List Pair → List Pair
 within bounds pairs = filter (λ p. is_within bounds p.0) pairs
 
--- ---- a pair
-
-both : (a b : Bool) → a ≡ true → b ≡ true → (a && b) ≡ true
-both true b h k = k
-both false b h k = absurd cc
-
-not_second : (a b : Bool) → b ≡ false → (a && b) ≡ false
-not_second true b k = k
-not_second false b k = refl
-
--- ---- a key above the bounds, and all behind it
-
-above_to : (to : Option UserKey) (a b : UserKey) → UserLe a b → is_to to a ≡ false → is_to to b ≡ false
-above_to None a b le h = absurd cc
-above_to (Some to) a b le h = elim (cases_Bool (user_le b to)) [
-  | inl in_bounds ↦ let reaches : user_le a to ≡ true = user_le_trans a b to le in_bounds in absurd cc
-  | inr past ↦ past
-]
-
-all_above : (bounds : KeyBounds) (a : UserKey) (ps : List Pair) → ((q : Pair) → Has ps q → UserLe a q.0 × (a ≡ q.0 → ⊥)) → is_to bounds.to a ≡ false → within bounds ps ≡ []
-all_above bounds a [] below h = refl
-all_above bounds a (q ∷ qs) below h =
-    let past : is_within bounds q.0 ≡ false = not_second (is_from bounds.from q.0) (is_to bounds.to q.0) (above_to bounds.to a q.0 (below q (inl refl)).0 h) in
-    rw past (all_above bounds a qs (λ r has. below r (inr has)) h)
-
-head_above : (bounds : KeyBounds) (p : Pair) (ps : List Pair) → UsersAscend (p ∷ ps) → is_to bounds.to p.0 ≡ false → within bounds (p ∷ ps) ≡ []
-head_above bounds p ps up h =
-    let past : is_within bounds p.0 ≡ false = not_second (is_from bounds.from p.0) (is_to bounds.to p.0) h in
-    rw past (all_above bounds p.0 ps up.0 h)
-
 -- ---- a step of the scan
 
 pub ends_empty : (bounds : KeyBounds) (old new : Showing) → ShowsNext false old new → Steps bounds old.left new End
 ends_empty bounds old new step = ap (within bounds) step.1
 
-pub ends_above : (bounds : KeyBounds) (old new : Showing) → ShowsNext true old new → UsersAscend old.left → is_to bounds.to (user_shown new.here) ≡ false → Steps bounds old.left new End
-ends_above bounds old new step up h =
-    let p = step.0 in
-    let above : is_to bounds.to p.0 ≡ false = subst (λ o. is_to bounds.to (user_shown o) ≡ false) step.1 h in
-    ap (within bounds) step.2 ∙ head_above bounds p new.left (subst UsersAscend step.2 up) above
+none_later : (bounds : KeyBounds) (a : UserKey) (ps : List Pair) → ((later : UserKey) → UserLe a later → (a ≡ later → ⊥) → is_within bounds later ≡ false)
+    → ((q : Pair) → Has ps q → UserLe a q.0 × (a ≡ q.0 → ⊥)) → within bounds ps ≡ []
+none_later bounds a [] none below = refl
+none_later bounds a (q ∷ qs) none below =
+    let out : is_within bounds q.0 ≡ false = none q.0 (below q (inl refl)).0 (below q (inl refl)).1 in
+    rw out (none_later bounds a qs none (λ r has. below r (inr has)))
 
-pub stands_outside : (bounds : KeyBounds) (old new : Showing) → ShowsNext true old new → is_from bounds.from (user_shown new.here) ≡ false → Steps bounds old.left new Outside
-stands_outside bounds old new step h =
+pub ends_here : (bounds : KeyBounds) (old new : Showing) → ShowsNext true old new → UsersAscend old.left → is_within bounds (user_shown new.here) ≡ false
+    → ((later : UserKey) → UserLe (user_shown new.here) later → (user_shown new.here ≡ later → ⊥) → is_within bounds later ≡ false) → Steps bounds old.left new End
+ends_here bounds old new step up h none =
     let p = step.0 in
-    let below : is_from bounds.from p.0 ≡ false = subst (λ o. is_from bounds.from (user_shown o) ≡ false) step.1 h in
-    (p, step.2, rw below refl)
+    let out : is_within bounds p.0 ≡ false = subst (λ o. is_within bounds (user_shown o) ≡ false) step.1 h in
+    let later : (k : UserKey) → UserLe p.0 k → (p.0 ≡ k → ⊥) → is_within bounds k ≡ false =
+    subst (λ o. (k : UserKey) → UserLe (user_shown o) k → (user_shown o ≡ k → ⊥) → is_within bounds k ≡ false) step.1 none
+    in
+    let rest : within bounds new.left ≡ [] = none_later bounds p.0 new.left later (subst UsersAscend step.2 up).0 in
+    ap (within bounds) step.2 ∙ rw out rest
 
-pub stands_within : (bounds : KeyBounds) (old new : Showing) → ShowsNext true old new → is_to bounds.to (user_shown new.here) ≡ true → is_from bounds.from (user_shown new.here) ≡ true
-    → Steps bounds old.left new Within
-stands_within bounds old new step h k =
-    let p = step.0 in
-    let to : is_to bounds.to p.0 ≡ true = subst (λ o. is_to bounds.to (user_shown o) ≡ true) step.1 h in
-    let from : is_from bounds.from p.0 ≡ true = subst (λ o. is_from bounds.from (user_shown o) ≡ true) step.1 k in
-    (p, step.2, both (is_from bounds.from p.0) (is_to bounds.to p.0) from to, step.1)
+pub stands_outside : (bounds : KeyBounds) (old new : Showing) → ShowsNext true old new → is_within bounds (user_shown new.here) ≡ false → Steps bounds old.left new Outside
+stands_outside bounds old new step h = (step.0, step.2, subst (λ o. is_within bounds (user_shown o) ≡ false) step.1 h)
+
+pub stands_within : (bounds : KeyBounds) (old new : Showing) → ShowsNext true old new → is_within bounds (user_shown new.here) ≡ true → Steps bounds old.left new Within
+stands_within bounds old new step h = (step.0, step.2, subst (λ o. is_within bounds (user_shown o) ≡ true) step.1 h, step.1)
 
 -- ---- what is left to show
 

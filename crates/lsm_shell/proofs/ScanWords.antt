@@ -65,7 +65,7 @@ limited_some form ws b n h ends number = record {
 no_ends : (form : Form) (ws : List (List ℕ)) (b : KeyBounds) → HasLimit ws → AreEnds form ws b → ⊥
 no_ends form [] b h k = let low = h.0 in omega (arith, low)
 no_ends form (f ∷ []) b h k = let low = h.0 in omega (arith, low)
-no_ends form (f ∷ t ∷ []) b h k = k.4 h.1
+no_ends form (f ∷ t ∷ []) b h k = k.3 h.1
 no_ends form (f ∷ t ∷ w ∷ ws) b h k = k
 
 pub no_number : (form : Form) (ws : List (List ℕ)) → HasLimit ws → ((n : ℕ) → IsNumberWord (2 ^ 64 - 1) (get_or ws (length ws - 1) []) n → ⊥) → (b : KeyBounds) (l : Option ℕ) → IsScanRest form ws b l → ⊥
@@ -119,7 +119,7 @@ last_word ws h =
 pub begins_limit : (form : Form) (ws : List Word) (b : KeyBounds) → 2 ≤ length ws → length ws < 3 → (get_or ws 0 blank).now ≡ codes "limit" → AreEnds form (texts ws) b → ⊥
 begins_limit form [] b low high name h = omega (arith, low)
 begins_limit form (f ∷ []) b low high name h = omega (arith, low)
-begins_limit form (f ∷ t ∷ []) b low high name h = h.4 name
+begins_limit form (f ∷ t ∷ []) b low high name h = h.3 name
 begins_limit form (f ∷ t ∷ w ∷ ws) b low high name h = h
 
 -- ---- behind the name

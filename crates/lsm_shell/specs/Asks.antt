@@ -37,12 +37,16 @@ IsOneWrite form words c = (w : Write) × (c ≡ Ingest (w ∷ [])) × (IsPut for
 
 -- ---- scans
 
+-- from one to another, whatever a key begins with
+abbrev pub IsFromTo : Option (List ℕ) → Option (List ℕ) → KeyBounds → Type 0
+IsFromTo from to b = (b.from ≡ from) × (b.to ≡ to) × (b.prefix ≡ None)
+
 -- `[FROM [TO]]`; where both stand, FROM is not the word `limit`
 abbrev pub AreEnds : Form → List (List ℕ) → KeyBounds → Type 0
-AreEnds form [] b = (b.from ≡ None) × (b.to ≡ None)
-AreEnds form (f ∷ []) b = (from : List ℕ) × (b.from ≡ Some from) × (b.to ≡ None) × IsWord form f from
+AreEnds form [] b = IsFromTo None None b
+AreEnds form (f ∷ []) b = (from : List ℕ) × IsFromTo (Some from) None b × IsWord form f from
 AreEnds form (f ∷ t ∷ []) b =
-    (from : List ℕ) × (to : List ℕ) × (b.from ≡ Some from) × (b.to ≡ Some to) × (f ≢ codes "limit") × IsWord form f from × IsWord form t to
+    (from : List ℕ) × (to : List ℕ) × IsFromTo (Some from) (Some to) b × (f ≢ codes "limit") × IsWord form f from × IsWord form t to
 AreEnds form (f ∷ t ∷ w ∷ ws) b = ⊥
 
 -- `[limit N]`

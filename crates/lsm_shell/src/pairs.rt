@@ -57,14 +57,13 @@ fn take_step<N: Naming, S: Shelf, B: Blocks<N, S>>(
         return Ok(Step::End);
     }
     let key = scan.user();
-    if !bounds.is_to(key) {
+    if bounds.is_within(key) {
+        return Ok(Step::Within);
+    }
+    if bounds.ends_at(key) {
         return Ok(Step::End);
     }
-    if bounds.is_from(key) {
-        Ok(Step::Within)
-    } else {
-        Ok(Step::Outside)
-    }
+    Ok(Step::Outside)
 }
 
 /// Appends the line of a pair: `KEY=VALUE`.

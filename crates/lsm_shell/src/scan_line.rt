@@ -17,11 +17,13 @@ fn bounds_in(alloc: Global, form: Form, ends: &[&[u8]]) -> Result<Option<KeyBoun
         [] => Ok(Some(KeyBounds {
             from: None,
             to: None,
+            prefix: None,
         })),
         [from] => match form.read_bytes(alloc, from)? {
             Some(from) => Ok(Some(KeyBounds {
                 from: Some(from),
                 to: None,
+                prefix: None,
             })),
             None => Ok(None),
         },
@@ -36,6 +38,7 @@ fn bounds_in(alloc: Global, form: Form, ends: &[&[u8]]) -> Result<Option<KeyBoun
                 Some(to) => Ok(Some(KeyBounds {
                     from: Some(from),
                     to: Some(to),
+                    prefix: None,
                 })),
                 None => Ok(None),
             }
