@@ -1,14 +1,16 @@
 //! A scan, printed as it goes.
 
 ghost use Rattle.std.specs.Prelude.{◌≡◌, ◌≢◌, ◌≤◌, ◌<◌, ◌+◌, ◌^◌, ◌++◌, ◌∷◌, List};
-ghost use Rattle.std.specs.Prelude.{IfErr, IfOk, IsFalse, OnOk};
+ghost use Rattle.std.specs.Prelude.{IfErr, IfOk, IsFalse, OnOk, true};
 ghost use Rattle.std.specs.Io.KnownBytes.{Appends, Keeps};
+ghost use Rattle.lsm_codec.specs.Keys.{UserKey, UserLe};
 ghost use Rattle.lsm_table.specs.Told.{Becomes};
 ghost use Rattle.lsm_levels.specs.Scanning.{Pair, UsersAscend};
 ghost use Rattle.lsm_reading.specs.Scanned.{BeginsPrinting, LeavesScan, Passes, PassesNext};
 ghost use Rattle.lsm_reading.specs.Scanned.{PrintsLines, PrintsScan, count_line, is_full, key_line};
 ghost use Rattle.lsm_reading.specs.Scanned.{line_of, pair_line, scan_text};
 ghost use Rattle.lsm_reading.specs.ReadFault.{IsAnswerFault, IsOutputFault};
+ghost use Rattle.lsm_text.specs.KeyBounds.{is_within};
 ghost use Rattle.lsm_directory.specs.declared.faults.directory_fault.DirectoryFault.TheVariants.{Write as WriteFault};
 
 use crate::progress::tell_keys;
@@ -282,7 +284,7 @@ fn print_open<N: Naming, S: Shelf, O: Write, E: Write>(
 
 /// A user key that none within the bounds is below: the greater one of the first key and of the
 /// bytes with which a key is to begin, as far as there are any.
-#[tactic(auto, using(crate::proofs::BoundLaws::from_any, crate::proofs::BoundLaws::from_first, crate::proofs::BoundLaws::from_prefix))]
+#[tactic(auto, using(lsm_merger::proofs::CallerLemmas::least, crate::proofs::BeginLaws::from_first, crate::proofs::BeginLaws::from_prefix))]
 fn first_within(bounds: &KeyBounds) -> &[u8]
     ensures { (key : UserKey) → is_within bounds.now key ≡ true → UserLe result.now key }
 {

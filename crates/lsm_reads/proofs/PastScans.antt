@@ -2,7 +2,7 @@
 use Rattle.std.proofs.Common.{◌≡◌, ℕ, Bool, true, false, cond, List, [], ◌∷◌, None, refl, sym, ◌∙◌, ap, subst, inl, inr}
 use Rattle.std.specs.List.{filter, flat_map}
 use Rattle.lsm_codec.specs.Entries.{Entry, answer, value_in}
-use Rattle.lsm_codec.specs.Keys.{UserKey, UserLe, user_le}
+use Rattle.lsm_codec.specs.Keys.{UserKey, user_le}
 use Rattle.lsm_codec.specs.Lists.{Has}
 use Rattle.lsm_codec.proofs.CallerLemmas.{filter_has, has_filter, user_le_antisym}
 use Rattle.lsm_levels.specs.Files.{OneEach}
@@ -15,7 +15,7 @@ use Rattle.lsm_reads.proofs.ScanLaws.{newest_same, past_scan}
 -- ---- entries have a scan
 
 -- each by itself
-singles : List Entry → List (List Placed)
+abbrev singles : List Entry → List (List Placed)
 singles [] = []
 singles (e ∷ es) = ((0, e) ∷ []) ∷ singles es
 
@@ -34,11 +34,14 @@ has_single (f ∷ es) p (inl same) = inl (ap (λ (q : Placed). q.1) same)
 has_single (f ∷ es) p (inr h) = inr (has_single es p h)
 
 pub some_scan : (s : ℕ) (es : List Entry) → OneEach es → (pairs : List Pair) × IsScan s es pairs
-some_scan s es one = (pairs_of s None merged, record {
-  right = λ k v h. sym (same k) ∙ scan.right k v h;
-  whole = λ k v h. scan.whole k v (same k ∙ h);
-  ascending = scan.ascending;
-})
+some_scan s es one = (
+  pairs_of s None merged,
+  record {
+    right = λ k v h. sym (same k) ∙ scan.right k v h;
+    whole = λ k v h. scan.whole k v (same k ∙ h);
+    ascending = scan.ascending;
+  },
+)
   where
     merged : List Entry
     merged = entries_of (merge_all (singles es))

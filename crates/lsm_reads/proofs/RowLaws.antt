@@ -1,5 +1,5 @@
 -- Tables in a row, from the first that reaches a user key on.
-use Rattle.std.proofs.Common.{◌≡◌, ◌≢◌, ℕ, zero, suc, ◌+◌, ◌<◌, ◌≤◌, Bool, true, false, cond, List, [], ◌∷◌, ◌++◌, length, get_or, drop, map, Option, None, refl, sym, ◌∙◌, ap, subst, inl, inr, arith}
+use Rattle.std.proofs.Common.{◌≡◌, ℕ, zero, suc, ◌+◌, ◌<◌, ◌≤◌, Bool, true, false, cond, List, [], ◌∷◌, ◌++◌, length, get_or, drop, map, None, refl, sym, ◌∙◌, ap, subst, inl, inr, arith}
 use Rattle.std.specs.List.{Contains, filter, flat_map}
 use Rattle.std.proofs.lemmas.Bool.{cases_lt}
 use Rattle.std.proofs.lemmas.List.Elements.{filter-append}
@@ -13,7 +13,7 @@ use Rattle.lsm_levels.specs.Files.{File, Fits, Shallower}
 use Rattle.lsm_levels.specs.Merging.{IsSorted, Placed, placed_at}
 use Rattle.lsm_merger.specs.Seeking.{IsReached, at_or_past}
 use Rattle.lsm_version.specs.Reads.{IsFirstReaching, IsSoundLevel, reaches}
-use Rattle.lsm_version.specs.Versions.{IsWhole, file_of, files_of, user_of}
+use Rattle.lsm_version.specs.Versions.{IsWhole, file_of, user_of}
 use Rattle.lsm_version.proofs.CallerLemmas.{EachAfter, each_after, has_at, has_files, sound_part, table_fits}
 use Rattle.lsm_reads.specs.Runs.{AddsRun, AreInRow, entries_after, once, run_of}
 use Rattle.lsm_reads.proofs.RunLaws.{after_has, follows_from, has_after, once_file, once_part, once_sorted}
@@ -125,19 +125,23 @@ adds_row n user depth ts us p old new pos s f is grown = record {
 -- ---- a table alone
 
 pub one_in_row : (t : Table) → IsWhole t → AreInRow (t ∷ [])
-one_in_row t w = (1, omega arith, record {
-  lawful = record {
-    fits = λ F h. elim h [ inl e ↦ subst Fits e (table_fits 1 t w) | inr none ↦ absurd none ];
-    numbers = λ F G h k same. elim h [ inl e ↦ elim k [ inl d ↦ sym e ∙ d | inr none ↦ absurd none ] | inr none ↦ absurd none ];
-    in_order = λ F G h k level pos other. elim h [ inl e ↦ elim k [ inl d ↦ absurd (other (ap (λ (H : File). H.number) (sym e ∙ d))) | inr none ↦ absurd none ] | inr none ↦ absurd none ];
-    depth = λ F G x y h k sh hx hy same. elim h [
-      | inl e ↦ elim k [ inl d ↦ absurd (no_less F G (ap (λ (H : File). H.level) e) (ap (λ (H : File). H.level) d) sh) | inr none ↦ absurd none ]
-      | inr none ↦ absurd none
-    ];
-  };
-  whole = λ u h. elim h [ inl e ↦ subst IsWhole e w | inr none ↦ absurd none ];
-  order = λ k d low lt. absurd (omega arith);
-})
+one_in_row t w = (
+  1,
+  omega arith,
+  record {
+    lawful = record {
+      fits = λ F h. elim h [ inl e ↦ subst Fits e (table_fits 1 t w) | inr none ↦ absurd none ];
+      numbers = λ F G h k same. elim h [ inl e ↦ elim k [ inl d ↦ sym e ∙ d | inr none ↦ absurd none ] | inr none ↦ absurd none ];
+      in_order = λ F G h k level pos other. elim h [ inl e ↦ elim k [ inl d ↦ absurd (other (ap (λ (H : File). H.number) (sym e ∙ d))) | inr none ↦ absurd none ] | inr none ↦ absurd none ];
+      depth = λ F G x y h k sh hx hy same. elim h [
+        | inl e ↦ elim k [ inl d ↦ absurd (no_less F G (ap (λ (H : File). H.level) e) (ap (λ (H : File). H.level) d) sh) | inr none ↦ absurd none ]
+        | inr none ↦ absurd none
+      ];
+    };
+    whole = λ u h. elim h [ inl e ↦ subst IsWhole e w | inr none ↦ absurd none ];
+    order = λ k d low lt. absurd (omega arith);
+  },
+)
   where
     no_less : (F G : File) → 1 ≡ F.level → 1 ≡ G.level → Shallower F G → ⊥
     no_less F G a b (inl lt) = absurd (omega arith)

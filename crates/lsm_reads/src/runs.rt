@@ -122,7 +122,6 @@ pub(crate) fn open_runs_from<N: Naming, S: Shelf, B: Blocks<N, S>>(
 /// Opens the tables of seven levels as the sources of a merge, each at its depth: of level 0 each
 /// table by itself, and of a deeper level the tables one after another. Of each source the first
 /// table is opened.
-#[tactic(auto, using(crate::proofs::RunLaws::runs_from_least))]
 pub fn open_runs<N: Naming, S: Shelf, B: Blocks<N, S>>(
     blocks: &mut B,
     alloc: Global,

@@ -22,7 +22,6 @@ use std::alloc::Global;
 ///
 /// `Shelf` where the shelf refused. `Table` with `OutOfMemory` where a growth was refused, and
 /// with another refusal of a table only where the shelf's bytes are not those that were put.
-#[tactic(auto, using(crate::proofs::ScanLaws::scan_from_least))]
 pub fn scan_by<N: Naming, S: Shelf, B: Blocks<N, S>>(
     version: &Version<N, S>,
     blocks: &mut B,

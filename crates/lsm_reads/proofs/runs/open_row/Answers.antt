@@ -40,8 +40,8 @@ over_from-requires-clause-reached g c κs within = λ h.
     let us = take (length ts - p) (drop p ts) in
     let r = c.requires.row h in
     let some : once None us ≡ [] → ⊥ = λ none. (let here : length c.in_ok-tables.tables.items ≡ 0 = ap length (c.in_ok-tables.ensures ∙ none) in
-        let zero : c.in_ok-tables.tables.len ≡ 0 = omega (arith, c.in_ok-tables.tables.ok) in
-        absurd (cc (sym c.is_empty.ensures ∙ c.if-is_empty.false, eq-eqb c.in_ok-tables.tables.len 0 zero))) in
+    let zero : c.in_ok-tables.tables.len ≡ 0 = omega (arith, c.in_ok-tables.tables.ok) in
+    absurd (cc (sym c.is_empty.ensures ∙ c.if-is_empty.false, eq-eqb c.in_ok-tables.tables.len 0 zero))) in
     subst (λ (xs : List Table). IsReached c.args.from.now (map image_of xs)) (sym (c.as_slice.ensures.value ∙ c.in_ok-tables.ensures))
     (reached_row r.0 c.args.from.now ts us p r.2 (c.first_reaching-first.ensures.first (level_rises r.0 ts r.1 r.2)) (take_rest ts p) some)
 
@@ -94,8 +94,8 @@ returns-clause-run g c = λ h.
     let r = c.requires.row h in
     let first = c.first_reaching-first.ensures.first (level_rises r.0 ts r.1 r.2) in
     let some : once None us ≡ [] → ⊥ = λ none. (let here : length c.in_ok-tables.tables.items ≡ 0 = ap length (c.in_ok-tables.ensures ∙ none) in
-        let zero : c.in_ok-tables.tables.len ≡ 0 = omega (arith, c.in_ok-tables.tables.ok) in
-        absurd (cc (sym c.is_empty.ensures ∙ c.if-is_empty.false, eq-eqb c.in_ok-tables.tables.len 0 zero))) in
+    let zero : c.in_ok-tables.tables.len ≡ 0 = omega (arith, c.in_ok-tables.tables.ok) in
+    absurd (cc (sym c.is_empty.ensures ∙ c.if-is_empty.false, eq-eqb c.in_ok-tables.tables.len 0 zero))) in
     let es = at_or_past user (entries_after (once None us)) in
     let old : List (List Placed) = map (λ x. x.placed) c.args.runs.now.items in
     let tables : c.as_slice.result.now ≡ once None us = c.as_slice.ensures.value ∙ c.in_ok-tables.ensures in

@@ -25,8 +25,8 @@ invariant_of-result g c =
       last_if_some c.in-Ok-seek_by.here (map image c.in-Ok.later.items) c.in-Ok-seek_by.ensures.some,
       c.in-Ok.ensures.named,
       λ honest. All-tail HasEntries (image c.copy_receipt-first.result) (map image c.in-Ok.later.items)
-      (all_of_tables c.args.tables.now c.in-Some.rest.now c.in-Some.first.now (image c.copy_receipt-first.result) (map image c.in-Ok.later.items) parts
-      (ap image c.copy_receipt-first.ensures ∙ c.record.ensures.image) c.in-Ok.ensures.images (c.requires.tables honest)),
+          (all_of_tables c.args.tables.now c.in-Some.rest.now c.in-Some.first.now (image c.copy_receipt-first.result) (map image c.in-Ok.later.items) parts
+          (ap image c.copy_receipt-first.ensures ∙ c.record.ensures.image) c.in-Ok.ensures.images (c.requires.tables honest)),
     )
 
 pub returns-in-Ok-seek_by-clause-entries : goal.returns-in-Ok-seek_by-clause-entries
