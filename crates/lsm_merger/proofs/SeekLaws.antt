@@ -1,5 +1,5 @@
 -- Seeking a user key: what is not below the greatest key of it is what is at or past it.
-use Rattle.std.proofs.Common.{◌≡◌, ◌≢◌, ℕ, ◌+◌, ◌*◌, ◌-◌, ◌^◌, ◌<◌, ◌≤◌, Bool, true, false, cond, List, [], ◌∷◌, ◌++◌, Option, Some, None, Result, Err, Ordering, Less, Equal, Greater, refl, sym, ◌∙◌, ap, subst, inl, inr, arith}
+use Rattle.std.proofs.Common.{◌≡◌, ◌≢◌, ℕ, ◌-◌, ◌^◌, ◌<◌, ◌≤◌, Bool, true, false, cond, List, [], ◌∷◌, ◌++◌, Option, Some, None, Result, Err, Ordering, Less, Equal, Greater, refl, sym, ◌∙◌, ap, subst, inl, inr, arith}
 use Rattle.std.specs.Prelude.{not}
 use Rattle.std.specs.List.{filter}
 use Rattle.std.specs.Cmp.Lexicographic.{slice_cmp}
@@ -8,9 +8,9 @@ use Rattle.std.specs.Cmp.{ranks}
 use Rattle.std.proofs.lemmas.Cmp.{nat_list_cmp_total}
 use Rattle.std.proofs.lemmas.List.Elements.{filter-append}
 use Rattle.lsm_codec.specs.Entries.{Entry, internal_key, stamp}
-use Rattle.lsm_codec.specs.Keys.{UserKey, UserLe, InternalKey, key_cmp, kind_number, packed, then_by, user_le}
+use Rattle.lsm_codec.specs.Keys.{UserKey, UserLe, InternalKey, key_cmp, packed, then_by, user_le}
 use Rattle.lsm_codec.specs.Lists.{Has}
-use Rattle.lsm_codec.proofs.CallerLemmas.{filter_has, has_cases, has_left, has_right, kind_number_le, user_le_refl, user_le_trans}
+use Rattle.lsm_codec.proofs.CallerLemmas.{filter_has, has_cases, has_left, has_right, kind_number_le, user_le_trans}
 use Rattle.lsm_block.specs.Block.{Ascends, Spells, key_text}
 use Rattle.lsm_block.specs.Seeking.{not_below}
 use Rattle.lsm_block.proofs.CallerLemmas.{ascends-tail, below-nothing, below-step, below-stop}

@@ -1,5 +1,5 @@
-use Rattle.std.proofs.Common.{◌≡◌, ◌∙◌, ◌-◌, ◌++◌, ◌∷◌, List, ℕ, [], None, ap, append-nil, arith, drop, length, map, sym, subst, take, inl}
-use Rattle.std.specs.List.{All, flat_map}
+use Rattle.std.proofs.Common.{◌≡◌, ◌∙◌, ◌-◌, ◌++◌, ◌∷◌, List, [], None, ap, append-nil, arith, drop, length, map, sym, subst, take, inl}
+use Rattle.std.specs.List.{All}
 use Rattle.std.proofs.lemmas.Bool.{eq-eqb, eqb-true}
 use Rattle.std.proofs.lemmas.List.{map-append, nil_from_length, take_rest}
 use Rattle.std.proofs.lemmas.Result.{err_from_is_err_and}
