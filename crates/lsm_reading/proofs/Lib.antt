@@ -1,7 +1,6 @@
 mod LevelLaws
 mod ReadingOutcomes
 mod ScanLaws
-mod BeginLaws
 mod FaultLaws
 mod PerformLaws
 mod NoteLaws
