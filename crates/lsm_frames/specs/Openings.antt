@@ -19,7 +19,7 @@ bit false = 0
 bit true = 1
 
 unfoldable pub opening_text : Opened → List ℕ
-opening_text o = number32 o.first ++ (number32 o.channels ++ (number32 o.workers ++ (bit o.make + 2 * bit o.refuse ∷ text o.path)))
+opening_text o = number32 o.first ++ (number32 o.channels ++ (number32 o.workers ++ ((bit o.make + 2 * bit o.refuse) ∷ text o.path)))
 
 pub record FitsOpened (o : Opened) : Type 0 where
   -- The last channel's number fits a descriptor.

@@ -84,7 +84,7 @@ impl<'a> Request<'a> {
 
 /// The request, where nothing follows it.
 fn whole<'a>(request: Request<'a>, rest: &[u8]) -> Option<Request<'a>>
-    ensures { option_map asked_of result ≡ whole (asked_of request) rest.now }
+    ensures { option_map asked_of result ≡ whole (asked_of request.entry) rest.now }
 {
     if !rest.is_empty() {
         return None;
