@@ -5,10 +5,12 @@ use Rattle.std.specs.List.{flat_map, AllByRecursion}
 use Rattle.std.specs.Int.{w32, to_le_bytes}
 use Rattle.std.proofs.lemmas.List.{length-append, length-drop, drop_at, flat_map_more}
 use Rattle.lsm_frames.specs.declared.length.TheConstants.{MOST_ANSWER}
-use Rattle.lsm_frames.specs.Texts.{text, frame}
+use Rattle.lsm_frames.specs.Texts.{text, optional, frame}
+use Rattle.lsm_frames.specs.Answers.{Pair, pair_text}
 use Rattle.lsm_frames.specs.Reading.{Read, items_in}
 use Rattle.lsm_frames.specs.Held.{held, Holds}
 use Rattle.lsm_frames.proofs.ByteLaws.{IsFormat}
+use Rattle.lsm_frames.proofs.FieldLaws.{length-text}
 use Rattle.lsm_frames.proofs.ItemLaws.{items_again}
 
 held_after : {A : Type 0} (read : Read A) (spell : A → List ℕ) (F : A → Type 0) → IsFormat read spell F → (head : List ℕ) (skipped : ℕ) (xs : List A) → length head ≡ skipped → AllByRecursion F xs → held read skipped (head ++ flat_map spell xs) ≡ xs
@@ -64,3 +66,11 @@ sealed bytes four n long e len =
     let size : n ≡ length (drop 4 bytes) = omega (arith, length-drop 4 bytes) in
     let numbers : four ≡ to_le_bytes w32 (length (drop 4 bytes)) = e ∙ ap (to_le_bytes w32) size in
     rw numbers (four_set _ _ _ _ bytes long)
+
+-- ---- how long it would get, beside what a test for room says
+
+pub length-value : (t : List ℕ) → length (optional (Some t)) ≡ length t + 5
+length-value t = omega (arith, length-text t)
+
+pub length-pair : (p : Pair) → length (pair_text p) ≡ length p.key + length p.value + 8
+length-pair p = omega (arith, length-append (text p.key) (text p.value), length-text p.key, length-text p.value)

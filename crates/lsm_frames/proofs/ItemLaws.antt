@@ -28,8 +28,8 @@ enough read s zero m (b ∷ bytes) p q = absurd (omega arith)
 enough read s (suc n) zero (b ∷ bytes) p q = absurd (omega arith)
 enough {A} read s (suc n) (suc m) (b ∷ bytes) p q =
     bind_same (read (b ∷ bytes)) _ _ (λ x e.
-      let less : length x.1 < length (b ∷ bytes) = s.shorter (b ∷ bytes) x.0 x.1 e in
-      ap (λ (o : Option (List A)). o >>= λ xs. Some (x.0 ∷ xs)) (enough read s n m x.1 (omega arith) (omega arith)))
+    let less : length x.1 < length (b ∷ bytes) = s.shorter (b ∷ bytes) x.0 x.1 e in
+    ap (λ (o : Option (List A)). o >>= λ xs. Some (x.0 ∷ xs)) (enough read s n m x.1 (omega arith) (omega arith)))
 
 -- ---- what a cursor has left
 

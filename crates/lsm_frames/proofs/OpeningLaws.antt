@@ -79,15 +79,17 @@ judged_fits o opened short e =
     let tests = two_tests (is_within o) (is_utf8 o.path) o opened e in
     let d = and_parts _ _ tests.0 in
     let c = and_parts _ _ d.0 in
-    let a = and_parts _ _ c.0 in
-    (record {
-      descriptors = leb-true _ _ a.0;
-      some_channel = leb-true _ _ a.1;
-      channels = leb-true _ _ c.1;
-      workers = leb-true _ _ d.1;
-      path = short;
-      utf8 = IsUtf8-from_is_utf8 o.path tests.1;
-    }, tests.2)
+    let a = and_parts _ _ c.0 in (
+      record {
+        descriptors = leb-true _ _ a.0;
+        some_channel = leb-true _ _ a.1;
+        channels = leb-true _ _ c.1;
+        workers = leb-true _ _ d.1;
+        path = short;
+        utf8 = IsUtf8-from_is_utf8 o.path tests.1;
+      },
+      tests.2,
+    )
 
 judged_again : (o : Opened) → FitsOpened o → judged o ≡ Some o
 unfolding judged

@@ -20,7 +20,6 @@ mod write;
 mod keys;
 mod writes;
 
-
 // The opening.
 mod opening;
 
