@@ -1,6 +1,6 @@
 -- An answer that grows.
 use Rattle.std.proofs.Common.{◌≡◌, ℕ, suc, ◌+◌, ◌-◌, ◌*◌, ◌<◌, ◌≤◌, List, [], ◌∷◌, ◌++◌, length, take, drop, Option, Some, None, refl, sym, ap, subst, ◌∙◌, append_assoc, arith, slice_index_or, slice_set}
-use Rattle.std.specs.Prelude.{unwrap_or}
+use Rattle.std.specs.Prelude.{unwrap_or, IsSome}
 use Rattle.std.specs.List.{flat_map, AllByRecursion}
 use Rattle.std.specs.Int.{w32, to_le_bytes}
 use Rattle.std.proofs.lemmas.List.{length-append, length-drop, drop_at, flat_map_more}
@@ -8,6 +8,7 @@ use Rattle.lsm_frames.specs.declared.length.TheConstants.{MOST_ANSWER}
 use Rattle.lsm_frames.specs.Texts.{text, optional, frame}
 use Rattle.lsm_frames.specs.declared.level_size.LevelSize.{LevelSize}
 use Rattle.lsm_frames.specs.Answers.{Pair, pair_text, size_text}
+use Rattle.lsm_frames.specs.Requests.{written_parts}
 use Rattle.lsm_frames.specs.Reading.{Read, items_in}
 use Rattle.lsm_frames.specs.Held.{held, Holds}
 use Rattle.lsm_frames.proofs.ByteLaws.{IsFormat}
@@ -79,3 +80,16 @@ length-pair p = omega (arith, length-append (text p.key) (text p.value), length-
 pub length-sizes : (xs : List LevelSize) → length (flat_map size_text xs) ≡ length xs * 16
 length-sizes [] = refl
 length-sizes (x ∷ xs) = omega (arith, length-append (size_text x) (flat_map size_text xs), length-sizes xs)
+
+-- what a list lends
+pub lent_held : {A : Type 0} (read : Read A) (spell : A → List ℕ) (F : A → Type 0) → IsFormat read spell F → (bytes : List ℕ) → Holds spell F [] (held read 0 bytes) bytes → IsSome (items_in read bytes)
+lent_held {A} read spell F format bytes holds =
+    subst (λ (t : List ℕ). IsSome (items_in read t)) (sym holds.parts)
+    (subst IsSome (sym (items_again read spell F format (length (flat_map spell (held read 0 bytes))) (held read 0 bytes) holds.fits (omega arith))) refl)
+
+pub held_is : {A : Type 0} (read : Read A) (bytes : List ℕ) → unwrap_or (items_in read bytes) [] ≡ held read 0 bytes
+unfolding held
+held_is read bytes = refl
+
+pub length-written : (key value : List ℕ) → length (written_parts key (Some value)) ≡ length key + length value + 9
+length-written key value = omega (arith, length-append (text key) (text value), length-text key, length-text value)

@@ -128,3 +128,16 @@ some_again read spell F format [] fits = absurd fits
 some_again read spell F format (x ∷ xs) fits =
     some_is_in read (flat_map spell (x ∷ xs)) (omega (arith, format.some x, length-append (spell x) (flat_map spell xs)))
     ∙ items_again read spell F format (length (flat_map spell (x ∷ xs))) (x ∷ xs) fits (omega arith)
+
+-- what the bytes of a cursor are
+cursor_of : {A : Type 0} (read : Read A) (spell : A → List ℕ) (F : A → Type 0) → IsFormat read spell F → (bytes : List ℕ) → IsBytes bytes → (o : Option (List A)) → items_in read bytes ≡ o → IsSome o → (bytes ≡ flat_map spell (unwrap_or o [])) × AllByRecursion F (unwrap_or o [])
+cursor_of read spell F format bytes fits (Some xs) e h = items_take read spell F format (length bytes) bytes xs fits e
+cursor_of read spell F format bytes fits None e h = absurd cc
+
+pub cursor_text : {A : Type 0} (read : Read A) (spell : A → List ℕ) (F : A → Type 0) → IsFormat read spell F → (bytes : List ℕ) → IsBytes bytes → IsSome (items_in read bytes) → (bytes ≡ flat_map spell (unwrap_or (items_in read bytes) [])) × AllByRecursion F (unwrap_or (items_in read bytes) [])
+cursor_text read spell F format bytes fits some = cursor_of read spell F format bytes fits (items_in read bytes) refl some
+
+-- a list whose bytes are not empty is not
+pub some_from : {A : Type 0} (spell : A → List ℕ) (F : A → Type 0) (xs : List A) → AllByRecursion F xs → 0 < length (flat_map spell xs) → AreSome F xs
+some_from spell F [] fits some = absurd (omega arith)
+some_from spell F (x ∷ xs) fits some = fits

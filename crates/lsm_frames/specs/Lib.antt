@@ -8,3 +8,4 @@ pub mod OpeningReading
 pub mod OpeningView
 pub mod Views
 pub mod Held
+pub mod Spelling

@@ -4,10 +4,19 @@ ghost use Rattle.std.specs.Prelude.{◌≡◌, length};
 ghost use Rattle.std.specs.Option.{option_map};
 ghost use Rattle.std.specs.Int.{w32, w64};
 ghost use Rattle.lsm_frames.specs.Reading.{number_at, text_at, optional_at, when_at, written_at};
+ghost use Rattle.lsm_frames.specs.Spelling.{AreBytes};
 ghost use Rattle.lsm_frames.specs.Views.{written_of};
 
 use crate::when::When;
 use crate::write::Write;
+
+/// The same bytes. That each is below 256 is told by this call.
+pub(crate) fn lent(bytes: &[u8]) -> &[u8]
+    ensures same { result.now ≡ bytes.now }
+    ensures bytes { AreBytes bytes.now }
+{
+    bytes
+}
 
 /// The four bytes of a number, and what follows them.
 pub(crate) fn number32(bytes: &[u8]) -> Option<(u32, &[u8])>

@@ -1,8 +1,9 @@
 //! A frame that grows in its place, behind room for its length.
 
 ghost use Rattle.std.specs.Prelude.{◌≡◌, ◌+◌, ◌-◌, ◌^◌, ◌<◌, ◌≤◌, ◌++◌, ◌∷◌, [], length, drop, take};
-ghost use Rattle.std.specs.Prelude.{nat_le, vec_len, IfOk, OnOk, OnErr, Some};
+ghost use Rattle.std.specs.Prelude.{nat_le, vec_len, IfOk, OnOk, OnErr, None, Some};
 ghost use Rattle.lsm_frames.specs.Texts.{number64, text, optional, frame};
+ghost use Rattle.lsm_frames.specs.Requests.{written_parts};
 ghost use Rattle.lsm_frames.specs.Answers.{pair_text};
 
 use crate::length::MOST_ANSWER;
@@ -77,6 +78,29 @@ fn push_value(out: &mut Vec<u8>, bytes: &[u8]) -> Result<(), AllocError>
     push_text(out, bytes)
 }
 
+/// Appends what is written of a key: `1`, the key and the value. After an `Err` some of it may stand
+/// there.
+fn push_written(out: &mut Vec<u8>, key: &[u8], value: &[u8]) -> Result<(), AllocError>
+    requires key { length key.now < 2 ^ 32 }
+    requires value { length value.now < 2 ^ 32 }
+    ensures ok { OnOk result (out.new.items
+        ≡ out.old.items ++ written_parts key.now (Some value.now)) }
+    ensures front { take (vec_len out.old) out.new.items ≡ out.old.items }
+{
+    out.push(1)?;
+    push_pair(out, key, value)
+}
+
+/// Appends a deletion: `0` and the key. After an `Err` some of it may stand there.
+fn push_deletion(out: &mut Vec<u8>, key: &[u8]) -> Result<(), AllocError>
+    requires { length key.now < 2 ^ 32 }
+    ensures ok { OnOk result (out.new.items ≡ out.old.items ++ written_parts key.now None) }
+    ensures front { take (vec_len out.old) out.new.items ≡ out.old.items }
+{
+    out.push(0)?;
+    push_text(out, key)
+}
+
 /// Appends two texts. After an `Err` some of it may stand there.
 fn push_pair(out: &mut Vec<u8>, key: &[u8], value: &[u8]) -> Result<(), AllocError>
     requires key { length key.now < 2 ^ 32 }
@@ -115,6 +139,55 @@ pub(crate) fn put_pair(out: &mut Vec<u8>, key: &[u8], value: &[u8]) -> Result<()
 {
     let len = out.len();
     match push_pair(out, key, value) {
+        Ok(()) => Ok(()),
+        Err(error) => {
+            out.truncate(len);
+            Err(error)
+        }
+    }
+}
+
+/// Appends a text. An `Err` changes nothing.
+pub(crate) fn put_text(out: &mut Vec<u8>, bytes: &[u8]) -> Result<(), AllocError>
+    requires { length bytes.now < 2 ^ 32 }
+    ensures ok { OnOk result (out.new.items ≡ out.old.items ++ text bytes.now) }
+    ensures err { OnErr result (out.new.items ≡ out.old.items) }
+{
+    let len = out.len();
+    match push_text(out, bytes) {
+        Ok(()) => Ok(()),
+        Err(error) => {
+            out.truncate(len);
+            Err(error)
+        }
+    }
+}
+
+/// Appends `0` and a key. An `Err` changes nothing.
+pub(crate) fn put_deletion(out: &mut Vec<u8>, key: &[u8]) -> Result<(), AllocError>
+    requires { length key.now < 2 ^ 32 }
+    ensures ok { OnOk result (out.new.items ≡ out.old.items ++ written_parts key.now None) }
+    ensures err { OnErr result (out.new.items ≡ out.old.items) }
+{
+    let len = out.len();
+    match push_deletion(out, key) {
+        Ok(()) => Ok(()),
+        Err(error) => {
+            out.truncate(len);
+            Err(error)
+        }
+    }
+}
+
+/// Appends `1`, a key and a value. An `Err` changes nothing.
+pub(crate) fn put_written(out: &mut Vec<u8>, key: &[u8], value: &[u8]) -> Result<(), AllocError>
+    requires key { length key.now < 2 ^ 32 }
+    requires value { length value.now < 2 ^ 32 }
+    ensures ok { OnOk result (out.new.items ≡ out.old.items ++ written_parts key.now (Some value.now)) }
+    ensures err { OnErr result (out.new.items ≡ out.old.items) }
+{
+    let len = out.len();
+    match push_written(out, key, value) {
         Ok(()) => Ok(()),
         Err(error) => {
             out.truncate(len);

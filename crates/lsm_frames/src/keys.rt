@@ -1,11 +1,14 @@
 //! The keys of a read.
 
-ghost use Rattle.std.specs.Prelude.{◌≡◌, ◌∷◌, [], length, is_some};
+ghost use Rattle.std.specs.Prelude.{◌≡◌, ◌∷◌, [], length, is_some, IsSome, unwrap_or};
+ghost use Rattle.std.specs.List.{flat_map, AllByRecursion};
 ghost use Rattle.std.specs.Option.{option_map, MatchOption};
 ghost use Rattle.lsm_frames.specs.Reading.{items_in, text_at};
+ghost use Rattle.lsm_frames.specs.Texts.{text};
+ghost use Rattle.lsm_frames.specs.Requests.{FitsText};
 ghost use Rattle.lsm_frames.specs.RequestReading.{some_in};
 
-use crate::fields::text;
+use crate::fields::{lent, text};
 use std::marker::Model;
 
 /// The keys of a read that are still to come, as they lie in its frame. Contracts see them as a
@@ -37,6 +40,22 @@ impl<'a> Keys<'a> {
             return None;
         }
         Some(Keys { rest: bytes })
+    }
+
+    /// Those that the bytes are.
+    pub(crate) fn over(bytes: &'a [u8]) -> Keys<'a>
+        requires { IsSome (items_in text_at bytes.now) }
+        ensures { result ≡ unwrap_or (items_in text_at bytes.now) [] }
+    {
+        Keys { rest: bytes }
+    }
+
+    /// The bytes of those that are still to come.
+    pub(crate) fn text(&self) -> &[u8]
+        ensures text { result.now ≡ flat_map text self.now }
+        ensures fits { AllByRecursion FitsText self.now }
+    {
+        lent(self.rest)
     }
 
     /// The next one, or none at the end.

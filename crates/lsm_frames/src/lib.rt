@@ -27,6 +27,12 @@ mod opening;
 mod fields;
 mod length;
 
+// Requests that are to be sent.
+mod key_list;
+mod request_fault;
+mod spelling;
+mod write_list;
+
 // Answers.
 mod answer;
 mod answer_fault;
@@ -37,6 +43,7 @@ mod values_answer;
 
 pub use answer::{nothing, pinned, refused, removed, told, unread, wrote};
 pub use answer_fault::AnswerFault;
+pub use key_list::KeyList;
 pub use keys::Keys;
 pub use length::{MOST_ANSWER, MOST_REQUEST, answer_length, request_length};
 pub use level_size::LevelSize;
@@ -45,7 +52,9 @@ pub use opening::Opening;
 pub use pairs_answer::PairsAnswer;
 pub use range::Range;
 pub use request::{Request, one_request};
+pub use request_fault::RequestFault;
 pub use values_answer::ValuesAnswer;
 pub use when::When;
 pub use write::Write;
+pub use write_list::WriteList;
 pub use writes::Writes;

@@ -1,12 +1,14 @@
 //! The writes of a request.
 
-ghost use Rattle.std.specs.Prelude.{◌≡◌, ◌∷◌, [], length, is_some};
+ghost use Rattle.std.specs.Prelude.{◌≡◌, ◌∷◌, [], length, is_some, IsSome, unwrap_or};
+ghost use Rattle.std.specs.List.{flat_map, AllByRecursion};
 ghost use Rattle.std.specs.Option.{option_map, MatchOption};
 ghost use Rattle.lsm_frames.specs.Reading.{items_in, written_at};
 ghost use Rattle.lsm_frames.specs.RequestReading.{some_in};
+ghost use Rattle.lsm_frames.specs.Requests.{FitsWritten, written_text};
 ghost use Rattle.lsm_frames.specs.Views.{written_of};
 
-use crate::fields::write;
+use crate::fields::{lent, write};
 use crate::write::Write;
 use std::marker::Model;
 
@@ -40,6 +42,22 @@ impl<'a> Writes<'a> {
             return None;
         }
         Some(Writes { rest: bytes })
+    }
+
+    /// Those that the bytes are.
+    pub(crate) fn over(bytes: &'a [u8]) -> Writes<'a>
+        requires { IsSome (items_in written_at bytes.now) }
+        ensures { result ≡ unwrap_or (items_in written_at bytes.now) [] }
+    {
+        Writes { rest: bytes }
+    }
+
+    /// The bytes of those that are still to come.
+    pub(crate) fn text(&self) -> &[u8]
+        ensures text { result.now ≡ flat_map written_text self.now }
+        ensures fits { AllByRecursion FitsWritten self.now }
+    {
+        lent(self.rest)
     }
 
     /// The next one, or none at the end.

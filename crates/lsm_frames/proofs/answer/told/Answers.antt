@@ -8,5 +8,13 @@ use Rattle.lsm_frames.proofs.answer.told.Goals as goal
 
 pub seal-requires-clause-short : goal.seal-requires-clause-short
 seal-requires-clause-short c =
-    omega (arith, c.requires, ap length c.in_ok-put_sizes.ensures, ap length c.in_ok-put_number.ensures.ok, ap length c.in_ok-bytes.ensures,
-    length-append c.put_number.new.out.items (flat_map size_text c.args.levels.now), length-append c.in_ok-bytes.bytes.items (number64 c.args.last), length-sizes c.args.levels.now)
+    omega (
+      arith,
+      c.requires,
+      ap length c.in_ok-put_sizes.ensures,
+      ap length c.in_ok-put_number.ensures.ok,
+      ap length c.in_ok-bytes.ensures,
+      length-append c.put_number.new.out.items (flat_map size_text c.args.levels.now),
+      length-append c.in_ok-bytes.bytes.items (number64 c.args.last),
+      length-sizes c.args.levels.now,
+    )
