@@ -4,11 +4,12 @@ use Rattle.std.specs.Prelude.{unwrap_or, IsSome}
 use Rattle.std.specs.List.{flat_map, AllByRecursion}
 use Rattle.std.specs.Int.{w32, to_le_bytes}
 use Rattle.std.proofs.lemmas.List.{length-append, length-drop, drop_at, flat_map_more}
-use Rattle.lsm_frames.specs.declared.length.TheConstants.{MOST_ANSWER}
-use Rattle.lsm_frames.specs.Texts.{text, optional, frame}
+use Rattle.lsm_frames.specs.declared.length.TheConstants.{MOST_ANSWER, MOST_REQUEST}
+use Rattle.lsm_frames.specs.Texts.{number32, text, optional, frame}
+use Rattle.lsm_frames.specs.declared.when.When.{When}
 use Rattle.lsm_frames.specs.declared.level_size.LevelSize.{LevelSize}
 use Rattle.lsm_frames.specs.Answers.{Pair, pair_text, size_text}
-use Rattle.lsm_frames.specs.Requests.{written_parts}
+use Rattle.lsm_frames.specs.Requests.{Written, Stretch, Writes, Reads, Scans, FitsText, FitsWritten, when_text, written_parts, written_text, spelled}
 use Rattle.lsm_frames.specs.Reading.{Read, items_in}
 use Rattle.lsm_frames.specs.Held.{held, Holds}
 use Rattle.lsm_frames.proofs.ByteLaws.{IsFormat}
@@ -93,3 +94,23 @@ held_is read bytes = refl
 
 pub length-written : (key value : List ℕ) → length (written_parts key (Some value)) ≡ length key + length value + 9
 length-written key value = omega (arith, length-append (text key) (text value), length-text key, length-text value)
+
+-- Where no answer has room for a list's fields, no request has.
+pub long_writes : (ws : List Written) (w : Written) (bytes : List ℕ) → Holds written_text FitsWritten [] ws bytes → MOST_ANSWER + 4 < length bytes + length (written_text w) → MOST_REQUEST < length (spelled (Writes (ws ++ w ∷ [])))
+unfolding spelled
+long_writes ws w bytes holds long = omega (arith, size_more written_text FitsWritten [] ws w bytes holds)
+
+pub long_reads : (when : When) (ks : List (List ℕ)) (k : List ℕ) (bytes : List ℕ) → Holds text FitsText [] ks bytes → MOST_ANSWER + 4 < length bytes + length (text k) → MOST_REQUEST < length (spelled (Reads when (ks ++ k ∷ [])))
+unfolding spelled
+long_reads when ks k bytes holds long = omega (arith, size_more text FitsText [] ks k bytes holds, length-append (when_text when) (flat_map text (ks ++ k ∷ [])))
+
+-- A scan is longer than each of its texts.
+pub long_from : (s : Stretch) → MOST_REQUEST < length s.from → MOST_REQUEST < length (spelled (Scans s))
+unfolding spelled
+long_from s long =
+    omega (arith, length-append (when_text s.when) (text s.from ++ (optional s.to ++ number32 s.limit)), length-append (text s.from) (optional s.to ++ number32 s.limit), length-text s.from)
+
+pub long_to : (s : Stretch) → MOST_REQUEST < length (optional s.to) → MOST_REQUEST < length (spelled (Scans s))
+unfolding spelled
+long_to s long =
+    omega (arith, length-append (when_text s.when) (text s.from ++ (optional s.to ++ number32 s.limit)), length-append (text s.from) (optional s.to ++ number32 s.limit), length-append (optional s.to) (number32 s.limit))

@@ -141,3 +141,8 @@ cursor_text read spell F format bytes fits some = cursor_of read spell F format 
 pub some_from : {A : Type 0} (spell : A → List ℕ) (F : A → Type 0) (xs : List A) → AllByRecursion F xs → 0 < length (flat_map spell xs) → AreSome F xs
 some_from spell F [] fits some = absurd (omega arith)
 some_from spell F (x ∷ xs) fits some = fits
+
+-- a list without bytes has nothing
+pub nothing_from : {A : Type 0} (read : Read A) (spell : A → List ℕ) (F : A → Type 0) → IsFormat read spell F → (xs : List A) → length (flat_map spell xs) ≡ 0 → xs ≡ []
+nothing_from read spell F format [] e = refl
+nothing_from read spell F format (x ∷ xs) e = absurd (omega (arith, format.some x, length-append (spell x) (flat_map spell xs)))

@@ -1,9 +1,14 @@
 //! The keys of a read that is to be sent.
 
-ghost use Rattle.std.specs.Prelude.{◌≡◌, ◌++◌, ◌∷◌, [], OnOk, OnErr};
+ghost use Rattle.std.specs.Prelude.{◌≡◌, ◌<◌, ◌++◌, ◌∷◌, [], length, Err, OnOk, OnErr};
+ghost use Rattle.lsm_frames.specs.declared.request_fault.RequestFault.TheVariants.{TooLong};
+ghost use Rattle.lsm_frames.specs.declared.when.When.{When};
+ghost use Rattle.lsm_frames.specs.Requests as asked;
+ghost use Rattle.lsm_frames.specs.Requests.{spelled};
 
 use crate::frame::{has_room, put_text};
 use crate::keys::Keys;
+use crate::length::MOST_REQUEST;
 use crate::request_fault::RequestFault;
 use std::alloc::Global;
 use std::marker::Model;
@@ -45,6 +50,8 @@ impl KeyList {
     pub fn push(&mut self, key: &[u8]) -> Result<(), RequestFault>
         ensures ok { OnOk result (self.new ≡ self.old ++ key.now ∷ []) }
         ensures err { OnErr result (self.new ≡ self.old) }
+        ensures long { (when : When) → result ≡ Err TooLong
+            → MOST_REQUEST < length (spelled (asked.Reads when (self.old ++ key.now ∷ []))) }
     {
         if !has_room(&self.bytes, 4, key.len(), 0) {
             return Err(RequestFault::TooLong);

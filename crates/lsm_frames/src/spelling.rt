@@ -1,10 +1,11 @@
 //! Requests as the bytes of a frame.
 
-ghost use Rattle.std.specs.Prelude.{◌≡◌, ◌^◌, ◌<◌, ◌≤◌, ◌++◌, ◌∷◌, [], length, IfOk, OnOk};
+ghost use Rattle.std.specs.Prelude.{◌≡◌, ◌^◌, ◌<◌, ◌≤◌, ◌++◌, ◌∷◌, [], length, Err, IfOk, OnOk};
 ghost use Rattle.std.specs.Option.{option_map};
 ghost use Rattle.lsm_frames.specs.Texts.{frame, number32, text, optional};
 ghost use Rattle.lsm_frames.specs.Requests.{IsRequest, FitsWhen, spelled, when_text};
-ghost use Rattle.lsm_frames.specs.Spelling.{Spells, Adds};
+ghost use Rattle.lsm_frames.specs.Spelling.{Spells, Adds, IsEmpty};
+ghost use Rattle.lsm_frames.specs.declared.request_fault.RequestFault.TheVariants.{Empty, TooLong};
 ghost use Rattle.lsm_frames.specs.Views.{asked_of, stretch_of};
 ghost use Rattle.lsm_frames.specs.Requests as asked;
 
@@ -25,6 +26,9 @@ impl Request<'_> {
         ensures ok { IfOk result (λ v. v.items ≡ frame (spelled (asked_of self.now))) }
         ensures is { IfOk result (λ _. IsRequest (spelled (asked_of self.now)) (asked_of self.now)) }
         ensures short { IfOk result (λ _. length (spelled (asked_of self.now)) ≤ MOST_REQUEST) }
+        ensures empty { result ≡ Err Empty → IsEmpty (asked_of self.now) }
+        ensures long { result ≡ Err TooLong
+            → MOST_REQUEST < length (spelled (asked_of self.now)) }
     {
         let bytes = self.spell(alloc)?;
         if bytes.len() > MOST_REQUEST + 4 {
@@ -36,7 +40,10 @@ impl Request<'_> {
     /// Its bytes, behind room for their length.
     #[tactic(auto, unfolding(crate::specs::Requests::spelled))]
     fn spell(&self, alloc: Global) -> Result<Vec<u8>, RequestFault>
-        ensures { IfOk result (λ v. Spells v.items (asked_of self.now)) }
+        ensures ok { IfOk result (λ v. Spells v.items (asked_of self.now)) }
+        ensures empty { result ≡ Err Empty → IsEmpty (asked_of self.now) }
+        ensures long { result ≡ Err TooLong
+            → MOST_REQUEST < length (spelled (asked_of self.now)) }
     {
         match self {
             Request::Write(writes) => spell_writes(alloc, writes),
@@ -53,7 +60,9 @@ impl Request<'_> {
 
 #[tactic(auto, unfolding(crate::specs::Requests::spelled))]
 fn spell_writes(alloc: Global, writes: &Writes<'_>) -> Result<Vec<u8>, RequestFault>
-    ensures { IfOk result (λ v. Spells v.items (asked.Writes writes.now)) }
+    ensures ok { IfOk result (λ v. Spells v.items (asked.Writes writes.now)) }
+    ensures empty { result ≡ Err Empty → IsEmpty (asked.Writes writes.now) }
+    ensures long { result ≡ Err TooLong → MOST_REQUEST < length (spelled (asked.Writes writes.now)) }
 {
     let text = writes.text();
     if text.is_empty() {
@@ -66,7 +75,9 @@ fn spell_writes(alloc: Global, writes: &Writes<'_>) -> Result<Vec<u8>, RequestFa
 
 #[tactic(auto, unfolding(crate::specs::Requests::spelled))]
 fn spell_read(alloc: Global, when: When, keys: &Keys<'_>) -> Result<Vec<u8>, RequestFault>
-    ensures { IfOk result (λ v. Spells v.items (asked.Reads when keys.now)) }
+    ensures ok { IfOk result (λ v. Spells v.items (asked.Reads when keys.now)) }
+    ensures empty { result ≡ Err Empty → IsEmpty (asked.Reads when keys.now) }
+    ensures long { result ≡ Err TooLong → MOST_REQUEST < length (spelled (asked.Reads when keys.now)) }
 {
     let text = keys.text();
     if text.is_empty() {
@@ -80,7 +91,9 @@ fn spell_read(alloc: Global, when: When, keys: &Keys<'_>) -> Result<Vec<u8>, Req
 
 #[tactic(auto, unfolding(crate::specs::Requests::spelled))]
 fn spell_scan(alloc: Global, range: &Range<'_>) -> Result<Vec<u8>, RequestFault>
-    ensures { IfOk result (λ v. Spells v.items (asked.Scans (stretch_of range.now))) }
+    ensures ok { IfOk result (λ v. Spells v.items (asked.Scans (stretch_of range.now))) }
+    ensures empty { result ≡ Err Empty → IsEmpty (asked.Scans (stretch_of range.now)) }
+    ensures long { result ≡ Err TooLong → MOST_REQUEST < length (spelled (asked.Scans (stretch_of range.now))) }
 {
     let mut bytes = begin(alloc, 3)?;
     put_when(&mut bytes, range.when)?;
@@ -92,7 +105,9 @@ fn spell_scan(alloc: Global, range: &Range<'_>) -> Result<Vec<u8>, RequestFault>
 
 #[tactic(auto, unfolding(crate::specs::Requests::spelled))]
 fn spell_release(alloc: Global, number: u64) -> Result<Vec<u8>, RequestFault>
-    ensures { IfOk result (λ v. Spells v.items (asked.Releases number)) }
+    ensures ok { IfOk result (λ v. Spells v.items (asked.Releases number)) }
+    ensures empty { result ≡ Err Empty → IsEmpty (asked.Releases number) }
+    ensures long { result ≡ Err TooLong → MOST_REQUEST < length (spelled (asked.Releases number)) }
 {
     let mut bytes = begin(alloc, 5)?;
     put_number(&mut bytes, number)?;
@@ -113,8 +128,10 @@ fn put_when(out: &mut Vec<u8>, when: When) -> Result<(), AllocError>
 }
 
 fn put_key(out: &mut Vec<u8>, key: &[u8]) -> Result<(), RequestFault>
-    ensures { OnOk result ((out.new.items ≡ out.old.items ++ text key.now)
+    ensures ok { OnOk result ((out.new.items ≡ out.old.items ++ text key.now)
         × (length key.now < 2 ^ 32)) }
+    ensures empty { result ≡ Err Empty → ⊥ }
+    ensures long { result ≡ Err TooLong → MOST_REQUEST < length key.now }
 {
     if key.len() > MOST_REQUEST {
         return Err(RequestFault::TooLong);
@@ -124,7 +141,10 @@ fn put_key(out: &mut Vec<u8>, key: &[u8]) -> Result<(), RequestFault>
 }
 
 fn put_bound(out: &mut Vec<u8>, to: Option<&[u8]>) -> Result<(), RequestFault>
-    ensures { OnOk result (Adds out.old.items out.new.items (option_map (λ k. k.now) to.entry)) }
+    ensures ok { OnOk result (Adds out.old.items out.new.items (option_map (λ k. k.now) to.entry)) }
+    ensures empty { result ≡ Err Empty → ⊥ }
+    ensures long { result ≡ Err TooLong
+        → MOST_REQUEST < length (optional (option_map (λ k. k.now) to.entry)) }
 {
     let Some(key) = to else {
         put_absent(out)?;

@@ -1,8 +1,12 @@
 //! The writes of a request that is to be sent.
 
-ghost use Rattle.std.specs.Prelude.{◌≡◌, ◌++◌, ◌∷◌, [], None, Some, OnOk, OnErr};
+ghost use Rattle.std.specs.Prelude.{◌≡◌, ◌<◌, ◌++◌, ◌∷◌, [], None, Some, length, Err, OnOk, OnErr};
+ghost use Rattle.lsm_frames.specs.declared.request_fault.RequestFault.TheVariants.{TooLong};
+ghost use Rattle.lsm_frames.specs.Requests as asked;
+ghost use Rattle.lsm_frames.specs.Requests.{spelled};
 
 use crate::frame::{has_room, put_deletion, put_written};
+use crate::length::MOST_REQUEST;
 use crate::request_fault::RequestFault;
 use crate::writes::Writes;
 use std::alloc::Global;
@@ -45,6 +49,8 @@ impl WriteList {
         ensures ok { OnOk result (self.new
             ≡ self.old ++ record { key = key.now; value = Some value.now } ∷ []) }
         ensures err { OnErr result (self.new ≡ self.old) }
+        ensures long { result ≡ Err TooLong → MOST_REQUEST < length (spelled (asked.Writes
+            (self.old ++ record { key = key.now; value = Some value.now } ∷ []))) }
     {
         if !has_room(&self.bytes, 9, key.len(), value.len()) {
             return Err(RequestFault::TooLong);
@@ -59,6 +65,8 @@ impl WriteList {
         ensures ok { OnOk result (self.new
             ≡ self.old ++ record { key = key.now; value = None } ∷ []) }
         ensures err { OnErr result (self.new ≡ self.old) }
+        ensures long { result ≡ Err TooLong → MOST_REQUEST < length (spelled (asked.Writes
+            (self.old ++ record { key = key.now; value = None } ∷ []))) }
     {
         if !has_room(&self.bytes, 5, key.len(), 0) {
             return Err(RequestFault::TooLong);
