@@ -1,6 +1,7 @@
 //! A frame that grows in its place, behind room for its length.
 
-ghost use Rattle.std.specs.Prelude.{◌≡◌, ◌+◌, ◌-◌, ◌^◌, ◌<◌, ◌≤◌, ◌++◌, ◌∷◌, [], length, drop, take};
+ghost use Rattle.std.specs.Prelude.{◌≡◌, ◌+◌, ◌-◌, ◌^◌, ◌<◌, ◌≤◌, ◌++◌, ◌∷◌, [], length};
+ghost use Rattle.std.specs.Prelude.{drop, take};
 ghost use Rattle.std.specs.Prelude.{nat_le, vec_len, IfOk, OnOk, OnErr, None, Some};
 ghost use Rattle.lsm_frames.specs.Texts.{number64, text, optional, frame};
 ghost use Rattle.lsm_frames.specs.Requests.{written_parts};
@@ -78,8 +79,8 @@ fn push_value(out: &mut Vec<u8>, bytes: &[u8]) -> Result<(), AllocError>
     push_text(out, bytes)
 }
 
-/// Appends what is written of a key: `1`, the key and the value. After an `Err` some of it may stand
-/// there.
+/// Appends what is written of a key: `1`, the key and the value. After an `Err` some of it may
+/// stand there.
 fn push_written(out: &mut Vec<u8>, key: &[u8], value: &[u8]) -> Result<(), AllocError>
     requires key { length key.now < 2 ^ 32 }
     requires value { length value.now < 2 ^ 32 }
@@ -183,7 +184,8 @@ pub(crate) fn put_deletion(out: &mut Vec<u8>, key: &[u8]) -> Result<(), AllocErr
 pub(crate) fn put_written(out: &mut Vec<u8>, key: &[u8], value: &[u8]) -> Result<(), AllocError>
     requires key { length key.now < 2 ^ 32 }
     requires value { length value.now < 2 ^ 32 }
-    ensures ok { OnOk result (out.new.items ≡ out.old.items ++ written_parts key.now (Some value.now)) }
+    ensures ok { OnOk result (out.new.items
+        ≡ out.old.items ++ written_parts key.now (Some value.now)) }
     ensures err { OnErr result (out.new.items ≡ out.old.items) }
 {
     let len = out.len();

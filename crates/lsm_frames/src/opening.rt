@@ -3,7 +3,8 @@
 ghost use Rattle.std.specs.Prelude.{◌≡◌, IfOk, IsOk};
 ghost use Rattle.std.specs.Option.{option_map};
 ghost use Rattle.lsm_frames.specs.Openings.{Opened, IsOpening};
-ghost use Rattle.lsm_frames.specs.OpeningReading.{flags_at, fields_at, is_within, judged, opened_at};
+ghost use Rattle.lsm_frames.specs.OpeningReading.{flags_at, fields_at, is_within, judged};
+ghost use Rattle.lsm_frames.specs.OpeningReading.{opened_at};
 
 use crate::fields::{number32, text};
 use crate::malformed::Malformed;

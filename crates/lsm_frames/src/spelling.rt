@@ -24,7 +24,8 @@ impl Request<'_> {
     /// `TooLong` where its content would pass `MOST_REQUEST` bytes.
     pub fn encode(&self, alloc: Global) -> Result<Vec<u8>, RequestFault>
         ensures ok { IfOk result (λ v. v.items ≡ frame (spelled (asked_of self.now))) }
-        ensures is { IfOk result (λ _. IsRequest (spelled (asked_of self.now)) (asked_of self.now)) }
+        ensures is { IfOk result (λ _.
+            IsRequest (spelled (asked_of self.now)) (asked_of self.now)) }
         ensures short { IfOk result (λ _. length (spelled (asked_of self.now)) ≤ MOST_REQUEST) }
         ensures empty { result ≡ Err Empty → IsEmpty (asked_of self.now) }
         ensures long { result ≡ Err TooLong
@@ -62,7 +63,8 @@ impl Request<'_> {
 fn spell_writes(alloc: Global, writes: &Writes<'_>) -> Result<Vec<u8>, RequestFault>
     ensures ok { IfOk result (λ v. Spells v.items (asked.Writes writes.now)) }
     ensures empty { result ≡ Err Empty → IsEmpty (asked.Writes writes.now) }
-    ensures long { result ≡ Err TooLong → MOST_REQUEST < length (spelled (asked.Writes writes.now)) }
+    ensures long { result ≡ Err TooLong
+        → MOST_REQUEST < length (spelled (asked.Writes writes.now)) }
 {
     let text = writes.text();
     if text.is_empty() {
@@ -77,7 +79,8 @@ fn spell_writes(alloc: Global, writes: &Writes<'_>) -> Result<Vec<u8>, RequestFa
 fn spell_read(alloc: Global, when: When, keys: &Keys<'_>) -> Result<Vec<u8>, RequestFault>
     ensures ok { IfOk result (λ v. Spells v.items (asked.Reads when keys.now)) }
     ensures empty { result ≡ Err Empty → IsEmpty (asked.Reads when keys.now) }
-    ensures long { result ≡ Err TooLong → MOST_REQUEST < length (spelled (asked.Reads when keys.now)) }
+    ensures long { result ≡ Err TooLong
+        → MOST_REQUEST < length (spelled (asked.Reads when keys.now)) }
 {
     let text = keys.text();
     if text.is_empty() {
@@ -93,7 +96,8 @@ fn spell_read(alloc: Global, when: When, keys: &Keys<'_>) -> Result<Vec<u8>, Req
 fn spell_scan(alloc: Global, range: &Range<'_>) -> Result<Vec<u8>, RequestFault>
     ensures ok { IfOk result (λ v. Spells v.items (asked.Scans (stretch_of range.now))) }
     ensures empty { result ≡ Err Empty → IsEmpty (asked.Scans (stretch_of range.now)) }
-    ensures long { result ≡ Err TooLong → MOST_REQUEST < length (spelled (asked.Scans (stretch_of range.now))) }
+    ensures long { result ≡ Err TooLong
+        → MOST_REQUEST < length (spelled (asked.Scans (stretch_of range.now))) }
 {
     let mut bytes = begin(alloc, 3)?;
     put_when(&mut bytes, range.when)?;

@@ -1,6 +1,7 @@
 //! The answer to a read.
 
-ghost use Rattle.std.specs.Prelude.{◌≡◌, ◌+◌, ◌<◌, ◌≤◌, ◌↔◌, ◌++◌, ◌∷◌, [], None, Some, length, Err};
+ghost use Rattle.std.specs.Prelude.{◌≡◌, ◌+◌, ◌<◌, ◌≤◌, ◌↔◌, ◌++◌, ◌∷◌, [], None, Some};
+ghost use Rattle.std.specs.Prelude.{length, Err};
 ghost use Rattle.std.specs.Prelude.{IfOk, OnOk, OnErr};
 ghost use Rattle.lsm_frames.specs.declared.answer_fault.AnswerFault.TheVariants.{TooLong};
 ghost use Rattle.lsm_frames.specs.Texts.{frame};
