@@ -1,0 +1,11 @@
+pub mod Texts
+pub mod Requests
+pub mod Openings
+pub mod Answers
+pub mod Reading
+pub mod RequestReading
+pub mod OpeningReading
+pub mod OpeningView
+pub mod Views
+pub mod Held
+pub mod Spelling
