@@ -5,8 +5,8 @@
 #                 page says
 #   code.py       each line of Rattle that they show is a line of a source file in crates or of a
 #                 test; so in docs/CALLING.md and in the CALLING.md of each crate
-#   form.py       the book's pages are short, drawings are well-formed, as the script draws them, and
-#                 each is shown; all code is in fences
+#   form.py       the pages of the book and of crates are short, drawings are well-formed, as scripts
+#                 draw them, and each is shown; all code is in fences
 #   links.py      of every page of the repository: each link leads to a file, and to a heading of it
 #
 # Names of pages as words choose which pages' sessions and code are looked at. Runs the proved
