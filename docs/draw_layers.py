@@ -18,13 +18,8 @@ COLOURS = {
 }
 CRATES = {
     "lsm_tool": ("program", "the program lsm"),
-    "lsm_server": ("program", "the program lsm_server"),
     "lsm_commands": ("program", "words, inputs, scripts"),
     "lsm_shell": ("program", "a reply to each line"),
-    "lsm_loading": ("program", "lines of any number"),
-    "lsm_lines": ("program", "lines to batches"),
-    "lsm_serve": ("program", "a database over channels"),
-    "lsm_frames": ("program", "requests and answers"),
     "lsm_writing": ("program", "ingest, put, compact, clean"),
     "lsm_reading": ("program", "check, list, get, scan"),
     "lsm_directory": ("program", "a folder, its lock, faults"),
