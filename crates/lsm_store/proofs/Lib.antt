@@ -3,5 +3,6 @@ pub mod CompactingLaws
 pub mod FoundLaws
 pub mod PromiseLaws
 pub mod ReaderLaws
+pub mod ScanLaws
 pub mod SeatLaws
 pub mod WorkerLaws

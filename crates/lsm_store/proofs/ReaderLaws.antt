@@ -1,5 +1,5 @@
 -- Steps of a reader.
-use Rattle.std.proofs.Common.{◌≡◌, ◌≢◌, ℕ, List, Option, None, Some, is_some, if◌then◌else◌, sym, ap, ◌∙◌}
+use Rattle.std.proofs.Common.{◌≡◌, ◌≢◌, ℕ, ◌≤◌, List, Option, None, Some, is_some, if◌then◌else◌, sym, ap, ◌∙◌, arith}
 use Rattle.atomic_table.specs.Seated.{TableId}
 use Rattle.lsm_codec.specs.Entries.{Entry}
 use Rattle.lsm_shelf.specs.Told.{Told}
@@ -9,7 +9,7 @@ use Rattle.lsm_pins.specs.declared.view.View.{View}
 use Rattle.lsm_pins.specs.View.{pinned_view, unpinned_view}
 use Rattle.lsm_slots.specs.Slots.{Epoch, HasEpoch}
 use Rattle.lsm_state.specs.Held.{Held}
-use Rattle.lsm_store.specs.Readers.{Learnt, IsBegun, IsMet, IsRefused, pinned, unpinned}
+use Rattle.lsm_store.specs.Readers.{HasSeen, Learnt, IsBegun, IsMet, IsRefused, pinned, unpinned}
 use Rattle.lsm_store.specs.declared.begin_fault.BeginFault.TheVariants.{Moved}
 
 abbrev known_by : TableId → View → Known
@@ -33,9 +33,9 @@ pub begun_at : (r v : Learnt) (slot : ℕ) → v.id ≡ r.id → v.version ≡ r
     → v.pinner.knows ≡ pinned_view r.pinner.knows r.id slot → IsBegun r v
 begun_at r v slot i e t h s p k = (slot, same_learnt v (pinned r.id slot r) i e t h s p k)
 
-pub moved_at : (r back : Learnt) (id slot : ℕ) → id ≢ r.id → back.id ≡ r.id → back.version ≡ r.version → back.told ≡ r.told → back.history ≡ r.history → back.snapshots ≡ r.snapshots
+pub moved_at : (r back : Learnt) (id slot : ℕ) → id ≢ r.id → HasSeen r → r.pinner.knows.id ≤ id → back.id ≡ r.id → back.version ≡ r.version → back.told ≡ r.told → back.history ≡ r.history → back.snapshots ≡ r.snapshots
     → back.pinner.board ≡ r.pinner.board → back.pinner.knows ≡ unpinned_view (pinned_view r.pinner.knows id slot) → IsRefused r back (Moved id)
-moved_at r back id slot other i e t h s p k = (other, (slot, same_learnt back (unpinned (pinned id slot r)) i e t h s p k))
+moved_at r back id slot other seen later i e t h s p k = (omega (arith, seen, later, other), later, (slot, same_learnt back (unpinned (pinned id slot r)) i e t h s p k))
 
 -- where something is held
 pub held_so : {X P : Type 0} (o : Option P) (p : P) (x a b : X) → o ≡ Some p → x ≡ (if is_some o then a else b) → x ≡ a

@@ -1,5 +1,5 @@
 -- Readers outside the lock, and what each step of theirs leaves (this project's rule).
-use Rattle.std.specs.Prelude.{◌≡◌, ◌≢◌, ℕ, ◌^◌, ◌≤◌, List, length, None, Some}
+use Rattle.std.specs.Prelude.{◌≡◌, ℕ, ◌^◌, ◌<◌, ◌≤◌, List, length, None, Some}
 use Rattle.atomic_table.specs.Seated.{TableId}
 use Rattle.lsm_codec.specs.Entries.{Entry}
 use Rattle.lsm_shelf.specs.Told.{Place, Told, fresh}
@@ -34,6 +34,10 @@ KnowsAll r = AnswersAll r.version r.snapshots r.history
 -- it holds no pin
 abbrev pub IsIdle : Learnt → Type 0
 IsIdle r = r.pinner.knows.held ≡ None
+
+-- the version that it has learnt is none after the last one that it saw on the board
+abbrev pub HasSeen : Learnt → Type 0
+HasSeen r = r.id ≤ r.pinner.knows.id
 
 -- it holds a pin of the version that it has learnt
 abbrev pub IsPinning : Learnt → Type 0
@@ -71,10 +75,10 @@ refreshed h r = record r {
 abbrev pub IsBegun : Learnt → Learnt → Type 0
 IsBegun r v = (slot : ℕ) × (v ≡ pinned r.id slot r)
 
--- `Moved`: one step found another version than the one learnt, and its pin was given back. `PinsSpent`: all pins of the id seen last
--- were made, and no step was.
+-- `Moved`: one step found a later version than the one learnt, and none before one that was seen; its pin was given back. `PinsSpent`: all
+-- pins of the id seen last were made, and no step was.
 abbrev pub IsRefused : Learnt → Learnt → BeginFault → Type 0
-IsRefused r back (Moved id) = (id ≢ r.id) × ((slot : ℕ) × (back ≡ unpinned (pinned id slot r)))
+IsRefused r back (Moved id) = (r.id < id) × (r.pinner.knows.id ≤ id) × ((slot : ℕ) × (back ≡ unpinned (pinned id slot r)))
 IsRefused r back PinsSpent = (r.pinner.knows.count ≡ 2 ^ 24) × (back ≡ r)
 
 -- The state has the view's version in the slot that its pin holds, under the view's id, and these are the numbers of its tables.

@@ -3,7 +3,8 @@
 ghost use Rattle.std.specs.Prelude.{◌≡◌, ◌^◌, IfErr, IfOk, IsErr, OnErr, OnOk};
 ghost use Rattle.lsm_history.specs.History.{IsLater};
 ghost use Rattle.lsm_pins.specs.View.{noted_view};
-ghost use Rattle.lsm_store.specs.Readers.{IsBegun, IsIdle, IsRefused, KnowsAll, refreshed};
+ghost use Rattle.lsm_store.specs.Readers.{HasSeen, IsBegun, IsIdle, IsRefused, KnowsAll};
+ghost use Rattle.lsm_store.specs.Readers.{refreshed};
 ghost use Rattle.lsm_store.specs.declared.begin_fault.BeginFault.TheVariants.{PinsSpent};
 
 use crate::begin_fault::BeginFault;
@@ -24,7 +25,7 @@ pub struct Reader<N: Boarded, S: Shelf> {
 }
 
 impl<N: Boarded, S: Shelf> Model for Reader<N, S> {
-    ghost use Rattle.std.specs.Prelude.{◌≡◌, None};
+    ghost use Rattle.std.specs.Prelude.{◌≡◌, ◌≤◌, None};
     ghost use Rattle.lsm_store.specs.Readers.{Learnt};
 
     ghost Value = { Learnt };
@@ -38,7 +39,8 @@ impl<N: Boarded, S: Shelf> Model for Reader<N, S> {
       snapshots = r.cache.snapshots;
     } };
 
-    ghost invariant = { λ r. (r.pinner.board ≡ N.board) × (r.pinner.knows.held ≡ None) };
+    ghost invariant = { λ r. (r.pinner.board ≡ N.board) × (r.pinner.knows.held ≡ None)
+        × (r.cache.id ≤ r.pinner.knows.id) };
 }
 
 impl<N: Boarded, S: Shelf> Reader<N, S> {
@@ -46,6 +48,7 @@ impl<N: Boarded, S: Shelf> Reader<N, S> {
     pub fn id(&self) -> u32
         ensures id { result ≡ self.now.id }
         ensures idle { IsIdle self.now }
+        ensures seen { HasSeen self.now }
         ensures board { self.now.pinner.board ≡ N.board }
         ensures history { S.honest → KnowsAll self.now }
     {
@@ -71,9 +74,9 @@ impl<N: Boarded, S: Shelf> Reader<N, S> {
         Ok(())
     }
 
-    /// Pins the version that was learnt, by one atomic step and without the lock. Where another one
-    /// is current, the pin is given back (`Moved`); `PinsSpent` where all pins of the id seen last
-    /// were made.
+    /// Pins the version that was learnt, by one atomic step and without the lock. Where a later one
+    /// is current, the pin is given back, and its id is told (`Moved`); `PinsSpent` where all pins
+    /// of the id seen last were made.
     #[tactic(auto, using(crate::proofs::ReaderLaws::begun_at, crate::proofs::ReaderLaws::moved_at))]
     pub fn begin(self) -> Result<View<N, S>, (Reader<N, S>, BeginFault)>
         ensures begun { IfOk result (λ v. IsBegun self v) }

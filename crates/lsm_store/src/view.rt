@@ -6,6 +6,7 @@ ghost use Rattle.lsm_codec.specs.Entries.{answer};
 ghost use Rattle.lsm_codec.specs.Lists.{Has};
 ghost use Rattle.lsm_levels.specs.Files.{all_entries};
 ghost use Rattle.lsm_levels.specs.Scanning.{IsScan};
+ghost use Rattle.lsm_merger.specs.Seeking.{at_or_past};
 ghost use Rattle.lsm_merger.specs.Shown.{ShowsNext, ShowsPair};
 ghost use Rattle.lsm_pins.specs.View.{noted_view};
 ghost use Rattle.lsm_shelf.specs.Told.{Becomes};
@@ -34,7 +35,7 @@ pub struct View<N: Boarded, S: Shelf> {
 }
 
 impl<N: Boarded, S: Shelf> Model for View<N, S> {
-    ghost use Rattle.std.specs.Prelude.{◌≡◌, Some};
+    ghost use Rattle.std.specs.Prelude.{◌≡◌, ◌≤◌, Some};
     ghost use Rattle.lsm_store.specs.Readers.{Learnt};
 
     ghost Value = { Learnt };
@@ -49,7 +50,8 @@ impl<N: Boarded, S: Shelf> Model for View<N, S> {
     } };
 
     ghost invariant = { λ v. (v.pinner.board ≡ N.board)
-        × (v.pinner.knows.held ≡ Some (v.cache.id, v.slot)) };
+        × (v.pinner.knows.held ≡ Some (v.cache.id, v.slot))
+        × (v.cache.id ≤ v.pinner.knows.id) };
 }
 
 impl<N: Boarded, S: Shelf> View<N, S> {
@@ -116,6 +118,27 @@ impl<N: Boarded, S: Shelf> View<N, S> {
         ensures cause { IfErr result (λ e. ReadCounted e self.old.told self.new.told) }
     {
         lsm_reads::scan_by(&self.cache.version, &mut self.cache.blocks, alloc, seq)
+    }
+
+    /// The same from a user key on (`Seek` of LevelDB's `include/leveldb/iterator.h`): each user key
+    /// at or past it that has an answer, with it, ascending.
+    pub fn scan_from(
+        &mut self,
+        alloc: Global,
+        seq: u64,
+        from: &[u8],
+    ) -> Result<Scan<N, S>, ReadFault>
+        ensures scanned { S.honest → IfOk result (λ s. IsScan seq
+            (at_or_past from.now (all_entries (files self.old.version))) s.left) }
+        ensures history { S.honest → IsPromised self.old seq
+            → IfOk result (λ s. IsScan seq (at_or_past from.now self.old.history) s.left) }
+        ensures here { IfOk result (λ s. s.here ≡ None) }
+        ensures sound { S.honest → IfErr result IsMemoryOrShelf }
+        ensures rest { self.new ≡ record self.old { told = self.new.told } }
+        ensures told { Becomes self.old.told self.new.told }
+        ensures cause { IfErr result (λ e. ReadCounted e self.old.told self.new.told) }
+    {
+        lsm_reads::scan_from_by(&self.cache.version, &mut self.cache.blocks, alloc, seq, from)
     }
 
     /// Goes on to the next pair of the scan, which then lends it. Where none is left it stands at
