@@ -1,6 +1,7 @@
 mod LevelLaws
 mod ReadingOutcomes
 mod ScanLaws
+mod BeginLaws
 mod FaultLaws
 mod PerformLaws
 mod NoteLaws

@@ -1,6 +1,6 @@
 -- What a scan prints, pair by pair.
 use Rattle.std.proofs.Common.{◌≡◌, ◌≢◌, ℕ, ◌+◌, ◌-◌, ◌≤◌, ◌<◌, Bool, true, false, List, [], ◌∷◌, ◌++◌, Option, Some, None, refl, sym, ap, ◌∙◌, subst, append_assoc, append-nil, inl, inr, arith, length, take, length-append}
-use Rattle.std.specs.Prelude.{◌⊎◌, Result, Ok, Err, IfErr, not, nat_le}
+use Rattle.std.specs.Prelude.{◌⊎◌, not, nat_le}
 use Rattle.std.specs.List.{flat_map, filter}
 use Rattle.std.specs.Io.KnownBytes.{Appends, Keeps}
 use Rattle.std.proofs.KnownBytes.{Appends-nil, Appends-trans, Appends-kept, Keeps-refl}
@@ -11,18 +11,14 @@ use Rattle.std.proofs.lemmas.List.{take_all}
 use Rattle.std.proofs.lemmas.List.Elements.{filter-append}
 use Rattle.lsm_codec.specs.Keys.{UserKey, UserLe}
 use Rattle.lsm_codec.specs.Lists.{Has}
-use Rattle.lsm_levels.specs.Scanning.{IsScan, Pair, UsersAscend}
-use Rattle.lsm_levels.specs.Files.{all_entries}
-use Rattle.lsm_version.specs.Versions.{Levels, files}
-use Rattle.lsm_directory.specs.declared.faults.directory_fault.DirectoryFault.{DirectoryFault}
-use Rattle.lsm_directory.specs.declared.faults.directory_fault.DirectoryFault.TheVariants.{Write}
+use Rattle.lsm_levels.specs.Scanning.{Pair, UsersAscend}
 use Rattle.lsm_merger.specs.Shown.{Showing, ShowsNext, user_shown, value_shown}
 use Rattle.lsm_text.specs.KeyBounds.{is_within}
 use Rattle.lsm_text.specs.declared.key_bounds.KeyBounds.{KeyBounds}
 use Rattle.lsm_text.specs.declared.form.Form.{Form}
 use Rattle.lsm_text.specs.declared.scan_options.ScanOptions.{ScanOptions}
 use Rattle.lsm_text.specs.declared.scan_output.ScanOutput.{ScanOutput}
-use Rattle.lsm_reading.specs.Scanned.{BeginsPrinting, Fits, LeavesScan, Passes, PassesNext, PrintsLines, asked_for, at_most, count_line, is_full, line_of, lines_of, scan_text, within}
+use Rattle.lsm_reading.specs.Scanned.{BeginsPrinting, Fits, Passes, PassesNext, PrintsLines, asked_for, at_most, count_line, is_full, line_of, lines_of, scan_text, within}
 
 -- ---- the pairs within the bounds
 
@@ -211,10 +207,3 @@ module _ (form : Form) where
   lines_and_count options pairs n a b c lines counted =
       Appends-trans a b c (lines_of form options.output (asked_for options pairs)) (count_line options.output (length (asked_for options pairs))) lines.1
       (subst (λ (k : ℕ). Appends b c (count_line options.output k)) lines.0 counted)
-
-  -- what a scan that was begun leaves
-  pub left_scan : (r : Result Unit DirectoryFault) (Honest : Type 0) (options : ScanOptions) (v : Levels) (pairs : List Pair) (a b : Option (List ℕ))
-      → (Honest → IsScan v.last (all_entries (files v)) pairs) → (Honest → IfErr r (λ e. e ≢ Write → BeginsPrinting form options pairs a b))
-      → IfErr r (λ e. e ≢ Write → LeavesScan form options Honest v a b)
-  left_scan (Ok x) Honest options v pairs a b scanned h = tt
-  left_scan (Err e) Honest options v pairs a b scanned h = λ other. inr (λ honest. (pairs, scanned honest, h honest other))

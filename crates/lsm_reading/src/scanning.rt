@@ -1,22 +1,25 @@
 //! A scan, printed as it goes.
 
 ghost use Rattle.std.specs.Prelude.{◌≡◌, ◌≢◌, ◌≤◌, ◌<◌, ◌+◌, ◌^◌, ◌++◌, ◌∷◌, List};
-ghost use Rattle.std.specs.Prelude.{IfErr, IfOk, IsFalse, OnOk};
+ghost use Rattle.std.specs.Prelude.{IfErr, IfOk, IsFalse, OnOk, true};
 ghost use Rattle.std.specs.Io.KnownBytes.{Appends, Keeps};
+ghost use Rattle.lsm_codec.specs.Keys.{UserKey, UserLe};
 ghost use Rattle.lsm_table.specs.Told.{Becomes};
 ghost use Rattle.lsm_levels.specs.Scanning.{Pair, UsersAscend};
 ghost use Rattle.lsm_reading.specs.Scanned.{BeginsPrinting, LeavesScan, Passes, PassesNext};
 ghost use Rattle.lsm_reading.specs.Scanned.{PrintsLines, PrintsScan, count_line, is_full, key_line};
 ghost use Rattle.lsm_reading.specs.Scanned.{line_of, pair_line, scan_text};
 ghost use Rattle.lsm_reading.specs.ReadFault.{IsAnswerFault, IsOutputFault};
+ghost use Rattle.lsm_text.specs.KeyBounds.{is_within};
 ghost use Rattle.lsm_directory.specs.declared.faults.directory_fault.DirectoryFault.TheVariants.{Write as WriteFault};
 
 use crate::progress::tell_keys;
 use lsm_directory::{DirectoryFault, OutputFault, flush, write_bytes};
+use lsm_levels::is_at_most;
 use lsm_reader::{Blocks, Direct};
 use lsm_reads::Scan;
 use lsm_table::{NamedShelf, Naming, Shelf};
-use lsm_text::{Form, ScanOptions, ScanOutput};
+use lsm_text::{Form, KeyBounds, ScanOptions, ScanOutput};
 use lsm_version::Version;
 use std::alloc::{AllocError, Global};
 use std::io::Write;
@@ -279,8 +282,28 @@ fn print_open<N: Naming, S: Shelf, O: Write, E: Write>(
     Ok(())
 }
 
+/// A user key that none within the bounds is below: the greater one of the first key and of the
+/// bytes with which a key is to begin, as far as there are any.
+#[tactic(auto, using(lsm_merger::proofs::CallerLemmas::least, crate::proofs::BeginLaws::from_first, crate::proofs::BeginLaws::from_prefix))]
+fn first_within(bounds: &KeyBounds) -> &[u8]
+    ensures { (key : UserKey) → is_within bounds.now key ≡ true → UserLe result.now key }
+{
+    match (&bounds.from, &bounds.prefix) {
+        (None, None) => &[],
+        (Some(from), None) => from.as_slice(),
+        (None, Some(prefix)) => prefix.as_slice(),
+        (Some(from), Some(prefix)) => {
+            if is_at_most(prefix.as_slice(), from.as_slice()) {
+                from.as_slice()
+            } else {
+                prefix.as_slice()
+            }
+        }
+    }
+}
+
 /// Prints what is asked for of the pairs that a version shows. What was printed before a fault of
-/// the shelf stands.
+/// the shelf stands. The scan begins where the bounds do, so no pair below them is read.
 #[tactic(auto, using(lsm_directory::proofs::CallerLemmas::keeps_same))]
 pub(crate) fn print_scan<N: Naming, S: Shelf, O: Write, E: Write>(
     shelf: &mut NamedShelf<N, S>,
@@ -301,6 +324,7 @@ pub(crate) fn print_scan<N: Naming, S: Shelf, O: Write, E: Write>(
     ensures told { Becomes shelf.old shelf.new }
     ensures quiet { IsFalse progress → Keeps (E.contents err.old) (E.contents err.new) }
 {
-    let mut scan = lsm_reads::scan(version, shelf, alloc, version.last())?;
+    let from = first_within(&options.bounds);
+    let mut scan = lsm_reads::scan_from(version, shelf, alloc, version.last(), from)?;
     print_open(shelf, alloc, &mut scan, form, options, progress, out, err)
 }
