@@ -14,7 +14,7 @@ from pathlib import Path
 from markdown import TOP, blocks
 
 KINDS = {
-    "rust": ["crates/*/src/**/*.rt"],
+    "rust": ["crates/*/src/**/*.rt", "checks/more_tests/*/src/**/*.rt.txt"],
     "antt": ["crates/*/specs/**/*.antt", "crates/*/proofs/**/*.antt"],
     "output": ["crates/*/stdout"],
     "edit": ["crates/*/must-fail/*.edit", "checks/more_edits/*/*.edit"],

@@ -1,10 +1,13 @@
 #!/usr/bin/env python3
 """The form of the book: each page has at most 1,200 words, and its first page names it. Each drawing
-in docs is well-formed and shown by some page; those of docs/book/draw.py are as it draws them.
+in docs is well-formed and shown by some page; those of docs/book/draw.py are as it draws them, and
+docs/layers.svg has just the crates that docs/draw_layers.py would draw. The page of each crate has
+at most 60 lines, and docs/CRATES.md leads to it.
 
 form.py PAGE.. also looks for blocks of code without fences in these pages.
 """
 
+import re
 import sys
 import xml.etree.ElementTree as xml
 from pathlib import Path
@@ -14,9 +17,12 @@ from markdown import FENCE, TOP, links
 DOCS = TOP / "docs"
 BOOK = DOCS / "book"
 sys.path.append(str(BOOK))
+sys.path.append(str(DOCS))
 from draw import DRAWINGS  # noqa: E402
+from draw_layers import uses  # noqa: E402
 
 MOST_WORDS = 1200
+MOST_LINES = 60
 passed = failed = 0
 
 
@@ -57,6 +63,15 @@ for page in sorted(BOOK.glob("*.md")):
     judge(words <= MOST_WORDS, f"{page.relative_to(TOP)}: {words} words, {MOST_WORDS} at most")
     if page.name != "README.md":
         judge(page in named, f"{page.relative_to(TOP)}: README.md beside it does not name it")
+drawn = set(re.findall(r">(lsm_\w+)<", (DOCS / "layers.svg").read_text()))
+for crate in sorted(drawn ^ set(uses())):
+    judge(False, f"docs/layers.svg: {crate} is not drawn, or no crate any more: run docs/draw_layers.py")
+in_list = {(DOCS / link).resolve() for _, link in links(DOCS / "CRATES.md")}
+for page in sorted((TOP / "crates").glob("*/README.md")):
+    lines = page.read_text().count("\n")
+    judge(lines <= MOST_LINES, f"{page.relative_to(TOP)}: {lines} lines, {MOST_LINES} at most")
+    is_listed = page in in_list or page.parent.name.endswith("_tests")
+    judge(is_listed, f"{page.relative_to(TOP)}: docs/CRATES.md does not lead to it")
 for name, draw in DRAWINGS.items():
     judge((DOCS / name).read_text() == draw().svg(), f"docs/{name}: not as docs/book/draw.py draws it")
 in_pages = shown([TOP / "README.md", *DOCS.glob("**/*.md"), *(TOP / "crates").glob("*/*.md")])

@@ -3,9 +3,10 @@
 #
 #   sessions.py   each command of their shell sessions is run in a scratch folder and prints what the
 #                 page says
-#   code.py       each line of Rattle that they show is a line of a source file in crates; so in
-#                 docs/CALLING.md and in the CALLING.md of each crate
-#   form.py       the book's pages are short, its drawings are well-formed, and each is shown
+#   code.py       each line of Rattle that they show is a line of a source file in crates or of a
+#                 test; so in docs/CALLING.md and in the CALLING.md of each crate
+#   form.py       the pages of the book and of crates are short, drawings are well-formed, as scripts
+#                 draw them, and each is shown; all code is in fences
 #   links.py      of every page of the repository: each link leads to a file, and to a heading of it
 #
 # Names of pages as words choose which pages' sessions and code are looked at. Runs the proved
@@ -45,7 +46,7 @@ count() { # NAME COMMAND..: runs it, and adds its last line `N passed, M failed`
 
 count sessions python3 "$here/sessions.py" "$program" "${pages[@]}"
 count code python3 "$here/code.py" "${code[@]}"
-count form python3 "$here/form.py" "${pages[@]}"
+count form python3 "$here/form.py" "${code[@]}"
 count links python3 "$here/links.py"
 echo "$passed passed, $failed failed"
 ((failed == 0))

@@ -1,5 +1,6 @@
 #!/usr/bin/env python3
-"""Draws the book's pictures, and the bytes of a table for FORMATS.md. It writes each one anew.
+"""Draws the book's pictures, the bytes of a table for FORMATS.md, and for PERFORMANCE.md the figures
+of its first table. It writes each one anew.
 
 Plain SVG, without a tool to see it. Colours: sand is what is chosen or current, red what goes, green
 what comes or is safe, blue what is kept or read, grey all else.
@@ -360,6 +361,36 @@ def proof():
     return d
 
 
+def fast():
+    """The rows of PERFORMANCE.md's first table: the work without its unit, and how fast it is."""
+    for line in (DOCS / "PERFORMANCE.md").read_text().split("\n"):
+        cells = [cell.strip() for cell in line.strip("|").split("|")]
+        if len(cells) == 5 and cells[3].replace(".", "", 1).isdigit():
+            yield cells[0].removesuffix(", ns").removesuffix(", ns an entry").removesuffix(", MB a second"), float(cells[3])
+
+
+def performance():
+    rows = list(fast())
+    high, first, unit = 24, 352, 132
+    bottom = 74 + high * len(rows)
+    d = Drawing("How fast lsm is, as a part of LevelDB's speed: above 1 it is faster", 960, bottom + 62)
+    d.text(20, 28, "How fast it is, beside LevelDB, in memory", 16, bold=True)
+    for times in range(5):
+        x = first + times * unit
+        d.line(x, 60, x, bottom, "#ddd")
+        d.text(x, 54, f"{times}", 12, "middle", fill="#555")
+    for number, (work, times) in enumerate(rows):
+        y = 66 + number * high
+        d.text(first - 12, y + 14, work, 12, "end")
+        d.box(first, y, round(times * unit, 1), high - 6, "green" if times >= 1 else "red", rx=0)
+        behind = 1 if 0.65 < times < 1 else times  # not across the line of LevelDB
+        d.text(round(first + behind * unit + 8, 1), y + 14, f"{times:.2f}", 12, bold=True)
+    d.line(first + unit, 60, first + unit, bottom, "#444")
+    d.text(first + unit, bottom + 18, "as fast as LevelDB", 12, "middle", bold=True)
+    d.text(20, bottom + 46, "How many times LevelDB's speed. Green is faster, red slower. The figures are those of the table; each bar is one row of it.", 12, fill="#555")
+    return d
+
+
 # by their place in docs
 DRAWINGS = {
     "book/levels.svg": levels,
@@ -370,6 +401,7 @@ DRAWINGS = {
     "book/read.svg": read,
     "book/pin.svg": pin,
     "book/proof.svg": proof,
+    "performance.svg": performance,
 }
 
 if __name__ == "__main__":

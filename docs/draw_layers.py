@@ -1,0 +1,105 @@
+#!/usr/bin/env python3
+"""Draws docs/layers.svg anew: the crates of crates.txt, and which others each one uses. An arrow is
+left out where a longer way along others says the same. A crate that is new gets a line in CRATES.
+Needs graphviz (the command dot).
+"""
+
+import re
+import subprocess
+from pathlib import Path
+
+TOP = Path(__file__).resolve().parents[1]
+COLOURS = {
+    "program": ("#eef6e8", "#5a8a3a"),
+    "database": ("#f6f1de", "#a5863a"),
+    "part": ("#e8f0fa", "#3a6ea5"),
+    "law": ("#f3eaf8", "#7a4a9a"),
+    "file": ("#f2f2f2", "#666666"),
+}
+CRATES = {
+    "lsm_tool": ("program", "the program lsm"),
+    "lsm_commands": ("program", "words, inputs, scripts"),
+    "lsm_shell": ("program", "a reply to each line"),
+    "lsm_writing": ("program", "ingest, put, compact, clean"),
+    "lsm_reading": ("program", "check, list, get, scan"),
+    "lsm_directory": ("program", "a folder, its lock, faults"),
+    "lsm_text": ("program", "words, lines, refusals, help"),
+    "lsm_store": ("database", "lock, readers, workers"),
+    "lsm_script": ("database", "lists of commands, as text too"),
+    "lsm_state": ("database", "what the lock guards"),
+    "lsm_journal": ("part", "the manifest held"),
+    "lsm_batch": ("part", "batches and their tables"),
+    "lsm_live": ("part", "live jobs, drawn numbers"),
+    "lsm_slots": ("part", "versions by slot"),
+    "lsm_merge": ("part", "jobs, drops, outputs"),
+    "lsm_choice": ("part", "which compaction is next"),
+    "lsm_pins": ("part", "board of readers' pins"),
+    "lsm_version": ("part", "tables at levels"),
+    "lsm_history": ("part", "all that ever came in"),
+    "lsm_check": ("part", "a shape becomes a version"),
+    "lsm_merger": ("part", "sorted sources as one"),
+    "lsm_reads": ("part", "what a key answers, scans"),
+    "lsm_levels": ("law", "files in levels, as data"),
+    "lsm_storage": ("file", "in memory, in a folder"),
+    "lsm_manifest": ("file", "edits and their log"),
+    "lsm_table": ("file", "tables, registry"),
+    "lsm_reader": ("file", "one block at a time, a cache"),
+    "lsm_codec": ("file", "numbers, keys, checksums"),
+    "lsm_shelf": ("file", "what a shelf promises"),
+    "lsm_block": ("file", "blocks"),
+    "lsm_folder": ("file", "calls on a folder"),
+}
+
+
+def is_drawn(crate):
+    """Tests, the example and what is no part of the program are left out."""
+    return not crate.endswith("_tests") and crate not in ("example", "lsm_crash", "lsm_theorems", "lsm_test_shelves")
+
+
+def uses():
+    """What each crate uses, of those that are drawn."""
+    found = {}
+    for line in (TOP / "crates.txt").read_text().split("\n"):
+        name, parted, words = line.partition(":")
+        crate = name.split(" ")[0]
+        if parted and is_drawn(crate):
+            found[crate] = [word for word in words.split() if word.startswith("lsm_") and is_drawn(word)]
+    return found
+
+
+def reached(crate, lower):
+    """All crates below one, itself left out."""
+    return {below for used in lower[crate] for below in {used} | reached(used, lower)}
+
+
+def direct(crate, lower):
+    """The crates that one uses and none of those that it uses does."""
+    return [used for used in lower[crate] if not any(used in reached(other, lower) for other in lower[crate])]
+
+
+def drawing(lower):
+    lines = ["digraph {", '  graph [bgcolor="white", ranksep=0.42, nodesep=0.28]',
+             '  node [shape=box, style="rounded,filled", fontname="Helvetica,sans-Serif", margin="0.12,0.03", height=0.5]',
+             '  edge [color="#777777", arrowsize=0.7]']
+    for crate in lower:
+        kind, text = CRATES[crate]
+        fill, stroke = COLOURS[kind]
+        label = f'<<font point-size="13"><b>{crate}</b></font><br/><font point-size="11" color="#444444">{text}</font>>'
+        lines.append(f'  {crate} [label={label}, fillcolor="{fill}", color="{stroke}"]')
+        lines += [f"  {crate} -> {used}" for used in direct(crate, lower)]
+    return "\n".join([*lines, "}"])
+
+
+def layers():
+    lower = uses()
+    unknown = sorted(set(lower) - set(CRATES))
+    if unknown:
+        raise SystemExit(f"draw_layers: {' '.join(unknown)}: no line in CRATES")
+    svg = subprocess.run(["dot", "-Tsvg"], input=drawing(lower), text=True, stdout=subprocess.PIPE, check=True).stdout
+    svg = svg[svg.index("<svg"):]
+    svg = re.sub(r"<!--.*?-->\n?", "", svg, flags=re.S)
+    return re.sub(r"<title>[^<]*</title>\n?", "", svg).replace("<g id=\"graph0\"", "<title>The crates, and which others each one uses</title>\n<g id=\"graph0\"", 1)
+
+
+if __name__ == "__main__":
+    (TOP / "docs" / "layers.svg").write_text(layers())
