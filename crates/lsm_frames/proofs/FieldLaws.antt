@@ -1,5 +1,5 @@
 -- A field that is read is the field that was written, and what was written is read again.
-use Rattle.std.proofs.Common.{◌≡◌, ℕ, zero, suc, ◌+◌, ◌^◌, ◌<◌, ◌≤◌, Bool, true, false, cond, ltb, List, [], ◌∷◌, ◌++◌, length, get_or, take, drop, Option, Some, None, refl, sym, ap, subst, ◌∙◌, append_assoc, arith}
+use Rattle.std.proofs.Common.{◌≡◌, ℕ, zero, suc, ◌+◌, ◌^◌, ◌<◌, ◌≤◌, false, cond, ltb, List, [], ◌∷◌, ◌++◌, length, take, drop, Option, Some, None, refl, sym, ap, subst, ◌∙◌, append_assoc, arith}
 use Rattle.std.specs.Prelude.{IfSome}
 use Rattle.std.specs.Int.{Width, w32, w64, byte_len, from_le_bytes, to_le_bytes}
 use Rattle.std.proofs.lemmas.Bool.{ltb-false, le-ltb}
@@ -11,7 +11,7 @@ use Rattle.lsm_frames.specs.Texts.{text, optional}
 use Rattle.lsm_frames.specs.Requests.{Written, when_text, written_parts, written_text, FitsText, FitsWhen, FitsWritten}
 use Rattle.lsm_frames.specs.Answers.{Pair, pair_text}
 use Rattle.lsm_frames.specs.Held.{FitsPair}
-use Rattle.lsm_frames.specs.Reading.{◌>>=◌, Read, number_at, text_at, optional_at, when_at, written_at, pair_at}
+use Rattle.lsm_frames.specs.Reading.{◌>>=◌, number_at, text_at, optional_at, when_at, written_at, pair_at}
 use Rattle.lsm_frames.proofs.ByteLaws.{IsBytes, IsBytes-drop, IsBytes-take, IsBytes-rest, bind_some, guard_some, some_is, Takes, Takes-then, Takes-behind, IsFormat, Shortens}
 
 -- ---- numbers

@@ -1,12 +1,12 @@
 -- Fields one after another, up to the end of the bytes.
-use Rattle.std.proofs.Common.{◌≡◌, ℕ, zero, suc, ◌+◌, ◌<◌, ◌≤◌, Bool, true, false, List, [], ◌∷◌, ◌++◌, length, Option, Some, None, refl, sym, ap, subst, ◌∙◌, arith}
+use Rattle.std.proofs.Common.{◌≡◌, ℕ, zero, suc, ◌<◌, ◌≤◌, true, false, List, [], ◌∷◌, ◌++◌, length, Option, Some, None, refl, sym, ap, subst, ◌∙◌, arith}
 use Rattle.std.specs.Prelude.{IsSome, is_some, unwrap_or}
 use Rattle.std.specs.List.{flat_map, AllByRecursion}
 use Rattle.std.proofs.lemmas.List.{length-append}
 use Rattle.lsm_frames.specs.Requests.{AreSome}
 use Rattle.lsm_frames.specs.Reading.{◌>>=◌, Read, items_by, items_in}
 use Rattle.lsm_frames.specs.RequestReading.{some_in}
-use Rattle.lsm_frames.proofs.ByteLaws.{IsBytes, bind_some, bind_same, some_is, Takes, IsFormat, Shortens}
+use Rattle.lsm_frames.proofs.ByteLaws.{IsBytes, bind_some, bind_same, some_is, IsFormat, Shortens}
 
 pub items_none_left : {A : Type 0} (read : Read A) (n : ℕ) → items_by read n [] ≡ Some []
 unfolding items_by

@@ -1,13 +1,12 @@
 -- The two laws of requests: what is read is spelled so, and what is spelled so is read.
-use Rattle.std.proofs.Common.{◌≡◌, ℕ, zero, suc, ◌^◌, ◌<◌, Bool, true, false, cond, eqb, List, [], ◌∷◌, ◌++◌, length, Option, Some, None, refl, sym, ap, subst, ◌∙◌, append_assoc, arith}
-use Rattle.std.specs.Prelude.{IfSome}
+use Rattle.std.proofs.Common.{◌≡◌, ℕ, ◌^◌, Bool, true, false, cond, eqb, List, [], ◌∷◌, ◌++◌, length, Option, Some, None, refl, sym, ap, subst, ◌∙◌, append_assoc}
 use Rattle.std.specs.List.{flat_map}
 use Rattle.std.specs.Int.{w32, w64, to_le_bytes}
 use Rattle.std.proofs.lemmas.Bool.{eqb-true}
 use Rattle.std.proofs.lemmas.List.{append-nil, nil_from_length}
 use Rattle.std.proofs.lemmas.Option.{cond_some}
 use Rattle.lsm_frames.specs.Texts.{text, optional}
-use Rattle.lsm_frames.specs.Requests.{Asked, Stretch, Written, Writes, Reads, Scans, Snapshots, Releases, Compacts, Collects, Statistics, when_text, written_text, stretch_text, spelled, FitsText, FitsWritten, FitsStretch, Fits, IsRequest}
+use Rattle.lsm_frames.specs.Requests.{Asked, Stretch, Writes, Reads, Scans, Snapshots, Releases, Compacts, Collects, Statistics, when_text, written_text, stretch_text, spelled, FitsText, FitsWritten, FitsStretch, Fits, IsRequest}
 use Rattle.lsm_frames.specs.Reading.{◌>>=◌, number_at, text_at, optional_at, when_at, written_at}
 use Rattle.lsm_frames.specs.RequestReading.{some_in, whole, writes_at, reads_at, stretch_at, scan_at, release_at, body_at, asked_at}
 use Rattle.lsm_frames.proofs.ByteLaws.{IsBytes, IsBytes-rest, bind_some, some_is, Takes, Takes-then}

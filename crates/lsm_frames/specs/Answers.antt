@@ -2,7 +2,7 @@
 use Rattle.std.specs.Prelude.{ℕ, Bool, true, false, List, [], ◌∷◌, ◌++◌, Option}
 use Rattle.std.specs.List.{flat_map}
 use Rattle.lsm_frames.specs.declared.level_size.LevelSize.{LevelSize}
-use Rattle.lsm_frames.specs.Texts.{number64, text, optional, frame}
+use Rattle.lsm_frames.specs.Texts.{number64, text, optional}
 
 pub record Pair : Type 0 where
   pub key : List ℕ

@@ -1,5 +1,5 @@
 -- The opening (docs/PROTOCOL.md, this project's rule).
-use Rattle.std.specs.Prelude.{◌≡◌, ℕ, ◌+◌, ◌*◌, ◌^◌, ◌<◌, ◌≤◌, Bool, true, false, List, [], ◌∷◌, ◌++◌, length, IsUtf8}
+use Rattle.std.specs.Prelude.{◌≡◌, ℕ, ◌+◌, ◌*◌, ◌^◌, ◌<◌, ◌≤◌, Bool, true, false, List, ◌∷◌, ◌++◌, length, IsUtf8}
 use Rattle.lsm_frames.specs.Texts.{number32, text}
 
 pub record Opened : Type 0 where

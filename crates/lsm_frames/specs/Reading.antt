@@ -1,5 +1,5 @@
 -- Reading from the front of bytes: a field and what follows it, or none where no field stands there.
-use Rattle.std.specs.Prelude.{ℕ, zero, suc, Bool, List, [], ◌∷◌, length, take, drop, Option, Some, None, nat_lt, ◌==◌, if◌then◌else◌}
+use Rattle.std.specs.Prelude.{ℕ, zero, suc, List, [], ◌∷◌, length, take, drop, Option, Some, None, nat_lt, if◌then◌else◌}
 use Rattle.std.specs.Int.{Width, w32, w64, byte_len, from_le_bytes}
 use Rattle.lsm_frames.specs.declared.when.When.{When}
 use Rattle.lsm_frames.specs.declared.when.When.TheVariants.{Now, Snapshot}

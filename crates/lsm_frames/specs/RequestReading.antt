@@ -1,7 +1,7 @@
 -- Reading a request.
-use Rattle.std.specs.Prelude.{ℕ, Bool, List, [], ◌∷◌, length, Option, Some, None, ◌==◌, if◌then◌else◌}
+use Rattle.std.specs.Prelude.{ℕ, List, [], ◌∷◌, length, Option, Some, None, ◌==◌, if◌then◌else◌}
 use Rattle.std.specs.Int.{w32, w64}
-use Rattle.lsm_frames.specs.Requests.{Asked, Stretch, Written, Writes, Reads, Scans, Snapshots, Releases, Compacts, Collects, Statistics}
+use Rattle.lsm_frames.specs.Requests.{Asked, Stretch, Writes, Reads, Scans, Snapshots, Releases, Compacts, Collects, Statistics}
 use Rattle.lsm_frames.specs.Reading.{◌>>=◌, Read, number_at, text_at, optional_at, when_at, written_at, items_in}
 
 -- at least one

@@ -1,5 +1,4 @@
 -- Requests as contracts see them, without where their bytes lie.
-use Rattle.std.specs.Prelude.{ℕ, List}
 use Rattle.std.specs.Option.{option_map}
 use Rattle.lsm_frames.specs.declared.write.Write.{Write}
 use Rattle.lsm_frames.specs.declared.range.Range.{Range}

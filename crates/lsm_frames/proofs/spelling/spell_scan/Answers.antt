@@ -1,4 +1,3 @@
-use Rattle.std.proofs.Common.{sym, ap, ◌∙◌, Err}
 use Rattle.std.proofs.lemmas.Result.{err_from_is_err_and}
 use Rattle.lsm_frames.specs.Views.{stretch_of}
 use Rattle.lsm_frames.proofs.HeldLaws.{long_from, long_to}

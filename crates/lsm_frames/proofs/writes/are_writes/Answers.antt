@@ -1,5 +1,4 @@
-use Rattle.std.proofs.Common.{length, sym, ◌∙◌, arith}
-use Rattle.std.proofs.lemmas.Bool.{eqb-true, eqb-false}
+use Rattle.std.proofs.Common.{sym, ◌∙◌, arith}
 use Rattle.std.proofs.lemmas.Bool.Decides.{nat_tests}
 use Rattle.lsm_frames.specs.Reading.{written_at}
 use Rattle.lsm_frames.specs.Views.{written_of}

@@ -1,4 +1,4 @@
-use Rattle.std.proofs.Common.{◌+◌, ◌≤◌, [], length, Some, None, refl, sym, ap, ◌∙◌, arith}
+use Rattle.std.proofs.Common.{[], length, refl, sym, ap, ◌∙◌, arith}
 use Rattle.std.proofs.lemmas.Bool.{leb-true, leb-false}
 use Rattle.std.proofs.lemmas.Result.{err_from_is_err_and}
 use Rattle.std.proofs.lemmas.List.{length-append}
@@ -7,7 +7,7 @@ use Rattle.lsm_frames.specs.Requests.{FitsText}
 use Rattle.lsm_frames.specs.Reading.{text_at}
 use Rattle.lsm_frames.specs.Held.{held}
 use Rattle.lsm_frames.proofs.FieldLaws.{text_format, length-text}
-use Rattle.lsm_frames.proofs.HeldLaws.{holds_more, length-written, long_reads}
+use Rattle.lsm_frames.proofs.HeldLaws.{holds_more, long_reads}
 use Rattle.lsm_frames.proofs.key_list.KeyList.push.Goals as goal
 
 pub invariant_of-self-2 : goal.invariant_of-self-2

@@ -1,4 +1,4 @@
-use Rattle.std.proofs.Common.{◌≡◌, sym, ◌∙◌, arith}
+use Rattle.std.proofs.Common.{◌∙◌}
 use Rattle.lsm_frames.specs.Texts.{text}
 use Rattle.lsm_frames.specs.Requests.{FitsText}
 use Rattle.lsm_frames.specs.Reading.{text_at}

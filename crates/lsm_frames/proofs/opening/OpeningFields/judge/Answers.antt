@@ -1,6 +1,5 @@
-use Rattle.std.proofs.Common.{refl, sym, ap, ◌∙◌}
-use Rattle.lsm_frames.specs.Openings.{Opened}
-use Rattle.lsm_frames.specs.OpeningView.{fields_of, opened_of}
+use Rattle.std.proofs.Common.{sym, ap, ◌∙◌}
+use Rattle.lsm_frames.specs.OpeningView.{fields_of}
 use Rattle.lsm_frames.proofs.OpeningLaws.{judged_not, judged_when}
 use Rattle.lsm_frames.proofs.opening.OpeningFields.judge.Goals as goal
 

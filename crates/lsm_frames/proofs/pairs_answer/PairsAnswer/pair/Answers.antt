@@ -1,15 +1,14 @@
-use Rattle.std.proofs.Common.{◌≡◌, ℕ, ◌+◌, ◌<◌, ◌≤◌, List, [], ◌∷◌, ◌++◌, length, Option, Some, None, refl, sym, ap, ◌∙◌, arith}
+use Rattle.std.proofs.Common.{◌≡◌, ◌+◌, [], ◌∷◌, ◌++◌, length, refl, sym, ap, ◌∙◌, arith}
 use Rattle.std.specs.List.{flat_map}
 use Rattle.std.proofs.lemmas.Bool.{leb-true, leb-false}
 use Rattle.std.proofs.lemmas.Result.{err_from_is_err_and}
-use Rattle.lsm_frames.specs.declared.length.TheConstants.{MOST_ANSWER}
 use Rattle.lsm_frames.specs.Answers.{pair_text}
 use Rattle.lsm_frames.specs.Held.{FitsPair}
 use Rattle.std.proofs.lemmas.List.{length-append}
 use Rattle.lsm_frames.specs.Reading.{pair_at}
-use Rattle.lsm_frames.specs.Held.{Holds, held, pairs_head}
+use Rattle.lsm_frames.specs.Held.{held, pairs_head}
 use Rattle.lsm_frames.proofs.FieldLaws.{pair_format}
-use Rattle.lsm_frames.proofs.HeldLaws.{holds_more, size_more, length-value, length-pair}
+use Rattle.lsm_frames.proofs.HeldLaws.{holds_more, size_more, length-pair}
 use Rattle.lsm_frames.proofs.pairs_answer.PairsAnswer.pair.Goals as goal
 
 pub returns-then-not-has_room-clause-long : goal.returns-then-not-has_room-clause-long

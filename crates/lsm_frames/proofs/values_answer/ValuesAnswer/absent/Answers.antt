@@ -1,16 +1,15 @@
-use Rattle.std.proofs.Common.{◌≡◌, ℕ, ◌+◌, ◌<◌, ◌≤◌, List, [], ◌∷◌, ◌++◌, length, Option, Some, None, refl, sym, ap, ◌∙◌, arith}
+use Rattle.std.proofs.Common.{◌≡◌, ◌+◌, [], ◌∷◌, ◌++◌, length, None, refl, sym, ap, ◌∙◌, arith}
 use Rattle.std.specs.List.{flat_map}
 use Rattle.std.proofs.lemmas.Bool.{leb-true, leb-false}
 use Rattle.std.proofs.lemmas.Result.{err_from_is_err_and}
-use Rattle.lsm_frames.specs.declared.length.TheConstants.{MOST_ANSWER}
 use Rattle.std.specs.Prelude.{IfSome}
 use Rattle.lsm_frames.specs.Texts.{optional}
 use Rattle.lsm_frames.specs.Requests.{FitsText}
 use Rattle.std.proofs.lemmas.List.{length-append}
 use Rattle.lsm_frames.specs.Reading.{optional_at}
-use Rattle.lsm_frames.specs.Held.{Holds, held, values_head}
+use Rattle.lsm_frames.specs.Held.{held, values_head}
 use Rattle.lsm_frames.proofs.FieldLaws.{optional_format}
-use Rattle.lsm_frames.proofs.HeldLaws.{holds_more, size_more, length-value, length-pair}
+use Rattle.lsm_frames.proofs.HeldLaws.{holds_more, size_more}
 use Rattle.lsm_frames.proofs.values_answer.ValuesAnswer.absent.Goals as goal
 
 pub returns-then-not-has_room-clause-long : goal.returns-then-not-has_room-clause-long

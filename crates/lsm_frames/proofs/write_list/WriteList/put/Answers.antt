@@ -1,11 +1,11 @@
-use Rattle.std.proofs.Common.{◌+◌, ◌≤◌, [], length, Some, None, refl, sym, ap, ◌∙◌, arith}
+use Rattle.std.proofs.Common.{[], length, Some, refl, sym, ap, ◌∙◌, arith}
 use Rattle.std.proofs.lemmas.Bool.{leb-true, leb-false}
 use Rattle.std.proofs.lemmas.Result.{err_from_is_err_and}
 use Rattle.std.proofs.lemmas.List.{length-append}
 use Rattle.lsm_frames.specs.Requests.{FitsWritten, written_text}
 use Rattle.lsm_frames.specs.Reading.{written_at}
 use Rattle.lsm_frames.specs.Held.{held}
-use Rattle.lsm_frames.proofs.FieldLaws.{written_format, length-text}
+use Rattle.lsm_frames.proofs.FieldLaws.{written_format}
 use Rattle.lsm_frames.proofs.HeldLaws.{holds_more, length-written, long_writes}
 use Rattle.lsm_frames.proofs.write_list.WriteList.put.Goals as goal
 

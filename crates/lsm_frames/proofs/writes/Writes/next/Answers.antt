@@ -1,4 +1,4 @@
-use Rattle.std.proofs.Common.{◌≡◌, sym, ◌∙◌}
+use Rattle.std.proofs.Common.{sym, ◌∙◌}
 use Rattle.lsm_frames.specs.Reading.{written_at}
 use Rattle.lsm_frames.specs.Views.{written_of}
 use Rattle.lsm_frames.proofs.FieldLaws.{written_shortens}

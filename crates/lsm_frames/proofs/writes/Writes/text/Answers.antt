@@ -1,4 +1,4 @@
-use Rattle.std.proofs.Common.{◌≡◌, sym, ◌∙◌, arith}
+use Rattle.std.proofs.Common.{◌∙◌}
 use Rattle.lsm_frames.specs.Requests.{FitsWritten, written_text}
 use Rattle.lsm_frames.specs.Reading.{written_at}
 use Rattle.lsm_frames.proofs.FieldLaws.{written_format}
