@@ -1,0 +1,322 @@
+"""The server as a child process, and the channels to it."""
+
+from __future__ import annotations
+
+import fcntl
+import os
+import shutil
+import socket
+import subprocess
+import threading
+import weakref
+from collections import deque
+from typing import Deque, List, Optional, Union
+
+from . import frames
+from .errors import CLOSED, MALFORMED, NAMES, NO_SERVER, Ended, Error, Refused
+
+PROGRAM = "lsm_server"
+VARIABLE = "TISWENOR_SERVER"
+
+# No path of a file is longer on Linux.
+LONGEST_PATH = 4095
+
+# How many bytes an answer's first part may have. Only one answer is on its way at a time.
+_READ_AT_ONCE = 4096
+
+# How long a server that closed a channel may take until its status is known, in seconds.
+_UNTIL_STATUS = 1.0
+
+
+def find(server: Union[str, "os.PathLike[str]", None] = None) -> str:
+    """The path of the server: what was passed, else what the environment variable
+    TISWENOR_SERVER names, else `lsm_server` in this package's folder, else that of PATH."""
+    named = server if server is not None else os.environ.get(VARIABLE)
+    if named:
+        return os.fspath(named)
+    beside = os.path.join(os.path.dirname(os.path.abspath(__file__)), PROGRAM)
+    if os.access(beside, os.X_OK):
+        return beside
+    found = shutil.which(PROGRAM)
+    if found is None:
+        raise Error(NO_SERVER, "NoServer", f"no {PROGRAM} on PATH; {VARIABLE} may name one")
+    return found
+
+
+class Channel:
+    """One end of a socket pair, for one request at a time.
+
+    A signal handler may raise an exception, as KeyboardInterrupt, at any place of an exchange. If
+    the whole request was sent then, its answer is still owed, and the next exchange reads it first.
+    If it was not, the channel is broken.
+    """
+
+    def __init__(self, end: socket.socket) -> None:
+        self._socket = end
+        self._came: List[bytes] = []
+        self._owes = False
+        self.is_broken = False
+
+    def exchange(self, request: bytes) -> bytes:
+        """Sends a frame, and gives the frame that answers it, without its length."""
+        if self._owes:
+            self.receive()
+        self.is_broken = True
+        self._socket.sendall(request, socket.MSG_NOSIGNAL)
+        self._owes = True
+        self.is_broken = False
+        return self.receive()
+
+    def receive(self) -> bytes:
+        self._owes = True
+        head = self._exactly(0, 4)
+        length = frames.length(head)
+        if not 1 <= length <= frames.LONGEST_ANSWER:
+            self.is_broken = True
+            frames.bad_answer()
+        answer = self._exactly(4, length)
+        if sum(map(len, self._came)) != 4 + length:
+            self.is_broken = True
+            frames.bad_answer()
+        self._came = []
+        self._owes = False
+        return answer
+
+    def _exactly(self, begin: int, count: int) -> bytes:
+        """The `count` bytes of the answer from `begin` on. All bytes that came are kept until the
+        whole answer is there."""
+        have = sum(map(len, self._came))
+        while have < begin + count:
+            room = max(begin + count - have, _READ_AT_ONCE)
+            # One call for both: a signal handler runs before the bytes are taken, or after they
+            # are kept, and not between.
+            self._came.extend(map(self._socket.recv, (room,)))
+            if not self._came[-1]:
+                self.is_broken = True
+                raise ConnectionResetError
+            have += len(self._came[-1])
+        return b"".join(self._came)[begin : begin + count]
+
+    def shut(self) -> None:
+        """Ends the channel, also for processes that have copies of its descriptor."""
+        try:
+            self._socket.shutdown(socket.SHUT_RDWR)
+        except OSError:
+            pass  # the server has ended
+        self._socket.close()
+
+    def forget(self) -> None:
+        """Closes this process's descriptor alone."""
+        self._socket.close()
+
+
+class Server:
+    """A running server, which has one database open. Any thread may ask it."""
+
+    def __init__(self, program: str, path: bytes, channels: int, workers: int, flags: int) -> None:
+        if not 1 <= channels <= 62:
+            raise ValueError("channels must be 1 to 62")
+        if not 0 <= workers <= 16:
+            raise ValueError("workers must be 0 to 16")
+        if len(path) > LONGEST_PATH:
+            raise ValueError(f"the path has more than {LONGEST_PATH} bytes")
+        self._lock = threading.Lock()
+        self._given_back = threading.Condition(self._lock)
+        self._waiting: Deque[threading.Condition] = deque()  # who came first is served first
+        self._is_closed = False
+        self._is_forked = False
+        ours, self._process = _start(program, path, channels, workers, flags)
+        self._channels = [Channel(end) for end in ours]
+        self._free = list(self._channels)
+        self._living = channels
+        try:
+            self._opened()
+        except BaseException:
+            self.close()
+            raise
+        _servers.add(self)
+
+    def _opened(self) -> None:
+        try:
+            _body(self._channels[0].receive())
+        except (ConnectionError, Ended):
+            raise self._ended() from None
+
+    def ask(self, request: bytes) -> bytes:
+        """What follows the status in the answer to a request. Waits for a free channel."""
+        framed = frames.frame(request)
+        channel = self._take()
+        try:
+            try:
+                answer = channel.exchange(framed)
+                if answer[0] == MALFORMED:
+                    channel.is_broken = True
+            except OSError:
+                channel.is_broken = True
+                raise self._ended() from None
+        finally:
+            self._give(channel)
+        return _body(answer)
+
+    def _take(self) -> Channel:
+        if self._is_forked:  # another thread may have had the lock as the process was forked
+            raise _closed()
+        with self._lock:
+            if self._free and not self._waiting and not self._is_closed:
+                return self._free.pop()
+            channel = self._wait()
+        if channel is None:
+            raise self._ended()
+        return channel
+
+    def _wait(self) -> Optional[Channel]:
+        """A channel, once it is this thread's turn; None where no channel lives any more."""
+        turn = threading.Condition(self._lock)
+        self._waiting.append(turn)
+        try:
+            while True:
+                if self._is_closed:
+                    raise _closed()
+                if not self._living:
+                    return None
+                if self._free and self._waiting[0] is turn:
+                    return self._free.pop()
+                turn.wait()
+        finally:
+            self._waiting.remove(turn)
+            if self._free and self._waiting:
+                self._waiting[0].notify()
+
+    def _give(self, channel: Channel) -> None:
+        with self._lock:
+            if not channel.is_broken:
+                self._free.append(channel)
+                if self._waiting:
+                    self._waiting[0].notify()
+            else:
+                channel.shut()
+                self._living -= 1
+                if not self._living:
+                    self._wake_all()
+            self._given_back.notify_all()
+
+    def _wake_all(self) -> None:
+        for turn in self._waiting:
+            turn.notify()
+
+    def _ended(self) -> Ended:
+        try:
+            return Ended(self._process.wait(_UNTIL_STATUS))
+        except subprocess.TimeoutExpired:
+            return Ended()
+
+    @property
+    def is_closed(self) -> bool:
+        return self._is_closed or self._is_forked
+
+    @property
+    def process_id(self) -> int:
+        return self._process.pid
+
+    def close(self) -> None:
+        """Waits for the calls under way, and then for the server's end."""
+        if self._is_forked:
+            return
+        with self._lock:
+            self._is_closed = True
+            self._wake_all()
+            while len(self._free) < self._living:
+                self._given_back.wait()
+            for channel in self._channels:
+                channel.shut()
+        self._process.wait()
+
+    def forget(self) -> None:
+        """In a process that was forked from the one that opened the database."""
+        self._is_forked = True
+        self._process.returncode = 0  # it is no child of this process
+        for channel in self._channels:
+            channel.forget()
+
+
+def _closed() -> Error:
+    return Error(CLOSED, "Closed", "the database is not open in this process")
+
+
+def _body(answer: bytes) -> bytes:
+    """What follows the status 0; another status is raised."""
+    status = answer[0]
+    if status == 0:
+        return answer[1:]
+    name = answer[1:].decode("utf-8", "replace") or NAMES.get(status, "Refused")
+    raise Refused(status, name)
+
+
+def _start(
+    program: str, path: bytes, channels: int, workers: int, flags: int
+) -> "tuple[List[socket.socket], subprocess.Popen[bytes]]":
+    """Starts the server, with the opening request on its standard input. It gets a session of its
+    own, so that signals from the terminal (as Ctrl-C) do not reach it."""
+    ours: List[socket.socket] = []
+    theirs: List[int] = []
+    try:
+        ends: List[socket.socket] = []
+        for _ in range(channels):
+            our, their = socket.socketpair(socket.AF_UNIX, socket.SOCK_STREAM)
+            ours.append(our)
+            ends.append(their)
+        theirs = _following(ends)
+        for end in ends:
+            end.close()
+        request, sender = os.pipe()
+        try:
+            try:
+                os.write(sender, frames.opening(theirs[0], channels, workers, flags, path))
+            finally:
+                os.close(sender)
+            process = subprocess.Popen(
+                [program],
+                stdin=request,
+                stdout=subprocess.DEVNULL,
+                pass_fds=theirs,
+                start_new_session=True,
+            )
+        finally:
+            os.close(request)
+    except BaseException as error:
+        for our in ours:
+            our.close()
+        if isinstance(error, (FileNotFoundError, PermissionError)) and error.filename == program:
+            raise Error(NO_SERVER, "NoServer", str(error)) from None
+        raise
+    finally:
+        for their_number in theirs:
+            os.close(their_number)
+    return ours, process
+
+
+def _following(ends: List[socket.socket]) -> List[int]:
+    """Copies of the descriptors, whose numbers follow one another. Only free numbers are taken."""
+    first = 64
+    while True:
+        copies: List[int] = []
+        for number, end in enumerate(ends, first):
+            copies.append(fcntl.fcntl(end.fileno(), fcntl.F_DUPFD_CLOEXEC, number))
+            if copies[-1] != number:
+                break
+        else:
+            return copies
+        first = copies[-1]
+        for copy in copies:
+            os.close(copy)
+
+
+_servers: "weakref.WeakSet[Server]" = weakref.WeakSet()
+
+
+def _forget_all() -> None:
+    for server in list(_servers):
+        server.forget()
+
+
+os.register_at_fork(after_in_child=_forget_all)
