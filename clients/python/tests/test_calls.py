@@ -36,8 +36,6 @@ def test_bytes_of_all_kinds(db):
             db.get(wrong)
         with pytest.raises(TypeError):
             db.put(b"key", wrong)
-    with pytest.raises(ValueError):
-        db.put(b"", b"value")
     assert db.get(b"") is None
 
 

@@ -20,7 +20,7 @@ def refusal(*arguments, **options) -> tiswenor.Error:
 
 
 def test_folder_that_is_not_there(folder):
-    assert refusal(folder).name == "NoDatabase"
+    assert isinstance(refusal(folder), tiswenor.Refused)
     assert not folder.exists()
     assert isinstance(refusal(folder / "below", create_if_missing=True), tiswenor.Refused)
 

@@ -120,11 +120,11 @@ class DB(_Reads):
 
         Each write makes a table: many of them belong into one `write_batch`.
         """
-        self._ask(frames.WRITE + frames.put(_key(key), _bytes(value)))
+        self._ask(frames.WRITE + frames.put(_bytes(key), _bytes(value)))
 
     def delete(self, key: Bytes, sync: bool = True) -> None:
         """Removes a key, if it is there."""
-        self._ask(frames.WRITE + frames.delete(_key(key)))
+        self._ask(frames.WRITE + frames.delete(_bytes(key)))
 
     def write_batch(self, transaction: bool = False, sync: bool = True) -> WriteBatch:
         """A new batch. As a context manager it is written at the end of the block; with
@@ -292,10 +292,10 @@ class WriteBatch:
         self._writes: List[bytes] = []
 
     def put(self, key: Bytes, value: Bytes) -> None:
-        self._writes.append(frames.put(_key(key), _bytes(value)))
+        self._writes.append(frames.put(_bytes(key), _bytes(value)))
 
     def delete(self, key: Bytes) -> None:
-        self._writes.append(frames.delete(_key(key)))
+        self._writes.append(frames.delete(_bytes(key)))
 
     def clear(self) -> None:
         self._writes.clear()
@@ -446,13 +446,6 @@ class Iterator:
 
 def _bytes(content: Bytes) -> bytes:
     return content if isinstance(content, bytes) else memoryview(content).tobytes()
-
-
-def _key(content: Bytes) -> bytes:
-    key = _bytes(content)
-    if not key:
-        raise ValueError("a key has at least one byte")
-    return key
 
 
 def _behind(prefix: bytes) -> Optional[bytes]:
