@@ -1,5 +1,5 @@
-/* The server as a process of its own, with a socket pair for each channel. What the host does to its
-   memory cannot reach the store. */
+/* The server as a process of its own, with a socket pair for each channel. What the host does to
+   its memory cannot reach the store. */
 #define _GNU_SOURCE
 #include <errno.h>
 #include <fcntl.h>
@@ -71,7 +71,7 @@ static void leave(struct transport *transport) {
   unlock_all();
 }
 
-int transport_is_forked(const struct transport *transport) { return transport->is_forked; }
+int tiswenor_transport_is_forked(const struct transport *transport) { return transport->is_forked; }
 
 /* Starting */
 
@@ -80,7 +80,7 @@ static void close_some(const int *descriptors, unsigned count) {
     if (descriptors[i] >= 0) close(descriptors[i]);
 }
 
-/* A copy of a descriptor above those that the server will have; the one that was given is closed. */
+/* A copy of a descriptor, above those that the server will have. The given one is closed. */
 static int moved(int descriptor, unsigned channels) {
   int copy = fcntl(descriptor, F_DUPFD_CLOEXEC, FIRST + (int)channels);
   close(descriptor);
@@ -174,19 +174,23 @@ static const char *program_of(const char *server) {
   return "lsm_server";
 }
 
-struct transport *transport_open(const char *server, unsigned channels, unsigned char *opening,
-                                 size_t length, int *fault) {
+struct transport *tiswenor_transport_open(const char *server, unsigned channels,
+                                          unsigned char *opening, size_t length, int *fault) {
   int theirs[MOST_CHANNELS];
   struct transport *transport = calloc(1, sizeof *transport);
   *fault = tiswenor_out_of_memory;
   if (!transport) return NULL;
   *fault = tiswenor_no_server;
   transport->channels = channels;
-  if (!make_channels(transport, theirs)) return free(transport), NULL;
+  if (!make_channels(transport, theirs)) {
+    free(transport);
+    return NULL;
+  }
   opening[4] = FIRST;
   int request = make_request(opening, length, channels);
-  int error = request < 0 ? errno
-                          : spawn(&transport->server, program_of(server), request, theirs, channels);
+  int error = request < 0
+                  ? errno
+                  : spawn(&transport->server, program_of(server), request, theirs, channels);
   close_some(&request, 1);
   close_some(theirs, channels);
   if (error) {
@@ -233,14 +237,18 @@ static int receive_frame(int socket, unsigned char **answer, size_t *length) {
   unsigned char *bytes = malloc(want);
   if (!bytes) return tiswenor_out_of_memory;
   memcpy(bytes, front + 4, have);
-  if (receive(socket, bytes, have, want, want) < want) return free(bytes), tiswenor_ended;
+  if (receive(socket, bytes, have, want, want) < want) {
+    free(bytes);
+    return tiswenor_ended;
+  }
   *answer = bytes;
   *length = want;
   return 0;
 }
 
-int transport_exchange(struct transport *transport, unsigned channel, const unsigned char *frame,
-                       size_t length, unsigned char **answer, size_t *answer_length) {
+int tiswenor_transport_exchange(struct transport *transport, unsigned channel,
+                                const unsigned char *frame, size_t length, unsigned char **answer,
+                                size_t *answer_length) {
   int socket = transport->sockets[channel];
   int fault = send_all(socket, frame, length) ? receive_frame(socket, answer, answer_length)
                                               : tiswenor_ended;
@@ -250,15 +258,15 @@ int transport_exchange(struct transport *transport, unsigned channel, const unsi
 
 /* The end */
 
-void transport_tell_end(struct transport *transport, char *text, size_t room) {
+void tiswenor_transport_tell_end(struct transport *transport, char *text, size_t room) {
   snprintf(text, room, "the server takes no more requests");
   for (int millisecond = 0; millisecond < 1000; millisecond++) {
     siginfo_t end = {0};
     if (waitid(P_PID, (id_t)transport->server, &end, WEXITED | WNOHANG | WNOWAIT)) return;
     if (end.si_pid) {
       int is_exit = end.si_code == CLD_EXITED;
-      snprintf(text, room, is_exit ? "the server ended with status %d"
-                                   : "the server was ended by signal %d",
+      snprintf(text, room,
+               is_exit ? "the server ended with status %d" : "the server was ended by signal %d",
                end.si_status);
       return;
     }
@@ -266,7 +274,7 @@ void transport_tell_end(struct transport *transport, char *text, size_t room) {
   }
 }
 
-void transport_close(struct transport *transport) {
+void tiswenor_transport_close(struct transport *transport) {
   if (!transport->is_forked) {
     leave(transport);
     for (unsigned i = 0; i < transport->channels; i++) {

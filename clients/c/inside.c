@@ -1,6 +1,7 @@
 /* The server inside this process: the object of the same program, run by threads of its own. The
    build renames five of its symbols (`build.sh`): what it calls as main, read, write, _exit and
-   signal is here. A number from FIRST on is a channel in memory; the system gives no such number. */
+   signal is here. A number from FIRST on is a channel in memory; the system gives no such number.
+ */
 #define _GNU_SOURCE
 #include <errno.h>
 #include <pthread.h>
@@ -15,11 +16,13 @@
 #include "tiswenor.h"
 #include "transport.h"
 
-int inside_main(int argc, char **argv);
-ssize_t inside_read(int descriptor, void *bytes, size_t length);
-ssize_t inside_write(int descriptor, const void *bytes, size_t length);
-_Noreturn void inside_exit(int status);
-void (*inside_signal(int number, void (*handler)(int)))(int);
+#pragma GCC visibility push(hidden)
+int tiswenor_inside_main(int argc, char **argv);
+ssize_t tiswenor_inside_read(int descriptor, void *bytes, size_t length);
+ssize_t tiswenor_inside_write(int descriptor, const void *bytes, size_t length);
+_Noreturn void tiswenor_inside_exit(int status);
+void (*tiswenor_inside_signal(int number, void (*handler)(int)))(int);
+#pragma GCC visibility pop
 
 enum { STANDARD_INPUT = 0, FIRST = 1 << 30, DATABASES = 64 };
 
@@ -55,7 +58,7 @@ static _Atomic(struct transport *) all[DATABASES];
 static _Thread_local struct transport *mine;
 static _Thread_local jmp_buf *began;
 
-int transport_is_forked(const struct transport *transport) {
+int tiswenor_transport_is_forked(const struct transport *transport) {
   return transport->process != getpid();
 }
 
@@ -75,7 +78,7 @@ static size_t move(void *to, size_t room, const unsigned char **from, size_t *le
 }
 
 /* What the server calls as `read`: 0 at a channel's end. */
-ssize_t inside_read(int descriptor, void *bytes, size_t length) {
+ssize_t tiswenor_inside_read(int descriptor, void *bytes, size_t length) {
   if (descriptor == STANDARD_INPUT && mine)
     return (ssize_t)move(bytes, length, &mine->opening, &mine->opening_left);
   struct channel *channel = channel_of(descriptor);
@@ -96,7 +99,7 @@ static void begin_body(struct channel *channel) {
 }
 
 /* What the server calls as `write`: it takes all. */
-ssize_t inside_write(int descriptor, const void *bytes, size_t length) {
+ssize_t tiswenor_inside_write(int descriptor, const void *bytes, size_t length) {
   struct channel *channel = channel_of(descriptor);
   if (!channel) return write(descriptor, bytes, length);
   const unsigned char *at = bytes;
@@ -120,14 +123,14 @@ ssize_t inside_write(int descriptor, const void *bytes, size_t length) {
 }
 
 /* What the server calls as `_exit`: its thread goes on behind its `main`. */
-_Noreturn void inside_exit(int status) {
+_Noreturn void tiswenor_inside_exit(int status) {
   if (began) longjmp(*began, 1);
   fprintf(stderr, "tiswenor: the server ended with status %d\n", status);
   abort();
 }
 
 /* What the server calls as `signal`, to ignore SIGPIPE: that is the process's own to say. */
-void (*inside_signal(int number, void (*handler)(int)))(int) {
+void (*tiswenor_inside_signal(int number, void (*handler)(int)))(int) {
   (void)number;
   return handler;
 }
@@ -137,7 +140,7 @@ static void *serve(void *state) {
   jmp_buf here;
   mine = transport;
   began = &here;
-  if (!setjmp(here)) inside_main(0, NULL);
+  if (!setjmp(here)) tiswenor_inside_main(0, NULL);
   began = NULL;
   mine = NULL;
   for (unsigned i = 0; i < transport->channels; i++) {
@@ -186,8 +189,8 @@ static void set_first(unsigned char *opening, unsigned number) {
   for (int i = 0; i < 4; i++) opening[4 + i] = (unsigned char)(first >> 8 * i);
 }
 
-struct transport *transport_open(const char *server, unsigned channels, unsigned char *opening,
-                                 size_t length, int *fault) {
+struct transport *tiswenor_transport_open(const char *server, unsigned channels,
+                                          unsigned char *opening, size_t length, int *fault) {
   (void)server;
   *fault = tiswenor_out_of_memory;
   struct transport *transport = calloc(1, sizeof *transport + length);
@@ -200,17 +203,22 @@ struct transport *transport_open(const char *server, unsigned channels, unsigned
     pthread_cond_init(&transport->channel[i].asked, NULL);
     pthread_cond_init(&transport->channel[i].answered, NULL);
   }
-  if (!enrol(transport)) return dispose(transport), NULL;
+  if (!enrol(transport)) {
+    dispose(transport);
+    return NULL;
+  }
   set_first(opening, transport->number);
   transport->opening = memcpy(transport + 1, opening, length);
   transport->opening_left = length;
   if (start(transport)) return transport;
   all[transport->number] = NULL;
-  return dispose(transport), NULL;
+  dispose(transport);
+  return NULL;
 }
 
-int transport_exchange(struct transport *transport, unsigned number, const unsigned char *frame,
-                       size_t length, unsigned char **answer, size_t *answer_length) {
+int tiswenor_transport_exchange(struct transport *transport, unsigned number,
+                                const unsigned char *frame, size_t length, unsigned char **answer,
+                                size_t *answer_length) {
   struct channel *channel = &transport->channel[number];
   int fault = 0;
   pthread_mutex_lock(&channel->lock);
@@ -219,9 +227,12 @@ int transport_exchange(struct transport *transport, unsigned number, const unsig
   pthread_cond_signal(&channel->asked);
   while (!channel->is_answered && !channel->is_ended)
     pthread_cond_wait(&channel->answered, &channel->lock);
-  if (!channel->is_answered) fault = tiswenor_ended;
-  else if (channel->body_want < 1 || channel->body_want > LONGEST_ANSWER) fault = tiswenor_bad_answer;
-  else if (!channel->body) fault = tiswenor_out_of_memory;
+  if (!channel->is_answered)
+    fault = tiswenor_ended;
+  else if (channel->body_want < 1 || channel->body_want > LONGEST_ANSWER)
+    fault = tiswenor_bad_answer;
+  else if (!channel->body)
+    fault = tiswenor_out_of_memory;
   if (fault) free(channel->body);
   *answer = fault ? NULL : channel->body;
   *answer_length = channel->body_want;
@@ -233,13 +244,13 @@ int transport_exchange(struct transport *transport, unsigned number, const unsig
   return fault;
 }
 
-void transport_tell_end(struct transport *transport, char *text, size_t room) {
+void tiswenor_transport_tell_end(struct transport *transport, char *text, size_t room) {
   (void)transport;
   snprintf(text, room, "the server takes no more requests");
 }
 
-void transport_close(struct transport *transport) {
-  if (transport_is_forked(transport)) return; /* the server's threads are not here */
+void tiswenor_transport_close(struct transport *transport) {
+  if (tiswenor_transport_is_forked(transport)) return; /* the server's threads are not here */
   for (unsigned i = 0; i < transport->channels; i++) {
     struct channel *channel = &transport->channel[i];
     pthread_mutex_lock(&channel->lock);

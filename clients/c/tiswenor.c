@@ -193,7 +193,7 @@ struct answer {
 
 static void set_ended(tiswenor_t *db, char **errptr) {
   char text[80];
-  transport_tell_end(db->transport, text, sizeof text);
+  tiswenor_transport_tell_end(db->transport, text, sizeof text);
   set_error(errptr, tiswenor_ended, "Ended", text);
 }
 
@@ -221,8 +221,15 @@ static void set_fault(tiswenor_t *db, int fault, char **errptr) {
 static int is_done(tiswenor_t *db, int fault, unsigned char *bytes, size_t length,
                    struct answer *answer, char **errptr) {
   answer->memory = NULL;
-  if (fault) return set_fault(db, fault, errptr), 0;
-  if (bytes[0]) return set_refused(bytes, length, errptr), free(bytes), 0;
+  if (fault) {
+    set_fault(db, fault, errptr);
+    return 0;
+  }
+  if (bytes[0]) {
+    set_refused(bytes, length, errptr);
+    free(bytes);
+    return 0;
+  }
   answer->memory = bytes;
   answer->at = bytes + 1;
   answer->end = bytes + length;
@@ -235,14 +242,19 @@ static int ask(tiswenor_t *db, struct request *request, struct answer *answer, c
   size_t length = 0;
   int fault = request->failed;
   answer->memory = NULL;
-  if (transport_is_forked(db->transport))
-    return set_error(errptr, tiswenor_closed, "Closed", "in a forked process"), 0;
+  if (tiswenor_transport_is_forked(db->transport)) {
+    set_error(errptr, tiswenor_closed, "Closed", "in a forked process");
+    return 0;
+  }
   if (!fault) {
     store(request->bytes, request->length - 4, 4);
     int channel = take(db);
-    if (channel < 0) return set_ended(db, errptr), 0;
-    fault = transport_exchange(db->transport, (unsigned)channel, request->bytes, request->length,
-                               &bytes, &length);
+    if (channel < 0) {
+      set_ended(db, errptr);
+      return 0;
+    }
+    fault = tiswenor_transport_exchange(db->transport, (unsigned)channel, request->bytes,
+                                        request->length, &bytes, &length);
     give(db, channel, fault || bytes[0] == tiswenor_malformed);
   }
   return is_done(db, fault, bytes, length, answer, errptr);
@@ -280,7 +292,10 @@ static int ask_numbers(tiswenor_t *db, unsigned char kind, uint64_t *numbers, in
   struct answer answer;
   request_begin(&request, kind);
   if (!ask_once(db, &request, &answer, errptr)) return 0;
-  if (answer.end - answer.at != 8 * count) return set_bad_answer(&answer, errptr), 0;
+  if (answer.end - answer.at != 8 * count) {
+    set_bad_answer(&answer, errptr);
+    return 0;
+  }
   for (int i = 0; i < count; i++) numbers[i] = load(answer.at + 8 * i, 8);
   free(answer.memory);
   return 1;
@@ -317,10 +332,14 @@ static const tiswenor_options_t usual_options = {0, 1, 4, NULL};
 tiswenor_t *tiswenor_open(const tiswenor_options_t *options, const char *name, char **errptr) {
   if (!options) options = &usual_options;
   if (options->channels < 1 || options->channels > MOST_CHANNELS || options->workers < 0 ||
-      options->workers > 16)
-    return set_error(errptr, tiswenor_bad_opening, "BadOpening", "channels or workers"), NULL;
-  if (strlen(name) > LONGEST_PATH)
-    return set_error(errptr, tiswenor_bad_opening, "BadOpening", "a path that is too long"), NULL;
+      options->workers > 16) {
+    set_error(errptr, tiswenor_bad_opening, "BadOpening", "channels or workers");
+    return NULL;
+  }
+  if (strlen(name) > LONGEST_PATH) {
+    set_error(errptr, tiswenor_bad_opening, "BadOpening", "a path that is too long");
+    return NULL;
+  }
   if (options->flags & CREATE_IF_MISSING)
     (void)!mkdir(name, 0777); /* it is there, or else the server refuses */
   struct request request;
@@ -328,32 +347,37 @@ tiswenor_t *tiswenor_open(const tiswenor_options_t *options, const char *name, c
   int fault = request.failed;
   struct transport *transport = NULL;
   if (!fault)
-    transport = transport_open(options->server, (unsigned)options->channels, request.bytes,
-                               request.length, &fault);
+    transport = tiswenor_transport_open(options->server, (unsigned)options->channels, request.bytes,
+                                        request.length, &fault);
   const char *detail = transport ? "" : strerror(errno);
   request_end(&request);
   if (!transport) {
     const char *is = fault == tiswenor_no_server ? "NoServer" : "OutOfMemory";
-    return set_error(errptr, fault, is, detail), NULL;
+    set_error(errptr, fault, is, detail);
+    return NULL;
   }
   tiswenor_t *db = new_database(transport, (unsigned)options->channels);
   if (!db) {
-    transport_close(transport);
-    return set_error(errptr, tiswenor_out_of_memory, "OutOfMemory", ""), NULL;
+    tiswenor_transport_close(transport);
+    set_error(errptr, tiswenor_out_of_memory, "OutOfMemory", "");
+    return NULL;
   }
   unsigned char *bytes = NULL;
   size_t length = 0;
   struct answer answer;
-  fault = transport_exchange(transport, 0, NULL, 0, &bytes, &length);
-  if (!is_done(db, fault, bytes, length, &answer, errptr)) return tiswenor_close(db), NULL;
+  fault = tiswenor_transport_exchange(transport, 0, NULL, 0, &bytes, &length);
+  if (!is_done(db, fault, bytes, length, &answer, errptr)) {
+    tiswenor_close(db);
+    return NULL;
+  }
   free(answer.memory);
   return db;
 }
 
 void tiswenor_close(tiswenor_t *db) {
   if (!db) return;
-  if (!transport_is_forked(db->transport)) pthread_mutex_destroy(&db->lock);
-  transport_close(db->transport);
+  if (!tiswenor_transport_is_forked(db->transport)) pthread_mutex_destroy(&db->lock);
+  tiswenor_transport_close(db->transport);
   free(db);
 }
 
@@ -479,11 +503,17 @@ char *tiswenor_get(tiswenor_t *db, const tiswenor_readoptions_t *options, const 
   add_when(&request, options);
   add_text(&request, key, keylen, NULL, 0);
   if (!ask_once(db, &request, &answer, errptr)) return NULL;
-  if (answer.end - answer.at == 1 && *answer.at == 0) return free(answer.memory), NULL;
+  if (answer.end - answer.at == 1 && *answer.at == 0) {
+    free(answer.memory);
+    return NULL;
+  }
   size_t length;
   const unsigned char *value = NULL;
   if (answer.end - answer.at > 1 && *answer.at++ == 1) value = next_text(&answer, &length);
-  if (!value || answer.at != answer.end) return set_bad_answer(&answer, errptr), NULL;
+  if (!value || answer.at != answer.end) {
+    set_bad_answer(&answer, errptr);
+    return NULL;
+  }
   memmove(answer.memory, value, length); /* the answer's memory is the caller's from here on */
   *vallen = length;
   return (char *)answer.memory;
@@ -536,9 +566,15 @@ void tiswenor_get_many(tiswenor_t *db, const tiswenor_readoptions_t *options, si
 
 const tiswenor_snapshot_t *tiswenor_create_snapshot(tiswenor_t *db, char **errptr) {
   tiswenor_snapshot_t *snapshot = malloc(sizeof *snapshot);
-  if (!snapshot) return set_fault(db, tiswenor_out_of_memory, errptr), NULL;
+  if (!snapshot) {
+    set_fault(db, tiswenor_out_of_memory, errptr);
+    return NULL;
+  }
   uint64_t numbers[2]; /* its own, and its sequence */
-  if (!ask_numbers(db, SNAPSHOT, numbers, 2, errptr)) return free(snapshot), NULL;
+  if (!ask_numbers(db, SNAPSHOT, numbers, 2, errptr)) {
+    free(snapshot);
+    return NULL;
+  }
   snapshot->number = numbers[0];
   return snapshot;
 }
@@ -602,7 +638,11 @@ static int turn(tiswenor_iterator_t *iterator) {
   if (page->at == page->end) return 0;
   const unsigned char *key = next_text(page, &iterator->klen);
   iterator->value = key ? next_text(page, &iterator->vlen) : NULL;
-  if (!iterator->value) return set_bad_answer(page, &iterator->error), leave_page(iterator), 0;
+  if (!iterator->value) {
+    set_bad_answer(page, &iterator->error);
+    leave_page(iterator);
+    return 0;
+  }
   iterator->key = key;
   return 1;
 }
@@ -705,7 +745,10 @@ char *tiswenor_property_value(tiswenor_t *db, const char *propname) {
   tiswenor_statistics_t statistics;
   char *error = NULL, *text = NULL;
   tiswenor_statistics(db, &statistics, &error);
-  if (error) return tiswenor_free(error), NULL;
+  if (error) {
+    tiswenor_free(error);
+    return NULL;
+  }
   if (!strcmp(propname, "leveldb.stats")) return stats_text(&statistics);
   if (strncmp(propname, files_at, sizeof files_at - 1)) return NULL;
   const char *level = propname + sizeof files_at - 1;

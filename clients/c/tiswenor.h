@@ -86,7 +86,7 @@ void tiswenor_get_many(tiswenor_t *db, const tiswenor_readoptions_t *options, si
                        const char *const *keys, const size_t *keylens, char **values,
                        size_t *vallens, char **errptr);
 
-/* The database as it is now. It keeps tables on the disk until it is released. NULL for an error. */
+/* The database as it is now; NULL for an error. It keeps tables on the disk until it is released. */
 const tiswenor_snapshot_t *tiswenor_create_snapshot(tiswenor_t *db, char **errptr);
 void tiswenor_release_snapshot(tiswenor_t *db, const tiswenor_snapshot_t *snapshot);
 
@@ -112,8 +112,8 @@ void tiswenor_statistics(tiswenor_t *db, tiswenor_statistics_t *statistics, char
    another name, or for an error. */
 char *tiswenor_property_value(tiswenor_t *db, const char *propname);
 
-/* Iterators: the pairs of the database as it is now, or of a snapshot. A new one is not valid before
-   it is sent somewhere. Forward only. */
+/* Iterators: the pairs of the database as it is now, or of a snapshot. A new one is not valid
+   before it is sent somewhere. Forward only. */
 
 tiswenor_iterator_t *tiswenor_create_iterator(tiswenor_t *db,
                                               const tiswenor_readoptions_t *options);
@@ -155,7 +155,7 @@ void tiswenor_options_set_create_if_missing(tiswenor_options_t *options, uint8_t
 void tiswenor_options_set_error_if_exists(tiswenor_options_t *options, uint8_t to);
 /* How many threads of the server compact, 0 to 16; 1 if not set. */
 void tiswenor_options_set_workers(tiswenor_options_t *options, int workers);
-/* How many calls are served at the same time, 1 to 62; 4 if not set. Each has a cache of its own. */
+/* How many calls are served at the same time, 1 to 62; 4 if not set. Each has its own cache. */
 void tiswenor_options_set_channels(tiswenor_options_t *options, int channels);
 /* The server's program, whose text has to stay. Else the environment variable TISWENOR_SERVER names
    it, or it is `lsm_server` on PATH. The library with the server inside has no use for it. */

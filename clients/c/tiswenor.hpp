@@ -105,7 +105,9 @@ class Batch {
     tiswenor_writebatch_delete(handle_.get(), key.data(), key.size());
     return *this;
   }
-  void append(const Batch& other) { tiswenor_writebatch_append(handle_.get(), other.handle_.get()); }
+  void append(const Batch& other) {
+    tiswenor_writebatch_append(handle_.get(), other.handle_.get());
+  }
   void clear() { tiswenor_writebatch_clear(handle_.get()); }
   tiswenor_writebatch_t* handle() const noexcept { return handle_.get(); }
 
@@ -192,7 +194,8 @@ class Database {
   }
 
   // The values of several keys, in their order, all of one state.
-  std::vector<std::optional<std::string>> get_many(const std::vector<std::string_view>& keys) const {
+  std::vector<std::optional<std::string>> get_many(
+      const std::vector<std::string_view>& keys) const {
     return get_many_by(nullptr, keys);
   }
   std::vector<std::optional<std::string>> get_many(
@@ -203,7 +206,8 @@ class Database {
   // Each write is on the disk when its call returns.
   void put(std::string_view key, std::string_view value) {
     char* error = nullptr;
-    tiswenor_put(handle_.get(), nullptr, key.data(), key.size(), value.data(), value.size(), &error);
+    tiswenor_put(handle_.get(), nullptr, key.data(), key.size(), value.data(), value.size(),
+                 &error);
     detail::check(error);
   }
   void remove(std::string_view key) {

@@ -8,32 +8,32 @@
 
 #include "tiswenor.h"
 
-#define CHECK(fact)                                                   \
-  do {                                                                \
-    if (!(fact)) {                                                    \
+#define CHECK(fact)                                                      \
+  do {                                                                   \
+    if (!(fact)) {                                                       \
       fprintf(stderr, "%s:%d: not so: %s\n", __FILE__, __LINE__, #fact); \
-      exit(1);                                                        \
-    }                                                                 \
+      exit(1);                                                           \
+    }                                                                    \
   } while (0)
 
-#define DONE(error)                                                         \
-  do {                                                                      \
-    if (error) {                                                            \
-      fprintf(stderr, "%s:%d: error: %s\n", __FILE__, __LINE__, (error));   \
-      exit(1);                                                              \
-    }                                                                       \
+#define DONE(error)                                                       \
+  do {                                                                    \
+    if (error) {                                                          \
+      fprintf(stderr, "%s:%d: error: %s\n", __FILE__, __LINE__, (error)); \
+      exit(1);                                                            \
+    }                                                                     \
   } while (0)
 
 /* The error is there, with this number; it is freed. */
-#define FAILED(error, number)                                                        \
-  do {                                                                               \
-    if (tiswenor_error_number(error) != (number)) {                                  \
-      fprintf(stderr, "%s:%d: wanted %d: %s\n", __FILE__, __LINE__, (int)(number),   \
-              (error) ? (error) : "no error");                                       \
-      exit(1);                                                                       \
-    }                                                                                \
-    tiswenor_free(error);                                                            \
-    (error) = NULL;                                                                  \
+#define FAILED(error, number)                                                      \
+  do {                                                                             \
+    if (tiswenor_error_number(error) != (number)) {                                \
+      fprintf(stderr, "%s:%d: wanted %d: %s\n", __FILE__, __LINE__, (int)(number), \
+              (error) ? (error) : "no error");                                     \
+      exit(1);                                                                     \
+    }                                                                              \
+    tiswenor_free(error);                                                          \
+    (error) = NULL;                                                                \
   } while (0)
 
 static inline tiswenor_t *opened(const char *folder, int channels, int workers) {

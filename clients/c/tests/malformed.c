@@ -142,9 +142,12 @@ static void open_all(void) {
 /* An opening request in no form is answered 201, or the server just ends; a cut one ends it. */
 static void openings(void) {
   static struct bytes input;
-  struct { uint32_t channels, workers; int flags; const char *path, *behind; } bad[] = {
-      {0, 1, 1, folder, ""}, {63, 1, 1, folder, ""}, {1, 17, 1, folder, ""},
-      {1, 1, 1, folder, "x"}, {1, 1, 1, "/\xff\xfe", ""}, {0xffffffff, 1, 1, folder, ""}};
+  struct {
+    uint32_t channels, workers;
+    int flags;
+    const char *path, *behind;
+  } bad[] = {{0, 1, 1, folder, ""},  {63, 1, 1, folder, ""},     {1, 17, 1, folder, ""},
+             {1, 1, 1, folder, "x"}, {1, 1, 1, "/\xff\xfe", ""}, {0xffffffff, 1, 1, folder, ""}};
   for (size_t i = 0; i < sizeof bad / sizeof *bad; i++) {
     opening_of(&input, bad[i].channels, bad[i].workers, bad[i].flags, bad[i].path, bad[i].behind);
     start(&input, 1);
@@ -168,20 +171,46 @@ static void openings(void) {
 
 /* Frames in none of the forms, each on a channel of its own. */
 static void malformed_frames(void) {
-#define FRAME(text) {text, sizeof text - 1}
-  struct { const char *at; size_t length; } frames[] = {
-      FRAME("\0"), FRAME("\x09"), FRAME("\xff"),
-      FRAME("\x01"), FRAME("\x01\x02"), FRAME("\x01\x01"), FRAME("\x01\x01\x01\0\0\0"),
-      FRAME("\x01\x01\x01\0\0\0k"), FRAME("\x01\x01\x01\0\0\0k\x02\0\0\0v"),
-      FRAME("\x01\0\x02\0\0\0k"), FRAME("\x01\0\x01\0\0\0k\x07"),
-      FRAME("\x01\x01\xff\xff\xff\xffk\0\0\0\0"),
-      FRAME("\x02"), FRAME("\x02\0"), FRAME("\x02\x02\x01\0\0\0k"), FRAME("\x02\x01\x01\0\0\0k"),
-      FRAME("\x02\0\x02\0\0\0k"), FRAME("\x02\0\x01\0\0\0kx"), FRAME("\x02\0\xff\xff\xff\x7fk"),
-      FRAME("\x03"), FRAME("\x03\0"), FRAME("\x03\0\0\0\0\0"), FRAME("\x03\0\0\0\0\0\0"),
-      FRAME("\x03\0\0\0\0\0\0\0\0\0"), FRAME("\x03\0\0\0\0\0\x02\0\0\0\0"),
-      FRAME("\x03\0\0\0\0\0\0\0\0\0\0x"), FRAME("\x03\0\0\0\0\0\x01\x05\0\0\0z\0\0\0\0"),
-      FRAME("\x04x"), FRAME("\x05"), FRAME("\x05\0\0\0\0\0\0\0"), FRAME("\x05\0\0\0\0\0\0\0\0\0"),
-      FRAME("\x06x"), FRAME("\x07x"), FRAME("\x08x"), FRAME("")};
+#define FRAME(text) \
+  { text, sizeof text - 1 }
+  struct {
+    const char *at;
+    size_t length;
+  } frames[] = {FRAME("\0"),
+                FRAME("\x09"),
+                FRAME("\xff"),
+                FRAME("\x01"),
+                FRAME("\x01\x02"),
+                FRAME("\x01\x01"),
+                FRAME("\x01\x01\x01\0\0\0"),
+                FRAME("\x01\x01\x01\0\0\0k"),
+                FRAME("\x01\x01\x01\0\0\0k\x02\0\0\0v"),
+                FRAME("\x01\0\x02\0\0\0k"),
+                FRAME("\x01\0\x01\0\0\0k\x07"),
+                FRAME("\x01\x01\xff\xff\xff\xffk\0\0\0\0"),
+                FRAME("\x02"),
+                FRAME("\x02\0"),
+                FRAME("\x02\x02\x01\0\0\0k"),
+                FRAME("\x02\x01\x01\0\0\0k"),
+                FRAME("\x02\0\x02\0\0\0k"),
+                FRAME("\x02\0\x01\0\0\0kx"),
+                FRAME("\x02\0\xff\xff\xff\x7fk"),
+                FRAME("\x03"),
+                FRAME("\x03\0"),
+                FRAME("\x03\0\0\0\0\0"),
+                FRAME("\x03\0\0\0\0\0\0"),
+                FRAME("\x03\0\0\0\0\0\0\0\0\0"),
+                FRAME("\x03\0\0\0\0\0\x02\0\0\0\0"),
+                FRAME("\x03\0\0\0\0\0\0\0\0\0\0x"),
+                FRAME("\x03\0\0\0\0\0\x01\x05\0\0\0z\0\0\0\0"),
+                FRAME("\x04x"),
+                FRAME("\x05"),
+                FRAME("\x05\0\0\0\0\0\0\0"),
+                FRAME("\x05\0\0\0\0\0\0\0\0\0"),
+                FRAME("\x06x"),
+                FRAME("\x07x"),
+                FRAME("\x08x"),
+                FRAME("")};
   int count = sizeof frames / sizeof *frames;
   open_all();
   for (int i = 0; i < count; i++) {
@@ -236,7 +265,8 @@ static void drawn_request(struct bytes *to) {
   to->length = 0;
   snprintf(key, sizeof key, "k%02u", draw(50));
   switch (draw(8)) {
-    case 0: case 1:
+    case 0:
+    case 1:
       add(to, "\x01", 1);
       for (unsigned i = draw(4) + 1; i > 0; i--) {
         int is_put = draw(3) > 0;
@@ -245,32 +275,48 @@ static void drawn_request(struct bytes *to) {
         if (is_put) add_text(to, "value");
       }
       return;
-    case 2: case 3:
+    case 2:
+    case 3:
       add(to, "\x02\0", 2);
       for (unsigned i = draw(4) + 1; i > 0; i--) add_text(to, key);
       return;
-    case 4: case 5:
+    case 4:
+    case 5:
       add(to, "\x03\0", 2);
       add_text(to, key);
-      if (draw(2)) add(to, "\0", 1);
-      else add(to, "\x01", 1), add_text(to, "k40");
+      if (draw(2))
+        add(to, "\0", 1);
+      else
+        add(to, "\x01", 1), add_text(to, "k40");
       add_number(to, draw(10), 4);
       return;
-    case 6: add(to, "\x04", 1); return;
-    default: add(to, "\x05", 1); add_number(to, draw(10), 8);
+    case 6:
+      add(to, "\x04", 1);
+      return;
+    default:
+      add(to, "\x05", 1);
+      add_number(to, draw(10), 8);
   }
 }
 
 static void change(struct bytes *bytes) {
   for (unsigned i = draw(3) + 1; i > 0 && bytes->length > 0; i--) switch (draw(4)) {
-      case 0: bytes->at[draw((unsigned)bytes->length)] = (unsigned char)draw(256); break;
-      case 1: bytes->at[draw((unsigned)bytes->length)] ^= (unsigned char)(1 << draw(8)); break;
-      case 2: bytes->length = draw((unsigned)bytes->length); break;
-      default: add(bytes, &(unsigned char){(unsigned char)draw(256)}, 1);
+      case 0:
+        bytes->at[draw((unsigned)bytes->length)] = (unsigned char)draw(256);
+        break;
+      case 1:
+        bytes->at[draw((unsigned)bytes->length)] ^= (unsigned char)(1 << draw(8));
+        break;
+      case 2:
+        bytes->length = draw((unsigned)bytes->length);
+        break;
+      default:
+        add(bytes, &(unsigned char){(unsigned char)draw(256)}, 1);
     }
 }
 
-/* Each channel gets changed requests until one is malformed. The last channel sees a live server. */
+/* Each channel gets changed requests until one is malformed. The last channel sees a live server.
+ */
 static void changed_requests(void) {
   static struct bytes request;
   int answered = 0, refused = 0, malformed = 0;
@@ -282,9 +328,12 @@ static void changed_requests(void) {
       if (draw(8) == 0) change(&request);
       status = exchange(channel, request.at, request.length);
       CHECK(status == 0 || (status >= 1 && status <= 99) || status == MALFORMED);
-      if (status == 0) answered++;
-      else if (status == MALFORMED) malformed++;
-      else refused++;
+      if (status == 0)
+        answered++;
+      else if (status == MALFORMED)
+        malformed++;
+      else
+        refused++;
     }
     CHECK(exchange(CHANNELS - 1, "\x08", 1) == 0);
   }

@@ -1,5 +1,6 @@
 /* Eight threads on three channels: storm FOLDER SECONDS. Each thread writes keys of its own, and
-   reads what it wrote: by get, get_many, iterators and snapshots. One more compacts and collects. */
+   reads what it wrote: by get, get_many, iterators and snapshots. One more compacts and collects.
+ */
 #define _GNU_SOURCE
 #include <pthread.h>
 #include <stdatomic.h>
@@ -131,11 +132,23 @@ static void *work(void *state) {
   for (int i = 0; i < KEYS; i++) worker->has[i] = ABSENT;
   for (int round = 0; !over; round++) {
     switch (draw(worker, 20)) {
-      case 0: case 1: write_some(worker, round); break;
-      case 2: read_then(worker, round); break;
-      case 3: case 4: get_all(worker, NULL, worker->has); break;
-      case 5: case 6: scan(worker, NULL, worker->has); break;
-      default: get_one(worker);
+      case 0:
+      case 1:
+        write_some(worker, round);
+        break;
+      case 2:
+        read_then(worker, round);
+        break;
+      case 3:
+      case 4:
+        get_all(worker, NULL, worker->has);
+        break;
+      case 5:
+      case 6:
+        scan(worker, NULL, worker->has);
+        break;
+      default:
+        get_one(worker);
     }
   }
   return NULL;
@@ -174,6 +187,7 @@ int main(int argc, char **argv) {
   db = opened(argv[1], CHANNELS, 2);
   for (int i = 0; i < THREADS; i++) scan(&workers[i], NULL, workers[i].has);
   tiswenor_close(db);
-  printf("storm: ok (writes %ld, gets %ld, of many %ld, scans %ld, snapshots %ld, compactions %ld)\n",
-         writes, gets, many_gets, scans, snapshot_reads, compactions);
+  printf(
+      "storm: ok (writes %ld, gets %ld, of many %ld, scans %ld, snapshots %ld, compactions %ld)\n",
+      writes, gets, many_gets, scans, snapshot_reads, compactions);
 }
