@@ -24,6 +24,10 @@ LONGEST_PATH = 4095
 # How many bytes an answer's first part may have. Only one answer is on its way at a time.
 _READ_AT_ONCE = 4096
 
+# How long a waiting call sleeps until it looks again whether a channel is free, in seconds. It is
+# told of it, but for one who was interrupted before.
+_AT_LATEST = 0.5
+
 # How long a server that closed a channel may take until its status is known, in seconds.
 _UNTIL_STATUS = 1.0
 
@@ -51,63 +55,87 @@ class Channel:
     If it was not, the channel is broken.
     """
 
-    def __init__(self, end: socket.socket) -> None:
+    def __init__(self, end: socket.socket, owes_opening: bool = False) -> None:
         self._socket = end
-        self._came: List[bytes] = []
-        self._owes = False
-        self.is_broken = False
+        # What came of the answer that is owed; None where none is.
+        self._owed: Optional[List[bytes]] = [] if owes_opening else None
+        self._is_sending = False
+        self.has_failed = False
+        self.lease: Optional[Lease] = None
+
+    @property
+    def is_free(self) -> bool:
+        return self.lease is None or self.lease.is_over
+
+    @property
+    def is_broken(self) -> bool:
+        return self.has_failed or (self._is_sending and self.is_free)
 
     def exchange(self, request: bytes) -> bytes:
         """Sends a frame, and gives the frame that answers it, without its length."""
-        if self._owes:
+        if self._owed is not None:
             self.receive()
-        self.is_broken = True
+        self._is_sending = True
         self._socket.sendall(request, socket.MSG_NOSIGNAL)
-        self._owes = True
-        self.is_broken = False
+        self._owed = []
+        self._is_sending = False
         return self.receive()
 
     def receive(self) -> bytes:
-        self._owes = True
-        head = self._exactly(0, 4)
-        length = frames.length(head)
-        if not 1 <= length <= frames.LONGEST_ANSWER:
-            self.is_broken = True
-            frames.bad_answer()
-        answer = self._exactly(4, length)
-        if sum(map(len, self._came)) != 4 + length:
-            self.is_broken = True
-            frames.bad_answer()
-        self._came = []
-        self._owes = False
-        return answer
+        """The answer that is owed."""
+        owed = self._owed
+        assert owed is not None
+        try:
+            length = frames.length(self._until(owed, 4)[:4])
+            if not 1 <= length <= frames.LONGEST_ANSWER:
+                frames.bad_answer()
+            answer = self._until(owed, 4 + length)
+            if len(answer) != 4 + length:
+                frames.bad_answer()
+        except (OSError, Error):
+            self.has_failed = True
+            raise
+        self._owed = None
+        return answer[4:]
 
-    def _exactly(self, begin: int, count: int) -> bytes:
-        """The `count` bytes of the answer from `begin` on. All bytes that came are kept until the
-        whole answer is there."""
-        have = sum(map(len, self._came))
-        while have < begin + count:
-            room = max(begin + count - have, _READ_AT_ONCE)
+    def _until(self, owed: List[bytes], count: int) -> bytes:
+        """All that came, once that are `count` bytes. It is kept until the whole answer is there."""
+        have = sum(map(len, owed))
+        while have < count:
+            room = max(count - have, _READ_AT_ONCE)
             # One call for both: a signal handler runs before the bytes are taken, or after they
             # are kept, and not between.
-            self._came.extend(map(self._socket.recv, (room,)))
-            if not self._came[-1]:
-                self.is_broken = True
+            owed.extend(map(self._socket.recv, (room,)))
+            if not owed[-1]:
                 raise ConnectionResetError
-            have += len(self._came[-1])
-        return b"".join(self._came)[begin : begin + count]
+            have += len(owed[-1])
+        return b"".join(owed)
 
     def shut(self) -> None:
         """Ends the channel, also for processes that have copies of its descriptor."""
         try:
             self._socket.shutdown(socket.SHUT_RDWR)
         except OSError:
-            pass  # the server has ended
+            pass  # the server has ended, or it is shut
         self._socket.close()
 
     def forget(self) -> None:
         """Closes this process's descriptor alone."""
         self._socket.close()
+
+
+class Lease:
+    """A call's right to a channel, from when it asks for one until it is over.
+
+    A channel has the last lease that it was given to, and is free once that is over. So whatever
+    exception ends a call, and wherever, no channel is lost.
+    """
+
+    __slots__ = ("is_over", "has_channel")
+
+    def __init__(self) -> None:
+        self.is_over = False
+        self.has_channel = False
 
 
 class Server:
@@ -120,15 +148,12 @@ class Server:
             raise ValueError("workers must be 0 to 16")
         if len(path) > LONGEST_PATH:
             raise ValueError(f"the path has more than {LONGEST_PATH} bytes")
-        self._lock = threading.Lock()
-        self._given_back = threading.Condition(self._lock)
-        self._waiting: Deque[threading.Condition] = deque()  # who came first is served first
+        self._changed = threading.Condition()
+        self._waiting: Deque[Lease] = deque()  # who came first is served first
         self._is_closed = False
         self._is_forked = False
         ours, self._process = _start(program, path, channels, workers, flags)
-        self._channels = [Channel(end) for end in ours]
-        self._free = list(self._channels)
-        self._living = channels
+        self._channels = [Channel(end, end is ours[0]) for end in ours]
         try:
             self._opened()
         except BaseException:
@@ -139,72 +164,56 @@ class Server:
     def _opened(self) -> None:
         try:
             _body(self._channels[0].receive())
-        except (ConnectionError, Ended):
+        except OSError:
             raise self._ended() from None
 
     def ask(self, request: bytes) -> bytes:
         """What follows the status in the answer to a request. Waits for a free channel."""
         framed = frames.frame(request)
-        channel = self._take()
-        try:
-            try:
-                answer = channel.exchange(framed)
-                if answer[0] == MALFORMED:
-                    channel.is_broken = True
-            except OSError:
-                channel.is_broken = True
-                raise self._ended() from None
-        finally:
-            self._give(channel)
-        return _body(answer)
-
-    def _take(self) -> Channel:
         if self._is_forked:  # another thread may have had the lock as the process was forked
             raise _closed()
-        with self._lock:
-            if self._free and not self._waiting and not self._is_closed:
-                return self._free.pop()
-            channel = self._wait()
-        if channel is None:
-            raise self._ended()
-        return channel
-
-    def _wait(self) -> Optional[Channel]:
-        """A channel, once it is this thread's turn; None where no channel lives any more."""
-        turn = threading.Condition(self._lock)
-        self._waiting.append(turn)
+        lease = Lease()
         try:
+            channel = self._take(lease)
+            answer = channel.exchange(framed)
+            if answer[0] == MALFORMED:
+                channel.has_failed = True
+        except OSError:
+            raise self._ended() from None
+        finally:
+            lease.is_over = True
+            with self._changed:
+                self._changed.notify_all()
+        return _body(answer)
+
+    def _take(self, lease: Lease) -> Channel:
+        with self._changed:
+            self._waiting.append(lease)
             while True:
                 if self._is_closed:
                     raise _closed()
-                if not self._living:
-                    return None
-                if self._free and self._waiting[0] is turn:
-                    return self._free.pop()
-                turn.wait()
-        finally:
-            self._waiting.remove(turn)
-            if self._free and self._waiting:
-                self._waiting[0].notify()
+                living = [channel for channel in self._channels if not channel.is_broken]
+                if not living:
+                    break
+                if self._is_first(lease):
+                    for channel in living:
+                        if channel.is_free:
+                            channel.lease = lease
+                            lease.has_channel = True
+                            return channel
+                self._changed.wait(_AT_LATEST)
+        raise self._ended()
 
-    def _give(self, channel: Channel) -> None:
-        with self._lock:
-            if not channel.is_broken:
-                self._free.append(channel)
-                if self._waiting:
-                    self._waiting[0].notify()
-            else:
-                channel.shut()
-                self._living -= 1
-                if not self._living:
-                    self._wake_all()
-            self._given_back.notify_all()
-
-    def _wake_all(self) -> None:
-        for turn in self._waiting:
-            turn.notify()
+    def _is_first(self, lease: Lease) -> bool:
+        """Whether nobody waits who came before this lease."""
+        while self._waiting[0].is_over or self._waiting[0].has_channel:
+            self._waiting.popleft()
+        return self._waiting[0] is lease
 
     def _ended(self) -> Ended:
+        for channel in self._channels:
+            if channel.is_broken:
+                channel.shut()
         try:
             return Ended(self._process.wait(_UNTIL_STATUS))
         except subprocess.TimeoutExpired:
@@ -222,11 +231,11 @@ class Server:
         """Waits for the calls under way, and then for the server's end."""
         if self._is_forked:
             return
-        with self._lock:
+        with self._changed:
             self._is_closed = True
-            self._wake_all()
-            while len(self._free) < self._living:
-                self._given_back.wait()
+            self._changed.notify_all()
+            while not all(channel.is_free for channel in self._channels):
+                self._changed.wait(_AT_LATEST)
             for channel in self._channels:
                 channel.shut()
         self._process.wait()
