@@ -6,7 +6,8 @@
 # The server is the one that LSM_SERVER names, or the proved one, or else an unproved one that is
 # built first. LSM_SERVER_OBJECT, or the proved one's object, is linked into the process. Needs gcc,
 # g++, python3 (PYTHON) with pytest, setuptools and wheel, valgrind, cmake, pkg-config.
-# TISWENOR_CALLS and STORM: drawn calls in Python (3,000), seconds of each storm (5).
+# TISWENOR_CALLS and STORM: drawn calls in Python (3,000), seconds of each storm (5). MINUTES and
+# PYTHON_MINUTES: how long a test in C, and those of Python, may take (10, 60).
 set -uo pipefail
 here=$(cd "$(dirname "$(readlink -f "${BASH_SOURCE[0]}")")" && pwd)
 top=$(cd "$here/../.." && pwd)
@@ -16,6 +17,7 @@ python=${PYTHON:-python3}
 work=$(mktemp -d)
 trap 'rm -rf "$work"' EXIT
 passed=0 failed=0
+channels=62 # the most that a story opens
 
 tell_missing() {
   local tool
@@ -79,15 +81,17 @@ with_inside() { # TEST FLAGS..
   run "$test"
 }
 
-run() { # TEST [WRAPPER..]
+run() { # TEST [WRAPPER..]: in ten minutes at most
   local test=$1
   shift
+  set -- timeout -k 10 "${MINUTES:-10}m" "$@"
   case $test in
     storm*) "$@" "$work/$test" "$folder/db" "${STORM:-5}" ;;
     killed*) TISWENOR_SERVER=$work/telling "$@" "$work/$test" "$folder/db" "$work/number" ;;
     malformed*) "$@" "$work/$test" "$server" "$folder" 20 "${SEED:-1}" ;;
     lied_to*) TISWENOR_SERVER=$work/liar "$@" "$work/$test" "$folder" 200 ;;
-    *) "$@" "$work/$test" "$folder" ;;
+    story_cpp) "$@" "$work/$test" "$folder" ;;
+    *) "$@" "$work/$test" "$folder" "$channels" ;;
   esac
 }
 
@@ -103,13 +107,16 @@ cpp() { # LIBRARY..
 }
 
 valgrind_child() { compile story -O1 "$clients/c/tests/story.c" "${child[@]}" && run story "${leaks[@]}"; }
-valgrind_inside() { compile story -O1 "$clients/c/tests/story.c" "${inside[@]}" && run story "${leaks[@]}"; }
+valgrind_inside() {
+  local channels=4
+  compile story -O1 "$clients/c/tests/story.c" "${inside[@]}" && run story "${leaks[@]}" --fair-sched=yes
+}
 
 lied_to() { compile liar -O1 "$clients/c/tests/liar.c" && with_child lied_to "${sanitized[@]}"; }
 
 malformed() { compile malformed -O1 "${sanitized[@]}" "$clients/c/tests/malformed.c" && run malformed; }
 
-pytests() { (cd "$clients/python" && "$python" -X dev -m pytest -q -p no:cacheprovider --basetemp="$folder/pytest"); }
+pytests() { (cd "$clients/python" && timeout -k 10 "${PYTHON_MINUTES:-60}m" "$python" -X dev -m pytest -q -p no:cacheprovider --basetemp="$folder/pytest"); }
 
 wheel() { # a wheel, without a network, and a program that uses it
   cp -r "$clients/python" "$folder/source" &&

@@ -25,6 +25,9 @@ enum { FIRST = 3 };
 /* How much of an answer is read at once, at first. Only one answer is on its way at a time. */
 enum { READ_AT_ONCE = 4096 };
 
+/* How long a server may take for its end, in microseconds, as it finishes the merge at hand. */
+enum { UNTIL_END = 60000000 };
+
 struct transport {
   struct transport *next, **link; /* of all that are open */
   pid_t server;
@@ -274,6 +277,22 @@ void tiswenor_transport_tell_end(struct transport *transport, char *text, size_t
   }
 }
 
+/* Waits for the server's end. After a minute it is killed: all that it answered is on the disk. */
+static void wait_for_end(pid_t server) {
+  long pause = 50000, waited = 0; /* nanoseconds; microseconds */
+  for (;;) {
+    pid_t ended = waitpid(server, NULL, WNOHANG);
+    if (ended == server || (ended < 0 && errno != EINTR)) return;
+    if (waited >= UNTIL_END) break;
+    nanosleep(&(struct timespec){0, pause}, NULL);
+    waited += pause / 1000;
+    if (pause < 20000000) pause *= 2;
+  }
+  kill(server, SIGKILL);
+  while (waitpid(server, NULL, 0) < 0 && errno == EINTR) {
+  }
+}
+
 void tiswenor_transport_close(struct transport *transport) {
   if (!transport->is_forked) {
     leave(transport);
@@ -281,8 +300,7 @@ void tiswenor_transport_close(struct transport *transport) {
       shutdown(transport->sockets[i], SHUT_RDWR); /* whoever else has a copy */
       close(transport->sockets[i]);
     }
-    while (waitpid(transport->server, NULL, 0) < 0 && errno == EINTR) {
-    }
+    wait_for_end(transport->server);
   }
   free(transport);
 }

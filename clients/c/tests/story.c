@@ -1,4 +1,4 @@
-/* Each call of tiswenor.h, and what it refuses: story FOLDER, a folder that is empty. */
+/* Each call of tiswenor.h, and what it refuses: story FOLDER [CHANNELS], a folder that is empty. */
 #include <sys/stat.h>
 #include <sys/types.h>
 #include <unistd.h>
@@ -36,7 +36,7 @@ static void all_is(tiswenor_t *db, const tiswenor_readoptions_t *options, const 
   tiswenor_iter_destroy(iterator);
 }
 
-static void opening(const char *folder) {
+static void opening(const char *folder, int channels) {
   char *error = NULL;
   tiswenor_options_t *options = tiswenor_options_create();
   CHECK(!tiswenor_open(NULL, in(folder, "none"), &error));
@@ -62,7 +62,7 @@ static void opening(const char *folder) {
   tiswenor_options_set_channels(options, 0);
   CHECK(!tiswenor_open(options, in(folder, "new"), &error));
   FAILED(error, tiswenor_bad_opening);
-  tiswenor_options_set_channels(options, 62);
+  tiswenor_options_set_channels(options, channels);
   tiswenor_options_set_workers(options, 2);
   db = tiswenor_open(options, path, &error);
   DONE(error);
@@ -272,9 +272,9 @@ static void several(const char *folder) {
 }
 
 int main(int argc, char **argv) {
-  CHECK(argc == 2);
+  CHECK(argc == 2 || argc == 3);
   CHECK(tiswenor_error_number(NULL) == 0 && tiswenor_major_version() >= 0);
-  opening(argv[1]);
+  opening(argv[1], argc == 3 ? atoi(argv[2]) : 62);
   tiswenor_t *db = opened(in(argv[1], "db"), 4, 1);
   batches(db);
   batch_too_large(db);

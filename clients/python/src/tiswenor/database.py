@@ -16,6 +16,9 @@ from .server import Server, find
 PathLike = Union[str, bytes, "os.PathLike[str]", "os.PathLike[bytes]"]
 Bytes = Union[bytes, bytearray, memoryview]
 
+# How many pairs an iterator asks for first; after them it asks for whole pages.
+_FIRST_PAGE = 16
+
 _CREATE_IF_MISSING = 1
 _ERROR_IF_EXISTS = 2
 
@@ -385,6 +388,7 @@ class Iterator:
         """Goes before the first pair of the range whose key is `target` or greater."""
         self._from = max(_bytes(target), self._bounds.start)
         self._is_last = self._bounds.stop is not None and self._from >= self._bounds.stop
+        self._limit = _FIRST_PAGE
         self._pairs: List[Tuple[bytes, bytes]] = []
         self._at = 0
 
@@ -409,8 +413,9 @@ class Iterator:
             raise Error(CLOSED, "Closed", "the iterator is closed")
         if self._is_last:
             raise StopIteration
-        request = frames.scan(snapshot._when(), self._from, self._bounds.stop, 0)
+        request = frames.scan(snapshot._when(), self._from, self._bounds.stop, self._limit)
         is_last, pairs = frames.page(snapshot._ask(request))
+        self._limit = 0
         if pairs:
             self._from = pairs[-1][0] + b"\0"
         self._is_last = is_last

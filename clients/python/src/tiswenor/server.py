@@ -31,6 +31,9 @@ _AT_LATEST = 0.5
 # How long a server that closed a channel may take until its status is known, in seconds.
 _UNTIL_STATUS = 1.0
 
+# How long a server may take for its end, in seconds, as it finishes the merge at hand.
+_UNTIL_END = 60.0
+
 
 def find(server: Union[str, "os.PathLike[str]", None] = None) -> str:
     """The path of the server: what was passed, else what the environment variable
@@ -228,7 +231,7 @@ class Server:
         return self._process.pid
 
     def close(self) -> None:
-        """Waits for the calls under way, and then for the server's end."""
+        """Waits for the calls under way, and then for the server's end; kills it after a minute."""
         if self._is_forked:
             return
         with self._changed:
@@ -238,7 +241,11 @@ class Server:
                 self._changed.wait(_AT_LATEST)
             for channel in self._channels:
                 channel.shut()
-        self._process.wait()
+        try:
+            self._process.wait(_UNTIL_END)
+        except subprocess.TimeoutExpired:
+            self._process.kill()  # all that it answered is on the disk
+            self._process.wait()
 
     def forget(self) -> None:
         """In a process that was forked from the one that opened the database."""
