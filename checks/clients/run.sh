@@ -88,7 +88,7 @@ run() { # TEST [WRAPPER..]: in ten minutes at most
   case $test in
     storm*) "$@" "$work/$test" "$folder/db" "${STORM:-5}" ;;
     killed*) TISWENOR_SERVER=$work/telling "$@" "$work/$test" "$folder/db" "$work/number" ;;
-    malformed*) "$@" "$work/$test" "$server" "$folder" 20 "${SEED:-1}" ;;
+    malformed*) "$@" "$work/$test" "$server" "$folder" 3 "${SEED:-1}" ;;
     lied_to*) TISWENOR_SERVER=$work/liar "$@" "$work/$test" "$folder" 200 ;;
     story_cpp) "$@" "$work/$test" "$folder" ;;
     *) "$@" "$work/$test" "$folder" "$channels" ;;

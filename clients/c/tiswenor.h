@@ -86,7 +86,7 @@ void tiswenor_get_many(tiswenor_t *db, const tiswenor_readoptions_t *options, si
                        const char *const *keys, const size_t *keylens, char **values,
                        size_t *vallens, char **errptr);
 
-/* The database as it is now; NULL for an error. It keeps tables on the disk until it is released. */
+/* The database as it is now; NULL for an error. Until its release its tables stay on the disk. */
 const tiswenor_snapshot_t *tiswenor_create_snapshot(tiswenor_t *db, char **errptr);
 void tiswenor_release_snapshot(tiswenor_t *db, const tiswenor_snapshot_t *snapshot);
 

@@ -264,9 +264,8 @@ static void drawn_request(struct bytes *to) {
   char key[8];
   to->length = 0;
   snprintf(key, sizeof key, "k%02u", draw(50));
-  switch (draw(8)) {
+  switch (draw(100) ? 1 + draw(7) : 0) { /* few writes: each is synced */
     case 0:
-    case 1:
       add(to, "\x01", 1);
       for (unsigned i = draw(4) + 1; i > 0; i--) {
         int is_put = draw(3) > 0;
@@ -275,6 +274,7 @@ static void drawn_request(struct bytes *to) {
         if (is_put) add_text(to, "value");
       }
       return;
+    case 1:
     case 2:
     case 3:
       add(to, "\x02\0", 2);

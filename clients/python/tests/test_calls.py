@@ -244,7 +244,8 @@ def test_close(folder):
     db.close()
     db.close()
     assert db.closed
-    for call in (lambda: db.get(b"a"), lambda: next(iterator), lambda: snapshot.get(b"a"), batch.write):
+    calls = [lambda: db.get(b"a"), lambda: next(iterator), lambda: snapshot.get(b"a"), batch.write]
+    for call in calls:
         with pytest.raises(tiswenor.Error) as closed:
             call()
         assert (closed.value.number, closed.value.name) == (251, "Closed")

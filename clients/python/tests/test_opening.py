@@ -116,7 +116,11 @@ def test_database_that_is_forgotten_is_closed(folder):
 
 def test_process_that_ends_closes(folder):
     """The server of a process that ended has ended before it: the folder is free at once."""
-    text = "import tiswenor, sys; db = tiswenor.DB(sys.argv[1], create_if_missing=True); db.put(b'a', b'1')"
+    text = (
+        "import tiswenor, sys\n"
+        "db = tiswenor.DB(sys.argv[1], create_if_missing=True)\n"
+        "db.put(b'a', b'1')\n"
+    )
     subprocess.run([sys.executable, "-c", text, os.fspath(folder)], check=True, env=environment())
     with tiswenor.DB(folder) as db:
         assert db.get(b"a") == b"1"

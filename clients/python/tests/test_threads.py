@@ -145,7 +145,8 @@ def test_forked_process_does_not_use_the_channels(folder):
         try:
             os.close(go)
             assert db.closed
-            for call in (lambda: db.get(b"key"), lambda: next(iterator), lambda: db.put(b"a", b"b")):
+            calls = [lambda: db.get(b"key"), lambda: next(iterator), lambda: db.put(b"a", b"b")]
+            for call in calls:
                 try:
                     call()
                 except tiswenor.Error as error:

@@ -102,7 +102,7 @@ class Channel:
         return answer[4:]
 
     def _until(self, owed: List[bytes], count: int) -> bytes:
-        """All that came, once that are `count` bytes. It is kept until the whole answer is there."""
+        """All that came, once that are `count` bytes. It stays in `owed`."""
         have = sum(map(len, owed))
         while have < count:
             room = max(count - have, _READ_AT_ONCE)
