@@ -1,0 +1,180 @@
+#!/usr/bin/env bash
+# Builds the clients and runs their tests over a server: run.sh [WORD], all parts or those whose
+# name has the word. Goes on to the end whatever failed. The last line is `N passed, M failed`;
+# what could not be run counts as failed, and is said.
+#
+# The server is the one that LSM_SERVER names, or the proved one, or else an unproved one that is
+# built first. LSM_SERVER_OBJECT, or the proved one's object, is linked into the process. Needs gcc,
+# g++, python3 (PYTHON) with pytest, setuptools and wheel, valgrind, cmake, pkg-config.
+# TISWENOR_CALLS and STORM: drawn calls in Python (3,000), seconds of each storm (5). MINUTES and
+# PYTHON_MINUTES: how long a test in C, and those of Python, may take (10, 60).
+set -uo pipefail
+here=$(cd "$(dirname "$(readlink -f "${BASH_SOURCE[0]}")")" && pwd)
+top=$(cd "$here/../.." && pwd)
+clients=$top/clients
+word=${1:-}
+python=${PYTHON:-python3}
+work=$(mktemp -d)
+trap 'rm -rf "$work"' EXIT
+passed=0 failed=0
+channels=62 # the most that a story opens
+
+tell_missing() {
+  local tool
+  for tool in gcc g++ "$python" valgrind cmake pkg-config; do
+    command -v "$tool" > /dev/null || echo "missing: $tool"
+  done
+  for tool in pytest setuptools wheel; do
+    "$python" -c "import $tool" 2> /dev/null || echo "missing: $tool of $python"
+  done
+}
+
+find_server() {
+  local proved=$top/crates/lsm_server/out/lsm_server
+  server=${LSM_SERVER:-$proved}
+  object=${LSM_SERVER_OBJECT:-$proved.o}
+  if [[ ! -x $server ]]; then
+    server=$work/lsm_server
+    echo "clients: no proved server; building an unproved one, in some minutes"
+    "$top/tools/unproved.sh" "$server" lsm_server > "$work/server.log" 2>&1 || tail -n 20 "$work/server.log"
+  fi
+  server=$(readlink -f "$server")
+  [[ -x $server ]] || echo "missing: a server (LSM_SERVER)"
+  [[ -f $object ]] || echo "missing: the server's object (LSM_SERVER_OBJECT), for the server inside the process"
+}
+
+part() { # NAME COMMAND..: runs a part, in a new folder `$folder`; its output is shown where it fails
+  local name=$1
+  shift
+  [[ $name == *"$word"* ]] || return 0
+  folder=$(mktemp -d -p "$work")
+  if "$@" > "$work/log" 2>&1 < /dev/null; then
+    passed=$((passed + 1))
+    echo "$name: passed $(grep -hE ': ok|passed|^changed' "$work/log" | tail -n 1)"
+  else
+    failed=$((failed + 1))
+    echo "$name: FAILED"
+    tail -n 30 "$work/log" | sed 's/^/    /'
+  fi
+  rm -rf "$folder"
+}
+
+strict=(-std=c11 -Wall -Wextra -Werror -I"$clients/c")
+child=("$clients/c/tiswenor.c" "$clients/c/child.c" -lpthread)
+inside=("$work/c/libtiswenor_inside.a" -lpthread -lm)
+
+compile() { # PROGRAM WORDS..
+  gcc "${strict[@]}" -g "${@:2}" -o "$work/$1"
+}
+
+with_child() { # TEST FLAGS..: builds a test with the library's sources, and runs it
+  local test=$1
+  shift
+  compile "$test" -O1 "$@" "$clients/c/tests/$test.c" "${child[@]}" || return 1
+  run "$test"
+}
+
+with_inside() { # TEST FLAGS..
+  local test=$1
+  shift
+  compile "$test" -O1 "$@" "$clients/c/tests/$test.c" "${inside[@]}" || return 1
+  run "$test"
+}
+
+run() { # TEST [WRAPPER..]: in ten minutes at most
+  local test=$1
+  shift
+  set -- timeout -k 10 "${MINUTES:-10}m" "$@"
+  case $test in
+    storm*) "$@" "$work/$test" "$folder/db" "${STORM:-5}" ;;
+    killed*) TISWENOR_SERVER=$work/telling "$@" "$work/$test" "$folder/db" "$work/number" ;;
+    malformed*) "$@" "$work/$test" "$server" "$folder" 3 "${SEED:-1}" ;;
+    lied_to*) TISWENOR_SERVER=$work/liar "$@" "$work/$test" "$folder" 200 ;;
+    story_cpp) "$@" "$work/$test" "$folder" ;;
+    *) "$@" "$work/$test" "$folder" "$channels" ;;
+  esac
+}
+
+leaks=(valgrind -q --error-exitcode=9 --leak-check=full --errors-for-leak-kinds=definite)
+sanitized=(-fsanitize=address,undefined -fno-sanitize-recover=undefined)
+
+build() { CFLAGS=${1:-} "$clients/c/build.sh" "$work/c" ${object:+"$object"}; }
+build_child() { "$clients/c/build.sh" "$work/child"; }
+
+cpp() { # LIBRARY..
+  g++ -std=c++17 -Wall -Wextra -Wpedantic -Werror -g -I"$clients/c" "$clients/c/tests/story.cpp" "$@" -o "$work/story_cpp" &&
+    run story_cpp
+}
+
+valgrind_child() { compile story -O1 "$clients/c/tests/story.c" "${child[@]}" && run story "${leaks[@]}"; }
+valgrind_inside() {
+  local channels=4
+  compile story -O1 "$clients/c/tests/story.c" "${inside[@]}" && run story "${leaks[@]}" --fair-sched=yes
+}
+
+lied_to() { compile liar -O1 "$clients/c/tests/liar.c" && with_child lied_to "${sanitized[@]}"; }
+
+malformed() { compile malformed -O1 "${sanitized[@]}" "$clients/c/tests/malformed.c" && run malformed; }
+
+pytests() { (cd "$clients/python" && timeout -k 10 "${PYTHON_MINUTES:-60}m" "$python" -X dev -m pytest -q -p no:cacheprovider --basetemp="$folder/pytest"); }
+
+wheel() { # a wheel, without a network, and a program that uses it
+  cp -r "$clients/python" "$folder/source" &&
+    "$python" -m pip wheel --no-deps --no-build-isolation -w "$folder" "$folder/source" &&
+    "$python" -m pip install --no-deps --no-index --target "$folder/site" "$folder"/*.whl &&
+    test -f "$folder/site/tiswenor/py.typed" &&
+    PYTHONPATH=$folder/site first_is "$python" "$clients/examples/first.py"
+}
+
+first_is() { # COMMAND..: a first program, whose folder is a new one here, prints its fruit
+  rm -rf /tmp/fruit
+  "$@" > "$folder/said" && grep -q "^apple.*red" "$folder/said" && rm -rf /tmp/fruit
+}
+
+examples() {
+  gcc "${strict[@]}" "$clients/examples/first.c" "$work/child/libtiswenor.a" -lpthread -o "$work/first" && first_is "$work/first" &&
+    g++ -std=c++17 -I"$clients/c" "$clients/examples/first.cpp" "$work/child/libtiswenor.a" -lpthread -o "$work/first" && first_is "$work/first" &&
+    PYTHONPATH=$clients/python/src first_is "$python" "$clients/examples/first.py"
+}
+
+cmake_and_pkg_config() { # WORDS..: installed, found, and used by both
+  local flags
+  cmake -S "$clients/c" -B "$folder/build" -DCMAKE_INSTALL_PREFIX="$folder/installed" "$@" &&
+    cmake --build "$folder/build" && cmake --install "$folder/build" &&
+    cmake -S "$here/use" -B "$folder/use" -DCMAKE_PREFIX_PATH="$folder/installed" -DSOURCE="$clients/examples/first.c" &&
+    cmake --build "$folder/use" && first_is "$folder/use/first" || return 1
+  flags=$(PKG_CONFIG_PATH=$(dirname "$(find "$folder/installed" -name tiswenor.pc)") pkg-config --cflags --libs --static tiswenor) &&
+    gcc "$clients/examples/first.c" $flags -Wl,-rpath,"$(dirname "$(find "$folder/installed" -name 'libtiswenor.*' | head -n 1)")" -o "$work/first" &&
+    first_is "$work/first"
+}
+
+tell_missing
+find_server
+export TISWENOR_SERVER=$server
+printf '#!/bin/sh\necho $$ > %s/number\nexec %s\n' "$work" "$server" > "$work/telling"
+chmod +x "$work/telling"
+
+part "C, child: build" build_child
+part "C, inside: build" build
+part "C, child: story" with_child story
+part "C, child: story, address sanitizer" with_child story "${sanitized[@]}"
+part "C, child: story, valgrind" valgrind_child
+part "C, child: storm" with_child storm
+part "C, child: storm, address sanitizer" with_child storm "${sanitized[@]}"
+part "C, child: storm, thread sanitizer" with_child storm -fsanitize=thread
+part "C, child: killed server, killed host" with_child killed
+part "C, child: killed, address sanitizer" with_child killed "${sanitized[@]}"
+part "C, child: a server that lies, address sanitizer" lied_to
+part "server: malformed frames, drawn bytes" malformed
+part "C, inside: story" with_inside story
+part "C, inside: story, valgrind" valgrind_inside
+part "C, inside: storm" with_inside storm
+part "C++, child: story" cpp "$work/child/libtiswenor.a" -lpthread
+part "C++, inside: story" cpp "${inside[@]}"
+part "first programs" examples
+part "cmake, pkg-config: archives" cmake_and_pkg_config
+part "cmake, pkg-config: shared" cmake_and_pkg_config -DBUILD_SHARED_LIBS=ON
+part "Python: tests" pytests
+part "Python: wheel" wheel
+echo "$passed passed, $failed failed"
+((failed == 0))

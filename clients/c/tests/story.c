@@ -1,0 +1,294 @@
+/* Each call of tiswenor.h, and what it refuses: story FOLDER [CHANNELS], a folder that is empty. */
+#include <sys/stat.h>
+#include <sys/types.h>
+#include <unistd.h>
+
+#include "check.h"
+
+static char path[4096];
+
+static const char *in(const char *folder, const char *name) {
+  snprintf(path, sizeof path, "%s/%s", folder, name);
+  return path;
+}
+
+/* Writes what an iterator shows, as "key=value ". */
+static void shown(tiswenor_iterator_t *iterator, char *text) {
+  *text = 0;
+  for (; tiswenor_iter_valid(iterator); tiswenor_iter_next(iterator)) {
+    size_t klen, vlen;
+    const char *key = tiswenor_iter_key(iterator, &klen);
+    const char *value = tiswenor_iter_value(iterator, &vlen);
+    sprintf(text + strlen(text), "%.*s=%.*s ", (int)klen, key, (int)vlen, value);
+  }
+  char *error = NULL;
+  tiswenor_iter_get_error(iterator, &error);
+  DONE(error);
+}
+
+static void all_is(tiswenor_t *db, const tiswenor_readoptions_t *options, const char *wanted) {
+  char text[1000];
+  tiswenor_iterator_t *iterator = tiswenor_create_iterator(db, options);
+  CHECK(!tiswenor_iter_valid(iterator));
+  tiswenor_iter_seek_to_first(iterator);
+  shown(iterator, text);
+  CHECK(!strcmp(text, wanted));
+  tiswenor_iter_destroy(iterator);
+}
+
+static void opening(const char *folder, int channels) {
+  char *error = NULL;
+  tiswenor_options_t *options = tiswenor_options_create();
+  CHECK(!tiswenor_open(NULL, in(folder, "none"), &error));
+  CHECK(tiswenor_error_number(error) >= 1);
+  CHECK(access(path, F_OK)); /* none was made */
+  mkdir(in(folder, "empty"), 0777);
+  CHECK(!tiswenor_open(options, path, &error)); /* frees the text that was there */
+  FAILED(error, tiswenor_no_database);
+  tiswenor_options_set_create_if_missing(options, 1);
+  tiswenor_t *db = tiswenor_open(options, in(folder, "new"), &error);
+  DONE(error);
+  CHECK(!tiswenor_open(options, path, &error));
+  FAILED(error, tiswenor_locked);
+  tiswenor_close(db);
+  tiswenor_options_set_error_if_exists(options, 1);
+  CHECK(!tiswenor_open(options, path, &error));
+  FAILED(error, tiswenor_is_there);
+  tiswenor_options_set_error_if_exists(options, 0);
+  CHECK(!tiswenor_open(options, in(folder, "none/below"), &error));
+  CHECK(tiswenor_error_number(error) >= 1);
+  CHECK(!tiswenor_open(options, "/dev/null", &error));
+  CHECK(tiswenor_error_number(error) >= 1);
+  tiswenor_options_set_channels(options, 0);
+  CHECK(!tiswenor_open(options, in(folder, "new"), &error));
+  FAILED(error, tiswenor_bad_opening);
+  tiswenor_options_set_channels(options, channels);
+  tiswenor_options_set_workers(options, 2);
+  db = tiswenor_open(options, path, &error);
+  DONE(error);
+  put(db, "a", "1");
+  tiswenor_close(db);
+  tiswenor_options_destroy(options);
+  tiswenor_close(NULL);
+}
+
+static void batches(tiswenor_t *db) {
+  char *error = NULL;
+  tiswenor_writebatch_t *batch = tiswenor_writebatch_create();
+  tiswenor_writebatch_t *other = tiswenor_writebatch_create();
+  tiswenor_writeoptions_t *options = tiswenor_writeoptions_create();
+  tiswenor_writeoptions_set_sync(options, 1);
+  tiswenor_write(db, options, batch, &error);
+  DONE(error);
+  tiswenor_writebatch_put(batch, "b", 1, "1", 1);
+  tiswenor_writebatch_put(batch, "a", 1, "1", 1);
+  tiswenor_writebatch_delete(batch, "a", 1);
+  tiswenor_writebatch_put(batch, "c", 1, "", 0);
+  tiswenor_writebatch_put(other, "b", 1, "2", 1);
+  tiswenor_writebatch_append(batch, other);
+  tiswenor_write(db, options, batch, &error);
+  DONE(error);
+  all_is(db, NULL, "b=2 c= ");
+  tiswenor_writebatch_clear(batch);
+  tiswenor_writebatch_delete(batch, "b", 1);
+  tiswenor_writebatch_delete(batch, "c", 1);
+  tiswenor_write(db, NULL, batch, &error);
+  DONE(error);
+  all_is(db, NULL, "");
+  tiswenor_writebatch_destroy(batch);
+  tiswenor_writebatch_destroy(other);
+  tiswenor_writeoptions_destroy(options);
+}
+
+static void batch_too_large(tiswenor_t *db) {
+  char *error = NULL, *value = calloc(1, 1 << 20);
+  tiswenor_writebatch_t *batch = tiswenor_writebatch_create();
+  for (char key = 'a'; key < 'f'; key++) tiswenor_writebatch_put(batch, &key, 1, value, 1 << 20);
+  tiswenor_write(db, NULL, batch, &error);
+  FAILED(error, tiswenor_too_large);
+  for (char key = 'f'; key < 'k'; key++) tiswenor_writebatch_put(batch, &key, 1, value, 1 << 20);
+  tiswenor_write(db, NULL, batch, &error);
+  FAILED(error, tiswenor_too_large);
+  all_is(db, NULL, "");
+  tiswenor_writebatch_destroy(batch);
+  tiswenor_put(db, NULL, "long", 4, value, 1 << 20, &error);
+  DONE(error);
+  size_t length;
+  char *found = tiswenor_get(db, NULL, "long", 4, &length, &error);
+  CHECK(found && length == 1 << 20 && !memcmp(found, value, length));
+  tiswenor_free(found);
+  tiswenor_delete(db, NULL, "long", 4, &error);
+  DONE(error);
+  free(value);
+}
+
+static void count_put(void *state, const char *k, size_t klen, const char *v, size_t vlen) {
+  CHECK(klen == 3 && !memcmp(k, "key", 3) && vlen == 300 && v[299] == 'x');
+  ++*(int *)state;
+}
+
+static void count_delete(void *state, const char *k, size_t klen) {
+  CHECK(klen == 1 && *k == 'd');
+  *(int *)state += 100;
+}
+
+static void batch_shows_its_writes(void) {
+  char value[300];
+  int count = 0;
+  memset(value, 'x', sizeof value);
+  tiswenor_writebatch_t *batch = tiswenor_writebatch_create();
+  for (int i = 0; i < 5; i++) tiswenor_writebatch_put(batch, "key", 3, value, sizeof value);
+  tiswenor_writebatch_delete(batch, "d", 1);
+  tiswenor_writebatch_iterate(batch, &count, count_put, count_delete);
+  CHECK(count == 105);
+  tiswenor_writebatch_destroy(batch);
+}
+
+static void reads(tiswenor_t *db) {
+  char *error = NULL;
+  put(db, "apple", "red");
+  put(db, "bean", "");
+  put(db, "cherry", "dark");
+  has(db, NULL, "apple", "red");
+  has(db, NULL, "bean", "");
+  has(db, NULL, "none", NULL);
+  has(db, NULL, "", NULL);
+  const char *keys[] = {"cherry", "none", "apple", "bean", "cherry"};
+  size_t keylens[] = {6, 4, 5, 4, 6}, lengths[5];
+  char *values[5];
+  tiswenor_get_many(db, NULL, 5, keys, keylens, values, lengths, &error);
+  DONE(error);
+  CHECK(lengths[0] == 4 && !memcmp(values[0], "dark", 4) && !values[1] && lengths[1] == 0);
+  CHECK(lengths[2] == 3 && !memcmp(values[2], "red", 3) && values[3] && lengths[3] == 0);
+  CHECK(lengths[4] == 4 && !memcmp(values[4], "dark", 4));
+  for (int i = 0; i < 5; i++) tiswenor_free(values[i]);
+  tiswenor_get_many(db, NULL, 0, NULL, NULL, NULL, NULL, &error);
+  DONE(error);
+}
+
+static void iterators(tiswenor_t *db) {
+  char text[1000];
+  tiswenor_iterator_t *iterator = tiswenor_create_iterator(db, NULL);
+  put(db, "banana", "yellow");
+  tiswenor_iter_seek(iterator, "b", 1);
+  shown(iterator, text);
+  CHECK(!strcmp(text, "bean= cherry=dark ")); /* as it was when the iterator was made */
+  tiswenor_iter_seek(iterator, "cherry", 6);
+  CHECK(tiswenor_iter_valid(iterator));
+  tiswenor_iter_seek(iterator, "cherry\0", 7);
+  CHECK(!tiswenor_iter_valid(iterator));
+  tiswenor_iter_next(iterator);
+  CHECK(!tiswenor_iter_valid(iterator));
+  tiswenor_iter_destroy(iterator);
+  tiswenor_iter_destroy(NULL);
+  all_is(db, NULL, "apple=red banana=yellow bean= cherry=dark ");
+}
+
+static void snapshots(tiswenor_t *db) {
+  char *error = NULL;
+  const tiswenor_snapshot_t *snapshot = tiswenor_create_snapshot(db, &error);
+  DONE(error);
+  tiswenor_readoptions_t *then = tiswenor_readoptions_create();
+  tiswenor_readoptions_set_snapshot(then, snapshot);
+  put(db, "apple", "green");
+  tiswenor_delete(db, NULL, "bean", 4, &error);
+  DONE(error);
+  has(db, then, "apple", "red");
+  has(db, then, "bean", "");
+  has(db, NULL, "apple", "green");
+  all_is(db, then, "apple=red banana=yellow bean= cherry=dark ");
+  all_is(db, NULL, "apple=green banana=yellow cherry=dark ");
+  tiswenor_readoptions_set_snapshot(then, NULL);
+  has(db, then, "apple", "green");
+  tiswenor_readoptions_destroy(then);
+  tiswenor_release_snapshot(db, snapshot);
+  tiswenor_release_snapshot(db, NULL);
+}
+
+/* More than a page, and an iterator that others write beside. */
+static void many(tiswenor_t *db) {
+  enum { COUNT = 20000 };
+  char *error = NULL, key[16], value[64];
+  tiswenor_writebatch_t *batch = tiswenor_writebatch_create();
+  for (int i = COUNT; i-- > 0;) {
+    int klen = sprintf(key, "many%08d", i), vlen = sprintf(value, "value of %d", i);
+    tiswenor_writebatch_put(batch, key, (size_t)klen, value, (size_t)vlen);
+  }
+  tiswenor_write(db, NULL, batch, &error);
+  DONE(error);
+  tiswenor_writebatch_destroy(batch);
+  tiswenor_iterator_t *iterator = tiswenor_create_iterator(db, NULL);
+  tiswenor_iter_seek(iterator, "many", 4);
+  for (int i = 0; i < COUNT; i++, tiswenor_iter_next(iterator)) {
+    size_t klen, vlen;
+    CHECK(tiswenor_iter_valid(iterator));
+    const char *k = tiswenor_iter_key(iterator, &klen), *v = tiswenor_iter_value(iterator, &vlen);
+    CHECK(klen == (size_t)sprintf(key, "many%08d", i) && !memcmp(k, key, klen));
+    CHECK(vlen == (size_t)sprintf(value, "value of %d", i) && !memcmp(v, value, vlen));
+    if (i % 2000 == 0) put(db, "many00000000x", "beside");
+  }
+  CHECK(!tiswenor_iter_valid(iterator));
+  tiswenor_iter_destroy(iterator);
+}
+
+static void sizes(tiswenor_t *db) {
+  char *error = NULL;
+  tiswenor_compact(db, &error);
+  DONE(error);
+  tiswenor_collect(db, &error);
+  DONE(error);
+  tiswenor_statistics_t statistics;
+  tiswenor_statistics(db, &statistics, &error);
+  DONE(error);
+  uint64_t files = 0;
+  for (int level = 0; level < tiswenor_levels; level++) files += statistics.files[level];
+  CHECK(files >= 1 && statistics.last_sequence >= 20000);
+  char *text = tiswenor_property_value(db, "leveldb.num-files-at-level0");
+  CHECK(text && strtoull(text, NULL, 10) == statistics.files[0]);
+  tiswenor_free(text);
+  text = tiswenor_property_value(db, "leveldb.stats");
+  CHECK(text && !strncmp(text, "Level", 5));
+  tiswenor_free(text);
+  CHECK(!tiswenor_property_value(db, "leveldb.num-files-at-level7"));
+  CHECK(!tiswenor_property_value(db, "leveldb.none"));
+  has(db, NULL, "apple", "green");
+  has(db, NULL, "many00019999", "value of 19999");
+}
+
+static void several(const char *folder) {
+  enum { COUNT = 4 };
+  tiswenor_t *all[COUNT];
+  char name[] = "several0";
+  for (int i = 0; i < COUNT; i++) {
+    name[7] = (char)('0' + i);
+    all[i] = opened(in(folder, name), 1 + i, i);
+    put(all[i], "name", name);
+  }
+  for (int i = 0; i < COUNT; i++) {
+    name[7] = (char)('0' + i);
+    has(all[i], NULL, "name", name);
+    tiswenor_close(all[i]);
+  }
+}
+
+int main(int argc, char **argv) {
+  CHECK(argc == 2 || argc == 3);
+  CHECK(tiswenor_error_number(NULL) == 0 && tiswenor_major_version() >= 0);
+  opening(argv[1], argc == 3 ? atoi(argv[2]) : 62);
+  tiswenor_t *db = opened(in(argv[1], "db"), 4, 1);
+  batches(db);
+  batch_too_large(db);
+  batch_shows_its_writes();
+  reads(db);
+  iterators(db);
+  snapshots(db);
+  many(db);
+  sizes(db);
+  tiswenor_close(db);
+  db = opened(in(argv[1], "db"), 2, 1);
+  has(db, NULL, "apple", "green");
+  has(db, NULL, "many00019999", "value of 19999");
+  tiswenor_close(db);
+  several(argv[1]);
+  puts("story: ok");
+}

@@ -1,0 +1,84 @@
+// Each call of tiswenor.hpp: story_cpp FOLDER, a folder that is empty.
+#include <cstdio>
+#include <cstdlib>
+#include <thread>
+
+#include "tiswenor.hpp"
+
+#define CHECK(fact)                                                           \
+  do {                                                                        \
+    if (!(fact)) {                                                            \
+      std::fprintf(stderr, "%s:%d: not so: %s\n", __FILE__, __LINE__, #fact); \
+      std::exit(1);                                                           \
+    }                                                                         \
+  } while (0)
+
+using namespace std::string_literals;
+using tiswenor::Batch, tiswenor::Database, tiswenor::Error, tiswenor::Iterator, tiswenor::Options,
+    tiswenor::Snapshot;
+
+static std::string shown(Iterator iterator, const std::string& from) {
+  std::string text;
+  for (iterator.seek(from); iterator.valid(); iterator.next())
+    text.append(iterator.key()).append("=").append(iterator.value()).append(" ");
+  return text;
+}
+
+template <class Call>
+static int error_of(Call call) {
+  try {
+    call();
+  } catch (const Error& error) {
+    return error.number();
+  }
+  return 0;
+}
+
+int main(int argc, char** argv) {
+  CHECK(argc == 2);
+  std::string folder = argv[1] + "/db"s;
+  CHECK(error_of([&] { Database none(argv[1]); }) == tiswenor_no_database);
+  Options options;
+  options.create_if_missing().channels(3).workers(2);
+  {
+    Database db(folder, options);
+    CHECK(error_of([&] { Database again(folder, options); }) == tiswenor_locked);
+    db.put("cherry", "dark");
+    db.write(Batch().put("banana", "yellow").put("apple", "red").remove("cherry").put("bean", ""));
+    CHECK(db.get("apple") == "red" && db.get("bean") == "" && !db.get("cherry"));
+    CHECK(db.get_many({"bean", "none", "apple"}) ==
+          (std::vector<std::optional<std::string>>{"", std::nullopt, "red"}));
+    CHECK(shown(db.iterator(), "") == "apple=red banana=yellow bean= ");
+    CHECK(shown(db.iterator(), "b") == "banana=yellow bean= ");
+    Snapshot then = db.snapshot();
+    db.remove("apple");
+    Batch batch;
+    batch.put("long", std::string(1 << 20, 'x'));
+    Batch other;
+    other.append(batch);
+    batch.clear();
+    db.write(batch);
+    CHECK(!db.get("long"));
+    db.write(other);
+    CHECK(db.get("long") == std::string(1 << 20, 'x'));
+    CHECK(db.get(then, "apple") == "red" && !db.get("apple"));
+    CHECK(db.get_many(then, {"apple"})[0] == "red");
+    CHECK(shown(db.iterator(then), "") == "apple=red banana=yellow bean= ");
+    Snapshot moved = std::move(then);
+    CHECK(db.get(moved, "apple") == "red");
+    std::vector<std::thread> threads;
+    for (int i = 0; i < 6; i++)
+      threads.emplace_back([&db] {
+        for (int turn = 0; turn < 200; turn++) CHECK(db.get("banana") == "yellow");
+      });
+    db.compact();
+    for (std::thread& thread : threads) thread.join();
+    db.collect();
+    CHECK(db.statistics().last_sequence == 7);
+  }
+  options.error_if_exists();
+  CHECK(error_of([&] { Database again(folder, options); }) == tiswenor_is_there);
+  Database moved = Database(folder);
+  CHECK(moved.get("banana") == "yellow");
+  std::puts("story_cpp: ok");
+}

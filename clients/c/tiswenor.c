@@ -1,0 +1,816 @@
+/* The calls of tiswenor.h: requests and answers in the bytes of docs/PROTOCOL.md, and channels that
+   threads take in turn. */
+#define _GNU_SOURCE
+#include "tiswenor.h"
+
+#include <errno.h>
+#include <pthread.h>
+#include <stdio.h>
+#include <stdlib.h>
+#include <string.h>
+#include <sys/stat.h>
+
+#include "transport.h"
+
+enum { WRITE = 1, READ, SCAN, SNAPSHOT, RELEASE, COMPACT, COLLECT, STATISTICS };
+enum { NOW = 0, AT_SNAPSHOT = 1 };
+enum { DELETE = 0, PUT = 1 };
+enum { CREATE_IF_MISSING = 1, ERROR_IF_EXISTS = 2 };
+
+/* The length of a frame that has its length and its kind alone. */
+enum { EMPTY = 5 };
+
+/* No path of a file is longer on Linux. */
+enum { LONGEST_PATH = 4095 };
+
+/* How many pairs an iterator asks for first; after them it asks for whole pages. */
+enum { FIRST_PAGE = 16 };
+
+/* Errors */
+
+/* What *errptr is where there is no memory for a text. tiswenor_free leaves it. */
+static char no_memory[] = "1 OutOfMemory";
+
+static void set_error(char **errptr, int number, const char *name, const char *detail) {
+  tiswenor_free(*errptr);
+  const char *colon = *detail ? ": " : "";
+  if (asprintf(errptr, "%d %s%s%s", number, name, colon, detail) < 0) *errptr = no_memory;
+}
+
+int tiswenor_error_number(const char *error) { return error ? atoi(error) : 0; }
+
+void tiswenor_free(void *ptr) {
+  if (ptr != no_memory) free(ptr);
+}
+
+/* Requests: a frame that grows. `failed` is set where memory was refused, or it is too long. */
+
+struct request {
+  unsigned char *bytes;
+  size_t length, room;
+  int failed; /* an error's number */
+  unsigned char own[256];
+};
+
+static void request_begin(struct request *request, unsigned char kind) {
+  request->bytes = request->own;
+  request->room = sizeof request->own;
+  request->length = EMPTY;
+  request->failed = 0;
+  request->bytes[4] = kind;
+}
+
+static void request_end(struct request *request) {
+  if (request->bytes != request->own) free(request->bytes);
+}
+
+/* Room for `more` bytes behind those that are there; NULL where it is refused. */
+static unsigned char *request_grow(struct request *request, size_t more) {
+  if (request->failed) return NULL;
+  if (more > LONGEST_REQUEST || request->length + more > 4 + LONGEST_REQUEST) {
+    request->failed = tiswenor_too_large;
+    return NULL;
+  }
+  if (more > request->room - request->length) {
+    size_t room = 2 * (request->length + more);
+    int is_own = request->bytes == request->own;
+    unsigned char *bytes = realloc(is_own ? NULL : request->bytes, room);
+    if (!bytes) {
+      request->failed = tiswenor_out_of_memory;
+      return NULL;
+    }
+    if (is_own) memcpy(bytes, request->own, request->length);
+    request->bytes = bytes;
+    request->room = room;
+  }
+  unsigned char *at = request->bytes + request->length;
+  request->length += more;
+  return at;
+}
+
+static void store(unsigned char *to, uint64_t number, int bytes) {
+  for (int i = 0; i < bytes; i++) to[i] = (unsigned char)(number >> 8 * i);
+}
+
+static uint64_t load(const unsigned char *from, int bytes) {
+  uint64_t number = 0;
+  for (int i = 0; i < bytes; i++) number |= (uint64_t)from[i] << 8 * i;
+  return number;
+}
+
+static void add_number(struct request *request, uint64_t number, int bytes) {
+  unsigned char *at = request_grow(request, (size_t)bytes);
+  if (at) store(at, number, bytes);
+}
+
+/* A text, which `more` bytes follow. */
+static void add_text(struct request *request, const char *text, size_t length, const char *more,
+                     size_t more_length) {
+  if (length > LONGEST_REQUEST) request->failed = tiswenor_too_large;
+  unsigned char *at = request_grow(request, 4 + length + more_length);
+  if (!at) return;
+  store(at, length + more_length, 4);
+  if (length) memcpy(at + 4, text, length);
+  if (more_length) memcpy(at + 4 + length, more, more_length);
+}
+
+/* Databases: channels that threads take in turn. Who came first is served first. */
+
+struct waiter {
+  struct waiter *next;
+  pthread_cond_t woken;
+  int channel; /* that it is given; -1 before, and where no channel lives any more */
+};
+
+struct tiswenor_t {
+  struct transport *transport;
+  pthread_mutex_t lock; /* of what follows */
+  struct waiter *first, **last;
+  unsigned living;
+  unsigned free_count;
+  unsigned char free[MOST_CHANNELS];
+};
+
+struct tiswenor_snapshot_t {
+  uint64_t number;
+};
+
+struct tiswenor_options_t {
+  unsigned char flags;
+  int workers, channels;
+  const char *server;
+};
+
+struct tiswenor_readoptions_t {
+  const tiswenor_snapshot_t *snapshot;
+};
+
+struct tiswenor_writeoptions_t {
+  uint8_t sync;
+};
+
+/* A free channel, or -1 where none lives any more. */
+static int take(tiswenor_t *db) {
+  int channel = -1;
+  pthread_mutex_lock(&db->lock);
+  if (db->free_count) {
+    channel = db->free[--db->free_count];
+  } else if (db->living) {
+    struct waiter me = {NULL, PTHREAD_COND_INITIALIZER, -1};
+    *db->last = &me;
+    db->last = &me.next;
+    while (me.channel < 0 && db->living) pthread_cond_wait(&me.woken, &db->lock);
+    channel = me.channel;
+    pthread_cond_destroy(&me.woken);
+  }
+  pthread_mutex_unlock(&db->lock);
+  return channel;
+}
+
+static void give(tiswenor_t *db, int channel, int is_ended) {
+  pthread_mutex_lock(&db->lock);
+  struct waiter *waiter = db->first;
+  if (is_ended) {
+    db->living--;
+    if (!db->living) /* none of these will get one */
+      for (; waiter; waiter = waiter->next) pthread_cond_signal(&waiter->woken);
+  } else if (waiter) {
+    db->first = waiter->next;
+    if (!db->first) db->last = &db->first;
+    waiter->channel = channel;
+    pthread_cond_signal(&waiter->woken);
+  } else {
+    db->free[db->free_count++] = (unsigned char)channel;
+  }
+  pthread_mutex_unlock(&db->lock);
+}
+
+/* Answers: what follows the status, and the memory of all. */
+struct answer {
+  unsigned char *memory;
+  const unsigned char *at, *end;
+};
+
+static void set_ended(tiswenor_t *db, char **errptr) {
+  char text[80];
+  tiswenor_transport_tell_end(db->transport, text, sizeof text);
+  set_error(errptr, tiswenor_ended, "Ended", text);
+}
+
+static void set_refused(const unsigned char *answer, size_t length, char **errptr) {
+  char name[64];
+  size_t letters = length - 1 < sizeof name ? length - 1 : sizeof name - 1;
+  memcpy(name, answer + 1, letters);
+  name[letters] = 0;
+  if (!letters) strcpy(name, answer[0] == tiswenor_malformed ? "Malformed" : "Refused");
+  set_error(errptr, answer[0], name, "");
+}
+
+static void set_fault(tiswenor_t *db, int fault, char **errptr) {
+  if (fault == tiswenor_ended)
+    set_ended(db, errptr);
+  else if (fault == tiswenor_bad_answer)
+    set_error(errptr, fault, "BadAnswer", "");
+  else if (fault == tiswenor_too_large)
+    set_error(errptr, fault, "TooLarge", "a request above 8 MiB");
+  else
+    set_error(errptr, fault, "OutOfMemory", "");
+}
+
+/* Judges what a channel gave. Whether the call is done; if not, the answer has no memory. */
+static int is_done(tiswenor_t *db, int fault, unsigned char *bytes, size_t length,
+                   struct answer *answer, char **errptr) {
+  answer->memory = NULL;
+  if (fault) {
+    set_fault(db, fault, errptr);
+    return 0;
+  }
+  if (bytes[0]) {
+    set_refused(bytes, length, errptr);
+    free(bytes);
+    return 0;
+  }
+  answer->memory = bytes;
+  answer->at = bytes + 1;
+  answer->end = bytes + length;
+  return 1;
+}
+
+/* Sends a request, and waits for its answer. Whether it is done. */
+static int ask(tiswenor_t *db, struct request *request, struct answer *answer, char **errptr) {
+  unsigned char *bytes = NULL;
+  size_t length = 0;
+  int fault = request->failed;
+  answer->memory = NULL;
+  if (tiswenor_transport_is_forked(db->transport)) {
+    set_error(errptr, tiswenor_closed, "Closed", "in a forked process");
+    return 0;
+  }
+  if (!fault) {
+    store(request->bytes, request->length - 4, 4);
+    int channel = take(db);
+    if (channel < 0) {
+      set_ended(db, errptr);
+      return 0;
+    }
+    fault = tiswenor_transport_exchange(db->transport, (unsigned)channel, request->bytes,
+                                        request->length, &bytes, &length);
+    give(db, channel, fault || bytes[0] == tiswenor_malformed);
+  }
+  return is_done(db, fault, bytes, length, answer, errptr);
+}
+
+/* The same, and ends the request. */
+static int ask_once(tiswenor_t *db, struct request *request, struct answer *answer, char **errptr) {
+  int done = ask(db, request, answer, errptr);
+  request_end(request);
+  return done;
+}
+
+/* An answer in none of the protocol's forms: frees it. */
+static void set_bad_answer(struct answer *answer, char **errptr) {
+  free(answer->memory);
+  answer->memory = NULL;
+  set_error(errptr, tiswenor_bad_answer, "BadAnswer", "");
+}
+
+/* The text at the answer's front, behind which it goes on; NULL where there is none. */
+static const unsigned char *next_text(struct answer *answer, size_t *length) {
+  if (answer->end - answer->at < 4) return NULL;
+  size_t count = load(answer->at, 4);
+  const unsigned char *text = answer->at + 4;
+  if ((size_t)(answer->end - text) < count) return NULL;
+  answer->at = text + count;
+  *length = count;
+  return text;
+}
+
+/* A request without parts, whose answer is `count` numbers. */
+static int ask_numbers(tiswenor_t *db, unsigned char kind, uint64_t *numbers, int count,
+                       char **errptr) {
+  struct request request;
+  struct answer answer;
+  request_begin(&request, kind);
+  if (!ask_once(db, &request, &answer, errptr)) return 0;
+  if (answer.end - answer.at != 8 * count) {
+    set_bad_answer(&answer, errptr);
+    return 0;
+  }
+  for (int i = 0; i < count; i++) numbers[i] = load(answer.at + 8 * i, 8);
+  free(answer.memory);
+  return 1;
+}
+
+/* Opening and closing */
+
+static tiswenor_t *new_database(struct transport *transport, unsigned channels) {
+  tiswenor_t *db = calloc(1, sizeof *db);
+  if (!db) return NULL;
+  db->transport = transport;
+  db->last = &db->first;
+  db->living = db->free_count = channels;
+  for (unsigned i = 0; i < channels; i++) db->free[i] = (unsigned char)i;
+  pthread_mutex_init(&db->lock, NULL);
+  return db;
+}
+
+/* The opening request, whose first channel the transport sets. */
+static void opening_request(struct request *request, const tiswenor_options_t *options,
+                            const char *name) {
+  request_begin(request, 0);
+  request->length = 4;
+  add_number(request, 0, 4);
+  add_number(request, (uint64_t)options->channels, 4);
+  add_number(request, (uint64_t)options->workers, 4);
+  add_number(request, options->flags, 1);
+  add_text(request, name, strlen(name), NULL, 0);
+  if (!request->failed) store(request->bytes, request->length - 4, 4);
+}
+
+static const tiswenor_options_t usual_options = {0, 1, 4, NULL};
+
+tiswenor_t *tiswenor_open(const tiswenor_options_t *options, const char *name, char **errptr) {
+  if (!options) options = &usual_options;
+  if (options->channels < 1 || options->channels > MOST_CHANNELS || options->workers < 0 ||
+      options->workers > 16) {
+    set_error(errptr, tiswenor_bad_opening, "BadOpening", "channels or workers");
+    return NULL;
+  }
+  if (strlen(name) > LONGEST_PATH) {
+    set_error(errptr, tiswenor_bad_opening, "BadOpening", "a path that is too long");
+    return NULL;
+  }
+  if (options->flags & CREATE_IF_MISSING)
+    (void)!mkdir(name, 0777); /* it is there, or else the server refuses */
+  struct request request;
+  opening_request(&request, options, name);
+  int fault = request.failed;
+  struct transport *transport = NULL;
+  if (!fault)
+    transport = tiswenor_transport_open(options->server, (unsigned)options->channels, request.bytes,
+                                        request.length, &fault);
+  const char *detail = transport ? "" : strerror(errno);
+  request_end(&request);
+  if (!transport) {
+    const char *is = fault == tiswenor_no_server ? "NoServer" : "OutOfMemory";
+    set_error(errptr, fault, is, detail);
+    return NULL;
+  }
+  tiswenor_t *db = new_database(transport, (unsigned)options->channels);
+  if (!db) {
+    tiswenor_transport_close(transport);
+    set_error(errptr, tiswenor_out_of_memory, "OutOfMemory", "");
+    return NULL;
+  }
+  unsigned char *bytes = NULL;
+  size_t length = 0;
+  struct answer answer;
+  fault = tiswenor_transport_exchange(transport, 0, NULL, 0, &bytes, &length);
+  if (!is_done(db, fault, bytes, length, &answer, errptr)) {
+    tiswenor_close(db);
+    return NULL;
+  }
+  free(answer.memory);
+  return db;
+}
+
+void tiswenor_close(tiswenor_t *db) {
+  if (!db) return;
+  if (!tiswenor_transport_is_forked(db->transport)) pthread_mutex_destroy(&db->lock);
+  tiswenor_transport_close(db->transport);
+  free(db);
+}
+
+/* Writes */
+
+struct tiswenor_writebatch_t {
+  struct request request; /* a write request, whose length is set as it is sent */
+};
+
+static void add_put(struct request *request, const char *key, size_t keylen, const char *val,
+                    size_t vallen) {
+  size_t before = request->length;
+  add_number(request, PUT, 1);
+  add_text(request, key, keylen, NULL, 0);
+  add_text(request, val, vallen, NULL, 0);
+  if (request->failed) request->length = before;
+}
+
+static void add_delete(struct request *request, const char *key, size_t keylen) {
+  size_t before = request->length;
+  add_number(request, DELETE, 1);
+  add_text(request, key, keylen, NULL, 0);
+  if (request->failed) request->length = before;
+}
+
+static void write_once(tiswenor_t *db, struct request *request, char **errptr) {
+  struct answer answer;
+  if (ask_once(db, request, &answer, errptr)) free(answer.memory);
+}
+
+void tiswenor_put(tiswenor_t *db, const tiswenor_writeoptions_t *options, const char *key,
+                  size_t keylen, const char *val, size_t vallen, char **errptr) {
+  (void)options;
+  struct request request;
+  request_begin(&request, WRITE);
+  add_put(&request, key, keylen, val, vallen);
+  write_once(db, &request, errptr);
+}
+
+void tiswenor_delete(tiswenor_t *db, const tiswenor_writeoptions_t *options, const char *key,
+                     size_t keylen, char **errptr) {
+  (void)options;
+  struct request request;
+  request_begin(&request, WRITE);
+  add_delete(&request, key, keylen);
+  write_once(db, &request, errptr);
+}
+
+void tiswenor_write(tiswenor_t *db, const tiswenor_writeoptions_t *options,
+                    tiswenor_writebatch_t *batch, char **errptr) {
+  (void)options;
+  struct answer answer;
+  if (batch->request.length == EMPTY && !batch->request.failed) return;
+  if (ask(db, &batch->request, &answer, errptr)) free(answer.memory);
+}
+
+tiswenor_writebatch_t *tiswenor_writebatch_create(void) {
+  tiswenor_writebatch_t *batch = malloc(sizeof *batch);
+  if (batch) request_begin(&batch->request, WRITE);
+  return batch;
+}
+
+void tiswenor_writebatch_destroy(tiswenor_writebatch_t *batch) {
+  if (batch) request_end(&batch->request);
+  free(batch);
+}
+
+void tiswenor_writebatch_clear(tiswenor_writebatch_t *batch) {
+  batch->request.length = EMPTY;
+  batch->request.failed = 0;
+}
+
+void tiswenor_writebatch_put(tiswenor_writebatch_t *batch, const char *key, size_t klen,
+                             const char *val, size_t vlen) {
+  add_put(&batch->request, key, klen, val, vlen);
+}
+
+void tiswenor_writebatch_delete(tiswenor_writebatch_t *batch, const char *key, size_t klen) {
+  add_delete(&batch->request, key, klen);
+}
+
+void tiswenor_writebatch_append(tiswenor_writebatch_t *destination,
+                                const tiswenor_writebatch_t *source) {
+  size_t length = source->request.length - EMPTY;
+  unsigned char *at = request_grow(&destination->request, length);
+  if (at) memcpy(at, source->request.bytes + EMPTY, length);
+  if (source->request.failed) destination->request.failed = source->request.failed;
+}
+
+void tiswenor_writebatch_iterate(const tiswenor_writebatch_t *batch, void *state,
+                                 void (*put)(void *, const char *k, size_t klen, const char *v,
+                                             size_t vlen),
+                                 void (*deleted)(void *, const char *k, size_t klen)) {
+  const struct request *request = &batch->request;
+  struct answer writes = {NULL, request->bytes + EMPTY, request->bytes + request->length};
+  while (writes.at < writes.end) {
+    size_t klen = 0, vlen = 0;
+    int is_put = *writes.at++ == PUT;
+    const char *key = (const char *)next_text(&writes, &klen);
+    if (is_put) {
+      const char *value = (const char *)next_text(&writes, &vlen);
+      put(state, key, klen, value, vlen);
+    } else {
+      deleted(state, key, klen);
+    }
+  }
+}
+
+/* Reads */
+
+static void add_when(struct request *request, const tiswenor_readoptions_t *options) {
+  const tiswenor_snapshot_t *snapshot = options ? options->snapshot : NULL;
+  add_number(request, snapshot ? AT_SNAPSHOT : NOW, 1);
+  if (snapshot) add_number(request, snapshot->number, 8);
+}
+
+char *tiswenor_get(tiswenor_t *db, const tiswenor_readoptions_t *options, const char *key,
+                   size_t keylen, size_t *vallen, char **errptr) {
+  struct request request;
+  struct answer answer;
+  *vallen = 0;
+  request_begin(&request, READ);
+  add_when(&request, options);
+  add_text(&request, key, keylen, NULL, 0);
+  if (!ask_once(db, &request, &answer, errptr)) return NULL;
+  if (answer.end - answer.at == 1 && *answer.at == 0) {
+    free(answer.memory);
+    return NULL;
+  }
+  size_t length;
+  const unsigned char *value = NULL;
+  if (answer.end - answer.at > 1 && *answer.at++ == 1) value = next_text(&answer, &length);
+  if (!value || answer.at != answer.end) {
+    set_bad_answer(&answer, errptr);
+    return NULL;
+  }
+  memmove(answer.memory, value, length); /* the answer's memory is the caller's from here on */
+  *vallen = length;
+  return (char *)answer.memory;
+}
+
+static void free_values(size_t count, char **values, size_t *vallens) {
+  for (size_t i = 0; i < count; i++) {
+    free(values[i]);
+    values[i] = NULL;
+    vallens[i] = 0;
+  }
+}
+
+/* Copies the values of an answer. An error's number, or 0. */
+static int take_values(struct answer *answer, size_t count, char **values, size_t *vallens) {
+  for (size_t i = 0; i < count; i++) {
+    if (answer->at == answer->end || *answer->at > 1) return tiswenor_bad_answer;
+    if (*answer->at++ == 0) continue;
+    size_t length;
+    const unsigned char *value = next_text(answer, &length);
+    if (!value) return tiswenor_bad_answer;
+    values[i] = malloc(length + 1);
+    if (!values[i]) return tiswenor_out_of_memory;
+    memcpy(values[i], value, length);
+    vallens[i] = length;
+  }
+  return answer->at == answer->end ? 0 : tiswenor_bad_answer;
+}
+
+void tiswenor_get_many(tiswenor_t *db, const tiswenor_readoptions_t *options, size_t count,
+                       const char *const *keys, const size_t *keylens, char **values,
+                       size_t *vallens, char **errptr) {
+  struct request request;
+  struct answer answer;
+  for (size_t i = 0; i < count; i++) values[i] = NULL, vallens[i] = 0;
+  if (!count) return;
+  request_begin(&request, READ);
+  add_when(&request, options);
+  for (size_t i = 0; i < count; i++) add_text(&request, keys[i], keylens[i], NULL, 0);
+  if (!ask_once(db, &request, &answer, errptr)) return;
+  int fault = take_values(&answer, count, values, vallens);
+  if (fault) {
+    free_values(count, values, vallens);
+    set_fault(db, fault, errptr);
+  }
+  free(answer.memory);
+}
+
+/* Snapshots */
+
+const tiswenor_snapshot_t *tiswenor_create_snapshot(tiswenor_t *db, char **errptr) {
+  tiswenor_snapshot_t *snapshot = malloc(sizeof *snapshot);
+  if (!snapshot) {
+    set_fault(db, tiswenor_out_of_memory, errptr);
+    return NULL;
+  }
+  uint64_t numbers[2]; /* its own, and its sequence */
+  if (!ask_numbers(db, SNAPSHOT, numbers, 2, errptr)) {
+    free(snapshot);
+    return NULL;
+  }
+  snapshot->number = numbers[0];
+  return snapshot;
+}
+
+void tiswenor_release_snapshot(tiswenor_t *db, const tiswenor_snapshot_t *snapshot) {
+  if (!snapshot) return;
+  struct request request;
+  struct answer answer;
+  char *error = NULL; /* there is nothing to do about it */
+  request_begin(&request, RELEASE);
+  add_number(&request, snapshot->number, 8);
+  if (ask_once(db, &request, &answer, &error)) free(answer.memory);
+  tiswenor_free(error);
+  free((void *)snapshot);
+}
+
+/* Iterators */
+
+struct tiswenor_iterator_t {
+  tiswenor_t *db;
+  tiswenor_readoptions_t options;
+  const tiswenor_snapshot_t *own; /* that it releases */
+  struct answer page;
+  const unsigned char *key, *value; /* in the page; NULL where it is not valid */
+  size_t klen, vlen;
+  int is_last; /* no page follows this one */
+  uint32_t limit;
+  char *error;
+};
+
+tiswenor_iterator_t *tiswenor_create_iterator(tiswenor_t *db,
+                                              const tiswenor_readoptions_t *options) {
+  tiswenor_iterator_t *iterator = calloc(1, sizeof *iterator);
+  if (!iterator) return NULL;
+  iterator->db = db;
+  if (options && options->snapshot)
+    iterator->options.snapshot = options->snapshot;
+  else
+    iterator->options.snapshot = iterator->own = tiswenor_create_snapshot(db, &iterator->error);
+  return iterator;
+}
+
+static void leave_page(tiswenor_iterator_t *iterator) {
+  free(iterator->page.memory);
+  iterator->page = (struct answer){NULL, NULL, NULL};
+  iterator->key = NULL;
+}
+
+void tiswenor_iter_destroy(tiswenor_iterator_t *iterator) {
+  if (!iterator) return;
+  leave_page(iterator);
+  if (iterator->own) tiswenor_release_snapshot(iterator->db, iterator->own);
+  tiswenor_free(iterator->error);
+  free(iterator);
+}
+
+/* Goes to the next pair of the page. Whether there is one. */
+static int turn(tiswenor_iterator_t *iterator) {
+  struct answer *page = &iterator->page;
+  iterator->key = NULL;
+  if (page->at == page->end) return 0;
+  const unsigned char *key = next_text(page, &iterator->klen);
+  iterator->value = key ? next_text(page, &iterator->vlen) : NULL;
+  if (!iterator->value) {
+    set_bad_answer(page, &iterator->error);
+    leave_page(iterator);
+    return 0;
+  }
+  iterator->key = key;
+  return 1;
+}
+
+/* Asks for the page from the first key on that is not below `from` and `more`, and goes to its
+   first pair. `from` may lie in the page that is left. */
+static void ask_page(tiswenor_iterator_t *iterator, const char *from, size_t length,
+                     const char *more, size_t more_length) {
+  struct request request;
+  request_begin(&request, SCAN);
+  add_when(&request, &iterator->options);
+  add_text(&request, from, length, more, more_length);
+  add_number(&request, 0, 1);
+  add_number(&request, iterator->limit, 4);
+  iterator->limit = 0;
+  leave_page(iterator);
+  struct answer *page = &iterator->page;
+  if (!ask_once(iterator->db, &request, page, &iterator->error)) return;
+  if (page->at == page->end || *page->at > 1 || (*page->at == 0 && page->end - page->at == 1)) {
+    set_bad_answer(page, &iterator->error);
+    return leave_page(iterator);
+  }
+  iterator->is_last = *page->at++;
+  turn(iterator);
+}
+
+void tiswenor_iter_seek(tiswenor_iterator_t *iterator, const char *k, size_t klen) {
+  if (!iterator->options.snapshot) return; /* it was refused: the error stays */
+  tiswenor_free(iterator->error);
+  iterator->error = NULL;
+  iterator->limit = FIRST_PAGE;
+  ask_page(iterator, k, klen, NULL, 0);
+}
+
+void tiswenor_iter_seek_to_first(tiswenor_iterator_t *iterator) {
+  tiswenor_iter_seek(iterator, "", 0);
+}
+
+void tiswenor_iter_next(tiswenor_iterator_t *iterator) {
+  const char *last = (const char *)iterator->key;
+  size_t length = iterator->klen;
+  if (!last || turn(iterator) || iterator->error || iterator->is_last) return;
+  ask_page(iterator, last, length, "", 1); /* with the zero byte of the text */
+}
+
+uint8_t tiswenor_iter_valid(const tiswenor_iterator_t *iterator) { return iterator->key != NULL; }
+
+const char *tiswenor_iter_key(const tiswenor_iterator_t *iterator, size_t *klen) {
+  *klen = iterator->klen;
+  return (const char *)iterator->key;
+}
+
+const char *tiswenor_iter_value(const tiswenor_iterator_t *iterator, size_t *vlen) {
+  *vlen = iterator->vlen;
+  return (const char *)iterator->value;
+}
+
+void tiswenor_iter_get_error(const tiswenor_iterator_t *iterator, char **errptr) {
+  if (!iterator->error) return;
+  tiswenor_free(*errptr);
+  *errptr = iterator->error == no_memory ? NULL : strdup(iterator->error);
+  if (!*errptr) *errptr = no_memory;
+}
+
+/* Compaction and sizes */
+
+void tiswenor_compact(tiswenor_t *db, char **errptr) { ask_numbers(db, COMPACT, NULL, 0, errptr); }
+
+uint64_t tiswenor_collect(tiswenor_t *db, char **errptr) {
+  uint64_t removed = 0;
+  ask_numbers(db, COLLECT, &removed, 1, errptr);
+  return removed;
+}
+
+void tiswenor_statistics(tiswenor_t *db, tiswenor_statistics_t *statistics, char **errptr) {
+  uint64_t numbers[1 + 2 * tiswenor_levels];
+  memset(statistics, 0, sizeof *statistics);
+  if (!ask_numbers(db, STATISTICS, numbers, 1 + 2 * tiswenor_levels, errptr)) return;
+  statistics->last_sequence = numbers[0];
+  for (int level = 0; level < tiswenor_levels; level++) {
+    statistics->files[level] = numbers[1 + 2 * level];
+    statistics->bytes[level] = numbers[2 + 2 * level];
+  }
+}
+
+static char *stats_text(const tiswenor_statistics_t *statistics) {
+  enum { LINE = 64 };
+  char *text = malloc((tiswenor_levels + 1) * LINE);
+  if (!text) return NULL;
+  char *at = text + sprintf(text, "Level    Files        Bytes\n");
+  for (int level = 0; level < tiswenor_levels; level++)
+    at += snprintf(at, LINE, "%5d %8llu %12llu\n", level,
+                   (unsigned long long)statistics->files[level],
+                   (unsigned long long)statistics->bytes[level]);
+  return text;
+}
+
+char *tiswenor_property_value(tiswenor_t *db, const char *propname) {
+  static const char files_at[] = "leveldb.num-files-at-level";
+  tiswenor_statistics_t statistics;
+  char *error = NULL, *text = NULL;
+  tiswenor_statistics(db, &statistics, &error);
+  if (error) {
+    tiswenor_free(error);
+    return NULL;
+  }
+  if (!strcmp(propname, "leveldb.stats")) return stats_text(&statistics);
+  if (strncmp(propname, files_at, sizeof files_at - 1)) return NULL;
+  const char *level = propname + sizeof files_at - 1;
+  if (level[0] < '0' || level[0] > '6' || level[1]) return NULL;
+  int made = asprintf(&text, "%llu", (unsigned long long)statistics.files[level[0] - '0']);
+  return made < 0 ? NULL : text;
+}
+
+/* Options */
+
+tiswenor_options_t *tiswenor_options_create(void) {
+  tiswenor_options_t *options = malloc(sizeof *options);
+  if (options) *options = usual_options;
+  return options;
+}
+
+void tiswenor_options_destroy(tiswenor_options_t *options) { free(options); }
+
+static void set_flag(tiswenor_options_t *options, int flag, uint8_t to) {
+  options->flags = (unsigned char)(to ? options->flags | flag : options->flags & ~flag);
+}
+
+void tiswenor_options_set_create_if_missing(tiswenor_options_t *options, uint8_t to) {
+  set_flag(options, CREATE_IF_MISSING, to);
+}
+
+void tiswenor_options_set_error_if_exists(tiswenor_options_t *options, uint8_t to) {
+  set_flag(options, ERROR_IF_EXISTS, to);
+}
+
+void tiswenor_options_set_workers(tiswenor_options_t *options, int workers) {
+  options->workers = workers;
+}
+
+void tiswenor_options_set_channels(tiswenor_options_t *options, int channels) {
+  options->channels = channels;
+}
+
+void tiswenor_options_set_server(tiswenor_options_t *options, const char *program) {
+  options->server = program;
+}
+
+tiswenor_readoptions_t *tiswenor_readoptions_create(void) {
+  return calloc(1, sizeof(tiswenor_readoptions_t));
+}
+
+void tiswenor_readoptions_destroy(tiswenor_readoptions_t *options) { free(options); }
+
+void tiswenor_readoptions_set_snapshot(tiswenor_readoptions_t *options,
+                                       const tiswenor_snapshot_t *snapshot) {
+  options->snapshot = snapshot;
+}
+
+tiswenor_writeoptions_t *tiswenor_writeoptions_create(void) {
+  return calloc(1, sizeof(tiswenor_writeoptions_t));
+}
+
+void tiswenor_writeoptions_destroy(tiswenor_writeoptions_t *options) { free(options); }
+
+void tiswenor_writeoptions_set_sync(tiswenor_writeoptions_t *options, uint8_t to) {
+  options->sync = to;
+}
+
+int tiswenor_major_version(void) { return 0; }
+int tiswenor_minor_version(void) { return 1; }

@@ -1,0 +1,38 @@
+/* What carries frames between the library and a server: child.c, where the server is a process of
+   its own, or inside.c, where it runs in this one. Private to the library. */
+#ifndef TISWENOR_TRANSPORT_H
+#define TISWENOR_TRANSPORT_H
+
+#include <stddef.h>
+
+enum { MOST_CHANNELS = 62, LONGEST_REQUEST = 8388608, LONGEST_ANSWER = 16777216 };
+
+struct transport;
+
+#pragma GCC visibility push(hidden) /* a shared library does not show them */
+
+/* Starts a server with that many channels, and hands it its opening request, but for the number of
+   the first channel: `opening` is the frame of docs/PROTOCOL.md, whose bytes 4 to 7 are set here.
+   NULL for an error, whose number is *fault. */
+struct transport *tiswenor_transport_open(const char *server, unsigned channels,
+                                          unsigned char *opening, size_t length, int *fault);
+
+/* Sends a frame on a channel, if there is one, and waits for the frame that comes back. One call on
+   a channel at a time. Gives 0, and the answer without its length, in memory of malloc. Or gives
+   tiswenor_out_of_memory, tiswenor_bad_answer, or tiswenor_ended; then the channel is ended. */
+int tiswenor_transport_exchange(struct transport *transport, unsigned channel,
+                                const unsigned char *frame, size_t length, unsigned char **answer,
+                                size_t *answer_length);
+
+/* Whether this process was forked from the one that opened it. */
+int tiswenor_transport_is_forked(const struct transport *transport);
+
+/* How the server ended, for people. Waits up to a second for its end. */
+void tiswenor_transport_tell_end(struct transport *transport, char *text, size_t room);
+
+/* Ends all channels, and waits for the server's end. */
+void tiswenor_transport_close(struct transport *transport);
+
+#pragma GCC visibility pop
+
+#endif

@@ -1,0 +1,27 @@
+"""A database of sorted keys in LevelDB's files, kept by a server of its own process.
+
+    import tiswenor
+
+    with tiswenor.DB("/tmp/fruit", create_if_missing=True) as db:
+        db.put(b"apple", b"red")
+        print(db.get(b"apple"))
+
+Keys and values are bytes. Every write is on the disk when its call returns. A database may be used
+by any number of threads. A call that fails raises `Error`, which has a number and a name.
+"""
+
+from .database import DB, Iterator, Level, Snapshot, Statistics, WriteBatch
+from .errors import Ended, Error, Refused
+
+__all__ = [
+    "DB",
+    "Ended",
+    "Error",
+    "Iterator",
+    "Level",
+    "Refused",
+    "Snapshot",
+    "Statistics",
+    "WriteBatch",
+]
+__version__ = "0.1.0"

@@ -1,0 +1,466 @@
+"""The database as a caller sees it: reads, writes, iterators and snapshots."""
+
+from __future__ import annotations
+
+import os
+import weakref
+from collections import deque
+from dataclasses import dataclass
+from types import TracebackType
+from typing import Any, Deque, Iterable, List, NoReturn, Optional, Tuple, Type, Union
+
+from . import frames
+from .errors import CLOSED, Error
+from .server import Server, find
+
+PathLike = Union[str, bytes, "os.PathLike[str]", "os.PathLike[bytes]"]
+Bytes = Union[bytes, bytearray, memoryview]
+
+# How many pairs an iterator asks for first; after them it asks for whole pages.
+_FIRST_PAGE = 16
+
+_CREATE_IF_MISSING = 1
+_ERROR_IF_EXISTS = 2
+
+
+@dataclass(frozen=True)
+class Level:
+    """One of the levels 0 to 6: how many tables it has, and their bytes together."""
+
+    files: int
+    bytes: int
+
+
+@dataclass(frozen=True)
+class Statistics:
+    """The last sequence (the number of the newest write), and the seven levels."""
+
+    last_sequence: int
+    levels: Tuple[Level, ...]
+
+
+class _Reads:
+    """What a database and a snapshot of it have in common."""
+
+    def _ask(self, request: bytes) -> bytes:
+        raise NotImplementedError
+
+    def _when(self) -> bytes:
+        raise NotImplementedError
+
+    def get(self, key: Bytes, default: Optional[bytes] = None) -> Optional[bytes]:
+        """The value of a key, or `default` where it has none."""
+        value = self.get_many((key,))[0]
+        return default if value is None else value
+
+    def get_many(
+        self, keys: Iterable[Bytes], default: Optional[bytes] = None
+    ) -> List[Optional[bytes]]:
+        """The values of several keys, in their order, all of one state of the database.
+
+        This is one request: the keys have at most 8 MiB together, the values 16 MiB.
+        """
+        asked = [_bytes(key) for key in keys]
+        if not asked:
+            return []
+        found = frames.values(self._ask(frames.read(self._when(), asked)), len(asked))
+        return [default if value is None else value for value in found]
+
+
+class DB(_Reads):
+    """An open database. Any thread may call it; a call waits while all channels are taken.
+
+    path               the folder, with LevelDB's files
+    create_if_missing  make a database, and its folder, where there is none
+    error_if_exists    refuse where there is one
+    workers            how many threads of the server compact, 0 to 16
+    channels           how many calls are served at the same time, 1 to 62; each has a cache of its
+                       own in the server
+    server             the path of `lsm_server`; else the environment variable TISWENOR_SERVER
+                       names it, or it stands in this package's folder, or on PATH
+
+    Close it by `close()` or a `with` block. What was answered is on the disk, whether the database
+    is closed or the process is killed.
+    """
+
+    def __init__(
+        self,
+        path: PathLike,
+        create_if_missing: bool = False,
+        error_if_exists: bool = False,
+        *,
+        workers: int = 1,
+        channels: int = 4,
+        server: Union[str, "os.PathLike[str]", None] = None,
+    ) -> None:
+        program = find(server)
+        flags = create_if_missing * _CREATE_IF_MISSING | error_if_exists * _ERROR_IF_EXISTS
+        if create_if_missing:
+            _make_folder(path)
+        self._name = path
+        # Numbers of snapshots that nobody refers to any more. They are released at the next call,
+        # since a finalizer may run where this thread has a channel or a lock.
+        self._abandoned: Deque[int] = deque()
+        self._server = Server(program, os.fsencode(path), channels, workers, flags)
+        self._end = weakref.finalize(self, self._server.close)
+
+    @property
+    def name(self) -> PathLike:
+        """The path that the database was opened by."""
+        return self._name
+
+    @property
+    def closed(self) -> bool:
+        return self._server.is_closed
+
+    def close(self) -> None:
+        """Waits for the calls under way and for the server's end. A second call does nothing."""
+        self._server.close()
+        self._end.detach()
+
+    def put(self, key: Bytes, value: Bytes, sync: bool = True) -> None:
+        """Sets the value of a key. It is on the disk when the call returns, whatever `sync` says.
+
+        Each write makes a table: many of them belong into one `write_batch`.
+        """
+        self._ask(frames.WRITE + frames.put(_bytes(key), _bytes(value)))
+
+    def delete(self, key: Bytes, sync: bool = True) -> None:
+        """Removes a key, if it is there."""
+        self._ask(frames.WRITE + frames.delete(_bytes(key)))
+
+    def write_batch(self, transaction: bool = False, sync: bool = True) -> WriteBatch:
+        """A new batch. As a context manager it is written at the end of the block; with
+        `transaction=True` it is dropped where the block raises an exception."""
+        return WriteBatch(self, transaction)
+
+    def iterator(
+        self,
+        reverse: bool = False,
+        start: Optional[Bytes] = None,
+        stop: Optional[Bytes] = None,
+        include_start: bool = True,
+        include_stop: bool = False,
+        prefix: Optional[Bytes] = None,
+        include_key: bool = True,
+        include_value: bool = True,
+    ) -> Iterator:
+        """The pairs of a range, in ascending order of their keys, as they are now.
+
+        The range is that from `start` to `stop`, or that of all keys with a prefix. Without values
+        the iterator gives keys alone, without keys values alone.
+        """
+        bounds = _Range.of(reverse, start, stop, include_start, include_stop, prefix)
+        snapshot = self.snapshot()
+        return Iterator(snapshot, True, bounds, include_key, include_value)
+
+    def __iter__(self) -> Iterator:
+        return self.iterator()
+
+    def snapshot(self) -> Snapshot:
+        """The database as it is now. It keeps tables on the disk until it is closed."""
+        number, sequence = frames.numbers(self._ask(frames.SNAPSHOT), 2)
+        return Snapshot(self, number, sequence)
+
+    def compact_range(self, start: None = None, stop: None = None) -> None:
+        """Compacts the whole database: returns once the server finds nothing to compact.
+
+        Reads and writes go on beside it. `start` and `stop` must be None.
+        """
+        if start is not None or stop is not None:
+            raise NotImplementedError("only the whole database can be compacted")
+        self._ask(frames.COMPACT)
+
+    def collect(self) -> int:
+        """Removes the files of tables that are not needed any more, and gives their number."""
+        return frames.numbers(self._ask(frames.COLLECT), 1)[0]
+
+    def statistics(self) -> Statistics:
+        last, *sizes = frames.numbers(self._ask(frames.STATISTICS), 15)
+        return Statistics(last, tuple(map(Level, sizes[0::2], sizes[1::2])))
+
+    def get_property(self, name: Union[str, bytes]) -> Optional[bytes]:
+        """`leveldb.num-files-at-levelN` or `leveldb.stats`; None for another name."""
+        named = name.encode() if isinstance(name, str) else name
+        levels = self.statistics().levels
+        if named == b"leveldb.stats":
+            rows = ("%5d %8d %12d\n" % (n, at.files, at.bytes) for n, at in enumerate(levels))
+            return ("Level    Files        Bytes\n" + "".join(rows)).encode()
+        for number, level in enumerate(levels):
+            if named == b"leveldb.num-files-at-level%d" % number:
+                return b"%d" % level.files
+        return None
+
+    def __enter__(self) -> DB:
+        return self
+
+    def __exit__(
+        self,
+        kind: Optional[Type[BaseException]],
+        error: Optional[BaseException],
+        trace: Optional[TracebackType],
+    ) -> None:
+        self.close()
+
+    def __repr__(self) -> str:
+        return f"<tiswenor.DB {self._name!r}{' closed' if self.closed else ''}>"
+
+    def _when(self) -> bytes:
+        return frames.NOW
+
+    def _ask(self, request: bytes) -> bytes:
+        while self._abandoned:
+            try:
+                number = self._abandoned.popleft()
+            except IndexError:
+                break  # another thread took the last one
+            self._server.ask(frames.release(number))
+        return self._server.ask(request)
+
+
+class Snapshot(_Reads):
+    """A state of the database that does not change. Any thread may read it.
+
+    It ends by `close()`, by a `with` block, or once nothing refers to it any more.
+    """
+
+    def __init__(self, db: DB, number: int, sequence: int) -> None:
+        self._db = db
+        self._number = number
+        self._sequence = sequence
+        self._is_closed = False
+
+    @property
+    def sequence(self) -> int:
+        """The number of the newest write that is seen."""
+        return self._sequence
+
+    def iterator(
+        self,
+        reverse: bool = False,
+        start: Optional[Bytes] = None,
+        stop: Optional[Bytes] = None,
+        include_start: bool = True,
+        include_stop: bool = False,
+        prefix: Optional[Bytes] = None,
+        include_key: bool = True,
+        include_value: bool = True,
+    ) -> Iterator:
+        """As `DB.iterator`, of this state."""
+        bounds = _Range.of(reverse, start, stop, include_start, include_stop, prefix)
+        return Iterator(self, False, bounds, include_key, include_value)
+
+    def __iter__(self) -> Iterator:
+        return self.iterator()
+
+    def close(self) -> None:
+        if not self._is_closed:
+            self._is_closed = True
+            if not self._db.closed:
+                self._db._ask(frames.release(self._number))
+
+    def __enter__(self) -> Snapshot:
+        return self
+
+    def __exit__(
+        self,
+        kind: Optional[Type[BaseException]],
+        error: Optional[BaseException],
+        trace: Optional[TracebackType],
+    ) -> None:
+        self.close()
+
+    def __del__(self) -> None:
+        if not getattr(self, "_is_closed", True):
+            self._db._abandoned.append(self._number)
+
+    def _when(self) -> bytes:
+        if self._is_closed:
+            raise Error(CLOSED, "Closed", "the snapshot is closed")
+        return frames.at(self._number)
+
+    def _ask(self, request: bytes) -> bytes:
+        return self._db._ask(request)
+
+
+class WriteBatch:
+    """Writes that come in together or not at all. Of several of one key the last one counts.
+
+    Keys may come in any order. The server takes at most 65,536 writes and 4 MiB in one batch.
+    """
+
+    def __init__(self, db: DB, transaction: bool) -> None:
+        self._db = db
+        self._transaction = transaction
+        self._writes: List[bytes] = []
+
+    def put(self, key: Bytes, value: Bytes) -> None:
+        self._writes.append(frames.put(_bytes(key), _bytes(value)))
+
+    def delete(self, key: Bytes) -> None:
+        self._writes.append(frames.delete(_bytes(key)))
+
+    def clear(self) -> None:
+        self._writes.clear()
+
+    def append(self, source: WriteBatch) -> None:
+        """Adds the writes of another batch behind those of this one."""
+        self._writes.extend(source._writes)
+
+    def approximate_size(self) -> int:
+        """The bytes of the request so far."""
+        return sum(map(len, self._writes))
+
+    def write(self) -> None:
+        """Writes what is in the batch, which stays as it is. An empty batch changes nothing."""
+        if self._writes:
+            self._db._ask(frames.WRITE + b"".join(self._writes))
+
+    def __enter__(self) -> WriteBatch:
+        return self
+
+    def __exit__(
+        self,
+        kind: Optional[Type[BaseException]],
+        error: Optional[BaseException],
+        trace: Optional[TracebackType],
+    ) -> None:
+        if not (self._transaction and kind is not None):
+            self.write()
+        self.clear()
+
+
+@dataclass(frozen=True)
+class _Range:
+    """The keys from `start` on that are below `stop`, if there is one."""
+
+    start: bytes
+    stop: Optional[bytes]
+
+    @staticmethod
+    def of(
+        reverse: bool,
+        start: Optional[Bytes],
+        stop: Optional[Bytes],
+        include_start: bool,
+        include_stop: bool,
+        prefix: Optional[Bytes],
+    ) -> _Range:
+        if reverse:
+            raise NotImplementedError("reverse=True: the server reads forward only")
+        if prefix is not None:
+            if start is not None or stop is not None:
+                raise TypeError("prefix and start or stop can't be used together")
+            front = _bytes(prefix)
+            return _Range(front, _behind(front))
+        begin = b"" if start is None else _bytes(start)
+        if start is not None and not include_start:
+            begin += b"\0"
+        end = None if stop is None else _bytes(stop)
+        if end is not None and include_stop:
+            end += b"\0"
+        return _Range(begin, end)
+
+
+class Iterator:
+    """The pairs of a range, or their keys or values alone. One thread at a time may use it."""
+
+    def __init__(
+        self,
+        snapshot: Snapshot,
+        owns_snapshot: bool,
+        bounds: _Range,
+        include_key: bool,
+        include_value: bool,
+    ) -> None:
+        self._snapshot: Optional[Snapshot] = snapshot
+        self._owns_snapshot = owns_snapshot
+        self._bounds = bounds
+        self._include_key = include_key
+        self._include_value = include_value
+        self.seek_to_start()
+
+    def seek_to_start(self) -> None:
+        """Goes before the first pair of the range."""
+        self.seek(self._bounds.start)
+
+    def seek(self, target: Bytes) -> None:
+        """Goes before the first pair of the range whose key is `target` or greater."""
+        self._from = max(_bytes(target), self._bounds.start)
+        self._is_last = self._bounds.stop is not None and self._from >= self._bounds.stop
+        self._limit = _FIRST_PAGE
+        self._pairs: List[Tuple[bytes, bytes]] = []
+        self._at = 0
+
+    def __iter__(self) -> Iterator:
+        return self
+
+    def __next__(self) -> Any:
+        if self._at == len(self._pairs):
+            self._turn()
+        key, value = self._pairs[self._at]
+        self._at += 1
+        if self._include_key and self._include_value:
+            return key, value
+        if self._include_key:
+            return key
+        return value if self._include_value else None
+
+    def _turn(self) -> None:
+        """Reads the next page. It has a pair, or the iterator is at its end."""
+        snapshot = self._snapshot
+        if snapshot is None:
+            raise Error(CLOSED, "Closed", "the iterator is closed")
+        if self._is_last:
+            raise StopIteration
+        request = frames.scan(snapshot._when(), self._from, self._bounds.stop, self._limit)
+        is_last, pairs = frames.page(snapshot._ask(request))
+        self._limit = 0
+        if pairs:
+            self._from = pairs[-1][0] + b"\0"
+        self._is_last = is_last
+        self._pairs = pairs
+        self._at = 0
+        if not pairs:
+            raise StopIteration
+
+    def prev(self) -> NoReturn:
+        raise NotImplementedError("prev: the server reads forward only")
+
+    def seek_to_stop(self) -> NoReturn:
+        raise NotImplementedError("seek_to_stop: the server reads forward only")
+
+    def close(self) -> None:
+        snapshot, self._snapshot = self._snapshot, None
+        self._pairs = []
+        self._at = 0
+        if snapshot is not None and self._owns_snapshot:
+            snapshot.close()
+
+    def __enter__(self) -> Iterator:
+        return self
+
+    def __exit__(
+        self,
+        kind: Optional[Type[BaseException]],
+        error: Optional[BaseException],
+        trace: Optional[TracebackType],
+    ) -> None:
+        self.close()
+
+
+def _bytes(content: Bytes) -> bytes:
+    return content if isinstance(content, bytes) else memoryview(content).tobytes()
+
+
+def _behind(prefix: bytes) -> Optional[bytes]:
+    """The least key above all that begin with the prefix, if there is one."""
+    front = prefix.rstrip(b"\xff")
+    return front[:-1] + bytes([front[-1] + 1]) if front else None
+
+
+def _make_folder(path: PathLike) -> None:
+    try:
+        os.mkdir(path)
+    except OSError:
+        pass  # it is there, or else the server refuses

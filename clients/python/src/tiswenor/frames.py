@@ -1,0 +1,122 @@
+"""The bytes of requests and of their answers, as docs/PROTOCOL.md describes them."""
+
+from __future__ import annotations
+
+import struct
+from typing import List, NoReturn, Optional, Sequence, Tuple
+
+from .errors import BAD_ANSWER, TOO_LARGE, Error, Refused
+
+WRITE, READ, SCAN, SNAPSHOT, RELEASE, COMPACT, COLLECT, STATISTICS = (
+    bytes([kind]) for kind in range(1, 9)
+)
+
+LONGEST_REQUEST = 8_388_608
+LONGEST_ANSWER = 16_777_216
+
+NOW = b"\0"
+
+_LENGTH = struct.Struct("<I")
+_NUMBER = struct.Struct("<Q")
+
+
+def text(content: bytes) -> bytes:
+    return _LENGTH.pack(len(content)) + content
+
+
+def frame(request: bytes) -> bytes:
+    """The request with its length before it; refused where it is longer than the server reads."""
+    if len(request) > LONGEST_REQUEST:
+        raise Refused(TOO_LARGE, "TooLarge", f"a request of {len(request)} bytes")
+    return text(request)
+
+
+def opening(first: int, channels: int, workers: int, flags: int, path: bytes) -> bytes:
+    return frame(struct.pack("<IIIB", first, channels, workers, flags) + text(path))
+
+
+def at(snapshot: int) -> bytes:
+    """The `when` of a snapshot's number."""
+    return b"\1" + _NUMBER.pack(snapshot)
+
+
+def put(key: bytes, value: bytes) -> bytes:
+    return b"".join((b"\1", _LENGTH.pack(len(key)), key, _LENGTH.pack(len(value)), value))
+
+
+def delete(key: bytes) -> bytes:
+    return b"\0" + text(key)
+
+
+def read(when: bytes, keys: Sequence[bytes]) -> bytes:
+    return b"".join((READ, when, *map(text, keys)))
+
+
+def scan(when: bytes, start: bytes, stop: Optional[bytes], limit: int) -> bytes:
+    bound = b"\0" if stop is None else b"\1" + text(stop)
+    return b"".join((SCAN, when, text(start), bound, _LENGTH.pack(limit)))
+
+
+def release(snapshot: int) -> bytes:
+    return RELEASE + _NUMBER.pack(snapshot)
+
+
+def length(head: bytes) -> int:
+    """The length of the frame that begins with these four bytes."""
+    return int(_LENGTH.unpack(head)[0])
+
+
+def numbers(body: bytes, count: int) -> Tuple[int, ...]:
+    if len(body) != 8 * count:
+        bad_answer()
+    return struct.unpack(f"<{count}Q", body)
+
+
+def values(body: bytes, count: int) -> List[Optional[bytes]]:
+    """The values of a read of `count` keys, None where a key is absent."""
+    found: List[Optional[bytes]] = []
+    at = 0
+    for _ in range(count):
+        kind = body[at : at + 1]
+        at += 1
+        if kind == b"\0":
+            found.append(None)
+        elif kind == b"\1":
+            value, at = _text_at(body, at)
+            found.append(value)
+        else:
+            bad_answer()
+    if at != len(body):
+        bad_answer()
+    return found
+
+
+def page(body: bytes) -> Tuple[bool, List[Tuple[bytes, bytes]]]:
+    """Whether a scan is at its end, and the pairs of this answer."""
+    if body[:1] not in (b"\0", b"\1"):
+        bad_answer()
+    pairs: List[Tuple[bytes, bytes]] = []
+    at = 1
+    end = len(body)
+    while at < end:
+        key, at = _text_at(body, at)
+        value, at = _text_at(body, at)
+        pairs.append((key, value))
+    is_last = body[0] == 1
+    if not pairs and not is_last:
+        bad_answer()
+    return is_last, pairs
+
+
+def bad_answer() -> NoReturn:
+    raise Error(BAD_ANSWER, "BadAnswer", "the answer has none of the protocol's forms")
+
+
+def _text_at(body: bytes, at: int) -> Tuple[bytes, int]:
+    begin = at + 4
+    if begin > len(body):
+        bad_answer()
+    end = begin + int(_LENGTH.unpack_from(body, at)[0])
+    if end > len(body):
+        bad_answer()
+    return body[begin:end], end

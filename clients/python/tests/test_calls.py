@@ -1,0 +1,255 @@
+"""Each call once, and what it refuses."""
+
+import pytest
+
+import tiswenor
+
+PAIRS = [(b"apple", b"red"), (b"banana", b"yellow"), (b"bean", b""), (b"cherry", b"dark")]
+
+
+@pytest.fixture
+def fruit(db):
+    with db.write_batch() as batch:
+        for key, value in reversed(PAIRS):
+            batch.put(key, value)
+    return db
+
+
+def test_put_get_delete(db):
+    assert db.get(b"apple") is None
+    assert db.get(b"apple", b"none") == b"none"
+    db.put(b"apple", b"green")
+    db.put(b"apple", b"red")
+    assert db.get(b"apple") == b"red"
+    db.put(b"empty", b"")
+    assert db.get(b"empty", b"none") == b""
+    db.delete(b"apple")
+    db.delete(b"never there")
+    assert db.get(b"apple") is None
+
+
+def test_bytes_of_all_kinds(db):
+    db.put(bytearray(b"\0\xff"), memoryview(bytes(range(256))))
+    assert db.get(memoryview(b"\0\xff")) == bytes(range(256))
+    for wrong in ("text", 7, None):
+        with pytest.raises(TypeError):
+            db.get(wrong)
+        with pytest.raises(TypeError):
+            db.put(b"key", wrong)
+    assert db.get(b"") is None
+
+
+def test_get_many(fruit):
+    assert fruit.get_many([b"cherry", b"none", b"apple", b"cherry"]) == [
+        b"dark",
+        None,
+        b"red",
+        b"dark",
+    ]
+    assert fruit.get_many([b"none"], default=b"?") == [b"?"]
+    assert fruit.get_many([]) == []
+
+
+def test_last_write_of_a_key_counts(db):
+    batch = db.write_batch()
+    batch.put(b"b", b"1")
+    batch.put(b"a", b"1")
+    batch.put(b"b", b"2")
+    batch.put(b"c", b"1")
+    batch.delete(b"a")
+    batch.delete(b"b")
+    batch.put(b"b", b"3")
+    batch.write()
+    assert list(db) == [(b"b", b"3"), (b"c", b"1")]
+
+
+def test_batch(db):
+    batch = db.write_batch()
+    batch.write()
+    batch.put(b"a", b"1")
+    assert batch.approximate_size() == 1 + 4 + 1 + 4 + 1
+    other = db.write_batch()
+    other.put(b"b", b"2")
+    batch.append(other)
+    batch.clear()
+    batch.append(other)
+    batch.write()
+    assert list(db) == [(b"b", b"2")]
+
+
+def test_batch_and_exception(db):
+    with pytest.raises(KeyError):
+        with db.write_batch(transaction=True) as batch:
+            batch.put(b"a", b"1")
+            raise KeyError
+    assert list(db) == []
+    with pytest.raises(KeyError):
+        with db.write_batch() as batch:
+            batch.put(b"a", b"1")
+            raise KeyError
+    assert list(db) == [(b"a", b"1")]
+
+
+def test_batch_too_large_comes_in_not_at_all(db):
+    batch = db.write_batch()
+    for number in range(5):
+        batch.put(b"%d" % number, bytes(1 << 20))
+    with pytest.raises(tiswenor.Refused) as refused:
+        batch.write()
+    assert (refused.value.number, refused.value.name) == (39, "TooLarge")
+    for number in range(5, 10):  # longer than any request
+        batch.put(b"%d" % number, bytes(1 << 20))
+    with pytest.raises(tiswenor.Refused) as refused:
+        batch.write()
+    assert refused.value.number == 39
+    assert list(db) == []
+    db.put(b"a", bytes(1 << 20))
+    assert db.get(b"a") == bytes(1 << 20)
+
+
+def test_iterator(fruit):
+    assert list(fruit) == PAIRS
+    assert list(fruit.iterator(start=b"banana")) == PAIRS[1:]
+    assert list(fruit.iterator(start=b"b", stop=b"bean")) == PAIRS[1:2]
+    assert list(fruit.iterator(start=b"banana", include_start=False)) == PAIRS[2:]
+    assert list(fruit.iterator(stop=b"bean", include_stop=True)) == PAIRS[:3]
+    assert list(fruit.iterator(prefix=b"b")) == PAIRS[1:3]
+    assert list(fruit.iterator(prefix=b"")) == PAIRS
+    assert list(fruit.iterator(start=b"z", stop=b"a")) == []
+    assert list(fruit.iterator(include_value=False)) == [key for key, _ in PAIRS]
+    assert list(fruit.iterator(include_key=False)) == [value for _, value in PAIRS]
+    assert list(fruit.iterator(include_key=False, include_value=False)) == [None] * 4
+    with pytest.raises(TypeError):
+        fruit.iterator(prefix=b"b", start=b"b")
+
+
+def test_prefix_of_greatest_bytes(db):
+    keys = [b"a\xff", b"a\xff\xff", b"b", b"\xff", b"\xff\xff\x01"]
+    for key in keys:
+        db.put(key, b"")
+    names = lambda prefix: list(db.iterator(prefix=prefix, include_value=False))
+    assert names(b"a\xff") == [b"a\xff", b"a\xff\xff"]
+    assert names(b"\xff") == [b"\xff", b"\xff\xff\x01"]
+    assert names(b"\xff\xff") == [b"\xff\xff\x01"]
+
+
+def test_iterator_moves(fruit):
+    with fruit.iterator(start=b"b") as iterator:
+        assert next(iterator) == PAIRS[1]
+        iterator.seek(b"c")
+        assert next(iterator) == PAIRS[3]
+        with pytest.raises(StopIteration):
+            next(iterator)
+        with pytest.raises(StopIteration):
+            next(iterator)
+        iterator.seek(b"")
+        assert next(iterator) == PAIRS[1]
+        iterator.seek_to_start()
+        assert list(iterator) == PAIRS[1:]
+    with pytest.raises(tiswenor.Error) as closed:
+        next(iterator)
+    assert closed.value.name == "Closed"
+
+
+def test_backward_is_refused(fruit):
+    for call in (
+        lambda: fruit.iterator(reverse=True),
+        lambda: fruit.iterator().prev(),
+        lambda: fruit.iterator().seek_to_stop(),
+        lambda: fruit.compact_range(b"a", b"b"),
+    ):
+        with pytest.raises(NotImplementedError):
+            call()
+
+
+def test_iterator_over_many_pages(db):
+    wanted = [(b"%06d" % number, b"x" * (number % 50)) for number in range(20_000)]
+    with db.write_batch() as batch:
+        for key, value in wanted:
+            batch.put(key, value)
+    assert list(db) == wanted
+    with db.iterator() as iterator:
+        first = [next(iterator) for _ in range(10)]
+        with db.write_batch() as batch:
+            for key, _ in wanted:
+                batch.delete(key)
+        assert first + list(iterator) == wanted
+    assert list(db) == []
+
+
+def test_long_values(db):
+    wanted = [(b"%d" % number, bytes([number]) * (1 << 20)) for number in range(8)]
+    for key, value in wanted:
+        db.put(key, value)
+    assert list(db) == wanted
+    assert db.get_many([key for key, _ in wanted]) == [value for _, value in wanted]
+
+
+def test_answer_too_long_is_refused(db):
+    db.put(b"key", bytes(1 << 20))
+    with pytest.raises(tiswenor.Refused):
+        db.get_many([b"key"] * 17)
+    assert db.get(b"key") == bytes(1 << 20)
+
+
+def test_snapshot(fruit):
+    with fruit.snapshot() as snapshot:
+        before = snapshot.sequence
+        fruit.put(b"apple", b"green")
+        fruit.delete(b"cherry")
+        assert snapshot.get(b"apple") == b"red"
+        assert snapshot.get(b"none", b"?") == b"?"
+        assert snapshot.get_many([b"cherry", b"apple"]) == [b"dark", b"red"]
+        assert list(snapshot) == PAIRS
+        assert list(snapshot.iterator(start=b"c", include_value=False)) == [b"cherry"]
+        assert fruit.get(b"apple") == b"green"
+        assert fruit.snapshot().sequence == before + 2
+    snapshot.close()
+    with pytest.raises(tiswenor.Error) as closed:
+        snapshot.get(b"apple")
+    assert closed.value.name == "Closed"
+    fruit.compact_range()
+    assert fruit.get(b"apple") == b"green"
+
+
+def test_compact_collect_statistics(db):
+    for number in range(5):
+        db.put(b"key", b"%d" % number)
+    statistics = db.statistics()
+    assert statistics.last_sequence == 5
+    assert len(statistics.levels) == 7
+    db.compact_range()
+    assert db.collect() >= 0
+    assert db.get(b"key") == b"4"
+    files = sum(level.files for level in db.statistics().levels)
+    assert files >= 1
+    at_0 = db.get_property("leveldb.num-files-at-level0")
+    assert at_0 == b"%d" % db.statistics().levels[0].files
+    assert db.get_property(b"leveldb.stats").count(b"\n") == 8
+    assert db.get_property("leveldb.num-files-at-level7") is None
+
+
+def test_more_writes_than_level_0_holds(db):
+    for number in range(40):
+        db.put(b"%02d" % number, b"")
+    assert len(list(db)) == 40
+
+
+def test_close(folder):
+    db = tiswenor.DB(folder, create_if_missing=True)
+    db.put(b"a", b"1")
+    iterator, snapshot, batch = iter(db), db.snapshot(), db.write_batch()
+    batch.put(b"b", b"2")
+    assert not db.closed
+    db.close()
+    db.close()
+    assert db.closed
+    calls = [lambda: db.get(b"a"), lambda: next(iterator), lambda: snapshot.get(b"a"), batch.write]
+    for call in calls:
+        with pytest.raises(tiswenor.Error) as closed:
+            call()
+        assert (closed.value.number, closed.value.name) == (251, "Closed")
+    iterator.close()
+    snapshot.close()
+    with tiswenor.DB(folder) as db:
+        assert list(db) == [(b"a", b"1")]
