@@ -133,10 +133,4 @@ impl<N: Boarded, S: Shelf> State<N, S> {
     {
         self.keeper.recall(memory);
     }
-    /// The manifest that it holds: its number, and its bytes as far as the shelf confirmed them.
-    pub fn journal(&self) -> &Journal
-        ensures { result.now ≡ self.now.journal }
-    {
-        &self.journal
-    }
 }
