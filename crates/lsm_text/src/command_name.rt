@@ -17,6 +17,7 @@ pub enum CommandName {
     Ingest,
     Put,
     Delete,
+    Load,
     Compact,
     Clean,
     Shell,
@@ -40,6 +41,7 @@ impl CommandName {
             CommandName::Ingest => "ingest",
             CommandName::Put => "put",
             CommandName::Delete => "delete",
+            CommandName::Load => "load",
             CommandName::Compact => "compact",
             CommandName::Clean => "clean",
             CommandName::Shell => "shell",
@@ -85,6 +87,9 @@ pub(crate) fn named(word: &str) -> Option<CommandName>
     }
     if word == "delete" {
         return Some(CommandName::Delete);
+    }
+    if word == "load" {
+        return Some(CommandName::Load);
     }
     if word == "compact" {
         return Some(CommandName::Compact);
