@@ -28,11 +28,11 @@ stops_at form line old new Read t none = absurd none
 
 -- ---- lines, one after another
 
-takes_none : (old : Option (List ℕ)) → TakesLines [] old old
+pub takes_none : (old : Option (List ℕ)) → TakesLines [] old old
 takes_none None = tt
 takes_none (Some xs) = refl
 
-takes_more : (lines : List (List ℕ)) (line : List ℕ) (old mid new : Option (List ℕ)) → TakesLines lines old mid → TakesLine line mid new → TakesLines (lines ++ line ∷ []) old new
+pub takes_more : (lines : List (List ℕ)) (line : List ℕ) (old mid new : Option (List ℕ)) → TakesLines lines old mid → TakesLine line mid new → TakesLines (lines ++ line ∷ []) old new
 takes_more lines line None mid new t one = tt
 takes_more lines line (Some xs) None new t one = absurd t
 takes_more lines line (Some xs) (Some ys) None t one = absurd one

@@ -4,4 +4,5 @@ pub mod BufferLaws
 pub mod LastLaws
 pub mod GatherLaws
 pub mod CutLaws
+pub mod PassLaws
 pub mod CallerLemmas

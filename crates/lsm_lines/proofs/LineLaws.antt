@@ -146,4 +146,4 @@ line_ends TooLong line mid old new r kept end e =
     (r.front, r.holds, takes_last r.front r.front old.left new.left refl r.none r.begun (Consumes-kept old.left mid new.left r.front r.consumed kept) end)
 line_ends NoMemory line mid old new r kept end e =
     (r.front, takes_last r.front r.front old.left new.left refl r.none r.begun (Consumes-kept old.left mid new.left r.front r.consumed kept) end)
-line_ends End line mid old new r kept end e = nothing_left old.left new.left r.front (Consumes-kept old.left mid new.left r.front r.consumed kept) r.holds.1 end
+line_ends End line mid old new r kept end e = (nothing_left old.left new.left r.front (Consumes-kept old.left mid new.left r.front r.consumed kept) r.holds.1 end, end)

@@ -7,3 +7,4 @@ pub mod Buffering
 pub mod Gathering
 pub mod Filling
 pub mod Cuts
+pub mod Passing

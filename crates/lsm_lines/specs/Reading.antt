@@ -34,4 +34,4 @@ abbrev pub IsNext : Lined → Lined → NextLine → Type 0
 IsNext old new Line = (length new.line ≤ most_of_line) × TakesLine new.line old.left new.left
 IsNext old new TooLong = (line : List ℕ) × (most_of_line < length line) × TakesLine line old.left new.left
 IsNext old new NoMemory = (line : List ℕ) × TakesLine line old.left new.left
-IsNext old new End = IsAtEnd old.left
+IsNext old new End = IsAtEnd old.left × IsAtEnd new.left

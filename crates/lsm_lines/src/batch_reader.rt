@@ -1,9 +1,11 @@
 //! Lines of writes, as batches.
 
-ghost use Rattle.std.specs.Prelude.{◌≡◌, [], true, false, IfOk};
+ghost use Rattle.std.specs.Prelude.{◌≡◌, [], true, false, IfOk, OnOk};
 ghost use Rattle.std.specs.Option.{option_to_list};
 ghost use Rattle.lsm_lines.specs.Gathering.{EndsBy, IsGathered};
+ghost use Rattle.lsm_lines.specs.Passing.{PassesLines};
 
+use crate::ahead::ReadFailed;
 use crate::filling::{FillEnd, fill};
 use crate::gathered::{BatchEnd, Gathered};
 use crate::line_reader::LineReader;
@@ -62,6 +64,18 @@ impl<I: Read + Drop> BatchReader<I> {
             form,
             held: None,
         })
+    }
+
+    /// Passes over so many lines, whatever they are, or over all where there are fewer. The write
+    /// that is held back stays.
+    ///
+    /// # Errors
+    /// `ReadFailed` where a read of the input fails.
+    pub fn pass(&mut self, count: u64) -> Result<(), ReadFailed>
+        ensures passed { OnOk result (PassesLines count self.old.left self.new.left) }
+        ensures rest { self.new ≡ record self.old { left = self.new.left } }
+    {
+        self.lines.pass(count)
     }
 
     /// Puts the writes that come next in an empty buffer. What ended it.

@@ -1,6 +1,7 @@
 //! Lines of an input, one by one.
 
-ghost use Rattle.std.specs.Prelude.{◌≡◌, ◌≢◌, ◌++◌, List, ℕ, IfOk};
+ghost use Rattle.std.specs.Prelude.{◌≡◌, ◌≢◌, ◌++◌, List, ℕ, IfOk, OnOk};
+ghost use Rattle.lsm_lines.specs.Passing.{PassesLines};
 ghost use Rattle.lsm_lines.specs.Reading.{IsNext};
 ghost use Rattle.lsm_lines.specs.Pieces.{Holds};
 ghost use Rattle.lsm_lines.specs.declared.line_reader.NextLine.TheVariants.{End};
@@ -112,5 +113,21 @@ impl<I: Read + Drop> LineReader<I> {
             }
         }
         Err(ReadFailed)
+    }
+
+    /// Passes over so many lines, whatever they are, or over all where there are fewer.
+    ///
+    /// # Errors
+    /// `ReadFailed` where a read of the input fails.
+    pub fn pass(&mut self, count: u64) -> Result<(), ReadFailed>
+        ensures { OnOk result (PassesLines count self.old.left self.new.left) }
+    {
+        for _line in 0..count {
+            match self.next()? {
+                NextLine::End => return Ok(()),
+                NextLine::Line | NextLine::TooLong | NextLine::NoMemory => {}
+            }
+        }
+        Ok(())
     }
 }

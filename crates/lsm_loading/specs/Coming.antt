@@ -3,7 +3,7 @@ use Rattle.std.specs.Prelude.{◌≡◌, ℕ, suc, ◌+◌, List, [], ◌∷◌,
 use Rattle.lsm_codec.specs.Entries.{Entry}
 use Rattle.lsm_batch.specs.Batches.{entries_from}
 use Rattle.lsm_batch.specs.declared.write.Write.{Write}
-use Rattle.lsm_state.specs.Held.{Held}
+use Rattle.lsm_loading.specs.Marks.{Marked}
 
 -- the last sequence after them, where this was the last one before
 abbrev pub last_after : ℕ → List (List Write) → ℕ
@@ -20,7 +20,12 @@ abbrev pub over : Option Write → Option (List ℕ) → Option (List ℕ)
 over None old = old
 over (Some w) old = w.value
 
--- Into the state that was found came just these batches, in their order.
-pub record CameIn (found now : Held) (batches : List (List Write)) : Type 0 where
-  pub history : now.history ≡ all_after found.slots.version.last batches found.history
-  pub last : now.slots.version.last ≡ last_after found.slots.version.last batches
+-- Behind what was there came just this batch, under the next sequences.
+pub record ComesNext (batch : List Write) (was now : Marked) : Type 0 where
+  pub history : now.history ≡ entries_from (suc was.last) batch ++ was.history
+  pub last : now.last ≡ was.last + length batch
+
+-- Since it was found came just these batches, in their order.
+pub record CameIn (found now : Marked) (batches : List (List Write)) : Type 0 where
+  pub history : now.history ≡ all_after found.last batches found.history
+  pub last : now.last ≡ last_after found.last batches

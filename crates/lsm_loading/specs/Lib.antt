@@ -1,4 +1,6 @@
 -- What clauses cite
-pub mod Relieving
+pub mod Marks
 pub mod Coming
 pub mod Loading
+pub mod Loaded
+pub mod LoadedAt

@@ -1,62 +1,77 @@
 //! One batch comes in.
 
-ghost use Rattle.std.specs.Prelude.{◌≡◌, ◌+◌, ◌++◌, ◌≤◌, ◌^◌, suc, length, IfErr, IfOk};
-ghost use Rattle.lsm_batch.specs.Batches.{entries_from};
-ghost use Rattle.lsm_loading.specs.Loading.{IsKeptOut, IsNotTaken, TakesBatch};
+ghost use Rattle.std.specs.Prelude.{◌≡◌, ◌+◌, ◌≤◌, ◌^◌, IfErr, IfOk, IfSome};
+ghost use Rattle.lsm_loading.specs.Coming.{ComesNext};
+ghost use Rattle.lsm_loading.specs.Loading.{IsNotTaken, StaysOut, TakesBatch};
+ghost use Rattle.lsm_loading.specs.Marks.{IsBehind};
 
-use crate::compactor::Compactor;
 use crate::load_fault::LoadFault;
+use crate::mark::Mark;
+use crate::origin::{Grown, Origin};
 use crate::progress::Progress;
-use crate::relieving::make_ready;
 use lsm_batch::Batch;
+use lsm_history::Memory;
 use lsm_lines::{BatchEnd, BatchReader, Gathered};
 use lsm_slots::Boarded;
-use lsm_state::State;
+use lsm_state::Ingested;
+use lsm_store::{Background, Store};
 use lsm_table::{NamedShelf, Shelf};
 use std::alloc::Global;
 use std::io::Read;
 use std::sync::Wait;
 
-/// Brings a batch into a state, which is compacted before that where level 0 is due.
-fn bring_in<N: Boarded, S: Shelf, R: Wait, C: Compactor<N, S>>(
+/// How far the store is, where the batch that came in behind the mark is all that came in since.
+fn mark_behind<N: Boarded, S: Shelf, O: Origin, R: Wait>(
+    rt: &R,
+    store: &Store<N, S, Grown<O>>,
+    mark: Mark<N, O>,
+    came: Ingested,
+    memory: Memory<N>,
+) -> Option<Mark<N, O>>
+    ensures { IfSome result (λ m. IsBehind O.found mark came memory m) }
+{
+    mark.behind(&mut store.lock(rt).state, came, memory)
+}
+
+/// Brings a batch into a store that is as far as a mark says, and marks how far it is then.
+fn bring_in<N: Boarded, S: Shelf, O: Origin, R: Wait>(
     rt: &R,
     alloc: Global,
-    state: State<N, S>,
+    store: &Store<N, S, Grown<O>>,
+    background: &Background,
     shelf: &mut NamedShelf<N, S>,
-    compactor: &mut C,
     batch: &Batch,
-) -> Result<State<N, S>, LoadFault<C::Fault>>
-    ensures history { IfOk result (λ s. s.history
-        ≡ entries_from (suc state.slots.version.last) batch.now ++ state.history) }
-    ensures last { IfOk result (λ s.
-        s.slots.version.last ≡ state.slots.version.last + length batch.now) }
-    ensures refused { IfErr result (IsKeptOut C.leaves state batch.now) }
+    mark: Mark<N, O>,
+) -> Result<Mark<N, O>, LoadFault>
+    ensures came { IfOk result (λ m. ComesNext batch.now mark m) }
+    ensures refused { IfErr result (StaysOut (S.refuses N.place) O.found batch.now) }
 {
-    let mut ready = match make_ready(rt, alloc, state, shelf, compactor) {
-        Ok(ready) => ready,
-        Err(fault) => return Err(fault),
+    let (came, memory) = match background.ingest(rt, alloc, store, shelf, batch) {
+        Ok(came) => came,
+        Err(fault) => return Err(LoadFault::Ingest(fault)),
     };
-    match ready.ingest(rt, alloc, shelf, batch) {
-        Ok(_) => Ok(ready),
-        Err(fault) => Err(LoadFault::Ingest(fault)),
+    match mark_behind(rt, store, mark, came, memory) {
+        Some(next) => Ok(next),
+        None => Err(LoadFault::Other),
     }
 }
 
-/// Brings the batch of the next lines into a state, if there are lines.
-pub(crate) fn take_batch<N: Boarded, S: Shelf, R: Wait, C: Compactor<N, S>, I: Read + Drop>(
+/// Brings the batch of the next lines in, if there are lines.
+pub(crate) fn take_batch<N: Boarded, S: Shelf, O: Origin, R: Wait, I: Read + Drop>(
     rt: &R,
     alloc: Global,
-    state: State<N, S>,
+    store: &Store<N, S, Grown<O>>,
+    background: &Background,
     shelf: &mut NamedShelf<N, S>,
-    compactor: &mut C,
     lines: &mut BatchReader<I>,
+    mark: Mark<N, O>,
     progress: Progress,
-) -> Result<(State<N, S>, Progress, BatchEnd), LoadFault<C::Fault>>
+) -> Result<(Mark<N, O>, Progress, BatchEnd), LoadFault>
     requires lines { progress.lines + 2 ^ 64 ≤ 2 ^ 128 }
     requires batches { progress.batches + 2 ^ 64 ≤ 2 ^ 128 }
     ensures taken { IfOk result (λ r.
-        TakesBatch lines.old lines.new state r.0 progress r.1 r.2) }
-    ensures refused { IfErr result (IsNotTaken C.leaves state) }
+        TakesBatch lines.old lines.new mark r.0 progress r.1 r.2) }
+    ensures refused { IfErr result (IsNotTaken (S.refuses N.place) O.found) }
 {
     let Ok(gathered) = lines.next(alloc) else {
         return Err(LoadFault::OutOfMemory);
@@ -67,10 +82,10 @@ pub(crate) fn take_batch<N: Boarded, S: Shelf, R: Wait, C: Compactor<N, S>, I: R
         end,
     } = gathered;
     if count == 0 {
-        return Ok((state, progress, end));
+        return Ok((mark, progress, end));
     }
-    match bring_in(rt, alloc, state, shelf, compactor, &batch) {
-        Ok(state) => Ok((state, progress.with(count), end)),
+    match bring_in(rt, alloc, store, background, shelf, &batch, mark) {
+        Ok(next) => Ok((next, progress.with(count), end)),
         Err(fault) => Err(fault),
     }
 }

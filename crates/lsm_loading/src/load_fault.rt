@@ -2,18 +2,22 @@
 
 use lsm_lines::WriteLineFault;
 use lsm_state::StateFault;
+use lsm_store::WorkerFault;
+use lsm_table::ShelfFault;
 
-/// Why not all lines are loaded. `F` says why a compaction failed.
+/// Why not all lines are loaded, or what was due is not compacted behind them.
 #[derive(Clone, Copy, Debug)]
-pub enum LoadFault<F> {
-    /// There is no memory for a batch.
+pub enum LoadFault {
+    /// There is no memory for a batch, or for the workers.
     OutOfMemory,
+    /// The shelf gave no fork for a worker.
+    Shelf(ShelfFault),
     /// The line behind those that are in is no write of a batch.
     Line(WriteLineFault),
     /// The next batch was refused.
     Ingest(StateFault),
-    /// A compaction failed.
-    Compaction(F),
-    /// Tables that no version needs were not removed.
-    Sweep(StateFault),
+    /// A batch that is not of these lines came in between two of them, or behind them.
+    Other,
+    /// All lines are in, and this worker ended early.
+    Worker(WorkerFault),
 }

@@ -1,5 +1,7 @@
 //! The texts of the commands' help.
 
+use crate::command_name::{CommandName, named};
+
 /// A command as its help shows it.
 #[derive(Clone, Copy)]
 pub(crate) struct Page {
@@ -479,18 +481,32 @@ Exit status: 0 done, 1 refused, 2 bad command line, also where COMMAND is none."
     example: "Example: lsm help check",
 };
 
-/// The pages of the commands.
-const PAGES: [Page; 16] = [
-    MAKE_TABLE, DUMP, MANIFEST, SCRIPT, CHECK, LIST, GET, SCAN, INGEST, PUT, DELETE, LOAD, COMPACT,
-    CLEAN, SHELL, HELP,
-];
+/// How a command is used.
+fn usage(name: CommandName) -> &'static str {
+    match name {
+        CommandName::MakeTable => MAKE_TABLE.usage,
+        CommandName::Dump => DUMP.usage,
+        CommandName::Manifest => MANIFEST.usage,
+        CommandName::Script => SCRIPT.usage,
+        CommandName::Check => CHECK.usage,
+        CommandName::List => LIST.usage,
+        CommandName::Get => GET.usage,
+        CommandName::Scan => SCAN.usage,
+        CommandName::Ingest => INGEST.usage,
+        CommandName::Put => PUT.usage,
+        CommandName::Delete => DELETE.usage,
+        CommandName::Load => LOAD.usage,
+        CommandName::Compact => COMPACT.usage,
+        CommandName::Clean => CLEAN.usage,
+        CommandName::Shell => SHELL.usage,
+        CommandName::Help => HELP.usage,
+    }
+}
 
 /// How the command of this name is used.
 pub(crate) fn usage_of(name: &str) -> &'static str {
-    for page in &PAGES {
-        if page.name == name {
-            return page.usage;
-        }
+    match named(name) {
+        Some(name) => usage(name),
+        None => "lsm <COMMAND>",
     }
-    "lsm <COMMAND>"
 }

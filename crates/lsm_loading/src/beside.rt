@@ -1,0 +1,168 @@
+//! Lines come into a state while workers compact beside.
+
+ghost use Rattle.std.specs.Prelude.{◌≡◌, [], All, IfErr, IfOk, None, OnOk};
+ghost use Rattle.lsm_shelf.specs.Told.{Forked};
+ghost use Rattle.lsm_loading.specs.Loading.{IsLate, IsLoaded, IsUnloaded};
+ghost use Rattle.lsm_loading.specs.Marks.{IsEven, marked_in};
+
+use crate::crew::Crew;
+use crate::load_fault::LoadFault;
+use crate::loading::load;
+use crate::mark::Mark;
+use crate::origin::Origin;
+use crate::progress::Progress;
+use crate::teller::Teller;
+use lsm_lines::BatchReader;
+use lsm_slots::Boarded;
+use lsm_state::State;
+use lsm_store::{Background, NoGate, WorkerEnd, WorkerFault, with_workers};
+use lsm_table::{NamedShelf, Shelf};
+use std::alloc::{AllocError, Global};
+use std::io::Read;
+use std::sync::Wait;
+use std::thread::Threads;
+
+/// What lines came to that were loaded beside workers, the state behind them, and the workers' ends.
+struct Done<N: Boarded, S: Shelf, O: Origin> {
+    loaded: Result<Mark<N, O>, LoadFault>,
+    progress: Progress,
+    state: State<N, S>,
+    ends: Vec<WorkerEnd>,
+}
+
+/// Loads the lines of an input into a store, while its workers compact until nothing is due.
+fn load_all<N: Boarded, S: Shelf, O: Origin, R: Threads + Wait + Sync, I: Read + Drop, T: Teller>(
+    rt: &R,
+    alloc: Global,
+    crew: Crew<N, S, O>,
+    mark: Mark<N, O>,
+    lines: BatchReader<I>,
+    teller: &mut T,
+) -> Result<Done<N, S, O>, AllocError>
+    requires { lines.held ≡ [] }
+    ensures loaded { IfOk result (λ d. IfOk d.loaded (λ m. IsLoaded lines mark m d.progress)) }
+    ensures refused { IfOk result (λ d. IfErr d.loaded (λ e.
+        IsUnloaded (S.refuses N.place) O.found lines mark d.progress e)) }
+    ensures even { IfOk result (λ d. IsEven O.found (marked_in d.state)) }
+{
+    let Crew {
+        store,
+        shelves,
+        own,
+    } = crew;
+    let lent = &store;
+    let done = with_workers(
+        rt,
+        alloc,
+        &store,
+        shelves,
+        &NoGate,
+        move |background: &Background| -> (Result<Mark<N, O>, LoadFault>, Progress)
+            requires { lines.held ≡ [] }
+            ensures loaded { IfOk result.0 (λ m. IsLoaded lines mark m result.1) }
+            ensures refused { IfErr result.0 (λ e.
+                IsUnloaded (S.refuses N.place) O.found lines mark result.1 e) }
+        {
+            let mut own = own;
+            let mut lines = lines;
+            let loaded = load(
+                rt, alloc, lent, background, &mut own, &mut lines, mark, teller,
+            );
+            background.wait_until_idle(rt);
+            loaded
+        },
+    );
+    let Ok(((loaded, progress), ends)) = done else {
+        return Err(AllocError);
+    };
+    Ok(Done {
+        loaded,
+        progress,
+        state: store.into_state(),
+        ends,
+    })
+}
+
+/// Whether no worker ended early; else why the first one did.
+fn judge(ends: &[WorkerEnd]) -> Result<(), WorkerFault>
+    ensures { OnOk result (All (λ e. e.fault ≡ None) ends.now) }
+{
+    for end in ends {
+        if let Some(fault) = end.fault {
+            return Err(fault);
+        }
+    }
+    Ok(())
+}
+
+/// The state behind all lines, where it is just as far as the mark behind them and no worker ended
+/// early.
+fn finish<N: Boarded, S: Shelf, O: Origin>(
+    mark: Mark<N, O>,
+    state: State<N, S>,
+    ends: &[WorkerEnd],
+) -> Result<State<N, S>, LoadFault>
+    requires { IsEven O.found (marked_in state) }
+    ensures as_far { IfOk result (λ s. marked_in s ≡ mark) }
+    ensures faultless { OnOk result (All (λ e. e.fault ≡ None) ends.now) }
+    ensures refused { IfErr result IsLate }
+{
+    let mut state = state;
+    if !mark.is_of(&mut state) {
+        return Err(LoadFault::Other);
+    }
+    match judge(ends) {
+        Ok(()) => Ok(state),
+        Err(fault) => Err(LoadFault::Worker(fault)),
+    }
+}
+
+/// Loads the lines of an input, of which none was gathered yet, into a state, while so many workers
+/// compact beside, until all lines are in and nothing is due. The state is then just as far as they
+/// made it, and what came in of them is counted.
+///
+/// A refusal leaves whole batches in the database, of which the count says how many lines are in.
+pub fn load_beside<N, S, O, R, I, T>(
+    rt: &R,
+    alloc: Global,
+    state: State<N, S>,
+    shelf: &mut NamedShelf<N, S>,
+    workers: usize,
+    lines: BatchReader<I>,
+    teller: &mut T,
+) -> (Result<State<N, S>, LoadFault>, Progress)
+where
+    N: Boarded,
+    S: Shelf,
+    O: Origin,
+    R: Threads + Wait + Sync,
+    I: Read + Drop,
+    T: Teller,
+    requires found { O.found ≡ marked_in state }
+    requires held { lines.held ≡ [] }
+    ensures loaded { IfOk result.0 (λ s.
+        IsLoaded lines (marked_in state) (marked_in s) result.1) }
+    ensures refused { IfErr result.0 (λ e.
+        IsUnloaded (S.refuses N.place) O.found lines (marked_in state) result.1 e) }
+    ensures told { Forked shelf.old shelf.new }
+{
+    let mut state = state;
+    let mark: Mark<N, O> = Mark::of(&mut state);
+    let crew = match Crew::new(alloc, state, shelf, workers) {
+        Ok(crew) => crew,
+        Err(fault) => return (Err(LoadFault::Shelf(fault)), Progress::none()),
+    };
+    let Ok(done) = load_all(rt, alloc, crew, mark, lines, teller) else {
+        return (Err(LoadFault::OutOfMemory), Progress::none());
+    };
+    let Done {
+        loaded,
+        progress,
+        state,
+        ends,
+    } = done;
+    match loaded {
+        Ok(mark) => (finish(mark, state, &ends), progress),
+        Err(fault) => (Err(fault), progress),
+    }
+}
