@@ -208,3 +208,23 @@ few_lines turn p q h k = omega (arith, h, k)
 -- there is room for the lines of one turn more
 pub room : (turn p : ℕ) → p ≤ turn * 18446744073709551616 → turn < 18446744073709551615 → p + 18446744073709551616 ≤ 340282366920938463463374607431768211456
 room turn p h k = omega (arith, h, k)
+
+pub room_of_batches : (turn p : ℕ) → p ≤ turn → turn < 18446744073709551615 → p + 18446744073709551616 ≤ 340282366920938463463374607431768211456
+room_of_batches turn p h k = omega (arith, h, k)
+
+-- ---- one turn, by what ended its batch
+
+pub full_on : (old mid new : Pending) (found was now : Marked) (p q : Progress) (end : BatchEnd) → end ≡ Full → mid.form ≡ old.form → Loads old mid.left mid.held found was p
+    → TakesBatch mid new was now p q end → Loads old new.left new.held found now q × (new.form ≡ old.form)
+full_on old mid new found was now p q end is form l t =
+    let u = subst (λ (e : BatchEnd). TakesBatch mid new was now p q e) is t in
+    (on old mid new new.left new.held found was now p q Full form l u u.ends.0, u.form ∙ form)
+
+pub end_on : (old mid new : Pending) (found was now : Marked) (p q : Progress) (end : BatchEnd) → end ≡ End → mid.form ≡ old.form → Loads old mid.left mid.held found was p
+    → TakesBatch mid new was now p q end → IsLoaded old found now q
+end_on old mid new found was now p q end is form l t = ended old mid new found was now p q form l (subst (λ (e : BatchEnd). TakesBatch mid new was now p q e) is t)
+
+pub stopped_on : (old mid new : Pending) (found was now : Marked) (p q : Progress) (end : BatchEnd) (fault : WriteLineFault) → end ≡ Stopped fault → mid.form ≡ old.form
+    → Loads old mid.left mid.held found was p → TakesBatch mid new was now p q end → StopsBehind old found q fault
+stopped_on old mid new found was now p q end fault is form l t =
+    stopped_behind old mid new found was now p q fault form l (subst (λ (e : BatchEnd). TakesBatch mid new was now p q e) is t)

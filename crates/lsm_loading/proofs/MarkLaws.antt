@@ -15,7 +15,7 @@ use Rattle.lsm_version.specs.Versions.{Levels}
 use Rattle.lsm_state.specs.Held.{Held}
 use Rattle.lsm_state.specs.Ingesting.{Ingests}
 use Rattle.lsm_state.specs.declared.ingest.Ingested.{Ingested}
-use Rattle.lsm_store.specs.Background.{BringsIn, IsKeptByIngest}
+use Rattle.lsm_store.specs.Background.{BringsIn, IsBroughtIn, IsKeptByIngest}
 use Rattle.lsm_store.specs.Compacting.{IsKeptByCompaction, IsSeated}
 use Rattle.lsm_loading.specs.Coming.{ComesNext}
 use Rattle.lsm_loading.specs.Marks.{IsBehind, IsEven, Marked, marked_in}
@@ -90,6 +90,12 @@ even_seated found was is at seated =
 
 pub even_compacting : (Honest : Type 0) (found : Marked) → IsKeptByCompaction Honest (λ h. IsEven found (marked_in h))
 even_compacting Honest found was is step even = omega (arith, even, ap length step.found.history, step.found.last)
+
+-- a batch that came in at one taking of the lock, and then the mark behind it
+pub came_next : (found mark now : Marked) (ws : List Write) (r : Ingested × List Entry) (t u : Told) → IsBroughtIn (λ h. IsEven found (marked_in h)) ws r t u
+    → IsBehind found mark r.0 r.1 now → ComesNext ws mark now
+came_next found mark now ws r t u b behind =
+    next_is found mark now (marked_in b.0) ws r.0 r.1 (even_out found (marked_in b.0) b.2) b.3.ingests.first b.3.ingests.last (b.4 ∙ b.3.history) behind
 
 -- the last sequence after an ingest
 pub ingested_last : (old new : Held) (ws : List Write) (r : Ingested) (was is : Told) → Ingests old new ws r was is → new.slots.version.last ≡ old.slots.version.last + length ws

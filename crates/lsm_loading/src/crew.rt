@@ -7,7 +7,7 @@ ghost use Rattle.lsm_loading.specs.Marks.{marked_in};
 use crate::origin::{Grown, Origin};
 use lsm_slots::Boarded;
 use lsm_state::State;
-use lsm_store::Store;
+use lsm_store::{Invariant, Store};
 use lsm_table::{NamedShelf, Shelf, ShelfFault};
 use std::alloc::Global;
 
@@ -32,7 +32,10 @@ fn forks<N: Boarded, S: Shelf>(
 
 /// A store that is loaded, a shelf for each worker, and one for the batches.
 #[derive(Drop)]
-pub(crate) struct Crew<N: Boarded, S: Shelf, O: Origin> {
+pub(crate) struct Crew<N: Boarded, S: Shelf, O: Origin>
+where
+    Grown<O>: Invariant,
+{
     pub(crate) store: Store<N, S, Grown<O>>,
     pub(crate) shelves: Vec<NamedShelf<N, S>>,
     pub(crate) own: NamedShelf<N, S>,
