@@ -4,6 +4,7 @@ ghost use Rattle.std.specs.Prelude.{◌≡◌, [], All, IfErr, IfOk, None, OnOk}
 ghost use Rattle.lsm_shelf.specs.Told.{Forked};
 ghost use Rattle.lsm_loading.specs.Loading.{IsLate, IsLoaded, IsUnloaded};
 ghost use Rattle.lsm_loading.specs.Marks.{IsEven, marked_in};
+ghost use Rattle.lsm_loading.specs.declared.load_fault.LoadFault.TheVariants.{OutOfMemory};
 
 use crate::crew::Crew;
 use crate::load_fault::LoadFault;
@@ -17,17 +18,18 @@ use lsm_slots::Boarded;
 use lsm_state::State;
 use lsm_store::{Background, NoGate, WorkerEnd, WorkerFault, with_workers};
 use lsm_table::{NamedShelf, Shelf};
-use std::alloc::{AllocError, Global};
+use std::alloc::Global;
 use std::io::Read;
 use std::sync::Wait;
 use std::thread::Threads;
 
-/// What lines came to that were loaded beside workers, the state behind them, and the workers' ends.
+/// What lines came to, how much came in, and the workers' ends.
+type Answer<N, O> = ((Result<Mark<N, O>, LoadFault>, Progress), Vec<WorkerEnd>);
+
+/// What lines came to that were loaded beside workers, and the state behind them.
 struct Done<N: Boarded, S: Shelf, O: Origin> {
-    loaded: Result<Mark<N, O>, LoadFault>,
-    progress: Progress,
+    answer: Answer<N, O>,
     state: State<N, S>,
-    ends: Vec<WorkerEnd>,
 }
 
 /// Loads the lines of an input into a store, while its workers compact until nothing is due.
@@ -38,12 +40,14 @@ fn load_all<N: Boarded, S: Shelf, O: Origin, R: Threads + Wait + Sync, I: Read +
     mark: Mark<N, O>,
     lines: BatchReader<I>,
     teller: &mut T,
-) -> Result<Done<N, S, O>, AllocError>
+) -> Result<Done<N, S, O>, LoadFault>
     requires { lines.held ≡ [] }
-    ensures loaded { IfOk result (λ d. IfOk d.loaded (λ m. IsLoaded lines mark m d.progress)) }
-    ensures refused { IfOk result (λ d. IfErr d.loaded (λ e.
-        IsUnloaded (S.refuses N.place) O.found lines mark d.progress e)) }
+    ensures loaded { IfOk result (λ d. IfOk d.answer.0.0 (λ m.
+        IsLoaded lines mark m d.answer.0.1)) }
+    ensures refused { IfOk result (λ d. IfErr d.answer.0.0 (λ e.
+        IsUnloaded (S.refuses N.place) O.found lines mark d.answer.0.1 e)) }
     ensures even { IfOk result (λ d. IsEven O.found (marked_in d.state)) }
+    ensures memory { IfErr result (λ e. e ≡ OutOfMemory) }
 {
     let Crew {
         store,
@@ -51,7 +55,8 @@ fn load_all<N: Boarded, S: Shelf, O: Origin, R: Threads + Wait + Sync, I: Read +
         own,
     } = crew;
     let lent = &store;
-    let done = with_workers(
+    let told = &mut *teller;
+    let answer = with_workers(
         rt,
         alloc,
         &store,
@@ -66,20 +71,15 @@ fn load_all<N: Boarded, S: Shelf, O: Origin, R: Threads + Wait + Sync, I: Read +
             let mut own = own;
             let mut lines = lines;
             let loaded = load(
-                rt, alloc, lent, background, &mut own, &mut lines, mark, teller,
+                rt, alloc, lent, background, &mut own, &mut lines, mark, told,
             );
             background.wait_until_idle(rt);
             loaded
         },
-    );
-    let Ok(((loaded, progress), ends)) = done else {
-        return Err(AllocError);
-    };
+    )?;
     Ok(Done {
-        loaded,
-        progress,
+        answer,
         state: store.into_state(),
-        ends,
     })
 }
 
@@ -152,15 +152,13 @@ where
         Ok(crew) => crew,
         Err(fault) => return (Err(LoadFault::Shelf(fault)), Progress::none()),
     };
-    let Ok(done) = load_all(rt, alloc, crew, mark, lines, teller) else {
-        return (Err(LoadFault::OutOfMemory), Progress::none());
+    let done = match load_all(rt, alloc, crew, mark, lines, teller) {
+        Ok(done) => done,
+        Err(fault) => return (Err(fault), Progress::none()),
     };
-    let Done {
-        loaded,
-        progress,
-        state,
-        ends,
-    } = done;
+    let Done { answer, state } = done;
+    let (came, ends) = answer;
+    let (loaded, progress) = came;
     match loaded {
         Ok(mark) => (finish(mark, state, &ends), progress),
         Err(fault) => (Err(fault), progress),

@@ -11,6 +11,7 @@ ghost use Rattle.lsm_writing.specs.declared.faults.writer_fault.WriterFault.TheV
 ghost use Rattle.lsm_loading.specs.declared.stopped.Stopped.TheVariants.{Write as WriteStopped};
 
 use crate::beside::load_beside;
+use crate::load_options::LoadOptions;
 use crate::progress::Progress;
 use crate::stopped::Stopped;
 use crate::sweeping::sweep;
@@ -19,7 +20,6 @@ use lsm_lines::BatchReader;
 use lsm_slots::Boarded;
 use lsm_state::State;
 use lsm_table::{NamedShelf, Shelf};
-use lsm_text::LoadOptions;
 use lsm_writing::{NewParts, Prepared, WriterFault, start};
 use std::alloc::Global;
 use std::io::{self, Read, Write};

@@ -21,6 +21,7 @@ mod crew;
 // The lines come into the database of a folder.
 mod into_directory;
 mod line_teller;
+mod load_options;
 mod program;
 mod stopped;
 mod sweeping;
@@ -32,6 +33,7 @@ pub use beside::load_beside;
 pub use into_directory::load_into;
 pub use laws::each_key_shows_its_last_line;
 pub use load_fault::LoadFault;
+pub use load_options::LoadOptions;
 pub use loading::load;
 pub use mark::Mark;
 pub use origin::{Grown, Origin};

@@ -1,9 +1,13 @@
 //! Why not all lines are loaded.
 
+ghost use Rattle.std.specs.Prelude.{◌≡◌};
+ghost use Rattle.lsm_loading.specs.declared.load_fault.LoadFault.TheVariants.{OutOfMemory};
+
 use lsm_lines::WriteLineFault;
 use lsm_state::StateFault;
 use lsm_store::WorkerFault;
 use lsm_table::ShelfFault;
+use std::alloc::AllocFailed;
 
 /// Why not all lines are loaded, or what was due is not compacted behind them.
 #[derive(Clone, Copy, Debug)]
@@ -20,4 +24,12 @@ pub enum LoadFault {
     Other,
     /// All lines are in, and this worker ended early.
     Worker(WorkerFault),
+}
+
+impl<T: Drop> From<AllocFailed<T>> for LoadFault {
+    ghost from_gives = { λ _ f. f ≡ OutOfMemory };
+
+    fn from(_error: AllocFailed<T>) -> LoadFault {
+        LoadFault::OutOfMemory
+    }
 }

@@ -6,11 +6,12 @@ ghost use Rattle.lsm_loading.specs.LoadedAt.{FailsToLoad, LoadsAt};
 
 use crate::into_directory::load_into;
 use crate::line_teller::LineTeller;
+use crate::load_options::LoadOptions;
 use crate::stopped::Stopped;
 use lsm_directory::{Known, Paths, Unopened, open_at, refuse, status_of};
 use lsm_folder::{FolderCalls, Reasons};
 use lsm_storage::FileShelf;
-use lsm_text::{Input, LoadLine, LoadOptions};
+use lsm_text::Input;
 use lsm_writing::prepare;
 use std::io::{Read, Write};
 use std::sync::Wait;
@@ -89,7 +90,7 @@ where
     status_of(done, Known::answered(Some(&reasons)), err)
 }
 
-/// Opens the database of the folder at the path of a line under its lock, or begins one, as
+/// Opens the database of the folder at a path under its lock, or begins one, as
 /// `ingest` does, and loads the lines of the input that is found there, standard input or the file
 /// of a path, while so many workers compact beside. Writes `loaded L lines in B batches`, and
 /// answers the exit status: 0 then, and 1 where it is refused. A fault is one line on `err`, and has
@@ -98,7 +99,9 @@ where
 pub fn run_load<C, P, R, I, O, E>(
     rt: &R,
     paths: &P,
-    line: &LoadLine<'_>,
+    path: &str,
+    options: LoadOptions,
+    found: Input<'_>,
     standard: I,
     out: &mut O,
     err: &mut E,
@@ -111,22 +114,22 @@ where
     I: Read + Drop,
     O: Write,
     E: Write,
-    ensures done { result ≡ 0 → LoadsAt C.FolderCalls line.now.path.now line.now.options
-        (text_in (I.remaining standard) (P.text paths.now) line.now.input)
+    ensures done { result ≡ 0 → LoadsAt C.FolderCalls path.now options
+        (text_in (I.remaining standard) (P.text paths.now) found.entry)
         (O.contents out.old) (O.contents out.new) }
     ensures refused { result ≢ 0 → (result ≡ 1) × FailsToLoad C.FolderCalls C.Mark.Mark
-        line.now.path.now line.now.options
-        (text_in (I.remaining standard) (P.text paths.now) line.now.input)
+        path.now options
+        (text_in (I.remaining standard) (P.text paths.now) found.entry)
         (O.contents out.old) (O.contents out.new) }
 {
-    let file = match line.input {
+    let file = match found {
         Input::Standard => {
-            return load_from(rt, paths, line.path, line.options, standard, out, err);
+            return load_from(rt, paths, path, options, standard, out, err);
         }
         Input::File(file) => file,
     };
     match paths.open_file(file) {
-        Ok(input) => load_from(rt, paths, line.path, line.options, input, out, err),
+        Ok(input) => load_from(rt, paths, path, options, input, out, err),
         Err(error) => refuse(Unopened { path: file, error }, err),
     }
 }

@@ -29,10 +29,6 @@ valued name = record (new_rule name) { long = Some name; value_names = 1 }
 abbrev pub workers : Rule
 workers = record (valued (codes "workers")) { defaults = codes "2" ∷ []; parser = Some (parser.Unsigned 1 8) }
 
--- `--from-line I`, a number below 2^64 and above 0, which is 1 where it is left out
-abbrev pub from_line : Rule
-from_line = record (valued (codes "from-line")) { defaults = codes "1" ∷ []; parser = Some (parser.Unsigned 1 18446744073709551615) }
-
 -- `--limit N`, a number below 2^64
 abbrev pub limit : Rule
 limit = record (valued (codes "limit")) { parser = Some (parser.Unsigned 0 18446744073709551615) }
@@ -104,9 +100,6 @@ put = command (codes "put") (folder ∷ key ∷ word (codes "VALUE") ∷ text �
 unfoldable pub delete : App
 delete = command (codes "delete") (folder ∷ key ∷ text ∷ begin ∷ beside_log ∷ [])
 
-unfoldable pub load : App
-load = command (codes "load") (folder ∷ file ∷ text ∷ begin ∷ beside_log ∷ workers ∷ from_line ∷ progress ∷ [])
-
 unfoldable pub compact : App
 compact = command (codes "compact") (folder ∷ workers ∷ progress ∷ [])
 
@@ -138,7 +131,7 @@ with_looks = with_subcommand (with_subcommand (with_subcommand (with_subcommand 
 
 -- with those that write keys into a folder
 unfoldable pub with_writes : App
-with_writes = with_subcommand (with_subcommand (with_subcommand (with_subcommand with_looks ingest.top) put.top) delete.top) load.top
+with_writes = with_subcommand (with_subcommand (with_subcommand with_looks ingest.top) put.top) delete.top
 
 -- all commands
 unfoldable pub lsm : App

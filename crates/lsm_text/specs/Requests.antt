@@ -26,9 +26,8 @@ use Rattle.lsm_text.specs.declared.ingest_options.IngestOptions.{IngestOptions}
 use Rattle.lsm_text.specs.declared.input.Input.{Input}
 use Rattle.lsm_text.specs.declared.input.Input.TheVariants.{Standard, File}
 use Rattle.lsm_text.specs.declared.key_bounds.KeyBounds.{KeyBounds}
-use Rattle.lsm_text.specs.declared.load_options.LoadOptions.{LoadOptions}
 use Rattle.lsm_text.specs.declared.request.Request.{Request}
-use Rattle.lsm_text.specs.declared.request.Request.TheVariants.{Convert, Look, Write as WriteFolder, Load, Compact, Script, Shell}
+use Rattle.lsm_text.specs.declared.request.Request.TheVariants.{Convert, Look, Write as WriteFolder, Compact, Script, Shell}
 use Rattle.lsm_text.specs.declared.scan_options.ScanOptions.{ScanOptions}
 use Rattle.lsm_text.specs.declared.scan_output.ScanOutput.{ScanOutput}
 use Rattle.lsm_text.specs.declared.scan_output.ScanOutput.TheVariants.{Pairs, Keys, Count}
@@ -76,7 +75,6 @@ named word =
     else if bytes_eq word (codes "ingest") then Some name.Ingest
     else if bytes_eq word (codes "put") then Some name.Put
     else if bytes_eq word (codes "delete") then Some name.Delete
-    else if bytes_eq word (codes "load") then Some name.Load
     else if bytes_eq word (codes "compact") then Some name.Compact
     else if bytes_eq word (codes "clean") then Some name.Clean
     else if bytes_eq word (codes "shell") then Some name.Shell
@@ -96,7 +94,6 @@ word_of name.Scan = codes "scan"
 word_of name.Ingest = codes "ingest"
 word_of name.Put = codes "put"
 word_of name.Delete = codes "delete"
-word_of name.Load = codes "load"
 word_of name.Compact = codes "compact"
 word_of name.Clean = codes "clean"
 word_of name.Shell = codes "shell"
@@ -127,7 +124,6 @@ abbrev pub name_of : Request → CommandName
 name_of (Convert conversion input) = name_of_conversion conversion
 name_of (Look line) = name_of_look line.command
 name_of (WriteFolder line) = name_of_write line.command
-name_of (Load line) = name.Load
 name_of (Compact line) = name.Compact
 name_of (Script input) = name.Script
 name_of (Shell line) = name.Shell
@@ -183,11 +179,6 @@ abbrev pub AreWorkers : Option Text → ℕ → Type 0
 AreWorkers None workers = ⊥
 AreWorkers (Some word) workers = IsWorkersWord word workers
 
--- the word writes the number of a line, from 1 and below 2^64
-abbrev pub IsLineNumber : Option Text → ℕ → Type 0
-IsLineNumber None n = ⊥
-IsLineNumber (Some word) n = IsNumberWord 18446744073709551615 word n × (1 ≤ n)
-
 abbrev pub AreScanOptions : List Row → ScanOptions → Type 0
 AreScanOptions rows options =
     AreBounds rows options.bounds × IsLimit (word_in (codes "limit") rows) options.limit × (options.output ≡ scan_output_in rows)
@@ -201,11 +192,6 @@ IsLook rows (look.Scan options) = AreScanOptions rows options
 abbrev pub AreIngestOptions : List Row → IngestOptions → Type 0
 AreIngestOptions rows options =
     (options.form ≡ form_in rows) × (options.begins ≡ is_set (codes "begin") rows) × (options.beside_log ≡ is_set (codes "beside-log") rows)
-
-abbrev pub AreLoadOptions : List Row → LoadOptions → Type 0
-AreLoadOptions rows options =
-    AreIngestOptions rows options.ingest × AreWorkers (word_in (codes "workers") rows) options.workers
-    × IsLineNumber (word_in (codes "from-line") rows) options.from_line × (options.progress ≡ is_set (codes "progress") rows)
 
 -- a new value is what VALUE spells
 abbrev pub IsNewValue : List Row → Option (List ℕ) → Type 0
@@ -227,8 +213,6 @@ Says rows (Look line) =
     (word_in (codes "DIR") rows ≡ Some line.path.now) × IsLook rows line.command × (line.form ≡ form_in rows)
     × (line.progress ≡ is_set (codes "progress") rows)
 Says rows (WriteFolder line) = (word_in (codes "DIR") rows ≡ Some line.path.now) × IsWrite rows line.command
-Says rows (Load line) =
-    (word_in (codes "DIR") rows ≡ Some line.path.now) × IsInput (word_in (codes "FILE") rows) line.input × AreLoadOptions rows line.options
 Says rows (Compact line) =
     (word_in (codes "DIR") rows ≡ Some line.path.now) × AreWorkers (word_in (codes "workers") rows) line.options.workers
     × (line.options.progress ≡ is_set (codes "progress") rows)

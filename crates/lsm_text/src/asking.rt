@@ -3,10 +3,9 @@
 ghost use Rattle.std.specs.Prelude.{◌≡◌, IfNone, IfOk, IfSome, List, None, Option, Some, codes};
 ghost use Rattle.std.specs.Prelude.{option_map, ℕ};
 ghost use Rattle.clap.specs.Words.{subcommand_rows_of};
-ghost use Rattle.lsm_text.specs.Requests.{AreBounds, AreIngestOptions, AreLoadOptions};
-ghost use Rattle.lsm_text.specs.Requests.{AreScanOptions, AreWorkers, IsAsked, IsBound, IsInput};
-ghost use Rattle.lsm_text.specs.Requests.{IsKeyWrite, IsLimit, IsLineNumber, IsLook, IsSpelled};
-ghost use Rattle.lsm_text.specs.Requests.{IsWorkersWord, IsWrite, Reads, form_in};
+ghost use Rattle.lsm_text.specs.Requests.{AreBounds, AreIngestOptions, AreScanOptions, AreWorkers};
+ghost use Rattle.lsm_text.specs.Requests.{IsAsked, IsBound, IsInput, IsKeyWrite, IsLimit, IsLook};
+ghost use Rattle.lsm_text.specs.Requests.{IsSpelled, IsWorkersWord, IsWrite, Reads, form_in};
 ghost use Rattle.lsm_text.specs.Requests.{get_output_in, is_set, name_of_conversion};
 ghost use Rattle.lsm_text.specs.Requests.{name_of_look, name_of_value, name_of_write, rows_in};
 ghost use Rattle.lsm_text.specs.Requests.{scan_output_in, topic_in, topic_of, word_in};
@@ -20,9 +19,8 @@ use crate::get_output::GetOutput;
 use crate::ingest_options::IngestOptions;
 use crate::input::Input;
 use crate::key_bounds::KeyBounds;
-use crate::load_options::LoadOptions;
 use crate::number::number_in;
-use crate::request::{CompactLine, DirectoryLine, LoadLine, Request, ShellLine, WritingLine};
+use crate::request::{CompactLine, DirectoryLine, Request, ShellLine, WritingLine};
 use crate::scan_options::ScanOptions;
 use crate::scan_output::ScanOutput;
 use crate::writing_command::WritingCommand;
@@ -211,41 +209,6 @@ fn workers_of(found: &ArgMatches<'_>) -> Option<usize>
     workers_in(word_in(found, "workers")?)
 }
 
-/// The number of a line, from 1, that a word writes.
-pub(crate) fn line_in(word: &str) -> Option<u64>
-    ensures some { IfSome result (IsLineNumber (Some word.now)) }
-    ensures none { IfNone result ((n : ℕ) → IsLineNumber (Some word.now) n → ⊥) }
-{
-    let line = number_in(word.as_bytes(), u64::MAX)?;
-    if line == 0 {
-        return None;
-    }
-    Some(line)
-}
-
-/// The number of the line that `--from-line` names.
-fn from_line_of(found: &ArgMatches<'_>) -> Option<u64>
-    ensures some { IfSome result (IsLineNumber (word_in (codes "from-line") (rows_in found.now))) }
-    ensures none { IfNone result ((n : ℕ)
-        → IsLineNumber (word_in (codes "from-line") (rows_in found.now)) n → ⊥) }
-{
-    line_in(word_in(found, "from-line")?)
-}
-
-/// How lines are to be loaded. `None` where a word names no workers, or no line.
-fn load_options_in(found: &ArgMatches<'_>) -> Option<LoadOptions>
-    ensures some { IfSome result (AreLoadOptions (rows_in found.now)) }
-    ensures none { IfNone result ((options : LoadOptions)
-        → AreLoadOptions (rows_in found.now) options → ⊥) }
-{
-    Some(LoadOptions {
-        ingest: ingest_options_in(found),
-        workers: workers_of(found)?,
-        from_line: from_line_of(found)?,
-        progress: is_set(found, "progress"),
-    })
-}
-
 /// A command that prints what an input has.
 fn convert_in<'a>(conversion: Conversion, found: &ArgMatches<'a>) -> Option<Request<'a>>
     ensures { Reads (name_of_conversion conversion) (rows_in found.now) result }
@@ -357,20 +320,6 @@ fn clean_in<'a>(found: &ArgMatches<'a>) -> Option<Request<'a>>
     write_in(WritingCommand::Clean, found)
 }
 
-/// A load.
-fn load_in<'a>(found: &ArgMatches<'a>) -> Option<Request<'a>>
-    ensures { Reads CommandName.Load (rows_in found.now) result }
-{
-    let path = word_in(found, "DIR")?;
-    let input = input_in(found)?;
-    let options = load_options_in(found)?;
-    Some(Request::Load(LoadLine {
-        path,
-        input,
-        options,
-    }))
-}
-
 /// A compaction.
 fn compact_in<'a>(found: &ArgMatches<'a>) -> Option<Request<'a>>
     ensures { Reads CommandName.Compact (rows_in found.now) result }
@@ -412,7 +361,6 @@ fn request_in<'a>(
         CommandName::Ingest => Ok(ingest_in(found)),
         CommandName::Put => put_in(alloc, found),
         CommandName::Delete => delete_in(alloc, found),
-        CommandName::Load => Ok(load_in(found)),
         CommandName::Compact => Ok(compact_in(found)),
         CommandName::Clean => Ok(clean_in(found)),
         CommandName::Shell => Ok(shell_in(found)),

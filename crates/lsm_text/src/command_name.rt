@@ -17,7 +17,6 @@ pub enum CommandName {
     Ingest,
     Put,
     Delete,
-    Load,
     Compact,
     Clean,
     Shell,
@@ -41,7 +40,6 @@ impl CommandName {
             CommandName::Ingest => "ingest",
             CommandName::Put => "put",
             CommandName::Delete => "delete",
-            CommandName::Load => "load",
             CommandName::Compact => "compact",
             CommandName::Clean => "clean",
             CommandName::Shell => "shell",
@@ -87,9 +85,6 @@ pub(crate) fn named(word: &str) -> Option<CommandName>
     }
     if word == "delete" {
         return Some(CommandName::Delete);
-    }
-    if word == "load" {
-        return Some(CommandName::Load);
     }
     if word == "compact" {
         return Some(CommandName::Compact);

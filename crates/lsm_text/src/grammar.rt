@@ -9,16 +9,15 @@ ghost use Rattle.clap.specs.Words.{subcommand_rows_of};
 ghost use Rattle.clap.specs.Words.{with_rule, with_subcommand};
 ghost use Rattle.clap.specs.declared.error.ErrorKind.TheVariants.{OutOfMemory};
 ghost use Rattle.lsm_text.specs.Grammar.{IsShaped, bare, begin, beside_log, check, clean, compact};
-ghost use Rattle.lsm_text.specs.Grammar.{delete, dump, file, flag, folder, from_line, get, help};
-ghost use Rattle.lsm_text.specs.Grammar.{ingest, key, limit, list, load, lsm, make_table};
-ghost use Rattle.lsm_text.specs.Grammar.{manifest, progress, put};
+ghost use Rattle.lsm_text.specs.Grammar.{delete, dump, file, flag, folder, get, help, ingest, key};
+ghost use Rattle.lsm_text.specs.Grammar.{limit, list, lsm, make_table, manifest, progress, put};
 ghost use Rattle.lsm_text.specs.Grammar.{scan, script, shell, text, topic, valued, with_inputs};
 ghost use Rattle.lsm_text.specs.Grammar.{with_looks, with_writes, word, workers};
 ghost use Rattle.lsm_text.specs.Requests.{faults_in, found_in};
 
 use crate::pages::{
-    CHECK, CLEAN, COMPACT, DELETE, DUMP, GET, HELP, INGEST, LIST, LOAD, MAKE_TABLE, MANIFEST,
-    OVERVIEW, PUT, Page, SCAN, SCRIPT, SHELL, VERSION,
+    CHECK, CLEAN, COMPACT, DELETE, DUMP, GET, HELP, INGEST, LIST, MAKE_TABLE, MANIFEST, OVERVIEW,
+    PUT, Page, SCAN, SCRIPT, SHELL, VERSION,
 };
 use clap::builder::ValueParser;
 use clap::{Arg, ArgAction, ArgMatches, Command, Error};
@@ -102,21 +101,6 @@ fn workers<'a>(alloc: Global) -> Arg<'a>
     valued(alloc, "workers", "N", "How many threads compact, 1 to 8")
         .value_parser(ValueParser::Unsigned(1, 8))
         .default_value("2")
-}
-
-/// The option for the first line that is loaded.
-fn from_line<'a>(alloc: Global) -> Arg<'a>
-    ensures rule { rule_of result ≡ from_line }
-    ensures local { result.global ≡ false }
-{
-    valued(
-        alloc,
-        "from-line",
-        "I",
-        "The first line that is loaded, from 1",
-    )
-    .value_parser(ValueParser::Unsigned(1, u64::MAX))
-    .default_value("1")
 }
 
 /// The option for the most pairs of a scan.
@@ -317,20 +301,6 @@ fn delete<'a>(alloc: Global) -> Made<'a>
     also(delete, beside_log(alloc))
 }
 
-/// The command that loads lines.
-fn load<'a>(alloc: Global) -> Made<'a>
-    ensures { IsShaped result load }
-{
-    let load = also(titled(alloc, LOAD), folder(alloc));
-    let load = also(load, file(alloc));
-    let load = also(load, text(alloc));
-    let load = also(load, begin(alloc));
-    let load = also(load, beside_log(alloc));
-    let load = also(load, workers(alloc));
-    let load = also(load, from_line(alloc));
-    also(load, progress(alloc))
-}
-
 /// The command that compacts a folder.
 fn compact<'a>(alloc: Global) -> Made<'a>
     ensures { IsShaped result compact }
@@ -412,8 +382,7 @@ fn with_writes<'a>(alloc: Global) -> Made<'a>
 {
     let lsm = with(with_looks(alloc), ingest(alloc));
     let lsm = with(lsm, put(alloc));
-    let lsm = with(lsm, delete(alloc));
-    with(lsm, load(alloc))
+    with(lsm, delete(alloc))
 }
 
 /// The program with all commands.

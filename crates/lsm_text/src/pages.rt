@@ -1,7 +1,5 @@
 //! The texts of the commands' help.
 
-use crate::command_name::{CommandName, named};
-
 /// A command as its help shows it.
 #[derive(Clone, Copy)]
 pub(crate) struct Page {
@@ -22,20 +20,18 @@ as text; `.` stands for no bytes. In text a byte that does not print is `\\xNN`,
 and so are `\\` (`\\x5c`), `=` (`\\x3d`), `!` (`\\x21`), `@` (`\\x40`), a blank
 (`\\x20`) and a word that is just a point (`\\x2e`). Sizes are in bytes.
 
-FILE is the path of a file, or `-` for standard input; it may have 64 MiB, and
-for `load` any size.
+FILE is the path of a file, or `-` for standard input; it may have 64 MiB.
 Options stand anywhere behind the command, and a value is the word behind its
 option, or behind `=` in its word: `--from 61`, `--from=61`. Behind `--` no word
 is an option: `lsm get db --text -- -key`.
 
 A DIR that is not there is `refused 9 Device`, one without a file CURRENT
-`refused 10 Missing`; but `ingest`, `put`, `delete`, `load` and `shell` begin a
-database in a DIR that has no manifest and no table either. A DIR that is a
-symbolic link is the folder that it leads to; what is no regular file is not
-read.
+`refused 10 Missing`; but `ingest`, `put`, `delete` and `shell` begin a database
+in a DIR that has no manifest and no table either. A DIR that is a symbolic link is the
+folder that it leads to; what is no regular file is not read.
 
-`ingest`, `put`, `delete`, `load`, `compact`, `clean` and `shell` hold LevelDB's
-lock file, DIR/LOCK, alone, and make it where it is not there; the other commands
+`ingest`, `put`, `delete`, `compact`, `clean` and `shell` hold LevelDB's lock
+file, DIR/LOCK, alone, and make it where it is not there; the other commands
 share it where it is there. Where another program holds it, also a LevelDB, it is
 `refused 52 Locked`, and nothing is read or written. A LevelDB is noticed where
 the system has the file /proc/locks; it does not notice `lsm`: do not open DIR
@@ -43,8 +39,8 @@ while `lsm` writes there.
 
 No command reads a write-ahead log (`N.log`). Of each one that LevelDB has not
 flushed, `list`, `get` and `scan` say on standard error how many bytes are not
-read, and `check` prints a line. `ingest`, `put`, `delete`, `load` and `shell`
-are `refused 51 UnflushedLog N` beside it.
+read, and `check` prints a line; `ingest`, `put`, `delete` and `shell` are
+`refused 51 UnflushedLog N`.
 
 Tables that are compressed, as LevelDB makes them unless told otherwise, are
 refused: `refused 16 Compressed 1`.
@@ -306,16 +302,16 @@ prints `file N first L last L`: the table's number and its sequence, as `ingest`
 does with the one line `KEY=VALUE`. DIR has to be there. KEY and VALUE are hex,
 or text with --text, `.` for no bytes.
 
-Limits: 4096 bytes of KEY, 1048576 bytes of VALUE; past them it is
-`refused 39 TooLarge`. The system limits a word of a command line too, Linux to
-131071 bytes: `ingest` brings a longer VALUE in.
+Limits: 4096 bytes of KEY, 1048576 bytes of VALUE; past them it is `refused 39
+TooLarge`. The system limits a word of a command line too, Linux to 131071
+bytes: `ingest` brings a longer VALUE in.
 
 Each run makes a table and a manifest, so `ingest` is better for many keys. Of
 --begin and --beside-log, and of all that is refused, its page says more: where
 CURRENT was lost it is `refused 10 Missing`, beside a log that LevelDB has not
-flushed `refused 51 UnflushedLog N`, where another program has DIR open
-`refused 52 Locked`, and at 12 tables in level 0 `refused 40 LevelZeroFull`: run
-`lsm compact DIR`, and then put again.
+flushed `refused 51 UnflushedLog N`, where another program has DIR open `refused
+52 Locked`, and at 12 tables in level 0 `refused 40 LevelZeroFull`: run `lsm
+compact DIR`, and then put again.
 
 Exit status: 0 the key has the value, 1 refused, 2 bad command line. After a
 `write fault` it has it; after `refused 9 Device` it may.",
@@ -337,50 +333,14 @@ Limit: 4096 bytes of KEY; past it it is `refused 39 TooLarge`.
 Each run makes a table and a manifest, so `ingest` is better for many keys. Of
 --begin and --beside-log, and of all that is refused, its page says more: where
 CURRENT was lost it is `refused 10 Missing`, beside a log that LevelDB has not
-flushed `refused 51 UnflushedLog N`, where another program has DIR open
-`refused 52 Locked`, and at 12 tables in level 0 `refused 40 LevelZeroFull`: run
-`lsm compact DIR`, and then delete again.
+flushed `refused 51 UnflushedLog N`, where another program has DIR open `refused
+52 Locked`, and at 12 tables in level 0 `refused 40 LevelZeroFull`: run `lsm
+compact DIR`, and then delete again.
 
 Exit status: 0 the key is deleted, 1 refused, 2 bad command line. After a `write
 fault` it is; after `refused 9 Device` it may be.",
     example: "Examples: lsm delete db 6170706c65
           lsm delete db apple --text",
-};
-
-pub(crate) const LOAD: Page = Page {
-    name: "load",
-    usage: "lsm load <DIR> [FILE] [--text] [--begin] [--beside-log] [--workers <N>] [--from-line <I>] [--progress]",
-    about: "Brings lines of keys into a folder, any number in any order",
-    text: "Brings the lines of FILE, or of standard input where FILE is left out or `-`,
-into the LevelDB folder DIR, and prints `loaded L lines in B batches`. A line is
-`KEY=VALUE` for a new value of KEY, or `KEY!` where it is deleted; of one key the
-last line wins. There may be any number of lines, in any order. KEY and VALUE are
-hex, or text with --text, `.` for no bytes: `scan` prints such lines.
-
-FILE is read as a stream, in memory that does not grow with it. As many lines as
-a batch may have, 65536 with 4194304 bytes of keys and values together, come in
-at a time, as one table at level 0, while other threads compact: --workers is how
-many, 1 to 8; 2 if it is not said. Behind the last line all that is due is
-compacted, and the tables that are not needed any more are removed.
-
-A line of another form, or of more than 8388608 bytes, or with a key or value
-over its limit, is `bad line I`; the lines before it are in. Wherever it ends
-before the last line, whole batches are in, and the last line on standard error
-says of which lines: `lines 1 to L are in`. Mend it, and go on with --from-line
-L+1, which passes over the lines before that one; lines that come in twice leave
-what they left once, as long as those behind them come in again too.
-
-Limits: 8388608 bytes of a line, 4096 bytes of a key, 1048576 bytes of a value.
-
-Of --begin and --beside-log, and of all that is refused before the first line,
-the page of `ingest` says more.
-
-Exit status: 0 all lines are in, and all that was due is compacted, 1 refused, 2
-bad command line. After a `write fault` all lines are in; after `refused 9
-Device` one batch more than is said may be in.",
-    example: "Examples: lsm scan old --text | lsm load db --text
-          lsm load db words.txt --text --workers 4 --progress
-          lsm load db words.txt --text --from-line 131073",
 };
 
 pub(crate) const COMPACT: Page = Page {
@@ -481,32 +441,18 @@ Exit status: 0 done, 1 refused, 2 bad command line, also where COMMAND is none."
     example: "Example: lsm help check",
 };
 
-/// How a command is used.
-fn usage(name: CommandName) -> &'static str {
-    match name {
-        CommandName::MakeTable => MAKE_TABLE.usage,
-        CommandName::Dump => DUMP.usage,
-        CommandName::Manifest => MANIFEST.usage,
-        CommandName::Script => SCRIPT.usage,
-        CommandName::Check => CHECK.usage,
-        CommandName::List => LIST.usage,
-        CommandName::Get => GET.usage,
-        CommandName::Scan => SCAN.usage,
-        CommandName::Ingest => INGEST.usage,
-        CommandName::Put => PUT.usage,
-        CommandName::Delete => DELETE.usage,
-        CommandName::Load => LOAD.usage,
-        CommandName::Compact => COMPACT.usage,
-        CommandName::Clean => CLEAN.usage,
-        CommandName::Shell => SHELL.usage,
-        CommandName::Help => HELP.usage,
-    }
-}
+/// The pages of the commands.
+const PAGES: [Page; 15] = [
+    MAKE_TABLE, DUMP, MANIFEST, SCRIPT, CHECK, LIST, GET, SCAN, INGEST, PUT, DELETE, COMPACT,
+    CLEAN, SHELL, HELP,
+];
 
 /// How the command of this name is used.
 pub(crate) fn usage_of(name: &str) -> &'static str {
-    match named(name) {
-        Some(name) => usage(name),
-        None => "lsm <COMMAND>",
+    for page in &PAGES {
+        if page.name == name {
+            return page.usage;
+        }
     }
+    "lsm <COMMAND>"
 }

@@ -6,7 +6,6 @@ use crate::directory_command::DirectoryCommand;
 use crate::form::Form;
 use crate::ingest_options::IngestOptions;
 use crate::input::Input;
-use crate::load_options::LoadOptions;
 use crate::writing_command::WritingCommand;
 
 /// A command on a directory that is only read, and the path of that.
@@ -34,14 +33,6 @@ pub struct CompactLine<'a> {
     pub options: CompactOptions,
 }
 
-/// A load: of the lines of this input into the folder of this path, with these options.
-#[derive(Clone, Copy, Debug)]
-pub struct LoadLine<'a> {
-    pub path: &'a str,
-    pub input: Input<'a>,
-    pub options: LoadOptions,
-}
-
 /// Commands on the folder of this path, one a line of standard input: it is opened or begun as a
 /// batch that is to come in asks for.
 #[derive(Clone, Copy, Debug)]
@@ -59,8 +50,6 @@ pub enum Request<'a> {
     Look(DirectoryLine<'a>),
     /// `ingest`, `put`, `delete` or `clean`.
     Write(WritingLine<'a>),
-    /// `load`.
-    Load(LoadLine<'a>),
     /// `compact`.
     Compact(CompactLine<'a>),
     /// `script`: the commands that an input spells.

@@ -1,6 +1,6 @@
 //! What is wrong with words that are of the grammar, but that ask for nothing.
 
-use crate::asking::{form_in, line_in, word_in};
+use crate::asking::{form_in, word_in};
 use crate::form::Form;
 use crate::syntax_fault::{SyntaxFault, syntax_fault_in};
 use clap::ArgMatches;
@@ -14,8 +14,6 @@ pub(crate) enum UsageFault<'a> {
     Bytes(&'static str, &'a str, SyntaxFault),
     /// No number of pairs, though `clap` reads it as one.
     Limit(&'a str),
-    /// No number of a line, though `clap` reads it as one.
-    Line(&'a str),
     /// No number of workers, though `clap` reads it as one.
     Workers(&'a str),
     /// No command, where one stands behind `help`.
@@ -45,15 +43,6 @@ fn first_wrong_bytes<'a>(found: &ArgMatches<'a>) -> Option<UsageFault<'a>> {
     wrong_bytes(form, found, "VALUE", "VALUE")
 }
 
-/// The word of `--from-line`, where it names no line.
-fn wrong_line<'a>(found: &ArgMatches<'a>) -> Option<&'a str> {
-    let word = word_in(found, "from-line")?;
-    match line_in(word) {
-        Some(_) => None,
-        None => Some(word),
-    }
-}
-
 /// What is wrong with the words of the command that was found; none where nothing is seen here.
 pub(crate) fn fault_in<'a>(matches: &ArgMatches<'a>) -> Option<UsageFault<'a>> {
     let (_, found) = matches.subcommand()?;
@@ -65,9 +54,6 @@ pub(crate) fn fault_in<'a>(matches: &ArgMatches<'a>) -> Option<UsageFault<'a>> {
     }
     if let Some(word) = word_in(found, "limit") {
         return Some(UsageFault::Limit(word));
-    }
-    if let Some(word) = wrong_line(found) {
-        return Some(UsageFault::Line(word));
     }
     Some(UsageFault::Workers(word_in(found, "workers")?))
 }
@@ -103,7 +89,6 @@ impl<'a> fmt::Display for UsageFault<'a> {
         match self {
             UsageFault::Bytes(what, word, fault) => write_bytes(f, what, word, *fault),
             UsageFault::Limit(word) => write!(f, "`{word}` is no number of pairs"),
-            UsageFault::Line(word) => write!(f, "`{word}` is no number of a line, from 1"),
             UsageFault::Workers(word) => write!(f, "`{word}` is no number of workers, 1 to 8"),
             UsageFault::Command(word) => write!(f, "`{word}` is no command"),
         }

@@ -1,0 +1,14 @@
+//! How lines are to be loaded.
+
+use lsm_text::IngestOptions;
+
+/// How each batch is to come in; how many workers compact beside, 1 to 8 are meant; the number of
+/// the first line that is loaded, from 1; and whether it is to be said on standard error how far it
+/// is.
+#[derive(Clone, Copy, Debug)]
+pub struct LoadOptions {
+    pub ingest: IngestOptions,
+    pub workers: usize,
+    pub from_line: u64,
+    pub progress: bool,
+}
