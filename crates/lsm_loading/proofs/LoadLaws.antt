@@ -1,6 +1,6 @@
 -- Lines that come in, batch by batch.
-use Rattle.std.proofs.Common.{◌≡◌, ℕ, suc, ◌+◌, ◌<◌, ◌≤◌, List, [], ◌∷◌, ◌++◌, length, Option, Some, None, refl, sym, ap, ◌∙◌, subst, append_assoc, append-nil, length-append, inl, inr, arith}
-use Rattle.std.specs.Prelude.{◌⊎◌, ◌^◌}
+use Rattle.std.proofs.Common.{◌≡◌, ℕ, suc, ◌+◌, ◌*◌, ◌<◌, ◌≤◌, List, [], ◌∷◌, ◌++◌, length, Option, Some, None, refl, sym, ap, ◌∙◌, subst, append_assoc, append-nil, length-append, inl, inr, arith}
+use Rattle.std.specs.Prelude.{◌⊎◌, ◌^◌, Result, Ok, Err, IfOk, IfErr}
 use Rattle.std.specs.Io.KnownBytes.{IsAtEnd}
 use Rattle.lsm_codec.specs.Entries.{Entry}
 use Rattle.lsm_text.specs.EntryList.{lines_of}
@@ -19,8 +19,9 @@ use Rattle.lsm_lines.proofs.CallerLemmas.{cut_more, cut_none}
 use Rattle.lsm_shelf.specs.Asked.{Asked}
 use Rattle.lsm_shelf.specs.declared.shelf_fault.ShelfFault.{ShelfFault}
 use Rattle.lsm_loading.specs.Coming.{CameIn, ComesNext, all_after, last_after}
-use Rattle.lsm_loading.specs.Loading.{BatchCame, IsLoaded, IsNotTaken, IsUnloaded, Loads, NoneCame, StaysOut, StopsBehind, TakesBatch}
-use Rattle.lsm_loading.specs.Marks.{Marked}
+use Rattle.lsm_loading.specs.Loading.{BatchCame, IsLate, IsLoaded, IsNotTaken, IsUnloaded, Loads, NoneCame, SomeAreIn, StaysOut, StopsBehind, TakesBatch}
+use Rattle.lsm_state.specs.Held.{Held}
+use Rattle.lsm_loading.specs.Marks.{Marked, marked_in}
 use Rattle.lsm_loading.specs.declared.load_fault.LoadFault.{LoadFault}
 use Rattle.lsm_loading.specs.declared.load_fault.LoadFault.TheVariants.{OutOfMemory, Shelf, Line, Ingest, Other, Worker}
 use Rattle.lsm_loading.specs.declared.progress.Progress.{Progress}
@@ -228,3 +229,39 @@ pub stopped_on : (old mid new : Pending) (found was now : Marked) (p q : Progres
     → Loads old mid.left mid.held found was p → TakesBatch mid new was now p q end → StopsBehind old found q fault
 stopped_on old mid new found was now p q end fault is form l t =
     stopped_behind old mid new found was now p q fault form l (subst (λ (e : BatchEnd). TakesBatch mid new was now p q e) is t)
+
+-- ---- workers around them
+
+-- nothing came in yet
+pub none_came : (old : Pending) (found : Marked) (p : Progress) → old.held ≡ [] → p ≡ record { lines = 0; batches = 0 } → SomeAreIn old found p
+none_came old found p held none =
+    (found, old.left, old.held, loads_none old found p held (ap (λ (q : Progress). q.lines) none) (ap (λ (q : Progress). q.batches) none))
+
+-- the state behind all lines is as far as the mark
+pub loaded_to : (old : Pending) (found mark m now : Marked) (p : Progress) → mark ≡ found → IsLoaded old mark m p → now ≡ m → IsLoaded old found now p
+loaded_to old found mark m now p same l is =
+    subst (λ (x : Marked). IsLoaded old x now p) same (subst (λ (x : Marked). IsLoaded old mark x p) (sym is) l)
+
+pub late : (Refused : Asked → ShelfFault → Type 0) (origin : Marked) (old : Pending) (found mark m : Marked) (p : Progress) (e : LoadFault) → mark ≡ found → IsLoaded old mark m p → IsLate e
+    → IsUnloaded Refused origin old found p e
+late Refused origin old found mark m p Other same l k = (let t = loaded_to old found mark m m p same l refl in (m, t.0, [], t.1))
+late Refused origin old found mark m p (Worker fault) same l k = (let t = loaded_to old found mark m m p same l refl in (m, t.0, [], t.1))
+late Refused origin old found mark m p OutOfMemory same l k = absurd k
+late Refused origin old found mark m p (Shelf fault) same l k = absurd k
+late Refused origin old found mark m p (Line fault) same l k = absurd k
+late Refused origin old found mark m p (Ingest fault) same l k = absurd k
+
+-- by what came of the lines, and then of the workers
+pub finished : (old : Pending) (found mark m : Marked) (p : Progress) (r : Result Held LoadFault) → mark ≡ found → IsLoaded old mark m p → IfOk r (λ s. marked_in s ≡ m)
+    → IfOk r (λ s. IsLoaded old found (marked_in s) p)
+finished old found mark m p (Ok s) same l k = loaded_to old found mark m (marked_in s) p same l k
+finished old found mark m p (Err e) same l k = tt
+
+pub finished_late : (Refused : Asked → ShelfFault → Type 0) (origin : Marked) (old : Pending) (found mark m : Marked) (p : Progress) (r : Result Held LoadFault) → mark ≡ found
+    → IsLoaded old mark m p → IfErr r IsLate → IfErr r (λ e. IsUnloaded Refused origin old found p e)
+finished_late Refused origin old found mark m p (Ok s) same l k = tt
+finished_late Refused origin old found mark m p (Err e) same l k = late Refused origin old found mark m p e same l k
+
+pub unloaded_of : (Refused : Asked → ShelfFault → Type 0) (origin : Marked) (old : Pending) (found mark : Marked) (p : Progress) (e : LoadFault) → mark ≡ found
+    → IsUnloaded Refused origin old mark p e → IsUnloaded Refused origin old found p e
+unloaded_of Refused origin old found mark p e same u = subst (λ (x : Marked). IsUnloaded Refused origin old x p e) same u

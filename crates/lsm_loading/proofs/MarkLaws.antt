@@ -44,7 +44,7 @@ none_in (c ∷ a) e = absurd (omega (arith, e))
 
 -- ---- marks
 
-mark_of : List Entry → ℕ → Marked
+abbrev mark_of : List Entry → ℕ → Marked
 mark_of es n = record { history = es; last = n }
 
 same_marked : (a b : Marked) → a.history ≡ b.history → a.last ≡ b.last → a ≡ b
@@ -87,6 +87,10 @@ even_first found = refl
 pub even_seated : (found : Marked) (was is : Held) → found ≡ marked_in was → IsSeated was is → IsEven found (marked_in is)
 even_seated found was is at seated =
     subst (λ (h : Held). IsEven found (marked_in h)) (sym seated.1) (subst (λ (m : Marked). IsEven found m) at (even_first found))
+
+-- the same, where its pinners were taken before
+pub even_put : (found : Marked) (was mid is : Held) → found ≡ marked_in was → mid ≡ record was { pinners = [] } → IsSeated mid is → IsEven found (marked_in is)
+even_put found was mid is at same seated = even_seated found mid is (at ∙ sym (ap (λ (h : Held). marked_in h) same)) seated
 
 pub even_compacting : (Honest : Type 0) (found : Marked) → IsKeptByCompaction Honest (λ h. IsEven found (marked_in h))
 even_compacting Honest found was is step even = omega (arith, even, ap length step.found.history, step.found.last)

@@ -33,6 +33,7 @@ struct Done<N: Boarded, S: Shelf, O: Origin> {
 }
 
 /// Loads the lines of an input into a store, while its workers compact until nothing is due.
+#[tactic(auto, using(crate::proofs::MarkLaws::even_compacting))]
 fn load_all<N: Boarded, S: Shelf, O: Origin, R: Threads + Wait + Sync, I: Read + Drop, T: Teller>(
     rt: &R,
     alloc: Global,
@@ -87,12 +88,13 @@ fn load_all<N: Boarded, S: Shelf, O: Origin, R: Threads + Wait + Sync, I: Read +
 fn judge(ends: &[WorkerEnd]) -> Result<(), WorkerFault>
     ensures { OnOk result (All (λ e. e.fault ≡ None) ends.now) }
 {
-    for end in ends {
-        if let Some(fault) = end.fault {
-            return Err(fault);
-        }
+    match ends {
+        [] => Ok(()),
+        [end, rest @ ..] => match end.fault {
+            Some(fault) => Err(fault),
+            None => judge(rest),
+        },
     }
-    Ok(())
 }
 
 /// The state behind all lines, where it is just as far as the mark behind them and no worker ended
@@ -122,6 +124,7 @@ fn finish<N: Boarded, S: Shelf, O: Origin>(
 /// made it, and what came in of them is counted.
 ///
 /// A refusal leaves whole batches in the database, of which the count says how many lines are in.
+#[tactic(auto, using(crate::proofs::LoadLaws::finished, crate::proofs::LoadLaws::finished_late, crate::proofs::LoadLaws::unloaded_of, crate::proofs::LoadLaws::none_came, crate::proofs::MarkLaws::even_first))]
 pub fn load_beside<N, S, O, R, I, T>(
     rt: &R,
     alloc: Global,

@@ -43,7 +43,7 @@ where
 
 impl<N: Boarded, S: Shelf, O: Origin> Crew<N, S, O> {
     /// The store of a state, which has no readers, and forks of its shelf.
-    #[tactic(auto, using(lsm_shelf::proofs::CallerLemmas::forked_then, lsm_shelf::proofs::CallerLemmas::forked_once, lsm_shelf::proofs::CallerLemmas::forked_same))]
+    #[tactic(auto, using(crate::proofs::MarkLaws::even_put, lsm_shelf::proofs::CallerLemmas::forked_then, lsm_shelf::proofs::CallerLemmas::forked_once, lsm_shelf::proofs::CallerLemmas::forked_same))]
     pub(crate) fn new(
         alloc: Global,
         state: State<N, S>,
