@@ -2,5 +2,3 @@
 pub mod Marks
 pub mod Coming
 pub mod Loading
-pub mod Loaded
-pub mod LoadedAt

@@ -1,7 +1,6 @@
 //! Lines come into a state while workers compact beside.
 
 ghost use Rattle.std.specs.Prelude.{◌≡◌, [], All, IfErr, IfOk, None, OnOk};
-ghost use Rattle.lsm_shelf.specs.Told.{Forked};
 ghost use Rattle.lsm_loading.specs.Loading.{IsLate, IsLoaded, IsUnloaded};
 ghost use Rattle.lsm_loading.specs.Marks.{IsEven, marked_in};
 ghost use Rattle.lsm_loading.specs.declared.load_fault.LoadFault.TheVariants.{OutOfMemory};
@@ -147,7 +146,6 @@ where
         IsLoaded lines (marked_in state) (marked_in s) result.1) }
     ensures refused { IfErr result.0 (λ e.
         IsUnloaded (S.refuses N.place) O.found lines (marked_in state) result.1 e) }
-    ensures told { Forked shelf.old shelf.new }
 {
     let mut state = state;
     let mark: Mark<N, O> = Mark::of(&mut state);

