@@ -1,13 +1,13 @@
 -- What reads give after batches that came in.
 use Rattle.std.proofs.Common.{◌≡◌, ℕ, suc, ◌+◌, ◌<◌, ◌≤◌, Bool, true, false, cond, List, [], ◌∷◌, ◌++◌, length, Option, Some, None, refl, sym, ap, ◌∙◌, subst, inl, inr, arith}
-use Rattle.std.specs.Prelude.{◌⊎◌, nat_lt}
+use Rattle.std.specs.Prelude.{nat_lt}
 use Rattle.std.specs.Option.{option_or}
 use Rattle.std.specs.Str.{bytes_eq}
-use Rattle.std.proofs.lemmas.Bool.{cases_Bool, ltb-true, ltb-false, lt-ltb}
+use Rattle.std.proofs.lemmas.Bool.{cases_Bool, ltb-true, lt-ltb}
 use Rattle.lsm_codec.specs.Lists.{Has}
 use Rattle.lsm_codec.specs.Keys.{UserKey}
 use Rattle.lsm_codec.specs.Entries.{Entry, answer, first_of_two, is_allowed, newest, stamp, value_in}
-use Rattle.lsm_codec.proofs.CallerLemmas.{Finds, IsAllowed, IsNewest, allowed_from, allowed_says, has_cases, key_from_test, newest_finds, stamp_lt, test_from_key}
+use Rattle.lsm_codec.proofs.CallerLemmas.{Finds, IsAllowed, allowed_from, allowed_says, has_cases, key_from_test, newest_finds, stamp_lt, test_from_key}
 use Rattle.lsm_batch.specs.Batches.{entries_from, written_at}
 use Rattle.lsm_batch.specs.declared.write.Write.{Write}
 use Rattle.lsm_lines.specs.Cuts.{IsCut, joined}

@@ -1,14 +1,12 @@
 -- Lines that come in, batch by batch.
 use Rattle.std.proofs.Common.{◌≡◌, ℕ, suc, ◌+◌, ◌*◌, ◌<◌, ◌≤◌, List, [], ◌∷◌, ◌++◌, length, Option, Some, None, refl, sym, ap, ◌∙◌, subst, append_assoc, append-nil, length-append, inl, inr, arith}
 use Rattle.std.specs.Prelude.{◌⊎◌, ◌^◌, Result, Ok, Err, IfOk, IfErr}
-use Rattle.std.specs.Io.KnownBytes.{IsAtEnd}
 use Rattle.lsm_codec.specs.Entries.{Entry}
 use Rattle.lsm_text.specs.EntryList.{lines_of}
 use Rattle.lsm_text.specs.BatchText.{AreWriteLines}
 use Rattle.lsm_text.specs.declared.form.Form.{Form}
 use Rattle.lsm_batch.specs.Batches.{entries_from}
 use Rattle.lsm_batch.specs.declared.write.Write.{Write}
-use Rattle.lsm_lines.specs.Cuts.{IsCut}
 use Rattle.lsm_lines.specs.Gathering.{Gathers, IsGathered, Pending, Reads, Stops, TakesLines}
 use Rattle.lsm_lines.specs.declared.gathered.Gathered.{Gathered}
 use Rattle.lsm_lines.specs.declared.gathered.BatchEnd.{BatchEnd}

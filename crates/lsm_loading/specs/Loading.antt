@@ -5,7 +5,6 @@ use Rattle.lsm_shelf.specs.Asked.{Asked}
 use Rattle.lsm_shelf.specs.Told.{Told}
 use Rattle.lsm_shelf.specs.declared.shelf_fault.ShelfFault.{ShelfFault}
 use Rattle.lsm_batch.specs.declared.write.Write.{Write}
-use Rattle.lsm_state.specs.Held.{Held}
 use Rattle.lsm_lines.specs.Cuts.{IsCut}
 use Rattle.lsm_lines.specs.Gathering.{EndsBy, Gathers, Pending, Stops}
 use Rattle.lsm_lines.specs.LastWrites.{KeepsLast}

@@ -1,4 +1,4 @@
-use Rattle.std.proofs.Common.{◌≡◌, ◌+◌, ◌≤◌, refl, ap, arith}
+use Rattle.std.proofs.Common.{refl, ap, arith}
 use Rattle.lsm_loading.specs.declared.progress.Progress.{Progress}
 use Rattle.lsm_loading.proofs.LoadLaws.{counted, end_on, few_lines, full_on, loads_none, room, room_of_batches, stopped_on, unloaded}
 use Rattle.lsm_loading.proofs.loading.load.Goals as goal
