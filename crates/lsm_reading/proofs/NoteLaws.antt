@@ -1,5 +1,5 @@
 -- What is told of logs beside the tables, where there is none and where there are some.
-use Rattle.std.proofs.Common.{◌≡◌, ℕ, ◌+◌, List, [], ◌∷◌, ◌++◌, Bool, true, false, length, refl, ap, ◌∙◌, subst, append-nil, inl, inr}
+use Rattle.std.proofs.Common.{◌≡◌, ℕ, List, [], ◌∷◌, ◌++◌, Bool, true, false, length, refl, ap, ◌∙◌, subst, append-nil, inl, inr}
 use Rattle.std.specs.Bool.{◌==◌}
 use Rattle.lsm_version.specs.Versions.{Levels}
 use Rattle.lsm_reading.specs.Listing.{IsChecked, check_text}
