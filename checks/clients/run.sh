@@ -126,9 +126,15 @@ wheel() { # a wheel, without a network, and a program that uses it
     PYTHONPATH=$folder/site first_is "$python" "$clients/examples/first.py"
 }
 
-first_is() { # COMMAND..: a first program, whose folder is a new one here, prints its fruit
+first_is() { # COMMAND..: a first program, which makes /tmp/fruit, says of what colour apples are
+  local status=0
+  if [[ -e /tmp/fruit ]]; then
+    echo "/tmp/fruit is there: it is not touched"
+    return 1
+  fi
+  "$@" > "$folder/said" && grep -q "^apple.*red" "$folder/said" || status=1
   rm -rf /tmp/fruit
-  "$@" > "$folder/said" && grep -q "^apple.*red" "$folder/said" && rm -rf /tmp/fruit
+  return $status
 }
 
 examples() {
