@@ -1,5 +1,5 @@
 #!/usr/bin/env bash
-# Builds the clients and runs their tests over a server: run.sh [WORD], all parts or those whose
+# Builds the clients and runs their tests over a server: run.sh [WORD], all parts, or those whose
 # name has the word. Goes on to the end whatever failed. The last line is `N passed, M failed`;
 # what could not be run counts as failed, and is said.
 #
@@ -46,7 +46,7 @@ find_server() {
 part() { # NAME COMMAND..: runs a part, in a new folder `$folder`; its output is shown where it fails
   local name=$1
   shift
-  [[ $name == *"$word"* ]] || return 0
+  [[ $name == *"$word"* || $name == *": build" ]] || return 0
   folder=$(mktemp -d -p "$work")
   if "$@" > "$work/log" 2>&1 < /dev/null; then
     passed=$((passed + 1))
@@ -126,9 +126,15 @@ wheel() { # a wheel, without a network, and a program that uses it
     PYTHONPATH=$folder/site first_is "$python" "$clients/examples/first.py"
 }
 
-first_is() { # COMMAND..: a first program, whose folder is a new one here, prints its fruit
+first_is() { # COMMAND..: a first program, which makes /tmp/fruit, says of what colour apples are
+  local status=0
+  if [[ -e /tmp/fruit ]]; then
+    echo "/tmp/fruit is there: it is not touched"
+    return 1
+  fi
+  "$@" > "$folder/said" && grep -q "^apple.*red" "$folder/said" || status=1
   rm -rf /tmp/fruit
-  "$@" > "$folder/said" && grep -q "^apple.*red" "$folder/said" && rm -rf /tmp/fruit
+  return $status
 }
 
 examples() {
