@@ -1,0 +1,9 @@
+use Rattle.std.proofs.Common.{◌≡◌, is_some, length}
+use Rattle.lsm_frames.specs.Reading.{items_in, written_at}
+use Rattle.lsm_frames.proofs.writes.are_writes.Given as goal
+
+abbrev pub invariant-loop-rest : goal.invariant-loop-rest
+invariant-loop-rest l = is_some (items_in written_at l.rest) ≡ is_some (items_in written_at l.bytes)
+
+abbrev pub decreases-loop-rest : goal.decreases-loop-rest
+decreases-loop-rest l = length l.rest

@@ -1,0 +1,7 @@
+pub mod Texts
+pub mod Requests
+pub mod Openings
+pub mod Answers
+pub mod Reading
+pub mod RequestReading
+pub mod Views
