@@ -134,3 +134,14 @@ request_read bytes a h = ap asked_at h.bytes_are ∙ asked_again a h.fits
 
 pub same_request : (bytes : List ℕ) (a b : Asked) → IsRequest bytes a → IsRequest bytes b → a ≡ b
 same_request bytes a b h k = some_is a b (sym (request_read bytes a h) ∙ request_read bytes b k)
+
+-- ---- what the reader answers
+
+pub found_by : {X : Type 0} (see : X → Asked) (bytes : List ℕ) (x : X) → IsBytes bytes → Some (see x) ≡ asked_at bytes → IsRequest bytes (see x)
+found_by see bytes x fits e = asked_take bytes (see x) fits (sym e)
+
+pub never : (bytes : List ℕ) (asked : Asked) → None ≡ asked_at bytes → IsRequest bytes asked → ⊥
+never bytes asked e h = let no : ◌≡◌ {A = Option Asked} None (Some asked) = e ∙ request_read bytes asked h in cc
+
+pub just : (bytes : List ℕ) (x asked : Asked) → Some x ≡ asked_at bytes → IsRequest bytes asked → x ≡ asked
+just bytes x asked e h = some_is x asked (e ∙ request_read bytes asked h)

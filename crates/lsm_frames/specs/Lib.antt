@@ -4,4 +4,5 @@ pub mod Openings
 pub mod Answers
 pub mod Reading
 pub mod RequestReading
+pub mod OpeningReading
 pub mod Views
