@@ -1,62 +1,28 @@
-//! Frames over descriptors.
+//! Channels.
 
+use crate::descriptors::{Incoming, read_frame, send};
 use crate::session::Session;
-use crate::wire::{Request, request_length, unread};
+use lsm_frames::{Request, unread};
 use lsm_slots::Boarded;
 use lsm_store::{Background, Store};
 use lsm_table::Shelf;
-use std::alloc::{AllocError, Global};
+use std::alloc::Global;
 use std::sync::Wait;
 use std::thread::Threads;
 
-/// What comes over a descriptor.
-#[derive(Drop)]
-pub(crate) enum Incoming {
-    /// The content of a frame.
-    Content(Vec<u8>),
-    /// A frame of no length that a request may have.
-    Unreadable,
-    /// Nothing more comes.
-    End,
-}
-
-/// The content of a frame of this length.
-fn read_content(alloc: Global, fd: i32, length: usize) -> Result<Incoming, AllocError> {
-    let mut content = Vec::from_elem(alloc, 0u8, length)?;
-    if io::read_full(fd, content.as_mut_slice()) < length {
-        return Ok(Incoming::End);
-    }
-    Ok(Incoming::Content(content))
-}
-
-/// The next frame of a descriptor.
-pub(crate) fn read_frame(alloc: Global, fd: i32) -> Result<Incoming, AllocError> {
-    let mut front = [0u8; 4];
-    if io::read_full(fd, &mut front) < 4 {
-        return Ok(Incoming::End);
-    }
-    match request_length(front) {
-        Ok(length) => read_content(alloc, fd, length),
-        Err(_) => Ok(Incoming::Unreadable),
-    }
-}
-
-/// A session, and the descriptor of its channel.
+/// A session, and the descriptor by which its requests come.
 #[derive(Drop)]
 pub(crate) struct Channel<N: Boarded, S: Shelf> {
     pub(crate) session: Session<N, S>,
     pub(crate) fd: i32,
 }
 
-/// Writes an answer. Whether the channel goes on.
-fn send(fd: i32, answer: Result<Vec<u8>, AllocError>) -> bool {
-    match answer {
-        Ok(frame) => io::write_all(fd, &frame),
-        Err(_) => false,
-    }
+/// Says that a request is in none of the forms. The channel ends.
+fn end_unread(alloc: Global, fd: i32) {
+    let _is_sent = send(fd, unread(alloc));
 }
 
-/// Answers a request: the session as it is then, and whether the channel goes on.
+/// Answers what a frame asks: the session as it is then, and whether the channel goes on.
 fn answer<N: Boarded, S: Shelf, R: Threads + Wait + Sync>(
     rt: &R,
     alloc: Global,
@@ -72,9 +38,30 @@ fn answer<N: Boarded, S: Shelf, R: Threads + Wait + Sync>(
             (session, send(fd, answer))
         }
         Err(_) => {
-            let _is_sent = send(fd, unread(alloc));
+            end_unread(alloc, fd);
             (session, false)
         }
+    }
+}
+
+/// Answers the next request: the session as it is then, and whether the channel goes on.
+fn take_turn<N: Boarded, S: Shelf, R: Threads + Wait + Sync>(
+    rt: &R,
+    alloc: Global,
+    store: &Store<N, S>,
+    background: &Background,
+    session: Session<N, S>,
+    fd: i32,
+) -> (Session<N, S>, bool) {
+    match read_frame(alloc, fd) {
+        Ok(Incoming::Content(content)) => {
+            answer(rt, alloc, store, background, session, fd, &content)
+        }
+        Ok(Incoming::Unreadable) => {
+            end_unread(alloc, fd);
+            (session, false)
+        }
+        Ok(Incoming::End) | Err(_) => (session, false),
     }
 }
 
@@ -88,18 +75,10 @@ pub(crate) fn serve<N: Boarded, S: Shelf, R: Threads + Wait + Sync>(
 ) {
     let Channel { mut session, fd } = channel;
     for _ in rt.forever() {
-        let content = match read_frame(alloc, fd) {
-            Ok(Incoming::Content(content)) => content,
-            Ok(Incoming::Unreadable) => {
-                let _is_sent = send(fd, unread(alloc));
-                return;
-            }
-            _ => return,
-        };
-        let (after, goes_on) = answer(rt, alloc, store, background, session, fd, &content);
+        let (after, goes_on) = take_turn(rt, alloc, store, background, session, fd);
         session = after;
         if !goes_on {
-            return;
+            break;
         }
     }
 }

@@ -1,22 +1,28 @@
 //! The removal of what nothing needs.
 
-use crate::wire::removed;
+ghost use Rattle.std.specs.Prelude.{◌≡◌, IfErr, IfOk};
+ghost use Rattle.lsm_serve.specs.Collecting.{IsCollectFault, IsCollected};
+
 use lsm_slots::Boarded;
-use lsm_state::StateFault;
+use lsm_state::{State, StateFault};
 use lsm_store::Store;
 use lsm_table::{NamedShelf, Shelf};
 use std::alloc::Global;
 use std::sync::Wait;
 
-/// Removes the tables that no version and no job needs. Their numbers.
-fn sweep<N: Boarded, S: Shelf, R: Wait>(
+/// Removes the tables that no version and no job of a state needs. How many there were.
+fn collect_of<N: Boarded, S: Shelf, R: Wait>(
+    state: &mut State<N, S>,
     rt: &R,
     alloc: Global,
-    store: &Store<N, S>,
     shelf: &mut NamedShelf<N, S>,
-) -> Result<Vec<u64>, StateFault> {
-    match store.lock(rt).state.collect(rt, alloc, shelf) {
-        Ok(numbers) => Ok(numbers),
+) -> Result<u64, StateFault>
+    ensures ok { IfOk result (λ n. IsCollected n shelf.old shelf.new) }
+    ensures refused { IfErr result (λ e. IsCollectFault e
+        shelf.old shelf.new) }
+{
+    match state.collect(rt, alloc, shelf) {
+        Ok(numbers) => Ok(numbers.len() as u64),
         Err((fault, _removed)) => Err(fault),
     }
 }
@@ -27,7 +33,10 @@ pub(crate) fn collect<N: Boarded, S: Shelf, R: Wait>(
     alloc: Global,
     store: &Store<N, S>,
     shelf: &mut NamedShelf<N, S>,
-) -> Result<Vec<u8>, StateFault> {
-    let numbers = sweep(rt, alloc, store, shelf)?;
-    Ok(removed(alloc, numbers.len() as u64)?)
+) -> Result<u64, StateFault>
+    ensures ok { IfOk result (λ n. IsCollected n shelf.old shelf.new) }
+    ensures refused { IfErr result (λ e. IsCollectFault e
+        shelf.old shelf.new) }
+{
+    collect_of(&mut store.lock(rt).state, rt, alloc, shelf)
 }

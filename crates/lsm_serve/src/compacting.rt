@@ -1,7 +1,11 @@
 //! Compaction until there is nothing to compact.
 
+ghost use Rattle.std.specs.Prelude.{◌≡◌, All, IfErr, OnOk};
+ghost use Rattle.lsm_serve.specs.Compacting.{IsCompactFault};
+ghost use Rattle.lsm_shelf.specs.Told.{Forked};
+ghost use Rattle.lsm_store.specs.Workers.{IsWorkersEnd};
+
 use crate::forks::forks;
-use crate::wire::nothing;
 use lsm_slots::Boarded;
 use lsm_state::StateFault;
 use lsm_store::{Background, NoGate, Store, WorkerEnd, WorkerFault, run_workers};
@@ -10,8 +14,11 @@ use std::alloc::Global;
 use std::sync::Wait;
 use std::thread::Threads;
 
-/// Ok where no worker has a fault; else that of one.
-fn judge(ends: &[WorkerEnd]) -> Result<(), WorkerFault> {
+/// Ok where no worker has a fault; else that of the first one that has one.
+fn judge(ends: &[WorkerEnd]) -> Result<(), WorkerFault>
+    ensures { (honest : Type 0) → All (IsWorkersEnd honest) ends.now
+        → IfErr result (IsCompactFault honest) }
+{
     for end in ends {
         if let Some(fault) = end.fault {
             return Err(fault);
@@ -20,13 +27,16 @@ fn judge(ends: &[WorkerEnd]) -> Result<(), WorkerFault> {
     Ok(())
 }
 
-/// One worker more looks, compacts what it finds, and ends.
+/// One more worker compacts what it finds.
 fn work<N: Boarded, S: Shelf, R: Threads + Wait + Sync>(
     rt: &R,
     alloc: Global,
     store: &Store<N, S>,
     shelf: &mut NamedShelf<N, S>,
-) -> Result<(), WorkerFault> {
+) -> Result<(), WorkerFault>
+    ensures told { Forked shelf.old shelf.new }
+    ensures refused { IfErr result (IsCompactFault S.honest) }
+{
     let shelves = match forks(alloc, shelf, 1) {
         Ok(shelves) => shelves,
         Err(fault) => return Err(WorkerFault::State(StateFault::Shelf(fault))),
@@ -37,18 +47,18 @@ fn work<N: Boarded, S: Shelf, R: Threads + Wait + Sync>(
     }
 }
 
-/// Waits until no worker finds anything to compact, and sees to it that nothing is left.
+/// Waits until no worker finds anything to compact. One more looks then, which does what they left
+/// where they ended by a fault, or where there is none.
 pub(crate) fn compact<N: Boarded, S: Shelf, R: Threads + Wait + Sync>(
     rt: &R,
     alloc: Global,
     store: &Store<N, S>,
     background: &Background,
     shelf: &mut NamedShelf<N, S>,
-) -> Result<Vec<u8>, WorkerFault> {
+) -> Result<(), WorkerFault>
+    ensures told { Forked shelf.old shelf.new }
+    ensures refused { IfErr result (IsCompactFault S.honest) }
+{
     background.wait_until_idle(rt);
-    work(rt, alloc, store, shelf)?;
-    match nothing(alloc) {
-        Ok(answer) => Ok(answer),
-        Err(_) => Err(WorkerFault::State(StateFault::OutOfMemory)),
-    }
+    work(rt, alloc, store, shelf)
 }

@@ -1,5 +1,10 @@
 //! What a state is made with.
 
+ghost use Rattle.std.specs.Prelude.{◌≡◌, ◌≤◌, IfOk, length};
+ghost use Rattle.lsm_serve.specs.Starting.{options_for};
+ghost use Rattle.lsm_state.specs.Making.{IsNewBoard, IsNewHistory};
+ghost use Rattle.lsm_state.specs.Options.{Fits};
+
 use lsm_history::NewHistory;
 use lsm_pins::{Board, Pinner, Publisher};
 use lsm_slots::Boarded;
@@ -8,10 +13,16 @@ use lsm_table::{Records, Registry, Shelf};
 use std::alloc::{AllocError, Global};
 use std::sync::Arc;
 
-/// The usual options, but with so many readers.
-pub(crate) fn options_for(readers: usize) -> Options {
+/// The usual options, with a reader for each channel.
+#[tactic(auto, using(crate::proofs::OptionLaws::options_fit))]
+pub(crate) fn options_for(channels: usize) -> Options
+    requires some { 1 ≤ channels }
+    requires few { channels ≤ 62 }
+    ensures options { result ≡ options_for channels }
+    ensures fits { Fits result }
+{
     Options {
-        readers,
+        readers: channels,
         ..Options::usual()
     }
 }
@@ -25,7 +36,13 @@ pub(crate) struct NewParts<S: Shelf> {
 }
 
 impl<S: Shelf> NewParts<S> {
-    pub(crate) fn make(alloc: Global, options: Options) -> Result<NewParts<S>, AllocError> {
+    /// No record, the ends of a board for these options, and a history into which nothing came.
+    pub(crate) fn make(alloc: Global, options: Options) -> Result<NewParts<S>, AllocError>
+        requires { Fits options }
+        ensures board { IfOk result (λ p.
+            IsNewBoard p.board.0.board options p.board.0 p.board.1.items) }
+        ensures seats { IfOk result (λ p. length p.board.1.items ≡ options.readers) }
+    {
         Ok(NewParts {
             records: Records::new(alloc)?,
             board: Board::new(alloc, options.readers, options.versions)?,
@@ -33,7 +50,12 @@ impl<S: Shelf> NewParts<S> {
         })
     }
 
-    pub(crate) fn named<N: Boarded>(self, alloc: Global) -> Result<Parts<N, S>, AllocError> {
+    /// The same under the name that was picked for them.
+    pub(crate) fn named<N: Boarded>(self, alloc: Global) -> Result<Parts<N, S>, AllocError>
+        requires { self.records ≡ N.registry }
+        ensures board { IfOk result (λ p. p.board ≡ self.board) }
+        ensures history { IfOk result (λ p. p.history ≡ self.history) }
+    {
         Ok(Parts {
             registry: Registry::shared(alloc, self.records)?,
             board: self.board,
