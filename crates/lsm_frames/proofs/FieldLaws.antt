@@ -9,7 +9,9 @@ use Rattle.lsm_frames.specs.declared.when.When.{When}
 use Rattle.lsm_frames.specs.declared.when.When.TheVariants.{Now, Snapshot}
 use Rattle.lsm_frames.specs.Texts.{text, optional}
 use Rattle.lsm_frames.specs.Requests.{Written, when_text, written_parts, written_text, FitsText, FitsWhen, FitsWritten}
-use Rattle.lsm_frames.specs.Reading.{◌>>=◌, Read, number_at, text_at, optional_at, when_at, written_at}
+use Rattle.lsm_frames.specs.Answers.{Pair, pair_text}
+use Rattle.lsm_frames.specs.Held.{FitsPair}
+use Rattle.lsm_frames.specs.Reading.{◌>>=◌, Read, number_at, text_at, optional_at, when_at, written_at, pair_at}
 use Rattle.lsm_frames.proofs.ByteLaws.{IsBytes, IsBytes-drop, IsBytes-take, IsBytes-rest, bind_some, guard_some, some_is, Takes, Takes-then, Takes-behind, IsFormat, Shortens}
 
 -- ---- numbers
@@ -203,3 +205,23 @@ written_left (suc (suc b) ∷ bytes) w rest e = absurd cc
 
 pub written_shortens : Shortens written_at
 written_shortens = record { shorter = written_left }
+
+-- ---- pairs
+
+pair_takes : (bytes : List ℕ) (p : Pair) (rest : List ℕ) → IsBytes bytes → pair_at bytes ≡ Some (p, rest) → Takes bytes (pair_text p) rest × FitsPair p
+unfolding pair_at
+pair_takes bytes p rest fits e =
+    let b = bind_some (text_at bytes) (λ k. text_at k.1 >>= λ v. Some (record { key = k.0; value = v.0 }, v.1)) (p, rest) e in
+    let d = bind_some (text_at b.0.1) (λ v. Some (record { key = b.0.0; value = v.0 }, v.1)) (p, rest) b.2 in
+    let t = text_takes bytes b.0.0 b.0.1 fits b.1 in
+    let u = text_takes b.0.1 d.0.0 d.0.1 t.0.rest_fits d.1 in
+    let made : Pair × List ℕ = (record { key = b.0.0; value = d.0.0 }, d.0.1) in
+    subst (λ (x : Pair × List ℕ). Takes bytes (pair_text x.0) x.1 × FitsPair x.0) (some_is made (p, rest) d.2) (Takes-then bytes (text b.0.0) b.0.1 (text d.0.0) d.0.1 t.0 u.0, (t.1, u.1))
+
+pair_again : (p : Pair) (rest : List ℕ) → FitsPair p → pair_at (pair_text p ++ rest) ≡ Some (p, rest)
+unfolding pair_at
+pair_again p rest h =
+    ap pair_at (append_assoc (text p.key) (text p.value) rest) ∙ rw (text_again p.key (text p.value ++ rest) h.0, text_again p.value rest h.1) refl
+
+pub pair_format : IsFormat pair_at pair_text FitsPair
+pair_format = record { takes = pair_takes; again = pair_again; some = λ p. omega (arith, length-append (text p.key) (text p.value), length-text p.key) }

@@ -28,8 +28,8 @@ enough read s zero m (b ∷ bytes) p q = absurd (omega arith)
 enough read s (suc n) zero (b ∷ bytes) p q = absurd (omega arith)
 enough {A} read s (suc n) (suc m) (b ∷ bytes) p q =
     bind_same (read (b ∷ bytes)) _ _ (λ x e.
-      let less : length x.1 < length (b ∷ bytes) = s.shorter (b ∷ bytes) x.0 x.1 e in
-      ap (λ (o : Option (List A)). o >>= λ xs. Some (x.0 ∷ xs)) (enough read s n m x.1 (omega arith) (omega arith)))
+    let less : length x.1 < length (b ∷ bytes) = s.shorter (b ∷ bytes) x.0 x.1 e in
+    ap (λ (o : Option (List A)). o >>= λ xs. Some (x.0 ∷ xs)) (enough read s n m x.1 (omega arith) (omega arith)))
 
 -- ---- what a cursor has left
 
@@ -101,7 +101,7 @@ items_take {A} read spell F format (suc n) (b ∷ bytes) xs fits e =
     let later = items_take read spell F format n a.0.1 d.0 first.0.rest_fits d.1 in
     subst (λ (ys : List A). (b ∷ bytes ≡ flat_map spell ys) × AllByRecursion F ys) (some_is (a.0.0 ∷ d.0) xs d.2) (first.0.parts ∙ ap (λ (t : List ℕ). spell a.0.0 ++ t) later.0, (first.1, later.1))
 
-items_again : {A : Type 0} (read : Read A) (spell : A → List ℕ) (F : A → Type 0) → IsFormat read spell F → (n : ℕ) (xs : List A) → AllByRecursion F xs → length (flat_map spell xs) ≤ n → items_by read n (flat_map spell xs) ≡ Some xs
+pub items_again : {A : Type 0} (read : Read A) (spell : A → List ℕ) (F : A → Type 0) → IsFormat read spell F → (n : ℕ) (xs : List A) → AllByRecursion F xs → length (flat_map spell xs) ≤ n → items_by read n (flat_map spell xs) ≡ Some xs
 items_again read spell F format n [] fits long = items_none_left read n
 items_again read spell F format zero (x ∷ xs) fits long = absurd (omega (arith, format.some x, length-append (spell x) (flat_map spell xs)))
 items_again read spell F format (suc n) (x ∷ xs) fits long =

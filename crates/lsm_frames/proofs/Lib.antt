@@ -2,3 +2,5 @@ pub mod ByteLaws
 pub mod FieldLaws
 pub mod ItemLaws
 pub mod RequestLaws
+pub mod OpeningLaws
+pub mod HeldLaws

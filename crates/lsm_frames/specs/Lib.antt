@@ -5,4 +5,6 @@ pub mod Answers
 pub mod Reading
 pub mod RequestReading
 pub mod OpeningReading
+pub mod OpeningView
 pub mod Views
+pub mod Held

@@ -4,6 +4,7 @@ use Rattle.std.specs.Int.{Width, w32, w64, byte_len, from_le_bytes}
 use Rattle.lsm_frames.specs.declared.when.When.{When}
 use Rattle.lsm_frames.specs.declared.when.When.TheVariants.{Now, Snapshot}
 use Rattle.lsm_frames.specs.Requests.{Written}
+use Rattle.lsm_frames.specs.Answers.{Pair}
 
 infixl 10 ◌>>=◌
 abbrev pub ◌>>=◌ : {A B : Type 0} → Option A → (A → Option B) → Option B
@@ -36,6 +37,9 @@ written_at [] = None
 written_at (zero ∷ bytes) = text_at bytes >>= λ k. Some (record { key = k.0; value = None }, k.1)
 written_at (suc zero ∷ bytes) = text_at bytes >>= λ k. text_at k.1 >>= λ v. Some (record { key = k.0; value = Some v.0 }, v.1)
 written_at (suc (suc b) ∷ bytes) = None
+
+unfoldable pub pair_at : Read Pair
+pair_at bytes = text_at bytes >>= λ k. text_at k.1 >>= λ v. Some (record { key = k.0; value = v.0 }, v.1)
 
 -- fields one after another up to the end of the bytes, in at most so many steps
 unfoldable pub items_by : {A : Type 0} → Read A → ℕ → List ℕ → Option (List A)

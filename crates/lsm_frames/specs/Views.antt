@@ -22,4 +22,3 @@ asked_of (request.Release number) = Releases number
 asked_of request.Compact = Compacts
 asked_of request.Collect = Collects
 asked_of request.Statistics = Statistics
-

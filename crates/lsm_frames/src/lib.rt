@@ -20,22 +20,32 @@ mod write;
 mod keys;
 mod writes;
 
+// The opening.
+mod opening;
 
 // Reading.
 mod fields;
 mod length;
 
 // Answers.
+mod answer;
 mod answer_fault;
+mod frame;
 mod level_size;
+mod pairs_answer;
+mod values_answer;
 
+pub use answer::{nothing, pinned, refused, removed, told, unread, wrote};
 pub use answer_fault::AnswerFault;
 pub use keys::Keys;
 pub use length::{MOST_ANSWER, MOST_REQUEST, answer_length, request_length};
 pub use level_size::LevelSize;
 pub use malformed::Malformed;
+pub use opening::Opening;
+pub use pairs_answer::PairsAnswer;
 pub use range::Range;
 pub use request::{Request, one_request};
+pub use values_answer::ValuesAnswer;
 pub use when::When;
 pub use write::Write;
 pub use writes::Writes;

@@ -2,7 +2,6 @@ use Rattle.std.proofs.Common.{length, sym, ◌∙◌, arith}
 use Rattle.std.proofs.lemmas.Bool.{eqb-true, eqb-false}
 use Rattle.std.proofs.lemmas.Bool.Decides.{nat_tests}
 use Rattle.lsm_frames.specs.Reading.{text_at}
-
 use Rattle.lsm_frames.proofs.FieldLaws.{text_shortens}
 use Rattle.lsm_frames.proofs.ItemLaws.{loop_step, loop_stop, loop_end}
 use Rattle.lsm_frames.proofs.keys.are_texts.Goals as goal

@@ -1,6 +1,5 @@
 use Rattle.std.proofs.Common.{◌≡◌, sym, ◌∙◌}
 use Rattle.lsm_frames.specs.Reading.{text_at}
-
 use Rattle.lsm_frames.proofs.FieldLaws.{text_shortens}
 use Rattle.lsm_frames.proofs.ItemLaws.{none_left, some_left, next_left}
 use Rattle.lsm_frames.proofs.keys.Keys.next.Goals as goal
