@@ -1,9 +1,8 @@
 //! Answers that refuse.
 
 ghost use Rattle.std.specs.Prelude.{◌≡◌, IfOk};
-ghost use Rattle.lsm_serve.specs.Answered.{refusal_frame, worker_refusal_frame};
-ghost use Rattle.lsm_state.specs.declared.state_fault.StateFault.TheVariants.{OutOfMemory};
-ghost use Rattle.lsm_state.specs.declared.state_fault.StateFault.TheVariants.{TooLarge};
+ghost use Rattle.lsm_frames.specs.Answers.{IsRefused};
+ghost use Rattle.lsm_serve.specs.Answered.{answer_frame, refusal_frame, worker_refusal_frame};
 ghost use Rattle.lsm_serve.specs.Refusing.{of_answer};
 
 use lsm_frames::{AnswerFault, refused};
@@ -11,28 +10,29 @@ use lsm_state::StateFault;
 use lsm_store::WorkerFault;
 use std::alloc::{AllocError, Global};
 
-/// The answer of a refusal of this number and this name.
-pub(crate) fn refuse_by(alloc: Global, number: u8, name: &str) -> Result<Vec<u8>, AllocError> {
-    if name.len() < 65_536 {
-        return refused(alloc, number, name);
+/// The answer of a refusal of this number and this name. A name that no answer has room for is no
+/// refusal's, and is answered as want of memory is.
+pub(crate) fn refuse_by(alloc: Global, number: u8, name: &str) -> Result<Vec<u8>, AllocError>
+    ensures { IfOk result (λ v. v.items ≡ answer_frame (IsRefused number name.now)) }
+{
+    match refused(alloc, number, name) {
+        Ok(frame) => Ok(frame),
+        Err(_) => Err(AllocError),
     }
-    refused(alloc, number, "")
 }
 
 /// The answer of a refusal of the database.
-#[tactic(auto, using(crate::proofs::Names::state_name_short))]
 pub(crate) fn refuse(alloc: Global, fault: StateFault) -> Result<Vec<u8>, AllocError>
     ensures { IfOk result (λ v. v.items ≡ refusal_frame fault) }
 {
-    refused(alloc, fault.number(), fault.name())
+    refuse_by(alloc, fault.number(), fault.name())
 }
 
 /// The answer of a refusal of a worker.
-#[tactic(auto, using(crate::proofs::Names::worker_name_short))]
 pub(crate) fn refuse_worker(alloc: Global, fault: WorkerFault) -> Result<Vec<u8>, AllocError>
     ensures { IfOk result (λ v. v.items ≡ worker_refusal_frame fault) }
 {
-    refused(alloc, fault.number(), fault.name())
+    refuse_by(alloc, fault.number(), fault.name())
 }
 
 /// What a refusal of an answer means: one that would be too long is `TooLarge`.
