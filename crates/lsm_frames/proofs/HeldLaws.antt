@@ -1,12 +1,13 @@
 -- An answer that grows.
-use Rattle.std.proofs.Common.{◌≡◌, ℕ, suc, ◌+◌, ◌-◌, ◌<◌, ◌≤◌, List, [], ◌∷◌, ◌++◌, length, take, drop, Option, Some, None, refl, sym, ap, subst, ◌∙◌, append_assoc, arith, slice_index_or, slice_set}
+use Rattle.std.proofs.Common.{◌≡◌, ℕ, suc, ◌+◌, ◌-◌, ◌*◌, ◌<◌, ◌≤◌, List, [], ◌∷◌, ◌++◌, length, take, drop, Option, Some, None, refl, sym, ap, subst, ◌∙◌, append_assoc, arith, slice_index_or, slice_set}
 use Rattle.std.specs.Prelude.{unwrap_or}
 use Rattle.std.specs.List.{flat_map, AllByRecursion}
 use Rattle.std.specs.Int.{w32, to_le_bytes}
 use Rattle.std.proofs.lemmas.List.{length-append, length-drop, drop_at, flat_map_more}
 use Rattle.lsm_frames.specs.declared.length.TheConstants.{MOST_ANSWER}
 use Rattle.lsm_frames.specs.Texts.{text, optional, frame}
-use Rattle.lsm_frames.specs.Answers.{Pair, pair_text}
+use Rattle.lsm_frames.specs.declared.level_size.LevelSize.{LevelSize}
+use Rattle.lsm_frames.specs.Answers.{Pair, pair_text, size_text}
 use Rattle.lsm_frames.specs.Reading.{Read, items_in}
 use Rattle.lsm_frames.specs.Held.{held, Holds}
 use Rattle.lsm_frames.proofs.ByteLaws.{IsFormat}
@@ -74,3 +75,7 @@ length-value t = omega (arith, length-text t)
 
 pub length-pair : (p : Pair) → length (pair_text p) ≡ length p.key + length p.value + 8
 length-pair p = omega (arith, length-append (text p.key) (text p.value), length-text p.key, length-text p.value)
+
+pub length-sizes : (xs : List LevelSize) → length (flat_map size_text xs) ≡ length xs * 16
+length-sizes [] = refl
+length-sizes (x ∷ xs) = omega (arith, length-append (size_text x) (flat_map size_text xs), length-sizes xs)
