@@ -1,5 +1,5 @@
 -- Pairs of a range, page by page.
-use Rattle.std.proofs.Common.{◌≡◌, ◌≢◌, ℕ, ◌+◌, ◌≤◌, zero, suc, Bool, true, false, List, [], ◌∷◌, ◌++◌, length, map, Option, None, Some, refl, sym, ap, ◌∙◌, subst, append_assoc, append-nil, inl, inr, absurd, arith}
+use Rattle.std.proofs.Common.{◌≡◌, ◌≢◌, ℕ, ◌+◌, ◌≤◌, zero, suc, Bool, true, false, List, [], ◌∷◌, ◌++◌, length, map, Option, None, Some, refl, sym, ap, ◌∙◌, subst, append_assoc, append-nil, inl, inr, arith}
 use Rattle.std.specs.Prelude.{not, ◌⊎◌, MatchBool}
 use Rattle.std.specs.List.{filter}
 use Rattle.std.proofs.lemmas.Bool.{cases_Bool}
@@ -13,21 +13,29 @@ use Rattle.lsm_merger.specs.Shown.{ShowsPair}
 use Rattle.lsm_serve.specs.Scanning.{IsFull, IsPage, IsScanFrom, below, is_below, pair_of}
 use Rattle.lsm_serve.specs.Stepping.{Skips, ahead}
 
+abbrev IsYes : Bool → Type 0
+IsYes true = Unit {0}
+IsYes false = ⊥
+
 -- ---- what is ahead
 
 pub shown_ahead : (next : Option Pair) (old new : List Pair) → ShowsPair next old new → old ≡ ahead next new
 shown_ahead None old new h = h.0
 shown_ahead (Some p) old new h = h
 
+-- ---- tests
+
+pub is_from : (b : Bool) (from k key : UserKey) → b ≡ user_le from k → k ≡ key → b ≡ true → UserLe from key
+is_from b from k key e same yes = subst (UserLe from) same (sym e ∙ yes)
+
+pub not_from : (b : Bool) (from k key : UserKey) → b ≡ user_le from k → k ≡ key → b ≡ false → UserLe from key → ⊥
+not_from b from k key e same no le = subst IsYes (sym (subst (UserLe from) (sym same) le) ∙ sym e ∙ no) tt
+
 -- ---- pairs from a key on
 
 ascend_right : (front ps : List Pair) → UsersAscend (front ++ ps) → UsersAscend ps
 ascend_right [] ps up = up
 ascend_right (p ∷ front) ps up = ascend_right front ps up.1
-
--- no pair was left out yet
-pub skips_none : (from : UserKey) (all : List Pair) → (front : List Pair) × (all ≡ front ++ all) × ((p : Pair) → Has front p → UserLe from p.0 → ⊥)
-skips_none from all = ([], refl, λ p has le. absurd has)
 
 -- what was left out of the pairs up to here
 pub record Passed (from : UserKey) (old left : List Pair) : Type 0 where
@@ -89,14 +97,12 @@ scan_from from seq es old all scan skips = record {
 
 -- ---- pairs before the bound
 
+abbrev IsCons : List Pair → Type 0
+IsCons [] = ⊥
+IsCons (q ∷ qs) = Unit {0}
+
 below_later : (to : Option UserKey) (k q : UserKey) → is_below to k ≡ false → UserLe k q → is_below to q ≡ false
-below_later None k q h le = absurd (true_not_false h)
-  where
-    true_not_false : true ≡ false → ⊥
-    true_not_false e = subst (λ (b : Bool). if_true b) e tt
-    if_true : Bool → Type 0
-    if_true true = Unit {0}
-    if_true false = ⊥
+below_later None k q h le = absurd (subst IsYes h tt)
 below_later (Some to) k q h le = ap not (user_le_trans to k q (not_false (user_le to k) h) le)
   where
     not_false : (b : Bool) → not b ≡ false → b ≡ true
@@ -115,13 +121,7 @@ pub some_below : (to : Option UserKey) (p : Pair) (ps : List Pair) → is_below 
 some_below to p ps h = let e : below to (p ∷ ps) ≡ p ∷ below to ps = rw h refl in e
 
 pub some_left : (to : Option UserKey) (p : Pair) (ps : List Pair) → is_below to p.0 ≡ true → below to (p ∷ ps) ≢ []
-some_left to p ps h e = cons_not_nil (sym (some_below to p ps h) ∙ e)
-  where
-    cons_not_nil : p ∷ below to ps ≡ [] → ⊥
-    cons_not_nil same = subst (λ (qs : List Pair). is_cons qs) same tt
-    is_cons : List Pair → Type 0
-    is_cons [] = ⊥
-    is_cons (q ∷ qs) = Unit {0}
+some_left to p ps h e = subst IsCons (sym (some_below to p ps h) ∙ e) tt
 
 -- ---- a page
 

@@ -1,5 +1,5 @@
 -- What is read at a sequence of a state that was learnt.
-use Rattle.std.proofs.Common.{◌≡◌, ℕ, List, [], ◌∷◌, map, Option, None, Some, sym, ap, ◌∙◌, subst, inl, inr, absurd}
+use Rattle.std.proofs.Common.{◌≡◌, ℕ, List, [], ◌∷◌, map, Option, None, Some, sym, ap, ◌∙◌, subst, inl, inr}
 use Rattle.std.specs.Prelude.{◌⊎◌}
 use Rattle.lsm_codec.specs.Lists.{Has}
 use Rattle.lsm_frames.specs.declared.when.When.{When}

@@ -4,11 +4,9 @@ ghost use Rattle.std.specs.Prelude.{◌≡◌, ◌++◌, ◌∷◌, [], IfErr, I
 ghost use Rattle.std.specs.Option.{option_map};
 ghost use Rattle.lsm_codec.specs.Entries.{answer};
 ghost use Rattle.lsm_frames.specs.Answers.{Found};
-ghost use Rattle.lsm_frames.specs.declared.when.When.TheVariants.{Now};
 ghost use Rattle.lsm_history.specs.History.{IsLater};
 ghost use Rattle.lsm_serve.specs.Answered.{done_frame};
-ghost use Rattle.lsm_serve.specs.Reading.{IsRead, IsReadFault, values_at};
-ghost use Rattle.lsm_serve.specs.Refusing.{of_answer};
+ghost use Rattle.lsm_serve.specs.Reading.{IsRead, IsReadFault, IsUnread, values_at};
 ghost use Rattle.lsm_store.specs.Readers.{IsPromised};
 
 use crate::refusing::of_answer;
@@ -43,7 +41,7 @@ fn add_value<N: Boarded, S: Shelf>(
     ensures added { S.honest → OnOk result
         (values.new ≡ values.old ++ answer view.old.history key.now seq ∷ []) }
     ensures rest { view.new ≡ record view.old { told = view.new.told } }
-    ensures refused { IfErr result (IsReadFault S.honest Now) }
+    ensures refused { IfErr result (IsUnread S.honest) }
 {
     let found = view.get(alloc, key, seq)?;
     match add_found(values, found) {
@@ -64,7 +62,7 @@ fn add_values<N: Boarded, S: Shelf>(
     ensures added { S.honest → OnOk result
         (values.new ≡ values.old ++ values_at view.old.history seq keys) }
     ensures rest { view.new ≡ record view.old { told = view.new.told } }
-    ensures refused { IfErr result (IsReadFault S.honest Now) }
+    ensures refused { IfErr result (IsUnread S.honest) }
 {
     let mut keys = keys;
     'keys: while let Some(key) = keys.next() {
@@ -84,7 +82,7 @@ fn values_of<N: Boarded, S: Shelf>(
     ensures values { S.honest → IfOk result (λ v.
         v.items ≡ done_frame (Found (values_at view.old.history seq keys))) }
     ensures rest { view.new ≡ record view.old { told = view.new.told } }
-    ensures refused { IfErr result (IsReadFault S.honest Now) }
+    ensures refused { IfErr result (IsUnread S.honest) }
 {
     let mut values = ValuesAnswer::new(alloc)?;
     add_values(alloc, view, seq, keys, &mut values)?;

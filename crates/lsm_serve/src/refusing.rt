@@ -3,6 +3,7 @@
 ghost use Rattle.std.specs.Prelude.{◌≡◌, IfOk};
 ghost use Rattle.lsm_frames.specs.Answers.{IsRefused};
 ghost use Rattle.lsm_serve.specs.Answered.{answer_frame, refusal_frame, worker_refusal_frame};
+ghost use Rattle.lsm_serve.specs.Reading.{IsAnswerFault};
 ghost use Rattle.lsm_serve.specs.Refusing.{of_answer};
 
 use lsm_frames::{AnswerFault, refused};
@@ -37,7 +38,8 @@ pub(crate) fn refuse_worker(alloc: Global, fault: WorkerFault) -> Result<Vec<u8>
 
 /// What a refusal of an answer means: one that would be too long is `TooLarge`.
 pub(crate) fn of_answer(fault: AnswerFault) -> StateFault
-    ensures { result ≡ of_answer fault }
+    ensures means { result ≡ of_answer fault }
+    ensures fault { IsAnswerFault result }
 {
     match fault {
         AnswerFault::OutOfMemory => StateFault::OutOfMemory,

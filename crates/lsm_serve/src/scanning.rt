@@ -1,16 +1,14 @@
 //! Pairs in the order of keys.
 
-ghost use Rattle.std.specs.Prelude.{◌≡◌, ◌⊎◌, ◌≢◌, ◌≤◌, [], List, length, not, IfErr, IfOk, IsTrue, ◌↔◌};
-ghost use Rattle.std.specs.List.{flat_map};
+ghost use Rattle.std.specs.Prelude.{◌≡◌, ◌↔◌, ◌++◌, ◌∷◌, [], length, IfErr, IfOk, IsTrue, OnOk};
 ghost use Rattle.std.specs.Option.{option_map};
 ghost use Rattle.lsm_codec.specs.Keys.{user_le};
 ghost use Rattle.lsm_frames.specs.Views.{stretch_of};
-ghost use Rattle.lsm_frames.specs.declared.when.When.TheVariants.{Now};
 ghost use Rattle.lsm_history.specs.History.{IsLater};
-ghost use Rattle.lsm_levels.specs.Scanning.{Pair as ScanPair, UsersAscend};
-ghost use Rattle.lsm_serve.specs.Reading.{IsReadFault};
+ghost use Rattle.lsm_levels.specs.Scanning.{UsersAscend};
+ghost use Rattle.lsm_serve.specs.Reading.{IsAnswerFault, IsReadFault, IsUnread};
 ghost use Rattle.lsm_serve.specs.Scanning.{IsFull, IsPage, IsScanFrom, IsScanned, IsShown};
-ghost use Rattle.lsm_serve.specs.Scanning.{below, is_below};
+ghost use Rattle.lsm_serve.specs.Scanning.{below, is_below, pair_of};
 ghost use Rattle.lsm_serve.specs.Stepping.{Skips, Turns, ahead};
 ghost use Rattle.lsm_store.specs.Readers.{IsPromised};
 ghost use Rattle.lsm_table.specs.ReadFault.{IsMemoryOrShelf};
@@ -104,7 +102,7 @@ fn is_full(limit: u32, count: u64, pairs: &PairsAnswer) -> bool
 /// Adds a pair.
 fn add(pairs: &mut PairsAnswer, pair: &Pair) -> Result<(), StateFault>
     ensures added { OnOk result (pairs.new ≡ pairs.old ++ pair_of pair.now ∷ []) }
-    ensures refused { (honest : Type 0) → IfErr result (IsReadFault honest Now) }
+    ensures refused { IfErr result IsAnswerFault }
 {
     match pairs.pair(pair.user(), pair.value()) {
         Ok(()) => Ok(()),
@@ -127,7 +125,7 @@ fn take_turn<N: Boarded, S: Shelf>(
     ensures turn { S.honest → IfOk result (λ t. Turns (stretch_of range.entry).to range.entry.limit
         (ahead next scan.old.left) t scan.new.left pairs.old pairs.new) }
     ensures rest { view.new ≡ record view.old { told = view.new.told } }
-    ensures refused { IfErr result (IsReadFault S.honest Now) }
+    ensures refused { IfErr result (IsUnread S.honest) }
 {
     let Some(pair) = next else {
         return Ok(Turn::Ended);
@@ -156,7 +154,7 @@ fn fill<N: Boarded, S: Shelf>(
     ensures page { S.honest → IfOk result (λ ended. IsPage range.entry.limit
         (below (stretch_of range.entry).to (ahead first scan.old.left)) ended pairs.new) }
     ensures rest { view.new ≡ record view.old { told = view.new.told } }
-    ensures refused { IfErr result (IsReadFault S.honest Now) }
+    ensures refused { IfErr result (IsUnread S.honest) }
 {
     let mut next = first;
     for count in 0..u64::MAX {
@@ -181,7 +179,7 @@ fn page_of<N: Boarded, S: Shelf>(
     ensures shown { S.honest → IfOk result (λ v.
         IsShown (stretch_of range.entry) view.old.history seq v.items) }
     ensures rest { view.new ≡ record view.old { told = view.new.told } }
-    ensures refused { IfErr result (IsReadFault S.honest Now) }
+    ensures refused { IfErr result (IsUnread S.honest) }
 {
     let mut pairs = PairsAnswer::new(alloc)?;
     let (mut scan, first) = first_from(alloc, view, seq, range.from)?;

@@ -4,7 +4,7 @@ ghost use Rattle.std.specs.Prelude.{◌≡◌, IfErr, IfOk, OnErr, OnOk};
 ghost use Rattle.lsm_history.specs.History.{IsLater};
 ghost use Rattle.lsm_state.specs.Reading.{IsSequence, IsUnknown};
 ghost use Rattle.lsm_state.specs.declared.state_fault.StateFault.TheVariants.{PinsSpent};
-ghost use Rattle.lsm_serve.specs.Reading.{IsReadFault};
+ghost use Rattle.lsm_serve.specs.Reading.{IsUnseen};
 ghost use Rattle.lsm_serve.specs.Seen.{Learns, Sees, snapshot_in};
 ghost use Rattle.lsm_store.specs.Readers.{refreshed};
 
@@ -18,7 +18,7 @@ use std::sync::Wait;
 /// The sequence at which a read is made: the last one, or a snapshot's.
 fn sequence_at<N: Boarded, S: Shelf>(state: &State<N, S>, when: When) -> Result<u64, StateFault>
     ensures ok { IfOk result (IsSequence state.now (snapshot_in when)) }
-    ensures refused { IfErr result (IsReadFault S.honest when) }
+    ensures refused { IfErr result (IsUnseen when) }
 {
     match when {
         When::Now => Ok(state.current().1.last()),
@@ -36,7 +36,7 @@ fn learn<N: Boarded, S: Shelf>(
     ensures learnt { OnOk result (reader.new ≡ refreshed state.old reader.old) }
     ensures later { OnOk result (IsLater reader.new.history reader.old.history) }
     ensures err { OnErr result (reader.new ≡ reader.old) }
-    ensures refused { IfErr result (IsReadFault S.honest when) }
+    ensures refused { IfErr result (IsUnseen when) }
 {
     let seq = sequence_at(state, when)?;
     reader.refresh(state)?;
@@ -69,7 +69,7 @@ fn view_of<N: Boarded, S: Shelf>(
     ensures learnt { IfOk result (λ r. Learns state.old reader r.0) }
     ensures sequence { IfOk result (λ r. IsSequence state.old (snapshot_in when) r.1) }
     ensures later { IfErr result (λ e. IsLater e.0.history reader.history) }
-    ensures refused { IfErr result (λ e. IsReadFault S.honest when e.1) }
+    ensures refused { IfErr result (λ e. IsUnseen when e.1) }
 {
     let mut reader = reader;
     let seq = match learn(state, &mut reader, when) {
@@ -92,7 +92,7 @@ pub(crate) fn view_at<N: Boarded, S: Shelf, R: Wait>(
 ) -> Result<(View<N, S>, u64), (Reader<N, S>, StateFault)>
     ensures sees { IfOk result (λ r. Sees when reader r.0 r.1) }
     ensures later { IfErr result (λ e. IsLater e.0.history reader.history) }
-    ensures refused { IfErr result (λ e. IsReadFault S.honest when e.1) }
+    ensures refused { IfErr result (λ e. IsUnseen when e.1) }
 {
     view_of(&mut store.lock(rt).state, reader, when)
 }
