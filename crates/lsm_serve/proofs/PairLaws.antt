@@ -26,10 +26,10 @@ shown_ahead (Some p) old new h = h
 -- ---- tests
 
 pub is_from : (b : Bool) (from k key : UserKey) → b ≡ user_le from k → k ≡ key → b ≡ true → UserLe from key
-is_from b from k key e same yes = subst (UserLe from) same (sym e ∙ yes)
+is_from b from k key e same t = subst (UserLe from) same (sym e ∙ t)
 
 pub not_from : (b : Bool) (from k key : UserKey) → b ≡ user_le from k → k ≡ key → b ≡ false → UserLe from key → ⊥
-not_from b from k key e same no le = subst IsYes (sym (subst (UserLe from) (sym same) le) ∙ sym e ∙ no) tt
+not_from b from k key e same f le = subst IsYes (sym (subst (UserLe from) (sym same) le) ∙ sym e ∙ f) tt
 
 -- ---- pairs from a key on
 

@@ -2,9 +2,9 @@
 use Rattle.std.specs.Prelude.{◌≡◌, ◌⊎◌, ℕ, List, Result, Ok, Err, IfErr, IfOk, OnOk}
 use Rattle.lsm_frames.specs.Answers.{Done, Wrote, Pinned, Nothing, Removed, Told}
 use Rattle.lsm_frames.specs.Requests.{Asked, Stretch, Written, Writes, Reads, Scans, Snapshots, Releases, Compacts, Collects, Statistics}
-use Rattle.lsm_frames.specs.declared.level_size.LevelSize.{LevelSize}
 use Rattle.lsm_frames.specs.declared.when.When.{When}
 use Rattle.lsm_history.specs.History.{IsLater}
+use Rattle.lsm_manifest.specs.FileOrder.{TableFile}
 use Rattle.lsm_shelf.specs.Asked as shelf
 use Rattle.lsm_shelf.specs.Told as tellings
 use Rattle.lsm_shelf.specs.declared.shelf_fault.ShelfFault.{ShelfFault}
@@ -16,7 +16,7 @@ use Rattle.lsm_store.specs.declared.worker_fault.WorkerFault.{WorkerFault}
 use Rattle.lsm_serve.specs.Answered.{done_frame, refusal_frame, worker_refusal_frame}
 use Rattle.lsm_serve.specs.Collecting.{IsCollectFault, IsCollected}
 use Rattle.lsm_serve.specs.Compacting.{IsCompactFault}
-use Rattle.lsm_serve.specs.Counting.{IsCount}
+use Rattle.lsm_serve.specs.Counting.{IsListed, sizes_of}
 use Rattle.lsm_serve.specs.Reading.{IsRead, IsReadFault}
 use Rattle.lsm_serve.specs.Scanning.{IsScanned}
 use Rattle.lsm_serve.specs.Served.{Served}
@@ -27,6 +27,10 @@ use Rattle.lsm_serve.specs.Writing.{IsWriteFault, IsWritten}
 abbrev pub Says : {A : Type 0} → (A → Done) → Result A StateFault → List ℕ → Type 0
 Says done (Ok x) frame = frame ≡ done_frame (done x)
 Says done (Err e) frame = frame ≡ refusal_frame e
+
+abbrev pub SaysWork : Result (Unit {0}) WorkerFault → List ℕ → Type 0
+SaysWork (Ok x) frame = frame ≡ done_frame Nothing
+SaysWork (Err e) frame = frame ≡ worker_refusal_frame e
 
 -- ---- by the kind of the request
 
@@ -54,12 +58,11 @@ AnswersSnapshot frame =
 -- The snapshot was given up; or it is not live, and the answer says so.
 abbrev pub AnswersRelease : ℕ → List ℕ → Type 0
 AnswersRelease number frame =
-    (IsReleased number × (frame ≡ done_frame Nothing)) ⊎ (frame ≡ refusal_frame (UnknownSnapshot number))
+    (done : Result (Unit {0}) StateFault) × OnOk done (IsReleased number) × IfErr done (λ e. e ≡ UnknownSnapshot number) × Says (λ r. Nothing) done frame
 
 -- A worker looked after the others, and ended without a fault; or the answer says its fault.
 abbrev pub AnswersCompact : Type 0 → List ℕ → Type 0
-AnswersCompact Honest frame =
-    (frame ≡ done_frame Nothing) ⊎ ((e : WorkerFault) × IsCompactFault Honest e × (frame ≡ worker_refusal_frame e))
+AnswersCompact Honest frame = (done : Result (Unit {0}) WorkerFault) × IfErr done (IsCompactFault Honest) × SaysWork done frame
 
 -- The answer has how many tables were removed, or the refusal.
 abbrev pub AnswersCollect : (before after : tellings.Told) → List ℕ → Type 0
@@ -70,7 +73,7 @@ AnswersCollect before after frame =
 -- The answer has the last sequence and the sizes of the levels; or memory ran out.
 abbrev pub AnswersStatistics : List ℕ → Type 0
 AnswersStatistics frame =
-    ((last : ℕ) × (levels : List LevelSize) × IsCount last levels × (frame ≡ done_frame (Told last levels))) ⊎ (frame ≡ refusal_frame OutOfMemory)
+    ((last : ℕ) × (fs : List (ℕ × TableFile)) × IsListed last fs × (frame ≡ done_frame (Told last (sizes_of fs)))) ⊎ (frame ≡ refusal_frame OutOfMemory)
 
 -- ---- all of them
 

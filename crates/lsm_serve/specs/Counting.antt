@@ -22,8 +22,8 @@ size_at fs level = record { files = length (files_at level fs); bytes = capped (
 abbrev pub sizes_of : List (ℕ × TableFile) → List LevelSize
 sizes_of fs = map (size_at fs) (0 ∷ 1 ∷ 2 ∷ 3 ∷ 4 ∷ 5 ∷ 6 ∷ [])
 
--- These are the last sequence of a state, and the sizes of the levels of its version.
-pub record IsCount (last : ℕ) (levels : List LevelSize) : Type 0 where
+-- These are the last sequence of a state, and the files of its version.
+pub record IsListed (last : ℕ) (fs : List (ℕ × TableFile)) : Type 0 where
   pub state : Held
   pub last_is : last ≡ state.slots.version.last
-  pub levels_are : levels ≡ sizes_of (listed_from 0 state.slots.version.tables)
+  pub files_are : fs ≡ listed_from 0 state.slots.version.tables

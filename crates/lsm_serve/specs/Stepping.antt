@@ -1,9 +1,9 @@
 -- How a page goes on along a scan.
-use Rattle.std.specs.Prelude.{◌≡◌, ◌≢◌, ℕ, Bool, true, false, List, [], ◌∷◌, ◌++◌, length, map, Option, None, Some}
+use Rattle.std.specs.Prelude.{◌≡◌, ◌≢◌, ⊤, ℕ, ◌+◌, true, List, [], ◌∷◌, ◌++◌, length, Option, None, Some}
 use Rattle.lsm_codec.specs.Keys.{UserKey, UserLe}
 use Rattle.lsm_codec.specs.Lists.{Has}
 use Rattle.lsm_frames.specs.Answers as frames
-use Rattle.lsm_levels.specs.Scanning.{Pair, UsersAscend}
+use Rattle.lsm_levels.specs.Scanning.{Pair}
 use Rattle.lsm_serve.specs.declared.turn.Turn.{Turn}
 use Rattle.lsm_serve.specs.declared.turn.Turn.TheVariants.{Next, Full, Ended}
 use Rattle.lsm_serve.specs.Scanning.{IsFull, below, is_below, pair_of}
@@ -25,3 +25,9 @@ abbrev pub Turns : Option UserKey → ℕ → List Pair → Turn → List Pair �
 Turns to limit all (Next next) left old new = (p : Pair) × (all ≡ p ∷ ahead next left) × (is_below to p.0 ≡ true) × (new ≡ old ++ pair_of p ∷ [])
 Turns to limit all Full left old new = (below to all ≢ []) × IsFull limit new × (new ≡ old)
 Turns to limit all Ended left old new = (below to all ≡ []) × (new ≡ old)
+
+-- a turn that added a pair added one
+abbrev pub Grows : Turn → (old new : List frames.Pair) → Type 0
+Grows (Next next) old new = length new ≡ length old + 1
+Grows Full old new = ⊤
+Grows Ended old new = ⊤

@@ -1,5 +1,5 @@
 -- How the writes of a request come in, and why they do not (this project's rule).
-use Rattle.std.specs.Prelude.{◌≡◌, ◌⊎◌, ⊤, ℕ, List, [], ◌∷◌, ◌++◌, map}
+use Rattle.std.specs.Prelude.{◌≡◌, ◌⊎◌, List, [], ◌∷◌, ◌++◌, map}
 use Rattle.lsm_batch.specs.Batches.{IsTooLarge}
 use Rattle.lsm_batch.specs.declared.write.Write.{Write}
 use Rattle.lsm_frames.specs.Requests.{Written}
@@ -10,7 +10,7 @@ use Rattle.lsm_shelf.specs.declared.shelf_fault.ShelfFault.{ShelfFault}
 use Rattle.lsm_state.specs.Held.{Held}
 use Rattle.lsm_state.specs.declared.ingest.Ingested.{Ingested}
 use Rattle.lsm_state.specs.declared.state_fault.StateFault.{StateFault}
-use Rattle.lsm_state.specs.declared.state_fault.StateFault.TheVariants as state
+use Rattle.lsm_state.specs.declared.state_fault.StateFault.TheVariants.{OutOfMemory, TooLarge}
 use Rattle.lsm_store.specs.Background.{BringsIn, KeepsOut}
 
 -- a write as a batch has it
@@ -36,15 +36,11 @@ pub record IsWritten (ws : List Written) (r : Ingested) (before after : Told) : 
 
 -- Why a write is not put behind others: with it they pass a limit of a batch; or memory ran out.
 abbrev pub IsPutFault : List Write → Write → StateFault → Type 0
-IsPutFault ws w state.TooLarge = IsTooLarge (ws ++ w ∷ [])
-IsPutFault ws w state.OutOfMemory = ⊤
-IsPutFault ws w e = ⊥
+IsPutFault ws w e = ((e ≡ TooLarge) × IsTooLarge (ws ++ w ∷ [])) ⊎ (e ≡ OutOfMemory)
 
 -- The first of the writes pass a limit of a batch; or memory ran out.
 abbrev pub IsUngathered : List Written → StateFault → Type 0
-IsUngathered ws state.TooLarge = (front back : List Write) × (writes_of ws ≡ front ++ back) × IsTooLarge front
-IsUngathered ws state.OutOfMemory = ⊤
-IsUngathered ws e = ⊥
+IsUngathered ws e = ((e ≡ TooLarge) × ((front : List Write) × (back : List Write) × (writes_of ws ≡ front ++ back) × IsTooLarge front)) ⊎ (e ≡ OutOfMemory)
 
 -- The batch of the last writes was refused.
 pub record IsUnwritten (Refused : Asked → ShelfFault → Type 0) (ws : List Written) (e : StateFault) (before after : Told) : Type 0 where

@@ -1,6 +1,6 @@
 //! Compaction until there is nothing to compact.
 
-ghost use Rattle.std.specs.Prelude.{◌≡◌, All, IfErr, OnOk};
+ghost use Rattle.std.specs.Prelude.{All, IfErr};
 ghost use Rattle.lsm_serve.specs.Compacting.{IsCompactFault};
 ghost use Rattle.lsm_shelf.specs.Told.{Forked};
 ghost use Rattle.lsm_store.specs.Workers.{IsWorkersEnd};
@@ -15,9 +15,9 @@ use std::sync::Wait;
 use std::thread::Threads;
 
 /// Ok where no worker has a fault; else that of the first one that has one.
-fn judge(ends: &[WorkerEnd]) -> Result<(), WorkerFault>
-    ensures { (honest : Type 0) → All (IsWorkersEnd honest) ends.now
-        → IfErr result (IsCompactFault honest) }
+fn judge<S: Shelf>(ends: &[WorkerEnd]) -> Result<(), WorkerFault>
+    requires { All (IsWorkersEnd S.honest) ends.now }
+    ensures { IfErr result (IsCompactFault S.honest) }
 {
     for end in ends {
         if let Some(fault) = end.fault {
@@ -42,7 +42,7 @@ fn work<N: Boarded, S: Shelf, R: Threads + Wait + Sync>(
         Err(fault) => return Err(WorkerFault::State(StateFault::Shelf(fault))),
     };
     match run_workers(rt, alloc, store, shelves, &NoGate) {
-        Ok(ends) => judge(&ends),
+        Ok(ends) => judge::<S>(&ends),
         Err(_) => Err(WorkerFault::State(StateFault::OutOfMemory)),
     }
 }

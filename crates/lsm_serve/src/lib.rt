@@ -18,9 +18,10 @@ mod statistics;
 mod turn;
 mod writing;
 
-// What these share: forks of a shelf, refusals, a view of what has come in.
+// What these share: forks of a shelf, answers, a view of what has come in.
 mod forks;
 mod refusing;
+mod saying;
 mod viewing;
 
 // Frames over descriptors, a thread for each channel.

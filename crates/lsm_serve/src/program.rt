@@ -2,7 +2,7 @@
 
 ghost use Rattle.std.specs.Prelude.{◌≤◌};
 
-use crate::descriptors::{Incoming, read_frame, send};
+use crate::descriptors::{Incoming, are_open, read_frame, send};
 use crate::opening_fault::OpeningFault;
 use crate::plan::Plan;
 use crate::refusing::refuse_by;
@@ -85,6 +85,9 @@ where
     let Some(plan) = Plan::of(opening) else {
         return Err(OpeningFault::BadOpening);
     };
+    if !are_open(plan.first, plan.channels) {
+        return Err(OpeningFault::BadOpening);
+    }
     let Ok(reasons) = Reasons::new(paths.alloc()) else {
         return Err(OpeningFault::Folder(WriterFault::OutOfMemory));
     };

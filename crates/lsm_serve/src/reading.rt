@@ -60,7 +60,7 @@ fn add_values<N: Boarded, S: Shelf>(
 ) -> Result<(), StateFault>
     requires promised { IsPromised view.old seq }
     ensures added { S.honest → OnOk result
-        (values.new ≡ values.old ++ values_at view.old.history seq keys) }
+        (values.new ≡ values.old ++ values_at view.old.history seq keys.entry) }
     ensures rest { view.new ≡ record view.old { told = view.new.told } }
     ensures refused { IfErr result (IsUnread S.honest) }
 {
@@ -80,7 +80,7 @@ fn values_of<N: Boarded, S: Shelf>(
 ) -> Result<Vec<u8>, StateFault>
     requires promised { IsPromised view.old seq }
     ensures values { S.honest → IfOk result (λ v.
-        v.items ≡ done_frame (Found (values_at view.old.history seq keys))) }
+        v.items ≡ done_frame (Found (values_at view.old.history seq keys.entry))) }
     ensures rest { view.new ≡ record view.old { told = view.new.told } }
     ensures refused { IfErr result (IsUnread S.honest) }
 {
@@ -99,7 +99,7 @@ pub(crate) fn read<N: Boarded, S: Shelf, R: Wait>(
     when: When,
     keys: Keys<'_>,
 ) -> (Reader<N, S>, Result<Vec<u8>, StateFault>)
-    ensures read { IfOk result.1 (λ v. IsRead S.honest when keys reader result.0 v.items) }
+    ensures read { IfOk result.1 (λ v. IsRead S.honest when keys.entry reader result.0 v.items) }
     ensures later { IsLater result.0.history reader.history }
     ensures refused { IfErr result.1 (IsReadFault S.honest when) }
 {

@@ -9,7 +9,7 @@ ghost use Rattle.lsm_levels.specs.Scanning.{UsersAscend};
 ghost use Rattle.lsm_serve.specs.Reading.{IsAnswerFault, IsReadFault, IsUnread};
 ghost use Rattle.lsm_serve.specs.Scanning.{IsFull, IsPage, IsScanFrom, IsScanned, IsShown};
 ghost use Rattle.lsm_serve.specs.Scanning.{below, is_below, pair_of};
-ghost use Rattle.lsm_serve.specs.Stepping.{Skips, Turns, ahead};
+ghost use Rattle.lsm_serve.specs.Stepping.{Grows, Skips, Turns, ahead};
 ghost use Rattle.lsm_store.specs.Readers.{IsPromised};
 ghost use Rattle.lsm_table.specs.ReadFault.{IsMemoryOrShelf};
 
@@ -124,6 +124,7 @@ fn take_turn<N: Boarded, S: Shelf>(
     requires count { length pairs.old ≡ count }
     ensures turn { S.honest → IfOk result (λ t. Turns (stretch_of range.entry).to range.entry.limit
         (ahead next scan.old.left) t scan.new.left pairs.old pairs.new) }
+    ensures grows { IfOk result (λ t. Grows t pairs.old pairs.new) }
     ensures rest { view.new ≡ record view.old { told = view.new.told } }
     ensures refused { IfErr result (IsUnread S.honest) }
 {

@@ -1,8 +1,8 @@
 //! What a channel is served with.
 
 ghost use Rattle.std.specs.Prelude.{◌≡◌, IfOk};
-ghost use Rattle.lsm_frames.specs.Requests.{Collects, Compacts, Reads, Releases, Scans, Snapshots};
-ghost use Rattle.lsm_frames.specs.Requests.{Statistics, Writes};
+ghost use Rattle.lsm_frames.specs.Requests.{Collects, Compacts, Reads, Scans};
+ghost use Rattle.lsm_frames.specs.Requests.{Writes as AskedWrites};
 ghost use Rattle.lsm_frames.specs.Views.{asked_of, stretch_of};
 ghost use Rattle.lsm_serve.specs.Answering.{AnswersRelease, AnswersSnapshot, AnswersStatistics};
 ghost use Rattle.lsm_serve.specs.Answering.{IsAnswered};
@@ -10,12 +10,13 @@ ghost use Rattle.lsm_serve.specs.Answering.{IsAnswered};
 use crate::collecting::collect;
 use crate::compacting::compact;
 use crate::reading::read;
-use crate::refusing::{refuse, refuse_worker};
+use crate::refusing::refuse;
+use crate::saying::{say_collected, say_compacted, say_released, say_taken, say_written};
 use crate::scanning::scan;
 use crate::snapshots::{release, take};
-use crate::statistics::count;
+use crate::statistics::{list, sizes_of};
 use crate::writing::write;
-use lsm_frames::{Keys, Range, Request, When, Writes, nothing, pinned, removed, told, wrote};
+use lsm_frames::{Keys, Range, Request, When, Writes, told};
 use lsm_slots::Boarded;
 use lsm_state::StateFault;
 use lsm_store::{Background, Reader, Store};
@@ -33,10 +34,9 @@ fn answer_snapshot<N: Boarded, S: Shelf, R: Wait>(
 ) -> Result<Vec<u8>, AllocError>
     ensures { IfOk result (λ v. AnswersSnapshot v.items) }
 {
-    match take(rt, store) {
-        Ok((number, sequence)) => pinned(alloc, number, sequence),
-        Err(fault) => refuse(alloc, fault),
-    }
+    let done = take(rt, store);
+    let answer = say_taken(alloc, done)?;
+    Ok(answer)
 }
 
 /// Gives a snapshot up.
@@ -48,10 +48,9 @@ fn answer_release<N: Boarded, S: Shelf, R: Wait>(
 ) -> Result<Vec<u8>, AllocError>
     ensures { IfOk result (λ v. AnswersRelease number v.items) }
 {
-    match release(rt, store, number) {
-        Ok(()) => nothing(alloc),
-        Err(fault) => refuse(alloc, fault),
-    }
+    let done = release(rt, store, number);
+    let answer = say_released(alloc, done)?;
+    Ok(answer)
 }
 
 /// Tells how much the database has.
@@ -62,9 +61,16 @@ fn answer_statistics<N: Boarded, S: Shelf, R: Wait>(
 ) -> Result<Vec<u8>, AllocError>
     ensures { IfOk result (λ v. AnswersStatistics v.items) }
 {
-    match count(rt, alloc, store) {
-        Ok((last, levels)) => told(alloc, last, &levels),
-        Err(_) => refuse(alloc, StateFault::OutOfMemory),
+    match list(rt, alloc, store) {
+        Ok((last, files)) => {
+            let sizes = sizes_of(&files);
+            let answer = told(alloc, last, &sizes)?;
+            Ok(answer)
+        }
+        Err(_) => {
+            let answer = refuse(alloc, StateFault::OutOfMemory)?;
+            Ok(answer)
+        }
     }
 }
 
@@ -100,13 +106,12 @@ impl<N: Boarded, S: Shelf> Session<N, S> {
         background: &Background,
         writes: Writes<'_>,
     ) -> Result<Vec<u8>, AllocError>
-        ensures { IfOk result (λ v. IsAnswered S.honest (S.refuses N.place) (Writes writes.entry)
+        ensures { IfOk result (λ v. IsAnswered S.honest (S.refuses N.place) (AskedWrites writes.entry)
             self.old self.new v.items) }
     {
-        match write(rt, alloc, store, background, &mut self.shelf, writes) {
-            Ok(came) => wrote(alloc, came.first, came.last),
-            Err(fault) => refuse(alloc, fault),
-        }
+        let done = write(rt, alloc, store, background, &mut self.shelf, writes);
+        let answer = say_written(alloc, done)?;
+        Ok(answer)
     }
 
     // Sees to it that nothing is left to compact.
@@ -120,10 +125,9 @@ impl<N: Boarded, S: Shelf> Session<N, S> {
         ensures { IfOk result (λ v. IsAnswered S.honest (S.refuses N.place) Compacts
             self.old self.new v.items) }
     {
-        match compact(rt, alloc, store, background, &mut self.shelf) {
-            Ok(()) => nothing(alloc),
-            Err(fault) => refuse_worker(alloc, fault),
-        }
+        let done = compact(rt, alloc, store, background, &mut self.shelf);
+        let answer = say_compacted(alloc, done)?;
+        Ok(answer)
     }
 
     // Removes the tables that nothing needs.
@@ -136,10 +140,9 @@ impl<N: Boarded, S: Shelf> Session<N, S> {
         ensures { IfOk result (λ v. IsAnswered S.honest (S.refuses N.place) Collects
             self.old self.new v.items) }
     {
-        match collect(rt, alloc, store, &mut self.shelf) {
-            Ok(tables) => removed(alloc, tables),
-            Err(fault) => refuse(alloc, fault),
-        }
+        let done = collect(rt, alloc, store, &mut self.shelf);
+        let answer = say_collected(alloc, done)?;
+        Ok(answer)
     }
 
     // Reads keys.
@@ -156,11 +159,13 @@ impl<N: Boarded, S: Shelf> Session<N, S> {
     {
         let Session { reader, shelf } = self;
         let (reader, done) = read(rt, alloc, store, reader, when, keys);
-        let answer = match done {
-            Ok(answer) => Ok(answer),
-            Err(fault) => refuse(alloc, fault),
-        };
-        (Session { reader, shelf }, answer)
+        match done {
+            Ok(answer) => (Session { reader, shelf }, Ok(answer)),
+            Err(fault) => match refuse(alloc, fault) {
+                Ok(answer) => (Session { reader, shelf }, Ok(answer)),
+                Err(error) => (Session { reader, shelf }, Err(error)),
+            },
+        }
     }
 
     // Shows pairs.
@@ -176,11 +181,13 @@ impl<N: Boarded, S: Shelf> Session<N, S> {
     {
         let Session { reader, shelf } = self;
         let (reader, done) = scan(rt, alloc, store, reader, range);
-        let answer = match done {
-            Ok(answer) => Ok(answer),
-            Err(fault) => refuse(alloc, fault),
-        };
-        (Session { reader, shelf }, answer)
+        match done {
+            Ok(answer) => (Session { reader, shelf }, Ok(answer)),
+            Err(fault) => match refuse(alloc, fault) {
+                Ok(answer) => (Session { reader, shelf }, Ok(answer)),
+                Err(error) => (Session { reader, shelf }, Err(error)),
+            },
+        }
     }
 
     /// Does what a request asks: the session as it is then, and the frame of the answer, which is

@@ -1,7 +1,7 @@
 //! How much a database has.
 
 ghost use Rattle.std.specs.Prelude.{◌≡◌, IfOk, length, sum_by};
-ghost use Rattle.lsm_serve.specs.Counting.{IsCount, capped, files_at, size_at, sizes_of};
+ghost use Rattle.lsm_serve.specs.Counting.{IsListed, capped, files_at, size_at, sizes_of};
 ghost use Rattle.lsm_state.specs.Listing.{listed_from};
 
 use lsm_frames::LevelSize;
@@ -67,7 +67,7 @@ fn size_at(files: &[(u8, FileMeta)], level: u8) -> LevelSize
 }
 
 /// How much each level has.
-fn sizes_of(files: &[(u8, FileMeta)]) -> [LevelSize; 7]
+pub(crate) fn sizes_of(files: &[(u8, FileMeta)]) -> [LevelSize; 7]
     ensures { result ≡ sizes_of files.now }
 {
     [
@@ -81,14 +81,13 @@ fn sizes_of(files: &[(u8, FileMeta)]) -> [LevelSize; 7]
     ]
 }
 
-/// The last sequence, and how much each level has.
-pub(crate) fn count<N: Boarded, S: Shelf, R: Wait>(
+/// The last sequence, and the files, each with its level.
+pub(crate) fn list<N: Boarded, S: Shelf, R: Wait>(
     rt: &R,
     alloc: Global,
     store: &Store<N, S>,
-) -> Result<(u64, [LevelSize; 7]), AllocError>
-    ensures { IfOk result (λ r. IsCount r.0 r.1) }
+) -> Result<(u64, Vec<(u8, FileMeta)>), AllocError>
+    ensures { IfOk result (λ r. IsListed r.0 r.1.items) }
 {
-    let (last, files) = files_of(&mut store.lock(rt).state, alloc)?;
-    Ok((last, sizes_of(&files)))
+    files_of(&mut store.lock(rt).state, alloc)
 }

@@ -1,6 +1,6 @@
 //! Writes come in as one batch.
 
-ghost use Rattle.std.specs.Prelude.{◌≡◌, ◌++◌, ◌∷◌, [], map, IfErr, IfOk, OnErr, OnOk};
+ghost use Rattle.std.specs.Prelude.{◌≡◌, ◌++◌, ◌∷◌, [], IfErr, IfOk, OnOk};
 ghost use Rattle.lsm_frames.specs.Views.{written_of};
 ghost use Rattle.lsm_lines.specs.LastWrites.{KeepsLast};
 ghost use Rattle.lsm_serve.specs.Writing.{IsIn, IsOut, IsPutFault, IsUngathered};
@@ -38,14 +38,17 @@ fn copy_of(alloc: Global, write: Write<'_>) -> Result<KeyWrite, AllocError>
 }
 
 /// Puts a copy of a write into the buffer.
+#[tactic(auto, using(crate::proofs::WriteLaws::large_last))]
 fn put(alloc: Global, buffer: &mut WriteBuffer, write: Write<'_>) -> Result<(), StateFault>
     ensures ok { OnOk result (buffer.new ≡ buffer.old ++ write_of (written_of write.entry) ∷ []) }
     ensures refused { IfErr result (IsPutFault buffer.old (write_of (written_of write.entry))) }
 {
-    match buffer.put(copy_of(alloc, write)?) {
+    let copy = copy_of(alloc, write)?;
+    match buffer.put(copy) {
         Ok(()) => Ok(()),
         Err(PutFault::OutOfMemory) => Err(StateFault::OutOfMemory),
-        Err(PutFault::Full(_) | PutFault::Large) => Err(StateFault::TooLarge),
+        Err(PutFault::Full(_)) => Err(StateFault::TooLarge),
+        Err(PutFault::Large) => Err(StateFault::TooLarge),
     }
 }
 
@@ -57,7 +60,10 @@ fn gathered(alloc: Global, writes: Writes<'_>) -> Result<WriteBuffer, StateFault
     let mut writes = writes;
     let mut buffer = WriteBuffer::new(alloc);
     'writes: while let Some(write) = writes.next() {
-        put(alloc, &mut buffer, write)?;
+        match put(alloc, &mut buffer, write) {
+            Ok(()) => {}
+            Err(fault) => return Err(fault),
+        }
     }
     Ok(buffer)
 }
@@ -105,5 +111,8 @@ pub(crate) fn write<N: Boarded, S: Shelf, R: Wait>(
         IsWriteFault (S.refuses N.place) writes.entry e shelf.old shelf.new) }
 {
     let batch = batch_of(alloc, writes)?;
-    bring_in(rt, alloc, store, background, shelf, &batch)
+    match bring_in(rt, alloc, store, background, shelf, &batch) {
+        Ok(came) => Ok(came),
+        Err(fault) => Err(fault),
+    }
 }

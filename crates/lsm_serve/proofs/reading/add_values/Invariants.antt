@@ -8,5 +8,5 @@ invariant-keys g l = record {
   rest : l.view ≡ record l.fn.view { told = l.view.told };
 }
 
-abbrev pub measure-keys : goal.measure-keys
-measure-keys g l = length l.keys
+abbrev pub decreases-keys : goal.decreases-keys
+decreases-keys g l = length l.keys

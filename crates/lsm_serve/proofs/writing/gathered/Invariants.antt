@@ -5,5 +5,5 @@ use Rattle.lsm_serve.proofs.writing.gathered.Given as goal
 abbrev pub invariant-writes : goal.invariant-writes
 invariant-writes l = writes_of l.fn.writes ≡ l.buffer ++ writes_of l.writes
 
-abbrev pub measure-writes : goal.measure-writes
-measure-writes l = length l.writes
+abbrev pub decreases-writes : goal.decreases-writes
+decreases-writes l = length l.writes
