@@ -1,6 +1,6 @@
 //! A database that is open.
 
-ghost use Rattle.std.specs.Prelude.{◌≡◌, ◌≤◌, length};
+ghost use Rattle.std.specs.Prelude.{◌≡◌, ◌≤◌, IfOk, length};
 ghost use Rattle.lsm_serve.specs.Starting.{options_for};
 ghost use Rattle.lsm_state.specs.Making.{IsNewBoard, IsNewHistory};
 ghost use Rattle.lsm_store.specs.Readers.{SeatsPinners};

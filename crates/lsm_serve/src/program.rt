@@ -110,7 +110,8 @@ fn serve_content<C: FolderCalls + Send + Sync, P: Paths<C>, R: Threads + Wait + 
     rt: &R,
     paths: &P,
     content: &[u8],
-) where
+)
+where
     C::Mark: Send + Sync,
 {
     if let Ok(opening) = Opening::parse(content) {
@@ -130,7 +131,8 @@ fn serve_content<C: FolderCalls + Send + Sync, P: Paths<C>, R: Threads + Wait + 
 pub fn serve_opening<C: FolderCalls + Send + Sync, P: Paths<C>, R: Threads + Wait + Sync>(
     rt: &R,
     paths: &P,
-) where
+)
+where
     C::Mark: Send + Sync,
 {
     if let Ok(Incoming::Content(content)) = read_frame(paths.alloc(), OPENING) {

@@ -1,7 +1,6 @@
 //! Snapshots.
 
 ghost use Rattle.std.specs.Prelude.{◌≡◌, IfErr, IfOk, OnErr, OnOk};
-
 ghost use Rattle.lsm_serve.specs.Snapshots.{IsReleased, IsTakeFault, IsTaken, TakesAt};
 ghost use Rattle.lsm_state.specs.declared.state_fault.StateFault.TheVariants.{UnknownSnapshot};
 
