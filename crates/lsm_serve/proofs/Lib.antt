@@ -1,0 +1,4 @@
+mod SeenLaws
+mod OptionLaws
+mod PairLaws
+mod WriteLaws

@@ -1,0 +1,169 @@
+-- Pairs of a range, page by page.
+use Rattle.std.proofs.Common.{◌≡◌, ◌≢◌, ℕ, ◌+◌, ◌≤◌, zero, suc, Bool, true, false, List, [], ◌∷◌, ◌++◌, length, map, Option, None, Some, refl, sym, ap, ◌∙◌, subst, append_assoc, append-nil, inl, inr, arith}
+use Rattle.std.specs.Prelude.{not, ◌⊎◌, MatchBool}
+use Rattle.std.specs.List.{filter}
+use Rattle.std.proofs.lemmas.Bool.{cases_Bool}
+use Rattle.lsm_codec.specs.Entries.{Entry, answer}
+use Rattle.lsm_codec.specs.Keys.{UserKey, UserLe, user_le}
+use Rattle.lsm_codec.specs.Lists.{Has}
+use Rattle.lsm_codec.proofs.CallerLemmas.{has_cases, has_left, has_right, user_le_trans}
+use Rattle.lsm_frames.specs.Answers as frames
+use Rattle.lsm_levels.specs.Scanning.{IsScan, Pair, UsersAscend}
+use Rattle.lsm_merger.specs.Shown.{ShowsPair}
+use Rattle.lsm_serve.specs.Scanning.{IsFull, IsPage, IsScanFrom, below, is_below, pair_of}
+use Rattle.lsm_serve.specs.Stepping.{Skips, ahead}
+
+abbrev IsYes : Bool → Type 0
+IsYes true = Unit {0}
+IsYes false = ⊥
+
+-- ---- what is ahead
+
+pub shown_ahead : (next : Option Pair) (old new : List Pair) → ShowsPair next old new → old ≡ ahead next new
+shown_ahead None old new h = h.0
+shown_ahead (Some p) old new h = h
+
+-- ---- tests
+
+pub is_from : (b : Bool) (from k key : UserKey) → b ≡ user_le from k → k ≡ key → b ≡ true → UserLe from key
+is_from b from k key e same t = subst (UserLe from) same (sym e ∙ t)
+
+pub not_from : (b : Bool) (from k key : UserKey) → b ≡ user_le from k → k ≡ key → b ≡ false → UserLe from key → ⊥
+not_from b from k key e same f le = subst IsYes (sym (subst (UserLe from) (sym same) le) ∙ sym e ∙ f) tt
+
+-- ---- pairs from a key on
+
+ascend_right : (front ps : List Pair) → UsersAscend (front ++ ps) → UsersAscend ps
+ascend_right [] ps up = up
+ascend_right (p ∷ front) ps up = ascend_right front ps up.1
+
+-- what was left out of the pairs up to here
+pub record Passed (from : UserKey) (old left : List Pair) : Type 0 where
+  pub front : List Pair
+  pub parts : old ≡ front ++ left
+  pub before : (p : Pair) → Has front p → UserLe from p.0 → ⊥
+  pub ascending : UsersAscend left
+
+pub passed_none : (from : UserKey) (all : List Pair) → UsersAscend all → Passed from all all
+passed_none from all up = record { front = []; parts = refl; before = λ p has le. absurd has; ascending = up }
+
+last_before : (from : UserKey) (front : List Pair) (p : Pair) → ((q : Pair) → Has front q → UserLe from q.0 → ⊥) → (UserLe from p.0 → ⊥)
+    → (q : Pair) → Has (front ++ p ∷ []) q → UserLe from q.0 → ⊥
+last_before from front p before here q has le = elim (has_cases front (p ∷ []) q has) [
+  | inl h ↦ before q h le
+  | inr h ↦ elim h [ inl e ↦ here (subst (λ (r : Pair). UserLe from r.0) (sym e) le) | inr none ↦ absurd none ]
+]
+
+pub passed_more : (from : UserKey) (old left new : List Pair) (p : Pair) → Passed from old left → left ≡ p ∷ new → (UserLe from p.0 → ⊥) → Passed from old new
+passed_more from old left new p passed e here = record {
+  front = passed.front ++ p ∷ [];
+  parts = passed.parts ∙ ap (λ (ps : List Pair). passed.front ++ ps) e ∙ sym (append_assoc passed.front (p ∷ []) new);
+  before = last_before from passed.front p passed.before here;
+  ascending = (subst UsersAscend e passed.ascending).1;
+}
+
+others_after : (from : UserKey) (p : Pair) (ps : List Pair) → UsersAscend (p ∷ ps) → UserLe from p.0 → (q : Pair) → Has (p ∷ ps) q → UserLe from q.0
+others_after from p ps up le q (inl e) = subst (λ (r : Pair). UserLe from r.0) e le
+others_after from p ps up le q (inr has) = user_le_trans from p.0 q.0 le (up.0 q has).0
+
+-- the scan has no pair from the key on
+pub skips_all : (from : UserKey) (old left new : List Pair) → Passed from old left → left ≡ [] → Skips from old (ahead None new)
+skips_all from old left new passed e = record {
+  front = passed.front;
+  parts = passed.parts ∙ ap (λ (ps : List Pair). passed.front ++ ps) e;
+  before = passed.before;
+  others = λ p has. absurd has;
+}
+
+pub skips_to : (from : UserKey) (old left new : List Pair) (p : Pair) → Passed from old left → left ≡ p ∷ new → UserLe from p.0 → Skips from old (ahead (Some p) new)
+skips_to from old left new p passed e le = record {
+  front = passed.front;
+  parts = passed.parts ∙ ap (λ (ps : List Pair). passed.front ++ ps) e;
+  before = passed.before;
+  others = others_after from p new (subst UsersAscend e passed.ascending) le;
+}
+
+-- what is left of a scan once those before the key are left out
+pub scan_from : (from : UserKey) (seq : ℕ) (es : List Entry) (old all : List Pair) → IsScan seq es old → Skips from old all → IsScanFrom from seq es all
+scan_from from seq es old all scan skips = record {
+  right = λ k v has. (skips.others (k, v) has, scan.right k v (subst (λ (ps : List Pair). Has ps (k, v)) (sym skips.parts) (has_right skips.front all (k, v) has)));
+  whole = λ k v le e. whole k v le (has_cases skips.front all (k, v) (subst (λ (ps : List Pair). Has ps (k, v)) skips.parts (scan.whole k v e)));
+  ascending = ascend_right skips.front all (subst UsersAscend skips.parts scan.ascending);
+}
+  where
+    whole : (k : UserKey) (v : List ℕ) → UserLe from k → Has skips.front (k, v) ⊎ Has all (k, v) → Has all (k, v)
+    whole k v le (inl h) = absurd (skips.before (k, v) h le)
+    whole k v le (inr h) = h
+
+-- ---- pairs before the bound
+
+abbrev IsCons : List Pair → Type 0
+IsCons [] = ⊥
+IsCons (q ∷ qs) = Unit {0}
+
+below_later : (to : Option UserKey) (k q : UserKey) → is_below to k ≡ false → UserLe k q → is_below to q ≡ false
+below_later None k q h le = absurd (subst IsYes h tt)
+below_later (Some to) k q h le = ap not (user_le_trans to k q (not_false (user_le to k) h) le)
+  where
+    not_false : (b : Bool) → not b ≡ false → b ≡ true
+    not_false true h = refl
+    not_false false h = sym h
+
+none_below : (to : Option UserKey) (ps : List Pair) → ((q : Pair) → Has ps q → is_below to q.0 ≡ false) → below to ps ≡ []
+none_below to [] none = refl
+none_below to (q ∷ qs) none = rw (none q (inl refl)) (none_below to qs (λ r has. none r (inr has)))
+
+-- from a pair at the bound on none is before it
+pub ends_at : (to : Option UserKey) (p : Pair) (ps : List Pair) → UsersAscend (p ∷ ps) → is_below to p.0 ≡ false → below to (p ∷ ps) ≡ []
+ends_at to p ps up past = rw past (none_below to ps (λ q has. below_later to p.0 q.0 past (up.0 q has).0))
+
+pub some_below : (to : Option UserKey) (p : Pair) (ps : List Pair) → is_below to p.0 ≡ true → below to (p ∷ ps) ≡ p ∷ below to ps
+some_below to p ps h = let e : below to (p ∷ ps) ≡ p ∷ below to ps = rw h refl in e
+
+pub some_left : (to : Option UserKey) (p : Pair) (ps : List Pair) → is_below to p.0 ≡ true → below to (p ∷ ps) ≢ []
+some_left to p ps h e = subst IsCons (sym (some_below to p ps h) ∙ e) tt
+
+-- ---- a page
+
+-- the pairs so far are the first of those before the bound, and these are ahead
+pub record SoFar (to : Option UserKey) (all now : List Pair) (pairs : List frames.Pair) : Type 0 where
+  pub front : List Pair
+  pub parts : below to all ≡ front ++ below to now
+  pub shown : pairs ≡ map pair_of front
+  pub ascending : UsersAscend now
+
+pub so_far_none : (to : Option UserKey) (all : List Pair) (pairs : List frames.Pair) → UsersAscend all → pairs ≡ [] → SoFar to all all pairs
+so_far_none to all pairs up e = record { front = []; parts = refl; shown = e; ascending = up }
+
+map_last : (front : List Pair) (p : Pair) → map pair_of (front ++ p ∷ []) ≡ map pair_of front ++ pair_of p ∷ []
+map_last [] p = refl
+map_last (q ∷ front) p = ap (λ (ps : List frames.Pair). pair_of q ∷ ps) (map_last front p)
+
+pub so_far_more : (to : Option UserKey) (all now rest : List Pair) (p : Pair) (pairs new : List frames.Pair) → SoFar to all now pairs → now ≡ p ∷ rest → is_below to p.0 ≡ true
+    → new ≡ pairs ++ pair_of p ∷ [] → SoFar to all rest new
+so_far_more to all now rest p pairs new so e here said = record {
+  front = so.front ++ p ∷ [];
+  parts = so.parts ∙ ap (λ (ps : List Pair). so.front ++ below to ps) e ∙ ap (λ (ps : List Pair). so.front ++ ps) (some_below to p rest here) ∙ sym (append_assoc so.front (p ∷ []) (below to rest));
+  shown = said ∙ ap (λ (ps : List frames.Pair). ps ++ pair_of p ∷ []) so.shown ∙ sym (map_last so.front p);
+  ascending = (subst UsersAscend e so.ascending).1;
+}
+
+pub page_full : (to : Option UserKey) (limit : ℕ) (all now : List Pair) (pairs new : List frames.Pair) → SoFar to all now pairs → below to now ≢ [] → IsFull limit new → new ≡ pairs
+    → IsPage limit (below to all) false new
+page_full to limit all now pairs new so some full same = record {
+  front = so.front;
+  rest = below to now;
+  parts = so.parts;
+  shown = same ∙ so.shown;
+  left = (some, full);
+}
+
+pub page_ended : (to : Option UserKey) (limit : ℕ) (all now : List Pair) (pairs new : List frames.Pair) → SoFar to all now pairs → below to now ≡ [] → new ≡ pairs
+    → IsPage limit (below to all) true new
+page_ended to limit all now pairs new so none same = record {
+  front = so.front;
+  rest = [];
+  parts = so.parts ∙ ap (λ (ps : List Pair). so.front ++ ps) none;
+  shown = same ∙ so.shown;
+  left = refl;
+}

@@ -1,0 +1,4 @@
+use Rattle.lsm_serve.proofs.writing.write.Goals as goal
+
+pub returns-in-Ok-clause-ok : goal.returns-in-Ok-clause-ok
+returns-in-Ok-clause-ok g c = record { batch = c.in_ok-batch.batch; gathered = c.in_ok-batch.ensures.last; brought = c.in-Ok.ensures.ok }

@@ -1,0 +1,17 @@
+-- What a session is seen as, and what it answers
+pub mod Served
+pub mod Seen
+pub mod Reading
+pub mod Scanning
+pub mod Writing
+pub mod Snapshots
+pub mod Counting
+pub mod Collecting
+pub mod Compacting
+pub mod Answered
+pub mod Answering
+-- How a database is opened
+pub mod Starting
+-- What private functions cite alone
+pub mod Refusing
+pub mod Stepping

@@ -1,0 +1,33 @@
+-- How a page goes on along a scan.
+use Rattle.std.specs.Prelude.{◌≡◌, ◌≢◌, ⊤, ℕ, ◌+◌, true, List, [], ◌∷◌, ◌++◌, length, Option, None, Some}
+use Rattle.lsm_codec.specs.Keys.{UserKey, UserLe}
+use Rattle.lsm_codec.specs.Lists.{Has}
+use Rattle.lsm_frames.specs.Answers as frames
+use Rattle.lsm_levels.specs.Scanning.{Pair}
+use Rattle.lsm_serve.specs.declared.turn.Turn.{Turn}
+use Rattle.lsm_serve.specs.declared.turn.Turn.TheVariants.{Next, Full, Ended}
+use Rattle.lsm_serve.specs.Scanning.{IsFull, below, is_below, pair_of}
+
+-- the pair that was taken off a scan, and those that are left of it; none is left where none could be taken
+abbrev pub ahead : Option Pair → List Pair → List Pair
+ahead None left = []
+ahead (Some p) left = p ∷ left
+
+-- The pairs before the key were left out, and these are the others.
+pub record Skips (from : UserKey) (old all : List Pair) : Type 0 where
+  pub front : List Pair
+  pub parts : old ≡ front ++ all
+  pub before : (p : Pair) → Has front p → UserLe from p.0 → ⊥
+  pub others : (p : Pair) → Has all p → UserLe from p.0
+
+-- One turn: the first pair was added, and others are ahead; or the page is full, and a pair is left; or none is.
+abbrev pub Turns : Option UserKey → ℕ → List Pair → Turn → List Pair → (old new : List frames.Pair) → Type 0
+Turns to limit all (Next next) left old new = (p : Pair) × (all ≡ p ∷ ahead next left) × (is_below to p.0 ≡ true) × (new ≡ old ++ pair_of p ∷ [])
+Turns to limit all Full left old new = (below to all ≢ []) × IsFull limit new × (new ≡ old)
+Turns to limit all Ended left old new = (below to all ≡ []) × (new ≡ old)
+
+-- a turn that added a pair added one
+abbrev pub Grows : Turn → (old new : List frames.Pair) → Type 0
+Grows (Next next) old new = length new ≡ length old + 1
+Grows Full old new = ⊤
+Grows Ended old new = ⊤

@@ -1,0 +1,26 @@
+//! Forks of a shelf.
+
+ghost use Rattle.std.specs.Prelude.{◌≡◌, IfOk, vec_len};
+ghost use Rattle.lsm_shelf.specs.Told.{Forked};
+
+use lsm_slots::Boarded;
+use lsm_table::{NamedShelf, Shelf, ShelfFault};
+use std::alloc::Global;
+
+/// So many forks of a shelf.
+#[tactic(auto, using(lsm_shelf::proofs::CallerLemmas::forked_then, lsm_shelf::proofs::CallerLemmas::forked_none, lsm_shelf::proofs::CallerLemmas::forked_once, lsm_shelf::proofs::CallerLemmas::forked_same))]
+pub(crate) fn forks<N: Boarded, S: Shelf>(
+    alloc: Global,
+    shelf: &mut NamedShelf<N, S>,
+    count: usize,
+) -> Result<Vec<NamedShelf<N, S>>, ShelfFault>
+    ensures count { IfOk result (λ v. vec_len v ≡ count) }
+    ensures told { Forked shelf.old shelf.new }
+{
+    let mut forks = Vec::new(alloc);
+    for _ in 0..count {
+        let fork = shelf.fork(alloc)?;
+        forks.push(fork)?;
+    }
+    Ok(forks)
+}

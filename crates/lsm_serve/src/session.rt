@@ -1,0 +1,220 @@
+//! What a channel is served with.
+
+ghost use Rattle.std.specs.Prelude.{◌≡◌, IfOk};
+ghost use Rattle.lsm_frames.specs.Requests.{Collects, Compacts, Reads, Scans};
+ghost use Rattle.lsm_frames.specs.Requests.{Writes as AskedWrites};
+ghost use Rattle.lsm_frames.specs.Views.{asked_of, stretch_of};
+ghost use Rattle.lsm_serve.specs.Answering.{AnswersRelease, AnswersSnapshot, AnswersStatistics};
+ghost use Rattle.lsm_serve.specs.Answering.{IsAnswered};
+
+use crate::collecting::collect;
+use crate::compacting::compact;
+use crate::reading::read;
+use crate::refusing::refuse;
+use crate::saying::{say_collected, say_compacted, say_released, say_taken, say_written};
+use crate::scanning::scan;
+use crate::snapshots::{release, take};
+use crate::statistics::{list, sizes_of};
+use crate::writing::write;
+use lsm_frames::{Keys, Range, Request, When, Writes, told};
+use lsm_slots::Boarded;
+use lsm_state::StateFault;
+use lsm_store::{Background, Reader, Store};
+use lsm_table::{NamedShelf, Shelf};
+use std::alloc::{AllocError, Global};
+use std::marker::Model;
+use std::sync::Wait;
+use std::thread::Threads;
+
+/// Takes a snapshot.
+fn answer_snapshot<N: Boarded, S: Shelf, R: Wait>(
+    rt: &R,
+    alloc: Global,
+    store: &Store<N, S>,
+) -> Result<Vec<u8>, AllocError>
+    ensures { IfOk result (λ v. AnswersSnapshot v.items) }
+{
+    let done = take(rt, store);
+    let answer = say_taken(alloc, done)?;
+    Ok(answer)
+}
+
+/// Gives a snapshot up.
+fn answer_release<N: Boarded, S: Shelf, R: Wait>(
+    rt: &R,
+    alloc: Global,
+    store: &Store<N, S>,
+    number: u64,
+) -> Result<Vec<u8>, AllocError>
+    ensures { IfOk result (λ v. AnswersRelease number v.items) }
+{
+    let done = release(rt, store, number);
+    let answer = say_released(alloc, done)?;
+    Ok(answer)
+}
+
+/// Tells how much the database has.
+fn answer_statistics<N: Boarded, S: Shelf, R: Wait>(
+    rt: &R,
+    alloc: Global,
+    store: &Store<N, S>,
+) -> Result<Vec<u8>, AllocError>
+    ensures { IfOk result (λ v. AnswersStatistics v.items) }
+{
+    match list(rt, alloc, store) {
+        Ok((last, files)) => {
+            let sizes = sizes_of(&files);
+            let answer = told(alloc, last, &sizes)?;
+            Ok(answer)
+        }
+        Err(_) => {
+            let answer = refuse(alloc, StateFault::OutOfMemory)?;
+            Ok(answer)
+        }
+    }
+}
+
+/// What a channel is served with: a reader, which holds no pin between two requests, and a shelf.
+#[derive(Drop)]
+pub struct Session<N: Boarded, S: Shelf> {
+    reader: Reader<N, S>,
+    shelf: NamedShelf<N, S>,
+}
+
+impl<N: Boarded, S: Shelf> Model for Session<N, S> {
+    ghost use Rattle.lsm_serve.specs.Served.{Served};
+
+    ghost Value = { Served };
+
+    ghost view = { λ s. record { reader = s.reader; shelf = s.shelf } };
+}
+
+impl<N: Boarded, S: Shelf> Session<N, S> {
+    /// A session with this reader and this shelf.
+    pub fn new(reader: Reader<N, S>, shelf: NamedShelf<N, S>) -> Session<N, S>
+        ensures { result ≡ record { reader = reader; shelf = shelf } }
+    {
+        Session { reader, shelf }
+    }
+
+    // Brings writes in.
+    fn write<R: Wait>(
+        &mut self,
+        rt: &R,
+        alloc: Global,
+        store: &Store<N, S>,
+        background: &Background,
+        writes: Writes<'_>,
+    ) -> Result<Vec<u8>, AllocError>
+        ensures { IfOk result (λ v. IsAnswered S.honest (S.refuses N.place) (AskedWrites writes.entry)
+            self.old self.new v.items) }
+    {
+        let done = write(rt, alloc, store, background, &mut self.shelf, writes);
+        let answer = say_written(alloc, done)?;
+        Ok(answer)
+    }
+
+    // Sees to it that nothing is left to compact.
+    fn compact<R: Threads + Wait + Sync>(
+        &mut self,
+        rt: &R,
+        alloc: Global,
+        store: &Store<N, S>,
+        background: &Background,
+    ) -> Result<Vec<u8>, AllocError>
+        ensures { IfOk result (λ v. IsAnswered S.honest (S.refuses N.place) Compacts
+            self.old self.new v.items) }
+    {
+        let done = compact(rt, alloc, store, background, &mut self.shelf);
+        let answer = say_compacted(alloc, done)?;
+        Ok(answer)
+    }
+
+    // Removes the tables that nothing needs.
+    fn collect<R: Wait>(
+        &mut self,
+        rt: &R,
+        alloc: Global,
+        store: &Store<N, S>,
+    ) -> Result<Vec<u8>, AllocError>
+        ensures { IfOk result (λ v. IsAnswered S.honest (S.refuses N.place) Collects
+            self.old self.new v.items) }
+    {
+        let done = collect(rt, alloc, store, &mut self.shelf);
+        let answer = say_collected(alloc, done)?;
+        Ok(answer)
+    }
+
+    // Reads keys.
+    fn read<R: Wait>(
+        self,
+        rt: &R,
+        alloc: Global,
+        store: &Store<N, S>,
+        when: When,
+        keys: Keys<'_>,
+    ) -> (Session<N, S>, Result<Vec<u8>, AllocError>)
+        ensures { IfOk result.1 (λ v. IsAnswered S.honest (S.refuses N.place)
+            (Reads when keys.entry) self result.0 v.items) }
+    {
+        let Session { reader, shelf } = self;
+        let (reader, done) = read(rt, alloc, store, reader, when, keys);
+        match done {
+            Ok(answer) => (Session { reader, shelf }, Ok(answer)),
+            Err(fault) => match refuse(alloc, fault) {
+                Ok(answer) => (Session { reader, shelf }, Ok(answer)),
+                Err(error) => (Session { reader, shelf }, Err(error)),
+            },
+        }
+    }
+
+    // Shows pairs.
+    fn scan<R: Wait>(
+        self,
+        rt: &R,
+        alloc: Global,
+        store: &Store<N, S>,
+        range: Range<'_>,
+    ) -> (Session<N, S>, Result<Vec<u8>, AllocError>)
+        ensures { IfOk result.1 (λ v. IsAnswered S.honest (S.refuses N.place)
+            (Scans (stretch_of range.entry)) self result.0 v.items) }
+    {
+        let Session { reader, shelf } = self;
+        let (reader, done) = scan(rt, alloc, store, reader, range);
+        match done {
+            Ok(answer) => (Session { reader, shelf }, Ok(answer)),
+            Err(fault) => match refuse(alloc, fault) {
+                Ok(answer) => (Session { reader, shelf }, Ok(answer)),
+                Err(error) => (Session { reader, shelf }, Err(error)),
+            },
+        }
+    }
+
+    /// Does what a request asks: the session as it is then, and the frame of the answer, which is
+    /// the store's own (`answered`). `AllocError` where there is no memory even for a refusal; what
+    /// was asked may be done then.
+    pub fn perform<R: Threads + Wait + Sync>(
+        self,
+        rt: &R,
+        alloc: Global,
+        store: &Store<N, S>,
+        background: &Background,
+        request: Request<'_>,
+    ) -> (Session<N, S>, Result<Vec<u8>, AllocError>)
+        ensures answered { IfOk result.1 (λ v. IsAnswered S.honest (S.refuses N.place)
+            (asked_of request.entry) self result.0 v.items) }
+    {
+        let mut session = self;
+        let answer = match request {
+            Request::Read(when, keys) => return session.read(rt, alloc, store, when, keys),
+            Request::Scan(range) => return session.scan(rt, alloc, store, range),
+            Request::Write(writes) => session.write(rt, alloc, store, background, writes),
+            Request::Snapshot => answer_snapshot(rt, alloc, store),
+            Request::Release(number) => answer_release(rt, alloc, store, number),
+            Request::Compact => session.compact(rt, alloc, store, background),
+            Request::Collect => session.collect(rt, alloc, store),
+            Request::Statistics => answer_statistics(rt, alloc, store),
+        };
+        (session, answer)
+    }
+}
