@@ -9,9 +9,11 @@ use Rattle.lsm_codec.specs.Lists.{Has}
 use Rattle.lsm_codec.proofs.CallerLemmas.{has_cases, has_left, has_right, user_le_trans}
 use Rattle.lsm_frames.specs.Answers as frames
 use Rattle.lsm_levels.specs.Scanning.{IsScan, Pair, UsersAscend}
+use Rattle.lsm_merger.specs.Seeking.{at_or_past}
 use Rattle.lsm_merger.specs.Shown.{ShowsPair}
+use Rattle.lsm_reads.proofs.CallerLemmas.{past_scan}
 use Rattle.lsm_serve.specs.Scanning.{IsFull, IsPage, IsScanFrom, below, is_below, pair_of}
-use Rattle.lsm_serve.specs.Stepping.{Skips, ahead}
+use Rattle.lsm_serve.specs.Stepping.{ahead}
 
 abbrev IsYes : Bool → Type 0
 IsYes true = Unit {0}
@@ -23,77 +25,16 @@ pub shown_ahead : (next : Option Pair) (old new : List Pair) → ShowsPair next 
 shown_ahead None old new h = h.0
 shown_ahead (Some p) old new h = h
 
--- ---- tests
-
-pub is_from : (b : Bool) (from k key : UserKey) → b ≡ user_le from k → k ≡ key → b ≡ true → UserLe from key
-is_from b from k key e same t = subst (UserLe from) same (sym e ∙ t)
-
-pub not_from : (b : Bool) (from k key : UserKey) → b ≡ user_le from k → k ≡ key → b ≡ false → UserLe from key → ⊥
-not_from b from k key e same f le = subst IsYes (sym (subst (UserLe from) (sym same) le) ∙ sym e ∙ f) tt
-
 -- ---- pairs from a key on
 
-ascend_right : (front ps : List Pair) → UsersAscend (front ++ ps) → UsersAscend ps
-ascend_right [] ps up = up
-ascend_right (p ∷ front) ps up = ascend_right front ps up.1
-
--- what was left out of the pairs up to here
-pub record Passed (from : UserKey) (old left : List Pair) : Type 0 where
-  pub front : List Pair
-  pub parts : old ≡ front ++ left
-  pub before : (p : Pair) → Has front p → UserLe from p.0 → ⊥
-  pub ascending : UsersAscend left
-
-pub passed_none : (from : UserKey) (all : List Pair) → UsersAscend all → Passed from all all
-passed_none from all up = record { front = []; parts = refl; before = λ p has le. absurd has; ascending = up }
-
-last_before : (from : UserKey) (front : List Pair) (p : Pair) → ((q : Pair) → Has front q → UserLe from q.0 → ⊥) → (UserLe from p.0 → ⊥)
-    → (q : Pair) → Has (front ++ p ∷ []) q → UserLe from q.0 → ⊥
-last_before from front p before here q has le = elim (has_cases front (p ∷ []) q has) [
-  | inl h ↦ before q h le
-  | inr h ↦ elim h [ inl e ↦ here (subst (λ (r : Pair). UserLe from r.0) (sym e) le) | inr none ↦ absurd none ]
-]
-
-pub passed_more : (from : UserKey) (old left new : List Pair) (p : Pair) → Passed from old left → left ≡ p ∷ new → (UserLe from p.0 → ⊥) → Passed from old new
-passed_more from old left new p passed e here = record {
-  front = passed.front ++ p ∷ [];
-  parts = passed.parts ∙ ap (λ (ps : List Pair). passed.front ++ ps) e ∙ sym (append_assoc passed.front (p ∷ []) new);
-  before = last_before from passed.front p passed.before here;
-  ascending = (subst UsersAscend e passed.ascending).1;
-}
-
-others_after : (from : UserKey) (p : Pair) (ps : List Pair) → UsersAscend (p ∷ ps) → UserLe from p.0 → (q : Pair) → Has (p ∷ ps) q → UserLe from q.0
-others_after from p ps up le q (inl e) = subst (λ (r : Pair). UserLe from r.0) e le
-others_after from p ps up le q (inr has) = user_le_trans from p.0 q.0 le (up.0 q has).0
-
--- the scan has no pair from the key on
-pub skips_all : (from : UserKey) (old left new : List Pair) → Passed from old left → left ≡ [] → Skips from old (ahead None new)
-skips_all from old left new passed e = record {
-  front = passed.front;
-  parts = passed.parts ∙ ap (λ (ps : List Pair). passed.front ++ ps) e;
-  before = passed.before;
-  others = λ p has. absurd has;
-}
-
-pub skips_to : (from : UserKey) (old left new : List Pair) (p : Pair) → Passed from old left → left ≡ p ∷ new → UserLe from p.0 → Skips from old (ahead (Some p) new)
-skips_to from old left new p passed e le = record {
-  front = passed.front;
-  parts = passed.parts ∙ ap (λ (ps : List Pair). passed.front ++ ps) e;
-  before = passed.before;
-  others = others_after from p new (subst UsersAscend e passed.ascending) le;
-}
-
--- what is left of a scan once those before the key are left out
-pub scan_from : (from : UserKey) (seq : ℕ) (es : List Entry) (old all : List Pair) → IsScan seq es old → Skips from old all → IsScanFrom from seq es all
-scan_from from seq es old all scan skips = record {
-  right = λ k v has. (skips.others (k, v) has, scan.right k v (subst (λ (ps : List Pair). Has ps (k, v)) (sym skips.parts) (has_right skips.front all (k, v) has)));
-  whole = λ k v le e. whole k v le (has_cases skips.front all (k, v) (subst (λ (ps : List Pair). Has ps (k, v)) skips.parts (scan.whole k v e)));
-  ascending = ascend_right skips.front all (subst UsersAscend skips.parts scan.ascending);
-}
-  where
-    whole : (k : UserKey) (v : List ℕ) → UserLe from k → Has skips.front (k, v) ⊎ Has all (k, v) → Has all (k, v)
-    whole k v le (inl h) = absurd (skips.before (k, v) h le)
-    whole k v le (inr h) = h
+pub scan_past : (from : UserKey) (seq : ℕ) (es : List Entry) (next : Option Pair) (old new : List Pair) → IsScan seq (at_or_past from es) old → ShowsPair next old new
+    → IsScanFrom from seq es (ahead next new)
+scan_past from seq es next old new scan shows =
+    subst (IsScanFrom from seq es) (shown_ahead next old new shows) (record {
+      right = (past_scan seq from es old scan).0;
+      whole = (past_scan seq from es old scan).1;
+      ascending = scan.ascending;
+    })
 
 -- ---- pairs before the bound
 

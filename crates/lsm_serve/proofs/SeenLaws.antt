@@ -35,7 +35,7 @@ promised when before after seq sees = promised_at when sees.state before after s
 -- a reader that was refused knows what it knew
 pub refused_knows : (r back : Learnt) (fault : BeginFault) → IsRefused r back fault
     → (back.id ≡ r.id) × (back.version ≡ r.version) × (back.history ≡ r.history) × (back.snapshots ≡ r.snapshots)
-refused_knows r back (Moved id) h = let e = h.1.1 in
+refused_knows r back (Moved id) h = let e = h.2.1 in
     (ap (λ (l : Learnt). l.id) e, ap (λ (l : Learnt). l.version) e, ap (λ (l : Learnt). l.history) e, ap (λ (l : Learnt). l.snapshots) e)
 refused_knows r back PinsSpent h = let e = h.1 in
     (ap (λ (l : Learnt). l.id) e, ap (λ (l : Learnt). l.version) e, ap (λ (l : Learnt). l.history) e, ap (λ (l : Learnt). l.snapshots) e)

@@ -1,7 +1,6 @@
 -- How a page goes on along a scan.
 use Rattle.std.specs.Prelude.{◌≡◌, ◌≢◌, ⊤, ℕ, ◌+◌, true, List, [], ◌∷◌, ◌++◌, length, Option, None, Some}
-use Rattle.lsm_codec.specs.Keys.{UserKey, UserLe}
-use Rattle.lsm_codec.specs.Lists.{Has}
+use Rattle.lsm_codec.specs.Keys.{UserKey}
 use Rattle.lsm_frames.specs.Answers as frames
 use Rattle.lsm_levels.specs.Scanning.{Pair}
 use Rattle.lsm_serve.specs.declared.turn.Turn.{Turn}
@@ -12,13 +11,6 @@ use Rattle.lsm_serve.specs.Scanning.{IsFull, below, is_below, pair_of}
 abbrev pub ahead : Option Pair → List Pair → List Pair
 ahead None left = []
 ahead (Some p) left = p ∷ left
-
--- The pairs before the key were left out, and these are the others.
-pub record Skips (from : UserKey) (old all : List Pair) : Type 0 where
-  pub front : List Pair
-  pub parts : old ≡ front ++ all
-  pub before : (p : Pair) → Has front p → UserLe from p.0 → ⊥
-  pub others : (p : Pair) → Has all p → UserLe from p.0
 
 -- One turn: the first pair was added, and others are ahead; or the page is full, and a pair is left; or none is.
 abbrev pub Turns : Option UserKey → ℕ → List Pair → Turn → List Pair → (old new : List frames.Pair) → Type 0

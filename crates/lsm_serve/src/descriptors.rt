@@ -14,19 +14,19 @@ pub(crate) enum Incoming {
     End,
 }
 
-/// Whether a descriptor is open to be read.
-fn is_open(fd: i32) -> bool {
-    let mut nothing = [0u8; 0];
-    libc::read(fd, &mut nothing) == 0
+/// Which descriptors are open.
+pub trait Descriptors {
+    /// Whether this one is open, or no file that is opened gets its number.
+    fn is_open(&self, fd: i32) -> bool;
 }
 
 /// Whether so many descriptors, from this one on, are open. A file that is opened takes the lowest
 /// number that is free: an answer over a channel that is not open would go into a table or a
 /// manifest.
-pub(crate) fn are_open(first: i32, count: usize) -> bool {
+pub(crate) fn are_open<D: Descriptors>(descriptors: &D, first: i32, count: usize) -> bool {
     let mut fd = first;
     for _ in 0..count {
-        if !is_open(fd) {
+        if !descriptors.is_open(fd) {
             return false;
         }
         fd = fd.saturating_add(1);

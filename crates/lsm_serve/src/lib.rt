@@ -37,5 +37,6 @@ mod plan;
 mod program;
 mod starting;
 
+pub use descriptors::Descriptors;
 pub use program::serve_opening;
 pub use session::Session;

@@ -2,7 +2,7 @@
 
 ghost use Rattle.std.specs.Prelude.{◌≤◌};
 
-use crate::descriptors::{Incoming, are_open, read_frame, send};
+use crate::descriptors::{Descriptors, Incoming, are_open, read_frame, send};
 use crate::opening_fault::OpeningFault;
 use crate::plan::Plan;
 use crate::refusing::refuse_by;
@@ -74,9 +74,10 @@ where
 }
 
 /// Opens the folder of an opening, and serves its database.
-fn serve_at<C: FolderCalls + Send + Sync, P: Paths<C>, R: Threads + Wait + Sync>(
+fn serve_at<C: FolderCalls + Send + Sync, P: Paths<C>, D: Descriptors, R: Threads + Wait + Sync>(
     rt: &R,
     paths: &P,
+    descriptors: &D,
     opening: &Opening<'_>,
 ) -> Result<(), OpeningFault>
 where
@@ -85,7 +86,7 @@ where
     let Some(plan) = Plan::of(opening) else {
         return Err(OpeningFault::BadOpening);
     };
-    if !are_open(plan.first, plan.channels) {
+    if !are_open(descriptors, plan.first, plan.channels) {
         return Err(OpeningFault::BadOpening);
     }
     let Ok(reasons) = Reasons::new(paths.alloc()) else {
@@ -106,16 +107,17 @@ fn refuse<C: FolderCalls, P: Paths<C>>(paths: &P, first: u32, fault: &OpeningFau
 }
 
 /// Serves the database that an opening request names.
-fn serve_content<C: FolderCalls + Send + Sync, P: Paths<C>, R: Threads + Wait + Sync>(
-    rt: &R,
-    paths: &P,
-    content: &[u8],
-)
+fn serve_content<
+    C: FolderCalls + Send + Sync,
+    P: Paths<C>,
+    D: Descriptors,
+    R: Threads + Wait + Sync,
+>(rt: &R, paths: &P, descriptors: &D, content: &[u8])
 where
     C::Mark: Send + Sync,
 {
     if let Ok(opening) = Opening::parse(content) {
-        if let Err(fault) = serve_at(rt, paths, &opening) {
+        if let Err(fault) = serve_at(rt, paths, descriptors, &opening) {
             refuse(paths, opening.first_channel, &fault);
         }
         return;
@@ -128,14 +130,16 @@ where
 /// Reads the opening request from descriptor 0, opens the database, and serves it until each
 /// channel has ended. An opening that is refused is answered on the first channel. Without an
 /// opening nothing is done.
-pub fn serve_opening<C: FolderCalls + Send + Sync, P: Paths<C>, R: Threads + Wait + Sync>(
-    rt: &R,
-    paths: &P,
-)
+pub fn serve_opening<
+    C: FolderCalls + Send + Sync,
+    P: Paths<C>,
+    D: Descriptors,
+    R: Threads + Wait + Sync,
+>(rt: &R, paths: &P, descriptors: &D)
 where
     C::Mark: Send + Sync,
 {
     if let Ok(Incoming::Content(content)) = read_frame(paths.alloc(), OPENING) {
-        serve_content(rt, paths, &content);
+        serve_content(rt, paths, descriptors, &content);
     }
 }

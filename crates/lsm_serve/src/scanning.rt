@@ -9,7 +9,7 @@ ghost use Rattle.lsm_levels.specs.Scanning.{UsersAscend};
 ghost use Rattle.lsm_serve.specs.Reading.{IsAnswerFault, IsReadFault, IsUnread};
 ghost use Rattle.lsm_serve.specs.Scanning.{IsFull, IsPage, IsScanFrom, IsScanned, IsShown};
 ghost use Rattle.lsm_serve.specs.Scanning.{below, is_below, pair_of};
-ghost use Rattle.lsm_serve.specs.Stepping.{Grows, Skips, Turns, ahead};
+ghost use Rattle.lsm_serve.specs.Stepping.{Grows, Turns, ahead};
 ghost use Rattle.lsm_store.specs.Readers.{IsPromised};
 ghost use Rattle.lsm_table.specs.ReadFault.{IsMemoryOrShelf};
 
@@ -21,7 +21,7 @@ use lsm_reads::{Pair, Scan};
 use lsm_slots::Boarded;
 use lsm_state::StateFault;
 use lsm_store::{Reader, Store, View};
-use lsm_table::{ReadFault, Shelf, TableFault};
+use lsm_table::{ReadFault, Shelf};
 use std::alloc::Global;
 use std::sync::Wait;
 
@@ -46,33 +46,6 @@ fn is_below(to: Option<&[u8]>, key: &[u8]) -> bool
     }
 }
 
-/// Goes on to the first pair that is not before a key, which is taken.
-fn skip_to<N: Boarded, S: Shelf>(
-    alloc: Global,
-    view: &mut View<N, S>,
-    scan: &mut Scan<N, S>,
-    from: &[u8],
-) -> Result<Option<Pair>, ReadFault>
-    requires ascending { S.honest → UsersAscend scan.old.left }
-    ensures skipped { S.honest
-        → IfOk result (λ next. Skips from.now scan.old.left (ahead next scan.new.left)) }
-    ensures sound { S.honest → IfErr result IsMemoryOrShelf }
-    ensures rest { view.new ≡ record view.old { told = view.new.told } }
-{
-    for _turn in 0..u64::MAX {
-        match view.next(alloc, scan)? {
-            None => return Ok(None),
-            Some(pair) => {
-                if is_at_most(from, pair.user()) {
-                    return Ok(Some(pair));
-                }
-            }
-        }
-    }
-    // Only a shelf that is not honest could give so many.
-    Err(ReadFault::Table(TableFault::OutOfMemory))
-}
-
 /// A scan from a key on, of which the first pair is taken.
 fn first_from<N: Boarded, S: Shelf>(
     alloc: Global,
@@ -86,8 +59,8 @@ fn first_from<N: Boarded, S: Shelf>(
     ensures sound { S.honest → IfErr result IsMemoryOrShelf }
     ensures rest { view.new ≡ record view.old { told = view.new.told } }
 {
-    let mut scan = view.scan(alloc, seq)?;
-    let next = skip_to(alloc, view, &mut scan, from)?;
+    let mut scan = view.scan_from(alloc, seq, from)?;
+    let next = view.next(alloc, &mut scan)?;
     Ok((scan, next))
 }
 

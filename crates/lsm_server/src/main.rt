@@ -1,13 +1,17 @@
 //! The program `lsm_server`: a database of the system's, served over channels.
 #![tactic(auto)]
 
+mod system_descriptors;
+
+use crate::system_descriptors::SystemDescriptors;
 use lsm_directory::SystemPaths;
 use lsm_serve::serve_opening;
 
 fn main(rt: HostRuntime) {
-    let Ok(host) = rt.clone() else {
+    let (Ok(paths), Ok(files)) = (rt.clone(), rt.clone()) else {
         return;
     };
-    let paths = SystemPaths::new(host);
-    serve_opening(&rt, &paths);
+    let paths = SystemPaths::new(paths);
+    let descriptors = SystemDescriptors::new(files);
+    serve_opening(&rt, &paths, &descriptors);
 }
