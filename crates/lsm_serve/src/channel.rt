@@ -1,6 +1,6 @@
 //! Channels.
 
-use crate::descriptors::{Incoming, read_frame, send};
+use crate::descriptors::{Incoming, end, read_frame, send};
 use crate::session::Session;
 use lsm_frames::{Request, unread};
 use lsm_slots::Boarded;
@@ -81,4 +81,5 @@ pub(crate) fn serve<N: Boarded, S: Shelf, R: Threads + Wait + Sync>(
             break;
         }
     }
+    end(fd);
 }

@@ -63,3 +63,9 @@ pub(crate) fn send(fd: i32, answer: Result<Vec<u8>, AllocError>) -> bool {
         Err(_) => false,
     }
 }
+
+/// Ends a channel: no more is read from it or written to it, and its client sees the end. The
+/// number stays taken, so that no file of the database gets it.
+pub(crate) fn end(fd: i32) {
+    let _ended = libc::net::shutdown(fd, libc::net::SHUT_RDWR);
+}
