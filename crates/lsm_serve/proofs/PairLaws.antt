@@ -66,45 +66,81 @@ some_left to p ps h e = subst IsCons (sym (some_below to p ps h) ∙ e) tt
 
 -- ---- a page
 
+-- without its last pair the page is not full
+abbrev pub IsNoMore : ℕ → List frames.Pair → Type 0
+IsNoMore limit pairs = (before : List frames.Pair) (p : frames.Pair) → pairs ≡ before ++ p ∷ [] → IsFull limit before → ⊥
+
 -- the pairs so far are the first of those before the bound, and these are ahead
-pub record SoFar (to : Option UserKey) (all now : List Pair) (pairs : List frames.Pair) : Type 0 where
+pub record SoFar (to : Option UserKey) (limit : ℕ) (all now : List Pair) (pairs : List frames.Pair) : Type 0 where
   pub front : List Pair
   pub parts : below to all ≡ front ++ below to now
   pub shown : pairs ≡ map pair_of front
+  pub most : IsNoMore limit pairs
   pub ascending : UsersAscend now
 
-pub so_far_none : (to : Option UserKey) (all : List Pair) (pairs : List frames.Pair) → UsersAscend all → pairs ≡ [] → SoFar to all all pairs
-so_far_none to all pairs up e = record { front = []; parts = refl; shown = e; ascending = up }
+abbrev IsSomePair : List frames.Pair → Type 0
+IsSomePair [] = ⊥
+IsSomePair (q ∷ qs) = Unit {0}
+
+some_last : (before : List frames.Pair) (p : frames.Pair) → IsSomePair (before ++ p ∷ [])
+some_last [] p = tt
+some_last (q ∷ qs) p = tt
+
+pub so_far_none : (to : Option UserKey) (limit : ℕ) (all : List Pair) (pairs : List frames.Pair) → UsersAscend all → pairs ≡ [] → SoFar to limit all all pairs
+so_far_none to limit all pairs up e = record {
+  front = [];
+  parts = refl;
+  shown = e;
+  most = λ before p same full. subst IsSomePair (sym same ∙ e) (some_last before p);
+  ascending = up;
+}
+
+without_last : List frames.Pair → List frames.Pair
+without_last [] = []
+without_last (q ∷ []) = []
+without_last (q ∷ r ∷ rs) = q ∷ without_last (r ∷ rs)
+
+without-last : (qs : List frames.Pair) (p : frames.Pair) → without_last (qs ++ p ∷ []) ≡ qs
+unfolding without_last
+without-last [] p = refl
+without-last (q ∷ []) p = refl
+without-last (q ∷ r ∷ rs) p = ap (λ (ps : List frames.Pair). q ∷ ps) (without-last (r ∷ rs) p)
+
+same_first : (qs rs : List frames.Pair) (p q : frames.Pair) → qs ++ p ∷ [] ≡ rs ++ q ∷ [] → qs ≡ rs
+same_first qs rs p q e = sym (without-last qs p) ∙ ap without_last e ∙ without-last rs q
 
 map_last : (front : List Pair) (p : Pair) → map pair_of (front ++ p ∷ []) ≡ map pair_of front ++ pair_of p ∷ []
 map_last [] p = refl
 map_last (q ∷ front) p = ap (λ (ps : List frames.Pair). pair_of q ∷ ps) (map_last front p)
 
-pub so_far_more : (to : Option UserKey) (all now rest : List Pair) (p : Pair) (pairs new : List frames.Pair) → SoFar to all now pairs → now ≡ p ∷ rest → is_below to p.0 ≡ true
-    → new ≡ pairs ++ pair_of p ∷ [] → SoFar to all rest new
-so_far_more to all now rest p pairs new so e here said = record {
+pub so_far_more : (to : Option UserKey) (limit : ℕ) (all now rest : List Pair) (p : Pair) (pairs new : List frames.Pair) → SoFar to limit all now pairs → now ≡ p ∷ rest
+    → is_below to p.0 ≡ true → new ≡ pairs ++ pair_of p ∷ [] → (IsFull limit pairs → ⊥) → SoFar to limit all rest new
+so_far_more to limit all now rest p pairs new so e here said room = record {
   front = so.front ++ p ∷ [];
   parts = so.parts ∙ ap (λ (ps : List Pair). so.front ++ below to ps) e ∙ ap (λ (ps : List Pair). so.front ++ ps) (some_below to p rest here) ∙ sym (append_assoc so.front (p ∷ []) (below to rest));
   shown = said ∙ ap (λ (ps : List frames.Pair). ps ++ pair_of p ∷ []) so.shown ∙ sym (map_last so.front p);
+  most = λ before q same full. room (subst (IsFull limit) (same_first before pairs q (pair_of p) (sym same ∙ said)) full);
   ascending = (subst UsersAscend e so.ascending).1;
 }
 
-pub page_full : (to : Option UserKey) (limit : ℕ) (all now : List Pair) (pairs new : List frames.Pair) → SoFar to all now pairs → below to now ≢ [] → IsFull limit new → new ≡ pairs
+pub page_full : (to : Option UserKey) (limit : ℕ) (all now : List Pair) (pairs new : List frames.Pair) → SoFar to limit all now pairs → below to now ≢ [] → IsFull limit new → new ≡ pairs
     → IsPage limit (below to all) false new
 page_full to limit all now pairs new so some full same = record {
   front = so.front;
   rest = below to now;
   parts = so.parts;
   shown = same ∙ so.shown;
+  most = subst (IsNoMore limit) (sym same) so.most;
   left = (some, full);
 }
 
-pub page_ended : (to : Option UserKey) (limit : ℕ) (all now : List Pair) (pairs new : List frames.Pair) → SoFar to all now pairs → below to now ≡ [] → new ≡ pairs
+pub page_ended : (to : Option UserKey) (limit : ℕ) (all now : List Pair) (pairs new : List frames.Pair) → SoFar to limit all now pairs → below to now ≡ [] → new ≡ pairs
     → IsPage limit (below to all) true new
 page_ended to limit all now pairs new so none same = record {
   front = so.front;
   rest = [];
   parts = so.parts ∙ ap (λ (ps : List Pair). so.front ++ ps) none;
   shown = same ∙ so.shown;
+  most = subst (IsNoMore limit) (sym same) so.most;
   left = refl;
 }

@@ -1,22 +1,26 @@
 -- What a collection removes (this project's rule).
-use Rattle.std.specs.Prelude.{◌≡◌, ℕ, List, length}
-use Rattle.lsm_shelf.specs.Asked.{Asked}
+use Rattle.std.specs.Prelude.{◌≡◌, ℕ, List, length, false}
 use Rattle.lsm_shelf.specs.Told.{Told}
-use Rattle.lsm_shelf.specs.declared.shelf_fault.ShelfFault.{ShelfFault}
-use Rattle.lsm_state.specs.Collecting.{AreCollected, IsCollectRefusal}
+use Rattle.lsm_state.specs.Collecting.{AreCollected, HasLookedAround, IsCollectRefusal}
 use Rattle.lsm_state.specs.Held.{Held}
 use Rattle.lsm_state.specs.declared.state_fault.StateFault.{StateFault}
 
--- So many tables were removed: those that the shelf listed and that a state did not keep.
-pub record IsCollected (count : ℕ) (before after : Told) : Type 0 where
-  pub state : Held
+-- The state goes on, and looked at its slots. So many tables were removed: those that the shelf listed and that the state then did not keep.
+pub record CollectsAt (was is : Held) (count : ℕ) (before after : Told) : Type 0 where
+  pub goes_on : was.halted ≡ false
+  pub looked : HasLookedAround was is
   pub removed : List ℕ
   pub count_is : count ≡ length removed
-  pub collected : AreCollected state removed before after
+  pub collected : AreCollected is removed before after
 
--- A state refused; some tables may have been removed by then.
-pub record IsCollectFault (e : StateFault) (before after : Told) : Type 0 where
-  pub was : Held
-  pub is : Held
+-- The state refused; some tables that it does not keep may have been removed by then.
+pub record RefusesAt (was is : Held) (e : StateFault) (before after : Told) : Type 0 where
   pub removed : List ℕ
   pub refusal : IsCollectRefusal was is e removed before after
+
+-- at one taking of the lock
+abbrev pub IsCollected : ℕ → Told → Told → Type 0
+IsCollected count before after = (was : Held) × (is : Held) × CollectsAt was is count before after
+
+abbrev pub IsCollectFault : StateFault → Told → Told → Type 0
+IsCollectFault e before after = (was : Held) × (is : Held) × RefusesAt was is e before after

@@ -1,5 +1,5 @@
 -- What a scan answers (this project's rule).
-use Rattle.std.specs.Prelude.{◌≡◌, ◌≢◌, ◌⊎◌, ℕ, ◌≤◌, Bool, true, false, not, List, [], ◌++◌, length, map, Option, None, Some, MatchBool}
+use Rattle.std.specs.Prelude.{◌≡◌, ◌≢◌, ◌⊎◌, ℕ, ◌≤◌, Bool, true, false, not, List, [], ◌∷◌, ◌++◌, length, map, Option, None, Some, MatchBool}
 use Rattle.std.specs.List.{filter, flat_map}
 use Rattle.lsm_codec.specs.Entries.{Entry, answer}
 use Rattle.lsm_codec.specs.Keys.{UserKey, UserLe, user_le}
@@ -38,12 +38,13 @@ pair_of p = record { key = p.0; value = p.1 }
 abbrev pub IsFull : ℕ → List frames.Pair → Type 0
 IsFull limit pairs = ((limit ≢ 0) × (limit ≤ length pairs)) ⊎ (65536 ≤ length (flat_map frames.pair_text pairs))
 
--- The first of the pairs that are to be shown. None is left; or some are, and the page is full.
+-- The first of the pairs that are to be shown. Without its last pair the page is not full. None is left; or some are, and the page is full.
 pub record IsPage (limit : ℕ) (all : List Pair) (ended : Bool) (pairs : List frames.Pair) : Type 0 where
   pub front : List Pair
   pub rest : List Pair
   pub parts : all ≡ front ++ rest
   pub shown : pairs ≡ map pair_of front
+  pub most : (before : List frames.Pair) (p : frames.Pair) → pairs ≡ before ++ p ∷ [] → IsFull limit before → ⊥
   pub left : MatchBool ended (rest ≡ []) ((rest ≢ []) × IsFull limit pairs)
 
 -- The answer has the first pairs of the range, in all that had come in when the reader learnt it, at one sequence.

@@ -12,9 +12,9 @@ abbrev pub ahead : Option Pair → List Pair → List Pair
 ahead None left = []
 ahead (Some p) left = p ∷ left
 
--- One turn: the first pair was added, and others are ahead; or the page is full, and a pair is left; or none is.
+-- One turn: the page was not full, the first pair was added, and others are ahead; or the page is full, and a pair is left; or none is.
 abbrev pub Turns : Option UserKey → ℕ → List Pair → Turn → List Pair → (old new : List frames.Pair) → Type 0
-Turns to limit all (Next next) left old new = (p : Pair) × (all ≡ p ∷ ahead next left) × (is_below to p.0 ≡ true) × (new ≡ old ++ pair_of p ∷ [])
+Turns to limit all (Next next) left old new = (p : Pair) × (all ≡ p ∷ ahead next left) × (is_below to p.0 ≡ true) × (new ≡ old ++ pair_of p ∷ []) × (IsFull limit old → ⊥)
 Turns to limit all Full left old new = (below to all ≢ []) × IsFull limit new × (new ≡ old)
 Turns to limit all Ended left old new = (below to all ≡ []) × (new ≡ old)
 

@@ -1,7 +1,8 @@
 //! The removal of what nothing needs.
 
 ghost use Rattle.std.specs.Prelude.{◌≡◌, IfErr, IfOk};
-ghost use Rattle.lsm_serve.specs.Collecting.{IsCollectFault, IsCollected};
+ghost use Rattle.lsm_serve.specs.Collecting.{CollectsAt, IsCollectFault, IsCollected};
+ghost use Rattle.lsm_serve.specs.Collecting.{RefusesAt};
 
 use lsm_slots::Boarded;
 use lsm_state::{State, StateFault};
@@ -17,9 +18,8 @@ fn collect_of<N: Boarded, S: Shelf, R: Wait>(
     alloc: Global,
     shelf: &mut NamedShelf<N, S>,
 ) -> Result<u64, StateFault>
-    ensures ok { IfOk result (λ n. IsCollected n shelf.old shelf.new) }
-    ensures refused { IfErr result (λ e. IsCollectFault e
-        shelf.old shelf.new) }
+    ensures ok { IfOk result (λ n. CollectsAt state.old state.new n shelf.old shelf.new) }
+    ensures refused { IfErr result (λ e. RefusesAt state.old state.new e shelf.old shelf.new) }
 {
     match state.collect(rt, alloc, shelf) {
         Ok(numbers) => Ok(numbers.len() as u64),

@@ -1,7 +1,9 @@
 //! Snapshots.
 
 ghost use Rattle.std.specs.Prelude.{◌≡◌, IfErr, IfOk, OnErr, OnOk};
-ghost use Rattle.lsm_serve.specs.Snapshots.{IsReleased, IsTakeFault, IsTaken, TakesAt};
+ghost use Rattle.lsm_serve.specs.Snapshots.{IsReleased, IsTakeFault, IsTaken, ReleasesAt};
+ghost use Rattle.lsm_serve.specs.Snapshots.{TakesAt};
+ghost use Rattle.lsm_slots.specs.Snapshots.{HasId};
 ghost use Rattle.lsm_state.specs.declared.state_fault.StateFault.TheVariants.{UnknownSnapshot};
 
 use lsm_slots::Boarded;
@@ -32,6 +34,16 @@ pub(crate) fn take<N: Boarded, S: Shelf, R: Wait>(
     take_of(&mut store.lock(rt).state)
 }
 
+/// Gives a snapshot of a state up.
+fn release_of<N: Boarded, S: Shelf>(state: &mut State<N, S>, number: u64) -> Result<(), StateFault>
+    ensures ok { OnOk result (ReleasesAt state.old state.new number) }
+    ensures err { OnErr result (state.new ≡ state.old) }
+    ensures refused { IfErr result (λ e. (e ≡ UnknownSnapshot number)
+        × (HasId state.old.snapshots.taken number → ⊥)) }
+{
+    state.release(number)
+}
+
 /// Gives a snapshot up.
 pub(crate) fn release<N: Boarded, S: Shelf, R: Wait>(
     rt: &R,
@@ -41,5 +53,5 @@ pub(crate) fn release<N: Boarded, S: Shelf, R: Wait>(
     ensures ok { OnOk result (IsReleased number) }
     ensures refused { IfErr result (λ e. e ≡ UnknownSnapshot number) }
 {
-    store.lock(rt).state.release(number)
+    release_of(&mut store.lock(rt).state, number)
 }

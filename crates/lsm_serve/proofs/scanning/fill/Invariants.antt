@@ -6,7 +6,7 @@ use Rattle.lsm_serve.proofs.scanning.fill.Given as goal
 
 abbrev pub invariant-loop-count : goal.invariant-loop-count
 invariant-loop-count g l = record {
-  so_far : g.S.Shelf.honest → SoFar (stretch_of l.range).to (ahead l.fn.first l.fn.scan.left) (ahead l.next l.scan.left) l.pairs;
+  so_far : g.S.Shelf.honest → SoFar (stretch_of l.range).to l.range.limit (ahead l.fn.first l.fn.scan.left) (ahead l.next l.scan.left) l.pairs;
   count : length l.pairs ≡ l.count;
   rest : l.view ≡ record l.fn.view { told = l.view.told };
 }
