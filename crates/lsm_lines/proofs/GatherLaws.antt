@@ -1,0 +1,104 @@
+-- Lines that are taken, and their writes.
+use Rattle.std.proofs.Common.{◌≡◌, ℕ, ◌<◌, ◌≤◌, List, [], ◌∷◌, ◌++◌, length, Option, Some, None, refl, sym, ap, ◌∙◌, subst, append_assoc, append-nil, inl, inr}
+use Rattle.std.specs.Io.KnownBytes.{IsAtEnd}
+use Rattle.lsm_text.specs.EntryList.{lines_of}
+use Rattle.lsm_text.specs.BatchText.{AreWriteLines, IsWriteLine}
+use Rattle.lsm_text.specs.declared.form.Form.{Form}
+use Rattle.lsm_batch.specs.Batches.{IsLarge, IsTooLarge}
+use Rattle.lsm_batch.specs.declared.write.Write.{Write}
+use Rattle.lsm_lines.specs.Reading.{TakesLine}
+use Rattle.lsm_lines.specs.Gathering.{BeginsWith, Gathers, Pending, Reads, Stops, StopsBy, TakesLines}
+use Rattle.lsm_lines.specs.Filling.{Fills, IsFilled, IsNoWrite}
+use Rattle.lsm_lines.specs.declared.write_line_fault.WriteLineFault.{WriteLineFault}
+use Rattle.lsm_lines.specs.declared.write_line_fault.WriteLineFault.TheVariants.{BadLine, LongLine, LargeWrite, Read, OutOfMemory}
+
+-- ---- the first line of what is left
+
+pub takes_begins : (line : List ℕ) (old new : Option (List ℕ)) → TakesLine line old new → BeginsWith line old
+takes_begins line None new t = tt
+takes_begins line (Some xs) None t = absurd t
+takes_begins line (Some xs) (Some ys) t = (lines_of ys, t)
+
+pub stops_at : (form : Form) (line : List ℕ) (old new : Option (List ℕ)) (fault : WriteLineFault) → TakesLine line old new → IsNoWrite form line fault → Stops form old fault
+stops_at form line old new (BadLine place) t none = (line, takes_begins line old new t, none)
+stops_at form line old new OutOfMemory t none = tt
+stops_at form line old new LongLine t none = absurd none
+stops_at form line old new LargeWrite t none = absurd none
+stops_at form line old new Read t none = absurd none
+
+-- ---- lines, one after another
+
+pub takes_none : (old : Option (List ℕ)) → TakesLines [] old old
+takes_none None = tt
+takes_none (Some xs) = refl
+
+pub takes_more : (lines : List (List ℕ)) (line : List ℕ) (old mid new : Option (List ℕ)) → TakesLines lines old mid → TakesLine line mid new → TakesLines (lines ++ line ∷ []) old new
+takes_more lines line None mid new t one = tt
+takes_more lines line (Some xs) None new t one = absurd t
+takes_more lines line (Some xs) (Some ys) None t one = absurd one
+takes_more lines line (Some xs) (Some ys) (Some zs) t one =
+    t ∙ ap (λ (ls : List (List ℕ)). lines ++ ls) one ∙ sym (append_assoc lines (line ∷ []) (lines_of zs))
+
+spelled_more : (form : Form) (ls : List (List ℕ)) (ws : List Write) (l : List ℕ) (w : Write) → AreWriteLines form ls ws → IsWriteLine form l w → AreWriteLines form (ls ++ l ∷ []) (ws ++ w ∷ [])
+spelled_more form [] [] l w h k = (k, tt)
+spelled_more form [] (x ∷ ws) l w h k = absurd h
+spelled_more form (x ∷ ls) [] l w h k = absurd h
+spelled_more form (x ∷ ls) (y ∷ ws) l w h k = (h.0, spelled_more form ls ws l w h.1 k)
+
+pub reads_none : (form : Form) (old : Option (List ℕ)) → Reads form old old []
+reads_none form old = record { lines = []; taken = takes_none old; spelled = tt }
+
+pub reads_more : (form : Form) (old mid new : Option (List ℕ)) (ws : List Write) (line : List ℕ) (w : Write) → Reads form old mid ws → TakesLine line mid new → IsWriteLine form line w
+    → Reads form old new (ws ++ w ∷ [])
+reads_more form old mid new ws line w r t spells = record {
+  lines = r.lines ++ line ∷ [];
+  taken = takes_more r.lines line old mid new r.taken t;
+  spelled = spelled_more form r.lines ws line w r.spelled spells;
+}
+
+-- ---- a buffer that is filled
+
+pub fills_none : (form : Form) (old : Option (List ℕ)) (before : List Write) → Fills form old old before before
+fills_none form old before = record { writes = []; reads = reads_none form old; put = sym (append-nil before) }
+
+pub fills_more : (form : Form) (old mid new : Option (List ℕ)) (before after : List Write) (line : List ℕ) (w : Write) → Fills form old mid before after → TakesLine line mid new
+    → IsWriteLine form line w → Fills form old new before (after ++ w ∷ [])
+fills_more form old mid new before after line w f t spells = record {
+  writes = f.writes ++ w ∷ [];
+  reads = reads_more form old mid new f.writes line w f.reads t spells;
+  put = ap (λ (l : List Write). l ++ w ∷ []) f.put ∙ append_assoc before f.writes (w ∷ []);
+}
+
+-- the write of the next line would pass a limit
+pub fills_over : (form : Form) (old mid new : Option (List ℕ)) (before after after' : List Write) (line : List ℕ) (w back : Write) → Fills form old mid before after
+    → TakesLine line mid new → IsWriteLine form line w → after' ≡ after → back ≡ w → IsTooLarge (after ++ w ∷ [])
+    → Fills form old new before (after' ++ back ∷ []) × IsTooLarge (after' ++ back ∷ [])
+fills_over form old mid new before after after' line w back f t spells same its large =
+    let longer : after ++ w ∷ [] ≡ after' ++ back ∷ [] = ap (λ (l : List Write). l ++ w ∷ []) (sym same) ∙ ap (λ (v : Write). after' ++ v ∷ []) (sym its) in
+    (subst (λ (l : List Write). Fills form old new before l) longer (fills_more form old mid new before after line w f t spells), subst IsTooLarge longer large)
+
+-- ---- what is gathered of what was to come
+
+pub gathered : (form : Form) (old new : Option (List ℕ)) (before kept later after : List Write) → before ≡ kept → Fills form old new before (after ++ later)
+    → (writes : List Write) × Reads form old new writes × (kept ++ writes ≡ after ++ later)
+gathered form old new before kept later after same f = (f.writes, f.reads, sym (f.put ∙ ap (λ (l : List Write). l ++ f.writes) same))
+
+pub gathered_all : (form : Form) (old new : Option (List ℕ)) (before kept after : List Write) → before ≡ kept → Fills form old new before after
+    → (writes : List Write) × Reads form old new writes × (kept ++ writes ≡ after ++ [])
+gathered_all form old new before kept after same f = (f.writes, f.reads, sym (append-nil after ∙ f.put ∙ ap (λ (l : List Write). l ++ f.writes) same))
+
+pub gathered_none : (form : Form) (old : Option (List ℕ)) (kept after : List Write) → after ≡ [] → (writes : List Write) × Reads form old old writes × (kept ++ writes ≡ after ++ kept)
+gathered_none form old kept after none = ([], reads_none form old, append-nil kept ∙ ap (λ (l : List Write). l ++ kept) (sym none))
+
+pub stopped : (old : Pending) (ws before : List Write) (left : Option (List ℕ)) (fault : WriteLineFault) → before ≡ old.held → Fills old.form old.left left before ws
+    → Stops old.form left fault → StopsBy old ws fault
+stopped old ws before left (BadLine place) same f s = (left, gathered_all old.form old.left left before old.held ws same f, s)
+stopped old ws before left LongLine same f s = (left, gathered_all old.form old.left left before old.held ws same f, s)
+stopped old ws before left LargeWrite same f s = (left, gathered_all old.form old.left left before old.held ws same f, s)
+stopped old ws before left Read same f s = (left, gathered_all old.form old.left left before old.held ws same f, s)
+stopped old ws before left OutOfMemory same f s = (left, [], gathered_all old.form old.left left before old.held ws same f)
+
+-- the same, as the reader's fields give it
+pub stopped_of : (v old : Pending) → v ≡ old → (ws before : List Write) (left : Option (List ℕ)) (fault : WriteLineFault) → before ≡ v.held → Fills v.form v.left left before ws
+    → Stops v.form left fault → StopsBy old ws fault
+stopped_of v old is ws before left fault same f s = subst (λ (p : Pending). StopsBy p ws fault) is (stopped v ws before left fault same f s)

@@ -1,0 +1,8 @@
+pub mod AheadLaws
+pub mod LineLaws
+pub mod BufferLaws
+pub mod LastLaws
+pub mod GatherLaws
+pub mod CutLaws
+pub mod PassLaws
+pub mod CallerLemmas

@@ -1,0 +1,10 @@
+-- What clauses cite
+pub mod Reading
+pub mod Pieces
+pub mod LastWrites
+pub mod Falling
+pub mod Buffering
+pub mod Gathering
+pub mod Filling
+pub mod Cuts
+pub mod Passing

@@ -1,0 +1,101 @@
+//! A write buffer is filled with the writes of lines.
+
+ghost use Rattle.std.specs.Prelude.{◌≡◌, List, ℕ, IfErr, IfNone, IfOk, IfSome};
+ghost use Rattle.std.specs.Io.KnownBytes.{IsAtEnd};
+ghost use Rattle.lsm_text.specs.BatchText.{IsWriteLine};
+ghost use Rattle.lsm_lines.specs.Reading.{TakesLine};
+ghost use Rattle.lsm_lines.specs.Gathering.{Stops};
+ghost use Rattle.lsm_lines.specs.Filling.{IsFilled, IsNoWrite};
+
+use crate::line_reader::{LineReader, NextLine};
+use crate::write_buffer::{PutFault, WriteBuffer};
+use crate::write_line_fault::WriteLineFault;
+use lsm_batch::Write;
+use lsm_text::{BatchTextFault, Form, LineSyntaxFault, batch_in, write_in};
+use std::alloc::Global;
+use std::io::Read;
+
+// The most writes of a batch.
+const MOST_WRITES: usize = 65_536;
+
+/// What ends the filling of a buffer.
+#[derive(Debug, Drop)]
+pub(crate) enum FillEnd {
+    /// With this write, which was read, a limit would be passed.
+    Over(Write),
+    /// There are as many writes as may be.
+    Enough,
+    /// The end of the input.
+    End,
+    /// The next line, which is no write of a batch.
+    Stopped(WriteLineFault),
+}
+
+/// Where a line that spells no write stops being one; none where it is empty.
+fn syntax_fault(alloc: Global, form: Form, line: &[u8]) -> Option<LineSyntaxFault> {
+    match batch_in(alloc, form, line) {
+        Err(BatchTextFault::BadLine(_, fault)) => fault,
+        Err(BatchTextFault::OutOfMemory) | Ok(_) => None,
+    }
+}
+
+/// What a line writes.
+fn write_of(alloc: Global, form: Form, line: &[u8]) -> Result<Write, WriteLineFault>
+    ensures write { IfOk result (IsWriteLine form line.now) }
+    ensures bad { IfErr result (IsNoWrite form line.now) }
+{
+    match write_in(alloc, form, line) {
+        Ok(Some(write)) => Ok(write),
+        Ok(None) => Err(WriteLineFault::BadLine(syntax_fault(alloc, form, line))),
+        Err(_) => Err(WriteLineFault::OutOfMemory),
+    }
+}
+
+/// What the next line writes; none at the end.
+fn next_write<I: Read + Drop>(
+    alloc: Global,
+    form: Form,
+    lines: &mut LineReader<I>,
+) -> Result<Option<Write>, WriteLineFault>
+    ensures some { IfOk result (λ o. IfSome o (λ w. (line : List ℕ)
+        × TakesLine line lines.old.left lines.new.left × IsWriteLine form line w)) }
+    ensures none { IfOk result (λ o. IfNone o (IsAtEnd lines.old.left)) }
+    ensures stops { IfErr result (Stops form lines.old.left) }
+{
+    match lines.next() {
+        Ok(NextLine::Line) => match write_of(alloc, form, lines.line()) {
+            Ok(write) => Ok(Some(write)),
+            Err(fault) => Err(fault),
+        },
+        Ok(NextLine::TooLong) => Err(WriteLineFault::LongLine),
+        Ok(NextLine::NoMemory) => Err(WriteLineFault::OutOfMemory),
+        Ok(NextLine::End) => Ok(None),
+        Err(_) => Err(WriteLineFault::Read),
+    }
+}
+
+/// Puts the writes of the next lines, until one would pass a limit, or there are enough, or a line
+/// is no write of a batch, or none is left.
+pub(crate) fn fill<I: Read + Drop>(
+    alloc: Global,
+    form: Form,
+    lines: &mut LineReader<I>,
+    buffer: &mut WriteBuffer,
+) -> FillEnd
+    ensures { IsFilled form lines.old.left lines.new.left buffer.old buffer.new result }
+{
+    'lines: while buffer.len() < MOST_WRITES {
+        let write = match next_write(alloc, form, lines) {
+            Ok(Some(write)) => write,
+            Ok(None) => return FillEnd::End,
+            Err(fault) => return FillEnd::Stopped(fault),
+        };
+        match buffer.put(write) {
+            Ok(()) => {}
+            Err(PutFault::Full(write)) => return FillEnd::Over(write),
+            Err(PutFault::Large) => return FillEnd::Stopped(WriteLineFault::LargeWrite),
+            Err(PutFault::OutOfMemory) => return FillEnd::Stopped(WriteLineFault::OutOfMemory),
+        }
+    }
+    FillEnd::Enough
+}

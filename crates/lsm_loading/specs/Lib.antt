@@ -1,0 +1,4 @@
+-- What clauses cite
+pub mod Marks
+pub mod Coming
+pub mod Loading

@@ -1,0 +1,91 @@
+//! One batch comes in.
+
+ghost use Rattle.std.specs.Prelude.{◌≡◌, ◌+◌, ◌≤◌, ◌^◌, IfErr, IfOk, IfSome};
+ghost use Rattle.lsm_loading.specs.Coming.{ComesNext};
+ghost use Rattle.lsm_loading.specs.Loading.{IsNotTaken, StaysOut, TakesBatch};
+ghost use Rattle.lsm_loading.specs.Marks.{IsBehind};
+
+use crate::load_fault::LoadFault;
+use crate::mark::Mark;
+use crate::origin::{Grown, Origin};
+use crate::progress::Progress;
+use lsm_batch::Batch;
+use lsm_history::Memory;
+use lsm_lines::{BatchEnd, BatchReader, Gathered};
+use lsm_slots::Boarded;
+use lsm_state::Ingested;
+use lsm_store::{Background, Store};
+use lsm_table::{NamedShelf, Shelf};
+use std::alloc::Global;
+use std::io::Read;
+use std::sync::Wait;
+
+/// How far the store is, where the batch that came in behind the mark is all that came in since.
+fn mark_behind<N: Boarded, S: Shelf, O: Origin, R: Wait>(
+    rt: &R,
+    store: &Store<N, S, Grown<O>>,
+    mark: Mark<N, O>,
+    came: Ingested,
+    memory: Memory<N>,
+) -> Option<Mark<N, O>>
+    ensures { IfSome result (λ m. IsBehind O.found mark came memory m) }
+{
+    mark.behind(&mut store.lock(rt).state, came, memory)
+}
+
+/// Brings a batch into a store that is as far as a mark says, and marks how far it is then.
+fn bring_in<N: Boarded, S: Shelf, O: Origin, R: Wait>(
+    rt: &R,
+    alloc: Global,
+    store: &Store<N, S, Grown<O>>,
+    background: &Background,
+    shelf: &mut NamedShelf<N, S>,
+    batch: &Batch,
+    mark: Mark<N, O>,
+) -> Result<Mark<N, O>, LoadFault>
+    ensures came { IfOk result (λ m. ComesNext batch.now mark m) }
+    ensures refused { IfErr result (StaysOut (S.refuses N.place) O.found batch.now) }
+{
+    let (came, memory) = match background.ingest(rt, alloc, store, shelf, batch) {
+        Ok(came) => came,
+        Err(fault) => return Err(LoadFault::Ingest(fault)),
+    };
+    match mark_behind(rt, store, mark, came, memory) {
+        Some(next) => Ok(next),
+        None => Err(LoadFault::Other),
+    }
+}
+
+/// Brings the batch of the next lines in, if there are lines.
+pub(crate) fn take_batch<N: Boarded, S: Shelf, O: Origin, R: Wait, I: Read + Drop>(
+    rt: &R,
+    alloc: Global,
+    store: &Store<N, S, Grown<O>>,
+    background: &Background,
+    shelf: &mut NamedShelf<N, S>,
+    lines: &mut BatchReader<I>,
+    mark: Mark<N, O>,
+    progress: Progress,
+) -> Result<(Mark<N, O>, Progress, BatchEnd), LoadFault>
+    requires lines { progress.lines + 2 ^ 64 ≤ 2 ^ 128 }
+    requires batches { progress.batches + 2 ^ 64 ≤ 2 ^ 128 }
+    ensures taken { IfOk result (λ r.
+        TakesBatch lines.old lines.new mark r.0 progress r.1 r.2) }
+    ensures refused { IfErr result (IsNotTaken (S.refuses N.place) O.found) }
+{
+    let Ok(gathered) = lines.next(alloc) else {
+        return Err(LoadFault::OutOfMemory);
+    };
+    let Gathered {
+        batch,
+        lines: count,
+        end,
+    } = gathered;
+    if count == 0 {
+        return Ok((mark, progress, end));
+    }
+    match bring_in(rt, alloc, store, background, shelf, &batch, mark) {
+        Ok(next) => Ok((next, progress.with(count), end)),
+        Err(fault) => Err(fault),
+    }
+}

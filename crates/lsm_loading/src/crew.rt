@@ -1,0 +1,71 @@
+//! A store that is loaded, and the shelves beside it.
+
+ghost use Rattle.std.specs.Prelude.{◌≡◌, IfErr, IfOk, vec_len};
+ghost use Rattle.lsm_shelf.specs.Told.{Forked, NotNamed};
+ghost use Rattle.lsm_loading.specs.Marks.{marked_in};
+
+use crate::origin::{Grown, Origin};
+use lsm_slots::Boarded;
+use lsm_state::State;
+use lsm_store::{Invariant, Store};
+use lsm_table::{NamedShelf, Shelf, ShelfFault};
+use std::alloc::Global;
+
+/// So many forks of a shelf.
+#[tactic(auto, using(lsm_shelf::proofs::CallerLemmas::forked_then, lsm_shelf::proofs::CallerLemmas::forked_none, lsm_shelf::proofs::CallerLemmas::forked_once, lsm_shelf::proofs::CallerLemmas::forked_same))]
+fn forks<N: Boarded, S: Shelf>(
+    alloc: Global,
+    shelf: &mut NamedShelf<N, S>,
+    count: usize,
+) -> Result<Vec<NamedShelf<N, S>>, ShelfFault>
+    ensures count { IfOk result (λ v. vec_len v ≡ count) }
+    ensures told { Forked shelf.old shelf.new }
+    ensures cause { IfErr result NotNamed }
+{
+    let mut forks = Vec::new(alloc);
+    for _ in 0..count {
+        let fork = shelf.fork(alloc)?;
+        forks.push(fork)?;
+    }
+    Ok(forks)
+}
+
+/// A store that is loaded, a shelf for each worker, and one for the batches.
+#[derive(Drop)]
+pub(crate) struct Crew<N: Boarded, S: Shelf, O: Origin>
+where
+    Grown<O>: Invariant,
+{
+    pub(crate) store: Store<N, S, Grown<O>>,
+    pub(crate) shelves: Vec<NamedShelf<N, S>>,
+    pub(crate) own: NamedShelf<N, S>,
+}
+
+impl<N: Boarded, S: Shelf, O: Origin> Crew<N, S, O> {
+    /// The store of a state, which has no readers, and forks of its shelf.
+    #[tactic(auto, using(crate::proofs::MarkLaws::even_put))]
+    pub(crate) fn new(
+        alloc: Global,
+        state: State<N, S>,
+        shelf: &mut NamedShelf<N, S>,
+        workers: usize,
+    ) -> Result<Crew<N, S, O>, ShelfFault>
+        requires found { O.found ≡ marked_in state }
+        ensures count { IfOk result (λ c. vec_len c.shelves ≡ workers) }
+        ensures cause { IfErr result NotNamed }
+    {
+        let mut state = state;
+        let _ends = state.take_pinners(alloc);
+        let shelves = forks::<N, S>(alloc, shelf, workers)?;
+        let own = shelf.fork(alloc)?;
+        let reading = shelf.fork(alloc)?;
+        match Store::new(alloc, state, reading) {
+            Ok((store, _readers)) => Ok(Crew {
+                store,
+                shelves,
+                own,
+            }),
+            Err((_state, _shelf, fault)) => Err(fault),
+        }
+    }
+}
