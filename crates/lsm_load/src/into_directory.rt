@@ -1,6 +1,6 @@
 //! Lines come into the database on a shelf.
 
-ghost use Rattle.std.specs.Prelude.{◌≡◌, ◌≢◌, ◌⊎◌, [], IfErr, IfOk, OnOk, vec_len};
+ghost use Rattle.std.specs.Prelude.{◌≡◌, ◌≢◌, ◌⊎◌, ◌+◌, ◌<◌, ◌^◌, [], IfErr, IfOk, OnOk, vec_len};
 ghost use Rattle.std.specs.Io.KnownBytes.{Appends, Keeps};
 ghost use Rattle.lsm_shelf.specs.Stored.{Stored};
 ghost use Rattle.lsm_state.specs.Making.{IsNewBoard, IsNewHistory};
@@ -34,6 +34,16 @@ fn reply<O: Write>(out: &mut O, progress: Progress) -> io::Result<()>
     let Progress { lines, batches } = progress;
     writeln!(out, "loaded {lines} lines in {batches} batches")?;
     out.flush()
+}
+
+/// The number of the line behind so many lines, where the first of them had this number.
+fn line_behind(from: u64, lines: u128) -> u128
+    ensures { from + lines < 2 ^ 128 → result ≡ from + lines }
+{
+    match u128::from(from).checked_add(lines) {
+        Some(line) => line,
+        None => u128::MAX,
+    }
 }
 
 /// Begins or opens the directory of a shelf, loads all lines that are to come, removes what nothing
@@ -83,7 +93,7 @@ where
     let mut state = match done {
         Ok(state) => state,
         Err(fault) => {
-            let line = u128::from(options.from_line).saturating_add(progress.lines);
+            let line = line_behind(options.from_line, progress.lines);
             return Err(Stopped::Lines(fault, line));
         }
     };
