@@ -1,5 +1,5 @@
 -- What a run says, by what a load says of the shelf of the folder that was opened.
-use Rattle.std.proofs.Common.{◌≡◌, ◌≢◌, ℕ, List, Option, IfErr, OnErr, OnOk, inr}
+use Rattle.std.proofs.Common.{◌≢◌, ℕ, List, Option, IfErr, OnErr, OnOk, inr}
 use Rattle.std.specs.Prelude.{Result, Ok, Err}
 use Rattle.std.specs.Io.KnownBytes.{Keeps}
 use Rattle.lsm_folder.specs.Calls.{AreHonest}

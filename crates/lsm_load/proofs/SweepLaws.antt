@@ -1,5 +1,5 @@
 -- What is removed behind the lines.
-use Rattle.std.proofs.Common.{◌≡◌, inl, refl}
+use Rattle.std.proofs.Common.{inl, refl}
 use Rattle.lsm_slots.specs.Slots.{Looked, Slotted}
 
 pub looked_same : (s : Slotted) → Looked s s

@@ -14,7 +14,6 @@ use Rattle.lsm_lines.specs.Gathering.{Pending}
 use Rattle.lsm_lines.specs.Passing.{PassesLines}
 use Rattle.lsm_writing.specs.Compacting.{IsSwept, Refuses}
 use Rattle.lsm_writing.specs.Starting.{IsStartRefusal, IsStarted}
-use Rattle.lsm_writing.specs.declared.faults.writer_fault.WriterFault.{WriterFault}
 use Rattle.lsm_writing.specs.declared.faults.writer_fault.WriterFault.TheVariants.{OutOfMemory, Read}
 use Rattle.lsm_writing.specs.declared.ingesting.start.Start.{Start}
 use Rattle.lsm_loading.specs.Loading.{IsLoaded, IsUnloaded}

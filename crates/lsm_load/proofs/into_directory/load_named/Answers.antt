@@ -1,4 +1,3 @@
-use Rattle.std.proofs.Common.{refl}
 use Rattle.std.proofs.lemmas.Result.{err_from_is_err_and}
 use Rattle.lsm_load.proofs.LoadedLaws.{loads_whole, unswept}
 use Rattle.lsm_load.proofs.into_directory.load_named.Goals as goal
