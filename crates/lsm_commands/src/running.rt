@@ -12,6 +12,7 @@ use crate::converting::program::run_convert;
 use crate::playing::program::run_script;
 use lsm_directory::{Known, Paths, refuse, status_of};
 use lsm_folder::FolderCalls;
+use lsm_load::run_load;
 use lsm_reading::run_look;
 use lsm_shell::run_shell;
 use lsm_text::{CommandLine, Fault, Request, WritingCommand, WritingLine, read_line, write_output};
@@ -125,6 +126,7 @@ where
         }
         Request::Look(line) => run_look(rt, paths, line, out, err),
         Request::Write(line) => run_writing(rt, paths, line, &mut input, out, err),
+        Request::Load(line) => run_load(rt, paths, line, input, out, err),
         Request::Compact(line) => run_compact(rt, paths, line, out, err),
         Request::Script(found) => run_script(rt, paths, *found, input, out, err),
         Request::Shell(line) => run_shell(rt, paths, line.path, line.options, input, out, err),

@@ -1,0 +1,3 @@
+-- What clauses cite
+pub mod Loaded
+pub mod LoadedAt
