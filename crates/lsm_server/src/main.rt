@@ -8,7 +8,10 @@ use lsm_directory::SystemPaths;
 use lsm_serve::serve_opening;
 
 fn main(rt: HostRuntime) {
-    let (Ok(paths), Ok(files)) = (rt.clone(), rt.clone()) else {
+    let Ok(paths) = rt.clone() else {
+        return;
+    };
+    let Ok(files) = rt.clone() else {
         return;
     };
     let paths = SystemPaths::new(paths);
