@@ -8,6 +8,7 @@ use std::fs;
 const PAST_FILES: i32 = 1_000_000;
 
 /// The descriptors of this process, as the system lists them.
+#[derive(Drop)]
 pub(crate) struct SystemDescriptors {
     files: HostRuntime,
 }
