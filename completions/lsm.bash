@@ -3,7 +3,7 @@ _lsm() {
   local current=${COMP_WORDS[COMP_CWORD]} command= options= places= place=0 index word kind
   COMPREPLY=()
   if ((COMP_CWORD == 1)); then
-    COMPREPLY=($(compgen -W 'mktable dump manifest script check list get scan ingest put delete compact clean shell help --help --version' -- "$current"))
+    COMPREPLY=($(compgen -W 'mktable dump manifest script check list get scan ingest put delete load compact clean shell help --help --version' -- "$current"))
     return
   fi
   command=${COMP_WORDS[1]}
@@ -19,6 +19,7 @@ _lsm() {
     ingest) options='--text --begin --beside-log --help' places='DIR FILE' ;;
     put) options='--text --begin --beside-log --help' places='DIR KEY VALUE' ;;
     delete) options='--text --begin --beside-log --help' places='DIR KEY' ;;
+    load) options='--text --begin --beside-log --workers --from-line --progress --help' places='DIR FILE' ;;
     compact) options='--workers --progress --help' places='DIR' ;;
     clean) options='--help' places='DIR' ;;
     shell) options='--text --begin --beside-log --help' places='DIR' ;;
@@ -28,7 +29,7 @@ _lsm() {
   for ((index = 2; index < COMP_CWORD; index++)); do
     word=${COMP_WORDS[index]}
     case $word in
-      --from|--limit|--prefix|--to|--workers)
+      --from|--from-line|--limit|--prefix|--to|--workers)
         # Bash takes `=` for a word of its own.
         ((index++))
         [[ ${COMP_WORDS[index]-} != = ]] || ((index++))
@@ -47,7 +48,7 @@ _lsm() {
   case $kind in
     DIR) mapfile -t COMPREPLY < <(compgen -d -- "$current") ;;
     FILE) mapfile -t COMPREPLY < <(compgen -f -- "$current") ;;
-    COMMAND) COMPREPLY=($(compgen -W 'mktable dump manifest script check list get scan ingest put delete compact clean shell help' -- "$current")) ;;
+    COMMAND) COMPREPLY=($(compgen -W 'mktable dump manifest script check list get scan ingest put delete load compact clean shell help' -- "$current")) ;;
     *) COMPREPLY=($(compgen -W "$options" -- "$current")) ;;
   esac
 }
