@@ -35,7 +35,7 @@ begun_at r v slot i e t h s p k = (slot, same_learnt v (pinned r.id slot r) i e 
 
 pub moved_at : (r back : Learnt) (id slot : ℕ) → id ≢ r.id → HasSeen r → r.pinner.knows.id ≤ id → back.id ≡ r.id → back.version ≡ r.version → back.told ≡ r.told → back.history ≡ r.history → back.snapshots ≡ r.snapshots
     → back.pinner.board ≡ r.pinner.board → back.pinner.knows ≡ unpinned_view (pinned_view r.pinner.knows id slot) → IsRefused r back (Moved id)
-moved_at r back id slot other seen later i e t h s p k = (omega (arith, seen, later, other), (later, (slot, same_learnt back (unpinned (pinned id slot r)) i e t h s p k)))
+moved_at r back id slot other seen later i e t h s p k = (omega (arith, seen, later, other), later, (slot, same_learnt back (unpinned (pinned id slot r)) i e t h s p k))
 
 -- where something is held
 pub held_so : {X P : Type 0} (o : Option P) (p : P) (x a b : X) → o ≡ Some p → x ≡ (if is_some o then a else b) → x ≡ a

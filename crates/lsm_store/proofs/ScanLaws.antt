@@ -1,6 +1,6 @@
 -- Scans from a user key on.
 use Rattle.std.proofs.Common.{◌≡◌, ℕ, Bool, true, false, cond, List, [], ◌∷◌, Option, Some, None, refl, sym, ap, ◌∙◌}
-use Rattle.std.specs.Prelude.{nat_le}
+use Rattle.std.specs.Prelude.{nat_le, IfOk, Result, Ok, Err}
 use Rattle.std.specs.List.{filter}
 use Rattle.std.specs.Str.{bytes_eq}
 use Rattle.std.proofs.lemmas.Bool.{and_parts}
@@ -62,3 +62,9 @@ pub past_of_all : (v : Learnt) (from : UserKey) (seq : ℕ) (ps : List Pair) →
     → IsScan seq (at_or_past from (all_entries (files v.version))) ps → IsScan seq (at_or_past from v.history) ps
 past_of_all v from seq ps all promised scan =
     same_scan from seq (all_entries (files v.version)) v.history ps (λ k. all.reads k seq promised) scan
+
+-- the same of the answer of a call
+pub past_shown : {W E : Type 0} (left : W → List Pair) (r : Result W E) (v : Learnt) (from : UserKey) (seq : ℕ) → KnowsAll v → IsPromised v seq
+    → IfOk r (λ w. IsScan seq (at_or_past from (all_entries (files v.version))) (left w)) → IfOk r (λ w. IsScan seq (at_or_past from v.history) (left w))
+past_shown left (Ok w) v from seq all promised scan = past_of_all v from seq (left w) all promised scan
+past_shown left (Err e) v from seq all promised scan = tt

@@ -121,7 +121,7 @@ impl<N: Boarded, S: Shelf> View<N, S> {
     }
 
     /// The same from a user key on (`Seek` of LevelDB's `include/leveldb/iterator.h`): each user key
-    /// at or past it that has an answer, with it, ascending. What stands before it is not read.
+    /// at or past it that has an answer, with it, ascending.
     pub fn scan_from(
         &mut self,
         alloc: Global,
