@@ -50,3 +50,12 @@ holds_of_copy P copy own same h = rw same h
 pub all_of_tables : (ts rest : List Table) (t : Table) (image : List ℕ) (images : List (List ℕ)) → ts ≡ t ∷ rest → image ≡ t.image → images ≡ map image_of rest
     → All HasEntries (map image_of ts) → All HasEntries (image ∷ images)
 all_of_tables ts rest t image images same e f a = rw (e, f) (subst (λ (l : List Table). All HasEntries (map image_of l)) same a)
+
+-- ---- what tables are read
+
+pub images_are : (ts rest : List Table) (t : Table) (image : List ℕ) (images : List (List ℕ)) → ts ≡ t ∷ rest → image ≡ t.image → images ≡ map image_of rest → map image_of ts ≡ image ∷ images
+images_are ts rest t image images parts first later = ap (map image_of) parts ∙ ap (λ (l : List (List ℕ)). t.image ∷ l) (sym later) ∙ ap (λ (i : List ℕ). i ∷ images) (sym first)
+
+pub numbers_are : (ts rest : List Table) (t : Table) (number : ℕ) (numbers : List ℕ) → ts ≡ t ∷ rest → number ≡ t.number → numbers ≡ map (λ x. x.number) rest → map (λ x. x.number) ts ≡ number ∷ numbers
+numbers_are ts rest t number numbers parts first later =
+    ap (map (λ x. x.number)) parts ∙ ap (λ (l : List ℕ). t.number ∷ l) (sym later) ∙ ap (λ (n : ℕ). n ∷ numbers) (sym first)

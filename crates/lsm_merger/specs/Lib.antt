@@ -5,6 +5,7 @@ pub use Rattle.lsm_levels.specs.Streams
 -- What public clauses cite, and so what a caller reads
 pub mod Heads
 pub mod Runs
+pub mod Seeking
 pub mod Tree
 pub mod Shown
 pub mod Walks

@@ -6,20 +6,21 @@ ghost use Rattle.std.specs.Option.{option_map};
 ghost use Rattle.lsm_codec.specs.KeyRef.{key_of};
 ghost use Rattle.lsm_codec.specs.Lists.{Has};
 ghost use Rattle.lsm_block.specs.Standing.{SharesFront, is_end};
-ghost use Rattle.lsm_table.specs.HeldTable.{entries_in};
 ghost use Rattle.lsm_table.specs.Registry.{image_of};
 ghost use Rattle.lsm_table.specs.ReadFault.{ReadCounted, IsMemoryOrShelf};
 ghost use Rattle.lsm_table.specs.Told.{Becomes};
-ghost use Rattle.lsm_levels.specs.Merging.{placed_at};
+ghost use Rattle.lsm_levels.specs.Merging.{IsSorted, placed_at};
 ghost use Rattle.lsm_merger.specs.Heads.{after_first, first_of, key_in, no_more, source_in};
 ghost use Rattle.lsm_merger.specs.Heads.{user_in};
 ghost use Rattle.lsm_merger.specs.Heads.{value_in};
 ghost use Rattle.lsm_merger.specs.Runs.{AreAlike, HasEntries, IsFirstOf, IsOfFirst, ReadsNoOther};
 ghost use Rattle.lsm_merger.specs.Runs.{entries_of_all, files_at, numbered_all};
+ghost use Rattle.lsm_merger.specs.Seeking.{IsReached, at_or_past, placed_past};
 
 use crate::file_fault::FileFault;
+use crate::table_iter::TableIter;
 use lsm_codec::KeyRef;
-use lsm_reader::{Blocks, TableStream};
+use lsm_reader::Blocks;
 use lsm_table::{Naming, ReadFault, Registry, Shelf, TableFault, TableReceipt, TableRef};
 use std::alloc::{AllocError, Global};
 use std::collections::VecDeque;
@@ -38,7 +39,7 @@ pub struct Run<N: Naming, S: Shelf> {
     depth: u64,
     // Of the file of the table at which it stands.
     number: u64,
-    here: TableStream<N, S>,
+    here: TableIter<N, S>,
     // What stands for the tables after it.
     later: VecDeque<S::Receipt>,
 }
@@ -57,34 +58,12 @@ impl<N: Naming, S: Shelf> Model for Run<N, S> {
         × (S.honest → All HasEntries (map S.Receipt.image r.later.items)) };
 }
 
-/// Opens the table of a receipt, which has an entry: a table without entries is `BadIndex`.
-fn open_some_by<N: Naming, S: Shelf, B: Blocks<N, S>>(
-    blocks: &mut B,
-    alloc: Global,
-    receipt: S::Receipt,
-) -> Result<TableStream<N, S>, ReadFault>
-    requires named { S.is_of N.place receipt }
-    requires table { S.honest → HasEntries (S.Receipt.image receipt) }
-    ensures some { IfOk result (λ t. is_end t ≡ false) }
-    ensures entries { S.honest → IfOk result (λ t. t ≡ entries_in (S.Receipt.image receipt)) }
-    ensures sound { S.honest → IfErr result IsMemoryOrShelf }
-    ensures told { Becomes (B.told blocks.old) (B.told blocks.new) }
-    ensures loan { B.loan blocks.new ≡ B.loan blocks.old }
-    ensures cause { IfErr result (λ e. ReadCounted e (B.told blocks.old) (B.told blocks.new)) }
-{
-    let stream = TableStream::open_by(blocks, alloc, receipt)?;
-    if stream.is_at_end() {
-        return Err(ReadFault::Table(TableFault::BadIndex));
-    }
-    Ok(stream)
-}
-
 /// Opens the first of these tables, if there is one.
 fn open_next_by<N: Naming, S: Shelf, B: Blocks<N, S>>(
     blocks: &mut B,
     alloc: Global,
     later: &VecDeque<S::Receipt>,
-) -> Result<Option<TableStream<N, S>>, FileFault>
+) -> Result<Option<TableIter<N, S>>, FileFault>
     requires named { All (S.is_of N.place) later.now.items }
     requires tables { S.honest → All HasEntries (map S.Receipt.image later.now.items) }
     ensures some { IfOk result (λ o. MatchOption o (later.now.items ≡ []) (λ t.
@@ -103,7 +82,7 @@ fn open_next_by<N: Naming, S: Shelf, B: Blocks<N, S>>(
         None => return Ok(None),
     };
     let number = next.number();
-    match open_some_by(blocks, alloc, next) {
+    match TableIter::first_by(blocks, alloc, next) {
         Ok(here) => Ok(Some(here)),
         Err(fault) => Err(FileFault { number, fault }),
     }
@@ -154,7 +133,7 @@ impl<N: Naming, S: Shelf> Run<N, S> {
             ReadCounted e.fault (B.told blocks.old) (B.told blocks.new)) }
     {
         let number = first.number();
-        match open_some_by(blocks, alloc, first) {
+        match TableIter::first_by(blocks, alloc, first) {
             Ok(here) => Ok(Run {
                 depth,
                 number,
@@ -203,6 +182,59 @@ impl<N: Naming, S: Shelf> Run<N, S> {
             }
         };
         Run::open_by(blocks, alloc, depth, first, later)
+    }
+
+    /// At the first entry of these tables whose user key is at or past `from`. The entries of each
+    /// table stand before the next one's, and the first table has such an entry: it alone is
+    /// opened, and sought.
+    pub fn over_from<B: Blocks<N, S>>(
+        blocks: &mut B,
+        alloc: Global,
+        depth: u64,
+        registry: &Registry<N, S>,
+        tables: &[TableRef<N, S>],
+        from: &[u8],
+    ) -> Result<Run<N, S>, FileFault>
+        requires some { 0 < length tables.now }
+        requires tables { S.honest → All HasEntries (map image_of tables.now) }
+        requires order { S.honest → IsSorted (entries_of_all (map image_of tables.now)) }
+        requires reached { S.honest → IsReached from.now (map image_of tables.now) }
+        ensures entries { S.honest → IfOk result (λ r. r.placed
+            ≡ placed_at depth (at_or_past from.now (entries_of_all (map image_of tables.now)))) }
+        ensures files { IfOk result (λ r.
+            r.files ≡ files_at depth (map (λ t. t.number) tables.now)) }
+        ensures numbered { S.honest → IfOk result (λ r. r.numbered ≡ placed_past from.now
+            (numbered_all (map (λ t. t.number) tables.now) (map image_of tables.now))) }
+        ensures sound { S.honest → IfErr result (λ e. IsMemoryOrShelf e.fault) }
+        ensures number { IfErr result (λ e. Has (map (λ t. t.number) tables.now) e.number) }
+        ensures told { Becomes (B.told blocks.old) (B.told blocks.new) }
+        ensures loan { B.loan blocks.new ≡ B.loan blocks.old }
+        ensures cause { IfErr result (λ e.
+            ReadCounted e.fault (B.told blocks.old) (B.told blocks.new)) }
+    {
+        let Some((first, rest)) = tables.split_first() else {
+            unreachable!()
+        };
+        let first = blocks.copy_receipt(&registry.record(first).receipt);
+        let number = first.number();
+        let later = match copies_of(&*blocks, alloc, registry, rest) {
+            Ok(later) => later,
+            Err(_memory) => {
+                return Err(FileFault {
+                    number,
+                    fault: ReadFault::Table(TableFault::OutOfMemory),
+                });
+            }
+        };
+        match TableIter::seek_by(blocks, alloc, first, from) {
+            Ok(here) => Ok(Run {
+                depth,
+                number,
+                here,
+                later,
+            }),
+            Err(fault) => Err(FileFault { number, fault }),
+        }
     }
 
     /// By depths and by numbers its first entry has one key.

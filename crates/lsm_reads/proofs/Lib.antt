@@ -2,7 +2,9 @@ pub mod Finding
 pub mod DepthOrder
 pub mod Newer
 pub mod RunLaws
+pub mod RowLaws
 pub mod ScanLaws
+pub mod PastScans
 pub mod Opening
 pub mod NamedFiles
 pub mod CallerLemmas

@@ -1,9 +1,10 @@
 -- The sources of a merge of all levels.
-use Rattle.std.proofs.Common.{◌≡◌, ℕ, zero, suc, ◌+◌, ◌<◌, ◌≤◌, ◌==◌, Bool, true, false, cond, List, [], ◌∷◌, ◌++◌, length, get_or, take, drop, Option, Some, None, refl, sym, ◌∙◌, ap, subst, inl, inr, arith, append_assoc}
+use Rattle.std.proofs.Common.{◌≡◌, ℕ, zero, suc, ◌+◌, ◌<◌, ◌≤◌, ◌==◌, Bool, true, false, cond, List, [], ◌∷◌, ◌++◌, length, get_or, take, drop, Option, Some, None, refl, sym, ◌∙◌, ap, subst, inl, inr, arith, append_assoc, append-nil}
 use Rattle.std.specs.Prelude.{◌⊎◌}
 use Rattle.std.proofs.lemmas.Bool.{cases_eq, eqb-true, eqb-false}
 use Rattle.lsm_codec.specs.Lists.{Has}
 use Rattle.lsm_codec.specs.Entries.{Entry}
+use Rattle.lsm_codec.specs.Keys.{UserKey}
 use Rattle.lsm_codec.proofs.CallerLemmas.{has_left, has_right, has_cases, contains_from}
 use Rattle.lsm_table.specs.Registry.{Table}
 use Rattle.lsm_table.specs.HeldTable.{entries_in}
@@ -12,9 +13,10 @@ use Rattle.lsm_levels.specs.Merging.{Placed, placed_at, goes_first, IsSorted, Is
 use Rattle.lsm_levels.proofs.CallerLemmas.{ascending_sorted, sorted_ordered, before_not_first}
 use Rattle.lsm_reads.specs.Depths.{newer_count, depth_of}
 use Rattle.lsm_version.specs.Reads.{IsSoundLevel}
-use Rattle.lsm_reads.specs.Runs.{AreRunsOf, IsAbove, is_number, once, entries_after}
+use Rattle.lsm_reads.specs.Runs.{AddsRun, AreRunsFrom, AreRunsOf, IsAbove, is_number, once, entries_after, run_of}
 use Rattle.lsm_version.specs.Versions.{IsWhole, file_of, files_of, files_from, level_in}
 use Rattle.lsm_version.proofs.CallerLemmas.{files_has, has_files, file_in, inside, of_level, each_after, ahead_or_same, files_push, push_left, push_last, took, sound_part}
+use Rattle.lsm_merger.proofs.CallerLemmas.{least}
 use Rattle.lsm_reads.proofs.DepthOrder.{depth_more}
 
 -- ---- parts of a level
@@ -137,21 +139,37 @@ once_sorted n last (t ∷ ts) f w = go (is_number last t.number) (once_sorted n 
     go true skip on = skip
     go false skip on = sorted_append (entries_in t.image) (entries_after (once (Some t.number) ts)) (table_sorted t (w t (inl refl))) on across
 
+-- ---- one table more that stands once
+
+pub drop_at : {X : Type 0} (xs : List X) (i : ℕ) (x : X) → i < length xs → x ≡ get_or xs i x → drop i xs ≡ x ∷ drop (i + 1) xs
+drop_at [] i x lt is = absurd (omega arith)
+drop_at (y ∷ xs) zero x lt is = ap (λ z. z ∷ xs) (sym is)
+drop_at (y ∷ xs) (suc i) x lt is = let there : suc (i + 1) ≡ suc i + 1 = omega arith in drop_at xs i x (omega arith) is ∙ ap (λ (n : ℕ). x ∷ drop n (y ∷ xs)) there
+
+pub once_push : (out : List Table) (last : Option ℕ) (t : Table) (ts : List Table) → is_number last t.number ≡ false → (out ++ t ∷ []) ++ once (Some t.number) ts ≡ out ++ once last (t ∷ ts)
+once_push out last t ts e = append_assoc out (t ∷ []) (once (Some t.number) ts) ∙ ap (λ (b : Bool). out ++ cond b (once last ts) (t ∷ once (Some t.number) ts)) (sym e)
+
+pub once_skip : (last : Option ℕ) (t : Table) (ts : List Table) → is_number last t.number ≡ true → once last ts ≡ once last (t ∷ ts)
+once_skip last t ts e = ap (λ (b : Bool). cond b (once last ts) (t ∷ once (Some t.number) ts)) (sym e)
+
+-- the file of a table that stands once
+pub once_file : (n : ℕ) (ts : List Table) (F : File) → IsSoundLevel n ts → Has (files_of n ts) F → (v : Table) × Has (once None ts) v × (file_of n v ≡ F)
+once_file n ts F s h =
+    let r = files_has n ts F h in
+    elim (once_all None ts r.0 r.1) [
+      | inl none ↦ absurd (cc none)
+      | inr (v, hv, same) ↦ (v, hv, s.lawful.numbers (file_of n v) (file_of n r.0) (has_files n ts v (once_part None ts v hv)) (has_files n ts r.0 r.1) same ∙ r.2)
+    ]
+
 -- ---- one run more
 
 ordered_push : (ls : List (List Placed)) (l : List Placed) → AreOrdered ls → IsOrdered l → AreOrdered (ls ++ l ∷ [])
 ordered_push [] l a o = (o, tt)
 ordered_push (m ∷ ls) l a o = (a.0, ordered_push ls l a.1 o)
 
-pub runs_none : (shallow : List Table) (P : File → Type 0) → ((F : File) → P F → ⊥) → AreRunsOf shallow P []
-runs_none shallow P none = record { from = λ l p h. absurd h; all = λ F e p. absurd (none F p); ordered = tt }
-
-pub runs_as : (shallow : List Table) (P R : File → Type 0) (ls : List (List Placed)) → ((F : File) → R F → P F) → ((F : File) → P F → R F) → AreRunsOf shallow P ls → AreRunsOf shallow R ls
-runs_as shallow P R ls back to a = record {
-  from = λ l p h k. (let r = a.from l p h k in (r.0, to r.0 r.1, r.2, r.3));
-  all = λ F e r k. a.all F e (back F r) k;
-  ordered = a.ordered;
-}
+ordered_run : (ls : List (List Placed)) (depth : ℕ) (es : List Entry) → AreOrdered ls → IsSorted es → AreOrdered (ls ++ run_of depth es)
+ordered_run ls depth [] a s = subst AreOrdered (sym (append-nil ls)) a
+ordered_run ls depth (e ∷ es) a s = ordered_push ls (placed_at depth (e ∷ es)) a (sorted_ordered depth (e ∷ es) s)
 
 placed_has : (depth : ℕ) (es : List Entry) (p : Placed) → Has (placed_at depth es) p → (p.0 ≡ depth) × Has es p.1
 placed_has depth [] p h = absurd h
@@ -163,44 +181,62 @@ has_placed depth [] e h = absurd h
 has_placed depth (f ∷ es) e (inl same) = inl (ap (λ (g : Entry). (let p : Placed = (depth, g) in p)) same)
 has_placed depth (f ∷ es) e (inr h) = inr (has_placed depth es e h)
 
--- a run at one depth
-pub runs_push : (shallow : List Table) (P Q R : File → Type 0) (ls : List (List Placed)) (depth : ℕ) (es : List Entry) → AreRunsOf shallow P ls → IsSorted es
-    → ((e : Entry) → Has es e → (F : File) × Q F × Has F.entries e) → ((F : File) (e : Entry) → Q F → Has F.entries e → Has es e) → ((F : File) → Q F → depth_of shallow F ≡ depth)
-    → ((F : File) → R F → P F ⊎ Q F) → ((F : File) → P F → R F) → ((F : File) → Q F → R F) → AreRunsOf shallow R (ls ++ placed_at depth es ∷ [])
-runs_push shallow P Q R ls depth es a sorted from all at_depth split left right = record {
-  from = λ l p h k. elim (has_cases ls (placed_at depth es ∷ []) l h) [
-    | inl b ↦ (let r = a.from l p b k in (r.0, left r.0 r.1, r.2, r.3))
-    | inr b ↦ elim b [
-      | inl same ↦ (let q = placed_has depth es p (subst (λ (m : List Placed). Has m p) (sym same) k) in
-          let r = from p.1 q.1 in (r.0, right r.0 r.1, r.2, q.0 ∙ sym (at_depth r.0 r.1)))
-      | inr none ↦ absurd none
-    ]
-  ];
-  all = λ F e r k. elim (split F r) [
-    | inl p ↦ (let b = a.all F e p k in (b.0, has_left ls (placed_at depth es ∷ []) b.0 b.1, b.2))
-    | inr q ↦ (
-      placed_at depth es,
-      has_right ls (placed_at depth es ∷ []) (placed_at depth es) (inl refl),
-      subst (λ (n : ℕ). Has (placed_at depth es) (n, e)) (sym (at_depth F q)) (has_placed depth es e (all F e q k)),
-    )
-  ];
-  ordered = ordered_push ls (placed_at depth es) a.ordered (sorted_ordered depth es sorted);
+run_has : (depth : ℕ) (es : List Entry) (l : List Placed) (p : Placed) → Has (run_of depth es) l → Has l p → (p.0 ≡ depth) × Has es p.1
+run_has depth [] l p h k = absurd h
+run_has depth (e ∷ es) l p (inl same) k = placed_has depth (e ∷ es) p (subst (λ (m : List Placed). Has m p) (sym same) k)
+run_has depth (e ∷ es) l p (inr none) k = absurd none
+
+has_run : (depth : ℕ) (es : List Entry) (e : Entry) → Has es e → (l : List Placed) × Has (run_of depth es) l × Has l (depth, e)
+has_run depth [] e h = absurd h
+has_run depth (f ∷ es) e h = (placed_at depth (f ∷ es), inl refl, has_placed depth (f ∷ es) e h)
+
+pub runs_none : (user : UserKey) (shallow : List Table) (P : File → Type 0) → ((F : File) → P F → ⊥) → AreRunsFrom user shallow P []
+runs_none user shallow P none = record { from = λ l p h. absurd h; all = λ F e p. absurd (none F p); ordered = tt }
+
+pub runs_as : (user : UserKey) (shallow : List Table) (P R : File → Type 0) (ls : List (List Placed)) → ((F : File) → R F → P F) → ((F : File) → P F → R F)
+    → AreRunsFrom user shallow P ls → AreRunsFrom user shallow R ls
+runs_as user shallow P R ls back to a = record {
+  from = λ l p h k. (let r = a.from l p h k in (r.0, to r.0 r.1, r.2, r.3, r.4));
+  all = λ F e r k. a.all F e (back F r) k;
+  ordered = a.ordered;
 }
+
+-- a run of these tables at one depth
+pub runs_add : (user : UserKey) (n depth : ℕ) (shallow ts : List Table) (P R : File → Type 0) (old new : List (List Placed)) → AreRunsFrom user shallow P old → AddsRun user depth ts old new
+    → ((t : Table) → Has ts t → depth_of shallow (file_of n t) ≡ depth) → ((F : File) → R F → P F ⊎ Has (files_of n ts) F) → ((F : File) → P F → R F) → ((F : File) → Has (files_of n ts) F → R F)
+    → AreRunsFrom user shallow R new
+runs_add user n depth shallow ts P R old new a add at_depth split left right = subst (AreRunsFrom user shallow R) (sym add.grown) (record {
+  from = λ l p h k. elim (has_cases old (run_of depth add.entries) l h) [
+    | inl b ↦ (let r = a.from l p b k in (r.0, left r.0 r.1, r.2, r.3, r.4))
+    | inr b ↦ (let q = run_has depth add.entries l p b k in
+        let t = add.from p.1 q.1 in
+        (file_of n t.0, right (file_of n t.0) (has_files n ts t.0 t.1), t.2, t.3, q.0 ∙ sym (at_depth t.0 t.1)))
+  ];
+  all = λ F e r k u. elim (split F r) [
+    | inl p ↦ (let b = a.all F e p k u in (b.0, has_left old (run_of depth add.entries) b.0 b.1, b.2))
+    | inr q ↦ (let t = files_has n ts F q in
+        let h = add.all t.0 e t.1 (subst (λ (G : File). Has G.entries e) (sym t.2) k) u in
+        let r = has_run depth add.entries e h in
+        let there : depth_of shallow F ≡ depth = ap (depth_of shallow) (sym t.2) ∙ at_depth t.0 t.1 in
+        (r.0, has_right old (run_of depth add.entries) r.0 r.1, subst (λ (m : ℕ). Has r.0 (m, e)) (sym there) r.2))
+  ];
+  ordered = ordered_run old depth add.entries a.ordered add.sorted;
+})
 
 -- ---- a table of level 0
 
-pub shallow_more : (shallow ts : List Table) (i : ℕ) (x : Table) (ls : List (List Placed)) (l : List Placed) → i < length ts → x ≡ get_or ts i x → IsWhole x
-    → l ≡ placed_at (newer_count shallow x.number) (entries_after (x ∷ [])) → AreRunsOf shallow (Has (files_of 0 (take i ts))) ls
-    → AreRunsOf shallow (Has (files_of 0 (take (i + 1) ts))) (ls ++ l ∷ [])
-shallow_more shallow ts i x ls l lt is w made a = subst (λ (m : List Placed). AreRunsOf shallow (Has (files_of 0 (take (i + 1) ts))) (ls ++ m ∷ [])) (sym made)
-    (runs_push shallow (Has (files_of 0 (take i ts))) (λ F. file_of 0 x ≡ F) (Has (files_of 0 (take (i + 1) ts))) ls (newer_count shallow x.number) (entries_after (x ∷ [])) a
-    (sorted_append (entries_in x.image) [] (table_sorted x w) tt (λ y z hy hz. absurd hz))
-    (λ e h. (let r = after_has (x ∷ []) e h in (file_of 0 x, refl, elim r.1 [ inl same ↦ subst (λ (t : Table). Has (entries_in t.image) e) (sym same) r.2 | inr none ↦ absurd none ])))
-    (λ F e q k. has_after (x ∷ []) x e (inl refl) (subst (λ (G : File). Has G.entries e) (sym q) k))
-    (λ F q. subst (λ (G : File). depth_of shallow G ≡ newer_count shallow x.number) q refl)
-    (λ F h. files_push 0 (take i ts) x F (subst (λ (us : List Table). Has (files_of 0 us) F) (took ts i x lt is) h))
+pub shallow_more : (user : UserKey) (shallow ts : List Table) (i : ℕ) (x : Table) (old new : List (List Placed)) → i < length ts → x ≡ get_or ts i x
+    → AddsRun user (newer_count shallow x.number) (x ∷ []) old new → AreRunsFrom user shallow (Has (files_of 0 (take i ts))) old
+    → AreRunsFrom user shallow (Has (files_of 0 (take (i + 1) ts))) new
+shallow_more user shallow ts i x old new lt is add a =
+    runs_add user 0 (newer_count shallow x.number) shallow (x ∷ []) (Has (files_of 0 (take i ts))) (Has (files_of 0 (take (i + 1) ts))) old new a add
+    (λ t h. elim h [ inl same ↦ ap (λ (u : Table). newer_count shallow u.number) (sym same) | inr none ↦ absurd none ])
+    (λ F h. elim (files_push 0 (take i ts) x F (subst (λ (us : List Table). Has (files_of 0 us) F) (took ts i x lt is) h)) [ inl b ↦ inl b | inr e ↦ inr (inl e) ])
     (λ F h. subst (λ (us : List Table). Has (files_of 0 us) F) (sym (took ts i x lt is)) (push_left 0 (take i ts) x F h))
-    (λ F q. subst (λ (us : List Table). Has (files_of 0 us) F) (sym (took ts i x lt is)) (subst (Has (files_of 0 (take i ts ++ x ∷ []))) q (push_last 0 (take i ts) x))))
+    (λ F q. elim q [
+      | inl e ↦ subst (λ (us : List Table). Has (files_of 0 us) F) (sym (took ts i x lt is)) (subst (Has (files_of 0 (take i ts ++ x ∷ []))) e (push_last 0 (take i ts) x))
+      | inr none ↦ absurd none
+    ])
 
 -- ---- a deeper level
 
@@ -216,75 +252,31 @@ above_left k levels F (n, lt, h) = (n, omega arith, h)
 above_right : (k : ℕ) (levels : List (List Table)) (ts : List Table) (F : File) → level_in levels k ≡ ts → Has (files_of k ts) F → IsAbove (k + 1) levels F
 above_right k levels ts F is h = (k, omega arith, subst (λ (us : List Table). Has (files_of k us) F) (sym is) h)
 
--- the file of a table that stands once
-once_file : (n : ℕ) (ts : List Table) (F : File) → IsSoundLevel n ts → Has (files_of n ts) F → (v : Table) × Has (once None ts) v × (file_of n v ≡ F)
-once_file n ts F s h =
-    let r = files_has n ts F h in
-    elim (once_all None ts r.0 r.1) [
-      | inl none ↦ absurd (cc none)
-      | inr (v, hv, same) ↦ (v, hv, s.lawful.numbers (file_of n v) (file_of n r.0) (has_files n ts v (once_part None ts v hv)) (has_files n ts r.0 r.1) same ∙ r.2)
-    ]
+pub deeper_more : (user : UserKey) (shallow : List Table) (k : ℕ) (levels : List (List Table)) (ts : List Table) (old new : List (List Placed)) → 1 ≤ k → level_in levels k ≡ ts
+    → AddsRun user (length shallow + k) ts old new → AreRunsFrom user shallow (IsAbove k levels) old → AreRunsFrom user shallow (IsAbove (k + 1) levels) new
+deeper_more user shallow k levels ts old new pos is add a =
+    runs_add user k (length shallow + k) shallow ts (IsAbove k levels) (IsAbove (k + 1) levels) old new a add (λ t h. depth_more shallow k t.number pos)
+    (λ F. above_more k levels ts F is) (λ F. above_left k levels F) (λ F. above_right k levels ts F is)
 
-pub deeper_more : (shallow : List Table) (k : ℕ) (levels : List (List Table)) (ts : List Table) (ls : List (List Placed)) (l : List Placed) → 1 ≤ k → level_in levels k ≡ ts → IsSoundLevel k ts
-    → l ≡ placed_at (length shallow + k) (entries_after (once None ts)) → AreRunsOf shallow (IsAbove k levels) ls → AreRunsOf shallow (IsAbove (k + 1) levels) (ls ++ l ∷ [])
-deeper_more shallow k levels ts ls l pos is s made a = subst (λ (m : List Placed). AreRunsOf shallow (IsAbove (k + 1) levels) (ls ++ m ∷ [])) (sym made)
-    (runs_push shallow (IsAbove k levels) (Has (files_of k ts)) (IsAbove (k + 1) levels) ls (length shallow + k) (entries_after (once None ts)) a
-    (once_sorted k None ts (follows_from k ts pos s) s.whole)
-    (λ e h. (let r = after_has (once None ts) e h in (file_of k r.0, has_files k ts r.0 (once_part None ts r.0 r.1), r.2)))
-    (λ F e q h. (let r = once_file k ts F s q in has_after (once None ts) r.0 e r.1 (subst (λ (G : File). Has G.entries e) (sym r.2) h)))
-    (λ F q. (let r = files_has k ts F q in subst (λ (G : File). depth_of shallow G ≡ length shallow + k) r.2 (depth_more shallow k r.0.number pos)))
-    (λ F. above_more k levels ts F is) (λ F. above_left k levels F) (λ F. above_right k levels ts F is))
-
--- a level without tables
-pub deeper_none : (shallow : List Table) (k : ℕ) (levels : List (List Table)) (ts : List Table) (ls : List (List Placed)) → level_in levels k ≡ ts → once None ts ≡ []
-    → AreRunsOf shallow (IsAbove k levels) ls → AreRunsOf shallow (IsAbove (k + 1) levels) ls
-deeper_none shallow k levels ts ls is none a = runs_as shallow (IsAbove k levels) (IsAbove (k + 1) levels) ls
-    (λ F h. elim (above_more k levels ts F is h) [
-      | inl b ↦ b
-      | inr b ↦ (let r = files_has k ts F b in elim (once_all None ts r.0 r.1) [
-        | inl c ↦ absurd (cc c)
-        | inr (v, hv, same) ↦ absurd (subst (λ (us : List Table). Has us v) none hv)
-      ])
-    ])
-    (λ F. above_left k levels F) a
-
-pub runs_shallow : (shallow : List Table) (levels : List (List Table)) (ls : List (List Placed)) → level_in levels 0 ≡ shallow → AreRunsOf shallow (Has (files_of 0 shallow)) ls → AreRunsOf shallow (IsAbove 1 levels) ls
-runs_shallow shallow levels ls is a = runs_as shallow (Has (files_of 0 shallow)) (IsAbove 1 levels) ls
+pub runs_shallow : (user : UserKey) (shallow : List Table) (levels : List (List Table)) (ls : List (List Placed)) → level_in levels 0 ≡ shallow → AreRunsFrom user shallow (Has (files_of 0 shallow)) ls
+    → AreRunsFrom user shallow (IsAbove 1 levels) ls
+runs_shallow user shallow levels ls is a = runs_as user shallow (Has (files_of 0 shallow)) (IsAbove 1 levels) ls
     (λ F h. elim (above_more 0 levels shallow F is h) [ inl b ↦ (let lt = b.1 in absurd (omega arith)) | inr b ↦ b ])
     (λ F h. (0, omega arith, subst (λ (us : List Table). Has (files_of 0 us) F) (sym is) h)) a
 
-pub runs_whole : (shallow : List Table) (k : ℕ) (levels : List (List Table)) (ls : List (List Placed)) → length levels ≤ k → AreRunsOf shallow (IsAbove k levels) ls → AreRunsOf shallow (Has (files_from 0 levels)) ls
-runs_whole shallow k levels ls past a = runs_as shallow (IsAbove k levels) (Has (files_from 0 levels)) ls
+pub runs_whole : (user : UserKey) (shallow : List Table) (k : ℕ) (levels : List (List Table)) (ls : List (List Placed)) → length levels ≤ k → AreRunsFrom user shallow (IsAbove k levels) ls
+    → AreRunsFrom user shallow (Has (files_from 0 levels)) ls
+runs_whole user shallow k levels ls past a = runs_as user shallow (IsAbove k levels) (Has (files_from 0 levels)) ls
     (λ F h. (let r = file_in 0 levels F h in
     let lt = inside levels r.0 r.1 r.2 in
     let here : r.0 ≡ 0 + r.0 = omega arith in
     (r.0, omega arith, subst (Has (files_of r.0 (level_in levels r.0))) (ap (λ (m : ℕ). file_of m r.1) here ∙ r.3) (has_files r.0 (level_in levels r.0) r.1 r.2))))
     (λ F h. of_level levels h.0 F h.2) a
 
--- ---- one table more that stands once
-
-pub drop_at : {X : Type 0} (xs : List X) (i : ℕ) (x : X) → i < length xs → x ≡ get_or xs i x → drop i xs ≡ x ∷ drop (i + 1) xs
-drop_at [] i x lt is = absurd (omega arith)
-drop_at (y ∷ xs) zero x lt is = ap (λ z. z ∷ xs) (sym is)
-drop_at (y ∷ xs) (suc i) x lt is = let there : suc (i + 1) ≡ suc i + 1 = omega arith in drop_at xs i x (omega arith) is ∙ ap (λ (n : ℕ). x ∷ drop n (y ∷ xs)) there
-
-pub once_push : (out : List Table) (last : Option ℕ) (t : Table) (ts : List Table) → is_number last t.number ≡ false → (out ++ t ∷ []) ++ once (Some t.number) ts ≡ out ++ once last (t ∷ ts)
-once_push out last t ts e = append_assoc out (t ∷ []) (once (Some t.number) ts) ∙ ap (λ (b : Bool). out ++ cond b (once last ts) (t ∷ once (Some t.number) ts)) (sym e)
-
-pub once_skip : (last : Option ℕ) (t : Table) (ts : List Table) → is_number last t.number ≡ true → once last ts ≡ once last (t ∷ ts)
-once_skip last t ts e = ap (λ (b : Bool). cond b (once last ts) (t ∷ once (Some t.number) ts)) (sym e)
-
--- ---- one level more, with tables or without
-
-none_or_some : (ts : List Table) → (ts ≡ []) ⊎ (ts ≡ [] → ⊥)
-none_or_some [] = inl refl
-none_or_some (t ∷ ts) = inr (λ e. absurd (cc e))
-
-pub deeper_any : (shallow : List Table) (k depth : ℕ) (levels : List (List Table)) (ts : List Table) (ls ls' : List (List Placed)) → 1 ≤ k → level_in levels k ≡ ts → IsSoundLevel k ts
-    → depth ≡ length shallow + k → (once None ts ≡ [] → ls' ≡ ls) → ((once None ts ≡ [] → ⊥) → ls' ≡ ls ++ placed_at depth (entries_after (once None ts)) ∷ [])
-    → AreRunsOf shallow (IsAbove k levels) ls → AreRunsOf shallow (IsAbove (k + 1) levels) ls'
-deeper_any shallow k depth levels ts ls ls' pos is s at same grown a = elim (none_or_some (once None ts)) [
-  | inl none ↦ subst (AreRunsOf shallow (IsAbove (k + 1) levels)) (sym (same none)) (deeper_none shallow k levels ts ls is none a)
-  | inr some ↦ subst (AreRunsOf shallow (IsAbove (k + 1) levels)) (sym (grown some))
-      (deeper_more shallow k levels ts ls (placed_at depth (entries_after (once None ts))) pos is s (ap (λ (n : ℕ). placed_at n (entries_after (once None ts))) at) a)
-]
+-- from the least user key on they are all there is
+pub runs_from_least : (shallow : List Table) (P : File → Type 0) (ls : List (List Placed)) → AreRunsFrom [] shallow P ls → AreRunsOf shallow P ls
+runs_from_least shallow P ls a = record {
+  from = λ l p h k. (let r = a.from l p h k in (r.0, r.1, r.2, r.4));
+  all = λ F e p h. a.all F e p h (least e.user);
+  ordered = a.ordered;
+}

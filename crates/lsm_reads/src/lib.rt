@@ -20,5 +20,5 @@ pub use lsm_merger::{FileFault, Merger, Pair, Run, Scan, against_age};
 pub use lsm_reader::{Blocks, Direct, OpenTable};
 pub use reads::{get, get_by};
 pub use runs::open_runs;
-pub use scans::{scan, scan_by};
+pub use scans::{scan, scan_by, scan_from, scan_from_by};
 pub use unread::Unread;

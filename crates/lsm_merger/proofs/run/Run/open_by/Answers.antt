@@ -4,8 +4,8 @@ use Rattle.lsm_merger.specs.Runs.{HasEntries}
 use Rattle.lsm_merger.proofs.RunLaws.{last_if_some}
 use Rattle.lsm_merger.proofs.run.Run.open_by.Goals as goal
 
-pub open_some_by-requires-clause-table : goal.open_some_by-requires-clause-table
-open_some_by-requires-clause-table g c κs within honest =
+pub first_by-requires-clause-table : goal.first_by-requires-clause-table
+first_by-requires-clause-table g c κs within honest =
     let image = g.S.Receipt.TableReceipt.image in
     All-head HasEntries (image c.args.first) (map image c.args.later.items) (c.requires.tables honest)
 
