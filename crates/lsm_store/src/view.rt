@@ -138,7 +138,13 @@ impl<N: Boarded, S: Shelf> View<N, S> {
         ensures told { Becomes self.old.told self.new.told }
         ensures cause { IfErr result (λ e. ReadCounted e self.old.told self.new.told) }
     {
-        lsm_reads::scan_from_by(&self.cache.version, &mut self.cache.blocks, alloc, seq, from)
+        lsm_reads::scan_from_by(
+            &self.cache.version,
+            &mut self.cache.blocks,
+            alloc,
+            seq,
+            from,
+        )
     }
 
     /// Goes on to the next pair of the scan, which then lends it. Where none is left it stands at
