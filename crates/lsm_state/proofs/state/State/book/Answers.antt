@@ -22,10 +22,12 @@ invariant_of-self-2 g c =
     let stands = subst (λ (x : Held). StandsIn x.slots.version c.args.plan) (sym c.self.view_is) c.requires.stands in
     let step : IsReserving g.S.Shelf.honest h w (reserved w h) = booked_reserves g.S.Shelf.honest h w c.args.plan c.inputs_are_of_the_version.ensures c.conflicts_are_those_of_jobs.ensures
     (subst (λ (x : Held). IsOfMoment x w) (sym c.self.view_is) c.in_ok-job.ensures.moment) c.in_ok-job.ensures.plan stands
-    (subst (λ (x : Held). IsClear c.args.plan (reserved_jobs x.live)) (sym c.self.view_is) c.requires.clear) (λ y. subst (λ (x : Held). IsClosedPlan x c.args.plan) (sym c.self.view_is) (c.requires.closed y)) in
-    (lawful_booked g.S.Shelf.honest g.N.Boarded.board h w c.add.new.self (c.self.inside.next_ticket + 1)
-    (c.in_ok-add.ensures.ok ∙ ap (λ (x : Work). h.live ++ new_booked x ∷ []) c.in_ok-kept.ensures) more
-    (lawful_reserved g.S.Shelf.honest g.N.Boarded.board h w c.self.invariant.0 step (subst (λ (p : TablePlan). StandsIn h.slots.version p) (sym c.in_ok-job.ensures.plan) stands)), c.self.invariant.1)
+    (subst (λ (x : Held). IsClear c.args.plan (reserved_jobs x.live)) (sym c.self.view_is) c.requires.clear) (λ y. subst (λ (x : Held). IsClosedPlan x c.args.plan) (sym c.self.view_is) (c.requires.closed y)) in (
+      lawful_booked g.S.Shelf.honest g.N.Boarded.board h w c.add.new.self (c.self.inside.next_ticket + 1)
+          (c.in_ok-add.ensures.ok ∙ ap (λ (x : Work). h.live ++ new_booked x ∷ []) c.in_ok-kept.ensures) more
+          (lawful_reserved g.S.Shelf.honest g.N.Boarded.board h w c.self.invariant.0 step (subst (λ (p : TablePlan). StandsIn h.slots.version p) (sym c.in_ok-job.ensures.plan) stands)),
+      c.self.invariant.1,
+    )
 
 pub returns-clause-event : goal.returns-clause-event
 returns-clause-event g c =

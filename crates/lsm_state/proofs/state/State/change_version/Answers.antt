@@ -35,11 +35,12 @@ invariant_of-self-2 g c =
     let listed : c.grow.new.self.editions ≡ c.edition_of.result.editions ++ c.self.inside.keeper.editions = ap (λ (k : Chronicle). k.editions) c.grow.ensures ∙ ap (λ (k : Chronicle). k.editions) c.publish-2.ensures in
     let agrees : g.S.Shelf.honest → Agrees (plain_after h d c.args.out) c.grow.new.self.entries = λ y. subst (λ (es : List Entry). Agrees (plain_after h d c.args.out) es) (sym came)
     (subst (λ (x : Held). Agrees (plain_after x d c.args.out) (c.args.coming.now.entries ++ x.history)) (sym c.self.view_is) (c.requires.agrees y)) in
-    let rises = next_rises d c.deref-2.result.now h.next c.in-Ok.next h.journal c.send-sent.new.self c.args.shelf.now c.send-sent.new.shelf c.in-Ok.ensures.sends in
-    (lawful_changed g.S.Shelf.honest g.N.Boarded.board h d c.args.out c.publish.new.self c.in-Ok.next c.take_out.new.live c.send-sent.new.self c.grow.new.self.entries c.self.invariant.0
-    after published c.take_out.ensures recorded rises inputs agrees,
-    issued_editions h.slots c.publish.new.self (changed_by d h.slots.version) c.version.result.now c.publish.result c.edition_of.result.editions c.self.inside.keeper.editions c.grow.new.self.editions published c.publish.ensures.id c.version.ensures.version
-    c.edition_of.ensures listed c.self.invariant.1)
+    let rises = next_rises d c.deref-2.result.now h.next c.in-Ok.next h.journal c.send-sent.new.self c.args.shelf.now c.send-sent.new.shelf c.in-Ok.ensures.sends in (
+      lawful_changed g.S.Shelf.honest g.N.Boarded.board h d c.args.out c.publish.new.self c.in-Ok.next c.take_out.new.live c.send-sent.new.self c.grow.new.self.entries c.self.invariant.0
+          after published c.take_out.ensures recorded rises inputs agrees,
+      issued_editions h.slots c.publish.new.self (changed_by d h.slots.version) c.version.result.now c.publish.result c.edition_of.result.editions c.self.inside.keeper.editions c.grow.new.self.editions published c.publish.ensures.id c.version.ensures.version
+          c.edition_of.ensures listed c.self.invariant.1,
+    )
 
 pub returns-in-Err-clause-asked : goal.returns-in-Err-clause-asked
 returns-in-Err-clause-asked g c =
