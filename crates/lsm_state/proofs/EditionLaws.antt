@@ -1,11 +1,13 @@
 -- What calls leave of the editions of a state.
-use Rattle.std.proofs.Common.{◌≡◌, ℕ, zero, suc, ◌-◌, ◌≤◌, ◌==◌, Option, None, Some, replicate, List, [], ◌∷◌, ◌++◌, refl, sym, ◌∙◌, ap, subst, inl, inr, arith}
+use Rattle.std.proofs.Common.{◌≡◌, ℕ, zero, suc, ◌-◌, ◌≤◌, ◌==◌, Bool, true, false, if◌then◌else◌, Option, None, Some, replicate, List, [], ◌∷◌, ◌++◌, refl, sym, ◌∙◌, ap, subst, inl, inr, arith}
 use Rattle.std.specs.Prelude.{slice_get, slice_set}
 use Rattle.std.proofs.lemmas.Bool.{cases_eq}
 use Rattle.lsm_codec.specs.Lists.{Has}
 use Rattle.lsm_codec.proofs.CallerLemmas.{has_right}
 use Rattle.lsm_history.specs.History.{Edition, IsLater}
 use Rattle.lsm_pins.specs.Known.{Known}
+use Rattle.lsm_pins.specs.View.{noted_view}
+use Rattle.lsm_pins.specs.declared.view.View.{View}
 use Rattle.lsm_version.specs.Versions.{Levels, numbers_in}
 use Rattle.lsm_slots.specs.Slots.{AreSlots, Epoch, HasEpoch, Looked, PinsMove, Published, Slotted, current_id, current_slot, first_slots}
 use Rattle.lsm_slots.proofs.CallerLemmas.{set_else, set_found}
@@ -51,6 +53,15 @@ board_editions old new es same id a = record {
   upto = λ x h. (let le = a.upto x h in omega (arith, le, id));
   one = a.one;
 }
+
+noted_id : (b : Bool) (v k w : View) → w ≡ (if b then noted_view v k else v) → w.id ≡ v.id
+noted_id true v k w e = ap (λ (x : View). x.id) e
+noted_id false v k w e = ap (λ (x : View). x.id) e
+
+-- the publisher may have noted what a reader saw, and nothing else has changed
+pub noted_editions : (old new : Slotted) (es : List Edition) (b : Bool) (k : View) → new ≡ record old { board = new.board } → new.board.knows ≡ (if b then noted_view old.board.knows k else old.board.knows)
+    → AreEditions old es → AreEditions new es
+noted_editions old new es b k rest knows a = board_editions old new es (ap (λ (s : Slotted). s.epochs) rest) (noted_id b old.board.knows k new.board.knows knows) a
 
 -- looks free slots only
 pub looked_editions : (old new : Slotted) (es : List Edition) → Looked old new → AreEditions old es → AreEditions new es
