@@ -197,12 +197,18 @@ static void set_ended(tiswenor_t *db, char **errptr) {
   set_error(errptr, tiswenor_ended, "Ended", text);
 }
 
+/* Names of the refusals that come without one. */
+static const char *name_of(unsigned char status) {
+  if (status == tiswenor_malformed) return "Malformed";
+  return status == tiswenor_unanswered ? "Unanswered" : "Refused";
+}
+
 static void set_refused(const unsigned char *answer, size_t length, char **errptr) {
   char name[64];
   size_t letters = length - 1 < sizeof name ? length - 1 : sizeof name - 1;
   memcpy(name, answer + 1, letters);
   name[letters] = 0;
-  if (!letters) strcpy(name, answer[0] == tiswenor_malformed ? "Malformed" : "Refused");
+  if (!letters) strcpy(name, name_of(answer[0]));
   set_error(errptr, answer[0], name, "");
 }
 
@@ -255,7 +261,7 @@ static int ask(tiswenor_t *db, struct request *request, struct answer *answer, c
     }
     fault = tiswenor_transport_exchange(db->transport, (unsigned)channel, request->bytes,
                                         request->length, &bytes, &length);
-    give(db, channel, fault || bytes[0] == tiswenor_malformed);
+    give(db, channel, fault || is_last(bytes[0]));
   }
   return is_done(db, fault, bytes, length, answer, errptr);
 }

@@ -5,9 +5,17 @@
 
 #include <stddef.h>
 
+#include "tiswenor.h"
+
 enum { MOST_CHANNELS = 62, LONGEST_REQUEST = 8388608, LONGEST_ANSWER = 16777216 };
 
 struct transport;
+
+/* Whether the server reads no more from a channel that it answers with this status. Whoever carries
+   that answer ends the channel. */
+static inline int is_last(unsigned char status) {
+  return status == tiswenor_malformed || status == tiswenor_unanswered;
+}
 
 #pragma GCC visibility push(hidden) /* a shared library does not show them */
 
@@ -18,8 +26,9 @@ struct transport *tiswenor_transport_open(const char *server, unsigned channels,
                                           unsigned char *opening, size_t length, int *fault);
 
 /* Sends a frame on a channel, if there is one, and waits for the frame that comes back. One call on
-   a channel at a time. Gives 0, and the answer without its length, in memory of malloc. Or gives
-   tiswenor_out_of_memory, tiswenor_bad_answer, or tiswenor_ended; then the channel is ended. */
+   a channel at a time. Gives 0, and the answer without its length, in memory of malloc; where its
+   status is_last, the channel is ended. Or gives tiswenor_out_of_memory, tiswenor_bad_answer, or
+   tiswenor_ended; then too the channel is ended. */
 int tiswenor_transport_exchange(struct transport *transport, unsigned channel,
                                 const unsigned char *frame, size_t length, unsigned char **answer,
                                 size_t *answer_length);
