@@ -343,7 +343,7 @@ static int take_answer(struct channel *channel, unsigned char **answer, size_t *
   else if (channel->body_want < 1 || channel->body_want > LONGEST_ANSWER)
     fault = tiswenor_bad_answer;
   else if (!channel->body)
-    fault = tiswenor_out_of_memory;
+    fault = is_last(channel->status) ? tiswenor_ended : tiswenor_out_of_memory;
   if (fault) free(channel->body);
   *answer = fault ? NULL : channel->body;
   *answer_length = channel->body_want;
@@ -357,12 +357,13 @@ int tiswenor_transport_exchange(struct transport *transport, unsigned number,
                                 const unsigned char *frame, size_t length, unsigned char **answer,
                                 size_t *answer_length) {
   struct channel *channel = &transport->channel[number];
+  if (channel->is_over) return tiswenor_ended;
   if (frame)
     lend(channel, frame, length);
   else
     wait_for_opening(transport);
   int fault = take_answer(channel, answer, answer_length);
-  if (frame && (fault || is_last(channel->status))) part_with(channel);
+  if (frame && is_end(fault, *answer)) part_with(channel);
   return fault;
 }
 

@@ -28,19 +28,35 @@ enum { FIRST_PAGE = 16 };
 
 /* Errors */
 
-/* What *errptr is where there is no memory for a text. tiswenor_free leaves it. */
-static char no_memory[] = "1 OutOfMemory";
+/* What *errptr is where there is no memory for a text: these tell what may be done and not told, and
+   the first one stands for all others. tiswenor_free leaves them. */
+static char lasting[][16] = {"1 OutOfMemory", "204 Unanswered", "254 BadAnswer", "255 Ended"};
+
+enum { LASTING = sizeof lasting / sizeof *lasting };
+
+static char *lasting_text(int number) {
+  for (int i = 1; i < LASTING; i++)
+    if (atoi(lasting[i]) == number) return lasting[i];
+  return lasting[0];
+}
+
+static int is_lasting(const void *ptr) {
+  for (int i = 0; i < LASTING; i++)
+    if (ptr == lasting[i]) return 1;
+  return 0;
+}
 
 static void set_error(char **errptr, int number, const char *name, const char *detail) {
   tiswenor_free(*errptr);
   const char *colon = *detail ? ": " : "";
-  if (asprintf(errptr, "%d %s%s%s", number, name, colon, detail) < 0) *errptr = no_memory;
+  if (asprintf(errptr, "%d %s%s%s", number, name, colon, detail) < 0)
+    *errptr = lasting_text(number);
 }
 
 int tiswenor_error_number(const char *error) { return error ? atoi(error) : 0; }
 
 void tiswenor_free(void *ptr) {
-  if (ptr != no_memory) free(ptr);
+  if (!is_lasting(ptr)) free(ptr);
 }
 
 /* Requests: a frame that grows. `failed` is set where memory was refused, or it is too long. */
@@ -242,6 +258,22 @@ static int is_done(tiswenor_t *db, int fault, unsigned char *bytes, size_t lengt
   return 1;
 }
 
+/* Sends a frame on a channel that is free. An error's number, or 0. A thread that is cancelled goes
+   on until its channel is given back. */
+static int exchange(tiswenor_t *db, const struct request *request, unsigned char **bytes,
+                    size_t *length) {
+  int before, fault = tiswenor_ended;
+  pthread_setcancelstate(PTHREAD_CANCEL_DISABLE, &before);
+  int channel = take(db);
+  if (channel >= 0) {
+    fault = tiswenor_transport_exchange(db->transport, (unsigned)channel, request->bytes,
+                                        request->length, bytes, length);
+    give(db, channel, is_end(fault, *bytes));
+  }
+  pthread_setcancelstate(before, NULL);
+  return fault;
+}
+
 /* Sends a request, and waits for its answer. Whether it is done. */
 static int ask(tiswenor_t *db, struct request *request, struct answer *answer, char **errptr) {
   unsigned char *bytes = NULL;
@@ -254,14 +286,7 @@ static int ask(tiswenor_t *db, struct request *request, struct answer *answer, c
   }
   if (!fault) {
     store(request->bytes, request->length - 4, 4);
-    int channel = take(db);
-    if (channel < 0) {
-      set_ended(db, errptr);
-      return 0;
-    }
-    fault = tiswenor_transport_exchange(db->transport, (unsigned)channel, request->bytes,
-                                        request->length, &bytes, &length);
-    give(db, channel, fault || is_last(bytes[0]));
+    fault = exchange(db, request, &bytes, &length);
   }
   return is_done(db, fault, bytes, length, answer, errptr);
 }
@@ -709,8 +734,8 @@ const char *tiswenor_iter_value(const tiswenor_iterator_t *iterator, size_t *vle
 void tiswenor_iter_get_error(const tiswenor_iterator_t *iterator, char **errptr) {
   if (!iterator->error) return;
   tiswenor_free(*errptr);
-  *errptr = iterator->error == no_memory ? NULL : strdup(iterator->error);
-  if (!*errptr) *errptr = no_memory;
+  *errptr = strdup(iterator->error);
+  if (!*errptr) *errptr = lasting_text(tiswenor_error_number(iterator->error));
 }
 
 /* Compaction and sizes */

@@ -11,10 +11,14 @@ enum { MOST_CHANNELS = 62, LONGEST_REQUEST = 8388608, LONGEST_ANSWER = 16777216 
 
 struct transport;
 
-/* Whether the server reads no more from a channel that it answers with this status. Whoever carries
-   that answer ends the channel. */
+/* Whether the server reads no more from a channel that it answers with this status. */
 static inline int is_last(unsigned char status) {
   return status == tiswenor_malformed || status == tiswenor_unanswered;
+}
+
+/* Whether a channel is ended by an exchange that came to this fault, or to this answer. */
+static inline int is_end(int fault, const unsigned char *answer) {
+  return fault ? fault != tiswenor_out_of_memory : is_last(*answer);
 }
 
 #pragma GCC visibility push(hidden) /* a shared library does not show them */
@@ -26,9 +30,9 @@ struct transport *tiswenor_transport_open(const char *server, unsigned channels,
                                           unsigned char *opening, size_t length, int *fault);
 
 /* Sends a frame on a channel, if there is one, and waits for the frame that comes back. One call on
-   a channel at a time. Gives 0, and the answer without its length, in memory of malloc; where its
-   status is_last, the channel is ended. Or gives tiswenor_out_of_memory, tiswenor_bad_answer, or
-   tiswenor_ended; then too the channel is ended. */
+   a channel at a time. Gives 0, and the answer without its length, in memory of malloc. Or gives
+   tiswenor_out_of_memory, and the answer is lost; tiswenor_bad_answer, or tiswenor_ended. Where this
+   is_end, the channel is closed: another exchange on it gives tiswenor_ended. */
 int tiswenor_transport_exchange(struct transport *transport, unsigned channel,
                                 const unsigned char *frame, size_t length, unsigned char **answer,
                                 size_t *answer_length);
