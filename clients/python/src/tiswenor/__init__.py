@@ -11,10 +11,11 @@ by any number of threads. A call that fails raises `Error`, which has a number a
 """
 
 from .database import DB, Iterator, Level, Snapshot, Statistics, WriteBatch
-from .errors import Ended, Error, Refused
+from .errors import Closed, Ended, Error, Refused
 
 __all__ = [
     "DB",
+    "Closed",
     "Ended",
     "Error",
     "Iterator",

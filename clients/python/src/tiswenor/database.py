@@ -10,7 +10,7 @@ from types import TracebackType
 from typing import Any, Deque, Iterable, List, NoReturn, Optional, Tuple, Type, Union
 
 from . import frames
-from .errors import CLOSED, Error
+from .errors import Closed
 from .server import Server, find
 
 PathLike = Union[str, bytes, "os.PathLike[str]", "os.PathLike[bytes]"]
@@ -48,15 +48,27 @@ class _Reads:
     def _when(self) -> bytes:
         raise NotImplementedError
 
-    def get(self, key: Bytes, default: Optional[bytes] = None) -> Optional[bytes]:
-        """The value of a key, or `default` where it has none."""
+    def get(
+        self,
+        key: Bytes,
+        default: Optional[bytes] = None,
+        *,
+        verify_checksums: Optional[bool] = True,
+        fill_cache: bool = True,
+    ) -> Optional[bytes]:
+        """The value of a key, or `default` where it has none.
+
+        `verify_checksums` and `fill_cache` are taken as plyvel takes them, and change nothing: the
+        server verifies what it reads from the disk, and keeps it in its caches.
+        """
         value = self.get_many((key,))[0]
         return default if value is None else value
 
     def get_many(
         self, keys: Iterable[Bytes], default: Optional[bytes] = None
     ) -> List[Optional[bytes]]:
-        """The values of several keys, in their order, all of one state of the database.
+        """The values of several keys, in their order, all of one state of the database; `default`
+        for each key that has none.
 
         This is one request: the keys have at most 8 MiB together, the values 16 MiB.
         """
@@ -111,6 +123,7 @@ class DB(_Reads):
 
     @property
     def closed(self) -> bool:
+        """Whether it was closed, or opened in the process that this one was forked from."""
         return self._server.is_closed
 
     def close(self) -> None:
@@ -121,12 +134,14 @@ class DB(_Reads):
     def put(self, key: Bytes, value: Bytes, sync: bool = True) -> None:
         """Sets the value of a key. It is on the disk when the call returns, whatever `sync` says.
 
-        Each write makes a table: many of them belong into one `write_batch`.
+        A key has 1 to 4,096 bytes, a value at most 1 MiB. Each write makes a table: many of them
+        belong into one `write_batch`.
         """
         self._ask(frames.WRITE + frames.put(_bytes(key), _bytes(value)))
 
     def delete(self, key: Bytes, sync: bool = True) -> None:
-        """Removes a key, if it is there."""
+        """Removes a key, if it is there. That is on the disk when the call returns, whatever `sync`
+        says."""
         self._ask(frames.WRITE + frames.delete(_bytes(key)))
 
     def write_batch(self, transaction: bool = False, sync: bool = True) -> WriteBatch:
@@ -148,13 +163,16 @@ class DB(_Reads):
         """The pairs of a range, in ascending order of their keys, as they are now.
 
         The range is that from `start` to `stop`, or that of all keys with a prefix. Without values
-        the iterator gives keys alone, without keys values alone.
+        the iterator gives keys alone, without keys values alone. `reverse` must be False.
+
+        Pairs come from the server in pages of some 64 KiB.
         """
         bounds = _Range.of(reverse, start, stop, include_start, include_stop, prefix)
         snapshot = self.snapshot()
         return Iterator(snapshot, True, bounds, include_key, include_value)
 
     def __iter__(self) -> Iterator:
+        """An iterator over all pairs."""
         return self.iterator()
 
     def snapshot(self) -> Snapshot:
@@ -176,12 +194,13 @@ class DB(_Reads):
         return frames.numbers(self._ask(frames.COLLECT), 1)[0]
 
     def statistics(self) -> Statistics:
+        """The last sequence, and how many tables and bytes each level has."""
         last, *sizes = frames.numbers(self._ask(frames.STATISTICS), 15)
         return Statistics(last, tuple(map(Level, sizes[0::2], sizes[1::2])))
 
     def get_property(self, name: Union[str, bytes]) -> Optional[bytes]:
         """`leveldb.num-files-at-levelN` or `leveldb.stats`; None for another name."""
-        named = name.encode() if isinstance(name, str) else name
+        named = name.encode() if isinstance(name, str) else _bytes(name)
         levels = self.statistics().levels
         if named == b"leveldb.stats":
             rows = ("%5d %8d %12d\n" % (n, at.files, at.bytes) for n, at in enumerate(levels))
@@ -254,6 +273,7 @@ class Snapshot(_Reads):
         return self.iterator()
 
     def close(self) -> None:
+        """Gives the state up: what only it needs may be collected. A second call does nothing."""
         if not self._is_closed:
             self._is_closed = True
             if not self._db.closed:
@@ -276,7 +296,7 @@ class Snapshot(_Reads):
 
     def _when(self) -> bytes:
         if self._is_closed:
-            raise Error(CLOSED, "Closed", "the snapshot is closed")
+            raise Closed("the snapshot is closed")
         return frames.at(self._number)
 
     def _ask(self, request: bytes) -> bytes:
@@ -295,12 +315,15 @@ class WriteBatch:
         self._writes: List[bytes] = []
 
     def put(self, key: Bytes, value: Bytes) -> None:
+        """Adds that a key gets a value."""
         self._writes.append(frames.put(_bytes(key), _bytes(value)))
 
     def delete(self, key: Bytes) -> None:
+        """Adds that a key is removed."""
         self._writes.append(frames.delete(_bytes(key)))
 
     def clear(self) -> None:
+        """Drops what was added."""
         self._writes.clear()
 
     def append(self, source: WriteBatch) -> None:
@@ -410,7 +433,7 @@ class Iterator:
         """Reads the next page. It has a pair, or the iterator is at its end."""
         snapshot = self._snapshot
         if snapshot is None:
-            raise Error(CLOSED, "Closed", "the iterator is closed")
+            raise Closed("the iterator is closed")
         if self._is_last:
             raise StopIteration
         request = frames.scan(snapshot._when(), self._from, self._bounds.stop, self._limit)
@@ -425,12 +448,15 @@ class Iterator:
             raise StopIteration
 
     def prev(self) -> NoReturn:
+        """Raises NotImplementedError."""
         raise NotImplementedError("prev: the server reads forward only")
 
     def seek_to_stop(self) -> NoReturn:
+        """Raises NotImplementedError."""
         raise NotImplementedError("seek_to_stop: the server reads forward only")
 
     def close(self) -> None:
+        """Ends the iterator. A second call does nothing."""
         snapshot, self._snapshot = self._snapshot, None
         self._pairs = []
         self._at = 0

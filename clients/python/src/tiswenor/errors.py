@@ -45,6 +45,17 @@ class Refused(Error):
     """The server refused the request. Nothing of it was done, and other requests go on."""
 
 
+class Closed(Error, RuntimeError):
+    """The database, the snapshot or the iterator was closed, or opened before a fork.
+
+    It is a RuntimeError too, which is what plyvel raises.
+    """
+
+    def __init__(self, detail: str) -> None:
+        super().__init__(CLOSED, "Closed", detail)
+        self.args = (detail,)
+
+
 class Ended(Error):
     """The server ended before it answered: whether the request was done is not known.
 

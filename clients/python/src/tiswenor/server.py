@@ -14,7 +14,7 @@ from collections import deque
 from typing import Deque, List, Optional, Union
 
 from . import frames
-from .errors import CLOSED, LAST, NAMES, NO_SERVER, UNANSWERED, Ended, Error, Refused
+from .errors import LAST, NAMES, NO_SERVER, UNANSWERED, Closed, Ended, Error, Refused
 
 PROGRAM = "lsm_server"
 VARIABLE = "TISWENOR_SERVER"
@@ -282,8 +282,8 @@ class Server:
             channel.forget()
 
 
-def _closed() -> Error:
-    return Error(CLOSED, "Closed", "the database is not open in this process")
+def _closed() -> Closed:
+    return Closed("the database is not open in this process")
 
 
 def _body(answer: bytes) -> bytes:
