@@ -6,8 +6,9 @@
 # The server is the one that LSM_SERVER names, or the proved one, or else an unproved one that is
 # built first. LSM_SERVER_OBJECT, or its object beside it, is linked into the process. Needs gcc,
 # g++, python3 (PYTHON) with pytest, setuptools and wheel, valgrind, cmake, pkg-config.
-# TISWENOR_CALLS and STORM: drawn calls in Python (3,000), seconds of each storm (5). MINUTES and
-# PYTHON_MINUTES: how long a test in C, and those of Python, may take (10, 60).
+# TISWENOR_CALLS and STORM: how many calls are drawn in C and in Python (3,000), seconds of each storm
+# (5). MINUTES and PYTHON_MINUTES: how long a test in C, and those of Python, may take (10, 60).
+# PLYVEL_TESTS: the file test_plyvel.py of plyvel's sources, to be run too.
 set -uo pipefail
 here=$(cd "$(dirname "$(readlink -f "${BASH_SOURCE[0]}")")" && pwd)
 top=$(cd "$here/../.." && pwd)
@@ -91,7 +92,8 @@ run() { # TEST [WRAPPER..]: in ten minutes at most
   shift
   set -- timeout -k 10 "${MINUTES:-10}m" "$@"
   case $test in
-    storm*) "$@" "$work/$test" "$folder/db" "${STORM:-5}" ;;
+    storm* | readers*) "$@" "$work/$test" "$folder/db" "${STORM:-5}" ;;
+    drawn*) "$@" "$work/$test" "$folder/db" "${TISWENOR_CALLS:-3000}" "${SEED:-1}" ;;
     killed*) TISWENOR_SERVER=$work/telling "$@" "$work/$test" "$folder/db" "$work/number" ;;
     malformed*) "$@" "$work/$test" "$server" "$folder" 3 "${SEED:-1}" ;;
     lied_to*) TISWENOR_SERVER=$work/liar "$@" "$work/$test" "$folder" 200 ;;
@@ -140,6 +142,11 @@ thread_sanitizer_inside() { # TEST
 }
 
 pytests() { (cd "$clients/python" && timeout -k 10 "${PYTHON_MINUTES:-60}m" "$python" -X dev -m pytest -q -p no:cacheprovider --basetemp="$folder/pytest"); }
+
+plyvel_tests() {
+  cp "$PLYVEL_TESTS" "$here/plyvel/"*.py "$folder" &&
+    (cd "$folder" && PYTHONPATH=$folder:$clients/python/src timeout -k 10 "${PYTHON_MINUTES:-60}m" "$python" -m pytest -q -p no:cacheprovider -rx .)
+}
 
 wheel() { # a wheel, without a network, and a program that uses it
   cp -r "$clients/python" "$folder/source" &&
@@ -195,6 +202,8 @@ part "C, child: killed server, killed host" with_child killed
 part "C, child: killed, address sanitizer" with_child killed "${sanitized[@]}"
 part "C, child: a server that lies, address sanitizer" lied_to
 part "server: malformed frames, drawn bytes" malformed
+part "C, child: drawn calls beside a table" with_child drawn
+part "C, child: eight threads read, one writes" with_child readers
 part "C, child: channels that the server ends" ended_child
 part "C, child: what a host does beside" with_child host
 part "C, inside: story" with_inside story
@@ -204,6 +213,8 @@ part "C, inside: story, valgrind" valgrind_inside
 part "C, inside: storm" with_inside storm
 part "C, inside: storm, address sanitizer" with_inside storm "${sanitized[@]}"
 part "C, inside: storm, thread sanitizer" thread_sanitizer_inside storm
+part "C, inside: drawn calls beside a table" with_inside drawn
+part "C, inside: eight threads read, one writes" with_inside readers
 part "C, inside: channels that the server ends" ended_inside
 part "C, inside: what a host does beside" with_inside host
 part "C, inside: what a host does beside, address sanitizer" with_inside host "${sanitized[@]}"
@@ -213,6 +224,7 @@ part "first programs" examples
 part "cmake, pkg-config: archives" cmake_and_pkg_config
 part "cmake, pkg-config: shared" cmake_and_pkg_config -DBUILD_SHARED_LIBS=ON
 part "Python: tests" pytests
+[[ -z ${PLYVEL_TESTS:-} ]] || part "Python: plyvel's own tests" plyvel_tests
 part "Python: wheel" wheel
 echo "$passed passed, $failed failed"
 ((failed == 0))
