@@ -1,7 +1,8 @@
 /* Times calls of LevelDB's C interface, or of tiswenor.h, which has its shape: bench FOLDER NAME
    PAIRS. With -DLEVELDB it is LevelDB, which syncs each write, does not compress, and has a cache
    of 32 MiB. Keys have 16 bytes, values 100. Prints a line for each figure: NAME, what, the figure.
- */
+   LevelDB iterates once more as the server does it: it verifies the checksum of each block, and has
+   none of them in its cache. */
 #define _GNU_SOURCE
 #include <pthread.h>
 #include <stdio.h>
@@ -20,7 +21,7 @@
 typedef API(t) database;
 
 enum { KEY = 16, VALUE = 100, BATCH = 1000, HOT = 1000, THREADS = 4, GROUP = 100 };
-enum { GETS = 200000, PUTS = 300 };
+enum { GETS = 200000, PUTS = 300, CACHE = 32 << 20 };
 
 static const char *name;
 static unsigned pairs;
@@ -55,14 +56,15 @@ static void make_value(unsigned number, char *value) {
   snprintf(value, VALUE, "%u", number);
 }
 
-static database *opened(const char *folder) {
+static database *opened(const char *folder, size_t cache) {
   char *error = NULL;
   API(options_t) *options = API(options_create)();
   API(options_set_create_if_missing)(options, 1);
 #ifdef LEVELDB
   leveldb_options_set_compression(options, leveldb_no_compression);
-  leveldb_options_set_cache(options, leveldb_cache_create_lru(32 << 20));
+  leveldb_options_set_cache(options, leveldb_cache_create_lru(cache));
 #else
+  (void)cache;
   tiswenor_options_set_channels(options, THREADS);
   tiswenor_options_set_workers(options, 1);
 #endif
@@ -194,11 +196,10 @@ static void get_by_groups(void) {
 #endif
 }
 
-static void iterate(void) {
+static void iterate(const char *what, const API(readoptions_t) * options) {
   double best = 1e9;
   for (int round = 0; round < 3; round++) {
     unsigned count = 0;
-    API(readoptions_t) *options = API(readoptions_create)();
     double begin = now();
     API(iterator_t) *iterator = API(create_iterator)(db, options);
     for (API(iter_seek_to_first)(iterator); API(iter_valid)(iterator); API(iter_next)(iterator)) {
@@ -209,18 +210,36 @@ static void iterate(void) {
     }
     double took = now() - begin;
     API(iter_destroy)(iterator);
-    API(readoptions_destroy)(options);
     if (count != pairs) check((char *)"another number of pairs");
     if (took < best) best = took;
   }
-  tell("all pairs by an iterator, a pair", best / pairs * 1e6, "us");
+  tell(what, best / pairs * 1e6, "us");
+}
+
+static void iterate_all(const char *folder) {
+  API(readoptions_t) *options = API(readoptions_create)();
+#ifdef LEVELDB
+  API(close)(db);
+  db = opened(folder, 0);
+  leveldb_readoptions_set_verify_checksums(options, 1);
+  leveldb_readoptions_set_fill_cache(options, 0);
+  iterate("all pairs, checksums verified, a pair", options);
+  leveldb_readoptions_set_verify_checksums(options, 0);
+  leveldb_readoptions_set_fill_cache(options, 1);
+  API(close)(db);
+  db = opened(folder, CACHE);
+#else
+  (void)folder;
+#endif
+  iterate("all pairs by an iterator, a pair", options);
+  API(readoptions_destroy)(options);
 }
 
 int main(int argc, char **argv) {
   if (argc != 4) return 2;
   name = argv[2];
   pairs = (unsigned)atoi(argv[3]);
-  db = opened(argv[1]);
+  db = opened(argv[1], CACHE);
   API(writeoptions_t) *synced = API(writeoptions_create)();
   API(writeoptions_set_sync)(synced, 1);
   fill(synced);
@@ -232,7 +251,7 @@ int main(int argc, char **argv) {
   get_by_groups();
   get_by_one("a get of all keys, one thread", pairs);
   get_by_four("a get of all keys, four threads together", pairs);
-  iterate();
+  iterate_all(argv[1]);
   API(writeoptions_destroy)(synced);
   API(close)(db);
 }
