@@ -26,7 +26,8 @@ tiswenor_inside_switch:
         popq    %r12
         popq    %rbx
         popq    %rbp
-        ret
+        popq    %rcx
+        jmpq    *%rcx                   /* not ret, whose address the processor would guess wrong */
         .size   tiswenor_inside_switch, .-tiswenor_inside_switch
 
 /* Where a new stack begins: rbx has a function, which does not return, and r12 what it is given. */
