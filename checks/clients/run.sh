@@ -92,6 +92,7 @@ run() { # TEST [WRAPPER..]: in ten minutes at most
   shift
   set -- timeout -k 10 "${MINUTES:-10}m" "$@"
   case $test in
+    pages*) "$@" "$work/$test" "$folder/db" ;;
     storm* | readers*) "$@" "$work/$test" "$folder/db" "${STORM:-5}" ;;
     drawn*) "$@" "$work/$test" "$folder/db" "${TISWENOR_CALLS:-3000}" "${SEED:-1}" ;;
     killed*) TISWENOR_SERVER=$work/telling "$@" "$work/$test" "$folder/db" "$work/number" ;;
@@ -204,6 +205,9 @@ part "C, child: a server that lies, address sanitizer" lied_to
 part "server: malformed frames, drawn bytes" malformed
 part "C, child: drawn calls beside a table" with_child drawn
 part "C, child: eight threads read, one writes" with_child readers
+part "C, child: iterators over many pages" with_child pages
+part "C, child: iterators over many pages, address sanitizer" with_child pages "${sanitized[@]}"
+part "C, child: iterators over many pages, thread sanitizer" with_child pages -fsanitize=thread
 part "C, child: channels that the server ends" ended_child
 part "C, child: what a host does beside" with_child host
 part "C, inside: story" with_inside story
@@ -215,6 +219,7 @@ part "C, inside: storm, address sanitizer" with_inside storm "${sanitized[@]}"
 part "C, inside: storm, thread sanitizer" thread_sanitizer_inside storm
 part "C, inside: drawn calls beside a table" with_inside drawn
 part "C, inside: eight threads read, one writes" with_inside readers
+part "C, inside: iterators over many pages" with_inside pages
 part "C, inside: channels that the server ends" ended_inside
 part "C, inside: what a host does beside" with_inside host
 part "C, inside: what a host does beside, address sanitizer" with_inside host "${sanitized[@]}"

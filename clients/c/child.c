@@ -275,6 +275,16 @@ static int receive_frame(int socket, unsigned char **answer, size_t *length) {
   return 0;
 }
 
+const int tiswenor_transport_works_beside = 1;
+
+int tiswenor_transport_send(struct transport *transport, unsigned channel,
+                            const unsigned char *frame, size_t length) {
+  int socket = transport->sockets[channel];
+  int is_sent = send_frame(socket, frame, length) == 0;
+  if (!is_sent) shutdown(socket, SHUT_RDWR);
+  return is_sent;
+}
+
 int tiswenor_transport_exchange(struct transport *transport, unsigned channel,
                                 const unsigned char *frame, size_t length, unsigned char **answer,
                                 size_t *answer_length) {

@@ -367,6 +367,14 @@ int tiswenor_transport_exchange(struct transport *transport, unsigned number,
   return fault;
 }
 
+const int tiswenor_transport_works_beside = 0;
+
+int tiswenor_transport_send(struct transport *transport, unsigned number,
+                            const unsigned char *frame, size_t length) {
+  (void)transport, (void)number, (void)frame, (void)length;
+  return 0;
+}
+
 void tiswenor_transport_tell_end(struct transport *transport, char *text, size_t room) {
   (void)transport;
   snprintf(text, room, "the server takes no more requests");

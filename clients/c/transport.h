@@ -37,6 +37,15 @@ int tiswenor_transport_exchange(struct transport *transport, unsigned channel,
                                 const unsigned char *frame, size_t length, unsigned char **answer,
                                 size_t *answer_length);
 
+/* Whether the server works while the caller does, so that it is worth the while to send a request
+   before its answer is needed. */
+extern const int tiswenor_transport_works_beside;
+
+/* Sends a frame on a channel. Whether it is on its way: then an exchange of no frame, NULL, waits for
+   its answer; if not, the channel is closed. Only where the server works beside. */
+int tiswenor_transport_send(struct transport *transport, unsigned channel,
+                            const unsigned char *frame, size_t length);
+
 /* Whether this process was forked from the one that opened it. */
 int tiswenor_transport_is_forked(const struct transport *transport);
 
