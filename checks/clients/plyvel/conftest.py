@@ -27,7 +27,7 @@ ABSENT = {
     "test_destroy_db": "destroy_db",
     "test_invalid_comparator": "comparators",
     "test_comparator": "comparators",
-    "test_prefixed_db": "prefixed_db",
+    "test_prefixed_db": BACKWARD,
     "test_raw_iterator": "raw_iterator",
     "test_raw_iterator_empty_db": "raw_iterator",
     "test_raw_iterator_snapshot": "raw_iterator",

@@ -10,7 +10,7 @@ Keys and values are bytes. Every write is on the disk when its call returns. A d
 by any number of threads. A call that fails raises `Error`, which has a number and a name.
 """
 
-from .database import DB, Iterator, Level, Snapshot, Statistics, WriteBatch
+from .database import DB, Iterator, Level, PrefixedDB, Snapshot, Statistics, WriteBatch
 from .errors import Closed, Ended, Error, Refused
 
 __all__ = [
@@ -20,6 +20,7 @@ __all__ = [
     "Error",
     "Iterator",
     "Level",
+    "PrefixedDB",
     "Refused",
     "Snapshot",
     "Statistics",

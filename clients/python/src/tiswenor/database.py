@@ -40,12 +40,18 @@ class Statistics:
 
 
 class _Reads:
-    """What a database and a snapshot of it have in common."""
+    """What a database and a snapshot of it have in common, or the part of keys with a prefix."""
+
+    _prefix = b""  # of the keys, which a caller does not see
 
     def _ask(self, request: bytes) -> bytes:
         raise NotImplementedError
 
     def _when(self) -> bytes:
+        raise NotImplementedError
+
+    def _iterated(self) -> Tuple[Snapshot, bool]:
+        """The state that an iterator reads, and whether it closes it."""
         raise NotImplementedError
 
     def get(
@@ -72,14 +78,80 @@ class _Reads:
 
         This is one request: the keys have at most 8 MiB together, the values 16 MiB.
         """
-        asked = [_bytes(key) for key in keys]
+        asked = [self._prefix + _bytes(key) for key in keys]
         if not asked:
             return []
         found = frames.values(self._ask(frames.read(self._when(), asked)), len(asked))
         return [default if value is None else value for value in found]
 
+    def iterator(
+        self,
+        reverse: bool = False,
+        start: Optional[Bytes] = None,
+        stop: Optional[Bytes] = None,
+        include_start: bool = True,
+        include_stop: bool = False,
+        prefix: Optional[Bytes] = None,
+        include_key: bool = True,
+        include_value: bool = True,
+    ) -> Iterator:
+        """The pairs of a range, in ascending order of their keys, as they are now; of a snapshot, as
+        they were then.
 
-class DB(_Reads):
+        The range is that from `start` to `stop`, or that of all keys with a prefix. Without values
+        the iterator gives keys alone, without keys values alone. `reverse` must be False.
+
+        Pairs come from the server in pages of some 64 KiB.
+        """
+        bounds = _Range.of(self._prefix, reverse, start, stop, include_start, include_stop, prefix)
+        return Iterator(*self._iterated(), bounds, include_key, include_value)
+
+    def __iter__(self) -> Iterator:
+        """An iterator over all pairs."""
+        return self.iterator()
+
+
+class _Database(_Reads):
+    """What a database and a part of it have in common."""
+
+    def _whole(self) -> DB:
+        raise NotImplementedError
+
+    def put(self, key: Bytes, value: Bytes, sync: bool = True) -> None:
+        """Sets the value of a key. It is on the disk when the call returns, whatever `sync` says.
+
+        A key has 1 to 4,096 bytes, a value at most 1 MiB. Each write makes a table: many of them
+        belong into one `write_batch`.
+        """
+        self._ask(frames.WRITE + frames.put(self._prefix + _bytes(key), _bytes(value)))
+
+    def delete(self, key: Bytes, sync: bool = True) -> None:
+        """Removes a key, if it is there. That is on the disk when the call returns, whatever `sync`
+        says."""
+        self._ask(frames.WRITE + frames.delete(self._prefix + _bytes(key)))
+
+    def write_batch(self, transaction: bool = False, sync: bool = True) -> WriteBatch:
+        """A new batch. As a context manager it is written at the end of the block; with
+        `transaction=True` it is dropped where the block raises an exception."""
+        return WriteBatch(self._whole(), self._prefix, transaction)
+
+    def snapshot(self) -> Snapshot:
+        """The database as it is now. It keeps tables on the disk until it is closed."""
+        number, sequence = frames.numbers(self._ask(frames.SNAPSHOT), 2)
+        return Snapshot(self._whole(), self._prefix, number, sequence)
+
+    def prefixed_db(self, prefix: Bytes) -> PrefixedDB:
+        """The part of the keys that begin with a prefix, which its calls leave out of each key."""
+        return PrefixedDB(self._whole(), self._prefix + _bytes(prefix))
+
+    def _iterated(self) -> Tuple[Snapshot, bool]:
+        return self.snapshot(), True
+
+    def _when(self) -> bytes:
+        return frames.NOW
+
+
+class DB(_Database):
     """An open database. Any thread may call it; a call waits while all channels are taken.
 
     path               the folder, with LevelDB's files
@@ -131,55 +203,6 @@ class DB(_Reads):
         self._server.close()
         self._end.detach()
 
-    def put(self, key: Bytes, value: Bytes, sync: bool = True) -> None:
-        """Sets the value of a key. It is on the disk when the call returns, whatever `sync` says.
-
-        A key has 1 to 4,096 bytes, a value at most 1 MiB. Each write makes a table: many of them
-        belong into one `write_batch`.
-        """
-        self._ask(frames.WRITE + frames.put(_bytes(key), _bytes(value)))
-
-    def delete(self, key: Bytes, sync: bool = True) -> None:
-        """Removes a key, if it is there. That is on the disk when the call returns, whatever `sync`
-        says."""
-        self._ask(frames.WRITE + frames.delete(_bytes(key)))
-
-    def write_batch(self, transaction: bool = False, sync: bool = True) -> WriteBatch:
-        """A new batch. As a context manager it is written at the end of the block; with
-        `transaction=True` it is dropped where the block raises an exception."""
-        return WriteBatch(self, transaction)
-
-    def iterator(
-        self,
-        reverse: bool = False,
-        start: Optional[Bytes] = None,
-        stop: Optional[Bytes] = None,
-        include_start: bool = True,
-        include_stop: bool = False,
-        prefix: Optional[Bytes] = None,
-        include_key: bool = True,
-        include_value: bool = True,
-    ) -> Iterator:
-        """The pairs of a range, in ascending order of their keys, as they are now.
-
-        The range is that from `start` to `stop`, or that of all keys with a prefix. Without values
-        the iterator gives keys alone, without keys values alone. `reverse` must be False.
-
-        Pairs come from the server in pages of some 64 KiB.
-        """
-        bounds = _Range.of(reverse, start, stop, include_start, include_stop, prefix)
-        snapshot = self.snapshot()
-        return Iterator(snapshot, True, bounds, include_key, include_value)
-
-    def __iter__(self) -> Iterator:
-        """An iterator over all pairs."""
-        return self.iterator()
-
-    def snapshot(self) -> Snapshot:
-        """The database as it is now. It keeps tables on the disk until it is closed."""
-        number, sequence = frames.numbers(self._ask(frames.SNAPSHOT), 2)
-        return Snapshot(self, number, sequence)
-
     def compact_range(self, start: None = None, stop: None = None) -> None:
         """Compacts the whole database: returns once the server finds nothing to compact.
 
@@ -224,8 +247,8 @@ class DB(_Reads):
     def __repr__(self) -> str:
         return f"<tiswenor.DB {self._name!r}{' closed' if self.closed else ''}>"
 
-    def _when(self) -> bytes:
-        return frames.NOW
+    def _whole(self) -> DB:
+        return self
 
     def _ask(self, request: bytes) -> bytes:
         while self._abandoned:
@@ -237,14 +260,42 @@ class DB(_Reads):
         return self._server.ask(request)
 
 
+class PrefixedDB(_Database):
+    """The part of a database whose keys begin with a prefix. It is open as long as the database."""
+
+    def __init__(self, db: DB, prefix: bytes) -> None:
+        self._db = db
+        self._prefix = prefix
+
+    @property
+    def db(self) -> DB:
+        """The database that it is a part of."""
+        return self._db
+
+    @property
+    def prefix(self) -> bytes:
+        """The bytes that stand before each key."""
+        return self._prefix
+
+    def __repr__(self) -> str:
+        return f"<tiswenor.PrefixedDB {self._prefix!r} of {self._db!r}>"
+
+    def _whole(self) -> DB:
+        return self._db
+
+    def _ask(self, request: bytes) -> bytes:
+        return self._db._ask(request)
+
+
 class Snapshot(_Reads):
     """A state of the database that does not change. Any thread may read it.
 
     It ends by `close()`, by a `with` block, or once nothing refers to it any more.
     """
 
-    def __init__(self, db: DB, number: int, sequence: int) -> None:
+    def __init__(self, db: DB, prefix: bytes, number: int, sequence: int) -> None:
         self._db = db
+        self._prefix = prefix
         self._number = number
         self._sequence = sequence
         self._is_closed = False
@@ -253,24 +304,6 @@ class Snapshot(_Reads):
     def sequence(self) -> int:
         """The number of the newest write that is seen."""
         return self._sequence
-
-    def iterator(
-        self,
-        reverse: bool = False,
-        start: Optional[Bytes] = None,
-        stop: Optional[Bytes] = None,
-        include_start: bool = True,
-        include_stop: bool = False,
-        prefix: Optional[Bytes] = None,
-        include_key: bool = True,
-        include_value: bool = True,
-    ) -> Iterator:
-        """As `DB.iterator`, of this state."""
-        bounds = _Range.of(reverse, start, stop, include_start, include_stop, prefix)
-        return Iterator(self, False, bounds, include_key, include_value)
-
-    def __iter__(self) -> Iterator:
-        return self.iterator()
 
     def close(self) -> None:
         """Gives the state up: what only it needs may be collected. A second call does nothing."""
@@ -294,6 +327,9 @@ class Snapshot(_Reads):
         if not getattr(self, "_is_closed", True):
             self._db._abandoned.append(self._number)
 
+    def _iterated(self) -> Tuple[Snapshot, bool]:
+        return self, False
+
     def _when(self) -> bytes:
         if self._is_closed:
             raise Closed("the snapshot is closed")
@@ -309,18 +345,19 @@ class WriteBatch:
     Keys may come in any order. The server takes at most 65,536 writes and 4 MiB in one batch.
     """
 
-    def __init__(self, db: DB, transaction: bool) -> None:
+    def __init__(self, db: DB, prefix: bytes, transaction: bool) -> None:
         self._db = db
+        self._prefix = prefix
         self._transaction = transaction
         self._writes: List[bytes] = []
 
     def put(self, key: Bytes, value: Bytes) -> None:
         """Adds that a key gets a value."""
-        self._writes.append(frames.put(_bytes(key), _bytes(value)))
+        self._writes.append(frames.put(self._prefix + _bytes(key), _bytes(value)))
 
     def delete(self, key: Bytes) -> None:
         """Adds that a key is removed."""
-        self._writes.append(frames.delete(_bytes(key)))
+        self._writes.append(frames.delete(self._prefix + _bytes(key)))
 
     def clear(self) -> None:
         """Drops what was added."""
@@ -355,13 +392,16 @@ class WriteBatch:
 
 @dataclass(frozen=True)
 class _Range:
-    """The keys from `start` on that are below `stop`, if there is one."""
+    """The keys from `start` on that are below `stop`, if there is one. All begin with `front`, which
+    is not shown."""
 
     start: bytes
     stop: Optional[bytes]
+    front: bytes
 
     @staticmethod
     def of(
+        front: bytes,
         reverse: bool,
         start: Optional[Bytes],
         stop: Optional[Bytes],
@@ -374,15 +414,15 @@ class _Range:
         if prefix is not None:
             if start is not None or stop is not None:
                 raise TypeError("prefix and start or stop can't be used together")
-            front = _bytes(prefix)
-            return _Range(front, _behind(front))
-        begin = b"" if start is None else _bytes(start)
+            begin = front + _bytes(prefix)
+            return _Range(begin, _behind(begin), front)
+        begin = front if start is None else front + _bytes(start)
         if start is not None and not include_start:
             begin += b"\0"
-        end = None if stop is None else _bytes(stop)
-        if end is not None and include_stop:
-            end += b"\0"
-        return _Range(begin, end)
+        if stop is None:
+            return _Range(begin, _behind(front), front)
+        end = front + _bytes(stop)
+        return _Range(begin, end + b"\0" if include_stop else end, front)
 
 
 class Iterator:
@@ -405,11 +445,11 @@ class Iterator:
 
     def seek_to_start(self) -> None:
         """Goes before the first pair of the range."""
-        self.seek(self._bounds.start)
+        self.seek(b"")
 
     def seek(self, target: Bytes) -> None:
         """Goes before the first pair of the range whose key is `target` or greater."""
-        self._from = max(_bytes(target), self._bounds.start)
+        self._from = max(self._bounds.front + _bytes(target), self._bounds.start)
         self._is_last = self._bounds.stop is not None and self._from >= self._bounds.stop
         self._limit = _FIRST_PAGE
         self._pairs: List[Tuple[bytes, bytes]] = []
@@ -423,6 +463,8 @@ class Iterator:
             self._turn()
         key, value = self._pairs[self._at]
         self._at += 1
+        if self._bounds.front:
+            key = key[len(self._bounds.front) :]
         if self._include_key and self._include_value:
             return key, value
         if self._include_key:
