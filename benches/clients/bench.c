@@ -1,10 +1,10 @@
 /* Times calls of LevelDB's C interface, or of tiswenor.h, which has its shape: bench FOLDER NAME
    PAIRS. With -DLEVELDB it is LevelDB, which syncs each write, does not compress, and has a cache
    of 32 MiB. Keys have 16 bytes, values 100. Prints a line for each figure: NAME, what, the figure;
-   of reads by one thread also the processor's time in this process, which other work does not change
-   much: that is all of it for LevelDB and with the server inside.
-   LevelDB iterates once more as the server does it: it verifies the checksum of each block, and has
-   none of them in its cache. */
+   of reads by one thread also the processor's time in this process, which other work does not
+   change much: that is all of it for LevelDB and with the server inside. LevelDB iterates once more
+   as the server does it: it verifies the checksum of each block, and has none of them in its cache.
+ */
 #define _GNU_SOURCE
 #include <pthread.h>
 #include <stdio.h>

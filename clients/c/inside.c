@@ -1,14 +1,14 @@
-/* The server inside this process: the object of the same program, of which the build renames five
-   symbols (`build.sh`): what it calls as main, read, write, _exit and signal is here. A number from
-   FIRST on is a channel in memory; the system gives no such number.
+/* The server inside this process: the object of the same program, of which the build renames six
+   symbols (`program.sh`): what it calls as main, read, write, _exit, signal and pthread_create is
+   here. A number from FIRST on is a channel in memory; the system gives no such number.
 
    The server's `main`, and a thread that it makes for each channel, run a loop: read a request,
    answer it. Where such a loop stands in `read`, its thread changes to a small stack of its own and
-   sleeps there. A call lends the loop its own thread: it changes to the loop's stack, and back where
-   the loop has answered and reads again. So a call costs two changes of stack, and no change of
-   threads. To the server that is a thread that was in `read` for some time: it holds no lock there,
-   and keeps no address of what belongs to a thread. A loop that is at its end, after the statuses
-   200 and 204, and as the database is closed, is left to its own thread.
+   sleeps there. A call lends the loop its own thread: it changes to the loop's stack, and back
+   where the loop has answered and reads again. So a call costs two changes of stack, and no change
+   of threads. To the server that is a thread that was in `read` for some time: it holds no lock
+   there, and keeps no address of what belongs to a thread. A loop that is at its end, after the
+   statuses 200 and 204, and as the database is closed, is left to its own thread.
 
    Threads that read from no channel, those that compact, are left alone. */
 #define _GNU_SOURCE
@@ -33,6 +33,8 @@ ssize_t tiswenor_inside_read(int descriptor, void *bytes, size_t length);
 ssize_t tiswenor_inside_write(int descriptor, const void *bytes, size_t length);
 _Noreturn void tiswenor_inside_exit(int status);
 void (*tiswenor_inside_signal(int number, void (*handler)(int)))(int);
+int tiswenor_inside_pthread_create(pthread_t *thread, const pthread_attr_t *attributes,
+                                   void *(*run)(void *), void *state);
 #pragma GCC visibility pop
 
 enum { STANDARD_INPUT = 0, FIRST = 1 << 30, DATABASES = 64 };
@@ -53,11 +55,11 @@ struct channel {
   size_t body_length, body_want;
   unsigned char status; /* its first byte */
   int is_answered;
-  int is_lent;          /* a call's thread runs the loop */
-  atomic_int is_over;   /* it gets no more requests */
-  struct stack loop;    /* where the loop stands */
-  struct stack caller;  /* where the call stands that lends its thread */
-  struct stack bed;     /* where the loop's own thread sleeps */
+  int is_lent;         /* a call's thread runs the loop */
+  atomic_int is_over;  /* it gets no more requests */
+  struct stack loop;   /* where the loop stands */
+  struct stack caller; /* where the call stands that lends its thread */
+  struct stack bed;    /* where the loop's own thread sleeps */
   unsigned char *bed_memory;
   pthread_cond_t woken; /* with the transport's lock */
   int is_woken;         /* the loop's own thread is to go on; under that lock */
@@ -201,6 +203,18 @@ void (*tiswenor_inside_signal(int number, void (*handler)(int)))(int) {
   return handler;
 }
 
+/* What the server calls as `pthread_create`. Signals of the host are not handled in its threads,
+   also where a thread of the host makes them. */
+int tiswenor_inside_pthread_create(pthread_t *thread, const pthread_attr_t *attributes,
+                                   void *(*run)(void *), void *state) {
+  sigset_t every, before;
+  sigfillset(&every);
+  pthread_sigmask(SIG_SETMASK, &every, &before);
+  int error = pthread_create(thread, attributes, run, state);
+  pthread_sigmask(SIG_SETMASK, &before, NULL);
+  return error;
+}
+
 static void *serve(void *state) {
   struct transport *transport = state;
   jmp_buf here;
@@ -225,17 +239,6 @@ static int enrol(struct transport *transport) {
   }
   errno = EMFILE;
   return 0;
-}
-
-/* Starts the server's thread. Signals of the host are not handled in it, nor in those it starts. */
-static int start(struct transport *transport) {
-  sigset_t every, before;
-  sigfillset(&every);
-  pthread_sigmask(SIG_SETMASK, &every, &before);
-  int error = pthread_create(&transport->server, NULL, serve, transport);
-  pthread_sigmask(SIG_SETMASK, &before, NULL);
-  if (error) errno = error;
-  return !error;
 }
 
 /* Makes the bed of a channel's thread. Whether there was memory. */
@@ -300,7 +303,8 @@ struct transport *tiswenor_transport_open(const char *server, unsigned channels,
   *fault = tiswenor_no_server;
   if (enrol(transport)) {
     set_first((unsigned char *)(transport + 1), transport->number);
-    if (start(transport)) return transport;
+    errno = tiswenor_inside_pthread_create(&transport->server, NULL, serve, transport);
+    if (!errno) return transport;
     all[transport->number] = NULL;
   }
   dispose(transport);
@@ -320,8 +324,8 @@ static void part_with(struct channel *channel) {
 static void wait_for_opening(struct transport *transport) {
   struct channel *first = &transport->channel[0];
   pthread_mutex_lock(&transport->lock);
-  while (!transport->is_ended &&
-         (!transport->is_opening_answered || (!first->status && transport->asleep < transport->channels)))
+  while (!transport->is_ended && (!transport->is_opening_answered ||
+                                  (!first->status && transport->asleep < transport->channels)))
     pthread_cond_wait(&transport->changed, &transport->lock);
   pthread_mutex_unlock(&transport->lock);
 }

@@ -1,5 +1,5 @@
-/* Stacks among which threads change: what runs on one of them may be gone on with by another thread.
-   Private to inside.c. The sanitizers and valgrind are told where they look. */
+/* Stacks among which threads change: what runs on one of them may be gone on with by another
+   thread. Private to inside.c. The sanitizers and valgrind are told where they look. */
 #ifndef TISWENOR_STACKS_H
 #define TISWENOR_STACKS_H
 
@@ -49,9 +49,9 @@ static inline void stack_make(struct stack *stack, unsigned char *low, size_t si
                               void (*run)(void *), void *state) {
   void **top = (void **)(low + size) - 2; /* the stack is aligned where a call is made */
   *--top = (void *)tiswenor_inside_begin;
-  *--top = NULL;          /* rbp */
-  *--top = (void *)run;   /* rbx */
-  *--top = state;         /* r12 */
+  *--top = NULL;        /* rbp */
+  *--top = (void *)run; /* rbx */
+  *--top = state;       /* r12 */
   for (int i = 0; i < 3; i++) *--top = NULL;
   stack->at = top;
 #if defined __SANITIZE_ADDRESS__

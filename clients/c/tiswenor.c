@@ -24,14 +24,14 @@ enum { EMPTY = 5 };
 /* No path of a file is longer on Linux. */
 enum { LONGEST_PATH = 4095 };
 
-/* How many pairs an iterator asks for first; after them it asks for whole pages. From the third page
-   on it asks for the next one while its caller goes through the one that is there. */
+/* How many pairs an iterator asks for first; after them it asks for whole pages. From the third
+   page on it asks for the next one while its caller goes through the one that is there. */
 enum { FIRST_PAGE = 16, PAGES_BEFORE_AHEAD = 3 };
 
 /* Errors */
 
-/* What *errptr is where there is no memory for a text: these tell what may be done and not told, and
-   the first one stands for all others. tiswenor_free leaves them. */
+/* What *errptr is where there is no memory for a text: these tell what may be done and not told,
+   and the first one stands for all others. tiswenor_free leaves them. */
 static char lasting[][16] = {"1 OutOfMemory", "204 Unanswered", "254 BadAnswer", "255 Ended"};
 
 enum { LASTING = sizeof lasting / sizeof *lasting };
@@ -386,8 +386,8 @@ tiswenor_t *tiswenor_open(const tiswenor_options_t *options, const char *name, c
   int fault = request.failed;
   struct transport *transport = NULL;
   if (!fault)
-    transport = tiswenor_transport_open(options->server, channels, request.bytes, request.length,
-                                        &fault);
+    transport =
+        tiswenor_transport_open(options->server, channels, request.bytes, request.length, &fault);
   const char *detail = transport ? "" : strerror(errno);
   request_end(&request);
   if (!transport) {
@@ -395,8 +395,8 @@ tiswenor_t *tiswenor_open(const tiswenor_options_t *options, const char *name, c
     set_error(errptr, fault, is, detail);
     return NULL;
   }
-  tiswenor_t *db = new_database(transport, (unsigned)options->channels,
-                                has_ahead ? options->channels : -1);
+  tiswenor_t *db =
+      new_database(transport, (unsigned)options->channels, has_ahead ? options->channels : -1);
   if (!db) {
     tiswenor_transport_close(transport);
     set_error(errptr, tiswenor_out_of_memory, "OutOfMemory", "");
@@ -686,12 +686,13 @@ static const unsigned char *last_key(struct answer page, size_t *length) {
   return key;
 }
 
-/* What came on the channel for pages ahead: 0, or an error's number. A channel that is ended stays in
-   use for ever. */
+/* What came on the channel for pages ahead: 0, or an error's number. A channel that is ended stays
+   in use for ever. */
 static int receive_ahead(tiswenor_t *db, unsigned char **bytes, size_t *length) {
   int before;
   pthread_setcancelstate(PTHREAD_CANCEL_DISABLE, &before);
-  int fault = tiswenor_transport_exchange(db->transport, (unsigned)db->ahead, NULL, 0, bytes, length);
+  int fault =
+      tiswenor_transport_exchange(db->transport, (unsigned)db->ahead, NULL, 0, bytes, length);
   pthread_setcancelstate(before, NULL);
   return is_end(fault, *bytes) ? tiswenor_ended : fault;
 }
@@ -727,8 +728,8 @@ static void ask_ahead(tiswenor_iterator_t *iterator) {
   } else {
     store(request.bytes, request.length - 4, 4);
     pthread_setcancelstate(PTHREAD_CANCEL_DISABLE, &before);
-    iterator->is_ahead = tiswenor_transport_send(db->transport, (unsigned)db->ahead,
-                                                 request.bytes, request.length);
+    iterator->is_ahead =
+        tiswenor_transport_send(db->transport, (unsigned)db->ahead, request.bytes, request.length);
     pthread_setcancelstate(before, NULL);
   }
   request_end(&request);

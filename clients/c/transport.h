@@ -31,8 +31,8 @@ struct transport *tiswenor_transport_open(const char *server, unsigned channels,
 
 /* Sends a frame on a channel, if there is one, and waits for the frame that comes back. One call on
    a channel at a time. Gives 0, and the answer without its length, in memory of malloc. Or gives
-   tiswenor_out_of_memory, and the answer is lost; tiswenor_bad_answer, or tiswenor_ended. Where this
-   is_end, the channel is closed: another exchange on it gives tiswenor_ended. */
+   tiswenor_out_of_memory, and the answer is lost; tiswenor_bad_answer, or tiswenor_ended. Where
+   this is_end, the channel is closed: another exchange on it gives tiswenor_ended. */
 int tiswenor_transport_exchange(struct transport *transport, unsigned channel,
                                 const unsigned char *frame, size_t length, unsigned char **answer,
                                 size_t *answer_length);
@@ -41,8 +41,8 @@ int tiswenor_transport_exchange(struct transport *transport, unsigned channel,
    before its answer is needed. */
 extern const int tiswenor_transport_works_beside;
 
-/* Sends a frame on a channel. Whether it is on its way: then an exchange of no frame, NULL, waits for
-   its answer; if not, the channel is closed. Only where the server works beside. */
+/* Sends a frame on a channel. Whether it is on its way: then an exchange of no frame, NULL, waits
+   for its answer; if not, the channel is closed. Only where the server works beside. */
 int tiswenor_transport_send(struct transport *transport, unsigned channel,
                             const unsigned char *frame, size_t length);
 

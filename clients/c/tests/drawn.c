@@ -1,5 +1,5 @@
-/* Drawn calls beside a table in memory: drawn FOLDER CALLS SEED. After each call the database answers
-   what the table has: now, and at each snapshot that lives what it had then. */
+/* Drawn calls beside a table in memory: drawn FOLDER CALLS SEED. After each call the database
+   answers what the table has: now, and at each snapshot that lives what it had then. */
 #define _GNU_SOURCE
 #include "check.h"
 
@@ -178,7 +178,7 @@ static void open_again(void) {
 }
 
 static void call(void) {
-  static void (*const rarely[])(void) = {write_one, write_batch, write_batch, write_batch,
+  static void (*const rarely[])(void) = {write_one,     write_batch,   write_batch, write_batch,
                                          take_snapshot, take_snapshot, collect};
   static void (*const often[])(void) = {get, get, get, get_many, iterate};
   unsigned kind = draw(1000);

@@ -38,8 +38,7 @@ static struct transport *opened_below(const char *folder) {
   opening[16] = 1;
   store(opening + 17, name);
   memcpy(opening + 21, folder, name);
-  struct transport *transport =
-      tiswenor_transport_open(NULL, CHANNELS, opening, length, &fault);
+  struct transport *transport = tiswenor_transport_open(NULL, CHANNELS, opening, length, &fault);
   CHECK(transport);
   CHECK(!tiswenor_transport_exchange(transport, 0, NULL, 0, &answer, &length) && !answer[0]);
   free(answer);
@@ -50,7 +49,8 @@ static struct transport *opened_below(const char *folder) {
 static int asked(struct transport *transport, unsigned channel, unsigned char kind) {
   unsigned char frame[] = {1, 0, 0, 0, kind}, *answer;
   size_t length;
-  int fault = tiswenor_transport_exchange(transport, channel, frame, sizeof frame, &answer, &length);
+  int fault =
+      tiswenor_transport_exchange(transport, channel, frame, sizeof frame, &answer, &length);
   if (fault) return fault;
   int status = answer[0];
   free(answer);

@@ -1,6 +1,6 @@
-/* What a host does beside its calls: host FOLDER. Signals that interrupt them, threads that come and
-   go on small stacks or are cancelled, forks, several databases at once, many openings. An alarm
-   ends this program where a call hangs. */
+/* What a host does beside its calls: host FOLDER. Signals that interrupt them, threads that come
+   and go on small stacks or are cancelled, forks, several databases at once, many openings. An
+   alarm ends this program where a call hangs. */
 #define _GNU_SOURCE
 #include <dirent.h>
 #include <limits.h>
@@ -156,7 +156,8 @@ static void in_a_forked_process(void) {
   _exit(0);
 }
 
-/* Forks in the middle of other threads' calls: theirs go on here, and there the database is closed. */
+/* Forks in the middle of other threads' calls: theirs go on here, and there the database is closed.
+ */
 static void host_forks(void) {
   pthread_t threads[THREADS];
   db = opened_as("forks", 3, 1);

@@ -1,5 +1,6 @@
 /* A server that answers anything: it takes each opening, and then answers each request on its first
-   two channels by drawn bytes, some of them near what a true server says. LIAR_SEED says which ones.
+   two channels by drawn bytes, some of them near what a true server says. LIAR_SEED says which
+   ones.
  */
 #define _GNU_SOURCE
 #include <poll.h>

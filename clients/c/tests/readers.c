@@ -22,8 +22,7 @@ static void *write_all(void *state) {
     char *error = NULL, key[16], value[32];
     size_t vlen = (size_t)sprintf(value, "%d", number);
     tiswenor_writebatch_t *batch = tiswenor_writebatch_create();
-    for (int i = 0; i < KEYS; i++)
-      tiswenor_writebatch_put(batch, key, key_of(i, key), value, vlen);
+    for (int i = 0; i < KEYS; i++) tiswenor_writebatch_put(batch, key, key_of(i, key), value, vlen);
     tiswenor_write(db, NULL, batch, &error);
     DONE(error);
     tiswenor_writebatch_destroy(batch);
