@@ -452,24 +452,19 @@ class Iterator:
         self._from = max(self._bounds.front + _bytes(target), self._bounds.start)
         self._is_last = self._bounds.stop is not None and self._from >= self._bounds.stop
         self._limit = _FIRST_PAGE
-        self._pairs: List[Tuple[bytes, bytes]] = []
+        self._shown: List[Any] = []
         self._at = 0
 
     def __iter__(self) -> Iterator:
         return self
 
     def __next__(self) -> Any:
-        if self._at == len(self._pairs):
+        at = self._at
+        if at == len(self._shown):
             self._turn()
-        key, value = self._pairs[self._at]
-        self._at += 1
-        if self._bounds.front:
-            key = key[len(self._bounds.front) :]
-        if self._include_key and self._include_value:
-            return key, value
-        if self._include_key:
-            return key
-        return value if self._include_value else None
+            at = 0
+        self._at = at + 1
+        return self._shown[at]
 
     def _turn(self) -> None:
         """Reads the next page. It has a pair, or the iterator is at its end."""
@@ -484,10 +479,21 @@ class Iterator:
         if pairs:
             self._from = pairs[-1][0] + b"\0"
         self._is_last = is_last
-        self._pairs = pairs
+        self._shown = self._show(pairs)
         self._at = 0
         if not pairs:
             raise StopIteration
+
+    def _show(self, pairs: List[Tuple[bytes, bytes]]) -> List[Any]:
+        """What is given for these pairs."""
+        if self._bounds.front:
+            hidden = len(self._bounds.front)
+            pairs = [(key[hidden:], value) for key, value in pairs]
+        if self._include_key and self._include_value:
+            return pairs
+        if self._include_key:
+            return [key for key, _ in pairs]
+        return [value if self._include_value else None for _, value in pairs]
 
     def prev(self) -> NoReturn:
         """Raises NotImplementedError."""
@@ -500,7 +506,7 @@ class Iterator:
     def close(self) -> None:
         """Ends the iterator. A second call does nothing."""
         snapshot, self._snapshot = self._snapshot, None
-        self._pairs = []
+        self._shown = []
         self._at = 0
         if snapshot is not None and self._owns_snapshot:
             snapshot.close()
