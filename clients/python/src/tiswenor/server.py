@@ -25,6 +25,9 @@ LONGEST_PATH = 4095
 # How many bytes an answer's first part may have. Only one answer is on its way at a time.
 _READ_AT_ONCE = 4096
 
+# How bytes are sent: without waiting, and without a signal where nobody reads them.
+_AT_ONCE = int(socket.MSG_NOSIGNAL | socket.MSG_DONTWAIT)
+
 # How long a waiting call sleeps until it looks again whether a channel is free, in seconds. It is
 # told of it, but for one who was interrupted before.
 _AT_LATEST = 0.5
@@ -101,7 +104,7 @@ class Channel:
         rest = memoryview(request)
         while rest:
             try:
-                rest = rest[self._socket.send(rest, socket.MSG_NOSIGNAL | socket.MSG_DONTWAIT) :]
+                rest = rest[self._socket.send(rest, _AT_ONCE) :]
             except BlockingIOError:
                 waiting = select.poll()
                 waiting.register(self._socket, select.POLLIN | select.POLLOUT)
