@@ -1,14 +1,14 @@
 -- Each step keeps the history.
-use Rattle.std.proofs.Common.{◌≡◌, ◌≢◌, ℕ, zero, suc, List, [], ◌∷◌, ◌++◌, true, false, true≢false, refl, sym, ap, ◌∙◌, subst, ⊎_elim}
+use Rattle.std.proofs.Common.{◌≡◌, ◌≢◌, ℕ, zero, suc, List, [], ◌∷◌, true, false, true≢false, refl, sym, ap, ◌∙◌, subst, ⊎_elim}
 use Rattle.std.specs.Prelude.{slice_set}
 use mathlib.Core.Option.{some, some-injective, some-ne-none}
 use lib.ListN.{get_elem?}
-use Rattle.atomic_table.specs.Table.{Me, Step, keeps, step, Allows, Splits, Joins, opening}
+use Rattle.atomic_table.specs.Table.{Me, keeps, step, Allows, Splits, Joins, opening}
 use Rattle.atomic_table.proofs.Lists.{at_set, at_snoc, set_again}
 use Rattle.lsm_history.specs.declared.history.History.{History}
 use Rattle.lsm_history.specs.declared.view.View.{View}
 use Rattle.lsm_history.proofs.Laters.{later_more, later_none, later_same}
-use Rattle.lsm_history.specs.Rule.{nothing, knowing, remembering, asking, with_entries, with_editions, GoesOn, Fits, IsKept, Told, Grown, Listed, Compared}
+use Rattle.lsm_history.specs.Rule.{nothing, knowing, remembering, asking, with_entries, with_editions, GoesOn, Fits, IsKept, Grown, Listed, Compared}
 
 off : false ≡ true → ⊥
 off e = true≢false (sym e)

@@ -12,8 +12,8 @@ use atomic_table::{Seat, Table};
 use std::alloc::{AllocError, Global};
 use std::marker::PhantomData;
 
-/// A history that has no name yet, no entry and no edition. Who picks a name for it, so that the name's
-/// history is this table, gets its keeper.
+/// A history that has no name yet, no entry and no edition. Who picks a name for it, so that the
+/// name's history is this table, gets its keeper.
 #[derive(Drop)]
 pub struct NewHistory {
     table: Words,
