@@ -15,7 +15,7 @@ use Rattle.lsm_state.specs.Editions.{AreEditions, edition}
 
 -- ---- the first version
 
-none_there : (m slot : ℕ) (e : Epoch) → slice_get (replicate m (None {Epoch})) slot ≡ Some (Some e) → ⊥
+none_there : (m slot : ℕ) (e : Epoch) → slice_get (replicate m None) slot ≡ Some (Some e) → ⊥
 none_there zero slot e h = (let no : None ≡ Some (Some e) = h in cc)
 none_there (suc m) zero e h = (let no : Some None ≡ Some (Some e) = h in cc)
 none_there (suc m) (suc slot) e h = none_there m slot e h
@@ -23,10 +23,10 @@ none_there (suc m) (suc slot) e h = none_there m slot e h
 pub first_edition : (board : Known) (n : ℕ) (v : Levels) → AreEditions (first_slots board n v) (edition board.knows.id v ∷ [])
 first_edition board n v = record {
   each = each;
-  upto = λ x h. elim h [ inl e ↦ (let same = ap (λ (y : Edition). y.id) e in omega arith) | inr no ↦ absurd no ];
+  upto = λ x h. elim h [ inl e ↦ (let same = ap (λ (y : Edition). y.id) e in omega arith) | inr k2 ↦ absurd k2 ];
   one = λ x y h k e. elim h [
-    | inl a ↦ elim k [ inl b ↦ sym a ∙ b | inr no ↦ absurd no ]
-    | inr no ↦ absurd no
+    | inl a ↦ elim k [ inl b ↦ sym a ∙ b | inr k2 ↦ absurd k2 ]
+    | inr k2 ↦ absurd k2
   ];
 }
   where

@@ -138,6 +138,7 @@ impl<N: Boarded, S: Shelf> State<N, S> {
     {
         self.keeper.recall(memory);
     }
+
     /// Which version has had which id, to be remembered, for a later call of `consult` on this
     /// state. The current version is listed under its id.
     pub fn catalogue(&mut self) -> Catalogue<N>

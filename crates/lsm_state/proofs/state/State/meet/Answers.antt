@@ -1,4 +1,4 @@
-use Rattle.std.proofs.Common.{◌≡◌, ℕ, List, Option, is_some, ap, subst}
+use Rattle.std.proofs.Common.{List, Option, is_some, ap, subst}
 use Rattle.lsm_codec.specs.Lists.{Has}
 use Rattle.lsm_slots.specs.Slots.{Epoch, Slotted, numbers_held}
 use Rattle.lsm_state.specs.Held.{Held}
