@@ -1,17 +1,19 @@
-//! Entries that only contracts read.
+//! Entries and editions that only contracts read.
 
 ghost use Rattle.std.specs.Prelude.{◌≡◌, List, [], ◌++◌};
 ghost use Rattle.std.specs.Borrow.{ftrue};
 ghost use Rattle.lsm_codec.specs.Entries.{Entry};
+ghost use Rattle.lsm_history.specs.History.{Edition};
 
 use crate::recalls::Recalls;
 use std::marker::{Model, PhantomData};
 
-/// A list of entries that only contracts read: a value of it takes no memory and holds no bytes. It
-/// tells a history what comes into it.
+/// A list of entries, and one of editions, that only contracts read: a value of it takes no memory
+/// and holds no bytes. It tells a history what comes into it.
 pub struct History {
     marker: PhantomData<()>,
     pub ghost entries: { List Entry },
+    pub ghost editions: { List Edition },
 }
 
 impl Model for History {
@@ -32,12 +34,16 @@ struct NoEntry;
 
 impl Recalls<()> for NoEntry {
     ghost entries = { λ _. [] };
+
+    ghost editions = { λ _. [] };
 }
 
 struct Same;
 
 impl Recalls<History> for Same {
     ghost entries = { λ h. h.entries };
+
+    ghost editions = { λ h. h.editions };
 }
 
 /// Entries, and those that were there before them.
@@ -51,12 +57,15 @@ struct Both;
 
 impl<'a> Recalls<Grown<'a>> for Both {
     ghost entries = { λ g. g.new.now.entries ++ g.older.now.entries };
+
+    ghost editions = { λ g. g.new.now.editions ++ g.older.now.editions };
 }
 
 impl History {
-    /// The entries that are read off a value.
+    /// The entries and editions that are read off a value.
     pub fn of<X, M: Recalls<X>>(x: &X) -> History
-        ensures { result.entries ≡ M.entries x.now }
+        ensures entries { result.entries ≡ M.entries x.now }
+        ensures editions { result.editions ≡ M.editions x.now }
     {
         let _ = x;
         History {
@@ -64,23 +73,26 @@ impl History {
         }
     }
 
-    /// No entry.
+    /// No entry and no edition.
     pub fn empty() -> History
-        ensures { result.entries ≡ [] }
+        ensures entries { result.entries ≡ [] }
+        ensures editions { result.editions ≡ [] }
     {
         History::of::<(), NoEntry>(&())
     }
 
-    /// The same entries once more.
+    /// The same once more.
     pub fn again(&self) -> History
-        ensures { result.entries ≡ self.now.entries }
+        ensures entries { result.entries ≡ self.now.entries }
+        ensures editions { result.editions ≡ self.now.editions }
     {
         History::of::<History, Same>(self)
     }
 
-    /// These entries, with new ones in front.
+    /// These, with new ones in front.
     pub fn with(&self, new: &History) -> History
-        ensures { result.entries ≡ new.now.entries ++ self.now.entries }
+        ensures entries { result.entries ≡ new.now.entries ++ self.now.entries }
+        ensures editions { result.editions ≡ new.now.editions ++ self.now.editions }
     {
         History::of::<Grown, Both>(&Grown { new, older: self })
     }

@@ -6,7 +6,7 @@
 //! later knows that the history goes on from what was remembered, whatever came in between.
 #![tactic(auto)]
 
-// Entries without bytes, and the name of a history.
+// Entries and editions without bytes, and the name of a history.
 mod historied;
 mod history;
 mod recalls;
@@ -17,10 +17,12 @@ mod steps;
 mod view;
 
 // A history before it has a name, the end that knows it whole, and what is remembered of it.
+mod catalogue;
 mod keeper;
 mod memory;
 mod new_history;
 
+pub use catalogue::Catalogue;
 pub use historied::Historied;
 pub use history::History;
 pub use keeper::Keeper;

@@ -24,5 +24,5 @@ impl<N: Historied> Model for Memory<N> {
     ghost view = { λ m. m.seat.me.0.seen.entries };
 
     ghost invariant = { λ m. (m.seat.table_id ≡ N.history)
-        × (m.seat.me ≡ (remembering m.seat.me.0.seen.entries, [])) };
+        × (m.seat.me ≡ (remembering m.seat.me.0.seen, [])) };
 }

@@ -10,12 +10,11 @@ use std::alloc::Global;
 pub struct HistoryRule;
 
 impl TableRule<History, View, ()> for HistoryRule {
-    ghost use Rattle.std.specs.Prelude.{[]};
-    ghost use Rattle.lsm_history.specs.Rule.{IsKept, knowing};
+    ghost use Rattle.lsm_history.specs.Rule.{IsKept, knowing, nothing};
 
     ghost holds = { λ _ s. IsKept s };
 
-    ghost first = { λ _. knowing [] };
+    ghost first = { λ _. knowing nothing };
 }
 
 /// The table of a history: one word, which stays 0, and no slot. What the seats know is for

@@ -13,6 +13,15 @@ impl Play<History, View> for Grows {
     ghost then = { Grown };
 }
 
+/// The keeper brings in the editions that the step is told of.
+pub(crate) struct Lists;
+
+impl Play<History, View> for Lists {
+    ghost use Rattle.lsm_history.specs.Rule.{Listed};
+
+    ghost then = { Listed };
+}
+
 /// The keeper compares what it took from another seat with all that it knows.
 pub(crate) struct Compares;
 
@@ -30,17 +39,16 @@ impl Split<View> for Remembers {
 
     ghost left = { λ v. v };
 
-    ghost right = { λ v. remembering v.seen.entries };
+    ghost right = { λ v. remembering v.seen };
 }
 
 /// The keeper takes the seat of a memory.
 pub(crate) struct Asks;
 
 impl Join<View> for Asks {
-    ghost use Rattle.std.specs.Prelude.{[]};
-    ghost use Rattle.lsm_history.specs.Rule.{asking, remembering};
+    ghost use Rattle.lsm_history.specs.Rule.{asking, nothing, remembering};
 
     ghost both = { asking };
 
-    ghost spent = { remembering [] };
+    ghost spent = { remembering nothing };
 }

@@ -1,5 +1,6 @@
 mod Numbers
 mod StateLaws
+mod EditionLaws
 mod Removing
 mod Listed
 mod OpenLaws

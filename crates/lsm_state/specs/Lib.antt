@@ -12,3 +12,4 @@ pub mod Ingesting
 pub mod Installing
 pub mod LargestKeys
 pub mod Asked
+pub mod Editions

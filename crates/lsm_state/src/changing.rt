@@ -20,6 +20,7 @@ ghost use Rattle.lsm_state.specs.Collecting.{SameCounts};
 ghost use Rattle.lsm_state.specs.Held.{HasInputs};
 ghost use Rattle.lsm_state.specs.declared.state_fault.StateFault.TheVariants.{OutOfMemory};
 
+use crate::coming::edition_of;
 use crate::state::State;
 use crate::state_fault::StateFault;
 use lsm_history::History;
@@ -174,7 +175,8 @@ impl<N: Boarded, S: Shelf> State<N, S> {
         };
         self.next = next;
         take_out(&mut self.live, out);
-        self.slots.publish(slot, first, second);
+        let id = self.slots.publish(slot, first, second);
+        self.keeper.publish(&edition_of(id, self.slots.version()));
         self.keeper.grow(coming);
         Ok(())
     }

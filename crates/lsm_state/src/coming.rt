@@ -1,9 +1,10 @@
 //! What comes into the history of a state.
 
-ghost use Rattle.std.specs.Prelude.{◌≡◌};
+ghost use Rattle.std.specs.Prelude.{◌≡◌, [], ◌∷◌};
 ghost use Rattle.lsm_levels.specs.Files.{all_entries};
 ghost use Rattle.lsm_version.specs.Versions.{files};
 ghost use Rattle.lsm_batch.specs.Batches.{entries_from};
+ghost use Rattle.lsm_state.specs.Editions.{edition};
 
 use lsm_batch::Batch;
 use lsm_history::{History, Recalls};
@@ -14,10 +15,13 @@ use lsm_version::Version;
 struct InVersion;
 
 impl<N: Naming, S: Shelf> Recalls<Version<N, S>> for InVersion {
+    ghost use Rattle.std.specs.Prelude.{[]};
     ghost use Rattle.lsm_levels.specs.Files.{all_entries};
     ghost use Rattle.lsm_version.specs.Versions.{files};
 
     ghost entries = { λ v. all_entries (files v) };
+
+    ghost editions = { λ _. [] };
 }
 
 // The entries of all tables of a version.
@@ -38,9 +42,12 @@ struct Coming<'a> {
 struct InBatch;
 
 impl<'a> Recalls<Coming<'a>> for InBatch {
+    ghost use Rattle.std.specs.Prelude.{[]};
     ghost use Rattle.lsm_batch.specs.Batches.{entries_from};
 
     ghost entries = { λ c. entries_from c.first c.batch.now };
+
+    ghost editions = { λ _. [] };
 }
 
 // The entries of a batch, at sequences one after another from the first.
@@ -48,4 +55,30 @@ pub(crate) fn entries_of_batch(batch: &Batch, first: u64) -> History
     ensures { result.entries ≡ entries_from first batch.now }
 {
     History::of::<Coming, InBatch>(&Coming { batch, first })
+}
+
+// A version, with its id.
+#[derive(Drop)]
+struct Issued<'a, N: Naming, S: Shelf> {
+    id: u32,
+    version: &'a Version<N, S>,
+}
+
+// How it is read: as its edition.
+struct InIssue;
+
+impl<'a, N: Naming, S: Shelf> Recalls<Issued<'a, N, S>> for InIssue {
+    ghost use Rattle.std.specs.Prelude.{[], ◌∷◌};
+    ghost use Rattle.lsm_state.specs.Editions.{edition};
+
+    ghost entries = { λ _. [] };
+
+    ghost editions = { λ i. edition i.id i.version.now ∷ [] };
+}
+
+// The edition of a version under its id.
+pub(crate) fn edition_of<N: Naming, S: Shelf>(id: u32, version: &Version<N, S>) -> History
+    ensures { result.editions ≡ edition id version.now ∷ [] }
+{
+    History::of::<Issued<N, S>, InIssue>(&Issued { id, version })
 }

@@ -9,6 +9,7 @@ ghost use Rattle.lsm_state.specs.Making.{IsNewBoard, IsNewHistory, created_state
 ghost use Rattle.lsm_state.specs.Making.{created_state_under};
 ghost use Rattle.lsm_state.specs.Options.{Fits};
 
+use crate::coming::edition_of;
 use crate::options::Options;
 use crate::state::State;
 use lsm_history::NewHistory;
@@ -100,6 +101,8 @@ impl<N: Boarded, S: Shelf> State<N, S> {
         let slots = Slots::new(alloc, publisher, options.versions, empty)?;
         let journal = Journal::create_under(rt, alloc, shelf, options.manifest_limit, number)?;
         created_stores_are_lawful::<State<N, S>>();
+        let mut keeper = history.named();
+        keeper.publish(&edition_of(slots.id(), slots.version()));
         Ok(State {
             registry,
             options,
@@ -111,7 +114,7 @@ impl<N: Boarded, S: Shelf> State<N, S> {
             journal,
             halted: false,
             pinners,
-            keeper: history.named(),
+            keeper,
         })
     }
 }

@@ -7,7 +7,7 @@ ghost use Rattle.lsm_state.specs.Making.{IsNewBoard, IsNewHistory};
 ghost use Rattle.lsm_state.specs.Opening.{IsBegun, IsOpenRefusal, opened_state};
 ghost use Rattle.lsm_state.specs.Options.{Fits};
 
-use crate::coming::entries_of_version;
+use crate::coming::{edition_of, entries_of_version};
 use crate::options::Options;
 use crate::state::State;
 use lsm_history::NewHistory;
@@ -99,6 +99,7 @@ impl<N: Boarded, S: Shelf> State<N, S> {
         let mut keeper = history.named();
         keeper.grow(&entries_of_version(&found.version));
         let slots = Slots::new(alloc, publisher, options.versions, found.version)?;
+        keeper.publish(&edition_of(slots.id(), slots.version()));
         Ok(State {
             registry,
             options,

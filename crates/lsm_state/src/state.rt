@@ -1,14 +1,17 @@
 //! The value behind the lock.
 
-ghost use Rattle.std.specs.Prelude.{◌≡◌};
+ghost use Rattle.std.specs.Prelude.{◌≡◌, ℕ};
 ghost use Rattle.std.specs.Arc.{arc_value};
-ghost use Rattle.lsm_history.specs.History.{IsLater};
+ghost use Rattle.lsm_codec.specs.Lists.{Has};
+ghost use Rattle.lsm_history.specs.History.{Edition, IsLater};
+ghost use Rattle.lsm_version.specs.Versions.{numbers_in};
 ghost use Rattle.lsm_levels.specs.Runs.{Agrees, ReadsAs};
-ghost use Rattle.lsm_slots.specs.Slots.{AreSlots, current_id};
+ghost use Rattle.lsm_slots.specs.Slots.{AreSlots, Epoch, HasEpoch, current_id};
+ghost use Rattle.lsm_state.specs.Editions.{edition};
 ghost use Rattle.lsm_state.specs.Held.{IsLawfulState, plain};
 
 use crate::options::Options;
-use lsm_history::{Keeper, Memory};
+use lsm_history::{Catalogue, Keeper, Memory};
 use lsm_journal::Journal;
 use lsm_levels::machine::Premise;
 use lsm_live::LiveJobs;
@@ -17,6 +20,7 @@ use lsm_slots::{Boarded, Slots, Snapshots};
 use lsm_table::{Registry, Shelf};
 use lsm_version::Version;
 use std::marker::Model;
+use std::mem;
 use std::sync::Arc;
 
 /// What a database holds behind its lock: versions by slot, snapshots, live jobs, and the manifest.
@@ -45,6 +49,7 @@ impl<N: Boarded, S: Shelf> Premise for State<N, S> {
 impl<N: Boarded, S: Shelf> Model for State<N, S> {
     ghost use Rattle.std.specs.Prelude.{◌≡◌};
     ghost use Rattle.std.specs.Arc.{arc_value};
+    ghost use Rattle.lsm_state.specs.Editions.{AreEditions};
     ghost use Rattle.lsm_state.specs.Held.{Held, IsLawfulState};
 
     ghost Value = { Held };
@@ -59,7 +64,7 @@ impl<N: Boarded, S: Shelf> Model for State<N, S> {
       journal = s.journal;
       halted = s.halted;
       pinners = s.pinners.items;
-      history = s.keeper;
+      history = s.keeper.entries;
     } };
 
     ghost invariant = { λ s. IsLawfulState S.honest N.board record {
@@ -72,8 +77,8 @@ impl<N: Boarded, S: Shelf> Model for State<N, S> {
       journal = s.journal;
       halted = s.halted;
       pinners = s.pinners.items;
-      history = s.keeper;
-    } };
+      history = s.keeper.entries;
+    } × AreEditions s.slots s.keeper.editions };
 }
 
 impl<N: Boarded, S: Shelf> State<N, S> {
@@ -132,5 +137,36 @@ impl<N: Boarded, S: Shelf> State<N, S> {
         ensures same { self.new ≡ self.old }
     {
         self.keeper.recall(memory);
+    }
+
+    /// Which version has had which id, to be remembered, for a later call of `consult` on this
+    /// state. The current version is listed under its id.
+    pub fn catalogue(&mut self) -> Catalogue<N>
+        ensures current { Has result (edition (current_id self.old.slots) self.old.slots.version) }
+        ensures same { self.new ≡ self.old }
+    {
+        // What holds of slots is told by this call.
+        let _version = self.slots.version();
+        self.keeper.catalogue()
+    }
+
+    /// A version that a slot has under a listed id has the tables that are listed, whatever others
+    /// did to the state since the list was made. The list is then made anew: what it had it has.
+    pub fn consult(&mut self, catalogue: &mut Catalogue<N>)
+        ensures one { (x : Edition) → Has catalogue.old x → (slot : ℕ) (e : Epoch)
+            → HasEpoch self.old.slots slot e → e.id ≡ x.id → numbers_in e.version ≡ x.tables }
+        ensures later { IsLater catalogue.new catalogue.old }
+        ensures same { self.new ≡ self.old }
+    {
+        let now = self.keeper.catalogue();
+        let old = mem::replace(catalogue, now);
+        self.keeper.consult(old);
+    }
+
+    /// The manifest that it holds: its number, and its bytes as far as the shelf confirmed them.
+    pub fn journal(&self) -> &Journal
+        ensures { result.now ≡ self.now.journal }
+    {
+        &self.journal
     }
 }

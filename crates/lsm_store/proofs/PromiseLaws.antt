@@ -4,6 +4,9 @@ use Rattle.lsm_codec.specs.Lists.{Has}
 use Rattle.lsm_codec.specs.Entries.{Entry}
 use Rattle.lsm_levels.specs.Runs.{Agrees}
 use Rattle.lsm_version.specs.Versions.{Levels}
+use Rattle.lsm_history.specs.History.{Edition}
+use Rattle.lsm_slots.specs.Slots.{current_id}
+use Rattle.lsm_state.specs.Editions.{edition}
 use Rattle.lsm_state.specs.Held.{Held, plain}
 use Rattle.lsm_store.specs.Promised.{AnswersAll, snapshot_sequences}
 
@@ -25,3 +28,8 @@ pub known_answers : (h : Held) (v : Levels) (snapshots : List ℕ) (history : Li
 known_answers h v snapshots history version sequences all a =
     subst (λ (x : Levels). AnswersAll x snapshots history) (sym version) (subst (λ (x : List ℕ). AnswersAll h.slots.version x history) (sym sequences)
     (subst (λ (x : List Entry). AnswersAll h.slots.version (snapshot_sequences h) x) (sym all) (current_answers h a)))
+
+-- the version that was learnt of a state is listed under the id that was learnt
+pub current_listed : (h : Held) (v : Levels) (id : ℕ) (editions : List Edition) → id ≡ current_id h.slots → v ≡ h.slots.version → Has editions (edition (current_id h.slots) h.slots.version) → Has editions (edition id v)
+current_listed h v id editions its version there =
+    subst (λ (n : ℕ). Has editions (edition n v)) (sym its) (subst (λ (x : Levels). Has editions (edition (current_id h.slots) x)) (sym version) there)

@@ -45,16 +45,19 @@ abbrev id_in : Option (ℕ × ℕ) → ℕ
 id_in None = 0
 id_in (Some p) = p.0
 
--- what is met is what the view's pin holds
+-- what is met is what the view's pin holds, and has the tables of the view's version
 pub met_at : (v : Learnt) (h : Held) (slot : ℕ) (ns : List ℕ) → v.pinner.knows.held ≡ Some (v.id, slot)
+    → ((t : ℕ) (e : Epoch) → HasEpoch h.slots t e → e.id ≡ v.id → numbers_in e.version ≡ numbers_in v.version)
     → (t : ℕ) × (i : ℕ) × (e : Epoch) × (v.pinner.knows.held ≡ Some (i, t)) × HasEpoch h.slots t e × (e.id ≡ i) × (ns ≡ numbers_in e.version) → IsMet v h ns
-met_at v h slot ns held m =
+met_at v h slot ns held one m =
     let its : m.1 ≡ v.id = ap id_in (sym m.3 ∙ held) in
+    let same = one m.0 m.2 m.4 (m.5 ∙ its) in
     record {
       slot = m.0;
       epoch = m.2;
       held = m.3 ∙ ap (λ (i : ℕ). Some (i, m.0)) its;
       there = m.4;
       its = m.5 ∙ its;
-      numbers_are = m.6;
+      tables = same;
+      numbers_are = m.6 ∙ same;
     }

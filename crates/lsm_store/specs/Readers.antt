@@ -81,14 +81,16 @@ abbrev pub IsRefused : Learnt → Learnt → BeginFault → Type 0
 IsRefused r back (Moved id) = (r.id < id) × (r.pinner.knows.id ≤ id) × ((slot : ℕ) × (back ≡ unpinned (pinned id slot r)))
 IsRefused r back PinsSpent = (r.pinner.knows.count ≡ 2 ^ 24) × (back ≡ r)
 
--- The state has the view's version in the slot that its pin holds, under the view's id, and these are the numbers of its tables.
+-- These are the numbers of the tables of the view's version; and a version of just these tables is the one that the state has in the slot that
+-- the view's pin holds, under the view's id.
 pub record IsMet (v : Learnt) (h : Held) (numbers : List ℕ) : Type 0 where
   pub slot : ℕ
   pub epoch : Epoch
   pub held : v.pinner.knows.held ≡ Some (v.id, slot)
   pub there : HasEpoch h.slots slot epoch
   pub its : epoch.id ≡ v.id
-  pub numbers_are : numbers ≡ numbers_in epoch.version
+  pub tables : numbers_in epoch.version ≡ numbers_in v.version
+  pub numbers_are : numbers ≡ numbers_in v.version
 
 -- ---- a new store
 

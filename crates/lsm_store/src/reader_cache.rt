@@ -1,14 +1,16 @@
 //! What a reader has besides its end of the board.
 
-ghost use Rattle.std.specs.Prelude.{◌≡◌, IfErr, IfOk, OnErr, OnOk};
+ghost use Rattle.std.specs.Prelude.{◌≡◌, ℕ, IfErr, IfOk, OnErr, OnOk};
 ghost use Rattle.std.specs.Arc.{arc_value};
 ghost use Rattle.lsm_history.specs.History.{IsLater};
 ghost use Rattle.lsm_shelf.specs.Told.{Counted, Forked, NotNamed};
+ghost use Rattle.lsm_slots.specs.Slots.{Epoch, HasEpoch};
+ghost use Rattle.lsm_version.specs.Versions.{numbers_in};
 ghost use Rattle.lsm_store.specs.Promised.{AnswersAll, snapshot_sequences};
 ghost use Rattle.lsm_store.specs.Readers.{known_at, learning_all};
 
 use boxcar::tag::{Names, Tag};
-use lsm_history::Memory;
+use lsm_history::{Catalogue, Memory};
 use lsm_reader::Cached;
 use lsm_slots::Boarded;
 use lsm_state::State;
@@ -22,7 +24,7 @@ use std::sync::Arc;
 
 /// What a reader has besides its end of the board: the version that it has learnt, the version's
 /// id, and its blocks; and, for contracts alone, all that had come in when it learnt the version,
-/// and the sequences of the snapshots that were live then.
+/// the sequences of the snapshots that were live then, and which version had had which id.
 #[derive(Drop)]
 pub struct ReaderCache<N: Boarded, S: Shelf> {
     pub(crate) id: u32,
@@ -30,10 +32,13 @@ pub struct ReaderCache<N: Boarded, S: Shelf> {
     pub(crate) blocks: Cached<N, S>,
     pub(crate) memory: Memory<N>,
     pub(crate) snapshots: Tag,
+    pub(crate) catalogue: Catalogue<N>,
 }
 
 impl<N: Boarded, S: Shelf> Model for ReaderCache<N, S> {
     ghost use Rattle.std.specs.Arc.{arc_value};
+    ghost use Rattle.lsm_codec.specs.Lists.{Has};
+    ghost use Rattle.lsm_state.specs.Editions.{edition};
     ghost use Rattle.lsm_store.specs.Promised.{AnswersAll};
     ghost use Rattle.lsm_store.specs.Readers.{KnownVersion};
 
@@ -47,8 +52,9 @@ impl<N: Boarded, S: Shelf> Model for ReaderCache<N, S> {
       snapshots = d.snapshots.numbers;
     } };
 
-    ghost invariant = { λ d. S.honest
-        → AnswersAll (arc_value d.version) d.snapshots.numbers d.memory };
+    ghost invariant = { λ d.
+        (S.honest → AnswersAll (arc_value d.version) d.snapshots.numbers d.memory)
+        × Has d.catalogue (edition d.id (arc_value d.version)) };
 }
 
 // The sequences of the snapshots of a state.
@@ -89,6 +95,7 @@ impl<N: Boarded, S: Shelf> ReaderCache<N, S> {
         // That the version answers as the history is told by this call.
         state.law();
         let snapshots = sequences_of(state);
+        let catalogue = state.catalogue();
         let memory = state.remember();
         Ok(ReaderCache {
             id,
@@ -96,6 +103,7 @@ impl<N: Boarded, S: Shelf> ReaderCache<N, S> {
             blocks,
             memory,
             snapshots,
+            catalogue,
         })
     }
 
@@ -112,12 +120,24 @@ impl<N: Boarded, S: Shelf> ReaderCache<N, S> {
         // That the version answers as the history is told by this call.
         state.law();
         let snapshots = sequences_of(state);
+        let catalogue = state.catalogue();
         let now = state.remember();
         let memory = mem::replace(&mut self.memory, now);
         state.recall(memory);
         self.id = id;
         self.version = version;
         self.snapshots = snapshots;
+        self.catalogue = catalogue;
         Ok(())
+    }
+
+    /// A version that the state has in a slot under the id that was learnt has the tables of the
+    /// version that was learnt.
+    pub(crate) fn compare(&mut self, state: &mut State<N, S>)
+        ensures one { (slot : ℕ) (e : Epoch) → HasEpoch state.old.slots slot e
+            → e.id ≡ self.old.id → numbers_in e.version ≡ numbers_in self.old.version }
+        ensures same { (self.new ≡ self.old) × (state.new ≡ state.old) }
+    {
+        state.consult(&mut self.catalogue);
     }
 }

@@ -173,9 +173,9 @@ impl<N: Boarded, S: Shelf> View<N, S> {
         scan.next_by(&mut self.cache.blocks, alloc)
     }
 
-    /// The numbers of the tables of the version that its pin holds, level by level: the state has
-    /// that version in the slot that was pinned, under the view's id, and keeps its tables.
-    /// `AllocError` where a growth was refused.
+    /// The numbers of the tables of its version, level by level: the state has a version with just
+    /// these in the slot that was pinned, under the view's id, and keeps them. `AllocError` where a
+    /// growth was refused.
     #[tactic(auto, using(crate::proofs::ReaderLaws::same_learnt, crate::proofs::ReaderLaws::held_so, crate::proofs::ReaderLaws::met_at))]
     pub fn meet(&mut self, alloc: Global, state: &mut State<N, S>) -> Result<Vec<u64>, AllocError>
         ensures met { IfOk result (λ v. IsMet self.old state.new v.items) }
@@ -187,7 +187,9 @@ impl<N: Boarded, S: Shelf> View<N, S> {
         ensures rest { state.new ≡ record state.old
             { slots = record state.old.slots { board = state.new.slots.board } } }
     {
-        match state.meet(alloc, &mut self.pinner) {
+        let met = state.meet(alloc, &mut self.pinner);
+        self.cache.compare(state);
+        match met {
             Ok(Some(numbers)) => Ok(numbers),
             Ok(None) => unreachable!(),
             Err(error) => Err(error),

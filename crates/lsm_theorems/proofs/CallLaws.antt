@@ -14,6 +14,8 @@ use Rattle.lsm_slots.specs.Snapshots.{Taken}
 use Rattle.lsm_state.specs.Collecting.{AreCollected, IsKeptNumber, is_in, outside}
 use Rattle.lsm_state.specs.Held.{Held, plain}
 use Rattle.lsm_store.specs.Compacting.{IsLeftByWorkers}
+use Rattle.lsm_store.specs.Readers.{IsMet, Learnt}
+use Rattle.lsm_version.specs.Versions.{numbers_in}
 use Rattle.lsm_theorems.specs.Unchanged.{IsUnchanged, read_of}
 use Rattle.lsm_theorems.proofs.ReadLaws.{later_unseen}
 
@@ -61,10 +63,12 @@ kept_apart h is removed held was now rest c kept n gone there =
     let back : IsKeptNumber h n = subst (λ (x : Held). IsKeptNumber x n) rest (kept n there) in
     removed_unkept h c.kept c.listed c.kept_are n (subst (λ (ns : List ℕ). Has ns n) c.removed_are gone) back
 
--- what was removed, and what a view holds after that
-pub kept_so : {V E W F : Type 0} (see : V → List ℕ) (its : W → List ℕ) (A B : Type 0) (r : Result V E) (m : Result W F) (h is : Held) (was now : Told)
-    → IfOk r (λ v. A × B × AreCollected h (see v) was now) → IfOk m (λ w. (n : ℕ) → Has (its w) n → IsKeptNumber is n) → is ≡ record h { slots = record h.slots { board = is.slots.board } }
-    → IfOk r (λ v. IfOk m (λ w. (n : ℕ) → Has (see v) n → Has (its w) n → ⊥))
-kept_so see its A B (Ok v) (Ok w) h is was now c kept rest = kept_apart h is (see v) (its w) was now rest c.2 kept
-kept_so see its A B (Ok v) (Err f) h is was now c kept rest = tt
-kept_so see its A B (Err e) m h is was now c kept rest = tt
+-- what was removed, and what a view reads after that
+pub kept_so : {V E W F : Type 0} (see : V → List ℕ) (its : W → List ℕ) (A B : Type 0) (r : Result V E) (m : Result W F) (h is : Held) (was now : Told) (v : Learnt)
+    → IfOk r (λ x. A × B × AreCollected h (see x) was now) → IfOk m (λ w. (n : ℕ) → Has (its w) n → IsKeptNumber is n) → IfOk m (λ w. IsMet v is (its w))
+    → is ≡ record h { slots = record h.slots { board = is.slots.board } }
+    → IfOk r (λ x. OnOk m ((n : ℕ) → Has (numbers_in v.version) n → Has (see x) n → ⊥))
+kept_so see its A B (Ok x) (Ok w) h is was now v c kept met rest =
+    λ n read gone. kept_apart h is (see x) (its w) was now rest c.2 kept n gone (subst (λ (ns : List ℕ). Has ns n) (sym met.numbers_are) read)
+kept_so see its A B (Ok x) (Err f) h is was now v c kept met rest = tt
+kept_so see its A B (Err e) m h is was now v c kept met rest = tt

@@ -1,8 +1,9 @@
-//! No table of a version that a reader holds is given up.
+//! No table of a version that a reader reads is given up.
 
-ghost use Rattle.std.specs.Prelude.{ℕ, IfOk};
+ghost use Rattle.std.specs.Prelude.{ℕ, IfOk, OnOk};
 ghost use Rattle.lsm_codec.specs.Lists.{Has};
 ghost use Rattle.lsm_pins.specs.Laws.{HeldIsNotFree, IsLaw};
+ghost use Rattle.lsm_version.specs.Versions.{numbers_in};
 
 use lsm_slots::Boarded;
 use lsm_state::{State, StateFault};
@@ -11,7 +12,7 @@ use lsm_table::{NamedShelf, Shelf};
 use std::alloc::{AllocError, Global};
 use std::sync::Wait;
 
-/// The tables that were removed, and those of the version that a view holds, in one taking of the
+/// The tables that were removed, and those of the version that a view reads, in one taking of the
 /// lock: no table is among both.
 pub fn what_a_view_holds_is_kept<N: Boarded, S: Shelf, R: Wait>(
     rt: &R,
@@ -23,8 +24,8 @@ pub fn what_a_view_holds_is_kept<N: Boarded, S: Shelf, R: Wait>(
     Result<Vec<u64>, (StateFault, Vec<u64>)>,
     Result<Vec<u64>, AllocError>,
 )
-    ensures { IfOk result.0 (λ removed. IfOk result.1 (λ held. (n : ℕ)
-        → Has removed.items n → Has held.items n → ⊥)) }
+    ensures { IfOk result.0 (λ removed. OnOk result.1 ((n : ℕ)
+        → Has (numbers_in view.old.version) n → Has removed.items n → ⊥)) }
 {
     let removed = state.collect(rt, alloc, shelf);
     let held = view.meet(alloc, state);

@@ -4,6 +4,7 @@ ghost use Rattle.std.specs.Prelude.{◌≡◌, ℕ, IfOk};
 ghost use Rattle.std.specs.Option.{option_map};
 ghost use Rattle.lsm_codec.specs.Lists.{Has};
 ghost use Rattle.lsm_levels.specs.Scanning.{IsScan};
+ghost use Rattle.lsm_merger.specs.Seeking.{at_or_past};
 ghost use Rattle.lsm_state.specs.Held.{Held};
 ghost use Rattle.lsm_state.specs.Reading.{IsSequence};
 ghost use Rattle.lsm_store.specs.Readers.{IsPromised, Learnt, refreshed};
@@ -56,6 +57,19 @@ pub fn scans_show_the_newest<N: Boarded, S: Shelf>(
         → IfOk result (λ s. IsScan seq view.old.history s.left) }
 {
     view.scan(alloc, seq)
+}
+
+/// A scan from a user key on shows each of these that is at or past it.
+pub fn scans_from_a_key_show_the_newest<N: Boarded, S: Shelf>(
+    view: &mut View<N, S>,
+    alloc: Global,
+    seq: u64,
+    from: &[u8],
+) -> Result<Scan<N, S>, ReadFault>
+    ensures { S.honest → IsPromised view.old seq
+        → IfOk result (λ s. IsScan seq (at_or_past from.now view.old.history) s.left) }
+{
+    view.scan_from(alloc, seq, from)
 }
 
 /// Which reads of a view are promised: those at the last sequence of its version, and those at the

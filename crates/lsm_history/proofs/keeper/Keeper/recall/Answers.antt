@@ -14,4 +14,4 @@ load-requires g c =
     let i = c.self.invariant in
     let j = c.join_seat.ensures in
     let is = j.2 ∙ ap (λ x. (asking x.0 c.memory.inside.seat.me.0, x.1)) i.3 in
-    (j.0 ∙ (i.2 ∙ sym i.1), i.0, compares_as _ _ _ c.self.inside.seat.me.0.seen.entries c.memory.inside.seat.me.0 (λ n. n) 0 is)
+    (j.0 ∙ (i.2 ∙ sym i.1), i.0, compares_as _ _ _ c.self.inside.seat.me.0.seen c.memory.inside.seat.me.0 (λ n. n) 0 is)

@@ -23,7 +23,7 @@ pub returns-clause-in_order : goal.returns-clause-in_order
 returns-clause-in_order g c honest =
     let v : Levels = c.version-version.result.now in
     let same : v ≡ c.args.self.now.slots.version = c.version-version.ensures.version ∙ ap (λ (x : Held). x.slots.version) c.self.view_is in
-    let apart : AreDistinct (numbers_in v) = subst (λ (x : Levels). AreDistinct (numbers_in x)) (sym c.version-version.ensures.version) ((c.self.invariant.journaled).1).own.numbers in
+    let apart : AreDistinct (numbers_in v) = subst (λ (x : Levels). AreDistinct (numbers_in x)) (sym c.version-version.ensures.version) ((c.self.invariant.0.journaled).1).own.numbers in
     ordered c.planned_inputs_stand_in_order.ensures.order c.planned_inputs_stand_in_order.ensures.single c.args.self.now v c.args.plan c.of.result same (c.last.ensures.sound honest) c.last.ensures.order apart
     (c.requires.closed honest) record {
       level = ap (λ (w : Work). w.level) c.of.ensures ∙ (c.from-level.ensures ∙ c.level-2.ensures.level);

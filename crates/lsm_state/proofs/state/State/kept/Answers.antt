@@ -9,7 +9,7 @@ use Rattle.lsm_state.proofs.state.State.kept.Goals as goal
 
 pub returns-clause-numbers : goal.returns-clause-numbers
 returns-clause-numbers g c n =
-    let h : Held = record { options = c.self.inside.options; slots = c.self.inside.slots; snapshots = c.self.inside.snapshots; next = c.self.inside.next; next_ticket = c.self.inside.next_ticket; live = c.self.inside.live; journal = c.self.inside.journal; halted = c.self.inside.halted; pinners = c.self.inside.pinners.items; history = c.self.inside.keeper } in
+    let h : Held = record { options = c.self.inside.options; slots = c.self.inside.slots; snapshots = c.self.inside.snapshots; next = c.self.inside.next; next_ticket = c.self.inside.next_ticket; live = c.self.inside.live; journal = c.self.inside.journal; halted = c.self.inside.halted; pinners = c.self.inside.pinners.items; history = c.self.inside.keeper.entries } in
     let pushed : c.push_drawn.new.numbers.items ≡ numbers_held h.slots.epochs ++ drawn_numbers h.live =
     c.in_ok-push_drawn.ensures.ok ∙ ap (λ l. l ++ drawn_numbers h.live) (c.in_ok-push_numbers.ensures ∙ ap (λ l. l ++ numbers_held h.slots.epochs) c.new-numbers.ensures.items) in
     let all = c.in_ok-kept.ensures.all n in

@@ -31,9 +31,11 @@ invariant_of-state g c =
     let next : c.state.inside.next ≡ s.next = ap (λ (x : Held). x.next) c.state.view_is in
     let at : c.version-version.result.now ≡ v = c.version-version.ensures.version ∙ ap (λ (x : Held). x.slots.version) c.state.view_is in
     let recorded : IsRecorded 0 j v n = subst (λ (w : Levels). IsRecorded 0 j w n) at c.in_ok-roll_over.ensures.recorded in
-    let below : (m : ℕ) → Has (numbers_in v) m → m < n = λ m k. (let lt = found_below _ _ s.journal v f.0 s.next _ _ f.1 m k in omega arith) in
-    subst (λ (x : Held). IsLawfulState g.S.Shelf.honest g.N.Boarded.board (record x { journal = j; next = n; halted = false })) (sym (c.state.view_is ∙ c.in_ok-state.ensures.opened))
-    (lawful_opened g.S.Shelf.honest g.N.Boarded.board o c.args.board.0 c.args.board.1.items v j n _ 0 c.requires.fits c.requires.board f.1.loaded.sound recorded (λ e. refl) below)
+    let below : (m : ℕ) → Has (numbers_in v) m → m < n = λ m k. (let lt = found_below _ _ s.journal v f.0 s.next _ _ f.1 m k in omega arith) in (
+      subst (λ (x : Held). IsLawfulState g.S.Shelf.honest g.N.Boarded.board (record x { journal = j; next = n; halted = false })) (sym (c.state.view_is ∙ c.in_ok-state.ensures.opened))
+          (lawful_opened g.S.Shelf.honest g.N.Boarded.board o c.args.board.0 c.args.board.1.items v j n _ 0 c.requires.fits c.requires.board f.1.loaded.sound recorded (λ e. refl) below),
+      c.state.invariant.1,
+    )
 
 pub returns-then-number-clause-refused : goal.returns-then-number-clause-refused
 returns-then-number-clause-refused g c =

@@ -23,17 +23,17 @@ use Rattle.lsm_state.proofs.state.State.put_batch.Goals as goal
 
 pub invariant_of-self : goal.invariant_of-self
 invariant_of-self g c =
-    let h : Held = record { options = c.self.inside.options; slots = c.self.inside.slots; snapshots = c.self.inside.snapshots; next = c.self.inside.next; next_ticket = c.self.inside.next_ticket; live = c.self.inside.live; journal = c.self.inside.journal; halted = c.self.inside.halted; pinners = c.self.inside.pinners.items; history = c.self.inside.keeper } in
+    let h : Held = record { options = c.self.inside.options; slots = c.self.inside.slots; snapshots = c.self.inside.snapshots; next = c.self.inside.next; next_ticket = c.self.inside.next_ticket; live = c.self.inside.live; journal = c.self.inside.journal; halted = c.self.inside.halted; pinners = c.self.inside.pinners.items; history = c.self.inside.keeper.entries } in
     let going : h.halted ≡ false = ap (λ (x : Held). x.halted) c.self.view_is ∙ c.requires.welcome.takes.0 in
     let more : h.next ≤ c.self.inside.next + 1 = omega arith in
-    lawful_spent g.S.Shelf.honest g.N.Boarded.board h (c.self.inside.next + 1) c.self.inside.halted c.self.invariant going more
+    (lawful_spent g.S.Shelf.honest g.N.Boarded.board h (c.self.inside.next + 1) c.self.inside.halted c.self.invariant.0 going more, c.self.invariant.1)
 
 pub invariant_of-self-2 : goal.invariant_of-self-2
 invariant_of-self-2 g c =
-    let h : Held = record { options = c.self.inside.options; slots = c.self.inside.slots; snapshots = c.self.inside.snapshots; next = c.self.inside.next; next_ticket = c.self.inside.next_ticket; live = c.self.inside.live; journal = c.self.inside.journal; halted = c.self.inside.halted; pinners = c.self.inside.pinners.items; history = c.self.inside.keeper } in
+    let h : Held = record { options = c.self.inside.options; slots = c.self.inside.slots; snapshots = c.self.inside.snapshots; next = c.self.inside.next; next_ticket = c.self.inside.next_ticket; live = c.self.inside.live; journal = c.self.inside.journal; halted = c.self.inside.halted; pinners = c.self.inside.pinners.items; history = c.self.inside.keeper.entries } in
     let going : h.halted ≡ false = ap (λ (x : Held). x.halted) c.self.view_is ∙ c.requires.welcome.takes.0 in
     let more : h.next ≤ c.self.inside.next + 1 = omega arith in
-    lawful_spent g.S.Shelf.honest g.N.Boarded.board h (c.self.inside.next + 1) c.self.inside.halted c.self.invariant going more
+    (lawful_spent g.S.Shelf.honest g.N.Boarded.board h (c.self.inside.next + 1) c.self.inside.halted c.self.invariant.0 going more, c.self.invariant.1)
 
 pub returns-in_err-image-clause-refused : goal.returns-in_err-image-clause-refused
 returns-in_err-image-clause-refused g c =
@@ -69,7 +69,7 @@ returns-in_err-table-clause-refused g c =
     let bytes = built_as h ws c.sizes.result c.last-first.result c.in_ok-image.image.bytes sizes last c.in_ok-image.ensures.bytes in
     let number = ap (λ (x : Held). x.next) c.self.view_is in
     let next = next_of c.self.inside.next h.next number in
-    let y : Held = record { options = c.self.inside.options; slots = c.self.inside.slots; snapshots = c.self.inside.snapshots; next = c.self.inside.next + 1; next_ticket = c.self.inside.next_ticket; live = c.self.inside.live; journal = c.self.inside.journal; halted = c.self.inside.halted; pinners = c.self.inside.pinners.items; history = c.self.inside.keeper } in
+    let y : Held = record { options = c.self.inside.options; slots = c.self.inside.slots; snapshots = c.self.inside.snapshots; next = c.self.inside.next + 1; next_ticket = c.self.inside.next_ticket; live = c.self.inside.live; journal = c.self.inside.journal; halted = c.self.inside.halted; pinners = c.self.inside.pinners.items; history = c.self.inside.keeper.entries } in
     let rest : y ≡ with_number h y.slots = ap (λ (n : ℕ). record y { next = n }) next ∙ ap (λ (x : Held). record x { slots = y.slots; next = suc h.next }) c.self.view_is in
     let fault : ShelfFault = c.in_err-table.field-0.0 in
     let put = subst (λ (n : ℕ). IsPutRefusal n c.in_ok-image.image.bytes fault was is) number c.in_err-table.ensures.refused in

@@ -73,7 +73,7 @@ change_version-requires-clause-agrees g c κs within fair =
     let ticket : c.ticket-ticket.result ≡ d.work.ticket = c.ticket-ticket.ensures.ticket ∙ ap (λ (w : Work). w.ticket) c.job.ensures.job in
     let es : List Entry = c.empty-nothing.result.entries in
     subst (λ (n : ℕ). Agrees (plain_after h x (Some n)) (es ++ h.history)) (sym ticket)
-    (agrees_installed c.changed_files.ensures g.S.Shelf.honest g.N.Boarded.board h d x b.0 es c.options-options.ensures.law seven b.1 c.job.ensures.finished i c.empty-nothing.ensures fair)
+    (agrees_installed c.changed_files.ensures g.S.Shelf.honest g.N.Boarded.board h d x b.0 es c.options-options.ensures.law seven b.1 c.job.ensures.finished i c.empty-nothing.ensures.entries fair)
 
 pub returns-clause-installed : goal.returns-clause-installed
 returns-clause-installed g c =
@@ -88,14 +88,14 @@ returns-clause-installed g c =
     let new : Held = c.change_version.new.self in (
       x,
       i,
-      subst (λ (es : List Entry). ChangesVersion h new x (Some d.work.ticket) es was is) c.empty-nothing.ensures
+      subst (λ (es : List Entry). ChangesVersion h new x (Some d.work.ticket) es was is) c.empty-nothing.ensures.entries
           (subst (λ (n : ℕ). ChangesVersion h new x (Some n) c.empty-nothing.result.entries was is) ticket c.in_ok-change_version.ensures.ok),
     )
 
 pub returns-clause-history : goal.returns-clause-history
 returns-clause-history g c =
     let h : Held = c.args.self.now in
-    (ap (λ (x : Held). x.history) (c.in_ok-change_version.ensures.ok).rest) ∙ ap (λ (es : List Entry). es ++ h.history) c.empty-nothing.ensures
+    (ap (λ (x : Held). x.history) (c.in_ok-change_version.ensures.ok).rest) ∙ ap (λ (es : List Entry). es ++ h.history) c.empty-nothing.ensures.entries
 
 pub returns-clause-answers : goal.returns-clause-answers
 returns-clause-answers g c fair =
