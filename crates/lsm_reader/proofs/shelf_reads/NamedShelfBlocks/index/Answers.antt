@@ -6,7 +6,7 @@ use Rattle.std.specs.Arc.{arc_value}
 use Rattle.lsm_block.specs.Held.{HeldBlock}
 use Rattle.lsm_reader.specs.Blocks.{Reads}
 use Rattle.lsm_reader.proofs.OpeningLaws.{opening_first, opening_footer, opening_then}
-use Rattle.lsm_reader.proofs.opening.index_by.Goals as goal
+use Rattle.lsm_reader.proofs.shelf_reads.NamedShelfBlocks.index.Goals as goal
 
 pub returns-in_err-bytes-clause-exact : goal.returns-in_err-bytes-clause-exact
 returns-in_err-bytes-clause-exact g c honest =

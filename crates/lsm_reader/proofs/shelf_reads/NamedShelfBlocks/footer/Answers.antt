@@ -1,6 +1,6 @@
 use Rattle.std.proofs.Common.{◌≤◌, arith}
 use Rattle.lsm_reader.proofs.BlocksLaws.{last_short, last_long_enough, footer_is}
-use Rattle.lsm_reader.proofs.direct.DirectBlocks.footer.Goals as goal
+use Rattle.lsm_reader.proofs.shelf_reads.NamedShelfBlocks.footer.Goals as goal
 
 pub returns-then-size-clause-exact : goal.returns-then-size-clause-exact
 returns-then-size-clause-exact g c honest = last_short (g.S.Receipt.TableReceipt.image c.args.receipt.now) (omega (arith, c.size-size.ensures.size, c.if-size.true))
