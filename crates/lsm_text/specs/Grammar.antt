@@ -87,6 +87,9 @@ check = command (codes "check") (folder ∷ progress ∷ [])
 unfoldable pub list : App
 list = command (codes "list") (folder ∷ text ∷ [])
 
+unfoldable pub levels : App
+levels = command (codes "levels") (folder ∷ text ∷ flag (codes "files") ∷ flag (codes "svg") ∷ [])
+
 unfoldable pub get : App
 get = command (codes "get") (folder ∷ key ∷ text ∷ flag (codes "raw") ∷ flag (codes "exists") ∷ [])
 
@@ -134,7 +137,8 @@ with_inputs =
 
 -- with those that only read a folder
 unfoldable pub with_looks : App
-with_looks = with_subcommand (with_subcommand (with_subcommand (with_subcommand with_inputs check.top) list.top) get.top) scan.top
+with_looks =
+    with_subcommand (with_subcommand (with_subcommand (with_subcommand (with_subcommand with_inputs check.top) list.top) levels.top) get.top) scan.top
 
 -- with those that write keys into a folder
 unfoldable pub with_writes : App

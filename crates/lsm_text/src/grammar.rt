@@ -10,15 +10,15 @@ ghost use Rattle.clap.specs.Words.{with_rule, with_subcommand};
 ghost use Rattle.clap.specs.declared.error.ErrorKind.TheVariants.{OutOfMemory};
 ghost use Rattle.lsm_text.specs.Grammar.{IsShaped, bare, begin, beside_log, check, clean, compact};
 ghost use Rattle.lsm_text.specs.Grammar.{delete, dump, file, flag, folder, from_line, get, help};
-ghost use Rattle.lsm_text.specs.Grammar.{ingest, key, limit, list, load, lsm, make_table};
-ghost use Rattle.lsm_text.specs.Grammar.{manifest, progress, put};
+ghost use Rattle.lsm_text.specs.Grammar.{ingest, key, levels, limit, list, load, lsm};
+ghost use Rattle.lsm_text.specs.Grammar.{make_table, manifest, progress, put};
 ghost use Rattle.lsm_text.specs.Grammar.{scan, script, shell, text, topic, valued, with_inputs};
 ghost use Rattle.lsm_text.specs.Grammar.{with_looks, with_writes, word, workers};
 ghost use Rattle.lsm_text.specs.Requests.{faults_in, found_in};
 
 use crate::pages::{
-    CHECK, CLEAN, COMPACT, DELETE, DUMP, GET, HELP, INGEST, LIST, LOAD, MAKE_TABLE, MANIFEST,
-    OVERVIEW, PUT, Page, SCAN, SCRIPT, SHELL, VERSION,
+    CHECK, CLEAN, COMPACT, DELETE, DUMP, GET, HELP, INGEST, LEVELS, LIST, LOAD, MAKE_TABLE,
+    MANIFEST, OVERVIEW, PUT, Page, SCAN, SCRIPT, SHELL, VERSION,
 };
 use clap::builder::ValueParser;
 use clap::{Arg, ArgAction, ArgMatches, Command, Error};
@@ -236,6 +236,18 @@ fn list<'a>(alloc: Global) -> Made<'a>
     also(list, text(alloc))
 }
 
+/// The command that shows a folder's levels.
+fn levels<'a>(alloc: Global) -> Made<'a>
+    ensures { IsShaped result levels }
+{
+    let files = flag(alloc, "files", "Print a line a file too");
+    let svg = flag(alloc, "svg", "Draw the levels, as an SVG file");
+    let levels = also(titled(alloc, LEVELS), folder(alloc));
+    let levels = also(levels, text(alloc));
+    let levels = also(levels, files);
+    also(levels, svg)
+}
+
 /// The command that reads a key.
 fn get<'a>(alloc: Global) -> Made<'a>
     ensures { IsShaped result get }
@@ -402,6 +414,7 @@ fn with_looks<'a>(alloc: Global) -> Made<'a>
 {
     let lsm = with(with_inputs(alloc), check(alloc));
     let lsm = with(lsm, list(alloc));
+    let lsm = with(lsm, levels(alloc));
     let lsm = with(lsm, get(alloc));
     with(lsm, scan(alloc))
 }

@@ -199,6 +199,36 @@ Exit status: 0 done, 1 refused, 2 bad command line.",
     example: "Example: lsm list db --text",
 };
 
+pub(crate) const LEVELS: Page = Page {
+    name: "levels",
+    usage: "lsm levels <DIR> [--text] [--files] [--svg]",
+    about: "Shows the levels of a folder, and what is due next",
+    text: "Reads the file CURRENT of the LevelDB folder DIR and the manifest that it names,
+and nothing else: no table is opened. So it answers also where tables are
+compressed, damaged or lost, and just as fast where they are huge. Nothing is
+written in DIR.
+
+Prints a line a level, 0 to 6: how many files and bytes it has by the manifest,
+and its score, which is how full it is: level 0 by its tables, of 4, and each
+other one by its bytes, of 10 MiB for level 1 and of ten times as much for each
+deeper one. From a score of 1 on a level is too large. Then it says which
+compaction is due next, or that none is. --files prints a line for each file
+too, with its smallest and its largest key, in hex, or as text with --text, `.`
+for no bytes.
+
+--svg draws the levels instead, as an SVG file on standard output: a row a level,
+and in it its files as bars over the range of all keys, with what the next
+compaction would take in another colour. It excludes --files.
+
+Other bytes than those of a manifest are refused by number and name, as in
+`refused 19 LogChecksum 0`.
+
+Exit status: 0 done, 1 refused, 2 bad command line.",
+    example: "Examples: lsm levels db
+          lsm levels db --files --text
+          lsm levels db --svg > levels.svg",
+};
+
 pub(crate) const GET: Page = Page {
     name: "get",
     usage: "lsm get <DIR> <KEY> [--text] [--raw] [--exists]",
@@ -490,6 +520,7 @@ fn usage(name: CommandName) -> &'static str {
         CommandName::Script => SCRIPT.usage,
         CommandName::Check => CHECK.usage,
         CommandName::List => LIST.usage,
+        CommandName::Levels => LEVELS.usage,
         CommandName::Get => GET.usage,
         CommandName::Scan => SCAN.usage,
         CommandName::Ingest => INGEST.usage,
