@@ -96,7 +96,8 @@ get = command (codes "get") (folder ∷ key ∷ text ∷ flag (codes "raw") ∷ 
 unfoldable pub scan : App
 scan =
     command (codes "scan")
-    (folder ∷ valued (codes "from") ∷ valued (codes "to") ∷ valued (codes "prefix") ∷ limit ∷ text ∷ flag (codes "keys") ∷ flag (codes "count") ∷ progress ∷ [])
+    (folder ∷ valued (codes "from") ∷ valued (codes "to") ∷ valued (codes "prefix") ∷ limit ∷ text ∷ flag (codes "keys") ∷ flag (codes "json")
+    ∷ flag (codes "count") ∷ progress ∷ [])
 
 unfoldable pub ingest : App
 ingest = command (codes "ingest") (folder ∷ word (codes "FILE") ∷ text ∷ begin ∷ beside_log ∷ [])

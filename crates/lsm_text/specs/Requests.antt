@@ -33,7 +33,7 @@ use Rattle.lsm_text.specs.declared.request.Request.{Request}
 use Rattle.lsm_text.specs.declared.request.Request.TheVariants.{Convert, Look, Levels, Write as WriteFolder, Load, Compact, Script, Shell}
 use Rattle.lsm_text.specs.declared.scan_options.ScanOptions.{ScanOptions}
 use Rattle.lsm_text.specs.declared.scan_output.ScanOutput.{ScanOutput}
-use Rattle.lsm_text.specs.declared.scan_output.ScanOutput.TheVariants.{Pairs, Keys, Count}
+use Rattle.lsm_text.specs.declared.scan_output.ScanOutput.TheVariants.{Pairs, Keys, Json, Count}
 use Rattle.lsm_text.specs.declared.writing_command.WritingCommand.{WritingCommand}
 use Rattle.lsm_text.specs.declared.writing_command.WritingCommand.TheVariants.{Ingest, WriteKey, Clean}
 
@@ -174,9 +174,13 @@ IsLimit (Some word) (Some n) = IsNumberWord 18446744073709551615 word n
 abbrev pub get_output_in : List Row → GetOutput
 get_output_in rows = if is_set (codes "exists") rows then Nothing else if is_set (codes "raw") rows then Raw else Line
 
--- `--count` rules over `--keys`
+-- `--count` rules over `--json`, and that over `--keys`
 abbrev pub scan_output_in : List Row → ScanOutput
-scan_output_in rows = if is_set (codes "count") rows then Count else if is_set (codes "keys") rows then Keys else Pairs
+scan_output_in rows =
+    if is_set (codes "count") rows then Count
+    else if is_set (codes "json") rows then Json
+    else if is_set (codes "keys") rows then Keys
+    else Pairs
 
 -- `--files` and `--svg` exclude one another
 abbrev pub levels_output_in : List Row → Option LevelsOutput

@@ -105,6 +105,9 @@ fn scan_output_in(found: &ArgMatches<'_>) -> ScanOutput
     if is_set(found, "count") {
         return ScanOutput::Count;
     }
+    if is_set(found, "json") {
+        return ScanOutput::Json;
+    }
     if is_set(found, "keys") {
         return ScanOutput::Keys;
     }

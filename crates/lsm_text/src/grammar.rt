@@ -278,6 +278,7 @@ fn scan<'a>(alloc: Global) -> Made<'a>
         "How each key begins that is printed",
     );
     let keys = flag(alloc, "keys", "Print the keys alone");
+    let json = flag(alloc, "json", "Print a JSON object a line");
     let count = flag(alloc, "count", "Print how many there are alone");
     let scan = also(titled(alloc, SCAN), folder(alloc));
     let scan = also(scan, from);
@@ -286,6 +287,7 @@ fn scan<'a>(alloc: Global) -> Made<'a>
     let scan = also(scan, limit(alloc));
     let scan = also(scan, text(alloc));
     let scan = also(scan, keys);
+    let scan = also(scan, json);
     let scan = also(scan, count);
     also(scan, progress(alloc))
 }

@@ -254,7 +254,7 @@ Exit status: 0 done, also where `absent` was printed, 1 refused, or absent with
 
 pub(crate) const SCAN: Page = Page {
     name: "scan",
-    usage: "lsm scan <DIR> [--from <KEY>] [--to <KEY>] [--prefix <KEY>] [--limit <N>] [--text] [--keys] [--count] [--progress]",
+    usage: "lsm scan <DIR> [--from <KEY>] [--to <KEY>] [--prefix <KEY>] [--limit <N>] [--text] [--keys] [--json] [--count] [--progress]",
     about: "Prints the live keys of a folder and their values",
     text: "Prints the live keys of the LevelDB folder DIR with their values, a line
 `KEY=VALUE` each, ascending by the bytes of the keys, from the key of --from to
@@ -265,7 +265,12 @@ limits.
 
 --limit N prints the first N of these lines at most, N a decimal number up to
 18446744073709551615. --keys prints lines `KEY`, without values. --count prints
-one line, how many lines there would be, and nothing else; it rules over --keys.
+one line, how many lines there would be, and nothing else. --json prints a JSON
+object a line, `{\"key\":\"..\",\"value\":\"..\"}`, of the characters of which the
+bytes are UTF-8; bytes that are no UTF-8 stand in base64 behind another name, as
+in `{\"key\":\"apple\",\"value_base64\":\"/w==\"}`. Of these three --count rules over
+--json, and --json over --keys; with --json nothing is in hex, and --text
+says only how KEY is spelled on the command line.
 
 Every table is verified before the first line. Lines are printed as the folder
 is read, in memory that does not grow with it; what is before --from is read
@@ -279,6 +284,7 @@ Exit status: 0 where all was printed, 1 at a fault: lines that were printed
 before it stand, 2 bad command line.",
     example: "Examples: lsm scan db --from 61 --to 6dff
           lsm scan db --text --prefix user: --limit 10
+          lsm scan db --json > pairs.jsonl
           lsm scan db --count --progress",
 };
 
