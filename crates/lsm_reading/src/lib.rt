@@ -18,6 +18,7 @@ mod performing;
 // A command each.
 mod answering;
 mod checking;
+mod json_lines;
 mod listing;
 mod scanning;
 
