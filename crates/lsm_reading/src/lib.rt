@@ -27,6 +27,10 @@ mod counting;
 mod notes;
 mod progress;
 
+// What holds of what is printed.
+mod laws;
+
 pub use inquiry::Inquiry;
+pub use laws::one_object;
 pub use opened::{Opened, open};
 pub use program::{look, run_look};
