@@ -1,7 +1,8 @@
 -- Pairs as JSON objects.
 use Rattle.std.proofs.Common.{◌≡◌, ℕ, ◌+◌, ◌≤◌, Bool, true, false, List, [], ◌∷◌, ◌++◌, Option, Some, Result, Ok, refl, sym, ap, ◌∙◌, arith, append_assoc, length, length-append, codes, subst}
 use Rattle.std.specs.Prelude.{if◌then◌else◌}
-use Rattle.std.specs.Str.{is_utf8}
+use Rattle.std.specs.Str.{IsUtf8, is_utf8}
+use Rattle.std.proofs.lemmas.Str.{IsUtf8-from_is_utf8, is_utf8-from_IsUtf8}
 use Rattle.std.proofs.lemmas.List.{append_cancel_right}
 use Rattle.base64.specs.Engines.{standard}
 use Rattle.base64.specs.GeneralPurpose.{IsBytes, IsConsistent, decode_of, encode_of}
@@ -26,6 +27,18 @@ member_tokens_of false name other bytes coded more = refl
 pub member_tokens : (name bytes : List ℕ) (more : Members)
     → members_tokens (bytes_member name bytes more) ≡ bytes_tokens name (name ++ codes "_base64") bytes ++ members_tokens more
 member_tokens name bytes more = member_tokens_of (is_utf8 bytes) name (name ++ codes "_base64") bytes (encode_of standard bytes) more
+
+pub plain_tokens : (name other bytes : List ℕ) → IsUtf8 bytes → bytes_tokens name other bytes ≡ Token.key name ∷ Token.string bytes ∷ []
+plain_tokens name other bytes utf8 = let test : is_utf8 bytes ≡ true = is_utf8-from_IsUtf8 bytes utf8 in rw test refl
+
+by_test : (b : Bool) → (b ≡ true → ⊥) → b ≡ false
+by_test true no = absurd (no refl)
+by_test false no = refl
+
+pub coded_tokens : (name other bytes : List ℕ) → (IsUtf8 bytes → ⊥)
+    → bytes_tokens name other bytes ≡ Token.key other ∷ Token.string (encode_of standard bytes) ∷ []
+coded_tokens name other bytes none =
+    let test : is_utf8 bytes ≡ false = by_test (is_utf8 bytes) (λ e. none (IsUtf8-from_is_utf8 bytes e)) in rw test refl
 
 -- the tokens that the code writes are those of the object
 pub written : (user value : List ℕ)

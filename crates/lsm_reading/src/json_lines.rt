@@ -1,11 +1,22 @@
 //! Pairs as JSON objects, a line each.
 
-ghost use Rattle.std.specs.Prelude.{◌≡◌, ◌++◌, IfOk, OnOk};
+ghost use Rattle.std.specs.Prelude.{◌≡◌, ◌++◌, ◌∷◌, [], IfOk, OnOk};
+ghost use Rattle.json.specs.Token.{key, string};
 ghost use Rattle.lsm_reading.specs.JsonLines.{bytes_tokens, json_line};
 
 use base64::engine::general_purpose::STANDARD;
 use json::Writer;
 use std::alloc::{AllocError, Global};
+
+/// Writes a member of an object: a name, and a string behind it.
+fn write_text(writer: &mut Writer, name: &str, text: &str) -> Result<(), AllocError>
+    ensures written { OnOk result
+        (writer.new.tokens ≡ writer.old.tokens ++ key name.now ∷ string text.now ∷ []) }
+    ensures before { writer.new.before ≡ writer.old.before }
+{
+    writer.key(name)?;
+    writer.string(text)
+}
 
 /// Writes bytes as a member of an object: the characters that they are in UTF-8, or, where they are
 /// none, their base64 under the other name.
@@ -21,15 +32,8 @@ fn write_member(
     ensures before { writer.new.before ≡ writer.old.before }
 {
     match str::from_utf8(bytes) {
-        Ok(text) => {
-            writer.key(name)?;
-            writer.string(text)
-        }
-        Err(_) => {
-            let text = STANDARD.encode(alloc, bytes)?;
-            writer.key(other)?;
-            writer.string(text.as_str())
-        }
+        Ok(text) => write_text(writer, name, text),
+        Err(_) => write_text(writer, other, STANDARD.encode(alloc, bytes)?.as_str()),
     }
 }
 
