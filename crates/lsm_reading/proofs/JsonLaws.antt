@@ -1,6 +1,6 @@
 -- Pairs as JSON objects.
-use Rattle.std.proofs.Common.{◌≡◌, ℕ, ◌+◌, ◌≤◌, Bool, true, false, List, [], ◌∷◌, ◌++◌, Option, Some, Result, Ok, refl, sym, ap, ◌∙◌, arith, append_assoc, length, length-append, codes, subst}
-use Rattle.std.specs.Prelude.{if◌then◌else◌}
+use Rattle.std.proofs.Common.{◌≡◌, ℕ, ◌+◌, ◌≤◌, Bool, true, false, List, [], ◌∷◌, ◌++◌, Option, Some, Result, Ok, Err, refl, sym, ap, ◌∙◌, arith, append_assoc, length, length-append, codes, subst}
+use Rattle.std.specs.Prelude.{if◌then◌else◌, OnOk}
 use Rattle.std.specs.Str.{IsUtf8, is_utf8}
 use Rattle.std.proofs.lemmas.Str.{IsUtf8-from_is_utf8, is_utf8-from_IsUtf8}
 use Rattle.std.proofs.lemmas.List.{append_cancel_right}
@@ -20,7 +20,7 @@ use Rattle.lsm_reading.specs.JsonLines.{bytes_member, bytes_tokens, json_line, p
 -- a member's tokens, by whether the bytes are UTF-8
 member_tokens_of : (plain : Bool) (name other : List ℕ) (bytes coded : List ℕ) (more : Members)
     → members_tokens (if plain then member name (string bytes) more else member other (string coded) more)
-      ≡ (if plain then Token.key name ∷ Token.string bytes ∷ [] else Token.key other ∷ Token.string coded ∷ []) ++ members_tokens more
+    ≡ (if plain then Token.key name ∷ Token.string bytes ∷ [] else Token.key other ∷ Token.string coded ∷ []) ++ members_tokens more
 member_tokens_of true name other bytes coded more = refl
 member_tokens_of false name other bytes coded more = refl
 
@@ -32,23 +32,49 @@ pub plain_tokens : (name other bytes : List ℕ) → IsUtf8 bytes → bytes_toke
 plain_tokens name other bytes utf8 = let test : is_utf8 bytes ≡ true = is_utf8-from_IsUtf8 bytes utf8 in rw test refl
 
 by_test : (b : Bool) → (b ≡ true → ⊥) → b ≡ false
-by_test true no = absurd (no refl)
-by_test false no = refl
+by_test true never = absurd (never refl)
+by_test false never = refl
 
 pub coded_tokens : (name other bytes : List ℕ) → (IsUtf8 bytes → ⊥)
     → bytes_tokens name other bytes ≡ Token.key other ∷ Token.string (encode_of standard bytes) ∷ []
 coded_tokens name other bytes none =
     let test : is_utf8 bytes ≡ false = by_test (is_utf8 bytes) (λ e. none (IsUtf8-from_is_utf8 bytes e)) in rw test refl
 
+-- a member that was written
+pub plain_written : {T E : Type 0} (r : Result T E) (new old : List Token) (name other bytes text : List ℕ) → IsUtf8 bytes → text ≡ bytes
+    → OnOk r (new ≡ old ++ (Token.key name ∷ Token.string text ∷ [])) → OnOk r (new ≡ old ++ bytes_tokens name other bytes)
+plain_written (Ok x) new old name other bytes text utf8 same is =
+    is ∙ ap (λ (b : List ℕ). old ++ (Token.key name ∷ Token.string b ∷ [])) same ∙ ap (λ (ts : List Token). old ++ ts) (sym (plain_tokens name other bytes utf8))
+plain_written (Err e) new old name other bytes text utf8 same is = tt
+
+pub coded_written : {T E : Type 0} (r : Result T E) (new old : List Token) (name other bytes text : List ℕ) → (IsUtf8 bytes → ⊥)
+    → text ≡ encode_of standard bytes → OnOk r (new ≡ old ++ (Token.key other ∷ Token.string text ∷ []))
+    → OnOk r (new ≡ old ++ bytes_tokens name other bytes)
+coded_written (Ok x) new old name other bytes text none same is =
+    is ∙ ap (λ (b : List ℕ). old ++ (Token.key other ∷ Token.string b ∷ [])) same ∙ ap (λ (ts : List Token). old ++ ts) (sym (coded_tokens name other bytes none))
+coded_written (Err e) new old name other bytes text none same is = tt
+
 -- the tokens that the code writes are those of the object
-pub written : (user value : List ℕ)
-    → ((Token.begin_object ∷ []) ++ bytes_tokens (codes "key") (codes "key_base64") user) ++ bytes_tokens (codes "value") (codes "value_base64") value ++ Token.end_object ∷ []
-      ≡ json_tokens (pair_object (user, value))
-written user value =
+
+one_list : (begin end : Token) (xs ys : List Token)
+    → ((([] ++ (begin ∷ [])) ++ xs) ++ ys) ++ (end ∷ []) ≡ begin ∷ (xs ++ (ys ++ (end ∷ [])))
+one_list begin end xs ys = append_assoc ((begin ∷ []) ++ xs) ys (end ∷ []) ∙ append_assoc (begin ∷ []) xs (ys ++ (end ∷ []))
+
+object_tokens : (user value : List ℕ)
+    → json_tokens (pair_object (user, value))
+    ≡ Token.begin_object ∷ (bytes_tokens (codes "key") (codes "key_base64") user ++ (bytes_tokens (codes "value") (codes "value_base64") value ++ (Token.end_object ∷ [])))
+object_tokens user value =
     let inner = member_tokens (codes "value") value no_members in
     let outer = member_tokens (codes "key") user (bytes_member (codes "value") value no_members) in
-    ap (λ (ts : List Token). Token.begin_object ∷ ts)
-    (sym (outer ∙ ap (λ (ts : List Token). bytes_tokens (codes "key") (codes "key_base64") user ++ ts) inner))
+    ap (λ (ts : List Token). Token.begin_object ∷ ts) (outer ∙ ap (λ (ts : List Token). bytes_tokens (codes "key") (codes "key_base64") user ++ ts) inner)
+
+pub written : (user value : List ℕ) (t0 t1 t2 t3 t4 : List Token) → t0 ≡ [] → t1 ≡ t0 ++ (Token.begin_object ∷ [])
+    → t2 ≡ t1 ++ bytes_tokens (codes "key") (codes "key_base64") user → t3 ≡ t2 ++ bytes_tokens (codes "value") (codes "value_base64") value
+    → t4 ≡ t3 ++ (Token.end_object ∷ []) → t4 ≡ json_tokens (pair_object (user, value))
+written user value t0 t1 t2 t3 t4 e0 e1 e2 e3 e4 =
+    rw (e4, e3, e2, e1, e0)
+    (one_list Token.begin_object Token.end_object (bytes_tokens (codes "key") (codes "key_base64") user) (bytes_tokens (codes "value") (codes "value_base64") value)
+    ∙ sym (object_tokens user value))
 
 pub line_written : (before user value : List ℕ) (tokens : List Token) → tokens ≡ json_tokens (pair_object (user, value))
     → (before ++ print tokens) ++ (10 ∷ []) ≡ before ++ json_line (user, value)
@@ -59,8 +85,8 @@ line_written before user value tokens is = rw is (append_assoc before (print (js
 
 same_encoding : (b c : List ℕ) → IsBytes b → IsBytes c → encode_of standard b ≡ encode_of standard c → b ≡ c
 same_encoding b c b_bytes c_bytes e =
-    let one = decode_of-encode_of standard b tt b_bytes in
-    let two = decode_of-encode_of standard c tt c_bytes in
+    let one = decode_of-encode_of standard b refl b_bytes in
+    let two = decode_of-encode_of standard c refl c_bytes in
     let same : Ok b ≡ Ok c = sym one ∙ ap (decode_of standard) e ∙ two in cc
 
 same_strings : (name other : List ℕ) (b c : List ℕ) (m n : Members) → member name (string b) m ≡ member other (string c) n → (b ≡ c) × (m ≡ n)
@@ -74,7 +100,7 @@ longer name e = let l : length (codes "_base64") ≡ 7 = refl in omega (arith, a
 
 same_members : (name : List ℕ) (s t : Bool) (b c : List ℕ) (m n : Members) → IsBytes b → IsBytes c
     → (if s then member name (string b) m else member (name ++ codes "_base64") (string (encode_of standard b)) m)
-      ≡ (if t then member name (string c) n else member (name ++ codes "_base64") (string (encode_of standard c)) n)
+    ≡ (if t then member name (string c) n else member (name ++ codes "_base64") (string (encode_of standard c)) n)
     → (b ≡ c) × (m ≡ n)
 same_members name true true b c m n b_bytes c_bytes e = same_strings name name b c m n e
 same_members name true false b c m n b_bytes c_bytes e =
@@ -106,7 +132,7 @@ second_shallow false value coded = omega arith
 
 second_is : (t : Bool) (value coded : List ℕ)
     → (if t then member (codes "value") (string value) no_members else member (codes "value" ++ codes "_base64") (string coded) no_members)
-      ≡ second t value coded
+    ≡ second t value coded
 second_is true value coded = refl
 second_is false value coded = refl
 

@@ -207,19 +207,24 @@ pub(crate) const LEVELS: Page = Page {
     text: "Reads the file CURRENT of the LevelDB folder DIR and the manifest that it names,
 and nothing else: no table is opened. So it answers also where tables are
 compressed, damaged or lost, and just as fast where they are huge. Nothing is
-written in DIR.
+written in DIR. A line on standard error names each write-ahead log (`N.log`)
+that is not read.
 
-Prints a line a level, 0 to 6: how many files and bytes it has by the manifest,
-and its score, which is how full it is: level 0 by its tables, of 4, and each
-other one by its bytes, of 10 MiB for level 1 and of ten times as much for each
-deeper one. From a score of 1 on a level is too large. Then it says which
-compaction is due next, or that none is. --files prints a line for each file
-too, with its smallest and its largest key, in hex, or as text with --text, `.`
-for no bytes.
+Prints a line a level, `level L files F bytes B score S` for the levels 0 to 6,
+by what the manifest says. The score is how full a level is, in hundredths: of
+level 0 its files over 4, and of the levels 1 to 5 their bytes over 10 MiB for
+level 1, and over ten times as many for each deeper one. From 1.00 on a level is
+too large. The last two lines are `last S rest R`, the last sequence and how many
+bytes at the manifest's end hold no whole record, and `due level L inputs N N ..`,
+the tables that the next compaction takes, or `due none`.
 
---svg draws the levels instead, as an SVG file on standard output: a row a level,
-and in it its files as bars over the range of all keys, with what the next
-compaction would take in another colour. It excludes --files.
+--files prints a line for each file too, `LEVEL NUMBER SIZE SMALLEST LARGEST` as
+`list` does: keys are `KEY@SEQ+` for a value and `KEY@SEQ-` for a deletion, and
+KEY is hex, or text with --text, `.` for no bytes.
+
+--svg draws the levels instead, as an SVG file on standard output: rows of bars,
+one bar a file over the range of its keys, as wide as the file has bytes, and in
+another colour where the next compaction takes it. It excludes --files.
 
 Other bytes than those of a manifest are refused by number and name, as in
 `refused 19 LogChecksum 0`.

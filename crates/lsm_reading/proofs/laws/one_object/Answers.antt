@@ -7,7 +7,7 @@ use Rattle.lsm_reading.proofs.laws.one_object.Goals as goal
 
 pub returns-clause-value : goal.returns-clause-value
 unfolding json_line
-returns-clause-value c = λ p. (print (json_tokens (pair_object p)), (refl, one_value p))
+returns-clause-value c = λ p. (print (json_tokens (pair_object p)), refl, one_value p)
 
 pub returns-clause-only : goal.returns-clause-only
 returns-clause-only c = one_pair
