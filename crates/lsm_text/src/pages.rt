@@ -512,6 +512,34 @@ line.",
     example: "Example: printf 'put apple red\\nget apple\\n' | lsm shell db --text",
 };
 
+pub(crate) const BENCH: Page = Page {
+    name: "bench",
+    usage: "lsm bench <DIR> [--benchmarks <LIST>] [--num <N>] [--value-size <N>] [--workers <N>]",
+    about: "Measures writes, reads and compactions in a fresh folder",
+    text: "Runs benchmarks in the folder DIR, which has to be there and to hold no database,
+and prints a line for each, in the form and by the names of LevelDB's `db_bench`,
+so that the one can be put beside the other.
+
+  fillbatch          N pairs in the order of their keys, in batches
+  fillrandom         N pairs of random keys
+  overwrite          the same over what is there
+  readrandom         N reads of random keys
+  readwhilewriting   the same, while another thread writes
+  readseq            a scan of all
+  compact            all that is due is compacted
+
+--benchmarks names those that run, one after another, joined by commas; all of
+them in this order if it is not said. --num is N, 1000000 if it is not said, and
+--value-size how many bytes a value has, 100; a key has 16. --workers is how many
+threads compact beside, 0 to 8; 2 if it is not said.
+
+Limits: 10000000 pairs, 65536 bytes of a value.
+
+Exit status: 0 done, 1 refused, 2 bad command line.",
+    example: "Examples: mkdir fresh && lsm bench fresh
+          lsm bench fresh --benchmarks fillrandom,readrandom --num 100000",
+};
+
 pub(crate) const HELP: Page = Page {
     name: "help",
     usage: "lsm help [COMMAND]",
@@ -542,6 +570,7 @@ fn usage(name: CommandName) -> &'static str {
         CommandName::Compact => COMPACT.usage,
         CommandName::Clean => CLEAN.usage,
         CommandName::Shell => SHELL.usage,
+        CommandName::Bench => BENCH.usage,
         CommandName::Help => HELP.usage,
     }
 }
