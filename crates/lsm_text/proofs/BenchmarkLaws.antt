@@ -1,6 +1,8 @@
 -- Names of benchmarks, joined by commas.
-use Rattle.std.proofs.Common.{◌≡◌, ◌≢◌, ℕ, List, [], ◌∷◌, ◌++◌, map, Option, Some, None, refl, sym, ap, ◌∙◌, subst, append_assoc, append-nil}
+use Rattle.std.proofs.Common.{◌≡◌, ◌≢◌, ℕ, Bool, true, false, List, [], ◌∷◌, ◌++◌, map, Option, Some, None, refl, sym, ap, ◌∙◌, subst, append_assoc, codes, eq-eqb, inl, inr}
+use Rattle.std.specs.Prelude.{◌==◌, cond}
 use Rattle.std.specs.List.{join_with_byte}
+use Rattle.std.proofs.lemmas.Bool.{cases_eq, ne_eqb}
 use Rattle.lsm_text.specs.Benchmarks.{AreBenchmarks, benchmark_word}
 use Rattle.lsm_text.specs.EntryReading.{parts_at}
 use Rattle.lsm_text.specs.declared.benchmark.Benchmark.{Benchmark}
@@ -8,14 +10,30 @@ use Rattle.lsm_text.specs.declared.benchmark.Benchmark.TheVariants as benchmark
 use Rattle.lsm_text.proofs.PartLaws.{HasNo, parts_again, parts_none, parts_take}
 
 -- no name has a comma
-pub name_clear : (b : Benchmark) → HasNo 44 (benchmark_word b)
-name_clear benchmark.FillBatch = grind
-name_clear benchmark.FillRandom = grind
-name_clear benchmark.Overwrite = grind
-name_clear benchmark.ReadRandom = grind
-name_clear benchmark.ReadWhileWriting = grind
-name_clear benchmark.ReadSeq = grind
-name_clear benchmark.Compact = grind
+
+no_comma : List ℕ → Bool
+no_comma [] = true
+no_comma (c ∷ cs) = cond (c == 44) false (no_comma cs)
+
+clear_of : (xs : List ℕ) → no_comma xs ≡ true → HasNo 44 xs
+clear_of [] none = tt
+clear_of (c ∷ cs) none = elim (cases_eq c 44) [
+  | inl same ↦
+      let test : (c == 44) ≡ true = eq-eqb c 44 same in
+      let bad : false ≡ true = rw test at none in absurd cc
+  | inr other ↦
+      let test : (c == 44) ≡ false = ne_eqb c 44 other in
+      (other, clear_of cs (rw test at none))
+]
+
+name_clear : (b : Benchmark) → HasNo 44 (benchmark_word b)
+name_clear benchmark.FillBatch = clear_of (codes "fillbatch") refl
+name_clear benchmark.FillRandom = clear_of (codes "fillrandom") refl
+name_clear benchmark.Overwrite = clear_of (codes "overwrite") refl
+name_clear benchmark.ReadRandom = clear_of (codes "readrandom") refl
+name_clear benchmark.ReadWhileWriting = clear_of (codes "readwhilewriting") refl
+name_clear benchmark.ReadSeq = clear_of (codes "readseq") refl
+name_clear benchmark.Compact = clear_of (codes "compact") refl
 
 -- ---- one more name in front
 
@@ -28,7 +46,7 @@ pub just_one : (b : Benchmark) → AreBenchmarks (benchmark_word b) (b ∷ [])
 just_one b = (λ e. cc, refl)
 
 -- the first of them, where there is a comma, and where there is none
-record IsFirst (name after : List ℕ) : Type 0 where
+pub record IsFirst (name after : List ℕ) : Type 0 where
   pub first : Benchmark
   pub left : List Benchmark
   pub named : benchmark_word first ≡ name
@@ -71,10 +89,10 @@ pub named_more : (word : List ℕ) (found : List Benchmark) (rest : List ℕ) (p
     → parts_at 44 rest ≡ Some p → benchmark_word b ≡ p.0 → HasNamed word (found ++ b ∷ []) p.1
 named_more word found rest p b has parted name = record {
   more = λ bs are.
-    let whole : benchmark_word b ++ (44 ∷ p.1) ≡ rest = ap (λ (xs : List ℕ). xs ++ (44 ∷ p.1)) name ∙ sym (parts_take 44 rest p parted).0 in
-    subst (λ xs. AreBenchmarks word xs) (sym (append_assoc found (b ∷ []) bs))
-    (has.more (b ∷ bs) (subst (λ xs. AreBenchmarks xs (b ∷ bs)) whole (one_more b bs p.1 are)));
-  back = λ bs are. let left = has.back bs are in let first = cut rest p left.0 parted left.1 in (first.left, first.are)
+      let whole : benchmark_word b ++ (44 ∷ p.1) ≡ rest = ap (λ (xs : List ℕ). xs ++ (44 ∷ p.1)) name ∙ sym (parts_take 44 rest p parted).0 in
+      subst (λ xs. AreBenchmarks word xs) (sym (append_assoc found (b ∷ []) bs))
+      (has.more (b ∷ bs) (subst (λ xs. AreBenchmarks xs (b ∷ bs)) whole (one_more b bs p.1 are)));
+  back = λ bs are. let left = has.back bs are in let first = cut rest p left.0 parted left.1 in (first.left, first.are);
 }
 
 pub named_all : (word : List ℕ) (found : List Benchmark) (rest : List ℕ) (b : Benchmark) → HasNamed word found rest → benchmark_word b ≡ rest

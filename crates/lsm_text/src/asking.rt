@@ -261,10 +261,7 @@ fn load_options_in(found: &ArgMatches<'_>) -> Option<LoadOptions>
 }
 
 /// The benchmarks that the word under `--benchmarks` names. `None` where it names none.
-fn benchmarks_of(
-    alloc: Global,
-    word: Option<&str>,
-) -> Result<Option<Vec<Benchmark>>, AllocError>
+fn benchmarks_of(alloc: Global, word: Option<&str>) -> Result<Option<Vec<Benchmark>>, AllocError>
     ensures some { IfOk result (λ o. IfSome o
         (λ found. AreNamed (option_map (λ w. w.now) word.entry) found.items)) }
     ensures none { IfOk result (λ o. IfNone o ((found : List Benchmark)

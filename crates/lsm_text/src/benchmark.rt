@@ -66,10 +66,7 @@ fn named(word: &[u8]) -> Option<Benchmark>
 }
 
 /// The benchmarks whose names are the word, joined by commas. None where it has another name.
-pub(crate) fn benchmarks_in(
-    alloc: Global,
-    word: &str,
-) -> Result<Option<Vec<Benchmark>>, AllocError>
+pub(crate) fn benchmarks_in(alloc: Global, word: &str) -> Result<Option<Vec<Benchmark>>, AllocError>
     ensures some { IfOk result (λ o. IfSome o (λ found. AreBenchmarks word.now found.items)) }
     ensures none { IfOk result (λ o.
         IfNone o ((found : List Benchmark) → AreBenchmarks word.now found → ⊥)) }

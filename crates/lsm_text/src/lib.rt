@@ -62,9 +62,9 @@ mod text_words;
 // What holds of lists.
 mod laws;
 
+pub use batch_text::{BatchTextFault, batch_in, push_write};
 pub use bench_options::BenchOptions;
 pub use benchmark::Benchmark;
-pub use batch_text::{BatchTextFault, batch_in, push_write};
 pub use command_line::{CommandLine, read_line};
 pub use command_name::CommandName;
 pub use compact_options::CompactOptions;

@@ -3,7 +3,7 @@ use Rattle.lsm_text.proofs.BenchmarkLaws.{HasNamed}
 use Rattle.lsm_text.proofs.benchmark.benchmarks_in.Given as goal
 
 abbrev pub invariant-names : goal.invariant-names
-invariant-names l = HasNamed l.word.now l.found.items l.rest.now
+invariant-names l = HasNamed l.word l.found.items l.rest
 
 abbrev pub decreases-names : goal.decreases-names
-decreases-names l = length l.rest.now
+decreases-names l = length l.rest
