@@ -16,6 +16,7 @@ no_comma [] = true
 no_comma (c ∷ cs) = cond (c == 44) false (no_comma cs)
 
 clear_of : (xs : List ℕ) → no_comma xs ≡ true → HasNo 44 xs
+unfolding no_comma
 clear_of [] none = tt
 clear_of (c ∷ cs) none = elim (cases_eq c 44) [
   | inl same ↦
@@ -27,6 +28,7 @@ clear_of (c ∷ cs) none = elim (cases_eq c 44) [
 ]
 
 name_clear : (b : Benchmark) → HasNo 44 (benchmark_word b)
+unfolding no_comma
 name_clear benchmark.FillBatch = clear_of (codes "fillbatch") refl
 name_clear benchmark.FillRandom = clear_of (codes "fillrandom") refl
 name_clear benchmark.Overwrite = clear_of (codes "overwrite") refl
@@ -64,7 +66,7 @@ cut word p (b ∷ c ∷ cs) found are =
     let after = join_with_byte 44 (map benchmark_word (c ∷ cs)) in
     let again : parts_at 44 word ≡ Some (benchmark_word b, after) = ap (parts_at 44) are.1 ∙ parts_again 44 (benchmark_word b) after (name_clear b) in
     let same : p ≡ (benchmark_word b, after) = same_parts p (benchmark_word b, after) (sym found ∙ again) in
-    record { first = b; left = c ∷ cs; named = sym (ap (λ q. q.0) same); are = (λ e. cc, ap (λ q. q.1) same) }
+    record { first = b; left = c ∷ cs; named = sym (ap (λ (q : List ℕ × List ℕ). q.0) same); are = (λ e. cc, ap (λ (q : List ℕ × List ℕ). q.1) same) }
 
 pub last : (word : List ℕ) (bs : List Benchmark) → parts_at 44 word ≡ None → AreBenchmarks word bs
     → (b : Benchmark) × (benchmark_word b ≡ word)
@@ -85,28 +87,29 @@ pub record HasNamed (word : List ℕ) (found : List Benchmark) (rest : List ℕ)
 pub named_none : (word : List ℕ) → HasNamed word [] word
 named_none word = record { more = λ bs are. are; back = λ bs are. (bs, are) }
 
-pub named_more : (word : List ℕ) (found : List Benchmark) (rest : List ℕ) (p : List ℕ × List ℕ) (b : Benchmark) → HasNamed word found rest
-    → parts_at 44 rest ≡ Some p → benchmark_word b ≡ p.0 → HasNamed word (found ++ b ∷ []) p.1
-named_more word found rest p b has parted name = record {
+pub named_more : (word : List ℕ) (found : List Benchmark) (rest name after : List ℕ) (b : Benchmark) → HasNamed word found rest
+    → Some (name, after) ≡ parts_at 44 rest → benchmark_word b ≡ name → HasNamed word (found ++ b ∷ []) after
+named_more word found rest name after b has parted is = record {
   more = λ bs are.
-      let whole : benchmark_word b ++ (44 ∷ p.1) ≡ rest = ap (λ (xs : List ℕ). xs ++ (44 ∷ p.1)) name ∙ sym (parts_take 44 rest p parted).0 in
-      subst (λ xs. AreBenchmarks word xs) (sym (append_assoc found (b ∷ []) bs))
-      (has.more (b ∷ bs) (subst (λ xs. AreBenchmarks xs (b ∷ bs)) whole (one_more b bs p.1 are)));
-  back = λ bs are. let left = has.back bs are in let first = cut rest p left.0 parted left.1 in (first.left, first.are);
+      let front : benchmark_word b ++ (44 ∷ after) ≡ name ++ (44 ∷ after) = ap (λ (xs : List ℕ). xs ++ (44 ∷ after)) is in
+      let whole : benchmark_word b ++ (44 ∷ after) ≡ rest = front ∙ sym (parts_take 44 rest (name, after) (sym parted)).0 in
+      subst (λ (xs : List Benchmark). AreBenchmarks word xs) (sym (append_assoc found (b ∷ []) bs))
+      (has.more (b ∷ bs) (subst (λ (xs : List ℕ). AreBenchmarks xs (b ∷ bs)) whole (one_more b bs after are)));
+  back = λ bs are. let left = has.back bs are in let first = cut rest (name, after) left.0 (sym parted) left.1 in (first.left, first.are);
 }
 
 pub named_all : (word : List ℕ) (found : List Benchmark) (rest : List ℕ) (b : Benchmark) → HasNamed word found rest → benchmark_word b ≡ rest
     → AreBenchmarks word (found ++ b ∷ [])
-named_all word found rest b has name = has.more (b ∷ []) (subst (λ xs. AreBenchmarks xs (b ∷ [])) name (just_one b))
+named_all word found rest b has name = has.more (b ∷ []) (subst (λ (xs : List ℕ). AreBenchmarks xs (b ∷ [])) name (just_one b))
 
 -- another name is none of them
 
-pub bad_first : (word : List ℕ) (found : List Benchmark) (rest : List ℕ) (p : List ℕ × List ℕ) → HasNamed word found rest
-    → parts_at 44 rest ≡ Some p → ((b : Benchmark) → benchmark_word b ≢ p.0) → (bs : List Benchmark) → AreBenchmarks word bs → ⊥
-bad_first word found rest p has parted none bs are =
-    let left = has.back bs are in let first = cut rest p left.0 parted left.1 in none first.first first.named
+pub bad_first : (word : List ℕ) (found : List Benchmark) (rest name after : List ℕ) → HasNamed word found rest
+    → Some (name, after) ≡ parts_at 44 rest → ((b : Benchmark) → benchmark_word b ≢ name) → (bs : List Benchmark) → AreBenchmarks word bs → ⊥
+bad_first word found rest name after has parted none bs are =
+    let left = has.back bs are in let first = cut rest (name, after) left.0 (sym parted) left.1 in none first.first first.named
 
-pub bad_last : (word : List ℕ) (found : List Benchmark) (rest : List ℕ) → HasNamed word found rest → parts_at 44 rest ≡ None
+pub bad_last : (word : List ℕ) (found : List Benchmark) (rest : List ℕ) → HasNamed word found rest → None ≡ parts_at 44 rest
     → ((b : Benchmark) → benchmark_word b ≢ rest) → (bs : List Benchmark) → AreBenchmarks word bs → ⊥
 bad_last word found rest has parted none bs are =
-    let left = has.back bs are in let b = last rest left.0 parted left.1 in none b.0 b.1
+    let left = has.back bs are in let b = last rest left.0 (sym parted) left.1 in none b.0 b.1

@@ -66,6 +66,7 @@ fn named(word: &[u8]) -> Option<Benchmark>
 }
 
 /// The benchmarks whose names are the word, joined by commas. None where it has another name.
+#[tactic(auto, using(crate::proofs::BenchmarkLaws::named_none, crate::proofs::BenchmarkLaws::named_more, crate::proofs::BenchmarkLaws::named_all, crate::proofs::BenchmarkLaws::bad_first, crate::proofs::BenchmarkLaws::bad_last))]
 pub(crate) fn benchmarks_in(alloc: Global, word: &str) -> Result<Option<Vec<Benchmark>>, AllocError>
     ensures some { IfOk result (λ o. IfSome o (λ found. AreBenchmarks word.now found.items)) }
     ensures none { IfOk result (λ o.
