@@ -7,9 +7,12 @@ use Rattle.clap.specs.declared.error.ErrorKind.{ErrorKind}
 use Rattle.clap.specs.declared.error.ErrorKind.TheVariants as kind
 use Rattle.clap.specs.declared.parser.ArgMatches.{ArgMatches}
 use Rattle.lsm_batch.specs.declared.write.Write.{Write}
+use Rattle.lsm_text.specs.Benchmarks.{AreBenchmarks}
 use Rattle.lsm_text.specs.Grammar.{lsm}
 use Rattle.lsm_text.specs.Numbers.{IsNumberWord}
 use Rattle.lsm_text.specs.Spelling.{IsWord}
+use Rattle.lsm_text.specs.declared.bench_options.BenchOptions.{BenchOptions}
+use Rattle.lsm_text.specs.declared.benchmark.Benchmark.{Benchmark}
 use Rattle.lsm_text.specs.declared.command_line.CommandLine.{CommandLine}
 use Rattle.lsm_text.specs.declared.command_line.CommandLine.TheVariants.{Run, Help, Bad}
 use Rattle.lsm_text.specs.declared.command_name.CommandName.{CommandName}
@@ -30,7 +33,7 @@ use Rattle.lsm_text.specs.declared.levels_output.LevelsOutput.{LevelsOutput}
 use Rattle.lsm_text.specs.declared.levels_output.LevelsOutput.TheVariants as levels_output
 use Rattle.lsm_text.specs.declared.load_options.LoadOptions.{LoadOptions}
 use Rattle.lsm_text.specs.declared.request.Request.{Request}
-use Rattle.lsm_text.specs.declared.request.Request.TheVariants.{Convert, Look, Levels, Write as WriteFolder, Load, Compact, Script, Shell}
+use Rattle.lsm_text.specs.declared.request.Request.TheVariants.{Convert, Look, Levels, Write as WriteFolder, Load, Compact, Script, Shell, Bench}
 use Rattle.lsm_text.specs.declared.scan_options.ScanOptions.{ScanOptions}
 use Rattle.lsm_text.specs.declared.scan_output.ScanOutput.{ScanOutput}
 use Rattle.lsm_text.specs.declared.scan_output.ScanOutput.TheVariants.{Pairs, Keys, Json, Count}
@@ -83,6 +86,7 @@ named word =
     else if bytes_eq word (codes "compact") then Some name.Compact
     else if bytes_eq word (codes "clean") then Some name.Clean
     else if bytes_eq word (codes "shell") then Some name.Shell
+    else if bytes_eq word (codes "bench") then Some name.Bench
     else if bytes_eq word (codes "help") then Some name.Help
     else None
 
@@ -104,6 +108,7 @@ word_of name.Load = codes "load"
 word_of name.Compact = codes "compact"
 word_of name.Clean = codes "clean"
 word_of name.Shell = codes "shell"
+word_of name.Bench = codes "bench"
 word_of name.Help = codes "help"
 
 abbrev pub name_of_conversion : Conversion → CommandName
@@ -136,6 +141,7 @@ name_of (Load line) = name.Load
 name_of (Compact line) = name.Compact
 name_of (Script input) = name.Script
 name_of (Shell line) = name.Shell
+name_of (Bench line) = name.Bench
 
 -- ---- what its words say
 
@@ -199,10 +205,14 @@ abbrev pub AreWorkers : Option Text → ℕ → Type 0
 AreWorkers None workers = ⊥
 AreWorkers (Some word) workers = IsWorkersWord word workers
 
+-- the word writes a number from `least` to `most`
+abbrev pub IsNumberIn : ℕ → ℕ → Option Text → ℕ → Type 0
+IsNumberIn least most None n = ⊥
+IsNumberIn least most (Some word) n = IsNumberWord most word n × (least ≤ n)
+
 -- the word writes the number of a line, from 1 and below 2^64
 abbrev pub IsLineNumber : Option Text → ℕ → Type 0
-IsLineNumber None n = ⊥
-IsLineNumber (Some word) n = IsNumberWord 18446744073709551615 word n × (1 ≤ n)
+IsLineNumber = IsNumberIn 1 18446744073709551615
 
 abbrev pub AreScanOptions : List Row → ScanOptions → Type 0
 AreScanOptions rows options =
@@ -222,6 +232,16 @@ abbrev pub AreLoadOptions : List Row → LoadOptions → Type 0
 AreLoadOptions rows options =
     AreIngestOptions rows options.ingest × AreWorkers (word_in (codes "workers") rows) options.workers
     × IsLineNumber (word_in (codes "from-line") rows) options.from_line × (options.progress ≡ is_set (codes "progress") rows)
+
+-- the word names these benchmarks
+abbrev pub AreNamed : Option Text → List Benchmark → Type 0
+AreNamed None benchmarks = ⊥
+AreNamed (Some word) benchmarks = AreBenchmarks word benchmarks
+
+abbrev pub AreBenchOptions : List Row → BenchOptions → Type 0
+AreBenchOptions rows options =
+    AreNamed (word_in (codes "benchmarks") rows) options.benchmarks.items × IsNumberIn 1 10000000 (word_in (codes "num") rows) options.num
+    × IsNumberIn 0 65536 (word_in (codes "value-size") rows) options.value_size × IsNumberIn 0 8 (word_in (codes "workers") rows) options.workers
 
 -- a new value is what VALUE spells
 abbrev pub IsNewValue : List Row → Option (List ℕ) → Type 0
@@ -252,6 +272,7 @@ Says rows (Compact line) =
     × (line.options.progress ≡ is_set (codes "progress") rows)
 Says rows (Script input) = IsInput (word_in (codes "FILE") rows) input
 Says rows (Shell line) = (word_in (codes "DIR") rows ≡ Some line.path.now) × AreIngestOptions rows line.options
+Says rows (Bench line) = (word_in (codes "DIR") rows ≡ Some line.path.now) × AreBenchOptions rows line.options
 
 -- The command that was found is the request's, and the request says what its rows say.
 pub record IsAsked (found : Option (Text × List Row)) (request : Request) : Type 0 where

@@ -22,6 +22,7 @@ pub enum CommandName {
     Compact,
     Clean,
     Shell,
+    Bench,
     Help,
 }
 
@@ -47,6 +48,7 @@ impl CommandName {
             CommandName::Compact => "compact",
             CommandName::Clean => "clean",
             CommandName::Shell => "shell",
+            CommandName::Bench => "bench",
             CommandName::Help => "help",
         }
     }
@@ -104,6 +106,9 @@ pub(crate) fn named(word: &str) -> Option<CommandName>
     }
     if word == "shell" {
         return Some(CommandName::Shell);
+    }
+    if word == "bench" {
+        return Some(CommandName::Bench);
     }
     if word == "help" {
         return Some(CommandName::Help);

@@ -8,16 +8,16 @@ ghost use Rattle.clap.specs.Words.{App, IsAmong, Rule, kind_of, new_app, rule_of
 ghost use Rattle.clap.specs.Words.{subcommand_rows_of};
 ghost use Rattle.clap.specs.Words.{with_rule, with_subcommand};
 ghost use Rattle.clap.specs.declared.error.ErrorKind.TheVariants.{OutOfMemory};
-ghost use Rattle.lsm_text.specs.Grammar.{IsShaped, bare, begin, beside_log, check, clean, compact};
-ghost use Rattle.lsm_text.specs.Grammar.{delete, dump, file, flag, folder, from_line, get, help};
+ghost use Rattle.lsm_text.specs.Grammar.{IsShaped, bare, begin, bench, benchmarks, beside_log};
+ghost use Rattle.lsm_text.specs.Grammar.{check, clean, compact, delete, dump, file, flag, folder, from_line, get, help};
 ghost use Rattle.lsm_text.specs.Grammar.{ingest, key, levels, limit, list, load, lsm};
-ghost use Rattle.lsm_text.specs.Grammar.{make_table, manifest, progress, put};
-ghost use Rattle.lsm_text.specs.Grammar.{scan, script, shell, text, topic, valued, with_inputs};
-ghost use Rattle.lsm_text.specs.Grammar.{with_looks, with_writes, word, workers};
+ghost use Rattle.lsm_text.specs.Grammar.{make_table, manifest, num, progress, put};
+ghost use Rattle.lsm_text.specs.Grammar.{scan, script, shell, some_workers, text, topic, valued};
+ghost use Rattle.lsm_text.specs.Grammar.{value_size, with_inputs, with_looks, with_writes, word, workers};
 ghost use Rattle.lsm_text.specs.Requests.{faults_in, found_in};
 
 use crate::pages::{
-    CHECK, CLEAN, COMPACT, DELETE, DUMP, GET, HELP, INGEST, LEVELS, LIST, LOAD, MAKE_TABLE,
+    BENCH, CHECK, CLEAN, COMPACT, DELETE, DUMP, GET, HELP, INGEST, LEVELS, LIST, LOAD, MAKE_TABLE,
     MANIFEST, OVERVIEW, PUT, Page, SCAN, SCRIPT, SHELL, VERSION,
 };
 use clap::builder::ValueParser;
@@ -133,6 +133,60 @@ fn limit<'a>(alloc: Global) -> Arg<'a>
     valued(alloc, "limit", "N", "How many pairs are printed at most").value_parser(
         ValueParser::Unsigned(0, u64::MAX),
     )
+}
+
+/// The option for the benchmarks that run.
+fn benchmarks<'a>(alloc: Global) -> Arg<'a>
+    ensures rule { rule_of result ≡ benchmarks }
+    ensures local { result.global ≡ false }
+{
+    valued(
+        alloc,
+        "benchmarks",
+        "LIST",
+        "Which benchmarks run, joined by commas",
+    )
+    .default_value("fillbatch,fillrandom,overwrite,readrandom,readwhilewriting,readseq,compact")
+}
+
+/// The option for the number of pairs that are measured.
+fn num<'a>(alloc: Global) -> Arg<'a>
+    ensures rule { rule_of result ≡ num }
+    ensures local { result.global ≡ false }
+{
+    valued(alloc, "num", "N", "How many pairs, 1 to 10000000")
+        .value_parser(ValueParser::Unsigned(1, 10_000_000))
+        .default_value("1000000")
+}
+
+/// The option for the size of each value.
+fn value_size<'a>(alloc: Global) -> Arg<'a>
+    ensures rule { rule_of result ≡ value_size }
+    ensures local { result.global ≡ false }
+{
+    valued(
+        alloc,
+        "value-size",
+        "N",
+        "How many bytes a value has, 65536 at most",
+    )
+    .value_parser(ValueParser::Unsigned(0, 65_536))
+    .default_value("100")
+}
+
+/// The option for the number of threads, which may be 0.
+fn some_workers<'a>(alloc: Global) -> Arg<'a>
+    ensures rule { rule_of result ≡ some_workers }
+    ensures local { result.global ≡ false }
+{
+    valued(
+        alloc,
+        "workers",
+        "N",
+        "How many threads compact beside, 0 to 8",
+    )
+    .value_parser(ValueParser::Unsigned(0, 8))
+    .default_value("2")
 }
 
 /// An option without a word behind it.
@@ -378,6 +432,17 @@ fn shell<'a>(alloc: Global) -> Made<'a>
     also(shell, beside_log(alloc))
 }
 
+/// The command that measures.
+fn bench<'a>(alloc: Global) -> Made<'a>
+    ensures { IsShaped result bench }
+{
+    let bench = also(titled(alloc, BENCH), folder(alloc));
+    let bench = also(bench, benchmarks(alloc));
+    let bench = also(bench, num(alloc));
+    let bench = also(bench, value_size(alloc));
+    also(bench, some_workers(alloc))
+}
+
 /// The command that prints a page of help.
 fn help<'a>(alloc: Global) -> Made<'a>
     ensures { IsShaped result help }
@@ -445,6 +510,7 @@ fn lsm<'a>(alloc: Global) -> Made<'a>
     let lsm = with(with_writes(alloc), compact(alloc));
     let lsm = with(lsm, clean(alloc));
     let lsm = with(lsm, shell(alloc));
+    let lsm = with(lsm, bench(alloc));
     with(lsm, help(alloc))
 }
 

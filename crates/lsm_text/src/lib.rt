@@ -7,6 +7,8 @@
 #![tactic(auto)]
 
 // What is asked for.
+mod bench_options;
+mod benchmark;
 mod compact_options;
 mod conversion;
 mod directory_command;
@@ -61,6 +63,8 @@ mod text_words;
 mod laws;
 
 pub use batch_text::{BatchTextFault, batch_in, push_write};
+pub use bench_options::BenchOptions;
+pub use benchmark::Benchmark;
 pub use command_line::{CommandLine, read_line};
 pub use command_name::CommandName;
 pub use compact_options::CompactOptions;
@@ -84,7 +88,7 @@ pub use number::number_in;
 pub use printer::Printer;
 pub use refusal::Refusal;
 pub use request::{
-    CompactLine, DirectoryLine, LevelsLine, LoadLine, Request, ShellLine, WritingLine,
+    BenchLine, CompactLine, DirectoryLine, LevelsLine, LoadLine, Request, ShellLine, WritingLine,
 };
 pub use scan_options::ScanOptions;
 pub use scan_output::ScanOutput;

@@ -477,6 +477,9 @@ prints a reply for each, which is written out before the next line is read.
 
   put KEY VALUE      the key has this value      file N first F last L
   delete KEY         the key is deleted          file N first F last L
+  begin              a batch; behind it put      begun; then queued for each
+  commit             and delete are queued,      file N first F last L
+  abort              up to commit or abort       aborted
   ingest W W ..      W is KEY=VALUE or KEY!,     file N first F last L
                      keys ascending: one batch
   get KEY            the newest                  value V, or absent
@@ -493,7 +496,9 @@ prints a reply for each, which is written out before the next line is read.
   cancel T                                       cancelled
   pin, unpin ID      the current version         pin ID, unpinned
   collect            tables not needed any more  removed N N ..
+  compact            all that is due, collected  installed M
   list               LEVEL NUMBER SIZE SMALLEST LARGEST a table, then end
+  stats              level L files N bytes B a level, last L, snapshots N, then end
   help               these lines, then end
   quit               no reply; so does the end of the input
 
@@ -501,6 +506,11 @@ KEY, VALUE, FROM and TO are hex, or text with --text, `.` for no bytes; a space
 parts two words. A refusal is a reply too, `refused N Name ..`, in a list in
 place of `end`. A line of another form is answered `bad line: REASON`. The shell
 goes on behind both. A line has at most 8388608 bytes.
+
+Between `begin` and `commit` all other lines go on without what is queued; of one
+key the last write comes in. A write that a batch cannot have as well is `refused
+39 TooLarge`, and the others stay. Where standard input, output and error are
+terminals, `lsm> ` on standard error asks for each line.
 
 Of --begin and --beside-log, and of all that is refused before the first line,
 the page of `ingest` says more. A second program that wants to write in DIR is
@@ -510,6 +520,35 @@ Exit status: 0 behind `quit` or the end of the input, 1 where the folder is
 refused, a reply cannot be written or the input cannot be read, 2 bad command
 line.",
     example: "Example: printf 'put apple red\\nget apple\\n' | lsm shell db --text",
+};
+
+pub(crate) const BENCH: Page = Page {
+    name: "bench",
+    usage: "lsm bench <DIR> [--benchmarks <LIST>] [--num <N>] [--value-size <N>] [--workers <N>]",
+    about: "Measures writes, reads and compactions in a fresh folder",
+    text: "Begins a database in the folder DIR, which has to be there and to have none, runs
+benchmarks on it, and prints a line for each once it has run, behind a head: in
+the form and by the names of LevelDB's `db_bench`, so that the one can be put
+beside the other. What came in stays there.
+
+  fillbatch          N pairs in the order of their keys, 1000 in a batch
+  fillrandom         N pairs of drawn keys, as many in a batch as it may have
+  overwrite          the same again
+  readrandom         N reads of drawn keys
+  readwhilewriting   the same, while another thread brings N/10 pairs in
+  readseq            all pairs, one after another
+  compact            waits until all that is due is compacted
+
+--benchmarks names those that run, one after another, joined by commas; all of
+them in this order if it is not said. --num is N, 1000000 if it is not said, and
+--value-size how many bytes a value has, 100; a key has 16. --workers is how many
+threads compact beside, 0 to 8; 2 if it is not said.
+
+Limits: 10000000 pairs, 65536 bytes of a value.
+
+Exit status: 0 done, 1 refused, 2 bad command line.",
+    example: "Examples: mkdir fresh && lsm bench fresh
+          lsm bench fresh --benchmarks fillrandom,readrandom --num 100000",
 };
 
 pub(crate) const HELP: Page = Page {
@@ -542,6 +581,7 @@ fn usage(name: CommandName) -> &'static str {
         CommandName::Compact => COMPACT.usage,
         CommandName::Clean => CLEAN.usage,
         CommandName::Shell => SHELL.usage,
+        CommandName::Bench => BENCH.usage,
         CommandName::Help => HELP.usage,
     }
 }

@@ -1,5 +1,6 @@
 //! What a command line asks for.
 
+use crate::bench_options::BenchOptions;
 use crate::compact_options::CompactOptions;
 use crate::conversion::Conversion;
 use crate::directory_command::DirectoryCommand;
@@ -59,6 +60,13 @@ pub struct ShellLine<'a> {
     pub options: IngestOptions,
 }
 
+/// Measurements over the folder of this path, with these options.
+#[derive(Debug, Drop)]
+pub struct BenchLine<'a> {
+    pub path: &'a str,
+    pub options: BenchOptions,
+}
+
 /// What a command line asks for: one command of the program, with all that its words say.
 #[derive(Debug, Drop)]
 pub enum Request<'a> {
@@ -78,4 +86,6 @@ pub enum Request<'a> {
     Script(Input<'a>),
     /// `shell`: the commands that standard input spells, on a folder.
     Shell(ShellLine<'a>),
+    /// `bench`.
+    Bench(BenchLine<'a>),
 }
