@@ -99,7 +99,7 @@ unfoldable pub script : App
 script = command (codes "script") (file ∷ [])
 
 unfoldable pub check : App
-check = command (codes "check") (folder ∷ workers ∷ progress ∷ [])
+check = command (codes "check") (folder ∷ progress ∷ [])
 
 unfoldable pub list : App
 list = command (codes "list") (folder ∷ text ∷ [])

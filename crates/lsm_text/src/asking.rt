@@ -320,14 +320,6 @@ fn look_in<'a>(command: DirectoryCommand, found: &ArgMatches<'a>) -> Option<Requ
     }))
 }
 
-/// A verification.
-fn check_in<'a>(found: &ArgMatches<'a>) -> Option<Request<'a>>
-    ensures { Reads CommandName.Check (rows_in found.now) result }
-{
-    let workers = workers_of(found)?;
-    look_in(DirectoryCommand::Check(workers), found)
-}
-
 /// The levels of a folder.
 fn levels_in<'a>(found: &ArgMatches<'a>) -> Option<Request<'a>>
     ensures { Reads CommandName.Levels (rows_in found.now) result }
@@ -483,7 +475,7 @@ fn request_in<'a>(
         CommandName::Dump => Ok(convert_in(Conversion::Dump, found)),
         CommandName::Manifest => Ok(convert_in(Conversion::Manifest, found)),
         CommandName::Script => Ok(script_in(found)),
-        CommandName::Check => Ok(check_in(found)),
+        CommandName::Check => Ok(look_in(DirectoryCommand::Check, found)),
         CommandName::List => Ok(look_in(DirectoryCommand::List, found)),
         CommandName::Levels => Ok(levels_in(found)),
         CommandName::Get => get_in(alloc, found),

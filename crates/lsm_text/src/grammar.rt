@@ -25,12 +25,6 @@ use clap::{Arg, ArgAction, ArgMatches, Command, Error};
 use std::alloc::{AllocError, Global};
 use std::convert::AsStr;
 
-/// What `--workers` says where threads compact.
-const COMPACTING: &str = "How many threads compact, 1 to 8";
-
-/// What `--workers` says where they verify tables.
-const VERIFYING: &str = "How many threads verify tables, 1 to 8";
-
 /// A command in the making, or that memory ran out.
 type Made<'a> = Result<Command<'a>, AllocError>;
 
@@ -101,11 +95,11 @@ fn valued<'a>(alloc: Global, name: &'a str, value: &'a str, help: &'a str) -> Ar
 }
 
 /// The option for the number of threads.
-fn workers<'a>(alloc: Global, help: &'a str) -> Arg<'a>
+fn workers<'a>(alloc: Global) -> Arg<'a>
     ensures rule { rule_of result ≡ workers }
     ensures local { result.global ≡ false }
 {
-    valued(alloc, "workers", "N", help)
+    valued(alloc, "workers", "N", "How many threads compact, 1 to 8")
         .value_parser(ValueParser::Unsigned(1, 8))
         .default_value("2")
 }
@@ -285,7 +279,6 @@ fn check<'a>(alloc: Global) -> Made<'a>
     ensures { IsShaped result check }
 {
     let check = also(titled(alloc, CHECK), folder(alloc));
-    let check = also(check, workers(alloc, VERIFYING));
     also(check, progress(alloc))
 }
 
@@ -401,7 +394,7 @@ fn load<'a>(alloc: Global) -> Made<'a>
     let load = also(load, text(alloc));
     let load = also(load, begin(alloc));
     let load = also(load, beside_log(alloc));
-    let load = also(load, workers(alloc, COMPACTING));
+    let load = also(load, workers(alloc));
     let load = also(load, from_line(alloc));
     also(load, progress(alloc))
 }
@@ -411,7 +404,7 @@ fn compact<'a>(alloc: Global) -> Made<'a>
     ensures { IsShaped result compact }
 {
     let compact = also(titled(alloc, COMPACT), folder(alloc));
-    let compact = also(compact, workers(alloc, COMPACTING));
+    let compact = also(compact, workers(alloc));
     also(compact, progress(alloc))
 }
 

@@ -163,12 +163,11 @@ read or a write, 2 bad command line.",
 
 pub(crate) const CHECK: Page = Page {
     name: "check",
-    usage: "lsm check <DIR> [--workers <N>] [--progress]",
+    usage: "lsm check <DIR> [--progress]",
     about: "Verifies a folder, and counts what is in it",
     text: "Verifies all that a read of the LevelDB folder DIR can reach: every block of
 every table that its manifest names, and how the tables lie in their levels.
-Nothing is written there. --workers is how many threads read and verify tables, 1
-to 8; 2 if it is not said. Each of them holds one table at a time in memory.
+Nothing is written there. One table at a time is held in memory.
 
 Prints a line a level, `level L files F bytes B entries E` for the levels 0 to
 6, then `last S`, the last sequence, and `rest B`, how many bytes at the
@@ -181,7 +180,7 @@ The first fault is refused by number and name; that of a table names its file,
 as in `refused 15 BadChecksum 0 in 000005.ldb`.
 
 Exit status: 0 where all is well, 1 at a fault, 2 bad command line.",
-    example: "Example: lsm check db --workers 4 --progress",
+    example: "Example: lsm check db --progress",
 };
 
 pub(crate) const LIST: Page = Page {
