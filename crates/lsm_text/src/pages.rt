@@ -214,8 +214,8 @@ by what the manifest says. The score is how full a level is, in hundredths: of
 level 0 its files over 4, and of the levels 1 to 5 their bytes over 10 MiB for
 level 1, and over ten times as many for each deeper one. From 1.00 on a level is
 too large. The last two lines are `last S rest R`, the last sequence and how many
-bytes at the manifest's end hold no whole record, and `due level L inputs N N ..`,
-the tables that the next compaction takes, or `due none`.
+bytes at the manifest's end hold no whole record, and `due none`, or
+`due level L inputs N N ..` with the tables that the next compaction takes.
 
 --files prints a line for each file too, `LEVEL NUMBER SIZE SMALLEST LARGEST` as
 `list` does: keys are `KEY@SEQ+` for a value and `KEY@SEQ-` for a deletion, and
@@ -497,7 +497,7 @@ prints a reply for each, which is written out before the next line is read.
   collect            tables not needed any more  removed N N ..
   compact            all that is due, collected  installed M
   list               LEVEL NUMBER SIZE SMALLEST LARGEST a table, then end
-  stats              level L files N bytes B a level, last L, snapshots N, then end
+  stats              level L files N bytes B a level, last L, snapshots N, end
   help               these lines, then end
   quit               no reply; so does the end of the input
 
