@@ -1,0 +1,4 @@
+mod LoopLaws
+mod SpanLaws
+mod DueLaws
+mod DrawingLaws

@@ -1,0 +1,6 @@
+pub mod Sums
+pub mod Reaching
+pub mod Dues
+pub mod Lines
+pub mod Axis
+pub mod Drawing

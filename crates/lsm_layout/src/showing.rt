@@ -1,0 +1,140 @@
+//! What is shown of a folder's manifest.
+
+ghost use Rattle.std.specs.Prelude.{◌≡◌, ◌≢◌, IfErr, IfOk, OnOk};
+ghost use Rattle.std.specs.Io.KnownBytes.{Appends, Keeps};
+ghost use Rattle.lsm_directory.specs.Logs.{NoneUnread};
+ghost use Rattle.lsm_layout.specs.Layout.{IsLaidOut, IsLayoutFault, IsShown, IsUnshown, Names};
+ghost use Rattle.lsm_layout.specs.Layout.{ReadsManifest};
+
+use crate::drawing::{Sheet, picture_text};
+use crate::due::due_next;
+use crate::line::LevelsOutput;
+use crate::lines::{files_text, levels_text};
+use lsm_directory::{DirectoryFault, FolderFile, Wording, first_unread, push_logs, write_output};
+use lsm_journal::{Journal, Recovered};
+use lsm_manifest::Shape;
+use lsm_table::{NamedShelf, Naming, Shelf};
+use lsm_text::Form;
+use std::alloc::{AllocError, Global};
+use std::io::{self, Write};
+use std::marker::Brand;
+use std::sync::Wait;
+
+/// What is shown of a shape whose manifest has so many bytes at its end that hold no whole record.
+fn text_of(
+    alloc: Global,
+    form: Form,
+    output: LevelsOutput,
+    shape: &Shape,
+    rest: u64,
+) -> Result<Vec<u8>, AllocError>
+    ensures { IfOk result (λ text. IsShown form output shape.now rest text.items) }
+{
+    let due = due_next(shape)?;
+    match output {
+        LevelsOutput::Levels => levels_text(alloc, shape, rest, due),
+        LevelsOutput::Files => files_text(alloc, form, shape, rest, due),
+        LevelsOutput::Svg => picture_text(alloc, Sheet { shape, due, form }, rest),
+    }
+}
+
+/// Writes a note for each log that is not read.
+fn write_notes<E: Write>(
+    alloc: Global,
+    files: &[FolderFile],
+    shape: &Shape,
+    err: &mut E,
+) -> io::Result<()> {
+    let mut text = Vec::new(alloc);
+    push_logs(&mut text, Wording::Noted, files, shape.log, shape.prev_log)?;
+    err.write_all(text.as_slice())?;
+    err.flush()
+}
+
+/// Notes each log that is not read. What can't be written is left out.
+fn tell_notes<E: Write>(alloc: Global, files: &[FolderFile], shape: &Shape, err: &mut E)
+    ensures { NoneUnread shape.now.log shape.now.prev_log files.now
+        → Keeps (E.contents err.old) (E.contents err.new) }
+{
+    if first_unread(files, shape.log, shape.prev_log).is_some() {
+        let _ = write_notes(alloc, files, shape, err);
+    }
+}
+
+/// Writes what is shown of a manifest.
+fn show<O: Write>(
+    alloc: Global,
+    form: Form,
+    output: LevelsOutput,
+    recovered: &Recovered,
+    out: &mut O,
+) -> Result<(), DirectoryFault>
+    ensures shown { OnOk result (Shows form output recovered.now.shape recovered.now.rest
+        (O.contents out.old) (O.contents out.new)) }
+    ensures fault { IfErr result (λ e. IsUnshown form output recovered.now.shape
+        recovered.now.rest e (O.contents out.old) (O.contents out.new)) }
+{
+    let text = text_of(alloc, form, output, &recovered.shape, recovered.rest)?;
+    write_output(out, text.as_slice())?;
+    Ok(())
+}
+
+/// Reads the manifest that the directory of a shelf names.
+fn read_named<N: Naming, S: Shelf, R: Wait>(
+    rt: &R,
+    alloc: Global,
+    shelf: &mut NamedShelf<N, S>,
+) -> Result<Recovered, DirectoryFault>
+    ensures named { IfOk result (λ r. Names shelf.old shelf.new r.shape r.rest) }
+    ensures fault { IfErr result (λ e. IsUnread (S.refuses N.place) e shelf.old shelf.new) }
+{
+    // Nothing is sent through the journal, so it has no use for its limit.
+    match Journal::recover(rt, alloc, shelf, u64::MAX) {
+        Ok(recovered) => Ok(recovered),
+        Err(fault) => Err(DirectoryFault::Manifest(fault)),
+    }
+}
+
+/// The same under the name that was picked for the shelf, which is given back.
+fn read_as<N: Naming, S: Shelf, R: Wait>(
+    rt: &R,
+    alloc: Global,
+    shelf: S,
+) -> (Result<Recovered, DirectoryFault>, S)
+    requires shelf { (S.told shelf).place ≡ N.place }
+    ensures named { IfOk result.0 (λ r. Names (S.told shelf) (S.told result.1) r.shape r.rest) }
+    ensures fault { IfErr result.0 (λ e.
+        IsUnread (S.refuses N.place) e (S.told shelf) (S.told result.1)) }
+{
+    let mut shelf: NamedShelf<N, S> = NamedShelf::of(shelf);
+    let read = read_named(rt, alloc, &mut shelf);
+    (read, shelf.into_shelf())
+}
+
+/// Reads the manifest that the directory of a shelf names, and writes what is shown of it on
+/// `out`; notes on `err` each log that is not read. The shelf is given back.
+pub fn lay_out<S: Shelf, R: Wait, O: Write, E: Write>(
+    rt: &R,
+    alloc: Global,
+    shelf: S,
+    form: Form,
+    output: LevelsOutput,
+    files: &[FolderFile],
+    out: &mut O,
+    err: &mut E,
+) -> (Result<(), DirectoryFault>, S)
+    ensures done { OnOk result.0 (IsLaidOut form output files.now (S.told shelf) (S.told result.1)
+        (O.contents out.old) (O.contents out.new) (E.contents err.old) (E.contents err.new)) }
+    ensures fault { IfErr result.0 (λ e. IsLayoutFault (S.refuses (S.told shelf).place) form output
+        e (S.told shelf) (S.told result.1) (O.contents out.old) (O.contents out.new)) }
+    ensures reads { ReadsManifest (S.told shelf) (S.told result.1) }
+{
+    let (read, shelf) = read_as::<Brand, S, R>(rt, alloc, shelf);
+    match read {
+        Ok(recovered) => {
+            tell_notes(alloc, files, &recovered.shape, err);
+            (show(alloc, form, output, &recovered, out), shelf)
+        }
+        Err(fault) => (Err(fault), shelf),
+    }
+}
