@@ -2,3 +2,4 @@ mod LoopLaws
 mod SpanLaws
 mod DueLaws
 mod DrawingLaws
+mod ShowLaws

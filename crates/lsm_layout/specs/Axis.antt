@@ -1,7 +1,7 @@
 -- Where keys are on a picture: this project's rule. Along the axis stand the ends of all files of all levels, by their user keys; each end
 -- takes as much room as its file has bytes. So in a level whose files do not meet they are side by side, a file is never narrower than by
 -- its own bytes, and two files have an end in common room just where their ranges meet.
-use Rattle.std.specs.Prelude.{ℕ, ◌+◌, ◌*◌, ◌/◌, max, List, cond}
+use Rattle.std.specs.Prelude.{ℕ, ◌+◌, ◌*◌, ◌/◌, max, List, cond, not}
 use Rattle.std.specs.List.{sum_by}
 use Rattle.lsm_codec.specs.Keys.{UserKey, user_le, user_part}
 use Rattle.lsm_manifest.specs.declared.file_meta.FileMeta.{FileMeta}
@@ -10,7 +10,7 @@ use Rattle.lsm_layout.specs.Sums.{bytes_of}
 
 -- the room of the ends of a file that are before a key
 abbrev pub before : UserKey → FileMeta → ℕ
-before key f = cond (user_le key (user_part f.smallest)) 0 f.size + cond (user_le key (user_part f.largest)) 0 f.size
+before key f = cond (not (user_le key (user_part f.smallest))) f.size 0 + cond (not (user_le key (user_part f.largest))) f.size 0
 
 -- that of the ends which are not behind it
 abbrev pub up_to : UserKey → FileMeta → ℕ

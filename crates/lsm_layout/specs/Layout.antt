@@ -39,6 +39,21 @@ text_of form Svg s rest due = picture_text form s rest due
 abbrev pub IsShown : Form → LevelsOutput → Shape → ℕ → List ℕ → Type 0
 IsShown form output s rest text = (due : Option Due) × IsDueNext s due × (text ≡ text_of form output s rest due)
 
+abbrev pub Shows : Form → LevelsOutput → Shape → ℕ → Option (List ℕ) → Option (List ℕ) → Type 0
+Shows form output s rest old new = (text : List ℕ) × IsShown form output s rest text × Appends old new text
+
+-- Memory was refused, and nothing was written; or a write failed, and a beginning of the text was.
+abbrev pub IsUnshown : Form → LevelsOutput → Shape → ℕ → DirectoryFault → Option (List ℕ) → Option (List ℕ) → Type 0
+IsUnshown form output s rest why.OutOfMemory old new = Keeps old new
+IsUnshown form output s rest why.Write old new = (text : List ℕ) × IsShown form output s rest text × Begins old new text
+IsUnshown form output s rest (why.Manifest fault) old new = ⊥
+IsUnshown form output s rest (why.Shelf fault) old new = ⊥
+IsUnshown form output s rest (why.Tables fault) old new = ⊥
+IsUnshown form output s rest (why.Read fault) old new = ⊥
+IsUnshown form output s rest why.NumbersSpent old new = ⊥
+IsUnshown form output s rest why.Locked old new = ⊥
+IsUnshown form output s rest why.Absent old new = ⊥
+
 -- ---- a shelf
 
 -- The manifest that the directory names was read, and nothing else was asked of the shelf. It is edits that come to the shape, and so many
@@ -48,28 +63,31 @@ pub record Names (was is : Told) (s : Shape) (rest : ℕ) : Type 0 where
   pub recovered : IsRecovered held s rest
   pub told : Becomes (finding held.number held.bytes was) is
 
+-- The manifest could not be read.
+abbrev pub IsNotNamed : (Asked → ShelfFault → Type 0) → DirectoryFault → Told → Told → Type 0
+IsNotNamed Refused (why.Manifest fault) was is = IsRecoverRefusal Refused fault was is
+IsNotNamed Refused why.OutOfMemory was is = ⊥
+IsNotNamed Refused why.Write was is = ⊥
+IsNotNamed Refused (why.Shelf fault) was is = ⊥
+IsNotNamed Refused (why.Tables fault) was is = ⊥
+IsNotNamed Refused (why.Read fault) was is = ⊥
+IsNotNamed Refused why.NumbersSpent was is = ⊥
+IsNotNamed Refused why.Locked was is = ⊥
+IsNotNamed Refused why.Absent was is = ⊥
+
 -- That shape was shown; and where there is no log to note, standard error is as it was.
 pub record IsLaidOut (form : Form) (output : LevelsOutput) (others : List FolderFile) (was is : Told) (old new said_old said_new : Option (List ℕ)) : Type 0 where
   pub shape : Shape
   pub rest : ℕ
   pub named : Names was is shape rest
-  pub text : List ℕ
-  pub shown : IsShown form output shape rest text
-  pub printed : Appends old new text
+  pub shown : Shows form output shape rest old new
   pub quiet : NoneUnread shape.log shape.prev_log others → Keeps said_old said_new
 
--- What a fault says: the first one that reading the manifest meets, or that a write failed. Want of memory says nothing.
+-- What a fault says: the manifest could not be read, and nothing was written; or it was read, and its shape could not be shown.
 abbrev pub IsLayoutFault : (Asked → ShelfFault → Type 0) → Form → LevelsOutput → DirectoryFault → Told → Told → Option (List ℕ) → Option (List ℕ) → Type 0
-IsLayoutFault Refused form output why.OutOfMemory was is old new = Keeps old new
-IsLayoutFault Refused form output why.Write was is old new =
-    (shape : Shape) × (rest : ℕ) × (text : List ℕ) × Names was is shape rest × IsShown form output shape rest text × Begins old new text
-IsLayoutFault Refused form output (why.Manifest fault) was is old new = IsRecoverRefusal Refused fault was is × Keeps old new
-IsLayoutFault Refused form output (why.Shelf fault) was is old new = ⊥
-IsLayoutFault Refused form output (why.Tables fault) was is old new = ⊥
-IsLayoutFault Refused form output (why.Read fault) was is old new = ⊥
-IsLayoutFault Refused form output why.NumbersSpent was is old new = ⊥
-IsLayoutFault Refused form output why.Locked was is old new = ⊥
-IsLayoutFault Refused form output why.Absent was is old new = ⊥
+IsLayoutFault Refused form output fault was is old new =
+    (IsNotNamed Refused fault was is × Keeps old new)
+    ⊎ ((s : Shape) × (rest : ℕ) × Names was is s rest × IsUnshown form output s rest fault old new)
 
 -- Between these moments the shelf was asked for its manifest at most.
 abbrev pub ReadsManifest : Told → Told → Type 0

@@ -1,6 +1,6 @@
 //! Where keys are on a picture.
 
-ghost use Rattle.std.specs.Prelude.{◌≡◌, ◌+◌, IfOk};
+ghost use Rattle.std.specs.Prelude.{◌≡◌, IfOk, cond};
 ghost use Rattle.std.specs.List.{sum_by};
 ghost use Rattle.lsm_layout.specs.Axis.{across, before, begin_of, end_of, room, up_to};
 ghost use Rattle.lsm_layout.specs.Sums.{bytes_of};

@@ -7,8 +7,10 @@
 //! come.
 #![tactic(auto)]
 
-// What is asked for.
+// One run, and what is asked for.
 mod line;
+mod program;
+mod showing;
 
 // What a shape says: sums, ranges, what is due.
 mod due;
@@ -23,4 +25,6 @@ mod lines;
 
 pub use due::Due;
 pub use line::{LevelsLine, LevelsOutput};
+pub use program::run_levels;
+pub use showing::{lay_out, text_of};
 pub use span::KeySpan;

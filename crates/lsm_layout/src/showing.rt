@@ -1,10 +1,10 @@
 //! What is shown of a folder's manifest.
 
-ghost use Rattle.std.specs.Prelude.{◌≡◌, ◌≢◌, IfErr, IfOk, OnOk};
-ghost use Rattle.std.specs.Io.KnownBytes.{Appends, Keeps};
+ghost use Rattle.std.specs.Prelude.{◌≡◌, IfErr, IfOk, OnOk};
+ghost use Rattle.std.specs.Io.KnownBytes.{Keeps};
 ghost use Rattle.lsm_directory.specs.Logs.{NoneUnread};
-ghost use Rattle.lsm_layout.specs.Layout.{IsLaidOut, IsLayoutFault, IsShown, IsUnshown, Names};
-ghost use Rattle.lsm_layout.specs.Layout.{ReadsManifest};
+ghost use Rattle.lsm_layout.specs.Layout.{IsLaidOut, IsLayoutFault, IsNotNamed, IsShown, IsUnshown};
+ghost use Rattle.lsm_layout.specs.Layout.{Names, ReadsManifest, Shows};
 
 use crate::drawing::{Sheet, picture_text};
 use crate::due::due_next;
@@ -20,8 +20,9 @@ use std::io::{self, Write};
 use std::marker::Brand;
 use std::sync::Wait;
 
-/// What is shown of a shape whose manifest has so many bytes at its end that hold no whole record.
-fn text_of(
+/// What is shown of a shape whose manifest has so many bytes at its end that hold no whole record,
+/// with the compaction that is due in it. `AllocError` where a growth was refused.
+pub fn text_of(
     alloc: Global,
     form: Form,
     output: LevelsOutput,
@@ -86,7 +87,7 @@ fn read_named<N: Naming, S: Shelf, R: Wait>(
     shelf: &mut NamedShelf<N, S>,
 ) -> Result<Recovered, DirectoryFault>
     ensures named { IfOk result (λ r. Names shelf.old shelf.new r.shape r.rest) }
-    ensures fault { IfErr result (λ e. IsUnread (S.refuses N.place) e shelf.old shelf.new) }
+    ensures fault { IfErr result (λ e. IsNotNamed (S.refuses N.place) e shelf.old shelf.new) }
 {
     // Nothing is sent through the journal, so it has no use for its limit.
     match Journal::recover(rt, alloc, shelf, u64::MAX) {
@@ -104,7 +105,7 @@ fn read_as<N: Naming, S: Shelf, R: Wait>(
     requires shelf { (S.told shelf).place ≡ N.place }
     ensures named { IfOk result.0 (λ r. Names (S.told shelf) (S.told result.1) r.shape r.rest) }
     ensures fault { IfErr result.0 (λ e.
-        IsUnread (S.refuses N.place) e (S.told shelf) (S.told result.1)) }
+        IsNotNamed (S.refuses N.place) e (S.told shelf) (S.told result.1)) }
 {
     let mut shelf: NamedShelf<N, S> = NamedShelf::of(shelf);
     let read = read_named(rt, alloc, &mut shelf);
