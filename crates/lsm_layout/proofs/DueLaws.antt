@@ -53,7 +53,7 @@ best_same s n w None most is le (e, none) = (e, λ m lt due. (elim (next_cases m
   | inr less ↦ none m less due
 ]))
 best_same s n w (Some level) most is le (lt', e, own, first) = (omega (arith, lt'), e, own, λ m lt due. (elim (next_cases m n lt) as (λ _. IsBefore s level m) [
-  | inl same ↦ (elim (eq-or-lt_of_le (omega (arith, is, le, e))) as (λ _. IsBefore s level m) [
+  | inl same ↦ (elim (eq-or-lt_of_le {n = heavy s n} {m = heavy s level} (omega (arith, is, le, e))) as (λ _. IsBefore s level m) [
     | inl equal ↦ inr (ap (heavy s) same ∙ equal, omega (arith, lt', same))
     | inr less ↦ inl (subst (λ k. heavy s k < heavy s level) (sym same) less)
   ])

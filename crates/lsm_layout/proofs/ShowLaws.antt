@@ -1,10 +1,12 @@
 -- What a run says, by what reading the manifest and showing its shape say.
-use Rattle.std.proofs.Common.{◌≡◌, ℕ, List, Option, IfErr, OnErr, OnOk, arith, inl, inr}
+use Rattle.std.proofs.Common.{◌≡◌, ℕ, List, ◌∷◌, Option, IfErr, OnErr, OnOk, arith, inl, inr, refl, sym, subst}
 use Rattle.std.specs.Prelude.{Result, Ok, Err}
 use Rattle.std.specs.Io.KnownBytes.{Keeps}
 use Rattle.std.proofs.KnownBytes.{Keeps-refl, Keeps-trans}
 use Rattle.lsm_folder.specs.declared.folder_calls.FolderCalls.{Ghosts}
 use Rattle.lsm_manifest.specs.declared.shape.Shape.{Shape}
+use Rattle.lsm_codec.specs.Lists.{Has}
+use Rattle.lsm_codec.proofs.CallerLemmas.{has_right}
 use Rattle.lsm_shelf.specs.Asked.{Asked}
 use Rattle.lsm_shelf.specs.Refusals.{MayRefuse}
 use Rattle.lsm_shelf.specs.Told.{Told}
@@ -15,7 +17,7 @@ use Rattle.lsm_journal.specs.declared.recover_fault.RecoverFault.{RecoverFault}
 use Rattle.lsm_journal.specs.declared.recover_fault.RecoverFault.TheVariants as recover_faults
 use Rattle.lsm_text.specs.declared.form.Form.{Form}
 use Rattle.lsm_directory.specs.Folders.{IsShelfAt, told_by}
-use Rattle.lsm_directory.specs.Logs.{NoneUnread}
+use Rattle.lsm_directory.specs.Logs.{IsFirstUnread, NoneUnread}
 use Rattle.lsm_directory.specs.Looking.{TellsBeside}
 use Rattle.lsm_directory.specs.declared.faults.directory_fault.DirectoryFault.{DirectoryFault}
 use Rattle.lsm_directory.specs.declared.faults.directory_fault.DirectoryFault.TheVariants as why
@@ -60,6 +62,11 @@ fault_reads Refused (why.Read e) was is h = absurd h
 fault_reads Refused why.NumbersSpent was is h = absurd h
 fault_reads Refused why.Locked was is h = absurd h
 fault_reads Refused why.Absent was is h = absurd h
+
+-- a log was found that is to be noted
+pub noted : (log prev : ℕ) (files : List FolderFile) (n : ℕ) → IsFirstUnread log prev files n → NoneUnread log prev files → ⊥
+noted log prev files n first none =
+    none first.file (subst (λ (fs : List FolderFile). Has fs first.file) (sym first.parts) (has_right first.before (first.file ∷ first.after) first.file (inl refl))) first.unread
 
 -- ---- a folder
 

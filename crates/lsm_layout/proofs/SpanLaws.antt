@@ -84,7 +84,7 @@ grown_met all i x from old new own test lt at is answer holds h g = record {
   ]);
   least = λ q w c. (let o = g.least q w c in
       let there : Has all x = contains_says all x (i, lt, sym at) in
-      let there_meets : meets q (span_of x) ≡ true = meets_wider old q (span_of x) o (sym (ap (λ (y : Span). meets old y) (sym is)) ∙ sym answer ∙ holds) in
+      let there_meets : meets q (span_of x) ≡ true = meets_wider old q (span_of x) o (ap (λ (y : Span). meets old y) (sym is) ∙ sym answer ∙ holds) in
       h.least q o (subst (λ (y : Span). IsWithin y q) (sym is) (c x there there_meets)));
 }
 

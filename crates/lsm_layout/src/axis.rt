@@ -64,28 +64,44 @@ fn up_to_in(key: &[u8], files: &[FileMeta]) -> Result<u128, AllocError>
     Ok(sum)
 }
 
-/// Where what begins at a key begins.
-#[tactic(auto, unfolding(crate::specs::Axis::begin_of), using(crate::proofs::LoopLaws::sum_more, crate::proofs::LoopLaws::sum_all))]
-pub(crate) fn begin_of(shape: &Shape, key: &[u8]) -> Result<u128, AllocError>
-    ensures { IfOk result (λ n. n ≡ begin_of shape.now key.now) }
+/// The room of the ends in these levels that are before a key.
+#[tactic(auto, using(crate::proofs::LoopLaws::sum_more, crate::proofs::LoopLaws::sum_all))]
+fn before_all(key: &[u8], levels: &[List<FileMeta>]) -> Result<u128, AllocError>
+    ensures { IfOk result (λ n. n ≡ sum_by (λ fs. sum_by (before key.now) fs) levels.now) }
 {
     let mut sum = 0;
-    for files in &shape.levels {
+    for files in levels {
         sum = sum_of(sum, before_in(key, files.as_slice())?)?;
     }
     Ok(sum)
 }
 
-/// Where what ends at a key ends.
-#[tactic(auto, unfolding(crate::specs::Axis::end_of), using(crate::proofs::LoopLaws::sum_more, crate::proofs::LoopLaws::sum_all))]
-pub(crate) fn end_of(shape: &Shape, key: &[u8]) -> Result<u128, AllocError>
-    ensures { IfOk result (λ n. n ≡ end_of shape.now key.now) }
+/// Where what begins at a key begins.
+#[tactic(auto, unfolding(crate::specs::Axis::begin_of))]
+pub(crate) fn begin_of(shape: &Shape, key: &[u8]) -> Result<u128, AllocError>
+    ensures { IfOk result (λ n. n ≡ begin_of shape.now key.now) }
+{
+    before_all(key, &shape.levels)
+}
+
+/// The room of the ends in these levels that are not behind a key.
+#[tactic(auto, using(crate::proofs::LoopLaws::sum_more, crate::proofs::LoopLaws::sum_all))]
+fn up_to_all(key: &[u8], levels: &[List<FileMeta>]) -> Result<u128, AllocError>
+    ensures { IfOk result (λ n. n ≡ sum_by (λ fs. sum_by (up_to key.now) fs) levels.now) }
 {
     let mut sum = 0;
-    for files in &shape.levels {
+    for files in levels {
         sum = sum_of(sum, up_to_in(key, files.as_slice())?)?;
     }
     Ok(sum)
+}
+
+/// Where what ends at a key ends.
+#[tactic(auto, unfolding(crate::specs::Axis::end_of))]
+pub(crate) fn end_of(shape: &Shape, key: &[u8]) -> Result<u128, AllocError>
+    ensures { IfOk result (λ n. n ≡ end_of shape.now key.now) }
+{
+    up_to_all(key, &shape.levels)
 }
 
 /// The bytes of all files.

@@ -18,7 +18,7 @@ use std::cmp::Ordering;
 /// next one that meet another.
 #[derive(Clone, Copy, Debug)]
 pub struct Due<'a> {
-    pub(crate) level: usize,
+    pub(crate) level: u8,
     pub(crate) upper: KeySpan<'a>,
     pub(crate) lower: KeySpan<'a>,
 }
@@ -89,7 +89,7 @@ fn due_from<'a>(
     let upper = reach(files_at(shape, level), KeySpan::of(start))?;
     let lower = reach(files_at(shape, level + 1), upper)?;
     Ok(Due {
-        level,
+        level: level as u8,
         upper,
         lower,
     })
@@ -117,5 +117,6 @@ pub(crate) fn is_taken(due: Option<Due<'_>>, level: usize, file: &FileMeta) -> b
         return false;
     };
     let own = KeySpan::of(file);
-    (level == due.level && due.upper.meets(own)) || (level == due.level + 1 && due.lower.meets(own))
+    let at = usize::from(due.level);
+    (level == at && due.upper.meets(own)) || (level == at + 1 && due.lower.meets(own))
 }

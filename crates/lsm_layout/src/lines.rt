@@ -195,7 +195,7 @@ pub(crate) fn push_due_words(out: &mut Vec<u8>, due: Option<Due<'_>>) -> Result<
     ensures { OnOk result (out.new.items ≡ out.old.items ++ due_words due.entry) }
 {
     match due {
-        Some(due) => push_labelled(out, b"due level ", due.level as u128),
+        Some(due) => push_labelled(out, b"due level ", u128::from(due.level)),
         None => Ok(out.extend_from_slice(b"due none")?),
     }
 }

@@ -57,8 +57,11 @@ fn tell_notes<E: Write>(alloc: Global, files: &[FolderFile], shape: &Shape, err:
     ensures { NoneUnread shape.now.log shape.now.prev_log files.now
         → Keeps (E.contents err.old) (E.contents err.new) }
 {
-    if first_unread(files, shape.log, shape.prev_log).is_some() {
-        let _ = write_notes(alloc, files, shape, err);
+    match first_unread(files, shape.log, shape.prev_log) {
+        None => {}
+        Some(_) => {
+            let _ = write_notes(alloc, files, shape, err);
+        }
     }
 }
 
@@ -114,6 +117,7 @@ fn read_as<N: Naming, S: Shelf, R: Wait>(
 
 /// Reads the manifest that the directory of a shelf names, and writes what is shown of it on
 /// `out`; notes on `err` each log that is not read. The shelf is given back.
+#[tactic(auto, using(crate::proofs::ShowLaws::laid_out, crate::proofs::ShowLaws::not_shown, crate::proofs::ShowLaws::not_named, crate::proofs::ShowLaws::named_reads, crate::proofs::ShowLaws::fault_reads))]
 pub fn lay_out<S: Shelf, R: Wait, O: Write, E: Write>(
     rt: &R,
     alloc: Global,
