@@ -5,6 +5,7 @@ use Rattle.lsm_manifest.specs.declared.file_meta.FileMeta.{FileMeta}
 use Rattle.lsm_manifest.specs.declared.shape.Shape.{Shape}
 use Rattle.lsm_text.specs.declared.form.Form.{Form}
 use Rattle.lsm_layout.specs.Drawing.{bar, bars_from, height_of, top_of}
+use Rattle.lsm_layout.specs.Axis.{room}
 use Rattle.lsm_layout.specs.Sums.{files_at}
 use Rattle.lsm_layout.specs.declared.due.Due.{Due}
 
@@ -16,7 +17,7 @@ module _ (form : Form) (s : Shape) (due : Option Due) (level : ℕ) where
       let one : suc i ≡ i + 1 = omega arith in
       let later : List ℕ = bars_from form s due level (suc i) (drop (i + 1) fs) in
       let next : bars_from form s due level i (drop i fs) ≡ bar form s due level i x ++ later =
-          ap (bars_from form s due level i) (drop_more fs i x lt) ∙ ap (λ (y : FileMeta). bar form s due level i y ++ later) (sym is) in
+      ap (bars_from form s due level i) (drop_more fs i x lt) ∙ ap (λ (y : FileMeta). bar form s due level i y ++ later) (sym is) in
       ap (λ (k : ℕ). after ++ bars_from form s due level k (drop (i + 1) fs)) (sym one) ∙ ap (λ (t : List ℕ). t ++ later) added ∙ append_assoc before (bar form s due level i x) later
       ∙ ap (λ (t : List ℕ). before ++ t) (sym next) ∙ so_far
 
@@ -33,3 +34,8 @@ top_more s n before after one so_far is added =
 pub top_none : (s : Shape) → 0 ≡ top_of s 0
 unfolding top_of
 top_none s = refl
+
+-- there is room
+pub room_some : (s : Shape) (n : ℕ) → n ≡ room s → 0 < n
+unfolding room
+room_some s n is = omega (arith, is)

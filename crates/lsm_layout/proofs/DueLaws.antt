@@ -41,24 +41,36 @@ before_all s n w m (Some level) most is more (lt', e, own, first) lt due = elim 
 
 pub best_more : (s : Shape) (n w : ℕ) (best : Option ℕ) (most : ℕ) → n ≤ 5 → w ≡ heavy s n → most < w → IsBest s n best most → IsBest s (n + 1) (Some n) w
 best_more s n w best most few is more b =
-    let least = over s n best most b in
-    (omega arith, is, (few, omega (arith, least, more, is)), λ m lt due. (elim (next_cases m n lt) as (λ _. IsBefore s n m) [
-      | inl same ↦ inr (ap (heavy s) same, omega (arith, same))
-      | inr less ↦ inl (before_all s n w m best most is more b less due)
-    ]))
+    let least = over s n best most b in (
+      omega arith,
+      is,
+      (few, omega (arith, least, more, is)),
+      λ m lt due. (elim (next_cases m n lt) as (λ _. IsBefore s n m) [
+        | inl same ↦ inr (ap (heavy s) same, omega (arith, same))
+        | inr less ↦ inl (before_all s n w m best most is more b less due)
+      ]),
+    )
 
 pub best_same : (s : Shape) (n w : ℕ) (best : Option ℕ) (most : ℕ) → w ≡ heavy s n → w ≤ most → IsBest s n best most → IsBest s (n + 1) best most
-best_same s n w None most is le (e, none) = (e, λ m lt due. (elim (next_cases m n lt) as (λ _. ⊥) [
-  | inl same ↦ (let h = (subst (IsDue s) same due).1 in omega (arith, h, is, le, e))
-  | inr less ↦ none m less due
-]))
-best_same s n w (Some level) most is le (lt', e, own, first) = (omega (arith, lt'), e, own, λ m lt due. (elim (next_cases m n lt) as (λ _. IsBefore s level m) [
-  | inl same ↦ (elim (eq-or-lt_of_le {n = heavy s n} {m = heavy s level} (omega (arith, is, le, e))) as (λ _. IsBefore s level m) [
-    | inl equal ↦ inr (ap (heavy s) same ∙ equal, omega (arith, lt', same))
-    | inr less ↦ inl (subst (λ k. heavy s k < heavy s level) (sym same) less)
-  ])
-  | inr less ↦ first m less due
-]))
+best_same s n w None most is le (e, none) = (
+  e,
+  λ m lt due. (elim (next_cases m n lt) as (λ _. ⊥) [
+    | inl same ↦ (let h = (subst (IsDue s) same due).1 in omega (arith, h, is, le, e))
+    | inr less ↦ none m less due
+  ]),
+)
+best_same s n w (Some level) most is le (lt', e, own, first) = (
+  omega (arith, lt'),
+  e,
+  own,
+  λ m lt due. (elim (next_cases m n lt) as (λ _. IsBefore s level m) [
+    | inl same ↦ (elim (eq-or-lt_of_le {n = heavy s n} {m = heavy s level} (omega (arith, is, le, e))) as (λ _. IsBefore s level m) [
+      | inl equal ↦ inr (ap (heavy s) same ∙ equal, omega (arith, lt', same))
+      | inr less ↦ inl (subst (λ k. heavy s k < heavy s level) (sym same) less)
+    ])
+    | inr less ↦ first m less due
+  ]),
+)
 
 pub best_done : (s : Shape) (n : ℕ) (best : Option ℕ) (most : ℕ) → 6 ≤ n → IsBest s n best most → IsFirstDue s best
 best_done s n None most past (e, none) = λ m due. none m (omega (arith, due.0, past)) due

@@ -23,8 +23,8 @@ use Rattle.lsm_directory.specs.declared.faults.directory_fault.DirectoryFault.{D
 use Rattle.lsm_directory.specs.declared.faults.directory_fault.DirectoryFault.TheVariants as why
 use Rattle.lsm_directory.specs.declared.folder.folder_file.FolderFile.{FolderFile}
 use Rattle.lsm_layout.specs.Layout.{FailsToLayOut, IsLaidOut, IsLayoutFault, IsNotNamed, IsUnshown, LaysOutAt, Names, ReadsManifest, Shows}
-use Rattle.lsm_layout.specs.declared.line.LevelsLine.{LevelsLine}
-use Rattle.lsm_layout.specs.declared.line.LevelsOutput.{LevelsOutput}
+use Rattle.lsm_text.specs.declared.request.LevelsLine.{LevelsLine}
+use Rattle.lsm_text.specs.declared.levels_output.LevelsOutput.{LevelsOutput}
 
 -- ---- a shelf
 

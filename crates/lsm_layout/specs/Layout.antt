@@ -24,9 +24,9 @@ use Rattle.lsm_layout.specs.Drawing.{picture_text}
 use Rattle.lsm_layout.specs.Dues.{IsDueNext}
 use Rattle.lsm_layout.specs.Lines.{files_text, levels_text}
 use Rattle.lsm_layout.specs.declared.due.Due.{Due}
-use Rattle.lsm_layout.specs.declared.line.LevelsLine.{LevelsLine}
-use Rattle.lsm_layout.specs.declared.line.LevelsOutput.{LevelsOutput}
-use Rattle.lsm_layout.specs.declared.line.LevelsOutput.TheVariants.{Levels, Files, Svg}
+use Rattle.lsm_text.specs.declared.request.LevelsLine.{LevelsLine}
+use Rattle.lsm_text.specs.declared.levels_output.LevelsOutput.{LevelsOutput}
+use Rattle.lsm_text.specs.declared.levels_output.LevelsOutput.TheVariants.{Levels, Files, Svg}
 
 -- ---- what is shown
 

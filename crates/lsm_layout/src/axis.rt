@@ -26,8 +26,14 @@ fn counted(counts: bool, n: u64) -> u128
 fn before(key: &[u8], file: &FileMeta) -> Result<u128, AllocError>
     ensures { IfOk result (λ n. n ≡ before key.now file.now) }
 {
-    let low = counted(!is_at_most(key, user_of(file.smallest.as_slice())), file.size);
-    let high = counted(!is_at_most(key, user_of(file.largest.as_slice())), file.size);
+    let low = counted(
+        !is_at_most(key, user_of(file.smallest.as_slice())),
+        file.size,
+    );
+    let high = counted(
+        !is_at_most(key, user_of(file.largest.as_slice())),
+        file.size,
+    );
     sum_of(low, high)
 }
 
@@ -35,7 +41,10 @@ fn before(key: &[u8], file: &FileMeta) -> Result<u128, AllocError>
 fn up_to(key: &[u8], file: &FileMeta) -> Result<u128, AllocError>
     ensures { IfOk result (λ n. n ≡ up_to key.now file.now) }
 {
-    let low = counted(is_at_most(user_of(file.smallest.as_slice()), key), file.size);
+    let low = counted(
+        is_at_most(user_of(file.smallest.as_slice()), key),
+        file.size,
+    );
     let high = counted(is_at_most(user_of(file.largest.as_slice()), key), file.size);
     sum_of(low, high)
 }

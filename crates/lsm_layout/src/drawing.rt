@@ -121,7 +121,11 @@ fn rise(taken: bool) -> u128
 fn row_of(shape: &Shape, level: usize, index: usize) -> Result<u128, AllocError>
     ensures { IfOk result (λ n. n ≡ row_of shape.now level index) }
 {
-    let below = if level == 0 { product_of(index as u128, 2_000)? } else { 0 };
+    let below = if level == 0 {
+        product_of(index as u128, 2_000)?
+    } else {
+        0
+    };
     sum_of(top_of(shape, level)?, sum_of(2_000, below)?)
 }
 

@@ -74,11 +74,7 @@ fn start_of<'a>(pointer: &Option<Bytes>, files: &'a [FileMeta]) -> Option<&'a Fi
 }
 
 /// What a compaction takes that starts from a file of a level.
-fn due_from<'a>(
-    shape: &'a Shape,
-    level: usize,
-    start: &'a FileMeta,
-) -> Result<Due<'a>, AllocError>
+fn due_from<'a>(shape: &'a Shape, level: usize, start: &'a FileMeta) -> Result<Due<'a>, AllocError>
     requires level { level ≤ 5 }
     ensures level { IfOk result (λ d. d.level ≡ level) }
     ensures upper { IfOk result (λ d.

@@ -7,8 +7,7 @@
 //! come.
 #![tactic(auto)]
 
-// One run, and what is asked for.
-mod line;
+// One run.
 mod program;
 mod showing;
 
@@ -24,7 +23,6 @@ mod drawing;
 mod lines;
 
 pub use due::Due;
-pub use line::{LevelsLine, LevelsOutput};
 pub use program::run_levels;
 pub use showing::{lay_out, text_of};
 pub use span::KeySpan;

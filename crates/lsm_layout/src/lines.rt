@@ -96,12 +96,7 @@ fn push_level(out: &mut Vec<u8>, level: usize, files: &[FileMeta]) -> Result<(),
 
 /// Appends the line of a file.
 #[tactic(auto, unfolding(crate::specs::Lines::file_line))]
-fn push_file(
-    out: &mut Vec<u8>,
-    form: Form,
-    level: usize,
-    file: &FileMeta,
-) -> Result<(), AllocError>
+fn push_file(out: &mut Vec<u8>, form: Form, level: usize, file: &FileMeta) -> Result<(), AllocError>
     ensures { OnOk result (out.new.items ≡ out.old.items ++ file_line form level file.now) }
 {
     push_word(out, level as u128)?;
@@ -216,11 +211,7 @@ fn push_due(out: &mut Vec<u8>, shape: &Shape, due: Option<Due<'_>>) -> Result<()
 
 /// Appends the last sequence, and how many bytes at the manifest's end hold no whole record.
 #[tactic(auto, unfolding(crate::specs::Lines::last_words))]
-pub(crate) fn push_last_words(
-    out: &mut Vec<u8>,
-    shape: &Shape,
-    rest: u64,
-) -> Result<(), AllocError>
+pub(crate) fn push_last_words(out: &mut Vec<u8>, shape: &Shape, rest: u64) -> Result<(), AllocError>
     ensures { OnOk result (out.new.items ≡ out.old.items ++ last_words shape.now rest) }
 {
     push_labelled(out, b"last ", u128::from(shape.last))?;

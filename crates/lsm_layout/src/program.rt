@@ -7,13 +7,13 @@ ghost use Rattle.lsm_directory.specs.Looking.{TellsBeside};
 ghost use Rattle.lsm_directory.specs.declared.faults.directory_fault.DirectoryFault.{DirectoryFault};
 ghost use Rattle.lsm_layout.specs.Layout.{FailsToLayOut, LaysOutAt};
 
-use crate::line::LevelsLine;
 use crate::showing::lay_out;
 use lsm_directory::{
     DirectoryFault, FolderFile, Known, Paths, files_beside, open_at, refuse, status_of,
 };
 use lsm_folder::{FolderCalls, Reasons};
 use lsm_storage::FileShelf;
+use lsm_text::LevelsLine;
 use std::io::Write;
 use std::sync::Wait;
 

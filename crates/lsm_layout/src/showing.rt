@@ -8,13 +8,12 @@ ghost use Rattle.lsm_layout.specs.Layout.{Names, ReadsManifest, Shows};
 
 use crate::drawing::{Sheet, picture_text};
 use crate::due::due_next;
-use crate::line::LevelsOutput;
 use crate::lines::{files_text, levels_text};
 use lsm_directory::{DirectoryFault, FolderFile, Wording, first_unread, push_logs, write_output};
 use lsm_journal::{Journal, Recovered};
 use lsm_manifest::Shape;
 use lsm_table::{NamedShelf, Naming, Shelf};
-use lsm_text::Form;
+use lsm_text::{Form, LevelsOutput};
 use std::alloc::{AllocError, Global};
 use std::io::{self, Write};
 use std::marker::Brand;

@@ -138,7 +138,7 @@ is_done (Err e) form command others progress Honest was mid is v rest log prev o
 -- an absent key leaves what is written before a fault by a read of a key: nothing
 absent_leaves : (form : Form) (command : DirectoryCommand) (Honest : Type 0) (v : Levels) (old new : Option (List ℕ)) → SaysAbsent Honest command v
     → PrintsBefore form command Honest v old new → Keeps old new
-absent_leaves form Check Honest v old new says p = p
+absent_leaves form (Check workers) Honest v old new says p = p
 absent_leaves form ListFiles Honest v old new says p = p
 absent_leaves form (Get key output) Honest v old new says p = p
 absent_leaves form (Scan options) Honest v old new says p = absurd says

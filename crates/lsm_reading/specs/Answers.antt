@@ -24,7 +24,7 @@ use Rattle.lsm_directory.specs.declared.faults.directory_fault.DirectoryFault.Th
 -- what a command writes for a version, for a manifest with so many bytes at its end that hold no whole record and with these log numbers,
 -- and for the files beside it
 abbrev pub Prints : Form → DirectoryCommand → Levels → (rest log prev : ℕ) → List FolderFile → Option (List ℕ) → Option (List ℕ) → Type 0
-Prints form Check v rest log prev others old new = (text : List ℕ) × IsChecked v rest log prev others text × Appends old new text
+Prints form (Check workers) v rest log prev others old new = (text : List ℕ) × IsChecked v rest log prev others text × Appends old new text
 Prints form ListFiles v rest log prev others old new = Appends old new (list_text form v)
 Prints form (Get key output) v rest log prev others old new =
     (text : List ℕ) × (shown_answer form output (answer (all_entries (files v)) key v.last) ≡ Some text) × Appends old new text
@@ -37,7 +37,7 @@ WritesNotes log prev files old new = (logs : List FolderFile) × AreThose (IsUnr
 -- Of these files beside the tables a command says nothing on standard error: a check says what it has to say on standard output, and any
 -- other command notes each log that is not read.
 abbrev pub HasNoNote : DirectoryCommand → (log prev : ℕ) → List FolderFile → Type 0
-HasNoNote Check log prev others = ⊤
+HasNoNote (Check workers) log prev others = ⊤
 HasNoNote ListFiles log prev others = NoneUnread log prev others
 HasNoNote (Get key output) log prev others = NoneUnread log prev others
 HasNoNote (Scan options) log prev others = NoneUnread log prev others
@@ -63,7 +63,7 @@ HoldsVersion Honest was is v = (rest : ℕ) × (log : ℕ) × (prev : ℕ) × Ho
 
 -- A read of a key that is not to print a line says that it is absent: over an honest shelf it has no answer at the last sequence.
 abbrev pub SaysAbsent : Type 0 → DirectoryCommand → Levels → Type 0
-SaysAbsent Honest Check v = ⊥
+SaysAbsent Honest (Check workers) v = ⊥
 SaysAbsent Honest ListFiles v = ⊥
 SaysAbsent Honest (Get key output) v = (output ≢ Line) × (Honest → answer (all_entries (files v)) key v.last ≡ None)
 SaysAbsent Honest (Scan options) v = ⊥
@@ -84,7 +84,7 @@ IsLookFault Stored Refused Honest command Absent was is = (v : Levels) × HoldsV
 
 -- What is written of a version before a fault that is no failed write: nothing, or, by a scan and over an honest shelf, its first lines.
 abbrev pub PrintsBefore : Form → DirectoryCommand → Type 0 → Levels → Option (List ℕ) → Option (List ℕ) → Type 0
-PrintsBefore form Check Honest v old new = Keeps old new
+PrintsBefore form (Check workers) Honest v old new = Keeps old new
 PrintsBefore form ListFiles Honest v old new = Keeps old new
 PrintsBefore form (Get key output) Honest v old new = Keeps old new
 PrintsBefore form (Scan options) Honest v old new = LeavesScan form options Honest v old new
@@ -109,7 +109,7 @@ pub record IsNotLookedInto (form : Form) (command : DirectoryCommand) (fault : D
 
 -- a command whose refusals name the file of a table
 abbrev pub names_files : DirectoryCommand → Bool
-names_files Check = true
+names_files (Check workers) = true
 names_files ListFiles = false
 names_files (Get key output) = false
 names_files (Scan options) = true

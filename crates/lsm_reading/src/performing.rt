@@ -134,7 +134,7 @@ fn perform_on<N: Naming, S: Shelf, O: Write, E: Write>(
 {
     let version = &opened.version;
     let text = match inquiry.command {
-        DirectoryCommand::Check => checked(shelf, alloc, registry, opened, inquiry, err)?,
+        DirectoryCommand::Check(_) => checked(shelf, alloc, registry, opened, inquiry, err)?,
         DirectoryCommand::List => list_files(alloc, inquiry.form, registry, version)?,
         DirectoryCommand::Get(key, output) => {
             answer_of(shelf, alloc, version, inquiry.form, key, *output)?

@@ -29,7 +29,7 @@ fn names_files(command: &DirectoryCommand) -> bool
     ensures { result ≡ names_files command.now }
 {
     match command {
-        DirectoryCommand::Check | DirectoryCommand::Scan(_) => true,
+        DirectoryCommand::Check(_) | DirectoryCommand::Scan(_) => true,
         DirectoryCommand::List | DirectoryCommand::Get(_, _) => false,
     }
 }

@@ -82,10 +82,13 @@ unfoldable pub script : App
 script = command (codes "script") (file ∷ [])
 
 unfoldable pub check : App
-check = command (codes "check") (folder ∷ progress ∷ [])
+check = command (codes "check") (folder ∷ workers ∷ progress ∷ [])
 
 unfoldable pub list : App
 list = command (codes "list") (folder ∷ text ∷ [])
+
+unfoldable pub levels : App
+levels = command (codes "levels") (folder ∷ text ∷ flag (codes "files") ∷ flag (codes "svg") ∷ [])
 
 unfoldable pub get : App
 get = command (codes "get") (folder ∷ key ∷ text ∷ flag (codes "raw") ∷ flag (codes "exists") ∷ [])
@@ -93,7 +96,8 @@ get = command (codes "get") (folder ∷ key ∷ text ∷ flag (codes "raw") ∷ 
 unfoldable pub scan : App
 scan =
     command (codes "scan")
-    (folder ∷ valued (codes "from") ∷ valued (codes "to") ∷ valued (codes "prefix") ∷ limit ∷ text ∷ flag (codes "keys") ∷ flag (codes "count") ∷ progress ∷ [])
+    (folder ∷ valued (codes "from") ∷ valued (codes "to") ∷ valued (codes "prefix") ∷ limit ∷ text ∷ flag (codes "keys") ∷ flag (codes "json")
+    ∷ flag (codes "count") ∷ progress ∷ [])
 
 unfoldable pub ingest : App
 ingest = command (codes "ingest") (folder ∷ word (codes "FILE") ∷ text ∷ begin ∷ beside_log ∷ [])
@@ -134,7 +138,8 @@ with_inputs =
 
 -- with those that only read a folder
 unfoldable pub with_looks : App
-with_looks = with_subcommand (with_subcommand (with_subcommand (with_subcommand with_inputs check.top) list.top) get.top) scan.top
+with_looks =
+    with_subcommand (with_subcommand (with_subcommand (with_subcommand (with_subcommand with_inputs check.top) list.top) levels.top) get.top) scan.top
 
 -- with those that write keys into a folder
 unfoldable pub with_writes : App

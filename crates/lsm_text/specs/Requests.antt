@@ -26,12 +26,14 @@ use Rattle.lsm_text.specs.declared.ingest_options.IngestOptions.{IngestOptions}
 use Rattle.lsm_text.specs.declared.input.Input.{Input}
 use Rattle.lsm_text.specs.declared.input.Input.TheVariants.{Standard, File}
 use Rattle.lsm_text.specs.declared.key_bounds.KeyBounds.{KeyBounds}
+use Rattle.lsm_text.specs.declared.levels_output.LevelsOutput.{LevelsOutput}
+use Rattle.lsm_text.specs.declared.levels_output.LevelsOutput.TheVariants as levels_output
 use Rattle.lsm_text.specs.declared.load_options.LoadOptions.{LoadOptions}
 use Rattle.lsm_text.specs.declared.request.Request.{Request}
-use Rattle.lsm_text.specs.declared.request.Request.TheVariants.{Convert, Look, Write as WriteFolder, Load, Compact, Script, Shell}
+use Rattle.lsm_text.specs.declared.request.Request.TheVariants.{Convert, Look, Levels, Write as WriteFolder, Load, Compact, Script, Shell}
 use Rattle.lsm_text.specs.declared.scan_options.ScanOptions.{ScanOptions}
 use Rattle.lsm_text.specs.declared.scan_output.ScanOutput.{ScanOutput}
-use Rattle.lsm_text.specs.declared.scan_output.ScanOutput.TheVariants.{Pairs, Keys, Count}
+use Rattle.lsm_text.specs.declared.scan_output.ScanOutput.TheVariants.{Pairs, Keys, Json, Count}
 use Rattle.lsm_text.specs.declared.writing_command.WritingCommand.{WritingCommand}
 use Rattle.lsm_text.specs.declared.writing_command.WritingCommand.TheVariants.{Ingest, WriteKey, Clean}
 
@@ -71,6 +73,7 @@ named word =
     else if bytes_eq word (codes "script") then Some name.Script
     else if bytes_eq word (codes "check") then Some name.Check
     else if bytes_eq word (codes "list") then Some name.List
+    else if bytes_eq word (codes "levels") then Some name.Levels
     else if bytes_eq word (codes "get") then Some name.Get
     else if bytes_eq word (codes "scan") then Some name.Scan
     else if bytes_eq word (codes "ingest") then Some name.Ingest
@@ -91,6 +94,7 @@ word_of name.Manifest = codes "manifest"
 word_of name.Script = codes "script"
 word_of name.Check = codes "check"
 word_of name.List = codes "list"
+word_of name.Levels = codes "levels"
 word_of name.Get = codes "get"
 word_of name.Scan = codes "scan"
 word_of name.Ingest = codes "ingest"
@@ -108,7 +112,7 @@ name_of_conversion conversion.Dump = name.Dump
 name_of_conversion conversion.Manifest = name.Manifest
 
 abbrev pub name_of_look : DirectoryCommand → CommandName
-name_of_look look.Check = name.Check
+name_of_look (look.Check workers) = name.Check
 name_of_look look.List = name.List
 name_of_look (look.Get key output) = name.Get
 name_of_look (look.Scan options) = name.Scan
@@ -126,6 +130,7 @@ name_of_write Clean = name.Clean
 abbrev pub name_of : Request → CommandName
 name_of (Convert conversion input) = name_of_conversion conversion
 name_of (Look line) = name_of_look line.command
+name_of (Levels line) = name.Levels
 name_of (WriteFolder line) = name_of_write line.command
 name_of (Load line) = name.Load
 name_of (Compact line) = name.Compact
@@ -169,9 +174,20 @@ IsLimit (Some word) (Some n) = IsNumberWord 18446744073709551615 word n
 abbrev pub get_output_in : List Row → GetOutput
 get_output_in rows = if is_set (codes "exists") rows then Nothing else if is_set (codes "raw") rows then Raw else Line
 
--- `--count` rules over `--keys`
+-- `--count` rules over `--json`, and that over `--keys`
 abbrev pub scan_output_in : List Row → ScanOutput
-scan_output_in rows = if is_set (codes "count") rows then Count else if is_set (codes "keys") rows then Keys else Pairs
+scan_output_in rows =
+    if is_set (codes "count") rows then Count
+    else if is_set (codes "json") rows then Json
+    else if is_set (codes "keys") rows then Keys
+    else Pairs
+
+-- `--files` and `--svg` exclude one another
+abbrev pub levels_output_in : List Row → Option LevelsOutput
+levels_output_in rows =
+    if is_set (codes "svg") rows then (if is_set (codes "files") rows then None else Some levels_output.Svg)
+    else if is_set (codes "files") rows then Some levels_output.Files
+    else Some levels_output.Levels
 
 -- so many workers as one digit (48 is `0`), 1 to 8
 pub record IsWorkersWord (word : List ℕ) (workers : ℕ) : Type 0 where
@@ -193,7 +209,7 @@ AreScanOptions rows options =
     AreBounds rows options.bounds × IsLimit (word_in (codes "limit") rows) options.limit × (options.output ≡ scan_output_in rows)
 
 abbrev pub IsLook : List Row → DirectoryCommand → Type 0
-IsLook rows look.Check = ⊤
+IsLook rows (look.Check workers) = AreWorkers (word_in (codes "workers") rows) workers
 IsLook rows look.List = ⊤
 IsLook rows (look.Get key output) = IsSpelled (form_in rows) (word_in (codes "KEY") rows) key × (output ≡ get_output_in rows)
 IsLook rows (look.Scan options) = AreScanOptions rows options
@@ -226,6 +242,8 @@ Says rows (Convert conversion input) = IsInput (word_in (codes "FILE") rows) inp
 Says rows (Look line) =
     (word_in (codes "DIR") rows ≡ Some line.path.now) × IsLook rows line.command × (line.form ≡ form_in rows)
     × (line.progress ≡ is_set (codes "progress") rows)
+Says rows (Levels line) =
+    (word_in (codes "DIR") rows ≡ Some line.path.now) × (line.form ≡ form_in rows) × (levels_output_in rows ≡ Some line.output)
 Says rows (WriteFolder line) = (word_in (codes "DIR") rows ≡ Some line.path.now) × IsWrite rows line.command
 Says rows (Load line) =
     (word_in (codes "DIR") rows ≡ Some line.path.now) × IsInput (word_in (codes "FILE") rows) line.input × AreLoadOptions rows line.options

@@ -7,8 +7,9 @@ ghost use Rattle.lsm_text.specs.Requests.{AreBounds, AreIngestOptions, AreLoadOp
 ghost use Rattle.lsm_text.specs.Requests.{AreScanOptions, AreWorkers, IsAsked, IsBound, IsInput};
 ghost use Rattle.lsm_text.specs.Requests.{IsKeyWrite, IsLimit, IsLineNumber, IsLook, IsSpelled};
 ghost use Rattle.lsm_text.specs.Requests.{IsWorkersWord, IsWrite, Reads, form_in};
-ghost use Rattle.lsm_text.specs.Requests.{get_output_in, is_set, name_of_conversion};
-ghost use Rattle.lsm_text.specs.Requests.{name_of_look, name_of_value, name_of_write, rows_in};
+ghost use Rattle.lsm_text.specs.Requests.{get_output_in, is_set, levels_output_in};
+ghost use Rattle.lsm_text.specs.Requests.{name_of_conversion, name_of_look, name_of_value};
+ghost use Rattle.lsm_text.specs.Requests.{name_of_write, rows_in};
 ghost use Rattle.lsm_text.specs.Requests.{scan_output_in, topic_in, topic_of, word_in};
 
 use crate::command_name::{CommandName, named};
@@ -20,9 +21,12 @@ use crate::get_output::GetOutput;
 use crate::ingest_options::IngestOptions;
 use crate::input::Input;
 use crate::key_bounds::KeyBounds;
+use crate::levels_output::LevelsOutput;
 use crate::load_options::LoadOptions;
 use crate::number::number_in;
-use crate::request::{CompactLine, DirectoryLine, LoadLine, Request, ShellLine, WritingLine};
+use crate::request::{
+    CompactLine, DirectoryLine, LevelsLine, LoadLine, Request, ShellLine, WritingLine,
+};
 use crate::scan_options::ScanOptions;
 use crate::scan_output::ScanOutput;
 use crate::writing_command::WritingCommand;
@@ -39,7 +43,7 @@ pub(crate) fn word_in<'a>(found: &ArgMatches<'a>, name: &str) -> Option<&'a str>
 }
 
 /// Whether an option without a value is there.
-fn is_set(found: &ArgMatches<'_>, name: &str) -> bool
+pub(crate) fn is_set(found: &ArgMatches<'_>, name: &str) -> bool
     ensures { result ≡ is_set name.now (rows_in found.now) }
 {
     match word_in(found, name) {
@@ -101,10 +105,25 @@ fn scan_output_in(found: &ArgMatches<'_>) -> ScanOutput
     if is_set(found, "count") {
         return ScanOutput::Count;
     }
+    if is_set(found, "json") {
+        return ScanOutput::Json;
+    }
     if is_set(found, "keys") {
         return ScanOutput::Keys;
     }
     ScanOutput::Pairs
+}
+
+/// What is shown of levels. `None` where both `--files` and `--svg` are there.
+fn levels_output_in(found: &ArgMatches<'_>) -> Option<LevelsOutput>
+    ensures { result ≡ levels_output_in (rows_in found.now) }
+{
+    match (is_set(found, "svg"), is_set(found, "files")) {
+        (true, true) => None,
+        (true, false) => Some(LevelsOutput::Svg),
+        (false, true) => Some(LevelsOutput::Files),
+        (false, false) => Some(LevelsOutput::Levels),
+    }
 }
 
 /// The bytes that the word under a name spells; none where it spells none.
@@ -276,6 +295,24 @@ fn look_in<'a>(command: DirectoryCommand, found: &ArgMatches<'a>) -> Option<Requ
     }))
 }
 
+/// A verification.
+fn check_in<'a>(found: &ArgMatches<'a>) -> Option<Request<'a>>
+    ensures { Reads CommandName.Check (rows_in found.now) result }
+{
+    let workers = workers_of(found)?;
+    look_in(DirectoryCommand::Check(workers), found)
+}
+
+/// The levels of a folder.
+fn levels_in<'a>(found: &ArgMatches<'a>) -> Option<Request<'a>>
+    ensures { Reads CommandName.Levels (rows_in found.now) result }
+{
+    let path = word_in(found, "DIR")?;
+    let output = levels_output_in(found)?;
+    let form = form_in(found);
+    Some(Request::Levels(LevelsLine { path, form, output }))
+}
+
 /// A read of a key.
 fn get_in<'a>(alloc: Global, found: &ArgMatches<'a>) -> Result<Option<Request<'a>>, AllocError>
     ensures { IfOk result (Reads CommandName.Get (rows_in found.now)) }
@@ -405,8 +442,9 @@ fn request_in<'a>(
         CommandName::Dump => Ok(convert_in(Conversion::Dump, found)),
         CommandName::Manifest => Ok(convert_in(Conversion::Manifest, found)),
         CommandName::Script => Ok(script_in(found)),
-        CommandName::Check => Ok(look_in(DirectoryCommand::Check, found)),
+        CommandName::Check => Ok(check_in(found)),
         CommandName::List => Ok(look_in(DirectoryCommand::List, found)),
+        CommandName::Levels => Ok(levels_in(found)),
         CommandName::Get => get_in(alloc, found),
         CommandName::Scan => scan_in(alloc, found),
         CommandName::Ingest => Ok(ingest_in(found)),

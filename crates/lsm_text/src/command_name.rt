@@ -12,6 +12,7 @@ pub enum CommandName {
     Script,
     Check,
     List,
+    Levels,
     Get,
     Scan,
     Ingest,
@@ -36,6 +37,7 @@ impl CommandName {
             CommandName::Script => "script",
             CommandName::Check => "check",
             CommandName::List => "list",
+            CommandName::Levels => "levels",
             CommandName::Get => "get",
             CommandName::Scan => "scan",
             CommandName::Ingest => "ingest",
@@ -72,6 +74,9 @@ pub(crate) fn named(word: &str) -> Option<CommandName>
     }
     if word == "list" {
         return Some(CommandName::List);
+    }
+    if word == "levels" {
+        return Some(CommandName::Levels);
     }
     if word == "get" {
         return Some(CommandName::Get);

@@ -7,8 +7,8 @@ use lsm_codec::Bytes;
 /// A command on a directory.
 #[derive(Debug, Drop)]
 pub enum DirectoryCommand {
-    /// All that a read can reach is verified.
-    Check,
+    /// All that a read can reach is verified, by so many workers, 1 to 8.
+    Check(usize),
     /// The files.
     List,
     /// The value of a key.

@@ -10,20 +10,26 @@ ghost use Rattle.clap.specs.Words.{with_rule, with_subcommand};
 ghost use Rattle.clap.specs.declared.error.ErrorKind.TheVariants.{OutOfMemory};
 ghost use Rattle.lsm_text.specs.Grammar.{IsShaped, bare, begin, beside_log, check, clean, compact};
 ghost use Rattle.lsm_text.specs.Grammar.{delete, dump, file, flag, folder, from_line, get, help};
-ghost use Rattle.lsm_text.specs.Grammar.{ingest, key, limit, list, load, lsm, make_table};
-ghost use Rattle.lsm_text.specs.Grammar.{manifest, progress, put};
+ghost use Rattle.lsm_text.specs.Grammar.{ingest, key, levels, limit, list, load, lsm};
+ghost use Rattle.lsm_text.specs.Grammar.{make_table, manifest, progress, put};
 ghost use Rattle.lsm_text.specs.Grammar.{scan, script, shell, text, topic, valued, with_inputs};
 ghost use Rattle.lsm_text.specs.Grammar.{with_looks, with_writes, word, workers};
 ghost use Rattle.lsm_text.specs.Requests.{faults_in, found_in};
 
 use crate::pages::{
-    CHECK, CLEAN, COMPACT, DELETE, DUMP, GET, HELP, INGEST, LIST, LOAD, MAKE_TABLE, MANIFEST,
-    OVERVIEW, PUT, Page, SCAN, SCRIPT, SHELL, VERSION,
+    CHECK, CLEAN, COMPACT, DELETE, DUMP, GET, HELP, INGEST, LEVELS, LIST, LOAD, MAKE_TABLE,
+    MANIFEST, OVERVIEW, PUT, Page, SCAN, SCRIPT, SHELL, VERSION,
 };
 use clap::builder::ValueParser;
 use clap::{Arg, ArgAction, ArgMatches, Command, Error};
 use std::alloc::{AllocError, Global};
 use std::convert::AsStr;
+
+/// What `--workers` says where threads compact.
+const COMPACTING: &str = "How many threads compact, 1 to 8";
+
+/// What `--workers` says where they verify tables.
+const VERIFYING: &str = "How many threads verify tables, 1 to 8";
 
 /// A command in the making, or that memory ran out.
 type Made<'a> = Result<Command<'a>, AllocError>;
@@ -95,11 +101,11 @@ fn valued<'a>(alloc: Global, name: &'a str, value: &'a str, help: &'a str) -> Ar
 }
 
 /// The option for the number of threads.
-fn workers<'a>(alloc: Global) -> Arg<'a>
+fn workers<'a>(alloc: Global, help: &'a str) -> Arg<'a>
     ensures rule { rule_of result ≡ workers }
     ensures local { result.global ≡ false }
 {
-    valued(alloc, "workers", "N", "How many threads compact, 1 to 8")
+    valued(alloc, "workers", "N", help)
         .value_parser(ValueParser::Unsigned(1, 8))
         .default_value("2")
 }
@@ -225,6 +231,7 @@ fn check<'a>(alloc: Global) -> Made<'a>
     ensures { IsShaped result check }
 {
     let check = also(titled(alloc, CHECK), folder(alloc));
+    let check = also(check, workers(alloc, VERIFYING));
     also(check, progress(alloc))
 }
 
@@ -234,6 +241,18 @@ fn list<'a>(alloc: Global) -> Made<'a>
 {
     let list = also(titled(alloc, LIST), folder(alloc));
     also(list, text(alloc))
+}
+
+/// The command that shows a folder's levels.
+fn levels<'a>(alloc: Global) -> Made<'a>
+    ensures { IsShaped result levels }
+{
+    let files = flag(alloc, "files", "Print a line a file too");
+    let svg = flag(alloc, "svg", "Draw the levels, as an SVG file");
+    let levels = also(titled(alloc, LEVELS), folder(alloc));
+    let levels = also(levels, text(alloc));
+    let levels = also(levels, files);
+    also(levels, svg)
 }
 
 /// The command that reads a key.
@@ -266,6 +285,7 @@ fn scan<'a>(alloc: Global) -> Made<'a>
         "How each key begins that is printed",
     );
     let keys = flag(alloc, "keys", "Print the keys alone");
+    let json = flag(alloc, "json", "Print a JSON object a line");
     let count = flag(alloc, "count", "Print how many there are alone");
     let scan = also(titled(alloc, SCAN), folder(alloc));
     let scan = also(scan, from);
@@ -274,6 +294,7 @@ fn scan<'a>(alloc: Global) -> Made<'a>
     let scan = also(scan, limit(alloc));
     let scan = also(scan, text(alloc));
     let scan = also(scan, keys);
+    let scan = also(scan, json);
     let scan = also(scan, count);
     also(scan, progress(alloc))
 }
@@ -326,7 +347,7 @@ fn load<'a>(alloc: Global) -> Made<'a>
     let load = also(load, text(alloc));
     let load = also(load, begin(alloc));
     let load = also(load, beside_log(alloc));
-    let load = also(load, workers(alloc));
+    let load = also(load, workers(alloc, COMPACTING));
     let load = also(load, from_line(alloc));
     also(load, progress(alloc))
 }
@@ -336,7 +357,7 @@ fn compact<'a>(alloc: Global) -> Made<'a>
     ensures { IsShaped result compact }
 {
     let compact = also(titled(alloc, COMPACT), folder(alloc));
-    let compact = also(compact, workers(alloc));
+    let compact = also(compact, workers(alloc, COMPACTING));
     also(compact, progress(alloc))
 }
 
@@ -402,6 +423,7 @@ fn with_looks<'a>(alloc: Global) -> Made<'a>
 {
     let lsm = with(with_inputs(alloc), check(alloc));
     let lsm = with(lsm, list(alloc));
+    let lsm = with(lsm, levels(alloc));
     let lsm = with(lsm, get(alloc));
     with(lsm, scan(alloc))
 }

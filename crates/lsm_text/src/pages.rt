@@ -163,11 +163,12 @@ read or a write, 2 bad command line.",
 
 pub(crate) const CHECK: Page = Page {
     name: "check",
-    usage: "lsm check <DIR> [--progress]",
+    usage: "lsm check <DIR> [--workers <N>] [--progress]",
     about: "Verifies a folder, and counts what is in it",
     text: "Verifies all that a read of the LevelDB folder DIR can reach: every block of
 every table that its manifest names, and how the tables lie in their levels.
-Nothing is written there. One table at a time is held in memory.
+Nothing is written there. --workers is how many threads read and verify tables, 1
+to 8; 2 if it is not said. Each of them holds one table at a time in memory.
 
 Prints a line a level, `level L files F bytes B entries E` for the levels 0 to
 6, then `last S`, the last sequence, and `rest B`, how many bytes at the
@@ -180,7 +181,7 @@ The first fault is refused by number and name; that of a table names its file,
 as in `refused 15 BadChecksum 0 in 000005.ldb`.
 
 Exit status: 0 where all is well, 1 at a fault, 2 bad command line.",
-    example: "Example: lsm check db --progress",
+    example: "Example: lsm check db --workers 4 --progress",
 };
 
 pub(crate) const LIST: Page = Page {
@@ -197,6 +198,41 @@ error names each write-ahead log (`N.log`) that is not read.
 
 Exit status: 0 done, 1 refused, 2 bad command line.",
     example: "Example: lsm list db --text",
+};
+
+pub(crate) const LEVELS: Page = Page {
+    name: "levels",
+    usage: "lsm levels <DIR> [--text] [--files] [--svg]",
+    about: "Shows the levels of a folder, and what is due next",
+    text: "Reads the file CURRENT of the LevelDB folder DIR and the manifest that it names,
+and nothing else: no table is opened. So it answers also where tables are
+compressed, damaged or lost, and just as fast where they are huge. Nothing is
+written in DIR. A line on standard error names each write-ahead log (`N.log`)
+that is not read.
+
+Prints a line a level, `level L files F bytes B score S` for the levels 0 to 6,
+by what the manifest says. The score is how full a level is, in hundredths: of
+level 0 its files over 4, and of the levels 1 to 5 their bytes over 10 MiB for
+level 1, and over ten times as many for each deeper one. From 1.00 on a level is
+too large. The last two lines are `last S rest R`, the last sequence and how many
+bytes at the manifest's end hold no whole record, and `due level L inputs N N ..`,
+the tables that the next compaction takes, or `due none`.
+
+--files prints a line for each file too, `LEVEL NUMBER SIZE SMALLEST LARGEST` as
+`list` does: keys are `KEY@SEQ+` for a value and `KEY@SEQ-` for a deletion, and
+KEY is hex, or text with --text, `.` for no bytes.
+
+--svg draws the levels instead, as an SVG file on standard output: rows of bars,
+one bar a file over the range of its keys, as wide as the file has bytes, and in
+another colour where the next compaction takes it. It excludes --files.
+
+Other bytes than those of a manifest are refused by number and name, as in
+`refused 19 LogChecksum 0`.
+
+Exit status: 0 done, 1 refused, 2 bad command line.",
+    example: "Examples: lsm levels db
+          lsm levels db --files --text
+          lsm levels db --svg > levels.svg",
 };
 
 pub(crate) const GET: Page = Page {
@@ -224,7 +260,7 @@ Exit status: 0 done, also where `absent` was printed, 1 refused, or absent with
 
 pub(crate) const SCAN: Page = Page {
     name: "scan",
-    usage: "lsm scan <DIR> [--from <KEY>] [--to <KEY>] [--prefix <KEY>] [--limit <N>] [--text] [--keys] [--count] [--progress]",
+    usage: "lsm scan <DIR> [--from <KEY>] [--to <KEY>] [--prefix <KEY>] [--limit <N>] [--text] [--keys] [--json] [--count] [--progress]",
     about: "Prints the live keys of a folder and their values",
     text: "Prints the live keys of the LevelDB folder DIR with their values, a line
 `KEY=VALUE` each, ascending by the bytes of the keys, from the key of --from to
@@ -235,7 +271,12 @@ limits.
 
 --limit N prints the first N of these lines at most, N a decimal number up to
 18446744073709551615. --keys prints lines `KEY`, without values. --count prints
-one line, how many lines there would be, and nothing else; it rules over --keys.
+one line, how many lines there would be, and nothing else. --json prints a JSON
+object a line, `{\"key\":\"..\",\"value\":\"..\"}`, of the characters of which the
+bytes are UTF-8; bytes that are no UTF-8 stand in base64 behind another name, as
+in `{\"key\":\"apple\",\"value_base64\":\"/w==\"}`. Of these three --count rules over
+--json, and --json over --keys; with --json nothing is in hex, and --text
+says only how KEY is spelled on the command line.
 
 Every table is verified before the first line. Lines are printed as the folder
 is read, in memory that does not grow with it; what is before --from is read
@@ -249,6 +290,7 @@ Exit status: 0 where all was printed, 1 at a fault: lines that were printed
 before it stand, 2 bad command line.",
     example: "Examples: lsm scan db --from 61 --to 6dff
           lsm scan db --text --prefix user: --limit 10
+          lsm scan db --json > pairs.jsonl
           lsm scan db --count --progress",
 };
 
@@ -490,6 +532,7 @@ fn usage(name: CommandName) -> &'static str {
         CommandName::Script => SCRIPT.usage,
         CommandName::Check => CHECK.usage,
         CommandName::List => LIST.usage,
+        CommandName::Levels => LEVELS.usage,
         CommandName::Get => GET.usage,
         CommandName::Scan => SCAN.usage,
         CommandName::Ingest => INGEST.usage,

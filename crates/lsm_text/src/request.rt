@@ -6,6 +6,7 @@ use crate::directory_command::DirectoryCommand;
 use crate::form::Form;
 use crate::ingest_options::IngestOptions;
 use crate::input::Input;
+use crate::levels_output::LevelsOutput;
 use crate::load_options::LoadOptions;
 use crate::writing_command::WritingCommand;
 
@@ -18,6 +19,14 @@ pub struct DirectoryLine<'a> {
     pub form: Form,
     /// Whether it is to say on standard error how far it is: where there is `--progress`.
     pub progress: bool,
+}
+
+/// The levels of the folder of this path, and what is shown of them: with keys in this form.
+#[derive(Clone, Copy, Debug)]
+pub struct LevelsLine<'a> {
+    pub path: &'a str,
+    pub form: Form,
+    pub output: LevelsOutput,
 }
 
 /// A command that writes a directory, and the path of that.
@@ -57,6 +66,8 @@ pub enum Request<'a> {
     Convert(Conversion, Input<'a>),
     /// `check`, `list`, `get` or `scan`.
     Look(DirectoryLine<'a>),
+    /// `levels`.
+    Levels(LevelsLine<'a>),
     /// `ingest`, `put`, `delete` or `clean`.
     Write(WritingLine<'a>),
     /// `load`.

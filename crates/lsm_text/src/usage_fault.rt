@@ -1,6 +1,6 @@
 //! What is wrong with words that are of the grammar, but that ask for nothing.
 
-use crate::asking::{form_in, line_in, word_in};
+use crate::asking::{form_in, is_set, line_in, word_in};
 use crate::form::Form;
 use crate::syntax_fault::{SyntaxFault, syntax_fault_in};
 use clap::ArgMatches;
@@ -12,6 +12,8 @@ pub(crate) enum UsageFault<'a> {
     /// What it is to spell, KEY or VALUE, a word that is none of its form, and where it stops being
     /// one.
     Bytes(&'static str, &'a str, SyntaxFault),
+    /// Two options that exclude one another.
+    Both(&'static str, &'static str),
     /// No number of pairs, though `clap` reads it as one.
     Limit(&'a str),
     /// No number of a line, though `clap` reads it as one.
@@ -63,6 +65,9 @@ pub(crate) fn fault_in<'a>(matches: &ArgMatches<'a>) -> Option<UsageFault<'a>> {
     if let Some(word) = word_in(found, "COMMAND") {
         return Some(UsageFault::Command(word));
     }
+    if is_set(found, "files") && is_set(found, "svg") {
+        return Some(UsageFault::Both("--files", "--svg"));
+    }
     if let Some(word) = word_in(found, "limit") {
         return Some(UsageFault::Limit(word));
     }
@@ -102,6 +107,7 @@ impl<'a> fmt::Display for UsageFault<'a> {
     fn fmt<W: fmt::Write>(&self, f: &mut fmt::Formatter<W>) -> fmt::Result {
         match self {
             UsageFault::Bytes(what, word, fault) => write_bytes(f, what, word, *fault),
+            UsageFault::Both(one, other) => write!(f, "`{one}` and `{other}` exclude one another"),
             UsageFault::Limit(word) => write!(f, "`{word}` is no number of pairs"),
             UsageFault::Line(word) => write!(f, "`{word}` is no number of a line, from 1"),
             UsageFault::Workers(word) => write!(f, "`{word}` is no number of workers, 1 to 8"),
