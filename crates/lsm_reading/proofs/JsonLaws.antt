@@ -1,13 +1,13 @@
 -- Pairs as JSON objects.
-use Rattle.std.proofs.Common.{◌≡◌, ℕ, ◌+◌, ◌≤◌, Bool, true, false, List, [], ◌∷◌, ◌++◌, Option, Some, Result, Ok, Err, refl, sym, ap, ◌∙◌, arith, append_assoc, length, length-append, codes, subst}
+use Rattle.std.proofs.Common.{◌≡◌, ℕ, ◌≤◌, Bool, true, false, List, [], ◌∷◌, ◌++◌, Some, Result, Ok, Err, refl, sym, ap, ◌∙◌, arith, append_assoc, length, length-append, codes, subst}
 use Rattle.std.specs.Prelude.{if◌then◌else◌, OnOk}
 use Rattle.std.specs.Str.{IsUtf8, is_utf8}
 use Rattle.std.proofs.lemmas.Str.{IsUtf8-from_is_utf8, is_utf8-from_IsUtf8}
 use Rattle.std.proofs.lemmas.List.{append_cancel_right}
 use Rattle.base64.specs.Engines.{standard}
-use Rattle.base64.specs.GeneralPurpose.{IsBytes, IsConsistent, decode_of, encode_of}
+use Rattle.base64.specs.GeneralPurpose.{IsBytes, decode_of, encode_of}
 use Rattle.base64.proofs.EngineFacts.{decode_of-encode_of}
-use Rattle.json.specs.Json.{Json, Members, document, member, no_members, object, string}
+use Rattle.json.specs.Json.{Members, document, member, no_members, object, string}
 use Rattle.json.specs.Print.{print}
 use Rattle.json.specs.Token.{Token}
 use Rattle.json.specs.Tree.{MembersHaveNumbers, json_tokens, members_depth, members_tokens}
