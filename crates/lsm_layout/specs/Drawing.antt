@@ -96,9 +96,8 @@ unfoldable pub text_line : ℕ → List ℕ → List ℕ
 text_line place words = attribute (codes "<text y=\"") place ++ (62 ∷ (words ++ codes "</text>\n"))
 
 unfoldable pub level_picture : Form → Shape → Option Due → ℕ → List FileMeta → List ℕ
-level_picture form s due level [] = []
-level_picture form s due level (f ∷ fs) =
-    text_line (top_of s level + 1600) (level_words level (f ∷ fs)) ++ bars_from form s due level 0 (f ∷ fs)
+level_picture form s due level fs =
+    cond (length fs == 0) [] (text_line (top_of s level + 1600) (level_words level fs) ++ bars_from form s due level 0 fs)
 
 -- ---- the whole
 

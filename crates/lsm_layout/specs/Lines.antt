@@ -65,10 +65,14 @@ unfoldable pub due_words : Option Due → List ℕ
 due_words None = codes "due none"
 due_words (Some d) = labelled (codes "due level ") d.level
 
+-- ` inputs N N ..`, where a level is due
+unfoldable pub input_words : Shape → Option Due → List ℕ
+input_words s None = []
+input_words s (Some d) = codes " inputs" ++ taken_words s (Some d)
+
 -- `due none` or `due level L inputs N N ..`
 unfoldable pub due_line : Shape → Option Due → List ℕ
-due_line s None = due_words None ++ (10 ∷ [])
-due_line s (Some d) = due_words (Some d) ++ (codes " inputs" ++ (taken_words s (Some d) ++ (10 ∷ [])))
+due_line s due = due_words due ++ (input_words s due ++ (10 ∷ []))
 
 -- `last S rest R`: the last sequence, and how many bytes at the manifest's end hold no whole record
 unfoldable pub last_words : Shape → ℕ → List ℕ
