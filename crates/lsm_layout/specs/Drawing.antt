@@ -97,7 +97,7 @@ text_line place words = attribute (codes "<text y=\"") place ++ (62 ∷ (words +
 
 unfoldable pub level_picture : Form → Shape → Option Due → ℕ → List FileMeta → List ℕ
 level_picture form s due level fs =
-    cond (length fs == 0) [] (text_line (top_of s level + 1600) (level_words level fs) ++ bars_from form s due level 0 fs)
+    cond (length fs == 0) [] (text_line (top_of s level + 1300) (level_words level fs) ++ bars_from form s due level 0 fs)
 
 -- ---- the whole
 

@@ -54,7 +54,7 @@ level_lines form level fs = level_line level fs ++ flat_map (file_line form leve
 
 -- a space and the number of a file that is taken
 unfoldable pub taken_word : Option Due → ℕ → FileMeta → List ℕ
-taken_word due level f = cond (is_taken due level f) (32 ∷ decimal f.number) []
+taken_word due level f = cond (is_taken due level f) (labelled (codes " ") f.number) []
 
 -- the numbers of the files that are taken, level by level
 unfoldable pub taken_words : Shape → Option Due → List ℕ

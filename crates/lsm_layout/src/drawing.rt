@@ -7,6 +7,7 @@ ghost use Rattle.lsm_layout.specs.Drawing.{left_of, level_picture, picture_text,
 ghost use Rattle.lsm_layout.specs.Drawing.{rise, row_of, text_line, title_words, top_of, width_of};
 ghost use Rattle.lsm_layout.specs.Lines.{level_texts, level_words};
 ghost use Rattle.lsm_layout.specs.Sums.{files_at};
+ghost use Rattle.lsm_layout.specs.declared.drawing.TheConstants.{STYLE};
 ghost use Rattle.lsm_text.specs.ManifestPrinting.{key_word_in};
 
 use crate::axis::{across, begin_of, end_of};
@@ -268,9 +269,17 @@ fn push_level(
     if files.is_empty() {
         return Ok(());
     }
-    let place = sum_of(top_of(sheet.shape, level)?, 1_600)?;
+    let place = sum_of(top_of(sheet.shape, level)?, 1_300)?;
     push_level_line(out, place, level, files)?;
     push_bars(alloc, out, sheet, level, files)
+}
+
+/// Appends colours, and the paper.
+fn push_style(out: &mut Vec<u8>) -> Result<(), AllocError>
+    ensures { OnOk result (out.new.items ≡ out.old.items ++ STYLE.now) }
+{
+    out.extend_from_slice(STYLE)?;
+    Ok(())
 }
 
 /// Appends how the picture begins.
@@ -282,8 +291,7 @@ fn push_head(out: &mut Vec<u8>, height: u128) -> Result<(), AllocError>
     push_attribute(out, b" height=\"", height / 100)?;
     push_attribute(out, b" viewBox=\"-2000 0 104000 ", height)?;
     out.extend_from_slice(b">\n")?;
-    out.extend_from_slice(STYLE)?;
-    Ok(())
+    push_style(out)
 }
 
 /// Appends how it ends.
@@ -298,7 +306,8 @@ fn push_foot(out: &mut Vec<u8>, sheet: Sheet<'_>, rest: u64) -> Result<(), Alloc
     push_last_words(out, sheet.shape, rest)?;
     out.push(b' ')?;
     push_due_words(out, sheet.due)?;
-    out.extend_from_slice(b"</text>\n</svg>\n")?;
+    out.extend_from_slice(b"</text>\n")?;
+    out.extend_from_slice(b"</svg>\n")?;
     Ok(())
 }
 
