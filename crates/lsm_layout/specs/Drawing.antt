@@ -13,7 +13,7 @@ use Rattle.lsm_layout.specs.Dues.{is_taken}
 use Rattle.lsm_layout.specs.Lines.{due_words, labelled, last_words, level_texts, level_words}
 use Rattle.lsm_layout.specs.Sums.{files_at}
 use Rattle.lsm_layout.specs.declared.due.Due.{Due}
-use Rattle.lsm_layout.specs.declared.drawing.TheConstants.{STYLE}
+use Rattle.lsm_layout.specs.declared.drawing.TheConstants.{OPENING, STYLE}
 
 -- ---- text within an element
 
@@ -101,10 +101,11 @@ level_picture form s due level fs =
 
 -- ---- the whole
 
+unfoldable pub size_words : ℕ → List ℕ
+size_words height = attribute (codes " height=\"") (height / 100) ++ attribute (codes " viewBox=\"-2000 0 104000 ") height
+
 unfoldable pub head_words : ℕ → List ℕ
-head_words height =
-    codes "<svg xmlns=\"http://www.w3.org/2000/svg\" width=\"1040\"" ++ (attribute (codes " height=\"") (height / 100)
-    ++ (attribute (codes " viewBox=\"-2000 0 104000 ") height ++ (codes ">\n" ++ STYLE.now)))
+head_words height = OPENING.now ++ (size_words height ++ (codes ">\n" ++ STYLE.now))
 
 unfoldable pub foot_words : Shape → ℕ → Option Due → List ℕ
 foot_words s rest due =

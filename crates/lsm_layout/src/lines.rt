@@ -15,7 +15,7 @@ use lsm_text::Form;
 use std::alloc::{AllocError, Global};
 
 /// Appends a number in decimal digits.
-#[tactic(auto, using(std::proofs::lemmas::Fmt::decimal_digit, std::proofs::lemmas::Fmt::decimal_step_wide))]
+#[tactic(auto, using(std::proofs::lemmas::Fmt::decimal_digit))]
 pub(crate) fn push_decimal(out: &mut Vec<u8>, n: u128) -> Result<(), AllocError>
     ensures { OnOk result (out.new.items ≡ out.old.items ++ decimal n) }
 {
