@@ -1,7 +1,7 @@
 -- What a run says, by what reading the manifest and showing its shape say.
 use Rattle.std.proofs.Common.{◌≡◌, ℕ, List, ◌∷◌, Option, IfErr, OnErr, OnOk, arith, inl, inr, refl, sym, subst}
 use Rattle.std.specs.Prelude.{Result, Ok, Err}
-use Rattle.std.specs.Io.KnownBytes.{Keeps}
+use Rattle.std.specs.Io.KnownBytes.{Appends, Keeps}
 use Rattle.std.proofs.KnownBytes.{Keeps-refl, Keeps-trans}
 use Rattle.lsm_folder.specs.declared.folder_calls.FolderCalls.{Ghosts}
 use Rattle.lsm_manifest.specs.declared.shape.Shape.{Shape}
@@ -15,6 +15,7 @@ use Rattle.lsm_storage.specs.declared.file.file_shelf.FileShelf.{FileShelf}
 use Rattle.lsm_journal.specs.Recovering.{IsRecoverRefusal}
 use Rattle.lsm_journal.specs.declared.recover_fault.RecoverFault.{RecoverFault}
 use Rattle.lsm_journal.specs.declared.recover_fault.RecoverFault.TheVariants as recover_faults
+use Rattle.lsm_text.specs.Printing.{Begins}
 use Rattle.lsm_text.specs.declared.form.Form.{Form}
 use Rattle.lsm_directory.specs.Folders.{IsShelfAt, told_by}
 use Rattle.lsm_directory.specs.Logs.{IsFirstUnread, NoneUnread}
@@ -22,13 +23,24 @@ use Rattle.lsm_directory.specs.Looking.{TellsBeside}
 use Rattle.lsm_directory.specs.declared.faults.directory_fault.DirectoryFault.{DirectoryFault}
 use Rattle.lsm_directory.specs.declared.faults.directory_fault.DirectoryFault.TheVariants as why
 use Rattle.lsm_directory.specs.declared.folder.folder_file.FolderFile.{FolderFile}
-use Rattle.lsm_layout.specs.Layout.{FailsToLayOut, IsLaidOut, IsLayoutFault, IsNotNamed, IsUnshown, LaysOutAt, Names, ReadsManifest, Shows}
+use Rattle.lsm_layout.specs.Dues.{IsDueNext}
+use Rattle.lsm_layout.specs.declared.due.Due.{Due}
+use Rattle.lsm_layout.specs.Layout.{FailsToLayOut, IsLaidOut, IsLayoutFault, IsNotNamed, IsShown, IsUnshown, LaysOutAt, Names, ReadsManifest, Shows, text_of}
 use Rattle.lsm_text.specs.declared.request.LevelsLine.{LevelsLine}
 use Rattle.lsm_text.specs.declared.levels_output.LevelsOutput.{LevelsOutput}
 
 -- ---- a shelf
 
 module _ (form : Form) (output : LevelsOutput) where
+  pub shown_as : (s : Shape) (rest : ℕ) (due : Option Due) (text : List ℕ) → IsDueNext s due → text ≡ text_of form output s rest due → IsShown form output s rest text
+  shown_as s rest due text next is = (due, next, is)
+
+  pub shows_text : (s : Shape) (rest : ℕ) (text : List ℕ) (old new : Option (List ℕ)) → IsShown form output s rest text → Appends old new text → Shows form output s rest old new
+  shows_text s rest text old new is printed = (text, is, printed)
+
+  pub stops_text : (s : Shape) (rest : ℕ) (text : List ℕ) (old new : Option (List ℕ)) → IsShown form output s rest text → Begins old new text → IsUnshown form output s rest why.Write old new
+  stops_text s rest text old new is begun = (text, is, begun)
+
   pub laid_out : {T : Type 0} (r : Result T DirectoryFault) (others : List FolderFile) (was is : Told) (s : Shape) (rest : ℕ) (old new said_old said_new : Option (List ℕ))
       → Names was is s rest → OnOk r (Shows form output s rest old new) → (NoneUnread s.log s.prev_log others → Keeps said_old said_new)
       → OnOk r (IsLaidOut form output others was is old new said_old said_new)

@@ -13,7 +13,7 @@ use Rattle.lsm_layout.specs.Dues.{is_taken}
 use Rattle.lsm_layout.specs.Lines.{due_words, labelled, last_words, level_texts, level_words}
 use Rattle.lsm_layout.specs.Sums.{files_at}
 use Rattle.lsm_layout.specs.declared.due.Due.{Due}
-use Rattle.lsm_layout.specs.declared.drawing.TheConstants.{STYLE}
+use Rattle.lsm_layout.specs.declared.drawing.TheConstants.{OPENING, STYLE}
 
 -- ---- text within an element
 
@@ -96,16 +96,16 @@ unfoldable pub text_line : ℕ → List ℕ → List ℕ
 text_line place words = attribute (codes "<text y=\"") place ++ (62 ∷ (words ++ codes "</text>\n"))
 
 unfoldable pub level_picture : Form → Shape → Option Due → ℕ → List FileMeta → List ℕ
-level_picture form s due level [] = []
-level_picture form s due level (f ∷ fs) =
-    text_line (top_of s level + 1600) (level_words level (f ∷ fs)) ++ bars_from form s due level 0 (f ∷ fs)
+level_picture form s due level fs =
+    cond (length fs == 0) [] (text_line (top_of s level + 1300) (level_words level fs) ++ bars_from form s due level 0 fs)
 
 -- ---- the whole
 
+unfoldable pub size_words : ℕ → List ℕ
+size_words height = attribute (codes " height=\"") (height / 100) ++ attribute (codes " viewBox=\"-2000 0 104000 ") height
+
 unfoldable pub head_words : ℕ → List ℕ
-head_words height =
-    codes "<svg xmlns=\"http://www.w3.org/2000/svg\" width=\"1040\"" ++ (attribute (codes " height=\"") (height / 100)
-    ++ (attribute (codes " viewBox=\"-2000 0 104000 ") height ++ (codes ">\n" ++ STYLE.now)))
+head_words height = OPENING.now ++ (size_words height ++ (codes ">\n" ++ STYLE.now))
 
 unfoldable pub foot_words : Shape → ℕ → Option Due → List ℕ
 foot_words s rest due =

@@ -54,7 +54,7 @@ level_lines form level fs = level_line level fs ++ flat_map (file_line form leve
 
 -- a space and the number of a file that is taken
 unfoldable pub taken_word : Option Due → ℕ → FileMeta → List ℕ
-taken_word due level f = cond (is_taken due level f) (32 ∷ decimal f.number) []
+taken_word due level f = cond (is_taken due level f) (labelled (codes " ") f.number) []
 
 -- the numbers of the files that are taken, level by level
 unfoldable pub taken_words : Shape → Option Due → List ℕ
@@ -65,10 +65,14 @@ unfoldable pub due_words : Option Due → List ℕ
 due_words None = codes "due none"
 due_words (Some d) = labelled (codes "due level ") d.level
 
+-- ` inputs N N ..`, where a level is due
+unfoldable pub input_words : Shape → Option Due → List ℕ
+input_words s None = []
+input_words s (Some d) = codes " inputs" ++ taken_words s (Some d)
+
 -- `due none` or `due level L inputs N N ..`
 unfoldable pub due_line : Shape → Option Due → List ℕ
-due_line s None = due_words None ++ (10 ∷ [])
-due_line s (Some d) = due_words (Some d) ++ (codes " inputs" ++ (taken_words s (Some d) ++ (10 ∷ [])))
+due_line s due = due_words due ++ (input_words s due ++ (10 ∷ []))
 
 -- `last S rest R`: the last sequence, and how many bytes at the manifest's end hold no whole record
 unfoldable pub last_words : Shape → ℕ → List ℕ

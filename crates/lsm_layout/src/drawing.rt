@@ -4,9 +4,11 @@ ghost use Rattle.std.specs.Prelude.{◌≡◌, ◌≤◌, ◌++◌, IfOk, OnOk};
 ghost use Rattle.lsm_layout.specs.Drawing.{attribute, bar, bars_from, class_words, escaped};
 ghost use Rattle.lsm_layout.specs.Drawing.{escaped_byte, foot_words, head_words, height_of};
 ghost use Rattle.lsm_layout.specs.Drawing.{left_of, level_picture, picture_text, place_words};
-ghost use Rattle.lsm_layout.specs.Drawing.{rise, row_of, text_line, title_words, top_of, width_of};
+ghost use Rattle.lsm_layout.specs.Drawing.{rise, row_of, size_words, text_line, title_words};
+ghost use Rattle.lsm_layout.specs.Drawing.{top_of, width_of};
 ghost use Rattle.lsm_layout.specs.Lines.{level_texts, level_words};
 ghost use Rattle.lsm_layout.specs.Sums.{files_at};
+ghost use Rattle.lsm_layout.specs.declared.drawing.TheConstants.{OPENING, STYLE};
 ghost use Rattle.lsm_text.specs.ManifestPrinting.{key_word_in};
 
 use crate::axis::{across, begin_of, end_of};
@@ -17,6 +19,9 @@ use crate::sums::{files_at, product_of, sum_of};
 use lsm_manifest::{FileMeta, Shape};
 use lsm_text::Form;
 use std::alloc::{AllocError, Global};
+
+/// How a picture begins.
+const OPENING: &[u8] = b"<svg xmlns=\"http://www.w3.org/2000/svg\" width=\"1040\"";
 
 /// Colours, and the paper.
 const STYLE: &[u8] = b"<style>
@@ -268,9 +273,18 @@ fn push_level(
     if files.is_empty() {
         return Ok(());
     }
-    let place = sum_of(top_of(sheet.shape, level)?, 1_600)?;
+    let place = sum_of(top_of(sheet.shape, level)?, 1_300)?;
     push_level_line(out, place, level, files)?;
     push_bars(alloc, out, sheet, level, files)
+}
+
+/// Appends how high the picture is, and which part of the plane it shows.
+#[tactic(auto, unfolding(crate::specs::Drawing::size_words))]
+fn push_size(out: &mut Vec<u8>, height: u128) -> Result<(), AllocError>
+    ensures { OnOk result (out.new.items ≡ out.old.items ++ size_words height) }
+{
+    push_attribute(out, b" height=\"", height / 100)?;
+    push_attribute(out, b" viewBox=\"-2000 0 104000 ", height)
 }
 
 /// Appends how the picture begins.
@@ -278,9 +292,8 @@ fn push_level(
 fn push_head(out: &mut Vec<u8>, height: u128) -> Result<(), AllocError>
     ensures { OnOk result (out.new.items ≡ out.old.items ++ head_words height) }
 {
-    out.extend_from_slice(b"<svg xmlns=\"http://www.w3.org/2000/svg\" width=\"1040\"")?;
-    push_attribute(out, b" height=\"", height / 100)?;
-    push_attribute(out, b" viewBox=\"-2000 0 104000 ", height)?;
+    out.extend_from_slice(OPENING)?;
+    push_size(out, height)?;
     out.extend_from_slice(b">\n")?;
     out.extend_from_slice(STYLE)?;
     Ok(())
@@ -298,7 +311,8 @@ fn push_foot(out: &mut Vec<u8>, sheet: Sheet<'_>, rest: u64) -> Result<(), Alloc
     push_last_words(out, sheet.shape, rest)?;
     out.push(b' ')?;
     push_due_words(out, sheet.due)?;
-    out.extend_from_slice(b"</text>\n</svg>\n")?;
+    out.extend_from_slice(b"</text>\n")?;
+    out.extend_from_slice(b"</svg>\n")?;
     Ok(())
 }
 
@@ -306,7 +320,8 @@ fn push_foot(out: &mut Vec<u8>, sheet: Sheet<'_>, rest: u64) -> Result<(), Alloc
 #[tactic(auto, using(crate::proofs::LoopLaws::text_more, crate::proofs::LoopLaws::text_none))]
 fn push_levels(alloc: Global, out: &mut Vec<u8>, sheet: Sheet<'_>) -> Result<(), AllocError>
     ensures { OnOk result (out.new.items ≡ out.old.items ++ level_texts (λ n.
-        level_picture sheet.entry.form sheet.entry.shape.now sheet.entry.due n (files_at sheet.entry.shape.now n)) 7) }
+        level_picture sheet.entry.form sheet.entry.shape.now sheet.entry.due n
+        (files_at sheet.entry.shape.now n)) 7) }
 {
     for level in 0..7 {
         push_level(alloc, out, sheet, level, files_at(sheet.shape, level))?;

@@ -3,6 +3,7 @@
 ghost use Rattle.std.specs.Prelude.{◌≡◌, ◌++◌, ◌<◌, IfOk, OnOk, codes, decimal};
 ghost use Rattle.std.specs.List.{flat_map};
 ghost use Rattle.lsm_layout.specs.Lines.{due_line, due_words, end_lines, file_line, files_text};
+ghost use Rattle.lsm_layout.specs.Lines.{input_words};
 ghost use Rattle.lsm_layout.specs.Lines.{labelled, last_words, level_line, level_lines};
 ghost use Rattle.lsm_layout.specs.Lines.{level_words, levels_text, number_word, score_words};
 ghost use Rattle.lsm_layout.specs.Lines.{taken_word, taken_words, two_decimals};
@@ -14,7 +15,7 @@ use lsm_text::Form;
 use std::alloc::{AllocError, Global};
 
 /// Appends a number in decimal digits.
-#[tactic(auto, using(std::proofs::lemmas::Fmt::decimal_digit, std::proofs::lemmas::Fmt::decimal_step))]
+#[tactic(auto, using(std::proofs::lemmas::Fmt::decimal_digit))]
 pub(crate) fn push_decimal(out: &mut Vec<u8>, n: u128) -> Result<(), AllocError>
     ensures { OnOk result (out.new.items ≡ out.old.items ++ decimal n) }
 {
@@ -195,16 +196,27 @@ pub(crate) fn push_due_words(out: &mut Vec<u8>, due: Option<Due<'_>>) -> Result<
     }
 }
 
+/// Appends what is taken, if a level is due.
+#[tactic(auto, unfolding(crate::specs::Lines::input_words))]
+fn push_inputs(out: &mut Vec<u8>, shape: &Shape, due: Option<Due<'_>>) -> Result<(), AllocError>
+    ensures { OnOk result (out.new.items ≡ out.old.items ++ input_words shape.now due.entry) }
+{
+    match due {
+        None => Ok(()),
+        Some(due) => {
+            out.extend_from_slice(b" inputs")?;
+            push_taken(out, shape, Some(due))
+        }
+    }
+}
+
 /// Appends the line of what is due.
-#[tactic(auto, unfolding(crate::specs::Lines::due_line, crate::specs::Lines::due_words))]
+#[tactic(auto, unfolding(crate::specs::Lines::due_line))]
 fn push_due(out: &mut Vec<u8>, shape: &Shape, due: Option<Due<'_>>) -> Result<(), AllocError>
     ensures { OnOk result (out.new.items ≡ out.old.items ++ due_line shape.now due.entry) }
 {
     push_due_words(out, due)?;
-    if due.is_some() {
-        out.extend_from_slice(b" inputs")?;
-        push_taken(out, shape, due)?;
-    }
+    push_inputs(out, shape, due)?;
     out.push(b'\n')?;
     Ok(())
 }

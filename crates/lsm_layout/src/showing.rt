@@ -4,10 +4,10 @@ ghost use Rattle.std.specs.Prelude.{◌≡◌, IfErr, IfOk, OnOk};
 ghost use Rattle.std.specs.Io.KnownBytes.{Keeps};
 ghost use Rattle.lsm_directory.specs.Logs.{NoneUnread};
 ghost use Rattle.lsm_layout.specs.Layout.{IsLaidOut, IsLayoutFault, IsNotNamed, IsShown, IsUnshown};
-ghost use Rattle.lsm_layout.specs.Layout.{Names, ReadsManifest, Shows};
+ghost use Rattle.lsm_layout.specs.Layout.{Names, ReadsManifest, Shows, text_of};
 
 use crate::drawing::{Sheet, picture_text};
-use crate::due::due_next;
+use crate::due::{Due, due_next};
 use crate::lines::{files_text, levels_text};
 use lsm_directory::{DirectoryFault, FolderFile, Wording, first_unread, push_logs, write_output};
 use lsm_journal::{Journal, Recovered};
@@ -19,8 +19,27 @@ use std::io::{self, Write};
 use std::marker::Brand;
 use std::sync::Wait;
 
+/// What is shown of a shape, of what is due in it, and of so many bytes at its manifest's end.
+fn text_with(
+    alloc: Global,
+    form: Form,
+    output: LevelsOutput,
+    shape: &Shape,
+    rest: u64,
+    due: Option<Due<'_>>,
+) -> Result<Vec<u8>, AllocError>
+    ensures { IfOk result (λ text. text.items ≡ text_of form output shape.now rest due.entry) }
+{
+    match output {
+        LevelsOutput::Levels => levels_text(alloc, shape, rest, due),
+        LevelsOutput::Files => files_text(alloc, form, shape, rest, due),
+        LevelsOutput::Svg => picture_text(alloc, Sheet { shape, due, form }, rest),
+    }
+}
+
 /// What is shown of a shape whose manifest has so many bytes at its end that hold no whole record,
 /// with the compaction that is due in it. `AllocError` where a growth was refused.
+#[tactic(auto, using(crate::proofs::ShowLaws::shown_as))]
 pub fn text_of(
     alloc: Global,
     form: Form,
@@ -31,11 +50,8 @@ pub fn text_of(
     ensures { IfOk result (λ text. IsShown form output shape.now rest text.items) }
 {
     let due = due_next(shape)?;
-    match output {
-        LevelsOutput::Levels => levels_text(alloc, shape, rest, due),
-        LevelsOutput::Files => files_text(alloc, form, shape, rest, due),
-        LevelsOutput::Svg => picture_text(alloc, Sheet { shape, due, form }, rest),
-    }
+    let text = text_with(alloc, form, output, shape, rest, due)?;
+    Ok(text)
 }
 
 /// Writes a note for each log that is not read.
@@ -65,6 +81,7 @@ fn tell_notes<E: Write>(alloc: Global, files: &[FolderFile], shape: &Shape, err:
 }
 
 /// Writes what is shown of a manifest.
+#[tactic(auto, using(crate::proofs::ShowLaws::shows_text, crate::proofs::ShowLaws::stops_text))]
 fn show<O: Write>(
     alloc: Global,
     form: Form,
@@ -77,9 +94,14 @@ fn show<O: Write>(
     ensures fault { IfErr result (λ e. IsUnshown form output recovered.now.shape
         recovered.now.rest e (O.contents out.old) (O.contents out.new)) }
 {
-    let text = text_of(alloc, form, output, &recovered.shape, recovered.rest)?;
-    write_output(out, text.as_slice())?;
-    Ok(())
+    let text = match text_of(alloc, form, output, &recovered.shape, recovered.rest) {
+        Ok(text) => text,
+        Err(_) => return Err(DirectoryFault::OutOfMemory),
+    };
+    match write_output(out, text.as_slice()) {
+        Ok(()) => Ok(()),
+        Err(_) => Err(DirectoryFault::Write),
+    }
 }
 
 /// Reads the manifest that the directory of a shelf names.
