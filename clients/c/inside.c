@@ -88,6 +88,9 @@ static _Atomic(struct transport *) all[DATABASES];
 static _Thread_local struct transport *mine;
 static _Thread_local jmp_buf *began;
 
+/* The channel whose loop a call on this thread runs. */
+static _Thread_local struct channel *lent_to;
+
 /* How many times this process was forked from another one, since this library is in it. */
 static unsigned forks;
 static pthread_once_t once = PTHREAD_ONCE_INIT;
@@ -203,15 +206,39 @@ void (*tiswenor_inside_signal(int number, void (*handler)(int)))(int) {
   return handler;
 }
 
+/* A thread of the server: what it runs. */
+struct start {
+  void *(*run)(void *);
+  void *state;
+};
+
+/* Gives a thread back that was lent. Not inlined: another thread may return from it. */
+static __attribute__((noinline)) void give_back(void) {
+  if (lent_to) stand(lent_to);
+}
+
+/* A loop that ends on a thread that was lent, without an answer, goes on to its end on its own. */
+static void *run_thread(void *state) {
+  struct start start = *(struct start *)state;
+  free(state);
+  void *result = start.run(start.state);
+  give_back();
+  return result;
+}
+
 /* What the server calls as `pthread_create`. Signals of the host are not handled in its threads,
    also where a thread of the host makes them. */
 int tiswenor_inside_pthread_create(pthread_t *thread, const pthread_attr_t *attributes,
                                    void *(*run)(void *), void *state) {
   sigset_t every, before;
+  struct start *start = malloc(sizeof *start);
+  if (!start) return EAGAIN;
+  *start = (struct start){run, state};
   sigfillset(&every);
   pthread_sigmask(SIG_SETMASK, &every, &before);
-  int error = pthread_create(thread, attributes, run, state);
+  int error = pthread_create(thread, attributes, run_thread, start);
   pthread_sigmask(SIG_SETMASK, &before, NULL);
+  if (error) free(start);
   return error;
 }
 
@@ -335,7 +362,9 @@ static void lend(struct channel *channel, const unsigned char *frame, size_t len
   channel->request = frame;
   channel->request_left = length;
   channel->is_lent = 1;
+  lent_to = channel;
   stack_leave(&channel->caller, &channel->loop, &channel->loop);
+  lent_to = NULL;
   channel->request_left = 0;
 }
 
