@@ -1,7 +1,7 @@
 -- What the program does for the words of its command line: this project's rule. Each command has a relation for what status 0 means, and one
 -- for what status 1 does. Those of a command on a folder are about a folder that was opened at the path of its words, and the calls on it, and
 -- about shelves on its place; that such a shelf is the run's own is to be read.
-use Rattle.std.specs.Prelude.{◌⊎◌, ℕ, Bool, IsFalse, List, [], ◌∷◌, Option, IfSome}
+use Rattle.std.specs.Prelude.{◌⊎◌, ℕ, Bool, IsFalse, List, [], ◌∷◌, Option, IfSome, ⊤}
 use Rattle.std.specs.Io.KnownBytes.{Appends, Keeps}
 use Rattle.clap.specs.Words.{Text}
 use Rattle.lsm_folder.specs.declared.folder_calls.FolderCalls.{Ghosts}
@@ -13,13 +13,14 @@ use Rattle.lsm_text.specs.declared.fault.Fault.{Fault}
 use Rattle.lsm_text.specs.declared.input.Input.{Input}
 use Rattle.lsm_text.specs.declared.input.Input.TheVariants.{Standard}
 use Rattle.lsm_text.specs.declared.request.Request.{Request}
-use Rattle.lsm_text.specs.declared.request.Request.TheVariants.{Convert, Look, Levels, Write as WriteFolder, Load, Compact, Script, Shell}
+use Rattle.lsm_text.specs.declared.request.Request.TheVariants.{Convert, Look, Levels, Write as WriteFolder, Load, Compact, Script, Shell, Bench}
 use Rattle.lsm_text.specs.declared.writing_command.WritingCommand.{WritingCommand}
 use Rattle.lsm_text.specs.declared.writing_command.WritingCommand.TheVariants.{Ingest, WriteKey, Clean}
 use Rattle.lsm_commands.specs.Commands.{IsConverted, IsNotConverted}
 use Rattle.lsm_commands.specs.Played.{IsScriptDone, IsScriptRefused}
 use Rattle.lsm_directory.specs.declared.faults.directory_fault.DirectoryFault.{DirectoryFault}
 use Rattle.lsm_writing.specs.declared.faults.writer_fault.WriterFault.{WriterFault}
+use Rattle.lsm_bench.specs.Benched.{BenchesAt}
 use Rattle.lsm_layout.specs.Layout.{FailsToLayOut, LaysOutAt}
 use Rattle.lsm_load.specs.LoadedAt.{FailsToLoad, LoadsAt}
 use Rattle.lsm_reading.specs.Looked.{FailsToLook, LooksAt}
@@ -64,6 +65,7 @@ module _ {C M : Type 0} (folders : Ghosts C M) where
   IsDone text (Compact line) old new said_old said_new = IsCompactedAt folders line old new × (IsFalse line.options.progress → Keeps said_old said_new)
   IsDone text (Script input) old new said_old said_new = IsPlayed (text input) old new × Keeps said_old said_new
   IsDone text (Shell line) old new said_old said_new = TalksAt folders line.path.now line.options (text Standard) old new × Keeps said_old said_new
+  IsDone text (Bench line) old new said_old said_new = BenchesAt folders line.path.now × Keeps said_old said_new
 
   -- The words ask for a command, which was done; or they ask for help, which was written, and nothing was on standard error.
   abbrev pub AreDone : (Input → Option (List ℕ)) → List Text → (old new said_old said_new : Option (List ℕ)) → Type 0
@@ -90,6 +92,7 @@ module _ {C M : Type 0} (folders : Ghosts C M) (marks : mark.Ghosts M) where
   IsUndone text (Compact line) old new = IsUncompacted folders marks line old new
   IsUndone text (Script input) old new = IsUnplayed (text input) old new
   IsUndone text (Shell line) old new = FailsToTalk folders marks line.path.now line.options (text Standard) old new
+  IsUndone text (Bench line) old new = ⊤
 
   -- The words ask for a command, which was not done; or for help, of which a beginning was written; or memory ran out before they were read.
   abbrev pub AreUndone : (Input → Option (List ℕ)) → List Text → (old new : Option (List ℕ)) → Type 0

@@ -10,6 +10,7 @@ ghost use Rattle.lsm_directory.specs.Inputs.{text_in};
 
 use crate::converting::program::run_convert;
 use crate::playing::program::run_script;
+use lsm_bench::run_bench;
 use lsm_directory::{Known, Paths, refuse, status_of};
 use lsm_folder::FolderCalls;
 use lsm_layout::run_levels;
@@ -20,6 +21,7 @@ use lsm_text::{CommandLine, Fault, Request, WritingCommand, WritingLine, read_li
 use lsm_writing::{run_clean, run_compact, run_ingest, run_write};
 use std::convert::AsStr;
 use std::io::{self, ErrorKind, Read, Write};
+use std::rt::Clock;
 use std::sync::Wait;
 use std::thread::Threads;
 
@@ -109,7 +111,7 @@ where
     C: FolderCalls + Send + Sync,
     C::Mark: Send + Sync,
     P: Paths<C>,
-    R: Threads + Wait + Sync,
+    R: Threads + Wait + Clock + Sync,
     I: Read + Drop,
     O: Write,
     E: Write + Send,
@@ -132,6 +134,7 @@ where
         Request::Compact(line) => run_compact(rt, paths, line, out, err),
         Request::Script(found) => run_script(rt, paths, *found, input, out, err),
         Request::Shell(line) => run_shell(rt, paths, line.path, line.options, input, out, err),
+        Request::Bench(line) => run_bench(rt, paths, line.path, &line.options, out, err),
     }
 }
 
@@ -150,7 +153,7 @@ where
     C: FolderCalls + Send + Sync,
     C::Mark: Send + Sync,
     P: Paths<C>,
-    R: Threads + Wait + Sync,
+    R: Threads + Wait + Clock + Sync,
     S: AsStr,
     I: Read + Drop,
     O: Write,

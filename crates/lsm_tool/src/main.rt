@@ -11,12 +11,13 @@ use lsm_directory::SystemPaths;
 use std::env::{self, Env};
 use std::io::{self, BufWriter};
 use std::process::ExitCode;
+use std::rt::Clock;
 use std::sync::Wait;
 use std::thread::Threads;
 use streams::hold_streams;
 
 /// Does what the words of the command line ask, and answers the exit status.
-fn start<R: Threads + Wait + Sync>(rt: &R, host: HostRuntime) -> io::Result<u8> {
+fn start<R: Threads + Wait + Clock + Sync>(rt: &R, host: HostRuntime) -> io::Result<u8> {
     let words: Vec<String> = env::args(&host)?.collect(host.alloc())?;
     let words = words.as_slice().get(1..).unwrap_or(&[]);
     let mut out = BufWriter::new(host.alloc(), host.stdout())?;

@@ -1,0 +1,2 @@
+-- What clauses cite
+pub mod Benched

@@ -1,0 +1,205 @@
+//! Benchmarks on a new database, beside workers.
+
+ghost use Rattle.std.specs.Prelude.{◌≡◌, IfOk, OnOk, vec_len};
+ghost use Rattle.lsm_bench.specs.Benched.{IsBegunOn};
+ghost use Rattle.lsm_state.specs.Making.{IsNewBoard, IsNewHistory};
+ghost use Rattle.lsm_store.specs.Readers.{SeatsPinners};
+ghost use Rattle.lsm_writing.specs.Starting.{usual};
+
+use crate::beginning::begin;
+use crate::bench::{Bench, measure_all};
+use crate::bench_fault::BenchFault;
+use crate::draws::Draws;
+use crate::report::write_head;
+use lsm_slots::Boarded;
+use lsm_state::State;
+use lsm_store::{NoGate, Reader, Store, WorkerEnd, with_workers};
+use lsm_table::{NamedShelf, Shelf};
+use lsm_text::BenchOptions;
+use lsm_writing::{NewParts, WriterFault};
+use std::alloc::{AllocError, Global};
+use std::io::Write;
+use std::marker::Brand;
+use std::rt::Clock;
+use std::sync::Wait;
+use std::thread::Threads;
+
+/// A store, a shelf for each worker, and what benchmarks run on.
+#[derive(Drop)]
+struct Crew<N: Boarded, S: Shelf> {
+    store: Store<N, S>,
+    shelves: Vec<NamedShelf<N, S>>,
+    bench: Bench<N, S>,
+}
+
+/// So many forks of a shelf.
+fn forks<N: Boarded, S: Shelf>(
+    alloc: Global,
+    shelf: &mut NamedShelf<N, S>,
+    count: usize,
+) -> Result<Vec<NamedShelf<N, S>>, BenchFault> {
+    let mut forks = Vec::new(alloc);
+    for _ in 0..count {
+        let fork = match shelf.fork(alloc) {
+            Ok(fork) => fork,
+            Err(fault) => return Err(BenchFault::Before(WriterFault::of_shelf(fault))),
+        };
+        let Ok(()) = forks.push(fork) else {
+            return Err(BenchFault::from(AllocError));
+        };
+    }
+    Ok(forks)
+}
+
+/// The last one of the readers.
+fn one_of<N: Boarded, S: Shelf>(readers: Vec<Reader<N, S>>) -> Result<Reader<N, S>, BenchFault> {
+    let mut readers = readers;
+    match readers.pop() {
+        Some(reader) => Ok(reader),
+        None => Err(BenchFault::from(AllocError)),
+    }
+}
+
+/// The store of a state, and what is needed beside it.
+fn crew_of<N: Boarded, S: Shelf>(
+    alloc: Global,
+    state: State<N, S>,
+    shelf: &mut NamedShelf<N, S>,
+    options: &BenchOptions,
+) -> Result<Crew<N, S>, BenchFault>
+    requires seats { SeatsPinners state }
+{
+    let size = usize::try_from(options.value_size).unwrap_or(0);
+    let draws = Draws::new(alloc, 301, size)?;
+    let more_draws = Draws::new(alloc, 1000, size)?;
+    let shelves = forks(alloc, shelf, options.workers)?;
+    let of_shelf = |fault| BenchFault::Before(WriterFault::of_shelf(fault));
+    let own = match shelf.fork(alloc) {
+        Ok(own) => own,
+        Err(fault) => return Err(of_shelf(fault)),
+    };
+    let reading = match shelf.fork(alloc) {
+        Ok(reading) => reading,
+        Err(fault) => return Err(of_shelf(fault)),
+    };
+    match Store::new(alloc, state, reading) {
+        Ok((store, readers)) => {
+            let reader = one_of(readers)?;
+            let bench = Bench {
+                shelf: own,
+                reader,
+                draws,
+                more_draws,
+            };
+            Ok(Crew {
+                store,
+                shelves,
+                bench,
+            })
+        }
+        Err((_state, _shelf, fault)) => Err(of_shelf(fault)),
+    }
+}
+
+/// That no worker ended early.
+fn judge(ends: &[WorkerEnd]) -> Result<(), BenchFault> {
+    match ends {
+        [] => Ok(()),
+        [end, rest @ ..] => match end.fault {
+            Some(fault) => Err(BenchFault::Worker(fault)),
+            None => judge(rest),
+        },
+    }
+}
+
+/// Runs the benchmarks on a store, while its workers compact.
+fn run_crew<N: Boarded, S: Shelf, R: Threads + Wait + Clock + Sync, O: Write>(
+    rt: &R,
+    alloc: Global,
+    crew: Crew<N, S>,
+    options: &BenchOptions,
+    out: &mut O,
+) -> Result<(), BenchFault> {
+    let Crew {
+        store,
+        shelves,
+        bench,
+    } = crew;
+    let lent = &store;
+    let told = &mut *out;
+    let run = with_workers(rt, alloc, lent, shelves, &NoGate, move |background| {
+        measure_all(rt, alloc, lent, background, bench, options, told)
+    });
+    let Ok((done, ends)) = run else {
+        return Err(BenchFault::from(AllocError));
+    };
+    match done {
+        Ok(()) => judge(&ends),
+        Err(fault) => Err(fault),
+    }
+}
+
+/// Begins a database on the shelf, and runs the benchmarks on it.
+fn run_named<N: Boarded, S: Shelf, R: Threads + Wait + Clock + Sync, O: Write>(
+    rt: &R,
+    alloc: Global,
+    shelf: &mut NamedShelf<N, S>,
+    number: u64,
+    parts: NewParts<S>,
+    options: &BenchOptions,
+    out: &mut O,
+) -> Result<(), BenchFault>
+    requires records { parts.records ≡ N.registry }
+    requires board { IsNewBoard N.board usual parts.publisher parts.pinners.items }
+    requires seats { vec_len parts.pinners ≡ usual.readers }
+    requires history { IsNewHistory N.history parts.history }
+    ensures begun { OnOk result (IsBegunOn number shelf.old shelf.new) }
+{
+    let parts = parts.named(alloc)?;
+    let state: State<N, S> = begin(rt, alloc, shelf, number, parts)?;
+    let crew = crew_of(alloc, state, shelf, options)?;
+    match write_head(out, options) {
+        Ok(()) => run_crew(rt, alloc, crew, options, out),
+        Err(_) => Err(BenchFault::Write),
+    }
+}
+
+/// The same under the name that was picked for the parts and the shelf, which is given back.
+fn run_as<N: Boarded, S: Shelf, R: Threads + Wait + Clock + Sync, O: Write>(
+    rt: &R,
+    alloc: Global,
+    shelf: S,
+    number: u64,
+    parts: NewParts<S>,
+    options: &BenchOptions,
+    out: &mut O,
+) -> (Result<(), BenchFault>, S)
+    requires records { parts.records ≡ N.registry }
+    requires shelf { (S.told shelf).place ≡ N.place }
+    requires board { IsNewBoard N.board usual parts.publisher parts.pinners.items }
+    requires seats { vec_len parts.pinners ≡ usual.readers }
+    requires history { IsNewHistory N.history parts.history }
+    ensures begun { OnOk result.0 (IsBegunOn number (S.told shelf) (S.told result.1)) }
+{
+    let mut shelf: NamedShelf<N, S> = NamedShelf::of(shelf);
+    let done = run_named(rt, alloc, &mut shelf, number, parts, options, out);
+    (done, shelf.into_shelf())
+}
+
+/// Begins a database on the shelf, whose manifest has this number, and runs the benchmarks on it.
+/// The shelf is given back.
+pub(crate) fn run_on<S: Shelf, R: Threads + Wait + Clock + Sync, O: Write>(
+    rt: &R,
+    alloc: Global,
+    shelf: S,
+    number: u64,
+    options: &BenchOptions,
+    out: &mut O,
+) -> (Result<(), BenchFault>, S)
+    ensures begun { OnOk result.0 (IsBegunOn number (S.told shelf) (S.told result.1)) }
+{
+    match NewParts::make(alloc) {
+        Ok(parts) => run_as::<Brand, S, R, O>(rt, alloc, shelf, number, parts, options, out),
+        Err(_) => (Err(BenchFault::from(AllocError)), shelf),
+    }
+}

@@ -1,0 +1,35 @@
+//! A view of the newest version.
+
+use lsm_slots::Boarded;
+use lsm_state::{State, StateFault};
+use lsm_store::{Reader, Store, View};
+use lsm_table::Shelf;
+use std::sync::Wait;
+
+/// A view of the current version of a state. While the lock is held that one is current, and so no
+/// other refusal of a pin comes than `PinsSpent`.
+fn view_of<N: Boarded, S: Shelf>(
+    state: &mut State<N, S>,
+    reader: Reader<N, S>,
+) -> Result<View<N, S>, (Reader<N, S>, StateFault)> {
+    let mut reader = reader;
+    if reader.refresh(state).is_err() {
+        return Err((reader, StateFault::OutOfMemory));
+    }
+    match reader.begin() {
+        Ok(view) => Ok(view),
+        Err((reader, _)) => Err((reader, StateFault::PinsSpent)),
+    }
+}
+
+/// A view of the newest version. The lock is taken only where the reader has not learnt it.
+pub(crate) fn view_now<N: Boarded, S: Shelf, R: Wait>(
+    rt: &R,
+    store: &Store<N, S>,
+    reader: Reader<N, S>,
+) -> Result<View<N, S>, (Reader<N, S>, StateFault)> {
+    match reader.begin() {
+        Ok(view) => Ok(view),
+        Err((reader, _)) => view_of(&mut store.lock(rt).state, reader),
+    }
+}
