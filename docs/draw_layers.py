@@ -28,6 +28,7 @@ CRATES = {
     "lsm_frames": ("file", "requests, answers as bytes"),
     "lsm_writing": ("program", "ingest, put, compact, clean"),
     "lsm_reading": ("program", "check, list, get, scan"),
+    "lsm_layout": ("program", "levels, by the manifest alone"),
     "lsm_directory": ("program", "a folder, its lock, faults"),
     "lsm_text": ("program", "words, lines, refusals, help"),
     "lsm_store": ("database", "lock, readers, workers"),

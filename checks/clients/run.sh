@@ -4,10 +4,11 @@
 # what could not be run counts as failed, and is said.
 #
 # The server is the one that LSM_SERVER names, or the proved one, or else an unproved one that is
-# built first. LSM_SERVER_OBJECT, or the proved one's object, is linked into the process. Needs gcc,
+# built first. LSM_SERVER_OBJECT, or its object beside it, is linked into the process. Needs gcc,
 # g++, python3 (PYTHON) with pytest, setuptools and wheel, valgrind, cmake, pkg-config.
-# TISWENOR_CALLS and STORM: drawn calls in Python (3,000), seconds of each storm (5). MINUTES and
-# PYTHON_MINUTES: how long a test in C, and those of Python, may take (10, 60).
+# TISWENOR_CALLS and STORM: how many calls are drawn in C and in Python (3,000), seconds of each storm
+# (5). MINUTES and PYTHON_MINUTES: how long a test in C, and those of Python, may take (10, 60).
+# PLYVEL_TESTS: the file test_plyvel.py of plyvel's sources, to be run too.
 set -uo pipefail
 here=$(cd "$(dirname "$(readlink -f "${BASH_SOURCE[0]}")")" && pwd)
 top=$(cd "$here/../.." && pwd)
@@ -32,13 +33,13 @@ tell_missing() {
 find_server() {
   local proved=$top/crates/lsm_server/out/lsm_server
   server=${LSM_SERVER:-$proved}
-  object=${LSM_SERVER_OBJECT:-$proved.o}
   if [[ ! -x $server ]]; then
     server=$work/lsm_server
     echo "clients: no proved server; building an unproved one, in some minutes"
     "$top/tools/unproved.sh" "$server" lsm_server > "$work/server.log" 2>&1 || tail -n 20 "$work/server.log"
   fi
   server=$(readlink -f "$server")
+  object=${LSM_SERVER_OBJECT:-$server.o}
   [[ -x $server ]] || echo "missing: a server (LSM_SERVER)"
   [[ -f $object ]] || echo "missing: the server's object (LSM_SERVER_OBJECT), for the server inside the process"
 }
@@ -62,6 +63,7 @@ part() { # NAME COMMAND..: runs a part, in a new folder `$folder`; its output is
 strict=(-std=c11 -Wall -Wextra -Werror -I"$clients/c")
 child=("$clients/c/tiswenor.c" "$clients/c/child.c" -lpthread)
 inside=("$work/c/libtiswenor_inside.a" -lpthread -lm)
+inside_sources=("$clients/c/tiswenor.c" "$clients/c/inside.c" "$clients/c/stacks.S" "$work/c/parts/program.o" -lpthread -lm)
 
 compile() { # PROGRAM WORDS..
   gcc "${strict[@]}" -g "${@:2}" -o "$work/$1"
@@ -74,10 +76,14 @@ with_child() { # TEST FLAGS..: builds a test with the library's sources, and run
   run "$test"
 }
 
-with_inside() { # TEST FLAGS..
+with_inside() { # TEST FLAGS.. : with the archive, or, where there are flags, with the library's sources
   local test=$1
   shift
-  compile "$test" -O1 "$@" "$clients/c/tests/$test.c" "${inside[@]}" || return 1
+  if (($# == 0)); then
+    compile "$test" -O1 "$clients/c/tests/$test.c" "${inside[@]}" || return 1
+  else
+    compile "$test" -O1 "$@" "$clients/c/tests/$test.c" "${inside_sources[@]}" || return 1
+  fi
   run "$test"
 }
 
@@ -86,10 +92,14 @@ run() { # TEST [WRAPPER..]: in ten minutes at most
   shift
   set -- timeout -k 10 "${MINUTES:-10}m" "$@"
   case $test in
-    storm*) "$@" "$work/$test" "$folder/db" "${STORM:-5}" ;;
+    pages*) "$@" "$work/$test" "$folder/db" ;;
+    storm* | readers*) "$@" "$work/$test" "$folder/db" "${STORM:-5}" ;;
+    drawn*) "$@" "$work/$test" "$folder/db" "${TISWENOR_CALLS:-3000}" "${SEED:-1}" ;;
     killed*) TISWENOR_SERVER=$work/telling "$@" "$work/$test" "$folder/db" "$work/number" ;;
     malformed*) "$@" "$work/$test" "$server" "$folder" 3 "${SEED:-1}" ;;
     lied_to*) TISWENOR_SERVER=$work/liar "$@" "$work/$test" "$folder" 200 ;;
+    ended*) NO_MEMORY=$folder/left TISWENOR_SERVER=$work/wanting "$@" "$work/$test" "$folder/db" ;;
+    host*) "$@" "$work/$test" "$folder" ;;
     story_cpp) "$@" "$work/$test" "$folder" ;;
     *) "$@" "$work/$test" "$folder" "$channels" ;;
   esac
@@ -116,7 +126,28 @@ lied_to() { compile liar -O1 "$clients/c/tests/liar.c" && with_child lied_to "${
 
 malformed() { compile malformed -O1 "${sanitized[@]}" "$clients/c/tests/malformed.c" && run malformed; }
 
+# In the server's process memory is refused on demand: a library that is loaded before it, or a part
+# of the program that it is in.
+ended_child() {
+  compile no_memory.so -shared -fPIC "$clients/c/tests/no_memory.c" || return 1
+  printf '#!/bin/sh\nLD_PRELOAD=%s exec %s\n' "$work/no_memory.so" "$server" > "$work/wanting"
+  chmod +x "$work/wanting"
+  truncate -s 4 "$folder/left" && with_child ended
+}
+ended_inside() {
+  truncate -s 4 "$folder/left" && compile ended -O1 "$clients/c/tests/"{ended,no_memory}.c "${inside[@]}" && run ended
+}
+
+thread_sanitizer_inside() { # TEST
+  TSAN_OPTIONS=suppressions=$here/thread.suppressions with_inside "$1" -fsanitize=thread
+}
+
 pytests() { (cd "$clients/python" && timeout -k 10 "${PYTHON_MINUTES:-60}m" "$python" -X dev -m pytest -q -p no:cacheprovider --basetemp="$folder/pytest"); }
+
+plyvel_tests() {
+  cp "$PLYVEL_TESTS" "$here/plyvel/"*.py "$folder" &&
+    (cd "$folder" && PYTHONPATH=$folder:$clients/python/src timeout -k 10 "${PYTHON_MINUTES:-60}m" "$python" -m pytest -q -p no:cacheprovider -rx .)
+}
 
 wheel() { # a wheel, without a network, and a program that uses it
   cp -r "$clients/python" "$folder/source" &&
@@ -172,15 +203,33 @@ part "C, child: killed server, killed host" with_child killed
 part "C, child: killed, address sanitizer" with_child killed "${sanitized[@]}"
 part "C, child: a server that lies, address sanitizer" lied_to
 part "server: malformed frames, drawn bytes" malformed
+part "C, child: drawn calls beside a table" with_child drawn
+part "C, child: eight threads read, one writes" with_child readers
+part "C, child: iterators over many pages" with_child pages
+part "C, child: iterators over many pages, address sanitizer" with_child pages "${sanitized[@]}"
+part "C, child: iterators over many pages, thread sanitizer" with_child pages -fsanitize=thread
+part "C, child: channels that the server ends" ended_child
+part "C, child: what a host does beside" with_child host
 part "C, inside: story" with_inside story
+part "C, inside: story, address sanitizer" with_inside story "${sanitized[@]}"
+part "C, inside: story, thread sanitizer" thread_sanitizer_inside story
 part "C, inside: story, valgrind" valgrind_inside
 part "C, inside: storm" with_inside storm
+part "C, inside: storm, address sanitizer" with_inside storm "${sanitized[@]}"
+part "C, inside: storm, thread sanitizer" thread_sanitizer_inside storm
+part "C, inside: drawn calls beside a table" with_inside drawn
+part "C, inside: eight threads read, one writes" with_inside readers
+part "C, inside: iterators over many pages" with_inside pages
+part "C, inside: channels that the server ends" ended_inside
+part "C, inside: what a host does beside" with_inside host
+part "C, inside: what a host does beside, address sanitizer" with_inside host "${sanitized[@]}"
 part "C++, child: story" cpp "$work/child/libtiswenor.a" -lpthread
 part "C++, inside: story" cpp "${inside[@]}"
 part "first programs" examples
 part "cmake, pkg-config: archives" cmake_and_pkg_config
 part "cmake, pkg-config: shared" cmake_and_pkg_config -DBUILD_SHARED_LIBS=ON
 part "Python: tests" pytests
+[[ -z ${PLYVEL_TESTS:-} ]] || part "Python: plyvel's own tests" plyvel_tests
 part "Python: wheel" wheel
 echo "$passed passed, $failed failed"
 ((failed == 0))

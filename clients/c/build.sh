@@ -17,8 +17,8 @@ folder=$(cd "$folder" && pwd)
 compiler=${CC:-gcc}
 read -ra flags <<< "-std=c11 -Wall -Wextra -Werror -fPIC ${CFLAGS:--O2 -g}"
 
-compile() { # NAME
-  "$compiler" "${flags[@]}" -I"$here" -c "$here/$1.c" -o "$folder/parts/$1.o"
+compile() { # SOURCE
+  "$compiler" "${flags[@]}" -I"$here" -c "$here/$1" -o "$folder/parts/${1%.*}.o"
 }
 
 library() { # NAME PARTS..
@@ -32,11 +32,12 @@ library() { # NAME PARTS..
     -e "s|@name@|$name|" "$here/tiswenor.pc.in" > "$folder/$name.pc"
 }
 
-compile tiswenor
-compile child
+compile tiswenor.c
+compile child.c
 library tiswenor "$folder/parts/tiswenor.o" "$folder/parts/child.o"
 if [[ -n $object ]]; then
   "$here/program.sh" "$object" "${RATTLE_C:-$(dirname "$(rt doc)")/c}" "$folder/parts/program.o"
-  compile inside
-  library tiswenor_inside "$folder/parts/tiswenor.o" "$folder/parts/inside.o" "$folder/parts/program.o"
+  compile inside.c
+  compile stacks.S
+  library tiswenor_inside "$folder"/parts/{tiswenor,inside,stacks,program}.o
 fi

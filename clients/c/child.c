@@ -3,6 +3,7 @@
 #define _GNU_SOURCE
 #include <errno.h>
 #include <fcntl.h>
+#include <poll.h>
 #include <pthread.h>
 #include <signal.h>
 #include <spawn.h>
@@ -208,15 +209,27 @@ struct transport *tiswenor_transport_open(const char *server, unsigned channels,
 
 /* Frames */
 
-static int send_all(int socket, const unsigned char *bytes, size_t length) {
+/* Waits until the socket takes more bytes. Whether it does before an answer comes. */
+static int takes_more(int socket) {
+  struct pollfd both = {socket, POLLIN | POLLOUT, 0};
+  while (poll(&both, 1, -1) < 0 && errno == EINTR) {
+  }
+  return !(both.revents & POLLIN);
+}
+
+/* Sends a frame, but for what is left of it once its answer comes: a server that has no memory for
+   a request does not read it. How much is left; -1 where the channel is ended. */
+static ssize_t send_frame(int socket, const unsigned char *bytes, size_t length) {
   while (length) {
-    ssize_t sent = send(socket, bytes, length, MSG_NOSIGNAL);
+    ssize_t sent = send(socket, bytes, length, MSG_NOSIGNAL | MSG_DONTWAIT);
     if (sent < 0 && errno == EINTR) continue;
-    if (sent < 0) return 0;
+    if (sent < 0 && errno != EAGAIN) return -1;
+    if (sent < 0 && !takes_more(socket)) break;
+    if (sent < 0) continue;
     bytes += sent;
     length -= (size_t)sent;
   }
-  return 1;
+  return (ssize_t)length;
 }
 
 /* Reads until there are `want` bytes, at most `room`. How many there are; fewer at the end. */
@@ -230,15 +243,28 @@ static size_t receive(int socket, unsigned char *bytes, size_t have, size_t want
   return have;
 }
 
+/* Reads so many bytes of an answer that there is no memory for. */
+static int drop(int socket, size_t length) {
+  unsigned char bytes[READ_AT_ONCE];
+  while (length) {
+    size_t some = length < sizeof bytes ? length : sizeof bytes;
+    if (receive(socket, bytes, 0, some, some) < some) return tiswenor_ended;
+    length -= some;
+  }
+  return tiswenor_out_of_memory;
+}
+
 static int receive_frame(int socket, unsigned char **answer, size_t *length) {
   unsigned char front[READ_AT_ONCE];
   size_t have = receive(socket, front, 0, 4, sizeof front);
   if (have < 4) return tiswenor_ended;
   size_t want = front[0] | (size_t)front[1] << 8 | (size_t)front[2] << 16 | (size_t)front[3] << 24;
-  have -= 4;
-  if (want < 1 || want > LONGEST_ANSWER || have > want) return tiswenor_bad_answer;
+  if (want < 1 || want > LONGEST_ANSWER) return tiswenor_bad_answer;
+  have = receive(socket, front, have, 5, sizeof front) - 4;
+  if (have < 1) return tiswenor_ended;
+  if (have > want) return tiswenor_bad_answer;
   unsigned char *bytes = malloc(want);
-  if (!bytes) return tiswenor_out_of_memory;
+  if (!bytes) return is_last(front[4]) ? tiswenor_ended : drop(socket, want - have);
   memcpy(bytes, front + 4, have);
   if (receive(socket, bytes, have, want, want) < want) {
     free(bytes);
@@ -249,13 +275,27 @@ static int receive_frame(int socket, unsigned char **answer, size_t *length) {
   return 0;
 }
 
+const int tiswenor_transport_works_beside = 1;
+
+int tiswenor_transport_send(struct transport *transport, unsigned channel,
+                            const unsigned char *frame, size_t length) {
+  int socket = transport->sockets[channel];
+  int is_sent = send_frame(socket, frame, length) == 0;
+  if (!is_sent) shutdown(socket, SHUT_RDWR);
+  return is_sent;
+}
+
 int tiswenor_transport_exchange(struct transport *transport, unsigned channel,
                                 const unsigned char *frame, size_t length, unsigned char **answer,
                                 size_t *answer_length) {
   int socket = transport->sockets[channel];
-  int fault = send_all(socket, frame, length) ? receive_frame(socket, answer, answer_length)
-                                              : tiswenor_ended;
-  if (fault) shutdown(socket, SHUT_RDWR);
+  ssize_t left = send_frame(socket, frame, length);
+  int fault = left < 0 ? tiswenor_ended : receive_frame(socket, answer, answer_length);
+  if (!fault && left && !is_last(**answer)) { /* of a request that it has not read */
+    free(*answer);
+    fault = tiswenor_bad_answer;
+  }
+  if (is_end(fault, *answer)) shutdown(socket, SHUT_RDWR);
   return fault;
 }
 

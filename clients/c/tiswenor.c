@@ -5,6 +5,7 @@
 
 #include <errno.h>
 #include <pthread.h>
+#include <stdatomic.h>
 #include <stdio.h>
 #include <stdlib.h>
 #include <string.h>
@@ -23,24 +24,41 @@ enum { EMPTY = 5 };
 /* No path of a file is longer on Linux. */
 enum { LONGEST_PATH = 4095 };
 
-/* How many pairs an iterator asks for first; after them it asks for whole pages. */
-enum { FIRST_PAGE = 16 };
+/* How many pairs an iterator asks for first; after them it asks for whole pages. From the third
+   page on it asks for the next one while its caller goes through the one that is there. */
+enum { FIRST_PAGE = 16, PAGES_BEFORE_AHEAD = 3 };
 
 /* Errors */
 
-/* What *errptr is where there is no memory for a text. tiswenor_free leaves it. */
-static char no_memory[] = "1 OutOfMemory";
+/* What *errptr is where there is no memory for a text: these tell what may be done and not told,
+   and the first one stands for all others. tiswenor_free leaves them. */
+static char lasting[][16] = {"1 OutOfMemory", "204 Unanswered", "254 BadAnswer", "255 Ended"};
+
+enum { LASTING = sizeof lasting / sizeof *lasting };
+
+static char *lasting_text(int number) {
+  for (int i = 1; i < LASTING; i++)
+    if (atoi(lasting[i]) == number) return lasting[i];
+  return lasting[0];
+}
+
+static int is_lasting(const void *ptr) {
+  for (int i = 0; i < LASTING; i++)
+    if (ptr == lasting[i]) return 1;
+  return 0;
+}
 
 static void set_error(char **errptr, int number, const char *name, const char *detail) {
   tiswenor_free(*errptr);
   const char *colon = *detail ? ": " : "";
-  if (asprintf(errptr, "%d %s%s%s", number, name, colon, detail) < 0) *errptr = no_memory;
+  if (asprintf(errptr, "%d %s%s%s", number, name, colon, detail) < 0)
+    *errptr = lasting_text(number);
 }
 
 int tiswenor_error_number(const char *error) { return error ? atoi(error) : 0; }
 
 void tiswenor_free(void *ptr) {
-  if (ptr != no_memory) free(ptr);
+  if (!is_lasting(ptr)) free(ptr);
 }
 
 /* Requests: a frame that grows. `failed` is set where memory was refused, or it is too long. */
@@ -129,6 +147,9 @@ struct tiswenor_t {
   unsigned living;
   unsigned free_count;
   unsigned char free[MOST_CHANNELS];
+  int ahead; /* a channel more, for a page that is asked for ahead; -1 for none */
+  atomic_int is_ahead_used;
+  int is_ahead_owed; /* of whoever uses it: an answer that nobody wants is to come first */
 };
 
 struct tiswenor_snapshot_t {
@@ -197,12 +218,18 @@ static void set_ended(tiswenor_t *db, char **errptr) {
   set_error(errptr, tiswenor_ended, "Ended", text);
 }
 
+/* Names of the refusals that come without one. */
+static const char *name_of(unsigned char status) {
+  if (status == tiswenor_malformed) return "Malformed";
+  return status == tiswenor_unanswered ? "Unanswered" : "Refused";
+}
+
 static void set_refused(const unsigned char *answer, size_t length, char **errptr) {
   char name[64];
   size_t letters = length - 1 < sizeof name ? length - 1 : sizeof name - 1;
   memcpy(name, answer + 1, letters);
   name[letters] = 0;
-  if (!letters) strcpy(name, answer[0] == tiswenor_malformed ? "Malformed" : "Refused");
+  if (!letters) strcpy(name, name_of(answer[0]));
   set_error(errptr, answer[0], name, "");
 }
 
@@ -236,6 +263,22 @@ static int is_done(tiswenor_t *db, int fault, unsigned char *bytes, size_t lengt
   return 1;
 }
 
+/* Sends a frame on a channel that is free. An error's number, or 0. A thread that is cancelled goes
+   on until its channel is given back. */
+static int exchange(tiswenor_t *db, const struct request *request, unsigned char **bytes,
+                    size_t *length) {
+  int before, fault = tiswenor_ended;
+  pthread_setcancelstate(PTHREAD_CANCEL_DISABLE, &before);
+  int channel = take(db);
+  if (channel >= 0) {
+    fault = tiswenor_transport_exchange(db->transport, (unsigned)channel, request->bytes,
+                                        request->length, bytes, length);
+    give(db, channel, is_end(fault, *bytes));
+  }
+  pthread_setcancelstate(before, NULL);
+  return fault;
+}
+
 /* Sends a request, and waits for its answer. Whether it is done. */
 static int ask(tiswenor_t *db, struct request *request, struct answer *answer, char **errptr) {
   unsigned char *bytes = NULL;
@@ -248,14 +291,7 @@ static int ask(tiswenor_t *db, struct request *request, struct answer *answer, c
   }
   if (!fault) {
     store(request->bytes, request->length - 4, 4);
-    int channel = take(db);
-    if (channel < 0) {
-      set_ended(db, errptr);
-      return 0;
-    }
-    fault = tiswenor_transport_exchange(db->transport, (unsigned)channel, request->bytes,
-                                        request->length, &bytes, &length);
-    give(db, channel, fault || bytes[0] == tiswenor_malformed);
+    fault = exchange(db, request, &bytes, &length);
   }
   return is_done(db, fault, bytes, length, answer, errptr);
 }
@@ -303,10 +339,11 @@ static int ask_numbers(tiswenor_t *db, unsigned char kind, uint64_t *numbers, in
 
 /* Opening and closing */
 
-static tiswenor_t *new_database(struct transport *transport, unsigned channels) {
+static tiswenor_t *new_database(struct transport *transport, unsigned channels, int ahead) {
   tiswenor_t *db = calloc(1, sizeof *db);
   if (!db) return NULL;
   db->transport = transport;
+  db->ahead = ahead;
   db->last = &db->first;
   db->living = db->free_count = channels;
   for (unsigned i = 0; i < channels; i++) db->free[i] = (unsigned char)i;
@@ -316,11 +353,11 @@ static tiswenor_t *new_database(struct transport *transport, unsigned channels) 
 
 /* The opening request, whose first channel the transport sets. */
 static void opening_request(struct request *request, const tiswenor_options_t *options,
-                            const char *name) {
+                            unsigned channels, const char *name) {
   request_begin(request, 0);
   request->length = 4;
   add_number(request, 0, 4);
-  add_number(request, (uint64_t)options->channels, 4);
+  add_number(request, channels, 4);
   add_number(request, (uint64_t)options->workers, 4);
   add_number(request, options->flags, 1);
   add_text(request, name, strlen(name), NULL, 0);
@@ -343,12 +380,14 @@ tiswenor_t *tiswenor_open(const tiswenor_options_t *options, const char *name, c
   if (options->flags & CREATE_IF_MISSING)
     (void)!mkdir(name, 0777); /* it is there, or else the server refuses */
   struct request request;
-  opening_request(&request, options, name);
+  int has_ahead = tiswenor_transport_works_beside && options->channels < MOST_CHANNELS;
+  unsigned channels = (unsigned)(options->channels + has_ahead);
+  opening_request(&request, options, channels, name);
   int fault = request.failed;
   struct transport *transport = NULL;
   if (!fault)
-    transport = tiswenor_transport_open(options->server, (unsigned)options->channels, request.bytes,
-                                        request.length, &fault);
+    transport =
+        tiswenor_transport_open(options->server, channels, request.bytes, request.length, &fault);
   const char *detail = transport ? "" : strerror(errno);
   request_end(&request);
   if (!transport) {
@@ -356,7 +395,8 @@ tiswenor_t *tiswenor_open(const tiswenor_options_t *options, const char *name, c
     set_error(errptr, fault, is, detail);
     return NULL;
   }
-  tiswenor_t *db = new_database(transport, (unsigned)options->channels);
+  tiswenor_t *db =
+      new_database(transport, (unsigned)options->channels, has_ahead ? options->channels : -1);
   if (!db) {
     tiswenor_transport_close(transport);
     set_error(errptr, tiswenor_out_of_memory, "OutOfMemory", "");
@@ -600,8 +640,9 @@ struct tiswenor_iterator_t {
   struct answer page;
   const unsigned char *key, *value; /* in the page; NULL where it is not valid */
   size_t klen, vlen;
-  int is_last; /* no page follows this one */
-  uint32_t limit;
+  int is_last;    /* no page follows this one */
+  int is_ahead;   /* the next page was asked for, on the channel that is for it */
+  unsigned pages; /* since it was sent somewhere */
   char *error;
 };
 
@@ -623,9 +664,107 @@ static void leave_page(tiswenor_iterator_t *iterator) {
   iterator->key = NULL;
 }
 
+/* Asks for the page from the first key on that is not below `from` and `more`. */
+static void page_request(struct request *request, const tiswenor_iterator_t *iterator,
+                         const unsigned char *from, size_t length, const char *more,
+                         size_t more_length) {
+  request_begin(request, SCAN);
+  add_when(request, &iterator->options);
+  add_text(request, (const char *)from, length, more, more_length);
+  add_number(request, 0, 1);
+  add_number(request, iterator->pages ? 0 : FIRST_PAGE, 4);
+}
+
+/* The last key of a page; NULL for a page in another form. */
+static const unsigned char *last_key(struct answer page, size_t *length) {
+  const unsigned char *key = NULL;
+  while (page.at < page.end) {
+    size_t vlen;
+    key = next_text(&page, length);
+    if (!key || !next_text(&page, &vlen)) return NULL;
+  }
+  return key;
+}
+
+/* What came on the channel for pages ahead: 0, or an error's number. A channel that is ended stays
+   in use for ever. */
+static int receive_ahead(tiswenor_t *db, unsigned char **bytes, size_t *length) {
+  int before;
+  pthread_setcancelstate(PTHREAD_CANCEL_DISABLE, &before);
+  int fault =
+      tiswenor_transport_exchange(db->transport, (unsigned)db->ahead, NULL, 0, bytes, length);
+  pthread_setcancelstate(before, NULL);
+  return is_end(fault, *bytes) ? tiswenor_ended : fault;
+}
+
+/* Whether the channel for pages ahead is this thread's: no other iterator has it, and nothing is to
+   come on it. No one waits for it. */
+static int take_ahead(tiswenor_t *db) {
+  int unused = 0;
+  if (db->ahead < 0 || !atomic_compare_exchange_strong(&db->is_ahead_used, &unused, 1)) return 0;
+  if (db->is_ahead_owed) {
+    unsigned char *bytes = NULL;
+    size_t length;
+    int fault = receive_ahead(db, &bytes, &length);
+    free(bytes);
+    if (fault == tiswenor_ended) return 0;
+    db->is_ahead_owed = 0;
+  }
+  return 1;
+}
+
+/* Asks for the page behind the one that was just read. */
+static void ask_ahead(tiswenor_iterator_t *iterator) {
+  tiswenor_t *db = iterator->db;
+  struct request request;
+  size_t length;
+  int before;
+  if (iterator->is_last || iterator->pages < PAGES_BEFORE_AHEAD) return;
+  const unsigned char *key = last_key(iterator->page, &length);
+  if (!key || !take_ahead(db)) return;
+  page_request(&request, iterator, key, length, "", 1); /* with the zero byte of the text */
+  if (request.failed) {
+    db->is_ahead_used = 0;
+  } else {
+    store(request.bytes, request.length - 4, 4);
+    pthread_setcancelstate(PTHREAD_CANCEL_DISABLE, &before);
+    iterator->is_ahead =
+        tiswenor_transport_send(db->transport, (unsigned)db->ahead, request.bytes, request.length);
+    pthread_setcancelstate(before, NULL);
+  }
+  request_end(&request);
+}
+
+/* Takes the page that was asked for ahead. Whether it is there; if not, it is to be asked for. */
+static int has_ahead(tiswenor_iterator_t *iterator) {
+  tiswenor_t *db = iterator->db;
+  unsigned char *bytes = NULL;
+  size_t length = 0;
+  if (!iterator->is_ahead || tiswenor_transport_is_forked(db->transport)) return 0;
+  iterator->is_ahead = 0;
+  int fault = receive_ahead(db, &bytes, &length);
+  if (fault != tiswenor_ended) db->is_ahead_used = 0;
+  if (fault || bytes[0]) {
+    free(bytes);
+    return 0;
+  }
+  iterator->page = (struct answer){bytes, bytes + 1, bytes + length};
+  return 1;
+}
+
+/* Leaves the page, and what was asked for ahead, which may come when it will. */
+static void leave_all(tiswenor_iterator_t *iterator) {
+  leave_page(iterator);
+  iterator->pages = 0;
+  if (!iterator->is_ahead || tiswenor_transport_is_forked(iterator->db->transport)) return;
+  iterator->is_ahead = 0;
+  iterator->db->is_ahead_owed = 1;
+  iterator->db->is_ahead_used = 0;
+}
+
 void tiswenor_iter_destroy(tiswenor_iterator_t *iterator) {
   if (!iterator) return;
-  leave_page(iterator);
+  leave_all(iterator);
   if (iterator->own) tiswenor_release_snapshot(iterator->db, iterator->own);
   tiswenor_free(iterator->error);
   free(iterator);
@@ -647,34 +786,32 @@ static int turn(tiswenor_iterator_t *iterator) {
   return 1;
 }
 
-/* Asks for the page from the first key on that is not below `from` and `more`, and goes to its
-   first pair. `from` may lie in the page that is left. */
-static void ask_page(tiswenor_iterator_t *iterator, const char *from, size_t length,
-                     const char *more, size_t more_length) {
-  struct request request;
-  request_begin(&request, SCAN);
-  add_when(&request, &iterator->options);
-  add_text(&request, from, length, more, more_length);
-  add_number(&request, 0, 1);
-  add_number(&request, iterator->limit, 4);
-  iterator->limit = 0;
-  leave_page(iterator);
+/* Goes to the first pair of the page that is there. */
+static void begin_page(tiswenor_iterator_t *iterator) {
   struct answer *page = &iterator->page;
-  if (!ask_once(iterator->db, &request, page, &iterator->error)) return;
   if (page->at == page->end || *page->at > 1 || (*page->at == 0 && page->end - page->at == 1)) {
     set_bad_answer(page, &iterator->error);
     return leave_page(iterator);
   }
   iterator->is_last = *page->at++;
+  iterator->pages++;
+  ask_ahead(iterator);
   turn(iterator);
 }
 
+static void ask_page(tiswenor_iterator_t *iterator, struct request *request) {
+  if (ask_once(iterator->db, request, &iterator->page, &iterator->error)) begin_page(iterator);
+}
+
 void tiswenor_iter_seek(tiswenor_iterator_t *iterator, const char *k, size_t klen) {
+  struct request request;
   if (!iterator->options.snapshot) return; /* it was refused: the error stays */
   tiswenor_free(iterator->error);
   iterator->error = NULL;
-  iterator->limit = FIRST_PAGE;
-  ask_page(iterator, k, klen, NULL, 0);
+  iterator->pages = 0;
+  page_request(&request, iterator, (const unsigned char *)k, klen, NULL, 0);
+  leave_all(iterator); /* k may lie in it */
+  ask_page(iterator, &request);
 }
 
 void tiswenor_iter_seek_to_first(tiswenor_iterator_t *iterator) {
@@ -682,10 +819,15 @@ void tiswenor_iter_seek_to_first(tiswenor_iterator_t *iterator) {
 }
 
 void tiswenor_iter_next(tiswenor_iterator_t *iterator) {
-  const char *last = (const char *)iterator->key;
+  struct request request;
+  const unsigned char *last = iterator->key;
   size_t length = iterator->klen;
   if (!last || turn(iterator) || iterator->error || iterator->is_last) return;
-  ask_page(iterator, last, length, "", 1); /* with the zero byte of the text */
+  page_request(&request, iterator, last, length, "", 1); /* with the zero byte of the text */
+  leave_page(iterator);
+  if (!has_ahead(iterator)) return ask_page(iterator, &request);
+  request_end(&request);
+  begin_page(iterator);
 }
 
 uint8_t tiswenor_iter_valid(const tiswenor_iterator_t *iterator) { return iterator->key != NULL; }
@@ -703,8 +845,8 @@ const char *tiswenor_iter_value(const tiswenor_iterator_t *iterator, size_t *vle
 void tiswenor_iter_get_error(const tiswenor_iterator_t *iterator, char **errptr) {
   if (!iterator->error) return;
   tiswenor_free(*errptr);
-  *errptr = iterator->error == no_memory ? NULL : strdup(iterator->error);
-  if (!*errptr) *errptr = no_memory;
+  *errptr = strdup(iterator->error);
+  if (!*errptr) *errptr = lasting_text(tiswenor_error_number(iterator->error));
 }
 
 /* Compaction and sizes */

@@ -38,7 +38,7 @@ typedef struct tiswenor_writebatch_t tiswenor_writebatch_t;
 typedef struct tiswenor_writeoptions_t tiswenor_writeoptions_t;
 
 /* Numbers of errors. Those from 1 to 99 are the server's refusals, listed in docs/FORMATS.md; these
-   are the protocol's (200 to 203) and the library's own (250 to 255). */
+   are the protocol's (200 to 204) and the library's own (250 to 255). */
 enum {
   tiswenor_out_of_memory = 1,
   tiswenor_too_large = 39,
@@ -47,6 +47,7 @@ enum {
   tiswenor_bad_opening = 201,
   tiswenor_no_database = 202, /* there is none, and create_if_missing is not set */
   tiswenor_is_there = 203,    /* there is one, and error_if_exists is set */
+  tiswenor_unanswered = 204,  /* no memory for the answer: whether it was done is not known */
   tiswenor_no_server = 250,   /* the server could not be started */
   tiswenor_closed = 251,      /* in a process that was forked */
   tiswenor_bad_answer = 254,  /* an answer in none of the protocol's forms */

@@ -1,6 +1,9 @@
 /* A server that answers anything: it takes each opening, and then answers each request on its first
-   channel by drawn bytes, some of them near what a true server says. LIAR_SEED says which ones. */
+   two channels by drawn bytes, some of them near what a true server says. LIAR_SEED says which
+   ones.
+ */
 #define _GNU_SOURCE
+#include <poll.h>
 #include <stdint.h>
 #include <stdlib.h>
 #include <string.h>
@@ -80,7 +83,10 @@ int main(void) {
   read_all(0, request, read_length(0));
   int channel = request[0];
   if (write(channel, "\1\0\0\0\0", 5) != 5) return 1;
+  struct pollfd both[] = {{channel, POLLIN, 0}, {channel + 1, POLLIN, 0}};
   for (;;) {
+    if (poll(both, 2, -1) < 0) return 1;
+    channel = both[both[0].revents ? 0 : 1].fd;
     read_all(channel, request, read_length(channel));
     answer[4] = draw(8) ? 0 : (unsigned char)draw(256);
     size_t length = 1 + true_answer(request[0], answer + 5);

@@ -13,13 +13,14 @@ use Rattle.lsm_text.specs.declared.fault.Fault.{Fault}
 use Rattle.lsm_text.specs.declared.input.Input.{Input}
 use Rattle.lsm_text.specs.declared.input.Input.TheVariants.{Standard}
 use Rattle.lsm_text.specs.declared.request.Request.{Request}
-use Rattle.lsm_text.specs.declared.request.Request.TheVariants.{Convert, Look, Write as WriteFolder, Load, Compact, Script, Shell}
+use Rattle.lsm_text.specs.declared.request.Request.TheVariants.{Convert, Look, Levels, Write as WriteFolder, Load, Compact, Script, Shell}
 use Rattle.lsm_text.specs.declared.writing_command.WritingCommand.{WritingCommand}
 use Rattle.lsm_text.specs.declared.writing_command.WritingCommand.TheVariants.{Ingest, WriteKey, Clean}
 use Rattle.lsm_commands.specs.Commands.{IsConverted, IsNotConverted}
 use Rattle.lsm_commands.specs.Played.{IsScriptDone, IsScriptRefused}
 use Rattle.lsm_directory.specs.declared.faults.directory_fault.DirectoryFault.{DirectoryFault}
 use Rattle.lsm_writing.specs.declared.faults.writer_fault.WriterFault.{WriterFault}
+use Rattle.lsm_layout.specs.Layout.{FailsToLayOut, LaysOutAt}
 use Rattle.lsm_load.specs.LoadedAt.{FailsToLoad, LoadsAt}
 use Rattle.lsm_reading.specs.Looked.{FailsToLook, LooksAt}
 use Rattle.lsm_shell.specs.Talked.{FailsToTalk, TalksAt}
@@ -56,6 +57,7 @@ module _ {C M : Type 0} (folders : Ghosts C M) where
   abbrev pub IsDone : (Input → Option (List ℕ)) → Request → (old new said_old said_new : Option (List ℕ)) → Type 0
   IsDone text (Convert conversion input) old new said_old said_new = IsConverted conversion (text input) old new × Keeps said_old said_new
   IsDone text (Look line) old new said_old said_new = LooksAt folders line old new said_old said_new
+  IsDone text (Levels line) old new said_old said_new = LaysOutAt folders line old new said_old said_new
   IsDone text (WriteFolder line) old new said_old said_new = IsWritten text line.path.now line.command old new × Keeps said_old said_new
   IsDone text (Load line) old new said_old said_new =
       LoadsAt folders line.path.now line.options (text line.input) old new × (IsFalse line.options.progress → Keeps said_old said_new)
@@ -82,6 +84,7 @@ module _ {C M : Type 0} (folders : Ghosts C M) (marks : mark.Ghosts M) where
   abbrev pub IsUndone : (Input → Option (List ℕ)) → Request → (old new : Option (List ℕ)) → Type 0
   IsUndone text (Convert conversion input) old new = IsUnconverted conversion (text input) old new
   IsUndone text (Look line) old new = (fault : DirectoryFault) × FailsToLook folders marks line fault old new
+  IsUndone text (Levels line) old new = (fault : DirectoryFault) × FailsToLayOut folders line fault old new
   IsUndone text (WriteFolder line) old new = IsUnwritten text line.path.now line.command old new
   IsUndone text (Load line) old new = FailsToLoad folders marks line.path.now line.options (text line.input) old new
   IsUndone text (Compact line) old new = IsUncompacted folders marks line old new

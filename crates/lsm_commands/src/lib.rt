@@ -1,8 +1,8 @@
 //! What the program `lsm` does for the words of its command line. Of the commands those on one input
 //! stand here, `mktable`, `dump`, `manifest` and `script`; those on a folder in two crates below.
 //!
-//! Stands on `lsm_text` for words, forms and texts, on `lsm_reading` and `lsm_writing` for the
-//! commands on a folder, on `lsm_directory` for what these share, and on `lsm_script` for lists of
+//! Stands on `lsm_text` for words, forms and texts, on `lsm_reading`, `lsm_layout` and `lsm_writing`
+//! for the commands on a folder, on `lsm_directory` for what these share, and on `lsm_script` for lists of
 //! commands. Its contract: `run` does what the words of a command line ask, by one clause for each
 //! exit status (what it does not say is in README.md).
 #![tactic(auto)]

@@ -12,6 +12,7 @@ use crate::converting::program::run_convert;
 use crate::playing::program::run_script;
 use lsm_directory::{Known, Paths, refuse, status_of};
 use lsm_folder::FolderCalls;
+use lsm_layout::run_levels;
 use lsm_load::run_load;
 use lsm_reading::run_look;
 use lsm_shell::run_shell;
@@ -125,6 +126,7 @@ where
             run_convert(paths, *conversion, *found, &mut input, out, err)
         }
         Request::Look(line) => run_look(rt, paths, line, out, err),
+        Request::Levels(line) => run_levels(rt, paths, line, out, err),
         Request::Write(line) => run_writing(rt, paths, line, &mut input, out, err),
         Request::Load(line) => run_load(rt, paths, line, input, out, err),
         Request::Compact(line) => run_compact(rt, paths, line, out, err),

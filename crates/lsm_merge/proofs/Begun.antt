@@ -1,5 +1,6 @@
 -- The last entry of an output in the making.
-use Rattle.std.proofs.Common.{◌≡◌, ℕ, Bool, List, [], ◌∷◌, Some, ap}
+use Rattle.std.proofs.Common.{◌≡◌, ℕ, Bool, List, [], ◌∷◌, Some, ap, ◌∙◌}
+use Rattle.std.proofs.Math.Bool.{and_comm}
 use Rattle.std.specs.Prelude.{not, ◌&&◌, nat_le}
 use Rattle.std.specs.Str.{bytes_eq}
 use Rattle.lsm_codec.specs.Keys.{InternalKey, UserKey}
@@ -14,6 +15,7 @@ ends_last (e ∷ f ∷ es) key k h = ends_last (f ∷ es) key k h
 
 -- the test of an output that has entries
 pub closes_some : (size : List Entry → ℕ) (target : ℕ) (es : List Entry) (key : InternalKey) (k : UserKey) → last_key es ≡ Some key
-    → closes size target es k ≡ (not (bytes_eq key.user k) && nat_le target (size es))
+    → closes size target es k ≡ (nat_le target (size es) && not (bytes_eq key.user k))
 closes_some size target [] key k h = absurd (cc h)
-closes_some size target (e ∷ es) key k h = ap (λ (b : Bool). not b && nat_le target (size (e ∷ es))) (ends_last (e ∷ es) key k h)
+closes_some size target (e ∷ es) key k h =
+    ap (λ (b : Bool). not b && nat_le target (size (e ∷ es))) (ends_last (e ∷ es) key k h) ∙ and_comm (not (bytes_eq key.user k)) (nat_le target (size (e ∷ es)))

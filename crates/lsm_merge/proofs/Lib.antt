@@ -7,6 +7,7 @@ mod PlaceLaws
 mod Limited
 mod PutLaws
 mod Stepping
+mod StreamLaws
 mod Tickets
 mod Twins
 mod UnderWay

@@ -32,7 +32,7 @@ pub stepped : {A E : Type 0} (Honest : Type 0) (w : Work) (ps : List Placed) (p 
     → Some k ≡ key_in (first_of ps) → v ≡ value_in (first_of ps) → Follows before (entry_of k v)
     → kept ≡ is_kept floor ranges before (entry_of k []) → floor ≡ w.floor → ranges ≡ w.ranges
     → Goes m m' (cond kept (placed (finished m.options) m.target (making_of m) (entry_of k v)) (making_of m))
-    → before' ≡ Some (entry_of k []) → (Honest → OnOk r (left'.placed ≡ after_first ps))
+    → OnOk r (before' ≡ Some (entry_of k [])) → (Honest → OnOk r (left'.placed ≡ after_first ps))
     → OnOk r (Stepped Honest w p rest before before' m m' left')
 stepped Honest w ps p rest before before' m m' left' (Err e) k v kept floor ranges is key value follows kept_is floor_is ranges_is goes before_is left = tt
 stepped Honest w ps p rest before before' m m' left' (Ok x) k v kept floor ranges is key value follows kept_is floor_is ranges_is goes before_is left =

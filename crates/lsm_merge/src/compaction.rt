@@ -20,20 +20,20 @@ ghost use Rattle.lsm_merge.specs.Work.{job_of, puts_by, puts_of};
 ghost use Rattle.lsm_merge.specs.declared.merge_fault.MergeFault.TheVariants.{OutOfMemory};
 
 use crate::copies::again_all;
+use crate::dropping::is_kept;
 use crate::finished::Finished;
-use crate::inputs::{advance, open_inputs};
+use crate::inputs::open_stream;
 use crate::job::Job;
 use crate::merge_fault::{InputFault, MergeFault};
 use crate::number_source::NumberSource;
 use crate::outputs::Outputs;
-use crate::remembered::{Remembered, is_kept};
+use crate::stream::Stream;
 use lsm_levels::laws::streaming_keeps_the_kept;
-use lsm_merger::Merger;
 use lsm_table::{NamedShelf, Naming, Registry, Shelf};
 use std::alloc::Global;
 use std::sync::Wait;
 
-/// One step of the merge: the entry at hand is dropped or placed, and remembered.
+/// One step of the merge: the entry at hand is dropped or placed, and passed.
 #[tactic(auto, using(crate::proofs::PutLaws::puts_none))]
 fn step<N: Naming, S: Shelf, R: Wait, D: NumberSource>(
     rt: &R,
@@ -43,48 +43,48 @@ fn step<N: Naming, S: Shelf, R: Wait, D: NumberSource>(
     job: &Job<N, S>,
     numbers: &mut D,
     outputs: &mut Outputs<N, S>,
-    before: &mut Remembered,
-    merger: &mut Merger<N, S>,
+    stream: &mut Stream<N, S>,
 ) -> Result<(), MergeFault>
     requires ready { D.ready numbers.old }
     requires good { AreGood outputs.old }
-    requires some { no_more merger.old.placed ≡ false }
-    requires up { IsUpTo (entries_of_last outputs.old.last) before.old }
-    ensures ok { (p : Placed) (rest : List Placed) → merger.old.placed ≡ p ∷ rest → OnOk result
-        (Stepped S.honest job.now p rest before.old before.new outputs.old outputs.new merger.new) }
+    requires some { no_more stream.old.left.placed ≡ false }
+    requires up { IsUpTo (entries_of_last outputs.old.last) stream.old.before }
+    ensures ok { (p : Placed) (rest : List Placed) → stream.old.left.placed ≡ p ∷ rest → OnOk result
+        (Stepped S.honest job.now p rest stream.old.before stream.new.before outputs.old outputs.new stream.new.left) }
     ensures drawn { OnOk result ((there : List ℕ) → D.drew numbers.old ≡ drawn_of outputs.old there
         → D.drew numbers.new ≡ drawn_of outputs.new there) }
     ensures answered { OnOk result (D.refused numbers.new ≡ D.refused numbers.old) }
-    ensures files { OnOk result (ReadsNoOther merger.old merger.new) }
+    ensures files { OnOk result (ReadsNoOther stream.old.left stream.new.left) }
     ensures told { PutsMore outputs.old.put outputs.new.put shelf.old shelf.new }
     ensures tables { OnOk result
         (PutsTables outputs.old.tables outputs.new.tables shelf.old shelf.new) }
     ensures leaves { IfErr result (λ e. (there : List ℕ) → D.drew numbers.old
         ≡ drawn_of outputs.old there → Leaves e outputs.new.put (D.drew numbers.new) there) }
     ensures why { IfErr result (λ e. AnswersOf e (D.refused numbers.old) (D.refused numbers.new)) }
-    ensures cause { IfErr result (λ e. (inputs : List ℕ) → AreInputs merger.old.files inputs
+    ensures cause { IfErr result (λ e. (inputs : List ℕ) → AreInputs stream.old.left.files inputs
         → HasCause inputs e shelf.old shelf.new) }
     ensures sound { S.honest → IfErr result IsReadable }
     ensures order { IfErr result (λ e. IsOrderFault e → (p : Placed) (rest : List Placed)
-        → merger.old.placed ≡ p ∷ rest → Follows before.old p.1 → ⊥) }
+        → stream.old.left.placed ≡ p ∷ rest → Follows stream.old.before p.1 → ⊥) }
     ensures asked { AsksFor outputs.old.ticket (D.asked numbers.old) (D.asked numbers.new) }
     ensures ticket { IfErr result (λ e. NamesTicket e outputs.old.ticket) }
     ensures large { IfErr result (λ e. IsSizeFault e → (p : Placed) (rest : List Placed)
-        → merger.old.placed ≡ p ∷ rest
+        → stream.old.left.placed ≡ p ∷ rest
         → IsOverLimit outputs.old.options (entries_of_last outputs.old.last ++ p.1 ∷ [])) }
     ensures ready { D.ready numbers.new }
 {
-    let Some(key) = merger.key() else {
+    let Some(key) = stream.key() else {
         unreachable!()
     };
-    if !before.is_followed_by(&key) {
-        return Err(MergeFault::ReadFailed(merger.number(), InputFault::OutOfOrder));
+    if !stream.is_followed_by(&key) {
+        return Err(MergeFault::ReadFailed(stream.number(), InputFault::OutOfOrder));
     }
     outputs.tell_order();
-    let kept = is_kept(job.floor(), job.ranges(), before, &key);
-    outputs.take(rt, shelf, registry, numbers, kept, &key, merger.value())?;
-    before.remember(&key)?;
-    advance(shelf, alloc, merger)
+    let floor = job.floor();
+    let shadowed = stream.shadows(floor, &key);
+    let kept = is_kept(shadowed, floor, job.ranges(), &key);
+    outputs.take(rt, shelf, registry, numbers, kept, &key, stream.value())?;
+    stream.pass(shelf, alloc)
 }
 
 /// Merges the inputs of a job into outputs.
@@ -126,10 +126,9 @@ fn merge<N: Naming, S: Shelf, R: Wait, D: NumberSource>(
     streaming_keeps_the_kept();
     // What holds of the job is told by this call.
     let _ticket = job.ticket();
-    let mut merger = open_inputs(shelf, alloc, registry, job)?;
-    let mut before = Remembered::nothing(alloc);
+    let mut stream = open_stream(shelf, alloc, registry, job)?;
     'entries: for _ in rt.forever() {
-        if merger.is_at_end() {
+        if stream.is_at_end() {
             return outputs.put_last(rt, shelf, registry);
         }
         step(
@@ -140,8 +139,7 @@ fn merge<N: Naming, S: Shelf, R: Wait, D: NumberSource>(
             job,
             numbers,
             outputs,
-            &mut before,
-            &mut merger,
+            &mut stream,
         )?;
     }
     unreachable!()

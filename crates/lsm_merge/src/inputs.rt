@@ -1,6 +1,6 @@
 //! The inputs of a job, as one stream.
 
-ghost use Rattle.std.specs.Prelude.{◌≡◌, ◌<◌, ◌≤◌, ◌++◌, ℕ, List, length, map, IfOk, IfErr, OnOk};
+ghost use Rattle.std.specs.Prelude.{◌≡◌, ◌<◌, ◌≤◌, ◌++◌, List, None, length, map, IfOk, IfErr, OnOk};
 ghost use Rattle.lsm_codec.specs.Lists.{Has};
 ghost use Rattle.lsm_codec.specs.Entries.{Entry};
 ghost use Rattle.lsm_shelf.specs.Told.{Becomes};
@@ -8,8 +8,7 @@ ghost use Rattle.lsm_table.specs.Registry.{Table};
 ghost use Rattle.lsm_levels.specs.Files.{all_entries};
 ghost use Rattle.lsm_levels.specs.Merging.{AreOrdered, IsSorted, entries_of, placed_at};
 ghost use Rattle.lsm_levels.specs.Streams.{IsAscending, IsMerge};
-ghost use Rattle.lsm_merger.specs.Heads.{after_first};
-ghost use Rattle.lsm_merger.specs.Runs.{ReadsNoOther, files_at};
+ghost use Rattle.lsm_merger.specs.Runs.{files_at};
 ghost use Rattle.lsm_version.specs.Versions.{IsWhole};
 ghost use Rattle.lsm_merge.specs.Causes.{HasCause};
 ghost use Rattle.lsm_merge.specs.InputOrder.{HasTwins, StandInOrder};
@@ -19,6 +18,7 @@ ghost use Rattle.lsm_merge.specs.Work.{job_of};
 
 use crate::job::Job;
 use crate::merge_fault::MergeFault;
+use crate::stream::Stream;
 use lsm_levels::laws::merges_are_in_order;
 use lsm_merger::{Merger, Run};
 use lsm_reader::Direct;
@@ -137,8 +137,8 @@ fn push_upper<N: Naming, S: Shelf>(
     }
 }
 
-/// The inputs of a job as one stream.
-pub(crate) fn open_inputs<N: Naming, S: Shelf>(
+/// The merge of the inputs of a job.
+fn open_inputs<N: Naming, S: Shelf>(
     shelf: &mut NamedShelf<N, S>,
     alloc: Global,
     registry: &Registry<N, S>,
@@ -167,24 +167,30 @@ pub(crate) fn open_inputs<N: Naming, S: Shelf>(
     Ok(Merger::new(alloc, runs)?)
 }
 
-/// Goes on to the next entry of the inputs.
-#[tactic(auto, using(crate::proofs::InputLaws::readable_of, crate::proofs::InputLaws::cause_of_read, crate::proofs::InputLaws::reading_of))]
-pub(crate) fn advance<N: Naming, S: Shelf>(
+/// The same with the entry before, of which there is none yet.
+pub(crate) fn open_stream<N: Naming, S: Shelf>(
     shelf: &mut NamedShelf<N, S>,
     alloc: Global,
-    merger: &mut Merger<N, S>,
-) -> Result<(), MergeFault>
-    ensures ok { S.honest → OnOk result (merger.new.placed ≡ after_first merger.old.placed) }
-    ensures files { OnOk result (ReadsNoOther merger.old merger.new) }
+    registry: &Registry<N, S>,
+    job: &Job<N, S>,
+) -> Result<Stream<N, S>, MergeFault>
+    ensures before { IfOk result (λ s. s.before ≡ None) }
+    ensures merges { S.honest → IfOk result (λ s. IsAscending (entries_of s.left.placed)
+        → IsMerge (entries_of s.left.placed) (all_entries (job_of job.now).inputs)) }
+    ensures from { S.honest → IfOk result (λ s. (e : Entry) → Has (entries_of s.left.placed) e
+        → Has (all_entries (job_of job.now).inputs) e) }
+    ensures order { S.honest → StandInOrder job.now
+        → IfOk result (λ s. (IsAscending (entries_of s.left.placed) → ⊥)
+        → HasTwins (all_entries (job_of job.now).inputs)) }
+    ensures apart { S.honest → StandInOrder job.now
+        → IfOk result (λ s. IsAscending (entries_of s.left.placed)
+        → HasTwins (all_entries (job_of job.now).inputs) → ⊥) }
+    ensures files { IfOk result (λ s. AreInputs s.left.files (input_numbers job.now)) }
     ensures kind { IfErr result IsOfReading }
     ensures sound { S.honest → IfErr result IsReadable }
     ensures told { Becomes shelf.old shelf.new }
-    ensures cause { IfErr result (λ e. (inputs : List ℕ) → AreInputs merger.old.files inputs
-        → HasCause inputs e shelf.old shelf.new) }
+    ensures cause { IfErr result (λ e. HasCause (input_numbers job.now) e shelf.old shelf.new) }
 {
-    let mut direct = Direct::new(shelf);
-    match merger.advance_by(&mut direct, alloc) {
-        Ok(_shared) => Ok(()),
-        Err(fault) => Err(MergeFault::of_read(fault.number, fault.fault)),
-    }
+    let merger = open_inputs(shelf, alloc, registry, job)?;
+    Ok(Stream::new(alloc, merger))
 }

@@ -14,8 +14,9 @@ mod sameness;
 
 // The merge of its inputs.
 mod compaction;
+mod dropping;
 mod inputs;
-mod remembered;
+mod stream;
 
 // Outputs, each under a number of its own.
 mod noted;

@@ -34,12 +34,12 @@ impl Model for Output {
         record { number = o.number; options = o.table.options; entries = o.table.entries } };
 }
 
-/// Whether an output may end with the one user key where another one follows: they differ, and it
-/// has reached the target.
+/// Whether an output may end with the one user key where another one follows: it has reached the
+/// target, and they differ.
 fn may_close(last: &[u8], user: &[u8], target: u64, written: u64) -> bool
-    ensures { result ≡ (not (bytes_eq last.now user.now) && nat_le target written) }
+    ensures { result ≡ (nat_le target written && not (bytes_eq last.now user.now)) }
 {
-    last != user && target <= written
+    target <= written && last != user
 }
 
 impl Output {

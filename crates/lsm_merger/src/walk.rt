@@ -9,7 +9,7 @@ ghost use Rattle.lsm_table.specs.Told.{Becomes};
 ghost use Rattle.lsm_merger.specs.Heads.{after_first, first_of, key_in, no_more, source_in};
 ghost use Rattle.lsm_merger.specs.Heads.{value_in};
 ghost use Rattle.lsm_merger.specs.Runs.{IsOfFirst, ReadsNoOther};
-ghost use Rattle.lsm_merger.specs.Walks.{passed_by, told_first};
+ghost use Rattle.lsm_merger.specs.Walks.{order_first, passed_by, told_first};
 
 use crate::file_fault::FileFault;
 use crate::front::compare_behind;
@@ -18,6 +18,7 @@ use lsm_codec::{KeyRef, Kind};
 use lsm_reader::Blocks;
 use lsm_table::{Naming, ReadFault, Shelf, TableFault};
 use std::alloc::{AllocError, Global};
+use std::cmp::Ordering;
 use std::marker::Model;
 
 /// What a walk tells of the key of the entry at which its merge stands.
@@ -123,6 +124,24 @@ impl<N: Naming, S: Shelf> Walk<N, S> {
         ensures { result ≡ no_more self.now.left.placed }
     {
         self.merger.is_at_end()
+    }
+
+    /// How the user key that is remembered stands to the one at which the merge stands; none where
+    /// none is remembered, or it stands at none. What the two share is known from then on, so no
+    /// byte of it is compared again.
+    #[tactic(auto, using(crate::proofs::WalkLaws::order_none, crate::proofs::WalkLaws::order_told, crate::proofs::WalkLaws::order_untold))]
+    pub fn order(&mut self) -> Option<Ordering>
+        ensures order { result ≡ order_first self.old.passed (first_of self.old.left.placed) }
+        ensures same { self.new ≡ self.old }
+    {
+        match self.merger.key() {
+            None => None,
+            Some(key) => {
+                let (order, front) = compare_behind(&self.user, key.user, self.front);
+                self.front = front;
+                if self.has_user { Some(order) } else { None }
+            }
+        }
     }
 
     /// What is told of the entry at which the merge stands, if it stands at one. What the two user

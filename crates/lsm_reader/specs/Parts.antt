@@ -2,7 +2,7 @@
 use Rattle.std.specs.Prelude.{◌≡◌, ℕ, List, Ok}
 use Rattle.lsm_codec.specs.Entries.{Entry}
 use Rattle.lsm_table.specs.declared.handle.Handle.{Handle}
-use Rattle.lsm_reader.specs.Blocks.{last_part, stored_block}
+use Rattle.lsm_reader.specs.Blocks.{stored_block}
 
 -- a block of an image: its place, and the entries that were read there
 pub record BlockOf : Type 0 where
@@ -13,12 +13,3 @@ pub record BlockOf : Type 0 where
 -- the block that stands at that place
 abbrev pub IsBlockOf : BlockOf → Type 0
 IsBlockOf p = stored_block p.image p.handle ≡ Ok p.entries
-
--- the bytes that were read of the end of an image
-pub record FooterOf : Type 0 where
-  pub image : List ℕ
-  pub footer : List ℕ
-
--- its footer
-abbrev pub IsFooterOf : FooterOf → Type 0
-IsFooterOf e = last_part e.image ≡ Ok e.footer

@@ -4,6 +4,7 @@ ghost use Rattle.std.specs.Prelude.{◌≡◌, IfErr};
 ghost use Rattle.std.specs.Arc.{arc_value};
 ghost use Rattle.lsm_block.specs.Held.{HeldBlock};
 ghost use Rattle.lsm_reader.specs.Blocks.{Reads, last_part, stored_block};
+ghost use Rattle.lsm_table.specs.OpenTable.{opening_at};
 ghost use Rattle.lsm_table.specs.ReadFault.{ReadCounted};
 ghost use Rattle.lsm_shelf.specs.Told.{Becomes};
 
@@ -12,8 +13,8 @@ use lsm_table::{Naming, ReadFault, Shelf};
 use std::alloc::Global;
 use std::sync::Arc;
 
-/// Gives the footers and the blocks of the tables on a shelf of the type `S`: by the shelf itself,
-/// or from a cache over one.
+/// Gives the footers, the index blocks and all other blocks of the tables on a shelf of the type
+/// `S`: by the shelf itself, or from a cache over one.
 ///
 /// Contracts see it as they see the shelf (`told`), and by the name of the borrow through which it
 /// reads (`loan`), so that a caller who lent a shelf knows what became of it.
@@ -32,6 +33,16 @@ pub trait Blocks<N: Naming, S: Shelf> {
     fn footer(&mut self, alloc: Global, receipt: &S::Receipt) -> Result<[u8; 48], ReadFault>
         requires here { S.is_of N.place receipt.now }
         ensures exact { S.honest → Reads (λ f. f) result (last_part (S.Receipt.image receipt.now)) }
+        ensures told { Becomes (told self.old) (told self.new) }
+        ensures loan { loan self.new ≡ loan self.old }
+        ensures cause { IfErr result (λ e. ReadCounted e (told self.old) (told self.new)) };
+
+    /// The index block of the table of a receipt: its footer is judged, and then that block. The
+    /// fault is the first one of both.
+    fn index(&mut self, alloc: Global, receipt: &S::Receipt) -> Result<Arc<Block>, ReadFault>
+        requires here { S.is_of N.place receipt.now }
+        ensures exact { S.honest → Reads (λ b. (arc_value {X = HeldBlock} b).entries) result
+            (opening_at (S.Receipt.image receipt.now)) }
         ensures told { Becomes (told self.old) (told self.new) }
         ensures loan { loan self.new ≡ loan self.old }
         ensures cause { IfErr result (λ e. ReadCounted e (told self.old) (told self.new)) };

@@ -3,11 +3,8 @@
 ghost use Rattle.std.specs.Prelude.{◌≡◌};
 
 use crate::blocks::Blocks;
-use crate::judging::{footer_from, is_inside, judge};
 use lsm_block::Block;
-use lsm_table::{
-    FOOTER, Handle, NamedShelf, Naming, ReadFault, Shelf, TRAILER, TableFault, TableReceipt,
-};
+use lsm_table::{NamedShelf, Naming, ReadFault, Shelf};
 use std::alloc::Global;
 use std::sync::Arc;
 
@@ -32,15 +29,13 @@ impl<'a, N: Naming, S: Shelf> Blocks<N, S> for Direct<'a, N, S> {
     ghost loan = { λ d. d.shelf.ghost_name };
 
     fn footer(&mut self, alloc: Global, receipt: &S::Receipt) -> Result<[u8; 48], ReadFault> {
-        let size = receipt.size();
-        if size < FOOTER as u64 {
-            return Err(ReadFault::Table(TableFault::ShortFile));
-        }
         let named = &mut *self.shelf;
-        let bytes = named
-            .shelf
-            .read_at(alloc, receipt, size - FOOTER as u64, FOOTER)?;
-        Ok(footer_from(bytes)?)
+        named.footer(alloc, receipt)
+    }
+
+    fn index(&mut self, alloc: Global, receipt: &S::Receipt) -> Result<Arc<Block>, ReadFault> {
+        let named = &mut *self.shelf;
+        named.index(alloc, receipt)
     }
 
     fn block(
@@ -50,15 +45,8 @@ impl<'a, N: Naming, S: Shelf> Blocks<N, S> for Direct<'a, N, S> {
         offset: u64,
         size: u64,
     ) -> Result<Arc<Block>, ReadFault> {
-        let handle = Handle { offset, size };
-        if !is_inside(handle, receipt.size()) {
-            return Err(ReadFault::Table(TableFault::BadHandle));
-        }
         let named = &mut *self.shelf;
-        let text = named
-            .shelf
-            .read_at(alloc, receipt, offset, size as usize + TRAILER)?;
-        Ok(judge(alloc, handle, text)?)
+        named.block(alloc, receipt, offset, size)
     }
 
     fn copy_receipt(&self, receipt: &S::Receipt) -> S::Receipt {

@@ -13,6 +13,7 @@
 mod blocks;
 mod direct;
 mod judging;
+mod shelf_reads;
 
 // An open table, its reads, and going through it.
 mod open_table;
@@ -22,12 +23,10 @@ mod table_cursor;
 mod table_reader;
 mod table_stream;
 
-// A reader's cache: the footers and blocks that were used last.
+// A reader's cache: the open tables and the blocks that were used last.
 mod block_key;
 mod cached;
 mod kept_block;
-mod kept_blocks;
-mod kept_footer;
 mod parts;
 mod recent;
 
@@ -37,8 +36,6 @@ pub use cached::Cached;
 pub use direct::Direct;
 pub use judging::{footer_from, is_inside, judge};
 pub use kept_block::KeptBlock;
-pub use kept_blocks::KeptBlocks;
-pub use kept_footer::KeptFooter;
 pub use open_table::OpenTable;
 pub use opening::index_by;
 pub use reads::{get, get_by};

@@ -27,9 +27,9 @@ use std::sync::Arc;
 /// as they are needed. It holds its receipt and its index block; contracts see it as its image.
 #[derive(Drop)]
 pub struct OpenTable<N: Naming, S: Shelf> {
-    receipt: S::Receipt,
-    index: Arc<Block>,
-    of: PhantomData<N>,
+    pub(crate) receipt: S::Receipt,
+    pub(crate) index: Arc<Block>,
+    pub(crate) of: PhantomData<N>,
 }
 
 impl<N: Naming, S: Shelf> Model for OpenTable<N, S> {

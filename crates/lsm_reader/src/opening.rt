@@ -12,7 +12,7 @@ ghost use Rattle.lsm_shelf.specs.Told.{Becomes};
 
 use crate::blocks::Blocks;
 use lsm_block::Block;
-use lsm_table::{Footer, Handle, Naming, ReadFault, Shelf, TableFault};
+use lsm_table::{Handle, Naming, ReadFault, Shelf, TableFault};
 use std::alloc::Global;
 use std::sync::Arc;
 
@@ -29,9 +29,7 @@ pub fn index_by<N: Naming, S: Shelf, B: Blocks<N, S>>(
     ensures loan { B.loan blocks.new ≡ B.loan blocks.old }
     ensures cause { IfErr result (λ e. ReadCounted e (B.told blocks.old) (B.told blocks.new)) }
 {
-    let bytes = blocks.footer(alloc, receipt)?;
-    let footer = Footer::of(&bytes)?;
-    blocks.block(alloc, receipt, footer.index.offset, footer.index.size)
+    blocks.index(alloc, receipt)
 }
 
 /// The block that the value of an index entry names.

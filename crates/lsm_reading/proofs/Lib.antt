@@ -1,6 +1,7 @@
 mod LevelLaws
 mod ReadingOutcomes
 mod ScanLaws
+mod JsonLaws
 mod BeginLaws
 mod FaultLaws
 mod PerformLaws

@@ -1,6 +1,7 @@
 -- What public clauses cite, and so what a caller reads
 pub mod Directory
 pub mod Listing
+pub mod JsonLines
 pub mod Scanned
 pub mod Opening
 pub mod Answers

@@ -9,10 +9,11 @@ use Rattle.lsm_version.specs.Versions.{Levels, files}
 use Rattle.lsm_text.specs.Spelling.{spelled}
 use Rattle.lsm_text.specs.declared.form.Form.{Form}
 use Rattle.lsm_text.specs.KeyBounds.{is_within}
+use Rattle.lsm_reading.specs.JsonLines.{json_line}
 use Rattle.lsm_text.specs.declared.key_bounds.KeyBounds.{KeyBounds}
 use Rattle.lsm_text.specs.declared.scan_options.ScanOptions.{ScanOptions}
 use Rattle.lsm_text.specs.declared.scan_output.ScanOutput.{ScanOutput}
-use Rattle.lsm_text.specs.declared.scan_output.ScanOutput.TheVariants.{Pairs, Keys, Count}
+use Rattle.lsm_text.specs.declared.scan_output.ScanOutput.TheVariants.{Pairs, Keys, Json, Count}
 
 -- ---- the pairs that are asked for
 
@@ -43,6 +44,7 @@ module _ (form : Form) where
   abbrev pub line_of : ScanOutput → Pair → List ℕ
   line_of Pairs p = pair_line p
   line_of Keys p = key_line p.0
+  line_of Json p = json_line p
   line_of Count p = []
 
   unfoldable pub lines_of : ScanOutput → List Pair → List ℕ
@@ -52,6 +54,7 @@ module _ (form : Form) where
 abbrev pub count_line : ScanOutput → ℕ → List ℕ
 count_line Pairs n = []
 count_line Keys n = []
+count_line Json n = []
 count_line Count n = decimal n ++ (10 ∷ [])
 
 module _ (form : Form) where

@@ -18,6 +18,7 @@ mod performing;
 // A command each.
 mod answering;
 mod checking;
+mod json_lines;
 mod listing;
 mod scanning;
 
@@ -26,6 +27,10 @@ mod counting;
 mod notes;
 mod progress;
 
+// What holds of what is printed.
+mod laws;
+
 pub use inquiry::Inquiry;
+pub use laws::one_object;
 pub use opened::{Opened, open};
 pub use program::{look, run_look};

@@ -8,11 +8,13 @@ ghost use Rattle.lsm_table.specs.Told.{Becomes};
 ghost use Rattle.lsm_levels.specs.Scanning.{Pair, UsersAscend};
 ghost use Rattle.lsm_reading.specs.Scanned.{BeginsPrinting, LeavesScan, Passes, PassesNext};
 ghost use Rattle.lsm_reading.specs.Scanned.{PrintsLines, PrintsScan, count_line, is_full, key_line};
+ghost use Rattle.lsm_reading.specs.JsonLines.{json_line};
 ghost use Rattle.lsm_reading.specs.Scanned.{line_of, pair_line, scan_text};
 ghost use Rattle.lsm_reading.specs.ReadFault.{IsAnswerFault, IsOutputFault};
 ghost use Rattle.lsm_text.specs.KeyBounds.{is_within};
 ghost use Rattle.lsm_directory.specs.declared.faults.directory_fault.DirectoryFault.TheVariants.{Write as WriteFault};
 
+use crate::json_lines::append_json;
 use crate::progress::tell_keys;
 use lsm_directory::{DirectoryFault, OutputFault, flush, write_bytes};
 use lsm_levels::is_at_most;
@@ -23,6 +25,7 @@ use lsm_text::{Form, KeyBounds, ScanOptions, ScanOutput};
 use lsm_version::Version;
 use std::alloc::{AllocError, Global};
 use std::io::Write;
+use std::mem;
 
 /// Appends the line of a pair: `KEY=VALUE`.
 #[tactic(auto, unfolding(crate::specs::Scanned::pair_line))]
@@ -46,6 +49,16 @@ fn push_key(out: &mut Vec<u8>, form: Form, user: &[u8]) -> Result<(), AllocError
     Ok(())
 }
 
+/// Appends the line of a pair as a JSON object.
+fn push_json(out: &mut Vec<u8>, user: &[u8], value: &[u8]) -> Result<(), AllocError>
+    ensures { OnOk result (out.new.items ≡ out.old.items ++ json_line (user.now, value.now)) }
+{
+    let alloc = *out.allocator();
+    let line = mem::replace(out, Vec::new(alloc));
+    *out = append_json(line, alloc, user, value)?;
+    Ok(())
+}
+
 /// Appends the line of a pair; nothing where they are counted.
 fn push_line(
     out: &mut Vec<u8>,
@@ -60,6 +73,7 @@ fn push_line(
     match output {
         ScanOutput::Pairs => push_pair(out, form, user, value),
         ScanOutput::Keys => push_key(out, form, user),
+        ScanOutput::Json => push_json(out, user, value),
         ScanOutput::Count => Ok(()),
     }
 }
@@ -91,7 +105,7 @@ fn print_count<O: Write>(output: ScanOutput, count: u64, out: &mut O) -> Result<
         (Appends (O.contents out.old) (O.contents out.new) (count_line output count)) }
 {
     match output {
-        ScanOutput::Pairs | ScanOutput::Keys => Ok(()),
+        ScanOutput::Pairs | ScanOutput::Keys | ScanOutput::Json => Ok(()),
         ScanOutput::Count => write_count(count, out),
     }
 }

@@ -34,6 +34,7 @@ use Rattle.lsm_script.specs.declared.command_fault.CommandFault.TheVariants as w
 use Rattle.lsm_script.specs.declared.reply.Reply.{Reply}
 use Rattle.lsm_script.specs.declared.reply.Reserved.{Reserved}
 use Rattle.lsm_script.specs.declared.reply.Reply.TheVariants as said
+use Rattle.lsm_script.proofs.BatchFaults.{batch_fault}
 use Rattle.lsm_script.proofs.Events.{Quiet, ingested_append, ingest_idles, install_idles, looks_idle, quiet_cancelled, quiet_drawn, quiet_idle, quiet_is, quiet_reserved, run_append}
 
 -- what a script begins with: the law of its state, and what every run from there reads
@@ -200,7 +201,7 @@ ingest_goes H start s ws r old new was is f (inl k) = goes_as H start (asks.Inge
     snapshots = f.snapshots ∙ sym (came_snapshots old new ws k.0 was is k.3);
   },
 )
-ingest_goes H start s ws r old new was is f (inr k) = goes_as H start (asks.Ingest ws) r _ s new k.1 (s, (refl, tt), quiet_follows H start s old new f (quiet_idle H old new (ingest_idles old new ws k.0 was is k.2)))
+ingest_goes H start s ws r old new was is f (inr k) = goes_as H start (asks.Ingest ws) r (said.Refused (why.State k.0)) s new k.1 (s, (refl, batch_fault old new ws k.0 was is s f.last k.2), quiet_follows H start s old new f (quiet_idle H old new (ingest_idles old new ws k.0 was is k.2)))
 
 -- ---- reads
 

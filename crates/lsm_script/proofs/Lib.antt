@@ -1,4 +1,5 @@
 mod Elements
+mod BatchFaults
 mod Events
 mod Drawings
 mod Histories

@@ -1,20 +1,25 @@
 -- What a database is to those who read and write it: all that ever came in, and nothing of files and compactions. A script's replies are
 -- those of this machine (snapshots are LevelDB's, `include/leveldb/db.h`; that installs change nothing is this project's promise).
-use Rattle.std.specs.Prelude.{◌≡◌, ℕ, suc, ◌+◌, ◌<◌, List, [], ◌∷◌, ◌++◌, length, Option, None, Some}
+use Rattle.std.specs.Prelude.{◌≡◌, ◌⊎◌, ℕ, suc, ◌+◌, ◌^◌, ◌<◌, ◌≤◌, List, [], ◌∷◌, ◌++◌, length, Option, None, Some}
 use Rattle.lsm_codec.specs.Entries.{Entry, answer}
 use Rattle.lsm_codec.specs.Keys.{UserKey}
 use Rattle.lsm_codec.specs.Lists.{Has}
 use Rattle.lsm_levels.specs.Files.{all_entries}
 use Rattle.lsm_version.specs.Versions.{files}
 use Rattle.lsm_levels.specs.Plain.{IsReadable, without_snapshot}
-use Rattle.lsm_batch.specs.Batches.{IsBatch, entries_from}
+use Rattle.lsm_table.specs.declared.table_options.TableOptions.{TableOptions}
+use Rattle.lsm_batch.specs.Batches.{IsBatch, IsBatchRefusal, entries_from}
+use Rattle.lsm_batch.specs.Images.{PassesTable}
+use Rattle.lsm_batch.specs.declared.batch_fault.BatchFault.TheVariants as batch
+use Rattle.lsm_batch.specs.declared.write.Write.{Write}
 use Rattle.lsm_slots.specs.Snapshots.{HasId}
 use Rattle.lsm_state.specs.Held.{Held, plain}
+use Rattle.lsm_state.specs.declared.state_fault.StateFault.{StateFault}
 use Rattle.lsm_state.specs.declared.state_fault.StateFault.TheVariants as fault
 use Rattle.lsm_script.specs.declared.command.Command.{Command}
 use Rattle.lsm_script.specs.declared.command.Command.TheVariants as asks
 use Rattle.lsm_script.specs.declared.command_fault.CommandFault.{CommandFault}
-use Rattle.lsm_script.specs.declared.command_fault.CommandFault.TheVariants.{State}
+use Rattle.lsm_script.specs.declared.command_fault.CommandFault.TheVariants.{State, Merge}
 use Rattle.lsm_script.specs.declared.reply.Reply.{Reply}
 use Rattle.lsm_script.specs.declared.reply.Reply.TheVariants.{Ingested, Value, Absent, Snapshot, Released, Refused}
 
@@ -42,8 +47,22 @@ abbrev pub IsUnknownAt : History → Option ℕ → ℕ → Type 0
 IsUnknownAt s None n = ⊥
 IsUnknownAt s (Some id) n = (n ≡ id) × (HasId s.snapshots id → ⊥)
 
--- where an unknown snapshot is the refusal of a read or of a release, it is not live
+-- Why a batch stays out, as far as it and the last sequence tell: it has no entry; its keys do not
+-- ascend, this one first; it passes a limit, or a block of its table would; or its last sequence
+-- would pass 2^56 - 1. Other refusals are of files, numbers, memory and the shelf.
+abbrev pub IsBatchFault : List Write → StateFault → History → Type 0
+IsBatchFault ws fault.EmptyBatch s = IsBatchRefusal ws batch.EmptyBatch
+IsBatchFault ws (fault.KeyOrder place) s = IsBatchRefusal ws (batch.KeyOrder place)
+IsBatchFault ws fault.TooLarge s = IsBatchRefusal ws batch.TooLarge
+    ⊎ (IsBatch ws × ((sizes : TableOptions) × PassesTable sizes (entries_from (suc s.last) ws)))
+IsBatchFault ws fault.SequencesSpent s = IsBatch ws × (2 ^ 56 ≤ s.last + length ws)
+IsBatchFault ws e s = Unit {0}
+
+-- what holds where a command is refused: an ingest for what its batch is; a read or a release for an
+-- unknown snapshot only where that is not live
 abbrev pub MayRefuse : Command → CommandFault → History → Type 0
+MayRefuse (asks.Ingest ws) (State e) s = IsBatchFault ws e s
+MayRefuse (asks.Ingest ws) (Merge e) s = ⊥
 MayRefuse (asks.Get key at) r s = (n : ℕ) → r ≡ State (fault.UnknownSnapshot n) → IsUnknownAt s at n
 MayRefuse (asks.Release id) r s = (n : ℕ) → r ≡ State (fault.UnknownSnapshot n) → IsUnknownAt s (Some id) n
 MayRefuse c r s = Unit {0}

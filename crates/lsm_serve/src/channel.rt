@@ -1,6 +1,6 @@
 //! Channels.
 
-use crate::descriptors::{Incoming, read_frame, send};
+use crate::descriptors::{Incoming, end_unanswered, read_frame, send};
 use crate::session::Session;
 use lsm_frames::{Request, unread};
 use lsm_slots::Boarded;
@@ -61,7 +61,11 @@ fn take_turn<N: Boarded, S: Shelf, R: Threads + Wait + Sync>(
             end_unread(alloc, fd);
             (session, false)
         }
-        Ok(Incoming::End) | Err(_) => (session, false),
+        Ok(Incoming::End) => (session, false),
+        Err(_) => {
+            end_unanswered(fd);
+            (session, false)
+        }
     }
 }
 

@@ -55,11 +55,20 @@ pub(crate) fn read_frame(alloc: Global, fd: i32) -> Result<Incoming, AllocError>
     }
 }
 
+/// Says, without memory for it, that there is none for a request or for its answer. The channel ends.
+pub(crate) fn end_unanswered(fd: i32) {
+    let frame = [1u8, 0, 0, 0, 204];
+    let _is_sent = io::write_all(fd, &frame);
+}
+
 /// Writes an answer. Whether the channel goes on: it does not where there was no memory for it, or
 /// no one reads it.
 pub(crate) fn send(fd: i32, answer: Result<Vec<u8>, AllocError>) -> bool {
     match answer {
         Ok(frame) => io::write_all(fd, &frame),
-        Err(_) => false,
+        Err(_) => {
+            end_unanswered(fd);
+            false
+        }
     }
 }

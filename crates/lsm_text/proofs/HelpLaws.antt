@@ -5,24 +5,25 @@ use Rattle.clap.specs.Words.{IsAmong, Kinds, Text}
 use Rattle.clap.specs.declared.error.ErrorKind.{ErrorKind}
 use Rattle.clap.specs.declared.error.ErrorKind.TheVariants as kind
 use Rattle.clap.proofs.OnLiterals.{clap_on_literals}
-use Rattle.lsm_text.specs.Grammar.{bare, check, clean, compact, delete, dump, get, help, ingest, list, load, lsm, make_table, manifest, put, scan, script, shell, with_inputs, with_looks, with_writes}
+use Rattle.lsm_text.specs.Grammar.{bare, bench, check, clean, compact, delete, dump, get, help, ingest, levels, list, load, lsm, make_table, manifest, put, scan, script, shell, with_inputs, with_looks, with_writes}
 use Rattle.lsm_text.specs.Requests.{AskHelp, HaveUsageFault, faults_in, found_in, named, topic_in, word_in, word_of}
 use Rattle.lsm_text.specs.declared.command_name.CommandName.{CommandName}
 use Rattle.lsm_text.specs.declared.command_name.CommandName.TheVariants as name
 
 -- what clap finds wrong with `--help`, alone or behind the name of a command
 pub overview_asked : faults_in (codes "--help" ∷ []) ≡ kind.DisplayHelp ∷ []
-unfolding clap_on_literals faults_in bare check clean compact delete dump get help ingest list load lsm make_table manifest put scan script shell with_inputs with_looks with_writes
+unfolding clap_on_literals faults_in bare bench check clean compact delete dump get help ingest levels list load lsm make_table manifest put scan script shell with_inputs with_looks with_writes
 overview_asked = refl
 
 pub page_asked : (n : CommandName) → faults_in (word_of n ∷ codes "--help" ∷ []) ≡ kind.DisplayHelp ∷ []
-unfolding clap_on_literals faults_in bare check clean compact delete dump get help ingest list load lsm make_table manifest put scan script shell with_inputs with_looks with_writes
+unfolding clap_on_literals faults_in bare bench check clean compact delete dump get help ingest levels list load lsm make_table manifest put scan script shell with_inputs with_looks with_writes
 page_asked name.MakeTable = refl
 page_asked name.Dump = refl
 page_asked name.Manifest = refl
 page_asked name.Script = refl
 page_asked name.Check = refl
 page_asked name.List = refl
+page_asked name.Levels = refl
 page_asked name.Get = refl
 page_asked name.Scan = refl
 page_asked name.Ingest = refl
@@ -32,25 +33,27 @@ page_asked name.Load = refl
 page_asked name.Compact = refl
 page_asked name.Clean = refl
 page_asked name.Shell = refl
+page_asked name.Bench = refl
 page_asked name.Help = refl
 
 -- `help`, alone or before the name of a command, is of the grammar
 pub alone_good : faults_in (codes "help" ∷ []) ≡ []
-unfolding clap_on_literals faults_in bare check clean compact delete dump get help ingest list load lsm make_table manifest put scan script shell with_inputs with_looks with_writes
+unfolding clap_on_literals faults_in bare bench check clean compact delete dump get help ingest levels list load lsm make_table manifest put scan script shell with_inputs with_looks with_writes
 alone_good = refl
 
 pub alone_topic : is_some (topic_in (found_in (codes "help" ∷ []))) ≡ true
-unfolding clap_on_literals found_in word_in named bare check clean compact delete dump get help ingest list load lsm make_table manifest put scan script shell with_inputs with_looks with_writes
+unfolding clap_on_literals found_in word_in named bare bench check clean compact delete dump get help ingest levels list load lsm make_table manifest put scan script shell with_inputs with_looks with_writes
 alone_topic = refl
 
 pub named_good : (n : CommandName) → faults_in (codes "help" ∷ word_of n ∷ []) ≡ []
-unfolding clap_on_literals faults_in bare check clean compact delete dump get help ingest list load lsm make_table manifest put scan script shell with_inputs with_looks with_writes
+unfolding clap_on_literals faults_in bare bench check clean compact delete dump get help ingest levels list load lsm make_table manifest put scan script shell with_inputs with_looks with_writes
 named_good name.MakeTable = refl
 named_good name.Dump = refl
 named_good name.Manifest = refl
 named_good name.Script = refl
 named_good name.Check = refl
 named_good name.List = refl
+named_good name.Levels = refl
 named_good name.Get = refl
 named_good name.Scan = refl
 named_good name.Ingest = refl
@@ -60,16 +63,18 @@ named_good name.Load = refl
 named_good name.Compact = refl
 named_good name.Clean = refl
 named_good name.Shell = refl
+named_good name.Bench = refl
 named_good name.Help = refl
 
 pub named_topic : (n : CommandName) → is_some (topic_in (found_in (codes "help" ∷ word_of n ∷ []))) ≡ true
-unfolding clap_on_literals found_in word_in named bare check clean compact delete dump get help ingest list load lsm make_table manifest put scan script shell with_inputs with_looks with_writes
+unfolding clap_on_literals found_in word_in named bare bench check clean compact delete dump get help ingest levels list load lsm make_table manifest put scan script shell with_inputs with_looks with_writes
 named_topic name.MakeTable = refl
 named_topic name.Dump = refl
 named_topic name.Manifest = refl
 named_topic name.Script = refl
 named_topic name.Check = refl
 named_topic name.List = refl
+named_topic name.Levels = refl
 named_topic name.Get = refl
 named_topic name.Scan = refl
 named_topic name.Ingest = refl
@@ -79,6 +84,7 @@ named_topic name.Load = refl
 named_topic name.Compact = refl
 named_topic name.Clean = refl
 named_topic name.Shell = refl
+named_topic name.Bench = refl
 named_topic name.Help = refl
 
 -- what is then no fault

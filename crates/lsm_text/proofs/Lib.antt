@@ -1,5 +1,6 @@
 pub mod KeyBoundLaws
 pub mod PartLaws
+pub mod BenchmarkLaws
 pub mod WordLaws
 pub mod NumberLaws
 pub mod SequenceLaws

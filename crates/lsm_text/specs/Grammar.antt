@@ -37,6 +37,23 @@ from_line = record (valued (codes "from-line")) { defaults = codes "1" ∷ []; p
 abbrev pub limit : Rule
 limit = record (valued (codes "limit")) { parser = Some (parser.Unsigned 0 18446744073709551615) }
 
+-- `--benchmarks LIST`, which names all of them where it is left out, in the order of LevelDB's `db_bench` as far as they are in its own list
+abbrev pub benchmarks : Rule
+benchmarks =
+    record (valued (codes "benchmarks")) { defaults = codes "fillbatch,fillrandom,overwrite,readrandom,readwhilewriting,readseq,compact" ∷ [] }
+
+-- `--num N`, 1 to 10,000,000, which is 1,000,000 where it is left out
+abbrev pub num : Rule
+num = record (valued (codes "num")) { defaults = codes "1000000" ∷ []; parser = Some (parser.Unsigned 1 10000000) }
+
+-- `--value-size N`, 65,536 at most, which is 100 where it is left out
+abbrev pub value_size : Rule
+value_size = record (valued (codes "value-size")) { defaults = codes "100" ∷ []; parser = Some (parser.Unsigned 0 65536) }
+
+-- `--workers N`, 8 at most, which is 2 where it is left out
+abbrev pub some_workers : Rule
+some_workers = record (valued (codes "workers")) { defaults = codes "2" ∷ []; parser = Some (parser.Unsigned 0 8) }
+
 -- an option without a value
 abbrev pub flag : Text → Rule
 flag name = record (new_rule name) { long = Some name; action = Some SetTrue }
@@ -87,13 +104,17 @@ check = command (codes "check") (folder ∷ progress ∷ [])
 unfoldable pub list : App
 list = command (codes "list") (folder ∷ text ∷ [])
 
+unfoldable pub levels : App
+levels = command (codes "levels") (folder ∷ text ∷ flag (codes "files") ∷ flag (codes "svg") ∷ [])
+
 unfoldable pub get : App
 get = command (codes "get") (folder ∷ key ∷ text ∷ flag (codes "raw") ∷ flag (codes "exists") ∷ [])
 
 unfoldable pub scan : App
 scan =
     command (codes "scan")
-    (folder ∷ valued (codes "from") ∷ valued (codes "to") ∷ valued (codes "prefix") ∷ limit ∷ text ∷ flag (codes "keys") ∷ flag (codes "count") ∷ progress ∷ [])
+    (folder ∷ valued (codes "from") ∷ valued (codes "to") ∷ valued (codes "prefix") ∷ limit ∷ text ∷ flag (codes "keys") ∷ flag (codes "json")
+    ∷ flag (codes "count") ∷ progress ∷ [])
 
 unfoldable pub ingest : App
 ingest = command (codes "ingest") (folder ∷ word (codes "FILE") ∷ text ∷ begin ∷ beside_log ∷ [])
@@ -116,6 +137,9 @@ clean = command (codes "clean") (folder ∷ [])
 unfoldable pub shell : App
 shell = command (codes "shell") (folder ∷ text ∷ begin ∷ beside_log ∷ [])
 
+unfoldable pub bench : App
+bench = command (codes "bench") (folder ∷ benchmarks ∷ num ∷ value_size ∷ some_workers ∷ [])
+
 unfoldable pub help : App
 help = command (codes "help") (topic ∷ [])
 
@@ -134,7 +158,8 @@ with_inputs =
 
 -- with those that only read a folder
 unfoldable pub with_looks : App
-with_looks = with_subcommand (with_subcommand (with_subcommand (with_subcommand with_inputs check.top) list.top) get.top) scan.top
+with_looks =
+    with_subcommand (with_subcommand (with_subcommand (with_subcommand (with_subcommand with_inputs check.top) list.top) levels.top) get.top) scan.top
 
 -- with those that write keys into a folder
 unfoldable pub with_writes : App
@@ -142,7 +167,8 @@ with_writes = with_subcommand (with_subcommand (with_subcommand (with_subcommand
 
 -- all commands
 unfoldable pub lsm : App
-lsm = with_subcommand (with_subcommand (with_subcommand (with_subcommand with_writes compact.top) clean.top) shell.top) help.top
+lsm =
+    with_subcommand (with_subcommand (with_subcommand (with_subcommand (with_subcommand with_writes compact.top) clean.top) shell.top) bench.top) help.top
 
 -- ---- how the code shows it
 

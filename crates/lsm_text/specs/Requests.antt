@@ -7,9 +7,12 @@ use Rattle.clap.specs.declared.error.ErrorKind.{ErrorKind}
 use Rattle.clap.specs.declared.error.ErrorKind.TheVariants as kind
 use Rattle.clap.specs.declared.parser.ArgMatches.{ArgMatches}
 use Rattle.lsm_batch.specs.declared.write.Write.{Write}
+use Rattle.lsm_text.specs.Benchmarks.{AreBenchmarks}
 use Rattle.lsm_text.specs.Grammar.{lsm}
 use Rattle.lsm_text.specs.Numbers.{IsNumberWord}
 use Rattle.lsm_text.specs.Spelling.{IsWord}
+use Rattle.lsm_text.specs.declared.bench_options.BenchOptions.{BenchOptions}
+use Rattle.lsm_text.specs.declared.benchmark.Benchmark.{Benchmark}
 use Rattle.lsm_text.specs.declared.command_line.CommandLine.{CommandLine}
 use Rattle.lsm_text.specs.declared.command_line.CommandLine.TheVariants.{Run, Help, Bad}
 use Rattle.lsm_text.specs.declared.command_name.CommandName.{CommandName}
@@ -26,12 +29,14 @@ use Rattle.lsm_text.specs.declared.ingest_options.IngestOptions.{IngestOptions}
 use Rattle.lsm_text.specs.declared.input.Input.{Input}
 use Rattle.lsm_text.specs.declared.input.Input.TheVariants.{Standard, File}
 use Rattle.lsm_text.specs.declared.key_bounds.KeyBounds.{KeyBounds}
+use Rattle.lsm_text.specs.declared.levels_output.LevelsOutput.{LevelsOutput}
+use Rattle.lsm_text.specs.declared.levels_output.LevelsOutput.TheVariants as levels_output
 use Rattle.lsm_text.specs.declared.load_options.LoadOptions.{LoadOptions}
 use Rattle.lsm_text.specs.declared.request.Request.{Request}
-use Rattle.lsm_text.specs.declared.request.Request.TheVariants.{Convert, Look, Write as WriteFolder, Load, Compact, Script, Shell}
+use Rattle.lsm_text.specs.declared.request.Request.TheVariants.{Convert, Look, Levels, Write as WriteFolder, Load, Compact, Script, Shell, Bench}
 use Rattle.lsm_text.specs.declared.scan_options.ScanOptions.{ScanOptions}
 use Rattle.lsm_text.specs.declared.scan_output.ScanOutput.{ScanOutput}
-use Rattle.lsm_text.specs.declared.scan_output.ScanOutput.TheVariants.{Pairs, Keys, Count}
+use Rattle.lsm_text.specs.declared.scan_output.ScanOutput.TheVariants.{Pairs, Keys, Json, Count}
 use Rattle.lsm_text.specs.declared.writing_command.WritingCommand.{WritingCommand}
 use Rattle.lsm_text.specs.declared.writing_command.WritingCommand.TheVariants.{Ingest, WriteKey, Clean}
 
@@ -71,6 +76,7 @@ named word =
     else if bytes_eq word (codes "script") then Some name.Script
     else if bytes_eq word (codes "check") then Some name.Check
     else if bytes_eq word (codes "list") then Some name.List
+    else if bytes_eq word (codes "levels") then Some name.Levels
     else if bytes_eq word (codes "get") then Some name.Get
     else if bytes_eq word (codes "scan") then Some name.Scan
     else if bytes_eq word (codes "ingest") then Some name.Ingest
@@ -80,6 +86,7 @@ named word =
     else if bytes_eq word (codes "compact") then Some name.Compact
     else if bytes_eq word (codes "clean") then Some name.Clean
     else if bytes_eq word (codes "shell") then Some name.Shell
+    else if bytes_eq word (codes "bench") then Some name.Bench
     else if bytes_eq word (codes "help") then Some name.Help
     else None
 
@@ -91,6 +98,7 @@ word_of name.Manifest = codes "manifest"
 word_of name.Script = codes "script"
 word_of name.Check = codes "check"
 word_of name.List = codes "list"
+word_of name.Levels = codes "levels"
 word_of name.Get = codes "get"
 word_of name.Scan = codes "scan"
 word_of name.Ingest = codes "ingest"
@@ -100,6 +108,7 @@ word_of name.Load = codes "load"
 word_of name.Compact = codes "compact"
 word_of name.Clean = codes "clean"
 word_of name.Shell = codes "shell"
+word_of name.Bench = codes "bench"
 word_of name.Help = codes "help"
 
 abbrev pub name_of_conversion : Conversion → CommandName
@@ -126,11 +135,13 @@ name_of_write Clean = name.Clean
 abbrev pub name_of : Request → CommandName
 name_of (Convert conversion input) = name_of_conversion conversion
 name_of (Look line) = name_of_look line.command
+name_of (Levels line) = name.Levels
 name_of (WriteFolder line) = name_of_write line.command
 name_of (Load line) = name.Load
 name_of (Compact line) = name.Compact
 name_of (Script input) = name.Script
 name_of (Shell line) = name.Shell
+name_of (Bench line) = name.Bench
 
 -- ---- what its words say
 
@@ -169,9 +180,20 @@ IsLimit (Some word) (Some n) = IsNumberWord 18446744073709551615 word n
 abbrev pub get_output_in : List Row → GetOutput
 get_output_in rows = if is_set (codes "exists") rows then Nothing else if is_set (codes "raw") rows then Raw else Line
 
--- `--count` rules over `--keys`
+-- `--count` rules over `--json`, and that over `--keys`
 abbrev pub scan_output_in : List Row → ScanOutput
-scan_output_in rows = if is_set (codes "count") rows then Count else if is_set (codes "keys") rows then Keys else Pairs
+scan_output_in rows =
+    if is_set (codes "count") rows then Count
+    else if is_set (codes "json") rows then Json
+    else if is_set (codes "keys") rows then Keys
+    else Pairs
+
+-- `--files` and `--svg` exclude one another
+abbrev pub levels_output_in : List Row → Option LevelsOutput
+levels_output_in rows =
+    if is_set (codes "svg") rows then (if is_set (codes "files") rows then None else Some levels_output.Svg)
+    else if is_set (codes "files") rows then Some levels_output.Files
+    else Some levels_output.Levels
 
 -- so many workers as one digit (48 is `0`), 1 to 8
 pub record IsWorkersWord (word : List ℕ) (workers : ℕ) : Type 0 where
@@ -183,10 +205,14 @@ abbrev pub AreWorkers : Option Text → ℕ → Type 0
 AreWorkers None workers = ⊥
 AreWorkers (Some word) workers = IsWorkersWord word workers
 
+-- the word writes a number from `least` to `most`
+abbrev pub IsNumberIn : ℕ → ℕ → Option Text → ℕ → Type 0
+IsNumberIn least most None n = ⊥
+IsNumberIn least most (Some word) n = IsNumberWord most word n × (least ≤ n)
+
 -- the word writes the number of a line, from 1 and below 2^64
 abbrev pub IsLineNumber : Option Text → ℕ → Type 0
-IsLineNumber None n = ⊥
-IsLineNumber (Some word) n = IsNumberWord 18446744073709551615 word n × (1 ≤ n)
+IsLineNumber = IsNumberIn 1 18446744073709551615
 
 abbrev pub AreScanOptions : List Row → ScanOptions → Type 0
 AreScanOptions rows options =
@@ -207,6 +233,16 @@ AreLoadOptions rows options =
     AreIngestOptions rows options.ingest × AreWorkers (word_in (codes "workers") rows) options.workers
     × IsLineNumber (word_in (codes "from-line") rows) options.from_line × (options.progress ≡ is_set (codes "progress") rows)
 
+-- the word names these benchmarks
+abbrev pub AreNamed : Option Text → List Benchmark → Type 0
+AreNamed None benchmarks = ⊥
+AreNamed (Some word) benchmarks = AreBenchmarks word benchmarks
+
+abbrev pub AreBenchOptions : List Row → BenchOptions → Type 0
+AreBenchOptions rows options =
+    AreNamed (word_in (codes "benchmarks") rows) options.benchmarks.items × IsNumberIn 1 10000000 (word_in (codes "num") rows) options.num
+    × IsNumberIn 0 65536 (word_in (codes "value-size") rows) options.value_size × IsNumberIn 0 8 (word_in (codes "workers") rows) options.workers
+
 -- a new value is what VALUE spells
 abbrev pub IsNewValue : List Row → Option (List ℕ) → Type 0
 IsNewValue rows None = ⊤
@@ -226,6 +262,8 @@ Says rows (Convert conversion input) = IsInput (word_in (codes "FILE") rows) inp
 Says rows (Look line) =
     (word_in (codes "DIR") rows ≡ Some line.path.now) × IsLook rows line.command × (line.form ≡ form_in rows)
     × (line.progress ≡ is_set (codes "progress") rows)
+Says rows (Levels line) =
+    (word_in (codes "DIR") rows ≡ Some line.path.now) × (line.form ≡ form_in rows) × (levels_output_in rows ≡ Some line.output)
 Says rows (WriteFolder line) = (word_in (codes "DIR") rows ≡ Some line.path.now) × IsWrite rows line.command
 Says rows (Load line) =
     (word_in (codes "DIR") rows ≡ Some line.path.now) × IsInput (word_in (codes "FILE") rows) line.input × AreLoadOptions rows line.options
@@ -234,6 +272,7 @@ Says rows (Compact line) =
     × (line.options.progress ≡ is_set (codes "progress") rows)
 Says rows (Script input) = IsInput (word_in (codes "FILE") rows) input
 Says rows (Shell line) = (word_in (codes "DIR") rows ≡ Some line.path.now) × AreIngestOptions rows line.options
+Says rows (Bench line) = (word_in (codes "DIR") rows ≡ Some line.path.now) × AreBenchOptions rows line.options
 
 -- The command that was found is the request's, and the request says what its rows say.
 pub record IsAsked (found : Option (Text × List Row)) (request : Request) : Type 0 where

@@ -3,14 +3,18 @@
 ghost use Rattle.std.specs.Prelude.{◌≡◌, IfNone, IfOk, IfSome, List, None, Option, Some, codes};
 ghost use Rattle.std.specs.Prelude.{option_map, ℕ};
 ghost use Rattle.clap.specs.Words.{subcommand_rows_of};
-ghost use Rattle.lsm_text.specs.Requests.{AreBounds, AreIngestOptions, AreLoadOptions};
+ghost use Rattle.lsm_text.specs.Requests.{AreBenchOptions, AreBounds, AreIngestOptions};
+ghost use Rattle.lsm_text.specs.Requests.{AreLoadOptions, AreNamed};
 ghost use Rattle.lsm_text.specs.Requests.{AreScanOptions, AreWorkers, IsAsked, IsBound, IsInput};
-ghost use Rattle.lsm_text.specs.Requests.{IsKeyWrite, IsLimit, IsLineNumber, IsLook, IsSpelled};
-ghost use Rattle.lsm_text.specs.Requests.{IsWorkersWord, IsWrite, Reads, form_in};
-ghost use Rattle.lsm_text.specs.Requests.{get_output_in, is_set, name_of_conversion};
-ghost use Rattle.lsm_text.specs.Requests.{name_of_look, name_of_value, name_of_write, rows_in};
+ghost use Rattle.lsm_text.specs.Requests.{IsKeyWrite, IsLimit, IsLineNumber, IsLook, IsNumberIn};
+ghost use Rattle.lsm_text.specs.Requests.{IsSpelled, IsWorkersWord, IsWrite, Reads, form_in};
+ghost use Rattle.lsm_text.specs.Requests.{get_output_in, is_set, levels_output_in};
+ghost use Rattle.lsm_text.specs.Requests.{name_of_conversion, name_of_look, name_of_value};
+ghost use Rattle.lsm_text.specs.Requests.{name_of_write, rows_in};
 ghost use Rattle.lsm_text.specs.Requests.{scan_output_in, topic_in, topic_of, word_in};
 
+use crate::bench_options::BenchOptions;
+use crate::benchmark::{Benchmark, benchmarks_in};
 use crate::command_name::{CommandName, named};
 use crate::compact_options::CompactOptions;
 use crate::conversion::Conversion;
@@ -20,9 +24,12 @@ use crate::get_output::GetOutput;
 use crate::ingest_options::IngestOptions;
 use crate::input::Input;
 use crate::key_bounds::KeyBounds;
+use crate::levels_output::LevelsOutput;
 use crate::load_options::LoadOptions;
 use crate::number::number_in;
-use crate::request::{CompactLine, DirectoryLine, LoadLine, Request, ShellLine, WritingLine};
+use crate::request::{
+    BenchLine, CompactLine, DirectoryLine, LevelsLine, LoadLine, Request, ShellLine, WritingLine,
+};
 use crate::scan_options::ScanOptions;
 use crate::scan_output::ScanOutput;
 use crate::writing_command::WritingCommand;
@@ -39,7 +46,7 @@ pub(crate) fn word_in<'a>(found: &ArgMatches<'a>, name: &str) -> Option<&'a str>
 }
 
 /// Whether an option without a value is there.
-fn is_set(found: &ArgMatches<'_>, name: &str) -> bool
+pub(crate) fn is_set(found: &ArgMatches<'_>, name: &str) -> bool
     ensures { result ≡ is_set name.now (rows_in found.now) }
 {
     match word_in(found, name) {
@@ -101,10 +108,25 @@ fn scan_output_in(found: &ArgMatches<'_>) -> ScanOutput
     if is_set(found, "count") {
         return ScanOutput::Count;
     }
+    if is_set(found, "json") {
+        return ScanOutput::Json;
+    }
     if is_set(found, "keys") {
         return ScanOutput::Keys;
     }
     ScanOutput::Pairs
+}
+
+/// What is shown of levels. `None` where both `--files` and `--svg` are there.
+fn levels_output_in(found: &ArgMatches<'_>) -> Option<LevelsOutput>
+    ensures { result ≡ levels_output_in (rows_in found.now) }
+{
+    match (is_set(found, "svg"), is_set(found, "files")) {
+        (true, true) => None,
+        (true, false) => Some(LevelsOutput::Svg),
+        (false, true) => Some(LevelsOutput::Files),
+        (false, false) => Some(LevelsOutput::Levels),
+    }
 }
 
 /// The bytes that the word under a name spells; none where it spells none.
@@ -211,25 +233,17 @@ fn workers_of(found: &ArgMatches<'_>) -> Option<usize>
     workers_in(word_in(found, "workers")?)
 }
 
-/// The number of a line, from 1, that a word writes.
-pub(crate) fn line_in(word: &str) -> Option<u64>
-    ensures some { IfSome result (IsLineNumber (Some word.now)) }
-    ensures none { IfNone result ((n : ℕ) → IsLineNumber (Some word.now) n → ⊥) }
+/// The number that a word writes, where it is not below `least` and not above `most`.
+pub(crate) fn between_in(word: Option<&str>, least: u64, most: u64) -> Option<u64>
+    ensures some { IfSome result (IsNumberIn least most (option_map (λ w. w.now) word.entry)) }
+    ensures none { IfNone result ((n : ℕ)
+        → IsNumberIn least most (option_map (λ w. w.now) word.entry) n → ⊥) }
 {
-    let line = number_in(word.as_bytes(), u64::MAX)?;
-    if line == 0 {
+    let number = number_in(word?.as_bytes(), most)?;
+    if number < least {
         return None;
     }
-    Some(line)
-}
-
-/// The number of the line that `--from-line` names.
-fn from_line_of(found: &ArgMatches<'_>) -> Option<u64>
-    ensures some { IfSome result (IsLineNumber (word_in (codes "from-line") (rows_in found.now))) }
-    ensures none { IfNone result ((n : ℕ)
-        → IsLineNumber (word_in (codes "from-line") (rows_in found.now)) n → ⊥) }
-{
-    line_in(word_in(found, "from-line")?)
+    Some(number)
 }
 
 /// How lines are to be loaded. `None` where a word names no workers, or no line.
@@ -241,8 +255,38 @@ fn load_options_in(found: &ArgMatches<'_>) -> Option<LoadOptions>
     Some(LoadOptions {
         ingest: ingest_options_in(found),
         workers: workers_of(found)?,
-        from_line: from_line_of(found)?,
+        from_line: between_in(word_in(found, "from-line"), 1, u64::MAX)?,
         progress: is_set(found, "progress"),
+    })
+}
+
+/// The benchmarks that the word under `--benchmarks` names. `None` where it names none.
+fn benchmarks_of(alloc: Global, word: Option<&str>) -> Result<Option<Vec<Benchmark>>, AllocError>
+    ensures some { IfOk result (λ o. IfSome o
+        (λ found. AreNamed (option_map (λ w. w.now) word.entry) found.items)) }
+    ensures none { IfOk result (λ o. IfNone o ((found : List Benchmark)
+        → AreNamed (option_map (λ w. w.now) word.entry) found → ⊥)) }
+{
+    match word {
+        Some(word) => benchmarks_in(alloc, word),
+        None => Ok(None),
+    }
+}
+
+/// What is to be measured with these benchmarks. `None` where a word writes no number of those that
+/// it may.
+fn bench_options_of(found: &ArgMatches<'_>, benchmarks: Vec<Benchmark>) -> Option<BenchOptions>
+    ensures some { AreNamed (word_in (codes "benchmarks") (rows_in found.now)) benchmarks.items
+        → IfSome result (AreBenchOptions (rows_in found.now)) }
+    ensures none { IfNone result ((options : BenchOptions)
+        → AreBenchOptions (rows_in found.now) options → ⊥) }
+{
+    let workers = between_in(word_in(found, "workers"), 0, 8)?;
+    Some(BenchOptions {
+        benchmarks,
+        num: between_in(word_in(found, "num"), 1, 10_000_000)?,
+        value_size: between_in(word_in(found, "value-size"), 0, 65_536)?,
+        workers: workers as usize,
     })
 }
 
@@ -274,6 +318,16 @@ fn look_in<'a>(command: DirectoryCommand, found: &ArgMatches<'a>) -> Option<Requ
         form: form_in(found),
         progress: is_set(found, "progress"),
     }))
+}
+
+/// The levels of a folder.
+fn levels_in<'a>(found: &ArgMatches<'a>) -> Option<Request<'a>>
+    ensures { Reads CommandName.Levels (rows_in found.now) result }
+{
+    let path = word_in(found, "DIR")?;
+    let output = levels_output_in(found)?;
+    let form = form_in(found);
+    Some(Request::Levels(LevelsLine { path, form, output }))
 }
 
 /// A read of a key.
@@ -392,6 +446,22 @@ fn shell_in<'a>(found: &ArgMatches<'a>) -> Option<Request<'a>>
     Some(Request::Shell(ShellLine { path, options }))
 }
 
+/// Measurements of a folder.
+fn bench_in<'a>(alloc: Global, found: &ArgMatches<'a>) -> Result<Option<Request<'a>>, AllocError>
+    ensures { IfOk result (Reads CommandName.Bench (rows_in found.now)) }
+{
+    let Some(path) = word_in(found, "DIR") else {
+        return Ok(None);
+    };
+    let Some(benchmarks) = benchmarks_of(alloc, word_in(found, "benchmarks"))? else {
+        return Ok(None);
+    };
+    match bench_options_of(found, benchmarks) {
+        Some(options) => Ok(Some(Request::Bench(BenchLine { path, options }))),
+        None => Ok(None),
+    }
+}
+
 /// What the command of this name is asked for.
 fn request_in<'a>(
     alloc: Global,
@@ -407,6 +477,7 @@ fn request_in<'a>(
         CommandName::Script => Ok(script_in(found)),
         CommandName::Check => Ok(look_in(DirectoryCommand::Check, found)),
         CommandName::List => Ok(look_in(DirectoryCommand::List, found)),
+        CommandName::Levels => Ok(levels_in(found)),
         CommandName::Get => get_in(alloc, found),
         CommandName::Scan => scan_in(alloc, found),
         CommandName::Ingest => Ok(ingest_in(found)),
@@ -416,6 +487,7 @@ fn request_in<'a>(
         CommandName::Compact => Ok(compact_in(found)),
         CommandName::Clean => Ok(clean_in(found)),
         CommandName::Shell => Ok(shell_in(found)),
+        CommandName::Bench => bench_in(alloc, found),
         CommandName::Help => Ok(None),
     }
 }

@@ -12,6 +12,7 @@ pub enum CommandName {
     Script,
     Check,
     List,
+    Levels,
     Get,
     Scan,
     Ingest,
@@ -21,6 +22,7 @@ pub enum CommandName {
     Compact,
     Clean,
     Shell,
+    Bench,
     Help,
 }
 
@@ -36,6 +38,7 @@ impl CommandName {
             CommandName::Script => "script",
             CommandName::Check => "check",
             CommandName::List => "list",
+            CommandName::Levels => "levels",
             CommandName::Get => "get",
             CommandName::Scan => "scan",
             CommandName::Ingest => "ingest",
@@ -45,6 +48,7 @@ impl CommandName {
             CommandName::Compact => "compact",
             CommandName::Clean => "clean",
             CommandName::Shell => "shell",
+            CommandName::Bench => "bench",
             CommandName::Help => "help",
         }
     }
@@ -73,6 +77,9 @@ pub(crate) fn named(word: &str) -> Option<CommandName>
     if word == "list" {
         return Some(CommandName::List);
     }
+    if word == "levels" {
+        return Some(CommandName::Levels);
+    }
     if word == "get" {
         return Some(CommandName::Get);
     }
@@ -99,6 +106,9 @@ pub(crate) fn named(word: &str) -> Option<CommandName>
     }
     if word == "shell" {
         return Some(CommandName::Shell);
+    }
+    if word == "bench" {
+        return Some(CommandName::Bench);
     }
     if word == "help" {
         return Some(CommandName::Help);

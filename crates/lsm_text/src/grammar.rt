@@ -8,17 +8,17 @@ ghost use Rattle.clap.specs.Words.{App, IsAmong, Rule, kind_of, new_app, rule_of
 ghost use Rattle.clap.specs.Words.{subcommand_rows_of};
 ghost use Rattle.clap.specs.Words.{with_rule, with_subcommand};
 ghost use Rattle.clap.specs.declared.error.ErrorKind.TheVariants.{OutOfMemory};
-ghost use Rattle.lsm_text.specs.Grammar.{IsShaped, bare, begin, beside_log, check, clean, compact};
-ghost use Rattle.lsm_text.specs.Grammar.{delete, dump, file, flag, folder, from_line, get, help};
-ghost use Rattle.lsm_text.specs.Grammar.{ingest, key, limit, list, load, lsm, make_table};
-ghost use Rattle.lsm_text.specs.Grammar.{manifest, progress, put};
-ghost use Rattle.lsm_text.specs.Grammar.{scan, script, shell, text, topic, valued, with_inputs};
-ghost use Rattle.lsm_text.specs.Grammar.{with_looks, with_writes, word, workers};
+ghost use Rattle.lsm_text.specs.Grammar.{IsShaped, bare, begin, bench, benchmarks, beside_log};
+ghost use Rattle.lsm_text.specs.Grammar.{check, clean, compact, delete, dump, file, flag, folder, from_line, get, help};
+ghost use Rattle.lsm_text.specs.Grammar.{ingest, key, levels, limit, list, load, lsm};
+ghost use Rattle.lsm_text.specs.Grammar.{make_table, manifest, num, progress, put};
+ghost use Rattle.lsm_text.specs.Grammar.{scan, script, shell, some_workers, text, topic, valued};
+ghost use Rattle.lsm_text.specs.Grammar.{value_size, with_inputs, with_looks, with_writes, word, workers};
 ghost use Rattle.lsm_text.specs.Requests.{faults_in, found_in};
 
 use crate::pages::{
-    CHECK, CLEAN, COMPACT, DELETE, DUMP, GET, HELP, INGEST, LIST, LOAD, MAKE_TABLE, MANIFEST,
-    OVERVIEW, PUT, Page, SCAN, SCRIPT, SHELL, VERSION,
+    BENCH, CHECK, CLEAN, COMPACT, DELETE, DUMP, GET, HELP, INGEST, LEVELS, LIST, LOAD, MAKE_TABLE,
+    MANIFEST, OVERVIEW, PUT, Page, SCAN, SCRIPT, SHELL, VERSION,
 };
 use clap::builder::ValueParser;
 use clap::{Arg, ArgAction, ArgMatches, Command, Error};
@@ -129,6 +129,60 @@ fn limit<'a>(alloc: Global) -> Arg<'a>
     )
 }
 
+/// The option for the benchmarks that run.
+fn benchmarks<'a>(alloc: Global) -> Arg<'a>
+    ensures rule { rule_of result ≡ benchmarks }
+    ensures local { result.global ≡ false }
+{
+    valued(
+        alloc,
+        "benchmarks",
+        "LIST",
+        "Which benchmarks run, joined by commas",
+    )
+    .default_value("fillbatch,fillrandom,overwrite,readrandom,readwhilewriting,readseq,compact")
+}
+
+/// The option for the number of pairs that are measured.
+fn num<'a>(alloc: Global) -> Arg<'a>
+    ensures rule { rule_of result ≡ num }
+    ensures local { result.global ≡ false }
+{
+    valued(alloc, "num", "N", "How many pairs, 1 to 10000000")
+        .value_parser(ValueParser::Unsigned(1, 10_000_000))
+        .default_value("1000000")
+}
+
+/// The option for the size of each value.
+fn value_size<'a>(alloc: Global) -> Arg<'a>
+    ensures rule { rule_of result ≡ value_size }
+    ensures local { result.global ≡ false }
+{
+    valued(
+        alloc,
+        "value-size",
+        "N",
+        "How many bytes a value has, 65536 at most",
+    )
+    .value_parser(ValueParser::Unsigned(0, 65_536))
+    .default_value("100")
+}
+
+/// The option for the number of threads, which may be 0.
+fn some_workers<'a>(alloc: Global) -> Arg<'a>
+    ensures rule { rule_of result ≡ some_workers }
+    ensures local { result.global ≡ false }
+{
+    valued(
+        alloc,
+        "workers",
+        "N",
+        "How many threads compact beside, 0 to 8",
+    )
+    .value_parser(ValueParser::Unsigned(0, 8))
+    .default_value("2")
+}
+
 /// An option without a word behind it.
 fn flag<'a>(alloc: Global, name: &'a str, help: &'a str) -> Arg<'a>
     ensures rule { rule_of result ≡ flag name.entry.now }
@@ -236,6 +290,18 @@ fn list<'a>(alloc: Global) -> Made<'a>
     also(list, text(alloc))
 }
 
+/// The command that shows a folder's levels.
+fn levels<'a>(alloc: Global) -> Made<'a>
+    ensures { IsShaped result levels }
+{
+    let files = flag(alloc, "files", "Print a line a file too");
+    let svg = flag(alloc, "svg", "Draw the levels, as an SVG file");
+    let levels = also(titled(alloc, LEVELS), folder(alloc));
+    let levels = also(levels, text(alloc));
+    let levels = also(levels, files);
+    also(levels, svg)
+}
+
 /// The command that reads a key.
 fn get<'a>(alloc: Global) -> Made<'a>
     ensures { IsShaped result get }
@@ -266,6 +332,7 @@ fn scan<'a>(alloc: Global) -> Made<'a>
         "How each key begins that is printed",
     );
     let keys = flag(alloc, "keys", "Print the keys alone");
+    let json = flag(alloc, "json", "Print a JSON object a line");
     let count = flag(alloc, "count", "Print how many there are alone");
     let scan = also(titled(alloc, SCAN), folder(alloc));
     let scan = also(scan, from);
@@ -274,6 +341,7 @@ fn scan<'a>(alloc: Global) -> Made<'a>
     let scan = also(scan, limit(alloc));
     let scan = also(scan, text(alloc));
     let scan = also(scan, keys);
+    let scan = also(scan, json);
     let scan = also(scan, count);
     also(scan, progress(alloc))
 }
@@ -357,6 +425,17 @@ fn shell<'a>(alloc: Global) -> Made<'a>
     also(shell, beside_log(alloc))
 }
 
+/// The command that measures.
+fn bench<'a>(alloc: Global) -> Made<'a>
+    ensures { IsShaped result bench }
+{
+    let bench = also(titled(alloc, BENCH), folder(alloc));
+    let bench = also(bench, benchmarks(alloc));
+    let bench = also(bench, num(alloc));
+    let bench = also(bench, value_size(alloc));
+    also(bench, some_workers(alloc))
+}
+
 /// The command that prints a page of help.
 fn help<'a>(alloc: Global) -> Made<'a>
     ensures { IsShaped result help }
@@ -402,6 +481,7 @@ fn with_looks<'a>(alloc: Global) -> Made<'a>
 {
     let lsm = with(with_inputs(alloc), check(alloc));
     let lsm = with(lsm, list(alloc));
+    let lsm = with(lsm, levels(alloc));
     let lsm = with(lsm, get(alloc));
     with(lsm, scan(alloc))
 }
@@ -423,6 +503,7 @@ fn lsm<'a>(alloc: Global) -> Made<'a>
     let lsm = with(with_writes(alloc), compact(alloc));
     let lsm = with(lsm, clean(alloc));
     let lsm = with(lsm, shell(alloc));
+    let lsm = with(lsm, bench(alloc));
     with(lsm, help(alloc))
 }
 

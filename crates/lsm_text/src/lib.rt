@@ -7,6 +7,8 @@
 #![tactic(auto)]
 
 // What is asked for.
+mod bench_options;
+mod benchmark;
 mod compact_options;
 mod conversion;
 mod directory_command;
@@ -14,6 +16,7 @@ mod get_output;
 mod ingest_options;
 mod input;
 mod key_bounds;
+mod levels_output;
 mod load_options;
 mod request;
 mod scan_options;
@@ -60,6 +63,8 @@ mod text_words;
 mod laws;
 
 pub use batch_text::{BatchTextFault, batch_in, push_write};
+pub use bench_options::BenchOptions;
+pub use benchmark::Benchmark;
 pub use command_line::{CommandLine, read_line};
 pub use command_name::CommandName;
 pub use compact_options::CompactOptions;
@@ -76,12 +81,15 @@ pub use ingest_options::IngestOptions;
 pub use input::Input;
 pub use key_bounds::KeyBounds;
 pub use laws::{help_is_no_fault, one_batch, one_list, one_word, printed_list};
+pub use levels_output::LevelsOutput;
 pub use line_syntax::LineSyntaxFault;
 pub use load_options::LoadOptions;
 pub use number::number_in;
 pub use printer::Printer;
 pub use refusal::Refusal;
-pub use request::{CompactLine, DirectoryLine, LoadLine, Request, ShellLine, WritingLine};
+pub use request::{
+    BenchLine, CompactLine, DirectoryLine, LevelsLine, LoadLine, Request, ShellLine, WritingLine,
+};
 pub use scan_options::ScanOptions;
 pub use scan_output::ScanOutput;
 pub use spelling::{push_bytes, push_decimal};

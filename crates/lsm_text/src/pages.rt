@@ -199,6 +199,41 @@ Exit status: 0 done, 1 refused, 2 bad command line.",
     example: "Example: lsm list db --text",
 };
 
+pub(crate) const LEVELS: Page = Page {
+    name: "levels",
+    usage: "lsm levels <DIR> [--text] [--files] [--svg]",
+    about: "Shows the levels of a folder, and what is due next",
+    text: "Reads the file CURRENT of the LevelDB folder DIR and the manifest that it names,
+and nothing else: no table is opened. So it answers also where tables are
+compressed, damaged or lost, and just as fast where they are huge. Nothing is
+written in DIR. A line on standard error names each write-ahead log (`N.log`)
+that is not read.
+
+Prints a line a level, `level L files F bytes B score S` for the levels 0 to 6,
+by what the manifest says. The score is how full a level is, in hundredths: of
+level 0 its files over 4, and of the levels 1 to 5 their bytes over 10 MiB for
+level 1, and over ten times as many for each deeper one. From 1.00 on a level is
+too large. The last two lines are `last S rest R`, the last sequence and how many
+bytes at the manifest's end hold no whole record, and `due none`, or
+`due level L inputs N N ..` with the tables that the next compaction takes.
+
+--files prints a line for each file too, `LEVEL NUMBER SIZE SMALLEST LARGEST` as
+`list` does: keys are `KEY@SEQ+` for a value and `KEY@SEQ-` for a deletion, and
+KEY is hex, or text with --text, `.` for no bytes.
+
+--svg draws the levels instead, as an SVG file on standard output: rows of bars,
+one bar a file over the range of its keys, as wide as the file has bytes, and in
+another colour where the next compaction takes it. It excludes --files.
+
+Other bytes than those of a manifest are refused by number and name, as in
+`refused 19 LogChecksum 0`.
+
+Exit status: 0 done, 1 refused, 2 bad command line.",
+    example: "Examples: lsm levels db
+          lsm levels db --files --text
+          lsm levels db --svg > levels.svg",
+};
+
 pub(crate) const GET: Page = Page {
     name: "get",
     usage: "lsm get <DIR> <KEY> [--text] [--raw] [--exists]",
@@ -224,7 +259,7 @@ Exit status: 0 done, also where `absent` was printed, 1 refused, or absent with
 
 pub(crate) const SCAN: Page = Page {
     name: "scan",
-    usage: "lsm scan <DIR> [--from <KEY>] [--to <KEY>] [--prefix <KEY>] [--limit <N>] [--text] [--keys] [--count] [--progress]",
+    usage: "lsm scan <DIR> [--from <KEY>] [--to <KEY>] [--prefix <KEY>] [--limit <N>] [--text] [--keys] [--json] [--count] [--progress]",
     about: "Prints the live keys of a folder and their values",
     text: "Prints the live keys of the LevelDB folder DIR with their values, a line
 `KEY=VALUE` each, ascending by the bytes of the keys, from the key of --from to
@@ -235,7 +270,12 @@ limits.
 
 --limit N prints the first N of these lines at most, N a decimal number up to
 18446744073709551615. --keys prints lines `KEY`, without values. --count prints
-one line, how many lines there would be, and nothing else; it rules over --keys.
+one line, how many lines there would be, and nothing else. --json prints a JSON
+object a line, `{\"key\":\"..\",\"value\":\"..\"}`, of the characters of which the
+bytes are UTF-8; bytes that are no UTF-8 stand in base64 behind another name, as
+in `{\"key\":\"apple\",\"value_base64\":\"/w==\"}`. Of these three --count rules over
+--json, and --json over --keys; with --json nothing is in hex, and --text
+says only how KEY is spelled on the command line.
 
 Every table is verified before the first line. Lines are printed as the folder
 is read, in memory that does not grow with it; what is before --from is read
@@ -249,6 +289,7 @@ Exit status: 0 where all was printed, 1 at a fault: lines that were printed
 before it stand, 2 bad command line.",
     example: "Examples: lsm scan db --from 61 --to 6dff
           lsm scan db --text --prefix user: --limit 10
+          lsm scan db --json > pairs.jsonl
           lsm scan db --count --progress",
 };
 
@@ -435,6 +476,9 @@ prints a reply for each, which is written out before the next line is read.
 
   put KEY VALUE      the key has this value      file N first F last L
   delete KEY         the key is deleted          file N first F last L
+  begin              a batch; behind it put      begun; then queued for each
+  commit             and delete are queued,      file N first F last L
+  abort              up to commit or abort       aborted
   ingest W W ..      W is KEY=VALUE or KEY!,     file N first F last L
                      keys ascending: one batch
   get KEY            the newest                  value V, or absent
@@ -451,7 +495,9 @@ prints a reply for each, which is written out before the next line is read.
   cancel T                                       cancelled
   pin, unpin ID      the current version         pin ID, unpinned
   collect            tables not needed any more  removed N N ..
+  compact            all that is due, collected  installed M
   list               LEVEL NUMBER SIZE SMALLEST LARGEST a table, then end
+  stats              level L files N bytes B a level, last L, snapshots N, end
   help               these lines, then end
   quit               no reply; so does the end of the input
 
@@ -459,6 +505,11 @@ KEY, VALUE, FROM and TO are hex, or text with --text, `.` for no bytes; a space
 parts two words. A refusal is a reply too, `refused N Name ..`, in a list in
 place of `end`. A line of another form is answered `bad line: REASON`. The shell
 goes on behind both. A line has at most 8388608 bytes.
+
+Between `begin` and `commit` all other lines go on without what is queued; of one
+key the last write comes in. A write that a batch cannot have as well is `refused
+39 TooLarge`, and the others stay. Where standard input, output and error are
+terminals, `lsm> ` on standard error asks for each line.
 
 Of --begin and --beside-log, and of all that is refused before the first line,
 the page of `ingest` says more. A second program that wants to write in DIR is
@@ -468,6 +519,35 @@ Exit status: 0 behind `quit` or the end of the input, 1 where the folder is
 refused, a reply cannot be written or the input cannot be read, 2 bad command
 line.",
     example: "Example: printf 'put apple red\\nget apple\\n' | lsm shell db --text",
+};
+
+pub(crate) const BENCH: Page = Page {
+    name: "bench",
+    usage: "lsm bench <DIR> [--benchmarks <LIST>] [--num <N>] [--value-size <N>] [--workers <N>]",
+    about: "Measures writes, reads and compactions in a fresh folder",
+    text: "Begins a database in the folder DIR, which has to be there and to have none, runs
+benchmarks on it, and prints a line for each once it has run, behind a head: in
+the form and by the names of LevelDB's `db_bench`, so that the one can be put
+beside the other. What came in stays there.
+
+  fillbatch          N pairs in the order of their keys, 1000 in a batch
+  fillrandom         N pairs of drawn keys, as many in a batch as it may have
+  overwrite          the same again
+  readrandom         N reads of drawn keys
+  readwhilewriting   the same, while another thread brings N/10 pairs in
+  readseq            all pairs, one after another
+  compact            waits until all that is due is compacted
+
+--benchmarks names those that run, one after another, joined by commas; all of
+them in this order if it is not said. --num is N, 1000000 if it is not said, and
+--value-size how many bytes a value has, 100; a key has 16. --workers is how many
+threads compact beside, 0 to 8; 2 if it is not said.
+
+Limits: 10000000 pairs, 65536 bytes of a value.
+
+Exit status: 0 done, 1 refused, 2 bad command line.",
+    example: "Examples: mkdir fresh && lsm bench fresh
+          lsm bench fresh --benchmarks fillrandom,readrandom --num 100000",
 };
 
 pub(crate) const HELP: Page = Page {
@@ -490,6 +570,7 @@ fn usage(name: CommandName) -> &'static str {
         CommandName::Script => SCRIPT.usage,
         CommandName::Check => CHECK.usage,
         CommandName::List => LIST.usage,
+        CommandName::Levels => LEVELS.usage,
         CommandName::Get => GET.usage,
         CommandName::Scan => SCAN.usage,
         CommandName::Ingest => INGEST.usage,
@@ -499,6 +580,7 @@ fn usage(name: CommandName) -> &'static str {
         CommandName::Compact => COMPACT.usage,
         CommandName::Clean => CLEAN.usage,
         CommandName::Shell => SHELL.usage,
+        CommandName::Bench => BENCH.usage,
         CommandName::Help => HELP.usage,
     }
 }

@@ -1,11 +1,13 @@
 //! What a command line asks for.
 
+use crate::bench_options::BenchOptions;
 use crate::compact_options::CompactOptions;
 use crate::conversion::Conversion;
 use crate::directory_command::DirectoryCommand;
 use crate::form::Form;
 use crate::ingest_options::IngestOptions;
 use crate::input::Input;
+use crate::levels_output::LevelsOutput;
 use crate::load_options::LoadOptions;
 use crate::writing_command::WritingCommand;
 
@@ -18,6 +20,14 @@ pub struct DirectoryLine<'a> {
     pub form: Form,
     /// Whether it is to say on standard error how far it is: where there is `--progress`.
     pub progress: bool,
+}
+
+/// The levels of the folder of this path, and what is shown of them: with keys in this form.
+#[derive(Clone, Copy, Debug)]
+pub struct LevelsLine<'a> {
+    pub path: &'a str,
+    pub form: Form,
+    pub output: LevelsOutput,
 }
 
 /// A command that writes a directory, and the path of that.
@@ -50,6 +60,13 @@ pub struct ShellLine<'a> {
     pub options: IngestOptions,
 }
 
+/// Measurements over the folder of this path, with these options.
+#[derive(Debug, Drop)]
+pub struct BenchLine<'a> {
+    pub path: &'a str,
+    pub options: BenchOptions,
+}
+
 /// What a command line asks for: one command of the program, with all that its words say.
 #[derive(Debug, Drop)]
 pub enum Request<'a> {
@@ -57,6 +74,8 @@ pub enum Request<'a> {
     Convert(Conversion, Input<'a>),
     /// `check`, `list`, `get` or `scan`.
     Look(DirectoryLine<'a>),
+    /// `levels`.
+    Levels(LevelsLine<'a>),
     /// `ingest`, `put`, `delete` or `clean`.
     Write(WritingLine<'a>),
     /// `load`.
@@ -67,4 +86,6 @@ pub enum Request<'a> {
     Script(Input<'a>),
     /// `shell`: the commands that standard input spells, on a folder.
     Shell(ShellLine<'a>),
+    /// `bench`.
+    Bench(BenchLine<'a>),
 }

@@ -7,6 +7,8 @@ pub enum ScanOutput {
     Pairs,
     /// A line a pair: `KEY`.
     Keys,
+    /// A line a pair: a JSON object of its key and its value.
+    Json,
     /// A line in all: how many pairs there are.
     Count,
 }

@@ -1,6 +1,6 @@
 //! What is wrong with words that are of the grammar, but that ask for nothing.
 
-use crate::asking::{form_in, line_in, word_in};
+use crate::asking::{between_in, form_in, is_set, word_in};
 use crate::form::Form;
 use crate::syntax_fault::{SyntaxFault, syntax_fault_in};
 use clap::ArgMatches;
@@ -12,8 +12,14 @@ pub(crate) enum UsageFault<'a> {
     /// What it is to spell, KEY or VALUE, a word that is none of its form, and where it stops being
     /// one.
     Bytes(&'static str, &'a str, SyntaxFault),
+    /// Two options that exclude one another.
+    Both(&'static str, &'static str),
     /// No number of pairs, though `clap` reads it as one.
     Limit(&'a str),
+    /// No size of a value, though `clap` reads it as one.
+    Size(&'a str),
+    /// No names of benchmarks, joined by commas.
+    Benchmarks(&'a str),
     /// No number of a line, though `clap` reads it as one.
     Line(&'a str),
     /// No number of workers, though `clap` reads it as one.
@@ -45,13 +51,28 @@ fn first_wrong_bytes<'a>(found: &ArgMatches<'a>) -> Option<UsageFault<'a>> {
     wrong_bytes(form, found, "VALUE", "VALUE")
 }
 
-/// The word of `--from-line`, where it names no line.
-fn wrong_line<'a>(found: &ArgMatches<'a>) -> Option<&'a str> {
-    let word = word_in(found, "from-line")?;
-    match line_in(word) {
+/// The word under this name, where there is one that writes no number of this range.
+fn wrong_number<'a>(found: &ArgMatches<'a>, name: &str, least: u64, most: u64) -> Option<&'a str> {
+    let word = word_in(found, name)?;
+    match between_in(Some(word), least, most) {
         Some(_) => None,
         None => Some(word),
     }
+}
+
+/// What is wrong with the numbers of `bench`, or else with its benchmarks.
+fn wrong_bench<'a>(found: &ArgMatches<'a>) -> Option<UsageFault<'a>> {
+    let benchmarks = word_in(found, "benchmarks")?;
+    if let Some(word) = wrong_number(found, "num", 1, u64::MAX) {
+        return Some(UsageFault::Limit(word));
+    }
+    if let Some(word) = wrong_number(found, "value-size", 0, u64::MAX) {
+        return Some(UsageFault::Size(word));
+    }
+    if let Some(word) = wrong_number(found, "workers", 0, u64::MAX) {
+        return Some(UsageFault::Workers(word));
+    }
+    Some(UsageFault::Benchmarks(benchmarks))
 }
 
 /// What is wrong with the words of the command that was found; none where nothing is seen here.
@@ -63,11 +84,17 @@ pub(crate) fn fault_in<'a>(matches: &ArgMatches<'a>) -> Option<UsageFault<'a>> {
     if let Some(word) = word_in(found, "COMMAND") {
         return Some(UsageFault::Command(word));
     }
+    if is_set(found, "files") && is_set(found, "svg") {
+        return Some(UsageFault::Both("--files", "--svg"));
+    }
     if let Some(word) = word_in(found, "limit") {
         return Some(UsageFault::Limit(word));
     }
-    if let Some(word) = wrong_line(found) {
+    if let Some(word) = wrong_number(found, "from-line", 1, u64::MAX) {
         return Some(UsageFault::Line(word));
+    }
+    if let Some(fault) = wrong_bench(found) {
+        return Some(fault);
     }
     Some(UsageFault::Workers(word_in(found, "workers")?))
 }
@@ -102,9 +129,12 @@ impl<'a> fmt::Display for UsageFault<'a> {
     fn fmt<W: fmt::Write>(&self, f: &mut fmt::Formatter<W>) -> fmt::Result {
         match self {
             UsageFault::Bytes(what, word, fault) => write_bytes(f, what, word, *fault),
+            UsageFault::Both(one, other) => write!(f, "`{one}` and `{other}` exclude one another"),
             UsageFault::Limit(word) => write!(f, "`{word}` is no number of pairs"),
+            UsageFault::Size(word) => write!(f, "`{word}` is no size of a value"),
+            UsageFault::Benchmarks(word) => write!(f, "`{word}` names no benchmarks"),
             UsageFault::Line(word) => write!(f, "`{word}` is no number of a line, from 1"),
-            UsageFault::Workers(word) => write!(f, "`{word}` is no number of workers, 1 to 8"),
+            UsageFault::Workers(word) => write!(f, "`{word}` is no number of workers"),
             UsageFault::Command(word) => write!(f, "`{word}` is no command"),
         }
     }

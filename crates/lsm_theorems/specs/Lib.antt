@@ -1,3 +1,6 @@
 -- what public clauses cite
+pub mod Calls
+pub mod Database
 pub mod Newest
 pub mod Unchanged
+pub mod SmallRun

@@ -10,15 +10,17 @@ Keys and values are bytes. Every write is on the disk when its call returns. A d
 by any number of threads. A call that fails raises `Error`, which has a number and a name.
 """
 
-from .database import DB, Iterator, Level, Snapshot, Statistics, WriteBatch
-from .errors import Ended, Error, Refused
+from .database import DB, Iterator, Level, PrefixedDB, Snapshot, Statistics, WriteBatch
+from .errors import Closed, Ended, Error, Refused
 
 __all__ = [
     "DB",
+    "Closed",
     "Ended",
     "Error",
     "Iterator",
     "Level",
+    "PrefixedDB",
     "Refused",
     "Snapshot",
     "Statistics",

@@ -10,7 +10,7 @@ from types import TracebackType
 from typing import Any, Deque, Iterable, List, NoReturn, Optional, Tuple, Type, Union
 
 from . import frames
-from .errors import CLOSED, Error
+from .errors import Closed
 from .server import Server, find
 
 PathLike = Union[str, bytes, "os.PathLike[str]", "os.PathLike[bytes]"]
@@ -40,7 +40,9 @@ class Statistics:
 
 
 class _Reads:
-    """What a database and a snapshot of it have in common."""
+    """What a database and a snapshot of it have in common, or the part of keys with a prefix."""
+
+    _prefix = b""  # of the keys, which a caller does not see
 
     def _ask(self, request: bytes) -> bytes:
         raise NotImplementedError
@@ -48,26 +50,108 @@ class _Reads:
     def _when(self) -> bytes:
         raise NotImplementedError
 
-    def get(self, key: Bytes, default: Optional[bytes] = None) -> Optional[bytes]:
-        """The value of a key, or `default` where it has none."""
+    def _iterated(self) -> Tuple[Snapshot, bool]:
+        """The state that an iterator reads, and whether it closes it."""
+        raise NotImplementedError
+
+    def get(
+        self,
+        key: Bytes,
+        default: Optional[bytes] = None,
+        *,
+        verify_checksums: Optional[bool] = True,
+        fill_cache: bool = True,
+    ) -> Optional[bytes]:
+        """The value of a key, or `default` where it has none.
+
+        `verify_checksums` and `fill_cache` are taken as plyvel takes them, and change nothing: the
+        server verifies what it reads from the disk, and keeps it in its caches.
+        """
         value = self.get_many((key,))[0]
         return default if value is None else value
 
     def get_many(
         self, keys: Iterable[Bytes], default: Optional[bytes] = None
     ) -> List[Optional[bytes]]:
-        """The values of several keys, in their order, all of one state of the database.
+        """The values of several keys, in their order, all of one state of the database; `default`
+        for each key that has none.
 
         This is one request: the keys have at most 8 MiB together, the values 16 MiB.
         """
-        asked = [_bytes(key) for key in keys]
+        asked = [self._prefix + _bytes(key) for key in keys]
         if not asked:
             return []
         found = frames.values(self._ask(frames.read(self._when(), asked)), len(asked))
         return [default if value is None else value for value in found]
 
+    def iterator(
+        self,
+        reverse: bool = False,
+        start: Optional[Bytes] = None,
+        stop: Optional[Bytes] = None,
+        include_start: bool = True,
+        include_stop: bool = False,
+        prefix: Optional[Bytes] = None,
+        include_key: bool = True,
+        include_value: bool = True,
+    ) -> Iterator:
+        """The pairs of a range, in ascending order of their keys, as they are now; of a snapshot, as
+        they were then.
 
-class DB(_Reads):
+        The range is that from `start` to `stop`, or that of all keys with a prefix. Without values
+        the iterator gives keys alone, without keys values alone. `reverse` must be False.
+
+        Pairs come from the server in pages of some 64 KiB.
+        """
+        bounds = _Range.of(self._prefix, reverse, start, stop, include_start, include_stop, prefix)
+        return Iterator(*self._iterated(), bounds, include_key, include_value)
+
+    def __iter__(self) -> Iterator:
+        """An iterator over all pairs."""
+        return self.iterator()
+
+
+class _Database(_Reads):
+    """What a database and a part of it have in common."""
+
+    def _whole(self) -> DB:
+        raise NotImplementedError
+
+    def put(self, key: Bytes, value: Bytes, sync: bool = True) -> None:
+        """Sets the value of a key. It is on the disk when the call returns, whatever `sync` says.
+
+        A key has 1 to 4,096 bytes, a value at most 1 MiB. Each write makes a table: many of them
+        belong into one `write_batch`.
+        """
+        self._ask(frames.WRITE + frames.put(self._prefix + _bytes(key), _bytes(value)))
+
+    def delete(self, key: Bytes, sync: bool = True) -> None:
+        """Removes a key, if it is there. That is on the disk when the call returns, whatever `sync`
+        says."""
+        self._ask(frames.WRITE + frames.delete(self._prefix + _bytes(key)))
+
+    def write_batch(self, transaction: bool = False, sync: bool = True) -> WriteBatch:
+        """A new batch. As a context manager it is written at the end of the block; with
+        `transaction=True` it is dropped where the block raises an exception."""
+        return WriteBatch(self._whole(), self._prefix, transaction)
+
+    def snapshot(self) -> Snapshot:
+        """The database as it is now. It keeps tables on the disk until it is closed."""
+        number, sequence = frames.numbers(self._ask(frames.SNAPSHOT), 2)
+        return Snapshot(self._whole(), self._prefix, number, sequence)
+
+    def prefixed_db(self, prefix: Bytes) -> PrefixedDB:
+        """The part of the keys that begin with a prefix, which its calls leave out of each key."""
+        return PrefixedDB(self._whole(), self._prefix + _bytes(prefix))
+
+    def _iterated(self) -> Tuple[Snapshot, bool]:
+        return self.snapshot(), True
+
+    def _when(self) -> bytes:
+        return frames.NOW
+
+
+class DB(_Database):
     """An open database. Any thread may call it; a call waits while all channels are taken.
 
     path               the folder, with LevelDB's files
@@ -111,56 +195,13 @@ class DB(_Reads):
 
     @property
     def closed(self) -> bool:
+        """Whether it was closed, or opened in the process that this one was forked from."""
         return self._server.is_closed
 
     def close(self) -> None:
         """Waits for the calls under way and for the server's end. A second call does nothing."""
         self._server.close()
         self._end.detach()
-
-    def put(self, key: Bytes, value: Bytes, sync: bool = True) -> None:
-        """Sets the value of a key. It is on the disk when the call returns, whatever `sync` says.
-
-        Each write makes a table: many of them belong into one `write_batch`.
-        """
-        self._ask(frames.WRITE + frames.put(_bytes(key), _bytes(value)))
-
-    def delete(self, key: Bytes, sync: bool = True) -> None:
-        """Removes a key, if it is there."""
-        self._ask(frames.WRITE + frames.delete(_bytes(key)))
-
-    def write_batch(self, transaction: bool = False, sync: bool = True) -> WriteBatch:
-        """A new batch. As a context manager it is written at the end of the block; with
-        `transaction=True` it is dropped where the block raises an exception."""
-        return WriteBatch(self, transaction)
-
-    def iterator(
-        self,
-        reverse: bool = False,
-        start: Optional[Bytes] = None,
-        stop: Optional[Bytes] = None,
-        include_start: bool = True,
-        include_stop: bool = False,
-        prefix: Optional[Bytes] = None,
-        include_key: bool = True,
-        include_value: bool = True,
-    ) -> Iterator:
-        """The pairs of a range, in ascending order of their keys, as they are now.
-
-        The range is that from `start` to `stop`, or that of all keys with a prefix. Without values
-        the iterator gives keys alone, without keys values alone.
-        """
-        bounds = _Range.of(reverse, start, stop, include_start, include_stop, prefix)
-        snapshot = self.snapshot()
-        return Iterator(snapshot, True, bounds, include_key, include_value)
-
-    def __iter__(self) -> Iterator:
-        return self.iterator()
-
-    def snapshot(self) -> Snapshot:
-        """The database as it is now. It keeps tables on the disk until it is closed."""
-        number, sequence = frames.numbers(self._ask(frames.SNAPSHOT), 2)
-        return Snapshot(self, number, sequence)
 
     def compact_range(self, start: None = None, stop: None = None) -> None:
         """Compacts the whole database: returns once the server finds nothing to compact.
@@ -176,12 +217,13 @@ class DB(_Reads):
         return frames.numbers(self._ask(frames.COLLECT), 1)[0]
 
     def statistics(self) -> Statistics:
+        """The last sequence, and how many tables and bytes each level has."""
         last, *sizes = frames.numbers(self._ask(frames.STATISTICS), 15)
         return Statistics(last, tuple(map(Level, sizes[0::2], sizes[1::2])))
 
     def get_property(self, name: Union[str, bytes]) -> Optional[bytes]:
         """`leveldb.num-files-at-levelN` or `leveldb.stats`; None for another name."""
-        named = name.encode() if isinstance(name, str) else name
+        named = name.encode() if isinstance(name, str) else _bytes(name)
         levels = self.statistics().levels
         if named == b"leveldb.stats":
             rows = ("%5d %8d %12d\n" % (n, at.files, at.bytes) for n, at in enumerate(levels))
@@ -205,8 +247,8 @@ class DB(_Reads):
     def __repr__(self) -> str:
         return f"<tiswenor.DB {self._name!r}{' closed' if self.closed else ''}>"
 
-    def _when(self) -> bytes:
-        return frames.NOW
+    def _whole(self) -> DB:
+        return self
 
     def _ask(self, request: bytes) -> bytes:
         while self._abandoned:
@@ -218,14 +260,42 @@ class DB(_Reads):
         return self._server.ask(request)
 
 
+class PrefixedDB(_Database):
+    """The part of a database whose keys begin with a prefix. It is open as long as the database."""
+
+    def __init__(self, db: DB, prefix: bytes) -> None:
+        self._db = db
+        self._prefix = prefix
+
+    @property
+    def db(self) -> DB:
+        """The database that it is a part of."""
+        return self._db
+
+    @property
+    def prefix(self) -> bytes:
+        """The bytes that stand before each key."""
+        return self._prefix
+
+    def __repr__(self) -> str:
+        return f"<tiswenor.PrefixedDB {self._prefix!r} of {self._db!r}>"
+
+    def _whole(self) -> DB:
+        return self._db
+
+    def _ask(self, request: bytes) -> bytes:
+        return self._db._ask(request)
+
+
 class Snapshot(_Reads):
     """A state of the database that does not change. Any thread may read it.
 
     It ends by `close()`, by a `with` block, or once nothing refers to it any more.
     """
 
-    def __init__(self, db: DB, number: int, sequence: int) -> None:
+    def __init__(self, db: DB, prefix: bytes, number: int, sequence: int) -> None:
         self._db = db
+        self._prefix = prefix
         self._number = number
         self._sequence = sequence
         self._is_closed = False
@@ -235,25 +305,8 @@ class Snapshot(_Reads):
         """The number of the newest write that is seen."""
         return self._sequence
 
-    def iterator(
-        self,
-        reverse: bool = False,
-        start: Optional[Bytes] = None,
-        stop: Optional[Bytes] = None,
-        include_start: bool = True,
-        include_stop: bool = False,
-        prefix: Optional[Bytes] = None,
-        include_key: bool = True,
-        include_value: bool = True,
-    ) -> Iterator:
-        """As `DB.iterator`, of this state."""
-        bounds = _Range.of(reverse, start, stop, include_start, include_stop, prefix)
-        return Iterator(self, False, bounds, include_key, include_value)
-
-    def __iter__(self) -> Iterator:
-        return self.iterator()
-
     def close(self) -> None:
+        """Gives the state up: what only it needs may be collected. A second call does nothing."""
         if not self._is_closed:
             self._is_closed = True
             if not self._db.closed:
@@ -274,9 +327,12 @@ class Snapshot(_Reads):
         if not getattr(self, "_is_closed", True):
             self._db._abandoned.append(self._number)
 
+    def _iterated(self) -> Tuple[Snapshot, bool]:
+        return self, False
+
     def _when(self) -> bytes:
         if self._is_closed:
-            raise Error(CLOSED, "Closed", "the snapshot is closed")
+            raise Closed("the snapshot is closed")
         return frames.at(self._number)
 
     def _ask(self, request: bytes) -> bytes:
@@ -289,18 +345,22 @@ class WriteBatch:
     Keys may come in any order. The server takes at most 65,536 writes and 4 MiB in one batch.
     """
 
-    def __init__(self, db: DB, transaction: bool) -> None:
+    def __init__(self, db: DB, prefix: bytes, transaction: bool) -> None:
         self._db = db
+        self._prefix = prefix
         self._transaction = transaction
         self._writes: List[bytes] = []
 
     def put(self, key: Bytes, value: Bytes) -> None:
-        self._writes.append(frames.put(_bytes(key), _bytes(value)))
+        """Adds that a key gets a value."""
+        self._writes.append(frames.put(self._prefix + _bytes(key), _bytes(value)))
 
     def delete(self, key: Bytes) -> None:
-        self._writes.append(frames.delete(_bytes(key)))
+        """Adds that a key is removed."""
+        self._writes.append(frames.delete(self._prefix + _bytes(key)))
 
     def clear(self) -> None:
+        """Drops what was added."""
         self._writes.clear()
 
     def append(self, source: WriteBatch) -> None:
@@ -332,13 +392,16 @@ class WriteBatch:
 
 @dataclass(frozen=True)
 class _Range:
-    """The keys from `start` on that are below `stop`, if there is one."""
+    """The keys from `start` on that are below `stop`, if there is one. All begin with `front`, which
+    is not shown."""
 
     start: bytes
     stop: Optional[bytes]
+    front: bytes
 
     @staticmethod
     def of(
+        front: bytes,
         reverse: bool,
         start: Optional[Bytes],
         stop: Optional[Bytes],
@@ -351,15 +414,15 @@ class _Range:
         if prefix is not None:
             if start is not None or stop is not None:
                 raise TypeError("prefix and start or stop can't be used together")
-            front = _bytes(prefix)
-            return _Range(front, _behind(front))
-        begin = b"" if start is None else _bytes(start)
+            begin = front + _bytes(prefix)
+            return _Range(begin, _behind(begin), front)
+        begin = front if start is None else front + _bytes(start)
         if start is not None and not include_start:
             begin += b"\0"
-        end = None if stop is None else _bytes(stop)
-        if end is not None and include_stop:
-            end += b"\0"
-        return _Range(begin, end)
+        if stop is None:
+            return _Range(begin, _behind(front), front)
+        end = front + _bytes(stop)
+        return _Range(begin, end + b"\0" if include_stop else end, front)
 
 
 class Iterator:
@@ -382,35 +445,32 @@ class Iterator:
 
     def seek_to_start(self) -> None:
         """Goes before the first pair of the range."""
-        self.seek(self._bounds.start)
+        self.seek(b"")
 
     def seek(self, target: Bytes) -> None:
         """Goes before the first pair of the range whose key is `target` or greater."""
-        self._from = max(_bytes(target), self._bounds.start)
+        self._from = max(self._bounds.front + _bytes(target), self._bounds.start)
         self._is_last = self._bounds.stop is not None and self._from >= self._bounds.stop
         self._limit = _FIRST_PAGE
-        self._pairs: List[Tuple[bytes, bytes]] = []
+        self._shown: List[Any] = []
         self._at = 0
 
     def __iter__(self) -> Iterator:
         return self
 
     def __next__(self) -> Any:
-        if self._at == len(self._pairs):
+        at = self._at
+        if at == len(self._shown):
             self._turn()
-        key, value = self._pairs[self._at]
-        self._at += 1
-        if self._include_key and self._include_value:
-            return key, value
-        if self._include_key:
-            return key
-        return value if self._include_value else None
+            at = 0
+        self._at = at + 1
+        return self._shown[at]
 
     def _turn(self) -> None:
         """Reads the next page. It has a pair, or the iterator is at its end."""
         snapshot = self._snapshot
         if snapshot is None:
-            raise Error(CLOSED, "Closed", "the iterator is closed")
+            raise Closed("the iterator is closed")
         if self._is_last:
             raise StopIteration
         request = frames.scan(snapshot._when(), self._from, self._bounds.stop, self._limit)
@@ -419,20 +479,34 @@ class Iterator:
         if pairs:
             self._from = pairs[-1][0] + b"\0"
         self._is_last = is_last
-        self._pairs = pairs
+        self._shown = self._show(pairs)
         self._at = 0
         if not pairs:
             raise StopIteration
 
+    def _show(self, pairs: List[Tuple[bytes, bytes]]) -> List[Any]:
+        """What is given for these pairs."""
+        if self._bounds.front:
+            hidden = len(self._bounds.front)
+            pairs = [(key[hidden:], value) for key, value in pairs]
+        if self._include_key and self._include_value:
+            return pairs
+        if self._include_key:
+            return [key for key, _ in pairs]
+        return [value if self._include_value else None for _, value in pairs]
+
     def prev(self) -> NoReturn:
+        """Raises NotImplementedError."""
         raise NotImplementedError("prev: the server reads forward only")
 
     def seek_to_stop(self) -> NoReturn:
+        """Raises NotImplementedError."""
         raise NotImplementedError("seek_to_stop: the server reads forward only")
 
     def close(self) -> None:
+        """Ends the iterator. A second call does nothing."""
         snapshot, self._snapshot = self._snapshot, None
-        self._pairs = []
+        self._shown = []
         self._at = 0
         if snapshot is not None and self._owns_snapshot:
             snapshot.close()

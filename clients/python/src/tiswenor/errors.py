@@ -5,8 +5,9 @@ from __future__ import annotations
 from typing import Optional
 
 # Numbers of this package. Those from 1 to 99 are the server's refusals, which docs/FORMATS.md
-# lists; 200 to 203 are the protocol's.
+# lists; 200 to 204 are the protocol's.
 MALFORMED = 200
+UNANSWERED = 204
 NO_SERVER = 250
 CLOSED = 251
 BAD_ANSWER = 254
@@ -14,8 +15,17 @@ ENDED = 255
 
 TOO_LARGE = 39
 
-# Names of the refusals of an opening request, which may come without one.
-NAMES = {200: "Malformed", 201: "BadOpening", 202: "NoDatabase", 203: "IsThere"}
+# After these answers the server reads no more from the channel.
+LAST = (MALFORMED, UNANSWERED)
+
+# Names of statuses that may come without one.
+NAMES = {
+    200: "Malformed",
+    201: "BadOpening",
+    202: "NoDatabase",
+    203: "IsThere",
+    204: "Unanswered",
+}
 
 
 class Error(Exception):
@@ -33,6 +43,17 @@ class Error(Exception):
 
 class Refused(Error):
     """The server refused the request. Nothing of it was done, and other requests go on."""
+
+
+class Closed(Error, RuntimeError):
+    """The database, the snapshot or the iterator was closed, or opened before a fork.
+
+    It is a RuntimeError too, which is what plyvel raises.
+    """
+
+    def __init__(self, detail: str) -> None:
+        super().__init__(CLOSED, "Closed", detail)
+        self.args = (detail,)
 
 
 class Ended(Error):

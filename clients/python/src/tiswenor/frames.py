@@ -96,14 +96,19 @@ def page(body: bytes) -> Tuple[bool, List[Tuple[bytes, bytes]]]:
     if body[:1] not in (b"\0", b"\1"):
         bad_answer()
     pairs: List[Tuple[bytes, bytes]] = []
+    add, length_at = pairs.append, _LENGTH.unpack_from
     at = 1
     end = len(body)
-    while at < end:
-        key, at = _text_at(body, at)
-        value, at = _text_at(body, at)
-        pairs.append((key, value))
+    try:
+        while at < end:
+            key_end = at + 4 + int(length_at(body, at)[0])
+            pair_end = key_end + 4 + int(length_at(body, key_end)[0])
+            add((body[at + 4 : key_end], body[key_end + 4 : pair_end]))
+            at = pair_end
+    except struct.error:  # a length is cut
+        bad_answer()
     is_last = body[0] == 1
-    if not pairs and not is_last:
+    if at != end or (not pairs and not is_last):
         bad_answer()
     return is_last, pairs
 

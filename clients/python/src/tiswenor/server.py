@@ -4,6 +4,7 @@ from __future__ import annotations
 
 import fcntl
 import os
+import select
 import shutil
 import socket
 import subprocess
@@ -13,7 +14,7 @@ from collections import deque
 from typing import Deque, List, Optional, Union
 
 from . import frames
-from .errors import CLOSED, MALFORMED, NAMES, NO_SERVER, Ended, Error, Refused
+from .errors import LAST, NAMES, NO_SERVER, UNANSWERED, Closed, Ended, Error, Refused
 
 PROGRAM = "lsm_server"
 VARIABLE = "TISWENOR_SERVER"
@@ -23,6 +24,9 @@ LONGEST_PATH = 4095
 
 # How many bytes an answer's first part may have. Only one answer is on its way at a time.
 _READ_AT_ONCE = 4096
+
+# How bytes are sent: without waiting, and without a signal where nobody reads them.
+_AT_ONCE = int(socket.MSG_NOSIGNAL | socket.MSG_DONTWAIT)
 
 # How long a waiting call sleeps until it looks again whether a channel is free, in seconds. It is
 # told of it, but for one who was interrupted before.
@@ -48,6 +52,10 @@ def find(server: Union[str, "os.PathLike[str]", None] = None) -> str:
     if found is None:
         raise Error(NO_SERVER, "NoServer", f"no {PROGRAM} on PATH; {VARIABLE} may name one")
     return found
+
+
+class ChannelEnded(Exception):
+    """A channel was found at its end before a request was sent. Another one may do it."""
 
 
 class Channel:
@@ -78,14 +86,34 @@ class Channel:
         """Sends a frame, and gives the frame that answers it, without its length."""
         if self._owed is not None:
             self.receive()
+            if self.has_failed:
+                raise ChannelEnded
         self._is_sending = True
-        self._socket.sendall(request, socket.MSG_NOSIGNAL)
+        left = self._send(request)
         self._owed = []
         self._is_sending = False
-        return self.receive()
+        answer = self.receive()
+        if left and not self.has_failed:  # of a request that the server has not read
+            self.has_failed = True
+            frames.bad_answer()
+        return answer
+
+    def _send(self, request: bytes) -> int:
+        """Sends a frame, but for what is left of it once its answer comes: a server that has no
+        memory for a request does not read it. How many bytes are left."""
+        rest = memoryview(request)
+        while rest:
+            try:
+                rest = rest[self._socket.send(rest, _AT_ONCE) :]
+            except BlockingIOError:
+                waiting = select.poll()
+                waiting.register(self._socket, select.POLLIN | select.POLLOUT)
+                if any(events & select.POLLIN for _, events in waiting.poll()):
+                    break
+        return len(rest)
 
     def receive(self) -> bytes:
-        """The answer that is owed."""
+        """The answer that is owed. Where it is the last one, the channel is closed."""
         owed = self._owed
         assert owed is not None
         try:
@@ -99,6 +127,9 @@ class Channel:
             self.has_failed = True
             raise
         self._owed = None
+        if answer[4] in LAST:
+            self.has_failed = True
+            self.shut()
         return answer[4:]
 
     def _until(self, owed: List[bytes], count: int) -> bytes:
@@ -175,19 +206,18 @@ class Server:
         framed = frames.frame(request)
         if self._is_forked:  # another thread may have had the lock as the process was forked
             raise _closed()
-        lease = Lease()
-        try:
-            channel = self._take(lease)
-            answer = channel.exchange(framed)
-            if answer[0] == MALFORMED:
-                channel.has_failed = True
-        except OSError:
-            raise self._ended() from None
-        finally:
-            lease.is_over = True
-            with self._changed:
-                self._changed.notify_all()
-        return _body(answer)
+        while True:
+            lease = Lease()
+            try:
+                return _body(self._take(lease).exchange(framed))
+            except ChannelEnded:
+                continue
+            except OSError:
+                raise self._ended() from None
+            finally:
+                lease.is_over = True
+                with self._changed:
+                    self._changed.notify_all()
 
     def _take(self, lease: Lease) -> Channel:
         with self._changed:
@@ -255,8 +285,8 @@ class Server:
             channel.forget()
 
 
-def _closed() -> Error:
-    return Error(CLOSED, "Closed", "the database is not open in this process")
+def _closed() -> Closed:
+    return Closed("the database is not open in this process")
 
 
 def _body(answer: bytes) -> bytes:
@@ -265,6 +295,8 @@ def _body(answer: bytes) -> bytes:
     if status == 0:
         return answer[1:]
     name = answer[1:].decode("utf-8", "replace") or NAMES.get(status, "Refused")
+    if status == UNANSWERED:
+        raise Error(status, name, "no memory for the answer: whether it was done is not known")
     raise Refused(status, name)
 
 

@@ -18,11 +18,11 @@ use Rattle.lsm_merge.proofs.compaction.merge.Goals as goal
 pub returns-then-is_at_end-clause-kept : goal.returns-then-is_at_end-clause-kept
 returns-then-is_at_end-clause-kept g c = λ honest.
     on_ok c.put_last.result
-    (λ goes. under_done g.S.Shelf.honest c.args.job.now (entries_of c.in_ok-merger.merger.placed) c.args.shelf.now c.entries.shelf
+    (λ goes. under_done g.S.Shelf.honest c.args.job.now (entries_of c.in_ok-stream.stream.left.placed) c.args.shelf.now c.entries.shelf
     (g.D.NumberSource.drew c.args.numbers.now) (g.D.NumberSource.drew c.entries.numbers) (g.D.NumberSource.refused c.args.numbers.now) (g.D.NumberSource.refused c.entries.numbers)
     (g.D.NumberSource.asked c.args.numbers.now) (g.D.NumberSource.asked c.entries.numbers)
-    c.entries.outputs c.put_last.new.self c.entries.before c.entries.merger c.entries.invariant.0 c.streaming_keeps_the_kept.ensures.stream
-    (sym c.is_at_end.ensures ∙ c.if-is_at_end.true) c.in_ok-merger.ensures.merges goes honest)
+    c.entries.outputs c.put_last.new.self c.entries.stream.before c.entries.stream.left c.entries.invariant.0 c.streaming_keeps_the_kept.ensures.stream
+    (sym c.is_at_end.ensures ∙ c.if-is_at_end.true) c.in_ok-stream.ensures.merges goes honest)
     c.put_last.ensures.ok
 
 pub returns-then-is_at_end-clause-sizes : goal.returns-then-is_at_end-clause-sizes
@@ -55,11 +55,11 @@ returns-then-is_at_end-clause-cause g c =
 
 pub entries-preserved : goal.entries-preserved
 entries-preserved g c = (
-  under_step g.S.Shelf.honest c.args.job.now (entries_of c.in_ok-merger.merger.placed) c.args.shelf.now c.entries.shelf c.step.new.shelf
+  under_step g.S.Shelf.honest c.args.job.now (entries_of c.in_ok-stream.stream.left.placed) c.args.shelf.now c.entries.shelf c.step.new.shelf
       (g.D.NumberSource.drew c.args.numbers.now) (g.D.NumberSource.drew c.entries.numbers) (g.D.NumberSource.drew c.step.new.numbers)
       (g.D.NumberSource.refused c.args.numbers.now) (g.D.NumberSource.refused c.entries.numbers) (g.D.NumberSource.refused c.step.new.numbers)
       (g.D.NumberSource.asked c.args.numbers.now) (g.D.NumberSource.asked c.entries.numbers) (g.D.NumberSource.asked c.step.new.numbers)
-      c.entries.outputs c.step.new.outputs c.entries.before c.step.new.before c.entries.merger c.step.new.merger c.entries.invariant.0
+      c.entries.outputs c.step.new.outputs c.entries.stream.before c.step.new.stream.before c.entries.stream.left c.step.new.stream.left c.entries.invariant.0
       (sym c.is_at_end.ensures ∙ c.if-is_at_end.false) c.in_ok-step.ensures.ok c.in_ok-step.ensures.drawn c.in_ok-step.ensures.answered c.in_ok-step.ensures.files c.step.ensures.told c.in_ok-step.ensures.tables c.step.ensures.asked,
   c.step.ensures.ready,
 )
@@ -77,23 +77,23 @@ returns-in_err-step-clause-cause g c =
     (puts_rise [] c.entries.outputs.put c.args.shelf.now c.entries.shelf c.entries.invariant.0.told)
     (c.in_err-step.ensures.cause (input_numbers c.args.job.now) c.entries.invariant.0.files))
 
-pub returns-in_err-merger-clause-asked : goal.returns-in_err-merger-clause-asked
-returns-in_err-merger-clause-asked g c = asks_none c.args.job.now.ticket (g.D.NumberSource.asked c.args.numbers.now) (g.D.NumberSource.asked c.args.numbers.now) refl
+pub returns-in_err-stream-clause-asked : goal.returns-in_err-stream-clause-asked
+returns-in_err-stream-clause-asked g c = asks_none c.args.job.now.ticket (g.D.NumberSource.asked c.args.numbers.now) (g.D.NumberSource.asked c.args.numbers.now) refl
 
-pub returns-in_err-merger-clause-ticket : goal.returns-in_err-merger-clause-ticket
-returns-in_err-merger-clause-ticket g c =
-    err_is (λ (e : MergeFault). NamesTicket e c.args.job.now.ticket) c.from_residual.result c.in_err-merger.field-0.0 c.from_residual.ensures.1
-    (names_reading c.in_err-merger.field-0.0 c.args.job.now.ticket c.in_err-merger.ensures.kind)
+pub returns-in_err-stream-clause-ticket : goal.returns-in_err-stream-clause-ticket
+returns-in_err-stream-clause-ticket g c =
+    err_is (λ (e : MergeFault). NamesTicket e c.args.job.now.ticket) c.from_residual.result c.in_err-stream.field-0.0 c.from_residual.ensures.1
+    (names_reading c.in_err-stream.field-0.0 c.args.job.now.ticket c.in_err-stream.ensures.kind)
 
-pub returns-in_err-merger-clause-large : goal.returns-in_err-merger-clause-large
-returns-in_err-merger-clause-large g c = λ honest.
-    err_is (λ (e : MergeFault). IsSizeFault e → IsOverLimit c.args.job.now.table (all_entries (job_of c.args.job.now).inputs)) c.from_residual.result c.in_err-merger.field-0.0 c.from_residual.ensures.1
-    (λ size. absurd (no_size_reading c.in_err-merger.field-0.0 c.in_err-merger.ensures.kind size))
+pub returns-in_err-stream-clause-large : goal.returns-in_err-stream-clause-large
+returns-in_err-stream-clause-large g c = λ honest.
+    err_is (λ (e : MergeFault). IsSizeFault e → IsOverLimit c.args.job.now.table (all_entries (job_of c.args.job.now).inputs)) c.from_residual.result c.in_err-stream.field-0.0 c.from_residual.ensures.1
+    (λ size. absurd (no_size_reading c.in_err-stream.field-0.0 c.in_err-stream.ensures.kind size))
 
-pub returns-in_err-merger-clause-order : goal.returns-in_err-merger-clause-order
-returns-in_err-merger-clause-order g c = λ honest stand.
-    err_is (λ (e : MergeFault). IsOrderFault e → HasTwins (all_entries (job_of c.args.job.now).inputs)) c.from_residual.result c.in_err-merger.field-0.0 c.from_residual.ensures.1
-    (λ late. absurd (order_reading c.in_err-merger.field-0.0 c.in_err-merger.ensures.kind late))
+pub returns-in_err-stream-clause-order : goal.returns-in_err-stream-clause-order
+returns-in_err-stream-clause-order g c = λ honest stand.
+    err_is (λ (e : MergeFault). IsOrderFault e → HasTwins (all_entries (job_of c.args.job.now).inputs)) c.from_residual.result c.in_err-stream.field-0.0 c.from_residual.ensures.1
+    (λ late. absurd (order_reading c.in_err-stream.field-0.0 c.in_err-stream.ensures.kind late))
 
 pub returns-then-is_at_end-clause-asked : goal.returns-then-is_at_end-clause-asked
 returns-then-is_at_end-clause-asked g c = c.entries.invariant.0.asks
@@ -108,11 +108,11 @@ returns-then-is_at_end-clause-large g c = λ honest.
     if_err (λ (e : MergeFault). IsSizeFault e → IsOverLimit c.entries.outputs.options (entries_of_last c.entries.outputs.last))
     (λ (e : MergeFault). IsSizeFault e → IsOverLimit c.args.job.now.table (all_entries (job_of c.args.job.now).inputs))
     c.put_last.result
-    (λ e h size. under_last g.S.Shelf.honest c.args.job.now (entries_of c.in_ok-merger.merger.placed) (all_entries (job_of c.args.job.now).inputs) c.args.shelf.now c.entries.shelf
+    (λ e h size. under_last g.S.Shelf.honest c.args.job.now (entries_of c.in_ok-stream.stream.left.placed) (all_entries (job_of c.args.job.now).inputs) c.args.shelf.now c.entries.shelf
     (g.D.NumberSource.drew c.args.numbers.now) (g.D.NumberSource.drew c.entries.numbers) (g.D.NumberSource.refused c.args.numbers.now) (g.D.NumberSource.refused c.entries.numbers)
     (g.D.NumberSource.asked c.args.numbers.now) (g.D.NumberSource.asked c.entries.numbers)
-    c.entries.outputs c.entries.before c.entries.merger c.entries.invariant.0 honest
-    (c.in_ok-merger.ensures.from honest) (h size))
+    c.entries.outputs c.entries.stream.before c.entries.stream.left c.entries.invariant.0 honest
+    (c.in_ok-stream.ensures.from honest) (h size))
     c.put_last.ensures.large
 
 pub returns-then-is_at_end-clause-order : goal.returns-then-is_at_end-clause-order
@@ -134,28 +134,28 @@ returns-in_err-step-clause-ticket g c =
 pub returns-in_err-step-clause-large : goal.returns-in_err-step-clause-large
 returns-in_err-step-clause-large g c = λ honest.
     err_is (λ (e : MergeFault). IsSizeFault e → IsOverLimit c.args.job.now.table (all_entries (job_of c.args.job.now).inputs)) c.from_residual-in_err-step.result c.in_err-step.field-0.0 c.from_residual-in_err-step.ensures.1
-    (λ size. under_limit g.S.Shelf.honest c.args.job.now (entries_of c.in_ok-merger.merger.placed) (all_entries (job_of c.args.job.now).inputs) c.args.shelf.now c.entries.shelf
+    (λ size. under_limit g.S.Shelf.honest c.args.job.now (entries_of c.in_ok-stream.stream.left.placed) (all_entries (job_of c.args.job.now).inputs) c.args.shelf.now c.entries.shelf
     (g.D.NumberSource.drew c.args.numbers.now) (g.D.NumberSource.drew c.entries.numbers) (g.D.NumberSource.refused c.args.numbers.now) (g.D.NumberSource.refused c.entries.numbers)
     (g.D.NumberSource.asked c.args.numbers.now) (g.D.NumberSource.asked c.entries.numbers)
-    c.entries.outputs c.entries.before c.entries.merger c.entries.invariant.0
-    (sym c.is_at_end.ensures ∙ c.if-is_at_end.false) (c.in_err-step.ensures.large size) honest (c.in_ok-merger.ensures.from honest))
+    c.entries.outputs c.entries.stream.before c.entries.stream.left c.entries.invariant.0
+    (sym c.is_at_end.ensures ∙ c.if-is_at_end.false) (c.in_err-step.ensures.large size) honest (c.in_ok-stream.ensures.from honest))
 
 pub returns-in_err-step-clause-order : goal.returns-in_err-step-clause-order
 returns-in_err-step-clause-order g c = λ honest stand.
     err_is (λ (e : MergeFault). IsOrderFault e → HasTwins (all_entries (job_of c.args.job.now).inputs)) c.from_residual-in_err-step.result c.in_err-step.field-0.0 c.from_residual-in_err-step.ensures.1
-    (λ late. c.in_ok-merger.ensures.order honest stand
-    (under_order g.S.Shelf.honest c.args.job.now (entries_of c.in_ok-merger.merger.placed) c.args.shelf.now c.entries.shelf
+    (λ late. c.in_ok-stream.ensures.order honest stand
+    (under_order g.S.Shelf.honest c.args.job.now (entries_of c.in_ok-stream.stream.left.placed) c.args.shelf.now c.entries.shelf
     (g.D.NumberSource.drew c.args.numbers.now) (g.D.NumberSource.drew c.entries.numbers) (g.D.NumberSource.refused c.args.numbers.now) (g.D.NumberSource.refused c.entries.numbers)
     (g.D.NumberSource.asked c.args.numbers.now) (g.D.NumberSource.asked c.entries.numbers)
-    c.entries.outputs c.entries.before c.entries.merger c.entries.invariant.0
+    c.entries.outputs c.entries.stream.before c.entries.stream.left c.entries.invariant.0
     (sym c.is_at_end.ensures ∙ c.if-is_at_end.false) (c.in_err-step.ensures.order late) honest))
 
 pub returns-then-is_at_end-clause-apart : goal.returns-then-is_at_end-clause-apart
 returns-then-is_at_end-clause-apart g c = λ honest stand.
     on_ok c.put_last.result
-    (λ goes. c.in_ok-merger.ensures.apart honest stand
-    (under_ascends g.S.Shelf.honest c.args.job.now (entries_of c.in_ok-merger.merger.placed) c.args.shelf.now c.entries.shelf
+    (λ goes. c.in_ok-stream.ensures.apart honest stand
+    (under_ascends g.S.Shelf.honest c.args.job.now (entries_of c.in_ok-stream.stream.left.placed) c.args.shelf.now c.entries.shelf
     (g.D.NumberSource.drew c.args.numbers.now) (g.D.NumberSource.drew c.entries.numbers) (g.D.NumberSource.refused c.args.numbers.now) (g.D.NumberSource.refused c.entries.numbers)
     (g.D.NumberSource.asked c.args.numbers.now) (g.D.NumberSource.asked c.entries.numbers)
-    c.entries.outputs c.entries.before c.entries.merger c.entries.invariant.0 (sym c.is_at_end.ensures ∙ c.if-is_at_end.true) honest))
+    c.entries.outputs c.entries.stream.before c.entries.stream.left c.entries.invariant.0 (sym c.is_at_end.ensures ∙ c.if-is_at_end.true) honest))
     c.put_last.ensures.ok

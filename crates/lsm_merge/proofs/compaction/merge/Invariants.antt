@@ -4,8 +4,8 @@ use Rattle.lsm_merge.proofs.compaction.merge.Given as goal
 
 abbrev pub invariant-entries : goal.invariant-entries
 invariant-entries g l =
-    IsUnderWay g.S.Shelf.honest l.job (entries_of l.initial.merger.placed) l.fn.shelf l.shelf
+    IsUnderWay g.S.Shelf.honest l.job (entries_of l.initial.stream.left.placed) l.fn.shelf l.shelf
     (g.D.NumberSource.drew l.fn.numbers) (g.D.NumberSource.drew l.numbers) (g.D.NumberSource.refused l.fn.numbers) (g.D.NumberSource.refused l.numbers)
     (g.D.NumberSource.asked l.fn.numbers) (g.D.NumberSource.asked l.numbers)
-    l.outputs l.before l.merger
+    l.outputs l.stream.before l.stream.left
     × g.D.NumberSource.ready l.numbers

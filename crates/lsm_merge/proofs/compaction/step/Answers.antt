@@ -21,65 +21,66 @@ use Rattle.lsm_merge.proofs.compaction.step.Goals as goal
 pub take-requires-clause-ascends : goal.take-requires-clause-ascends
 take-requires-clause-ascends g c = λ lts lives.
     let e : Entry = entry_of (key_of c.in-Some.key) c.value.result.now in
-    let f : Follows c.args.before.now e = follows_says c.args.before.now e (sym c.is_followed_by.ensures ∙ c.if-not-is_followed_by.false) in
-    ascends_after _ c.args.before.now e c.tell_order.ensures c.requires.up f
+    let f : Follows c.args.stream.now.before e = follows_says c.args.stream.now.before e (sym (c.is_followed_by.ensures c.in-Some.ensures) ∙ c.if-not-is_followed_by.false) in
+    ascends_after _ c.args.stream.now.before e c.tell_order.ensures c.requires.up f
 
 pub returns-clause-leaves : goal.returns-clause-leaves
 returns-clause-leaves g c =
     if_err IsOfReading (λ (e : MergeFault). (there : List ℕ) → g.D.NumberSource.drew c.args.numbers.now ≡ drawn_of c.args.outputs.now there → Leaves e c.take.new.self.put (g.D.NumberSource.drew c.take.new.numbers) there)
-    c.advance.result (λ e k there d. leaves_reading e c.take.new.self (g.D.NumberSource.drew c.take.new.numbers) there k (c.in_ok-take.ensures.drawn there d)) c.advance.ensures.kind
+    c.pass.result (λ e k there d. leaves_reading e c.take.new.self (g.D.NumberSource.drew c.take.new.numbers) there k (c.in_ok-take.ensures.drawn there d)) c.pass.ensures.kind
 
 pub returns-clause-why : goal.returns-clause-why
 returns-clause-why g c =
     if_err IsOfReading (λ (e : MergeFault). AnswersOf e (g.D.NumberSource.refused c.args.numbers.now) (g.D.NumberSource.refused c.take.new.numbers))
-    c.advance.result (λ e k. why_reading e (g.D.NumberSource.refused c.args.numbers.now) (g.D.NumberSource.refused c.take.new.numbers) k c.in_ok-take.ensures.answered) c.advance.ensures.kind
+    c.pass.result (λ e k. why_reading e (g.D.NumberSource.refused c.args.numbers.now) (g.D.NumberSource.refused c.take.new.numbers) k c.in_ok-take.ensures.answered) c.pass.ensures.kind
 
 pub returns-clause-cause : goal.returns-clause-cause
 returns-clause-cause g c =
-    if_err (λ (e : MergeFault). (inputs : List ℕ) → AreInputs c.args.merger.now.files inputs → HasCause inputs e c.take.new.shelf c.advance.new.shelf)
-    (λ (e : MergeFault). (inputs : List ℕ) → AreInputs c.args.merger.now.files inputs → HasCause inputs e c.args.shelf.now c.advance.new.shelf)
-    c.advance.result
-    (λ e h inputs i. cause_after inputs e c.args.shelf.now c.take.new.shelf c.advance.new.shelf
+    if_err (λ (e : MergeFault). (inputs : List ℕ) → AreInputs c.args.stream.now.left.files inputs → HasCause inputs e c.take.new.shelf c.pass.new.shelf)
+    (λ (e : MergeFault). (inputs : List ℕ) → AreInputs c.args.stream.now.left.files inputs → HasCause inputs e c.args.shelf.now c.pass.new.shelf)
+    c.pass.result
+    (λ e h inputs i. cause_after inputs e c.args.shelf.now c.take.new.shelf c.pass.new.shelf
     (puts_rise c.args.outputs.now.put c.take.new.self.put c.args.shelf.now c.take.new.shelf c.take.ensures.told) (h inputs i))
-    c.advance.ensures.cause
+    c.pass.ensures.cause
 
 pub returns-clause-order : goal.returns-clause-order
 returns-clause-order g c =
-    if_err IsOfReading (λ (e : MergeFault). IsOrderFault e → (p : Placed) (rest : List Placed) → c.args.merger.now.placed ≡ p ∷ rest → Follows c.args.before.now p.1 → ⊥)
-    c.advance.result (λ e k h p rest is f. order_reading e k h) c.advance.ensures.kind
+    if_err IsOfReading (λ (e : MergeFault). IsOrderFault e → (p : Placed) (rest : List Placed) → c.args.stream.now.left.placed ≡ p ∷ rest → Follows c.args.stream.now.before p.1 → ⊥)
+    c.pass.result (λ e k h p rest is f. order_reading e k h) c.pass.ensures.kind
 
 pub returns-clause-ticket : goal.returns-clause-ticket
 returns-clause-ticket g c =
-    if_err IsOfReading (λ (e : MergeFault). NamesTicket e c.args.outputs.now.ticket) c.advance.result (λ e k. names_reading e c.args.outputs.now.ticket k) c.advance.ensures.kind
+    if_err IsOfReading (λ (e : MergeFault). NamesTicket e c.args.outputs.now.ticket) c.pass.result (λ e k. names_reading e c.args.outputs.now.ticket k) c.pass.ensures.kind
 
 pub returns-clause-large : goal.returns-clause-large
 returns-clause-large g c =
-    if_err IsOfReading (λ (e : MergeFault). IsSizeFault e → (p : Placed) (rest : List Placed) → c.args.merger.now.placed ≡ p ∷ rest
+    if_err IsOfReading (λ (e : MergeFault). IsSizeFault e → (p : Placed) (rest : List Placed) → c.args.stream.now.left.placed ≡ p ∷ rest
     → IsOverLimit c.args.outputs.now.options (entries_of_last c.args.outputs.now.last ++ p.1 ∷ []))
-    c.advance.result (λ e k s p rest is. absurd (no_size_reading e k s)) c.advance.ensures.kind
+    c.pass.result (λ e k s p rest is. absurd (no_size_reading e k s)) c.pass.ensures.kind
 
 pub returns-in_err-take-clause-large : goal.returns-in_err-take-clause-large
 returns-in_err-take-clause-large g c =
-    err_is (λ (e : MergeFault). IsSizeFault e → (p : Placed) (rest : List Placed) → c.args.merger.now.placed ≡ p ∷ rest
+    err_is (λ (e : MergeFault). IsSizeFault e → (p : Placed) (rest : List Placed) → c.args.stream.now.left.placed ≡ p ∷ rest
     → IsOverLimit c.args.outputs.now.options (entries_of_last c.args.outputs.now.last ++ p.1 ∷ []))
     c.from_residual.result c.in_err-take.field-0.0 c.from_residual.ensures.1
     (λ size p rest is. subst (λ (e : Entry). IsOverLimit c.args.outputs.now.options (entries_of_last c.args.outputs.now.last ++ e ∷ []))
-    (first_entry c.args.merger.now.placed p rest (key_of c.in-Some.key) c.value.result.now is c.in-Some.ensures.key c.value.ensures)
+    (first_entry c.args.stream.now.left.placed p rest (key_of c.in-Some.key) c.value.result.now is c.in-Some.ensures c.value.ensures)
     (c.in_err-take.ensures.large size))
 
 pub returns-clause-ok : goal.returns-clause-ok
 returns-clause-ok g c = λ p rest is.
     let e : Entry = entry_of (key_of c.in-Some.key) c.value.result.now in
-    let f : Follows c.args.before.now e = follows_says c.args.before.now e (sym c.is_followed_by.ensures ∙ c.if-not-is_followed_by.false) in
-    stepped g.S.Shelf.honest c.args.job.now c.args.merger.now.placed p rest c.args.before.now c.remember.new.self c.args.outputs.now c.take.new.self c.advance.new.merger c.advance.result
-    (key_of c.in-Some.key) c.value.result.now c.is_kept-kept.result c.floor.result c.ranges-2.result.now is c.in-Some.ensures.key c.value.ensures f c.is_kept-kept.ensures c.floor.ensures c.ranges-2.ensures
-    c.in_ok-take.ensures.ok c.in_ok-remember.ensures c.advance.ensures.ok
+    let f : Follows c.args.stream.now.before e = follows_says c.args.stream.now.before e (sym (c.is_followed_by.ensures c.in-Some.ensures) ∙ c.if-not-is_followed_by.false) in
+    stepped g.S.Shelf.honest c.args.job.now c.args.stream.now.left.placed p rest c.args.stream.now.before c.pass.new.self.before c.args.outputs.now c.take.new.self c.pass.new.self.left c.pass.result
+    (key_of c.in-Some.key) c.value.result.now c.is_kept-kept.result c.floor-floor.result c.ranges-2.result.now is c.in-Some.ensures c.value.ensures f
+    (c.is_kept-kept.ensures c.args.stream.now.before (c.shadows-shadowed.ensures c.in-Some.ensures)) c.floor-floor.ensures c.ranges-2.ensures
+    c.in_ok-take.ensures.ok (c.pass.ensures.before (key_of c.in-Some.key) c.in-Some.ensures) c.pass.ensures.ok
 
 pub returns-clause-told : goal.returns-clause-told
 returns-clause-told g c =
-    puts_after c.args.outputs.now.put c.take.new.self.put c.args.shelf.now c.take.new.shelf c.advance.new.shelf c.take.ensures.told c.advance.ensures.told
+    puts_after c.args.outputs.now.put c.take.new.self.put c.args.shelf.now c.take.new.shelf c.pass.new.shelf c.take.ensures.told c.pass.ensures.told
 
 pub returns-clause-tables : goal.returns-clause-tables
 returns-clause-tables g c =
-    ok_if c.advance.result
-    (tables_after c.args.outputs.now.tables c.take.new.self.tables c.args.shelf.now c.take.new.shelf c.advance.new.shelf c.in_ok-take.ensures.tables c.advance.ensures.told)
+    ok_if c.pass.result
+    (tables_after c.args.outputs.now.tables c.take.new.self.tables c.args.shelf.now c.take.new.shelf c.pass.new.shelf c.in_ok-take.ensures.tables c.pass.ensures.told)

@@ -5,6 +5,7 @@ pub returns : goal.returns
 unfolding scan
 returns c =
     c.also.ensures _ _
+    (c.also-scan-9.ensures _ _
     (c.also-scan-8.ensures _ _
     (c.also-scan-7.ensures _ _
     (c.also-scan-6.ensures _ _
@@ -19,5 +20,6 @@ returns c =
     c.limit.ensures.rule c.limit.ensures.local)
     c.text.ensures.rule c.text.ensures.local)
     c.flag-keys.ensures.rule c.flag-keys.ensures.local)
+    c.flag-json.ensures.rule c.flag-json.ensures.local)
     c.flag-count.ensures.rule c.flag-count.ensures.local)
     c.progress.ensures.rule c.progress.ensures.local

@@ -1,0 +1,44 @@
+"""What plyvel's own tests ask for that `tiswenor` has not: each of these must fail, and no other."""
+
+import pytest
+
+BACKWARD = "iterates backward"
+OPTIONS = "sets a cache, blocks, compression or filters"
+ABSENT = {
+    "test_version": "LevelDB's version",
+    "test_open_no_compression": OPTIONS,
+    "test_open_many_options": OPTIONS,
+    "test_invalid_open": OPTIONS,
+    "test_open_close": OPTIONS,
+    "test_large_lru_cache": OPTIONS,
+    "test_forward_iteration": BACKWARD,
+    "test_reverse_iteration": BACKWARD,
+    "test_range_iteration": BACKWARD,
+    "test_reverse_range_iteration": BACKWARD,
+    "test_out_of_range_iterations": BACKWARD,
+    "test_range_empty_database": BACKWARD,
+    "test_iterator_single_entry": BACKWARD,
+    "test_iterator_seeking": BACKWARD,
+    "test_threading": BACKWARD,
+    "test_property": "leveldb.sstables",
+    "test_compaction": "compacts a range",
+    "test_approximate_sizes": "approximate_size",
+    "test_repair_db": "repair_db",
+    "test_destroy_db": "destroy_db",
+    "test_invalid_comparator": "comparators",
+    "test_comparator": "comparators",
+    "test_prefixed_db": BACKWARD,
+    "test_raw_iterator": "raw_iterator",
+    "test_raw_iterator_empty_db": "raw_iterator",
+    "test_raw_iterator_snapshot": "raw_iterator",
+    "test_raw_iterator_closing": "raw_iterator",
+}
+
+
+def pytest_collection_modifyitems(items):
+    for item in items:
+        reason = ABSENT.get(item.name)
+        if item.name == "test_threading":  # it writes for long before its threads iterate
+            item.add_marker(pytest.mark.skip(reason=reason))
+        elif reason:
+            item.add_marker(pytest.mark.xfail(reason=reason, strict=True))

@@ -1,0 +1,5 @@
+mod LoopLaws
+mod SpanLaws
+mod DueLaws
+mod DrawingLaws
+mod ShowLaws
