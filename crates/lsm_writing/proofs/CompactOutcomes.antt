@@ -11,11 +11,12 @@ use Rattle.lsm_levels.specs.Files.{all_entries}
 use Rattle.lsm_version.specs.Versions.{files}
 use Rattle.lsm_slots.specs.Slots.{Looked, Slotted}
 use Rattle.lsm_state.specs.Held.{Held}
+use Rattle.lsm_state.specs.declared.state_fault.StateFault.{StateFault}
 use Rattle.lsm_store.specs.Compacting.{IsLeftByWorkers}
 use Rattle.lsm_store.specs.declared.worker_end.WorkerEnd.{WorkerEnd}
 use Rattle.lsm_writing.specs.Starting.{IsReopened}
-use Rattle.lsm_writing.specs.declared.faults.writer_fault.WriterFault.TheVariants.{Write as WriteFault}
-use Rattle.lsm_writing.specs.Compacting.{AreEnds, Compacts, IsCompactFault, IsFaultless, IsOfManning, IsOpened, IsNotCompacted, IsSwept, IsWorkersFault, LeavesAll, StopsSweeping}
+use Rattle.lsm_writing.specs.declared.faults.writer_fault.WriterFault.TheVariants.{Write as WriteFault, State}
+use Rattle.lsm_writing.specs.Compacting.{AreEnds, Compacts, IsCompactFault, IsFaultless, IsOfManning, IsOpened, IsNotCompacted, IsSwept, IsWorkersFault, LeavesAll, Refuses}
 use Rattle.lsm_writing.specs.declared.faults.compact_fault.CompactFault.{CompactFault}
 use Rattle.lsm_writing.specs.declared.faults.compact_fault.CompactFault.TheVariants.{Writer}
 
@@ -49,22 +50,26 @@ unfinished Stored Refused Honest board found workers e was is opened stops = eli
   | inr fault ↦ inr (inr (inl (fault, (board, (found, opened)))))
 ]
 
--- nothing, or not all, was removed
-pub unswept : (Stored : ℕ → List ℕ → Type 0) (Refused : Asked → ShelfFault → Type 0) (Honest : Type 0) (board : TableId) (found left : Held) (workers : ℕ) (ends : List WorkerEnd) (e : CompactFault) (was mid is : Told)
-    → IsOpened Honest board found was mid → AreEnds Honest workers ends → All IsFaultless ends → IsLeftByWorkers Honest found left → StopsSweeping Refused Honest board left e mid is
-    → IsCompactFault Stored Refused Honest workers e was is
-unswept Stored Refused Honest board found left workers ends e was mid is opened each faultless by stops = inr (inr (inr (inl record {
-  board = board;
-  found = found;
-  left = left;
-  mid = mid;
-  opened = opened;
-  ends = ends;
-  ends_are = each;
-  faultless = faultless;
-  leaves = leaves Honest found left by;
-  stops = stops;
-})))
+-- the collect was refused
+pub unswept : (Stored : ℕ → List ℕ → Type 0) (Refused : Asked → ShelfFault → Type 0) (Honest : Type 0) (board : TableId) (found left : Held) (workers : ℕ) (ends : List WorkerEnd) (fault : StateFault) (was mid is : Told)
+    → IsOpened Honest board found was mid → AreEnds Honest workers ends → All IsFaultless ends → IsLeftByWorkers Honest found left → Refuses Refused Honest board left fault mid is
+    → IsCompactFault Stored Refused Honest workers (Writer (State fault)) was is
+unswept Stored Refused Honest board found left workers ends fault was mid is opened each faultless by refuses = inr (inr (inr (inl (
+  fault,
+  refl,
+  record {
+    board = board;
+    found = found;
+    left = left;
+    mid = mid;
+    opened = opened;
+    ends = ends;
+    ends_are = each;
+    faultless = faultless;
+    leaves = leaves Honest found left by;
+    refuses = refuses;
+  },
+))))
 
 -- all was done
 pub compacts : (Honest : Type 0) (board : TableId) (found left : Held) (workers : ℕ) (ends : List WorkerEnd) (was mid is : Told)

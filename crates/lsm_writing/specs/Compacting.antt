@@ -6,9 +6,9 @@ use Rattle.lsm_codec.specs.Entries.{answer}
 use Rattle.lsm_codec.specs.Keys.{UserKey}
 use Rattle.lsm_folder.specs.Calls.{Call}
 use Rattle.lsm_folder.specs.declared.lock_kind.LockKind.TheVariants.{Exclusive}
-use Rattle.lsm_shelf.specs.Asked.{Asked, ReadManifest}
+use Rattle.lsm_shelf.specs.Asked.{Asked}
 use Rattle.lsm_shelf.specs.declared.shelf_fault.ShelfFault.{ShelfFault}
-use Rattle.lsm_shelf.specs.Told.{Told, Becomes, Counted, Forked, NotNamed, NotTaken, finding}
+use Rattle.lsm_shelf.specs.Told.{Told, Forked, NotNamed}
 use Rattle.lsm_levels.specs.Files.{all_entries}
 use Rattle.lsm_version.specs.Versions.{files}
 use Rattle.lsm_state.specs.Asked.{CollectRefused, OnShelf}
@@ -27,7 +27,7 @@ use Rattle.lsm_writing.specs.Starting.{IsReopened, usual}
 use Rattle.lsm_writing.specs.WriterFault.{of_open, of_shelf}
 use Rattle.lsm_writing.specs.declared.faults.writer_fault.WriterFault.TheVariants.{OutOfMemory, Write as WriteFault, Directory, State}
 use Rattle.lsm_writing.specs.declared.faults.compact_fault.CompactFault.{CompactFault}
-use Rattle.lsm_writing.specs.declared.faults.compact_fault.CompactFault.TheVariants.{Writer, Worker, OtherManifest}
+use Rattle.lsm_writing.specs.declared.faults.compact_fault.CompactFault.TheVariants.{Writer, Worker}
 
 -- `installed M`
 abbrev pub installed_text : ℕ → List ℕ
@@ -77,22 +77,14 @@ pub record IsOpened (Honest : Type 0) (board : TableId) (found : Held) (was is :
   pub on : found.slots.board.board ≡ board
   pub forked : Forked mid is
 
--- The manifest was read, and is the one that this state holds: so what it comes to is this state's version.
-pub record IsNamed (left : Held) (was is : Told) : Type 0 where
-  pub told : Becomes (finding left.journal.number left.journal.bytes was) is
-  pub counts : SameCounts was is
-
--- The manifest that was read is the one that this state holds, and then the tables that are listed and that it does not keep were removed. It
--- is a lawful one, which has this board, and may write.
+-- The tables that are listed and that this state does not keep were removed. It is a lawful one, which has this board, and may write.
 pub record IsSwept (Honest : Type 0) (board : TableId) (left : Held) (was is : Told) : Type 0 where
   pub lawful : IsLawfulState Honest board left
   pub on : left.slots.board.board ≡ board
   pub running : left.halted ≡ false
-  pub read : Told
-  pub named : IsNamed left was read
   pub removed : List ℕ
-  pub collected : AreCollected left removed read is
-  pub counts : SameCounts read is
+  pub collected : AreCollected left removed was is
+  pub counts : SameCounts was is
 
 -- The directory was opened, no worker ended with a fault, and what nothing names was removed, by a state with the board of the one opened,
 -- of which all is left.
@@ -148,33 +140,19 @@ IsWorkersFault Honest workers e = (fault : WorkerFault) × (e ≡ Worker fault)
 abbrev pub IsUnfinished : Type 0 → ℕ → CompactFault → Told → Told → Type 0
 IsUnfinished Honest workers e was is = IsWorkersFault Honest workers e × ((board : TableId) × ((found : Held) × IsOpened Honest board found was is))
 
--- The shelf refused to read the manifest, other than for want of memory with a count that rose; or it read another one than this state
--- holds. Nothing was removed.
-abbrev pub IsUnnamed : (Asked → ShelfFault → Type 0) → Held → CompactFault → Told → Told → Type 0
-IsUnnamed Refused left e was is =
-    ((fault : ShelfFault) × (e ≡ Writer (of_shelf fault)) × NotTaken fault × Counted fault was is × Refused ReadManifest fault × Becomes was is)
-    ⊎ ((number : ℕ) × (bytes : List ℕ) × (e ≡ OtherManifest) × ((number ≡ left.journal.number) × (bytes ≡ left.journal.bytes) → ⊥) × Becomes (finding number bytes was) is)
-
--- This lawful state with this board, which holds the manifest that was read, refused to collect; its refusal says what was removed until
--- then. Where it was the shelf, other than for want of memory, it refused to list its tables, or to remove one that is not kept.
+-- This lawful state with this board refused to collect; its refusal says what was removed until then. Where it was the shelf, other than for
+-- want of memory, it refused to list its tables, or to remove one that is not kept.
 pub record Refuses (Refused : Asked → ShelfFault → Type 0) (Honest : Type 0) (board : TableId) (left : Held) (fault : StateFault) (was is : Told) : Type 0 where
   pub before : Held
   pub lawful : IsLawfulState Honest board left
   pub on : left.slots.board.board ≡ board
-  pub read : Told
-  pub named : IsNamed left was read
   pub removed : List ℕ
-  pub refused : IsCollectRefusal before left fault removed read is
-  pub counts : IsCountedOnce fault read is
+  pub refused : IsCollectRefusal before left fault removed was is
+  pub counts : IsCountedOnce fault was is
   pub asked : OnShelf (CollectRefused Refused left) fault
 
--- Why this state does not sweep: it did not find its manifest, or refused to collect.
-abbrev pub StopsSweeping : (Asked → ShelfFault → Type 0) → Type 0 → TableId → Held → CompactFault → Told → Told → Type 0
-StopsSweeping Refused Honest board left e was is =
-    IsUnnamed Refused left e was is ⊎ ((fault : StateFault) × (e ≡ Writer (State fault)) × Refuses Refused Honest board left fault was is)
-
--- No worker ended with a fault, and nothing or not all was removed, by a state with the board of the one opened, of which all is left.
-pub record IsUnswept (Refused : Asked → ShelfFault → Type 0) (Honest : Type 0) (workers : ℕ) (e : CompactFault) (was is : Told) : Type 0 where
+-- No worker ended with a fault, and the collect was refused, by a state with the board of the one opened, of which all is left.
+pub record IsUnswept (Refused : Asked → ShelfFault → Type 0) (Honest : Type 0) (workers : ℕ) (fault : StateFault) (was is : Told) : Type 0 where
   pub board : TableId
   pub found : Held
   pub left : Held
@@ -184,7 +162,7 @@ pub record IsUnswept (Refused : Asked → ShelfFault → Type 0) (Honest : Type 
   pub ends_are : AreEnds Honest workers ends
   pub faultless : All IsFaultless ends
   pub leaves : LeavesAll Honest found left
-  pub stops : StopsSweeping Refused Honest board left e mid is
+  pub refuses : Refuses Refused Honest board left fault mid is
 
 -- All was done, and the reply was not written.
 abbrev pub IsUntold : Type 0 → ℕ → CompactFault → Told → Told → Type 0
@@ -196,7 +174,7 @@ IsCompactFault Stored Refused Honest workers e was is =
     IsOutOfMemory e was is
     ⊎ (NoneBegan Stored Refused Honest e was is
     ⊎ (IsUnfinished Honest workers e was is
-    ⊎ (IsUnswept Refused Honest workers e was is
+    ⊎ (((fault : StateFault) × (e ≡ Writer (State fault)) × IsUnswept Refused Honest workers fault was is)
     ⊎ IsUntold Honest workers e was is)))
 
 -- What a refusal is: what the fault says; and, unless a write failed, nothing was written on standard output.

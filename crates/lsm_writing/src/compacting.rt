@@ -23,8 +23,8 @@ ghost use Rattle.lsm_writing.specs.WriterFault.{of_shelf};
 ghost use Rattle.lsm_writing.specs.Starting.{usual};
 ghost use Rattle.lsm_writing.specs.declared.faults.writer_fault.WriterFault.TheVariants.{Write as WriteFault};
 ghost use Rattle.lsm_writing.specs.Compacting.{AreEnds, IsCompactFault, IsCompacted, IsFaultless};
-ghost use Rattle.lsm_writing.specs.Compacting.{IsOfManning, IsSwept, IsWorkersFault};
-ghost use Rattle.lsm_writing.specs.Compacting.{StopsSweeping, installed_text};
+ghost use Rattle.lsm_writing.specs.Compacting.{IsOfManning, IsSwept, IsWorkersFault, Refuses};
+ghost use Rattle.lsm_writing.specs.Compacting.{installed_text};
 ghost use Rattle.lsm_writing.specs.declared.faults.compact_fault.CompactFault.TheVariants.{Writer as WriterVariant};
 
 use crate::compacting::compaction::Compaction;
@@ -37,7 +37,7 @@ use crate::faults::compact_fault::CompactFault;
 use crate::faults::writer_fault::WriterFault;
 use crate::parts::NewParts;
 use lsm_slots::Boarded;
-use lsm_state::State;
+use lsm_state::{State, StateFault};
 use lsm_store::laws::what_was_found_is_kept;
 use lsm_store::{Invariant, NoGate, Store, WorkerEnd, run_workers};
 use lsm_table::{NamedShelf, Shelf, ShelfFault};
@@ -126,8 +126,7 @@ fn compact_state<N: Boarded, S: Shelf, K: Invariant, R: Threads + Wait + Sync, E
     Ok((store.into_state(), ends))
 }
 
-/// Removes what a state does not keep, once its manifest was found, and says how much where that is
-/// asked for.
+/// Removes what a state does not keep, and says how much where that is asked for.
 #[tactic(auto, using(lsm_directory::proofs::CallerLemmas::keeps_same))]
 fn sweep_all<N: Boarded, S: Shelf, R: Wait, E: Write>(
     rt: &R,
@@ -136,10 +135,10 @@ fn sweep_all<N: Boarded, S: Shelf, R: Wait, E: Write>(
     shelf: &mut NamedShelf<N, S>,
     progress: bool,
     err: &mut E,
-) -> Result<(), CompactFault>
+) -> Result<(), StateFault>
     ensures ok { OnOk result (IsSwept S.honest N.board state.new shelf.old shelf.new) }
     ensures refused { IfErr result (λ e.
-        StopsSweeping (S.refuses N.place) S.honest N.board state.new e shelf.old shelf.new) }
+        Refuses (S.refuses N.place) S.honest N.board state.new e shelf.old shelf.new) }
     ensures looked { Looked state.old.slots state.new.slots }
     ensures rest { state.new ≡ record state.old { slots = state.new.slots } }
     ensures quiet { IsFalse progress → Keeps (E.contents err.old) (E.contents err.new) }
