@@ -29,6 +29,7 @@ CRATES = {
     "lsm_writing": ("program", "ingest, put, compact, clean"),
     "lsm_reading": ("program", "check, list, get, scan"),
     "lsm_layout": ("program", "levels, by the manifest alone"),
+    "lsm_bench": ("program", "bench"),
     "lsm_directory": ("program", "a folder, its lock, faults"),
     "lsm_text": ("program", "words, lines, refusals, help"),
     "lsm_store": ("database", "lock, readers, workers"),
