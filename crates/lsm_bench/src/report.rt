@@ -46,10 +46,10 @@ pub(crate) fn write_line<O: Write>(
     let name = benchmark.word();
     write!(out, "{name:<12} : {whole:>7}.{part:03} micros/op;")?;
     write_rate(out, bytes, nanos)?;
-    if let Some(found) = found {
-        write!(out, " ({found} of {operations} found)")?;
+    match found {
+        Some(found) => writeln!(out, " ({found} of {operations} found)")?,
+        None => out.write_all(b"\n")?,
     }
-    out.write_all(b"\n")?;
     out.flush()
 }
 

@@ -1,7 +1,8 @@
 //! Benchmarks on a new database, beside workers.
 
-ghost use Rattle.std.specs.Prelude.{◌≡◌, IfOk, OnOk, vec_len};
+ghost use Rattle.std.specs.Prelude.{◌≡◌, OnOk, vec_len};
 ghost use Rattle.lsm_bench.specs.Benched.{IsBegunOn};
+ghost use Rattle.lsm_shelf.specs.Told.{Forked};
 ghost use Rattle.lsm_state.specs.Making.{IsNewBoard, IsNewHistory};
 ghost use Rattle.lsm_store.specs.Readers.{SeatsPinners};
 ghost use Rattle.lsm_writing.specs.Starting.{usual};
@@ -14,7 +15,7 @@ use crate::report::write_head;
 use lsm_slots::Boarded;
 use lsm_state::State;
 use lsm_store::{NoGate, Reader, Store, WorkerEnd, with_workers};
-use lsm_table::{NamedShelf, Shelf};
+use lsm_table::{NamedShelf, Shelf, ShelfFault};
 use lsm_text::BenchOptions;
 use lsm_writing::{NewParts, WriterFault};
 use std::alloc::{AllocError, Global};
@@ -32,23 +33,76 @@ struct Crew<N: Boarded, S: Shelf> {
     bench: Bench<N, S>,
 }
 
+/// Forks of a shelf: one for each worker, one for batches, and one for the store's readers.
+#[derive(Drop)]
+struct Forks<N: Boarded, S: Shelf> {
+    workers: Vec<NamedShelf<N, S>>,
+    own: NamedShelf<N, S>,
+    reading: NamedShelf<N, S>,
+}
+
+/// A refusal of the shelf.
+fn of_shelf(fault: ShelfFault) -> BenchFault {
+    BenchFault::Before(WriterFault::of_shelf(fault))
+}
+
+/// A fork of a shelf.
+fn fork_of<N: Boarded, S: Shelf>(
+    alloc: Global,
+    shelf: &mut NamedShelf<N, S>,
+) -> Result<NamedShelf<N, S>, BenchFault>
+    ensures told { Forked shelf.old shelf.new }
+{
+    match shelf.fork(alloc) {
+        Ok(fork) => Ok(fork),
+        Err(fault) => Err(of_shelf(fault)),
+    }
+}
+
 /// So many forks of a shelf.
-fn forks<N: Boarded, S: Shelf>(
+#[tactic(auto, using(lsm_shelf::proofs::CallerLemmas::forked_then, lsm_shelf::proofs::CallerLemmas::forked_none, lsm_shelf::proofs::CallerLemmas::forked_once, lsm_shelf::proofs::CallerLemmas::forked_same))]
+fn some_forks<N: Boarded, S: Shelf>(
     alloc: Global,
     shelf: &mut NamedShelf<N, S>,
     count: usize,
-) -> Result<Vec<NamedShelf<N, S>>, BenchFault> {
+) -> Result<Vec<NamedShelf<N, S>>, BenchFault>
+    ensures told { Forked shelf.old shelf.new }
+{
     let mut forks = Vec::new(alloc);
     for _ in 0..count {
-        let fork = match shelf.fork(alloc) {
-            Ok(fork) => fork,
-            Err(fault) => return Err(BenchFault::Before(WriterFault::of_shelf(fault))),
-        };
+        let fork = fork_of(alloc, shelf)?;
         let Ok(()) = forks.push(fork) else {
             return Err(BenchFault::from(AllocError));
         };
     }
     Ok(forks)
+}
+
+/// The forks for so many workers.
+#[tactic(auto, using(lsm_shelf::proofs::CallerLemmas::forked_then, lsm_shelf::proofs::CallerLemmas::forked_same))]
+fn forks_for<N: Boarded, S: Shelf>(
+    alloc: Global,
+    shelf: &mut NamedShelf<N, S>,
+    count: usize,
+) -> Result<Forks<N, S>, BenchFault>
+    ensures told { Forked shelf.old shelf.new }
+{
+    let own = fork_of(alloc, shelf)?;
+    let reading = fork_of(alloc, shelf)?;
+    let workers = some_forks(alloc, shelf, count)?;
+    Ok(Forks {
+        workers,
+        own,
+        reading,
+    })
+}
+
+/// What draws for the thread of the benchmarks, and what does for one beside it.
+fn draws_for(alloc: Global, size: u64) -> Result<(Draws, Draws), BenchFault> {
+    let size = usize::try_from(size).unwrap_or(0);
+    let draws = Draws::new(alloc, 301, size)?;
+    let more = Draws::new(alloc, 1000, size)?;
+    Ok((draws, more))
 }
 
 /// The last one of the readers.
@@ -60,44 +114,50 @@ fn one_of<N: Boarded, S: Shelf>(readers: Vec<Reader<N, S>>) -> Result<Reader<N, 
     }
 }
 
+/// The store of a state, and one of its readers.
+fn store_of<N: Boarded, S: Shelf>(
+    alloc: Global,
+    state: State<N, S>,
+    reading: NamedShelf<N, S>,
+) -> Result<(Store<N, S>, Reader<N, S>), BenchFault>
+    requires seats { SeatsPinners state }
+{
+    match Store::new(alloc, state, reading) {
+        Ok((store, readers)) => match one_of(readers) {
+            Ok(reader) => Ok((store, reader)),
+            Err(fault) => Err(fault),
+        },
+        Err((_state, _shelf, fault)) => Err(of_shelf(fault)),
+    }
+}
+
 /// The store of a state, and what is needed beside it.
 fn crew_of<N: Boarded, S: Shelf>(
     alloc: Global,
     state: State<N, S>,
-    shelf: &mut NamedShelf<N, S>,
-    options: &BenchOptions,
+    forks: Forks<N, S>,
+    draws: (Draws, Draws),
 ) -> Result<Crew<N, S>, BenchFault>
     requires seats { SeatsPinners state }
 {
-    let size = usize::try_from(options.value_size).unwrap_or(0);
-    let draws = Draws::new(alloc, 301, size)?;
-    let more_draws = Draws::new(alloc, 1000, size)?;
-    let shelves = forks(alloc, shelf, options.workers)?;
-    let of_shelf = |fault| BenchFault::Before(WriterFault::of_shelf(fault));
-    let own = match shelf.fork(alloc) {
-        Ok(own) => own,
-        Err(fault) => return Err(of_shelf(fault)),
-    };
-    let reading = match shelf.fork(alloc) {
-        Ok(reading) => reading,
-        Err(fault) => return Err(of_shelf(fault)),
-    };
-    match Store::new(alloc, state, reading) {
-        Ok((store, readers)) => {
-            let reader = one_of(readers)?;
-            let bench = Bench {
+    let Forks {
+        workers,
+        own,
+        reading,
+    } = forks;
+    let (draws, more_draws) = draws;
+    match store_of(alloc, state, reading) {
+        Ok((store, reader)) => Ok(Crew {
+            store,
+            shelves: workers,
+            bench: Bench {
                 shelf: own,
                 reader,
                 draws,
                 more_draws,
-            };
-            Ok(Crew {
-                store,
-                shelves,
-                bench,
-            })
-        }
-        Err((_state, _shelf, fault)) => Err(of_shelf(fault)),
+            },
+        }),
+        Err(fault) => Err(fault),
     }
 }
 
@@ -139,6 +199,33 @@ fn run_crew<N: Boarded, S: Shelf, R: Threads + Wait + Clock + Sync, O: Write>(
     }
 }
 
+/// Runs the benchmarks on a state, of whose shelf only forks are asked.
+fn run_state<N: Boarded, S: Shelf, R: Threads + Wait + Clock + Sync, O: Write>(
+    rt: &R,
+    alloc: Global,
+    state: State<N, S>,
+    shelf: &mut NamedShelf<N, S>,
+    draws: (Draws, Draws),
+    options: &BenchOptions,
+    out: &mut O,
+) -> Result<(), BenchFault>
+    requires seats { SeatsPinners state }
+    ensures told { Forked shelf.old shelf.new }
+{
+    let forks = match forks_for(alloc, shelf, options.workers) {
+        Ok(forks) => forks,
+        Err(fault) => return Err(fault),
+    };
+    let crew = match crew_of(alloc, state, forks, draws) {
+        Ok(crew) => crew,
+        Err(fault) => return Err(fault),
+    };
+    match write_head(out, options) {
+        Ok(()) => run_crew(rt, alloc, crew, options, out),
+        Err(_) => Err(BenchFault::Write),
+    }
+}
+
 /// Begins a database on the shelf, and runs the benchmarks on it.
 fn run_named<N: Boarded, S: Shelf, R: Threads + Wait + Clock + Sync, O: Write>(
     rt: &R,
@@ -156,12 +243,9 @@ fn run_named<N: Boarded, S: Shelf, R: Threads + Wait + Clock + Sync, O: Write>(
     ensures begun { OnOk result (IsBegunOn number shelf.old shelf.new) }
 {
     let parts = parts.named(alloc)?;
+    let draws = draws_for(alloc, options.value_size)?;
     let state: State<N, S> = begin(rt, alloc, shelf, number, parts)?;
-    let crew = crew_of(alloc, state, shelf, options)?;
-    match write_head(out, options) {
-        Ok(()) => run_crew(rt, alloc, crew, options, out),
-        Err(_) => Err(BenchFault::Write),
-    }
+    run_state(rt, alloc, state, shelf, draws, options, out)
 }
 
 /// The same under the name that was picked for the parts and the shelf, which is given back.
