@@ -121,8 +121,8 @@ put_did : (honest : Type 0) (form : Form) (w : Write) (old : Option (List Write)
 put_did honest form w None said s t (none, inl (batch, r, is, step, says)) =
     (Ingest batch ∷ [], r ∷ [], inr (ap (λ (ws : List Write). Ingest ws ∷ []) is, none), one_step honest (Ingest batch) r s.stage t.stage step)
 put_did honest form w None said s t (none, inr (spent, same)) = ([], [], inl (refl, none), no_step honest s.stage t.stage same)
-put_did honest form w (Some ws) said s t (same, new, is, inl (put, says)) = ([], [], inr (refl, is ∙ ap Some put), no_step honest s.stage t.stage same)
-put_did honest form w (Some ws) said s t (same, new, is, inr (kept, says)) = ([], [], inl (refl, is ∙ ap Some kept), no_step honest s.stage t.stage same)
+put_did honest form w (Some ws) said s t (same, (new, is, inl (put, says))) = ([], [], inr (refl, is ∙ ap Some put), no_step honest s.stage t.stage same)
+put_did honest form w (Some ws) said s t (same, (new, is, inr (kept, says))) = ([], [], inl (refl, is ∙ ap Some kept), no_step honest s.stage t.stage same)
 
 begin_did : (honest : Type 0) (old new : Option (List Write)) (said : List ℕ) (s t : Stage) → t ≡ s → IsBegin old new said → Did honest Begin old new s t
 begin_did honest None new said s t same (is, says) = ([], [], inr (refl, refl, is), no_step honest s t same)
@@ -142,7 +142,7 @@ stood : (honest : Type 0) (a : Ask) (s t : Standing) → t ≡ s → Did honest 
 stood honest a s t same = ([], [], inl (refl, ap (λ (x : Standing). x.begun) same), no_step honest s.stage t.stage (ap (λ (x : Standing). x.stage) same))
 
 did : (honest : Type 0) (form : Form) (a : Ask) (said : List ℕ) (s t : Standing) → Obeys honest form a said s t → Did honest a s.begun t.begun s.stage t.stage
-did honest form (Do c) said s t (same, r, step, says) = (c ∷ [], r ∷ [], inr (refl, same), one_step honest c r s.stage t.stage step)
+did honest form (Do c) said s t (same, (r, step, says)) = (c ∷ [], r ∷ [], inr (refl, same), one_step honest c r s.stage t.stage step)
 did honest form (Put w) said s t h = put_did honest form w s.begun said s t h
 did honest form (Scan b n) said s t (same, scan) = ([], [], inl (refl, same), (s.stage, refl, scan.same))
 did honest form Begin said s t (same, h) = begin_did honest s.begun t.begun said s.stage t.stage same h

@@ -7,6 +7,7 @@ use Rattle.lsm_script.specs.declared.command.Command.TheVariants.{Reserve, Merge
 use Rattle.lsm_script.specs.declared.command_fault.CommandFault.{CommandFault}
 use Rattle.lsm_script.specs.declared.command_fault.CommandFault.TheVariants.{State}
 use Rattle.lsm_script.specs.declared.reply.Reply.{Reply}
+use Rattle.lsm_script.specs.declared.reply.Reply.TheVariants.{Refused}
 use Rattle.lsm_shell.specs.Rounds.{AreRounds, Does, Fails, IsCompacted, IsFinished, IsGivenUp, IsNoRefusal, IsRefusedRound, IsRound, IsUncompacted, IsUnfinished, NoneIsDue, Reserves}
 
 pub installed : (honest : Type 0) (ticket : ℕ) (r : Result (Unit {0}) CommandFault) (s m t : Stage) → Does honest (Merge ticket) s m → OnOk r (Does honest (Install ticket) m t) → OnOk r (IsFinished honest ticket s t)
@@ -19,6 +20,9 @@ uninstalled honest ticket (Ok x) s m t merged not = tt
 uninstalled honest ticket (Err e) s m t merged not = inr (m, merged, not)
 
 -- by the reply to the reservation
+pub reserve_refused : (honest : Type 0) (reply : Reply) (e : CommandFault) (s t : Stage) → reply ≡ Refused e → IsStep honest Reserve reply s t → IsRefusedRound honest e s t
+reserve_refused honest reply e s t is step = inl (subst (λ (r : Reply). IsStep honest Reserve r s t) is step)
+
 pub round_done : (honest : Type 0) (reply reserved : Reply) (ticket : ℕ) (s m t : Stage) → reserved ≡ reply → IsStep honest Reserve reply s m → Reserves reserved ticket → IsFinished honest ticket m t
     → IsRound honest s t
 round_done honest reply reserved ticket s m t same step named done = (ticket, m, (reply, step, subst (λ (r : Reply). Reserves r ticket) same named), done)

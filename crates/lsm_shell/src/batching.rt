@@ -27,11 +27,13 @@ pub(crate) fn begin<O: Write>(
     ensures { (said : List ℕ) × IsBegin begun.old begun.new said
         × OnOk result (Appends (O.contents out.old) (O.contents out.new) said) }
 {
-    if begun.is_some() {
-        return say(out, b"bad line: a batch is begun already\n");
+    match begun {
+        Some(_) => say(out, b"bad line: a batch is begun already\n"),
+        None => {
+            *begun = Some(WriteBuffer::new(alloc));
+            say(out, b"begun\n")
+        }
     }
-    *begun = Some(WriteBuffer::new(alloc));
-    say(out, b"begun\n")
 }
 
 /// `abort`: lets the batch go that is begun.
@@ -39,8 +41,11 @@ pub(crate) fn abort<O: Write>(begun: &mut Option<WriteBuffer>, out: &mut O) -> R
     ensures { (said : List ℕ) × IsAbort begun.old begun.new said
         × OnOk result (Appends (O.contents out.old) (O.contents out.new) said) }
 {
-    match begun.take() {
-        Some(_) => say(out, b"aborted\n"),
+    match begun {
+        Some(_) => {
+            *begun = None;
+            say(out, b"aborted\n")
+        }
         None => say(out, b"bad line: no batch is begun\n"),
     }
 }

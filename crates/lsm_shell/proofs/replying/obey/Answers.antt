@@ -2,7 +2,7 @@ use Rattle.std.proofs.Common.{inl, inr, refl}
 use Rattle.lsm_shell.proofs.replying.obey.Goals as goal
 
 pub returns-in-Do : goal.returns-in-Do
-returns-in-Do g c = let r = c.answer.ensures in (r.0, rw c.in-Do.is (refl, r.1, r.2, r.3), r.4)
+returns-in-Do g c = let r = c.answer.ensures in (r.0, rw c.in-Do.is (refl, (r.1, r.2, r.3)), r.4)
 
 pub returns-in-Put : goal.returns-in-Put
 returns-in-Put g c = let r = c.put.ensures in (r.0, rw c.in-Put.is r.1, r.2)

@@ -1,10 +1,14 @@
-use Rattle.std.proofs.Common.{List, ℕ, refl, subst, sym}
+use Rattle.std.proofs.Common.{List, ℕ, inl, refl, subst, sym}
+use Rattle.std.proofs.KnownBytes.{Keeps-refl}
 use Rattle.lsm_lines.specs.Reading.{TakesLine}
 use Rattle.lsm_script.specs.Steps.{stage}
 use Rattle.lsm_shell.specs.Batching.{standing}
 use Rattle.lsm_shell.specs.Talk.{Long, Spent}
 use Rattle.lsm_shell.proofs.TalkLaws.{turn_said}
 use Rattle.lsm_shell.proofs.talking.take_turn.Goals as goal
+
+pub returns-in-Ok-End : goal.returns-in-Ok-End
+returns-in-Ok-End g c = let next = rw (c.in-Ok-End.is, c.in-Ok-End.field-0-is) at c.next.ensures in record { turn = (inl next.0, refl, Keeps-refl _) }
 
 pub returns-in-Ok-Line-2 : goal.returns-in-Ok-Line-2
 returns-in-Ok-Line-2 g c =
