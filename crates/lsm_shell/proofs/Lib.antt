@@ -1,10 +1,11 @@
-mod AheadLaws
-mod LineLaws
 mod WordTexts
 mod AskLaws
 mod ScanWords
 mod PairLaws
 mod ScanTalk
+mod Sums
+mod RoundLaws
+mod BatchLaws
 mod TalkLaws
 mod HistoryLaws
 mod RunLaws

@@ -18,7 +18,8 @@ use Rattle.lsm_script.specs.Steps.{Driven, stage}
 use Rattle.lsm_script.specs.declared.command_fault.CommandFault.TheVariants.{State}
 use Rattle.lsm_script.specs.declared.reply.Reply.TheVariants.{Refused}
 use Rattle.lsm_shell.specs.Pairs.{IsScanFault, IsWrite, PrintsVersion, pairs_text, shown}
-use Rattle.lsm_shell.specs.Talk.{IsScanned, ShowsAll, ShowsSome, StopsScan, no_memory}
+use Rattle.lsm_shell.specs.Batching.{no_memory}
+use Rattle.lsm_shell.specs.Talk.{IsScanned, ShowsAll, ShowsSome, StopsScan}
 use Rattle.lsm_shell.specs.declared.pairs.ScanFault.{ScanFault}
 use Rattle.lsm_shell.specs.declared.pairs.ScanFault.TheVariants.{Read, NoMemory, Write}
 

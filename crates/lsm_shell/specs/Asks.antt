@@ -1,5 +1,5 @@
 -- The lines of a conversation: those of a script, and some more (this project's rule). Words for bytes are of one form.
-use Rattle.std.specs.Prelude.{◌≡◌, ◌≢◌, ◌⊎◌, ℕ, ◌-◌, ◌^◌, List, [], ◌∷◌, ◌++◌, ◌≤◌, length, get_or, codes, Option, None, Some}
+use Rattle.std.specs.Prelude.{◌≡◌, ◌≢◌, ◌⊎◌, ℕ, ◌-◌, ◌^◌, ⊤, List, [], ◌∷◌, ◌++◌, ◌≤◌, length, get_or, codes, Option, None, Some}
 use Rattle.lsm_batch.specs.declared.write.Write.{Write}
 use Rattle.lsm_text.specs.Numbers.{IsNumberWord}
 use Rattle.lsm_text.specs.Spelling.{IsWord}
@@ -8,9 +8,8 @@ use Rattle.lsm_text.specs.declared.key_bounds.KeyBounds.{KeyBounds}
 use Rattle.lsm_script.specs.CommandLine.{IsCommandLine}
 use Rattle.lsm_script.specs.Words.{words_of}
 use Rattle.lsm_script.specs.declared.command.Command.{Command}
-use Rattle.lsm_script.specs.declared.command.Command.TheVariants.{Ingest}
 use Rattle.lsm_shell.specs.declared.ask.Ask.{Ask}
-use Rattle.lsm_shell.specs.declared.ask.Ask.TheVariants.{Do, Scan, Help}
+use Rattle.lsm_shell.specs.declared.ask.Ask.TheVariants.{Do, Put, Scan, Begin, Commit, Abort, Compact, Stats, Help}
 
 -- ---- one write
 
@@ -31,9 +30,9 @@ pub record IsDelete (form : Form) (words : List (List ℕ)) (w : Write) : Type 0
   pub key : IsWord form key_word w.key
   pub none : w.value ≡ None
 
--- a batch of that alone
-abbrev pub IsOneWrite : Form → List (List ℕ) → Command → Type 0
-IsOneWrite form words c = (w : Write) × (c ≡ Ingest (w ∷ [])) × (IsPut form words w ⊎ IsDelete form words w)
+-- either
+abbrev pub IsOneWrite : Form → List (List ℕ) → Write → Type 0
+IsOneWrite form words w = IsPut form words w ⊎ IsDelete form words w
 
 -- ---- scans
 
@@ -70,12 +69,25 @@ IsScanWords form words bounds limit = (rest : List (List ℕ)) × (words ≡ cod
 
 -- The line asks for this. `quit` asks for nothing.
 abbrev pub IsAsk : Form → List ℕ → Ask → Type 0
-IsAsk form line (Do c) = IsCommandLine form line c ⊎ IsOneWrite form (words_of line) c
+IsAsk form line (Do c) = IsCommandLine form line c
+IsAsk form line (Put w) = IsOneWrite form (words_of line) w
 IsAsk form line (Scan bounds limit) = IsScanWords form (words_of line) bounds limit
+IsAsk form line Begin = line ≡ codes "begin"
+IsAsk form line Commit = line ≡ codes "commit"
+IsAsk form line Abort = line ≡ codes "abort"
+IsAsk form line Compact = line ≡ codes "compact"
+IsAsk form line Stats = line ≡ codes "stats"
 IsAsk form line Help = line ≡ codes "help"
 
--- what a line asks for that is none of a script: one write, or a scan
+-- what one word asks for that is none of a script
+abbrev pub IsBare : Ask → Type 0
+IsBare (Do c) = ⊥
+IsBare (Put w) = ⊥
+IsBare (Scan bounds limit) = ⊥
+IsBare ask = ⊤
+
+-- what several words ask for that are none of a script: one write, or a scan
 abbrev pub IsOther : Form → List ℕ → Ask → Type 0
-IsOther form line (Do c) = IsOneWrite form (words_of line) c
+IsOther form line (Put w) = IsOneWrite form (words_of line) w
 IsOther form line (Scan bounds limit) = IsScanWords form (words_of line) bounds limit
-IsOther form line Help = ⊥
+IsOther form line ask = ⊥

@@ -1,8 +1,10 @@
 -- What clauses cite
-pub mod Reading
-pub mod Pieces
 pub mod Asks
 pub mod Pairs
+pub mod Batching
+pub mod Rounds
+pub mod Statistics
 pub mod Talk
+pub mod Asked
 pub mod Conversing
 pub mod Talked

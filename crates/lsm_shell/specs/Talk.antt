@@ -8,7 +8,8 @@ use Rattle.lsm_shelf.specs.Told.{Told, Becomes}
 use Rattle.lsm_table.specs.ReadFault.{IsMemoryOrShelf, ReadCounted}
 use Rattle.lsm_table.specs.declared.read_fault.ReadFault.{ReadFault}
 use Rattle.lsm_version.specs.Versions.{Levels, files}
-use Rattle.lsm_state.specs.Held.{Held}
+use Rattle.lsm_batch.specs.declared.write.Write.{Write}
+use Rattle.lsm_lines.specs.Reading.{Lined, TakesLine, most_of_line}
 use Rattle.lsm_state.specs.declared.state_fault.StateFault.TheVariants.{Read as ReadRefused}
 use Rattle.lsm_text.specs.EntryList.{lines_of}
 use Rattle.lsm_text.specs.declared.form.Form.{Form}
@@ -16,27 +17,23 @@ use Rattle.lsm_text.specs.declared.key_bounds.KeyBounds.{KeyBounds}
 use Rattle.lsm_script.specs.ReplyText.{reply_text}
 use Rattle.lsm_script.specs.Steps.{IsStep, Stage}
 use Rattle.lsm_script.specs.declared.command.Command.{Command}
+use Rattle.lsm_script.specs.declared.command_fault.CommandFault.{CommandFault}
 use Rattle.lsm_script.specs.declared.command_fault.CommandFault.TheVariants.{State}
 use Rattle.lsm_script.specs.declared.reply.Reply.{Reply}
 use Rattle.lsm_script.specs.declared.reply.Reply.TheVariants.{Refused}
+use Rattle.lsm_writing.specs.Compacting.{installed_text}
 use Rattle.lsm_shell.specs.Asks.{IsAsk}
+use Rattle.lsm_shell.specs.Batching.{IsAbort, IsBegin, IsCommitReply, IsPutReply, Says, Standing, no_memory, standing}
 use Rattle.lsm_shell.specs.Pairs.{pairs_text, shown}
-use Rattle.lsm_shell.specs.Reading.{Lined, TakesLine, most_of_line}
+use Rattle.lsm_shell.specs.Rounds.{IsCompacted, IsUncompacted}
+use Rattle.lsm_shell.specs.Statistics.{statistics_text}
 use Rattle.lsm_shell.specs.declared.ask.Ask.{Ask}
-use Rattle.lsm_shell.specs.declared.ask.Ask.TheVariants.{Do, Scan, Help}
+use Rattle.lsm_shell.specs.declared.ask.Ask.TheVariants.{Do, Put, Scan, Begin, Commit, Abort, Compact, Stats, Help}
 use Rattle.lsm_shell.specs.declared.help.TheConstants.{HELP}
 use Rattle.lsm_shell.specs.declared.talk_fault.TalkFault.{TalkFault}
-use Rattle.lsm_shell.specs.declared.talk_fault.TalkFault.TheVariants.{Read, Write}
+use Rattle.lsm_shell.specs.declared.talk_fault.TalkFault.TheVariants.{Read, Write as WriteFault}
 
 -- ---- replies to lines that are no command of a script
-
--- memory was refused, and nothing was done
-abbrev pub no_memory : List ℕ
-no_memory = codes "refused 1 OutOfMemory\n"
-
--- a command was done, and memory was refused for its reply
-abbrev pub unsaid : List ℕ
-unsaid = codes "done, but there is no memory for the reply\n"
 
 -- the line asks for nothing
 abbrev pub bad_line : List ℕ
@@ -74,18 +71,32 @@ pub record IsScanned (honest : Type 0) (form : Form) (bounds : KeyBounds) (limit
   pub told : Becomes s.told t.told
   pub same : t ≡ record s { told = t.told }
 
+-- ---- all that is due
+
+-- It was compacted, by so many compactions; or that was refused.
+abbrev pub IsCompactReply : Type 0 → Form → List ℕ → Stage → Stage → Type 0
+IsCompactReply honest form said s t =
+    ((n : ℕ) × IsCompacted honest n s t × Says (installed_text n) said)
+    ⊎ ((e : CommandFault) × IsUncompacted honest e s t × Says (reply_text form (Refused e)) said)
+
 -- ---- one line
 
+-- What is said to who asks for this, and what it leaves. A command is a step of the state's own.
+abbrev pub Obeys : Type 0 → Form → Ask → List ℕ → Standing → Standing → Type 0
+Obeys honest form (Do c) said s t = (t.begun ≡ s.begun) × ((r : Reply) × IsStep honest c r s.stage t.stage × Says (reply_text form r) said)
+Obeys honest form (Put w) said s t = IsPutReply honest form w s.begun said s t
+Obeys honest form (Scan bounds limit) said s t = (t.begun ≡ s.begun) × IsScanned honest form bounds limit said s.stage t.stage
+Obeys honest form Begin said s t = (t.stage ≡ s.stage) × IsBegin s.begun t.begun said
+Obeys honest form Commit said s t = IsCommitReply honest form s.begun said s t
+Obeys honest form Abort said s t = (t.stage ≡ s.stage) × IsAbort s.begun t.begun said
+Obeys honest form Compact said s t = (t.begun ≡ s.begun) × IsCompactReply honest form said s.stage t.stage
+Obeys honest form Stats said s t = (t ≡ s) × ((said ≡ statistics_text s.stage.state) ⊎ (said ≡ no_memory))
+Obeys honest form Help said s t = (t ≡ s) × (said ≡ HELP.now)
+
 -- What is said to a line, and what it leaves.
-pub data IsReplied (honest : Type 0) (form : Form) (line said : List ℕ) (s t : Stage) : Type 0 where
-  -- a command was done, which is a step of the state's, and its reply said
-  Done : (c : Command) (r : Reply) → IsAsk form line (Do c) → IsStep honest c r s t → said ≡ reply_text form r → IsReplied honest form line said s t
-  -- it was done, and its reply could not be said
-  DoneUnsaid : (c : Command) (r : Reply) → IsAsk form line (Do c) → IsStep honest c r s t → said ≡ unsaid → IsReplied honest form line said s t
-  -- a scan
-  Scanned : (bounds : KeyBounds) (limit : Option ℕ) → IsAsk form line (Scan bounds limit) → IsScanned honest form bounds limit said s t → IsReplied honest form line said s t
-  -- the lines that there are
-  Helped : IsAsk form line Help → said ≡ HELP.now → t ≡ s → IsReplied honest form line said s t
+pub data IsReplied (honest : Type 0) (form : Form) (line said : List ℕ) (s t : Standing) : Type 0 where
+  -- what it asks for was done
+  Obeyed : (a : Ask) → IsAsk form line a → Obeys honest form a said s t → IsReplied honest form line said s t
   -- nothing is asked for, nor is it `quit`
   Bad : ((a : Ask) → IsAsk form line a → ⊥) → line ≢ codes "quit" → said ≡ bad_line → t ≡ s → IsReplied honest form line said s t
   -- the line is too long
@@ -95,16 +106,10 @@ pub data IsReplied (honest : Type 0) (form : Form) (line said : List ℕ) (s t :
 
 -- ---- line after line
 
-abbrev pub AreReplied : Type 0 → Form → List (List ℕ) → List ℕ → Stage → Stage → Type 0
+abbrev pub AreReplied : Type 0 → Form → List (List ℕ) → List ℕ → Standing → Standing → Type 0
 AreReplied honest form [] said s t = (said ≡ []) × (t ≡ s)
 AreReplied honest form (line ∷ lines) said s t =
-    (mid : Stage) × (one : List ℕ) × (rest : List ℕ) × (said ≡ one ++ rest) × IsReplied honest form line one s mid × AreReplied honest form lines rest mid t
-
--- These commands are asked for by lines, in their order, each by one of its own.
-abbrev pub AreAsked : Form → List (List ℕ) → List Command → Type 0
-AreAsked form [] commands = commands ≡ []
-AreAsked form (line ∷ lines) commands =
-    ((c : Command) × (cs : List Command) × (commands ≡ c ∷ cs) × IsAsk form line (Do c) × AreAsked form lines cs) ⊎ AreAsked form lines commands
+    (mid : Standing) × (one : List ℕ) × (rest : List ℕ) × (said ≡ one ++ rest) × IsReplied honest form line one s mid × AreReplied honest form lines rest mid t
 
 -- behind the lines that were replied to stands `quit`, or nothing
 abbrev pub IsEnd : List (List ℕ) → Type 0
@@ -124,26 +129,27 @@ AreFirstOf r lines (Some text) = AreFirst r lines (lines_of text)
 -- a write failed
 abbrev pub IsWrite : {T : Type 0} → Result T TalkFault → Type 0
 IsWrite (Ok done) = ⊥
-IsWrite (Err Write) = ⊤
+IsWrite (Err WriteFault) = ⊤
 IsWrite (Err Read) = ⊥
 
 -- A conversation: just the first lines of the input were replied to, each by what it asks for, in their order; and these replies were written,
--- unless a write failed.
+-- unless a write failed. No batch was begun before it, and one that is begun at its end is let go.
 pub record IsTalk (honest : Type 0) (form : Form) (input : Option (List ℕ)) (r : Result (Unit {0}) TalkFault) (s t : Stage) (old new : Option (List ℕ)) : Type 0 where
   pub lines : List (List ℕ)
   pub said : List ℕ
-  pub replied : AreReplied honest form lines said s t
+  pub begun : Option (List Write)
+  pub replied : AreReplied honest form lines said (standing s None) (standing t begun)
   pub first : AreFirstOf r lines input
   pub written : (IsWrite r → ⊥) → Appends old new said
 
 -- ---- one turn
 
 -- The next line was replied to; or the conversation ended, at the end of the input or by `quit`; or it was stopped.
-abbrev pub IsTurn : Type 0 → Form → Result Bool TalkFault → Lined → Lined → Stage → Stage → Option (List ℕ) → Option (List ℕ) → Type 0
+abbrev pub IsTurn : Type 0 → Form → Result Bool TalkFault → Lined → Lined → Standing → Standing → Option (List ℕ) → Option (List ℕ) → Type 0
 IsTurn honest form (Ok true) in_old in_new s t old new =
     (line : List ℕ) × (said : List ℕ) × TakesLine line in_old.left in_new.left × IsReplied honest form line said s t × Appends old new said
 IsTurn honest form (Ok false) in_old in_new s t old new =
     (IsAtEnd in_old.left ⊎ TakesLine (codes "quit") in_old.left in_new.left) × (t ≡ s) × Keeps old new
 IsTurn honest form (Err Read) in_old in_new s t old new = (t ≡ s) × Keeps old new
-IsTurn honest form (Err Write) in_old in_new s t old new =
+IsTurn honest form (Err WriteFault) in_old in_new s t old new =
     (line : List ℕ) × (said : List ℕ) × TakesLine line in_old.left in_new.left × IsReplied honest form line said s t

@@ -6,9 +6,9 @@ ghost use Rattle.lsm_state.specs.Making.{IsNewBoard, IsNewHistory};
 ghost use Rattle.lsm_shell.specs.Conversing.{Converses, IsConverseFault};
 ghost use Rattle.lsm_writing.specs.Starting.{usual};
 
-use crate::line_reader::LineReader;
 use crate::talk_fault::TalkFault;
 use crate::talking::talk;
+use lsm_lines::LineReader;
 use lsm_script::Session;
 use lsm_slots::Boarded;
 use lsm_state::State;

@@ -1,14 +1,10 @@
 //! A conversation with a database: commands on an input, one a line, and a reply to each.
 //!
-//! Stands on `lsm_script` for commands and their replies, on `lsm_reads` for scans, and on `lsm_text`
-//! for words. Data flows from the input through a `line_reader` to lines, from a line to what it
-//! asks for, and from there to its reply. Its contract: what is written is the replies to just the
-//! lines that were read, in their order, each of them a step of the state's.
+//! Stands on `lsm_lines` for lines and for the writes of a batch, on `lsm_script` for commands and
+//! their replies, on `lsm_reads` for scans, and on `lsm_text` for words. Data flows from a line to
+//! what it asks for, and from there to its reply. Its contract: what is written is the replies to
+//! just the lines that were read, in their order, each of them a step of the state's.
 #![tactic(auto)]
-
-// Lines that are read.
-mod ahead;
-mod line_reader;
 
 // What a line asks for.
 mod ask;
@@ -17,9 +13,15 @@ mod scan_line;
 mod writes;
 
 // The replies.
+mod answering;
+mod batching;
+mod compacting;
 mod help;
 mod pairs;
 mod replying;
+mod rounds;
+mod saying;
+mod statistics;
 
 // The conversation.
 mod talk_fault;
@@ -32,12 +34,10 @@ mod laws;
 mod conversing;
 mod program;
 
-pub use ahead::ReadFailed;
 pub use ask::Ask;
 pub use ask_line::ask_in;
 pub use conversing::converse;
 pub use laws::talks_are_of_the_history;
-pub use line_reader::{LineReader, NextLine};
 pub use pairs::{ScanFault, Step};
 pub use program::run_shell;
 pub use talk_fault::TalkFault;

@@ -4,51 +4,45 @@ ghost use Rattle.std.specs.Prelude.{◌≡◌, ◌≢◌, ◌⊎◌, List, ℕ, 
 ghost use Rattle.std.specs.Io.KnownBytes.{Appends};
 ghost use Rattle.lsm_script.specs.ReplyText.{reply_text};
 ghost use Rattle.lsm_script.specs.Steps.{stage};
-ghost use Rattle.lsm_shell.specs.Talk.{IsReplied, IsScanned, no_memory, unsaid};
+ghost use Rattle.lsm_script.specs.declared.command_fault.CommandFault.TheVariants.{State as StateRefusal};
+ghost use Rattle.lsm_script.specs.declared.reply.Reply.TheVariants.{Refused};
+ghost use Rattle.lsm_shell.specs.Batching.{no_memory, standing};
+ghost use Rattle.lsm_shell.specs.Statistics.{statistics_text};
+ghost use Rattle.lsm_shell.specs.Talk.{IsReplied, IsScanned, Obeys};
 
+use crate::answering::answer;
 use crate::ask::Ask;
 use crate::ask_line::ask_in;
+use crate::batching::{abort, begin, commit, put};
+use crate::compacting::compact;
 use crate::help::HELP;
 use crate::pairs::{ScanFault, print_version};
+use crate::saying::{Unsaid, say};
+use crate::statistics::push_statistics;
+use lsm_lines::WriteBuffer;
 use lsm_script::{CommandFault, Reply, Session, push_reply};
 use lsm_slots::Boarded;
 use lsm_state::{State, StateFault};
 use lsm_table::{NamedShelf, Shelf};
-use lsm_text::{Form, KeyBounds, write_output};
+use lsm_text::{Form, KeyBounds};
 use std::alloc::Global;
 use std::io::Write;
 use std::sync::Wait;
 
-/// A write of a reply failed.
-#[derive(Clone, Copy, Debug)]
-pub(crate) struct Unsaid;
-
-/// Writes a reply, and flushes.
-pub(crate) fn say<O: Write>(out: &mut O, text: &[u8]) -> Result<(), Unsaid>
-    ensures { OnOk result (Appends (O.contents out.old) (O.contents out.new) text.now) }
-{
-    match write_output(out, text) {
-        Ok(()) => Ok(()),
-        Err(_) => Err(Unsaid),
-    }
-}
-
-/// Writes the reply of a command, or, where there is no memory for its text, `otherwise`. `text` is
-/// memory for it.
-fn say_reply<O: Write>(
+/// Says why a scan was stopped. `text` is memory for it.
+fn say_stopped<O: Write>(
     text: &mut Vec<u8>,
     form: Form,
-    reply: &Reply,
-    otherwise: &[u8],
+    fault: StateFault,
     out: &mut O,
 ) -> Result<(), Unsaid>
-    ensures { (said : List ℕ) × ((said ≡ reply_text form reply.now) ⊎ (said ≡ otherwise.now))
-        × OnOk result (Appends (O.contents out.old) (O.contents out.new) said) }
+    ensures { (said : List ℕ) × ((said ≡ reply_text form (Refused (StateRefusal fault)))
+        ⊎ (said ≡ no_memory)) × OnOk result (Appends (O.contents out.old) (O.contents out.new) said) }
 {
     text.clear();
-    match push_reply(text, form, reply) {
+    match push_reply(text, form, &Reply::Refused(CommandFault::State(fault))) {
         Ok(()) => say(out, text.as_slice()),
-        Err(_) => say(out, otherwise),
+        Err(_) => say(out, b"refused 1 OutOfMemory\n"),
     }
 }
 
@@ -72,10 +66,59 @@ fn say_scan<N: Boarded, S: Shelf, O: Write>(
         Ok(()) => say(out, b"end\n"),
         Err(ScanFault::Write) => Err(Unsaid),
         Err(ScanFault::NoMemory) => say(out, b"refused 1 OutOfMemory\n"),
-        Err(ScanFault::Read(fault)) => {
-            let reply = Reply::Refused(CommandFault::State(StateFault::Read(fault)));
-            say_reply(text, form, &reply, b"refused 1 OutOfMemory\n", out)
+        Err(ScanFault::Read(fault)) => say_stopped(text, form, StateFault::Read(fault), out),
+    }
+}
+
+/// Says how much a state has. `text` is memory for it.
+fn say_statistics<N: Boarded, S: Shelf, O: Write>(
+    state: &State<N, S>,
+    text: &mut Vec<u8>,
+    out: &mut O,
+) -> Result<(), Unsaid>
+    ensures { (said : List ℕ) × ((said ≡ statistics_text state.now) ⊎ (said ≡ no_memory))
+        × OnOk result (Appends (O.contents out.old) (O.contents out.new) said) }
+{
+    text.clear();
+    match push_statistics(text, state) {
+        Ok(()) => say(out, text.as_slice()),
+        Err(_) => say(out, b"refused 1 OutOfMemory\n"),
+    }
+}
+
+/// Does what is asked, and says what that gives. `text` is memory for it.
+fn obey<N: Boarded, S: Shelf, R: Wait, O: Write>(
+    rt: &R,
+    alloc: Global,
+    session: Session<N, S>,
+    begun: &mut Option<WriteBuffer>,
+    shelf: &mut NamedShelf<N, S>,
+    form: Form,
+    ask: Ask,
+    text: &mut Vec<u8>,
+    out: &mut O,
+) -> (Session<N, S>, Result<(), Unsaid>)
+    ensures { (said : List ℕ) × Obeys S.honest form ask said
+        (standing (stage session shelf.old) begun.old)
+        (standing (stage result.0 shelf.new) begun.new)
+        × OnOk result.1 (Appends (O.contents out.old) (O.contents out.new) said) }
+{
+    match ask {
+        Ask::Do(command) => answer(rt, alloc, session, shelf, form, &command, text, out),
+        Ask::Put(write) => put(rt, alloc, session, begun, shelf, form, write, text, out),
+        Ask::Scan(bounds, limit) => {
+            let said = say_scan(alloc, &session, shelf, form, &bounds, limit, text, out);
+            (session, said)
         }
+        Ask::Begin => (session, begin(alloc, begun, out)),
+        Ask::Commit => commit(rt, alloc, session, begun, shelf, form, text, out),
+        Ask::Abort => (session, abort(begun, out)),
+        Ask::Compact => compact(rt, alloc, session, shelf, form, text, out),
+        Ask::Stats => {
+            let said = say_statistics(session.state(), text, out);
+            (session, said)
+        }
+        Ask::Help => (session, say(out, HELP)),
     }
 }
 
@@ -84,6 +127,7 @@ pub(crate) fn reply_to<N: Boarded, S: Shelf, R: Wait, O: Write>(
     rt: &R,
     alloc: Global,
     session: Session<N, S>,
+    begun: &mut Option<WriteBuffer>,
     shelf: &mut NamedShelf<N, S>,
     form: Form,
     line: &[u8],
@@ -91,21 +135,13 @@ pub(crate) fn reply_to<N: Boarded, S: Shelf, R: Wait, O: Write>(
     out: &mut O,
 ) -> (Session<N, S>, Result<(), Unsaid>)
     requires { line.now ≢ codes "quit" }
-    ensures { (said : List ℕ) × IsReplied S.honest form line.now said (stage session shelf.old)
-        (stage result.0 shelf.new)
+    ensures { (said : List ℕ) × IsReplied S.honest form line.now said
+        (standing (stage session shelf.old) begun.old)
+        (standing (stage result.0 shelf.new) begun.new)
         × OnOk result.1 (Appends (O.contents out.old) (O.contents out.new) said) }
 {
     match ask_in(alloc, form, line) {
-        Ok(Some(Ask::Do(command))) => {
-            let (session, reply) = session.answer(rt, alloc, shelf, &command);
-            let otherwise = b"done, but there is no memory for the reply\n";
-            (session, say_reply(text, form, &reply, otherwise, out))
-        }
-        Ok(Some(Ask::Scan(bounds, limit))) => {
-            let said = say_scan(alloc, &session, shelf, form, &bounds, limit, text, out);
-            (session, said)
-        }
-        Ok(Some(Ask::Help)) => (session, say(out, HELP)),
+        Ok(Some(ask)) => obey(rt, alloc, session, begun, shelf, form, ask, text, out),
         Ok(None) => (
             session,
             say(out, b"bad line: help tells what lines there are\n"),

@@ -2,12 +2,14 @@
 
 ghost use Rattle.std.specs.Prelude.{◌≡◌, true, Err, Ok, OnErr, OnOk};
 ghost use Rattle.lsm_script.specs.Steps.{stage};
+ghost use Rattle.lsm_shell.specs.Batching.{standing};
 ghost use Rattle.lsm_shell.specs.Talk.{IsTalk, IsTurn};
 ghost use Rattle.lsm_shell.specs.declared.talk_fault.TalkFault.TheVariants.{Write as WriteFault};
 
-use crate::line_reader::{LineReader, NextLine};
-use crate::replying::{Unsaid, reply_to, say};
+use crate::replying::reply_to;
+use crate::saying::{Unsaid, say};
 use crate::talk_fault::TalkFault;
+use lsm_lines::{LineReader, NextLine, WriteBuffer};
 use lsm_script::Session;
 use lsm_slots::Boarded;
 use lsm_table::{NamedShelf, Shelf};
@@ -32,14 +34,17 @@ fn take_turn<N: Boarded, S: Shelf, R: Wait, I: Read + Drop, O: Write>(
     rt: &R,
     alloc: Global,
     session: Session<N, S>,
+    begun: &mut Option<WriteBuffer>,
     shelf: &mut NamedShelf<N, S>,
     form: Form,
     lines: &mut LineReader<I>,
     text: &mut Vec<u8>,
     out: &mut O,
 ) -> (Session<N, S>, Result<bool, TalkFault>)
-    ensures turn { IsTurn S.honest form result.1 lines.old lines.new (stage session shelf.old)
-        (stage result.0 shelf.new) (O.contents out.old) (O.contents out.new) }
+    ensures turn { IsTurn S.honest form result.1 lines.old lines.new
+        (standing (stage session shelf.old) begun.old)
+        (standing (stage result.0 shelf.new) begun.new)
+        (O.contents out.old) (O.contents out.new) }
 {
     match lines.next() {
         Ok(NextLine::End) => (session, Ok(false)),
@@ -49,6 +54,7 @@ fn take_turn<N: Boarded, S: Shelf, R: Wait, I: Read + Drop, O: Write>(
                 rt,
                 alloc,
                 session,
+                begun,
                 shelf,
                 form,
                 lines.line(),
@@ -70,7 +76,8 @@ fn take_turn<N: Boarded, S: Shelf, R: Wait, I: Read + Drop, O: Write>(
 }
 
 /// Replies to lines, one after another, up to `quit` or the end of the input. Each reply is flushed
-/// before the next line is read. A refusal is a reply, also for want of memory.
+/// before the next line is read. A refusal is a reply, also for want of memory. A batch that is begun
+/// at the end is let go.
 ///
 /// # Errors
 /// `Read` where the input can't be read, `Write` where a reply can't be written. What was done until
@@ -88,9 +95,12 @@ pub fn talk<N: Boarded, S: Shelf, R: Wait, I: Read + Drop, O: Write>(
         (stage result.0 shelf.new) (O.contents out.old) (O.contents out.new) }
 {
     let mut session = session;
+    let mut begun = None;
     let mut text = Vec::new(alloc);
     for _turn in 0..u64::MAX {
-        let (after, turn) = take_turn(rt, alloc, session, shelf, form, lines, &mut text, out);
+        let (after, turn) = take_turn(
+            rt, alloc, session, &mut begun, shelf, form, lines, &mut text, out,
+        );
         session = after;
         match turn {
             Ok(true) => {}

@@ -1,14 +1,11 @@
 //! Lines that write one key.
 
-ghost use Rattle.std.specs.Prelude.{◌≡◌, ◌∷◌, [], IfNone, IfOk, IfSome, map};
+ghost use Rattle.std.specs.Prelude.{IfNone, IfOk, IfSome, map};
 ghost use Rattle.lsm_batch.specs.declared.write.Write.{Write};
 ghost use Rattle.lsm_shell.specs.Asks.{IsDelete, IsOneWrite, IsPut};
-ghost use Rattle.lsm_script.specs.declared.command.Command.{Command};
-ghost use Rattle.lsm_script.specs.declared.command.Command.TheVariants.{Ingest};
 
-use lsm_batch::{Batch, Write};
-use lsm_script::Command;
-use lsm_text::{Form, push_write};
+use lsm_batch::Write;
+use lsm_text::Form;
 use std::alloc::{AllocError, Global};
 
 /// What `put KEY VALUE` writes.
@@ -49,30 +46,18 @@ fn delete_in(alloc: Global, form: Form, words: &[&[u8]]) -> Result<Option<Write>
     }
 }
 
-/// A batch of one write.
-fn ingest_of(alloc: Global, write: Write) -> Result<Command, AllocError>
-    ensures { IfOk result (λ c. c ≡ Ingest (write ∷ [])) }
-{
-    let mut batch = Batch::new(alloc);
-    push_write(&mut batch, write)?;
-    Ok(Command::Ingest(batch))
-}
-
-/// The batch of one write that the words ask for.
+/// What the words write of one key.
 pub(crate) fn one_write_in(
     alloc: Global,
     form: Form,
     words: &[&[u8]],
-) -> Result<Option<Command>, AllocError>
+) -> Result<Option<Write>, AllocError>
     ensures some { IfOk result (λ o. IfSome o (IsOneWrite form (map (λ w. w.now) words.now))) }
     ensures none { IfOk result (λ o.
-        IfNone o ((c : Command) → IsOneWrite form (map (λ w. w.now) words.now) c → ⊥)) }
+        IfNone o ((w : Write) → IsOneWrite form (map (λ w. w.now) words.now) w → ⊥)) }
 {
     if let Some(write) = put_in(alloc, form, words)? {
-        return Ok(Some(ingest_of(alloc, write)?));
+        return Ok(Some(write));
     }
-    match delete_in(alloc, form, words)? {
-        Some(write) => Ok(Some(ingest_of(alloc, write)?)),
-        None => Ok(None),
-    }
+    delete_in(alloc, form, words)
 }

@@ -4,10 +4,12 @@
 //! input and output, and the exit status.
 #![tactic(auto)]
 
+mod prompt;
 mod streams;
 
 use lsm_commands::{refuse_words, run};
 use lsm_directory::SystemPaths;
+use prompt::{Prompted, at_terminal};
 use std::env::{self, Env};
 use std::io::{self, BufWriter};
 use std::process::ExitCode;
@@ -16,12 +18,26 @@ use std::sync::Wait;
 use std::thread::Threads;
 use streams::hold_streams;
 
-/// Does what the words of the command line ask, and answers the exit status.
+/// Whether the words ask for a shell.
+fn is_shell(words: &[String]) -> bool {
+    match words {
+        [name, ..] => name.as_str() == "shell",
+        [] => false,
+    }
+}
+
+/// Does what the words of the command line ask, and answers the exit status. A shell between
+/// terminals writes a prompt on standard error before each read of standard input.
 fn start<R: Threads + Wait + Clock + Sync>(rt: &R, host: HostRuntime) -> io::Result<u8> {
     let words: Vec<String> = env::args(&host)?.collect(host.alloc())?;
     let words = words.as_slice().get(1..).unwrap_or(&[]);
     let mut out = BufWriter::new(host.alloc(), host.stdout())?;
-    let input = host.stdin();
+    let asks = if is_shell(words) && at_terminal(&host) {
+        Some(host.stderr())
+    } else {
+        None
+    };
+    let input = Prompted::new(host.stdin(), asks);
     let mut err = host.stderr();
     let paths = SystemPaths::new(host);
     Ok(run(rt, &paths, words, input, &mut out, &mut err))

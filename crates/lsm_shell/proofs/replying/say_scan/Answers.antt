@@ -27,6 +27,6 @@ returns-in-Err-Read g c =
     let version = c.deref.ensures ∙ c.current-id.ensures.version ∙ ap (λ (h : Held). h.slots.version) c.state.ensures in
     let printed = rw c.in-Err-Read.field-0-is at c.in-Err-Read.ensures.printed in
     let fault = rw c.in-Err-Read.field-0-is at c.in-Err-Read.ensures.fault in
-    let said = c.say_reply.ensures in
-    said_some g.S.Shelf.honest c.args.form c.args.bounds.now c.args.limit c.args.session.now _ c.args.shelf.now c.print_version.new.shelf _ said.0 c.say_reply.result _ _ _ version printed (λ x. x)
+    let said = c.say_stopped.ensures in
+    said_some g.S.Shelf.honest c.args.form c.args.bounds.now c.args.limit c.args.session.now _ c.args.shelf.now c.print_version.new.shelf _ said.0 c.say_stopped.result _ _ _ version printed (λ x. x)
     c.print_version.ensures.told (read_stops g.S.Shelf.honest c.args.form said.0 c.args.shelf.now c.print_version.new.shelf c.in-Err-Read.fault fault said.1) said.2

@@ -1,24 +1,33 @@
+use Rattle.std.proofs.Common.{None}
 use Rattle.lsm_script.specs.Steps.{stage}
+use Rattle.lsm_shell.specs.Batching.{standing}
 use Rattle.lsm_shell.proofs.TalkLaws.{ended, none_yet, one_more, spent, stopped}
 use Rattle.lsm_shell.proofs.talking.talk.Goals as goal
 
 pub loop-turn-init : goal.loop-turn-init
-loop-turn-init g c = none_yet g.S.Shelf.honest c.args.form c.args.lines.now.left (stage c.args.session c.args.shelf.now) _
+loop-turn-init g c = none_yet g.S.Shelf.honest c.args.form c.args.lines.now.left (standing (stage c.args.session c.args.shelf.now) None) _
 
 pub loop-turn-preserved : goal.loop-turn-preserved
 loop-turn-preserved g c =
     let turn = rw (c.in-Ok-true.is, c.in-Ok-true.field-0-test) at c.take_turn-after.ensures.turn in
-    one_more g.S.Shelf.honest c.args.form c.args.lines.now.left c.loop-turn.lines c.take_turn-after.new.lines (stage c.args.session c.args.shelf.now) (stage c.loop-turn.session c.loop-turn.shelf) _ _ _ _ c.loop-turn.invariant turn
+    one_more g.S.Shelf.honest c.args.form c.args.lines.now.left c.loop-turn.lines c.take_turn-after.new.lines (standing (stage c.args.session c.args.shelf.now) None)
+    (standing (stage c.loop-turn.session c.loop-turn.shelf) c.loop-turn.begun) _ _ _ _ c.loop-turn.invariant turn
 
 pub returns-in-Ok-false : goal.returns-in-Ok-false
 returns-in-Ok-false g c =
     let turn = rw (c.in-Ok-false.is, c.in-Ok-false.field-0-test) at c.take_turn-after.ensures.turn in
-    record { talk = ended g.S.Shelf.honest c.args.form c.args.lines.now.left c.loop-turn.lines c.take_turn-after.new.lines (stage c.args.session c.args.shelf.now) (stage c.loop-turn.session c.loop-turn.shelf) _ _ _ _ c.loop-turn.invariant turn }
+    record {
+      talk = ended g.S.Shelf.honest c.args.form c.args.lines.now.left c.loop-turn.lines c.take_turn-after.new.lines (stage c.args.session c.args.shelf.now)
+          (standing (stage c.loop-turn.session c.loop-turn.shelf) c.loop-turn.begun) _ _ _ _ c.loop-turn.invariant turn;
+    }
 
 pub returns-in-Err : goal.returns-in-Err
 returns-in-Err g c =
     let turn = rw c.in-Err.is at c.take_turn-after.ensures.turn in
-    record { talk = stopped c.in-Err.fault g.S.Shelf.honest c.args.form c.args.lines.now.left c.loop-turn.lines c.take_turn-after.new.lines (stage c.args.session c.args.shelf.now) (stage c.loop-turn.session c.loop-turn.shelf) _ _ _ _ c.loop-turn.invariant turn }
+    record {
+      talk = stopped c.in-Err.fault g.S.Shelf.honest c.args.form c.args.lines.now.left c.loop-turn.lines c.take_turn-after.new.lines (stage c.args.session c.args.shelf.now)
+          (standing (stage c.loop-turn.session c.loop-turn.shelf) c.loop-turn.begun) _ _ _ _ c.loop-turn.invariant turn;
+    }
 
 pub returns : goal.returns
 returns g c = record { talk = spent g.S.Shelf.honest c.args.form c.args.lines.now.left c.loop-turn.lines.left (stage c.args.session c.args.shelf.now) _ _ _ c.loop-turn.invariant }

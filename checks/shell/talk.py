@@ -1,0 +1,162 @@
+"""Drives `lsm shell` through pipes. Usage: talk.py PROGRAM"""
+import os
+import subprocess
+import sys
+import threading
+
+program = sys.argv[1]
+BAD = "bad line: help tells what lines there are"
+
+
+class Shell:
+    def __init__(self, folder, *words):
+        if "/" not in folder:
+            os.makedirs(folder, exist_ok=True)
+        self.child = subprocess.Popen([program, "shell", folder, *words], stdin=subprocess.PIPE, stdout=subprocess.PIPE, stderr=subprocess.PIPE)
+
+    def line(self):
+        """The next line of a reply; a reply that does not come in 60 s stops the check."""
+        timer = threading.Timer(60, self.child.kill)
+        timer.start()
+        found = self.child.stdout.readline()
+        timer.cancel()
+        assert found.endswith(b"\n"), f"no whole line: {found!r}, {self.child.poll()}"
+        return found[:-1].decode()
+
+    def send(self, text):
+        self.child.stdin.write(text.encode() + b"\n")
+        self.child.stdin.flush()
+
+    def ask(self, text):
+        self.send(text)
+        return self.line()
+
+    def list(self, text):
+        """The lines of a list, and the line that ends it."""
+        self.send(text)
+        lines = [self.line()]
+        while lines[-1] != "end" and not lines[-1].startswith("refused "):
+            lines.append(self.line())
+        return lines
+
+    def end(self):
+        """The status at the end of the input, and what stands on standard error."""
+        out, err = self.child.communicate(timeout=60)
+        assert out == b"", out
+        return self.child.returncode, err.decode()
+
+
+def want(found, wanted):
+    assert found == wanted, f"{found!r}, not {wanted!r}"
+
+
+def lines_and_lists():
+    shell = Shell("db", "--text")
+    want(shell.ask("put apple red"), "file 2 first 1 last 1")
+    want(shell.ask("ingest berry=blue cherry=dark"), "file 3 first 2 last 3")
+    want(shell.ask("delete berry"), "file 4 first 4 last 4")
+    want(shell.ask("get apple"), "value red")
+    want(shell.ask("get berry"), "absent")
+    want(shell.list("scan"), ["apple=red", "cherry=dark", "end"])
+    want(shell.list("scan b limit 1"), ["cherry=dark", "end"])
+    want(shell.list("list")[-1], "end")
+    want(shell.list("help")[-1], "end")
+    for line in ("", "frob", "put apple", "put a b c", "quit now"):
+        want(shell.ask(line), BAD)
+    want(shell.ask("x" * 9_000_000), "bad line: it has more than 8388608 bytes")
+    want(shell.ask("ingest"), "refused 37 EmptyBatch")
+    want(shell.ask("install 7"), "refused 45 UnknownTicket 7")
+    want(shell.ask("get cherry"), "value dark")
+    second = Shell("db")
+    status, said = second.end()
+    assert status == 1 and said.startswith("refused 52 Locked"), (status, said)
+    shell.send("quit")
+    want(shell.end(), (0, ""))
+
+
+def batches():
+    shell = Shell("batches", "--text")
+    want(shell.ask("commit"), "bad line: no batch is begun")
+    want(shell.ask("begin"), "begun")
+    for line in ("put b 1", "put a 2", "delete c", "put b 3"):
+        want(shell.ask(line), "queued")
+    want(shell.ask("begin"), "bad line: a batch is begun already")
+    want(shell.ask("get b"), "absent")
+    want(shell.ask("put d " + "x" * 1_048_577), "refused 39 TooLarge")
+    want(shell.ask("commit"), "file 2 first 1 last 3")
+    want(shell.list("scan"), ["a=2", "b=3", "end"])
+    want(shell.ask("begin"), "begun")
+    want(shell.ask("delete a"), "queued")
+    want(shell.ask("abort"), "aborted")
+    want(shell.ask("begin"), "begun")
+    for n in range(65_536):
+        shell.send(f"put key{n:05} {n}")
+        want(shell.line(), "queued")
+    want(shell.ask("put one more"), "refused 39 TooLarge")
+    want(shell.ask("commit"), "file 3 first 4 last 65539")
+    want(shell.ask("begin"), "begun")
+    want(shell.ask("put late 1"), "queued")
+    want(shell.end(), (0, ""))
+    said = subprocess.run([program, "scan", "batches", "--text", "--count"], capture_output=True, check=True).stdout
+    want(said, b"65538\n")
+
+
+def all_that_is_due():
+    shell = Shell("due", "--text")
+    for n in range(40):
+        assert shell.ask(f"put key{n % 7} {n}").startswith("file "), n
+        if n % 8 == 7:
+            assert shell.ask("compact").startswith("installed "), n
+    said = shell.list("stats")
+    want([line.split()[:3] for line in said[:7]], [["level", str(level), "files"] for level in range(7)])
+    want(said[7:], ["last 40", "snapshots 0", "end"])
+    assert int(said[0].split()[3]) < 4, said
+    tables = {f"{int(line.split()[1]):06}.ldb" for line in shell.list("list")[:-1]}
+    want({name for name in os.listdir("due") if name.endswith(".ldb")}, tables)
+    want(shell.list("scan"), [f"key{n % 7}={n}" for n in sorted(range(33, 40), key=lambda n: n % 7)] + ["end"])
+    want(shell.end(), (0, ""))
+
+
+def one_opening_and_the_folder():
+    shell = Shell("twelve", "--text")
+    for n in range(12):
+        assert shell.ask(f"put key{n} {n}").startswith("file "), n
+    want(shell.ask("put late 1"), "refused 40 LevelZeroFull")
+    job = shell.ask("reserve").split()
+    want(shell.ask(f"merge {job[1]}").split()[:2], ["merged", job[1]])
+    assert shell.ask(f"install {job[1]}").startswith("installed"), job
+    assert shell.ask("put late 1").startswith("file "), "after a compaction"
+    assert shell.ask("collect").startswith("removed"), "collect"
+    want(shell.end(), (0, ""))
+    said = subprocess.run([program, "get", "twelve", "late", "--text"], capture_output=True, check=True).stdout
+    want(said, b"value 1\n")
+    assert subprocess.run([program, "check", "twelve"], capture_output=True).returncode == 0
+
+
+def a_kill_loses_nothing_that_was_said():
+    shell = Shell("killed", "--text")
+    for n in range(5):
+        want(shell.ask(f"put k{n} v"), f"file {n + 2} first {n + 1} last {n + 1}")
+    shell.child.kill()
+    shell.child.wait()
+    said = subprocess.run([program, "scan", "killed", "--text"], capture_output=True, check=True).stdout
+    want(said.decode().split(), [f"k{n}=v" for n in range(5)])
+
+
+def a_folder_that_is_refused():
+    status, said = Shell("none/db").end()
+    assert status == 1 and said.startswith("refused "), (status, said)
+
+
+def a_reply_that_is_not_written():
+    read, write = os.pipe()
+    os.close(read)
+    child = subprocess.Popen([program, "shell", "db"], stdin=subprocess.PIPE, stdout=write, stderr=subprocess.PIPE)
+    os.close(write)
+    _out, err = child.communicate(b"pin\npin\n", timeout=60)
+    assert child.returncode == 1 and err.startswith(b"write fault"), (child.returncode, err)
+
+
+for part in (lines_and_lists, batches, all_that_is_due, one_opening_and_the_folder, a_kill_loses_nothing_that_was_said, a_folder_that_is_refused, a_reply_that_is_not_written):
+    part()
+    print(part.__name__.replace("_", " ") + ": as wanted")

@@ -1,6 +1,0 @@
-use Rattle.lsm_shell.specs.Reading.{bytes_left}
-use Rattle.lsm_shell.proofs.LineLaws.{HasRead}
-use Rattle.lsm_shell.proofs.line_reader.LineReader.next.Given as goal
-
-abbrev pub invariant-loop-turn : goal.invariant-loop-turn
-invariant-loop-turn g l = HasRead l.so_far l.self-inside.line.items l.fn.self.left (bytes_left l.self-inside.ahead)

@@ -1,0 +1,58 @@
+//! The prompt of a shell at a terminal.
+
+use std::fs;
+use std::io::{self, Read, Write};
+use std::os::unix::fs::{FileTypeExt, MetadataExt};
+
+/// Devices of memory, such as `/dev/null`, are no terminals.
+const MEMORY_DEVICES: u64 = 1;
+
+/// Whether what is open as a descriptor of this program, by its path in `/proc`, is a terminal: a
+/// device of characters that is none of memory.
+fn is_terminal(files: &HostRuntime, path: &str) -> bool {
+    match fs::metadata(files, path) {
+        Ok(found) => found.file_type().is_char_device() && found.rdev() >> 8 != MEMORY_DEVICES,
+        Err(_) => false,
+    }
+}
+
+/// Whether standard input, output and error are terminals.
+pub(crate) fn at_terminal(files: &HostRuntime) -> bool {
+    is_terminal(files, "/proc/self/fd/0")
+        && is_terminal(files, "/proc/self/fd/1")
+        && is_terminal(files, "/proc/self/fd/2")
+}
+
+/// An input, and an output on which each read first asks for more, if it does. A terminal gives a
+/// line for a read, so that there is a prompt for each line; at its end the prompt's line is ended.
+#[derive(Drop)]
+pub(crate) struct Prompted<I: Read + Drop, E: Write + Drop> {
+    input: I,
+    asks: Option<E>,
+}
+
+impl<I: Read + Drop, E: Write + Drop> Prompted<I, E> {
+    /// Reads of this input ask on this output.
+    pub(crate) fn new(input: I, asks: Option<E>) -> Prompted<I, E> {
+        Prompted { input, asks }
+    }
+
+    /// Writes where it asks. What can't be written is left out.
+    fn tell(&mut self, text: &[u8]) {
+        if let Some(out) = &mut self.asks {
+            let _ = out.write_all(text);
+            let _ = out.flush();
+        }
+    }
+}
+
+impl<I: Read + Drop, E: Write + Drop> Read for Prompted<I, E> {
+    fn read(&mut self, buf: &mut [u8]) -> io::Result<usize> {
+        self.tell(b"lsm> ");
+        let read = self.input.read(buf)?;
+        if read == 0 {
+            self.tell(b"\n");
+        }
+        Ok(read)
+    }
+}
