@@ -1,8 +1,9 @@
 //! One run of `bench`.
 
-ghost use Rattle.std.specs.Prelude.{◌≡◌, ◌≢◌, OnErr, OnOk};
+ghost use Rattle.std.specs.Prelude.{◌≡◌, ◌≢◌, IfOk, OnOk};
 ghost use Rattle.std.specs.Io.KnownBytes.{Keeps};
-ghost use Rattle.lsm_bench.specs.Benched.{BenchesAt};
+ghost use Rattle.lsm_directory.specs.Logs.{NoneUnread};
+ghost use Rattle.lsm_writing.specs.declared.ingesting.start.Start.TheVariants.{Begin};
 
 use crate::bench_fault::BenchFault;
 use crate::running::run_on;
@@ -18,7 +19,10 @@ use std::thread::Threads;
 
 /// The number of the manifest of a database that is to be begun, where there is none, and no log
 /// that LevelDB would read.
-fn number_in(prepared: &Prepared) -> Result<u64, BenchFault> {
+fn number_in(prepared: &Prepared) -> Result<u64, BenchFault>
+    ensures begins { IfOk result (λ n. prepared.now.start ≡ Begin n) }
+    ensures flushed { OnOk result (NoneUnread 0 0 prepared.now.logs.items) }
+{
     let Start::Begin(number) = prepared.start else {
         return Err(BenchFault::IsThere);
     };
@@ -43,7 +47,6 @@ where
     P: Paths<C>,
     R: Threads + Wait + Clock + Sync,
     O: Write,
-    ensures done { OnOk result (BenchesAt C.FolderCalls path.now) }
 {
     let plainly = IngestOptions {
         form: Form::Hex,
@@ -76,7 +79,6 @@ where
     R: Threads + Wait + Clock + Sync,
     O: Write,
     E: Write,
-    ensures done { result ≡ 0 → BenchesAt C.FolderCalls path.now }
     ensures refused { result ≢ 0 → result ≡ 1 }
     ensures quiet { result ≡ 0 → Keeps (E.contents err.old) (E.contents err.new) }
 {

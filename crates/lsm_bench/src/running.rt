@@ -1,8 +1,6 @@
 //! Benchmarks on a new database, beside workers.
 
-ghost use Rattle.std.specs.Prelude.{◌≡◌, OnOk, vec_len};
-ghost use Rattle.lsm_bench.specs.Benched.{IsBegunOn};
-ghost use Rattle.lsm_shelf.specs.Told.{Forked};
+ghost use Rattle.std.specs.Prelude.{◌≡◌, vec_len};
 ghost use Rattle.lsm_state.specs.Making.{IsNewBoard, IsNewHistory};
 ghost use Rattle.lsm_store.specs.Readers.{SeatsPinners};
 ghost use Rattle.lsm_writing.specs.Starting.{usual};
@@ -50,9 +48,7 @@ fn of_shelf(fault: ShelfFault) -> BenchFault {
 fn fork_of<N: Boarded, S: Shelf>(
     alloc: Global,
     shelf: &mut NamedShelf<N, S>,
-) -> Result<NamedShelf<N, S>, BenchFault>
-    ensures told { Forked shelf.old shelf.new }
-{
+) -> Result<NamedShelf<N, S>, BenchFault> {
     match shelf.fork(alloc) {
         Ok(fork) => Ok(fork),
         Err(fault) => Err(of_shelf(fault)),
@@ -60,14 +56,11 @@ fn fork_of<N: Boarded, S: Shelf>(
 }
 
 /// So many forks of a shelf.
-#[tactic(auto, using(lsm_shelf::proofs::CallerLemmas::forked_then, lsm_shelf::proofs::CallerLemmas::forked_none, lsm_shelf::proofs::CallerLemmas::forked_once, lsm_shelf::proofs::CallerLemmas::forked_same))]
 fn some_forks<N: Boarded, S: Shelf>(
     alloc: Global,
     shelf: &mut NamedShelf<N, S>,
     count: usize,
-) -> Result<Vec<NamedShelf<N, S>>, BenchFault>
-    ensures told { Forked shelf.old shelf.new }
-{
+) -> Result<Vec<NamedShelf<N, S>>, BenchFault> {
     let mut forks = Vec::new(alloc);
     for _ in 0..count {
         let fork = fork_of(alloc, shelf)?;
@@ -79,14 +72,11 @@ fn some_forks<N: Boarded, S: Shelf>(
 }
 
 /// The forks for so many workers.
-#[tactic(auto, using(lsm_shelf::proofs::CallerLemmas::forked_then, lsm_shelf::proofs::CallerLemmas::forked_same))]
 fn forks_for<N: Boarded, S: Shelf>(
     alloc: Global,
     shelf: &mut NamedShelf<N, S>,
     count: usize,
-) -> Result<Forks<N, S>, BenchFault>
-    ensures told { Forked shelf.old shelf.new }
-{
+) -> Result<Forks<N, S>, BenchFault> {
     let own = fork_of(alloc, shelf)?;
     let reading = fork_of(alloc, shelf)?;
     let workers = some_forks(alloc, shelf, count)?;
@@ -163,13 +153,12 @@ fn crew_of<N: Boarded, S: Shelf>(
 
 /// That no worker ended early.
 fn judge(ends: &[WorkerEnd]) -> Result<(), BenchFault> {
-    match ends {
-        [] => Ok(()),
-        [end, rest @ ..] => match end.fault {
-            Some(fault) => Err(BenchFault::Worker(fault)),
-            None => judge(rest),
-        },
+    for end in ends {
+        if let Some(fault) = end.fault {
+            return Err(BenchFault::Worker(fault));
+        }
     }
+    Ok(())
 }
 
 /// Runs the benchmarks on a store, while its workers compact.
@@ -210,7 +199,6 @@ fn run_state<N: Boarded, S: Shelf, R: Threads + Wait + Clock + Sync, O: Write>(
     out: &mut O,
 ) -> Result<(), BenchFault>
     requires seats { SeatsPinners state }
-    ensures told { Forked shelf.old shelf.new }
 {
     let forks = match forks_for(alloc, shelf, options.workers) {
         Ok(forks) => forks,
@@ -240,7 +228,6 @@ fn run_named<N: Boarded, S: Shelf, R: Threads + Wait + Clock + Sync, O: Write>(
     requires board { IsNewBoard N.board usual parts.publisher parts.pinners.items }
     requires seats { vec_len parts.pinners ≡ usual.readers }
     requires history { IsNewHistory N.history parts.history }
-    ensures begun { OnOk result (IsBegunOn number shelf.old shelf.new) }
 {
     let parts = parts.named(alloc)?;
     let draws = draws_for(alloc, options.value_size)?;
@@ -263,7 +250,6 @@ fn run_as<N: Boarded, S: Shelf, R: Threads + Wait + Clock + Sync, O: Write>(
     requires board { IsNewBoard N.board usual parts.publisher parts.pinners.items }
     requires seats { vec_len parts.pinners ≡ usual.readers }
     requires history { IsNewHistory N.history parts.history }
-    ensures begun { OnOk result.0 (IsBegunOn number (S.told shelf) (S.told result.1)) }
 {
     let mut shelf: NamedShelf<N, S> = NamedShelf::of(shelf);
     let done = run_named(rt, alloc, &mut shelf, number, parts, options, out);
@@ -279,9 +265,7 @@ pub(crate) fn run_on<S: Shelf, R: Threads + Wait + Clock + Sync, O: Write>(
     number: u64,
     options: &BenchOptions,
     out: &mut O,
-) -> (Result<(), BenchFault>, S)
-    ensures begun { OnOk result.0 (IsBegunOn number (S.told shelf) (S.told result.1)) }
-{
+) -> (Result<(), BenchFault>, S) {
     match NewParts::make(alloc) {
         Ok(parts) => run_as::<Brand, S, R, O>(rt, alloc, shelf, number, parts, options, out),
         Err(_) => (Err(BenchFault::from(AllocError)), shelf),

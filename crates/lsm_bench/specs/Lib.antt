@@ -1,2 +1,0 @@
--- What clauses cite
-pub mod Benched
