@@ -15,8 +15,7 @@ returns-clause-kept g c =
 pub invariant_of-self : goal.invariant_of-self
 invariant_of-self g c =
     let h : Held = record { options = c.self.inside.options; slots = c.self.inside.slots; snapshots = c.self.inside.snapshots; next = c.self.inside.next; next_ticket = c.self.inside.next_ticket; live = c.self.inside.live; journal = c.self.inside.journal; halted = c.self.inside.halted; pinners = c.self.inside.pinners.items; history = c.self.inside.keeper.entries } in
-    let rest = c.meet.ensures.rest in
-    (
+    let rest = c.meet.ensures.rest in (
       lawful_slots g.S.Shelf.honest g.N.Boarded.board h c.meet.new.self c.self.invariant.0 (ap (λ (s : Slotted). s.version) rest)
           (λ n k. subst (λ (es : List (Option Epoch)). Has (numbers_held es) n) (ap (λ (s : Slotted). s.epochs) rest) k),
       noted_editions h.slots c.meet.new.self _ (is_some c.args.pinner.now.knows.held) c.args.pinner.now.knows rest c.meet.ensures.board.1 c.self.invariant.1,
