@@ -23,7 +23,7 @@ use std::alloc::{AllocError, Global};
 /// How a picture begins.
 const OPENING: &[u8] = b"<svg xmlns=\"http://www.w3.org/2000/svg\" width=\"1040\"";
 
-/// Colours, and the paper.
+/// Colours, and the ground.
 const STYLE: &[u8] = b"<style>
 text{font:1300px sans-serif;fill:#222}
 .kept{fill:#4a78b5}
