@@ -42,6 +42,7 @@ made_none options r = record {
   taken_by = refl;
   index_by = refl;
   room = λ full. absurd (cc (full, none_full options r));
+  index_small = omega (arith, length-none 1);
   small = omega (arith, length-none options.restart_interval);
   short = omega arith;
 }
@@ -167,6 +168,7 @@ made_closed options entries front taken index m full b after done left after_is 
       taken_by = ap (λ (x : Building). x.interval) left_is;
       index_by = ap (λ (x : Building). x.interval) done_is;
       room = λ f. absurd (cc (f, not_full));
+      index_small = m.room full;
       small = subst (λ (xs : List Entry). length (block_bytes interval xs) < 2 ^ 32) (sym left_none) (omega (arith, length-none interval));
       short = short;
     }
@@ -190,6 +192,7 @@ made_more options entries front taken index e m open_still ascends more more_is 
   taken_by = ap (λ (x : Building). x.interval) more_is ∙ m.taken_by;
   index_by = m.index_by;
   room = λ full. subst (λ (xs : List Entry). length (block_bytes 1 xs) < 2 ^ 32) (sym (made_index options entries front taken index m (last_group more.entries))) (room full);
+  index_small = m.index_small;
   small = small;
   short = m.short;
 }

@@ -102,6 +102,17 @@ end_large options entries front taken index m long =
     subst (λ (gs : List (List Entry)). 2 ^ 32 ≤ length (index_block options.restart_interval gs)) (sym (made_groups options entries front taken index m))
     (subst (λ (xs : List ℕ). 2 ^ 32 ≤ length xs) (sym (closing_index options entries front taken index m)) long)
 
+pub end_small : (options : TableOptions) (entries : List Entry) (front : List ℕ) (taken index done : Building) → Made options entries front taken index
+    → done ≡ building index.interval (index.entries ++ closing taken.interval front taken.entries)
+    → (length (block_bytes index.interval index.entries) < 2 ^ 32 → length (block_bytes done.interval done.entries) < 2 ^ 32)
+    → length (index_block options.restart_interval (groups_by options entries)) < 2 ^ 32
+end_small options entries front taken index done m is small =
+    let before : block_bytes index.interval index.entries ≡ index_block options.restart_interval m.groups =
+    ap (λ (n : ℕ). block_bytes n index.entries) m.index_by ∙ ap (block_bytes 1) m.index_is in
+    let short = small (subst (λ (xs : List ℕ). length xs < 2 ^ 32) (sym before) m.index_small) in
+    subst (λ (gs : List (List Entry)). length (index_block options.restart_interval gs) < 2 ^ 32) (sym (made_groups options entries front taken index m))
+    (subst (λ (xs : List ℕ). length xs < 2 ^ 32) (ap (λ (x : Building). block_bytes x.interval x.entries) is ∙ sym (closing_index options entries front taken index m)) short)
+
 -- what stands when the last block is closed
 pub record Ended (options : TableOptions) (entries : List Entry) (after : List ℕ) (done : Building) (groups : List (List Entry)) : Type 0 where
   pub front_is : after ≡ data_text options.restart_interval groups

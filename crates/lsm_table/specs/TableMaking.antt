@@ -53,6 +53,7 @@ pub record Made (options : TableOptions) (entries : List Entry) (front : List �
   pub taken_by : taken.interval ≡ options.restart_interval
   pub index_by : index.interval ≡ 1
   pub room : is_full options taken.entries ≡ true → length (index_block options.restart_interval (groups ++ last_group taken.entries)) < 2 ^ 32
+  pub index_small : length (index_block options.restart_interval groups) < 2 ^ 32
   pub small : length (block_bytes options.restart_interval taken.entries) < 2 ^ 32
   pub short : length front < 2 ^ 63
 

@@ -155,12 +155,14 @@ impl TableBuilder {
         }
     }
 
-    /// The table of the entries. `TooLarge` where the index block would pass 2^32 - 1 bytes.
+    /// The table of the entries. `TooLarge` just where the index block would pass 2^32 - 1 bytes.
     pub fn finish(self) -> Result<Vec<u8>, BuildFault>
         ensures bytes { IfOk result (λ v. v.items ≡ table_bytes self.options self.entries) }
         ensures table { IfOk result (λ v. IsTable v.items self.entries) }
         ensures large { result ≡ Err TooLarge → 2 ^ 32 ≤ length
             (index_block self.options.restart_interval (groups_by self.options self.entries)) }
+        ensures fits { OnOk result (length (index_block self.options.restart_interval
+            (groups_by self.options self.entries)) < 2 ^ 32) }
     {
         let TableBuilder {
             alloc,
@@ -247,6 +249,8 @@ fn close(
     ensures large { result ≡ Err TooLarge
         → 2 ^ 32 ≤ length (block_bytes index.old.interval (index.old.entries
         ++ index_of taken.old.interval (length front.old.items) (last_group taken.old.entries))) }
+    ensures fits { OnOk result (length (block_bytes index.old.interval index.old.entries) < 2 ^ 32
+        → length (block_bytes index.new.interval index.new.entries) < 2 ^ 32) }
 {
     let Some(key) = taken.last_key() else {
         return Ok(());

@@ -1,7 +1,7 @@
 //! A table on its way to a shelf: begun, built, and put.
 
-ghost use Rattle.std.specs.Prelude.{◌≡◌, ◌≤◌, ◌^◌, [], ◌∷◌, ◌++◌, length, Some, IfErr, IfOk, OnErr};
-ghost use Rattle.std.specs.Prelude.{OnOk, Err};
+ghost use Rattle.std.specs.Prelude.{◌≡◌, ◌<◌, ◌≤◌, ◌^◌, [], ◌∷◌, ◌++◌, length, Some, IfErr, IfOk};
+ghost use Rattle.std.specs.Prelude.{OnErr, OnOk, Err};
 ghost use Rattle.lsm_codec.specs.KeyRef.{key_of};
 ghost use Rattle.lsm_block.specs.Block.{Ascends, entry_of};
 ghost use Rattle.lsm_block.specs.Building.{last_key};
@@ -104,13 +104,15 @@ impl BegunTable {
         self.builder.written()
     }
 
-    /// The image of the table of its entries. `TooLarge` where the index block would pass 2^32 - 1
-    /// bytes.
+    /// The image of the table of its entries. `TooLarge` just where the index block would pass 2^32
+    /// - 1 bytes.
     pub fn finish(self, alloc: Global) -> Result<TableImage, BuildFault>
         ensures bytes { IfOk result (λ i. i.bytes ≡ table_bytes self.options self.entries) }
         ensures image { IfOk result (λ i. IsImage self.entries i.smallest i.largest i.bytes) }
         ensures large { result ≡ Err TooLarge → 2 ^ 32 ≤ length
             (index_block self.options.restart_interval (groups_by self.options self.entries)) }
+        ensures fits { OnOk result (length (index_block self.options.restart_interval
+            (groups_by self.options self.entries)) < 2 ^ 32) }
     {
         let largest = self.last_key().to_bytes(alloc)?;
         let BegunTable { smallest, builder } = self;

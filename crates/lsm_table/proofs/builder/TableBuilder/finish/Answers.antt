@@ -1,4 +1,4 @@
-use Rattle.std.proofs.Common.{◌≡◌, ◌^◌, ◌≤◌, length, Err, ap, subst, arith}
+use Rattle.std.proofs.Common.{◌≡◌, ◌^◌, ◌<◌, ◌≤◌, length, Err, ap, subst, arith}
 use Rattle.std.proofs.lemmas.Result.{err_from_is_err_and}
 use Rattle.lsm_block.specs.declared.build_fault.BuildFault.{BuildFault}
 use Rattle.lsm_block.specs.declared.build_fault.BuildFault.TheVariants.{TooLarge}
@@ -6,7 +6,7 @@ use Rattle.lsm_table.specs.Table.{IsTable}
 use Rattle.lsm_table.specs.TableBuilding.{index_block, groups_by, table_bytes}
 use Rattle.lsm_table.specs.TableMaking.{Making, entries_made}
 use Rattle.lsm_table.proofs.SettleLaws.{closing_ascends}
-use Rattle.lsm_table.proofs.StepLaws.{end_large, end_bytes, end_table}
+use Rattle.lsm_table.proofs.StepLaws.{end_large, end_bytes, end_small, end_table}
 use Rattle.lsm_table.proofs.builder.TableBuilder.finish.Goals as goal
 
 pub close-requires : goal.close-requires
@@ -38,3 +38,10 @@ returns-clause-table c =
     subst (λ (x : Making). IsTable file.items x.entries) c.self.view_is
     (end_table i.options es i.front.items c.close.new.front.items file.items i.taken i.index c.close.new.index c.self.invariant c.in_ok-close.ensures.ok c.in_ok-close.ensures.indexed c.in_ok-end.ensures.bytes
     c.in_ok-close.ensures.block c.in_ok-end.ensures.block (omega (arith, file.small, file.ok.0, file.ok.1)))
+
+pub returns-clause-fits : goal.returns-clause-fits
+returns-clause-fits c =
+    let i = c.self.inside in
+    let es = entries_made i.front.items i.index.entries i.taken.entries in
+    subst (λ (x : Making). length (index_block x.options.restart_interval (groups_by x.options x.entries)) < 2 ^ 32) c.self.view_is
+    (end_small i.options es i.front.items i.taken i.index c.close.new.index c.self.invariant c.in_ok-close.ensures.indexed c.in_ok-close.ensures.fits)
