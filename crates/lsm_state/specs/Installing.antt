@@ -9,6 +9,7 @@ use Rattle.lsm_codec.specs.Lists.{Has}
 use Rattle.lsm_levels.specs.Files.{all_entries}
 use Rattle.lsm_shelf.specs.Told.{Told, CountedBy}
 use Rattle.lsm_table.specs.Registry.{Table}
+use Rattle.lsm_manifest.specs.EditWriting.{AreInOrder}
 use Rattle.lsm_manifest.specs.Replay.{Deletion}
 use Rattle.lsm_levels.specs.Plain.{IsReadable}
 use Rattle.lsm_levels.specs.Runs.{Install, Run, Spend}
@@ -52,10 +53,11 @@ abbrev pub IsPointer : ℕ → List Table → Option (ℕ × List ℕ) → Type 
 IsPointer level ts None = ts ≡ []
 IsPointer level ts (Some p) = (p.0 ≡ level) × IsLargestKey ts p.1
 
--- The inputs go, the outputs come one level down, the job's level gets the largest key of its inputs there as its pointer, and the last
--- sequence stays.
+-- The inputs go, by level, then number; the outputs come one level down, the job's level gets the largest key of its inputs there as its
+-- pointer, and the last sequence stays.
 pub record IsInstallChange (d : Done) (last : ℕ) (c : Difference) : Type 0 where
   pub deleted : IsPermutation (inputs_gone d.work) c.deleted
+  pub ordered : AreInOrder c.deleted
   pub added : c.added ≡ added_at (suc d.work.level) d.outputs
   pub pointer : IsPointer d.work.level d.work.upper c.pointer
   pub last_is : c.last ≡ last

@@ -135,5 +135,8 @@ pub(crate) fn change_of<N: Naming, S: Shelf>(
     let added = placed_at(alloc, level + 1, done.outputs())?;
     added_keys_fit(registry, &added);
     let pointer = pointer_of(alloc, registry, level, job.upper())?;
-    Ok(VersionChange::new(deleted, added, pointer, last))
+    let change = VersionChange::new(deleted, added, pointer, last);
+    // What holds of the change is told by this call.
+    let _last = change.last();
+    Ok(change)
 }

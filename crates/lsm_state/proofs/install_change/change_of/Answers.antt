@@ -7,8 +7,8 @@ use Rattle.lsm_merge.specs.Work.{Work}
 use Rattle.lsm_state.proofs.InstallLaws.{added_levels, deleted_levels}
 use Rattle.lsm_state.proofs.install_change.change_of.Goals as goal
 
-pub new-requires-clause-deleted : goal.new-requires-clause-deleted
-new-requires-clause-deleted g c κs within =
+pub new-change-requires-clause-deleted : goal.new-change-requires-clause-deleted
+new-change-requires-clause-deleted g c κs within =
     let low = (c.job-job.ensures.finished).low in
     let job = c.job-job.ensures.job in
     let level = c.level-level.ensures.level in
@@ -16,8 +16,8 @@ new-requires-clause-deleted g c κs within =
     deleted_levels c.level-level.result c.upper.result.now c.lower.result.now c.new-deleted.result.items c.push_deleted.new.deleted.items c.push_deleted-2.new.deleted.items
     low_level c.new-deleted.ensures.items c.in_ok-push_deleted.ensures c.in_ok-push_deleted-2.ensures
 
-pub new-requires-clause-added : goal.new-requires-clause-added
-new-requires-clause-added g c κs within =
+pub new-change-requires-clause-added : goal.new-change-requires-clause-added
+new-change-requires-clause-added g c κs within =
     let low = (c.job-job.ensures.finished).low in
     let job = c.job-job.ensures.job in
     let level = c.level-level.ensures.level in
