@@ -8,5 +8,6 @@ pub mod Judged
 pub mod UnsettledFiles
 pub mod ReachingFiles
 pub mod Chosen
+pub mod Counts
 pub mod AgeLaws
 pub mod Refused

@@ -1,5 +1,5 @@
 -- Judging where a table begins and ends says where its entries do.
-use Rattle.std.proofs.Common.{◌≡◌, ℕ, ◌≤◌, Bool, true, false, List, [], ◌∷◌, ◌++◌, append-nil, append_assoc, Option, Some, None, cond, arith, Ordering, Less, Equal, Greater, refl, sym, ap, subst, inl, inr}
+use Rattle.std.proofs.Common.{◌≡◌, ℕ, ◌≤◌, Bool, true, false, List, [], ◌∷◌, ◌++◌, append-nil, append_assoc, length-append, Option, Some, None, cond, arith, Ordering, Less, Equal, Greater, refl, sym, ap, subst, inl, inr}
 use Rattle.std.specs.Prelude.{◌⊎◌, ◌&&◌, nat_le, MatchOption}
 use Rattle.std.specs.Ordering.{is_eq}
 use Rattle.std.proofs.lemmas.Bool.{and_parts, and_from, cases_lt, leb-true, le-leb}
@@ -10,7 +10,7 @@ use Rattle.lsm_codec.specs.Keys.{InternalKey, IsKey, key_cmp}
 use Rattle.lsm_codec.specs.Entries.{Entry, internal_key}
 use Rattle.lsm_codec.proofs.CallerLemmas.{has_cases, has_left, has_right, key_cmp-Equal, key_cmp-same}
 use Rattle.lsm_levels.specs.Streams.{IsAscending}
-use Rattle.lsm_check.specs.CheckedFiles.{IsSpanned, starts_with, ends_at, ends_with, spread, walked, walked_all}
+use Rattle.lsm_check.specs.CheckedFiles.{IsSpanned, starts_with, ends_at, ends_with, of_one, spread, walked, walked_all}
 
 -- ---- what the tests say
 
@@ -111,14 +111,16 @@ record_more front s e a = record {
     | inl lt ↦ (e, has_right front (e ∷ []) e (inl refl), omega arith)
     | inr ge ↦ (let l = a.greatest in let is = l.2 in (l.0, has_left front (e ∷ []) l.0 l.1, omega arith))
   ];
+  count = omega (arith, length-append front (e ∷ []), a.count);
 }
 
-sequences_of_one : (e : Entry) → AreSequencesOf (e ∷ []) (record { least = e.seq; greatest = e.seq })
+sequences_of_one : (e : Entry) → AreSequencesOf (e ∷ []) (of_one e.seq)
 sequences_of_one e = record {
   above = λ x h. elim h [ inl same ↦ (let at : e.seq ≡ x.seq = ap (λ (y : Entry). y.seq) same in omega arith) | inr none ↦ absurd none ];
   below = λ x h. elim h [ inl same ↦ (let at : e.seq ≡ x.seq = ap (λ (y : Entry). y.seq) same in omega arith) | inr none ↦ absurd none ];
   least = (e, inl refl, refl);
   greatest = (e, inl refl, refl);
+  count = refl;
 }
 
 -- what a walk that came to the end says
@@ -179,7 +181,7 @@ walk_says last smallest largest es first end r ks kl same_first same_end up is =
         on = Some (internal_key e)
 
         one : Sequences
-        one = record { least = e.seq; greatest = e.seq }
+        one = of_one e.seq
 
         finish : (o : Option Sequences) → walked last end on one es ≡ o → is_eq (key_cmp (internal_key e) first) ≡ true → nat_le e.seq last ≡ true → IsWalk last smallest largest (e ∷ es) o
         finish None w b l = not_spanned (e ∷ es) (λ h. (let ends = walked_none last end on one es w in let parts = and_parts (starts_with first (e ∷ es)) (ends_with last end None (e ∷ es)) h in

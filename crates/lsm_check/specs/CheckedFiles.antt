@@ -1,5 +1,5 @@
 -- What a check reads of the files of a shape, and how it judges one of them (this project's rule; the shape is that of the manifest).
-use Rattle.std.specs.Prelude.{◌≡◌, ℕ, ◌≤◌, min, max, Bool, false, ◌&&◌, cond, List, [], ◌∷◌, Option, Some, None, length, nat_le}
+use Rattle.std.specs.Prelude.{◌≡◌, ℕ, ◌+◌, ◌≤◌, min, max, Bool, false, ◌&&◌, cond, List, [], ◌∷◌, Option, Some, None, length, nat_le}
 use Rattle.std.specs.Ordering.{is_eq}
 use Rattle.lsm_codec.specs.Lists.{Has}
 use Rattle.lsm_codec.specs.Keys.{InternalKey, IsKey, key_cmp}
@@ -50,9 +50,13 @@ abbrev pub ends_with : ℕ → InternalKey → Option InternalKey → List Entry
 ends_with last key before [] = ends_at key before
 ends_with last key before (e ∷ es) = nat_le e.seq last && ends_with last key (Some (internal_key e)) es
 
--- the least and the greatest sequence with one more
+-- the sequences of one entry
+abbrev pub of_one : ℕ → Sequences
+of_one seq = record { least = seq; greatest = seq; count = 1 }
+
+-- those with one more
 abbrev pub spread : Sequences → ℕ → Sequences
-spread s seq = record { least = min s.least seq; greatest = max s.greatest seq }
+spread s seq = record { least = min s.least seq; greatest = max s.greatest seq; count = s.count + 1 }
 
 -- The same walk with the sequences of the entries before: none where the test fails.
 abbrev pub walked : ℕ → InternalKey → Option InternalKey → Sequences → List Entry → Option Sequences
@@ -63,4 +67,4 @@ walked last key before s (e ∷ es) = cond (nat_le e.seq last) (walked last key 
 abbrev pub walked_all : ℕ → InternalKey → InternalKey → List Entry → Option Sequences
 walked_all last first end [] = None
 walked_all last first end (e ∷ es) =
-    cond (is_eq (key_cmp (internal_key e) first) && nat_le e.seq last) (walked last end (Some (internal_key e)) (record { least = e.seq; greatest = e.seq }) es) None
+    cond (is_eq (key_cmp (internal_key e) first) && nat_le e.seq last) (walked last end (Some (internal_key e)) (of_one e.seq) es) None

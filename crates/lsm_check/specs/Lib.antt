@@ -6,5 +6,6 @@ pub mod CheckRefusal
 pub mod Loading
 pub mod LevelLayouts
 pub mod Settled
+pub mod Counts
 -- What private functions and proofs cite alone
 pub mod Chosen

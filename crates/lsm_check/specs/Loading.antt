@@ -4,8 +4,10 @@ use Rattle.std.specs.List.Sorted.{IsStrictlySortedBy}
 use Rattle.lsm_table.specs.Registry.{Table}
 use Rattle.lsm_manifest.specs.FileOrder.{TableFile, file_cmp}
 use Rattle.lsm_version.specs.Changes.{placed_all}
-use Rattle.lsm_check.specs.CheckedFiles.{IsFileOf}
-use Rattle.lsm_check.specs.Settled.{AreSequences, AreLevelSequences}
+use Rattle.lsm_table.specs.Table.{IsTable}
+use Rattle.lsm_table.specs.HeldTable.{entries_in}
+use Rattle.lsm_check.specs.CheckedFiles.{IsFileOf, IsSpanned}
+use Rattle.lsm_check.specs.Settled.{AreSequences, AreSequencesOf, AreLevelSequences}
 use Rattle.lsm_check.specs.declared.sequences.Sequences.{Sequences}
 
 -- the files of all levels
@@ -17,6 +19,21 @@ all_files (files ∷ levels) = files ++ all_files levels
 abbrev pub AreInFileOrder : List (List TableFile) → Type 0
 AreInFileOrder [] = Unit {0}
 AreInFileOrder (files ∷ levels) = IsStrictlySortedBy file_cmp files × AreInFileOrder levels
+
+-- The table of a file, read and judged: what the registry is to have of it, its sequences, and the last sequence, above which it has none.
+pub record Judged : Type 0 where
+  pub number : ℕ
+  pub smallest : List ℕ
+  pub largest : List ℕ
+  pub image : List ℕ
+  pub sequences : Sequences
+  pub last : ℕ
+
+-- The image is a table that begins and ends at these keys, has no entry above the last sequence, and has these sequences.
+pub record IsJudged (last : ℕ) (smallest largest image : List ℕ) (s : Sequences) : Type 0 where
+  pub table : IsTable image (entries_in image)
+  pub spanned : IsSpanned last smallest largest (entries_in image)
+  pub sequences : AreSequencesOf (entries_in image) s
 
 -- ---- tables for files
 

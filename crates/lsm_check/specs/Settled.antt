@@ -33,12 +33,13 @@ IsOneUnsettled v n = (F : File) × (G : File) × Has v F × Has v G × IsUnsettl
 
 -- ---- the sequences of a table
 
--- the least and the greatest sequence of these entries
+-- the least and the greatest sequence of these entries, and how many there are
 pub record AreSequencesOf (entries : List Entry) (s : Sequences) : Type 0 where
   pub above : (e : Entry) → Has entries e → s.least ≤ e.seq
   pub below : (e : Entry) → Has entries e → e.seq ≤ s.greatest
   pub least : (e : Entry) × Has entries e × (e.seq ≡ s.least)
   pub greatest : (e : Entry) × Has entries e × (e.seq ≡ s.greatest)
+  pub count : s.count ≡ length entries
 
 -- those of each table of a level
 abbrev pub AreSequences : List Table → List Sequences → Type 0

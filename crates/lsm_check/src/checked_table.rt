@@ -16,10 +16,7 @@ use crate::check_fault::CheckFault;
 use crate::sequences::Sequences;
 use crate::span::sequences_of;
 use lsm_manifest::FileMeta;
-use lsm_table::{
-    NamedShelf, Naming, ReadFault, Registry, Shelf, Table, TableFault, TableRecord, TableRef,
-};
-use lsm_version::copy_of;
+use lsm_table::{NamedShelf, Naming, ReadFault, Shelf, Table, TableFault};
 use std::alloc::{AllocError, Global};
 use std::sync::Wait;
 
@@ -95,30 +92,5 @@ pub(crate) fn read_table<N: Naming, S: Shelf, R: Wait>(
         Ok(Some(sequences)) => Ok((receipt, sequences)),
         Ok(None) => Err(CheckFault::WrongRange(file.number)),
         Err(AllocError) => Err(want(file)),
-    }
-}
-
-/// Adds the record of a file to the registry.
-pub(crate) fn record_table<N: Naming, S: Shelf, R: Wait>(
-    rt: &R,
-    alloc: Global,
-    registry: &Registry<N, S>,
-    file: &FileMeta,
-    receipt: S::Receipt,
-) -> Result<TableRef<N, S>, AllocError>
-    requires here { S.is_of N.place receipt }
-    ensures number { IfOk result (λ t. t.number ≡ S.Receipt.number receipt) }
-    ensures smallest { IfOk result (λ t. t.smallest ≡ file.now.smallest) }
-    ensures largest { IfOk result (λ t. t.largest ≡ file.now.largest) }
-    ensures image { IfOk result (λ t. t.image ≡ S.Receipt.image receipt) }
-{
-    let row = TableRecord {
-        smallest: copy_of(alloc, file.smallest.as_slice())?,
-        largest: copy_of(alloc, file.largest.as_slice())?,
-        receipt,
-    };
-    match registry.push(rt, row) {
-        Ok(table) => Ok(table),
-        Err(_row) => Err(AllocError),
     }
 }

@@ -5,6 +5,7 @@ ghost use Rattle.lsm_shelf.specs.Stored.{Stored};
 ghost use Rattle.lsm_shelf.specs.Asked.{Load};
 ghost use Rattle.lsm_table.specs.Told.{Becomes};
 ghost use Rattle.lsm_check.specs.CheckFault.{CheckCounted};
+ghost use Rattle.lsm_check.specs.Counts.{count_of};
 ghost use Rattle.lsm_check.specs.CheckRefusal.{AreTablesOf, IsOfShape, IsRefusal};
 ghost use Rattle.lsm_check.specs.Settled.{IsSettled, KeepsAge};
 ghost use Rattle.lsm_version.specs.FileNumbers.{AreDistinct, numbers_of};
@@ -12,7 +13,9 @@ ghost use Rattle.lsm_version.specs.Versions.{IsSound, files, files_from};
 
 use crate::ages::judge_ages;
 use crate::check_fault::CheckFault;
+use crate::entry_counts::counts_of;
 use crate::file_numbers::judge_numbers;
+use crate::judged_tables::JudgedTables;
 use crate::layouts::judge_layouts;
 use crate::loading::load_levels;
 use crate::unsettled::unsettled_files;
@@ -22,25 +25,28 @@ use lsm_version::{Version, copies_of};
 use std::alloc::Global;
 use std::sync::{Arc, Wait};
 
-/// Reads and judges the tables of a shape, level by level.
+/// Reads and judges the tables of a shape, level by level, and counts the entries of each level.
 fn check_levels<N: Naming, S: Shelf, R: Wait>(
     shelf: &mut NamedShelf<N, S>,
     rt: &R,
     alloc: Global,
     registry: &Registry<N, S>,
+    ahead: JudgedTables<N, S>,
     shape: &Shape,
-) -> Result<Vec<Vec<TableRef<N, S>>>, CheckFault>
+) -> Result<(Vec<Vec<TableRef<N, S>>>, Vec<u64>), CheckFault>
     ensures tables { IfOk result (λ v. AreTablesOf (Stored S.Receipt (S.is_of N.place)
-        S.Receipt.number S.Receipt.image) shape.now (map (λ l. l.items) v.items)) }
-    ensures seven { IfOk result (λ v. length v.items ≡ 7) }
+        S.Receipt.number S.Receipt.image) shape.now (map (λ l. l.items) v.0.items)) }
+    ensures seven { IfOk result (λ v. length v.0.items ≡ 7) }
     ensures judged { IfOk result (λ v. (pointers : List (Option (List ℕ)))
-        → KeepsAge (files_from 0 (map (λ l. l.items) v.items)) → IsSound record {
-          tables = map (λ l. l.items) v.items;
+        → KeepsAge (files_from 0 (map (λ l. l.items) v.0.items)) → IsSound record {
+          tables = map (λ l. l.items) v.0.items;
           pointers = pointers;
           last = shape.now.last;
         }) }
     ensures ages { S.honest
-        → IfOk result (λ v. KeepsAge (files_from 0 (map (λ l. l.items) v.items))) }
+        → IfOk result (λ v. KeepsAge (files_from 0 (map (λ l. l.items) v.0.items))) }
+    ensures entries { IfOk result (λ v.
+        v.1.items ≡ map count_of (map (λ l. l.items) v.0.items)) }
     ensures refused { IfErr result (λ e.
         IsRefusal (Stored S.Receipt (S.is_of N.place) S.Receipt.number S.Receipt.image) (λ number.
         S.refuses N.place (Load number)) S.honest shape.now e) }
@@ -48,11 +54,13 @@ fn check_levels<N: Naming, S: Shelf, R: Wait>(
     ensures cause { IfErr result (λ e. CheckCounted e shelf.old shelf.new) }
 {
     judge_numbers(alloc, &shape.levels)?;
-    let (levels, sequences) = load_levels(shelf, rt, alloc, registry, shape)?;
+    let mut ahead = ahead;
+    let (levels, sequences) = load_levels(shelf, rt, alloc, registry, &mut ahead, shape)?;
     judge_layouts(alloc, registry, &levels)?;
     let unsettled = unsettled_files(alloc, registry, &levels, &sequences)?;
     judge_ages(shelf, alloc, registry, &levels, &unsettled)?;
-    Ok(levels)
+    let counts = counts_of(alloc, &sequences)?;
+    Ok((levels, counts))
 }
 
 /// The version of a shape: reads every table of it from the shelf, one image at a time, and
@@ -99,9 +107,40 @@ pub fn check<N: Naming, S: Shelf, R: Wait>(
     ensures told { Becomes shelf.old shelf.new }
     ensures cause { IfErr result (λ e. CheckCounted e shelf.old shelf.new) }
 {
-    let levels = check_levels(shelf, rt, alloc, &registry, shape)?;
+    let none = JudgedTables::none(alloc);
+    let (version, _counts) = check_by(shelf, rt, alloc, shape, registry, none)?;
+    Ok(version)
+}
+
+/// The same, of which these tables were judged before, as `judge_ahead` does. Whichever they are,
+/// the answer is one that `check` gives: such a table was read from these contents and judged as
+/// this call does, and each other one is read and judged here, in the order of the files, so that
+/// the first refusal is this call's own. With the version comes how many entries each level has.
+pub fn check_by<N: Naming, S: Shelf, R: Wait>(
+    shelf: &mut NamedShelf<N, S>,
+    rt: &R,
+    alloc: Global,
+    shape: &Shape,
+    registry: Arc<Registry<N, S>>,
+    ahead: JudgedTables<N, S>,
+) -> Result<(Version<N, S>, Vec<u64>), CheckFault>
+    ensures shape { IfOk result (λ r. IsOfShape shape.now r.0) }
+    ensures numbers { IfOk result (λ _. AreDistinct (numbers_of shape.now.levels)) }
+    ensures sound { S.honest → IfOk result (λ r. IsSound r.0) }
+    // Whatever the shelf is.
+    ensures settled { IfOk result (λ r. IsSettled (files r.0) → IsSound r.0) }
+    ensures judged { IfOk result (λ r. KeepsAge (files r.0) → IsSound r.0) }
+    ensures entries { IfOk result (λ r. r.1.items ≡ map count_of r.0.tables) }
+    ensures refused { IfErr result (λ e.
+        IsRefusal (Stored S.Receipt (S.is_of N.place) S.Receipt.number S.Receipt.image) (λ number.
+        S.refuses N.place (Load number)) S.honest shape.now e) }
+    ensures told { Becomes shelf.old shelf.new }
+    ensures cause { IfErr result (λ e. CheckCounted e shelf.old shelf.new) }
+{
+    let (levels, counts) = check_levels(shelf, rt, alloc, &registry, ahead, shape)?;
     let pointers = copies_of(alloc, &shape.pointers)?;
-    Ok(Version::of(registry, levels, pointers, shape.last))
+    let version = Version::of(registry, levels, pointers, shape.last);
+    Ok((version, counts))
 }
 
 ghost use Rattle.lsm_manifest.specs.declared.shape.Shape.{Shape};

@@ -10,8 +10,12 @@
 mod checking;
 
 // The files of a shape and their tables.
+mod ahead;
 mod checked_table;
+mod entry_counts;
 mod file_numbers;
+mod judged_table;
+mod judged_tables;
 mod loading;
 mod sequences;
 mod span;
@@ -29,5 +33,7 @@ mod ages;
 mod check_fault;
 mod hex_key;
 
+pub use ahead::{NoWatch, Watch, judge_ahead};
 pub use check_fault::CheckFault;
-pub use checking::{check, shapes_in_order};
+pub use checking::{check, check_by, shapes_in_order};
+pub use judged_tables::JudgedTables;

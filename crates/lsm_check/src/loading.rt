@@ -7,7 +7,7 @@ ghost use Rattle.lsm_table.specs.HeldTable.{entries_in};
 ghost use Rattle.lsm_table.specs.Told.{Becomes};
 ghost use Rattle.lsm_version.specs.Changes.{placed_in};
 ghost use Rattle.lsm_check.specs.CheckFault.{CheckCounted};
-ghost use Rattle.lsm_check.specs.CheckedFiles.{IsFileOf};
+ghost use Rattle.lsm_check.specs.CheckedFiles.{IsFileOf, IsImageOf};
 ghost use Rattle.lsm_check.specs.FileRefusal.{IsFileRefusal, IsFilesRefusal};
 ghost use Rattle.lsm_check.specs.Loading.{AreRead, IsLevelRead, all_files};
 ghost use Rattle.lsm_check.specs.Settled.{AreSequences, AreSequencesOf};
@@ -15,7 +15,9 @@ ghost use Rattle.lsm_version.specs.Versions.{AreInOrder, stands_before};
 ghost use Rattle.lsm_shelf.specs.Stored.{Stored};
 
 use crate::check_fault::CheckFault;
-use crate::checked_table::{read_table, record_table, want};
+use crate::checked_table::want;
+use crate::judged_table::{JudgedTable, judge_table};
+use crate::judged_tables::JudgedTables;
 use crate::sequences::Sequences;
 use lsm_codec::List;
 use lsm_manifest::{FileMeta, Shape};
@@ -24,13 +26,38 @@ use lsm_version::index_in;
 use std::alloc::{AllocError, Global};
 use std::sync::Wait;
 
-/// Reads and judges the table of a file, and adds its record. Of the image nothing stays but the
-/// receipt.
+/// The table of a file: the one that was judged ahead, or it is read and judged.
+fn judged_table<N: Naming, S: Shelf, R: Wait>(
+    shelf: &mut NamedShelf<N, S>,
+    rt: &R,
+    alloc: Global,
+    ahead: &mut JudgedTables<N, S>,
+    file: &FileMeta,
+    last: u64,
+) -> Result<JudgedTable<N, S>, CheckFault>
+    ensures number { IfOk result (λ t. t.number ≡ file.now.number) }
+    ensures smallest { IfOk result (λ t. t.smallest ≡ file.now.smallest) }
+    ensures largest { IfOk result (λ t. t.largest ≡ file.now.largest) }
+    ensures image { IfOk result (λ t. IsImageOf last file.now t.image) }
+    ensures refused { IfErr result (λ e. IsFileRefusal
+        (λ image. (r : S.Receipt) × S.is_of N.place r × (S.Receipt.number r ≡ file.now.number)
+        × (S.Receipt.image r ≡ image)) (S.refuses N.place (Load file.now.number)) last file.now e) }
+    ensures told { Becomes shelf.old shelf.new }
+    ensures cause { IfErr result (λ e. CheckCounted e shelf.old shelf.new) }
+{
+    match ahead.take(file, last) {
+        Some(table) => Ok(table),
+        None => judge_table(shelf, rt, alloc, file, last),
+    }
+}
+
+/// Adds the record of a file's table. Of the image nothing stays but the receipt.
 fn load_file<N: Naming, S: Shelf, R: Wait>(
     shelf: &mut NamedShelf<N, S>,
     rt: &R,
     alloc: Global,
     registry: &Registry<N, S>,
+    ahead: &mut JudgedTables<N, S>,
     file: &FileMeta,
     last: u64,
 ) -> Result<(TableRef<N, S>, Sequences), CheckFault>
@@ -44,9 +71,9 @@ fn load_file<N: Naming, S: Shelf, R: Wait>(
     ensures told { Becomes shelf.old shelf.new }
     ensures cause { IfErr result (λ e. CheckCounted e shelf.old shelf.new) }
 {
-    let (receipt, sequences) = read_table(shelf, rt, alloc, file, last)?;
-    match record_table(rt, alloc, registry, file, receipt) {
-        Ok(record) => Ok((record, sequences)),
+    let table = judged_table(shelf, rt, alloc, ahead, file, last)?;
+    match table.record(rt, registry) {
+        Ok(recorded) => Ok(recorded),
         Err(AllocError) => Err(want(file)),
     }
 }
@@ -78,6 +105,7 @@ fn load_level<N: Naming, S: Shelf, R: Wait>(
     rt: &R,
     alloc: Global,
     registry: &Registry<N, S>,
+    ahead: &mut JudgedTables<N, S>,
     files: &[FileMeta],
     last: u64,
 ) -> Result<(Vec<TableRef<N, S>>, Vec<Sequences>), CheckFault>
@@ -93,18 +121,20 @@ fn load_level<N: Naming, S: Shelf, R: Wait>(
     let mut tables = Vec::new(alloc);
     let mut sequences = Vec::new(alloc);
     for file in files {
-        let (table, own) = load_file(shelf, rt, alloc, registry, file, last)?;
+        let (table, own) = load_file(shelf, rt, alloc, registry, ahead, file, last)?;
         insert_in_order(registry, &mut tables, &mut sequences, table, own)?;
     }
     Ok((tables, sequences))
 }
 
-/// Reads the files of all levels of a shape: the tables of each level, and their sequences.
+/// Reads the files of all levels of a shape: the tables of each level, and their sequences. What
+/// was judged ahead is not read again.
 pub(crate) fn load_levels<N: Naming, S: Shelf, R: Wait>(
     shelf: &mut NamedShelf<N, S>,
     rt: &R,
     alloc: Global,
     registry: &Registry<N, S>,
+    ahead: &mut JudgedTables<N, S>,
     shape: &Shape,
 ) -> Result<(Vec<Vec<TableRef<N, S>>>, Vec<Vec<Sequences>>), CheckFault>
     ensures read { IfOk result (λ v.
@@ -121,7 +151,15 @@ pub(crate) fn load_levels<N: Naming, S: Shelf, R: Wait>(
     let mut tables = Vec::new(alloc);
     let mut sequences = Vec::new(alloc);
     for level in levels {
-        let (here, own) = load_level(shelf, rt, alloc, registry, level.as_slice(), shape.last)?;
+        let (here, own) = load_level(
+            shelf,
+            rt,
+            alloc,
+            registry,
+            ahead,
+            level.as_slice(),
+            shape.last,
+        )?;
         tables.push(here)?;
         sequences.push(own)?;
     }

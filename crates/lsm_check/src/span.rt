@@ -55,7 +55,7 @@ fn walk_on(
         if here.seq > last {
             return Ok(None);
         }
-        sequences = sequences.with(here.seq);
+        sequences = sequences.with(here.seq)?;
     }
     if ends_at(&*entries, end) {
         Ok(Some(sequences))

@@ -13,6 +13,8 @@ use Rattle.lsm_check.specs.Settled.{AreLevelSequences, AreUnsettled, DeeperRise,
 use Rattle.lsm_version.specs.Versions.{files_from}
 use Rattle.lsm_check.proofs.LevelReads.{same_length}
 use Rattle.lsm_check.proofs.Judged.{length-placed, placed_whole, sound_version, sound_tables, judged_mergeable, judged_rise, placed_fit}
+use Rattle.lsm_check.proofs.Counts.{levels_counted}
+use Rattle.lsm_check.specs.Counts.{counted}
 use Rattle.lsm_check.proofs.Refused.{files_refused, layout_refused, ages_refused}
 use Rattle.lsm_check.proofs.checking.check_levels.Goals as goal
 
@@ -127,3 +129,9 @@ returns-clause-judged g c pointers ages =
 
 pub returns-clause-ages : goal.returns-clause-ages
 returns-clause-ages g c = λ h. subst (λ ts. KeepsAge (files_from 0 (map (λ l. l.items) ts))) c.deref-4.ensures.value (c.in_ok-judge_ages.ensures.ok h)
+
+pub returns-clause-entries : goal.returns-clause-entries
+returns-clause-entries g c =
+    let counts : c.in_ok-counts.counts.items ≡ map counted (map (λ l. l.items) c.in_ok-levels.sequences.items) =
+    c.in_ok-counts.ensures ∙ ap (λ ss. map counted (map (λ l. l.items) ss)) c.deref-6.ensures.value in
+    counts ∙ levels_counted (map (λ l. l.items) c.in_ok-levels.levels.items) (map (λ l. l.items) c.in_ok-levels.sequences.items) c.in_ok-levels.ensures.read.sequences

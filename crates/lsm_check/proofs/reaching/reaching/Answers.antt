@@ -6,7 +6,7 @@ use Rattle.lsm_check.proofs.reaching.reaching.Goals.{then-table-greatest+in_ok-p
 
 -- what a list gives past its end
 abbrev nothing : Aged
-nothing = record { number = 0; sequences = record { least = 0; greatest = 0 } }
+nothing = record { number = 0; sequences = record { least = 0; greatest = 0; count = 0 } }
 
 pub loop-table-init : goal.loop-table-init
 loop-table-init c = subst (λ (ns : List ℕ). Walked c.args.aged.now 0 0 ns) (sym c.new-numbers.ensures.items) (walk_start c.args.aged.now)
