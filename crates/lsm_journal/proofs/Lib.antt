@@ -12,3 +12,4 @@ mod FreeNumbers
 mod Finding
 mod Made
 pub mod CallerLemmas
+pub mod AfterManifest

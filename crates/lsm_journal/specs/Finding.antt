@@ -117,3 +117,11 @@ IsReadOnce (Check e) was is = Unit {0}
 IsReadOnce (Shelf e) was is = Unit {0}
 IsReadOnce NumbersSpent was is = Unit {0}
 IsReadOnce OutOfMemory was is = Unit {0}
+
+-- The manifest was read.
+abbrev pub IsAfterManifest : OpenFault → Type 0
+IsAfterManifest (Recover e) = ⊥
+IsAfterManifest (Check e) = Unit {0}
+IsAfterManifest (Shelf e) = Unit {0}
+IsAfterManifest NumbersSpent = Unit {0}
+IsAfterManifest OutOfMemory = Unit {0}

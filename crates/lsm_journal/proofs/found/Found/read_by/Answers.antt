@@ -1,0 +1,17 @@
+use Rattle.std.proofs.lemmas.Result.{err_from_is_err_and}
+use Rattle.lsm_journal.proofs.AfterManifest.{after_once}
+use Rattle.lsm_journal.proofs.found.Found.read_by.Goals as goal
+
+pub returns-in_err-manifest-clause-refused : goal.returns-in_err-manifest-clause-refused
+returns-in_err-manifest-clause-refused g c =
+    let p = err_from_is_err_and c.from_residual.result c.from_residual.ensures.1 in
+    rw (p.1, p.2) c.in_err-manifest.ensures.refused
+
+pub returns-clause-found : goal.returns-clause-found
+returns-clause-found g c = rw c.in_ok-manifest.ensures.limit at (c.of_manifest.ensures.found _ c.in_ok-manifest.ensures.found)
+
+pub returns-clause-refused : goal.returns-clause-refused
+returns-clause-refused g c = c.of_manifest.ensures.refused _ c.in_ok-manifest.ensures.found
+
+pub returns-clause-counts_err : goal.returns-clause-counts_err
+returns-clause-counts_err g c = after_once c.of_manifest.result _ _ c.of_manifest.ensures.later
