@@ -1,11 +1,13 @@
 -- Loops over the tables of a level, and over levels.
-use Rattle.std.proofs.Common.{◌≡◌, ℕ, suc, ◌+◌, ◌<◌, ◌≤◌, List, [], ◌++◌, length, get_or, drop, refl, sym, ap, ◌∙◌, subst, append_assoc, append-nil, arith}
+use Rattle.std.proofs.Common.{◌≡◌, ℕ, zero, suc, ◌+◌, ◌<◌, ◌≤◌, List, [], ◌∷◌, ◌++◌, length, get_or, map, drop, refl, sym, ap, ◌∙◌, subst, append_assoc, append-nil, arith}
 use Rattle.std.specs.List.{flat_map, sum_by}
 use Rattle.std.proofs.lemmas.List.{drop_more, drop_all}
 use Rattle.std.proofs.lemmas.List.Sums.{sum_by-drop_more}
 use Rattle.lsm_codec.specs.Lists.{Has}
 use Rattle.lsm_codec.proofs.CallerLemmas.{contains_says}
-use Rattle.lsm_reading.specs.Listing.{level_texts}
+use Rattle.lsm_table.specs.Registry.{Table}
+use Rattle.lsm_version.specs.Versions.{level_in}
+use Rattle.lsm_reading.specs.Listing.{count_of, level_texts}
 
 pub has_at : {X : Type 0} (xs : List X) (i : ℕ) (x : X) → i < length xs → x ≡ get_or xs i x → Has xs x
 has_at xs i x h e = contains_says xs x (i, h, sym e)
@@ -43,3 +45,10 @@ level_more text n before after so_far added =
 pub levels_none : (text : ℕ → List ℕ) → [] ≡ level_texts text 0
 unfolding level_texts
 levels_none text = refl
+
+-- the entries of a level, among those of each level
+pub count_in_level : (levels : List (List Table)) (n : ℕ) → get_or (map count_of levels) n 0 ≡ count_of (level_in levels n)
+count_in_level [] zero = refl
+count_in_level [] (suc n) = refl
+count_in_level (ts ∷ levels) zero = refl
+count_in_level (ts ∷ levels) (suc n) = count_in_level levels n

@@ -122,18 +122,18 @@ module _ (Stored : ℕ → List ℕ → Type 0) (Refused : Asked → ShelfFault 
   is_fault (Err e) command was mid is v rest log prev b h f = fault_later command was mid is v rest log prev e b h f
 
 pub is_done : {T : Type 0} (r : Result T DirectoryFault) (form : Form) (command : DirectoryCommand) (others : List FolderFile) (progress : Bool) (Honest : Type 0) (was mid is : Told) (v : Levels) (rest log prev : ℕ)
-    (old new said noted told : Option (List ℕ)) → Becomes mid is → Holds Honest was mid v rest log prev → (Honest → OnOk r (Prints form command v rest log prev others old new))
-    → (HasNoNote command log prev others → Keeps said noted) → (IsFalse progress → Keeps noted told) → OnOk r (IsLookedInto form command others progress Honest was is old new said told)
-is_done (Ok x) form command others progress Honest was mid is v rest log prev old new said noted told b h w q k = record {
+    (old new said judged noted told : Option (List ℕ)) → Becomes mid is → Holds Honest was mid v rest log prev → (Honest → OnOk r (Prints form command v rest log prev others old new))
+    → (IsFalse progress → Keeps said judged) → (HasNoNote command log prev others → Keeps judged noted) → (IsFalse progress → Keeps noted told) → OnOk r (IsLookedInto form command others progress Honest was is old new said told)
+is_done (Ok x) form command others progress Honest was mid is v rest log prev old new said judged noted told b h w j q k = record {
   version = v;
   rest = rest;
   log = log;
   prev = prev;
   holds = holds_later Honest was mid is v rest log prev b h;
   printed = w;
-  quiet = λ asked none. Keeps-trans said noted told (q none) (k asked);
+  quiet = λ asked none. Keeps-trans said noted told (Keeps-trans said judged noted (j asked) (q none)) (k asked);
 }
-is_done (Err e) form command others progress Honest was mid is v rest log prev old new said noted told b h w q k = search
+is_done (Err e) form command others progress Honest was mid is v rest log prev old new said judged noted told b h w j q k = search
 
 -- an absent key leaves what is written before a fault by a read of a key: nothing
 absent_leaves : (form : Form) (command : DirectoryCommand) (Honest : Type 0) (v : Levels) (old new : Option (List ℕ)) → SaysAbsent Honest command v

@@ -1,9 +1,10 @@
 -- What is printed of a version and of what it answers: this project's rule. Keys and values stand in a form: hex, or text.
 use Rattle.std.specs.Prelude.{ℕ, zero, suc, List, [], ◌∷◌, ◌++◌, length, codes, decimal, Option, Some, None}
-use Rattle.std.specs.List.{flat_map, sum_by}
-use Rattle.lsm_table.specs.HeldTable.{entries_in}
+use Rattle.std.specs.List.{flat_map}
 use Rattle.lsm_table.specs.Registry.{Table, bytes_of, size_of}
 use Rattle.lsm_version.specs.Versions.{Levels, level_in}
+-- the entries of all files
+pub use Rattle.lsm_check.specs.Counts.{count_of}
 use Rattle.lsm_text.specs.ManifestPrinting.{key_word_in, number_line}
 use Rattle.lsm_text.specs.Spelling.{spelled}
 use Rattle.lsm_text.specs.declared.form.Form.{Form}
@@ -50,10 +51,6 @@ shown_answer form Nothing None = None
 shown_answer form Nothing (Some value) = Some []
 
 -- ---- `check`
-
--- the entries of all files
-abbrev pub count_of : List Table → ℕ
-count_of ts = sum_by (λ t. length (entries_in t.image)) ts
 
 -- a word and a number
 unfoldable pub labelled : List ℕ → ℕ → List ℕ

@@ -1,20 +1,14 @@
 //! How far long work is, in lines on standard error.
 
-ghost use Rattle.std.specs.Prelude.{◌≡◌, IsFalse};
+ghost use Rattle.std.specs.Prelude.{IsFalse};
 ghost use Rattle.std.specs.Io.KnownBytes.{Keeps};
 
+use lsm_check::Watch;
 use std::io::{self, Write};
+use std::sync::{Mutex, Wait};
 
 /// A scan says how far it is each time that it has passed so many keys.
 const KEYS: u64 = 100_000;
-
-/// How far a pass over files is. `asked` says whether it is to be told.
-#[derive(Clone, Copy)]
-pub(crate) struct Progress {
-    pub(crate) asked: bool,
-    pub(crate) done: u64,
-    pub(crate) all: u64,
-}
 
 /// Writes a line: `scanned 200000 keys`.
 fn write_keys<E: Write>(err: &mut E, keys: u64) -> io::Result<()> {
@@ -38,18 +32,42 @@ pub(crate) fn tell_keys<E: Write>(err: &mut E, asked: bool, keys: u64)
     }
 }
 
-impl Progress {
-    /// One more file is done; it is said where that is asked for. What can't be written is left
-    /// out.
-    #[tactic(auto, using(lsm_directory::proofs::CallerLemmas::keeps_same))]
-    pub(crate) fn pass_file<E: Write>(&mut self, err: &mut E)
-        ensures asked { self.new.asked ≡ self.old.asked }
-        ensures quiet { IsFalse self.old.asked → Keeps (E.contents err.old) (E.contents err.new) }
-    {
-        self.done = self.done.saturating_add(1);
-        if self.asked {
-            let _ = write_files(err, self.done, self.all);
-            let _ = err.flush();
+/// What was said of files, and where.
+#[derive(Drop)]
+struct Said<'a, E: Write> {
+    err: &'a mut E,
+    files: u64,
+}
+
+impl<'a, E: Write> Said<'a, E> {
+    /// One more file is done, of so many. What can't be written is left out.
+    fn tell(&mut self, all: usize) {
+        self.files = self.files.saturating_add(1);
+        let _ = write_files(&mut *self.err, self.files, all as u64);
+        let _ = self.err.flush();
+    }
+}
+
+/// Says on standard error how many files are judged, a line for each; threads share it. What can't
+/// be written is left out.
+#[derive(Drop)]
+pub(crate) struct FileTeller<'a, R: Wait + Sync, E: Write> {
+    rt: &'a R,
+    said: Mutex<Said<'a, E>>,
+}
+
+impl<'a, R: Wait + Sync, E: Write> FileTeller<'a, R, E> {
+    /// One that writes there.
+    pub(crate) fn new(rt: &'a R, err: &'a mut E) -> FileTeller<'a, R, E> {
+        FileTeller {
+            rt,
+            said: Mutex::new(Said { err, files: 0 }),
         }
+    }
+}
+
+impl<'a, R: Wait + Sync, E: Write> Watch for FileTeller<'a, R, E> {
+    fn judged(&self, all: usize) {
+        self.said.lock(self.rt).tell(all);
     }
 }

@@ -1,18 +1,17 @@
-use Rattle.std.proofs.Common.{◌∙◌}
-use Rattle.lsm_shelf.proofs.CallerLemmas.{becomes_then}
+use Rattle.std.proofs.Common.{◌≡◌, ◌∙◌, ℕ, List, ap, get_or}
 use Rattle.lsm_version.specs.Versions.{level_in}
-use Rattle.lsm_reading.specs.Listing.{level_line}
-use Rattle.lsm_reading.proofs.LevelLaws.{level_more}
-use Rattle.lsm_directory.proofs.CallerLemmas.{keeps_then}
+use Rattle.lsm_reading.specs.Listing.{count_of, level_line}
+use Rattle.lsm_reading.proofs.LevelLaws.{count_in_level, level_more}
 use Rattle.lsm_reading.proofs.checking.describe.Goals as goal
 
+pub push_level-requires : goal.push_level-requires
+push_level-requires g c =
+    let tables = c.args.opened.now.version.tables in
+    let at : c.count_at-entries.result ≡ count_of (level_in tables c.loop-level.level) =
+    c.count_at-entries.ensures ∙ ap (λ (ns : List ℕ). get_or ns c.loop-level.level 0) (c.as_slice-counts.ensures.value ∙ c.args.opened.now.counted) ∙ count_in_level tables c.loop-level.level in
+    rw c.level.ensures at
+
 pub loop-level-preserved : goal.loop-level-preserved
-loop-level-preserved g c = record {
-  told = becomes_then _ _ _ c.loop-level.invariant.told c.push_level.ensures.told;
-  loan = c.push_level.ensures.loan ∙ c.loop-level.invariant.loan;
-  asked = c.push_level.ensures.asked ∙ c.loop-level.invariant.asked;
-  quiet = λ asked. keeps_then _ _ _ (c.loop-level.invariant.quiet asked) (c.push_level.ensures.quiet (c.loop-level.invariant.asked ∙ asked));
-  text = λ honest.
-      level_more (λ n. level_line n (level_in c.args.version.now.tables n)) c.loop-level.level c.loop-level.text.items c.push_level.new.out.items (c.loop-level.invariant.text honest)
-      (rw c.level.ensures at (c.in_ok-push_level.ensures.line honest));
-}
+loop-level-preserved g c =
+    level_more (λ n. level_line n (level_in c.args.opened.now.version.tables n)) c.loop-level.level c.loop-level.text.items c.push_level.new.out.items c.loop-level.invariant
+    (rw c.level.ensures at c.in_ok-push_level.ensures)

@@ -5,8 +5,8 @@ use Rattle.lsm_reading.proofs.performing.perform.Goals as goal
 
 pub returns-clause-done : goal.returns-clause-done
 returns-clause-done g c =
-    is_done c.perform_on.result c.args.inquiry.now.form c.args.inquiry.now.command.now c.args.inquiry.now.files.now c.args.inquiry.now.progress g.S.Shelf.honest _ _ _ _ _ _ _ _ _ _ _ _ c.perform_on.ensures.told
-    c.in_ok-opened.ensures.opened c.perform_on.ensures.done c.tell_notes.ensures.quiet c.perform_on.ensures.quiet
+    is_done c.perform_on.result c.args.inquiry.now.form c.args.inquiry.now.command.now c.args.inquiry.now.files.now c.args.inquiry.now.progress g.S.Shelf.honest _ _ _ _ _ _ _ _ _ _ _ _ _ c.perform_on.ensures.told
+    c.in_ok-opened.ensures.opened c.perform_on.ensures.done (λ asked. c.open_told.ensures.quiet (c.tells_files-progress.ensures asked)) c.tell_notes.ensures.quiet c.perform_on.ensures.quiet
 
 pub returns-clause-fault : goal.returns-clause-fault
 returns-clause-fault g c =
