@@ -3,7 +3,7 @@ _lsm() {
   local current=${COMP_WORDS[COMP_CWORD]} command= options= places= place=0 index word kind
   COMPREPLY=()
   if ((COMP_CWORD == 1)); then
-    COMPREPLY=($(compgen -W 'mktable dump manifest script check list get scan ingest put delete load compact clean shell help --help --version' -- "$current"))
+    COMPREPLY=($(compgen -W 'mktable dump manifest script check list levels get scan ingest put delete load compact clean shell bench help --help --version' -- "$current"))
     return
   fi
   command=${COMP_WORDS[1]}
@@ -12,10 +12,11 @@ _lsm() {
     dump) options='--help' places='FILE' ;;
     manifest) options='--help' places='FILE' ;;
     script) options='--help' places='FILE' ;;
-    check) options='--progress --help' places='DIR' ;;
+    check) options='--workers --progress --help' places='DIR' ;;
     list) options='--text --help' places='DIR' ;;
+    levels) options='--text --files --svg --help' places='DIR' ;;
     get) options='--text --raw --exists --help' places='DIR KEY' ;;
-    scan) options='--from --to --prefix --limit --text --keys --count --progress --help' places='DIR' ;;
+    scan) options='--from --to --prefix --limit --text --keys --json --count --progress --help' places='DIR' ;;
     ingest) options='--text --begin --beside-log --help' places='DIR FILE' ;;
     put) options='--text --begin --beside-log --help' places='DIR KEY VALUE' ;;
     delete) options='--text --begin --beside-log --help' places='DIR KEY' ;;
@@ -23,13 +24,14 @@ _lsm() {
     compact) options='--workers --progress --help' places='DIR' ;;
     clean) options='--help' places='DIR' ;;
     shell) options='--text --begin --beside-log --help' places='DIR' ;;
+    bench) options='--benchmarks --num --value-size --workers --help' places='DIR' ;;
     help) options='--help' places='COMMAND' ;;
     *) return ;;
   esac
   for ((index = 2; index < COMP_CWORD; index++)); do
     word=${COMP_WORDS[index]}
     case $word in
-      --from|--from-line|--limit|--prefix|--to|--workers)
+      --benchmarks|--from|--from-line|--limit|--num|--prefix|--to|--value-size|--workers)
         # Bash takes `=` for a word of its own.
         ((index++))
         [[ ${COMP_WORDS[index]-} != = ]] || ((index++))
@@ -48,7 +50,7 @@ _lsm() {
   case $kind in
     DIR) mapfile -t COMPREPLY < <(compgen -d -- "$current") ;;
     FILE) mapfile -t COMPREPLY < <(compgen -f -- "$current") ;;
-    COMMAND) COMPREPLY=($(compgen -W 'mktable dump manifest script check list get scan ingest put delete load compact clean shell help' -- "$current")) ;;
+    COMMAND) COMPREPLY=($(compgen -W 'mktable dump manifest script check list levels get scan ingest put delete load compact clean shell bench help' -- "$current")) ;;
     *) COMPREPLY=($(compgen -W "$options" -- "$current")) ;;
   esac
 }
