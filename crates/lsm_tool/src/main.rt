@@ -4,14 +4,16 @@
 //! input and output, and the exit status.
 #![tactic(auto)]
 
+mod far;
 mod prompt;
 mod streams;
 
+use far::{BesideLine, OneLine, asking, shows_how_far};
 use lsm_commands::{refuse_words, run};
 use lsm_directory::SystemPaths;
 use prompt::{Prompted, at_terminal};
 use std::env::{self, Env};
-use std::io::{self, BufWriter};
+use std::io::{self, BufWriter, IsTerminal};
 use std::process::ExitCode;
 use std::rt::Clock;
 use std::sync::Wait;
@@ -27,20 +29,31 @@ fn is_shell(words: &[String]) -> bool {
 }
 
 /// Does what the words of the command line ask, and answers the exit status. A shell between
-/// terminals writes a prompt on standard error before each read of standard input.
+/// terminals writes a prompt on standard error before each read of standard input; a command that
+/// may take long shows at a terminal how far it is.
 fn start<R: Threads + Wait + Clock + Sync>(rt: &R, host: HostRuntime) -> io::Result<u8> {
     let words: Vec<String> = env::args(&host)?.collect(host.alloc())?;
     let words = words.as_slice().get(1..).unwrap_or(&[]);
-    let mut out = BufWriter::new(host.alloc(), host.stdout())?;
+    let shows = shows_how_far(&host, words);
+    let terminal = if shows && host.stdout().is_terminal() {
+        Some(host.stderr())
+    } else {
+        None
+    };
+    let out = BesideLine::new(host.stdout(), terminal);
+    let mut out = BufWriter::new(host.alloc(), out)?;
+    let mut err = OneLine::new(host.alloc(), host.stderr(), shows);
     let asks = if is_shell(words) && at_terminal(&host) {
         Some(host.stderr())
     } else {
         None
     };
     let input = Prompted::new(host.stdin(), asks);
-    let mut err = host.stderr();
+    let words = asking(host.alloc(), words, shows)?;
     let paths = SystemPaths::new(host);
-    Ok(run(rt, &paths, words, input, &mut out, &mut err))
+    let status = run(rt, &paths, words.as_slice(), input, &mut out, &mut err);
+    err.end(status == 0)?;
+    Ok(status)
 }
 
 fn main(rt: HostRuntime) -> ExitCode {

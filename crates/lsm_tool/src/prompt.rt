@@ -1,26 +1,10 @@
 //! The prompt of a shell at a terminal.
 
-use std::fs;
-use std::io::{self, Read, Write};
-use std::os::unix::fs::{FileTypeExt, MetadataExt};
-
-/// Devices of memory, such as `/dev/null`, are no terminals.
-const MEMORY_DEVICES: u64 = 1;
-
-/// Whether what is open as a descriptor of this program, by its path in `/proc`, is a terminal: a
-/// device of characters that is none of memory.
-fn is_terminal(files: &HostRuntime, path: &str) -> bool {
-    match fs::metadata(files, path) {
-        Ok(found) => found.file_type().is_char_device() && found.rdev() >> 8 != MEMORY_DEVICES,
-        Err(_) => false,
-    }
-}
+use std::io::{self, IsTerminal, Read, Write};
 
 /// Whether standard input, output and error are terminals.
-pub(crate) fn at_terminal(files: &HostRuntime) -> bool {
-    is_terminal(files, "/proc/self/fd/0")
-        && is_terminal(files, "/proc/self/fd/1")
-        && is_terminal(files, "/proc/self/fd/2")
+pub(crate) fn at_terminal(host: &HostRuntime) -> bool {
+    host.stdin().is_terminal() && host.stdout().is_terminal() && host.stderr().is_terminal()
 }
 
 /// An input, and an output on which each read first asks for more, if it does. A terminal gives a

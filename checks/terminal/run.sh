@@ -1,0 +1,33 @@
+#!/usr/bin/env bash
+# What `lsm` shows of how far it is, where standard error is a terminal: one line, which each later
+# one replaces, and which is gone at the end; nothing where it is none, or where a `scan` writes
+# anywhere but into a file; with --progress lines that stay; a refusal, and which lines are in, stay
+# too. Needs python3, and tmux for a look at the screen, which is left out where there is none.
+# LSM=/path/to/lsm names a built program.
+set -euo pipefail
+here=$(cd "$(dirname "$0")" && pwd)
+top=$(cd "$here/../.." && pwd)
+work=$(mktemp -d)
+name="lsm-terminal-$$"
+trap 'tmux -L "$name" kill-server 2> /dev/null || true; rm -rf "$work"' EXIT
+program=$(readlink -f "${LSM:-$("$top/tools/program")}")
+cd "$work"
+python3 "$here/lines.py" "$program"
+if ! command -v tmux > /dev/null; then
+  echo "no tmux: the screen is left out"
+  exit
+fi
+tmux -L "$name" new-session -d -x 90 -y 30 \
+  "$program check db; $program load db more.txt --text; $program get db key000007 --text; echo status \$?; sleep 60"
+for _ in $(seq 600); do
+  tmux -L "$name" capture-pane -p | sed '/^$/d' > seen
+  [[ $(tail -n 1 seen) != "status 0" ]] || break
+  sleep 0.1
+done
+sed -E 's/[0-9]+/N/g' seen > found
+{
+  for _ in $(seq 7); do echo "level N files N bytes N entries N"; done
+  printf '%s\n' "last N" "rest N" "loaded N lines in N batches" "value N" "status N"
+} > wanted
+cmp found wanted || { cat seen >&2; exit 1; }
+echo "a screen: as wanted"
