@@ -42,7 +42,9 @@ pub(crate) fn shows_how_far(host: &HostRuntime, words: &[String]) -> bool {
         _ => false,
     };
     may_take_long
-        && !rest.iter().any(|word| word.as_str().starts_with("--progress"))
+        && !rest
+            .iter()
+            .any(|word| word.as_str().starts_with("--progress"))
         && host.stderr().is_terminal()
 }
 
@@ -114,7 +116,9 @@ impl<E: Write + Drop> OneLine<E> {
     /// Writes the line that has ended.
     fn end_line(&mut self) -> io::Result<()> {
         let line = self.line.as_slice();
-        self.is_shown = BEGINNINGS.iter().any(|beginning| line.starts_with(beginning));
+        self.is_shown = BEGINNINGS
+            .iter()
+            .any(|beginning| line.starts_with(beginning));
         if self.is_shown {
             self.push_bar()?;
         } else {

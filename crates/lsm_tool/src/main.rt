@@ -52,7 +52,7 @@ fn start<R: Threads + Wait + Clock + Sync>(rt: &R, host: HostRuntime) -> io::Res
     let words = asking(host.alloc(), words, shows)?;
     let paths = SystemPaths::new(host);
     let status = run(rt, &paths, words.as_slice(), input, &mut out, &mut err);
-    err.end(status == 0)?;
+    let _ = err.end(status == 0);
     Ok(status)
 }
 
