@@ -3,3 +3,4 @@ pub mod OpeningLaws
 pub mod CursorLaws
 pub mod GettingLaws
 pub mod StepLaws
+pub mod CallerLemmas
