@@ -3,4 +3,3 @@ pub mod OpeningLaws
 pub mod CursorLaws
 pub mod GettingLaws
 pub mod StepLaws
-pub mod CallerLemmas
