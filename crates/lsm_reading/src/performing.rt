@@ -78,7 +78,7 @@ fn checked<N: Naming, S: Shelf>(
 }
 
 /// Does what a command asks of a directory that is open.
-#[tactic(auto, using(crate::proofs::PerformLaws::perform_from_read, crate::proofs::PerformLaws::perform_from_output, crate::proofs::PerformLaws::perform_from_answer, lsm_directory::proofs::CallerLemmas::keeps_same))]
+#[tactic(auto, using(crate::proofs::PerformLaws::perform_from_output, crate::proofs::PerformLaws::perform_from_answer, lsm_directory::proofs::CallerLemmas::keeps_same))]
 fn perform_on<N: Naming, S: Shelf, O: Write, E: Write>(
     shelf: &mut NamedShelf<N, S>,
     alloc: Global,
