@@ -4,7 +4,7 @@
 #   sessions.py   each command of their shell sessions is run in a scratch folder and prints what the
 #                 page says
 #   code.py       each line of Rattle that they show is a line of a source file in crates or of a
-#                 test; so in docs/CALLING.md and in the CALLING.md of each crate
+#                 test; so in docs/CALLING.md, docs/PROVED.md and the CALLING.md of each crate
 #   form.py       the pages of the book and of crates are short, drawings are well-formed, as scripts
 #                 draw them, and each is shown; all code is in fences
 #   links.py      of every page of the repository: each link leads to a file, and to a heading of it
@@ -24,7 +24,7 @@ export PYTHONDONTWRITEBYTECODE=1 LC_ALL=C.UTF-8
 pages=("$@") code=("$@")
 if [[ $# -eq 0 ]]; then
   pages=("$top/README.md" "$top/docs/COMMANDS.md" "$top"/docs/book/*.md)
-  code=("${pages[@]}" "$top/docs/CALLING.md" "$top"/crates/*/CALLING.md)
+  code=("${pages[@]}" "$top/docs/CALLING.md" "$top/docs/PROVED.md" "$top"/crates/*/CALLING.md)
 fi
 "$program" --version > /dev/null || { echo "0 passed, 1 failed"; exit 1; }
 

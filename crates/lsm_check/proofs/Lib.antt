@@ -10,4 +10,5 @@ pub mod ReachingFiles
 pub mod Chosen
 pub mod Counts
 pub mod AgeLaws
+pub mod AskedOf
 pub mod Refused

@@ -3,6 +3,7 @@ pub mod CheckFault
 pub mod CheckedFiles
 pub mod FileRefusal
 pub mod CheckRefusal
+pub mod AskedCalls
 pub mod Loading
 pub mod LevelLayouts
 pub mod Settled

@@ -11,7 +11,9 @@ ghost use Rattle.lsm_levels.specs.Files.{File, Fits};
 ghost use Rattle.lsm_levels.specs.Merging.{Placed, merge_all};
 ghost use Rattle.lsm_check.specs.CheckFault.{CheckCounted};
 ghost use Rattle.lsm_check.specs.CheckRefusal.{IsAgeRefusal};
-ghost use Rattle.lsm_reads.specs.Unread.{NamesOne};
+ghost use Rattle.lsm_check.specs.AskedCalls.{IsLookAsked};
+ghost use Rattle.lsm_reader.specs.Refusals.{IsReadRefusal};
+ghost use Rattle.lsm_reads.specs.Unread.{IsOfFile, NamesOne};
 ghost use Rattle.lsm_reads.specs.Runs.{AreMergeable, AreRunsOf, IsNumberIn};
 ghost use Rattle.lsm_check.specs.Chosen.{chosen, is_among};
 ghost use Rattle.lsm_check.specs.Settled.{AreUnsettled, KeepsAge};
@@ -91,6 +93,8 @@ fn look_again<N: Naming, S: Shelf, B: Blocks<N, S>>(
     ensures loan { B.loan blocks.new ≡ B.loan blocks.old }
     ensures cause { IfErr result (λ e.
         ReadCounted e.fault (B.told blocks.old) (B.told blocks.new)) }
+    ensures refused { IfErr result (λ e.
+        IsOfFile (IsReadRefusal (S.refuses N.place)) e.file e.fault) }
 {
     let runs = open_runs(blocks, alloc, registry, levels)?;
     let mut merger = Merger::new(alloc, runs)?;
@@ -122,6 +126,7 @@ pub(crate) fn judge_ages<N: Naming, S: Shelf>(
     ensures ok { S.honest → OnOk result (KeepsAge (files_from 0 (map (λ l. l.items) levels.now))) }
     ensures refused { IfErr result (λ e.
         IsAgeRefusal S.honest (files_from 0 (map (λ l. l.items) levels.now)) e) }
+    ensures asked { IfErr result (IsLookAsked (S.refuses N.place)) }
     ensures told { Becomes shelf.old shelf.new }
     ensures cause { IfErr result (λ e. CheckCounted e shelf.old shelf.new) }
 {

@@ -5,6 +5,7 @@ ghost use Rattle.lsm_shelf.specs.Stored.{Stored};
 ghost use Rattle.lsm_shelf.specs.Asked.{Load};
 ghost use Rattle.lsm_table.specs.Told.{Becomes};
 ghost use Rattle.lsm_check.specs.CheckFault.{CheckCounted};
+ghost use Rattle.lsm_check.specs.AskedCalls.{IsCheckAsked};
 ghost use Rattle.lsm_check.specs.Counts.{count_of};
 ghost use Rattle.lsm_check.specs.CheckRefusal.{AreTablesOf, IsOfShape, IsRefusal};
 ghost use Rattle.lsm_check.specs.Settled.{IsSettled, KeepsAge};
@@ -50,6 +51,7 @@ fn check_levels<N: Naming, S: Shelf, R: Wait>(
     ensures refused { IfErr result (λ e.
         IsRefusal (Stored S.Receipt (S.is_of N.place) S.Receipt.number S.Receipt.image) (λ number.
         S.refuses N.place (Load number)) S.honest shape.now e) }
+    ensures asked { IfErr result (IsCheckAsked (S.refuses N.place)) }
     ensures told { Becomes shelf.old shelf.new }
     ensures cause { IfErr result (λ e. CheckCounted e shelf.old shelf.new) }
 {
@@ -104,6 +106,7 @@ pub fn check<N: Naming, S: Shelf, R: Wait>(
     ensures refused { IfErr result (λ e.
         IsRefusal (Stored S.Receipt (S.is_of N.place) S.Receipt.number S.Receipt.image) (λ number.
         S.refuses N.place (Load number)) S.honest shape.now e) }
+    ensures asked { IfErr result (IsCheckAsked (S.refuses N.place)) }
     ensures told { Becomes shelf.old shelf.new }
     ensures cause { IfErr result (λ e. CheckCounted e shelf.old shelf.new) }
 {
@@ -134,6 +137,7 @@ pub fn check_by<N: Naming, S: Shelf, R: Wait>(
     ensures refused { IfErr result (λ e.
         IsRefusal (Stored S.Receipt (S.is_of N.place) S.Receipt.number S.Receipt.image) (λ number.
         S.refuses N.place (Load number)) S.honest shape.now e) }
+    ensures asked { IfErr result (IsCheckAsked (S.refuses N.place)) }
     ensures told { Becomes shelf.old shelf.new }
     ensures cause { IfErr result (λ e. CheckCounted e shelf.old shelf.new) }
 {

@@ -5,7 +5,9 @@ mod Dropped
 mod InputLaws
 mod PlaceLaws
 mod Limited
+mod PutBefore
 mod PutLaws
+mod Refused
 mod Stepping
 mod StreamLaws
 mod Tickets

@@ -59,7 +59,7 @@ over_pushed options es e o = over_more options es (es ++ e ∷ []) (λ x h. has_
 
 -- ---- the output in the making is of the whole
 
-streamed_from : (floor : ℕ) (ranges : List (UserKey × UserKey)) (before : Option Entry) (es : List Entry) (e : Entry) → Has (streamed floor ranges before es) e → Has es e
+pub streamed_from : (floor : ℕ) (ranges : List (UserKey × UserKey)) (before : Option Entry) (es : List Entry) (e : Entry) → Has (streamed floor ranges before es) e → Has es e
 streamed_from floor ranges before [] e h = absurd h
 streamed_from floor ranges before (x ∷ es) e h = go _ h (streamed_from floor ranges (Some x) es e)
   where
@@ -68,7 +68,7 @@ streamed_from floor ranges before (x ∷ es) e h = go _ h (streamed_from floor r
     go true (inr k) rest = inr (rest k)
     go false k rest = inr (rest k)
 
-flat_both : (os ps : List (List Entry)) → flat_map (λ (o : List Entry). o) (os ++ ps) ≡ flat_map (λ (o : List Entry). o) os ++ flat_map (λ (o : List Entry). o) ps
+pub flat_both : (os ps : List (List Entry)) → flat_map (λ (o : List Entry). o) (os ++ ps) ≡ flat_map (λ (o : List Entry). o) os ++ flat_map (λ (o : List Entry). o) ps
 flat_both [] ps = refl
 flat_both (a ∷ os) ps = ap (λ (l : List Entry). a ++ l) (flat_both os ps) ∙ sym (Rattle.std.proofs.Common.append_assoc a (flat_map (λ (o : List Entry). o) os) (flat_map (λ (o : List Entry). o) ps))
 

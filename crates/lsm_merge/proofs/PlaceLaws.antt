@@ -97,12 +97,12 @@ going_both : {X Y : Type 0} (f : X → Y) (xs ys : List X) (there : List Y) → 
 going_both f [] ys there = refl
 going_both f (x ∷ xs) ys there = going_both f xs ys (f x ∷ there)
 
-map_both : {X Y : Type 0} (f : X → Y) (xs ys : List X) → map f (xs ++ ys) ≡ map f xs ++ map f ys
+pub map_both : {X Y : Type 0} (f : X → Y) (xs ys : List X) → map f (xs ++ ys) ≡ map f xs ++ map f ys
 map_both f [] ys = refl
 map_both {Y = Y} f (x ∷ xs) ys = ap (λ (l : List Y). f x ∷ l) (map_both f xs ys)
 
 -- puts after puts
-becomes_both : (a b : List (ℕ × List ℕ)) (t u v : Told) → Becomes (putting_all a t) u → Becomes (putting_all b u) v → Becomes (putting_all (a ++ b) t) v
+pub becomes_both : (a b : List (ℕ × List ℕ)) (t u v : Told) → Becomes (putting_all a t) u → Becomes (putting_all b u) v → Becomes (putting_all (a ++ b) t) v
 becomes_both a b t u v p q = record {
   place = q.place ∙ p.place;
   faults = (let x = p.faults in let y = q.faults in omega arith);

@@ -1,6 +1,6 @@
 -- Outputs that are put one after another.
 use Rattle.std.proofs.Common.{◌≡◌, ℕ, Bool, false, cond, List, [], ◌∷◌, ◌++◌, Option, Some, None, map, refl, sym, ◌∙◌, ap, subst, append-nil, inl, inr}
-use Rattle.std.specs.Prelude.{Result, Ok, Err, OnOk}
+use Rattle.std.specs.Prelude.{Result, Ok, Err, OnErr, OnOk}
 use Rattle.lsm_codec.specs.Lists.{Has}
 use Rattle.lsm_codec.specs.Keys.{IsKey}
 use Rattle.lsm_codec.specs.Entries.{Entry, internal_key}
@@ -139,3 +139,11 @@ on_ok (Err e) f h = tt
 pub ok_if : {A E P : Type 0} (r : Result A E) → P → OnOk r P
 ok_if (Ok x) p = p
 ok_if (Err e) p = tt
+
+pub on_err : {A E P Q : Type 0} (r : Result A E) → (P → Q) → OnErr r P → OnErr r Q
+on_err (Ok x) f h = tt
+on_err (Err e) f h = f h
+
+pub err_if : {A E P : Type 0} (r : Result A E) → P → OnErr r P
+err_if (Ok x) p = tt
+err_if (Err e) p = p

@@ -22,7 +22,7 @@ first_entry ps p rest k v is key value =
     ap (λ (j : InternalKey). entry_of j v) same ∙ ap (λ (b : List ℕ). entry_of (internal_key p.1) b) own
 
 -- whether an entry is kept does not hang on its value
-value_apart : (floor : ℕ) (ranges : List (UserKey × UserKey)) (before : Option Entry) (k : InternalKey) (v : List ℕ)
+pub value_apart : (floor : ℕ) (ranges : List (UserKey × UserKey)) (before : Option Entry) (k : InternalKey) (v : List ℕ)
     → is_kept floor ranges before (entry_of k []) ≡ is_kept floor ranges before (entry_of k v)
 value_apart floor ranges None k v = refl
 value_apart floor ranges (Some q) k v = refl

@@ -6,7 +6,7 @@ use Rattle.std.specs.Cmp.Lexicographic.{slice_cmp}
 use Rattle.std.proofs.lemmas.Map.Text.{is_eq-slice_cmp}
 use Rattle.lsm_codec.specs.declared.kind.Kind.{Kind}
 use Rattle.lsm_codec.specs.Keys.{InternalKey, UserKey, packed, packed_of, then_by}
-use Rattle.lsm_codec.specs.Entries.{Entry, internal_key}
+use Rattle.lsm_codec.specs.Entries.{internal_key}
 use Rattle.lsm_block.specs.Block.{entry_of}
 use Rattle.lsm_levels.specs.Merging.{Placed}
 use Rattle.lsm_levels.specs.Streams.{is_shadowed}

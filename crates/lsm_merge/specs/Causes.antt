@@ -1,11 +1,16 @@
 -- When a merge is refused, and what was drawn and put by then.
 use Rattle.std.specs.Prelude.{◌≡◌, ◌⊎◌, ℕ, List, ◌∷◌, ◌++◌}
 use Rattle.lsm_codec.specs.Lists.{Has}
+use Rattle.lsm_codec.specs.Entries.{Entry}
+use Rattle.lsm_shelf.specs.Asked.{Asked, Put}
 use Rattle.lsm_shelf.specs.Told.{Told, Counted, TakenIs}
 use Rattle.lsm_table.specs.ReadFault.{ReadCounted}
 use Rattle.lsm_table.specs.declared.read_fault.ReadFault.{ReadFault}
 use Rattle.lsm_table.specs.declared.read_fault.ReadFault.TheVariants as read
 use Rattle.lsm_table.specs.declared.table_fault.TableFault.TheVariants as table
+use Rattle.lsm_table.specs.TableBuilding.{table_bytes}
+use Rattle.lsm_table.specs.declared.table_options.TableOptions.{TableOptions}
+use Rattle.lsm_reader.specs.Refusals.{IsReadRefusal}
 use Rattle.lsm_shelf.specs.declared.shelf_fault.ShelfFault.{ShelfFault}
 use Rattle.lsm_shelf.specs.declared.shelf_fault.ShelfFault.TheVariants as shelf
 use Rattle.lsm_merge.specs.declared.merge_fault.InputFault.TheVariants.{Read, OutOfOrder}
@@ -34,6 +39,26 @@ HasCause inputs (PutFailed number TooLarge) old new = Unit {0}
 HasCause inputs (PutFailed number (Shelf fault)) old new = TakenIs number fault × (Counted fault old new × IsRefused fault)
 HasCause inputs (UnknownTicket ticket) old new = Unit {0}
 HasCause inputs NumbersSpent old new = Unit {0}
+
+-- Which call the shelf refused: to give bytes of the input that could not be read; or to put, under the number of the output that
+-- could not be put, what the builder makes of some entries with these sizes.
+abbrev pub NamesRefused : (Asked → ShelfFault → Type 0) → TableOptions → MergeFault → Type 0
+NamesRefused Refuses options OutOfMemory = Unit {0}
+NamesRefused Refuses options (ReadFailed number (Read fault)) = IsReadRefusal Refuses number fault
+NamesRefused Refuses options (ReadFailed number OutOfOrder) = Unit {0}
+NamesRefused Refuses options (PutFailed number TooLarge) = Unit {0}
+NamesRefused Refuses options (PutFailed number (Shelf fault)) = (es : List Entry) × Refuses (Put number (table_bytes options es)) fault
+NamesRefused Refuses options (UnknownTicket ticket) = Unit {0}
+NamesRefused Refuses options NumbersSpent = Unit {0}
+
+-- No refusal of the shelf is told.
+abbrev pub IsUnasked : MergeFault → Type 0
+IsUnasked OutOfMemory = Unit {0}
+IsUnasked (ReadFailed number fault) = ⊥
+IsUnasked (PutFailed number TooLarge) = Unit {0}
+IsUnasked (PutFailed number (Shelf fault)) = ⊥
+IsUnasked (UnknownTicket ticket) = Unit {0}
+IsUnasked NumbersSpent = Unit {0}
 
 -- just these were drawn after those that were there, and perhaps one more
 abbrev pub DrewMore : List ℕ → List ℕ → List ℕ → Type 0

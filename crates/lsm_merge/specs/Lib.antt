@@ -8,6 +8,7 @@ pub mod Limits
 pub mod MergeFault
 pub mod NumberFault
 pub mod Outputs
+pub mod PutBefore
 pub mod Remembered
 pub mod Work
 -- What private functions and proofs cite alone

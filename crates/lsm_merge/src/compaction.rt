@@ -1,21 +1,23 @@
 //! The merge of a job.
 
 ghost use Rattle.std.specs.Prelude.{◌≡◌, [], ◌∷◌, ◌++◌, ℕ, List, None, false, true, IfOk, IfErr};
-ghost use Rattle.std.specs.Prelude.{OnOk};
+ghost use Rattle.std.specs.Prelude.{OnErr, OnOk};
 ghost use Rattle.lsm_levels.specs.Files.{all_entries};
 ghost use Rattle.lsm_levels.specs.Merging.{Placed};
 ghost use Rattle.lsm_merger.specs.Heads.{no_more};
 ghost use Rattle.lsm_merger.specs.Runs.{ReadsNoOther};
 ghost use Rattle.lsm_shelf.specs.Told.{Becomes};
-ghost use Rattle.lsm_merge.specs.Causes.{AnswersOf, AsksFor, HasCause, Leaves, NamesTicket};
+ghost use Rattle.lsm_merge.specs.Causes.{AnswersOf, AsksFor, HasCause, Leaves, NamesRefused};
+ghost use Rattle.lsm_merge.specs.Causes.{NamesTicket};
 ghost use Rattle.lsm_merge.specs.Compacting.{AreMergedOf, nothing_of};
-ghost use Rattle.lsm_merge.specs.Dropping.{Follows, IsUpTo};
+ghost use Rattle.lsm_merge.specs.Dropping.{Follows, IsUpTo, is_kept};
 ghost use Rattle.lsm_merge.specs.InputOrder.{HasTwins, StandInOrder};
 ghost use Rattle.lsm_merge.specs.Inputs.{AreInputs, IsOrderFault, IsReadable, Stepped};
 ghost use Rattle.lsm_merge.specs.Inputs.{input_numbers};
 ghost use Rattle.lsm_merge.specs.Limits.{IsOverLimit, IsSizeFault};
 ghost use Rattle.lsm_merge.specs.Outputs.{AreGood, PutsEach, PutsMore, PutsTables, drawn_of};
 ghost use Rattle.lsm_merge.specs.Outputs.{entries_of_last, going, putting_all};
+ghost use Rattle.lsm_merge.specs.PutBefore.{IsTime, PutsBefore, PutsLast};
 ghost use Rattle.lsm_merge.specs.Work.{job_of, puts_by, puts_of};
 ghost use Rattle.lsm_merge.specs.declared.merge_fault.MergeFault.TheVariants.{OutOfMemory};
 
@@ -60,9 +62,14 @@ fn step<N: Naming, S: Shelf, R: Wait, D: NumberSource>(
         (PutsTables outputs.old.tables outputs.new.tables shelf.old shelf.new) }
     ensures leaves { IfErr result (λ e. (there : List ℕ) → D.drew numbers.old
         ≡ drawn_of outputs.old there → Leaves e outputs.new.put (D.drew numbers.new) there) }
+    ensures stands { OnErr result ((p : Placed) (rest : List Placed)
+        → stream.old.left.placed ≡ p ∷ rest → PutsLast outputs.old (IsTime outputs.old
+        (is_kept job.now.floor job.now.ranges stream.old.before p.1) p.1) outputs.new.put
+        shelf.old shelf.new) }
     ensures why { IfErr result (λ e. AnswersOf e (D.refused numbers.old) (D.refused numbers.new)) }
     ensures cause { IfErr result (λ e. (inputs : List ℕ) → AreInputs stream.old.left.files inputs
         → HasCause inputs e shelf.old shelf.new) }
+    ensures refused { IfErr result (NamesRefused (S.refuses N.place) outputs.old.options) }
     ensures sound { S.honest → IfErr result IsReadable }
     ensures order { IfErr result (λ e. IsOrderFault e → (p : Placed) (rest : List Placed)
         → stream.old.left.placed ≡ p ∷ rest → Follows stream.old.before p.1 → ⊥) }
@@ -110,8 +117,11 @@ fn merge<N: Naming, S: Shelf, R: Wait, D: NumberSource>(
         (Becomes (putting_all (puts_of outputs.new.tables) shelf.old) shelf.new) }
     ensures leaves { IfErr result (λ e.
         Leaves e outputs.new.put (D.drew numbers.new) (D.drew numbers.old)) }
+    ensures before { OnErr result
+        (PutsBefore S.honest job.now outputs.new.put shelf.old shelf.new) }
     ensures why { IfErr result (λ e. AnswersOf e (D.refused numbers.old) (D.refused numbers.new)) }
     ensures cause { IfErr result (λ e. HasCause (input_numbers job.now) e shelf.old shelf.new) }
+    ensures refused { IfErr result (NamesRefused (S.refuses N.place) job.now.table) }
     ensures sound { S.honest → IfErr result IsReadable }
     ensures asked { AsksFor job.now.ticket (D.asked numbers.old) (D.asked numbers.new) }
     ensures ticket { IfErr result (λ e. NamesTicket e job.now.ticket) }
@@ -199,14 +209,18 @@ pub fn compact<N: Naming, S: Shelf, R: Wait, D: NumberSource>(
     ensures drew { IfOk result (λ f. D.drew numbers.new ≡ going f.put (D.drew numbers.old)) }
     ensures answered { OnOk result (D.refused numbers.new ≡ D.refused numbers.old) }
 
-    // A refusal hands the job back, with just the numbers put.
+    // A refusal hands the job back, with just the numbers put, and the tables put under them are
+    // the job's (`before`).
     ensures back { IfErr result (λ e. e.1 ≡ job) }
     ensures put { IfErr result (λ e. PutsEach e.2.items shelf.old shelf.new) }
+    ensures before { IfErr result (λ e.
+        PutsBefore S.honest job e.2.items shelf.old shelf.new) }
     ensures leaves { IfErr result (λ e.
         Leaves e.0 e.2.items (D.drew numbers.new) (D.drew numbers.old)) }
     ensures why { IfErr result (λ e.
         AnswersOf e.0 (D.refused numbers.old) (D.refused numbers.new)) }
     ensures cause { IfErr result (λ e. HasCause (input_numbers job) e.0 shelf.old shelf.new) }
+    ensures refused { IfErr result (λ e. NamesRefused (S.refuses N.place) job.table e.0) }
     ensures sound { S.honest → IfErr result (λ e. IsReadable e.0) }
 
     // Over an honest shelf inputs that stand in order are refused as out of order only where two of

@@ -5,12 +5,13 @@ ghost use Rattle.lsm_codec.specs.Lists.{Has};
 ghost use Rattle.lsm_codec.specs.Entries.{Entry};
 ghost use Rattle.lsm_shelf.specs.Told.{Becomes};
 ghost use Rattle.lsm_table.specs.Registry.{Table};
+ghost use Rattle.lsm_table.specs.declared.table_options.TableOptions.{TableOptions};
 ghost use Rattle.lsm_levels.specs.Files.{all_entries};
 ghost use Rattle.lsm_levels.specs.Merging.{AreOrdered, IsSorted, entries_of, placed_at};
 ghost use Rattle.lsm_levels.specs.Streams.{IsAscending, IsMerge};
 ghost use Rattle.lsm_merger.specs.Runs.{files_at};
 ghost use Rattle.lsm_version.specs.Versions.{IsWhole};
-ghost use Rattle.lsm_merge.specs.Causes.{HasCause};
+ghost use Rattle.lsm_merge.specs.Causes.{HasCause, NamesRefused};
 ghost use Rattle.lsm_merge.specs.InputOrder.{HasTwins, StandInOrder};
 ghost use Rattle.lsm_merge.specs.Inputs.{AreInputs, IsOfReading, IsReadable, entries_of_tables};
 ghost use Rattle.lsm_merge.specs.Inputs.{files_in, input_numbers, numbers_of, streams};
@@ -27,7 +28,7 @@ use std::alloc::Global;
 use std::slice;
 
 /// The tables of a level one after another, or one table, as a source of this depth.
-#[tactic(auto, using(crate::proofs::InputLaws::readable_of, crate::proofs::InputLaws::cause_of_read, crate::proofs::InputLaws::reading_of))]
+#[tactic(auto, using(crate::proofs::InputLaws::readable_of, crate::proofs::InputLaws::cause_of_read, crate::proofs::InputLaws::reading_of, crate::proofs::Refused::refused_read))]
 fn open_run<N: Naming, S: Shelf>(
     shelf: &mut NamedShelf<N, S>,
     alloc: Global,
@@ -44,6 +45,8 @@ fn open_run<N: Naming, S: Shelf>(
     ensures sound { S.honest → IfErr result IsReadable }
     ensures told { Becomes shelf.old shelf.new }
     ensures cause { IfErr result (λ e. HasCause (numbers_of tables.now) e shelf.old shelf.new) }
+    ensures refused { (options : TableOptions) → IfErr result
+        (NamesRefused (S.refuses N.place) options) }
 {
     let mut direct = Direct::new(shelf);
     match Run::over_by(&mut direct, alloc, depth, registry, tables) {
@@ -72,6 +75,8 @@ fn push_run<N: Naming, S: Shelf>(
     ensures sound { S.honest → IfErr result IsReadable }
     ensures told { Becomes shelf.old shelf.new }
     ensures cause { IfErr result (λ e. HasCause (numbers_of tables.now) e shelf.old shelf.new) }
+    ensures refused { (options : TableOptions) → IfErr result
+        (NamesRefused (S.refuses N.place) options) }
 {
     if tables.is_empty() {
         return Ok(());
@@ -100,6 +105,8 @@ fn push_each<N: Naming, S: Shelf>(
     ensures sound { S.honest → IfErr result IsReadable }
     ensures told { Becomes shelf.old shelf.new }
     ensures cause { IfErr result (λ e. HasCause (numbers_of tables.now) e shelf.old shelf.new) }
+    ensures refused { (options : TableOptions) → IfErr result
+        (NamesRefused (S.refuses N.place) options) }
 {
     for table in tables {
         push_run(shelf, alloc, registry, slice::from_ref(table), runs)?;
@@ -129,6 +136,8 @@ fn push_upper<N: Naming, S: Shelf>(
     ensures sound { S.honest → IfErr result IsReadable }
     ensures told { Becomes shelf.old shelf.new }
     ensures cause { IfErr result (λ e. HasCause (numbers_of tables.now) e shelf.old shelf.new) }
+    ensures refused { (options : TableOptions) → IfErr result
+        (NamesRefused (S.refuses N.place) options) }
 {
     if level == 0 {
         push_each(shelf, alloc, registry, tables, runs)
@@ -157,6 +166,8 @@ fn open_inputs<N: Naming, S: Shelf>(
     ensures sound { S.honest → IfErr result IsReadable }
     ensures told { Becomes shelf.old shelf.new }
     ensures cause { IfErr result (λ e. HasCause (input_numbers job.now) e shelf.old shelf.new) }
+    ensures refused { (options : TableOptions) → IfErr result
+        (NamesRefused (S.refuses N.place) options) }
 {
     merges_are_in_order();
     // What holds of the job is told by this call.
@@ -190,6 +201,8 @@ pub(crate) fn open_stream<N: Naming, S: Shelf>(
     ensures sound { S.honest → IfErr result IsReadable }
     ensures told { Becomes shelf.old shelf.new }
     ensures cause { IfErr result (λ e. HasCause (input_numbers job.now) e shelf.old shelf.new) }
+    ensures refused { (options : TableOptions) → IfErr result
+        (NamesRefused (S.refuses N.place) options) }
 {
     let merger = open_inputs(shelf, alloc, registry, job)?;
     Ok(Stream::new(alloc, merger))

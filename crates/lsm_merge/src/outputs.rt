@@ -7,11 +7,13 @@ ghost use Rattle.lsm_block.specs.Block.{Ascends, entry_of};
 ghost use Rattle.lsm_shelf.specs.Told.{Told};
 ghost use Rattle.lsm_table.specs.Options.{AreInRange};
 ghost use Rattle.lsm_merge.specs.Cuts.{closes};
-ghost use Rattle.lsm_merge.specs.Causes.{AnswersOf, AsksFor, HasCause, Leaves, NamesTicket};
+ghost use Rattle.lsm_merge.specs.Causes.{AnswersOf, AsksFor, HasCause, IsUnasked, Leaves};
+ghost use Rattle.lsm_merge.specs.Causes.{NamesRefused, NamesTicket};
 ghost use Rattle.lsm_merge.specs.Dropping.{closed, placed, shut_before, with_entry};
 ghost use Rattle.lsm_merge.specs.Limits.{IsOverLimit, IsSizeFault};
 ghost use Rattle.lsm_merge.specs.Outputs.{AreGood, Goes, PutsMore, PutsTables, drawn_of};
 ghost use Rattle.lsm_merge.specs.Outputs.{entries_of_last, going, making_of};
+ghost use Rattle.lsm_merge.specs.PutBefore.{IsClosing, IsTime, PutsLast};
 ghost use Rattle.lsm_merge.specs.Work.{finished};
 
 use crate::job::Job;
@@ -54,6 +56,7 @@ impl<N: Naming, S: Shelf> Model for Outputs<N, S> {
 }
 
 /// An output that begins with an entry, under a number that is drawn for it.
+#[tactic(auto, using(crate::proofs::Refused::unasked_build, crate::proofs::Refused::unasked_numbers))]
 fn begin<R: Wait, D: NumberSource>(
     rt: &R,
     alloc: Global,
@@ -73,6 +76,7 @@ fn begin<R: Wait, D: NumberSource>(
         → Leaves e put (D.drew numbers.new) there) }
     ensures why { IfErr result (λ e. AnswersOf e (D.refused numbers.old) (D.refused numbers.new)) }
     ensures cause { IfErr result (λ e. (t u : Told) → HasCause [] e t u) }
+    ensures unasked { IfErr result IsUnasked }
     ensures asked { D.asked numbers.new ≡ ticket ∷ D.asked numbers.old }
     ensures ticket { IfErr result (λ e. NamesTicket e ticket) }
     ensures large { IfErr result (λ e. IsSizeFault e
@@ -90,6 +94,7 @@ fn begin<R: Wait, D: NumberSource>(
 }
 
 /// Adds an entry to the output in the making.
+#[tactic(auto, using(crate::proofs::Refused::unasked_build))]
 fn grow(output: &mut Output, key: &KeyRef<'_>, value: &[u8]) -> Result<(), MergeFault>
     requires { Ascends (output.old.entries ++ entry_of (key_of key.now) value.now ∷ []) }
     ensures ok { OnOk result (output.new ≡ record output.old
@@ -99,6 +104,7 @@ fn grow(output: &mut Output, key: &KeyRef<'_>, value: &[u8]) -> Result<(), Merge
         → Leaves e put (output.old.number ∷ going put there) there) }
     ensures why { IfErr result (λ e. (answers : List ℕ) → AnswersOf e answers answers) }
     ensures cause { IfErr result (λ e. (t u : Told) → HasCause [] e t u) }
+    ensures unasked { IfErr result IsUnasked }
     ensures ticket { IfErr result (λ e. (ticket : ℕ) → NamesTicket e ticket) }
     ensures large { IfErr result (λ e. IsSizeFault e → IsOverLimit output.old.options
         (output.old.entries ++ entry_of (key_of key.now) value.now ∷ [])) }
@@ -160,7 +166,10 @@ impl<N: Naming, S: Shelf> Outputs<N, S> {
         ensures leaves { IfErr result (λ e. (there : List ℕ)
             → Leaves e self.new.put (drawn_of self.old there) there) }
         ensures cause { IfErr result (λ e. HasCause [] e shelf.old shelf.new) }
+        ensures refused { IfErr result (NamesRefused (S.refuses N.place) self.old.options) }
         ensures why { IfErr result (λ e. (answers : List ℕ) → AnswersOf e answers answers) }
+        ensures stands { OnErr result
+            (PutsLast self.old (Unit {0}) self.new.put shelf.old shelf.new) }
         ensures large { IfErr result (λ e. IsSizeFault e
             → IsOverLimit self.old.options (entries_of_last self.old.last)) }
     {
@@ -210,7 +219,10 @@ impl<N: Naming, S: Shelf> Outputs<N, S> {
         ensures leaves { IfErr result (λ e. (there : List ℕ)
             → Leaves e self.new.put (drawn_of self.old there) there) }
         ensures cause { IfErr result (λ e. HasCause [] e shelf.old shelf.new) }
+        ensures refused { IfErr result (NamesRefused (S.refuses N.place) self.old.options) }
         ensures why { IfErr result (λ e. (answers : List ℕ) → AnswersOf e answers answers) }
+        ensures stands { OnErr result
+            (PutsLast self.old (IsClosing self.old user.now) self.new.put shelf.old shelf.new) }
         ensures large { IfErr result (λ e. IsSizeFault e
             → IsOverLimit self.old.options (entries_of_last self.old.last)) }
     {
@@ -244,6 +256,7 @@ impl<N: Naming, S: Shelf> Outputs<N, S> {
         ensures why { IfErr result (λ e.
             AnswersOf e (D.refused numbers.old) (D.refused numbers.new)) }
         ensures cause { IfErr result (λ e. (t u : Told) → HasCause [] e t u) }
+        ensures unasked { IfErr result IsUnasked }
         ensures asked { AsksFor self.old.ticket (D.asked numbers.old) (D.asked numbers.new) }
         ensures ticket { IfErr result (λ e. NamesTicket e self.old.ticket) }
         ensures large { IfErr result (λ e. IsSizeFault e → IsOverLimit self.old.options
@@ -292,8 +305,11 @@ impl<N: Naming, S: Shelf> Outputs<N, S> {
         ensures why { IfErr result (λ e.
             AnswersOf e (D.refused numbers.old) (D.refused numbers.new)) }
         ensures cause { IfErr result (λ e. HasCause [] e shelf.old shelf.new) }
+        ensures refused { IfErr result (NamesRefused (S.refuses N.place) self.old.options) }
         ensures asked { AsksFor self.old.ticket (D.asked numbers.old) (D.asked numbers.new) }
         ensures ticket { IfErr result (λ e. NamesTicket e self.old.ticket) }
+        ensures stands { OnErr result (PutsLast self.old
+            (IsClosing self.old (key_of key.now).user) self.new.put shelf.old shelf.new) }
         ensures large { IfErr result (λ e. IsSizeFault e → IsOverLimit self.old.options
             (entries_of_last self.old.last ++ entry_of (key_of key.now) value.now ∷ [])) }
         ensures ready { D.ready numbers.new }
@@ -332,8 +348,12 @@ impl<N: Naming, S: Shelf> Outputs<N, S> {
         ensures why { IfErr result (λ e.
             AnswersOf e (D.refused numbers.old) (D.refused numbers.new)) }
         ensures cause { IfErr result (λ e. HasCause [] e shelf.old shelf.new) }
+        ensures refused { IfErr result (NamesRefused (S.refuses N.place) self.old.options) }
         ensures asked { AsksFor self.old.ticket (D.asked numbers.old) (D.asked numbers.new) }
         ensures ticket { IfErr result (λ e. NamesTicket e self.old.ticket) }
+        ensures stands { OnErr result (PutsLast self.old
+            (IsTime self.old kept (entry_of (key_of key.now) value.now)) self.new.put
+            shelf.old shelf.new) }
         ensures large { IfErr result (λ e. IsSizeFault e → IsOverLimit self.old.options
             (entries_of_last self.old.last ++ entry_of (key_of key.now) value.now ∷ [])) }
         ensures ready { D.ready numbers.new }

@@ -1,10 +1,14 @@
 //! Putting an output on the shelf, and its record into the registry.
 
-ghost use Rattle.std.specs.Prelude.{◌≡◌, [], ◌∷◌, ◌++◌, ℕ, List, IfOk, IfErr, OnOk};
+ghost use Rattle.std.specs.Prelude.{◌≡◌, [], ◌∷◌, ◌++◌, ℕ, List, IfOk, IfErr, OnErr, OnOk};
 ghost use Rattle.lsm_shelf.specs.Told.{Becomes, putting};
-ghost use Rattle.lsm_merge.specs.Causes.{AnswersOf, HasCause, Leaves};
+ghost use Rattle.lsm_codec.specs.Entries.{Entry};
+ghost use Rattle.lsm_table.specs.TableBuilding.{table_bytes};
+ghost use Rattle.lsm_table.specs.declared.table_options.TableOptions.{TableOptions};
+ghost use Rattle.lsm_merge.specs.Causes.{AnswersOf, HasCause, Leaves, NamesRefused};
 ghost use Rattle.lsm_merge.specs.Limits.{IsOverLimit, IsSizeFault};
 ghost use Rattle.lsm_merge.specs.Outputs.{IsPut, PutsMore, PutsTables, going};
+ghost use Rattle.lsm_merge.specs.PutBefore.{PutsOne, PutsPerhaps};
 
 use crate::merge_fault::MergeFault;
 use crate::output::Output;
@@ -16,6 +20,7 @@ use std::sync::Wait;
 /// Puts a table that was built under a number, and then its record into the registry. The memory
 /// for the number is there before the table is put, and the number stands among those put before
 /// the record may be refused.
+#[tactic(auto, using(crate::proofs::Refused::refused_put))]
 fn put_image<N: Naming, S: Shelf, R: Wait>(
     rt: &R,
     alloc: Global,
@@ -37,6 +42,11 @@ fn put_image<N: Naming, S: Shelf, R: Wait>(
     ensures cause { IfErr result (λ e. HasCause [] e shelf.old shelf.new) }
     ensures why { IfErr result (λ e. (answers : List ℕ) → AnswersOf e answers answers) }
     ensures built { IfErr result (λ e. IsSizeFault e → ⊥) }
+    ensures refused { (options : TableOptions) (es : List Entry)
+        → image.bytes ≡ table_bytes options es
+        → IfErr result (NamesRefused (S.refuses N.place) options) }
+    ensures stands { OnErr result (PutsPerhaps number image.bytes put.old.items put.new.items
+        shelf.old shelf.new) }
 {
     put.reserve(1)?;
     let record = match image.put_alone(rt, alloc, shelf, number) {
@@ -54,7 +64,7 @@ fn put_image<N: Naming, S: Shelf, R: Wait>(
 }
 
 /// Puts the table of an output: its number then stands among those put, and it among the tables.
-#[tactic(auto, using(crate::proofs::PutLaws::puts_none))]
+#[tactic(auto, using(crate::proofs::PutLaws::puts_none, crate::proofs::Refused::refused_build))]
 pub(crate) fn put_output<N: Naming, S: Shelf, R: Wait>(
     rt: &R,
     alloc: Global,
@@ -74,6 +84,9 @@ pub(crate) fn put_output<N: Naming, S: Shelf, R: Wait>(
     ensures cause { IfErr result (λ e. HasCause [] e shelf.old shelf.new) }
     ensures why { IfErr result (λ e. (answers : List ℕ) → AnswersOf e answers answers) }
     ensures large { IfErr result (λ e. IsSizeFault e → IsOverLimit output.options output.entries) }
+    ensures refused { IfErr result (NamesRefused (S.refuses N.place) output.options) }
+    ensures stands { OnErr result (PutsOne output.options output.entries (Unit {0})
+        put.old.items put.new.items shelf.old shelf.new) }
 {
     tables_are_whole();
     entries_are();

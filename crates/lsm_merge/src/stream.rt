@@ -11,7 +11,8 @@ ghost use Rattle.lsm_levels.specs.Streams.{is_shadowed};
 ghost use Rattle.lsm_merger.specs.Heads.{after_first, first_of, key_in, no_more, value_in};
 ghost use Rattle.lsm_merger.specs.Runs.{IsOfFirst, ReadsNoOther};
 ghost use Rattle.lsm_shelf.specs.Told.{Becomes};
-ghost use Rattle.lsm_merge.specs.Causes.{HasCause};
+ghost use Rattle.lsm_table.specs.declared.table_options.TableOptions.{TableOptions};
+ghost use Rattle.lsm_merge.specs.Causes.{HasCause, NamesRefused};
 ghost use Rattle.lsm_merge.specs.Dropping.{follows};
 ghost use Rattle.lsm_merge.specs.Inputs.{AreInputs, IsOfReading, IsReadable};
 ghost use Rattle.lsm_merge.specs.Remembered.{entry_passed, order_to};
@@ -148,7 +149,7 @@ impl<N: Naming, S: Shelf> Stream<N, S> {
     }
 
     /// Passes the entry at which it stands, which is then the one before.
-    #[tactic(auto, using(crate::proofs::InputLaws::readable_of, crate::proofs::InputLaws::cause_of_read, crate::proofs::InputLaws::reading_of, crate::proofs::StreamLaws::passed_entry))]
+    #[tactic(auto, using(crate::proofs::InputLaws::readable_of, crate::proofs::InputLaws::cause_of_read, crate::proofs::InputLaws::reading_of, crate::proofs::Refused::refused_read, crate::proofs::StreamLaws::passed_entry))]
     pub(crate) fn pass(
         &mut self,
         shelf: &mut NamedShelf<N, S>,
@@ -165,6 +166,8 @@ impl<N: Naming, S: Shelf> Stream<N, S> {
         ensures told { Becomes shelf.old shelf.new }
         ensures cause { IfErr result (λ e. (inputs : List ℕ) → AreInputs self.old.left.files inputs
             → HasCause inputs e shelf.old shelf.new) }
+        ensures refused { (options : TableOptions) → IfErr result
+            (NamesRefused (S.refuses N.place) options) }
     {
         let Some(key) = self.walk.key() else {
             unreachable!()

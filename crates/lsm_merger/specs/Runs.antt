@@ -16,6 +16,11 @@ pub record Left : Type 0 where
   pub files : List (ℕ × ℕ)
   pub numbered : List Placed
 
+-- a place in the table of a file: the file's number, and the entries that are left
+pub record InFile : Type 0 where
+  pub number : ℕ
+  pub left : List Entry
+
 -- The image is a table that has an entry.
 pub record HasEntries (image : List ℕ) : Type 0 where
   pub table : IsTable image (entries_in image)
@@ -53,6 +58,11 @@ IsLastAtEnd (e ∷ es) images = Unit {0}
 abbrev pub IsFirstOf : List Entry → List (List ℕ) → Type 0
 IsFirstOf es [] = ⊥
 IsFirstOf es (image ∷ images) = es ≡ entries_in image
+
+-- It is the first of these numbers.
+abbrev pub IsFirstNumber : ℕ → List ℕ → Type 0
+IsFirstNumber number [] = ⊥
+IsFirstNumber number (n ∷ ns) = number ≡ n
 
 -- No file is new.
 abbrev pub ReadsNoOther : Left → Left → Type 0

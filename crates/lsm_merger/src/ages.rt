@@ -3,6 +3,7 @@
 ghost use Rattle.std.specs.Prelude.{◌≡◌, false, IfOk, IfErr, MatchOption, None};
 ghost use Rattle.lsm_table.specs.ReadFault.{ReadCounted, IsMemoryOrShelf};
 ghost use Rattle.lsm_table.specs.Told.{Becomes};
+ghost use Rattle.lsm_reader.specs.Refusals.{IsReadRefusal};
 ghost use Rattle.lsm_table.specs.declared.read_fault.ReadFault.TheVariants.{Table};
 ghost use Rattle.lsm_table.specs.declared.table_fault.TableFault.TheVariants.{OutOfMemory};
 ghost use Rattle.lsm_levels.specs.Ages.{IsAgeOrder, IsLeastAgainstAge};
@@ -36,6 +37,7 @@ pub fn against_age<N: Naming, S: Shelf, B: Blocks<N, S>>(
     ensures loan { B.loan blocks.new ≡ B.loan blocks.old }
     ensures cause { IfErr result (λ e.
         ReadCounted e.fault (B.told blocks.old) (B.told blocks.new)) }
+    ensures refused { IfErr result (λ e. IsReadRefusal (S.refuses N.place) e.number e.fault) }
 {
     let mut walk = Walk::new(alloc, mem::replace(merger, Merger::nothing()));
     let found = found_by(blocks, alloc, &mut walk);
@@ -99,6 +101,7 @@ fn found_by<N: Naming, S: Shelf, B: Blocks<N, S>>(
     ensures loan { B.loan blocks.new ≡ B.loan blocks.old }
     ensures cause { IfErr result (λ e.
         ReadCounted e.fault (B.told blocks.old) (B.told blocks.new)) }
+    ensures refused { IfErr result (λ e. IsReadRefusal (S.refuses N.place) e.number e.fault) }
 {
     let mut before = Stamp { depth: 0, seq: 0 };
     for _ in 0..u64::MAX {

@@ -9,11 +9,13 @@ ghost use Rattle.lsm_block.specs.Standing.{SharesFront, is_end};
 ghost use Rattle.lsm_table.specs.Registry.{image_of};
 ghost use Rattle.lsm_table.specs.ReadFault.{ReadCounted, IsMemoryOrShelf};
 ghost use Rattle.lsm_table.specs.Told.{Becomes};
+ghost use Rattle.lsm_reader.specs.Refusals.{IsReadRefusal};
 ghost use Rattle.lsm_levels.specs.Merging.{IsSorted, placed_at};
 ghost use Rattle.lsm_merger.specs.Heads.{after_first, first_of, key_in, no_more, source_in};
 ghost use Rattle.lsm_merger.specs.Heads.{user_in};
 ghost use Rattle.lsm_merger.specs.Heads.{value_in};
-ghost use Rattle.lsm_merger.specs.Runs.{AreAlike, HasEntries, IsFirstOf, IsOfFirst, ReadsNoOther};
+ghost use Rattle.lsm_merger.specs.Runs.{AreAlike, HasEntries, IsFirstNumber, IsFirstOf};
+ghost use Rattle.lsm_merger.specs.Runs.{IsOfFirst, ReadsNoOther};
 ghost use Rattle.lsm_merger.specs.Runs.{entries_of_all, files_at, numbered_all};
 ghost use Rattle.lsm_merger.specs.Seeking.{IsReached, at_or_past, placed_past};
 
@@ -37,8 +39,6 @@ use std::marker::Model;
 pub struct Run<N: Naming, S: Shelf> {
     // Given to each of its entries.
     depth: u64,
-    // Of the file of the table at which it stands.
-    number: u64,
     here: TableIter<N, S>,
     // What stands for the tables after it.
     later: VecDeque<S::Receipt>,
@@ -50,10 +50,10 @@ impl<N: Naming, S: Shelf> Model for Run<N, S> {
 
     ghost Value = { Left };
 
-    ghost view = { λ r. run_left r.depth r.number r.here (map S.Receipt.number r.later.items)
-        (map S.Receipt.image r.later.items) };
+    ghost view = { λ r. run_left r.depth r.here.number r.here.left
+        (map S.Receipt.number r.later.items) (map S.Receipt.image r.later.items) };
 
-    ghost invariant = { λ r. IsLastAtEnd r.here (map S.Receipt.image r.later.items)
+    ghost invariant = { λ r. IsLastAtEnd r.here.left (map S.Receipt.image r.later.items)
         × All (S.is_of N.place) r.later.items
         × (S.honest → All HasEntries (map S.Receipt.image r.later.items)) };
 }
@@ -67,15 +67,18 @@ fn open_next_by<N: Naming, S: Shelf, B: Blocks<N, S>>(
     requires named { All (S.is_of N.place) later.now.items }
     requires tables { S.honest → All HasEntries (map S.Receipt.image later.now.items) }
     ensures some { IfOk result (λ o. MatchOption o (later.now.items ≡ []) (λ t.
-        (0 < length later.now.items) × (is_end t ≡ false))) }
-    ensures entries { S.honest
-        → IfOk result (λ o. IfSome o (λ t. IsFirstOf t (map S.Receipt.image later.now.items))) }
+        (0 < length later.now.items) × (is_end t.left ≡ false))) }
+    ensures first { IfOk result (λ o.
+        IfSome o (λ t. IsFirstNumber t.number (map S.Receipt.number later.now.items))) }
+    ensures entries { S.honest → IfOk result
+        (λ o. IfSome o (λ t. IsFirstOf t.left (map S.Receipt.image later.now.items))) }
     ensures sound { S.honest → IfErr result (λ e. IsMemoryOrShelf e.fault) }
     ensures number { IfErr result (λ e. Has (map S.Receipt.number later.now.items) e.number) }
     ensures told { Becomes (B.told blocks.old) (B.told blocks.new) }
     ensures loan { B.loan blocks.new ≡ B.loan blocks.old }
     ensures cause { IfErr result (λ e.
         ReadCounted e.fault (B.told blocks.old) (B.told blocks.new)) }
+    ensures refused { IfErr result (λ e. IsReadRefusal (S.refuses N.place) e.number e.fault) }
 {
     let next = match later.front() {
         Some(next) => blocks.copy_receipt(next),
@@ -131,15 +134,11 @@ impl<N: Naming, S: Shelf> Run<N, S> {
         ensures loan { B.loan blocks.new ≡ B.loan blocks.old }
         ensures cause { IfErr result (λ e.
             ReadCounted e.fault (B.told blocks.old) (B.told blocks.new)) }
+        ensures refused { IfErr result (λ e. IsReadRefusal (S.refuses N.place) e.number e.fault) }
     {
         let number = first.number();
         match TableIter::first_by(blocks, alloc, first) {
-            Ok(here) => Ok(Run {
-                depth,
-                number,
-                here,
-                later,
-            }),
+            Ok(here) => Ok(Run { depth, here, later }),
             Err(fault) => Err(FileFault { number, fault }),
         }
     }
@@ -166,6 +165,7 @@ impl<N: Naming, S: Shelf> Run<N, S> {
         ensures loan { B.loan blocks.new ≡ B.loan blocks.old }
         ensures cause { IfErr result (λ e.
             ReadCounted e.fault (B.told blocks.old) (B.told blocks.new)) }
+        ensures refused { IfErr result (λ e. IsReadRefusal (S.refuses N.place) e.number e.fault) }
     {
         let Some((first, rest)) = tables.split_first() else {
             unreachable!()
@@ -211,6 +211,7 @@ impl<N: Naming, S: Shelf> Run<N, S> {
         ensures loan { B.loan blocks.new ≡ B.loan blocks.old }
         ensures cause { IfErr result (λ e.
             ReadCounted e.fault (B.told blocks.old) (B.told blocks.new)) }
+        ensures refused { IfErr result (λ e. IsReadRefusal (S.refuses N.place) e.number e.fault) }
     {
         let Some((first, rest)) = tables.split_first() else {
             unreachable!()
@@ -227,12 +228,7 @@ impl<N: Naming, S: Shelf> Run<N, S> {
             }
         };
         match TableIter::seek_by(blocks, alloc, first, from) {
-            Ok(here) => Ok(Run {
-                depth,
-                number,
-                here,
-                later,
-            }),
+            Ok(here) => Ok(Run { depth, here, later }),
             Err(fault) => Err(FileFault { number, fault }),
         }
     }
@@ -276,7 +272,7 @@ impl<N: Naming, S: Shelf> Run<N, S> {
         if self.here.is_at_end() {
             0
         } else {
-            self.number
+            self.here.number()
         }
     }
 
@@ -308,6 +304,7 @@ impl<N: Naming, S: Shelf> Run<N, S> {
         ensures loan { B.loan blocks.new ≡ B.loan blocks.old }
         ensures cause { IfErr result (λ e.
             ReadCounted e.fault (B.told blocks.old) (B.told blocks.new)) }
+        ensures refused { IfErr result (λ e. IsReadRefusal (S.refuses N.place) e.number e.fault) }
     {
         if self.here.is_at_end() {
             return Ok(0);
@@ -317,23 +314,22 @@ impl<N: Naming, S: Shelf> Run<N, S> {
             Ok(None) => {}
             Err(fault) => {
                 return Err(FileFault {
-                    number: self.number,
+                    number: self.here.number(),
                     fault,
                 });
             }
         }
         if let Some(here) = open_next_by(blocks, alloc, &self.later)? {
-            let Some(receipt) = self.later.pop_front() else {
+            let Some(_reached) = self.later.pop_front() else {
                 unreachable!()
             };
-            self.number = receipt.number();
             self.here = here;
             return Ok(0);
         }
         match self.here.advance_by(blocks, alloc) {
             Ok(()) => Ok(0),
             Err(fault) => Err(FileFault {
-                number: self.number,
+                number: self.here.number(),
                 fault,
             }),
         }

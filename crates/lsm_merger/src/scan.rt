@@ -3,6 +3,7 @@
 ghost use Rattle.std.specs.Prelude.{◌≡◌, ◌||◌, not, nat_le, false, IfOk, IfErr, OnOk, OnErr, None};
 ghost use Rattle.lsm_table.specs.ReadFault.{ReadCounted, IsMemoryOrShelf};
 ghost use Rattle.lsm_table.specs.Told.{Becomes};
+ghost use Rattle.lsm_reader.specs.Refusals.{IsSomeReadRefusal};
 ghost use Rattle.lsm_levels.specs.Merging.{entries_of};
 ghost use Rattle.lsm_levels.specs.Scanning.{is_head_passed, pairs_of};
 ghost use Rattle.lsm_merger.specs.Heads.{first_of};
@@ -77,6 +78,7 @@ impl<N: Naming, S: Shelf> Scan<N, S> {
         ensures told { Becomes (B.told blocks.old) (B.told blocks.new) }
         ensures loan { B.loan blocks.new ≡ B.loan blocks.old }
         ensures cause { IfErr result (λ e. ReadCounted e (B.told blocks.old) (B.told blocks.new)) }
+        ensures refused { IfErr result (IsSomeReadRefusal (S.refuses N.place)) }
     {
         shown_by(&mut self.walk, &mut self.is_done, self.seq, blocks, alloc)
     }
@@ -95,6 +97,7 @@ impl<N: Naming, S: Shelf> Scan<N, S> {
         ensures told { Becomes (B.told blocks.old) (B.told blocks.new) }
         ensures loan { B.loan blocks.new ≡ B.loan blocks.old }
         ensures cause { IfErr result (λ e. ReadCounted e (B.told blocks.old) (B.told blocks.new)) }
+        ensures refused { IfErr result (IsSomeReadRefusal (S.refuses N.place)) }
     {
         pair_by(&mut self.walk, &mut self.is_done, self.seq, blocks, alloc)
     }
@@ -111,6 +114,7 @@ impl<N: Naming, S: Shelf> Scan<N, S> {
         ensures sound { S.honest → IfErr result IsMemoryOrShelf }
         ensures told { Becomes shelf.old shelf.new }
         ensures cause { IfErr result (λ e. ReadCounted e shelf.old shelf.new) }
+        ensures refused { IfErr result (IsSomeReadRefusal (S.refuses N.place)) }
     {
         let mut direct = Direct::new(shelf);
         self.next_by(&mut direct, alloc)
@@ -144,6 +148,7 @@ fn skip_by<N: Naming, S: Shelf, B: Blocks<N, S>>(
     ensures told { Becomes (B.told blocks.old) (B.told blocks.new) }
     ensures loan { B.loan blocks.new ≡ B.loan blocks.old }
     ensures cause { IfErr result (λ e. ReadCounted e (B.told blocks.old) (B.told blocks.new)) }
+    ensures refused { IfErr result (IsSomeReadRefusal (S.refuses N.place)) }
 {
     for _ in 0..u64::MAX {
         let Some(key) = walk.first_key() else {
@@ -178,6 +183,7 @@ fn turn_by<N: Naming, S: Shelf, B: Blocks<N, S>>(
     ensures told { Becomes (B.told blocks.old) (B.told blocks.new) }
     ensures loan { B.loan blocks.new ≡ B.loan blocks.old }
     ensures cause { IfErr result (λ e. ReadCounted e (B.told blocks.old) (B.told blocks.new)) }
+    ensures refused { IfErr result (IsSomeReadRefusal (S.refuses N.place)) }
 {
     if *is_done {
         walk.pass_by(blocks, alloc)?;
@@ -206,6 +212,7 @@ fn shown_by<N: Naming, S: Shelf, B: Blocks<N, S>>(
     ensures told { Becomes (B.told blocks.old) (B.told blocks.new) }
     ensures loan { B.loan blocks.new ≡ B.loan blocks.old }
     ensures cause { IfErr result (λ e. ReadCounted e (B.told blocks.old) (B.told blocks.new)) }
+    ensures refused { IfErr result (IsSomeReadRefusal (S.refuses N.place)) }
 {
     for _ in 0..u64::MAX {
         let Some(kind) = turn_by(walk, is_done, seq, blocks, alloc)? else {
@@ -267,6 +274,7 @@ fn pair_by<N: Naming, S: Shelf, B: Blocks<N, S>>(
     ensures told { Becomes (B.told blocks.old) (B.told blocks.new) }
     ensures loan { B.loan blocks.new ≡ B.loan blocks.old }
     ensures cause { IfErr result (λ e. ReadCounted e (B.told blocks.old) (B.told blocks.new)) }
+    ensures refused { IfErr result (IsSomeReadRefusal (S.refuses N.place)) }
 {
     if !shown_by(walk, is_done, seq, blocks, alloc)? {
         return Ok(None);

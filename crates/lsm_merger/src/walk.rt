@@ -6,6 +6,7 @@ ghost use Rattle.std.specs.Option.{option_map};
 ghost use Rattle.lsm_codec.specs.KeyRef.{key_of};
 ghost use Rattle.lsm_table.specs.ReadFault.{ReadCounted, IsMemoryOrShelf};
 ghost use Rattle.lsm_table.specs.Told.{Becomes};
+ghost use Rattle.lsm_reader.specs.Refusals.{IsReadRefusal};
 ghost use Rattle.lsm_merger.specs.Heads.{after_first, first_of, key_in, no_more, source_in};
 ghost use Rattle.lsm_merger.specs.Heads.{value_in};
 ghost use Rattle.lsm_merger.specs.Runs.{IsOfFirst, ReadsNoOther};
@@ -207,6 +208,7 @@ impl<N: Naming, S: Shelf> Walk<N, S> {
         ensures loan { B.loan blocks.new ≡ B.loan blocks.old }
         ensures cause { IfErr result (λ e.
             ReadCounted e.fault (B.told blocks.old) (B.told blocks.new)) }
+        ensures refused { IfErr result (λ e. IsReadRefusal (S.refuses N.place) e.number e.fault) }
     {
         let shared = self.merger.advance_by(blocks, alloc)?;
         self.front = self.front.min(shared);
@@ -236,6 +238,7 @@ impl<N: Naming, S: Shelf> Walk<N, S> {
         ensures loan { B.loan blocks.new ≡ B.loan blocks.old }
         ensures cause { IfErr result (λ e.
             ReadCounted e.fault (B.told blocks.old) (B.told blocks.new)) }
+        ensures refused { IfErr result (λ e. IsReadRefusal (S.refuses N.place) e.number e.fault) }
     {
         match self.remember() {
             Ok(()) => self.advance_by(blocks, alloc),

@@ -4,6 +4,7 @@ ghost use Rattle.std.specs.Prelude.{◌≡◌, IfErr};
 ghost use Rattle.std.specs.Arc.{arc_value};
 ghost use Rattle.lsm_block.specs.Held.{HeldBlock};
 ghost use Rattle.lsm_reader.specs.Blocks.{Reads, last_part, stored_block};
+ghost use Rattle.lsm_reader.specs.Refusals.{IsReadRefusal};
 ghost use Rattle.lsm_table.specs.OpenTable.{opening_at};
 ghost use Rattle.lsm_table.specs.ReadFault.{ReadCounted};
 ghost use Rattle.lsm_shelf.specs.Told.{Becomes};
@@ -35,7 +36,9 @@ pub trait Blocks<N: Naming, S: Shelf> {
         ensures exact { S.honest → Reads (λ f. f) result (last_part (S.Receipt.image receipt.now)) }
         ensures told { Becomes (told self.old) (told self.new) }
         ensures loan { loan self.new ≡ loan self.old }
-        ensures cause { IfErr result (λ e. ReadCounted e (told self.old) (told self.new)) };
+        ensures cause { IfErr result (λ e. ReadCounted e (told self.old) (told self.new)) }
+        ensures refused { IfErr result
+            (IsReadRefusal (S.refuses N.place) (S.Receipt.number receipt.now)) };
 
     /// The index block of the table of a receipt: its footer is judged, and then that block. The
     /// fault is the first one of both.
@@ -45,7 +48,9 @@ pub trait Blocks<N: Naming, S: Shelf> {
             (opening_at (S.Receipt.image receipt.now)) }
         ensures told { Becomes (told self.old) (told self.new) }
         ensures loan { loan self.new ≡ loan self.old }
-        ensures cause { IfErr result (λ e. ReadCounted e (told self.old) (told self.new)) };
+        ensures cause { IfErr result (λ e. ReadCounted e (told self.old) (told self.new)) }
+        ensures refused { IfErr result
+            (IsReadRefusal (S.refuses N.place) (S.Receipt.number receipt.now)) };
 
     /// The block of an image at a place, judged. The first of these refuses it: the place
     /// (`BadHandle`; the block with its trailer has to lie before the footer), the shelf (`Device`,
@@ -64,7 +69,9 @@ pub trait Blocks<N: Naming, S: Shelf> {
             (stored_block (S.Receipt.image receipt.now) record { offset = offset; size = size }) }
         ensures told { Becomes (told self.old) (told self.new) }
         ensures loan { loan self.new ≡ loan self.old }
-        ensures cause { IfErr result (λ e. ReadCounted e (told self.old) (told self.new)) };
+        ensures cause { IfErr result (λ e. ReadCounted e (told self.old) (told self.new)) }
+        ensures refused { IfErr result
+            (IsReadRefusal (S.refuses N.place) (S.Receipt.number receipt.now)) };
 
     /// The same receipt once more, which its shelf makes. It takes no memory.
     fn copy_receipt(&self, receipt: &S::Receipt) -> S::Receipt

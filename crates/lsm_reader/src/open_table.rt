@@ -11,6 +11,7 @@ ghost use Rattle.lsm_table.specs.ReadFault.{ReadCounted, IsMemoryOrShelf};
 ghost use Rattle.lsm_table.specs.Table.{IsTable};
 ghost use Rattle.lsm_reader.specs.Blocks.{Reads};
 ghost use Rattle.lsm_reader.specs.Getting.{got};
+ghost use Rattle.lsm_reader.specs.Refusals.{IsReadRefusal, IsSomeReadRefusal};
 
 use crate::blocks::Blocks;
 use crate::direct::Direct;
@@ -61,6 +62,8 @@ impl<N: Naming, S: Shelf> OpenTable<N, S> {
         ensures told { Becomes (B.told blocks.old) (B.told blocks.new) }
         ensures loan { B.loan blocks.new ≡ B.loan blocks.old }
         ensures cause { IfErr result (λ e. ReadCounted e (B.told blocks.old) (B.told blocks.new)) }
+        ensures refused { IfErr result
+            (IsReadRefusal (S.refuses N.place) (S.Receipt.number receipt.now)) }
     {
         let index = index_by(blocks, alloc, receipt)?;
         Ok(OpenTable {
@@ -81,6 +84,8 @@ impl<N: Naming, S: Shelf> OpenTable<N, S> {
         ensures exact { S.honest → Opens result (opening_at (S.Receipt.image receipt.now)) }
         ensures told { Becomes shelf.old shelf.new }
         ensures cause { IfErr result (λ e. ReadCounted e shelf.old shelf.new) }
+        ensures refused { IfErr result
+            (IsReadRefusal (S.refuses N.place) (S.Receipt.number receipt.now)) }
     {
         let mut direct = Direct::new(shelf);
         OpenTable::open_by(&mut direct, alloc, receipt)
@@ -105,6 +110,7 @@ impl<N: Naming, S: Shelf> OpenTable<N, S> {
         ensures told { Becomes (B.told blocks.old) (B.told blocks.new) }
         ensures loan { B.loan blocks.new ≡ B.loan blocks.old }
         ensures cause { IfErr result (λ e. ReadCounted e (B.told blocks.old) (B.told blocks.new)) }
+        ensures refused { IfErr result (IsSomeReadRefusal (S.refuses N.place)) }
     {
         let index = Arc::try_clone(&self.index)?;
         get_from(blocks, alloc, &self.receipt, index, user, seq)
@@ -125,6 +131,7 @@ impl<N: Naming, S: Shelf> OpenTable<N, S> {
             → IfErr result IsMemoryOrShelf }
         ensures told { Becomes shelf.old shelf.new }
         ensures cause { IfErr result (λ e. ReadCounted e shelf.old shelf.new) }
+        ensures refused { IfErr result (IsSomeReadRefusal (S.refuses N.place)) }
     {
         let mut direct = Direct::new(shelf);
         self.get_by(&mut direct, alloc, user, seq)

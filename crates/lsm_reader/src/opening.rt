@@ -5,6 +5,7 @@ ghost use Rattle.std.specs.Arc.{arc_value};
 ghost use Rattle.lsm_codec.specs.Entries.{Entry};
 ghost use Rattle.lsm_block.specs.Held.{HeldBlock};
 ghost use Rattle.lsm_reader.specs.Blocks.{Reads};
+ghost use Rattle.lsm_reader.specs.Refusals.{IsReadRefusal};
 ghost use Rattle.lsm_table.specs.Footer.{body_of};
 ghost use Rattle.lsm_table.specs.OpenTable.{opening_at, block_named};
 ghost use Rattle.lsm_table.specs.ReadFault.{ReadCounted};
@@ -28,6 +29,8 @@ pub fn index_by<N: Naming, S: Shelf, B: Blocks<N, S>>(
     ensures told { Becomes (B.told blocks.old) (B.told blocks.new) }
     ensures loan { B.loan blocks.new ≡ B.loan blocks.old }
     ensures cause { IfErr result (λ e. ReadCounted e (B.told blocks.old) (B.told blocks.new)) }
+    ensures refused { IfErr result
+        (IsReadRefusal (S.refuses N.place) (S.Receipt.number receipt.now)) }
 {
     blocks.index(alloc, receipt)
 }
@@ -45,6 +48,8 @@ pub(crate) fn data_block_by<N: Naming, S: Shelf, B: Blocks<N, S>>(
     ensures told { Becomes (B.told blocks.old) (B.told blocks.new) }
     ensures loan { B.loan blocks.new ≡ B.loan blocks.old }
     ensures cause { IfErr result (λ e. ReadCounted e (B.told blocks.old) (B.told blocks.new)) }
+    ensures refused { IfErr result
+        (IsReadRefusal (S.refuses N.place) (S.Receipt.number receipt.now)) }
 {
     let (handle, rest) = Handle::get(TableFault::BadIndex, spelled)?;
     if !rest.is_empty() {

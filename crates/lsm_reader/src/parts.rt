@@ -5,7 +5,7 @@ ghost use Rattle.std.specs.Arc.{arc_value};
 ghost use Rattle.lsm_codec.specs.Entries.{Entry};
 ghost use Rattle.lsm_block.specs.Held.{HeldBlock};
 ghost use Rattle.lsm_shelf.specs.Told.{Told};
-ghost use Rattle.lsm_table.specs.ReadFault.{ReadCounted};
+ghost use Rattle.lsm_table.specs.ReadFault.{ReadCounted, out_of_memory};
 ghost use Rattle.lsm_table.specs.declared.table_fault.TableFault.{TableFault};
 ghost use Rattle.lsm_reader.specs.Blocks.{Reads};
 
@@ -19,6 +19,7 @@ pub(crate) fn share(block: &Arc<Block>) -> Result<Arc<Block>, ReadFault>
         → read ≡ Ok (arc_value {X = HeldBlock} block.now).entries
         → Reads (λ b. (arc_value {X = HeldBlock} b).entries) result read }
     ensures cause { (old : Told) (new : Told) → IfErr result (λ e. ReadCounted e old new) }
+    ensures memory { IfErr result (λ e. e ≡ out_of_memory) }
 {
     Ok(Arc::try_clone(block)?)
 }

@@ -5,6 +5,7 @@ ghost use Rattle.std.specs.Arc.{arc_value};
 ghost use Rattle.lsm_block.specs.Held.{HeldBlock};
 ghost use Rattle.lsm_reader.specs.Blocks.{Reads};
 ghost use Rattle.lsm_reader.specs.Getting.{got, got_by};
+ghost use Rattle.lsm_reader.specs.Refusals.{IsReadRefusal};
 ghost use Rattle.lsm_table.specs.Footer.{body_of};
 ghost use Rattle.lsm_table.specs.HeldTable.{Names};
 ghost use Rattle.lsm_codec.specs.Entries.{Entry, newest};
@@ -43,6 +44,8 @@ pub(crate) fn get_from<N: Naming, S: Shelf, B: Blocks<N, S>>(
     ensures told { Becomes (B.told blocks.old) (B.told blocks.new) }
     ensures loan { B.loan blocks.new ≡ B.loan blocks.old }
     ensures cause { IfErr result (λ e. ReadCounted e (B.told blocks.old) (B.told blocks.new)) }
+    ensures refused { IfErr result
+        (IsReadRefusal (S.refuses N.place) (S.Receipt.number receipt.now)) }
 {
     let key = key_for(user, seq);
     let cursor = TableCursor::seek_by(blocks, alloc, receipt, index, &key)?;
@@ -72,6 +75,8 @@ pub fn get_by<N: Naming, S: Shelf, B: Blocks<N, S>>(
     ensures told { Becomes (B.told blocks.old) (B.told blocks.new) }
     ensures loan { B.loan blocks.new ≡ B.loan blocks.old }
     ensures cause { IfErr result (λ e. ReadCounted e (B.told blocks.old) (B.told blocks.new)) }
+    ensures refused { IfErr result
+        (IsReadRefusal (S.refuses N.place) (S.Receipt.number receipt.now)) }
 {
     let index = index_by(blocks, alloc, receipt)?;
     get_from(blocks, alloc, receipt, index, user, seq)
@@ -93,6 +98,8 @@ pub fn get<N: Naming, S: Shelf>(
         → IfErr result IsMemoryOrShelf }
     ensures told { Becomes shelf.old shelf.new }
     ensures cause { IfErr result (λ e. ReadCounted e shelf.old shelf.new) }
+    ensures refused { IfErr result
+        (IsReadRefusal (S.refuses N.place) (S.Receipt.number receipt.now)) }
 {
     let mut direct = Direct::new(shelf);
     get_by(&mut direct, alloc, receipt, user, seq)

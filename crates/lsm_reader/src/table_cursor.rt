@@ -13,6 +13,7 @@ ghost use Rattle.lsm_block.specs.Standing.{user_of_first, value_of_first};
 ghost use Rattle.lsm_reader.specs.Blocks.{Reads, left_at, or_none, IsSought, IsAtEntry};
 ghost use Rattle.lsm_reader.specs.Getting.{entered_there, first_entered, first_named, sought_there};
 ghost use Rattle.lsm_reader.specs.Getting.{stepped_on, stepped_or_stays};
+ghost use Rattle.lsm_reader.specs.Refusals.{IsReadRefusal};
 ghost use Rattle.lsm_table.specs.Footer.{body_of};
 ghost use Rattle.lsm_table.specs.HeldTable.{AreNamed, Names};
 ghost use Rattle.lsm_table.specs.ReadFault.{ReadCounted, IsMemoryOrShelf};
@@ -71,6 +72,8 @@ fn enter_by<N: Naming, S: Shelf, B: Blocks<N, S>>(
     ensures told { Becomes (B.told blocks.old) (B.told blocks.new) }
     ensures loan { B.loan blocks.new ≡ B.loan blocks.old }
     ensures cause { IfErr result (λ e. ReadCounted e (B.told blocks.old) (B.told blocks.new)) }
+    ensures refused { IfErr result
+        (IsReadRefusal (S.refuses N.place) (S.Receipt.number receipt.now)) }
 {
     let block = data_block_by(blocks, alloc, receipt, spelled)?;
     let entries = BlockIter::first(alloc, block)?;
@@ -102,6 +105,8 @@ fn seek_next_by<N: Naming, S: Shelf, B: Blocks<N, S>>(
     ensures told { Becomes (B.told blocks.old) (B.told blocks.new) }
     ensures loan { B.loan blocks.new ≡ B.loan blocks.old }
     ensures cause { IfErr result (λ e. ReadCounted e (B.told blocks.old) (B.told blocks.new)) }
+    ensures refused { IfErr result
+        (IsReadRefusal (S.refuses N.place) (S.Receipt.number receipt.now)) }
 {
     let block = data_block_by(blocks, alloc, receipt, index.value())?;
     let entries = BlockIter::seek(alloc, block, key)?;
@@ -130,6 +135,8 @@ impl TableCursor {
         ensures told { Becomes (B.told blocks.old) (B.told blocks.new) }
         ensures loan { B.loan blocks.new ≡ B.loan blocks.old }
         ensures cause { IfErr result (λ e. ReadCounted e (B.told blocks.old) (B.told blocks.new)) }
+        ensures refused { IfErr result
+            (IsReadRefusal (S.refuses N.place) (S.Receipt.number receipt.now)) }
     {
         let mut places = BlockIter::first(alloc, index)?;
         if places.is_at_end() {
@@ -169,6 +176,8 @@ impl TableCursor {
         ensures told { Becomes (B.told blocks.old) (B.told blocks.new) }
         ensures loan { B.loan blocks.new ≡ B.loan blocks.old }
         ensures cause { IfErr result (λ e. ReadCounted e (B.told blocks.old) (B.told blocks.new)) }
+        ensures refused { IfErr result
+            (IsReadRefusal (S.refuses N.place) (S.Receipt.number receipt.now)) }
     {
         let mut places = BlockIter::seek(alloc, index, key)?;
         while !places.is_at_end() {
@@ -242,6 +251,8 @@ impl TableCursor {
         ensures told { Becomes (B.told blocks.old) (B.told blocks.new) }
         ensures loan { B.loan blocks.new ≡ B.loan blocks.old }
         ensures cause { IfErr result (λ e. ReadCounted e (B.told blocks.old) (B.told blocks.new)) }
+        ensures refused { IfErr result
+            (IsReadRefusal (S.refuses N.place) (S.Receipt.number receipt.now)) }
     {
         if self.index.is_at_end() {
             self.here = None;
@@ -274,6 +285,8 @@ impl TableCursor {
         ensures told { Becomes (B.told blocks.old) (B.told blocks.new) }
         ensures loan { B.loan blocks.new ≡ B.loan blocks.old }
         ensures cause { IfErr result (λ e. ReadCounted e (B.told blocks.old) (B.told blocks.new)) }
+        ensures refused { IfErr result
+            (IsReadRefusal (S.refuses N.place) (S.Receipt.number receipt.now)) }
     {
         if let Some(entries) = &mut self.here {
             if entries.advance()?.is_some() {
@@ -310,6 +323,8 @@ impl TableCursor {
         ensures told { Becomes (B.told blocks.old) (B.told blocks.new) }
         ensures loan { B.loan blocks.new ≡ B.loan blocks.old }
         ensures cause { IfErr result (λ e. ReadCounted e (B.told blocks.old) (B.told blocks.new)) }
+        ensures refused { IfErr result
+            (IsReadRefusal (S.refuses N.place) (S.Receipt.number receipt.now)) }
     {
         if let Some(entries) = &mut self.here {
             let moved = entries.advance()?;

@@ -11,6 +11,7 @@ ghost use Rattle.lsm_table.specs.Footer.{body_of};
 ghost use Rattle.lsm_table.specs.HeldTable.{AreNamed, Names};
 ghost use Rattle.lsm_table.specs.ReadFault.{ReadCounted, IsMemoryOrShelf};
 ghost use Rattle.lsm_reader.specs.Stepping.{StepsOn, value_in};
+ghost use Rattle.lsm_reader.specs.Refusals.{IsSomeReadRefusal};
 
 use crate::blocks::Blocks;
 use crate::direct::Direct;
@@ -99,6 +100,7 @@ impl<N: Naming, S: Shelf> TableReader<N, S> {
         ensures told { Becomes (B.told blocks.old) (B.told blocks.new) }
         ensures loan { B.loan blocks.new ≡ B.loan blocks.old }
         ensures cause { IfErr result (λ e. ReadCounted e (B.told blocks.old) (B.told blocks.new)) }
+        ensures refused { IfErr result (IsSomeReadRefusal (S.refuses N.place)) }
     {
         if let Some(cursor) = &mut self.cursor {
             cursor.advance_by(blocks, alloc, &self.receipt)?;
@@ -118,6 +120,7 @@ impl<N: Naming, S: Shelf> TableReader<N, S> {
         ensures err { OnErr result (self.new ≡ self.old) }
         ensures told { Becomes shelf.old shelf.new }
         ensures cause { IfErr result (λ e. ReadCounted e shelf.old shelf.new) }
+        ensures refused { IfErr result (IsSomeReadRefusal (S.refuses N.place)) }
     {
         let mut direct = Direct::new(shelf);
         self.next_by(&mut direct, alloc)

@@ -10,6 +10,7 @@ ghost use Rattle.lsm_codec.specs.Entries.{Entry};
 ghost use Rattle.lsm_table.specs.Table.{IsTable};
 ghost use Rattle.lsm_table.specs.ReadFault.{ReadCounted, IsMemoryOrShelf};
 ghost use Rattle.lsm_shelf.specs.Told.{Becomes};
+ghost use Rattle.lsm_reader.specs.Refusals.{IsReadRefusal, IsSomeReadRefusal};
 
 use crate::blocks::Blocks;
 use crate::opening::index_by;
@@ -58,6 +59,8 @@ impl<N: Naming, S: Shelf> TableStream<N, S> {
         ensures told { Becomes (B.told blocks.old) (B.told blocks.new) }
         ensures loan { B.loan blocks.new ≡ B.loan blocks.old }
         ensures cause { IfErr result (λ e. ReadCounted e (B.told blocks.old) (B.told blocks.new)) }
+        ensures refused { IfErr result
+            (IsReadRefusal (S.refuses N.place) (S.Receipt.number receipt)) }
     {
         let index = index_by(blocks, alloc, &receipt)?;
         let cursor = TableCursor::first_by(blocks, alloc, &receipt, index)?;
@@ -101,6 +104,7 @@ impl<N: Naming, S: Shelf> TableStream<N, S> {
         ensures told { Becomes (B.told blocks.old) (B.told blocks.new) }
         ensures loan { B.loan blocks.new ≡ B.loan blocks.old }
         ensures cause { IfErr result (λ e. ReadCounted e (B.told blocks.old) (B.told blocks.new)) }
+        ensures refused { IfErr result (IsSomeReadRefusal (S.refuses N.place)) }
     {
         self.cursor.advance_by(blocks, alloc, &self.receipt)
     }
@@ -124,6 +128,7 @@ impl<N: Naming, S: Shelf> TableStream<N, S> {
         ensures told { Becomes (B.told blocks.old) (B.told blocks.new) }
         ensures loan { B.loan blocks.new ≡ B.loan blocks.old }
         ensures cause { IfErr result (λ e. ReadCounted e (B.told blocks.old) (B.told blocks.new)) }
+        ensures refused { IfErr result (IsSomeReadRefusal (S.refuses N.place)) }
     {
         self.cursor.step_by(blocks, alloc, &self.receipt)
     }

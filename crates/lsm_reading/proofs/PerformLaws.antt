@@ -10,8 +10,8 @@ use Rattle.lsm_directory.specs.declared.faults.directory_fault.DirectoryFault.{D
 use Rattle.lsm_directory.specs.declared.faults.directory_fault.DirectoryFault.TheVariants.{OutOfMemory, Write, Shelf, Manifest, Tables, Read, NumbersSpent, Locked, Absent}
 use Rattle.lsm_reading.specs.Answers.{IsPerformFault}
 use Rattle.lsm_reading.specs.Listing.{shown_answer}
-use Rattle.lsm_reading.specs.ReadFault.{IsAnswerFault, IsOutputFault, IsReadFault}
-use Rattle.lsm_reading.proofs.FaultLaws.{answer_fault_from_output, answer_fault_from_read}
+use Rattle.lsm_reading.specs.ReadFault.{IsAnswerFault, IsOutputFault}
+use Rattle.lsm_reading.proofs.FaultLaws.{answer_fault_from_output}
 
 pub perform_from_answer : (Honest : Type 0) (command : DirectoryCommand) (v : Levels) (e : DirectoryFault) (a b : Told) → IsAnswerFault Honest e a b
     → IsPerformFault Honest command v e a b
@@ -24,10 +24,6 @@ perform_from_answer Honest command v (Read fault) a b f = f
 perform_from_answer Honest command v NumbersSpent a b f = f
 perform_from_answer Honest command v Locked a b f = f
 perform_from_answer Honest command v Absent a b f = absurd f
-
-pub perform_from_read : (Honest : Type 0) (command : DirectoryCommand) (v : Levels) (e : DirectoryFault) (a b : Told) → IsReadFault Honest e a b
-    → IsPerformFault Honest command v e a b
-perform_from_read Honest command v e a b f = perform_from_answer Honest command v e a b (answer_fault_from_read Honest e a b f)
 
 pub perform_from_output : (Honest : Type 0) (command : DirectoryCommand) (v : Levels) (e : DirectoryFault) (a b : Told) → IsOutputFault e
     → IsPerformFault Honest command v e a b

@@ -23,7 +23,7 @@ use Rattle.lsm_version.specs.Versions.{Levels}
 use Rattle.lsm_text.specs.declared.directory_command.DirectoryCommand.{DirectoryCommand}
 use Rattle.lsm_text.specs.declared.directory_command.DirectoryCommand.TheVariants.{Check, List as ListFiles, Get, Scan}
 use Rattle.lsm_directory.specs.DirectoryFault.{of_open}
-use Rattle.lsm_reading.specs.Answers.{HasNoNote, IsLookedInto, IsLookFault, IsNotLookedInto, IsPerformFault, Leaves, Prints, PrintsBefore, SaysAbsent}
+use Rattle.lsm_reading.specs.Answers.{HasNoNote, IsLookedInto, IsLookFault, IsNotLookedInto, IsPerformFault, Leaves, Prints, PrintsBefore, ReliesOn, SaysAbsent}
 use Rattle.lsm_text.specs.declared.form.Form.{Form}
 use Rattle.lsm_reading.specs.Directory.{Holds, OnlyReads}
 use Rattle.lsm_reading.specs.Opening.{IsOpenRefusal}
@@ -122,7 +122,7 @@ module _ (Stored : ℕ → List ℕ → Type 0) (Refused : Asked → ShelfFault 
   is_fault (Err e) command was mid is v rest log prev b h f = fault_later command was mid is v rest log prev e b h f
 
 pub is_done : {T : Type 0} (r : Result T DirectoryFault) (form : Form) (command : DirectoryCommand) (others : List FolderFile) (progress : Bool) (Honest : Type 0) (was mid is : Told) (v : Levels) (rest log prev : ℕ)
-    (old new said judged noted told : Option (List ℕ)) → Becomes mid is → Holds Honest was mid v rest log prev → (Honest → OnOk r (Prints form command v rest log prev others old new))
+    (old new said judged noted told : Option (List ℕ)) → Becomes mid is → Holds Honest was mid v rest log prev → (ReliesOn Honest command → OnOk r (Prints form command v rest log prev others old new))
     → (IsFalse progress → Keeps said judged) → (HasNoNote command log prev others → Keeps judged noted) → (IsFalse progress → Keeps noted told) → OnOk r (IsLookedInto form command others progress Honest was is old new said told)
 is_done (Ok x) form command others progress Honest was mid is v rest log prev old new said judged noted told b h w j q k = record {
   version = v;
@@ -138,7 +138,7 @@ is_done (Err e) form command others progress Honest was mid is v rest log prev o
 -- an absent key leaves what is written before a fault by a read of a key: nothing
 absent_leaves : (form : Form) (command : DirectoryCommand) (Honest : Type 0) (v : Levels) (old new : Option (List ℕ)) → SaysAbsent Honest command v
     → PrintsBefore form command Honest v old new → Keeps old new
-absent_leaves form Check Honest v old new says p = p
+absent_leaves form (Check workers) Honest v old new says p = p
 absent_leaves form ListFiles Honest v old new says p = p
 absent_leaves form (Get key output) Honest v old new says p = p
 absent_leaves form (Scan options) Honest v old new says p = absurd says

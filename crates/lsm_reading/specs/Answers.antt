@@ -24,11 +24,19 @@ use Rattle.lsm_directory.specs.declared.faults.directory_fault.DirectoryFault.Th
 -- what a command writes for a version, for a manifest with so many bytes at its end that hold no whole record and with these log numbers,
 -- and for the files beside it
 abbrev pub Prints : Form → DirectoryCommand → Levels → (rest log prev : ℕ) → List FolderFile → Option (List ℕ) → Option (List ℕ) → Type 0
-Prints form Check v rest log prev others old new = (text : List ℕ) × IsChecked v rest log prev others text × Appends old new text
+Prints form (Check workers) v rest log prev others old new = (text : List ℕ) × IsChecked v rest log prev others text × Appends old new text
 Prints form ListFiles v rest log prev others old new = Appends old new (list_text form v)
 Prints form (Get key output) v rest log prev others old new =
     (text : List ℕ) × (shown_answer form output (answer (all_entries (files v)) key v.last) ≡ Some text) × Appends old new text
 Prints form (Scan options) v rest log prev others old new = PrintsScan form options v old new
+
+-- What the text of a command relies on. A `get` and a `scan` read tables again, and rely on an honest shelf. What `check` and `list` print
+-- is of what was read as the version was judged, whatever the shelf is.
+abbrev pub ReliesOn : Type 0 → DirectoryCommand → Type 0
+ReliesOn Honest (Check workers) = ⊤
+ReliesOn Honest ListFiles = ⊤
+ReliesOn Honest (Get key output) = Honest
+ReliesOn Honest (Scan options) = Honest
 
 -- A note was written for each log among these files that is not read.
 abbrev pub WritesNotes : (log prev : ℕ) → List FolderFile → Option (List ℕ) → Option (List ℕ) → Type 0
@@ -37,7 +45,7 @@ WritesNotes log prev files old new = (logs : List FolderFile) × AreThose (IsUnr
 -- Of these files beside the tables a command says nothing on standard error: a check says what it has to say on standard output, and any
 -- other command notes each log that is not read.
 abbrev pub HasNoNote : DirectoryCommand → (log prev : ℕ) → List FolderFile → Type 0
-HasNoNote Check log prev others = ⊤
+HasNoNote (Check workers) log prev others = ⊤
 HasNoNote ListFiles log prev others = NoneUnread log prev others
 HasNoNote (Get key output) log prev others = NoneUnread log prev others
 HasNoNote (Scan options) log prev others = NoneUnread log prev others
@@ -46,15 +54,15 @@ HasNoNote (Scan options) log prev others = NoneUnread log prev others
 abbrev pub IsQuiet : DirectoryCommand → Bool → (log prev : ℕ) → List FolderFile → Option (List ℕ) → Option (List ℕ) → Type 0
 IsQuiet command progress log prev others old new = IsFalse progress → HasNoNote command log prev others → Keeps old new
 
--- The shelf's directory holds a version, over an honest shelf what the command prints of it was written on standard output, and standard
--- error is quiet.
+-- The shelf's directory holds a version, what the command prints of it was written on standard output (by `get` and `scan`, over an honest
+-- shelf), and standard error is quiet.
 pub record IsLookedInto (form : Form) (command : DirectoryCommand) (others : List FolderFile) (progress : Bool) (Honest : Type 0) (was is : Told) (old new said_old said_new : Option (List ℕ)) : Type 0 where
   pub version : Levels
   pub rest : ℕ
   pub log : ℕ
   pub prev : ℕ
   pub holds : Holds Honest was is version rest log prev
-  pub printed : Honest → Prints form command version rest log prev others old new
+  pub printed : ReliesOn Honest command → Prints form command version rest log prev others old new
   pub quiet : IsQuiet command progress log prev others said_old said_new
 
 -- the directory holds a version
@@ -63,7 +71,7 @@ HoldsVersion Honest was is v = (rest : ℕ) × (log : ℕ) × (prev : ℕ) × Ho
 
 -- A read of a key that is not to print a line says that it is absent: over an honest shelf it has no answer at the last sequence.
 abbrev pub SaysAbsent : Type 0 → DirectoryCommand → Levels → Type 0
-SaysAbsent Honest Check v = ⊥
+SaysAbsent Honest (Check workers) v = ⊥
 SaysAbsent Honest ListFiles v = ⊥
 SaysAbsent Honest (Get key output) v = (output ≢ Line) × (Honest → answer (all_entries (files v)) key v.last ≡ None)
 SaysAbsent Honest (Scan options) v = ⊥
@@ -84,7 +92,7 @@ IsLookFault Stored Refused Honest command Absent was is = (v : Levels) × HoldsV
 
 -- What is written of a version before a fault that is no failed write: nothing, or, by a scan and over an honest shelf, its first lines.
 abbrev pub PrintsBefore : Form → DirectoryCommand → Type 0 → Levels → Option (List ℕ) → Option (List ℕ) → Type 0
-PrintsBefore form Check Honest v old new = Keeps old new
+PrintsBefore form (Check workers) Honest v old new = Keeps old new
 PrintsBefore form ListFiles Honest v old new = Keeps old new
 PrintsBefore form (Get key output) Honest v old new = Keeps old new
 PrintsBefore form (Scan options) Honest v old new = LeavesScan form options Honest v old new
@@ -109,7 +117,7 @@ pub record IsNotLookedInto (form : Form) (command : DirectoryCommand) (fault : D
 
 -- a command whose refusals name the file of a table
 abbrev pub names_files : DirectoryCommand → Bool
-names_files Check = true
+names_files (Check workers) = true
 names_files ListFiles = false
 names_files (Get key output) = false
 names_files (Scan options) = true

@@ -5,19 +5,7 @@ use Rattle.lsm_table.specs.ReadFault.{IsMemoryOrShelf, ReadCounted}
 use Rattle.lsm_directory.specs.declared.faults.directory_fault.DirectoryFault.{DirectoryFault}
 use Rattle.lsm_directory.specs.declared.faults.directory_fault.DirectoryFault.TheVariants.{OutOfMemory, Write, Shelf, Manifest, Tables, Read, NumbersSpent, Locked, Absent}
 
--- Memory ran out, or, over an honest shelf, the shelf refused; a refusal of the shelf comes with a count that rose.
-abbrev pub IsReadFault : Type 0 → DirectoryFault → Told → Told → Type 0
-IsReadFault Honest OutOfMemory was is = ⊤
-IsReadFault Honest Write was is = ⊥
-IsReadFault Honest (Shelf fault) was is = ⊥
-IsReadFault Honest (Manifest fault) was is = ⊥
-IsReadFault Honest (Tables fault) was is = ⊥
-IsReadFault Honest (Read fault) was is = (Honest → IsMemoryOrShelf fault) × ReadCounted fault was is
-IsReadFault Honest NumbersSpent was is = ⊥
-IsReadFault Honest Locked was is = ⊥
-IsReadFault Honest Absent was is = ⊥
-
--- that, or a write failed
+-- Memory ran out, or a write failed; or, over an honest shelf, the shelf refused: a refusal of it comes with a count that rose.
 abbrev pub IsAnswerFault : Type 0 → DirectoryFault → Told → Told → Type 0
 IsAnswerFault Honest OutOfMemory was is = ⊤
 IsAnswerFault Honest Write was is = ⊤

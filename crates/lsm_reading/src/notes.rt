@@ -48,7 +48,7 @@ pub(crate) fn tell_notes<E: Write>(
         → Keeps (E.contents err.old) (E.contents err.new) }
 {
     match command {
-        DirectoryCommand::Check => {}
+        DirectoryCommand::Check(_) => {}
         DirectoryCommand::List | DirectoryCommand::Get(_, _) | DirectoryCommand::Scan(_) => {
             let _ = write_notes(alloc, files, log, prev_log, err);
         }

@@ -7,7 +7,7 @@ ghost use Rattle.lsm_table.specs.Told.{Becomes};
 ghost use Rattle.lsm_levels.specs.Files.{all_entries};
 ghost use Rattle.lsm_version.specs.Versions.{files};
 ghost use Rattle.lsm_reading.specs.Answers.{IsLookFault, IsLookedInto, IsPerformFault, Leaves};
-ghost use Rattle.lsm_reading.specs.Answers.{Prints, PrintsBefore};
+ghost use Rattle.lsm_reading.specs.Answers.{Prints, PrintsBefore, ReliesOn};
 ghost use Rattle.lsm_reading.specs.Directory.{Holds, OnlyReads};
 ghost use Rattle.lsm_reading.specs.Opening.{IsOpenRefusal};
 ghost use Rattle.lsm_reading.specs.Listing.{IsChecked, shown_answer};
@@ -78,7 +78,7 @@ fn checked<N: Naming, S: Shelf>(
 }
 
 /// Does what a command asks of a directory that is open.
-#[tactic(auto, using(crate::proofs::PerformLaws::perform_from_read, crate::proofs::PerformLaws::perform_from_output, crate::proofs::PerformLaws::perform_from_answer, lsm_directory::proofs::CallerLemmas::keeps_same))]
+#[tactic(auto, using(crate::proofs::PerformLaws::perform_from_output, crate::proofs::PerformLaws::perform_from_answer, lsm_directory::proofs::CallerLemmas::keeps_same))]
 fn perform_on<N: Naming, S: Shelf, O: Write, E: Write>(
     shelf: &mut NamedShelf<N, S>,
     alloc: Global,
@@ -88,9 +88,10 @@ fn perform_on<N: Naming, S: Shelf, O: Write, E: Write>(
     out: &mut O,
     err: &mut E,
 ) -> Result<(), DirectoryFault>
-    ensures done { S.honest → OnOk result (Prints inquiry.now.form inquiry.now.command.now
-        opened.now.version opened.now.rest opened.now.log opened.now.prev_log inquiry.now.files.now
-        (O.contents out.old) (O.contents out.new)) }
+    ensures done { ReliesOn S.honest inquiry.now.command.now → OnOk result
+        (Prints inquiry.now.form inquiry.now.command.now opened.now.version opened.now.rest
+        opened.now.log opened.now.prev_log inquiry.now.files.now (O.contents out.old)
+        (O.contents out.new)) }
     ensures left { IfErr result (λ e. e ≢ WriteFault
         → PrintsBefore inquiry.now.form inquiry.now.command.now S.honest opened.now.version
         (O.contents out.old) (O.contents out.new)) }
@@ -101,7 +102,7 @@ fn perform_on<N: Naming, S: Shelf, O: Write, E: Write>(
 {
     let version = &opened.version;
     let text = match inquiry.command {
-        DirectoryCommand::Check => checked(alloc, registry, opened, inquiry)?,
+        DirectoryCommand::Check(_) => checked(alloc, registry, opened, inquiry)?,
         DirectoryCommand::List => list_files(alloc, inquiry.form, registry, version)?,
         DirectoryCommand::Get(key, output) => {
             answer_of(shelf, alloc, version, inquiry.form, key, *output)?
@@ -155,7 +156,7 @@ fn tells_files(inquiry: &Inquiry<'_>) -> bool
     ensures { IsFalse inquiry.now.progress → IsFalse result }
 {
     match inquiry.command {
-        DirectoryCommand::Check => inquiry.progress,
+        DirectoryCommand::Check(_) => inquiry.progress,
         DirectoryCommand::List | DirectoryCommand::Get(_, _) | DirectoryCommand::Scan(_) => false,
     }
 }

@@ -25,6 +25,7 @@ use std::alloc::{AllocError, Global};
 use std::io::Write;
 use std::marker::Brand;
 use std::sync::Wait;
+use std::thread;
 use std::thread::Threads;
 
 /// Whether the refusals of a command name the files of tables.
@@ -32,7 +33,7 @@ fn names_files(command: &DirectoryCommand) -> bool
     ensures { result ≡ names_files command.now }
 {
     match command {
-        DirectoryCommand::Check | DirectoryCommand::Scan(_) => true,
+        DirectoryCommand::Check(_) | DirectoryCommand::Scan(_) => true,
         DirectoryCommand::List | DirectoryCommand::Get(_, _) => false,
     }
 }
@@ -102,10 +103,20 @@ pub fn look<S: Shelf, R: Threads + Wait + Sync, O: Write, E: Write + Send>(
     (status_of(done, known, err), shelf)
 }
 
-/// How many threads read and judge the tables for a command.
-fn threads_for(command: &DirectoryCommand) -> usize {
+/// How many processors this program may use, 16 at most; 2 where the system does not say.
+fn usable_processors<R: Threads>(rt: &R) -> usize {
+    match thread::available_parallelism(rt) {
+        Ok(processors) => processors.get().min(16),
+        Err(_) => 2,
+    }
+}
+
+/// How many threads read and judge the tables for a command. Other commands than a check read them
+/// by this one alone.
+fn threads_for<R: Threads>(rt: &R, command: &DirectoryCommand) -> usize {
     match command {
-        DirectoryCommand::Check => 2,
+        DirectoryCommand::Check(Some(workers)) => *workers,
+        DirectoryCommand::Check(None) => usable_processors(rt),
         DirectoryCommand::List | DirectoryCommand::Get(_, _) | DirectoryCommand::Scan(_) => 0,
     }
 }
@@ -120,7 +131,7 @@ fn shelves_on<C: FolderCalls>(
         All (λ s. (file_told C.place s).place ≡ C.place folder.now) v.items) }
 {
     let mut shelves = Vec::new(alloc);
-    for number in 0..count {
+    for _ in 0..count {
         let Ok(fork) = folder.fork() else {
             return Err(AllocError);
         };
@@ -176,7 +187,7 @@ where
     ensures refused { IfErr result (λ e. FailsToLook C.FolderCalls C.Mark.Mark line.now e
         (O.contents out.old) (O.contents out.new)) }
 {
-    let count = threads_for(&line.command);
+    let count = threads_for(rt, &line.command);
     let (shelf, shelves, files) = open_shelf(rt, paths, line.path, count, reasons)?;
     let inquiry = Inquiry {
         command: &line.command,

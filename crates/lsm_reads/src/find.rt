@@ -7,6 +7,7 @@ ghost use Rattle.lsm_table.specs.Found.{found_in, seen};
 ghost use Rattle.lsm_table.specs.HeldTable.{entries_in};
 ghost use Rattle.lsm_table.specs.ReadFault.{IsMemoryOrShelf, ReadCounted};
 ghost use Rattle.lsm_table.specs.Told.{Becomes};
+ghost use Rattle.lsm_reader.specs.Refusals.{IsSomeReadRefusal};
 ghost use Rattle.lsm_levels.specs.Files.{all_entries};
 ghost use Rattle.lsm_version.specs.Reads.{AreSound, IsSoundLevel};
 ghost use Rattle.lsm_version.specs.Versions.{IsWhole, files_from, files_of};
@@ -32,6 +33,7 @@ fn find_in_table<N: Naming, S: Shelf, B: Blocks<N, S>>(
     ensures told { Becomes (B.told blocks.old) (B.told blocks.new) }
     ensures loan { B.loan blocks.new ≡ B.loan blocks.old }
     ensures cause { IfErr result (λ e. ReadCounted e (B.told blocks.old) (B.told blocks.new)) }
+    ensures refused { IfErr result (IsSomeReadRefusal (S.refuses N.place)) }
 {
     lsm_reader::get_by(blocks, alloc, &registry.record(table).receipt, user, seq)
 }
@@ -52,6 +54,7 @@ fn find_by_number<N: Naming, S: Shelf, B: Blocks<N, S>>(
     ensures told { Becomes (B.told blocks.old) (B.told blocks.new) }
     ensures loan { B.loan blocks.new ≡ B.loan blocks.old }
     ensures cause { IfErr result (λ e. ReadCounted e (B.told blocks.old) (B.told blocks.new)) }
+    ensures refused { IfErr result (IsSomeReadRefusal (S.refuses N.place)) }
 {
     let mut bound = None;
     while let Some(table) = youngest_below(registry, level, user, bound) {
@@ -79,6 +82,7 @@ fn find_by_range<N: Naming, S: Shelf, B: Blocks<N, S>>(
     ensures told { Becomes (B.told blocks.old) (B.told blocks.new) }
     ensures loan { B.loan blocks.new ≡ B.loan blocks.old }
     ensures cause { IfErr result (λ e. ReadCounted e (B.told blocks.old) (B.told blocks.new)) }
+    ensures refused { IfErr result (IsSomeReadRefusal (S.refuses N.place)) }
 {
     let first = first_reaching(registry, level, user);
     let rest = &level[first..];
@@ -109,6 +113,7 @@ fn find_at_level<N: Naming, S: Shelf, B: Blocks<N, S>>(
     ensures told { Becomes (B.told blocks.old) (B.told blocks.new) }
     ensures loan { B.loan blocks.new ≡ B.loan blocks.old }
     ensures cause { IfErr result (λ e. ReadCounted e (B.told blocks.old) (B.told blocks.new)) }
+    ensures refused { IfErr result (IsSomeReadRefusal (S.refuses N.place)) }
 {
     if number == 0 {
         find_by_number(blocks, alloc, registry, level, user, seq)
@@ -134,6 +139,7 @@ pub(crate) fn find<N: Naming, S: Shelf, B: Blocks<N, S>>(
     ensures told { Becomes (B.told blocks.old) (B.told blocks.new) }
     ensures loan { B.loan blocks.new ≡ B.loan blocks.old }
     ensures cause { IfErr result (λ e. ReadCounted e (B.told blocks.old) (B.told blocks.new)) }
+    ensures refused { IfErr result (IsSomeReadRefusal (S.refuses N.place)) }
 {
     for (number, level) in levels.iter().enumerate() {
         let found = find_at_level(blocks, alloc, registry, number, level.as_slice(), user, seq)?;

@@ -5,6 +5,7 @@ ghost use Rattle.std.specs.Option.{option_map};
 ghost use Rattle.lsm_codec.specs.Entries.{answer};
 ghost use Rattle.lsm_table.specs.ReadFault.{IsMemoryOrShelf, ReadCounted};
 ghost use Rattle.lsm_table.specs.Told.{Becomes};
+ghost use Rattle.lsm_reader.specs.Refusals.{IsSomeReadRefusal};
 ghost use Rattle.lsm_levels.specs.Files.{all_entries};
 ghost use Rattle.lsm_version.specs.Versions.{files};
 
@@ -32,6 +33,7 @@ pub fn get<N: Naming, S: Shelf>(
     ensures sound { S.honest → IfErr result IsMemoryOrShelf }
     ensures told { Becomes shelf.old shelf.new }
     ensures cause { IfErr result (λ e. ReadCounted e shelf.old shelf.new) }
+    ensures refused { IfErr result (IsSomeReadRefusal (S.refuses N.place)) }
 {
     let mut direct = Direct::new(shelf);
     get_by(version, &mut direct, alloc, user, seq)
@@ -51,6 +53,7 @@ pub fn get_by<N: Naming, S: Shelf, B: Blocks<N, S>>(
     ensures told { Becomes (B.told blocks.old) (B.told blocks.new) }
     ensures loan { B.loan blocks.new ≡ B.loan blocks.old }
     ensures cause { IfErr result (λ e. ReadCounted e (B.told blocks.old) (B.told blocks.new)) }
+    ensures refused { IfErr result (IsSomeReadRefusal (S.refuses N.place)) }
 {
     let levels = version.levels();
     match find(blocks, alloc, version.registry(), levels, user, seq)? {

@@ -5,7 +5,8 @@ ghost use Rattle.std.specs.List.{flat_map};
 ghost use Rattle.lsm_codec.specs.Lists.{Has};
 ghost use Rattle.lsm_table.specs.ReadFault.{IsMemoryOrShelf, ReadCounted};
 ghost use Rattle.lsm_table.specs.Told.{Becomes};
-ghost use Rattle.lsm_reads.specs.Unread.{NamesOne};
+ghost use Rattle.lsm_reader.specs.Refusals.{IsReadRefusal};
+ghost use Rattle.lsm_reads.specs.Unread.{IsOfFile, NamesOne};
 ghost use Rattle.lsm_reads.specs.Runs.{AddsNamed, AddsRun, AreInRow, AreMergeable, AreNamed};
 ghost use Rattle.lsm_reads.specs.Runs.{AreRunsFrom, AreRunsOf, IsNumberIn, IsNumberOf};
 ghost use Rattle.lsm_version.specs.Versions.{AreWhole, files_from, files_of, level_in};
@@ -41,6 +42,8 @@ fn open_row<N: Naming, S: Shelf, B: Blocks<N, S>>(
     ensures loan { B.loan blocks.new ≡ B.loan blocks.old }
     ensures cause { IfErr result (λ e.
         ReadCounted e.fault (B.told blocks.old) (B.told blocks.new)) }
+    ensures refused { IfErr result (λ e.
+        IsOfFile (IsReadRefusal (S.refuses N.place)) e.file e.fault) }
 {
     let first = first_reaching(registry, row, from);
     let rest = &row[first..];
@@ -73,6 +76,8 @@ fn open_shallow<N: Naming, S: Shelf, B: Blocks<N, S>>(
     ensures loan { B.loan blocks.new ≡ B.loan blocks.old }
     ensures cause { IfErr result (λ e.
         ReadCounted e.fault (B.told blocks.old) (B.told blocks.new)) }
+    ensures refused { IfErr result (λ e.
+        IsOfFile (IsReadRefusal (S.refuses N.place)) e.file e.fault) }
 {
     let numbers = ascending_numbers(alloc, registry, level)?;
     let mut runs = Vec::new(alloc);
@@ -108,6 +113,8 @@ pub(crate) fn open_runs_from<N: Naming, S: Shelf, B: Blocks<N, S>>(
     ensures loan { B.loan blocks.new ≡ B.loan blocks.old }
     ensures cause { IfErr result (λ e.
         ReadCounted e.fault (B.told blocks.old) (B.told blocks.new)) }
+    ensures refused { IfErr result (λ e.
+        IsOfFile (IsReadRefusal (S.refuses N.place)) e.file e.fault) }
 {
     let shallow = levels[0].as_slice();
     let mut runs = open_shallow(blocks, alloc, registry, shallow, from)?;
@@ -141,6 +148,8 @@ pub fn open_runs<N: Naming, S: Shelf, B: Blocks<N, S>>(
     ensures loan { B.loan blocks.new ≡ B.loan blocks.old }
     ensures cause { IfErr result (λ e.
         ReadCounted e.fault (B.told blocks.old) (B.told blocks.new)) }
+    ensures refused { IfErr result (λ e.
+        IsOfFile (IsReadRefusal (S.refuses N.place)) e.file e.fault) }
 {
     open_runs_from(blocks, alloc, registry, levels, &[])
 }

@@ -3,6 +3,7 @@
 ghost use Rattle.std.specs.Prelude.{◌≡◌, None, IfOk, IfErr};
 ghost use Rattle.lsm_table.specs.ReadFault.{IsMemoryOrShelf, ReadCounted};
 ghost use Rattle.lsm_table.specs.Told.{Becomes};
+ghost use Rattle.lsm_reader.specs.Refusals.{IsSomeReadRefusal};
 ghost use Rattle.lsm_levels.specs.Files.{all_entries};
 ghost use Rattle.lsm_levels.specs.Scanning.{IsScan};
 ghost use Rattle.lsm_merger.specs.Seeking.{at_or_past};
@@ -35,6 +36,7 @@ pub fn scan_by<N: Naming, S: Shelf, B: Blocks<N, S>>(
     ensures told { Becomes (B.told blocks.old) (B.told blocks.new) }
     ensures loan { B.loan blocks.new ≡ B.loan blocks.old }
     ensures cause { IfErr result (λ e. ReadCounted e (B.told blocks.old) (B.told blocks.new)) }
+    ensures refused { IfErr result (IsSomeReadRefusal (S.refuses N.place)) }
 {
     scan_from_by(version, blocks, alloc, seq, &[])
 }
@@ -52,6 +54,7 @@ pub fn scan<N: Naming, S: Shelf>(
     ensures sound { S.honest → IfErr result IsMemoryOrShelf }
     ensures told { Becomes shelf.old shelf.new }
     ensures cause { IfErr result (λ e. ReadCounted e shelf.old shelf.new) }
+    ensures refused { IfErr result (IsSomeReadRefusal (S.refuses N.place)) }
 {
     let mut direct = Direct::new(shelf);
     scan_by(version, &mut direct, alloc, seq)
@@ -74,6 +77,7 @@ pub fn scan_from_by<N: Naming, S: Shelf, B: Blocks<N, S>>(
     ensures told { Becomes (B.told blocks.old) (B.told blocks.new) }
     ensures loan { B.loan blocks.new ≡ B.loan blocks.old }
     ensures cause { IfErr result (λ e. ReadCounted e (B.told blocks.old) (B.told blocks.new)) }
+    ensures refused { IfErr result (IsSomeReadRefusal (S.refuses N.place)) }
 {
     let levels = version.levels();
     let runs = match open_runs_from(blocks, alloc, version.registry(), levels, from) {
@@ -98,6 +102,7 @@ pub fn scan_from<N: Naming, S: Shelf>(
     ensures sound { S.honest → IfErr result IsMemoryOrShelf }
     ensures told { Becomes shelf.old shelf.new }
     ensures cause { IfErr result (λ e. ReadCounted e shelf.old shelf.new) }
+    ensures refused { IfErr result (IsSomeReadRefusal (S.refuses N.place)) }
 {
     let mut direct = Direct::new(shelf);
     scan_from_by(version, &mut direct, alloc, seq, from)

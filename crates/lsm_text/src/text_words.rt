@@ -56,6 +56,7 @@ pub(crate) fn push_text(out: &mut Vec<u8>, bytes: &[u8]) -> Result<(), AllocErro
     if bytes == b".".as_slice() {
         return push_escaped(out, b'.');
     }
+    out.reserve(bytes.len())?;
     for byte in bytes {
         push_byte(out, *byte)?;
     }
@@ -109,13 +110,14 @@ pub(crate) fn read_text(alloc: Global, word: &[u8]) -> Result<Option<Bytes>, All
     ensures found { (bytes : List ℕ) → IsTextWord word.now bytes
         → IfOk result (λ o. o ≡ Some bytes) }
 {
-    let mut bytes = Vec::new(alloc);
     if word == b".".as_slice() {
-        return Ok(Some(Bytes::of(bytes)));
+        return Ok(Some(Bytes::of(Vec::new(alloc))));
     }
     if word.is_empty() {
         return Ok(None);
     }
+    // a part spells one byte, so that this is room for all
+    let mut bytes = Vec::with_capacity(alloc, word.len())?;
     let mut rest = word;
     'parts: while !rest.is_empty() {
         let Some((byte, after)) = first_part(rest) else {

@@ -11,6 +11,7 @@ use Rattle.lsm_check.specs.Loading.{placed_levels}
 use Rattle.lsm_reads.specs.Runs.{AreMergeable}
 use Rattle.lsm_check.specs.Settled.{AreLevelSequences, AreUnsettled, DeeperRise, KeepsAge}
 use Rattle.lsm_version.specs.Versions.{files_from}
+use Rattle.lsm_check.proofs.AskedOf.{files_asked, layouts_asked, look_asked, numbers_asked}
 use Rattle.lsm_check.proofs.LevelReads.{same_length}
 use Rattle.lsm_check.proofs.Judged.{length-placed, placed_whole, sound_version, sound_tables, judged_mergeable, judged_rise, placed_fit}
 use Rattle.lsm_check.proofs.Counts.{levels_counted}
@@ -135,3 +136,24 @@ returns-clause-entries g c =
     let counts : c.in_ok-counts.counts.items ≡ map counted (map (λ l. l.items) c.in_ok-levels.sequences.items) =
     c.in_ok-counts.ensures ∙ ap (λ ss. map counted (map (λ l. l.items) ss)) c.deref-6.ensures.value in
     counts ∙ levels_counted (map (λ l. l.items) c.in_ok-levels.levels.items) (map (λ l. l.items) c.in_ok-levels.sequences.items) c.in_ok-levels.ensures.read.sequences
+
+pub returns-in_err-judge_numbers-clause-asked : goal.returns-in_err-judge_numbers-clause-asked
+returns-in_err-judge_numbers-clause-asked g c =
+    let p = err_from_is_err_and c.from_residual.result c.from_residual.ensures.1 in
+    rw (p.1, p.2) (numbers_asked (g.S.Shelf.refuses g.N.Naming.place) _ c.in_err-judge_numbers.field-0.0 c.in_err-judge_numbers.ensures.refused)
+
+pub returns-in_err-levels-clause-asked : goal.returns-in_err-levels-clause-asked
+returns-in_err-levels-clause-asked g c =
+    let Stored : ℕ → List ℕ → Type 0 = λ number image. (r : g.row.S-Receipt.Denot) × g.S.Shelf.is_of g.N.Naming.place r × (g.S.Receipt.TableReceipt.number r ≡ number) × (g.S.Receipt.TableReceipt.image r ≡ image) in
+    let p = err_from_is_err_and c.from_residual-in_err-levels.result c.from_residual-in_err-levels.ensures.1 in
+    rw (p.1, p.2) (files_asked (g.S.Shelf.refuses g.N.Naming.place) Stored _ _ c.in_err-levels.field-0.0 c.in_err-levels.ensures.refused)
+
+pub returns-in_err-judge_layouts-clause-asked : goal.returns-in_err-judge_layouts-clause-asked
+returns-in_err-judge_layouts-clause-asked g c =
+    let p = err_from_is_err_and c.from_residual-in_err-judge_layouts.result c.from_residual-in_err-judge_layouts.ensures.1 in
+    rw (p.1, p.2) (layouts_asked (g.S.Shelf.refuses g.N.Naming.place) _ c.in_err-judge_layouts.field-0.0 c.in_err-judge_layouts.ensures.refused)
+
+pub returns-in_err-judge_ages-clause-asked : goal.returns-in_err-judge_ages-clause-asked
+returns-in_err-judge_ages-clause-asked g c =
+    let p = err_from_is_err_and c.from_residual-in_err-judge_ages.result c.from_residual-in_err-judge_ages.ensures.1 in
+    rw (p.1, p.2) (look_asked (g.S.Shelf.refuses g.N.Naming.place) c.in_err-judge_ages.field-0.0 c.in_err-judge_ages.ensures.asked)

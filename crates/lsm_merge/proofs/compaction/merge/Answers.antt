@@ -1,17 +1,20 @@
-use Rattle.std.proofs.Common.{ℕ, List, [], refl, sym, ◌∙◌, subst}
+use Rattle.std.proofs.Common.{ℕ, List, [], refl, sym, ◌∙◌, ap, subst}
 use Rattle.lsm_levels.specs.Merging.{entries_of}
 use Rattle.lsm_merge.specs.declared.merge_fault.MergeFault.{MergeFault}
-use Rattle.lsm_merge.specs.Causes.{AnswersOf, AsksFor, HasCause, NamesTicket}
+use Rattle.std.specs.Prelude.{IfErr}
+use Rattle.lsm_table.specs.declared.table_options.TableOptions.{TableOptions}
+use Rattle.lsm_merge.specs.Causes.{AnswersOf, AsksFor, HasCause, NamesRefused, NamesTicket}
 use Rattle.lsm_merge.specs.Inputs.{IsOrderFault, input_numbers}
 use Rattle.lsm_levels.specs.Files.{all_entries}
 use Rattle.lsm_merge.specs.InputOrder.{HasTwins}
 use Rattle.lsm_merge.specs.Limits.{IsOverLimit, IsSizeFault}
-use Rattle.lsm_merge.specs.Outputs.{entries_of_last}
+use Rattle.lsm_merge.specs.Outputs.{Made, entries_of_last}
+use Rattle.lsm_merge.proofs.PutBefore.{before_none, refused_last, refused_step}
 use Rattle.lsm_merge.specs.Work.{job_of}
 use Rattle.lsm_merge.proofs.Limited.{no_size_reading}
 use Rattle.lsm_merge.proofs.Tickets.{asks_none, asks_then, names_put, names_reading}
 use Rattle.lsm_merge.proofs.PlaceLaws.{cause_after, cause_of_put, err_is, if_err, order_put, puts_all, puts_rise, puts_then, tables_all, tables_then}
-use Rattle.lsm_merge.proofs.PutLaws.{on_ok}
+use Rattle.lsm_merge.proofs.PutLaws.{err_if, on_err, on_ok}
 use Rattle.lsm_merge.proofs.UnderWay.{order_reading, under_ascends, under_done, under_last, under_limit, under_order, under_step}
 use Rattle.lsm_merge.proofs.compaction.merge.Goals as goal
 
@@ -159,3 +162,41 @@ returns-then-is_at_end-clause-apart g c = λ honest stand.
     (g.D.NumberSource.asked c.args.numbers.now) (g.D.NumberSource.asked c.entries.numbers)
     c.entries.outputs c.entries.stream.before c.entries.stream.left c.entries.invariant.0 (sym c.is_at_end.ensures ∙ c.if-is_at_end.true) honest))
     c.put_last.ensures.ok
+
+pub returns-then-is_at_end-clause-refused : goal.returns-then-is_at_end-clause-refused
+returns-then-is_at_end-clause-refused g c =
+    subst (λ (o : TableOptions). IfErr c.put_last.result (NamesRefused (g.S.Shelf.refuses g.N.Naming.place) o)) (c.entries.invariant.0.sizes).options c.put_last.ensures.refused
+
+pub returns-in_err-step-clause-refused : goal.returns-in_err-step-clause-refused
+returns-in_err-step-clause-refused g c =
+    err_is (NamesRefused (g.S.Shelf.refuses g.N.Naming.place) c.args.job.now.table) c.from_residual-in_err-step.result c.in_err-step.field-0.0 c.from_residual-in_err-step.ensures.1
+    (subst (λ (o : TableOptions). NamesRefused (g.S.Shelf.refuses g.N.Naming.place) o c.in_err-step.field-0.0) (c.entries.invariant.0.sizes).options c.in_err-step.ensures.refused)
+
+pub returns-in_err-stream-clause-before : goal.returns-in_err-stream-clause-before
+returns-in_err-stream-clause-before g c =
+    err_if c.from_residual.result (before_none g.S.Shelf.honest c.args.job.now c.args.outputs.now.put c.args.shelf.now c.open_stream.new.shelf (ap (λ (m : Made). m.put) c.requires.fresh) c.open_stream.ensures.told)
+
+pub returns-then-is_at_end-clause-before : goal.returns-then-is_at_end-clause-before
+returns-then-is_at_end-clause-before g c =
+    on_err c.put_last.result
+    (refused_last g.S.Shelf.honest c.args.job.now (entries_of c.in_ok-stream.stream.left.placed) c.args.shelf.now c.entries.shelf c.put_last.new.shelf
+    (g.D.NumberSource.drew c.args.numbers.now) (g.D.NumberSource.drew c.entries.numbers) (g.D.NumberSource.refused c.args.numbers.now) (g.D.NumberSource.refused c.entries.numbers)
+    (g.D.NumberSource.asked c.args.numbers.now) (g.D.NumberSource.asked c.entries.numbers) c.put_last.new.self.put
+    c.entries.outputs c.entries.stream.before c.entries.stream.left c.streaming_keeps_the_kept.ensures.stream
+    (record { merges = c.in_ok-stream.ensures.merges; from = c.in_ok-stream.ensures.from; order = c.in_ok-stream.ensures.order }) c.entries.invariant.0
+    (sym c.is_at_end.ensures ∙ c.if-is_at_end.true))
+    c.put_last.ensures.stands
+
+pub returns-in_err-step-clause-before : goal.returns-in_err-step-clause-before
+returns-in_err-step-clause-before g c =
+    err_if c.from_residual-in_err-step.result
+    (refused_step g.S.Shelf.honest c.args.job.now (entries_of c.in_ok-stream.stream.left.placed) c.args.shelf.now c.entries.shelf c.step.new.shelf
+    (g.D.NumberSource.drew c.args.numbers.now) (g.D.NumberSource.drew c.entries.numbers) (g.D.NumberSource.refused c.args.numbers.now) (g.D.NumberSource.refused c.entries.numbers)
+    (g.D.NumberSource.asked c.args.numbers.now) (g.D.NumberSource.asked c.entries.numbers) c.step.new.outputs.put
+    c.entries.outputs c.entries.stream.before c.entries.stream.left c.streaming_keeps_the_kept.ensures.stream
+    (record { merges = c.in_ok-stream.ensures.merges; from = c.in_ok-stream.ensures.from; order = c.in_ok-stream.ensures.order }) c.entries.invariant.0
+    (sym c.is_at_end.ensures ∙ c.if-is_at_end.false) c.in_err-step.ensures.stands)
+
+pub returns-in_err-stream-clause-refused : goal.returns-in_err-stream-clause-refused
+returns-in_err-stream-clause-refused g c =
+    err_is (NamesRefused (g.S.Shelf.refuses g.N.Naming.place) c.args.job.now.table) c.from_residual.result c.in_err-stream.field-0.0 c.from_residual.ensures.1 (c.in_err-stream.ensures.refused c.args.job.now.table)

@@ -1,19 +1,22 @@
-use Rattle.std.proofs.Common.{◌≡◌, ℕ, List, [], ◌∷◌, ◌++◌, sym, ◌∙◌, subst}
+use Rattle.std.proofs.Common.{◌≡◌, ℕ, List, [], ◌∷◌, ◌++◌, refl, sym, ◌∙◌, subst}
 use Rattle.lsm_codec.specs.Entries.{Entry}
 use Rattle.lsm_codec.specs.KeyRef.{key_of}
 use Rattle.lsm_block.specs.Block.{entry_of}
 use Rattle.lsm_levels.specs.Merging.{Placed}
 use Rattle.lsm_merge.specs.declared.merge_fault.MergeFault.{MergeFault}
 use Rattle.lsm_merge.specs.Causes.{AnswersOf, HasCause, Leaves, NamesTicket}
-use Rattle.lsm_merge.specs.Dropping.{Follows}
+use Rattle.lsm_merge.specs.Dropping.{Follows, is_kept}
 use Rattle.lsm_merge.specs.Inputs.{AreInputs, IsOfReading, IsOrderFault}
-use Rattle.lsm_merge.specs.Outputs.{drawn_of, entries_of_last}
+use Rattle.lsm_shelf.proofs.CallerLemmas.{becomes_same}
+use Rattle.lsm_merge.specs.Outputs.{Made, drawn_of, entries_of_last}
+use Rattle.lsm_merge.specs.PutBefore.{IsTime}
+use Rattle.lsm_merge.proofs.PutBefore.{one_after, one_none, one_when, taken_one, time_of}
 use Rattle.lsm_merge.specs.Limits.{IsOverLimit, IsSizeFault}
 use Rattle.lsm_merge.proofs.Limited.{no_size_reading}
 use Rattle.lsm_merge.proofs.Tickets.{names_reading}
 use Rattle.lsm_merge.proofs.Dropped.{follows_says}
 use Rattle.lsm_merge.proofs.PlaceLaws.{ascends_after, cause_after, err_is, if_err, puts_rise}
-use Rattle.lsm_merge.proofs.PutLaws.{ok_if, puts_after, tables_after}
+use Rattle.lsm_merge.proofs.PutLaws.{err_if, ok_if, puts_after, tables_after}
 use Rattle.lsm_merge.proofs.Stepping.{first_entry, stepped}
 use Rattle.lsm_merge.proofs.UnderWay.{leaves_reading, order_reading, why_reading}
 use Rattle.lsm_merge.proofs.compaction.step.Goals as goal
@@ -84,3 +87,38 @@ pub returns-clause-tables : goal.returns-clause-tables
 returns-clause-tables g c =
     ok_if c.pass.result
     (tables_after c.args.outputs.now.tables c.take.new.self.tables c.args.shelf.now c.take.new.shelf c.pass.new.shelf c.in_ok-take.ensures.tables c.pass.ensures.told)
+
+pub returns-then-not-is_followed_by-clause-stands : goal.returns-then-not-is_followed_by-clause-stands
+returns-then-not-is_followed_by-clause-stands g c = λ p rest is.
+    one_none c.args.outputs.now.options (entries_of_last c.args.outputs.now.last) (IsTime c.args.outputs.now (is_kept c.args.job.now.floor c.args.job.now.ranges c.args.stream.now.before p.1) p.1)
+    c.args.outputs.now.put c.args.outputs.now.put c.args.shelf.now c.args.shelf.now refl (becomes_same c.args.shelf.now)
+
+pub returns-in_err-take-clause-stands : goal.returns-in_err-take-clause-stands
+returns-in_err-take-clause-stands g c =
+    err_if c.from_residual.result (λ p rest is.
+    let m : Made = c.args.outputs.now in
+    let k = key_of c.in-Some.key in
+    let v = c.value.result.now in
+    let own : entry_of k v ≡ p.1 = first_entry c.args.stream.now.left.placed p rest k v is c.in-Some.ensures c.value.ensures in
+    one_when m.options m.options (entries_of_last m.last) (IsTime m c.is_kept-kept.result (entry_of k v)) (IsTime m (is_kept c.args.job.now.floor c.args.job.now.ranges c.args.stream.now.before p.1) p.1)
+    m.put c.take.new.self.put c.args.shelf.now c.take.new.shelf refl
+    (time_of c.args.job.now m c.args.stream.now.before k v c.is_kept-kept.result c.floor-floor.result c.ranges-2.result.now p.1 own
+    (c.is_kept-kept.ensures c.args.stream.now.before (c.shadows-shadowed.ensures c.in-Some.ensures)) c.floor-floor.ensures c.ranges-2.ensures)
+    c.in_err-take.ensures.stands)
+
+pub returns-clause-stands : goal.returns-clause-stands
+returns-clause-stands g c =
+    err_if c.pass.result (λ p rest is.
+    let m : Made = c.args.outputs.now in
+    let k = key_of c.in-Some.key in
+    let v = c.value.result.now in
+    let own : entry_of k v ≡ p.1 = first_entry c.args.stream.now.left.placed p rest k v is c.in-Some.ensures c.value.ensures in
+    one_after m.options (entries_of_last m.last) (IsTime m (is_kept c.args.job.now.floor c.args.job.now.ranges c.args.stream.now.before p.1) p.1) m.put c.take.new.self.put c.args.shelf.now c.take.new.shelf c.pass.new.shelf c.pass.ensures.told
+    (one_when m.options m.options (entries_of_last m.last) (IsTime m c.is_kept-kept.result (entry_of k v)) (IsTime m (is_kept c.args.job.now.floor c.args.job.now.ranges c.args.stream.now.before p.1) p.1)
+    m.put c.take.new.self.put c.args.shelf.now c.take.new.shelf refl
+    (time_of c.args.job.now m c.args.stream.now.before k v c.is_kept-kept.result c.floor-floor.result c.ranges-2.result.now p.1 own
+    (c.is_kept-kept.ensures c.args.stream.now.before (c.shadows-shadowed.ensures c.in-Some.ensures)) c.floor-floor.ensures c.ranges-2.ensures)
+    (taken_one c.args.shelf.now c.take.new.shelf m c.take.new.self c.is_kept-kept.result (entry_of k v) c.requires.good c.in_ok-take.ensures.ok c.in_ok-take.ensures.tables)))
+
+pub returns-clause-refused : goal.returns-clause-refused
+returns-clause-refused g c = c.pass.ensures.refused c.args.outputs.now.options

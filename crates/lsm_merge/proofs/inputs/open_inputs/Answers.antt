@@ -3,7 +3,7 @@ use Rattle.lsm_codec.specs.Lists.{Has}
 use Rattle.lsm_codec.proofs.CallerLemmas.{has_left, has_right}
 use Rattle.lsm_table.specs.Registry.{Table}
 use Rattle.lsm_merge.specs.declared.merge_fault.MergeFault.{MergeFault}
-use Rattle.lsm_merge.specs.Causes.{HasCause}
+use Rattle.lsm_merge.specs.Causes.{HasCause, NamesRefused}
 use Rattle.lsm_merge.specs.Inputs.{input_numbers, numbers_of}
 use Rattle.lsm_merge.proofs.InputLaws.{cause_more, files_all, files_are_inputs, lower_has, merger_apart, merger_from, merger_merges, merger_twins, runs_all, streams_all, upper_has}
 use Rattle.lsm_merge.proofs.PlaceLaws.{becomes_rises, cause_after, err_is}
@@ -70,3 +70,11 @@ returns-clause-apart g c = λ honest stand up twins.
     (λ sorted. c.in_ok-push_upper.ensures.ordered honest (λ h. sorted (subst (λ (n : ℕ). 1 ≤ n) c.level.ensures.level h)))
     (c.in_ok-push_run.ensures.ordered honest))
     up twins
+
+pub returns-in_err-push_upper-clause-refused : goal.returns-in_err-push_upper-clause-refused
+returns-in_err-push_upper-clause-refused g c = λ options.
+    err_is (NamesRefused (g.S.Shelf.refuses g.N.Naming.place) options) c.from_residual.result c.in_err-push_upper.field-0.0 c.from_residual.ensures.1 (c.in_err-push_upper.ensures.refused options)
+
+pub returns-in_err-push_run-clause-refused : goal.returns-in_err-push_run-clause-refused
+returns-in_err-push_run-clause-refused g c = λ options.
+    err_is (NamesRefused (g.S.Shelf.refuses g.N.Naming.place) options) c.from_residual-in_err-push_run.result c.in_err-push_run.field-0.0 c.from_residual-in_err-push_run.ensures.1 (c.in_err-push_run.ensures.refused options)

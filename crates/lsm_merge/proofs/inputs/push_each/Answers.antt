@@ -1,6 +1,6 @@
 use Rattle.std.proofs.Common.{◌<◌, length, arith}
 use Rattle.lsm_merge.specs.declared.merge_fault.MergeFault.{MergeFault}
-use Rattle.lsm_merge.specs.Causes.{HasCause}
+use Rattle.lsm_merge.specs.Causes.{HasCause, NamesRefused}
 use Rattle.lsm_merge.specs.Inputs.{files_in, numbers_of, streams}
 use Rattle.lsm_merge.proofs.InputLaws.{cause_more, entries_more, files_more, number_one, one_sorted, whole_one}
 use Rattle.lsm_shelf.proofs.CallerLemmas.{becomes_then}
@@ -37,3 +37,7 @@ loop-table-preserved g c =
       files = files_more c.args.tables.now c.loop-table.table-index c.table-item.result c.from_ref.result.now (files_in c.args.runs.now.items) (files_in c.loop-table.runs.items) (files_in c.push_run.new.runs.items)
           inside c.table-item.is c.from_ref.ensures.value c.loop-table.invariant.files c.in_ok-push_run.ensures.files;
     }
+
+pub returns-in_err-push_run-clause-refused : goal.returns-in_err-push_run-clause-refused
+returns-in_err-push_run-clause-refused g c = λ options.
+    err_is (NamesRefused (g.S.Shelf.refuses g.N.Naming.place) options) c.from_residual.result c.in_err-push_run.field-0.0 c.from_residual.ensures.1 (c.in_err-push_run.ensures.refused options)

@@ -4,8 +4,8 @@ use Rattle.lsm_reading.specs.Listing.{count_of, level_line}
 use Rattle.lsm_reading.proofs.LevelLaws.{count_in_level, level_more}
 use Rattle.lsm_reading.proofs.checking.describe.Goals as goal
 
-pub push_level-requires : goal.push_level-requires
-push_level-requires g c =
+pub push_level-requires-clause-entries : goal.push_level-requires-clause-entries
+push_level-requires-clause-entries g c κs within =
     let tables = c.args.opened.now.version.tables in
     let at : c.count_at-entries.result ≡ count_of (level_in tables c.loop-level.level) =
     c.count_at-entries.ensures ∙ ap (λ (ns : List ℕ). get_or ns c.loop-level.level 0) (c.as_slice-counts.ensures.value ∙ c.args.opened.now.counted) ∙ count_in_level tables c.loop-level.level in

@@ -4,9 +4,8 @@ use Rattle.lsm_shelf.specs.Told.{Told}
 use Rattle.lsm_storage.specs.FileShelf.{file_told}
 use Rattle.lsm_reading.proofs.program.shelves_on.Goals as goal
 
-pub loop-number-preserved : goal.loop-number-preserved
-loop-number-preserved g c =
-    let place = g.C.FolderCalls.place in
-    let IsThere = λ s. (file_told place s).place ≡ place c.args.folder.now in
-    All-same IsThere _ _ c.in_ok-push.ensures.items
-    (All-push IsThere _ c.over-shelf.result c.loop-number.invariant (ap (λ (t : Told). t.place) c.over-shelf.ensures.fresh ∙ c.in-Ok.ensures.fork.1))
+pub loop-preserved : goal.loop-preserved
+loop-preserved g c =
+    All-same (λ s. (file_told g.C.FolderCalls.place s).place ≡ g.C.FolderCalls.place c.args.folder.now) _ _ c.in_ok-push.ensures.items
+    (All-push (λ s. (file_told g.C.FolderCalls.place s).place ≡ g.C.FolderCalls.place c.args.folder.now) _ c.over-shelf.result c.loop.invariant
+    (ap (λ (t : Told). t.place) c.over-shelf.ensures.fresh ∙ c.in-Ok.ensures.fork.1))

@@ -12,7 +12,7 @@ first_by-requires-clause-table g c κs within honest =
 pub invariant_of-result : goal.invariant_of-result
 invariant_of-result g c =
     let image = g.S.Receipt.TableReceipt.image in (
-      last_if_some c.in-Ok.here (map image c.args.later.items) c.in-Ok.ensures.some,
+      last_if_some c.in-Ok.here.left (map image c.args.later.items) c.in-Ok.ensures.some,
       All-tail (g.S.Shelf.is_of g.N.Naming.place) c.args.first c.args.later.items c.requires.named,
       λ honest. All-tail HasEntries (image c.args.first) (map image c.args.later.items) (c.requires.tables honest),
     )

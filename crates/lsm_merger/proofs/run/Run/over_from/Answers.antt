@@ -22,7 +22,7 @@ pub invariant_of-result : goal.invariant_of-result
 invariant_of-result g c =
     let image = g.S.Receipt.TableReceipt.image in
     let parts : c.args.tables.now ≡ c.in-Some.first.now ∷ c.in-Some.rest.now = search rules in (
-      last_if_some c.in-Ok-seek_by.here (map image c.in-Ok.later.items) c.in-Ok-seek_by.ensures.some,
+      last_if_some c.in-Ok-seek_by.here.left (map image c.in-Ok.later.items) c.in-Ok-seek_by.ensures.some,
       c.in-Ok.ensures.named,
       λ honest. All-tail HasEntries (image c.copy_receipt-first.result) (map image c.in-Ok.later.items)
           (all_of_tables c.args.tables.now c.in-Some.rest.now c.in-Some.first.now (image c.copy_receipt-first.result) (map image c.in-Ok.later.items) parts
@@ -51,16 +51,17 @@ returns-in-Ok-seek_by-clause-numbered g c honest =
     let first = entries_in (image c.copy_receipt-first.result) in
     let images = map image c.in-Ok.later.items in
     let numbers = map g.S.Receipt.TableReceipt.number c.in-Ok.later.items in
-    let number = c.number-number.result in
+    let number = g.S.Receipt.TableReceipt.number c.copy_receipt-first.result in
     let parts : c.args.tables.now ≡ c.in-Some.first.now ∷ c.in-Some.rest.now = search rules in
     let all : map image_of c.args.tables.now ≡ image c.copy_receipt-first.result ∷ images =
     images_are c.args.tables.now c.in-Some.rest.now c.in-Some.first.now (image c.copy_receipt-first.result) images parts (ap image c.copy_receipt-first.ensures ∙ c.record.ensures.image) c.in-Ok.ensures.images in
     let named : map (λ t. t.number) c.args.tables.now ≡ number ∷ numbers =
     numbers_are c.args.tables.now c.in-Some.rest.now c.in-Some.first.now number numbers parts
-    (c.number-number.ensures ∙ ap g.S.Receipt.TableReceipt.number c.copy_receipt-first.ensures ∙ c.record.ensures.number) c.in-Ok.ensures.numbers in
+    (ap g.S.Receipt.TableReceipt.number c.copy_receipt-first.ensures ∙ c.record.ensures.number) c.in-Ok.ensures.numbers in
     let order : IsSorted (first ++ entries_of_all images) = subst (λ (l : List (List ℕ)). IsSorted (entries_of_all l)) all (c.requires.order honest) in
     let reached : at_or_past from first ≢ [] = subst (IsReached from) all (c.requires.reached honest) in
-    ap (λ (es : List Entry). placed_at number es ++ numbered_all numbers images) (c.in-Ok-seek_by.ensures.entries honest)
+    ap (λ (n : ℕ). placed_at n c.in-Ok-seek_by.here.left ++ numbered_all numbers images) c.in-Ok-seek_by.ensures.number
+    ∙ ap (λ (es : List Entry). placed_at number es ++ numbered_all numbers images) (c.in-Ok-seek_by.ensures.entries honest)
     ∙ first_numbered from number numbers (image c.copy_receipt-first.result) images order reached
     ∙ ap (λ (l : List (List ℕ)). placed_past from (numbered_all (number ∷ numbers) l)) (sym all)
     ∙ ap (λ (ns : List ℕ). placed_past from (numbered_all ns (map image_of c.args.tables.now))) (sym named)
