@@ -29,6 +29,10 @@ valued name = record (new_rule name) { long = Some name; value_names = 1 }
 abbrev pub workers : Rule
 workers = record (valued (codes "workers")) { defaults = codes "2" ∷ []; parser = Some (parser.Unsigned 1 8) }
 
+-- `--workers N`, 1 to 16, of the threads that verify
+abbrev pub verifiers : Rule
+verifiers = record (valued (codes "workers")) { parser = Some (parser.Unsigned 1 16) }
+
 -- `--from-line I`, a number below 2^64 and above 0, which is 1 where it is left out
 abbrev pub from_line : Rule
 from_line = record (valued (codes "from-line")) { defaults = codes "1" ∷ []; parser = Some (parser.Unsigned 1 18446744073709551615) }
@@ -99,7 +103,7 @@ unfoldable pub script : App
 script = command (codes "script") (file ∷ [])
 
 unfoldable pub check : App
-check = command (codes "check") (folder ∷ progress ∷ [])
+check = command (codes "check") (folder ∷ verifiers ∷ progress ∷ [])
 
 unfoldable pub list : App
 list = command (codes "list") (folder ∷ text ∷ [])

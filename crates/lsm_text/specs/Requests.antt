@@ -117,7 +117,7 @@ name_of_conversion conversion.Dump = name.Dump
 name_of_conversion conversion.Manifest = name.Manifest
 
 abbrev pub name_of_look : DirectoryCommand → CommandName
-name_of_look look.Check = name.Check
+name_of_look (look.Check workers) = name.Check
 name_of_look look.List = name.List
 name_of_look (look.Get key output) = name.Get
 name_of_look (look.Scan options) = name.Scan
@@ -214,12 +214,19 @@ IsNumberIn least most (Some word) n = IsNumberWord most word n × (least ≤ n)
 abbrev pub IsLineNumber : Option Text → ℕ → Type 0
 IsLineNumber = IsNumberIn 1 18446744073709551615
 
+-- the word of an option writes a number from 1 to 16, and there is a number only where there is the option
+abbrev pub AreVerifiers : Option Text → Option ℕ → Type 0
+AreVerifiers None None = ⊤
+AreVerifiers None (Some n) = ⊥
+AreVerifiers (Some word) None = ⊥
+AreVerifiers (Some word) (Some n) = IsNumberIn 1 16 (Some word) n
+
 abbrev pub AreScanOptions : List Row → ScanOptions → Type 0
 AreScanOptions rows options =
     AreBounds rows options.bounds × IsLimit (word_in (codes "limit") rows) options.limit × (options.output ≡ scan_output_in rows)
 
 abbrev pub IsLook : List Row → DirectoryCommand → Type 0
-IsLook rows look.Check = ⊤
+IsLook rows (look.Check workers) = AreVerifiers (word_in (codes "workers") rows) workers
 IsLook rows look.List = ⊤
 IsLook rows (look.Get key output) = IsSpelled (form_in rows) (word_in (codes "KEY") rows) key × (output ≡ get_output_in rows)
 IsLook rows (look.Scan options) = AreScanOptions rows options

@@ -5,7 +5,8 @@ ghost use Rattle.std.specs.Prelude.{option_map, ℕ};
 ghost use Rattle.clap.specs.Words.{subcommand_rows_of};
 ghost use Rattle.lsm_text.specs.Requests.{AreBenchOptions, AreBounds, AreIngestOptions};
 ghost use Rattle.lsm_text.specs.Requests.{AreLoadOptions, AreNamed};
-ghost use Rattle.lsm_text.specs.Requests.{AreScanOptions, AreWorkers, IsAsked, IsBound, IsInput};
+ghost use Rattle.lsm_text.specs.Requests.{AreScanOptions, AreVerifiers, AreWorkers};
+ghost use Rattle.lsm_text.specs.Requests.{IsAsked, IsBound, IsInput};
 ghost use Rattle.lsm_text.specs.Requests.{IsKeyWrite, IsLimit, IsLineNumber, IsLook, IsNumberIn};
 ghost use Rattle.lsm_text.specs.Requests.{IsSpelled, IsWorkersWord, IsWrite, Reads, form_in};
 ghost use Rattle.lsm_text.specs.Requests.{get_output_in, is_set, levels_output_in};
@@ -320,6 +321,27 @@ fn look_in<'a>(command: DirectoryCommand, found: &ArgMatches<'a>) -> Option<Requ
     }))
 }
 
+/// How many threads verify: none where there is no option. `None` where the word names none of 1 to
+/// 16.
+fn verifiers_of(word: Option<&str>) -> Option<Option<usize>>
+    ensures some { IfSome result (AreVerifiers (option_map (λ w. w.now) word.entry)) }
+    ensures none { IfNone result ((n : Option ℕ)
+        → AreVerifiers (option_map (λ w. w.now) word.entry) n → ⊥) }
+{
+    match word {
+        Some(word) => Some(Some(between_in(Some(word), 1, 16)? as usize)),
+        None => Some(None),
+    }
+}
+
+/// A verification.
+fn check_in<'a>(found: &ArgMatches<'a>) -> Option<Request<'a>>
+    ensures { Reads CommandName.Check (rows_in found.now) result }
+{
+    let workers = verifiers_of(word_in(found, "workers"))?;
+    look_in(DirectoryCommand::Check(workers), found)
+}
+
 /// The levels of a folder.
 fn levels_in<'a>(found: &ArgMatches<'a>) -> Option<Request<'a>>
     ensures { Reads CommandName.Levels (rows_in found.now) result }
@@ -475,7 +497,7 @@ fn request_in<'a>(
         CommandName::Dump => Ok(convert_in(Conversion::Dump, found)),
         CommandName::Manifest => Ok(convert_in(Conversion::Manifest, found)),
         CommandName::Script => Ok(script_in(found)),
-        CommandName::Check => Ok(look_in(DirectoryCommand::Check, found)),
+        CommandName::Check => Ok(check_in(found)),
         CommandName::List => Ok(look_in(DirectoryCommand::List, found)),
         CommandName::Levels => Ok(levels_in(found)),
         CommandName::Get => get_in(alloc, found),

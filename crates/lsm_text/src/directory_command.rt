@@ -7,8 +7,9 @@ use lsm_codec::Bytes;
 /// A command on a directory.
 #[derive(Debug, Drop)]
 pub enum DirectoryCommand {
-    /// All that a read can reach is verified.
-    Check,
+    /// All that a read can reach is verified, by so many threads, 1 to 16: as many as the machine
+    /// has processors where it is not said.
+    Check(Option<usize>),
     /// The files.
     List,
     /// The value of a key.

@@ -13,7 +13,8 @@ ghost use Rattle.lsm_text.specs.Grammar.{check, clean, compact, delete, dump, fi
 ghost use Rattle.lsm_text.specs.Grammar.{ingest, key, levels, limit, list, load, lsm};
 ghost use Rattle.lsm_text.specs.Grammar.{make_table, manifest, num, progress, put};
 ghost use Rattle.lsm_text.specs.Grammar.{scan, script, shell, some_workers, text, topic, valued};
-ghost use Rattle.lsm_text.specs.Grammar.{value_size, with_inputs, with_looks, with_writes, word, workers};
+ghost use Rattle.lsm_text.specs.Grammar.{value_size, verifiers, with_inputs, with_looks};
+ghost use Rattle.lsm_text.specs.Grammar.{with_writes, word, workers};
 ghost use Rattle.lsm_text.specs.Requests.{faults_in, found_in};
 
 use crate::pages::{
@@ -102,6 +103,20 @@ fn workers<'a>(alloc: Global) -> Arg<'a>
     valued(alloc, "workers", "N", "How many threads compact, 1 to 8")
         .value_parser(ValueParser::Unsigned(1, 8))
         .default_value("2")
+}
+
+/// The option for the number of threads that verify.
+fn verifiers<'a>(alloc: Global) -> Arg<'a>
+    ensures rule { rule_of result ≡ verifiers }
+    ensures local { result.global ≡ false }
+{
+    valued(
+        alloc,
+        "workers",
+        "N",
+        "How many threads verify tables, 1 to 16",
+    )
+    .value_parser(ValueParser::Unsigned(1, 16))
 }
 
 /// The option for the first line that is loaded.
@@ -279,6 +294,7 @@ fn check<'a>(alloc: Global) -> Made<'a>
     ensures { IsShaped result check }
 {
     let check = also(titled(alloc, CHECK), folder(alloc));
+    let check = also(check, verifiers(alloc));
     also(check, progress(alloc))
 }
 

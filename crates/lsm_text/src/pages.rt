@@ -51,7 +51,9 @@ refused: `refused 16 Compressed 1`.
 
 Standard output has what was asked for, and nothing else. Standard error says
 why a command is refused or is none, names logs that are not read, and with
---progress says how far a command is.
+--progress says how far a command is. Where standard error is a terminal,
+`load`, `compact`, `check`, and a `scan` into a file, show that without
+--progress too, in one line that is gone at the end.
 
 Exit status:
   0  done
@@ -163,11 +165,13 @@ read or a write, 2 bad command line.",
 
 pub(crate) const CHECK: Page = Page {
     name: "check",
-    usage: "lsm check <DIR> [--progress]",
+    usage: "lsm check <DIR> [--workers <N>] [--progress]",
     about: "Verifies a folder, and counts what is in it",
     text: "Verifies all that a read of the LevelDB folder DIR can reach: every block of
 every table that its manifest names, and how the tables lie in their levels.
-Nothing is written there. One table at a time is held in memory.
+Nothing is written there. --workers is how many threads read and verify tables,
+1 to 16; if it is not said as many as the machine has processors, 16 at most.
+Each of them holds one table at a time in memory.
 
 Prints a line a level, `level L files F bytes B entries E` for the levels 0 to
 6, then `last S`, the last sequence, and `rest B`, how many bytes at the
@@ -180,7 +184,7 @@ The first fault is refused by number and name; that of a table names its file,
 as in `refused 15 BadChecksum 0 in 000005.ldb`.
 
 Exit status: 0 where all is well, 1 at a fault, 2 bad command line.",
-    example: "Example: lsm check db --progress",
+    example: "Example: lsm check db --workers 4 --progress",
 };
 
 pub(crate) const LIST: Page = Page {
