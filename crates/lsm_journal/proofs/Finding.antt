@@ -1,5 +1,5 @@
 -- What was read of a database, and why it was not.
-use Rattle.std.proofs.Common.{◌≡◌, ℕ, ◌-◌, ◌^◌, ◌<◌, List, [], ◌∷◌, ◌++◌, ◌∙◌, inl, inr, arith}
+use Rattle.std.proofs.Common.{◌≡◌, ℕ, ◌-◌, ◌^◌, ◌<◌, List, [], ◌∷◌, ◌++◌, ◌∙◌, ap, inl, inr, arith}
 use Rattle.lsm_codec.specs.Lists.{Has}
 use Rattle.lsm_codec.proofs.CallerLemmas.{has_left, has_right}
 use Rattle.lsm_shelf.specs.Asked.{Asked, ListTables, Load}
@@ -32,6 +32,12 @@ RecoveredIsRecorded = (rest : ℕ) (h : HeldManifest) (shape : Form) (v : Levels
 pub loaded : (honest : Type 0) (rest : ℕ) (h : HeldManifest) (shape : Form) (v : Levels) → RecoveredIsRecorded → IsRecovered h shape rest → IsOfShape shape v → AreDistinct (numbers_of shape.levels)
     → (IsSettled (files v) → IsSound v) → (KeepsAge (files v) → IsSound v) → (honest → IsSound v) → IsLoaded honest h shape rest v
 loaded honest rest h shape v law r of own settled judged sound = record { recovered = r; of_shape = of; numbers = own; recorded = law rest h shape v r of own; settled = settled; judged = judged; sound = sound }
+
+-- ---- the numbers that are taken
+
+pub taken_all : (listed added pushed all : List ℕ) (v : Levels) (n m : ℕ) → all ≡ pushed → pushed ≡ added ++ n ∷ [] → added ≡ listed ++ numbers_in v → n ≡ m
+    → all ≡ taken_numbers listed v m
+taken_all listed added pushed all v n m is last front same = is ∙ (last ∙ (ap (λ (xs : List ℕ). xs ++ n ∷ []) front ∙ ap (λ (k : ℕ). (listed ++ numbers_in v) ++ k ∷ []) same))
 
 -- ---- what was told
 

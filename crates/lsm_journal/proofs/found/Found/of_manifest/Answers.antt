@@ -1,13 +1,12 @@
-use Rattle.std.proofs.Common.{◌≡◌, ◌-◌, ◌^◌, [], ◌∷◌, ◌++◌, ◌∙◌, ap, refl, subst, arith}
+use Rattle.std.proofs.Common.{◌≡◌, ◌-◌, ◌^◌, refl, subst, arith}
 use Rattle.std.proofs.lemmas.Result.{err_from_is_err_and}
 use Rattle.lsm_codec.specs.Lists.{Has}
 use Rattle.lsm_shelf.specs.Asked.{Asked, ListTables}
 use Rattle.lsm_shelf.specs.declared.shelf_fault.ShelfFault.{ShelfFault}
 use Rattle.lsm_shelf.proofs.CallerLemmas.{want_or}
 use Rattle.lsm_table.proofs.CallerLemmas.{becomes_then}
-use Rattle.lsm_version.specs.Versions.{numbers_in}
 use Rattle.lsm_journal.specs.Finding.{IsLeastFree, taken_numbers}
-use Rattle.lsm_journal.proofs.Finding.{found_there, loaded, no_version, taken_last, unlisted, without_room, without_room_listed}
+use Rattle.lsm_journal.proofs.Finding.{found_there, loaded, no_version, taken_all, taken_last, unlisted, without_room, without_room_listed}
 use Rattle.lsm_journal.proofs.found.Found.of_manifest.Goals as goal
 
 pub returns-in_err-shared-clause-refused : goal.returns-in_err-shared-clause-refused
@@ -57,8 +56,8 @@ returns-in_err-next-clause-refused g c = λ was told.
     c.in_ok-version.ensures.settled c.in_ok-version.ensures.judged c.in_ok-version.ensures.sound in
     let v = c.in_ok-version.version in
     let listed = c.in_ok-taken.taken.items in
-    let all : c.deref.result.now ≡ taken_numbers listed v r.journal.number = c.deref.ensures.value ∙ (c.in_ok-push.ensures.items
-    ∙ (ap (λ xs. xs ++ c.number.result ∷ []) c.in_ok-push_numbers.ensures.ok ∙ ap (λ n. (listed ++ numbers_in v) ++ n ∷ []) c.number.ensures)) in
+    let all : c.deref.result.now ≡ taken_numbers listed v r.journal.number =
+    taken_all listed _ _ _ v c.number.result r.journal.number c.deref.ensures.value c.in_ok-push.ensures.items c.in_ok-push_numbers.ensures.ok c.number.ensures in
     rw (p.1, p.2, c.in_err-next.ensures.err.0) (taken_last g.S.Shelf.honest r.rest r.journal r.shape v listed _ c.check_by.new.shelf _ l (subst (λ xs. Has xs (2 ^ 64 - 1)) all c.in_err-next.ensures.err.1)
     (becomes_then _ _ _ told c.check_by.ensures.told) c.in_ok-taken.ensures.ok)
 
@@ -69,7 +68,7 @@ returns-clause-found g c = λ was told.
     c.in_ok-version.ensures.settled c.in_ok-version.ensures.judged c.in_ok-version.ensures.sound in
     let v = c.in_ok-version.version in
     let listed = c.in_ok-taken.taken.items in
-    let all : c.deref.result.now ≡ taken_numbers listed v r.journal.number = c.deref.ensures.value ∙ (c.in_ok-push.ensures.items
-    ∙ (ap (λ xs. xs ++ c.number.result ∷ []) c.in_ok-push_numbers.ensures.ok ∙ ap (λ n. (listed ++ numbers_in v) ++ n ∷ []) c.number.ensures)) in
+    let all : c.deref.result.now ≡ taken_numbers listed v r.journal.number =
+    taken_all listed _ _ _ v c.number.result r.journal.number c.deref.ensures.value c.in_ok-push.ensures.items c.in_ok-push_numbers.ensures.ok c.number.ensures in
     found_there g.S.Shelf.honest r.journal.limit r.rest r.journal r.shape v listed c.in_ok-next.next _ c.check_by.new.shelf _ l refl
     (subst (λ xs. IsLeastFree r.shape.next xs c.in_ok-next.next) all c.in_ok-next.ensures.ok) (omega arith) (becomes_then _ _ _ told c.check_by.ensures.told) c.in_ok-taken.ensures.ok

@@ -8,7 +8,7 @@ returns-in_err-manifest-clause-refused g c =
     rw (p.1, p.2) c.in_err-manifest.ensures.refused
 
 pub returns-clause-found : goal.returns-clause-found
-returns-clause-found g c = rw c.in_ok-manifest.ensures.limit at (c.of_manifest.ensures.found _ c.in_ok-manifest.ensures.found)
+returns-clause-found g c = rw c.in_ok-manifest.ensures.limit at (c.of_manifest.ensures.found c.args.shelf.now c.in_ok-manifest.ensures.found)
 
 pub returns-clause-refused : goal.returns-clause-refused
 returns-clause-refused g c = c.of_manifest.ensures.refused _ c.in_ok-manifest.ensures.found
