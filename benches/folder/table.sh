@@ -143,7 +143,7 @@ for place in "${TMPFS:-/dev/shm}" "${DISK:-/tmp}"; do
   for folder in one four; do "$program" scan "$room/$folder" > "$room/$folder.pairs"; done
   least=()
   for ((turn = 0; turn < turns; turn++)); do folder_turn; done
-  title "$kind, $entries entries, $(du -sm "$room/sorted" | cut -f1) MB; $young in a table of level 0"
+  title "$kind, $entries entries, $(($(du -sb "$room/sorted" | cut -f1) / 1000000)) MB; $young in a table of level 0"
   row "opening, by one thread" "${least[get]}" "${least[leveldb-scan]}" "0.4 by 4 threads"
   row "get of a key, opening and all" "${least[get]}" "${least[leveldb-get]}" ""
   row "check${has_workers:+, by one thread}" "${least[check]}" "${least[leveldb-scan]}" "0.5 by 4 threads"
