@@ -133,6 +133,11 @@ sed -n 's/^model name[^:]*: //p' /proc/cpuinfo | head -n 1
 echo "$(nproc) processors, load $(cut -d' ' -f1-3 /proc/loadavg); $program"
 [[ $program != */unproved/* ]] || echo "this is the unproved build: ./prove makes the program that is to be timed"
 : > "$scratch/input"
+awk -v n="$lines" 'BEGIN { for (i = 0; i < n; i++) printf "%016x %d put %016x%016x\n", i * 4001, i + 1, i * 2654435761 % 4294967296, i }' > "$scratch/list"
+for ((turn = 0; turn < turns; turn++)); do list_turn; done
+title "$lines lines"
+row "mktable" "${least[mktable]}" "${least[leveldb-mktable]}" "0.6"
+row "dump" "${least[dump]}" "${least[leveldb-dump]}" "0.6"
 for place in "${TMPFS:-/dev/shm}" "${DISK:-/tmp}"; do
   kind=$(stat -f -c %T "$place")
   room=$(mktemp -d -p "$place")
@@ -157,8 +162,3 @@ for place in "${TMPFS:-/dev/shm}" "${DISK:-/tmp}"; do
   times "four groups, 4 workers beside one, merged alone" "$alone" "$merged" "3 times"
   rm -rf "$room"
 done
-awk -v n="$lines" 'BEGIN { for (i = 0; i < n; i++) printf "%016x %d put %016x%016x\n", i * 4001, i + 1, i * 2654435761 % 4294967296, i }' > "$scratch/list"
-for ((turn = 0; turn < turns; turn++)); do list_turn; done
-title "$lines lines"
-row "mktable" "${least[mktable]}" "${least[leveldb-mktable]}" "0.6"
-row "dump" "${least[dump]}" "${least[leveldb-dump]}" "0.6"

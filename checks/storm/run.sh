@@ -1,8 +1,8 @@
 #!/usr/bin/env bash
 # A storm over a server: run.sh [SECONDS] [SEED], two minutes, the seed drawn and printed. Four
-# threads read, at snapshots that they hold and let go and at what is there now; one brings batches in;
-# three workers compact; a sixth thread has tables removed. Each read has to be what the history of
-# its keys says: storm.c says how. The folder is opened again afterwards, by the server and by
+# threads read, at snapshots that they hold and let go and at what is there now; one brings batches
+# in; three workers compact; a sixth thread has tables removed. Each read has to be what the history
+# of its keys says: storm.c says how. The folder is opened again afterwards, by the server and by
 # LevelDB. Ends with status 1 at the first difference, and leaves the folder, whose path is printed.
 #
 # The server is the one that LSM_SERVER names, or the proved one, or else an unproved one that is
