@@ -8,7 +8,7 @@
 #
 #   opening       `lsm get` of one key, which judges all tables, beside LevelDB's scan of all pairs
 #   get           the same, beside LevelDB's `Get`, which reads one block
-#   check         beside that scan; with `--workers`, where the program has it, by 4 threads too
+#   check         beside that scan; by 1 and by 4 threads where the program has `--workers` for it
 #   scan          pairs as text, into /dev/null, beside LevelDB's scan that prints the same
 #   compaction    four tables of level 0 with the same keys, by one worker
 #   four groups   16 tables of level 0, four of them with the same keys, by 1 and by 4 workers;
@@ -30,8 +30,8 @@ rooms=()
 trap 'rm -rf "$scratch" "${rooms[@]}"' EXIT
 g++ -O2 -Wall -o "$scratch/leveldb" "$here/leveldb.cc" -lleveldb
 leveldb="$scratch/leveldb"
-has_workers=
-! "$program" check --help | grep -q -e --workers || has_workers=yes
+has_workers= by_one=()
+! "$program" check --help | grep -q -e --workers || has_workers=yes by_one=(--workers 1)
 
 stop() { # WHAT
   echo "table: $1" >&2
@@ -78,8 +78,8 @@ folder_turn() {
   timed leveldb-get "$leveldb" get "$room/sorted" "$key"
   beside get leveldb
   timed leveldb-scan "$leveldb" scan "$room/sorted"
-  timed check "$program" check "$room/sorted"
-  grep -q "entries $entries$" "$scratch/output" || stop "check counts other entries"
+  timed check "$program" check "$room/sorted" "${by_one[@]}"
+  [[ $(awk '/ entries / { all += $NF } END { print all }' "$scratch/output") == "$entries" ]] || stop "check counts other entries"
   [[ ! $has_workers ]] || timed check-4 "$program" check "$room/sorted" --workers 4
   if [[ $turn == 0 ]]; then
     [[ $("$program" scan "$room/sorted" | cksum) == $("$leveldb" print "$room/sorted" | cksum) ]] || stop "scan: leveldb prints other things"
@@ -133,6 +133,11 @@ sed -n 's/^model name[^:]*: //p' /proc/cpuinfo | head -n 1
 echo "$(nproc) processors, load $(cut -d' ' -f1-3 /proc/loadavg); $program"
 [[ $program != */unproved/* ]] || echo "this is the unproved build: ./prove makes the program that is to be timed"
 : > "$scratch/input"
+awk -v n="$lines" 'BEGIN { for (i = 0; i < n; i++) printf "%016x %d put %016x%016x\n", i * 4001, i + 1, i * 2654435761 % 4294967296, i }' > "$scratch/list"
+for ((turn = 0; turn < turns; turn++)); do list_turn; done
+title "$lines lines"
+row "mktable" "${least[mktable]}" "${least[leveldb-mktable]}" "0.6"
+row "dump" "${least[dump]}" "${least[leveldb-dump]}" "0.6"
 for place in "${TMPFS:-/dev/shm}" "${DISK:-/tmp}"; do
   kind=$(stat -f -c %T "$place")
   room=$(mktemp -d -p "$place")
@@ -143,10 +148,10 @@ for place in "${TMPFS:-/dev/shm}" "${DISK:-/tmp}"; do
   for folder in one four; do "$program" scan "$room/$folder" > "$room/$folder.pairs"; done
   least=()
   for ((turn = 0; turn < turns; turn++)); do folder_turn; done
-  title "$kind, $entries entries, $(du -sm "$room/sorted" | cut -f1) MB; $young in a table of level 0"
+  title "$kind, $entries entries, $(($(du -sb "$room/sorted" | cut -f1) / 1000000)) MB; $young in a table of level 0"
   row "opening, by one thread" "${least[get]}" "${least[leveldb-scan]}" "0.4 by 4 threads"
   row "get of a key, opening and all" "${least[get]}" "${least[leveldb-get]}" ""
-  row "check, by one thread" "${least[check]}" "${least[leveldb-scan]}" "0.5 by 4 threads"
+  row "check${has_workers:+, by one thread}" "${least[check]}" "${least[leveldb-scan]}" "0.5 by 4 threads"
   [[ ! $has_workers ]] || row "check, by 4 threads" "${least[check-4]}" "${least[leveldb-scan]}" "0.5"
   row "scan, printed" "${least[scan]}" "${least[leveldb-print]}" ""
   row "compaction, one worker, whole" "${least[one]}" "${least[leveldb-one]}" "0.8"
@@ -157,8 +162,3 @@ for place in "${TMPFS:-/dev/shm}" "${DISK:-/tmp}"; do
   times "four groups, 4 workers beside one, merged alone" "$alone" "$merged" "3 times"
   rm -rf "$room"
 done
-awk -v n="$lines" 'BEGIN { for (i = 0; i < n; i++) printf "%016x %d put %016x%016x\n", i * 4001, i + 1, i * 2654435761 % 4294967296, i }' > "$scratch/list"
-for ((turn = 0; turn < turns; turn++)); do list_turn; done
-title "$lines lines"
-row "mktable" "${least[mktable]}" "${least[leveldb-mktable]}" "0.6"
-row "dump" "${least[dump]}" "${least[leveldb-dump]}" "0.6"

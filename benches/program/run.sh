@@ -1,6 +1,7 @@
 #!/usr/bin/env bash
 # Times `lsm mktable` and `lsm dump` on a million lines with values of 16 bytes, beside plain Rust,
-# and compares what they write. Usage: benches/program/run.sh [LINES]
+# and compares what they write. Usage: benches/program/run.sh [LINES]. PROGRAM=/path/to/lsm takes
+# another program than the one whose path tools/program prints. Needs rustc.
 set -euo pipefail
 lines=${1:-1000000}
 top=$(cd "$(dirname "$0")/../.." && pwd)
@@ -8,7 +9,9 @@ work=$(mktemp -d)
 trap 'rm -rf "$work"' EXIT
 rustc --edition 2021 -O -o "$work/peer" "$top/benches/program/peer.rs"
 awk -v n="$lines" 'BEGIN { for (i = 0; i < n; i++) printf "%016x %d put %016x%016x\n", i * 4001, i + 1, i * 2654435761 % 4294967296, i }' > "$work/list"
-program=$("$top/tools/program")
+program=$(readlink -f "${PROGRAM:-$("$top/tools/program")}")
+date -u '+%Y-%m-%d %H:%M UTC'
+echo "$lines lines, load $(cut -d ' ' -f 1 /proc/loadavg); $program"
 [[ $program != */unproved/* ]] || echo "this is the unproved build: ./prove makes the program that is to be timed"
 TIMEFORMAT='%U user %S sys %R real'
 for turn in 1 2 3; do

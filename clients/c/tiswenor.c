@@ -11,6 +11,7 @@
 #include <string.h>
 #include <sys/stat.h>
 
+#include "between.h"
 #include "transport.h"
 
 enum { WRITE = 1, READ, SCAN, SNAPSHOT, RELEASE, COMPACT, COLLECT, STATISTICS };
@@ -633,6 +634,13 @@ void tiswenor_release_snapshot(tiswenor_t *db, const tiswenor_snapshot_t *snapsh
 
 /* Iterators */
 
+/* A part of what is before an iterator's page: with its pairs, or else unread, from `low` on and
+   below `high`. */
+struct part {
+  struct answer page;
+  struct key low, high;
+};
+
 struct tiswenor_iterator_t {
   tiswenor_t *db;
   tiswenor_readoptions_t options;
@@ -643,6 +651,12 @@ struct tiswenor_iterator_t {
   int is_last;    /* no page follows this one */
   int is_ahead;   /* the next page was asked for, on the channel that is for it */
   unsigned pages; /* since it was sent somewhere */
+  size_t turned;  /* how many pairs of the page are behind it, with the one at which it stands */
+  uint32_t *starts; /* where the first of these begin in the page's memory */
+  size_t start_count, start_room;
+  int has_parts; /* the parts are those before the page, the last one at the end */
+  struct part *parts;
+  size_t part_count, part_room;
   char *error;
 };
 
@@ -662,6 +676,18 @@ static void leave_page(tiswenor_iterator_t *iterator) {
   free(iterator->page.memory);
   iterator->page = (struct answer){NULL, NULL, NULL};
   iterator->key = NULL;
+  iterator->turned = iterator->start_count = 0;
+}
+
+static void free_part(struct part *part) {
+  free(part->page.memory);
+  free(part->low.bytes);
+  free(part->high.bytes);
+}
+
+static void leave_parts(tiswenor_iterator_t *iterator) {
+  while (iterator->part_count) free_part(&iterator->parts[--iterator->part_count]);
+  iterator->has_parts = 0;
 }
 
 /* Asks for the page from the first key on that is not below `from` and `more`. */
@@ -752,20 +778,27 @@ static int has_ahead(tiswenor_iterator_t *iterator) {
   return 1;
 }
 
-/* Leaves the page, and what was asked for ahead, which may come when it will. */
-static void leave_all(tiswenor_iterator_t *iterator) {
-  leave_page(iterator);
-  iterator->pages = 0;
+/* Leaves what was asked for ahead, which may come when it will. */
+static void leave_ahead(tiswenor_iterator_t *iterator) {
   if (!iterator->is_ahead || tiswenor_transport_is_forked(iterator->db->transport)) return;
   iterator->is_ahead = 0;
   iterator->db->is_ahead_owed = 1;
   iterator->db->is_ahead_used = 0;
 }
 
+static void leave_all(tiswenor_iterator_t *iterator) {
+  leave_page(iterator);
+  leave_parts(iterator);
+  leave_ahead(iterator);
+  iterator->pages = 0;
+}
+
 void tiswenor_iter_destroy(tiswenor_iterator_t *iterator) {
   if (!iterator) return;
   leave_all(iterator);
   if (iterator->own) tiswenor_release_snapshot(iterator->db, iterator->own);
+  free(iterator->starts);
+  free(iterator->parts);
   tiswenor_free(iterator->error);
   free(iterator);
 }
@@ -783,6 +816,7 @@ static int turn(tiswenor_iterator_t *iterator) {
     return 0;
   }
   iterator->key = key;
+  iterator->turned++;
   return 1;
 }
 
@@ -795,6 +829,7 @@ static void begin_page(tiswenor_iterator_t *iterator) {
   }
   iterator->is_last = *page->at++;
   iterator->pages++;
+  leave_parts(iterator);
   ask_ahead(iterator);
   turn(iterator);
 }
@@ -828,6 +863,221 @@ void tiswenor_iter_next(tiswenor_iterator_t *iterator) {
   if (!has_ahead(iterator)) return ask_page(iterator, &request);
   request_end(&request);
   begin_page(iterator);
+}
+
+/* Backward. The server shows the first pairs from a key on. So a page of last pairs is looked for:
+   where the pairs of a part do not end with its first page, one from a key between is asked for.
+   What is read on the way is kept, and shown when its turn comes. */
+
+static int fails(tiswenor_iterator_t *iterator, int fault) {
+  set_fault(iterator->db, fault, &iterator->error);
+  return 0;
+}
+
+/* A copy of a key, behind which `more` zero bytes stand. */
+static int copy_key(tiswenor_iterator_t *iterator, const unsigned char *key, size_t length,
+                    size_t more, struct key *copy) {
+  copy->bytes = calloc(length + more + 1, 1);
+  if (!copy->bytes) return fails(iterator, tiswenor_out_of_memory);
+  if (length) memcpy(copy->bytes, key, length);
+  copy->length = length + more;
+  return 1;
+}
+
+/* Adds a part behind the others. It is freed where there is no memory for it. */
+static int add_part(tiswenor_iterator_t *iterator, struct part part) {
+  if (iterator->part_count == iterator->part_room) {
+    size_t room = 2 * iterator->part_room + 8;
+    struct part *parts = realloc(iterator->parts, room * sizeof *parts);
+    if (!parts) {
+      free_part(&part);
+      return fails(iterator, tiswenor_out_of_memory);
+    }
+    iterator->parts = parts;
+    iterator->part_room = room;
+  }
+  iterator->parts[iterator->part_count++] = part;
+  return 1;
+}
+
+/* Adds an unread part: the pairs behind a key that are below another, if there can be any. */
+static int add_unread(tiswenor_iterator_t *iterator, struct key last, struct key high) {
+  struct part part = {{NULL, NULL, NULL}, {NULL, 0}, {NULL, 0}};
+  if (high.length == last.length + 1 && !high.bytes[last.length]) return 1;
+  if (!copy_key(iterator, last.bytes, last.length, 1, &part.low)) return 0;
+  if (!copy_key(iterator, high.bytes, high.length, 0, &part.high)) {
+    free_part(&part);
+    return 0;
+  }
+  return add_part(iterator, part);
+}
+
+/* Whether a page has the form of one of this part: its keys are read where they are shown, but the
+   last one, by which the search goes on, now. */
+static int is_of_part(struct answer page, struct key low, struct key high, struct key *last) {
+  if (page.at == page.end || *page.at > 1) return 0;
+  int is_last = *page.at++;
+  last->bytes = (unsigned char *)last_key(page, &last->length);
+  if (!last->bytes) return is_last && page.at == page.end;
+  return !is_before(*last, low) && (!high.bytes || is_before(*last, high));
+}
+
+/* Asks for the first pairs of a part. Its last key has no bytes where it has none. */
+static int ask_part(tiswenor_iterator_t *iterator, struct key low, struct key high,
+                    struct answer *page, struct key *last) {
+  struct request request;
+  request_begin(&request, SCAN);
+  add_when(&request, &iterator->options);
+  add_text(&request, (const char *)low.bytes, low.length, NULL, 0);
+  add_number(&request, high.bytes != NULL, 1);
+  if (high.bytes) add_text(&request, (const char *)high.bytes, high.length, NULL, 0);
+  add_number(&request, iterator->pages ? 0 : FIRST_PAGE, 4);
+  if (!ask_once(iterator->db, &request, page, &iterator->error)) return 0;
+  if (is_of_part(*page, low, high, last)) return 1;
+  set_bad_answer(page, &iterator->error);
+  return 0;
+}
+
+/* Asks for a page of a part from a key between `last` and `high` on, as near to `high` as there are
+   pairs. Both are the caller's. That key is `low`, whose bytes have room for it. */
+static int ask_between(tiswenor_iterator_t *iterator, struct key last, struct key *low,
+                       struct key *high, struct answer *page, struct key *next) {
+  size_t same = (size_t)-1;
+  unsigned tries = 0, end;
+  for (;; free(page->memory)) {
+    size_t now = alike(last, *high, &end);
+    if (now != same) tries = 0, same = now;
+    low->length = between(last, *high, ++tries, low->bytes);
+    if (high->bytes && !is_before(*low, *high)) return fails(iterator, tiswenor_bad_answer);
+    if (!ask_part(iterator, *low, *high, page, next)) return 0;
+    if (next->bytes) return 1;
+    free(high->bytes); /* the pairs behind `last` are before `low` */
+    high->bytes = NULL;
+    if (!copy_key(iterator, low->bytes, low->length, 0, high)) {
+      free(page->memory);
+      return 0;
+    }
+  }
+}
+
+/* The last pairs of a part whose first page does not end it; what is before them becomes parts. The
+   page is kept as one. */
+static int narrow(tiswenor_iterator_t *iterator, struct key *high, struct answer *page,
+                  struct key *last) {
+  struct key behind, low, next = {NULL, 0};
+  struct part read = {*page, {NULL, 0}, {NULL, 0}};
+  if (!copy_key(iterator, last->bytes, last->length, 0, &behind)) {
+    free(page->memory);
+    return 0;
+  }
+  int done = add_part(iterator, read) && copy_key(iterator, NULL, 0, behind.length + 1, &low);
+  if (done) {
+    done = ask_between(iterator, behind, &low, high, page, &next);
+    if (done && !add_unread(iterator, behind, low)) {
+      free(page->memory);
+      done = 0;
+    }
+    free(low.bytes);
+  }
+  free(behind.bytes);
+  *last = next;
+  return done;
+}
+
+/* The last pairs of an unread part, if it has any. */
+static int last_of(tiswenor_iterator_t *iterator, struct part *part, struct answer *page) {
+  struct key last = {NULL, 0};
+  if (!ask_part(iterator, part->low, part->high, page, &last)) return 0;
+  while (*page->at == 0)
+    if (!narrow(iterator, &part->high, page, &last)) return 0;
+  return 1;
+}
+
+/* Finds where pairs of the page begin, up to this one; or to the end, where it has fewer. */
+static int find_starts(tiswenor_iterator_t *iterator, size_t count) {
+  struct answer page = iterator->page;
+  size_t length;
+  page.at = page.memory + 2;
+  if (iterator->start_count) page.at = page.memory + iterator->starts[--iterator->start_count];
+  while (iterator->start_count < count && page.at < page.end) {
+    if (iterator->start_count == iterator->start_room) {
+      size_t room = 2 * iterator->start_room + 64;
+      uint32_t *starts = realloc(iterator->starts, room * sizeof *starts);
+      if (!starts) return fails(iterator, tiswenor_out_of_memory);
+      iterator->starts = starts;
+      iterator->start_room = room;
+    }
+    iterator->starts[iterator->start_count++] = (uint32_t)(page.at - page.memory);
+    if (!next_text(&page, &length) || !next_text(&page, &length))
+      return fails(iterator, tiswenor_bad_answer);
+  }
+  return 1;
+}
+
+/* Stands at the pair of the page before which there are so many. */
+static void stand(tiswenor_iterator_t *iterator, size_t before) {
+  iterator->page.at = iterator->page.memory + iterator->starts[before];
+  iterator->turned = before;
+  turn(iterator);
+}
+
+/* Stands at the last pair of a page that was read backward. */
+static void end_page(tiswenor_iterator_t *iterator, struct answer page) {
+  iterator->page = page;
+  iterator->is_last = 0; /* what is behind it was left */
+  iterator->pages++;
+  if (find_starts(iterator, (size_t)-1)) return stand(iterator, iterator->start_count - 1);
+  leave_page(iterator);
+}
+
+/* Goes to the last pair of the parts before the page. It is not valid where there is none. */
+static void turn_back(tiswenor_iterator_t *iterator) {
+  leave_page(iterator);
+  leave_ahead(iterator);
+  while (iterator->part_count) {
+    struct part part = iterator->parts[--iterator->part_count];
+    struct answer page = part.page;
+    part.page.memory = NULL;
+    int done = page.memory || last_of(iterator, &part, &page);
+    free_part(&part);
+    if (!done) return;
+    if (page.end - page.at > 1) return end_page(iterator, page);
+    free(page.memory);
+  }
+}
+
+void tiswenor_iter_seek_to_last(tiswenor_iterator_t *iterator) {
+  static const struct part all = {{NULL, NULL, NULL}, {NULL, 0}, {NULL, 0}};
+  if (!iterator->options.snapshot) return; /* it was refused: the error stays */
+  tiswenor_free(iterator->error);
+  iterator->error = NULL;
+  leave_all(iterator);
+  iterator->has_parts = 1;
+  if (add_part(iterator, all)) turn_back(iterator);
+}
+
+/* The parts before the page are one, of all keys below its first one. */
+static int begin_parts(tiswenor_iterator_t *iterator) {
+  struct part part = {{NULL, NULL, NULL}, {NULL, 0}, {NULL, 0}};
+  struct answer page = iterator->page;
+  size_t length;
+  page.at = page.memory + 2;
+  const unsigned char *first = next_text(&page, &length);
+  if (iterator->has_parts) return 1;
+  if (!first) return fails(iterator, tiswenor_bad_answer);
+  if (!copy_key(iterator, first, length, 0, &part.high)) return 0;
+  iterator->has_parts = 1;
+  return add_part(iterator, part);
+}
+
+void tiswenor_iter_prev(tiswenor_iterator_t *iterator) {
+  if (!iterator->key) return;
+  if (iterator->turned > 1) {
+    if (find_starts(iterator, iterator->turned - 1)) return stand(iterator, iterator->turned - 2);
+  } else if (begin_parts(iterator)) {
+    return turn_back(iterator);
+  }
+  leave_page(iterator);
 }
 
 uint8_t tiswenor_iter_valid(const tiswenor_iterator_t *iterator) { return iterator->key != NULL; }

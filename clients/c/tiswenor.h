@@ -114,7 +114,7 @@ void tiswenor_statistics(tiswenor_t *db, tiswenor_statistics_t *statistics, char
 char *tiswenor_property_value(tiswenor_t *db, const char *propname);
 
 /* Iterators: the pairs of the database as it is now, or of a snapshot. A new one is not valid
-   before it is sent somewhere. Forward only. */
+   before it is sent somewhere. To go backward costs some more requests: the server reads forward. */
 
 tiswenor_iterator_t *tiswenor_create_iterator(tiswenor_t *db,
                                               const tiswenor_readoptions_t *options);
@@ -124,8 +124,10 @@ uint8_t tiswenor_iter_valid(const tiswenor_iterator_t *iterator);
 void tiswenor_iter_seek_to_first(tiswenor_iterator_t *iterator);
 /* To the first pair whose key is k or greater. */
 void tiswenor_iter_seek(tiswenor_iterator_t *iterator, const char *k, size_t klen);
-/* It is valid. */
+void tiswenor_iter_seek_to_last(tiswenor_iterator_t *iterator);
+/* It is valid. At the last, or the first, pair it is not valid any more. */
 void tiswenor_iter_next(tiswenor_iterator_t *iterator);
+void tiswenor_iter_prev(tiswenor_iterator_t *iterator);
 /* It is valid. The bytes stay until the next call on the iterator. */
 const char *tiswenor_iter_key(const tiswenor_iterator_t *iterator, size_t *klen);
 const char *tiswenor_iter_value(const tiswenor_iterator_t *iterator, size_t *vlen);

@@ -115,8 +115,7 @@ class Batch {
   detail::Owned<tiswenor_writebatch_t> handle_;
 };
 
-// The pairs of a database as it was when the iterator was made, or of a snapshot. Forward only.
-// What key() and value() give stays until the next call.
+// The pairs of a database as it was when the iterator was made, or of a snapshot. What key() and value() give stays until the next call.
 class Iterator {
  public:
   bool valid() const noexcept { return tiswenor_iter_valid(handle_.get()) != 0; }
@@ -129,8 +128,16 @@ class Iterator {
     tiswenor_iter_seek(handle_.get(), key.data(), key.size());
     check();
   }
+  void seek_to_last() {
+    tiswenor_iter_seek_to_last(handle_.get());
+    check();
+  }
   void next() {
     tiswenor_iter_next(handle_.get());
+    check();
+  }
+  void prev() {
+    tiswenor_iter_prev(handle_.get());
     check();
   }
   std::string_view key() const noexcept {

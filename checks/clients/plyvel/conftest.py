@@ -2,7 +2,6 @@
 
 import pytest
 
-BACKWARD = "iterates backward"
 OPTIONS = "sets a cache, blocks, compression or filters"
 ABSENT = {
     "test_version": "LevelDB's version",
@@ -11,15 +10,7 @@ ABSENT = {
     "test_invalid_open": OPTIONS,
     "test_open_close": OPTIONS,
     "test_large_lru_cache": OPTIONS,
-    "test_forward_iteration": BACKWARD,
-    "test_reverse_iteration": BACKWARD,
-    "test_range_iteration": BACKWARD,
-    "test_reverse_range_iteration": BACKWARD,
-    "test_out_of_range_iterations": BACKWARD,
-    "test_range_empty_database": BACKWARD,
-    "test_iterator_single_entry": BACKWARD,
-    "test_iterator_seeking": BACKWARD,
-    "test_threading": BACKWARD,
+    "test_threading": "writes for long",
     "test_property": "leveldb.sstables",
     "test_compaction": "compacts a range",
     "test_approximate_sizes": "approximate_size",
@@ -27,7 +18,6 @@ ABSENT = {
     "test_destroy_db": "destroy_db",
     "test_invalid_comparator": "comparators",
     "test_comparator": "comparators",
-    "test_prefixed_db": BACKWARD,
     "test_raw_iterator": "raw_iterator",
     "test_raw_iterator_empty_db": "raw_iterator",
     "test_raw_iterator_snapshot": "raw_iterator",

@@ -116,7 +116,33 @@ static void get_many(void) {
   tiswenor_readoptions_destroy(options);
 }
 
-/* From a drawn key on, some pairs or all; and perhaps again from another one. */
+/* From the last pair, or one at a drawn key, back to the first. */
+static void iterate_back(tiswenor_iterator_t *iterator, const int *has) {
+  char key[8];
+  unsigned at = KEYS;
+  if (draw(2)) {
+    at = draw(KEYS);
+    tiswenor_iter_seek(iterator, key, key_of(at, key));
+    while (at < KEYS && has[at] == ABSENT) at++;
+    if (at == KEYS) return;
+    tiswenor_iter_prev(iterator);
+  } else {
+    tiswenor_iter_seek_to_last(iterator);
+  }
+  while (at--) {
+    if (has[at] == ABSENT) continue;
+    size_t klen, vlen;
+    CHECK(tiswenor_iter_valid(iterator));
+    const char *k = tiswenor_iter_key(iterator, &klen);
+    const char *v = tiswenor_iter_value(iterator, &vlen);
+    CHECK(klen == key_of(at, key) && !memcmp(k, key, klen));
+    is_value(has[at], v, vlen);
+    tiswenor_iter_prev(iterator);
+  }
+  CHECK(!tiswenor_iter_valid(iterator));
+}
+
+/* From a drawn key on, some pairs or all; and perhaps again from another one; and back. */
 static void iterate(void) {
   char *error = NULL, key[8];
   tiswenor_readoptions_t *options;
@@ -138,6 +164,7 @@ static void iterate(void) {
     }
     if (left) CHECK(!tiswenor_iter_valid(iterator));
   }
+  iterate_back(iterator, has);
   tiswenor_iter_get_error(iterator, &error);
   DONE(error);
   tiswenor_iter_destroy(iterator);

@@ -42,6 +42,8 @@ static void iterate(tiswenor_t *db, const tiswenor_readoptions_t *options, char 
     for (size_t at = 0; at < vlen; at++) sum += (unsigned char)value[at];
   }
   CHECK(sum < 1000000);
+  tiswenor_iter_seek_to_last(iterator);
+  for (int i = 0; i < 100 && tiswenor_iter_valid(iterator); i++) tiswenor_iter_prev(iterator);
   tiswenor_iter_get_error(iterator, error);
   tiswenor_iter_destroy(iterator);
 }

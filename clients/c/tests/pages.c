@@ -1,5 +1,5 @@
-/* Iterators over many pages, of which some are asked for ahead: pages FOLDER. One, two that take
-   turns, some that are left or sent elsewhere in the middle, and four threads' at once, beside
+/* Iterators over many pages, of which some are asked for ahead: pages FOLDER. One, one that goes
+   backward, two that take turns, some that are left or sent elsewhere in the middle, and four threads' at once, beside
    writes. */
 #define _GNU_SOURCE
 #include <pthread.h>
@@ -77,7 +77,39 @@ static void two_in_turns(void) {
   tiswenor_iter_destroy(second);
 }
 
-/* As far as some page, and then elsewhere, with reads between. */
+/* The iterator stands at the pair of this number, and goes back. */
+static void is_back_at(tiswenor_iterator_t *iterator, int number) {
+  char key[16];
+  size_t klen;
+  CHECK(tiswenor_iter_valid(iterator));
+  const char *k = tiswenor_iter_key(iterator, &klen);
+  CHECK(klen == key_of(number, key) && !memcmp(k, key, klen));
+  is_at(iterator, number); /* to the next one, and back */
+  if (tiswenor_iter_valid(iterator))
+    tiswenor_iter_prev(iterator);
+  else
+    tiswenor_iter_seek_to_last(iterator);
+  CHECK(tiswenor_iter_valid(iterator));
+  tiswenor_iter_prev(iterator);
+}
+
+static void one_backward(void) {
+  tiswenor_iterator_t *iterator = tiswenor_create_iterator(db, NULL);
+  tiswenor_iter_seek_to_last(iterator);
+  for (int i = PAIRS; i--;) is_back_at(iterator, i);
+  is_at_its_end(iterator);
+  seek(iterator, PAIRS / 2);
+  for (int i = PAIRS / 2; i < PAIRS / 2 + 3000; i++) is_at(iterator, i);
+  for (int i = PAIRS / 2 + 3000; i > 5; i--) {
+    CHECK(tiswenor_iter_valid(iterator));
+    tiswenor_iter_prev(iterator);
+  }
+  for (int i = 5; i < PAIRS; i++) is_at(iterator, i);
+  is_at_its_end(iterator);
+  tiswenor_iter_destroy(iterator);
+}
+
+/* As far as some page, and then elsewhere, with reads between; every second time backward. */
 static void *wander(void *state) {
   char key[16];
   unsigned drawn = (unsigned)(size_t)state;
@@ -88,6 +120,10 @@ static void *wander(void *state) {
       int at = (int)((drawn >> 16) % PAIRS), last = at + (int)(drawn >> 8) % 6000;
       seek(iterator, at);
       for (; at < last && at < PAIRS; at++) is_at(iterator, at);
+      for (int back = at; drawn & 256 && at < PAIRS && back > 0 && back > at - 3000; back--) {
+        CHECK(tiswenor_iter_valid(iterator));
+        tiswenor_iter_prev(iterator);
+      }
       char *error = NULL, *value;
       size_t length;
       value = tiswenor_get(db, NULL, key, key_of(at % PAIRS, key), &length, &error);
@@ -115,6 +151,7 @@ int main(int argc, char **argv) {
     db = opened(argv[1], channels, 1);
     if (channels == 1) fill();
     if (channels == 1) one();
+    if (channels == 1) one_backward();
     if (channels == 1) two_in_turns();
     four_threads();
     tiswenor_close(db);

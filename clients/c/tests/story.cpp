@@ -17,6 +17,13 @@ using namespace std::string_literals;
 using tiswenor::Batch, tiswenor::Database, tiswenor::Error, tiswenor::Iterator, tiswenor::Options,
     tiswenor::Snapshot;
 
+static std::string shown_backward(Iterator iterator) {
+  std::string text;
+  for (iterator.seek_to_last(); iterator.valid(); iterator.prev())
+    text.append(iterator.key()).append("=").append(iterator.value()).append(" ");
+  return text;
+}
+
 static std::string shown(Iterator iterator, const std::string& from) {
   std::string text;
   for (iterator.seek(from); iterator.valid(); iterator.next())
@@ -50,6 +57,7 @@ int main(int argc, char** argv) {
           (std::vector<std::optional<std::string>>{"", std::nullopt, "red"}));
     CHECK(shown(db.iterator(), "") == "apple=red banana=yellow bean= ");
     CHECK(shown(db.iterator(), "b") == "banana=yellow bean= ");
+    CHECK(shown_backward(db.iterator()) == "bean= banana=yellow apple=red ");
     Snapshot then = db.snapshot();
     db.remove("apple");
     Batch batch;

@@ -151,15 +151,64 @@ def test_iterator_moves(fruit):
     assert closed.value.name == "Closed"
 
 
-def test_backward_is_refused(fruit):
-    for call in (
-        lambda: fruit.iterator(reverse=True),
-        lambda: fruit.iterator().prev(),
-        lambda: fruit.iterator().seek_to_stop(),
-        lambda: fruit.compact_range(b"a", b"b"),
-    ):
-        with pytest.raises(NotImplementedError):
-            call()
+def test_iterator_backward(fruit):
+    back = PAIRS[::-1]
+    assert list(fruit.iterator(reverse=True)) == back
+    assert list(fruit.iterator(True, start=b"banana")) == back[:3]
+    assert list(fruit.iterator(True, start=b"b", stop=b"bean")) == PAIRS[1:2]
+    assert list(fruit.iterator(True, start=b"banana", include_start=False)) == back[:2]
+    assert list(fruit.iterator(True, stop=b"bean", include_stop=True)) == back[1:]
+    assert list(fruit.iterator(True, prefix=b"b")) == back[1:3]
+    assert list(fruit.iterator(True, start=b"z", stop=b"a")) == []
+    assert list(fruit.iterator(True, start=b"d")) == []
+    assert list(fruit.iterator(True, include_value=False)) == [key for key, _ in back]
+
+
+def test_iterator_moves_both_ways(fruit):
+    iterator = fruit.iterator(start=b"b")
+    with pytest.raises(StopIteration):
+        iterator.prev()
+    assert next(iterator) == PAIRS[1]
+    assert next(iterator) == PAIRS[2]
+    assert iterator.prev() == PAIRS[2]
+    assert iterator.prev() == PAIRS[1]
+    with pytest.raises(StopIteration):
+        iterator.prev()
+    assert list(iterator) == PAIRS[1:]
+    assert iterator.prev() == PAIRS[3]
+    iterator.seek_to_stop()
+    with pytest.raises(StopIteration):
+        next(iterator)
+    assert iterator.prev() == PAIRS[3]
+    iterator.seek(b"bean")
+    assert iterator.prev() == PAIRS[1]
+    assert next(iterator) == PAIRS[1]
+    assert next(iterator) == PAIRS[2]
+    backward = fruit.iterator(reverse=True)
+    with pytest.raises(StopIteration):
+        backward.prev()
+    assert next(backward) == PAIRS[3]
+    assert backward.prev() == PAIRS[3]
+    backward.seek(b"bean")
+    assert next(backward) == PAIRS[1]
+    backward.seek_to_start()
+    with pytest.raises(StopIteration):
+        next(backward)
+    assert backward.prev() == PAIRS[0]
+    backward.close()
+    with pytest.raises(tiswenor.Error):
+        next(backward)
+
+
+def test_no_pair_is_before_none(db):
+    assert list(db.iterator(reverse=True)) == []
+    db.put(b"only", b"one")
+    assert list(db.iterator(reverse=True)) == [(b"only", b"one")]
+
+
+def test_a_part_is_not_compacted(fruit):
+    with pytest.raises(NotImplementedError):
+        fruit.compact_range(b"a", b"b")
 
 
 def test_iterator_over_many_pages(db):
@@ -168,6 +217,14 @@ def test_iterator_over_many_pages(db):
         for key, value in wanted:
             batch.put(key, value)
     assert list(db) == wanted
+    assert list(db.iterator(reverse=True)) == wanted[::-1]
+    iterator = db.iterator(start=b"005000", stop=b"015000")
+    iterator.seek(b"010000")
+    assert [next(iterator) for _ in range(3000)] == wanted[10_000:13_000]
+    assert [iterator.prev() for _ in range(8000)] == wanted[12_999:4999:-1]
+    with pytest.raises(StopIteration):
+        iterator.prev()
+    assert list(iterator) == wanted[5000:15_000]
     with db.iterator() as iterator:
         first = [next(iterator) for _ in range(10)]
         with db.write_batch() as batch:

@@ -64,15 +64,30 @@ class Drawn:
         reads, wanted = self.one_of()
         start, stop = self.key(), self.key()
         with_start, with_stop = self.draw.random() < 0.5, self.draw.random() < 0.5
-        found = reads.iterator(
-            start=start, stop=stop, include_start=with_start, include_stop=with_stop
-        )
+        reverse = self.draw.random() < 0.5
+        found = reads.iterator(reverse, start, stop, with_start, with_stop)
         assert list(found) == [
             (key, value)
-            for key, value in sorted(wanted.items())
+            for key, value in sorted(wanted.items(), reverse=reverse)
             if (start < key or with_start and start == key)
             and (key < stop or with_stop and key == stop)
         ]
+
+    def wander(self):
+        """Back and forth from a drawn key."""
+        reads, wanted = self.one_of()
+        pairs = sorted(wanted.items())
+        iterator = reads.iterator()
+        sought = self.key()
+        iterator.seek(sought)
+        at = sum(key < sought for key, _ in pairs)
+        for _ in range(self.draw.randrange(60)):
+            if self.draw.random() < 0.4:
+                assert next(iterator, None) == (pairs[at] if at < len(pairs) else None)
+                at = min(at + 1, len(pairs))
+            elif at:
+                at -= 1
+                assert iterator.prev() == pairs[at]
 
     def prefix(self):
         reads, wanted = self.one_of()
@@ -118,6 +133,7 @@ class Drawn:
         "get": 30,
         "get_many": 15,
         "iterator": 12,
+        "wander": 8,
         "prefix": 5,
         "part": 3,
         "whole": 2,

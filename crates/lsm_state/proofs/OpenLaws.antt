@@ -1,11 +1,15 @@
 -- What opening a database gives: the law of the state.
-use Rattle.std.proofs.Common.{◌≡◌, ℕ, zero, suc, ◌+◌, ◌-◌, ◌<◌, ◌≤◌, ◌==◌, Bool, false, cond, None, replicate, List, [], ◌∷◌, map, refl, sym, ◌∙◌, ap, subst, inl, inr, arith}
+use Rattle.std.proofs.Common.{◌≡◌, ℕ, zero, suc, ◌+◌, ◌-◌, ◌<◌, ◌≤◌, ◌==◌, Bool, false, true, cond, None, replicate, List, [], ◌∷◌, map, refl, sym, ◌∙◌, ap, subst, inl, inr, arith}
 use Rattle.std.proofs.lemmas.Bool.{eq-eqb}
 use Rattle.std.proofs.lemmas.List.Sums.{sum_by-cons}
+use Rattle.std.specs.Prelude.{Result, Ok, Err, IfOk, IfErr}
 use Rattle.atomic_table.specs.Seated.{TableId}
 use Rattle.lsm_codec.specs.Entries.{Entry}
 use Rattle.lsm_codec.specs.Lists.{Has}
 use Rattle.lsm_codec.proofs.CallerLemmas.{all_at, flat_has, has_cases}
+use Rattle.lsm_shelf.specs.Asked.{Asked}
+use Rattle.lsm_shelf.specs.Told.{Told}
+use Rattle.lsm_shelf.specs.declared.shelf_fault.ShelfFault.{ShelfFault}
 use Rattle.lsm_pins.specs.Known.{Known}
 use Rattle.lsm_pins.specs.Made.{IsNewPinner}
 use Rattle.lsm_pins.specs.declared.view.View.{View}
@@ -20,9 +24,11 @@ use Rattle.lsm_slots.specs.Snapshots.{Taken}
 use Rattle.lsm_live.specs.Booked.{Booked}
 use Rattle.lsm_journal.specs.HeldManifest.{HeldManifest}
 use Rattle.lsm_journal.specs.Recorded.{IsRecorded}
+use Rattle.lsm_journal.specs.declared.open_fault.OpenFault.{OpenFault}
+use Rattle.lsm_journal.specs.declared.open_fault.OpenFault.TheVariants as opening
 use Rattle.lsm_state.specs.Held.{Held, IsLawfulState, plain}
 use Rattle.lsm_state.specs.Making.{IsNewBoard}
-use Rattle.lsm_state.specs.Opening.{opened_state}
+use Rattle.lsm_state.specs.Opening.{IsBegun, IsFound, IsOpenRefusal, IsReadOnce, IsStartRefusal, opened_state}
 use Rattle.lsm_state.specs.Options.{Fits}
 use Rattle.lsm_state.specs.declared.options.Options.{Options}
 use Rattle.lsm_state.proofs.Numbers.{has_map}
@@ -125,3 +131,57 @@ opened_made honest board o publisher pinners v j next halted s taken live es a b
     (subst (λ (x : Taken). IsLawfulState honest board (record h { snapshots = x; live = live; history = es })) (sym b)
     (subst (λ (x : List Booked). IsLawfulState honest board (record h { live = x; history = es })) (sym c)
     (subst (λ (x : List Entry). IsLawfulState honest board (record h { history = x })) (sym d) l)))
+
+-- ---- a new manifest for it
+
+-- a state that was opened for reading has these parts
+pub parts_opened : (o : Options) (publisher : Known) (pinners : List Known) (s : Held) → s ≡ opened_state o publisher pinners s.slots.version s.journal s.next true
+    → s ≡ opened_state s.options s.slots.board s.pinners s.slots.version s.journal s.next true
+parts_opened o publisher pinners s e = e ∙ ap (λ (x : Held). opened_state x.options x.slots.board x.pinners s.slots.version s.journal s.next true) (sym e)
+
+pub board_opened : (board : TableId) (o : Options) (publisher : Known) (pinners : List Known) (s : Held) → s ≡ opened_state o publisher pinners s.slots.version s.journal s.next true
+    → IsNewBoard board o publisher pinners → IsNewBoard board s.options s.slots.board s.pinners
+board_opened board o publisher pinners s e new = subst (λ (x : Held). IsNewBoard board x.options x.slots.board x.pinners) (sym e) new
+
+limit_opened : (o : Options) (publisher : Known) (pinners : List Known) (s : Held) → s ≡ opened_state o publisher pinners s.slots.version s.journal s.next true → s.options.manifest_limit ≡ o.manifest_limit
+limit_opened o publisher pinners s e = ap (λ (x : Held). x.options.manifest_limit) e
+
+pub found_opened : (honest : Type 0) (o : Options) (publisher : Known) (pinners : List Known) (s : Held) (rest : ℕ) (was is : Told)
+    → s ≡ opened_state o publisher pinners s.slots.version s.journal s.next true → IsFound honest o.manifest_limit s.journal s.slots.version rest s.next was is
+    → IsFound honest s.options.manifest_limit s.journal s.slots.version rest s.next was is
+found_opened honest o publisher pinners s rest was is e f =
+    subst (λ (limit : ℕ). IsFound honest limit s.journal s.slots.version rest s.next was is) (sym (limit_opened o publisher pinners s e)) f
+
+pub begun_opened : {E : Type 0} (r : Result Held E) (honest : Type 0) (o : Options) (publisher : Known) (pinners : List Known) (s : Held) (was is : Told)
+    → s ≡ opened_state o publisher pinners s.slots.version s.journal s.next true
+    → IfOk r (λ t. IsBegun honest s.options.manifest_limit t.journal t.slots.version t.next was is)
+    → IfOk r (λ t. IsBegun honest o.manifest_limit t.journal t.slots.version t.next was is)
+begun_opened (Ok t) honest o publisher pinners s was is e b =
+    subst (λ (limit : ℕ). IsBegun honest limit t.journal t.slots.version t.next was is) (limit_opened o publisher pinners s e) b
+begun_opened (Err x) honest o publisher pinners s was is e b = tt
+
+pub state_opened : {E : Type 0} (r : Result Held E) (o : Options) (publisher : Known) (pinners : List Known) (s : Held) → s ≡ opened_state o publisher pinners s.slots.version s.journal s.next true
+    → IfOk r (λ t. t ≡ opened_state s.options s.slots.board s.pinners s.slots.version t.journal t.next false)
+    → IfOk r (λ t. t ≡ opened_state o publisher pinners t.slots.version t.journal t.next false)
+state_opened (Ok t) o publisher pinners s e b =
+    let q : t ≡ opened_state o publisher pinners s.slots.version t.journal t.next false =
+    b ∙ ap (λ (x : Held). opened_state x.options x.slots.board x.pinners s.slots.version t.journal t.next false) e in
+    q ∙ ap (λ (v : Levels). opened_state o publisher pinners v t.journal t.next false) (sym (ap (λ (x : Held). x.slots.version) q))
+state_opened (Err x) o publisher pinners s e b = tt
+
+pub refused_opened : {T : Type 0} (r : Result T OpenFault) (Stored : ℕ → List ℕ → Type 0) (Refused : Asked → ShelfFault → Type 0) (honest : Type 0) (o : Options) (publisher : Known)
+    (pinners : List Known) (s : Held) (was is : Told) → s ≡ opened_state o publisher pinners s.slots.version s.journal s.next true
+    → IfErr r (λ e. IsStartRefusal Refused honest s.options.manifest_limit e was is) → IfErr r (λ e. IsOpenRefusal Stored Refused honest o.manifest_limit e was is)
+refused_opened (Ok x) Stored Refused honest o publisher pinners s was is e b = tt
+refused_opened (Err x) Stored Refused honest o publisher pinners s was is e b =
+    inr (subst (λ (limit : ℕ). IsStartRefusal Refused honest limit x was is) (limit_opened o publisher pinners s e) b)
+
+-- what refuses a new manifest is no refusal to read the one that is there
+pub read_opened : {T : Type 0} (r : Result T OpenFault) (Refused : Asked → ShelfFault → Type 0) (honest : Type 0) (limit : ℕ) (was is a b : Told)
+    → IfErr r (λ e. IsStartRefusal Refused honest limit e was is) → IfErr r (λ e. IsReadOnce e a b)
+read_opened (Ok x) Refused honest limit was is a b s = tt
+read_opened (Err (opening.Recover e)) Refused honest limit was is a b s = absurd s
+read_opened (Err (opening.Check e)) Refused honest limit was is a b s = tt
+read_opened (Err (opening.Shelf e)) Refused honest limit was is a b s = tt
+read_opened (Err opening.NumbersSpent) Refused honest limit was is a b s = tt
+read_opened (Err opening.OutOfMemory) Refused honest limit was is a b s = tt

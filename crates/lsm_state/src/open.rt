@@ -3,21 +3,24 @@
 ghost use Rattle.std.specs.Prelude.{◌≡◌, ℕ, false, true, IfErr, IfOk};
 ghost use Rattle.lsm_journal.specs.Finding.{IsFindRefusal, IsFound, IsReadOnce};
 ghost use Rattle.lsm_shelf.specs.Stored.{Stored};
+ghost use Rattle.lsm_shelf.specs.Told.{Told};
 ghost use Rattle.lsm_state.specs.Making.{IsNewBoard, IsNewHistory};
-ghost use Rattle.lsm_state.specs.Opening.{IsBegun, IsOpenRefusal, opened_state};
+ghost use Rattle.lsm_state.specs.Opening.{IsBegun, IsOpenRefusal, IsStartRefusal, opened_state};
 ghost use Rattle.lsm_state.specs.Options.{Fits};
 
 use crate::coming::{edition_of, entries_of_version};
 use crate::options::Options;
 use crate::state::State;
+use lsm_check::NoWatch;
 use lsm_history::NewHistory;
 use lsm_journal::{Found, OpenFault};
 use lsm_live::LiveJobs;
 use lsm_pins::{Pinner, Publisher};
 use lsm_slots::{Boarded, Slots, Snapshots};
 use lsm_table::{NamedShelf, Registry, Shelf};
-use std::alloc::Global;
+use std::alloc::{AllocError, Global};
 use std::sync::{Arc, Wait};
+use std::thread::Threads;
 
 impl<N: Boarded, S: Shelf> State<N, S> {
     /// The state of the database that is on the shelf: the version that its manifest records, no
@@ -52,18 +55,38 @@ impl<N: Boarded, S: Shelf> State<N, S> {
             shelf.old shelf.new) }
         ensures counts_err { IfErr result (λ e. IsReadOnce e shelf.old shelf.new) }
     {
-        let mut state = State::open_to_read(rt, alloc, shelf, options, registry, board, history)?;
-        let number = state.next;
-        if number == u64::MAX {
-            return Err(OpenFault::NumbersSpent);
-        }
-        let version = state.slots.version();
-        state
-            .journal
-            .roll_over(rt, alloc, shelf, &state.registry, version, number)?;
-        state.next = number + 1;
-        state.halted = false;
-        Ok(state)
+        let state = State::open_to_read(rt, alloc, shelf, options, registry, board, history)?;
+        state.begin(rt, alloc, shelf)
+    }
+
+    /// As `open`, by a thread for each of these shelves, forks of this one: they read and judge tables
+    /// before this call comes to them, as `Found::read_by` does. The answer is one that `open` gives.
+    pub fn open_by<R: Threads + Wait + Sync>(
+        rt: &R,
+        alloc: Global,
+        shelf: &mut NamedShelf<N, S>,
+        options: Options,
+        registry: Arc<Registry<N, S>>,
+        board: (Publisher, Vec<Pinner>),
+        history: NewHistory,
+        shelves: Vec<NamedShelf<N, S>>,
+    ) -> Result<State<N, S>, OpenFault>
+        requires fits { Fits options }
+        requires board { IsNewBoard N.board options board.0 board.1.items }
+        requires history { IsNewHistory N.history history }
+        ensures begun { IfOk result (λ s. IsBegun S.honest options.manifest_limit s.journal
+            s.slots.version s.next shelf.old shelf.new) }
+        ensures opened { IfOk result (λ s.
+            s ≡ opened_state options board.0 board.1.items s.slots.version s.journal s.next false) }
+        ensures refused { IfErr result (λ e. IsOpenRefusal (Stored S.Receipt (S.is_of N.place)
+            S.Receipt.number S.Receipt.image) (S.refuses N.place) S.honest options.manifest_limit e
+            shelf.old shelf.new) }
+        ensures counts_err { IfErr result (λ e. IsReadOnce e shelf.old shelf.new) }
+    {
+        let state = State::open_to_read_by(
+            rt, alloc, shelf, options, registry, board, history, shelves,
+        )?;
+        state.begin(rt, alloc, shelf)
     }
 
     /// The same state for reading alone: nothing is written, the manifest held is the one that was
@@ -94,8 +117,65 @@ impl<N: Boarded, S: Shelf> State<N, S> {
             (S.refuses N.place) S.honest e shelf.old shelf.new) }
         ensures counts_err { IfErr result (λ e. IsReadOnce e shelf.old shelf.new) }
     {
-        let (publisher, pinners) = board;
         let found: Found<N, S> = Found::read(rt, alloc, shelf, &registry, options.manifest_limit)?;
+        let state = State::of_found(alloc, options, registry, board, history, found)?;
+        Ok(state)
+    }
+
+    /// As `open_to_read`, by threads as `open_by`.
+    pub fn open_to_read_by<R: Threads + Wait + Sync>(
+        rt: &R,
+        alloc: Global,
+        shelf: &mut NamedShelf<N, S>,
+        options: Options,
+        registry: Arc<Registry<N, S>>,
+        board: (Publisher, Vec<Pinner>),
+        history: NewHistory,
+        shelves: Vec<NamedShelf<N, S>>,
+    ) -> Result<State<N, S>, OpenFault>
+        requires fits { Fits options }
+        requires board { IsNewBoard N.board options board.0 board.1.items }
+        requires history { IsNewHistory N.history history }
+        ensures found { IfOk result (λ s. (rest : ℕ) × IsFound S.honest options.manifest_limit
+            s.journal s.slots.version rest s.next shelf.old shelf.new) }
+        ensures opened { IfOk result (λ s.
+            s ≡ opened_state options board.0 board.1.items s.slots.version s.journal s.next true) }
+        ensures refused { IfErr result (λ e.
+            IsFindRefusal (Stored S.Receipt (S.is_of N.place) S.Receipt.number S.Receipt.image)
+            (S.refuses N.place) S.honest e shelf.old shelf.new) }
+        ensures counts_err { IfErr result (λ e. IsReadOnce e shelf.old shelf.new) }
+    {
+        let found: Found<N, S> = Found::read_by(
+            rt,
+            alloc,
+            shelf,
+            &registry,
+            options.manifest_limit,
+            shelves,
+            &NoWatch,
+        )?;
+        let state = State::of_found(alloc, options, registry, board, history, found)?;
+        Ok(state)
+    }
+
+    // The state of what was found, for reading alone.
+    fn of_found(
+        alloc: Global,
+        options: Options,
+        registry: Arc<Registry<N, S>>,
+        board: (Publisher, Vec<Pinner>),
+        history: NewHistory,
+        found: Found<N, S>,
+    ) -> Result<State<N, S>, AllocError>
+        requires fits { Fits options }
+        requires board { IsNewBoard N.board options board.0 board.1.items }
+        requires history { IsNewHistory N.history history }
+        requires found { (was : Told) × ((is : Told) × IsFound S.honest options.manifest_limit
+            found.journal found.version found.rest found.next was is) }
+        ensures { IfOk result (λ s. s ≡ opened_state options board.0 board.1.items found.version
+            found.journal found.next true) }
+    {
+        let (publisher, pinners) = board;
         let mut keeper = history.named();
         keeper.grow(&entries_of_version(&found.version));
         let slots = Slots::new(alloc, publisher, options.versions, found.version)?;
@@ -113,5 +193,42 @@ impl<N: Boarded, S: Shelf> State<N, S> {
             pinners,
             keeper,
         })
+    }
+
+    // The state that was opened for reading, once a new manifest has begun under its next number.
+    fn begin<R: Wait>(
+        self,
+        rt: &R,
+        alloc: Global,
+        shelf: &mut NamedShelf<N, S>,
+    ) -> Result<State<N, S>, OpenFault>
+        requires board { IsNewBoard N.board self.options self.slots.board self.pinners }
+        requires opened { self ≡ opened_state self.options self.slots.board self.pinners
+            self.slots.version self.journal self.next true }
+        requires found { (was : Told) × ((rest : ℕ) × IsFound S.honest self.options.manifest_limit
+            self.journal self.slots.version rest self.next was shelf.old) }
+        ensures begun { (was : Told) (rest : ℕ) → IsFound S.honest self.options.manifest_limit
+            self.journal self.slots.version rest self.next was shelf.old
+            → IfOk result (λ s. IsBegun S.honest self.options.manifest_limit s.journal
+            s.slots.version s.next was shelf.new) }
+        ensures opened { IfOk result (λ s. s ≡ opened_state self.options self.slots.board
+            self.pinners self.slots.version s.journal s.next false) }
+        ensures refused { (was : Told) (rest : ℕ) → IsFound S.honest self.options.manifest_limit
+            self.journal self.slots.version rest self.next was shelf.old
+            → IfErr result (λ e. IsStartRefusal (S.refuses N.place) S.honest
+            self.options.manifest_limit e was shelf.new) }
+    {
+        let mut state = self;
+        let number = state.next;
+        if number == u64::MAX {
+            return Err(OpenFault::NumbersSpent);
+        }
+        let version = state.slots.version();
+        state
+            .journal
+            .roll_over(rt, alloc, shelf, &state.registry, version, number)?;
+        state.next = number + 1;
+        state.halted = false;
+        Ok(state)
     }
 }

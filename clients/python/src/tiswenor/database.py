@@ -7,9 +7,10 @@ import weakref
 from collections import deque
 from dataclasses import dataclass
 from types import TracebackType
-from typing import Any, Deque, Iterable, List, NoReturn, Optional, Tuple, Type, Union
+from typing import Any, Deque, Iterable, List, Optional, Tuple, Type, Union
 
 from . import frames
+from .backward import Backward, behind
 from .errors import Closed
 from .server import Server, find
 
@@ -95,16 +96,17 @@ class _Reads:
         include_key: bool = True,
         include_value: bool = True,
     ) -> Iterator:
-        """The pairs of a range, in ascending order of their keys, as they are now; of a snapshot, as
-        they were then.
+        """The pairs of a range, in ascending order of their keys, or with `reverse` in descending
+        order, as they are now; of a snapshot, as they were then.
 
         The range is that from `start` to `stop`, or that of all keys with a prefix. Without values
-        the iterator gives keys alone, without keys values alone. `reverse` must be False.
+        the iterator gives keys alone, without keys values alone.
 
-        Pairs come from the server in pages of some 64 KiB.
+        Pairs come from the server in pages of some 64 KiB. It shows them in ascending order: to go
+        backward costs some more requests, which look for a page that ends where it is to end.
         """
-        bounds = _Range.of(self._prefix, reverse, start, stop, include_start, include_stop, prefix)
-        return Iterator(*self._iterated(), bounds, include_key, include_value)
+        bounds = _Range.of(self._prefix, start, stop, include_start, include_stop, prefix)
+        return Iterator(*self._iterated(), bounds, reverse, include_key, include_value)
 
     def __iter__(self) -> Iterator:
         """An iterator over all pairs."""
@@ -402,63 +404,78 @@ class _Range:
     @staticmethod
     def of(
         front: bytes,
-        reverse: bool,
         start: Optional[Bytes],
         stop: Optional[Bytes],
         include_start: bool,
         include_stop: bool,
         prefix: Optional[Bytes],
     ) -> _Range:
-        if reverse:
-            raise NotImplementedError("reverse=True: the server reads forward only")
         if prefix is not None:
             if start is not None or stop is not None:
                 raise TypeError("prefix and start or stop can't be used together")
             begin = front + _bytes(prefix)
-            return _Range(begin, _behind(begin), front)
+            return _Range(begin, behind(begin), front)
         begin = front if start is None else front + _bytes(start)
         if start is not None and not include_start:
             begin += b"\0"
         if stop is None:
-            return _Range(begin, _behind(front), front)
+            return _Range(begin, behind(front), front)
         end = front + _bytes(stop)
         return _Range(begin, end + b"\0" if include_stop else end, front)
 
 
 class Iterator:
-    """The pairs of a range, or their keys or values alone. One thread at a time may use it."""
+    """The pairs of a range, or their keys or values alone. It stands between two of them. One thread
+    at a time may use it."""
 
     def __init__(
         self,
         snapshot: Snapshot,
         owns_snapshot: bool,
         bounds: _Range,
+        reverse: bool,
         include_key: bool,
         include_value: bool,
     ) -> None:
         self._snapshot: Optional[Snapshot] = snapshot
         self._owns_snapshot = owns_snapshot
         self._bounds = bounds
+        self._reverse = reverse
         self._include_key = include_key
         self._include_value = include_value
-        self.seek_to_start()
+        if reverse:
+            self.seek_to_stop()
+        else:
+            self.seek_to_start()
 
     def seek_to_start(self) -> None:
         """Goes before the first pair of the range."""
-        self.seek(b"")
+        self._stand(self._bounds.start)
+
+    def seek_to_stop(self) -> None:
+        """Goes behind the last pair of the range."""
+        self._stand(self._bounds.stop)
 
     def seek(self, target: Bytes) -> None:
         """Goes before the first pair of the range whose key is `target` or greater."""
-        self._from = max(self._bounds.front + _bytes(target), self._bounds.start)
-        self._is_last = self._bounds.stop is not None and self._from >= self._bounds.stop
-        self._limit = _FIRST_PAGE
+        key = max(self._bounds.front + _bytes(target), self._bounds.start)
+        self._stand(key if self._bounds.stop is None else min(key, self._bounds.stop))
+
+    def _stand(self, key: Optional[bytes]) -> None:
+        """Goes before the first pair from a key on; behind all where there is no key."""
+        # What is shown of the range is all from the one key on that is below the other one.
+        self._low = self._high = key
         self._shown: List[Any] = []
         self._at = 0
+        self._limit = _FIRST_PAGE
+        self._backward: Optional[Backward] = None
 
     def __iter__(self) -> Iterator:
         return self
 
     def __next__(self) -> Any:
+        if self._reverse:
+            return self._step_back()
         at = self._at
         if at == len(self._shown):
             self._turn()
@@ -466,23 +483,70 @@ class Iterator:
         self._at = at + 1
         return self._shown[at]
 
-    def _turn(self) -> None:
-        """Reads the next page. It has a pair, or the iterator is at its end."""
+    def prev(self) -> Any:
+        """The pair on the other side: the one that `next` gave last, if it was the last call. Goes
+        before it."""
+        return self._step() if self._reverse else self._step_back()
+
+    def _step(self) -> Any:
+        """Goes behind the next pair."""
+        if self._at == len(self._shown):
+            self._turn()
+        self._at += 1
+        return self._shown[self._at - 1]
+
+    def _step_back(self) -> Any:
+        """Goes before the pair before."""
+        if self._at == 0:
+            self._turn_back()
+        self._at -= 1
+        return self._shown[self._at]
+
+    def _ask(
+        self, low: bytes, high: Optional[bytes], limit: int
+    ) -> Tuple[bool, List[Tuple[bytes, bytes]]]:
+        """The first pairs from a key on that are below another, and whether these are all."""
         snapshot = self._snapshot
         if snapshot is None:
             raise Closed("the iterator is closed")
-        if self._is_last:
+        return frames.page(snapshot._ask(frames.scan(snapshot._when(), low, high, limit)))
+
+    def _turn(self) -> None:
+        """Reads the page behind. It has a pair, or none is left."""
+        low, stop = self._high, self._bounds.stop
+        if self._snapshot is None:
+            raise Closed("the iterator is closed")
+        if low is None or (stop is not None and low >= stop):
             raise StopIteration
-        request = frames.scan(snapshot._when(), self._from, self._bounds.stop, self._limit)
-        is_last, pairs = frames.page(snapshot._ask(request))
+        is_last, pairs = self._ask(low, stop, self._limit)
+        if not pairs:
+            self._high = stop
+            raise StopIteration
         self._limit = 0
-        if pairs:
-            self._from = pairs[-1][0] + b"\0"
-        self._is_last = is_last
+        self._low = low
+        self._high = stop if is_last else pairs[-1][0] + b"\0"
         self._shown = self._show(pairs)
         self._at = 0
-        if not pairs:
+        self._backward = None
+
+    def _turn_back(self) -> None:
+        """Reads a page before. It has a pair, or none is left."""
+        high, start = self._low, self._bounds.start
+        if self._snapshot is None:
+            raise Closed("the iterator is closed")
+        if high is not None and high <= start:
             raise StopIteration
+        if self._backward is None:
+            self._backward = Backward(self._ask, start, high, self._limit)
+        page = self._backward.page()
+        if page is None:
+            self._low = start
+            raise StopIteration
+        self._limit = 0
+        self._high = high
+        self._low, pairs = page
+        self._shown = self._show(pairs)
+        self._at = len(pairs)
 
     def _show(self, pairs: List[Tuple[bytes, bytes]]) -> List[Any]:
         """What is given for these pairs."""
@@ -494,14 +558,6 @@ class Iterator:
         if self._include_key:
             return [key for key, _ in pairs]
         return [value if self._include_value else None for _, value in pairs]
-
-    def prev(self) -> NoReturn:
-        """Raises NotImplementedError."""
-        raise NotImplementedError("prev: the server reads forward only")
-
-    def seek_to_stop(self) -> NoReturn:
-        """Raises NotImplementedError."""
-        raise NotImplementedError("seek_to_stop: the server reads forward only")
 
     def close(self) -> None:
         """Ends the iterator. A second call does nothing."""
@@ -525,12 +581,6 @@ class Iterator:
 
 def _bytes(content: Bytes) -> bytes:
     return content if isinstance(content, bytes) else memoryview(content).tobytes()
-
-
-def _behind(prefix: bytes) -> Optional[bytes]:
-    """The least key above all that begin with the prefix, if there is one."""
-    front = prefix.rstrip(b"\xff")
-    return front[:-1] + bytes([front[-1] + 1]) if front else None
 
 
 def _make_folder(path: PathLike) -> None:

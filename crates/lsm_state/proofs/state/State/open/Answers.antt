@@ -1,89 +1,38 @@
-use Rattle.std.proofs.Common.{◌≡◌, ℕ, ◌+◌, ◌-◌, ◌^◌, ◌<◌, false, ap, ◌∙◌, refl, sym, subst, inr, arith}
-use Rattle.std.proofs.lemmas.Result.{err_from_is_err_and}
-use Rattle.lsm_codec.specs.Lists.{Has}
-use Rattle.lsm_version.specs.Versions.{Levels, numbers_in}
-use Rattle.lsm_journal.specs.Finding.{IsFound}
-use Rattle.lsm_journal.specs.HeldManifest.{HeldManifest}
-use Rattle.lsm_journal.specs.Recorded.{IsRecorded}
-use Rattle.lsm_journal.specs.Sending.{RollsOver}
-use Rattle.lsm_state.specs.Held.{Held, IsLawfulState}
-use Rattle.lsm_state.specs.Opening.{opened_state}
-use Rattle.lsm_journal.proofs.CallerLemmas.{found_below, found_recorded}
-use Rattle.lsm_state.proofs.OpenLaws.{lawful_opened}
+use Rattle.lsm_state.proofs.OpenLaws.{begun_opened, board_opened, found_opened, parts_opened, read_opened, refused_opened, state_opened}
 use Rattle.lsm_state.proofs.state.State.open.Goals as goal
 
-pub roll_over-requires-clause-recorded : goal.roll_over-requires-clause-recorded
-roll_over-requires-clause-recorded g c κs within =
-    let s : Held = c.in_ok-state.state in
-    let f = c.in_ok-state.ensures.found in
-    let r : IsRecorded f.0 s.journal s.slots.version s.next = found_recorded _ _ s.journal s.slots.version f.0 s.next _ _ f.1 in
-    let own : IsRecorded f.0 c.state.inside.journal c.state.inside.slots.version c.state.inside.next = subst (λ (x : Held). IsRecorded f.0 x.journal x.slots.version x.next) (sym c.state.view_is) r in
-    (f.0, subst (λ (v : Levels). IsRecorded f.0 c.state.inside.journal v c.state.inside.next) (sym c.version-version.ensures.version) own)
+pub begin-requires-clause-board : goal.begin-requires-clause-board
+begin-requires-clause-board g c κs within =
+    board_opened g.N.Boarded.board c.args.options c.args.board.0 c.args.board.1.items c.in_ok-state.state c.in_ok-state.ensures.opened c.requires.board
 
-pub invariant_of-state : goal.invariant_of-state
-invariant_of-state g c =
-    let o = c.args.options in
-    let s : Held = c.in_ok-state.state in
-    let v : Levels = s.slots.version in
-    let f = c.in_ok-state.ensures.found in
-    let j : HeldManifest = c.roll_over.new.self in
-    let n : ℕ = c.state.inside.next + 1 in
-    let next : c.state.inside.next ≡ s.next = ap (λ (x : Held). x.next) c.state.view_is in
-    let at : c.version-version.result.now ≡ v = c.version-version.ensures.version ∙ ap (λ (x : Held). x.slots.version) c.state.view_is in
-    let recorded : IsRecorded 0 j v n = subst (λ (w : Levels). IsRecorded 0 j w n) at c.in_ok-roll_over.ensures.recorded in
-    let below : (m : ℕ) → Has (numbers_in v) m → m < n = λ m k. (let lt = found_below _ _ s.journal v f.0 s.next _ _ f.1 m k in omega arith) in (
-      subst (λ (x : Held). IsLawfulState g.S.Shelf.honest g.N.Boarded.board (record x { journal = j; next = n; halted = false })) (sym (c.state.view_is ∙ c.in_ok-state.ensures.opened))
-          (lawful_opened g.S.Shelf.honest g.N.Boarded.board o c.args.board.0 c.args.board.1.items v j n _ 0 c.requires.fits c.requires.board f.1.loaded.sound recorded (λ e. refl) below),
-      c.state.invariant.1,
-    )
+pub begin-requires-clause-opened : goal.begin-requires-clause-opened
+begin-requires-clause-opened g c κs within =
+    parts_opened c.args.options c.args.board.0 c.args.board.1.items c.in_ok-state.state c.in_ok-state.ensures.opened
 
-pub returns-then-number-clause-refused : goal.returns-then-number-clause-refused
-returns-then-number-clause-refused g c =
-    let s : Held = c.in_ok-state.state in
+pub begin-requires-clause-found : goal.begin-requires-clause-found
+begin-requires-clause-found g c κs within =
     let f = c.in_ok-state.ensures.found in
-    let next : s.next ≡ 2 ^ 64 - 1 = ap (λ (x : Held). x.next) (sym c.state.view_is) ∙ c.if-number.true in
-    inr record {
-      held = s.journal;
-      version = s.slots.version;
-      rest = f.0;
-      found = subst (λ (n : ℕ). IsFound g.S.Shelf.honest c.args.options.manifest_limit s.journal s.slots.version f.0 n c.args.shelf.now c.open_to_read.new.shelf) next f.1;
-    }
-
-pub returns-in_err-roll_over-clause-refused : goal.returns-in_err-roll_over-clause-refused
-returns-in_err-roll_over-clause-refused g c =
-    let p = err_from_is_err_and c.from_residual-in_err-roll_over.result c.from_residual-in_err-roll_over.ensures.1 in
-    let f = c.in_ok-state.ensures.found in
-    let h : HeldManifest = c.state.inside.journal in
-    let n : ℕ = c.state.inside.next in
-    let found = subst (λ (x : Held). IsFound g.S.Shelf.honest c.args.options.manifest_limit x.journal x.slots.version f.0 x.next c.args.shelf.now c.open_to_read.new.shelf) (sym c.state.view_is) f.1 in
-    rw (p.1, p.2) (inr record {
-      held = h;
-      version = c.version-version.result.now;
-      rest = f.0;
-      number = n;
-      read = c.open_to_read.new.shelf;
-      found = subst (λ (v : Levels). IsFound g.S.Shelf.honest c.args.options.manifest_limit h v f.0 n c.args.shelf.now c.open_to_read.new.shelf) (sym c.version-version.ensures.version) found;
-      cause = c.in_err-roll_over.ensures.cause;
-      asked = c.in_err-roll_over.ensures.asked;
-      told = c.in_err-roll_over.ensures.unsent;
-    })
+    (c.args.shelf.now, (f.0, found_opened g.S.Shelf.honest c.args.options c.args.board.0 c.args.board.1.items c.in_ok-state.state f.0 _ _ c.in_ok-state.ensures.opened f.1))
 
 pub returns-clause-begun : goal.returns-clause-begun
 returns-clause-begun g c =
     let f = c.in_ok-state.ensures.found in
-    let h : HeldManifest = c.state.inside.journal in
-    let n : ℕ = c.state.inside.next in
-    let read = c.open_to_read.new.shelf in
-    let is = c.roll_over.new.shelf in
-    let found = subst (λ (x : Held). IsFound g.S.Shelf.honest c.args.options.manifest_limit x.journal x.slots.version f.0 x.next c.args.shelf.now read) (sym c.state.view_is) f.1 in
-    let rolls = subst (λ (v : Levels). RollsOver v n h c.roll_over.new.self read is) c.version-version.ensures.version c.in_ok-roll_over.ensures.rolls in
-    record { before = h; rest = f.0; number = n; read = read; found = found; rolls = rolls; after = refl; fits = omega (arith, found.fits) }
+    let found = found_opened g.S.Shelf.honest c.args.options c.args.board.0 c.args.board.1.items c.in_ok-state.state f.0 _ _ c.in_ok-state.ensures.opened f.1 in
+    begun_opened c.begin.result g.S.Shelf.honest c.args.options c.args.board.0 c.args.board.1.items c.in_ok-state.state _ _ c.in_ok-state.ensures.opened (c.begin.ensures.begun _ f.0 found)
 
 pub returns-clause-opened : goal.returns-clause-opened
 returns-clause-opened g c =
-    let o = c.args.options in
-    let s : Held = c.in_ok-state.state in
-    let j : HeldManifest = c.roll_over.new.self in
-    let n : ℕ = c.state.inside.next + 1 in
-    ap (λ (x : Held). let t : Held = record x { journal = j; next = n; halted = false } in t) (c.state.view_is ∙ c.in_ok-state.ensures.opened)
-    ∙ ap (λ (v : Levels). opened_state o c.args.board.0 c.args.board.1.items v j n false) (sym (ap (λ (x : Held). x.slots.version) c.state.view_is))
+    state_opened c.begin.result c.args.options c.args.board.0 c.args.board.1.items c.in_ok-state.state c.in_ok-state.ensures.opened c.begin.ensures.opened
+
+pub returns-clause-refused : goal.returns-clause-refused
+returns-clause-refused g c =
+    let f = c.in_ok-state.ensures.found in
+    let found = found_opened g.S.Shelf.honest c.args.options c.args.board.0 c.args.board.1.items c.in_ok-state.state f.0 _ _ c.in_ok-state.ensures.opened f.1 in
+    refused_opened c.begin.result _ (g.S.Shelf.refuses g.N.Naming.place) g.S.Shelf.honest c.args.options c.args.board.0 c.args.board.1.items c.in_ok-state.state _ _ c.in_ok-state.ensures.opened
+    (c.begin.ensures.refused _ f.0 found)
+
+pub returns-clause-counts_err : goal.returns-clause-counts_err
+returns-clause-counts_err g c =
+    let f = c.in_ok-state.ensures.found in
+    let found = found_opened g.S.Shelf.honest c.args.options c.args.board.0 c.args.board.1.items c.in_ok-state.state f.0 _ _ c.in_ok-state.ensures.opened f.1 in
+    read_opened c.begin.result (g.S.Shelf.refuses g.N.Naming.place) g.S.Shelf.honest c.in_ok-state.state.options.manifest_limit _ _ _ _ (c.begin.ensures.refused _ f.0 found)

@@ -1,42 +1,20 @@
-use Rattle.std.proofs.Common.{◌≡◌, List, [], ◌++◌, ap, ◌∙◌, sym, subst}
-use Rattle.std.proofs.lemmas.List.{append-nil}
+use Rattle.std.proofs.Common.{sym, subst}
 use Rattle.std.proofs.lemmas.Result.{err_from_is_err_and}
-use Rattle.lsm_codec.specs.Entries.{Entry}
-use Rattle.lsm_levels.specs.Files.{all_entries}
-use Rattle.lsm_version.specs.Versions.{Levels, files}
-use Rattle.lsm_slots.specs.Slots.{Slotted}
 use Rattle.lsm_journal.specs.Finding.{IsFound}
-use Rattle.lsm_journal.proofs.CallerLemmas.{found_below, found_recorded, found_without_room}
-use Rattle.lsm_history.specs.History.{Chronicle}
-use Rattle.lsm_state.proofs.EditionLaws.{made_editions}
-use Rattle.lsm_state.proofs.OpenLaws.{lawful_opened, opened_made}
+use Rattle.lsm_journal.proofs.CallerLemmas.{found_without_room}
+use Rattle.lsm_state.specs.Held.{Held}
 use Rattle.lsm_state.proofs.state.State.open_to_read.Goals as goal
 
-pub invariant_of-result : goal.invariant_of-result
-invariant_of-result g c =
-    let o = c.args.options in
-    let f = c.in_ok-found.found in
-    let is = c.in_ok-found.ensures.found in
-    let r = found_recorded _ _ f.journal f.version f.rest f.next _ _ is in
-    let es = all_entries (files f.version) in
-    let grown : c.grow.new.self.entries ≡ es = ap (λ (k : Chronicle). k.entries) c.grow.ensures
-    ∙ (ap (λ (x : List Entry). x ++ c.named-keeper.result.entries) c.entries_of_version.ensures ∙ (ap (λ (k : Chronicle). es ++ k.entries) c.named-keeper.ensures ∙ append-nil es)) in
-    let came : c.publish.new.self.entries ≡ es = ap (λ (k : Chronicle). k.entries) c.publish.ensures ∙ grown in
-    let none : c.grow.new.self.editions ≡ [] = ap (λ (k : Chronicle). k.editions) c.grow.ensures ∙ ap (λ (k : Chronicle). k.editions) c.named-keeper.ensures in (
-      opened_made g.S.Shelf.honest g.N.Boarded.board o c.args.board.0 c.args.board.1.items f.version f.journal f.next _ c.in_ok-slots.slots c.new-2.result c.new-3.result c.publish.new.self.entries c.in_ok-slots.ensures c.new-2.ensures c.new-3.ensures came
-          (lawful_opened g.S.Shelf.honest g.N.Boarded.board o c.args.board.0 c.args.board.1.items f.version f.journal f.next _ f.rest c.requires.fits c.requires.board is.loaded.sound r (λ e. absurd (cc)) (found_below _ _ f.journal f.version f.rest f.next _ _ is)),
-      made_editions c.in_ok-slots.slots c.args.board.0 o.versions f.version c.version.result.now c.id.result c.edition_of.result.editions c.grow.new.self.editions c.publish.new.self.editions c.in_ok-slots.ensures c.id.ensures c.version.ensures.version
-          c.edition_of.ensures none (ap (λ (k : Chronicle). k.editions) c.publish.ensures),
-    )
+pub of_found-requires-clause-found : goal.of_found-requires-clause-found
+of_found-requires-clause-found g c κs within = (c.args.shelf.now, (c.read.new.shelf, c.in_ok-found.ensures.found))
 
-pub returns-in_err-slots-clause-refused : goal.returns-in_err-slots-clause-refused
-returns-in_err-slots-clause-refused g c =
-    let p = err_from_is_err_and c.from_residual-in_err-slots.result c.from_residual-in_err-slots.ensures.1 in
+pub returns-in_err-state-clause-refused : goal.returns-in_err-state-clause-refused
+returns-in_err-state-clause-refused g c =
+    let p = err_from_is_err_and c.from_residual-in_err-state.result c.from_residual-in_err-state.ensures.1 in
     let f = c.in_ok-found.found in
     rw (p.1, p.2) (found_without_room _ _ f.journal f.version f.rest f.next _ _ c.in_ok-found.ensures.found)
 
 pub returns-clause-found : goal.returns-clause-found
 returns-clause-found g c =
     let f = c.in_ok-found.found in
-    let sv : c.in_ok-slots.slots.version ≡ f.version = ap (λ (s : Slotted). s.version) c.in_ok-slots.ensures in
-    (f.rest, subst (λ (v : Levels). IsFound g.S.Shelf.honest c.args.options.manifest_limit f.journal v f.rest f.next c.args.shelf.now c.read.new.shelf) (sym sv) c.in_ok-found.ensures.found)
+    (f.rest, subst (λ (x : Held). IsFound g.S.Shelf.honest c.args.options.manifest_limit x.journal x.slots.version f.rest x.next c.args.shelf.now c.read.new.shelf) (sym c.in_ok-state.ensures) c.in_ok-found.ensures.found)

@@ -1,0 +1,88 @@
+use Rattle.std.proofs.Common.{◌≡◌, ℕ, ◌+◌, ◌-◌, ◌^◌, ◌<◌, false, ap, ◌∙◌, refl, sym, subst, arith}
+use Rattle.std.proofs.lemmas.Result.{err_from_is_err_and}
+use Rattle.lsm_codec.specs.Lists.{Has}
+use Rattle.lsm_version.specs.Versions.{Levels, numbers_in}
+use Rattle.lsm_journal.specs.Finding.{IsFound}
+use Rattle.lsm_journal.specs.HeldManifest.{HeldManifest}
+use Rattle.lsm_journal.specs.Recorded.{IsRecorded}
+use Rattle.lsm_journal.specs.Sending.{RollsOver}
+use Rattle.lsm_state.specs.Held.{Held, IsLawfulState}
+use Rattle.lsm_state.specs.Options.{Fits}
+use Rattle.lsm_journal.proofs.CallerLemmas.{found_below, found_recorded}
+use Rattle.lsm_state.proofs.OpenLaws.{lawful_opened}
+use Rattle.lsm_state.proofs.state.State.begin.Goals as goal
+
+pub roll_over-requires-clause-recorded : goal.roll_over-requires-clause-recorded
+roll_over-requires-clause-recorded g c κs within =
+    let s : Held = c.args.self in
+    let f = c.requires.found.1 in
+    let r : IsRecorded f.0 s.journal s.slots.version s.next = found_recorded _ _ s.journal s.slots.version f.0 s.next _ _ f.1 in
+    let own : IsRecorded f.0 c.state.inside.journal c.state.inside.slots.version c.state.inside.next = subst (λ (x : Held). IsRecorded f.0 x.journal x.slots.version x.next) (sym c.state.view_is) r in
+    (f.0, subst (λ (v : Levels). IsRecorded f.0 c.state.inside.journal v c.state.inside.next) (sym c.version-version.ensures.version) own)
+
+pub invariant_of-state : goal.invariant_of-state
+invariant_of-state g c =
+    let s : Held = c.args.self in
+    let o = s.options in
+    let v : Levels = s.slots.version in
+    let f = c.requires.found.1 in
+    let j : HeldManifest = c.roll_over.new.self in
+    let n : ℕ = c.state.inside.next + 1 in
+    let next : c.state.inside.next ≡ s.next = ap (λ (x : Held). x.next) c.state.view_is in
+    let at : c.version-version.result.now ≡ v = c.version-version.ensures.version ∙ ap (λ (x : Held). x.slots.version) c.state.view_is in
+    let recorded : IsRecorded 0 j v n = subst (λ (w : Levels). IsRecorded 0 j w n) at c.in_ok-roll_over.ensures.recorded in
+    let below : (m : ℕ) → Has (numbers_in v) m → m < n = λ m k. (let lt = found_below _ _ s.journal v f.0 s.next _ _ f.1 m k in omega arith) in (
+      subst (λ (x : Held). IsLawfulState g.S.Shelf.honest g.N.Boarded.board (record x { journal = j; next = n; halted = false })) (sym (c.state.view_is ∙ c.requires.opened))
+          (lawful_opened g.S.Shelf.honest g.N.Boarded.board o s.slots.board s.pinners v j n _ 0 (subst (λ (x : Held). Fits x.options) c.state.view_is c.state.invariant.0.fits) c.requires.board f.1.loaded.sound recorded (λ e. refl) below),
+      c.state.invariant.1,
+    )
+
+pub returns-then-number-clause-refused : goal.returns-then-number-clause-refused
+returns-then-number-clause-refused g c was rest found =
+    let s : Held = c.args.self in
+    let next : s.next ≡ 2 ^ 64 - 1 = ap (λ (x : Held). x.next) (sym c.state.view_is) ∙ c.if-number.true in
+    record {
+      held = s.journal;
+      version = s.slots.version;
+      rest = rest;
+      found = subst (λ (n : ℕ). IsFound g.S.Shelf.honest s.options.manifest_limit s.journal s.slots.version rest n was c.args.shelf.now) next found;
+    }
+
+pub returns-in_err-roll_over-clause-refused : goal.returns-in_err-roll_over-clause-refused
+returns-in_err-roll_over-clause-refused g c was rest found =
+    let p = err_from_is_err_and c.from_residual.result c.from_residual.ensures.1 in
+    let s : Held = c.args.self in
+    let limit = s.options.manifest_limit in
+    let h : HeldManifest = c.state.inside.journal in
+    let n : ℕ = c.state.inside.next in
+    let read = c.args.shelf.now in
+    let own = subst (λ (x : Held). IsFound g.S.Shelf.honest limit x.journal x.slots.version rest x.next was read) (sym c.state.view_is) found in
+    rw (p.1, p.2) (record {
+      held = h;
+      version = c.version-version.result.now;
+      rest = rest;
+      number = n;
+      read = read;
+      found = subst (λ (v : Levels). IsFound g.S.Shelf.honest limit h v rest n was read) (sym c.version-version.ensures.version) own;
+      cause = c.in_err-roll_over.ensures.cause;
+      asked = c.in_err-roll_over.ensures.asked;
+      told = c.in_err-roll_over.ensures.unsent;
+    })
+
+pub returns-clause-begun : goal.returns-clause-begun
+returns-clause-begun g c was rest found =
+    let s : Held = c.args.self in
+    let limit = s.options.manifest_limit in
+    let h : HeldManifest = c.state.inside.journal in
+    let n : ℕ = c.state.inside.next in
+    let read = c.args.shelf.now in
+    let is = c.roll_over.new.shelf in
+    let own = subst (λ (x : Held). IsFound g.S.Shelf.honest limit x.journal x.slots.version rest x.next was read) (sym c.state.view_is) found in
+    let rolls = subst (λ (v : Levels). RollsOver v n h c.roll_over.new.self read is) c.version-version.ensures.version c.in_ok-roll_over.ensures.rolls in
+    record { before = h; rest = rest; number = n; read = read; found = own; rolls = rolls; after = refl; fits = omega (arith, own.fits) }
+
+pub returns-clause-opened : goal.returns-clause-opened
+returns-clause-opened g c =
+    let j : HeldManifest = c.roll_over.new.self in
+    let n : ℕ = c.state.inside.next + 1 in
+    ap (λ (x : Held). let t : Held = record x { journal = j; next = n; halted = false } in t) (c.state.view_is ∙ c.requires.opened)

@@ -1,0 +1,20 @@
+use Rattle.std.proofs.Common.{sym, subst}
+use Rattle.std.proofs.lemmas.Result.{err_from_is_err_and}
+use Rattle.lsm_journal.specs.Finding.{IsFound}
+use Rattle.lsm_journal.proofs.CallerLemmas.{found_without_room}
+use Rattle.lsm_state.specs.Held.{Held}
+use Rattle.lsm_state.proofs.state.State.open_to_read_by.Goals as goal
+
+pub of_found-requires-clause-found : goal.of_found-requires-clause-found
+of_found-requires-clause-found g c κs within = (c.args.shelf.now, (c.read_by.new.shelf, c.in_ok-found.ensures.found))
+
+pub returns-in_err-state-clause-refused : goal.returns-in_err-state-clause-refused
+returns-in_err-state-clause-refused g c =
+    let p = err_from_is_err_and c.from_residual-in_err-state.result c.from_residual-in_err-state.ensures.1 in
+    let f = c.in_ok-found.found in
+    rw (p.1, p.2) (found_without_room _ _ f.journal f.version f.rest f.next _ _ c.in_ok-found.ensures.found)
+
+pub returns-clause-found : goal.returns-clause-found
+returns-clause-found g c =
+    let f = c.in_ok-found.found in
+    (f.rest, subst (λ (x : Held). IsFound g.S.Shelf.honest c.args.options.manifest_limit x.journal x.slots.version f.rest x.next c.args.shelf.now c.read_by.new.shelf) (sym c.in_ok-state.ensures) c.in_ok-found.ensures.found)
