@@ -31,7 +31,7 @@ Prints form (Get key output) v rest log prev others old new =
 Prints form (Scan options) v rest log prev others old new = PrintsScan form options v old new
 
 -- What the text of a command relies on. A `get` and a `scan` read tables again, and rely on an honest shelf. What `check` and `list` print
--- is of what was read as the version was judged, whatever the shelf is.
+-- is of a version of the manifest's files, whatever the shelf is; that its images are those that were read is not said.
 abbrev pub ReliesOn : Type 0 → DirectoryCommand → Type 0
 ReliesOn Honest (Check workers) = ⊤
 ReliesOn Honest ListFiles = ⊤

@@ -8,7 +8,7 @@ use lsm_codec::Bytes;
 #[derive(Debug, Drop)]
 pub enum DirectoryCommand {
     /// All that a read can reach is verified, by so many threads, 1 to 16: as many as the machine
-    /// has processors where it is not said.
+    /// has processors, 16 at most, where it is not said.
     Check(Option<usize>),
     /// The files.
     List,
