@@ -1,5 +1,5 @@
 -- What workers leave of a state.
-use Rattle.std.proofs.Common.{◌≡◌, ℕ, zero, suc, ◌==◌, if◌then◌else◌, Bool, true, false, Option, Some, None, List, [], ◌∷◌, refl, sym, ap, ◌∙◌, inl, inr, arith, subst}
+use Rattle.std.proofs.Common.{◌≡◌, ℕ, suc, ◌+◌, ◌==◌, if◌then◌else◌, Bool, true, false, Option, Some, None, List, [], ◌∷◌, refl, sym, ap, ◌∙◌, inl, inr, arith, subst}
 use Rattle.std.specs.Prelude.{slice_get, sum_by}
 use Rattle.std.specs.Option.{option_map}
 use Rattle.std.proofs.Math.Logic.{∥∥₁_map}
@@ -15,7 +15,7 @@ use Rattle.lsm_version.specs.Changes.{changed}
 use Rattle.lsm_journal.specs.Difference.{Difference, changed_by}
 use Rattle.lsm_levels.specs.Files.{all_entries}
 use Rattle.lsm_codec.specs.Entries.{answer}
-use Rattle.lsm_slots.specs.Slots.{Epoch, Slotted, Freed, Looked, Published, current_id}
+use Rattle.lsm_slots.specs.Slots.{Epoch, Slotted, Looked, Published, current_id}
 use Rattle.lsm_shelf.specs.Told.{Told}
 use Rattle.lsm_live.specs.Booked.{booked, without}
 use Rattle.lsm_merge.specs.Work.{Done, Work}
@@ -24,7 +24,7 @@ use Rattle.lsm_state.specs.Installing.{Installed, IsInstallRefusal, IsInstalling
 use Rattle.lsm_state.specs.Reserving.{reserved}
 use Rattle.lsm_state.specs.declared.state_fault.StateFault.{StateFault}
 use Rattle.lsm_state.specs.declared.state_fault.StateFault.TheVariants.{OutOfMemory, Shelf, Read, BadLevel, EmptyBatch, KeyOrder, TooLarge, LevelZeroFull, SequencesSpent, Halted, UnknownSnapshot, Conflict, UnknownTicket, NumbersSpent, Stale, SlotsHeld, VersionsSpent, PinsSpent}
-use Rattle.lsm_store.specs.Compacting.{IsAsFound, IsCompactingStep, IsKeptByCompaction, IsOfWorkers, pins_in, pins_of}
+use Rattle.lsm_store.specs.Compacting.{IsAsFound, IsCompactingStep, IsKeptByCompaction, IsOfWorkers, installs_in, pins_in, pins_of}
 
 -- ---- pins
 
@@ -95,10 +95,14 @@ one_event e w v h = elim h [ inl s ↦ subst IsOfWorkers s w | inr t ↦ absurd 
 abbrev Beside : Held → Held → Type 0
 Beside was mid = (mid.slots ≡ was.slots) × (mid.history ≡ was.history) × (mid.snapshots ≡ was.snapshots) × (mid.options ≡ was.options) × (mid.pinners ≡ was.pinners)
 
+-- where the slots stay, and nothing was installed, the current id stays
+same_id : (was is : Held) (events : List Event) → is.slots ≡ was.slots → installs_in events ≡ 0 → current_id is.slots ≡ current_id was.slots + installs_in events
+same_id was is events slots none = let same : current_id is.slots ≡ current_id was.slots = ap current_id slots in omega (arith, same, none)
+
 step_beside : (Honest : Type 0) (was is mid : Held) (events : List Event) → is ≡ mid → Beside was mid → ((e : Event) → Has events e → IsOfWorkers e)
-    → Run Honest (plain was) events (plain is) → IsCompactingStep Honest was is
-step_beside Honest was is mid events e b only run = record {
-  run = record { events = events; only = only; run = run };
+    → Run Honest (plain was) events (plain is) → installs_in events ≡ 0 → IsCompactingStep Honest was is
+step_beside Honest was is mid events e b only run none = record {
+  run = record { events = events; only = only; run = run; ids = same_id was is events (ap (λ (h : Held). h.slots) e ∙ b.0) none };
   options = ap (λ (h : Held). h.options) e ∙ b.3;
   pinners = ap (λ (h : Held). h.pinners) e ∙ b.4;
   found = found_by_parts Honest was is (ap (λ (h : Held). h.slots.version) e ∙ ap (λ (s : Slotted). s.version) b.0) (ap (λ (h : Held). h.slots.epochs) e ∙ ap (λ (s : Slotted). s.epochs) b.0)
@@ -106,19 +110,19 @@ step_beside Honest was is mid events e b only run = record {
 }
 
 pub step_none : (Honest : Type 0) (was is : Held) → is ≡ was → IsCompactingStep Honest was is
-step_none Honest was is e = step_beside Honest was is was [] e (refl, refl, refl, refl, refl) (λ v h. absurd h) (ap plain e)
+step_none Honest was is e = step_beside Honest was is was [] e (refl, refl, refl, refl, refl) (λ v h. absurd h) (ap plain e) refl
 
 pub step_reserved : (Honest : Type 0) (was is : Held) (w : Work) (plan : Plan) (job : Job) → is ≡ reserved w was → Reserves Honest (plain was) plan job (plain is)
     → IsCompactingStep Honest was is
-step_reserved Honest was is w plan job e event = step_beside Honest was is (reserved w was) (Reserve plan job ∷ []) e (refl, refl, refl, refl, refl) (one_event _ tt) (plain is, event, refl)
+step_reserved Honest was is w plan job e event = step_beside Honest was is (reserved w was) (Reserve plan job ∷ []) e (refl, refl, refl, refl, refl) (one_event _ tt) (plain is, event, refl) refl
 
 pub step_cancelled : (Honest : Type 0) (was is : Held) (ticket : ℕ) → is ≡ record was { live = without ticket was.live } → Cancels (plain was) ticket (plain is) → IsCompactingStep Honest was is
 step_cancelled Honest was is ticket e event =
-    step_beside Honest was is (record was { live = without ticket was.live }) (Cancel ticket ∷ []) e (refl, refl, refl, refl, refl) (one_event _ tt) (plain is, event, refl)
+    step_beside Honest was is (record was { live = without ticket was.live }) (Cancel ticket ∷ []) e (refl, refl, refl, refl, refl) (one_event _ tt) (plain is, event, refl) refl
 
 pub step_drawn : (Honest : Type 0) (was is : Held) (ticket : ℕ) → is ≡ record was { live = booked ticket was.next was.live; next = suc was.next } → Draws (plain was) ticket (plain is) → IsCompactingStep Honest was is
 step_drawn Honest was is ticket e event =
-    step_beside Honest was is (record was { live = booked ticket was.next was.live; next = suc was.next }) (Draw ticket ∷ []) e (refl, refl, refl, refl, refl) (one_event _ tt) (plain is, event, refl)
+    step_beside Honest was is (record was { live = booked ticket was.next was.live; next = suc was.next }) (Draw ticket ∷ []) e (refl, refl, refl, refl, refl) (one_event _ tt) (plain is, event, refl) refl
 
 -- ---- installs
 
@@ -133,7 +137,12 @@ pub step_installed : (Honest : Type 0) (was is : Held) (d : Done) (t u : Told) �
 step_installed Honest was is d t u i answers event =
     let rest = i.changes.rest in
     record {
-      run = record { events = Install d.work.ticket ∷ Spend ∷ []; only = two_events _ _ tt tt; run = event };
+      run = record {
+        events = Install d.work.ticket ∷ Spend ∷ [];
+        only = two_events _ _ tt tt;
+        run = event;
+        ids = (let sought = i.sought.looked.id in let next = i.changes.published.id in omega (arith, sought, next));
+      };
       options = ap (λ (h : Held). h.options) rest;
       pinners = ap (λ (h : Held). h.pinners) rest;
       found = record {
@@ -174,7 +183,7 @@ step_refused Honest was is d e t u refused event = elim refused [
       let same = later was is e t u r.2 in
       let looked = r.1.looked in
       record {
-        run = record { events = Spend ∷ []; only = one_event _ tt; run = (plain is, event, refl) };
+        run = record { events = Spend ∷ []; only = one_event _ tt; run = (plain is, event, refl); ids = (let same = looked.id in omega (arith, same)) };
         options = same.2;
         pinners = same.3;
         found = record {

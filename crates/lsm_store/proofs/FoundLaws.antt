@@ -1,15 +1,15 @@
 -- What was found of a state, and stays; and what workers leave.
-use Rattle.std.proofs.Common.{◌≡◌, ℕ, ◌⊎◌, List, [], ◌∷◌, ◌++◌, sym, ap, ◌∙◌, inl, inr, subst, refl}
+use Rattle.std.proofs.Common.{◌≡◌, ℕ, ◌+◌, ◌⊎◌, List, [], ◌∷◌, ◌++◌, sym, ap, ◌∙◌, inl, inr, subst, arith}
 use Rattle.std.proofs.Math.Logic.{∥∥₁_elim, ∥∥₁_map, ∥∥₁_prop}
 use Rattle.std.proofs.Props.{props}
 use Rattle.lsm_codec.specs.Lists.{Has}
 use Rattle.lsm_levels.specs.Plain.{IsReadable, Plain}
-use Rattle.lsm_levels.specs.Runs.{Event, Run}
-use Rattle.lsm_slots.specs.Slots.{Looked}
+use Rattle.lsm_levels.specs.Runs.{Event, Run, Ingest, Snapshot, Release, Reserve, Cancel, Draw, Install, Spend, Nothing}
+use Rattle.lsm_slots.specs.Slots.{Looked, current_id}
 use Rattle.lsm_slots.specs.Snapshots.{Taken}
 use Rattle.lsm_state.specs.Held.{Held, plain}
 use Rattle.lsm_version.specs.Versions.{Levels}
-use Rattle.lsm_store.specs.Compacting.{IsAsFound, IsCompactingStep, IsKeptByCompaction, IsLeftByWorkers, IsSeated, IsWorkersRun}
+use Rattle.lsm_store.specs.Compacting.{IsAsFound, IsKeptByCompaction, IsLeftByWorkers, IsSeated, IsWorkersRun, installs_in}
 use Rattle.lsm_store.proofs.CompactingLaws.{found_by_parts, found_looked}
 
 -- where the last sequence and the snapshots stay, so do the reads that are promised
@@ -41,16 +41,30 @@ among (x ∷ es) fs e h = elim h [
   | inr t ↦ elim (among es fs e t) [ inl l ↦ inl (inr l) | inr r ↦ inr r ]
 ]
 
+-- installs of both runs
+installs_then : (es fs : List Event) → installs_in (es ++ fs) ≡ installs_in es + installs_in fs
+installs_then [] fs = omega arith
+installs_then (Ingest entries ∷ es) fs = installs_then es fs
+installs_then (Snapshot ∷ es) fs = installs_then es fs
+installs_then (Release id ∷ es) fs = installs_then es fs
+installs_then (Reserve plan job ∷ es) fs = installs_then es fs
+installs_then (Cancel ticket ∷ es) fs = installs_then es fs
+installs_then (Draw ticket ∷ es) fs = installs_then es fs
+installs_then (Install ticket ∷ es) fs = let rest = installs_then es fs in omega (arith, rest)
+installs_then (Spend ∷ es) fs = installs_then es fs
+installs_then (Nothing ∷ es) fs = installs_then es fs
+
 run_then : (Honest : Type 0) (a b c : Held) → IsWorkersRun Honest a b → IsWorkersRun Honest b c → IsWorkersRun Honest a c
 run_then Honest a b c first second = record {
   events = first.events ++ second.events;
   only = λ e h. elim (among first.events second.events e h) [ inl l ↦ first.only e l | inr r ↦ second.only e r ];
   run = ran Honest (plain a) (plain b) (plain c) first.events second.events first.run second.run;
+  ids = (let x = first.ids in let y = second.ids in let all = installs_then first.events second.events in omega (arith, x, y, all));
 }
 
 -- nothing was done that the plain machine sees
-run_none : (Honest : Type 0) (was is : Held) → plain is ≡ plain was → IsWorkersRun Honest was is
-run_none Honest was is same = record { events = []; only = λ e h. absurd h; run = same }
+run_none : (Honest : Type 0) (was is : Held) → plain is ≡ plain was → current_id is.slots ≡ current_id was.slots → IsWorkersRun Honest was is
+run_none Honest was is same id = record { events = []; only = λ e h. absurd h; run = same; ids = omega (arith, id) }
 
 pub left_kept : (Honest : Type 0) (found : Held) → IsKeptByCompaction Honest (IsLeftByWorkers Honest found)
 left_kept Honest found was is step l = record {
@@ -63,7 +77,7 @@ plain_seated found h s = ap plain s.1
 
 pub left_seated : (Honest : Type 0) (found h : Held) → IsSeated found h → IsLeftByWorkers Honest found h
 left_seated Honest found h s = record {
-  reached = ∣ run_none Honest found h (plain_seated found h s) ∣₁;
+  reached = ∣ run_none Honest found h (plain_seated found h s) (ap (λ (x : Held). current_id x.slots) s.1 ∙ s.0.current) ∣₁;
   as_found = found_by_parts Honest found h (ap (λ (x : Held). x.slots.version) s.1) (ap (λ (x : Held). x.slots.epochs) s.1)
       (ap (λ (x : Held). x.history) s.1) (ap (λ (x : Held). x.snapshots) s.1);
 }
@@ -74,7 +88,7 @@ plain_looked was is looked e = ap plain e ∙ ap (λ (v : Levels). plain (record
 pub left_looked : (Honest : Type 0) (found was is : Held) → IsLeftByWorkers Honest found was → Looked was.slots is.slots → is ≡ record was { slots = is.slots }
     → IsLeftByWorkers Honest found is
 left_looked Honest found was is l looked e = record {
-  reached = ∥∥₁_map l.reached (λ r. run_then Honest found was is r (run_none Honest was is (plain_looked was is looked e)));
+  reached = ∥∥₁_map l.reached (λ r. run_then Honest found was is r (run_none Honest was is (plain_looked was is looked e) looked.id));
   as_found = found_then Honest found was is l.as_found (found_looked Honest was is looked e);
 }
 

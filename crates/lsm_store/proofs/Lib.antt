@@ -5,4 +5,6 @@ pub mod PromiseLaws
 pub mod ReaderLaws
 pub mod ScanLaws
 pub mod SeatLaws
+pub mod Sending
 pub mod WorkerLaws
+pub mod WorkingLaws

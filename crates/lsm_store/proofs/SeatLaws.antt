@@ -24,3 +24,11 @@ all_rest P xs ys x e h = All-from_recursion P ys (recursion_from_All P (x ∷ ys
 pub one_more : {X Y : Type 0} (f : X → Y) (made made' : List Y) (xs ys : List X) (x : X) (all : List Y) → made ++ map f xs ≡ all → xs ≡ x ∷ ys → made' ≡ made ++ f x ∷ [] → made' ++ map f ys ≡ all
 one_more f made made' xs ys x all before e m =
     ap (λ ms. ms ++ map f ys) m ∙ append_assoc made (f x ∷ []) (map f ys) ∙ ap (λ zs. made ++ map f zs) (sym e) ∙ before
+
+-- what holds of a part of each holds of these parts
+pub all_mapped : {X Y : Type 0} (f : X → Y) (P : Y → Type 0) (xs : List X) → All (λ x. P (f x)) xs → All P (map f xs)
+all_mapped f P xs h = All-from_recursion P (map f xs) (parts xs (recursion_from_All (λ x. P (f x)) xs h))
+  where
+    parts : (ys : List _) → AllByRecursion (λ x. P (f x)) ys → AllByRecursion P (map f ys)
+    parts [] k = tt
+    parts (y ∷ ys) k = (k.0, parts ys k.1)

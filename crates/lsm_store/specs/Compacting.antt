@@ -1,9 +1,9 @@
 -- What workers leave of a state, and which facts of it they keep (this project's rule).
-use Rattle.std.specs.Prelude.{◌≡◌, ℕ, ◌==◌, if◌then◌else◌, List, [], Option, None, Some, sum_by}
+use Rattle.std.specs.Prelude.{◌≡◌, ℕ, suc, ◌+◌, ◌==◌, if◌then◌else◌, List, [], ◌∷◌, Option, None, Some, sum_by}
 use Rattle.lsm_codec.specs.Lists.{Has}
 use Rattle.lsm_levels.specs.Runs.{Event, Ingest, Snapshot, Release, Reserve, Cancel, Draw, Install, Spend, Nothing, Run}
 use Rattle.lsm_pins.specs.Known.{Known}
-use Rattle.lsm_slots.specs.Slots.{Epoch, Slotted}
+use Rattle.lsm_slots.specs.Slots.{Epoch, Slotted, current_id}
 use Rattle.lsm_state.specs.Held.{Held, plain}
 use Rattle.lsm_state.specs.Installing.{SameAnswers}
 
@@ -37,11 +37,26 @@ pub record IsAsFound (Honest : Type 0) (found h : Held) : Type 0 where
   pub pins : (id : ℕ) → pins_of h.slots id ≡ pins_of found.slots id
   pub answers : Honest → SameAnswers found h
 
--- On the plain machine the state was reached by reservations, cancels, draws of numbers, installs and spent numbers alone.
+-- how many results were installed
+abbrev pub installs_in : List Event → ℕ
+installs_in [] = 0
+installs_in (Ingest entries ∷ events) = installs_in events
+installs_in (Snapshot ∷ events) = installs_in events
+installs_in (Release id ∷ events) = installs_in events
+installs_in (Reserve plan job ∷ events) = installs_in events
+installs_in (Cancel ticket ∷ events) = installs_in events
+installs_in (Draw ticket ∷ events) = installs_in events
+installs_in (Install ticket ∷ events) = suc (installs_in events)
+installs_in (Spend ∷ events) = installs_in events
+installs_in (Nothing ∷ events) = installs_in events
+
+-- On the plain machine the state was reached by reservations, cancels, draws of numbers, installs and spent numbers alone. Each install made
+-- a version current, under the next id.
 pub record IsWorkersRun (Honest : Type 0) (was is : Held) : Type 0 where
   pub events : List Event
   pub only : (e : Event) → Has events e → IsOfWorkers e
   pub run : Run Honest (plain was) events (plain is)
+  pub ids : current_id is.slots ≡ current_id was.slots + installs_in events
 
 -- What workers leave of a state that was found: it was reached by what workers do, and what was found stays.
 pub record IsLeftByWorkers (Honest : Type 0) (found h : Held) : Type 0 where
@@ -59,6 +74,11 @@ pub record IsCompactingStep (Honest : Type 0) (was is : Held) : Type 0 where
 abbrev pub IsKeptByCompaction : Type 0 → (Held → Type 0) → Type 0
 IsKeptByCompaction Honest keeps = (was is : Held) → IsCompactingStep Honest was is → keeps was → keeps is
 
--- the state that goes into a store: its pinners were taken, and its end of the board has learnt more
+-- an end of the board by which this id is the current one
+pub record KnowsCurrent (id : ℕ) : Type 0 where
+  pub end : Known
+  pub current : end.knows.id ≡ id
+
+-- the state that goes into a store: its pinners were taken, and its end of the board has learnt more, under the same current id
 abbrev pub IsSeated : Held → Held → Type 0
-IsSeated was is = (board : Known) × (is ≡ record was { pinners = []; slots = record was.slots { board = board } })
+IsSeated was is = (board : KnowsCurrent (current_id was.slots)) × (is ≡ record was { pinners = []; slots = record was.slots { board = board.end } })

@@ -4,3 +4,4 @@ pub mod Promised
 pub mod Readers
 pub mod WorkerFault
 pub mod Workers
+pub mod Working

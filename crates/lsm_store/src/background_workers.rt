@@ -3,6 +3,7 @@
 ghost use Rattle.std.specs.Prelude.{◌≡◌, ◌≤◌, [], All, IfErr, IfOk, vec_capacity, vec_len};
 ghost use Rattle.lsm_store.specs.Compacting.{IsKeptByCompaction};
 ghost use Rattle.lsm_store.specs.Workers.{IsWorkersEnd};
+ghost use Rattle.lsm_store.specs.Working.{AreReturned};
 
 use crate::background::Background;
 use crate::drawing::draw_for_all;
@@ -11,7 +12,8 @@ use crate::invariant::Invariant;
 use crate::number_service::NumberService;
 use crate::store::Store;
 use crate::worker_end::WorkerEnd;
-use crate::workers::{join_all, start_all};
+use crate::worker_thread::{Returned, Thread};
+use crate::workers::{ends_of, join_all, start_all};
 use lsm_slots::Boarded;
 use lsm_table::{NamedShelf, Shelf};
 use std::alloc::{AllocFailed, Global};
@@ -38,9 +40,77 @@ fn start_drawing<'s, 'e, N: Boarded, S: Shelf, K: Invariant, R: Threads + Wait +
     thread.is_ok()
 }
 
+/// Runs a worker for each shelf beside the body, and a thread that draws numbers for them; there is
+/// room for threads and for what comes back.
+fn run_beside<
+    N: Boarded,
+    S: Shelf,
+    K: Invariant,
+    G: Gate + Sync,
+    R: Threads + Wait + Sync,
+    T,
+    F: FnOnce(&Background) -> T,
+>(
+    rt: &R,
+    alloc: Global,
+    store: &Store<N, S, K>,
+    shelves: Vec<NamedShelf<N, S>>,
+    gate: &G,
+    body: F,
+    threads: Vec<Thread<N, S, K>>,
+    returned: Vec<Returned<N, S>>,
+) -> Result<(T, Vec<Returned<N, S>>), AllocFailed<(Vec<NamedShelf<N, S>>, F)>>
+    requires kept { IsKeptByCompaction S.honest K.keeps }
+    requires body { F.IsAlwaysCallable body }
+    requires none { (vec_len threads ≡ 0) × (returned.items ≡ []) × (vec_len returned ≡ 0) }
+    requires room { (vec_len shelves ≤ vec_capacity threads)
+        × (vec_len shelves ≤ vec_capacity returned) }
+    ensures answer { IfOk result (λ r. (b : _) × F.post body b r.0) }
+    ensures len { IfOk result (λ r. vec_len r.1 ≡ vec_len shelves) }
+    ensures ends { IfOk result (λ r. All (λ w. IsWorkersEnd S.honest w.0) r.1.items) }
+    ensures returned { IfOk result (λ r.
+        AreReturned S.honest (S.refuses N.place) K.keeps shelves.items r.1.items) }
+    ensures back { IfErr result (λ e. e.value ≡ (shelves, body)) }
+{
+    let service = NumberService::new(shelves.len());
+    let service = &service;
+    let background = Background::of(shelves.len());
+    let background = &background;
+    thread::scope(
+        thread::scope_env(),
+        rt,
+        move |scope| -> Result<(T, Vec<Returned<N, S>>), AllocFailed<(Vec<NamedShelf<N, S>>, F)>>
+            requires kept { IsKeptByCompaction S.honest K.keeps }
+            requires body { F.IsAlwaysCallable body }
+            requires none { (vec_len threads ≡ 0) × (returned.items ≡ []) × (vec_len returned ≡ 0) }
+            requires room { (vec_len shelves ≤ vec_capacity threads)
+                × (vec_len shelves ≤ vec_capacity returned) }
+            ensures answer { IfOk result (λ r. (b : _) × F.post body b r.0) }
+            ensures len { IfOk result (λ r. vec_len r.1 ≡ vec_len shelves) }
+            ensures ends { IfOk result (λ r. All (λ w. IsWorkersEnd S.honest w.0) r.1.items) }
+            ensures returned { IfOk result (λ r.
+                AreReturned S.honest (S.refuses N.place) K.keeps shelves.items r.1.items) }
+            ensures back { IfErr result (λ e. e.value ≡ (shelves, body)) }
+        {
+            if !start_drawing(scope, rt, store, service) {
+                return Err(AllocFailed {
+                    value: (shelves, body),
+                });
+            }
+            let bell = &background.bell;
+            let threads = start_all(
+                scope, rt, alloc, store, service, bell, shelves, gate, threads,
+            );
+            let answer = body(background);
+            bell.close(rt);
+            Ok((answer, join_all(rt, threads, returned)))
+        },
+    )
+}
+
 /// Compacts in the background while the body runs, with one worker for each shelf. Answers what the
-/// body answered, and what each worker has done, in the order of the shelves. The shelves are forks
-/// of the store's, of any number; 1 to 8 are meant.
+/// body answered, and what each worker has done, with its shelf, in the order of the shelves. These
+/// are forks of the store's, of any number; 1 to 8 are meant.
 ///
 /// Each worker has a thread of its own, in which it reserves under the lock, merges outside it, and
 /// installs under it; before each merge the gate is told. Where nothing is left to reserve it
@@ -53,8 +123,48 @@ fn start_drawing<'s, 'e, N: Boarded, S: Shelf, K: Invariant, R: Threads + Wait +
 /// when it answers.
 ///
 /// At a fault a worker cancels its ticket and ends, and the others go on. A thread that cannot be
-/// made is that worker's fault, `NoThread`. Where there is no memory for the answer, or no thread to
-/// draw numbers, nothing is done, and the shelves come back with the body.
+/// made is that worker's fault, `NoThread`, and its shelf does not come back. Where there is no
+/// memory for the answer, or no thread to draw numbers, nothing is done, and the shelves come back
+/// with the body.
+pub fn with_workers_returning<
+    N: Boarded,
+    S: Shelf,
+    K: Invariant,
+    G: Gate + Sync,
+    R: Threads + Wait + Sync,
+    T,
+    F: FnOnce(&Background) -> T,
+>(
+    rt: &R,
+    alloc: Global,
+    store: &Store<N, S, K>,
+    shelves: Vec<NamedShelf<N, S>>,
+    gate: &G,
+    body: F,
+) -> Result<(T, Vec<Returned<N, S>>), AllocFailed<(Vec<NamedShelf<N, S>>, F)>>
+    requires kept { IsKeptByCompaction S.honest K.keeps }
+    requires body { F.IsAlwaysCallable body }
+    ensures answer { IfOk result (λ r. (b : _) × F.post body b r.0) }
+    ensures len { IfOk result (λ r. vec_len r.1 ≡ vec_len shelves) }
+    ensures ends { IfOk result (λ r. All (λ w. IsWorkersEnd S.honest w.0) r.1.items) }
+    ensures returned { IfOk result (λ r.
+        AreReturned S.honest (S.refuses N.place) K.keeps shelves.items r.1.items) }
+    ensures back { IfErr result (λ e. e.value ≡ (shelves, body)) }
+{
+    let Ok(returned) = Vec::with_capacity(alloc, shelves.len()) else {
+        return Err(AllocFailed {
+            value: (shelves, body),
+        });
+    };
+    let Ok(threads) = Vec::with_capacity(alloc, shelves.len()) else {
+        return Err(AllocFailed {
+            value: (shelves, body),
+        });
+    };
+    run_beside(rt, alloc, store, shelves, gate, body, threads, returned)
+}
+
+/// As `with_workers_returning`, and the shelves are let go.
 pub fn with_workers<
     N: Boarded,
     S: Shelf,
@@ -83,41 +193,11 @@ pub fn with_workers<
             value: (shelves, body),
         });
     };
-    let Ok(handles) = Vec::with_capacity(alloc, shelves.len()) else {
-        return Err(AllocFailed {
-            value: (shelves, body),
-        });
-    };
-    let service = NumberService::new(shelves.len());
-    let service = &service;
-    let background = Background::of(shelves.len());
-    let background = &background;
-    thread::scope(
-        thread::scope_env(),
-        rt,
-        move |scope| -> Result<(T, Vec<WorkerEnd>), AllocFailed<(Vec<NamedShelf<N, S>>, F)>>
-            requires kept { IsKeptByCompaction S.honest K.keeps }
-            requires body { F.IsAlwaysCallable body }
-            requires none { (vec_len handles ≡ 0) × (ends.items ≡ []) × (vec_len ends ≡ 0) }
-            requires room { (vec_len shelves ≤ vec_capacity handles)
-                × (vec_len shelves ≤ vec_capacity ends) }
-            ensures answer { IfOk result (λ r. (b : _) × F.post body b r.0) }
-            ensures len { IfOk result (λ r. vec_len r.1 ≡ vec_len shelves) }
-            ensures ends { IfOk result (λ r. All (IsWorkersEnd S.honest) r.1.items) }
-            ensures back { IfErr result (λ e. e.value ≡ (shelves, body)) }
-        {
-            if !start_drawing(scope, rt, store, service) {
-                return Err(AllocFailed {
-                    value: (shelves, body),
-                });
-            }
-            let bell = &background.bell;
-            let handles = start_all(
-                scope, rt, alloc, store, service, bell, shelves, gate, handles,
-            );
-            let answer = body(background);
-            bell.close(rt);
-            Ok((answer, join_all(rt, handles, ends)))
-        },
-    )
+    match with_workers_returning(rt, alloc, store, shelves, gate, body) {
+        Ok(done) => {
+            let (answer, returned) = done;
+            Ok((answer, ends_of(returned, ends)))
+        }
+        Err(refused) => Err(refused),
+    }
 }

@@ -1,6 +1,7 @@
 //! Laws of the definitions, for programs that make a store.
 
 ghost use Rattle.std.specs.Prelude.{◌≡◌, ℕ, Bool, List, length};
+ghost use Rattle.lsm_shelf.specs.Told.{Told};
 ghost use Rattle.lsm_journal.specs.HeldManifest.{HeldManifest};
 ghost use Rattle.lsm_pins.specs.Known.{Known};
 ghost use Rattle.lsm_slots.specs.Slots.{Looked};
@@ -10,9 +11,14 @@ ghost use Rattle.lsm_state.specs.Opening.{opened_state};
 ghost use Rattle.lsm_state.specs.declared.options.Options.{Options};
 ghost use Rattle.lsm_store.specs.Compacting.{IsKeptByCompaction, IsLeftByWorkers, IsSeated};
 ghost use Rattle.lsm_store.specs.Readers.{SeatsPinners};
+ghost use Rattle.lsm_store.specs.Working.{IsCountedIf, IsWorked, OnlyPutsAndSends};
+ghost use Rattle.lsm_store.specs.declared.worker_end.WorkerEnd.{WorkerEnd};
 ghost use Rattle.lsm_version.specs.Versions.{Levels};
 
+use crate::invariant::Invariant;
 use lsm_levels::machine::Premise;
+use lsm_slots::Boarded;
+use lsm_table::Shelf;
 
 /// A fact for a store's lock: since a state was found, workers alone changed it, and all stays as
 /// it was found, all that had come in, the last sequence, the snapshots, the pins, and each answer
@@ -43,4 +49,16 @@ pub fn made_states_seat_their_pinners()
     ensures opened { (o : Options) (publisher : Known) (pinners : List Known) (v : Levels)
         (journal : HeldManifest) (next : ℕ) (halted : Bool) → length pinners ≡ o.readers
         → SeatsPinners (opened_state o publisher pinners v journal next halted) }
+{}
+
+/// What follows for the shelf of a worker of what it did (`IsWorked`). Where its fault is the
+/// shelf's, a count of that shelf rose. And the shelf was told to put tables and to write the
+/// manifest, and that is all: it was asked to remove nothing, and gave no fork.
+pub fn what_workers_did_is_told<N: Boarded, S: Shelf, K: Invariant>()
+    ensures counted { (given back : Told) (e : WorkerEnd)
+        → IsWorked S.honest (S.refuses N.place) K.keeps given e back
+        → IsCountedIf e.fault given back }
+    ensures only { (given back : Told) (e : WorkerEnd)
+        → IsWorked S.honest (S.refuses N.place) K.keeps given e back
+        → OnlyPutsAndSends given back }
 {}

@@ -25,6 +25,7 @@ mod gate;
 mod worker;
 mod worker_end;
 mod worker_fault;
+mod worker_thread;
 mod workers;
 
 // Numbers for what workers write.
@@ -36,7 +37,7 @@ mod ticket_numbers;
 pub mod laws;
 
 pub use background::Background;
-pub use background_workers::with_workers;
+pub use background_workers::{with_workers, with_workers_returning};
 pub use begin_fault::BeginFault;
 pub use gate::{Gate, NoGate};
 pub use guarded::Guarded;
@@ -48,4 +49,5 @@ pub use store::Store;
 pub use view::View;
 pub use worker_end::WorkerEnd;
 pub use worker_fault::WorkerFault;
-pub use workers::run_workers;
+pub use worker_thread::Returned;
+pub use workers::{run_workers, run_workers_returning};

@@ -81,6 +81,7 @@ fn seat_all<N: Boarded, S: Shelf>(
     ensures len { vec_len result ≡ vec_len pinners }
     ensures rest { state.new
         ≡ record state.old { slots = record state.old.slots { board = state.new.slots.board } } }
+    ensures same { known_at state.new N.place ≡ known_at state.old N.place }
 {
     let mut caches = caches;
     let mut readers = readers;

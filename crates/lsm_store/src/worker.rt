@@ -1,9 +1,11 @@
 //! What a worker does in its thread.
 
-ghost use Rattle.std.specs.Prelude.{◌≡◌, IfErr, IfOk};
+ghost use Rattle.std.specs.Prelude.{◌≡◌, IfErr, IfOk, MatchBool, OnOk, Some};
 ghost use Rattle.lsm_live.specs.Booked.{HasTicket, without};
 ghost use Rattle.lsm_store.specs.Compacting.{IsCompactingStep, IsKeptByCompaction};
 ghost use Rattle.lsm_store.specs.Workers.{IsOfInstalling, IsOfReserving, IsOfTurn, IsWorkersEnd};
+ghost use Rattle.lsm_store.specs.Working.{IsLast, IsTaken, IsTurn, IsUntaken, IsWorked};
+ghost use Rattle.lsm_store.specs.Working.{LeavesOut, TakesIn};
 
 use crate::bell::Bell;
 use crate::gate::Gate;
@@ -58,6 +60,9 @@ fn put_in<N: Boarded, S: Shelf, R: Wait>(
 ) -> Result<(), StateFault>
     ensures step { IsCompactingStep S.honest state.old state.new }
     ensures refused { IfErr result IsOfInstalling }
+    ensures takes { OnOk result (TakesIn state.old state.new done shelf.old shelf.new) }
+    ensures leaves { IfErr result (λ e.
+        LeavesOut (S.refuses N.place) state.old state.new done e shelf.old shelf.new) }
 {
     match state.install(rt, alloc, shelf, done) {
         Ok(_numbers) => Ok(()),
@@ -75,6 +80,9 @@ fn install<N: Boarded, S: Shelf, K: Invariant, R: Wait>(
 ) -> Result<(), StateFault>
     requires kept { IsKeptByCompaction S.honest K.keeps }
     ensures refused { IfErr result IsOfInstalling }
+    ensures taken { OnOk result (IsTaken K.keeps done shelf.old shelf.new) }
+    ensures untaken { IfErr result (λ e.
+        IsUntaken (S.refuses N.place) K.keeps done e shelf.old shelf.new) }
 {
     put_in(&mut store.lock(rt).state, rt, alloc, shelf, done)
 }
@@ -112,11 +120,20 @@ fn finish<N: Boarded, S: Shelf, K: Invariant, R: Wait>(
 ) -> Result<(), WorkerFault>
     requires kept { IsKeptByCompaction S.honest K.keeps }
     ensures refused { IfErr result (IsOfTurn S.honest) }
+    ensures turn { OnOk result (IsTurn S.honest K.keeps shelf.old shelf.new) }
+    ensures last { IfErr result (λ e.
+        IsLast S.honest (S.refuses N.place) K.keeps (Some e) shelf.old shelf.new) }
 {
     let mut numbers = TicketNumbers::of(service);
-    match compact(rt, alloc, shelf, registry, job, &mut numbers) {
-        Ok(done) => Ok(install(rt, alloc, store, shelf, done)?),
-        Err((fault, _job, _put)) => Err(WorkerFault::Merge(fault)),
+    let done = match compact(rt, alloc, shelf, registry, job, &mut numbers) {
+        Ok(done) => done,
+        Err((fault, _job, _put)) => return Err(WorkerFault::Merge(fault)),
+    };
+    // What holds of the result is told by this call.
+    let _job = done.job();
+    match install(rt, alloc, store, shelf, done) {
+        Ok(()) => Ok(()),
+        Err(fault) => Err(WorkerFault::State(fault)),
     }
 }
 
@@ -133,9 +150,15 @@ fn turn<N: Boarded, S: Shelf, K: Invariant, G: Gate, R: Wait>(
 ) -> Result<bool, WorkerFault>
     requires kept { IsKeptByCompaction S.honest K.keeps }
     ensures refused { IfErr result (IsOfTurn S.honest) }
+    ensures turn { IfOk result (λ did.
+        MatchBool did (IsTurn S.honest K.keeps shelf.old shelf.new) (shelf.new ≡ shelf.old)) }
+    ensures last { IfErr result (λ e.
+        IsLast S.honest (S.refuses N.place) K.keeps (Some e) shelf.old shelf.new) }
 {
-    let Some(job) = reserve(rt, alloc, store)? else {
-        return Ok(false);
+    let job = match reserve(rt, alloc, store) {
+        Ok(Some(job)) => job,
+        Ok(None) => return Ok(false),
+        Err(fault) => return Err(WorkerFault::State(fault)),
     };
     let ticket = job.ticket();
     gate.merging(worker, ticket);
@@ -164,14 +187,14 @@ pub(crate) fn work<N: Boarded, S: Shelf, K: Invariant, G: Gate, R: Wait>(
     store: &Store<N, S, K>,
     service: &NumberService,
     bell: &Bell,
-    shelf: NamedShelf<N, S>,
+    shelf: &mut NamedShelf<N, S>,
     gate: &G,
     worker: usize,
 ) -> WorkerEnd
     requires kept { IsKeptByCompaction S.honest K.keeps }
-    ensures { IsWorkersEnd S.honest result }
+    ensures end { IsWorkersEnd S.honest result }
+    ensures worked { IsWorked S.honest (S.refuses N.place) K.keeps shelf.old result shelf.new }
 {
-    let mut shelf = shelf;
     let mut installed = 0u64;
     let Ok(registry) = registry_of(rt, store) else {
         return WorkerEnd {
@@ -186,9 +209,7 @@ pub(crate) fn work<N: Boarded, S: Shelf, K: Invariant, G: Gate, R: Wait>(
                 fault: None,
             };
         };
-        match turn(
-            rt, alloc, store, &registry, service, &mut shelf, gate, worker,
-        ) {
+        match turn(rt, alloc, store, &registry, service, shelf, gate, worker) {
             Ok(true) => {
                 installed = installed.saturating_add(1);
                 bell.ring(rt);

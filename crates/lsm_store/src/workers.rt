@@ -1,8 +1,10 @@
 //! Workers, each in a thread of its own.
 
-ghost use Rattle.std.specs.Prelude.{◌≡◌, ◌≤◌, [], All, IfErr, IfOk, vec_capacity, vec_len};
+ghost use Rattle.std.specs.Prelude.{◌≡◌, ◌≤◌, [], All, IfErr, IfOk, map, reverse};
+ghost use Rattle.std.specs.Prelude.{vec_capacity, vec_len};
 ghost use Rattle.lsm_store.specs.Compacting.{IsKeptByCompaction};
 ghost use Rattle.lsm_store.specs.Workers.{IsWorkersEnd};
+ghost use Rattle.lsm_store.specs.Working.{AreReturned, IsWorked};
 
 use crate::bell::Bell;
 use crate::drawing::draw_for_all;
@@ -12,27 +14,55 @@ use crate::number_service::NumberService;
 use crate::store::Store;
 use crate::worker::work;
 use crate::worker_end::WorkerEnd;
-use crate::worker_fault::WorkerFault;
+use crate::worker_thread::{Returned, Thread, Works};
 use lsm_slots::Boarded;
 use lsm_table::{NamedShelf, Shelf};
 use std::alloc::{AllocFailed, Global};
-use std::marker::PhantomData;
+use std::snapshot::Snapshot;
 use std::sync::Wait;
 use std::thread;
-use std::thread::{Promise, PromisedHandle, Scope, Threads};
+use std::thread::{Scope, Threads};
 
-/// What the thread of a worker over a shelf of this type promises of its answer.
-#[derive(Drop)]
-pub(crate) struct Ends<S: Shelf> {
-    of: PhantomData<S>,
+/// Starts a worker in a thread of its own, over this shelf.
+fn start<'s, 'e, N: Boarded, S: Shelf, K: Invariant, G: Gate + Sync, R: Threads + Wait + Sync>(
+    scope: &'s Scope<'s, &'e ()>,
+    rt: &'e R,
+    alloc: Global,
+    store: &'e Store<N, S, K>,
+    service: &'e NumberService,
+    bell: &'e Bell,
+    shelf: NamedShelf<N, S>,
+    gate: &'e G,
+    worker: usize,
+) -> Thread<N, S, K>
+    requires kept { IsKeptByCompaction S.honest K.keeps }
+    ensures given { result.given.value ≡ shelf }
+{
+    let given = Snapshot::of(&shelf);
+    let promise = Works::of(Snapshot::of(&shelf));
+    let handle = scope.spawn_with(
+        promise,
+        move || -> (WorkerEnd, NamedShelf<N, S>)
+            requires kept { IsKeptByCompaction S.honest K.keeps }
+            ensures end { IsWorkersEnd S.honest result.0 }
+            ensures worked { IsWorked S.honest (S.refuses N.place) K.keeps shelf result.0 result.1 }
+        {
+            let mut shelf = shelf;
+            let end = work(rt, alloc, store, service, bell, &mut shelf, gate, worker);
+            service.leave(rt);
+            bell.leave(rt);
+            (end, shelf)
+        },
+    );
+    if handle.is_err() {
+        service.leave(rt);
+        bell.leave(rt);
+    }
+    Thread {
+        given,
+        handle: handle.ok(),
+    }
 }
-
-impl<S: Shelf> Promise<WorkerEnd> for Ends<S> {
-    ghost kept_by = { λ _ e. IsWorkersEnd S.honest e };
-}
-
-/// The thread of a worker, or none where it could not be made.
-pub(crate) type Thread<S> = Option<PromisedHandle<WorkerEnd, Ends<S>>>;
 
 /// Starts a worker for each shelf, the last one first.
 pub(crate) fn start_all<
@@ -52,69 +82,63 @@ pub(crate) fn start_all<
     bell: &'e Bell,
     shelves: Vec<NamedShelf<N, S>>,
     gate: &'e G,
-    handles: Vec<Thread<S>>,
-) -> Vec<Thread<S>>
+    threads: Vec<Thread<N, S, K>>,
+) -> Vec<Thread<N, S, K>>
     requires kept { IsKeptByCompaction S.honest K.keeps }
-    requires none { vec_len handles ≡ 0 }
-    requires room { vec_len shelves ≤ vec_capacity handles }
+    requires none { vec_len threads ≡ 0 }
+    requires room { vec_len shelves ≤ vec_capacity threads }
+    ensures given { reverse (map (λ t. t.given.value) result.items) ≡ shelves.items }
     ensures len { vec_len result ≡ vec_len shelves }
 {
     let mut shelves = shelves;
-    let mut handles = handles;
+    let mut threads = threads;
     while let Some(shelf) = shelves.pop() {
         let worker = shelves.len();
-        let promise = Ends { of: PhantomData };
-        let handle = scope.spawn_with(
-            promise,
-            move || -> WorkerEnd
-                requires kept { IsKeptByCompaction S.honest K.keeps }
-                ensures { IsWorkersEnd S.honest result }
-            {
-                let end = work(rt, alloc, store, service, bell, shelf, gate, worker);
-                service.leave(rt);
-                bell.leave(rt);
-                end
-            },
-        );
-        if handle.is_err() {
-            service.leave(rt);
-            bell.leave(rt);
-        }
-        let Ok(()) = handles.push(handle.ok()) else {
+        let thread = start(scope, rt, alloc, store, service, bell, shelf, gate, worker);
+        let Ok(()) = threads.push(thread) else {
             unreachable!()
         };
     }
-    handles
+    threads
 }
 
-/// Waits for a worker: what it has done.
-fn end_of<S: Shelf, R: Threads>(rt: &R, thread: Thread<S>) -> WorkerEnd
-    ensures { IsWorkersEnd S.honest result }
-{
-    match thread {
-        Some(handle) => handle.join(rt),
-        None => WorkerEnd {
-            installed: 0,
-            fault: Some(WorkerFault::NoThread),
-        },
-    }
-}
-
-/// Waits for each worker, the last one first; there is room for what they have done.
-pub(crate) fn join_all<S: Shelf, R: Threads + Wait>(
+/// Waits for each worker, the last one first; there is room for what comes back.
+pub(crate) fn join_all<N: Boarded, S: Shelf, K: Invariant, R: Threads + Wait>(
     rt: &R,
-    handles: Vec<Thread<S>>,
+    threads: Vec<Thread<N, S, K>>,
+    returned: Vec<Returned<N, S>>,
+) -> Vec<Returned<N, S>>
+    requires none { (returned.items ≡ []) × (vec_len returned ≡ 0) }
+    requires room { vec_len threads ≤ vec_capacity returned }
+    ensures ends { All (λ r. IsWorkersEnd S.honest r.0) result.items }
+    ensures returned { AreReturned S.honest (S.refuses N.place) K.keeps
+        (reverse (map (λ t. t.given.value) threads.items)) result.items }
+    ensures len { vec_len result ≡ vec_len threads }
+{
+    let mut threads = threads;
+    let mut returned = returned;
+    while let Some(thread) = threads.pop() {
+        let back = thread.join(rt);
+        let Ok(()) = returned.push(back) else {
+            unreachable!()
+        };
+    }
+    returned
+}
+
+/// What workers have done, without their shelves; there is room for it.
+pub(crate) fn ends_of<N: Boarded, S: Shelf>(
+    returned: Vec<Returned<N, S>>,
     ends: Vec<WorkerEnd>,
 ) -> Vec<WorkerEnd>
     requires none { (ends.items ≡ []) × (vec_len ends ≡ 0) }
-    requires room { vec_len handles ≤ vec_capacity ends }
-    ensures ends { All (IsWorkersEnd S.honest) result.items }
-    ensures len { vec_len result ≡ vec_len handles }
+    requires room { vec_len returned ≤ vec_capacity ends }
+    ensures ends { result.items ≡ map (λ r. r.0) returned.items }
+    ensures len { vec_len result ≡ vec_len returned }
 {
-    let mut handles = handles;
     let mut ends = ends;
-    while let Some(handle) = handles.pop() {
-        let end = end_of(rt, handle);
+    for back in returned {
+        let (end, _shelf) = back;
         let Ok(()) = ends.push(end) else {
             unreachable!()
         };
@@ -122,17 +146,94 @@ pub(crate) fn join_all<S: Shelf, R: Threads + Wait>(
     ends
 }
 
+/// Runs a worker for each shelf, and draws numbers for them; there is room for threads and for what
+/// comes back.
+fn run_all<N: Boarded, S: Shelf, K: Invariant, G: Gate + Sync, R: Threads + Wait + Sync>(
+    rt: &R,
+    alloc: Global,
+    store: &Store<N, S, K>,
+    shelves: Vec<NamedShelf<N, S>>,
+    gate: &G,
+    threads: Vec<Thread<N, S, K>>,
+    returned: Vec<Returned<N, S>>,
+) -> Vec<Returned<N, S>>
+    requires kept { IsKeptByCompaction S.honest K.keeps }
+    requires none { (vec_len threads ≡ 0) × (returned.items ≡ []) × (vec_len returned ≡ 0) }
+    requires room { (vec_len shelves ≤ vec_capacity threads)
+        × (vec_len shelves ≤ vec_capacity returned) }
+    ensures ends { All (λ r. IsWorkersEnd S.honest r.0) result.items }
+    ensures returned { AreReturned S.honest (S.refuses N.place) K.keeps shelves.items result.items }
+    ensures len { vec_len result ≡ vec_len shelves }
+{
+    let service = NumberService::new(shelves.len());
+    let service = &service;
+    let bell = Bell::closing_when_idle(shelves.len());
+    let bell = &bell;
+    thread::scope(
+        thread::scope_env(),
+        rt,
+        move |scope| -> Vec<Returned<N, S>>
+            requires kept { IsKeptByCompaction S.honest K.keeps }
+            requires none { (vec_len threads ≡ 0) × (returned.items ≡ []) × (vec_len returned ≡ 0) }
+            requires room { (vec_len shelves ≤ vec_capacity threads)
+                × (vec_len shelves ≤ vec_capacity returned) }
+            ensures ends { All (λ r. IsWorkersEnd S.honest r.0) result.items }
+            ensures returned { AreReturned S.honest (S.refuses N.place) K.keeps shelves.items result.items }
+            ensures len { vec_len result ≡ vec_len shelves }
+        {
+            let threads = start_all(
+                scope, rt, alloc, store, service, bell, shelves, gate, threads,
+            );
+            draw_for_all(rt, store, service);
+            join_all(rt, threads, returned)
+        },
+    )
+}
+
 /// Compacts with one worker for each shelf, each in a thread of its own, until none of them finds
-/// anything left to reserve; answers what each has done, in the order of the shelves. The shelves
-/// are forks of the store's, of any number; 1 to 8 are meant. The caller holds no guard of the
-/// store: this thread draws under the lock, and would wait for itself.
+/// anything left to reserve; answers what each has done, with its shelf, in the order of the
+/// shelves. These are forks of the store's, of any number; 1 to 8 are meant. The caller holds no
+/// guard of the store: this thread draws under the lock, and would wait for itself.
 ///
 /// A worker reserves under the lock, merges outside it, and installs under it. The numbers of its
 /// outputs are drawn under the lock too, by this thread. At a fault it cancels its ticket and ends,
 /// and the others go on. Before each merge the gate is told. A thread that cannot be made is that
-/// worker's fault, `NoThread`.
+/// worker's fault, `NoThread`, and its shelf does not come back.
+///
+/// What a shelf was told is just what its worker did. So a fault of the device, among others, comes
+/// only where that shelf counted one (`laws::what_workers_did_is_told`).
 ///
 /// Where there is no memory for the answer nothing is done, and the shelves come back.
+pub fn run_workers_returning<
+    N: Boarded,
+    S: Shelf,
+    K: Invariant,
+    G: Gate + Sync,
+    R: Threads + Wait + Sync,
+>(
+    rt: &R,
+    alloc: Global,
+    store: &Store<N, S, K>,
+    shelves: Vec<NamedShelf<N, S>>,
+    gate: &G,
+) -> Result<Vec<Returned<N, S>>, AllocFailed<Vec<NamedShelf<N, S>>>>
+    requires kept { IsKeptByCompaction S.honest K.keeps }
+    ensures len { IfOk result (λ v. vec_len v ≡ vec_len shelves) }
+    ensures ends { IfOk result (λ v. All (λ r. IsWorkersEnd S.honest r.0) v.items) }
+    ensures returned { IfOk result (λ v.
+        AreReturned S.honest (S.refuses N.place) K.keeps shelves.items v.items) }
+    ensures back { IfErr result (λ e. e.value ≡ shelves) }
+{
+    let Ok(returned) = Vec::with_capacity(alloc, shelves.len()) else {
+        return Err(AllocFailed { value: shelves });
+    };
+    let Ok(threads) = Vec::with_capacity(alloc, shelves.len()) else {
+        return Err(AllocFailed { value: shelves });
+    };
+    Ok(run_all(rt, alloc, store, shelves, gate, threads, returned))
+}
+
+/// As `run_workers_returning`, and the shelves are let go.
 pub fn run_workers<N: Boarded, S: Shelf, K: Invariant, G: Gate + Sync, R: Threads + Wait + Sync>(
     rt: &R,
     alloc: Global,
@@ -148,29 +249,8 @@ pub fn run_workers<N: Boarded, S: Shelf, K: Invariant, G: Gate + Sync, R: Thread
     let Ok(ends) = Vec::with_capacity(alloc, shelves.len()) else {
         return Err(AllocFailed { value: shelves });
     };
-    let Ok(handles) = Vec::with_capacity(alloc, shelves.len()) else {
-        return Err(AllocFailed { value: shelves });
-    };
-    let service = NumberService::new(shelves.len());
-    let service = &service;
-    let bell = Bell::closing_when_idle(shelves.len());
-    let bell = &bell;
-    Ok(thread::scope(
-        thread::scope_env(),
-        rt,
-        move |scope| -> Vec<WorkerEnd>
-            requires kept { IsKeptByCompaction S.honest K.keeps }
-            requires none { (vec_len handles ≡ 0) × (ends.items ≡ []) × (vec_len ends ≡ 0) }
-            requires room { (vec_len shelves ≤ vec_capacity handles)
-                × (vec_len shelves ≤ vec_capacity ends) }
-            ensures ends { All (IsWorkersEnd S.honest) result.items }
-            ensures len { vec_len result ≡ vec_len shelves }
-        {
-            let handles = start_all(
-                scope, rt, alloc, store, service, bell, shelves, gate, handles,
-            );
-            draw_for_all(rt, store, service);
-            join_all(rt, handles, ends)
-        },
-    ))
+    match run_workers_returning(rt, alloc, store, shelves, gate) {
+        Ok(returned) => Ok(ends_of(returned, ends)),
+        Err(refused) => Err(refused),
+    }
 }

@@ -1,10 +1,12 @@
-use Rattle.std.proofs.Common.{◌≡◌, ◌+◌, ◌≤◌, vec_capacity, vec_len}
+use Rattle.std.proofs.Common.{◌≡◌, ◌+◌, ◌++◌, ◌≤◌, map, vec_capacity, vec_len}
+use Rattle.std.specs.Prelude.{reverse}
 use Rattle.lsm_store.proofs.workers.start_all.Given as goal
 
 abbrev pub invariant-loop-shelf : goal.invariant-loop-shelf
 invariant-loop-shelf g l = record {
-  room : vec_len l.handles + vec_len l.shelves ≤ vec_capacity l.handles;
-  all : vec_len l.handles + vec_len l.shelves ≡ vec_len l.fn.shelves;
+  given : l.shelves.items ++ reverse (map (λ t. t.given.value) l.threads.items) ≡ l.fn.shelves.items;
+  room : vec_len l.threads + vec_len l.shelves ≤ vec_capacity l.threads;
+  all : vec_len l.threads + vec_len l.shelves ≡ vec_len l.fn.shelves;
 }
 
 abbrev pub decreases-loop-shelf : goal.decreases-loop-shelf

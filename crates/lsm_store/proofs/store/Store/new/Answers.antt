@@ -1,5 +1,6 @@
 use Rattle.std.proofs.Common.{◌≡◌, [], All, List, map, sym, subst, ap, ◌∙◌}
 use Rattle.lsm_pins.specs.Known.{Known}
+use Rattle.lsm_slots.specs.Slots.{current_id}
 use Rattle.lsm_state.specs.Held.{Held}
 use Rattle.lsm_store.specs.Readers.{KnownVersion, known_at, seated}
 use Rattle.lsm_store.proofs.store.Store.new.Goals as goal
@@ -23,4 +24,5 @@ invariant_of-new g c =
     let learnt = (λ (h : Held). record h { slots = record h.slots { board = board } }) in
     let taken = (λ (h : Held). record h { pinners = [] }) in
     let same = c.seat_all-readers.ensures.rest ∙ ap learnt (c.take_ends-pinners.ensures.same ∙ ap taken c.make_caches.ensures.same) in
-    record { kept = ∣ c.requires.kept c.seat_all-readers.new.state (board, same) ∣₁ }
+    let id = ap (λ (d : KnownVersion). d.id) c.seat_all-readers.ensures.same ∙ ap (λ (h : Held). current_id h.slots) (c.take_ends-pinners.ensures.same ∙ ap taken c.make_caches.ensures.same) in
+    record { kept = ∣ c.requires.kept c.seat_all-readers.new.state (record { end = board; current = id }, same) ∣₁ }

@@ -1,0 +1,156 @@
+-- What a worker does with its shelf, and what its shelf was told when it ends (this project's rule).
+use Rattle.std.specs.Prelude.{◌≡◌, ℕ, zero, suc, ◌-◌, ◌^◌, ◌≤◌, min, ◌⊎◌, List, [], ◌∷◌, ◌++◌, Option, None, Some}
+use Rattle.lsm_codec.specs.Lists.{Has}
+use Rattle.lsm_shelf.specs.Asked.{Asked, Put, StartManifest, AppendManifest}
+use Rattle.lsm_shelf.specs.Told.{Told, Becomes, Counted}
+use Rattle.lsm_shelf.specs.declared.shelf_fault.ShelfFault.{ShelfFault}
+use Rattle.lsm_table.specs.ReadFault.{ReadCounted}
+use Rattle.lsm_merge.specs.Causes.{HasCause, NamesTicket}
+use Rattle.lsm_merge.specs.Inputs.{IsReadable, input_numbers}
+use Rattle.lsm_merge.specs.Outputs.{PutsEach, putting_all}
+use Rattle.lsm_merge.specs.Work.{Done, IsFinished, Work, puts_by}
+use Rattle.lsm_merge.specs.declared.merge_fault.InputFault.TheVariants.{Read, OutOfOrder}
+use Rattle.lsm_merge.specs.declared.merge_fault.OutputFault.TheVariants as output
+use Rattle.lsm_merge.specs.declared.merge_fault.MergeFault.{MergeFault}
+use Rattle.lsm_merge.specs.declared.merge_fault.MergeFault.TheVariants as merge
+use Rattle.lsm_state.specs.Asked.{InstallRefused, OnShelf}
+use Rattle.lsm_state.specs.Collecting.{SameCounts}
+use Rattle.lsm_state.specs.Held.{Held}
+use Rattle.lsm_state.specs.Installing.{Installed, IsInstallRefusal, MayInstall}
+use Rattle.lsm_state.specs.declared.state_fault.StateFault.{StateFault}
+use Rattle.lsm_state.specs.declared.state_fault.StateFault.TheVariants as state
+use Rattle.lsm_store.specs.Workers.{IsOfReserving}
+use Rattle.lsm_store.specs.declared.worker_end.WorkerEnd.{WorkerEnd}
+use Rattle.lsm_store.specs.declared.worker_fault.WorkerFault.{WorkerFault}
+use Rattle.lsm_store.specs.declared.worker_fault.WorkerFault.TheVariants.{NoThread, State, Merge}
+
+-- ---- one compaction
+
+-- A job was finished. The shelf was told to put just its outputs, in their order, and of a move nothing.
+pub record IsMerged (Honest : Type 0) (d : Done) (was is : Told) : Type 0 where
+  pub finished : IsFinished Honest d
+  pub told : Becomes (putting_all (puts_by d) was) is
+
+-- The state installed the result.
+pub record TakesIn (old new : Held) (d : Done) (was is : Told) : Type 0 where
+  pub may : MayInstall old d
+  pub installed : Installed old new d was is
+  pub counts : SameCounts was is
+
+-- So it was at one taking of the lock, where the fact held.
+pub record IsTaken (keeps : Held → Type 0) (d : Done) (was is : Told) : Type 0 where
+  pub old : Held
+  pub new : Held
+  pub kept : ∥ keeps old ∥₁
+  pub takes : TakesIn old new d was is
+
+-- One compaction: a job was finished, and its result installed.
+pub record IsTurn (Honest : Type 0) (keeps : Held → Type 0) (was is : Told) : Type 0 where
+  pub result : Done
+  pub put : Told
+  pub merged : IsMerged Honest result was put
+  pub taken : IsTaken keeps result put is
+
+-- so many compactions, one after another
+abbrev pub Turns : Type 0 → (Held → Type 0) → ℕ → Told → Told → Type 0
+Turns Honest keeps zero was is = is ≡ was
+Turns Honest keeps (suc count) was is = (mid : Told) × Turns Honest keeps count was mid × IsTurn Honest keeps mid is
+
+-- ---- what ends a worker
+
+-- A job was not finished: some outputs were put, and the fault has its cause.
+pub record IsUnmerged (Honest : Type 0) (e : MergeFault) (was is : Told) : Type 0 where
+  pub work : Work
+  pub put : List ℕ
+  pub told : PutsEach put was is
+  pub cause : HasCause (input_numbers work) e was is
+  pub ticket : NamesTicket e work.ticket
+  pub readable : Honest → IsReadable e
+
+-- The state refused to install the result, and the shelf wrote nothing. Where it was the shelf, other than for want of memory, it refused the
+-- write of the manifest.
+pub record LeavesOut (Refused : Asked → ShelfFault → Type 0) (old new : Held) (d : Done) (e : StateFault) (was is : Told) : Type 0 where
+  pub refusal : IsInstallRefusal old new d e was is
+  pub asked : OnShelf (InstallRefused Refused old d) e
+  pub unsent : Becomes was is
+
+-- So it was at one taking of the lock, where the fact held.
+pub record IsUntaken (Refused : Asked → ShelfFault → Type 0) (keeps : Held → Type 0) (d : Done) (e : StateFault) (was is : Told) : Type 0 where
+  pub old : Held
+  pub new : Held
+  pub kept : ∥ keeps old ∥₁
+  pub leaves : LeavesOut Refused old new d e was is
+
+-- The state refused: a reservation, and the shelf was asked for nothing; or the install of a job that was finished.
+abbrev pub IsRefusedBy : Type 0 → (Asked → ShelfFault → Type 0) → (Held → Type 0) → StateFault → Told → Told → Type 0
+IsRefusedBy Honest Refused keeps e was is =
+    (IsOfReserving e × (is ≡ was)) ⊎ ((d : Done) × (put : Told) × IsMerged Honest d was put × IsUntaken Refused keeps d e put is)
+
+-- Why a worker with a thread ended, after its last compaction: nothing was left to reserve; or a compaction was refused.
+abbrev pub IsLast : Type 0 → (Asked → ShelfFault → Type 0) → (Held → Type 0) → Option WorkerFault → Told → Told → Type 0
+IsLast Honest Refused keeps None was is = is ≡ was
+IsLast Honest Refused keeps (Some NoThread) was is = ⊥
+IsLast Honest Refused keeps (Some (State fault)) was is = IsRefusedBy Honest Refused keeps fault was is
+IsLast Honest Refused keeps (Some (Merge fault)) was is = IsUnmerged Honest fault was is
+
+-- A worker ended with this shelf: it did as many compactions as it says, one after another, and then what ended it; and its shelf was
+-- told no more.
+pub record IsWorked (Honest : Type 0) (Refused : Asked → ShelfFault → Type 0) (keeps : Held → Type 0) (given : Told) (e : WorkerEnd) (back : Told) : Type 0 where
+  pub turns : ℕ
+  pub counted : e.installed ≡ min turns (2 ^ 64 - 1)
+  pub mid : Told
+  pub done : Turns Honest keeps turns given mid
+  pub last : IsLast Honest Refused keeps e.fault mid back
+
+-- What comes back of a shelf that was given to a worker: nothing where its thread could not be made, and it has done nothing; else the
+-- shelf that it ended with.
+abbrev pub IsReturned : Type 0 → (Asked → ShelfFault → Type 0) → (Held → Type 0) → Told → WorkerEnd → Option Told → Type 0
+IsReturned Honest Refused keeps given e None = (e.installed ≡ 0) × (e.fault ≡ Some NoThread)
+IsReturned Honest Refused keeps given e (Some back) = IsWorked Honest Refused keeps given e back
+
+-- of each shelf, in their order
+abbrev pub AreReturned : Type 0 → (Asked → ShelfFault → Type 0) → (Held → Type 0) → List Told → List (WorkerEnd × Option Told) → Type 0
+AreReturned Honest Refused keeps [] [] = Unit {0}
+AreReturned Honest Refused keeps [] (r ∷ rs) = ⊥
+AreReturned Honest Refused keeps (t ∷ ts) [] = ⊥
+AreReturned Honest Refused keeps (t ∷ ts) (r ∷ rs) = IsReturned Honest Refused keeps t r.0 r.1 × AreReturned Honest Refused keeps ts rs
+
+-- ---- what follows
+
+-- where the fault is the shelf's, a count rose
+abbrev pub IsCounted : WorkerFault → Told → Told → Type 0
+IsCounted NoThread was is = Unit {0}
+IsCounted (State (state.Shelf fault)) was is = Counted fault was is
+IsCounted (State e) was is = Unit {0}
+IsCounted (Merge merge.OutOfMemory) was is = Unit {0}
+IsCounted (Merge (merge.ReadFailed number (Read fault))) was is = ReadCounted fault was is
+IsCounted (Merge (merge.ReadFailed number OutOfOrder)) was is = Unit {0}
+IsCounted (Merge (merge.PutFailed number output.TooLarge)) was is = Unit {0}
+IsCounted (Merge (merge.PutFailed number (output.Shelf fault))) was is = Counted fault was is
+IsCounted (Merge (merge.UnknownTicket ticket)) was is = Unit {0}
+IsCounted (Merge merge.NumbersSpent) was is = Unit {0}
+
+abbrev pub IsCountedIf : Option WorkerFault → Told → Told → Type 0
+IsCountedIf None was is = Unit {0}
+IsCountedIf (Some fault) was is = IsCounted fault was is
+
+-- a call that puts a table or writes the manifest
+abbrev pub IsPutOrSent : Asked → Type 0
+IsPutOrSent (Put number image) = Unit {0}
+IsPutOrSent (StartManifest number bytes) = Unit {0}
+IsPutOrSent (AppendManifest bytes) = Unit {0}
+IsPutOrSent asked = ⊥
+
+-- Tables were put and the manifest was written, and that is all: nothing was removed or listed, no manifest was read, and no fork was
+-- given. Counts do not fall.
+pub record OnlyPutsAndSends (was is : Told) : Type 0 where
+  pub place : is.place ≡ was.place
+  pub gone : is.gone ≡ was.gone
+  pub listed : is.listed ≡ was.listed
+  pub found : is.found ≡ was.found
+  pub forks : is.forks ≡ was.forks
+  pub faults : was.faults ≤ is.faults
+  pub misses : was.misses ≤ is.misses
+  pub calls : List Asked
+  pub made : is.made ≡ calls ++ was.made
+  pub each : (a : Asked) → Has calls a → IsPutOrSent a
