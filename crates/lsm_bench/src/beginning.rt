@@ -3,7 +3,7 @@
 ghost use Rattle.std.specs.Prelude.{◌≡◌, IfOk, vec_len};
 ghost use Rattle.lsm_state.specs.Making.{IsNewBoard, IsNewHistory};
 ghost use Rattle.lsm_store.specs.Readers.{SeatsPinners};
-ghost use Rattle.lsm_writing.specs.Starting.{usual};
+ghost use Rattle.lsm_writing.specs.Starting.{IsNew, usual};
 
 use crate::bench_fault::BenchFault;
 use lsm_directory::DirectoryFault;
@@ -26,6 +26,7 @@ pub(crate) fn begin<N: Boarded, S: Shelf, R: Wait>(
     requires board { IsNewBoard N.board usual parts.publisher parts.pinners.items }
     requires seats { vec_len parts.pinners ≡ usual.readers }
     requires history { IsNewHistory N.history parts.history }
+    ensures begun { IfOk result (λ s. IsNew number s shelf.old shelf.new) }
     ensures seats { IfOk result (λ s. SeatsPinners s) }
 {
     if number == u64::MAX {

@@ -8,9 +8,10 @@ ghost use Rattle.lsm_state.specs.declared.state_fault.StateFault.TheVariants.{Ou
 
 use lsm_batch::Write as KeyWrite;
 use lsm_directory::{DirectoryFault, Exit};
+use lsm_loading::LoadFault;
 use lsm_state::StateFault;
 use lsm_store::WorkerFault;
-use lsm_table::ReadFault;
+use lsm_table::{ReadFault, ShelfFault};
 use lsm_writing::{CompactFault, WriterFault};
 use std::alloc::AllocError;
 use std::fmt;
@@ -25,6 +26,8 @@ pub enum BenchFault {
     IsThere,
     /// The database refused.
     State(StateFault),
+    /// A batch came in that is not of these benchmarks.
+    Other,
     /// A worker ended early.
     Worker(WorkerFault),
     /// The clock of the system could not be read.
@@ -38,6 +41,19 @@ impl BenchFault {
     pub(crate) fn of_read(fault: ReadFault) -> BenchFault {
         BenchFault::State(StateFault::from(fault))
     }
+
+    /// A refusal of the shelf.
+    pub(crate) fn of_shelf(fault: ShelfFault) -> BenchFault {
+        BenchFault::Before(WriterFault::of_shelf(fault))
+    }
+
+    /// A batch that did not come in, or not alone.
+    pub(crate) fn of_batch(fault: LoadFault) -> BenchFault {
+        match fault {
+            LoadFault::Ingest(fault) => BenchFault::State(fault),
+            _ => BenchFault::Other,
+        }
+    }
 }
 
 impl fmt::Display for BenchFault {
@@ -49,6 +65,7 @@ impl fmt::Display for BenchFault {
             BenchFault::IsThere => f.write_str("refused 53 IsThere"),
             BenchFault::State(fault) => write!(f, "{}", WriterFault::State(*fault)),
             BenchFault::Worker(fault) => write!(f, "{}", CompactFault::Worker(*fault)),
+            BenchFault::Other => f.write_str("another batch came in between these"),
             BenchFault::Clock => f.write_str("clock fault"),
             BenchFault::Write => write!(f, "{}", WriterFault::Write),
         }

@@ -1,11 +1,19 @@
 //! Pairs come in, batch by batch.
 
+ghost use Rattle.std.specs.Prelude.{◌≡◌, ◌∷◌, ◌++◌, ◌+◌, ◌<◌, ◌≤◌, [], List, length, IfOk, OnOk};
+ghost use Rattle.lsm_batch.specs.declared.write.Write.{Write};
+ghost use Rattle.lsm_lines.specs.LastWrites.{KeepsLast};
+ghost use Rattle.lsm_loading.specs.Coming.{ComesNext};
+ghost use Rattle.lsm_bench.specs.Filled.{Fills};
+ghost use Rattle.lsm_bench.specs.Pairs.{ArePairs, IsPairAt};
+
 use crate::bench_fault::BenchFault;
 use crate::draws::Draws;
 use crate::key::key_of;
 use lsm_batch::Write as KeyWrite;
 use lsm_codec::Bytes;
 use lsm_lines::{PutFault, WriteBuffer};
+use lsm_loading::{Grown, Mark, Origin};
 use lsm_slots::Boarded;
 use lsm_state::StateFault;
 use lsm_store::{Background, Store};
@@ -13,106 +21,128 @@ use lsm_table::{NamedShelf, Shelf};
 use std::alloc::{AllocError, Global};
 use std::sync::Wait;
 
-/// How pairs come in: so many, by ascending keys or by drawn ones, so many in a batch at most.
+// The most bytes of the keys and values of a batch.
+const MOST_BYTES: usize = 4_194_304;
+
+/// How pairs come in: so many, of so many keys, by ascending ones or by drawn ones, each with a value
+/// of so many bytes, and so many in a batch at most.
 #[derive(Clone, Copy)]
 pub(crate) struct Filling {
     pub(crate) pairs: u64,
     pub(crate) keys: u64,
+    pub(crate) size: usize,
     pub(crate) ascends: bool,
     pub(crate) batch: usize,
 }
 
-/// A write of a pair.
-fn write_of(alloc: Global, key: u64, draws: &mut Draws) -> Result<KeyWrite, AllocError> {
-    let key = Vec::from_slice(alloc, &key_of(key))?;
-    let value = Vec::from_slice(alloc, draws.value())?;
+/// How many pairs come in with the next batch, where so many are left: as many as it has room for.
+fn next_count(filling: Filling, left: u64) -> u64
+    requires { 0 < left }
+    ensures some { 0 < result }
+    ensures within { result ≤ left }
+{
+    let room = MOST_BYTES / filling.size.saturating_add(16);
+    let most = room.min(filling.batch).max(1) as u64;
+    most.min(left)
+}
+
+/// The pair that has this place among those that come in.
+fn pair_at(
+    alloc: Global,
+    filling: Filling,
+    place: u64,
+    draws: &mut Draws,
+) -> Result<KeyWrite, AllocError>
+    requires { place < filling.keys }
+    ensures { IfOk result (IsPairAt filling.keys filling.size filling.ascends place) }
+{
+    let number = if filling.ascends {
+        place
+    } else {
+        draws.number_below(filling.keys)
+    };
+    let key = Vec::from_slice(alloc, &key_of(number))?;
+    let value = Vec::from_slice(alloc, draws.value(filling.size))?;
     Ok(KeyWrite {
         key: Bytes::of(key),
         value: Some(Bytes::of(value)),
     })
 }
 
-/// Brings writes in, if there are some. Where level 0 is full it waits for the workers.
-fn bring_in<N: Boarded, S: Shelf, R: Wait>(
-    rt: &R,
-    alloc: Global,
-    store: &Store<N, S>,
-    background: &Background,
-    shelf: &mut NamedShelf<N, S>,
-    buffer: WriteBuffer,
-) -> Result<(), BenchFault> {
-    if buffer.len() == 0 {
-        return Ok(());
-    }
-    let batch = buffer.into_batch(alloc)?;
-    match background.ingest(rt, alloc, store, shelf, &batch) {
-        Ok(_) => Ok(()),
-        Err(fault) => Err(BenchFault::State(fault)),
-    }
-}
-
-/// Puts a write behind those that are gathered. It is handed back where a batch has no room for it.
-fn put(buffer: &mut WriteBuffer, write: KeyWrite) -> Result<Option<KeyWrite>, BenchFault> {
+/// Puts a write behind those that are gathered.
+fn put(buffer: &mut WriteBuffer, write: KeyWrite) -> Result<(), BenchFault>
+    ensures { OnOk result (buffer.new ≡ buffer.old ++ write ∷ []) }
+{
     match buffer.put(write) {
-        Ok(()) => Ok(None),
-        Err(PutFault::Full(write)) => Ok(Some(write)),
-        Err(PutFault::Large) => Err(BenchFault::State(StateFault::TooLarge)),
+        Ok(()) => Ok(()),
+        Err(PutFault::Full(_) | PutFault::Large) => Err(BenchFault::State(StateFault::TooLarge)),
         Err(PutFault::OutOfMemory) => Err(BenchFault::State(StateFault::OutOfMemory)),
     }
 }
 
-/// Gathers the writes of the next batch, and how many pairs are left then. What the batch has no
-/// room for begins the next one.
+/// The pairs that come in with the next batch, so many, of which the first has this place.
 fn gather(
     alloc: Global,
     filling: Filling,
-    left: u64,
-    first: Option<KeyWrite>,
+    first: u64,
+    count: u64,
     draws: &mut Draws,
-) -> Result<(WriteBuffer, u64, Option<KeyWrite>), BenchFault> {
+) -> Result<WriteBuffer, BenchFault>
+    requires { first + count ≤ filling.keys }
+    ensures pairs { IfOk result (ArePairs filling.keys filling.size filling.ascends first) }
+    ensures count { IfOk result (λ b. length b ≡ count) }
+{
     let mut buffer = WriteBuffer::new(alloc);
-    let mut left = left;
-    if let Some(write) = first {
-        let _none = put(&mut buffer, write)?;
+    'pairs: for place in 0..count {
+        let write = pair_at(alloc, filling, first + place, draws)?;
+        put(&mut buffer, write)?;
     }
-    for _ in 0..filling.batch {
-        if left == 0 || buffer.len() >= filling.batch {
-            break;
-        }
-        let key = if filling.ascends {
-            filling.pairs.saturating_sub(left)
-        } else {
-            draws.number_below(filling.keys)
-        };
-        left = left.saturating_sub(1);
-        let write = write_of(alloc, key, draws)?;
-        if let Some(write) = put(&mut buffer, write)? {
-            return Ok((buffer, left, Some(write)));
-        }
-    }
-    Ok((buffer, left, None))
+    Ok(buffer)
 }
 
-/// Brings pairs into the store while its workers compact beside. Each batch is synced.
-pub(crate) fn fill<N: Boarded, S: Shelf, R: Wait>(
+/// Brings the last writes of what was gathered in. Where level 0 is full it waits for the workers.
+fn bring_in<N: Boarded, S: Shelf, O: Origin, R: Wait>(
     rt: &R,
     alloc: Global,
-    store: &Store<N, S>,
+    store: &Store<N, S, Grown<O>>,
+    background: &Background,
+    shelf: &mut NamedShelf<N, S>,
+    buffer: WriteBuffer,
+    mark: Mark<N, O>,
+) -> Result<Mark<N, O>, BenchFault>
+    ensures { IfOk result (λ m. (batch : List Write) × KeepsLast buffer batch
+        × ComesNext batch mark m) }
+{
+    let batch = buffer.into_batch(alloc)?;
+    match lsm_loading::bring_in(rt, alloc, store, background, shelf, &batch, mark) {
+        Ok(mark) => Ok(mark),
+        Err((fault, _later)) => Err(BenchFault::of_batch(fault)),
+    }
+}
+
+/// Brings pairs into a store that is as far as a mark says, while its workers compact beside. Each
+/// batch is synced. How far it is then.
+pub(crate) fn fill<N: Boarded, S: Shelf, O: Origin, R: Wait>(
+    rt: &R,
+    alloc: Global,
+    store: &Store<N, S, Grown<O>>,
     background: &Background,
     shelf: &mut NamedShelf<N, S>,
     filling: Filling,
     draws: &mut Draws,
-) -> Result<(), BenchFault> {
-    let mut left = filling.pairs;
-    let mut first = None;
-    for _ in 0..u64::MAX {
-        let (buffer, after, rest) = gather(alloc, filling, left, first, draws)?;
-        left = after;
-        first = rest;
-        if buffer.len() == 0 {
-            return Ok(());
-        }
-        bring_in(rt, alloc, store, background, shelf, buffer)?;
+    mark: Mark<N, O>,
+) -> Result<Mark<N, O>, BenchFault>
+    requires { filling.pairs ≤ filling.keys }
+    ensures { IfOk result
+        (Fills filling.keys filling.size filling.ascends filling.pairs mark) }
+{
+    let mut mark = mark;
+    let mut taken = 0;
+    'batches: while taken < filling.pairs {
+        let count = next_count(filling, filling.pairs - taken);
+        let buffer = gather(alloc, filling, taken, count, draws)?;
+        mark = bring_in(rt, alloc, store, background, shelf, buffer, mark)?;
+        taken += count;
     }
-    Ok(())
+    Ok(mark)
 }

@@ -2,6 +2,7 @@
 
 ghost use Rattle.std.specs.Prelude.{◌≡◌, ◌≢◌, IfOk, OnOk};
 ghost use Rattle.std.specs.Io.KnownBytes.{Keeps};
+ghost use Rattle.lsm_bench.specs.Benched.{BenchesAt};
 ghost use Rattle.lsm_directory.specs.Logs.{NoneUnread};
 ghost use Rattle.lsm_writing.specs.declared.ingesting.start.Start.TheVariants.{Begin};
 
@@ -47,6 +48,7 @@ where
     P: Paths<C>,
     R: Threads + Wait + Clock + Sync,
     O: Write,
+    ensures done { OnOk result (BenchesAt C.FolderCalls path.now options.now) }
 {
     let plainly = IngestOptions {
         form: Form::Hex,
@@ -79,6 +81,7 @@ where
     R: Threads + Wait + Clock + Sync,
     O: Write,
     E: Write,
+    ensures done { result ≡ 0 → BenchesAt C.FolderCalls path.now options.now }
     ensures refused { result ≢ 0 → result ≡ 1 }
     ensures quiet { result ≡ 0 → Keeps (E.contents err.old) (E.contents err.new) }
 {

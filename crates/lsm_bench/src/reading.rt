@@ -4,6 +4,7 @@ use crate::bench_fault::BenchFault;
 use crate::draws::Draws;
 use crate::key::key_of;
 use crate::views::view_now;
+use lsm_loading::{Grown, Origin};
 use lsm_slots::Boarded;
 use lsm_store::{Reader, Store, View};
 use lsm_table::{ReadFault, Shelf};
@@ -34,10 +35,10 @@ impl Found {
 }
 
 /// Reads a key in the newest version.
-fn read_key<N: Boarded, S: Shelf, R: Wait>(
+fn read_key<N: Boarded, S: Shelf, O: Origin, R: Wait>(
     rt: &R,
     alloc: Global,
-    store: &Store<N, S>,
+    store: &Store<N, S, Grown<O>>,
     reader: Reader<N, S>,
     key: &[u8],
     found: Found,
@@ -57,10 +58,10 @@ fn read_key<N: Boarded, S: Shelf, R: Wait>(
 }
 
 /// Reads so many drawn keys, each in the version that is the newest one then.
-pub(crate) fn read_drawn<N: Boarded, S: Shelf, R: Wait>(
+pub(crate) fn read_drawn<N: Boarded, S: Shelf, O: Origin, R: Wait>(
     rt: &R,
     alloc: Global,
-    store: &Store<N, S>,
+    store: &Store<N, S, Grown<O>>,
     reader: Reader<N, S>,
     keys: u64,
     draws: &mut Draws,
@@ -97,10 +98,10 @@ fn pairs_of<N: Boarded, S: Shelf>(
 }
 
 /// Goes through all pairs of the newest version.
-pub(crate) fn read_all<N: Boarded, S: Shelf, R: Wait>(
+pub(crate) fn read_all<N: Boarded, S: Shelf, O: Origin, R: Wait>(
     rt: &R,
     alloc: Global,
-    store: &Store<N, S>,
+    store: &Store<N, S, Grown<O>>,
     reader: Reader<N, S>,
 ) -> (Reader<N, S>, Result<Found, BenchFault>) {
     let mut view = match view_now(rt, store, reader) {

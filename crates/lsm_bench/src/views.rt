@@ -1,5 +1,9 @@
 //! A view of the newest version.
 
+ghost use Rattle.std.specs.Prelude.{◌≡◌};
+ghost use Rattle.lsm_loading.specs.Marks.{marked_in};
+
+use lsm_loading::{Grown, Origin};
 use lsm_slots::Boarded;
 use lsm_state::{State, StateFault};
 use lsm_store::{Reader, Store, View};
@@ -11,7 +15,9 @@ use std::sync::Wait;
 fn view_of<N: Boarded, S: Shelf>(
     state: &mut State<N, S>,
     reader: Reader<N, S>,
-) -> Result<View<N, S>, (Reader<N, S>, StateFault)> {
+) -> Result<View<N, S>, (Reader<N, S>, StateFault)>
+    ensures { marked_in state.new ≡ marked_in state.old }
+{
     let mut reader = reader;
     if reader.refresh(state).is_err() {
         return Err((reader, StateFault::OutOfMemory));
@@ -23,9 +29,9 @@ fn view_of<N: Boarded, S: Shelf>(
 }
 
 /// A view of the newest version. The lock is taken only where the reader has not learnt it.
-pub(crate) fn view_now<N: Boarded, S: Shelf, R: Wait>(
+pub(crate) fn view_now<N: Boarded, S: Shelf, O: Origin, R: Wait>(
     rt: &R,
-    store: &Store<N, S>,
+    store: &Store<N, S, Grown<O>>,
     reader: Reader<N, S>,
 ) -> Result<View<N, S>, (Reader<N, S>, StateFault)> {
     match reader.begin() {

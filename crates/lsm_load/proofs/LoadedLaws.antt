@@ -11,6 +11,7 @@ use Rattle.lsm_text.specs.declared.form.Form.{Form}
 use Rattle.lsm_directory.specs.declared.folder.folder_file.FolderFile.{FolderFile}
 use Rattle.lsm_lines.specs.Gathering.{Pending}
 use Rattle.lsm_lines.specs.Passing.{PassesLines}
+use Rattle.lsm_loading.specs.Ending.{IsIdle}
 use Rattle.lsm_loading.specs.Loading.{IsLoaded}
 use Rattle.lsm_loading.specs.Marks.{Marked, marked_in}
 use Rattle.lsm_loading.specs.declared.progress.Progress.{Progress}
@@ -31,35 +32,36 @@ to_come form from count input old new made is passed rest = (
 
 -- all lines came in; what is left is just as far as the state behind them
 pub loads_all : (Honest : Type 0) (start : Start) (logs : List FolderFile) (pending : Pending) (p : Progress) (found loaded left : Held) (was opened is : Told)
-    → IsStarted Honest start logs found was opened → IsLoaded pending (marked_in found) (marked_in loaded) p → Forked opened is → marked_in left ≡ marked_in loaded
+    → IsStarted Honest start logs found was opened → IsLoaded pending (marked_in found) (marked_in loaded) p → (Honest → IsIdle left) → Forked opened is → marked_in left ≡ marked_in loaded
     → LoadsAll Honest start logs pending p left was is
-loads_all Honest start logs pending p found loaded left was opened is started all forked same = record {
+loads_all Honest start logs pending p found loaded left was opened is started all idle forked same = record {
   found = found;
   mid = opened;
   started = started;
   loaded = subst (λ (m : Marked). IsLoaded pending (marked_in found) m p) (sym same) all;
+  idle = idle;
   forked = forked;
 }
 
 pub loads_whole : (Honest : Type 0) (start : Start) (logs : List FolderFile) (pending : Pending) (p : Progress) (board : TableId) (found loaded left : Held) (was opened mid is : Told)
-    → IsStarted Honest start logs found was opened → IsLoaded pending (marked_in found) (marked_in loaded) p → Forked opened mid → marked_in left ≡ marked_in loaded
+    → IsStarted Honest start logs found was opened → IsLoaded pending (marked_in found) (marked_in loaded) p → (Honest → IsIdle left) → Forked opened mid → marked_in left ≡ marked_in loaded
     → IsSwept Honest board left mid is → LoadsWhole Honest start logs pending p was is
-loads_whole Honest start logs pending p board found loaded left was opened mid is started all forked same swept = record {
+loads_whole Honest start logs pending p board found loaded left was opened mid is started all idle forked same swept = record {
   left = left;
   mid = mid;
-  loads = loads_all Honest start logs pending p found loaded left was opened mid started all forked same;
+  loads = loads_all Honest start logs pending p found loaded left was opened mid started all idle forked same;
   board = board;
   swept = swept;
 }
 
 pub unswept : (Refused : Asked → ShelfFault → Type 0) (Honest : Type 0) (start : Start) (logs : List FolderFile) (pending : Pending) (p : Progress) (fault : StateFault) (board : TableId)
-    (found loaded left : Held) (was opened mid is : Told) → IsStarted Honest start logs found was opened → IsLoaded pending (marked_in found) (marked_in loaded) p → Forked opened mid
+    (found loaded left : Held) (was opened mid is : Told) → IsStarted Honest start logs found was opened → IsLoaded pending (marked_in found) (marked_in loaded) p → (Honest → IsIdle left) → Forked opened mid
     → marked_in left ≡ marked_in loaded → Refuses Refused Honest board left fault mid is → IsUnswept Refused Honest start logs pending fault was is
-unswept Refused Honest start logs pending p fault board found loaded left was opened mid is started all forked same refuses = record {
+unswept Refused Honest start logs pending p fault board found loaded left was opened mid is started all idle forked same refuses = record {
   p = p;
   left = left;
   mid = mid;
-  loads = loads_all Honest start logs pending p found loaded left was opened mid started all forked same;
+  loads = loads_all Honest start logs pending p found loaded left was opened mid started all idle forked same;
   board = board;
   refuses = refuses;
 }

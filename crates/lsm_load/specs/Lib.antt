@@ -1,3 +1,4 @@
 -- What clauses cite
 pub mod Loaded
 pub mod LoadedAt
+pub mod StoppedText

@@ -5,7 +5,7 @@ use Rattle.atomic_table.specs.Seated.{TableId}
 use Rattle.lsm_shelf.specs.Asked.{Asked}
 use Rattle.lsm_shelf.specs.Told.{Forked, Told}
 use Rattle.lsm_shelf.specs.declared.shelf_fault.ShelfFault.{ShelfFault}
-use Rattle.lsm_state.specs.Held.{Held}
+use Rattle.lsm_state.specs.Held.{Held, IsLawfulState}
 use Rattle.lsm_state.specs.declared.state_fault.StateFault.{StateFault}
 use Rattle.lsm_text.specs.declared.form.Form.{Form}
 use Rattle.lsm_text.specs.declared.load_options.LoadOptions.{LoadOptions}
@@ -16,6 +16,7 @@ use Rattle.lsm_writing.specs.Compacting.{IsSwept, Refuses}
 use Rattle.lsm_writing.specs.Starting.{IsStartRefusal, IsStarted}
 use Rattle.lsm_writing.specs.declared.faults.writer_fault.WriterFault.TheVariants.{OutOfMemory, Read}
 use Rattle.lsm_writing.specs.declared.ingesting.start.Start.{Start}
+use Rattle.lsm_loading.specs.Ending.{IsIdle}
 use Rattle.lsm_loading.specs.Loading.{IsLoaded, IsUnloaded}
 use Rattle.lsm_loading.specs.Marks.{marked_in}
 use Rattle.lsm_loading.specs.declared.load_fault.LoadFault.{LoadFault}
@@ -27,12 +28,14 @@ use Rattle.lsm_load.specs.declared.stopped.Stopped.TheVariants.{Before, Lines, S
 abbrev pub loaded_text : Progress → List ℕ
 loaded_text p = codes "loaded " ++ (decimal p.lines ++ (codes " lines in " ++ (decimal p.batches ++ (codes " batches" ++ (10 ∷ [])))))
 
--- The directory was begun or opened, and all lines that were to come came into it, so many; after the opening the shelf was asked for forks alone.
+-- The directory was begun or opened, and all lines that were to come came into it, so many; over an honest shelf nothing was due behind them;
+-- after the opening the shelf was asked for forks alone.
 pub record LoadsAll (Honest : Type 0) (start : Start) (logs : List FolderFile) (pending : Pending) (p : Progress) (left : Held) (was is : Told) : Type 0 where
   pub found : Held
   pub mid : Told
   pub started : IsStarted Honest start logs found was mid
   pub loaded : IsLoaded pending (marked_in found) (marked_in left) p
+  pub idle : Honest → IsIdle left
   pub forked : Forked mid is
 
 -- ... and what the state behind them does not keep was removed.
@@ -49,12 +52,15 @@ IsLoadDone Honest start logs pending was is old new = (p : Progress) × LoadsWho
 
 -- ---- refusals
 
--- The directory was begun or opened; so much came in, and this fault kept the others out, or what was due from being compacted.
+-- The directory was begun or opened; just so much came into it, which is in the lawful state that was left, and this fault kept the others out, or what was due from being compacted.
 pub record StopsLoading (Refused : Asked → ShelfFault → Type 0) (Honest : Type 0) (start : Start) (logs : List FolderFile) (pending : Pending) (p : Progress) (fault : LoadFault) (was is : Told) : Type 0 where
   pub found : Held
   pub mid : Told
   pub started : IsStarted Honest start logs found was mid
-  pub unloaded : IsUnloaded Refused (marked_in found) pending (marked_in found) p fault
+  pub left : Held
+  pub board : TableId
+  pub lawful : IsLawfulState Honest board left
+  pub unloaded : IsUnloaded Refused Honest (marked_in found) pending (marked_in found) (marked_in left) p fault
   pub forked : Forked mid is
 
 -- All lines came in, and the collect behind them was refused.

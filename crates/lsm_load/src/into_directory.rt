@@ -10,11 +10,10 @@ ghost use Rattle.lsm_load.specs.Loaded.{IsToCome, loaded_text};
 ghost use Rattle.lsm_writing.specs.declared.faults.writer_fault.WriterFault.TheVariants.{OutOfMemory, Read};
 ghost use Rattle.lsm_load.specs.declared.stopped.Stopped.TheVariants.{Write as WriteStopped};
 
-use crate::lines_in::load_over;
 use crate::stopped::Stopped;
 use crate::sweeping::sweep;
 use lsm_lines::BatchReader;
-use lsm_loading::{Progress, Teller};
+use lsm_loading::{Loaded, Progress, Teller, load_beside};
 use lsm_slots::Boarded;
 use lsm_state::State;
 use lsm_table::{NamedShelf, Shelf};
@@ -81,7 +80,11 @@ where
 {
     let parts = parts.named(alloc)?;
     let state: State<N, S> = start(rt, alloc, shelf, prepared, parts)?;
-    let (done, progress) = load_over::<N, S, Brand, R, I, T>(
+    let Loaded {
+        done,
+        progress,
+        state,
+    } = load_beside::<N, S, Brand, R, I, T>(
         rt,
         alloc,
         state,
@@ -90,17 +93,21 @@ where
         lines,
         teller,
     );
-    let mut state = match done {
-        Ok(state) => state,
+    let mut state = state;
+    // The law of the state is told by this call.
+    let _options = state.options();
+    match done {
+        Ok(()) => {
+            sweep(rt, alloc, &mut state, shelf)?;
+            match reply(out, progress) {
+                Ok(()) => Ok(()),
+                Err(_) => Err(Stopped::Write),
+            }
+        }
         Err(fault) => {
             let line = line_behind(options.from_line, progress.lines);
-            return Err(Stopped::Lines(fault, line));
+            Err(Stopped::Lines(fault, line))
         }
-    };
-    sweep(rt, alloc, &mut state, shelf)?;
-    match reply(out, progress) {
-        Ok(()) => Ok(()),
-        Err(_) => Err(Stopped::Write),
     }
 }
 

@@ -8,7 +8,6 @@
 
 // The lines come into a directory.
 mod into_directory;
-mod lines_in;
 mod sweeping;
 
 // What is told of it.

@@ -1,21 +1,14 @@
 //! Which lines are in, in lines on standard error.
 
+use crate::stopped::write_came;
 use lsm_loading::{Progress, Teller};
-use std::io::{self, Write};
+use std::io::Write;
 
 /// Says which lines are in after each batch. What can't be written is left out.
 #[derive(Drop)]
 pub(crate) struct LineTeller<'a, E: Write> {
     err: &'a mut E,
     passed: u64,
-}
-
-/// Writes which lines are in: `lines 1 to 131072 are in`.
-pub(crate) fn write_came<E: Write>(err: &mut E, last: u128) -> io::Result<()> {
-    if last == 0 {
-        return writeln!(err, "no line is in");
-    }
-    writeln!(err, "lines 1 to {last} are in")
 }
 
 impl<'a, E: Write> LineTeller<'a, E> {

@@ -6,8 +6,8 @@ ghost use Rattle.lsm_directory.specs.Inputs.{text_in};
 ghost use Rattle.lsm_load.specs.LoadedAt.{FailsToLoad, LoadsAt};
 
 use crate::into_directory::load_into;
-use crate::line_teller::{LineTeller, write_came};
-use crate::stopped::Stopped;
+use crate::line_teller::LineTeller;
+use crate::stopped::{Stopped, write_last};
 use lsm_directory::{Known, Paths, Unopened, open_at, refuse, status_of};
 use lsm_folder::{FolderCalls, Reasons};
 use lsm_loading::{NoTeller, Teller};
@@ -78,9 +78,7 @@ fn answer<E: Write>(done: Result<(), Stopped>, reasons: &Reasons, err: &mut E) -
     };
     let last = fault.last_in();
     let status = refuse_known(fault, reasons, err);
-    if let Some(last) = last {
-        let _ = write_came(err, last);
-    }
+    let _ = write_last(err, last);
     status
 }
 

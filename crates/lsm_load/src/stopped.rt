@@ -1,6 +1,9 @@
 //! Why a load ends with status 1.
 
-ghost use Rattle.std.specs.Prelude.{◌≡◌, None};
+ghost use Rattle.std.specs.Prelude.{◌≡◌, IfSome, None, OnOk};
+ghost use Rattle.std.specs.Io.KnownBytes.{Appends};
+ghost use Rattle.lsm_load.specs.StoppedText.{came_text, last_in, line_text, load_text};
+ghost use Rattle.lsm_load.specs.StoppedText.{stopped_text};
 ghost use Rattle.lsm_load.specs.declared.stopped.Stopped.TheVariants.{Before, Sweep};
 ghost use Rattle.lsm_writing.specs.declared.faults.writer_fault.WriterFault.TheVariants.{Directory};
 ghost use Rattle.lsm_writing.specs.declared.faults.writer_fault.WriterFault.TheVariants.{OutOfMemory};
@@ -33,11 +36,86 @@ pub enum Stopped {
 
 impl Stopped {
     /// The number of the last line that is in, where not all are; 0 where none is.
-    pub(crate) fn last_in(&self) -> Option<u128> {
+    pub(crate) fn last_in(&self) -> Option<u128>
+        ensures { result ≡ last_in self.now }
+    {
         match self {
             Stopped::Lines(_, line) => Some(line.saturating_sub(1)),
             _ => None,
         }
+    }
+}
+
+/// A line of this number that is no write. It prints as a text without a newline.
+struct BadLine(WriteLineFault, u128);
+
+impl fmt::Display for BadLine {
+    ghost output = { λ l. line_text l.0 l.1 };
+
+    fn fmt<W: fmt::Write>(&self, f: &mut fmt::Formatter<W>) -> fmt::Result {
+        let BadLine(fault, line) = self;
+        match fault {
+            WriteLineFault::BadLine(_) | WriteLineFault::LongLine | WriteLineFault::LargeWrite => {
+                write!(f, "bad line {line}")
+            }
+            WriteLineFault::Read => write!(f, "{}", WriterFault::Read),
+            WriteLineFault::OutOfMemory => write!(f, "{}", WriterFault::OutOfMemory),
+        }
+    }
+}
+
+/// What kept the lines from the one of this number on out, or what was due from being compacted. It
+/// prints as a text without a newline.
+struct Unloaded(LoadFault, u128);
+
+impl fmt::Display for Unloaded {
+    ghost output = { λ u. load_text u.0 u.1 };
+
+    fn fmt<W: fmt::Write>(&self, f: &mut fmt::Formatter<W>) -> fmt::Result {
+        let Unloaded(fault, line) = self;
+        match *fault {
+            LoadFault::OutOfMemory => write!(f, "{}", WriterFault::OutOfMemory),
+            LoadFault::Shelf(fault) => write!(f, "{}", WriterFault::of_shelf(fault)),
+            LoadFault::Line(fault) => write!(f, "{}", BadLine(fault, *line)),
+            LoadFault::Ingest(fault) => write!(f, "{}", WriterFault::State(fault)),
+            LoadFault::Other => f.write_str("another batch came in between these"),
+            LoadFault::Worker(fault) => write!(f, "{}", CompactFault::Worker(fault)),
+            LoadFault::Due => f.write_str("something is left to compact"),
+        }
+    }
+}
+
+impl fmt::Display for Stopped {
+    ghost output = { stopped_text };
+
+    fn fmt<W: fmt::Write>(&self, f: &mut fmt::Formatter<W>) -> fmt::Result {
+        match self {
+            Stopped::Before(fault) => write!(f, "{fault}"),
+            Stopped::Lines(fault, line) => write!(f, "{}", Unloaded(*fault, *line)),
+            Stopped::Sweep(fault) => write!(f, "{}", WriterFault::State(*fault)),
+            Stopped::Write => write!(f, "{}", WriterFault::Write),
+        }
+    }
+}
+
+/// Writes which lines are in: `lines 1 to 131072 are in`.
+pub(crate) fn write_came<E: Write>(err: &mut E, last: u128) -> io::Result<()>
+    ensures { OnOk result (Appends (E.contents err.old) (E.contents err.new) (came_text last)) }
+{
+    if last == 0 {
+        return writeln!(err, "no line is in");
+    }
+    writeln!(err, "lines 1 to {last} are in")
+}
+
+/// Writes which lines are in, where not all are.
+pub(crate) fn write_last<E: Write>(err: &mut E, last: Option<u128>) -> io::Result<()>
+    ensures { OnOk result (IfSome last (λ n.
+        Appends (E.contents err.old) (E.contents err.new) (came_text n))) }
+{
+    match last {
+        Some(last) => write_came(err, last),
+        None => Ok(()),
     }
 }
 
@@ -52,7 +130,7 @@ fn fault_of_line(fault: WriteLineFault, line: u128) -> WriterFault {
     }
 }
 
-/// What kept lines out, as other commands tell it; none where another batch came in.
+/// What kept lines out, as other commands tell it; none where they have no such fault.
 fn fault_of_load(fault: LoadFault, line: u128) -> Option<CompactFault> {
     match fault {
         LoadFault::OutOfMemory => Some(CompactFault::Writer(WriterFault::OutOfMemory)),
@@ -60,32 +138,7 @@ fn fault_of_load(fault: LoadFault, line: u128) -> Option<CompactFault> {
         LoadFault::Line(fault) => Some(CompactFault::Writer(fault_of_line(fault, line))),
         LoadFault::Ingest(fault) => Some(CompactFault::Writer(WriterFault::State(fault))),
         LoadFault::Worker(fault) => Some(CompactFault::Worker(fault)),
-        LoadFault::Other => None,
-    }
-}
-
-/// Writes what a fault of a load is.
-fn write_load<W: fmt::Write>(
-    f: &mut fmt::Formatter<W>,
-    fault: LoadFault,
-    line: u128,
-) -> fmt::Result {
-    match fault_of_load(fault, line) {
-        Some(fault) => write!(f, "{fault}"),
-        None => f.write_str("another batch came in between these"),
-    }
-}
-
-impl fmt::Display for Stopped {
-    ghost output = { λ _. None };
-
-    fn fmt<W: fmt::Write>(&self, f: &mut fmt::Formatter<W>) -> fmt::Result {
-        match self {
-            Stopped::Before(fault) => write!(f, "{fault}"),
-            Stopped::Lines(fault, line) => write_load(f, *fault, *line),
-            Stopped::Sweep(fault) => write!(f, "{}", WriterFault::State(*fault)),
-            Stopped::Write => write!(f, "{}", WriterFault::Write),
-        }
+        LoadFault::Other | LoadFault::Due => None,
     }
 }
 
@@ -102,10 +155,15 @@ fn explain_line<E: Write>(err: &mut E, fault: WriteLineFault, line: u128) -> io:
     }
 }
 
+/// Writes what is left where all lines are in, and something is due.
+fn explain_due<E: Write>(err: &mut E) -> io::Result<()> {
+    writeln!(err, "all lines are in; what is due is left to lsm compact")
+}
+
 /// Writes what a worker's early end means.
 fn explain_worker<E: Write>(err: &mut E, fault: WorkerFault) -> io::Result<()> {
     CompactFault::Worker(fault).explain(err, &[])?;
-    writeln!(err, "all lines are in; what is due is left to lsm compact")
+    explain_due(err)
 }
 
 /// Writes what a fault of a load means.
@@ -113,6 +171,7 @@ fn explain_load<E: Write>(err: &mut E, fault: LoadFault, line: u128) -> io::Resu
     match fault {
         LoadFault::Line(fault) => explain_line(err, fault, line),
         LoadFault::Worker(fault) => explain_worker(err, fault),
+        LoadFault::Due => explain_due(err),
         fault => match fault_of_load(fault, line) {
             Some(fault) => fault.explain(err, &[]),
             None => Ok(()),

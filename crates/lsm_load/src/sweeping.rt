@@ -2,6 +2,7 @@
 
 ghost use Rattle.std.specs.Prelude.{◌≡◌, IfErr, OnOk};
 ghost use Rattle.lsm_writing.specs.Compacting.{IsSwept, Refuses};
+ghost use Rattle.lsm_loading.specs.Ending.{IsIdle};
 ghost use Rattle.lsm_loading.specs.Marks.{marked_in};
 
 use lsm_slots::Boarded;
@@ -22,6 +23,7 @@ pub(crate) fn sweep<N: Boarded, S: Shelf, R: Wait>(
     ensures refused { IfErr result (λ e.
         Refuses (S.refuses N.place) S.honest N.board state.new e shelf.old shelf.new) }
     ensures same { marked_in state.new ≡ marked_in state.old }
+    ensures idle { IsIdle state.old → IsIdle state.new }
 {
     let collected = state.collect(rt, alloc, shelf);
     // The law of the state is told by this call.

@@ -1,3 +1,5 @@
 pub mod MarkLaws
 pub mod LoadLaws
+pub mod EndingLaws
 pub mod AnswerLaws
+pub mod CallerLemmas

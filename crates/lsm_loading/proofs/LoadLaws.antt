@@ -1,6 +1,6 @@
 -- Lines that come in, batch by batch.
 use Rattle.std.proofs.Common.{◌≡◌, ℕ, suc, ◌+◌, ◌*◌, ◌<◌, ◌≤◌, List, [], ◌∷◌, ◌++◌, length, Option, Some, None, refl, sym, ap, ◌∙◌, subst, append_assoc, append-nil, length-append, inl, inr, arith}
-use Rattle.std.specs.Prelude.{◌⊎◌, ◌^◌, Result, Ok, Err, IfOk, IfErr}
+use Rattle.std.specs.Prelude.{◌⊎◌, ◌^◌}
 use Rattle.lsm_codec.specs.Entries.{Entry}
 use Rattle.lsm_text.specs.EntryList.{lines_of}
 use Rattle.lsm_text.specs.BatchText.{AreWriteLines}
@@ -17,11 +17,11 @@ use Rattle.lsm_lines.proofs.CallerLemmas.{cut_more, cut_none}
 use Rattle.lsm_shelf.specs.Asked.{Asked}
 use Rattle.lsm_shelf.specs.declared.shelf_fault.ShelfFault.{ShelfFault}
 use Rattle.lsm_loading.specs.Coming.{CameIn, ComesNext, all_after, last_after}
-use Rattle.lsm_loading.specs.Loading.{BatchCame, IsLate, IsLoaded, IsNotTaken, IsUnloaded, Loads, NoneCame, SomeAreIn, StaysOut, StopsBehind, TakesBatch}
-use Rattle.lsm_state.specs.Held.{Held}
-use Rattle.lsm_loading.specs.Marks.{Marked, marked_in}
+use Rattle.lsm_loading.specs.Loading.{BatchCame, IsLoaded, IsNotTaken, IsStopped, KeepsNextOut, Loads, NoneCame, StaysOut, StopsBehind, TakesBatch}
+use Rattle.lsm_state.specs.declared.state_fault.StateFault.{StateFault}
+use Rattle.lsm_loading.specs.Marks.{Marked}
 use Rattle.lsm_loading.specs.declared.load_fault.LoadFault.{LoadFault}
-use Rattle.lsm_loading.specs.declared.load_fault.LoadFault.TheVariants.{OutOfMemory, Shelf, Line, Ingest, Other, Worker}
+use Rattle.lsm_loading.specs.declared.load_fault.LoadFault.TheVariants.{OutOfMemory, Shelf, Line, Ingest, Other, Worker, Due}
 use Rattle.lsm_loading.specs.declared.progress.Progress.{Progress}
 
 -- ---- lines, one after another
@@ -69,7 +69,10 @@ all_more : (last : ℕ) (bs : List (List Write)) (b : List Write) (history : Lis
 all_more last [] b history = refl
 all_more last (x ∷ bs) b history = all_more (last + length x) bs b (entries_from (suc last) x ++ history)
 
-came_more : (found was now : Marked) (bs : List (List Write)) (b : List Write) → CameIn found was bs → ComesNext b was now → CameIn found now (bs ++ b ∷ [])
+pub came_none : (found : Marked) → CameIn found found []
+came_none found = record { history = refl; last = refl }
+
+pub came_more : (found was now : Marked) (bs : List (List Write)) (b : List Write) → CameIn found was bs → ComesNext b was now → CameIn found now (bs ++ b ∷ [])
 came_more found was now bs b c n = record {
   history = n.history ∙ ap (λ m. entries_from (suc m) b ++ was.history) c.last ∙ ap (λ (es : List Entry). entries_from (suc (last_after found.last bs)) b ++ es) c.history
       ∙ sym (all_more found.last bs b found.history);
@@ -83,7 +86,7 @@ loads_none old found p none lines count = record {
   ws = [];
   batches = [];
   cut = cut_none;
-  came = record { history = refl; last = refl };
+  came = came_none found;
   gathers = ([], record { lines = []; taken = takes_none old.left; spelled = tt }, append-nil old.held);
   lines = lines;
   count = count;
@@ -144,25 +147,43 @@ taken_some old new r was now p q g few comes is = record {
   });
 }
 
-pub not_taken : (Refused : Asked → ShelfFault → Type 0) (found : Marked) (old new : Pending) (r : Gathered) (e : LoadFault) → IsGathered old new r → StaysOut Refused found r.batch e
-    → IsNotTaken Refused found e
-not_taken Refused found old new r OutOfMemory g k = tt
-not_taken Refused found old new r (Line fault) g k = absurd k
-not_taken Refused found old new r (Ingest fault) g k = (g.ws, r.batch, g.last, k)
-not_taken Refused found old new r Other g k = (g.ws, r.batch, g.last, k)
-not_taken Refused found old new r (Shelf fault) g k = absurd k
-not_taken Refused found old new r (Worker fault) g k = absurd k
+pub not_taken : (Refused : Asked → ShelfFault → Type 0) (found : Marked) (old new : Pending) (r : Gathered) (was now : Marked) (e : LoadFault) → IsGathered old new r
+    → StaysOut Refused found r.batch was now e → IsNotTaken Refused found old was now e
+not_taken Refused found old new r was now OutOfMemory g k = absurd k
+not_taken Refused found old new r was now (Line fault) g k = absurd k
+not_taken Refused found old new r was now (Ingest fault) g k = (new, r, g, k)
+not_taken Refused found old new r was now Other g k = (new, r, g, k)
+not_taken Refused found old new r was now (Shelf fault) g k = absurd k
+not_taken Refused found old new r was now (Worker fault) g k = absurd k
+not_taken Refused found old new r was now Due g k = absurd k
 
 -- ---- the end of a load
 
-pub unloaded : (Refused : Asked → ShelfFault → Type 0) (origin : Marked) (old : Pending) (left : Option (List ℕ)) (held : List Write) (found now : Marked) (p : Progress) (e : LoadFault)
-    → Loads old left held found now p → IsNotTaken Refused origin e → IsUnloaded Refused origin old found p e
-unloaded Refused origin old left held found now p OutOfMemory l k = (now, left, held, l)
-unloaded Refused origin old left held found now p (Line fault) l k = absurd k.3
-unloaded Refused origin old left held found now p (Ingest fault) l k = ((now, left, held, l), k)
-unloaded Refused origin old left held found now p Other l k = (now, left, held, l)
-unloaded Refused origin old left held found now p (Shelf fault) l k = (now, left, held, l)
-unloaded Refused origin old left held found now p (Worker fault) l k = (now, left, held, l)
+-- the same lines that were to come, as their parts
+same_pending : (old mid : Pending) → mid.form ≡ old.form → mid ≡ record { form = old.form; held = mid.held; left = mid.left }
+same_pending old mid form = ap (λ (f : Form). record { form = f; held = mid.held; left = mid.left }) form
+
+kept_next_out : (Refused : Asked → ShelfFault → Type 0) (origin : Marked) (old mid : Pending) (found was now : Marked) (p : Progress) (fault : StateFault) → mid.form ≡ old.form
+    → Loads old mid.left mid.held found was p → IsNotTaken Refused origin mid was now (Ingest fault) → KeepsNextOut Refused origin old found now p fault
+kept_next_out Refused origin old mid found was now p fault form l k =
+    let same : now ≡ was = k.3.0 in
+    let here : IsNotTaken Refused origin mid now now (Ingest fault) = (k.0, k.1, k.2, (refl, k.3.1)) in (
+      mid.left,
+      mid.held,
+      subst (λ (m : Marked). Loads old mid.left mid.held found m p) (sym same) l,
+      subst (λ (q : Pending). IsNotTaken Refused origin q now now (Ingest fault)) (same_pending old mid form) here,
+    )
+
+pub stopped_short : (Refused : Asked → ShelfFault → Type 0) (origin : Marked) (old mid : Pending) (found was now : Marked) (p : Progress) (e : LoadFault) → mid.form ≡ old.form
+    → Loads old mid.left mid.held found was p → IsNotTaken Refused origin mid was now e → IsStopped Refused origin old found now p e
+stopped_short Refused origin old mid found was now p OutOfMemory form l k =
+    (mid.left, mid.held, subst (λ (m : Marked). Loads old mid.left mid.held found m p) (sym k) l)
+stopped_short Refused origin old mid found was now p (Line fault) form l k = absurd k.3
+stopped_short Refused origin old mid found was now p (Ingest fault) form l k = kept_next_out Refused origin old mid found was now p fault form l k
+stopped_short Refused origin old mid found was now p Other form l k = (was, (mid.left, mid.held, l), k.3)
+stopped_short Refused origin old mid found was now p (Shelf fault) form l k = absurd k.3
+stopped_short Refused origin old mid found was now p (Worker fault) form l k = absurd k.3
+stopped_short Refused origin old mid found was now p Due form l k = absurd k.3
 
 -- one batch more, up to here
 pub on : (old mid new : Pending) (left : Option (List ℕ)) (held : List Write) (found was now : Marked) (p q : Progress) (end : BatchEnd) → mid.form ≡ old.form
@@ -177,18 +198,18 @@ ended old mid new found was now p q form l t = (t.ends.0, on old mid new t.ends.
 -- the next line is no write of a batch
 stops_behind : (old mid new : Pending) (found was now : Marked) (p q : Progress) (fault : WriteLineFault) → mid.form ≡ old.form → Loads old mid.left mid.held found was p
     → (t : TakesBatch mid new was now p q (Stopped fault)) → (left : Option (List ℕ)) → Gathers mid left [] t.ws → Stops mid.form left fault
-    → (h : Marked) × (left : Option (List ℕ)) × Loads old left [] found h q × Stops old.form left fault
+    → (left : Option (List ℕ)) × Loads old left [] found now q × Stops old.form left fault
 stops_behind old mid new found was now p q fault form l t left g s =
-    (now, left, on old mid new left [] found was now p q (Stopped fault) form l t g, subst (λ (f : Form). Stops f left fault) form s)
+    (left, on old mid new left [] found was now p q (Stopped fault) form l t g, subst (λ (f : Form). Stops f left fault) form s)
 
 pub stopped_behind : (old mid new : Pending) (found was now : Marked) (p q : Progress) (fault : WriteLineFault) → mid.form ≡ old.form → Loads old mid.left mid.held found was p
-    → TakesBatch mid new was now p q (Stopped fault) → StopsBehind old found q fault
+    → TakesBatch mid new was now p q (Stopped fault) → StopsBehind old found now q fault
 stopped_behind old mid new found was now p q (lines.BadLine place) form l t = stops_behind old mid new found was now p q (lines.BadLine place) form l t t.ends.0 t.ends.1 t.ends.2
 stopped_behind old mid new found was now p q lines.LongLine form l t = stops_behind old mid new found was now p q lines.LongLine form l t t.ends.0 t.ends.1 t.ends.2
 stopped_behind old mid new found was now p q lines.LargeWrite form l t = stops_behind old mid new found was now p q lines.LargeWrite form l t t.ends.0 t.ends.1 t.ends.2
 stopped_behind old mid new found was now p q lines.Read form l t = stops_behind old mid new found was now p q lines.Read form l t t.ends.0 t.ends.1 t.ends.2
 stopped_behind old mid new found was now p q lines.OutOfMemory form l t =
-    (now, t.ends.0, t.ends.1, on old mid new t.ends.0 t.ends.1 found was now p q (Stopped lines.OutOfMemory) form l t t.ends.2)
+    (t.ends.0, t.ends.1, on old mid new t.ends.0 t.ends.1 found was now p q (Stopped lines.OutOfMemory) form l t t.ends.2)
 
 -- ---- how much one batch adds
 
@@ -224,42 +245,6 @@ pub end_on : (old mid new : Pending) (found was now : Marked) (p q : Progress) (
 end_on old mid new found was now p q end is form l t = ended old mid new found was now p q form l (subst (λ (e : BatchEnd). TakesBatch mid new was now p q e) is t)
 
 pub stopped_on : (old mid new : Pending) (found was now : Marked) (p q : Progress) (end : BatchEnd) (fault : WriteLineFault) → end ≡ Stopped fault → mid.form ≡ old.form
-    → Loads old mid.left mid.held found was p → TakesBatch mid new was now p q end → StopsBehind old found q fault
+    → Loads old mid.left mid.held found was p → TakesBatch mid new was now p q end → StopsBehind old found now q fault
 stopped_on old mid new found was now p q end fault is form l t =
     stopped_behind old mid new found was now p q fault form l (subst (λ (e : BatchEnd). TakesBatch mid new was now p q e) is t)
-
--- ---- workers around them
-
--- nothing came in yet
-pub none_came : (old : Pending) (found : Marked) (p : Progress) → old.held ≡ [] → p ≡ record { lines = 0; batches = 0 } → SomeAreIn old found p
-none_came old found p held none =
-    (found, old.left, old.held, loads_none old found p held (ap (λ (q : Progress). q.lines) none) (ap (λ (q : Progress). q.batches) none))
-
--- the state behind all lines is as far as the mark
-pub loaded_to : (old : Pending) (found mark m now : Marked) (p : Progress) → mark ≡ found → IsLoaded old mark m p → now ≡ m → IsLoaded old found now p
-loaded_to old found mark m now p same l is =
-    subst (λ (x : Marked). IsLoaded old x now p) same (subst (λ (x : Marked). IsLoaded old mark x p) (sym is) l)
-
-pub late : (Refused : Asked → ShelfFault → Type 0) (origin : Marked) (old : Pending) (found mark m : Marked) (p : Progress) (e : LoadFault) → mark ≡ found → IsLoaded old mark m p → IsLate e
-    → IsUnloaded Refused origin old found p e
-late Refused origin old found mark m p Other same l k = (let t = loaded_to old found mark m m p same l refl in (m, t.0, [], t.1))
-late Refused origin old found mark m p (Worker fault) same l k = (let t = loaded_to old found mark m m p same l refl in (m, t.0, [], t.1))
-late Refused origin old found mark m p OutOfMemory same l k = absurd k
-late Refused origin old found mark m p (Shelf fault) same l k = absurd k
-late Refused origin old found mark m p (Line fault) same l k = absurd k
-late Refused origin old found mark m p (Ingest fault) same l k = absurd k
-
--- by what came of the lines, and then of the workers
-pub finished : (old : Pending) (found mark m : Marked) (p : Progress) (r : Result Held LoadFault) → mark ≡ found → IsLoaded old mark m p → IfOk r (λ s. marked_in s ≡ m)
-    → IfOk r (λ s. IsLoaded old found (marked_in s) p)
-finished old found mark m p (Ok s) same l k = loaded_to old found mark m (marked_in s) p same l k
-finished old found mark m p (Err e) same l k = tt
-
-pub finished_late : (Refused : Asked → ShelfFault → Type 0) (origin : Marked) (old : Pending) (found mark m : Marked) (p : Progress) (r : Result Held LoadFault) → mark ≡ found
-    → IsLoaded old mark m p → IfErr r IsLate → IfErr r (λ e. IsUnloaded Refused origin old found p e)
-finished_late Refused origin old found mark m p (Ok s) same l k = tt
-finished_late Refused origin old found mark m p (Err e) same l k = late Refused origin old found mark m p e same l k
-
-pub unloaded_of : (Refused : Asked → ShelfFault → Type 0) (origin : Marked) (old : Pending) (found mark : Marked) (p : Progress) (e : LoadFault) → mark ≡ found
-    → IsUnloaded Refused origin old mark p e → IsUnloaded Refused origin old found p e
-unloaded_of Refused origin old found mark p e same u = subst (λ (x : Marked). IsUnloaded Refused origin old x p e) same u

@@ -1,21 +1,28 @@
 -- What lines that are loaded leave of a store, and why they stop (this project's rule).
-use Rattle.std.specs.Prelude.{◌≡◌, ◌⊎◌, ℕ, ◌+◌, ◌<◌, ◌^◌, ⊤, List, [], length, Option}
+use Rattle.std.specs.Prelude.{◌≡◌, ◌⊎◌, ℕ, ◌+◌, ◌<◌, ◌^◌, List, [], length, All, Option}
 use Rattle.std.specs.Io.KnownBytes.{IsAtEnd}
 use Rattle.lsm_shelf.specs.Asked.{Asked}
 use Rattle.lsm_shelf.specs.Told.{Told}
 use Rattle.lsm_shelf.specs.declared.shelf_fault.ShelfFault.{ShelfFault}
+use Rattle.lsm_history.specs.History.{IsLater}
 use Rattle.lsm_batch.specs.declared.write.Write.{Write}
 use Rattle.lsm_lines.specs.Cuts.{IsCut}
-use Rattle.lsm_lines.specs.Gathering.{EndsBy, Gathers, Pending, Stops}
+use Rattle.lsm_lines.specs.Gathering.{EndsBy, Gathers, IsGathered, Pending, Stops}
 use Rattle.lsm_lines.specs.LastWrites.{KeepsLast}
 use Rattle.lsm_lines.specs.declared.gathered.BatchEnd.{BatchEnd}
+use Rattle.lsm_lines.specs.declared.gathered.Gathered.{Gathered}
 use Rattle.lsm_lines.specs.declared.write_line_fault.WriteLineFault.{WriteLineFault}
 use Rattle.lsm_lines.specs.declared.write_line_fault.WriteLineFault.TheVariants as lines
+use Rattle.lsm_state.specs.declared.state_fault.StateFault.{StateFault}
 use Rattle.lsm_store.specs.Background.{IsKeptOut}
+use Rattle.lsm_store.specs.Workers.{IsWorkersEnd}
+use Rattle.lsm_store.specs.declared.worker_end.WorkerEnd.{WorkerEnd}
+use Rattle.lsm_store.specs.declared.worker_fault.WorkerFault.{WorkerFault}
 use Rattle.lsm_loading.specs.Coming.{CameIn, ComesNext}
+use Rattle.lsm_loading.specs.Ending.{IsFirstFault}
 use Rattle.lsm_loading.specs.Marks.{IsEven, Marked, marked_in}
 use Rattle.lsm_loading.specs.declared.load_fault.LoadFault.{LoadFault}
-use Rattle.lsm_loading.specs.declared.load_fault.LoadFault.TheVariants.{OutOfMemory, Shelf, Line, Ingest, Other, Worker}
+use Rattle.lsm_loading.specs.declared.load_fault.LoadFault.TheVariants.{OutOfMemory, Shelf, Line, Ingest, Other, Worker, Due}
 use Rattle.lsm_loading.specs.declared.progress.Progress.{Progress}
 
 -- The first lines that were to come, so many, are in: their writes were cut into batches, so many, which came in since the store was found.
@@ -56,37 +63,57 @@ pub record TakesBatch (old new : Pending) (was now : Marked) (p q : Progress) (e
 
 -- ---- refusals
 
--- Why the batch is not in: the store refused it, of which the fact held; or it came in, and another one did between this and the one before.
-abbrev pub StaysOut : (Asked → ShelfFault → Type 0) → Marked → List Write → LoadFault → Type 0
-StaysOut Refused found batch (Ingest fault) = (was : Told) × (is : Told) × IsKeptOut Refused (λ h. IsEven found (marked_in h)) batch fault was is
-StaysOut Refused found batch Other = ⊤
-StaysOut Refused found batch fault = ⊥
+-- Why the batch is not in, and what is in then: the store refused it, of which the fact held, and nothing came in; or it came in, and so did another one between this and the one before.
+abbrev pub StaysOut : (Asked → ShelfFault → Type 0) → Marked → List Write → (was now : Marked) → LoadFault → Type 0
+StaysOut Refused found batch was now (Ingest fault) =
+    (now ≡ was) × ((t : Told) × (u : Told) × IsKeptOut Refused (λ h. IsEven found (marked_in h)) batch fault t u)
+StaysOut Refused found batch was now Other = IsLater now.history was.history
+StaysOut Refused found batch was now fault = ⊥
 
--- Why the next lines are not in: there was no memory for their batch, or it stayed out.
-abbrev pub IsNotTaken : (Asked → ShelfFault → Type 0) → Marked → LoadFault → Type 0
-IsNotTaken Refused found OutOfMemory = ⊤
-IsNotTaken Refused found fault = (ws : List Write) × (batch : List Write) × KeepsLast ws batch × StaysOut Refused found batch fault
+-- Why the next of these lines are not in, and what is in then: there was no memory for their batch; or it was gathered, and stayed out.
+abbrev pub IsNotTaken : (Asked → ShelfFault → Type 0) → Marked → Pending → (was now : Marked) → LoadFault → Type 0
+IsNotTaken Refused found old was now OutOfMemory = now ≡ was
+IsNotTaken Refused found old was now fault = (new : Pending) × (r : Gathered) × IsGathered old new r × StaysOut Refused found r.batch was now fault
 
--- some lines are in
-abbrev pub SomeAreIn : Pending → Marked → Progress → Type 0
-SomeAreIn old found p = (now : Marked) × (left : Option (List ℕ)) × (held : List Write) × Loads old left held found now p
+-- just the first lines that were to come are in, so many
+abbrev pub SomeAreIn : Pending → (found now : Marked) → Progress → Type 0
+SomeAreIn old found now p = (left : Option (List ℕ)) × (held : List Write) × Loads old left held found now p
+
+-- these are in, and others came in too
+abbrev pub SomeAreInToo : Pending → (found now : Marked) → Progress → Type 0
+SomeAreInToo old found now p = (then : Marked) × SomeAreIn old found then p × IsLater now.history then.history
 
 -- The line behind those that are in is no write that a batch may have.
-abbrev pub StopsBehind : Pending → Marked → Progress → WriteLineFault → Type 0
-StopsBehind old found p lines.OutOfMemory = SomeAreIn old found p
-StopsBehind old found p fault = (now : Marked) × (left : Option (List ℕ)) × Loads old left [] found now p × Stops old.form left fault
+abbrev pub StopsBehind : Pending → (found now : Marked) → Progress → WriteLineFault → Type 0
+StopsBehind old found now p lines.OutOfMemory = SomeAreIn old found now p
+StopsBehind old found now p fault = (left : Option (List ℕ)) × Loads old left [] found now p × Stops old.form left fault
 
--- Which lines came in, and why not all did, or why what was due was not compacted behind them.
-abbrev pub IsUnloaded : (Asked → ShelfFault → Type 0) → Marked → Pending → Marked → Progress → LoadFault → Type 0
-IsUnloaded Refused origin old found p (Line fault) = StopsBehind old found p fault
-IsUnloaded Refused origin old found p (Ingest fault) = SomeAreIn old found p × IsNotTaken Refused origin (Ingest fault)
-IsUnloaded Refused origin old found p OutOfMemory = SomeAreIn old found p
-IsUnloaded Refused origin old found p Other = SomeAreIn old found p
-IsUnloaded Refused origin old found p (Shelf fault) = SomeAreIn old found p
-IsUnloaded Refused origin old found p (Worker fault) = SomeAreIn old found p
+-- The store refused the batch of the lines behind those that are in.
+abbrev pub KeepsNextOut : (Asked → ShelfFault → Type 0) → Marked → Pending → (found now : Marked) → Progress → StateFault → Type 0
+KeepsNextOut Refused origin old found now p fault =
+    (left : Option (List ℕ)) × (held : List Write) × Loads old left held found now p
+    × IsNotTaken Refused origin (record { form = old.form; held = held; left = left }) now now (Ingest fault)
 
--- All lines are in, and then another batch came in, or a worker had ended early.
-abbrev pub IsLate : LoadFault → Type 0
-IsLate Other = ⊤
-IsLate (Worker fault) = ⊤
-IsLate fault = ⊥
+-- Which lines are in a store, up to this mark, and why not all are.
+abbrev pub IsStopped : (Asked → ShelfFault → Type 0) → Marked → Pending → (found now : Marked) → Progress → LoadFault → Type 0
+IsStopped Refused origin old found now p (Line fault) = StopsBehind old found now p fault
+IsStopped Refused origin old found now p (Ingest fault) = KeepsNextOut Refused origin old found now p fault
+IsStopped Refused origin old found now p OutOfMemory = SomeAreIn old found now p
+IsStopped Refused origin old found now p Other = SomeAreInToo old found now p
+IsStopped Refused origin old found now p (Shelf fault) = ⊥
+IsStopped Refused origin old found now p (Worker fault) = ⊥
+IsStopped Refused origin old found now p Due = ⊥
+
+-- Workers ended, the first one in their order that has a fault with this one.
+abbrev pub EndedBy : Type 0 → WorkerFault → Type 0
+EndedBy Honest fault = (ends : List WorkerEnd) × All (IsWorkersEnd Honest) ends × IsFirstFault fault ends
+
+-- Which lines are in the state behind a load, and why all is not done: nothing began; all lines are in, and a worker had ended early, or something is due; or not all are.
+abbrev pub IsUnloaded : (Asked → ShelfFault → Type 0) → Type 0 → Marked → Pending → (found now : Marked) → Progress → LoadFault → Type 0
+IsUnloaded Refused Honest origin old found now p (Shelf fault) = (now ≡ found) × (p ≡ record { lines = 0; batches = 0 })
+IsUnloaded Refused Honest origin old found now p (Worker fault) = IsLoaded old found now p × EndedBy Honest fault
+IsUnloaded Refused Honest origin old found now p Due = IsLoaded old found now p
+IsUnloaded Refused Honest origin old found now p (Line fault) = IsStopped Refused origin old found now p (Line fault)
+IsUnloaded Refused Honest origin old found now p (Ingest fault) = IsStopped Refused origin old found now p (Ingest fault)
+IsUnloaded Refused Honest origin old found now p OutOfMemory = IsStopped Refused origin old found now p OutOfMemory
+IsUnloaded Refused Honest origin old found now p Other = IsStopped Refused origin old found now p Other

@@ -1,11 +1,14 @@
 //! Lines come into a state while workers compact beside.
 
-ghost use Rattle.std.specs.Prelude.{◌≡◌, [], All, IfErr, IfOk, None, OnOk};
-ghost use Rattle.lsm_loading.specs.Loading.{IsLate, IsLoaded, IsUnloaded};
+ghost use Rattle.std.specs.Prelude.{◌≡◌, [], All, IfErr, IfSome, OnOk};
+ghost use Rattle.lsm_shelf.specs.Told.{Forked};
+ghost use Rattle.lsm_store.specs.Workers.{IsWorkersEnd};
+ghost use Rattle.lsm_loading.specs.Ending.{IsIdle};
+ghost use Rattle.lsm_loading.specs.Loading.{IsLoaded, IsStopped, IsUnloaded};
 ghost use Rattle.lsm_loading.specs.Marks.{IsEven, marked_in};
-ghost use Rattle.lsm_loading.specs.declared.load_fault.LoadFault.TheVariants.{OutOfMemory};
 
 use crate::crew::Crew;
+use crate::ending::finish;
 use crate::load_fault::LoadFault;
 use crate::loading::load;
 use crate::mark::Mark;
@@ -15,23 +18,33 @@ use crate::teller::Teller;
 use lsm_lines::BatchReader;
 use lsm_slots::Boarded;
 use lsm_state::State;
-use lsm_store::{Background, NoGate, WorkerEnd, WorkerFault, with_workers};
+use lsm_store::{Background, NoGate, WorkerEnd, with_workers};
 use lsm_table::{NamedShelf, Shelf};
 use std::alloc::Global;
 use std::io::Read;
 use std::sync::Wait;
 use std::thread::Threads;
 
-/// What lines came to, how much came in, and the workers' ends.
-type Answer<N, O> = ((Result<Mark<N, O>, LoadFault>, Progress), Vec<WorkerEnd>);
+/// What lines came to, the mark behind those that came in, and how much that is; and the workers'
+/// ends.
+type Answer<N, O> = (
+    (Result<(), LoadFault>, Mark<N, O>, Progress),
+    Vec<WorkerEnd>,
+);
 
-/// What lines came to that were loaded beside workers, and the state behind them.
-struct Done<N: Boarded, S: Shelf, O: Origin> {
-    answer: Answer<N, O>,
-    state: State<N, S>,
+/// What a load comes to.
+#[derive(Drop)]
+pub struct Loaded<N: Boarded, S: Shelf> {
+    /// Whether all is done, or why it is not.
+    pub done: Result<(), LoadFault>,
+    /// How much came in.
+    pub progress: Progress,
+    /// The state behind that.
+    pub state: State<N, S>,
 }
 
-/// Loads the lines of an input into a store, while its workers compact until nothing is due.
+/// Loads the lines of an input into a store, while its workers compact until nothing is due. None
+/// where there was no memory for the workers; then nothing came in of the lines.
 #[tactic(auto, using(crate::proofs::MarkLaws::even_compacting))]
 fn load_all<N: Boarded, S: Shelf, O: Origin, R: Threads + Wait + Sync, I: Read + Drop, T: Teller>(
     rt: &R,
@@ -40,14 +53,14 @@ fn load_all<N: Boarded, S: Shelf, O: Origin, R: Threads + Wait + Sync, I: Read +
     mark: Mark<N, O>,
     lines: BatchReader<I>,
     teller: &mut T,
-) -> Result<Done<N, S, O>, LoadFault>
+) -> (Option<Answer<N, O>>, State<N, S>)
     requires { lines.held ≡ [] }
-    ensures loaded { IfOk result (λ d. IfOk d.answer.0.0 (λ m.
-        IsLoaded lines mark m d.answer.0.1)) }
-    ensures refused { IfOk result (λ d. IfErr d.answer.0.0 (λ e.
-        IsUnloaded (S.refuses N.place) O.found lines mark d.answer.0.1 e)) }
-    ensures even { IfOk result (λ d. IsEven O.found (marked_in d.state)) }
-    ensures memory { IfErr result (λ e. e ≡ OutOfMemory) }
+    ensures loaded { IfSome result.0 (λ a.
+        OnOk a.0.0 (IsLoaded lines mark a.0.1 a.0.2)) }
+    ensures refused { IfSome result.0 (λ a. IfErr a.0.0 (λ e.
+        IsStopped (S.refuses N.place) O.found lines mark a.0.1 a.0.2 e)) }
+    ensures ends { IfSome result.0 (λ a. All (IsWorkersEnd S.honest) a.1.items) }
+    ensures even { IsEven O.found (marked_in result.1) }
 {
     let Crew {
         store,
@@ -56,17 +69,17 @@ fn load_all<N: Boarded, S: Shelf, O: Origin, R: Threads + Wait + Sync, I: Read +
     } = crew;
     let lent = &store;
     let told = &mut *teller;
-    let answer = with_workers(
+    let run = with_workers(
         rt,
         alloc,
         &store,
         shelves,
         &NoGate,
-        move |background: &Background| -> (Result<Mark<N, O>, LoadFault>, Progress)
+        move |background: &Background| -> (Result<(), LoadFault>, Mark<N, O>, Progress)
             requires { lines.held ≡ [] }
-            ensures loaded { IfOk result.0 (λ m. IsLoaded lines mark m result.1) }
+            ensures loaded { OnOk result.0 (IsLoaded lines mark result.1 result.2) }
             ensures refused { IfErr result.0 (λ e.
-                IsUnloaded (S.refuses N.place) O.found lines mark result.1 e) }
+                IsStopped (S.refuses N.place) O.found lines mark result.1 result.2 e) }
         {
             let mut own = own;
             let mut lines = lines;
@@ -76,54 +89,23 @@ fn load_all<N: Boarded, S: Shelf, O: Origin, R: Threads + Wait + Sync, I: Read +
             background.wait_until_idle(rt);
             loaded
         },
-    )?;
-    Ok(Done {
-        answer,
-        state: store.into_state(),
-    })
-}
-
-/// Whether no worker ended early; else why the first one did.
-fn judge(ends: &[WorkerEnd]) -> Result<(), WorkerFault>
-    ensures { OnOk result (All (λ e. e.fault ≡ None) ends.now) }
-{
-    match ends {
-        [] => Ok(()),
-        [end, rest @ ..] => match end.fault {
-            Some(fault) => Err(fault),
-            None => judge(rest),
-        },
-    }
-}
-
-/// The state behind all lines, where it is just as far as the mark behind them and no worker ended
-/// early.
-fn finish<N: Boarded, S: Shelf, O: Origin>(
-    mark: Mark<N, O>,
-    state: State<N, S>,
-    ends: &[WorkerEnd],
-) -> Result<State<N, S>, LoadFault>
-    requires { IsEven O.found (marked_in state) }
-    ensures as_far { IfOk result (λ s. marked_in s ≡ mark) }
-    ensures faultless { OnOk result (All (λ e. e.fault ≡ None) ends.now) }
-    ensures refused { IfErr result IsLate }
-{
-    let mut state = state;
-    if !mark.is_of(&mut state) {
-        return Err(LoadFault::Other);
-    }
-    match judge(ends) {
-        Ok(()) => Ok(state),
-        Err(fault) => Err(LoadFault::Worker(fault)),
+    );
+    match run {
+        Ok(answer) => (Some(answer), store.into_state()),
+        Err(refused) => {
+            drop(refused);
+            (None, store.into_state())
+        }
     }
 }
 
 /// Loads the lines of an input, of which none was gathered yet, into a state, while so many workers
-/// compact beside, until all lines are in and nothing is due. The state is then just as far as they
-/// made it, and what came in of them is counted.
+/// compact beside, until all lines are in and nothing is due. The shelf is asked for forks alone.
 ///
-/// A refusal leaves whole batches in the database, of which the count says how many lines are in.
-#[tactic(auto, using(crate::proofs::LoadLaws::finished, crate::proofs::LoadLaws::finished_late, crate::proofs::LoadLaws::unloaded_of, crate::proofs::LoadLaws::none_came, crate::proofs::MarkLaws::even_first))]
+/// The state comes back. It is just as far as the lines made it that are counted; only behind
+/// `Other` it goes on from there. All of them are lines before the first one that is no write of a
+/// batch, where one is not.
+#[tactic(auto, using(crate::proofs::EndingLaws::finished, crate::proofs::EndingLaws::unfinished, crate::proofs::EndingLaws::unbegun, crate::proofs::MarkLaws::even_first))]
 pub fn load_beside<N, S, O, R, I, T>(
     rt: &R,
     alloc: Global,
@@ -132,7 +114,7 @@ pub fn load_beside<N, S, O, R, I, T>(
     workers: usize,
     lines: BatchReader<I>,
     teller: &mut T,
-) -> (Result<State<N, S>, LoadFault>, Progress)
+) -> Loaded<N, S>
 where
     N: Boarded,
     S: Shelf,
@@ -142,26 +124,46 @@ where
     T: Teller,
     requires found { O.found ≡ marked_in state }
     requires held { lines.held ≡ [] }
-    ensures loaded { IfOk result.0 (λ s.
-        IsLoaded lines (marked_in state) (marked_in s) result.1) }
-    ensures refused { IfErr result.0 (λ e.
-        IsUnloaded (S.refuses N.place) O.found lines (marked_in state) result.1 e) }
+    ensures loaded { OnOk result.done
+        (IsLoaded lines (marked_in state) (marked_in result.state) result.progress) }
+    ensures idle { OnOk result.done (S.honest → IsIdle result.state) }
+    ensures refused { IfErr result.done (λ e. IsUnloaded (S.refuses N.place) S.honest O.found
+        lines (marked_in state) (marked_in result.state) result.progress e) }
+    ensures told { Forked shelf.old shelf.new }
 {
     let mut state = state;
+    let before: Mark<N, O> = Mark::of(&mut state);
     let mark: Mark<N, O> = Mark::of(&mut state);
     let crew = match Crew::new(alloc, state, shelf, workers) {
         Ok(crew) => crew,
-        Err(fault) => return (Err(LoadFault::Shelf(fault)), Progress::none()),
+        Err((state, fault)) => {
+            return Loaded {
+                done: Err(LoadFault::Shelf(fault)),
+                progress: Progress::none(),
+                state,
+            };
+        }
     };
-    let done = match load_all(rt, alloc, crew, mark, lines, teller) {
-        Ok(done) => done,
-        Err(fault) => return (Err(fault), Progress::none()),
-    };
-    let Done { answer, state } = done;
-    let (came, ends) = answer;
-    let (loaded, progress) = came;
-    match loaded {
-        Ok(mark) => (finish(mark, state, &ends), progress),
-        Err(fault) => (Err(fault), progress),
+    let (answer, mut state) = load_all(rt, alloc, crew, mark, lines, teller);
+    match answer {
+        Some(answer) => {
+            let (came, ends) = answer;
+            let (loaded, mark, progress) = came;
+            let done = finish(alloc, mark, &mut state, loaded, &ends);
+            Loaded {
+                done,
+                progress,
+                state,
+            }
+        }
+        None => {
+            let refused = Err(LoadFault::OutOfMemory);
+            let done = finish(alloc, before, &mut state, refused, &[]);
+            Loaded {
+                done,
+                progress: Progress::none(),
+                state,
+            }
+        }
     }
 }

@@ -1,6 +1,7 @@
 //! One batch comes in.
 
-ghost use Rattle.std.specs.Prelude.{◌≡◌, ◌+◌, ◌≤◌, ◌^◌, IfErr, IfOk, IfSome};
+ghost use Rattle.std.specs.Prelude.{◌≡◌, ◌+◌, ◌≤◌, ◌^◌, IfErr, IfOk};
+ghost use Rattle.lsm_history.specs.History.{IsLater};
 ghost use Rattle.lsm_loading.specs.Coming.{ComesNext};
 ghost use Rattle.lsm_loading.specs.Loading.{IsNotTaken, StaysOut, TakesBatch};
 ghost use Rattle.lsm_loading.specs.Marks.{IsBehind};
@@ -20,21 +21,25 @@ use std::alloc::Global;
 use std::io::Read;
 use std::sync::Wait;
 
-/// How far the store is, where the batch that came in behind the mark is all that came in since.
+/// How far the store is. Ok where the batch that came in behind the mark is all that came in since.
 fn mark_behind<N: Boarded, S: Shelf, O: Origin, R: Wait>(
     rt: &R,
     store: &Store<N, S, Grown<O>>,
     mark: Mark<N, O>,
     came: Ingested,
     memory: Memory<N>,
-) -> Option<Mark<N, O>>
-    ensures { IfSome result (λ m. IsBehind O.found mark came memory m) }
+) -> Result<Mark<N, O>, Mark<N, O>>
+    ensures next { IfOk result (λ m. IsBehind O.found mark came memory m) }
+    ensures later { IfErr result (λ m. IsLater m.history mark.history) }
 {
     mark.behind(&mut store.lock(rt).state, came, memory)
 }
 
 /// Brings a batch into a store that is as far as a mark says, and marks how far it is then.
-fn bring_in<N: Boarded, S: Shelf, O: Origin, R: Wait>(
+///
+/// A refusal has a mark too: `Ingest` this one, where the batch is not in; `Other` a later one,
+/// where it is in, and another batch is too.
+pub fn bring_in<N: Boarded, S: Shelf, O: Origin, R: Wait>(
     rt: &R,
     alloc: Global,
     store: &Store<N, S, Grown<O>>,
@@ -42,21 +47,23 @@ fn bring_in<N: Boarded, S: Shelf, O: Origin, R: Wait>(
     shelf: &mut NamedShelf<N, S>,
     batch: &Batch,
     mark: Mark<N, O>,
-) -> Result<Mark<N, O>, LoadFault>
+) -> Result<Mark<N, O>, (LoadFault, Mark<N, O>)>
     ensures came { IfOk result (λ m. ComesNext batch.now mark m) }
-    ensures refused { IfErr result (StaysOut (S.refuses N.place) O.found batch.now) }
+    ensures refused { IfErr result (λ e.
+        StaysOut (S.refuses N.place) O.found batch.now mark e.1 e.0) }
 {
     let (came, memory) = match background.ingest(rt, alloc, store, shelf, batch) {
         Ok(came) => came,
-        Err(fault) => return Err(LoadFault::Ingest(fault)),
+        Err(fault) => return Err((LoadFault::Ingest(fault), mark)),
     };
     match mark_behind(rt, store, mark, came, memory) {
-        Some(next) => Ok(next),
-        None => Err(LoadFault::Other),
+        Ok(next) => Ok(next),
+        Err(later) => Err((LoadFault::Other, later)),
     }
 }
 
-/// Brings the batch of the next lines in, if there are lines.
+/// Brings the batch of the next lines in, if there are lines. A refusal has a mark too, as that of
+/// `bring_in` has.
 pub(crate) fn take_batch<N: Boarded, S: Shelf, O: Origin, R: Wait, I: Read + Drop>(
     rt: &R,
     alloc: Global,
@@ -66,15 +73,16 @@ pub(crate) fn take_batch<N: Boarded, S: Shelf, O: Origin, R: Wait, I: Read + Dro
     lines: &mut BatchReader<I>,
     mark: Mark<N, O>,
     progress: Progress,
-) -> Result<(Mark<N, O>, Progress, BatchEnd), LoadFault>
+) -> Result<(Mark<N, O>, Progress, BatchEnd), (LoadFault, Mark<N, O>)>
     requires lines { progress.lines + 2 ^ 64 ≤ 2 ^ 128 }
     requires batches { progress.batches + 2 ^ 64 ≤ 2 ^ 128 }
     ensures taken { IfOk result (λ r.
         TakesBatch lines.old lines.new mark r.0 progress r.1 r.2) }
-    ensures refused { IfErr result (IsNotTaken (S.refuses N.place) O.found) }
+    ensures refused { IfErr result (λ e.
+        IsNotTaken (S.refuses N.place) O.found lines.old mark e.1 e.0) }
 {
     let Ok(gathered) = lines.next(alloc) else {
-        return Err(LoadFault::OutOfMemory);
+        return Err((LoadFault::OutOfMemory, mark));
     };
     let Gathered {
         batch,
@@ -86,6 +94,6 @@ pub(crate) fn take_batch<N: Boarded, S: Shelf, O: Origin, R: Wait, I: Read + Dro
     }
     match bring_in(rt, alloc, store, background, shelf, &batch, mark) {
         Ok(next) => Ok((next, progress.with(count), end)),
-        Err(fault) => Err(fault),
+        Err(refused) => Err(refused),
     }
 }

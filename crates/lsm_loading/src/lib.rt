@@ -17,11 +17,14 @@ mod loading;
 // The workers beside, and what is left behind them.
 mod beside;
 mod crew;
+mod ending;
 
 // What holds of it.
 mod laws;
 
-pub use beside::load_beside;
+pub use beside::{Loaded, load_beside};
+pub use bringing::bring_in;
+pub use crew::forks;
 pub use laws::each_key_shows_its_last_line;
 pub use load_fault::LoadFault;
 pub use loading::load;

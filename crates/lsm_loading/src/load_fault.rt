@@ -22,8 +22,10 @@ pub enum LoadFault {
     Ingest(StateFault),
     /// A batch that is not of these lines came in between two of them, or behind them.
     Other,
-    /// All lines are in, and this worker ended early.
+    /// All lines are in, and the first worker that ended early did so by this.
     Worker(WorkerFault),
+    /// All lines are in, and there is still something to compact, or it could not be told.
+    Due,
 }
 
 impl<T: Drop> From<AllocFailed<T>> for LoadFault {

@@ -1,7 +1,7 @@
 //! Lines come into a store.
 
-ghost use Rattle.std.specs.Prelude.{◌≡◌, [], IfErr, IfOk};
-ghost use Rattle.lsm_loading.specs.Loading.{IsLoaded, IsUnloaded};
+ghost use Rattle.std.specs.Prelude.{◌≡◌, [], IfErr, OnOk};
+ghost use Rattle.lsm_loading.specs.Loading.{IsLoaded, IsStopped};
 
 use crate::bringing::take_batch;
 use crate::load_fault::LoadFault;
@@ -21,8 +21,9 @@ use std::sync::Wait;
 /// mark says, as batches, one after another, while its workers compact beside. How far it is then,
 /// and how much came in.
 ///
-/// A refusal leaves whole batches, of which the progress says how many lines are in: all lines
-/// before the first one that is no write of a batch, where one is not.
+/// A refusal leaves whole batches: the mark is behind them, and the progress says how many lines
+/// they are, which are all lines before the first one that is no write of a batch, where one is
+/// not. Behind `Other` the mark is later than they are.
 pub fn load<N: Boarded, S: Shelf, O: Origin, R: Wait, I: Read + Drop, T: Teller>(
     rt: &R,
     alloc: Global,
@@ -32,11 +33,11 @@ pub fn load<N: Boarded, S: Shelf, O: Origin, R: Wait, I: Read + Drop, T: Teller>
     lines: &mut BatchReader<I>,
     mark: Mark<N, O>,
     teller: &mut T,
-) -> (Result<Mark<N, O>, LoadFault>, Progress)
+) -> (Result<(), LoadFault>, Mark<N, O>, Progress)
     requires { lines.old.held ≡ [] }
-    ensures loaded { IfOk result.0 (λ m. IsLoaded lines.old mark m result.1) }
+    ensures loaded { OnOk result.0 (IsLoaded lines.old mark result.1 result.2) }
     ensures refused { IfErr result.0 (λ e.
-        IsUnloaded (S.refuses N.place) O.found lines.old mark result.1 e) }
+        IsStopped (S.refuses N.place) O.found lines.old mark result.1 result.2 e) }
 {
     let mut mark = mark;
     let mut progress = Progress::none();
@@ -47,13 +48,13 @@ pub fn load<N: Boarded, S: Shelf, O: Origin, R: Wait, I: Read + Drop, T: Teller>
                 progress = more;
                 end
             }
-            Err(fault) => return (Err(fault), progress),
+            Err((fault, left)) => return (Err(fault), left, progress),
         };
         match end {
             BatchEnd::Full => teller.came(progress),
-            BatchEnd::End => return (Ok(mark), progress),
-            BatchEnd::Stopped(fault) => return (Err(LoadFault::Line(fault)), progress),
+            BatchEnd::End => return (Ok(()), mark, progress),
+            BatchEnd::Stopped(fault) => return (Err(LoadFault::Line(fault)), mark, progress),
         }
     }
-    (Err(LoadFault::OutOfMemory), progress)
+    (Err(LoadFault::OutOfMemory), mark, progress)
 }

@@ -1,6 +1,7 @@
 //! How far a store is, as it is remembered.
 
-ghost use Rattle.std.specs.Prelude.{◌≡◌, IfSome, IsTrue};
+ghost use Rattle.std.specs.Prelude.{◌≡◌, IfErr, IfOk, IsTrue};
+ghost use Rattle.lsm_history.specs.History.{IsLater};
 ghost use Rattle.lsm_loading.specs.Marks.{IsBehind, IsEven, marked_in};
 
 use crate::origin::Origin;
@@ -45,16 +46,17 @@ impl<N: Boarded, O: Origin> Mark<N, O> {
         }
     }
 
-    /// How far the state is, where the batch that came in behind this mark, of which this is
-    /// remembered, is all that came in since; none where more did.
+    /// How far the state is, which goes on from this mark. Ok where the batch that came in behind
+    /// it, of which this is remembered, is all that came in since; `Err` where more did.
     pub(crate) fn behind<S: Shelf>(
         self,
         state: &mut State<N, S>,
         came: Ingested,
         memory: Memory<N>,
-    ) -> Option<Mark<N, O>>
+    ) -> Result<Mark<N, O>, Mark<N, O>>
         requires { IsEven O.found (marked_in state.old) }
-        ensures next { IfSome result (λ m. IsBehind O.found self came memory m) }
+        ensures next { IfOk result (λ m. IsBehind O.found self came memory m) }
+        ensures later { IfErr result (λ m. IsLater m.history self.history) }
         ensures same { state.new ≡ state.old }
     {
         let Mark {
@@ -66,15 +68,16 @@ impl<N: Boarded, O: Origin> Mark<N, O> {
         state.recall(memory);
         let next: Mark<N, O> = Mark::of(state);
         if last.checked_add(1) == Some(came.first) && next.last == came.last {
-            return Some(next);
+            return Ok(next);
         }
-        None
+        Err(next)
     }
 
-    /// Whether the state is just this far.
-    pub(crate) fn is_of<S: Shelf>(self, state: &mut State<N, S>) -> bool
+    /// Whether the state is just this far. It goes on from here in any case.
+    pub fn is_of<S: Shelf>(self, state: &mut State<N, S>) -> bool
         requires { IsEven O.found (marked_in state.old) }
         ensures at { IsTrue result → marked_in state.old ≡ self }
+        ensures later { IsLater (marked_in state.old).history self.history }
         ensures same { state.new ≡ state.old }
     {
         let Mark { memory, last, .. } = self;

@@ -1,6 +1,6 @@
 use Rattle.std.proofs.Common.{refl, ap, arith}
 use Rattle.lsm_loading.specs.declared.progress.Progress.{Progress}
-use Rattle.lsm_loading.proofs.LoadLaws.{counted, end_on, few_lines, full_on, loads_none, room, room_of_batches, stopped_on, unloaded}
+use Rattle.lsm_loading.proofs.LoadLaws.{counted, end_on, few_lines, full_on, loads_none, room, room_of_batches, stopped_on, stopped_short}
 use Rattle.lsm_loading.proofs.loading.load.Goals as goal
 
 pub batches-init : goal.batches-init
@@ -19,8 +19,8 @@ take_batch-requires-clause-batches g c κs within = room_of_batches c.batches._t
 
 pub returns-in-Err-clause-refused : goal.returns-in-Err-clause-refused
 returns-in-Err-clause-refused g c =
-    unloaded (g.S.Shelf.refuses g.N.Naming.place) g.O.Origin.found c.args.lines.now c.batches.lines.left c.batches.lines.held c.args.mark c.batches.mark c.batches.progress c.in-Err.fault
-    c.batches.invariant.loads c.in-Err.ensures.refused
+    stopped_short (g.S.Shelf.refuses g.N.Naming.place) g.O.Origin.found c.args.lines.now c.batches.lines c.args.mark c.batches.mark c.in-Err.left c.batches.progress c.in-Err.fault
+    c.batches.invariant.form c.batches.invariant.loads c.in-Err.ensures.refused
 
 pub returns-in-End-clause-loaded : goal.returns-in-End-clause-loaded
 returns-in-End-clause-loaded g c =
@@ -45,4 +45,4 @@ batches-preserved g c =
     }
 
 pub returns-clause-refused : goal.returns-clause-refused
-returns-clause-refused g c = (c.batches.mark, c.batches.lines.left, c.batches.lines.held, c.batches.invariant.loads)
+returns-clause-refused g c = (c.batches.lines.left, c.batches.lines.held, c.batches.invariant.loads)

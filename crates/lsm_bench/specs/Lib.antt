@@ -1,0 +1,4 @@
+-- What clauses cite
+pub mod Pairs
+pub mod Filled
+pub mod Benched
