@@ -1,4 +1,6 @@
+mod KnownLaws
 mod SeenLaws
+mod AnswerLaws
 mod OptionLaws
 mod PairLaws
 mod WriteLaws

@@ -12,8 +12,9 @@ use Rattle.lsm_levels.specs.Scanning.{IsScan, Pair, UsersAscend}
 use Rattle.lsm_merger.specs.Seeking.{at_or_past}
 use Rattle.lsm_merger.specs.Shown.{ShowsPair}
 use Rattle.lsm_reads.proofs.CallerLemmas.{past_scan}
-use Rattle.lsm_serve.specs.Scanning.{IsFull, IsPage, IsScanFrom, below, is_below, pair_of}
-use Rattle.lsm_serve.specs.Stepping.{ahead}
+use Rattle.lsm_serve.specs.Reading.{IsTooLong}
+use Rattle.lsm_serve.specs.Scanning.{IsFull, IsLongPage, IsPage, IsScanFrom, below, is_below, pair_of}
+use Rattle.lsm_serve.specs.Stepping.{IsLongTurn, ahead}
 
 abbrev IsYes : Bool → Type 0
 IsYes true = Unit {0}
@@ -143,4 +144,16 @@ page_ended to limit all now pairs new so none same = record {
   shown = same ∙ so.shown;
   most = subst (IsNoMore limit) (sym same) so.most;
   left = refl;
+}
+
+-- ---- a pair that no answer has room for
+
+pub long_page : (to : Option UserKey) (limit : ℕ) (all now : List Pair) (pairs : List frames.Pair) → SoFar to limit all now pairs → IsLongTurn to limit now pairs → IsLongPage limit (below to all)
+long_page to limit all now pairs so (p, rest, e, here, room, long) = record {
+  front = so.front;
+  pair = p;
+  rest = below to rest;
+  parts = so.parts ∙ ap (λ (ps : List Pair). so.front ++ below to ps) e ∙ ap (λ (ps : List Pair). so.front ++ ps) (some_below to p rest here);
+  room = λ full. room (subst (IsFull limit) (sym so.shown) full);
+  long = subst (λ (qs : List frames.Pair). IsTooLong (frames.Shown false (qs ++ pair_of p ∷ []))) so.shown long;
 }

@@ -1,5 +1,5 @@
 -- What is read at a sequence of a state that was learnt.
-use Rattle.std.proofs.Common.{◌≡◌, ℕ, List, [], ◌∷◌, map, Option, None, Some, Result, Ok, Err, IfOk, sym, ap, ◌∙◌, subst, inl, inr}
+use Rattle.std.proofs.Common.{◌≡◌, ℕ, List, [], ◌∷◌, map, Option, None, Some, Result, Ok, Err, IfErr, IfOk, sym, ap, ◌∙◌, subst, inl, inr}
 use Rattle.std.specs.Prelude.{◌⊎◌}
 use Rattle.lsm_codec.specs.Lists.{Has}
 use Rattle.lsm_frames.specs.declared.when.When.{When}
@@ -16,8 +16,10 @@ use Rattle.lsm_store.specs.Readers.{IsRefused, unpinned}
 use Rattle.lsm_store.specs.declared.begin_fault.BeginFault.{BeginFault}
 use Rattle.lsm_store.specs.declared.begin_fault.BeginFault.TheVariants.{Moved, PinsSpent}
 use Rattle.lsm_serve.specs.Answered.{done_frame}
-use Rattle.lsm_serve.specs.Reading.{IsRead, values_at}
-use Rattle.lsm_serve.specs.Scanning.{IsScanned, IsShown}
+use Rattle.lsm_serve.specs.Reading.{IsRead, IsReadFault, IsTooLong, IsUnread, values_at}
+use Rattle.lsm_serve.specs.Scanning.{IsScanFault, IsScanned, IsShown, IsUnshown}
+use Rattle.lsm_state.specs.declared.state_fault.StateFault.{StateFault}
+use Rattle.lsm_state.specs.declared.state_fault.StateFault.TheVariants.{TooLarge}
 use Rattle.lsm_serve.specs.Seen.{Learns, Sees, snapshot_in}
 
 has_sequence : (taken : List (ℕ × ℕ)) (id seq : ℕ) → Has taken (id, seq) → Has (map (λ (p : ℕ × ℕ). p.1) taken) seq
@@ -29,8 +31,12 @@ promised_at : (when : When) (h : Held) (before after : Learnt) (seq : ℕ) → L
 promised_at Now h before after seq learnt e = inl (e ∙ sym (ap (λ v. v.last) learnt.version))
 promised_at (Snapshot id) h before after seq learnt has = inr (subst (λ (ns : List ℕ). Has ns seq) (sym learnt.snapshots) (has_sequence h.snapshots.taken id seq has))
 
-pub promised : (when : When) (before after : Learnt) (seq : ℕ) → Sees when before after seq → IsPromised after seq
-promised when before after seq sees = promised_at when sees.state before after seq sees.learnt sees.sequence
+pub promised : (when : When) (taken : List (ℕ × ℕ)) (before after : Learnt) (knew knows : List Entry) (seq : ℕ) → Sees when taken before after knew knows seq → IsPromised after seq
+promised when taken before after knew knows seq sees = promised_at when sees.state before after seq sees.learnt sees.sequence
+
+-- what the reader has learnt is what is known
+seen_known : (when : When) (taken : List (ℕ × ℕ)) (b v : Learnt) (knew knows : List Entry) (seq : ℕ) → Sees when taken b v knew knows seq → v.history ≡ knows
+seen_known when taken b v knew knows seq sees = sees.learnt.history ∙ sym sees.told.known
 
 -- a reader that was refused knows what it knew
 pub refused_knows : (r back : Learnt) (fault : BeginFault) → IsRefused r back fault
@@ -48,8 +54,9 @@ history_kept v read ended rest end = ap (λ (l : Learnt). l.history) end ∙ ap 
 pub later_kept : (b v read ended : Learnt) → IsLater v.history b.history → read ≡ record v { told = read.told } → ended ≡ unpinned read → IsLater ended.history b.history
 later_kept b v read ended later rest end = subst (λ (hs : List Entry). IsLater hs b.history) (sym (history_kept v read ended rest end)) later
 
-sees_kept : (when : When) (b v read ended : Learnt) (seq : ℕ) → Sees when b v seq → read ≡ record v { told = read.told } → ended ≡ unpinned read → Sees when b ended seq
-sees_kept when b v read ended seq sees rest end = record {
+sees_kept : (when : When) (taken : List (ℕ × ℕ)) (b v read ended : Learnt) (knew knows : List Entry) (seq : ℕ) → Sees when taken b v knew knows seq
+    → read ≡ record v { told = read.told } → ended ≡ unpinned read → Sees when taken b ended knew knows seq
+sees_kept when taken b v read ended knew knows seq sees rest end = record {
   state = sees.state;
   learnt = record {
     id = ap (λ (l : Learnt). l.id) end ∙ ap (λ (l : Learnt). l.id) rest ∙ sees.learnt.id;
@@ -58,24 +65,50 @@ sees_kept when b v read ended seq sees rest end = record {
     snapshots = ap (λ (l : Learnt). l.snapshots) end ∙ ap (λ (l : Learnt). l.snapshots) rest ∙ sees.learnt.snapshots;
     later = later_kept b v read ended sees.learnt.later rest end;
   };
+  told = sees.told;
   sequence = sees.sequence;
+  given = sees.given;
 }
 
-pub read_ended : (Honest : Type 0) (when : When) (keys : List (List ℕ)) (b v read ended : Learnt) (seq : ℕ) (frame : List ℕ) → Sees when b v seq
-    → read ≡ record v { told = read.told } → ended ≡ unpinned read → (Honest → frame ≡ done_frame (Found (values_at v.history seq keys))) → IsRead Honest when keys b ended frame
-read_ended Honest when keys b v read ended seq frame sees rest end said = record {
+pub read_ended : (Honest : Type 0) (when : When) (keys : List (List ℕ)) (taken : List (ℕ × ℕ)) (b v read ended : Learnt) (knew knows : List Entry) (seq : ℕ) (frame : List ℕ)
+    → Sees when taken b v knew knows seq → read ≡ record v { told = read.told } → ended ≡ unpinned read
+    → (Honest → frame ≡ done_frame (Found (values_at v.history seq keys))) → IsRead Honest when keys taken b ended knew knows frame
+read_ended Honest when keys taken b v read ended knew knows seq frame sees rest end said = record {
   seq = seq;
-  sees = sees_kept when b v read ended seq sees rest end;
-  values = λ h. said h ∙ ap (λ (hs : List Entry). done_frame (Found (values_at hs seq keys))) (sym (history_kept v read ended rest end));
+  sees = sees_kept when taken b v read ended knew knows seq sees rest end;
+  values = λ h. said h ∙ ap (λ (hs : List Entry). done_frame (Found (values_at hs seq keys))) (seen_known when taken b v knew knows seq sees);
 }
 
-pub scan_ended : (Honest : Type 0) (s : Stretch) (b v read ended : Learnt) (seq : ℕ) (frame : List ℕ) → Sees s.when b v seq
-    → read ≡ record v { told = read.told } → ended ≡ unpinned read → (Honest → IsShown s v.history seq frame) → IsScanned Honest s b ended frame
-scan_ended Honest s b v read ended seq frame sees rest end shown = record {
+pub read_refused : {T : Type 0} (Honest : Type 0) (when : When) (keys : List (List ℕ)) (taken : List (ℕ × ℕ)) (b v read ended : Learnt) (knew knows : List Entry) (seq : ℕ)
+    (answer : Result T StateFault) → Sees when taken b v knew knows seq → read ≡ record v { told = read.told } → ended ≡ unpinned read
+    → IfErr answer (IsUnread Honest) → (Honest → answer ≡ Err TooLarge → IsTooLong (Found (values_at v.history seq keys)))
+    → IfErr answer (IsReadFault Honest when keys taken b ended knew knows)
+read_refused Honest when keys taken b v read ended knew knows seq (Ok frame) sees rest end unread long = tt
+read_refused Honest when keys taken b v read ended knew knows seq (Err e) sees rest end unread long = inr (
+  seq,
+  sees_kept when taken b v read ended knew knows seq sees rest end,
+  unread,
+  λ h large. subst (λ (hs : List Entry). IsTooLong (Found (values_at hs seq keys))) (seen_known when taken b v knew knows seq sees) (long h (ap (λ (f : StateFault). Err f) large)),
+)
+
+pub scan_ended : (Honest : Type 0) (s : Stretch) (taken : List (ℕ × ℕ)) (b v read ended : Learnt) (knew knows : List Entry) (seq : ℕ) (frame : List ℕ) → Sees s.when taken b v knew knows seq
+    → read ≡ record v { told = read.told } → ended ≡ unpinned read → (Honest → IsShown s v.history seq frame) → IsScanned Honest s taken b ended knew knows frame
+scan_ended Honest s taken b v read ended knew knows seq frame sees rest end shown = record {
   seq = seq;
-  sees = sees_kept s.when b v read ended seq sees rest end;
-  shown = λ h. subst (λ (hs : List Entry). IsShown s hs seq frame) (sym (history_kept v read ended rest end)) (shown h);
+  sees = sees_kept s.when taken b v read ended knew knows seq sees rest end;
+  shown = λ h. subst (λ (hs : List Entry). IsShown s hs seq frame) (seen_known s.when taken b v knew knows seq sees) (shown h);
 }
+
+pub scan_refused : {T : Type 0} (Honest : Type 0) (s : Stretch) (taken : List (ℕ × ℕ)) (b v read ended : Learnt) (knew knows : List Entry) (seq : ℕ) (answer : Result T StateFault)
+    → Sees s.when taken b v knew knows seq → read ≡ record v { told = read.told } → ended ≡ unpinned read
+    → IfErr answer (IsUnread Honest) → (Honest → answer ≡ Err TooLarge → IsUnshown s v.history seq) → IfErr answer (IsScanFault Honest s taken b ended knew knows)
+scan_refused Honest s taken b v read ended knew knows seq (Ok frame) sees rest end unread long = tt
+scan_refused Honest s taken b v read ended knew knows seq (Err e) sees rest end unread long = inr (
+  seq,
+  sees_kept s.when taken b v read ended knew knows seq sees rest end,
+  unread,
+  λ h large. subst (λ (hs : List Entry). IsUnshown s hs seq) (seen_known s.when taken b v knew knows seq sees) (long h (ap (λ (f : StateFault). Err f) large)),
+)
 
 -- what holds of an Ok under a premise
 pub under : {T E : Type 0} (H : Type 0) (r : Result T E) (P : T → Type 0) → (H → IfOk r P) → IfOk r (λ x. H → P x)

@@ -1,9 +1,11 @@
 -- What a collection removes (this project's rule).
 use Rattle.std.specs.Prelude.{◌≡◌, ℕ, List, length, false}
+use Rattle.lsm_codec.specs.Entries.{Entry}
 use Rattle.lsm_shelf.specs.Told.{Told}
 use Rattle.lsm_state.specs.Collecting.{AreCollected, HasLookedAround, IsCollectRefusal}
 use Rattle.lsm_state.specs.Held.{Held}
 use Rattle.lsm_state.specs.declared.state_fault.StateFault.{StateFault}
+use Rattle.lsm_serve.specs.Served.{IsToldBy}
 
 -- The state goes on, and looked at its slots. So many tables were removed: those that the shelf listed and that the state then did not keep.
 pub record CollectsAt (was is : Held) (count : ℕ) (before after : Told) : Type 0 where
@@ -18,9 +20,9 @@ pub record RefusesAt (was is : Held) (e : StateFault) (before after : Told) : Ty
   pub removed : List ℕ
   pub refusal : IsCollectRefusal was is e removed before after
 
--- at one taking of the lock
-abbrev pub IsCollected : ℕ → Told → Told → Type 0
-IsCollected count before after = (was : Held) × (is : Held) × CollectsAt was is count before after
+-- at one taking of the lock, of a state that has all that the channel knew
+abbrev pub IsCollected : ℕ → (knew knows : List Entry) → Told → Told → Type 0
+IsCollected count knew knows before after = (was : Held) × (is : Held) × IsToldBy was knew knows × CollectsAt was is count before after
 
-abbrev pub IsCollectFault : StateFault → Told → Told → Type 0
-IsCollectFault e before after = (was : Held) × (is : Held) × RefusesAt was is e before after
+abbrev pub IsCollectFault : StateFault → (knew knows : List Entry) → Told → Told → Type 0
+IsCollectFault e knew knows before after = (was : Held) × (is : Held) × IsToldBy was knew knows × RefusesAt was is e before after

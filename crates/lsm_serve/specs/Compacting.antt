@@ -1,10 +1,23 @@
--- Why a compaction is refused (this project's rule).
-use Rattle.std.specs.Prelude.{⊤}
+-- What a compaction comes to (this project's rule).
+use Rattle.std.specs.Prelude.{⊤, List}
+use Rattle.lsm_choice.specs.Choice.{HasNoChoice}
+use Rattle.lsm_codec.specs.Entries.{Entry}
+use Rattle.lsm_live.specs.Reserving.{reserved_jobs}
+use Rattle.lsm_state.specs.Held.{Held}
 use Rattle.lsm_state.specs.declared.state_fault.StateFault.{StateFault}
 use Rattle.lsm_state.specs.declared.state_fault.StateFault.TheVariants.{Shelf, OutOfMemory}
 use Rattle.lsm_store.specs.Workers.{IsOfTurn}
+use Rattle.lsm_serve.specs.Served.{IsToldBy}
 use Rattle.lsm_store.specs.declared.worker_fault.WorkerFault.{WorkerFault}
 use Rattle.lsm_store.specs.declared.worker_fault.WorkerFault.TheVariants.{NoThread, State, Merge}
+
+-- There is no compaction to choose, beside the jobs at hand.
+abbrev pub IsSettled : Held → Type 0
+IsSettled h = HasNoChoice h.slots.version (reserved_jobs h.live)
+
+-- So it was, over an honest shelf, at a taking of the lock, of a state that has all that the channel knew.
+abbrev pub IsCompacted : Type 0 → (knew knows : List Entry) → Type 0
+IsCompacted Honest knew knows = (h : Held) × IsToldBy h knew knows × (Honest → IsSettled h)
 
 -- The worker that looked had no thread, or no shelf; or it ended by such a refusal as a worker meets.
 abbrev pub IsCompactFault : Type 0 → WorkerFault → Type 0

@@ -5,6 +5,8 @@ use Rattle.lsm_frames.specs.declared.level_size.LevelSize.{LevelSize}
 use Rattle.lsm_manifest.specs.FileOrder.{TableFile}
 use Rattle.lsm_state.specs.Held.{Held}
 use Rattle.lsm_state.specs.Listing.{listed_from}
+use Rattle.lsm_codec.specs.Entries.{Entry}
+use Rattle.lsm_serve.specs.Served.{IsToldBy}
 
 -- the files of a level
 abbrev pub files_at : ℕ → List (ℕ × TableFile) → List (ℕ × TableFile)
@@ -22,8 +24,9 @@ size_at fs level = record { files = length (files_at level fs); bytes = capped (
 abbrev pub sizes_of : List (ℕ × TableFile) → List LevelSize
 sizes_of fs = map (size_at fs) (0 ∷ 1 ∷ 2 ∷ 3 ∷ 4 ∷ 5 ∷ 6 ∷ [])
 
--- These are the last sequence of a state, and the files of its version.
-pub record IsListed (last : ℕ) (fs : List (ℕ × TableFile)) : Type 0 where
+-- These are the last sequence of a state, and the files of its version. It has all that was known.
+pub record IsListed (last : ℕ) (fs : List (ℕ × TableFile)) (knew knows : List Entry) : Type 0 where
   pub state : Held
+  pub told : IsToldBy state knew knows
   pub last_is : last ≡ state.slots.version.last
   pub files_are : fs ≡ listed_from 0 state.slots.version.tables

@@ -12,6 +12,7 @@ pub mod Answered
 pub mod Answering
 -- How a database is opened
 pub mod Starting
+pub mod Opening
 -- What private functions cite alone
 pub mod Refusing
 pub mod Stepping

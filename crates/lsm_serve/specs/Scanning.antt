@@ -7,8 +7,11 @@ use Rattle.lsm_codec.specs.Lists.{Has}
 use Rattle.lsm_frames.specs.Answers as frames
 use Rattle.lsm_frames.specs.Requests.{Stretch}
 use Rattle.lsm_levels.specs.Scanning.{Pair, UsersAscend}
+use Rattle.lsm_state.specs.declared.state_fault.StateFault.{StateFault}
+use Rattle.lsm_state.specs.declared.state_fault.StateFault.TheVariants.{TooLarge}
 use Rattle.lsm_store.specs.Readers.{Learnt}
 use Rattle.lsm_serve.specs.Answered.{done_frame}
+use Rattle.lsm_serve.specs.Reading.{IsTooLong, IsUnread, IsUnseen}
 use Rattle.lsm_serve.specs.Seen.{Sees}
 
 -- ---- pairs of a range
@@ -56,7 +59,27 @@ pub record IsShown (s : Stretch) (history : List Entry) (seq : ℕ) (frame : Lis
   pub page : IsPage s.limit (below s.to all) ended pairs
   pub said : frame ≡ done_frame (frames.Shown ended pairs)
 
-pub record IsScanned (Honest : Type 0) (s : Stretch) (before after : Learnt) (frame : List ℕ) : Type 0 where
+pub record IsScanned (Honest : Type 0) (s : Stretch) (taken : List (ℕ × ℕ)) (before after : Learnt) (knew knows : List Entry) (frame : List ℕ) : Type 0 where
   pub seq : ℕ
-  pub sees : Sees s.when before after seq
-  pub shown : Honest → IsShown s after.history seq frame
+  pub sees : Sees s.when taken before after knew knows seq
+  pub shown : Honest → IsShown s knows seq frame
+
+-- ---- refusals
+
+-- A pair that is to be shown, behind some that are no full page, makes an answer too long.
+pub record IsLongPage (limit : ℕ) (all : List Pair) : Type 0 where
+  pub front : List Pair
+  pub pair : Pair
+  pub rest : List Pair
+  pub parts : all ≡ front ++ pair ∷ rest
+  pub room : IsFull limit (map pair_of front) → ⊥
+  pub long : IsTooLong (frames.Shown false (map pair_of front ++ pair_of pair ∷ []))
+
+-- the range has such a pair, in all that had come in
+abbrev pub IsUnshown : Stretch → List Entry → ℕ → Type 0
+IsUnshown s history seq = (all : List Pair) × IsScanFrom s.from seq history all × IsLongPage s.limit (below s.to all)
+
+-- Why a scan is refused: nothing is seen; or what is seen is not shown, as `TooLarge` over an honest shelf only where no answer has room for a pair.
+abbrev pub IsScanFault : Type 0 → Stretch → List (ℕ × ℕ) → (before after : Learnt) → (knew knows : List Entry) → StateFault → Type 0
+IsScanFault Honest s taken before after knew knows e = IsUnseen s.when taken knew knows e
+    ⊎ ((seq : ℕ) × Sees s.when taken before after knew knows seq × IsUnread Honest e × (Honest → e ≡ TooLarge → IsUnshown s knows seq))

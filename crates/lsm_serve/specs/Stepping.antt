@@ -1,10 +1,11 @@
 -- How a page goes on along a scan.
-use Rattle.std.specs.Prelude.{◌≡◌, ◌≢◌, ⊤, ℕ, ◌+◌, true, List, [], ◌∷◌, ◌++◌, length, Option, None, Some}
+use Rattle.std.specs.Prelude.{◌≡◌, ◌≢◌, ⊤, ℕ, ◌+◌, true, false, List, [], ◌∷◌, ◌++◌, length, Option, None, Some}
 use Rattle.lsm_codec.specs.Keys.{UserKey}
 use Rattle.lsm_frames.specs.Answers as frames
 use Rattle.lsm_levels.specs.Scanning.{Pair}
 use Rattle.lsm_serve.specs.declared.turn.Turn.{Turn}
 use Rattle.lsm_serve.specs.declared.turn.Turn.TheVariants.{Next, Full, Ended}
+use Rattle.lsm_serve.specs.Reading.{IsTooLong}
 use Rattle.lsm_serve.specs.Scanning.{IsFull, below, is_below, pair_of}
 
 -- the pair that was taken off a scan, and those that are left of it; none is left where none could be taken
@@ -23,3 +24,7 @@ abbrev pub Grows : Turn → (old new : List frames.Pair) → Type 0
 Grows (Next next) old new = length new ≡ length old + 1
 Grows Full old new = ⊤
 Grows Ended old new = ⊤
+
+-- The page was not full, and no answer has room for the first pair behind it.
+abbrev pub IsLongTurn : Option UserKey → ℕ → List Pair → List frames.Pair → Type 0
+IsLongTurn to limit all old = (p : Pair) × (rest : List Pair) × (all ≡ p ∷ rest) × (is_below to p.0 ≡ true) × (IsFull limit old → ⊥) × IsTooLong (frames.Shown false (old ++ pair_of p ∷ []))

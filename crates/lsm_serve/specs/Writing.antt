@@ -2,7 +2,9 @@
 use Rattle.std.specs.Prelude.{◌≡◌, ◌⊎◌, List, [], ◌∷◌, ◌++◌, map}
 use Rattle.lsm_batch.specs.Batches.{IsTooLarge}
 use Rattle.lsm_batch.specs.declared.write.Write.{Write}
+use Rattle.lsm_codec.specs.Entries.{Entry}
 use Rattle.lsm_frames.specs.Requests.{Written}
+use Rattle.lsm_history.specs.History.{IsLater}
 use Rattle.lsm_lines.specs.LastWrites.{KeepsLast}
 use Rattle.lsm_shelf.specs.Asked.{Asked}
 use Rattle.lsm_shelf.specs.Told.{Told}
@@ -20,19 +22,21 @@ write_of w = record { key = w.key; value = w.value }
 abbrev pub writes_of : List Written → List Write
 writes_of ws = map write_of ws
 
--- The batch came in.
-abbrev pub IsIn : List Write → Ingested → Told → Told → Type 0
-IsIn batch r before after = (was : Held) × (is : Held) × BringsIn was is batch r before after
+-- The batch came in, and this is all that had come in then.
+abbrev pub IsIn : List Write → Ingested → List Entry → Told → Told → Type 0
+IsIn batch r all before after = (was : Held) × (is : Held) × BringsIn was is batch r before after × (all ≡ is.history)
 
 -- The batch was refused.
 abbrev pub IsOut : (Asked → ShelfFault → Type 0) → List Write → StateFault → Told → Told → Type 0
 IsOut Refused batch e before after = (was : Held) × (is : Held) × KeepsOut Refused was is batch e before after
 
--- Of each key that is written the last write came in, all as one batch.
-pub record IsWritten (ws : List Written) (r : Ingested) (before after : Told) : Type 0 where
+-- Of each key that is written the last write came in, all as one batch. The channel knows all that had come in then.
+pub record IsWritten (ws : List Written) (r : Ingested) (knows : List Entry) (before after : Told) : Type 0 where
   pub batch : List Write
   pub gathered : KeepsLast (writes_of ws) batch
-  pub brought : IsIn batch r before after
+  pub all : List Entry
+  pub brought : IsIn batch r all before after
+  pub known : IsLater knows all
 
 -- Why a write is not put behind others: with it they pass a limit of a batch; or memory ran out.
 abbrev pub IsPutFault : List Write → Write → StateFault → Type 0

@@ -18,8 +18,9 @@ mod statistics;
 mod turn;
 mod writing;
 
-// What these share: forks of a shelf, answers, a view of what has come in.
+// What these share: what is known, forks of a shelf, answers, a view of what has come in.
 mod forks;
+mod knowing;
 mod refusing;
 mod saying;
 mod viewing;

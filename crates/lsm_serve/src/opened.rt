@@ -7,6 +7,7 @@ ghost use Rattle.lsm_store.specs.Readers.{SeatsPinners};
 
 use crate::channel::Channel;
 use crate::forks::forks;
+use crate::knowing::remember;
 use crate::parts::{NewParts, options_for};
 use crate::plan::Plan;
 use crate::session::Session;
@@ -19,9 +20,12 @@ use lsm_writing::{Prepared, WriterFault};
 use std::alloc::Global;
 use std::sync::Wait;
 
-/// A channel for each reader, by forks of the shelf. Their descriptors follow one another.
-fn man<N: Boarded, S: Shelf>(
+/// A channel for each reader, by forks of the shelf. Their descriptors follow one another. Each
+/// knows what had come in by then.
+fn man<N: Boarded, S: Shelf, R: Wait>(
+    rt: &R,
     alloc: Global,
+    store: &Store<N, S>,
     readers: Vec<Reader<N, S>>,
     shelf: &mut NamedShelf<N, S>,
     first: i32,
@@ -29,7 +33,8 @@ fn man<N: Boarded, S: Shelf>(
     let mut fd = first;
     let mut channels = Vec::new(alloc);
     for reader in readers {
-        let session = Session::new(reader, shelf.fork(alloc)?);
+        let shelf = shelf.fork(alloc)?;
+        let session = Session::new(alloc, reader, shelf, remember(rt, store));
         channels.push(Channel { session, fd })?;
         fd = fd.saturating_add(1);
     }
@@ -45,7 +50,8 @@ pub(crate) struct Opened<N: Boarded, S: Shelf> {
 }
 
 /// The store of a state, and its channels.
-fn open_store<N: Boarded, S: Shelf>(
+fn open_store<N: Boarded, S: Shelf, R: Wait>(
+    rt: &R,
     alloc: Global,
     state: State<N, S>,
     shelf: &mut NamedShelf<N, S>,
@@ -55,13 +61,17 @@ fn open_store<N: Boarded, S: Shelf>(
 {
     let reading = shelf.fork(alloc)?;
     match Store::new(alloc, state, reading) {
-        Ok((store, readers)) => Ok((store, man(alloc, readers, shelf, first)?)),
+        Ok((store, readers)) => {
+            let channels = man(rt, alloc, &store, readers, shelf, first)?;
+            Ok((store, channels))
+        }
         Err((_state, _shelf, fault)) => Err(fault),
     }
 }
 
 /// The store of a state, its channels, and a shelf for each worker.
-fn open_state<N: Boarded, S: Shelf>(
+fn open_state<N: Boarded, S: Shelf, R: Wait>(
+    rt: &R,
     alloc: Global,
     state: State<N, S>,
     shelf: &mut NamedShelf<N, S>,
@@ -69,7 +79,7 @@ fn open_state<N: Boarded, S: Shelf>(
 ) -> Result<Opened<N, S>, ShelfFault>
     requires { SeatsPinners state }
 {
-    let (store, channels) = open_store(alloc, state, shelf, plan.first)?;
+    let (store, channels) = open_store(rt, alloc, state, shelf, plan.first)?;
     let shelves = forks(alloc, shelf, plan.workers)?;
     Ok(Opened {
         store,
@@ -117,7 +127,7 @@ pub(crate) fn open<N: Boarded, S: Shelf, R: Wait>(
     requires history { IsNewHistory N.history parts.history }
 {
     let state = open_parts(rt, alloc, shelf, prepared, plan.channels, parts)?;
-    match open_state(alloc, state, shelf, plan) {
+    match open_state(rt, alloc, state, shelf, plan) {
         Ok(opened) => Ok(opened),
         Err(fault) => Err(WriterFault::of_shelf(fault)),
     }

@@ -1,6 +1,8 @@
 //! What is to be served.
 
-ghost use Rattle.std.specs.Prelude.{◌≤◌, IfSome};
+ghost use Rattle.std.specs.Prelude.{◌≡◌, ◌≤◌, pos};
+ghost use Rattle.lsm_frames.specs.OpeningView.{opened_of};
+ghost use Rattle.lsm_frames.specs.Openings.{FitsOpened};
 
 use lsm_frames::Opening;
 
@@ -14,22 +16,19 @@ pub(crate) struct Plan {
 }
 
 impl Plan {
-    /// What an opening asks for, where that can be.
-    pub(crate) fn of(opening: &Opening<'_>) -> Option<Plan>
-        ensures some { IfSome result (λ p. 1 ≤ p.channels) }
-        ensures few { IfSome result (λ p. p.channels ≤ 62) }
+    /// What an opening asks for.
+    pub(crate) fn of(opening: &Opening<'_>) -> Plan
+        requires { FitsOpened (opened_of opening.now) }
+        ensures first { result.first ≡ pos opening.now.first_channel }
+        ensures channels { result.channels ≡ opening.now.channels }
+        ensures workers { result.workers ≡ opening.now.workers }
+        ensures some { 1 ≤ result.channels }
+        ensures few { result.channels ≤ 62 }
     {
-        let channels = opening.channels as usize;
-        if channels == 0 || channels > 62 {
-            return None;
-        }
-        match i32::try_from(opening.first_channel) {
-            Ok(first) => Some(Plan {
-                first,
-                channels,
-                workers: opening.workers as usize,
-            }),
-            Err(_) => None,
+        Plan {
+            first: opening.first_channel as i32,
+            channels: opening.channels as usize,
+            workers: opening.workers as usize,
         }
     }
 }

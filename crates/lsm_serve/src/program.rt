@@ -1,6 +1,9 @@
 //! One run of the server.
 
-ghost use Rattle.std.specs.Prelude.{◌≤◌};
+ghost use Rattle.std.specs.Prelude.{◌≡◌, ◌≤◌, IfErr, OnOk};
+ghost use Rattle.lsm_frames.specs.OpeningView.{opened_of};
+ghost use Rattle.lsm_frames.specs.Openings.{FitsOpened};
+ghost use Rattle.lsm_serve.specs.Opening.{IsAllowed, IsBarred, IsServed, IsUnserved, looking};
 
 use crate::descriptors::{Descriptors, Incoming, are_open, read_frame, send};
 use crate::opening_fault::OpeningFault;
@@ -21,7 +24,9 @@ const OPENING: i32 = 0;
 
 /// Looks for a database that is opened or begun as `lsm ingest` does it: nothing is begun among
 /// files of a database that lost its `CURRENT`, and logs are looked at.
-fn looking() -> IngestOptions {
+fn looking() -> IngestOptions
+    ensures { result ≡ looking }
+{
     IngestOptions {
         form: Form::Hex,
         begins: false,
@@ -30,7 +35,12 @@ fn looking() -> IngestOptions {
 }
 
 /// Refuses a database that is there, or none, as the opening asks.
-fn judge(prepared: &Prepared, opening: &Opening<'_>) -> Result<(), OpeningFault> {
+fn judge(prepared: &Prepared, opening: &Opening<'_>) -> Result<(), OpeningFault>
+    ensures ok { OnOk result
+        (IsAllowed prepared.now.start opening.now.make opening.now.refuse) }
+    ensures refused { IfErr result
+        (IsBarred prepared.now.start opening.now.make opening.now.refuse) }
+{
     match prepared.start {
         Start::Open => {
             if opening.refuse {
@@ -58,6 +68,10 @@ where
     C::Mark: Send + Sync,
     requires some { 1 ≤ plan.channels }
     requires few { plan.channels ≤ 62 }
+    ensures served { OnOk result
+        (IsServed opening.now.make opening.now.refuse (C.calls folder)) }
+    ensures refused { IfErr result
+        (IsUnserved opening.now.make opening.now.refuse (C.calls folder)) }
 {
     let mut folder = folder;
     let prepared = match prepare(rt, paths.alloc(), &mut folder, looking()) {
@@ -82,10 +96,9 @@ fn serve_at<C: FolderCalls + Send + Sync, P: Paths<C>, D: Descriptors, R: Thread
 ) -> Result<(), OpeningFault>
 where
     C::Mark: Send + Sync,
+    requires { FitsOpened (opened_of opening.now) }
 {
-    let Some(plan) = Plan::of(opening) else {
-        return Err(OpeningFault::BadOpening);
-    };
+    let plan = Plan::of(opening);
     if !are_open(descriptors, plan.first, plan.channels) {
         return Err(OpeningFault::BadOpening);
     }

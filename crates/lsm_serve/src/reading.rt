@@ -1,17 +1,20 @@
 //! The values of keys.
 
-ghost use Rattle.std.specs.Prelude.{◌≡◌, ◌++◌, ◌∷◌, [], IfErr, IfOk, OnOk};
+ghost use Rattle.std.specs.Prelude.{◌≡◌, ◌++◌, ◌∷◌, [], Err, IfErr, IfOk, OnOk};
 ghost use Rattle.std.specs.Option.{option_map};
 ghost use Rattle.lsm_codec.specs.Entries.{answer};
 ghost use Rattle.lsm_frames.specs.Answers.{Found};
+ghost use Rattle.lsm_frames.specs.declared.answer_fault.AnswerFault.TheVariants.{TooLong};
 ghost use Rattle.lsm_history.specs.History.{IsLater};
 ghost use Rattle.lsm_serve.specs.Answered.{done_frame};
-ghost use Rattle.lsm_serve.specs.Reading.{IsRead, IsReadFault, IsUnread, values_at};
+ghost use Rattle.lsm_serve.specs.Reading.{IsRead, IsReadFault, IsTooLong, IsUnread, values_at};
+ghost use Rattle.lsm_state.specs.declared.state_fault.StateFault.TheVariants.{TooLarge};
 ghost use Rattle.lsm_store.specs.Readers.{IsPromised};
 
 use crate::refusing::of_answer;
 use crate::viewing::view_at;
 use lsm_frames::{AnswerFault, Keys, ValuesAnswer, When};
+use lsm_history::Memory;
 use lsm_slots::Boarded;
 use lsm_state::StateFault;
 use lsm_store::{Reader, Store, View};
@@ -21,7 +24,10 @@ use std::sync::Wait;
 
 /// Adds what was found of a key.
 fn add_found(values: &mut ValuesAnswer, found: Option<Vec<u8>>) -> Result<(), AnswerFault>
-    ensures { OnOk result (values.new ≡ values.old ++ option_map (λ b. b.items) found ∷ []) }
+    ensures added { OnOk result
+        (values.new ≡ values.old ++ option_map (λ b. b.items) found ∷ []) }
+    ensures long { result ≡ Err TooLong
+        → IsTooLong (Found (values.old ++ option_map (λ b. b.items) found ∷ [])) }
 {
     match found {
         Some(value) => values.value(&value),
@@ -40,6 +46,8 @@ fn add_value<N: Boarded, S: Shelf>(
     requires promised { IsPromised view.old seq }
     ensures added { S.honest → OnOk result
         (values.new ≡ values.old ++ answer view.old.history key.now seq ∷ []) }
+    ensures long { S.honest → result ≡ Err TooLarge
+        → IsTooLong (Found (values.old ++ answer view.old.history key.now seq ∷ [])) }
     ensures rest { view.new ≡ record view.old { told = view.new.told } }
     ensures refused { IfErr result (IsUnread S.honest) }
 {
@@ -61,6 +69,8 @@ fn add_values<N: Boarded, S: Shelf>(
     requires promised { IsPromised view.old seq }
     ensures added { S.honest → OnOk result
         (values.new ≡ values.old ++ values_at view.old.history seq keys.entry) }
+    ensures long { S.honest → result ≡ Err TooLarge
+        → IsTooLong (Found (values.old ++ values_at view.old.history seq keys.entry)) }
     ensures rest { view.new ≡ record view.old { told = view.new.told } }
     ensures refused { IfErr result (IsUnread S.honest) }
 {
@@ -81,6 +91,8 @@ fn values_of<N: Boarded, S: Shelf>(
     requires promised { IsPromised view.old seq }
     ensures values { S.honest → IfOk result (λ v.
         v.items ≡ done_frame (Found (values_at view.old.history seq keys.entry))) }
+    ensures long { S.honest → result ≡ Err TooLarge
+        → IsTooLong (Found (values_at view.old.history seq keys.entry)) }
     ensures rest { view.new ≡ record view.old { told = view.new.told } }
     ensures refused { IfErr result (IsUnread S.honest) }
 {
@@ -96,14 +108,19 @@ pub(crate) fn read<N: Boarded, S: Shelf, R: Wait>(
     alloc: Global,
     store: &Store<N, S>,
     reader: Reader<N, S>,
+    memory: &mut Memory<N>,
+    taken: &[(u64, u64)],
     when: When,
     keys: Keys<'_>,
 ) -> (Reader<N, S>, Result<Vec<u8>, StateFault>)
-    ensures read { IfOk result.1 (λ v. IsRead S.honest when keys.entry reader result.0 v.items) }
+    ensures read { IfOk result.1 (λ v. IsRead S.honest when keys.entry taken.now
+        reader result.0 memory.old memory.new v.items) }
+    ensures known { IsLater memory.new memory.old }
     ensures later { IsLater result.0.history reader.history }
-    ensures refused { IfErr result.1 (IsReadFault S.honest when) }
+    ensures refused { IfErr result.1 (IsReadFault S.honest when keys.entry taken.now
+        reader result.0 memory.old memory.new) }
 {
-    match view_at(rt, store, reader, when) {
+    match view_at(rt, store, reader, memory, taken, when) {
         Ok((mut view, seq)) => {
             let answer = values_of(alloc, &mut view, seq, keys);
             (view.end(), answer)

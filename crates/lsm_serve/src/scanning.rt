@@ -1,15 +1,18 @@
 //! Pairs in the order of keys.
 
-ghost use Rattle.std.specs.Prelude.{◌≡◌, ◌↔◌, ◌++◌, ◌∷◌, [], length, IfErr, IfOk, IsTrue, OnOk};
+ghost use Rattle.std.specs.Prelude.{◌≡◌, ◌↔◌, ◌++◌, ◌∷◌, [], length, false, Err, IfErr, IfOk};
+ghost use Rattle.std.specs.Prelude.{IsTrue, OnOk};
 ghost use Rattle.std.specs.Option.{option_map};
 ghost use Rattle.lsm_codec.specs.Keys.{user_le};
+ghost use Rattle.lsm_frames.specs.Answers.{Shown};
 ghost use Rattle.lsm_frames.specs.Views.{stretch_of};
 ghost use Rattle.lsm_history.specs.History.{IsLater};
 ghost use Rattle.lsm_levels.specs.Scanning.{UsersAscend};
-ghost use Rattle.lsm_serve.specs.Reading.{IsAnswerFault, IsReadFault, IsUnread};
-ghost use Rattle.lsm_serve.specs.Scanning.{IsFull, IsPage, IsScanFrom, IsScanned, IsShown};
-ghost use Rattle.lsm_serve.specs.Scanning.{below, is_below, pair_of};
-ghost use Rattle.lsm_serve.specs.Stepping.{Grows, Turns, ahead};
+ghost use Rattle.lsm_serve.specs.Reading.{IsAnswerFault, IsTooLong, IsUnread};
+ghost use Rattle.lsm_serve.specs.Scanning.{IsFull, IsLongPage, IsPage, IsScanFault, IsScanFrom};
+ghost use Rattle.lsm_serve.specs.Scanning.{IsScanned, IsShown, IsUnshown, below, is_below, pair_of};
+ghost use Rattle.lsm_serve.specs.Stepping.{Grows, IsLongTurn, Turns, ahead};
+ghost use Rattle.lsm_state.specs.declared.state_fault.StateFault.TheVariants.{TooLarge};
 ghost use Rattle.lsm_store.specs.Readers.{IsPromised};
 ghost use Rattle.lsm_table.specs.ReadFault.{IsMemoryOrShelf};
 
@@ -17,6 +20,7 @@ use crate::refusing::of_answer;
 use crate::turn::Turn;
 use crate::viewing::view_at;
 use lsm_frames::{PairsAnswer, Range};
+use lsm_history::Memory;
 use lsm_reads::{Pair, Scan};
 use lsm_slots::Boarded;
 use lsm_state::StateFault;
@@ -75,6 +79,8 @@ fn is_full(limit: u32, count: u64, pairs: &PairsAnswer) -> bool
 /// Adds a pair.
 fn add(pairs: &mut PairsAnswer, pair: &Pair) -> Result<(), StateFault>
     ensures added { OnOk result (pairs.new ≡ pairs.old ++ pair_of pair.now ∷ []) }
+    ensures long { result ≡ Err TooLarge
+        → IsTooLong (Shown false (pairs.old ++ pair_of pair.now ∷ [])) }
     ensures refused { IfErr result IsAnswerFault }
 {
     match pairs.pair(pair.user(), pair.value()) {
@@ -98,6 +104,8 @@ fn take_turn<N: Boarded, S: Shelf>(
     ensures turn { S.honest → IfOk result (λ t. Turns (stretch_of range.entry).to range.entry.limit
         (ahead next scan.old.left) t scan.new.left pairs.old pairs.new) }
     ensures grows { IfOk result (λ t. Grows t pairs.old pairs.new) }
+    ensures long { result ≡ Err TooLarge → IsLongTurn (stretch_of range.entry).to range.entry.limit
+        (ahead next scan.old.left) pairs.old }
     ensures rest { view.new ≡ record view.old { told = view.new.told } }
     ensures refused { IfErr result (IsUnread S.honest) }
 {
@@ -127,6 +135,8 @@ fn fill<N: Boarded, S: Shelf>(
     requires none { pairs.old ≡ [] }
     ensures page { S.honest → IfOk result (λ ended. IsPage range.entry.limit
         (below (stretch_of range.entry).to (ahead first scan.old.left)) ended pairs.new) }
+    ensures long { S.honest → result ≡ Err TooLarge → IsLongPage range.entry.limit
+        (below (stretch_of range.entry).to (ahead first scan.old.left)) }
     ensures rest { view.new ≡ record view.old { told = view.new.told } }
     ensures refused { IfErr result (IsUnread S.honest) }
 {
@@ -152,6 +162,8 @@ fn page_of<N: Boarded, S: Shelf>(
     requires promised { IsPromised view.old seq }
     ensures shown { S.honest → IfOk result (λ v.
         IsShown (stretch_of range.entry) view.old.history seq v.items) }
+    ensures long { S.honest → result ≡ Err TooLarge
+        → IsUnshown (stretch_of range.entry) view.old.history seq }
     ensures rest { view.new ≡ record view.old { told = view.new.told } }
     ensures refused { IfErr result (IsUnread S.honest) }
 {
@@ -168,14 +180,18 @@ pub(crate) fn scan<N: Boarded, S: Shelf, R: Wait>(
     alloc: Global,
     store: &Store<N, S>,
     reader: Reader<N, S>,
+    memory: &mut Memory<N>,
+    taken: &[(u64, u64)],
     range: Range<'_>,
 ) -> (Reader<N, S>, Result<Vec<u8>, StateFault>)
-    ensures scanned { IfOk result.1 (λ v.
-        IsScanned S.honest (stretch_of range.entry) reader result.0 v.items) }
+    ensures scanned { IfOk result.1 (λ v. IsScanned S.honest (stretch_of range.entry) taken.now
+        reader result.0 memory.old memory.new v.items) }
+    ensures known { IsLater memory.new memory.old }
     ensures later { IsLater result.0.history reader.history }
-    ensures refused { IfErr result.1 (IsReadFault S.honest range.entry.when) }
+    ensures refused { IfErr result.1 (IsScanFault S.honest (stretch_of range.entry) taken.now
+        reader result.0 memory.old memory.new) }
 {
-    match view_at(rt, store, reader, range.when) {
+    match view_at(rt, store, reader, memory, taken, range.when) {
         Ok((mut view, seq)) => {
             let answer = page_of(alloc, &mut view, seq, range);
             (view.end(), answer)

@@ -1,12 +1,14 @@
 //! The state that is served.
 
-ghost use Rattle.std.specs.Prelude.{◌≡◌, IfOk, OnOk, length};
+ghost use Rattle.std.specs.Prelude.{◌≡◌, IfErr, IfOk, OnOk, length};
 ghost use Rattle.lsm_directory.specs.Logs.{NoneUnread};
-ghost use Rattle.lsm_serve.specs.Starting.{IsNew, IsReopened, IsStarted};
+ghost use Rattle.lsm_serve.specs.Starting.{IsNew, IsNotOpened, IsNotReopened, IsReopened};
+ghost use Rattle.lsm_serve.specs.Starting.{IsStarted, IsUnstarted};
+ghost use Rattle.lsm_shelf.specs.Stored.{Stored};
 ghost use Rattle.lsm_state.specs.Making.{IsNewBoard, IsNewHistory};
 ghost use Rattle.lsm_state.specs.Options.{Fits};
 ghost use Rattle.lsm_store.specs.Readers.{SeatsPinners};
-ghost use Rattle.lsm_writing.specs.Starting.{IsFlushed};
+ghost use Rattle.lsm_writing.specs.Starting.{IsFlushed, IsUnbegun, IsUncreated, IsUnflushed};
 ghost use Rattle.lsm_writing.specs.declared.ingesting.start.Start.TheVariants.{Open};
 
 use crate::parts::Parts;
@@ -20,6 +22,25 @@ use lsm_writing::{Prepared, Start, WriterFault};
 use std::alloc::Global;
 use std::sync::Wait;
 
+/// Reads the manifest, and refuses the first of these logs that LevelDB would read.
+fn judge_logs<N: Boarded, S: Shelf, R: Wait>(
+    rt: &R,
+    alloc: Global,
+    shelf: &mut NamedShelf<N, S>,
+    logs: &[FolderFile],
+) -> Result<(), WriterFault>
+    ensures flushed { OnOk result (IsFlushed logs.now shelf.old shelf.new) }
+    ensures refused { IfErr result (λ e.
+        IsUnflushed (S.refuses N.place) logs.now e shelf.old shelf.new) }
+{
+    // A journal that nothing is sent through has no use for its limit.
+    let found = Journal::recover(rt, alloc, shelf, u64::MAX)?;
+    match first_unread(logs, found.shape.log, found.shape.prev_log) {
+        Some(number) => Err(WriterFault::UnflushedLog(number)),
+        None => Ok(()),
+    }
+}
+
 /// Refuses the first of these logs that LevelDB would read, by the manifest that is there. Where
 /// there is no log, the shelf is asked for nothing.
 fn refuse_unflushed<N: Boarded, S: Shelf, R: Wait>(
@@ -28,17 +49,14 @@ fn refuse_unflushed<N: Boarded, S: Shelf, R: Wait>(
     shelf: &mut NamedShelf<N, S>,
     logs: &[FolderFile],
 ) -> Result<(), WriterFault>
-    ensures { OnOk result (IsFlushed logs.now shelf.old shelf.new) }
+    ensures flushed { OnOk result (IsFlushed logs.now shelf.old shelf.new) }
+    ensures refused { IfErr result (λ e.
+        IsUnflushed (S.refuses N.place) logs.now e shelf.old shelf.new) }
 {
     if logs.is_empty() {
         return Ok(());
     }
-    // A journal that nothing is sent through has no use for its limit.
-    let found = Journal::recover(rt, alloc, shelf, u64::MAX)?;
-    match first_unread(logs, found.shape.log, found.shape.prev_log) {
-        Some(number) => Err(WriterFault::UnflushedLog(number)),
-        None => Ok(()),
-    }
+    judge_logs(rt, alloc, shelf, logs)
 }
 
 /// The state of the database that is on the shelf.
@@ -54,6 +72,9 @@ fn reopen<N: Boarded, S: Shelf, R: Wait>(
     requires seats { length parts.board.1.items ≡ options.readers }
     requires history { IsNewHistory N.history parts.history }
     ensures opened { IfOk result (λ s. IsReopened S.honest options s shelf.old shelf.new) }
+    ensures refused { IfErr result (λ e. IsNotReopened (Stored S.Receipt (S.is_of N.place) S.Receipt.number
+        S.Receipt.image) (S.refuses N.place) S.honest options
+        e shelf.old shelf.new) }
     ensures seats { IfOk result (λ s. SeatsPinners s) }
 {
     made_states_seat_their_pinners();
@@ -87,6 +108,9 @@ fn open_beside<N: Boarded, S: Shelf, R: Wait>(
     requires history { IsNewHistory N.history parts.history }
     ensures opened { IfOk result (λ s.
         IsStarted S.honest options Open logs.now s shelf.old shelf.new) }
+    ensures refused { IfErr result (λ e. IsNotOpened (Stored S.Receipt (S.is_of N.place) S.Receipt.number
+        S.Receipt.image) (S.refuses N.place) S.honest options
+        logs.now e shelf.old shelf.new) }
     ensures seats { IfOk result (λ s. SeatsPinners s) }
 {
     refuse_unflushed(rt, alloc, shelf, logs)?;
@@ -110,6 +134,8 @@ fn create<N: Boarded, S: Shelf, R: Wait>(
     requires seats { length parts.board.1.items ≡ options.readers }
     requires history { IsNewHistory N.history parts.history }
     ensures created { IfOk result (λ s. IsNew options number s shelf.old shelf.new) }
+    ensures refused { IfErr result (λ e.
+        IsUncreated number (S.refuses N.place) e shelf.old shelf.new) }
     ensures seats { IfOk result (λ s. SeatsPinners s) }
 {
     if number == u64::MAX {
@@ -148,6 +174,8 @@ fn create_beside<N: Boarded, S: Shelf, R: Wait>(
     requires history { IsNewHistory N.history parts.history }
     ensures flushed { OnOk result (NoneUnread 0 0 logs.now) }
     ensures created { IfOk result (λ s. IsNew options number s shelf.old shelf.new) }
+    ensures refused { IfErr result (λ e.
+        IsUnbegun number logs.now (S.refuses N.place) e shelf.old shelf.new) }
     ensures seats { IfOk result (λ s. SeatsPinners s) }
 {
     if let Some(log) = first_unread(logs, 0, 0) {
@@ -175,6 +203,9 @@ pub(crate) fn start<N: Boarded, S: Shelf, R: Wait>(
     requires history { IsNewHistory N.history parts.history }
     ensures started { IfOk result (λ s. IsStarted S.honest options prepared.now.start
         prepared.now.logs.items s shelf.old shelf.new) }
+    ensures refused { IfErr result (λ e. IsUnstarted (Stored S.Receipt (S.is_of N.place) S.Receipt.number
+        S.Receipt.image) (S.refuses N.place) S.honest options
+        prepared.now.start prepared.now.logs.items e shelf.old shelf.new) }
     ensures seats { IfOk result (λ s. SeatsPinners s) }
 {
     match prepared.start {

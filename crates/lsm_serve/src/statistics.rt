@@ -1,10 +1,14 @@
 //! How much a database has.
 
 ghost use Rattle.std.specs.Prelude.{◌≡◌, IfOk, length, sum_by};
+ghost use Rattle.lsm_history.specs.History.{IsLater};
 ghost use Rattle.lsm_serve.specs.Counting.{IsListed, capped, files_at, size_at, sizes_of};
+ghost use Rattle.lsm_serve.specs.Served.{IsToldBy};
 ghost use Rattle.lsm_state.specs.Listing.{listed_from};
 
+use crate::knowing::catch_up;
 use lsm_frames::LevelSize;
+use lsm_history::Memory;
 use lsm_manifest::FileMeta;
 use lsm_slots::Boarded;
 use lsm_state::State;
@@ -17,11 +21,14 @@ use std::sync::Wait;
 fn files_of<N: Boarded, S: Shelf>(
     state: &mut State<N, S>,
     alloc: Global,
+    memory: &mut Memory<N>,
 ) -> Result<(u64, Vec<(u8, FileMeta)>), AllocError>
+    ensures told { IsToldBy state.old memory.old memory.new }
     ensures last { IfOk result (λ r. r.0 ≡ state.old.slots.version.last) }
     ensures files { IfOk result (λ r. r.1.items ≡ listed_from 0 state.old.slots.version.tables) }
     ensures same { state.new ≡ state.old }
 {
+    catch_up(state, memory);
     let last = state.current().1.last();
     let files = state.files(alloc)?;
     Ok((last, files))
@@ -82,12 +89,15 @@ pub(crate) fn sizes_of(files: &[(u8, FileMeta)]) -> [LevelSize; 7]
 }
 
 /// The last sequence, and the files, each with its level.
+#[tactic(auto, using(crate::proofs::KnownLaws::told_later))]
 pub(crate) fn list<N: Boarded, S: Shelf, R: Wait>(
     rt: &R,
     alloc: Global,
     store: &Store<N, S>,
+    memory: &mut Memory<N>,
 ) -> Result<(u64, Vec<(u8, FileMeta)>), AllocError>
-    ensures { IfOk result (λ r. IsListed r.0 r.1.items) }
+    ensures listed { IfOk result (λ r. IsListed r.0 r.1.items memory.old memory.new) }
+    ensures known { IsLater memory.new memory.old }
 {
-    files_of(&mut store.lock(rt).state, alloc)
+    files_of(&mut store.lock(rt).state, alloc, memory)
 }

@@ -2,14 +2,17 @@
 
 ghost use Rattle.std.specs.Prelude.{◌≡◌, ◌++◌, ◌∷◌, [], IfErr, IfOk, OnOk};
 ghost use Rattle.lsm_frames.specs.Views.{written_of};
+ghost use Rattle.lsm_history.specs.History.{IsLater};
 ghost use Rattle.lsm_lines.specs.LastWrites.{KeepsLast};
 ghost use Rattle.lsm_serve.specs.Writing.{IsIn, IsOut, IsPutFault, IsUngathered};
 ghost use Rattle.lsm_serve.specs.Writing.{IsWriteFault, IsWritten};
 ghost use Rattle.lsm_serve.specs.Writing.{write_of, writes_of};
 
+use crate::knowing::note;
 use lsm_batch::{Batch, Write as KeyWrite};
 use lsm_codec::Bytes;
 use lsm_frames::{Write, Writes};
+use lsm_history::Memory;
 use lsm_lines::{PutFault, WriteBuffer};
 use lsm_slots::Boarded;
 use lsm_state::{Ingested, StateFault};
@@ -77,7 +80,7 @@ fn batch_of(alloc: Global, writes: Writes<'_>) -> Result<Batch, StateFault>
     Ok(buffer.into_batch(alloc)?)
 }
 
-/// Brings a batch in.
+/// Brings a batch in: with it all that had come in then, to be remembered.
 fn bring_in<N: Boarded, S: Shelf, R: Wait>(
     rt: &R,
     alloc: Global,
@@ -85,34 +88,40 @@ fn bring_in<N: Boarded, S: Shelf, R: Wait>(
     background: &Background,
     shelf: &mut NamedShelf<N, S>,
     batch: &Batch,
-) -> Result<Ingested, StateFault>
-    ensures ok { IfOk result (λ r. IsIn batch.now r shelf.old shelf.new) }
+) -> Result<(Ingested, Memory<N>), StateFault>
+    ensures ok { IfOk result (λ r. IsIn batch.now r.0 r.1 shelf.old shelf.new) }
     ensures refused { IfErr result (λ e. IsOut (S.refuses N.place) batch.now e
         shelf.old shelf.new) }
 {
     match background.ingest(rt, alloc, store, shelf, batch) {
-        Ok((came, _memory)) => Ok(came),
+        Ok((came, left)) => Ok((came, left)),
         Err(fault) => Err(fault),
     }
 }
 
-/// Brings the last write of each key in, all as one batch. Where level 0 is full it waits for the
-/// workers.
+/// Brings the last write of each key in, all as one batch, and remembers all that had come in then.
+/// Where level 0 is full it waits for the workers.
+#[tactic(auto, using(crate::proofs::KnownLaws::later_same))]
 pub(crate) fn write<N: Boarded, S: Shelf, R: Wait>(
     rt: &R,
     alloc: Global,
     store: &Store<N, S>,
     background: &Background,
+    memory: &mut Memory<N>,
     shelf: &mut NamedShelf<N, S>,
     writes: Writes<'_>,
 ) -> Result<Ingested, StateFault>
-    ensures ok { IfOk result (λ r. IsWritten writes.entry r shelf.old shelf.new) }
+    ensures ok { IfOk result (λ r. IsWritten writes.entry r memory.new shelf.old shelf.new) }
+    ensures known { IsLater memory.new memory.old }
     ensures refused { IfErr result (λ e.
         IsWriteFault (S.refuses N.place) writes.entry e shelf.old shelf.new) }
 {
     let batch = batch_of(alloc, writes)?;
     match bring_in(rt, alloc, store, background, shelf, &batch) {
-        Ok(came) => Ok(came),
+        Ok((came, left)) => {
+            note(rt, store, memory, left);
+            Ok(came)
+        }
         Err(fault) => Err(fault),
     }
 }

@@ -4,10 +4,10 @@ use Rattle.lsm_serve.specs.Answered.{done_frame}
 use Rattle.lsm_serve.specs.Counting.{sizes_of}
 use Rattle.lsm_serve.proofs.session.answer_statistics.Goals as goal
 
-pub returns-in_ok-answer-in-Ok : goal.returns-in_ok-answer-in-Ok
-returns-in_ok-answer-in-Ok g c = inl (
+pub returns-in_ok-answer-in-Ok-clause-answered : goal.returns-in_ok-answer-in-Ok-clause-answered
+returns-in_ok-answer-in-Ok-clause-answered g c = inl (
   c.in-Ok.last,
   c.in-Ok.files.items,
-  c.in-Ok.ensures,
+  c.in-Ok.ensures.listed,
   c.in_ok-answer-in-Ok.ensures ∙ ap (λ ls. done_frame (Told c.in-Ok.last ls)) (c.sizes_of-sizes.ensures ∙ ap sizes_of c.deref.ensures.value),
 )
