@@ -45,8 +45,8 @@ impl<N: Naming, S: Shelf> Model for JudgedTable<N, S> {
       last = t.last;
     } };
 
-    ghost invariant = { λ t. S.is_of N.place t.row.receipt
-        × IsJudged t.last t.row.smallest t.row.largest (S.Receipt.image t.row.receipt) t.sequences };
+    ghost invariant = { λ t. S.is_of N.place t.row.receipt × IsJudged t.last
+        t.row.smallest t.row.largest (S.Receipt.image t.row.receipt) t.sequences };
 }
 
 /// The table of a file, of which a shelf gave this receipt.

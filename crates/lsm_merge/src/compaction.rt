@@ -52,7 +52,8 @@ fn step<N: Naming, S: Shelf, R: Wait, D: NumberSource>(
     requires some { no_more stream.old.left.placed ≡ false }
     requires up { IsUpTo (entries_of_last outputs.old.last) stream.old.before }
     ensures ok { (p : Placed) (rest : List Placed) → stream.old.left.placed ≡ p ∷ rest → OnOk result
-        (Stepped S.honest job.now p rest stream.old.before stream.new.before outputs.old outputs.new stream.new.left) }
+        (Stepped S.honest job.now p rest stream.old.before stream.new.before outputs.old outputs.new
+        stream.new.left) }
     ensures drawn { OnOk result ((there : List ℕ) → D.drew numbers.old ≡ drawn_of outputs.old there
         → D.drew numbers.new ≡ drawn_of outputs.new there) }
     ensures answered { OnOk result (D.refused numbers.new ≡ D.refused numbers.old) }

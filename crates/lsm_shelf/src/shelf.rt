@@ -54,7 +54,8 @@ pub trait Shelf: Drop + Send + Sync {
     ) -> Result<Self::Receipt, ShelfFault>
         ensures receipt { IfOk result (λ r. (Self.Receipt.number r ≡ number)
             × (Self.Receipt.image r ≡ image.now) × is_of (told self.old).place r) }
-        ensures ok { OnOk result (Becomes (putting number image.now (told self.old)) (told self.new)) }
+        ensures ok { OnOk result
+            (Becomes (putting number image.now (told self.old)) (told self.new)) }
         ensures err { OnErr result (Becomes (told self.old) (told self.new)) }
         ensures refused { IfErr result (refuses (told self.old).place (Put number image.now)) }
         ensures cause { IfErr result (λ e. TakenIs number e

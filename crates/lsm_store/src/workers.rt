@@ -178,7 +178,8 @@ fn run_all<N: Boarded, S: Shelf, K: Invariant, G: Gate + Sync, R: Threads + Wait
             requires room { (vec_len shelves ≤ vec_capacity threads)
                 × (vec_len shelves ≤ vec_capacity returned) }
             ensures ends { All (λ r. IsWorkersEnd S.honest r.0) result.items }
-            ensures returned { AreReturned S.honest (S.refuses N.place) K.keeps shelves.items result.items }
+            ensures returned { AreReturned S.honest (S.refuses N.place) K.keeps shelves.items
+                result.items }
             ensures len { vec_len result ≡ vec_len shelves }
         {
             let threads = start_all(

@@ -61,8 +61,8 @@ where
             (C.calls (folder_of self.old)) (C.calls (folder_of self.new))) }
         ensures large { 2 ^ 30 < length image.now → IsErrOf result ShelfFault.Device
             × (C.calls (folder_of self.new) ≡ C.calls (folder_of self.old)) }
-        ensures ok { OnOk result
-            (Becomes (putting number image.now (file_told C.place self.old)) (file_told C.place self.new)) }
+        ensures ok { OnOk result (Becomes (putting number image.now (file_told C.place self.old))
+            (file_told C.place self.new)) }
         ensures err { OnErr result
             (Becomes (file_told C.place self.old) (file_told C.place self.new)) }
         ensures refused { IfErr result (TakenIs number) }
