@@ -1,3 +1,4 @@
+-- What public clauses cite, and so what a caller reads
 pub mod Options
 pub mod StateFault
 pub mod Held
@@ -10,6 +11,7 @@ pub mod Reserving
 pub mod Changing
 pub mod Ingesting
 pub mod Installing
-pub mod LargestKeys
 pub mod Asked
 pub mod Editions
+-- What private functions and proofs cite alone
+pub mod LargestKeys

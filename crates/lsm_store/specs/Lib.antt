@@ -1,3 +1,4 @@
+-- What public clauses cite, and so what a caller reads
 pub mod Background
 pub mod Compacting
 pub mod Promised
