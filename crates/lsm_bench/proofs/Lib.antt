@@ -1,1 +1,3 @@
 pub mod PairLaws
+pub mod MarkLaws
+mod RunLaws

@@ -1,12 +1,15 @@
--- Pairs that come in, batch by batch.
-use Rattle.std.proofs.Common.{◌≡◌, ℕ, suc, ◌+◌, Bool, List, [], ◌∷◌, ◌++◌, length, refl, sym, subst, length-append, arith}
+-- Pairs that come in, batch by batch, and benchmarks that run.
+use Rattle.std.proofs.Common.{◌≡◌, ℕ, suc, ◌+◌, ◌-◌, ◌≤◌, Bool, List, [], ◌∷◌, ◌++◌, length, get_or, drop, take, IfOk, refl, subst, length-append, arith}
+use Rattle.std.specs.Prelude.{Result, Ok, Err}
+use Rattle.std.proofs.lemmas.List.{take_rest}
 use Rattle.lsm_batch.specs.declared.write.Write.{Write}
 use Rattle.lsm_lines.specs.LastWrites.{KeepsLast}
 use Rattle.lsm_lines.proofs.CallerLemmas.{cut_more, cut_none}
 use Rattle.lsm_loading.specs.Coming.{ComesNext}
 use Rattle.lsm_loading.specs.Marks.{Marked}
 use Rattle.lsm_loading.proofs.CallerLemmas.{came_more, came_none}
-use Rattle.lsm_bench.specs.Filled.{Fills}
+use Rattle.lsm_text.specs.declared.benchmark.Benchmark.{Benchmark}
+use Rattle.lsm_bench.specs.Filled.{Fills, Runs, RunsAll}
 use Rattle.lsm_bench.specs.Pairs.{ArePairs, IsPairAt}
 
 -- ---- pairs, one after another
@@ -30,7 +33,7 @@ pub fills_more : (keys size : ℕ) (ascends : Bool) (taken count : ℕ) (was mid
     → ArePairs keys size ascends taken vs → length vs ≡ count → KeepsLast vs batch → ComesNext batch mid now → Fills keys size ascends (taken + count) was now
 fills_more keys size ascends taken count was mid now vs batch f pairs long last comes = record {
   ws = f.ws ++ vs;
-  are = pairs_then keys size ascends 0 taken f.ws vs f.are (sym f.count) pairs;
+  are = pairs_then keys size ascends 0 taken f.ws vs f.are (let e : taken ≡ 0 + length f.ws = omega (arith, f.count) in e) pairs;
   count = (let whole = length-append f.ws vs in omega (arith, whole, f.count, long));
   batches = f.batches ++ batch ∷ [];
   cut = cut_more f.ws f.batches vs batch f.cut last;
@@ -39,3 +42,17 @@ fills_more keys size ascends taken count was mid now vs batch f pairs long last 
 
 pub fills_all : (keys size : ℕ) (ascends : Bool) (taken pairs : ℕ) (was now : Marked) → taken ≡ pairs → Fills keys size ascends taken was now → Fills keys size ascends pairs was now
 fills_all keys size ascends taken pairs was now is f = subst (λ n. Fills keys size ascends n was now) is f
+
+-- ---- benchmarks, one after another
+
+runs_more : (keys size : ℕ) (bs : List Benchmark) (d : Benchmark) (was mid now : Marked) → 1 ≤ length bs → Runs keys size (get_or bs 0 d) was mid → RunsAll keys size (drop 1 bs) mid now
+    → RunsAll keys size bs was now
+runs_more keys size [] d was mid now some first rest = absurd (omega (arith, some))
+runs_more keys size (b ∷ bs) d was mid now some first rest = (mid, first, rest)
+
+-- the others are read as the slice behind the first one
+pub runs_on : {T F : Type 0} (r : Result T F) (mark : T → Marked) (keys size : ℕ) (bs : List Benchmark) (d : Benchmark) (was mid : Marked) → 1 ≤ length bs
+    → Runs keys size (get_or bs 0 d) was mid → IfOk r (λ x. RunsAll keys size (take (length bs - 1) (drop 1 bs)) mid (mark x)) → IfOk r (λ x. RunsAll keys size bs was (mark x))
+runs_on (Ok x) mark keys size bs d was mid some first rest =
+    runs_more keys size bs d was mid (mark x) some first (subst (λ (l : List Benchmark). RunsAll keys size l mid (mark x)) (take_rest bs 1) rest)
+runs_on (Err e) mark keys size bs d was mid some first rest = tt

@@ -1,6 +1,6 @@
 //! One benchmark after another.
 
-ghost use Rattle.std.specs.Prelude.{◌≡◌, ◌/◌, ◌≤◌, IfOk, false};
+ghost use Rattle.std.specs.Prelude.{◌≡◌, ◌/◌, ◌≤◌, IfOk, false, true};
 ghost use Rattle.lsm_bench.specs.Filled.{Fills, Runs, RunsAll};
 
 use crate::bench_fault::BenchFault;

@@ -199,8 +199,9 @@ where
         shelves,
         &NoGate,
         move |background: &Background| -> Result<Bench<N, S, O>, BenchFault>
-            ensures { IfOk result (λ b. RunsAll options.now.num options.now.value_size
-                options.now.benchmarks.items bench.mark b.mark) }
+            ensures { IfOk result (λ b. RunsAll options.entry.now.num
+                options.entry.now.value_size options.entry.now.benchmarks.items bench.mark
+                b.mark) }
         {
             let benchmarks = options.benchmarks.as_slice();
             measure_all(
@@ -208,14 +209,13 @@ where
             )
         },
     );
-    let run = match run {
-        Ok(run) => Some(run),
+    match run {
+        Ok(run) => (Some(run), store.into_state()),
         Err(refused) => {
             drop(refused);
-            None
+            (None, store.into_state())
         }
-    };
-    (run, store.into_state())
+    }
 }
 
 /// Runs the benchmarks on a store. The state behind them.

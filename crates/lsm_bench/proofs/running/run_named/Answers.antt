@@ -1,0 +1,13 @@
+use Rattle.lsm_bench.proofs.running.run_named.Goals as goal
+
+pub returns-in-Ok : goal.returns-in-Ok
+returns-in-Ok g c = record {
+  found = c.in_ok-state.state;
+  mid = c.begin.new.shelf;
+  new = c.in_ok-state.ensures.begun;
+  left = c.in-Ok.left;
+  board = g.N.Boarded.board;
+  lawful = c.options-options.ensures.law;
+  came = c.in-Ok.ensures.ran;
+  forked = c.run_state.ensures.told;
+}
