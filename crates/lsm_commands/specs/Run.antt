@@ -16,6 +16,7 @@ use Rattle.lsm_text.specs.declared.request.Request.{Request}
 use Rattle.lsm_text.specs.declared.request.Request.TheVariants.{Convert, Look, Levels, Write as WriteFolder, Load, Compact, Script, Shell, Bench}
 use Rattle.lsm_text.specs.declared.writing_command.WritingCommand.{WritingCommand}
 use Rattle.lsm_text.specs.declared.writing_command.WritingCommand.TheVariants.{Ingest, WriteKey, Clean}
+use Rattle.lsm_bench.specs.Benched.{BenchesAt}
 use Rattle.lsm_commands.specs.Commands.{IsConverted, IsNotConverted}
 use Rattle.lsm_commands.specs.Played.{IsScriptDone, IsScriptRefused}
 use Rattle.lsm_directory.specs.declared.faults.directory_fault.DirectoryFault.{DirectoryFault}
@@ -64,7 +65,7 @@ module _ {C M : Type 0} (folders : Ghosts C M) where
   IsDone text (Compact line) old new said_old said_new = IsCompactedAt folders line old new × (IsFalse line.options.progress → Keeps said_old said_new)
   IsDone text (Script input) old new said_old said_new = IsPlayed (text input) old new × Keeps said_old said_new
   IsDone text (Shell line) old new said_old said_new = TalksAt folders line.path.now line.options (text Standard) old new × Keeps said_old said_new
-  IsDone text (Bench line) old new said_old said_new = Keeps said_old said_new
+  IsDone text (Bench line) old new said_old said_new = BenchesAt folders line.path.now line.options × Keeps said_old said_new
 
   -- The words ask for a command, which was done; or they ask for help, which was written, and nothing was on standard error.
   abbrev pub AreDone : (Input → Option (List ℕ)) → List Text → (old new said_old said_new : Option (List ℕ)) → Type 0
