@@ -47,6 +47,7 @@ impl Stopped {
 }
 
 /// A line of this number that is no write. It prints as a text without a newline.
+#[derive(Drop)]
 struct BadLine(WriteLineFault, u128);
 
 impl fmt::Display for BadLine {
@@ -66,6 +67,7 @@ impl fmt::Display for BadLine {
 
 /// What kept the lines from the one of this number on out, or what was due from being compacted. It
 /// prints as a text without a newline.
+#[derive(Drop)]
 struct Unloaded(LoadFault, u128);
 
 impl fmt::Display for Unloaded {

@@ -2,8 +2,8 @@ use Rattle.std.proofs.lemmas.Result.{err_from_is_err_and}
 use Rattle.lsm_load.proofs.LoadedLaws.{loads_whole, unswept}
 use Rattle.lsm_load.proofs.into_directory.load_named.Goals as goal
 
-pub returns-in-Err-clause-fault : goal.returns-in-Err-clause-fault
-returns-in-Err-clause-fault g c = (
+pub returns-clause-fault : goal.returns-clause-fault
+returns-clause-fault g c = (
   c.load_beside-done.result.progress,
   c.line_behind-line.ensures,
   record {
@@ -18,14 +18,14 @@ returns-in-Err-clause-fault g c = (
   },
 )
 
-pub returns-in_err-sweep-clause-fault : goal.returns-in_err-sweep-clause-fault
-returns-in_err-sweep-clause-fault g c =
-    let p = err_from_is_err_and c.from_residual-in_err-sweep.result c.from_residual-in_err-sweep.ensures.1 in
+pub returns-in_err-sweep-in-Ok-clause-fault : goal.returns-in_err-sweep-in-Ok-clause-fault
+returns-in_err-sweep-in-Ok-clause-fault g c =
+    let p = err_from_is_err_and c.from_residual-in_err-sweep-in-Ok.result c.from_residual-in_err-sweep-in-Ok.ensures.1 in
     let loaded = rw c.in-Ok.is at c.load_beside-done.ensures.loaded in
     let idle = rw c.in-Ok.is at c.load_beside-done.ensures.idle in
     rw (p.1, p.2) (unswept (g.S.Shelf.refuses g.N.Naming.place) g.S.Shelf.honest c.args.prepared.now.start c.args.prepared.now.logs.items c.args.lines c.load_beside-done.result.progress
-    c.in_err-sweep.field-0.0 g.N.Boarded.board c.in_ok-state.state c.load_beside-done.result.state c.sweep.new.state c.args.shelf.now c.start.new.shelf c.load_beside-done.new.shelf
-    c.sweep.new.shelf c.in_ok-state.ensures.started loaded (λ h. c.sweep.ensures.idle (idle h)) c.load_beside-done.ensures.told c.sweep.ensures.same c.in_err-sweep.ensures.refused)
+    c.in_err-sweep-in-Ok.field-0.0 g.N.Boarded.board c.in_ok-state.state c.load_beside-done.result.state c.sweep.new.state c.args.shelf.now c.start.new.shelf c.load_beside-done.new.shelf
+    c.sweep.new.shelf c.in_ok-state.ensures.started loaded (λ h. c.sweep.ensures.idle (idle h)) c.load_beside-done.ensures.told c.sweep.ensures.same c.in_err-sweep-in-Ok.ensures.refused)
 
 pub returns-in-Ok-reply-clause-done : goal.returns-in-Ok-reply-clause-done
 returns-in-Ok-reply-clause-done g c =
@@ -34,16 +34,16 @@ returns-in-Ok-reply-clause-done g c =
       c.load_beside-done.result.progress,
       loads_whole g.S.Shelf.honest c.args.prepared.now.start c.args.prepared.now.logs.items c.args.lines c.load_beside-done.result.progress g.N.Boarded.board c.in_ok-state.state
           c.load_beside-done.result.state c.sweep.new.state c.args.shelf.now c.start.new.shelf c.load_beside-done.new.shelf c.sweep.new.shelf c.in_ok-state.ensures.started
-          loaded (λ h. c.sweep.ensures.idle (idle h)) c.load_beside-done.ensures.told c.sweep.ensures.same c.in_ok-sweep.ensures.ok,
+          loaded (λ h. c.sweep.ensures.idle (idle h)) c.load_beside-done.ensures.told c.sweep.ensures.same c.in_ok-sweep-in-Ok.ensures.ok,
       c.in-Ok-reply.ensures.written,
     )
 
-pub returns-in-Err-reply-clause-fault : goal.returns-in-Err-reply-clause-fault
-returns-in-Err-reply-clause-fault g c =
+pub returns-in-Ok-clause-fault : goal.returns-in-Ok-clause-fault
+returns-in-Ok-clause-fault g c =
     let loaded = rw c.in-Ok.is at c.load_beside-done.ensures.loaded in
     let idle = rw c.in-Ok.is at c.load_beside-done.ensures.idle in (
       c.load_beside-done.result.progress,
       loads_whole g.S.Shelf.honest c.args.prepared.now.start c.args.prepared.now.logs.items c.args.lines c.load_beside-done.result.progress g.N.Boarded.board c.in_ok-state.state
           c.load_beside-done.result.state c.sweep.new.state c.args.shelf.now c.start.new.shelf c.load_beside-done.new.shelf c.sweep.new.shelf c.in_ok-state.ensures.started
-          loaded (λ h. c.sweep.ensures.idle (idle h)) c.load_beside-done.ensures.told c.sweep.ensures.same c.in_ok-sweep.ensures.ok,
+          loaded (λ h. c.sweep.ensures.idle (idle h)) c.load_beside-done.ensures.told c.sweep.ensures.same c.in_ok-sweep-in-Ok.ensures.ok,
     )
