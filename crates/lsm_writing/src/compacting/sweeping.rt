@@ -2,13 +2,39 @@
 
 ghost use Rattle.std.specs.Prelude.{◌≡◌, IfErr, OnOk};
 ghost use Rattle.lsm_slots.specs.Slots.{Looked};
-ghost use Rattle.lsm_writing.specs.Compacting.{IsSwept, Refuses};
+ghost use Rattle.lsm_writing.specs.Compacting.{IsNamed, IsSwept, IsUnnamed, Refuses};
 
+use crate::faults::compact_fault::CompactFault;
 use lsm_slots::Boarded;
 use lsm_state::{State, StateFault};
 use lsm_table::{NamedShelf, Shelf};
 use std::alloc::Global;
 use std::sync::Wait;
+
+/// Reads the manifest that the directory names: it is the one that the state holds.
+///
+/// `OtherManifest` where it is another one; the shelf's refusals.
+pub(crate) fn find_manifest<N: Boarded, S: Shelf, R: Wait>(
+    rt: &R,
+    alloc: Global,
+    state: &State<N, S>,
+    shelf: &mut NamedShelf<N, S>,
+) -> Result<(), CompactFault>
+    ensures named { OnOk result (IsNamed state.now shelf.old shelf.new) }
+    ensures refused { IfErr result (λ e.
+        IsUnnamed (S.refuses N.place) state.now e shelf.old shelf.new) }
+{
+    let (number, bytes) = match shelf.read_manifest(rt, alloc) {
+        Ok(found) => found,
+        Err(fault) => return Err(CompactFault::of_shelf(fault)),
+    };
+    let held = state.journal();
+    if number == held.number() && bytes.as_slice() == held.bytes() {
+        Ok(())
+    } else {
+        Err(CompactFault::OtherManifest)
+    }
+}
 
 /// Removes the tables that the state does not keep. Answers how many. Of the state no more changes
 /// than that slots are looked at.
