@@ -1,5 +1,5 @@
 -- What a `compact` leaves, and why it is refused (this project's rule).
-use Rattle.std.specs.Prelude.{◌≡◌, ◌≢◌, ℕ, ◌-◌, ◌⊎◌, false, List, [], ◌∷◌, ◌++◌, length, codes, decimal, replicate, All, Option, None, Some}
+use Rattle.std.specs.Prelude.{◌≡◌, ◌≢◌, ℕ, ◌-◌, ◌⊎◌, false, List, [], ◌∷◌, ◌++◌, length, codes, decimal, replicate, All, Option, None, Some, Err}
 use Rattle.std.specs.Io.KnownBytes.{Appends, Keeps}
 use Rattle.atomic_table.specs.Seated.{TableId}
 use Rattle.lsm_codec.specs.Entries.{answer}
@@ -8,7 +8,7 @@ use Rattle.lsm_folder.specs.Calls.{Call}
 use Rattle.lsm_folder.specs.declared.lock_kind.LockKind.TheVariants.{Exclusive}
 use Rattle.lsm_shelf.specs.Asked.{Asked, ReadManifest}
 use Rattle.lsm_shelf.specs.declared.shelf_fault.ShelfFault.{ShelfFault}
-use Rattle.lsm_shelf.specs.Told.{Place, Told, Becomes, Counted, Forked, NotNamed, NotTaken, finding, fresh}
+use Rattle.lsm_shelf.specs.Told.{Place, Told, Becomes, CountedBy, Forked, NotNamed, NotTaken, finding, fresh}
 use Rattle.lsm_levels.specs.Files.{all_entries}
 use Rattle.lsm_version.specs.Versions.{files}
 use Rattle.lsm_slots.specs.Slots.{current_id}
@@ -159,12 +159,25 @@ pub record IsUnfinished (Refused : Asked → ShelfFault → Type 0) (Honest : Ty
   pub opened : IsOpened Honest board found was is
   pub stopped : IsWorkersFault Refused Honest (IsLeftByWorkers Honest found) was.place workers e
 
--- The shelf refused to read the manifest, other than for want of memory with a count that rose; or it read another one than this state
--- holds. Nothing was removed.
+-- The shelf refused to read the manifest, which it counted once, but for want of memory.
+pub record IsUnread (Refused : Asked → ShelfFault → Type 0) (fault : ShelfFault) (was is : Told) : Type 0 where
+  pub cause : NotTaken fault
+  pub asked : Refused ReadManifest fault
+  pub told : Becomes was is
+  pub counts : CountedBy {T = Unit {0}} (Err fault) was is
+
+-- It read a manifest that is not the one that this state holds.
+pub record IsOther (left : Held) (was is : Told) : Type 0 where
+  pub number : ℕ
+  pub bytes : List ℕ
+  pub other : (number ≡ left.journal.number) × (bytes ≡ left.journal.bytes) → ⊥
+  pub told : Becomes (finding number bytes was) is
+  pub counts : SameCounts was is
+
+-- The manifest that this state holds was not found, and nothing was removed.
 abbrev pub IsUnnamed : (Asked → ShelfFault → Type 0) → Held → CompactFault → Told → Told → Type 0
 IsUnnamed Refused left e was is =
-    ((fault : ShelfFault) × (e ≡ Writer (of_shelf fault)) × NotTaken fault × Counted fault was is × Refused ReadManifest fault × Becomes was is)
-    ⊎ ((number : ℕ) × (bytes : List ℕ) × (e ≡ OtherManifest) × ((number ≡ left.journal.number) × (bytes ≡ left.journal.bytes) → ⊥) × Becomes (finding number bytes was) is)
+    ((fault : ShelfFault) × (e ≡ Writer (of_shelf fault)) × IsUnread Refused fault was is) ⊎ ((e ≡ OtherManifest) × IsOther left was is)
 
 -- This lawful state with this board refused to collect; its refusal says what was removed until then. Where it was the shelf, other than for
 -- want of memory, it refused to list its tables, or to remove one that is not kept.

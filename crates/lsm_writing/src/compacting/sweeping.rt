@@ -1,15 +1,23 @@
 //! What nothing names any more is removed.
 
-ghost use Rattle.std.specs.Prelude.{◌≡◌, IfErr, OnOk};
+ghost use Rattle.std.specs.Prelude.{◌≡◌, ◌↔◌, IfErr, IsTrue, OnOk};
 ghost use Rattle.lsm_slots.specs.Slots.{Looked};
 ghost use Rattle.lsm_writing.specs.Compacting.{IsNamed, IsSwept, IsUnnamed, Refuses};
 
 use crate::faults::compact_fault::CompactFault;
+use lsm_journal::Journal;
 use lsm_slots::Boarded;
 use lsm_state::{State, StateFault};
 use lsm_table::{NamedShelf, Shelf};
 use std::alloc::Global;
 use std::sync::Wait;
+
+/// Whether the manifest of this number, with these bytes, is the one that is held.
+fn is_held(held: &Journal, number: u64, bytes: &[u8]) -> bool
+    ensures { IsTrue result ↔ ((number ≡ held.now.number) × (bytes.now ≡ held.now.bytes)) }
+{
+    number == held.number() && bytes == held.bytes()
+}
 
 /// Reads the manifest that the directory names: it is the one that the state holds.
 ///
@@ -28,8 +36,7 @@ pub(crate) fn find_manifest<N: Boarded, S: Shelf, R: Wait>(
         Ok(found) => found,
         Err(fault) => return Err(CompactFault::of_shelf(fault)),
     };
-    let held = state.journal();
-    if number == held.number() && bytes.as_slice() == held.bytes() {
+    if is_held(state.journal(), number, &bytes) {
         Ok(())
     } else {
         Err(CompactFault::OtherManifest)
