@@ -16,7 +16,7 @@ use Rattle.lsm_store.specs.Compacting.{IsLeftByWorkers}
 use Rattle.lsm_store.specs.declared.worker_end.WorkerEnd.{WorkerEnd}
 use Rattle.lsm_writing.specs.Starting.{IsReopened}
 use Rattle.lsm_writing.specs.declared.faults.writer_fault.WriterFault.TheVariants.{Write as WriteFault}
-use Rattle.lsm_writing.specs.Compacting.{AreEnds, AreFaultless, Compacts, IsCompactFault, IsNamed, IsOfManning, IsOpened, IsNotCompacted, IsSwept, IsWorkersFault, LeavesAll, StopsSweeping}
+use Rattle.lsm_writing.specs.Compacting.{AreEnds, AreFaultless, Compacts, IsCompactFault, IsNamed, IsOfManning, IsOpened, IsNotCompacted, IsSwept, IsWorkersFault, LeavesAll, StopsSweeping, installed_between}
 use Rattle.lsm_writing.specs.declared.faults.compact_fault.CompactFault.{CompactFault}
 use Rattle.lsm_writing.specs.declared.faults.compact_fault.CompactFault.TheVariants.{Writer}
 
@@ -69,10 +69,11 @@ unswept Stored Refused Honest board found left workers returned e was mid is ope
 })))
 
 -- all was done
-pub compacts : (Refused : Asked → ShelfFault → Type 0) (Honest : Type 0) (board : TableId) (found left : Held) (workers : ℕ) (returned : List (WorkerEnd × Option Told)) (was mid read is : Told)
+pub compacts : (Refused : Asked → ShelfFault → Type 0) (Honest : Type 0) (board : TableId) (found left : Held) (workers installed : ℕ) (returned : List (WorkerEnd × Option Told)) (was mid read is : Told)
     → IsOpened Honest board found was mid → AreEnds Refused Honest (IsLeftByWorkers Honest found) was.place workers returned → AreFaultless returned
-    → IsLeftByWorkers Honest found left → IsNamed left mid read → IsSwept Honest board left read is → Compacts Refused Honest workers was is
-compacts Refused Honest board found left workers returned was mid read is opened each faultless by named swept = record {
+    → IsLeftByWorkers Honest found left → installed ≡ installed_between found left → IsNamed left mid read → IsSwept Honest board left read is
+    → Compacts Refused Honest workers installed was is
+compacts Refused Honest board found left workers installed returned was mid read is opened each faultless by count named swept = record {
   board = board;
   found = found;
   left = left;
@@ -82,6 +83,7 @@ compacts Refused Honest board found left workers returned was mid read is opened
   ends_are = each;
   faultless = faultless;
   leaves = leaves Honest found left by;
+  count = count;
   read = read;
   named = named;
   swept = swept;

@@ -7,7 +7,7 @@ use Rattle.lsm_store.specs.declared.worker_end.WorkerEnd.{WorkerEnd}
 use Rattle.lsm_store.specs.declared.worker_fault.WorkerFault.{WorkerFault}
 use Rattle.lsm_writing.specs.Compacting.{AreFaultless, IsFaultless, IsFirstFault}
 
-abbrev End : Type 0
+abbrev pub End : Type 0
 End = WorkerEnd × Option Told
 
 split_at : (ends : List End) (i : ℕ) (d : End) → i < length ends → ends ≡ take i ends ++ get_or ends i d ∷ drop (i + 1) ends

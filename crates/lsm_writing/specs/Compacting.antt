@@ -99,9 +99,9 @@ pub record IsSwept (Honest : Type 0) (board : TableId) (left : Held) (was is : T
   pub collected : AreCollected left removed was is
   pub counts : SameCounts was is
 
--- The directory was opened, and no worker ended with a fault. The state left has the board of the one opened, of which all is left. The
--- manifest that was read then is the one that it holds, and what nothing names was removed.
-pub record Compacts (Refused : Asked → ShelfFault → Type 0) (Honest : Type 0) (workers : ℕ) (was is : Told) : Type 0 where
+-- The directory was opened, and no worker ended with a fault. The state left has the board of the one opened, of which all is left, and so
+-- many results were installed between both. The manifest that was read then is the one that it holds, and what nothing names was removed.
+pub record Compacts (Refused : Asked → ShelfFault → Type 0) (Honest : Type 0) (workers installed : ℕ) (was is : Told) : Type 0 where
   pub board : TableId
   pub found : Held
   pub left : Held
@@ -111,6 +111,7 @@ pub record Compacts (Refused : Asked → ShelfFault → Type 0) (Honest : Type 0
   pub ends_are : AreEnds Refused Honest (IsLeftByWorkers Honest found) was.place workers returned
   pub faultless : AreFaultless returned
   pub leaves : LeavesAll Honest found left
+  pub count : installed ≡ installed_between found left
   pub read : Told
   pub named : IsNamed left mid read
   pub swept : IsSwept Honest board left read is
@@ -118,7 +119,7 @@ pub record Compacts (Refused : Asked → ShelfFault → Type 0) (Honest : Type 0
 -- That was done, and how many results were installed was written.
 abbrev pub IsCompacted : (Asked → ShelfFault → Type 0) → Type 0 → ℕ → Told → Told → Option (List ℕ) → Option (List ℕ) → Type 0
 IsCompacted Refused Honest workers was is old new =
-    (c : Compacts Refused Honest workers was is) × Appends old new (installed_text (installed_between c.found c.left))
+    (installed : ℕ) × Compacts Refused Honest workers installed was is × Appends old new (installed_text installed)
 
 -- ---- refusals
 
@@ -211,7 +212,7 @@ pub record IsUnswept (Refused : Asked → ShelfFault → Type 0) (Honest : Type 
 
 -- All was done, and the reply was not written.
 abbrev pub IsUntold : (Asked → ShelfFault → Type 0) → Type 0 → ℕ → CompactFault → Told → Told → Type 0
-IsUntold Refused Honest workers e was is = (e ≡ Writer WriteFault) × Compacts Refused Honest workers was is
+IsUntold Refused Honest workers e was is = (e ≡ Writer WriteFault) × ((installed : ℕ) × Compacts Refused Honest workers installed was is)
 
 -- What a fault says.
 abbrev pub IsCompactFault : (ℕ → List ℕ → Type 0) → (Asked → ShelfFault → Type 0) → Type 0 → ℕ → CompactFault → Told → Told → Type 0

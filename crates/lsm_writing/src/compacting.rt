@@ -178,6 +178,7 @@ fn compact_named<N: Boarded, S: Shelf, R: Threads + Wait + Sync, O: Write, E: Wr
     err: &mut E,
 ) -> Result<(), CompactFault>
     requires records { parts.records ≡ N.registry }
+    requires shelf { shelf.old.place ≡ N.place }
     requires board { IsNewBoard N.board usual parts.publisher parts.pinners.items }
     requires seats { vec_len parts.pinners ≡ usual.readers }
     requires history { IsNewHistory N.history parts.history }

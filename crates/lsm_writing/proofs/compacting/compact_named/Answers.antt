@@ -25,7 +25,7 @@ returns-in_err-left-clause-fault g c =
     let found = c.in_ok-state.state in
     let opened : IsOpened g.S.Shelf.honest g.N.Boarded.board found c.args.shelf.now c.compact_state.new.shelf = opens _ _ _ _ c.open.new.shelf _ c.in_ok-state.ensures.opened c.in_ok-state.ensures.board c.in_err-left.ensures.told in
     let e = c.in_err-left.field-0.0 in
-    let stops = subst (λ (at : Place). IsOfManning e ⊎ IsWorkersFault Refused g.S.Shelf.honest (IsLeftByWorkers g.S.Shelf.honest found) at c.args.options.workers e) (sym c.type_inv.shelf) c.in_err-left.ensures.refused in
+    let stops = subst (λ (at : Place). IsOfManning e ⊎ IsWorkersFault Refused g.S.Shelf.honest (IsLeftByWorkers g.S.Shelf.honest found) at c.args.options.workers e) (sym c.requires.shelf) c.in_err-left.ensures.refused in
     rw (p.1, p.2) (unfinished Stored Refused g.S.Shelf.honest g.N.Boarded.board found c.args.options.workers e _ _ opened stops)
 
 pub returns-in_err-find_manifest-clause-fault : goal.returns-in_err-find_manifest-clause-fault
@@ -38,7 +38,7 @@ returns-in_err-find_manifest-clause-fault g c =
     let found = c.in_ok-state.state in
     let returned = c.in_ok-left._returned.items in
     let opened : IsOpened Honest g.N.Boarded.board found c.args.shelf.now c.compact_state.new.shelf = opens _ _ _ _ c.open.new.shelf _ c.in_ok-state.ensures.opened c.in_ok-state.ensures.board c.in_ok-left.ensures.told in
-    let ends = subst (λ (at : Place). AreEnds Refused Honest (IsLeftByWorkers Honest found) at c.args.options.workers returned) (sym c.type_inv.shelf) c.in_ok-left.ensures.ends in
+    let ends = subst (λ (at : Place). AreEnds Refused Honest (IsLeftByWorkers Honest found) at c.args.options.workers returned) (sym c.requires.shelf) c.in_ok-left.ensures.ends in
     let left : IsLeftByWorkers Honest found c.in_ok-left.left = law.out found c.in_ok-left.left c.in_ok-left.ensures.kept in
     rw (p.1, p.2) (unswept Stored Refused Honest g.N.Boarded.board found c.in_ok-left.left c.args.options.workers returned c.in_err-find_manifest.field-0.0 _ _ _ opened ends
     c.in_ok-left.ensures.faultless left (inl c.in_err-find_manifest.ensures.refused))
@@ -53,12 +53,17 @@ returns-in_err-sweep_all-clause-fault g c =
     let found = c.in_ok-state.state in
     let returned = c.in_ok-left._returned.items in
     let opened : IsOpened Honest g.N.Boarded.board found c.args.shelf.now c.compact_state.new.shelf = opens _ _ _ _ c.open.new.shelf _ c.in_ok-state.ensures.opened c.in_ok-state.ensures.board c.in_ok-left.ensures.told in
-    let ends = subst (λ (at : Place). AreEnds Refused Honest (IsLeftByWorkers Honest found) at c.args.options.workers returned) (sym c.type_inv.shelf) c.in_ok-left.ensures.ends in
+    let ends = subst (λ (at : Place). AreEnds Refused Honest (IsLeftByWorkers Honest found) at c.args.options.workers returned) (sym c.requires.shelf) c.in_ok-left.ensures.ends in
     let after = c.sweep_all.new.state in
     let left : IsLeftByWorkers Honest found after = law.looked found c.in_ok-left.left after (law.out found c.in_ok-left.left c.in_ok-left.ensures.kept) c.in_err-sweep_all.ensures.looked c.in_err-sweep_all.ensures.rest in
     let named : IsNamed after c.compact_state.new.shelf c.find_manifest.new.shelf = named_still c.in_ok-left.left after _ _ c.in_err-sweep_all.ensures.rest c.in_ok-find_manifest.ensures.named in
     rw (p.1, p.2) (unswept Stored Refused Honest g.N.Boarded.board found after c.args.options.workers returned _ _ _ _ opened ends
-    c.in_ok-left.ensures.faultless left (inr (c.in_err-sweep_all.field-0.0, (c.find_manifest.new.shelf, (refl, (named, c.in_err-sweep_all.ensures.refused))))))
+    c.in_ok-left.ensures.faultless left (inr (c.in_err-sweep_all.field-0.0, c.find_manifest.new.shelf, refl, named, c.in_err-sweep_all.ensures.refused)))
+
+pub returns-in_err-find_manifest-clause-left : goal.returns-in_err-find_manifest-clause-left
+returns-in_err-find_manifest-clause-left g c =
+    let p = err_from_is_err_and c.from_residual-in_err-find_manifest.result c.from_residual-in_err-find_manifest.ensures.1 in
+    rw (p.1, p.2) (λ other. keeps_same (g.O.Write.contents c.args.out.now))
 
 pub returns-in_err-sweep_all-clause-left : goal.returns-in_err-sweep_all-clause-left
 returns-in_err-sweep_all-clause-left g c =
@@ -73,13 +78,22 @@ returns-clause-fault g c =
     let found = c.in_ok-state.state in
     let returned = c.in_ok-left._returned.items in
     let opened : IsOpened Honest g.N.Boarded.board found c.args.shelf.now c.compact_state.new.shelf = opens _ _ _ _ c.open.new.shelf _ c.in_ok-state.ensures.opened c.in_ok-state.ensures.board c.in_ok-left.ensures.told in
-    let ends = subst (λ (at : Place). AreEnds Refused Honest (IsLeftByWorkers Honest found) at c.args.options.workers returned) (sym c.type_inv.shelf) c.in_ok-left.ensures.ends in
+    let ends = subst (λ (at : Place). AreEnds Refused Honest (IsLeftByWorkers Honest found) at c.args.options.workers returned) (sym c.requires.shelf) c.in_ok-left.ensures.ends in
     let after = c.sweep_all.new.state in
     let left : IsLeftByWorkers Honest found after = law.looked found c.in_ok-left.left after (law.out found c.in_ok-left.left c.in_ok-left.ensures.kept) c.in_ok-sweep_all.ensures.looked c.in_ok-sweep_all.ensures.rest in
     let named : IsNamed after c.compact_state.new.shelf c.find_manifest.new.shelf = named_still c.in_ok-left.left after _ _ c.in_ok-sweep_all.ensures.rest c.in_ok-find_manifest.ensures.named in
+    let begun : c.current-begun.result.0 ≡ current_id found.slots = c.current-begun.ensures.id in
+    let ended : c.current.result.0 ≡ current_id c.in_ok-left.left.slots = c.current.ensures.id in
+    let same : current_id after.slots ≡ current_id c.in_ok-left.left.slots = c.in_ok-sweep_all.ensures.looked.id in
+    let less : c.saturating_sub-installed.result ≡ c.current.result.0 - c.current-begun.result.0 = c.saturating_sub-installed.ensures in
+    let count : c.saturating_sub-installed.result ≡ installed_between found after = cc in
     inr (inr (inr (inr (
       refl,
-      compacts Refused Honest g.N.Boarded.board found after c.args.options.workers returned _ _ _ _ opened ends c.in_ok-left.ensures.faultless left named c.in_ok-sweep_all.ensures.ok,
+      (
+        c.saturating_sub-installed.result,
+        compacts Refused Honest g.N.Boarded.board found after c.args.options.workers _ returned _ _ _ _ opened ends c.in_ok-left.ensures.faultless left count named
+        c.in_ok-sweep_all.ensures.ok,
+      ),
     ))))
 
 pub returns-in-Ok-clause-done : goal.returns-in-Ok-clause-done
@@ -90,17 +104,20 @@ returns-in-Ok-clause-done g c =
     let found = c.in_ok-state.state in
     let returned = c.in_ok-left._returned.items in
     let opened : IsOpened Honest g.N.Boarded.board found c.args.shelf.now c.compact_state.new.shelf = opens _ _ _ _ c.open.new.shelf _ c.in_ok-state.ensures.opened c.in_ok-state.ensures.board c.in_ok-left.ensures.told in
-    let ends = subst (λ (at : Place). AreEnds Refused Honest (IsLeftByWorkers Honest found) at c.args.options.workers returned) (sym c.type_inv.shelf) c.in_ok-left.ensures.ends in
+    let ends = subst (λ (at : Place). AreEnds Refused Honest (IsLeftByWorkers Honest found) at c.args.options.workers returned) (sym c.requires.shelf) c.in_ok-left.ensures.ends in
     let after = c.sweep_all.new.state in
     let left : IsLeftByWorkers Honest found after = law.looked found c.in_ok-left.left after (law.out found c.in_ok-left.left c.in_ok-left.ensures.kept) c.in_ok-sweep_all.ensures.looked c.in_ok-sweep_all.ensures.rest in
     let named : IsNamed after c.compact_state.new.shelf c.find_manifest.new.shelf = named_still c.in_ok-left.left after _ _ c.in_ok-sweep_all.ensures.rest c.in_ok-find_manifest.ensures.named in
-    let begun = c.current.ensures.id in
-    let ended = c.current-2.ensures.id in
+    let begun : c.current-begun.result.0 ≡ current_id found.slots = c.current-begun.ensures.id in
+    let ended : c.current.result.0 ≡ current_id c.in_ok-left.left.slots = c.current.ensures.id in
     let same : current_id after.slots ≡ current_id c.in_ok-left.left.slots = c.in_ok-sweep_all.ensures.looked.id in
-    let count : c.saturating_sub-installed.result ≡ installed_between found after = ? in
+    let less : c.saturating_sub-installed.result ≡ c.current.result.0 - c.current-begun.result.0 = c.saturating_sub-installed.ensures in
+    let count : c.saturating_sub-installed.result ≡ installed_between found after = cc in
     let written : Appends (g.O.Write.contents c.args.out.now) (g.O.Write.contents c.reply.new.out) (installed_text c.saturating_sub-installed.result) = search rules in (
-      compacts Refused Honest g.N.Boarded.board found after c.args.options.workers returned _ _ _ _ opened ends c.in_ok-left.ensures.faultless left named c.in_ok-sweep_all.ensures.ok,
-      subst (λ (n : ℕ). Appends (g.O.Write.contents c.args.out.now) (g.O.Write.contents c.reply.new.out) (installed_text n)) count written,
+      c.saturating_sub-installed.result,
+      compacts Refused Honest g.N.Boarded.board found after c.args.options.workers _ returned _ _ _ _ opened ends c.in_ok-left.ensures.faultless left count named
+      c.in_ok-sweep_all.ensures.ok,
+      written,
     )
 
 pub returns-in_err-left-clause-quiet : goal.returns-in_err-left-clause-quiet
