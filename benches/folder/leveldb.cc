@@ -10,9 +10,15 @@
 //   leveldb compact DIR                 opens, and waits until no level is too large
 //   leveldb mktable < LIST              the table of a list, as `lsm mktable` reads it
 //   leveldb dump < TABLE                the list of a table, as `lsm dump` prints it
+//   leveldb alone DIR KEYS READS        times what the program of reading.rattle times under these words, and prints the same lines;
+//   leveldb beside DIR KEYS READS       `verified_1` is a first scan, of files that were not mapped yet, `scan_1` a second one
+//   leveldb compact1 DIR KEYS 0         as `compact`, timed within the process, opening included
 #include <sys/wait.h>
 #include <unistd.h>
 
+#include <algorithm>
+#include <atomic>
+#include <chrono>
 #include <condition_variable>
 #include <cstdint>
 #include <cstdio>
@@ -21,14 +27,17 @@
 #include <memory>
 #include <mutex>
 #include <string>
+#include <thread>
 #include <vector>
 
 #include "../../checks/leveldb_tables/internal_keys.h"
+#include "leveldb/cache.h"
 #include "leveldb/db.h"
 #include "leveldb/env.h"
 #include "leveldb/iterator.h"
 #include "leveldb/table.h"
 #include "leveldb/table_builder.h"
+#include "leveldb/write_batch.h"
 
 namespace {
 
@@ -49,6 +58,12 @@ class Watched : public leveldb::EnvWrapper {
     if (idle_) return;
     works_.push_back({work, of});
     target()->Schedule([](void* self) { static_cast<Watched*>(self)->Work(); }, this);
+  }
+
+  // With eight tables at level 0 LevelDB lets each write wait a millisecond for a compaction. Where none is let be done it would wait
+  // for nothing, at each entry.
+  void SleepForMicroseconds(int micros) override {
+    if (!idle_) target()->SleepForMicroseconds(micros);
   }
 
   void Wait() {
@@ -256,6 +271,162 @@ void Dump() {
   Check(place->status());
 }
 
+// What reading.rattle times. A database with a cache that holds all blocks of the first keys, or none at all; it always holds the indexes
+// of its tables.
+constexpr uint64_t kCached = 100000, kBatch = 10000;
+
+class Reading {
+ public:
+  Reading(const std::string& folder, uint64_t keys, bool cached)
+      : name_(cached ? "cached" : "uncached"),
+        keys_(keys),
+        read_(cached ? std::min(keys, kCached) : keys),
+        cache_(leveldb::NewLRUCache(cached ? 64 << 20 : 0)) {
+    leveldb::Options options;
+    options.compression = leveldb::kNoCompression;
+    options.paranoid_checks = true;
+    options.block_cache = cache_.get();
+    reads_.verify_checksums = true;
+    reads_.fill_cache = cached;
+    leveldb::DB* database;
+    Check(leveldb::DB::Open(options, folder, &database));
+    database_.reset(database);
+  }
+
+  // Reads each key once that is so many numbers behind the one before.
+  void Warm(uint64_t apart) {
+    std::string value;
+    for (uint64_t number = 0; number < read_ / apart * apart; number += apart) Mark(number, &value);
+  }
+
+  void TimeScan(const char* name) {
+    Clock::time_point from = Clock::now();
+    leveldb::ReadOptions options = reads_;
+    options.fill_cache = false;
+    std::unique_ptr<leveldb::Iterator> place(database_->NewIterator(options));
+    uint64_t count = 0, sum = 0;
+    for (place->SeekToFirst(); place->Valid(); place->Next(), count++) {
+      leveldb::Slice key = place->key();
+      sum = sum * 31 + Word(key.data() + key.size() - 8) + MarkOf(place->value());
+    }
+    Check(place->status());
+    Tell(name, 1, count, from, sum);
+  }
+
+  // So many drawn keys by each of so many threads.
+  void TimeReads(const char* when, int by, uint64_t reads) {
+    std::atomic<uint64_t> sum{0};
+    Clock::time_point from = Clock::now();
+    std::vector<std::thread> readers;
+    for (int seed = 1; seed <= by; seed++) readers.emplace_back([this, &sum, seed, reads] { sum += Read(seed, reads); });
+    for (std::thread& reader : readers) reader.join();
+    Tell((name_ + when).c_str(), by, by * reads, from, sum);
+  }
+
+  void TimeBeside(int by, uint64_t reads) {
+    std::atomic<bool> stop{false};
+    uint64_t written = 0;
+    Clock::time_point from = Clock::now();
+    std::thread writer([&] { written = Rewrite(&stop); });
+    TimeReads("_beside", by, reads);
+    stop = true;
+    writer.join();
+    Tell((name_ + "_writer").c_str(), by, written, from, 0);
+  }
+
+ private:
+  using Clock = std::chrono::steady_clock;
+
+  static void Tell(const char* name, int by, uint64_t count, Clock::time_point from, uint64_t sum) {
+    long long spent = std::chrono::nanoseconds(Clock::now() - from).count();
+    std::printf("%s_%d %llu %lld %llu\n", name, by, static_cast<unsigned long long>(count), spent, static_cast<unsigned long long>(sum));
+  }
+
+  static uint64_t Word(const char* bytes) {
+    uint64_t word;
+    std::memcpy(&word, bytes, 8);
+    return word;
+  }
+
+  static uint64_t MarkOf(const leveldb::Slice& value) { return Word(value.data()) + value.size(); }
+
+  uint64_t Mark(uint64_t number, std::string* value) {
+    char key[16];
+    PutKey(key, number);
+    Check(database_->Get(reads_, leveldb::Slice(key, 16), value));
+    return MarkOf(*value);
+  }
+
+  uint64_t Read(uint64_t seed, uint64_t reads) {
+    uint64_t sum = 0, state = seed;
+    std::string value;
+    for (uint64_t i = 0; i < reads; i++) {
+      state = state * 6364136223846793005u + 1442695040888963407u;
+      sum += Mark((state >> 33) % read_, &value);
+    }
+    return sum;
+  }
+
+  // Writes values that are there again until it is to stop, a batch each tenth of a second where it can: how many entries.
+  uint64_t Rewrite(const std::atomic<bool>* stop) {
+    std::string text = Text();
+    uint64_t rounds = 0, apart = std::max<uint64_t>(keys_ / kBatch, 1);
+    leveldb::WriteOptions options;
+    options.sync = true;
+    Clock::time_point from = Clock::now();
+    for (;; rounds++) {
+      std::this_thread::sleep_until(from + rounds * std::chrono::milliseconds(100));
+      if (*stop) return rounds * kBatch;
+      leveldb::WriteBatch batch;
+      for (uint64_t i = 0; i < kBatch; i++) {
+        uint64_t number = i * apart + rounds % apart;
+        char key[16];
+        PutKey(key, number);
+        batch.Put(leveldb::Slice(key, 16), leveldb::Slice(text.data() + (number * 101 & 0x7fff), 100));
+      }
+      Check(database_->Write(options, &batch));
+    }
+  }
+
+  std::string name_;
+  uint64_t keys_, read_;
+  std::unique_ptr<leveldb::Cache> cache_;
+  leveldb::ReadOptions reads_;
+  std::unique_ptr<leveldb::DB> database_;
+};
+
+void Alone(const std::string& folder, uint64_t keys, uint64_t reads) {
+  {
+    Reading reading(folder, keys, true);
+    reading.TimeScan("verified");
+    reading.Warm(1);
+    for (int by : {1, 4}) reading.TimeReads("", by, reads);
+  }
+  Reading reading(folder, keys, false);
+  reading.Warm(1000);
+  for (int by : {1, 4}) reading.TimeReads("", by, reads / 5);
+  reading.TimeScan("scan");
+}
+
+void Compact1(const std::string& folder, uint64_t keys) {
+  auto from = std::chrono::steady_clock::now();
+  Watched env(false);
+  std::unique_ptr<leveldb::DB> database(Open(folder, &env));
+  env.Wait();
+  long long spent = std::chrono::nanoseconds(std::chrono::steady_clock::now() - from).count();
+  std::printf("compact_1 %llu %lld 0\n", static_cast<unsigned long long>(keys), spent);
+}
+
+void Beside(const std::string& folder, uint64_t keys, uint64_t reads) {
+  for (bool cached : {true, false}) {
+    Reading reading(folder, keys, cached);
+    reading.Warm(cached ? 1 : 1000);
+    uint64_t count = (cached ? reads : reads / 5) / 2;
+    for (int by : {1, 4}) reading.TimeReads("_newest", by, count);
+    for (int by : {1, 4}) reading.TimeBeside(by, count);
+  }
+}
+
 }  // namespace
 
 int main(int count, char** words) {
@@ -274,6 +445,10 @@ int main(int count, char** words) {
     MakeTable();
   } else if (what == "dump" && count == 2) {
     Dump();
+  } else if (what == "compact1" && count == 5) {
+    Compact1(words[2], std::strtoull(words[3], nullptr, 10));
+  } else if ((what == "alone" || what == "beside") && count == 5) {
+    (what == "alone" ? Alone : Beside)(words[2], std::strtoull(words[3], nullptr, 10), std::strtoull(words[4], nullptr, 10));
   } else {
     std::fprintf(stderr, "usage: see the head of leveldb.cc\n");
     return 2;

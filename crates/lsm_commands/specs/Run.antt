@@ -23,7 +23,7 @@ use Rattle.lsm_directory.specs.declared.faults.directory_fault.DirectoryFault.{D
 use Rattle.lsm_writing.specs.declared.faults.writer_fault.WriterFault.{WriterFault}
 use Rattle.lsm_layout.specs.Layout.{FailsToLayOut, LaysOutAt}
 use Rattle.lsm_load.specs.LoadedAt.{FailsToLoad, LoadsAt}
-use Rattle.lsm_reading.specs.Looked.{FailsToLook, LooksAt}
+use Rattle.lsm_reading.specs.Looked.{FailsToLook, LooksAtGiven}
 use Rattle.lsm_shell.specs.Talked.{FailsToTalk, TalksAt}
 use Rattle.lsm_writing.specs.Cleaned.{FailsToClean, IsCleanedAt}
 use Rattle.lsm_writing.specs.Compacted.{IsCompactedAt, IsUncompacted}
@@ -52,14 +52,15 @@ module _ {C M : Type 0} (folders : Ghosts C M) where
   IsWritten text path (WriteKey w options) old new = ComesInAt folders path options (w ∷ []) old new
   IsWritten text path Clean old new = IsCleanedAt folders path old new
 
+module _ {C M : Type 0} (folders : Ghosts C M) (marks : mark.Ghosts M) where
   -- ---- what status 0 means
 
   -- what was done, and what stands on standard output and standard error
   abbrev pub IsDone : (Input → Option (List ℕ)) → Request → (old new said_old said_new : Option (List ℕ)) → Type 0
   IsDone text (Convert conversion input) old new said_old said_new = IsConverted conversion (text input) old new × Keeps said_old said_new
-  IsDone text (Look line) old new said_old said_new = LooksAt folders line old new said_old said_new
+  IsDone text (Look line) old new said_old said_new = LooksAtGiven folders marks line old new said_old said_new
   IsDone text (Levels line) old new said_old said_new = LaysOutAt folders line old new said_old said_new
-  IsDone text (WriteFolder line) old new said_old said_new = IsWritten text line.path.now line.command old new × Keeps said_old said_new
+  IsDone text (WriteFolder line) old new said_old said_new = IsWritten folders text line.path.now line.command old new × Keeps said_old said_new
   IsDone text (Load line) old new said_old said_new =
       LoadsAt folders line.path.now line.options (text line.input) old new × (IsFalse line.options.progress → Keeps said_old said_new)
   IsDone text (Compact line) old new said_old said_new = IsCompactedAt folders line old new × (IsFalse line.options.progress → Keeps said_old said_new)

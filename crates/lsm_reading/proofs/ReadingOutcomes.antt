@@ -23,9 +23,9 @@ use Rattle.lsm_version.specs.Versions.{Levels}
 use Rattle.lsm_text.specs.declared.directory_command.DirectoryCommand.{DirectoryCommand}
 use Rattle.lsm_text.specs.declared.directory_command.DirectoryCommand.TheVariants.{Check, List as ListFiles, Get, Scan}
 use Rattle.lsm_directory.specs.DirectoryFault.{of_open}
-use Rattle.lsm_reading.specs.Answers.{HasNoNote, IsLookedInto, IsLookFault, IsNotLookedInto, IsPerformFault, Leaves, Prints, PrintsBefore, ReliesOn, SaysAbsent}
+use Rattle.lsm_reading.specs.Answers.{HasNoNote, IsLookedIntoAsGiven, IsLookFault, IsNotLookedInto, IsPerformFault, Leaves, Prints, PrintsBefore, ReliesOn, SaysAbsent}
 use Rattle.lsm_text.specs.declared.form.Form.{Form}
-use Rattle.lsm_reading.specs.Directory.{Holds, OnlyReads}
+use Rattle.lsm_reading.specs.Directory.{AreGiven, Holds, OnlyReads}
 use Rattle.lsm_reading.specs.Opening.{IsOpenRefusal}
 use Rattle.lsm_directory.specs.declared.folder.folder_file.FolderFile.{FolderFile}
 use Rattle.lsm_directory.specs.declared.faults.directory_fault.DirectoryFault.{DirectoryFault}
@@ -89,7 +89,7 @@ module _ (Stored : ℕ → List ℕ → Type 0) (Refused : Asked → ShelfFault 
 
   -- where nothing was written, a refusal to open leaves what it may
   pub keeps_leaves : (form : Form) (command : DirectoryCommand) (fault : DirectoryFault) (was is : Told) (old : Option (List ℕ))
-      → IsOpenRefusal Stored Refused Honest fault was is → Leaves form command Honest fault was is old old
+      → IsOpenRefusal Stored Refused Honest fault was is → Leaves form command Stored Honest fault was is old old
   keeps_leaves form command OutOfMemory was is old f = inl (Keeps-refl old)
   keeps_leaves form command Write was is old f = absurd f
   keeps_leaves form command (Shelf fault) was is old f = Keeps-refl old
@@ -103,37 +103,40 @@ module _ (Stored : ℕ → List ℕ → Type 0) (Refused : Asked → ShelfFault 
   -- ---- an open directory
 
   fault_later : (command : DirectoryCommand) (was mid is : Told) (v : Levels) (rest log prev : ℕ) (fault : DirectoryFault)
-      → Becomes mid is → Holds Honest was mid v rest log prev → IsPerformFault Honest command v fault mid is → IsLookFault Stored Refused Honest command fault was is
-  fault_later command was mid is v rest log prev OutOfMemory b h f = f
-  fault_later command was mid is v rest log prev Write b h f = (v, (rest, log, prev, holds_later Honest was mid is v rest log prev b h))
-  fault_later command was mid is v rest log prev (Shelf fault) b h f = absurd f
-  fault_later command was mid is v rest log prev (Manifest fault) b h f = absurd f
-  fault_later command was mid is v rest log prev (Tables fault) b h f = absurd f
-  fault_later command was mid is v rest log prev (Read fault) b h f =
-      (v, (rest, log, prev, holds_later Honest was mid is v rest log prev b h), f.0, read_counted_from Honest fault was mid is v rest log prev h f.1)
-  fault_later command was mid is v rest log prev NumbersSpent b h f = absurd f
-  fault_later command was mid is v rest log prev Locked b h f = absurd f
-  fault_later command was mid is v rest log prev Absent b h f = (v, (rest, log, prev, holds_later Honest was mid is v rest log prev b h), f)
+      → Becomes mid is → Holds Honest was mid v rest log prev → AreGiven Stored v → IsPerformFault Honest command v fault mid is → IsLookFault Stored Refused Honest command fault was is
+  fault_later command was mid is v rest log prev OutOfMemory b h given f = f
+  fault_later command was mid is v rest log prev Write b h given f = (v, (rest, log, prev, holds_later Honest was mid is v rest log prev b h, given))
+  fault_later command was mid is v rest log prev (Shelf fault) b h given f = absurd f
+  fault_later command was mid is v rest log prev (Manifest fault) b h given f = absurd f
+  fault_later command was mid is v rest log prev (Tables fault) b h given f = absurd f
+  fault_later command was mid is v rest log prev (Read fault) b h given f =
+      (v, (rest, log, prev, holds_later Honest was mid is v rest log prev b h, given), f.0, read_counted_from Honest fault was mid is v rest log prev h f.1)
+  fault_later command was mid is v rest log prev NumbersSpent b h given f = absurd f
+  fault_later command was mid is v rest log prev Locked b h given f = absurd f
+  fault_later command was mid is v rest log prev Absent b h given f = (v, (rest, log, prev, holds_later Honest was mid is v rest log prev b h, given), f)
 
   pub is_fault : {T : Type 0} (r : Result T DirectoryFault) (command : DirectoryCommand) (was mid is : Told) (v : Levels) (rest log prev : ℕ)
-      → Becomes mid is → Holds Honest was mid v rest log prev → IfErr r (λ e. IsPerformFault Honest command v e mid is)
+      → Becomes mid is → Holds Honest was mid v rest log prev → AreGiven Stored v → IfErr r (λ e. IsPerformFault Honest command v e mid is)
       → IfErr r (λ e. IsLookFault Stored Refused Honest command e was is)
-  is_fault (Ok x) command was mid is v rest log prev b h f = search
-  is_fault (Err e) command was mid is v rest log prev b h f = fault_later command was mid is v rest log prev e b h f
+  is_fault (Ok x) command was mid is v rest log prev b h given f = search
+  is_fault (Err e) command was mid is v rest log prev b h given f = fault_later command was mid is v rest log prev e b h given f
 
-pub is_done : {T : Type 0} (r : Result T DirectoryFault) (form : Form) (command : DirectoryCommand) (others : List FolderFile) (progress : Bool) (Honest : Type 0) (was mid is : Told) (v : Levels) (rest log prev : ℕ)
-    (old new said judged noted told : Option (List ℕ)) → Becomes mid is → Holds Honest was mid v rest log prev → (ReliesOn Honest command → OnOk r (Prints form command v rest log prev others old new))
-    → (IsFalse progress → Keeps said judged) → (HasNoNote command log prev others → Keeps judged noted) → (IsFalse progress → Keeps noted told) → OnOk r (IsLookedInto form command others progress Honest was is old new said told)
-is_done (Ok x) form command others progress Honest was mid is v rest log prev old new said judged noted told b h w j q k = record {
-  version = v;
-  rest = rest;
-  log = log;
-  prev = prev;
-  holds = holds_later Honest was mid is v rest log prev b h;
-  printed = w;
-  quiet = λ asked none. Keeps-trans said noted told (Keeps-trans said judged noted (j asked) (q none)) (k asked);
+pub is_done : {T : Type 0} (r : Result T DirectoryFault) (form : Form) (command : DirectoryCommand) (others : List FolderFile) (progress : Bool) (Stored : ℕ → List ℕ → Type 0) (Honest : Type 0) (was mid is : Told) (v : Levels) (rest log prev : ℕ)
+    (old new said judged noted told : Option (List ℕ)) → Becomes mid is → Holds Honest was mid v rest log prev → AreGiven Stored v → (ReliesOn Honest command → OnOk r (Prints form command v rest log prev others old new))
+    → (IsFalse progress → Keeps said judged) → (HasNoNote command log prev others → Keeps judged noted) → (IsFalse progress → Keeps noted told) → OnOk r (IsLookedIntoAsGiven form command others progress Stored Honest was is old new said told)
+is_done (Ok x) form command others progress Stored Honest was mid is v rest log prev old new said judged noted told b h given w j q k = record {
+  looked = record {
+    version = v;
+    rest = rest;
+    log = log;
+    prev = prev;
+    holds = holds_later Honest was mid is v rest log prev b h;
+    printed = w;
+    quiet = λ asked none. Keeps-trans said noted told (Keeps-trans said judged noted (j asked) (q none)) (k asked);
+  };
+  given = given;
 }
-is_done (Err e) form command others progress Honest was mid is v rest log prev old new said judged noted told b h w j q k = search
+is_done (Err e) form command others progress Stored Honest was mid is v rest log prev old new said judged noted told b h given w j q k = search
 
 -- an absent key leaves what is written before a fault by a read of a key: nothing
 absent_leaves : (form : Form) (command : DirectoryCommand) (Honest : Type 0) (v : Levels) (old new : Option (List ℕ)) → SaysAbsent Honest command v
@@ -143,27 +146,27 @@ absent_leaves form ListFiles Honest v old new says p = p
 absent_leaves form (Get key output) Honest v old new says p = p
 absent_leaves form (Scan options) Honest v old new says p = absurd says
 
-leaves_later : (form : Form) (command : DirectoryCommand) (Honest : Type 0) (fault : DirectoryFault) (was mid is : Told) (v : Levels) (rest log prev : ℕ) (old new : Option (List ℕ))
-    → Becomes mid is → Holds Honest was mid v rest log prev → IsPerformFault Honest command v fault mid is → (fault ≢ Write → PrintsBefore form command Honest v old new)
-    → Leaves form command Honest fault was is old new
-leaves_later form command Honest OutOfMemory was mid is v rest log prev old new b h f p = inr (v, (rest, log, prev, holds_later Honest was mid is v rest log prev b h), p (λ e. cc))
-leaves_later form command Honest Write was mid is v rest log prev old new b h f p = tt
-leaves_later form command Honest (Shelf fault) was mid is v rest log prev old new b h f p = absurd f
-leaves_later form command Honest (Manifest fault) was mid is v rest log prev old new b h f p = absurd f
-leaves_later form command Honest (Tables fault) was mid is v rest log prev old new b h f p = absurd f
-leaves_later form command Honest (Read fault) was mid is v rest log prev old new b h f p = (v, (rest, log, prev, holds_later Honest was mid is v rest log prev b h), p (λ e. cc))
-leaves_later form command Honest NumbersSpent was mid is v rest log prev old new b h f p = absurd f
-leaves_later form command Honest Locked was mid is v rest log prev old new b h f p = absurd f
-leaves_later form command Honest Absent was mid is v rest log prev old new b h f p = absent_leaves form command Honest v old new f (p (λ e. cc))
+leaves_later : (form : Form) (command : DirectoryCommand) (Stored : ℕ → List ℕ → Type 0) (Honest : Type 0) (fault : DirectoryFault) (was mid is : Told) (v : Levels) (rest log prev : ℕ) (old new : Option (List ℕ))
+    → Becomes mid is → Holds Honest was mid v rest log prev → AreGiven Stored v → IsPerformFault Honest command v fault mid is → (fault ≢ Write → PrintsBefore form command Honest v old new)
+    → Leaves form command Stored Honest fault was is old new
+leaves_later form command Stored Honest OutOfMemory was mid is v rest log prev old new b h given f p = inr (v, (rest, log, prev, holds_later Honest was mid is v rest log prev b h, given), p (λ e. cc))
+leaves_later form command Stored Honest Write was mid is v rest log prev old new b h given f p = tt
+leaves_later form command Stored Honest (Shelf fault) was mid is v rest log prev old new b h given f p = absurd f
+leaves_later form command Stored Honest (Manifest fault) was mid is v rest log prev old new b h given f p = absurd f
+leaves_later form command Stored Honest (Tables fault) was mid is v rest log prev old new b h given f p = absurd f
+leaves_later form command Stored Honest (Read fault) was mid is v rest log prev old new b h given f p = (v, (rest, log, prev, holds_later Honest was mid is v rest log prev b h, given), p (λ e. cc))
+leaves_later form command Stored Honest NumbersSpent was mid is v rest log prev old new b h given f p = absurd f
+leaves_later form command Stored Honest Locked was mid is v rest log prev old new b h given f p = absurd f
+leaves_later form command Stored Honest Absent was mid is v rest log prev old new b h given f p = absent_leaves form command Honest v old new f (p (λ e. cc))
 
-pub is_left : {T : Type 0} (r : Result T DirectoryFault) (form : Form) (command : DirectoryCommand) (Honest : Type 0) (was mid is : Told) (v : Levels) (rest log prev : ℕ) (old new : Option (List ℕ))
-    → Becomes mid is → Holds Honest was mid v rest log prev → IfErr r (λ e. IsPerformFault Honest command v e mid is) → IfErr r (λ e. e ≢ Write → PrintsBefore form command Honest v old new)
-    → IfErr r (λ e. Leaves form command Honest e was is old new)
-is_left (Ok x) form command Honest was mid is v rest log prev old new b h f p = search
-is_left (Err e) form command Honest was mid is v rest log prev old new b h f p = leaves_later form command Honest e was mid is v rest log prev old new b h f p
+pub is_left : {T : Type 0} (r : Result T DirectoryFault) (form : Form) (command : DirectoryCommand) (Stored : ℕ → List ℕ → Type 0) (Honest : Type 0) (was mid is : Told) (v : Levels) (rest log prev : ℕ) (old new : Option (List ℕ))
+    → Becomes mid is → Holds Honest was mid v rest log prev → AreGiven Stored v → IfErr r (λ e. IsPerformFault Honest command v e mid is) → IfErr r (λ e. e ≢ Write → PrintsBefore form command Honest v old new)
+    → IfErr r (λ e. Leaves form command Stored Honest e was is old new)
+is_left (Ok x) form command Stored Honest was mid is v rest log prev old new b h given f p = search
+is_left (Err e) form command Stored Honest was mid is v rest log prev old new b h given f p = leaves_later form command Stored Honest e was mid is v rest log prev old new b h given f p
 
 pub is_refused : {T : Type 0} (r : Result T DirectoryFault) (form : Form) (command : DirectoryCommand) (Stored : ℕ → List ℕ → Type 0) (Refused : Asked → ShelfFault → Type 0) (Honest : Type 0) (was is : Told) (old new : Option (List ℕ))
-    → IfErr r (λ e. IsLookFault Stored Refused Honest command e was is) → IfErr r (λ e. Leaves form command Honest e was is old new) → IfErr r (λ e. IsNotLookedInto form command e Stored Refused Honest was is old new)
+    → IfErr r (λ e. IsLookFault Stored Refused Honest command e was is) → IfErr r (λ e. Leaves form command Stored Honest e was is old new) → IfErr r (λ e. IsNotLookedInto form command e Stored Refused Honest was is old new)
 is_refused (Ok x) form command Stored Refused Honest was is old new f k = search
 is_refused (Err e) form command Stored Refused Honest was is old new f k = record { says = f; left = k }
 

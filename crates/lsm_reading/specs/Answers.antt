@@ -12,7 +12,7 @@ use Rattle.lsm_text.specs.declared.directory_command.DirectoryCommand.{Directory
 use Rattle.lsm_text.specs.declared.directory_command.DirectoryCommand.TheVariants.{Check, List as ListFiles, Get, Scan}
 use Rattle.lsm_text.specs.declared.form.Form.{Form}
 use Rattle.lsm_text.specs.declared.get_output.GetOutput.TheVariants.{Line}
-use Rattle.lsm_reading.specs.Directory.{Holds}
+use Rattle.lsm_reading.specs.Directory.{AreGiven, Holds}
 use Rattle.lsm_reading.specs.Listing.{IsChecked, list_text, shown_answer}
 use Rattle.lsm_directory.specs.Logs.{AreThose, IsUnread, NoneUnread, log_lines, note_line}
 use Rattle.lsm_reading.specs.Scanned.{LeavesScan, PrintsScan}
@@ -31,7 +31,7 @@ Prints form (Get key output) v rest log prev others old new =
 Prints form (Scan options) v rest log prev others old new = PrintsScan form options v old new
 
 -- What the text of a command relies on. A `get` and a `scan` read tables again, and rely on an honest shelf. What `check` and `list` print
--- is of a version of the manifest's files, whatever the shelf is; that its images are those that were read is not said.
+-- is of the tables that were read, whatever the shelf is.
 abbrev pub ReliesOn : Type 0 → DirectoryCommand → Type 0
 ReliesOn Honest (Check workers) = ⊤
 ReliesOn Honest ListFiles = ⊤
@@ -65,9 +65,14 @@ pub record IsLookedInto (form : Form) (command : DirectoryCommand) (others : Lis
   pub printed : ReliesOn Honest command → Prints form command version rest log prev others old new
   pub quiet : IsQuiet command progress log prev others said_old said_new
 
--- the directory holds a version
-abbrev pub HoldsVersion : Type 0 → Told → Told → Levels → Type 0
-HoldsVersion Honest was is v = (rest : ℕ) × (log : ℕ) × (prev : ℕ) × Holds Honest was is v rest log prev
+-- So it is of a version whose tables the shelf gave.
+pub record IsLookedIntoAsGiven (form : Form) (command : DirectoryCommand) (others : List FolderFile) (progress : Bool) (Stored : ℕ → List ℕ → Type 0) (Honest : Type 0) (was is : Told) (old new said_old said_new : Option (List ℕ)) : Type 0 where
+  pub looked : IsLookedInto form command others progress Honest was is old new said_old said_new
+  pub given : AreGiven Stored looked.version
+
+-- the directory holds a version, and the shelf gave its tables
+abbrev pub HoldsVersion : (ℕ → List ℕ → Type 0) → Type 0 → Told → Told → Levels → Type 0
+HoldsVersion Stored Honest was is v = (rest : ℕ) × (log : ℕ) × (prev : ℕ) × Holds Honest was is v rest log prev × AreGiven Stored v
 
 -- A read of a key that is not to print a line says that it is absent: over an honest shelf it has no answer at the last sequence.
 abbrev pub SaysAbsent : Type 0 → DirectoryCommand → Levels → Type 0
@@ -80,15 +85,15 @@ SaysAbsent Honest (Scan options) v = ⊥
 -- key is absent. Want of memory says nothing.
 abbrev pub IsLookFault : (ℕ → List ℕ → Type 0) → (Asked → ShelfFault → Type 0) → Type 0 → DirectoryCommand → DirectoryFault → Told → Told → Type 0
 IsLookFault Stored Refused Honest command OutOfMemory was is = ⊤
-IsLookFault Stored Refused Honest command Write was is = (v : Levels) × HoldsVersion Honest was is v
+IsLookFault Stored Refused Honest command Write was is = (v : Levels) × HoldsVersion Stored Honest was is v
 IsLookFault Stored Refused Honest command (Shelf fault) was is = IsOpenRefusal Stored Refused Honest (Shelf fault) was is
 IsLookFault Stored Refused Honest command (Manifest fault) was is = IsOpenRefusal Stored Refused Honest (Manifest fault) was is
 IsLookFault Stored Refused Honest command (Tables fault) was is = IsOpenRefusal Stored Refused Honest (Tables fault) was is
 IsLookFault Stored Refused Honest command (Read fault) was is =
-    (v : Levels) × HoldsVersion Honest was is v × (Honest → IsMemoryOrShelf fault) × ReadCounted fault was is
+    (v : Levels) × HoldsVersion Stored Honest was is v × (Honest → IsMemoryOrShelf fault) × ReadCounted fault was is
 IsLookFault Stored Refused Honest command NumbersSpent was is = IsOpenRefusal Stored Refused Honest NumbersSpent was is
 IsLookFault Stored Refused Honest command Locked was is = ⊥
-IsLookFault Stored Refused Honest command Absent was is = (v : Levels) × HoldsVersion Honest was is v × SaysAbsent Honest command v
+IsLookFault Stored Refused Honest command Absent was is = (v : Levels) × HoldsVersion Stored Honest was is v × SaysAbsent Honest command v
 
 -- What is written of a version before a fault that is no failed write: nothing, or, by a scan and over an honest shelf, its first lines.
 abbrev pub PrintsBefore : Form → DirectoryCommand → Type 0 → Levels → Option (List ℕ) → Option (List ℕ) → Type 0
@@ -98,22 +103,22 @@ PrintsBefore form (Get key output) Honest v old new = Keeps old new
 PrintsBefore form (Scan options) Honest v old new = LeavesScan form options Honest v old new
 
 -- What a fault leaves on standard output: nothing where the directory could not be opened.
-abbrev pub Leaves : Form → DirectoryCommand → Type 0 → DirectoryFault → Told → Told → Option (List ℕ) → Option (List ℕ) → Type 0
-Leaves form command Honest OutOfMemory was is old new =
-    Keeps old new ⊎ ((v : Levels) × HoldsVersion Honest was is v × PrintsBefore form command Honest v old new)
-Leaves form command Honest Write was is old new = ⊤
-Leaves form command Honest (Shelf fault) was is old new = Keeps old new
-Leaves form command Honest (Manifest fault) was is old new = Keeps old new
-Leaves form command Honest (Tables fault) was is old new = Keeps old new
-Leaves form command Honest (Read fault) was is old new = (v : Levels) × HoldsVersion Honest was is v × PrintsBefore form command Honest v old new
-Leaves form command Honest NumbersSpent was is old new = Keeps old new
-Leaves form command Honest Locked was is old new = Keeps old new
-Leaves form command Honest Absent was is old new = Keeps old new
+abbrev pub Leaves : Form → DirectoryCommand → (ℕ → List ℕ → Type 0) → Type 0 → DirectoryFault → Told → Told → Option (List ℕ) → Option (List ℕ) → Type 0
+Leaves form command Stored Honest OutOfMemory was is old new =
+    Keeps old new ⊎ ((v : Levels) × HoldsVersion Stored Honest was is v × PrintsBefore form command Honest v old new)
+Leaves form command Stored Honest Write was is old new = ⊤
+Leaves form command Stored Honest (Shelf fault) was is old new = Keeps old new
+Leaves form command Stored Honest (Manifest fault) was is old new = Keeps old new
+Leaves form command Stored Honest (Tables fault) was is old new = Keeps old new
+Leaves form command Stored Honest (Read fault) was is old new = (v : Levels) × HoldsVersion Stored Honest was is v × PrintsBefore form command Honest v old new
+Leaves form command Stored Honest NumbersSpent was is old new = Keeps old new
+Leaves form command Stored Honest Locked was is old new = Keeps old new
+Leaves form command Stored Honest Absent was is old new = Keeps old new
 
 -- What a refusal is: what the fault says of the directory, and what it leaves on standard output.
 pub record IsNotLookedInto (form : Form) (command : DirectoryCommand) (fault : DirectoryFault) (Stored : ℕ → List ℕ → Type 0) (Refused : Asked → ShelfFault → Type 0) (Honest : Type 0) (was is : Told) (old new : Option (List ℕ)) : Type 0 where
   pub says : IsLookFault Stored Refused Honest command fault was is
-  pub left : Leaves form command Honest fault was is old new
+  pub left : Leaves form command Stored Honest fault was is old new
 
 -- a command whose refusals name the file of a table
 abbrev pub names_files : DirectoryCommand → Bool

@@ -1,5 +1,5 @@
 -- What a directory holds, as a shelf on it gave it (LevelDB's `doc/impl.md`, "Manifest").
-use Rattle.std.specs.Prelude.{◌≡◌, ◌⊎◌, ℕ, List}
+use Rattle.std.specs.Prelude.{◌≡◌, ◌⊎◌, ℕ, List, All}
 use Rattle.lsm_shelf.specs.Told.{Told, Becomes, finding, listing}
 use Rattle.lsm_version.specs.Versions.{Levels}
 use Rattle.lsm_journal.specs.Finding.{IsFound}
@@ -23,3 +23,7 @@ pub record Holds (Honest : Type 0) (was is : Told) (v : Levels) (rest log prev :
   pub found : IsFound Honest limit held v rest next was is
   pub logs : held.log ≡ log
   pub previous : held.prev_log ≡ prev
+
+-- The shelf gave the image of each table of the version, for that table's number. `Stored` says which images it gave for which numbers.
+abbrev pub AreGiven : (ℕ → List ℕ → Type 0) → Levels → Type 0
+AreGiven Stored v = All (All (λ t. Stored t.number t.image)) v.tables

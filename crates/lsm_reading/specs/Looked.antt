@@ -9,7 +9,7 @@ use Rattle.lsm_shelf.specs.Refusals.{MayRefuse}
 use Rattle.lsm_storage.specs.declared.file.file_shelf.FileShelf.{FileShelf}
 use Rattle.lsm_text.specs.declared.request.DirectoryLine.{DirectoryLine}
 use Rattle.lsm_reading.specs.Answers.{IsLookedInto, IsNotLookedInto}
-use Rattle.lsm_reading.specs.Directory.{OnlyReads}
+use Rattle.lsm_reading.specs.Directory.{AreGiven, OnlyReads}
 use Rattle.lsm_directory.specs.Folders.{IsShelfAt, stored_at, told_by}
 use Rattle.lsm_directory.specs.Holding.{IsFolderFault}
 use Rattle.lsm_directory.specs.Looking.{TellsBeside}
@@ -31,6 +31,11 @@ module _ {C M : Type 0} (folders : Ghosts C M) where
     pub reads : OnlyReads (told_by folders begun) (told_by folders ended)
 
 module _ {C M : Type 0} (folders : Ghosts C M) (marks : mark.Ghosts M) where
+  -- So it was, of a version whose tables the folder gave.
+  pub record LooksAtGiven (line : DirectoryLine) (old new said_old said_new : Option (List ℕ)) : Type 0 where
+    pub looks : LooksAt folders line old new said_old said_new
+    pub given : AreGiven (stored_at folders marks (told_by folders looks.begun).place) looks.done.version
+
   -- The lock of the folder at the path was held, and these files were found beside its tables. On a shelf of it, which was only read, this
   -- fault was met: what that says of the folder, and what it leaves.
   pub record FailsAt (line : DirectoryLine) (fault : DirectoryFault) (old new : Option (List ℕ)) : Type 0 where

@@ -12,6 +12,7 @@ mod inquiry;
 mod program;
 
 // A directory that is opened, and what is done on it.
+mod given;
 mod opened;
 mod performing;
 

@@ -2,10 +2,11 @@
 
 ghost use Rattle.std.specs.Prelude.{◌≡◌, IfErr, IfOk, map};
 ghost use Rattle.lsm_check.specs.Counts.{count_of};
-ghost use Rattle.lsm_reading.specs.Directory.{Holds, OnlyReads};
+ghost use Rattle.lsm_reading.specs.Directory.{AreGiven, Holds, OnlyReads};
 ghost use Rattle.lsm_reading.specs.Opening.{IsOpenRefusal};
 ghost use Rattle.lsm_shelf.specs.Stored.{Stored};
 
+use crate::given::tables_are_given;
 use lsm_check::Watch;
 use lsm_directory::DirectoryFault;
 use lsm_journal::Found;
@@ -45,6 +46,8 @@ pub fn open<N: Naming, S: Shelf, R: Threads + Wait + Sync, W: Watch + Sync>(
 ) -> Result<Opened<N, S>, DirectoryFault>
     ensures opened { IfOk result (λ o.
         Holds S.honest shelf.old shelf.new o.version o.rest o.log o.prev_log) }
+    ensures given { IfOk result (λ o. AreGiven (Stored S.Receipt (S.is_of N.place) S.Receipt.number
+        S.Receipt.image) o.version) }
     ensures refused { IfErr result (λ e.
         IsOpenRefusal (Stored S.Receipt (S.is_of N.place) S.Receipt.number S.Receipt.image)
         (S.refuses N.place) S.honest e shelf.old shelf.new) }
@@ -52,6 +55,7 @@ pub fn open<N: Naming, S: Shelf, R: Threads + Wait + Sync, W: Watch + Sync>(
 {
     // A journal that nothing is sent through has no use for its limit.
     let found = Found::read_by(rt, alloc, shelf, registry, u64::MAX, shelves, watch)?;
+    tables_are_given(&found.version);
     Ok(Opened {
         version: found.version,
         rest: found.rest,

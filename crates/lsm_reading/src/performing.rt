@@ -6,9 +6,9 @@ ghost use Rattle.lsm_codec.specs.Entries.{answer};
 ghost use Rattle.lsm_table.specs.Told.{Becomes};
 ghost use Rattle.lsm_levels.specs.Files.{all_entries};
 ghost use Rattle.lsm_version.specs.Versions.{files};
-ghost use Rattle.lsm_reading.specs.Answers.{IsLookFault, IsLookedInto, IsPerformFault, Leaves};
-ghost use Rattle.lsm_reading.specs.Answers.{Prints, PrintsBefore, ReliesOn};
-ghost use Rattle.lsm_reading.specs.Directory.{Holds, OnlyReads};
+ghost use Rattle.lsm_reading.specs.Answers.{IsLookFault, IsLookedIntoAsGiven, IsPerformFault};
+ghost use Rattle.lsm_reading.specs.Answers.{Leaves, Prints, PrintsBefore, ReliesOn};
+ghost use Rattle.lsm_reading.specs.Directory.{AreGiven, Holds, OnlyReads};
 ghost use Rattle.lsm_reading.specs.Opening.{IsOpenRefusal};
 ghost use Rattle.lsm_reading.specs.Listing.{IsChecked, shown_answer};
 ghost use Rattle.lsm_directory.specs.declared.faults.directory_fault.DirectoryFault.TheVariants.{Write as WriteFault};
@@ -138,6 +138,8 @@ fn open_told<N: Naming, S: Shelf, R: Threads + Wait + Sync, E: Write + Send>(
 ) -> Result<Opened<N, S>, DirectoryFault>
     ensures opened { IfOk result (λ o.
         Holds S.honest shelf.old shelf.new o.version o.rest o.log o.prev_log) }
+    ensures given { IfOk result (λ o. AreGiven (Stored S.Receipt (S.is_of N.place) S.Receipt.number
+        S.Receipt.image) o.version) }
     ensures refused { IfErr result (λ e.
         IsOpenRefusal (Stored S.Receipt (S.is_of N.place) S.Receipt.number S.Receipt.image)
         (S.refuses N.place) S.honest e shelf.old shelf.new) }
@@ -190,13 +192,15 @@ fn perform<N: Naming, S: Shelf, R: Threads + Wait + Sync, O: Write, E: Write + S
 ) -> Result<(), DirectoryFault>
     requires named { records ≡ N.registry }
     requires shelves { All (λ s. (S.told s).place ≡ N.place) shelves.items }
-    ensures done { OnOk result (IsLookedInto inquiry.now.form inquiry.now.command.now
-        inquiry.now.files.now inquiry.now.progress S.honest shelf.old shelf.new
-        (O.contents out.old) (O.contents out.new) (E.contents err.old) (E.contents err.new)) }
+    ensures done { OnOk result (IsLookedIntoAsGiven inquiry.now.form inquiry.now.command.now
+        inquiry.now.files.now inquiry.now.progress (Stored S.Receipt (S.is_of N.place)
+        S.Receipt.number S.Receipt.image) S.honest shelf.old shelf.new (O.contents out.old)
+        (O.contents out.new) (E.contents err.old) (E.contents err.new)) }
     ensures fault { IfErr result (λ e. IsLookFault (Stored S.Receipt (S.is_of N.place)
         S.Receipt.number S.Receipt.image) (S.refuses N.place) S.honest inquiry.now.command.now e
         shelf.old shelf.new) }
-    ensures left { IfErr result (λ e. Leaves inquiry.now.form inquiry.now.command.now S.honest e
+    ensures left { IfErr result (λ e. Leaves inquiry.now.form inquiry.now.command.now
+        (Stored S.Receipt (S.is_of N.place) S.Receipt.number S.Receipt.image) S.honest e
         shelf.old shelf.new (O.contents out.old) (O.contents out.new)) }
     ensures reads { OnlyReads shelf.old shelf.new }
 {
@@ -230,13 +234,15 @@ pub(crate) fn perform_as<N: Naming, S: Shelf, R: Threads + Wait + Sync, O: Write
     requires records { records ≡ N.registry }
     requires shelf { (S.told shelf).place ≡ N.place }
     requires shelves { All (λ s. (S.told s).place ≡ N.place) shelves.items }
-    ensures done { OnOk result.0 (IsLookedInto inquiry.now.form inquiry.now.command.now
-        inquiry.now.files.now inquiry.now.progress S.honest (S.told shelf) (S.told result.1)
+    ensures done { OnOk result.0 (IsLookedIntoAsGiven inquiry.now.form inquiry.now.command.now
+        inquiry.now.files.now inquiry.now.progress (Stored S.Receipt (S.is_of N.place)
+        S.Receipt.number S.Receipt.image) S.honest (S.told shelf) (S.told result.1)
         (O.contents out.old) (O.contents out.new) (E.contents err.old) (E.contents err.new)) }
     ensures fault { IfErr result.0 (λ e. IsLookFault (Stored S.Receipt (S.is_of N.place)
         S.Receipt.number S.Receipt.image) (S.refuses N.place) S.honest inquiry.now.command.now e
         (S.told shelf) (S.told result.1)) }
-    ensures left { IfErr result.0 (λ e. Leaves inquiry.now.form inquiry.now.command.now S.honest e
+    ensures left { IfErr result.0 (λ e. Leaves inquiry.now.form inquiry.now.command.now
+        (Stored S.Receipt (S.is_of N.place) S.Receipt.number S.Receipt.image) S.honest e
         (S.told shelf) (S.told result.1) (O.contents out.old) (O.contents out.new)) }
     ensures reads { OnlyReads (S.told shelf) (S.told result.1) }
 {

@@ -3,11 +3,11 @@
 ghost use Rattle.std.specs.Prelude.{◌≡◌, ◌≢◌, ◌⊎◌, All, IfErr, IfOk, OnOk};
 ghost use Rattle.lsm_storage.specs.FileShelf.{file_told};
 ghost use Rattle.lsm_shelf.specs.Stored.{Stored};
-ghost use Rattle.lsm_reading.specs.Answers.{IsLookedInto, IsNotLookedInto, names_files};
+ghost use Rattle.lsm_reading.specs.Answers.{IsLookedIntoAsGiven, IsNotLookedInto, names_files};
 ghost use Rattle.lsm_reading.specs.Directory.{OnlyReads};
 ghost use Rattle.lsm_directory.specs.Folders.{IsShelfAt};
 ghost use Rattle.lsm_directory.specs.Holding.{IsFolderFault};
-ghost use Rattle.lsm_reading.specs.Looked.{FailsToLook, LooksAt};
+ghost use Rattle.lsm_reading.specs.Looked.{FailsToLook, LooksAt, LooksAtGiven};
 ghost use Rattle.lsm_directory.specs.Looking.{TellsBeside};
 ghost use Rattle.lsm_directory.specs.declared.faults.directory_fault.DirectoryFault.{DirectoryFault};
 ghost use Rattle.lsm_directory.specs.declared.faults.directory_fault.DirectoryFault.TheVariants.{OutOfMemory};
@@ -50,8 +50,9 @@ fn begin<S: Shelf, R: Threads + Wait + Sync, O: Write, E: Write + Send>(
     err: &mut E,
 ) -> (Result<(), DirectoryFault>, S)
     requires shelves { All (λ s. (S.told s).place ≡ (S.told shelf).place) shelves.items }
-    ensures done { OnOk result.0 (IsLookedInto inquiry.now.form inquiry.now.command.now
-        inquiry.now.files.now inquiry.now.progress S.honest (S.told shelf) (S.told result.1)
+    ensures done { OnOk result.0 (IsLookedIntoAsGiven inquiry.now.form inquiry.now.command.now
+        inquiry.now.files.now inquiry.now.progress (Stored S.Receipt (S.is_of (S.told shelf).place)
+        S.Receipt.number S.Receipt.image) S.honest (S.told shelf) (S.told result.1)
         (O.contents out.old) (O.contents out.new) (E.contents err.old) (E.contents err.new)) }
     ensures refused { IfErr result.0 (λ e. IsNotLookedInto inquiry.now.form
         inquiry.now.command.now e (Stored S.Receipt (S.is_of (S.told shelf).place) S.Receipt.number
@@ -84,8 +85,9 @@ pub fn look<S: Shelf, R: Threads + Wait + Sync, O: Write, E: Write + Send>(
     err: &mut E,
 ) -> (u8, S)
     requires shelves { All (λ s. (S.told s).place ≡ (S.told shelf).place) shelves.items }
-    ensures done { result.0 ≡ 0 → IsLookedInto inquiry.now.form inquiry.now.command.now
-        inquiry.now.files.now inquiry.now.progress S.honest (S.told shelf) (S.told result.1)
+    ensures done { result.0 ≡ 0 → IsLookedIntoAsGiven inquiry.now.form inquiry.now.command.now
+        inquiry.now.files.now inquiry.now.progress (Stored S.Receipt (S.is_of (S.told shelf).place)
+        S.Receipt.number S.Receipt.image) S.honest (S.told shelf) (S.told result.1)
         (O.contents out.old) (O.contents out.new) (E.contents err.old) (E.contents err.new) }
     ensures refused { result.0 ≢ 0 → (result.0 ≡ 1)
         × ((fault : DirectoryFault) × IsNotLookedInto inquiry.now.form inquiry.now.command.now fault
@@ -182,8 +184,8 @@ fn look_at<
 ) -> Result<(), DirectoryFault>
 where
     C::Mark: Send + Sync,
-    ensures done { OnOk result (LooksAt C.FolderCalls line.now (O.contents out.old)
-        (O.contents out.new) (E.contents err.old) (E.contents err.new)) }
+    ensures done { OnOk result (LooksAtGiven C.FolderCalls C.Mark.Mark line.now
+        (O.contents out.old) (O.contents out.new) (E.contents err.old) (E.contents err.new)) }
     ensures refused { IfErr result (λ e. FailsToLook C.FolderCalls C.Mark.Mark line.now e
         (O.contents out.old) (O.contents out.new)) }
 {
@@ -213,6 +215,8 @@ where
     C::Mark: Send + Sync,
     ensures done { result ≡ 0 → LooksAt C.FolderCalls line.now (O.contents out.old)
         (O.contents out.new) (E.contents err.old) (E.contents err.new) }
+    ensures given { result ≡ 0 → LooksAtGiven C.FolderCalls C.Mark.Mark line.now
+        (O.contents out.old) (O.contents out.new) (E.contents err.old) (E.contents err.new) }
     ensures refused { result ≢ 0 → (result ≡ 1) × ((fault : DirectoryFault)
         × FailsToLook C.FolderCalls C.Mark.Mark line.now fault (O.contents out.old)
         (O.contents out.new)) }

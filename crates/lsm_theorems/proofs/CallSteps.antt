@@ -1,7 +1,7 @@
 -- Each call's contract, as what the call is in a chain.
-use Rattle.std.proofs.Common.{◌≡◌, ℕ, suc, ◌+◌, ◌≤◌, List, [], ◌∷◌, ◌++◌, Option, Some, None, Result, Ok, Err, refl, sym, ◌∙◌, ap, subst, arith}
+use Rattle.std.proofs.Common.{◌≡◌, ℕ, suc, List, [], ◌∷◌, ◌++◌, Option, Some, None, Result, Ok, Err, refl, ◌∙◌, ap, arith}
 use Rattle.std.specs.Prelude.{IfNone, IfOk, IfSome, OnErr, OnOk}
-use Rattle.lsm_codec.specs.Entries.{Entry, answer}
+use Rattle.lsm_codec.specs.Entries.{answer}
 use Rattle.lsm_codec.specs.Keys.{UserKey}
 use Rattle.lsm_levels.specs.Files.{all_entries}
 use Rattle.lsm_levels.specs.Plain.{Cancels, Draws, Releases, Spends, TakesSnapshot, without_snapshot}
@@ -14,7 +14,6 @@ use Rattle.lsm_batch.specs.declared.write.Write.{Write}
 use Rattle.lsm_journal.specs.Difference.{Difference, changed_by}
 use Rattle.lsm_live.specs.Booked.{HasTicket, booked, without}
 use Rattle.lsm_merge.specs.Work.{Done, Work}
-use Rattle.lsm_slots.specs.Slots.{Slotted}
 use Rattle.lsm_slots.specs.Snapshots.{HasId}
 use Rattle.lsm_state.specs.Held.{Held, plain}
 use Rattle.lsm_state.specs.Ingesting.{Ingests, coming_in, entries_of, last_of}
@@ -22,6 +21,7 @@ use Rattle.lsm_state.specs.Installing.{IsInstalling}
 use Rattle.lsm_state.specs.Reading.{IsSequence}
 use Rattle.lsm_state.specs.Reserving.{IsReserving, reserved}
 use Rattle.lsm_state.specs.declared.ingest.Ingested.{Ingested}
+use Rattle.lsm_store.specs.Background as store
 use Rattle.lsm_theorems.specs.Calls.{BringsNone, Call, Cancel, Draw, Get, Ingest, Install, IsCall, Look, Refused, Release, Reserve, Snapshot}
 
 -- ---- what changes nothing that the machine or the history sees
@@ -65,6 +65,16 @@ ingest_so H (Ok v) old new ws was is i event history = record {
   last_is = came_last old new ws v was is i;
 }
 ingest_so H (Err e) old new ws was is i event history = tt
+
+-- so where it came in beside workers
+pub brought_so : (H : Type 0) (old new : Held) (ws : List Write) (r : Ingested) (was is : Told) → store.BringsIn old new ws r was is → IsCall H (Ingest ws r) old new
+brought_so H old new ws r was is b = record {
+  event = b.event;
+  history = b.history;
+  first = b.ingests.first;
+  last = b.ingests.last;
+  last_is = came_last old new ws r was is b.ingests;
+}
 
 -- ---- reads and snapshots
 

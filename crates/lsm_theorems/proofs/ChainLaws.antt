@@ -1,31 +1,31 @@
 -- Chains of calls as runs of the plain machine, and as answers of a database.
-use Rattle.std.proofs.Common.{◌≡◌, ◌⊎◌, ℕ, suc, ◌+◌, ◌<◌, ◌≤◌, List, [], ◌∷◌, ◌++◌, Option, Some, None, length, refl, sym, ◌∙◌, ap, subst, inl, inr}
+use Rattle.std.proofs.Common.{◌≡◌, ℕ, ◌<◌, List, [], ◌∷◌, ◌++◌, Option, Some, None, refl, sym, ◌∙◌, ap, subst, inl, inr}
 use Rattle.atomic_table.specs.Seated.{TableId}
-use Rattle.lsm_codec.specs.Entries.{Entry, answer}
+use Rattle.lsm_codec.specs.Entries.{Entry}
 use Rattle.lsm_codec.specs.Keys.{UserKey}
 use Rattle.lsm_codec.specs.Lists.{Has}
-use Rattle.lsm_levels.specs.Files.{all_entries}
 use Rattle.lsm_levels.specs.Law.{Law}
 use Rattle.lsm_levels.specs.Plain.{IsReadable, Plain, without_snapshot}
-use Rattle.lsm_levels.specs.Runs.{Agrees, Event, Ingest, Snapshot, Release, Reserve, Cancel, Draw, Install, Spend, Nothing, Run, Step, ingested}
+use Rattle.lsm_levels.specs.Runs.{Agrees, Event, Ingest, Snapshot, Release, Reserve, Cancel, Draw, Install, Spend, Nothing, Run, ingested}
 use Rattle.lsm_levels.proofs.CallerLemmas.{run_law, step_agrees, step_law}
-use Rattle.lsm_batch.specs.Batches.{entries_from}
+use Rattle.lsm_shelf.specs.Asked.{Asked}
+use Rattle.lsm_shelf.specs.declared.shelf_fault.ShelfFault.{ShelfFault}
 use Rattle.lsm_batch.specs.declared.write.Write.{Write}
 use Rattle.lsm_choice.specs.TablePlans.{plan_of}
-use Rattle.lsm_merge.specs.Work.{Done, Work, job_of}
+use Rattle.lsm_merge.specs.Work.{job_of}
 use Rattle.lsm_slots.specs.Snapshots.{Taken}
-use Rattle.lsm_version.specs.Versions.{files}
 use Rattle.lsm_state.specs.Held.{Held, IsLawfulState, plain}
-use Rattle.lsm_state.specs.Ingesting.{entries_of, last_of}
+use Rattle.lsm_state.specs.Ingesting.{entries_of}
 use Rattle.lsm_state.specs.Reading.{IsSequence}
 use Rattle.lsm_state.specs.Reserving.{plan_in}
-use Rattle.lsm_state.specs.declared.ingest.Ingested.{Ingested}
-use Rattle.lsm_store.specs.Compacting.{IsCompactingStep, IsKeptByCompaction, IsOfWorkers, IsSeated}
+use Rattle.lsm_store.specs.Background.{IsKeptByIngest}
+use Rattle.lsm_store.specs.Compacting.{IsKeptByCompaction, IsOfWorkers, IsSeated}
 use Rattle.lsm_theorems.specs.Calls as calls
 use Rattle.lsm_theorems.specs.Calls.{BringsIn, BringsNone, Call, Chain, IsCall, IsReached}
 use Rattle.lsm_theorems.specs.Database.{Database, IsAnswered, IsAt, came_in, database_of, with_batch}
 use Rattle.lsm_theorems.specs.Newest.{IsReadOf}
 use Rattle.lsm_theorems.specs.Unchanged.{read_of}
+use Rattle.lsm_theorems.proofs.CallSteps.{brought_so}
 use Rattle.lsm_theorems.proofs.ReadLaws.{answer_read}
 
 -- ---- runs one after another
@@ -211,3 +211,8 @@ reached_found H found h s = (calls.Look ∷ [], (h, (ap plain s.1, ap (λ (x : H
 
 pub reached_worked : (H : Type 0) (found : Held) → IsKeptByCompaction H (IsReached H found)
 reached_worked H found old new step r = reached_call H found old new calls.Works step r
+
+-- a batch that is brought in, or refused, as it is beside workers
+pub reached_ingested : (H : Type 0) (Refused : Asked → ShelfFault → Type 0) (ws : List Write) (found : Held) → IsKeptByIngest Refused ws (IsReached H found)
+reached_ingested H Refused ws found old new (inl i) r = reached_call H found old new (calls.Ingest ws i.0) (brought_so H old new ws i.0 i.1 i.2 i.3) r
+reached_ingested H Refused ws found old new (inr e) r = reached_call H found old new calls.Refused (e.3.event, e.3.history) r

@@ -1,5 +1,5 @@
 -- What holds of each element of a list that is spelled.
-use Rattle.std.proofs.Common.{◌≡◌, List, [], ◌∷◌, inl, inr, subst}
+use Rattle.std.proofs.Common.{[], ◌∷◌, inl, inr, subst}
 use Rattle.lsm_codec.specs.Lists.{Has}
 
 pub one_of : {X : Type 0} (a : X) (P : X → Type 0) → P a → (x : X) → Has (a ∷ []) x → P x

@@ -1,17 +1,15 @@
 -- The small run, step by step.
-use Rattle.std.proofs.Common.{◌≡◌, ◌⊎◌, ℕ, suc, ◌≤◌, ◌<◌, false, true, List, [], ◌∷◌, ◌++◌, refl, sym, ◌∙◌, ap, subst, inl, inr, arith}
-use Rattle.lsm_codec.specs.declared.kind.Kind.TheVariants.{Value}
+use Rattle.std.proofs.Common.{◌≡◌, ◌⊎◌, ℕ, ◌≤◌, ◌<◌, false, [], ◌∷◌, refl, inl, inr, arith}
 use Rattle.lsm_codec.specs.Lists.{Has}
-use Rattle.lsm_codec.specs.Keys.{UserKey, UserLe}
-use Rattle.lsm_codec.specs.Entries.{Entry, stamp}
+use Rattle.lsm_codec.specs.Keys.{UserLe}
 use Rattle.lsm_codec.proofs.CallerLemmas.{user_le_refl}
-use Rattle.lsm_levels.specs.Files.{File, Before, Fits, all_entries, OneEach}
-use Rattle.lsm_levels.specs.Jobs.{Job, Changed, Conflicts, is_input}
+use Rattle.lsm_levels.specs.Files.{File, Before, Fits, all_entries}
+use Rattle.lsm_levels.specs.Jobs.{Changed, is_input}
 use Rattle.lsm_levels.specs.Kept.{kept_entries}
-use Rattle.lsm_levels.specs.Plain.{Ingests, Installs, IsBooked, IsMerged, Live, Plain, Reserves, created}
-use Rattle.lsm_levels.specs.Plans.{IsLinked, starting, meeting, Plan, IsClosed, IsJobOf, Spans}
-use Rattle.lsm_levels.specs.Runs.{Event, Ingest, Snapshot, Release, Reserve, Draw, Install, Run}
-use Rattle.lsm_levels.specs.Streams.{CutAtKeys, Ends, IsCut, IsMerge, NumbersRise}
+use Rattle.lsm_levels.specs.Plain.{Ingests, Installs, Plain, Reserves, created}
+use Rattle.lsm_levels.specs.Plans.{IsLinked, starting, meeting, IsClosed, Spans}
+use Rattle.lsm_levels.specs.Runs.{Ingest, Snapshot, Release, Reserve, Draw, Install, Run}
+use Rattle.lsm_levels.specs.Streams.{Ends, IsCut, IsMerge}
 use Rattle.lsm_theorems.specs.SmallRun.{entry, events, file, job, left, plan}
 use Rattle.lsm_theorems.proofs.Elements.{one_of, two_of}
 

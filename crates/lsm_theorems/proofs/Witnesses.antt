@@ -1,12 +1,12 @@
 -- Two jobs, a move, a cut and a judged version, so small that all is in sight.
-use Rattle.std.proofs.Common.{◌≡◌, ◌⊎◌, ℕ, zero, suc, ◌≤◌, ◌<◌, false, true, List, [], ◌∷◌, ◌++◌, length, refl, sym, ◌∙◌, ap, subst, inl, inr, arith}
+use Rattle.std.proofs.Common.{◌≡◌, ◌⊎◌, ℕ, zero, suc, ◌≤◌, ◌<◌, false, true, List, [], ◌∷◌, length, refl, sym, ◌∙◌, ap, subst, inl, inr, arith}
 use Rattle.lsm_codec.specs.declared.kind.Kind.TheVariants.{Value}
 use Rattle.lsm_codec.specs.Lists.{Has}
 use Rattle.lsm_codec.specs.Keys.{UserKey, UserLe, user_le}
-use Rattle.lsm_codec.specs.Entries.{Entry, internal_key, stamp}
+use Rattle.lsm_codec.specs.Entries.{Entry, internal_key}
 use Rattle.lsm_codec.proofs.CallerLemmas.{user_le_refl}
 use Rattle.lsm_levels.specs.Checking.{IsJudged, IsRangeOf, Listed, file_at, files_from, level_in, ranges_of}
-use Rattle.lsm_levels.specs.Files.{File, Before, Fits, InOrder, IsLawful, Shallower, all_entries}
+use Rattle.lsm_levels.specs.Files.{File, Before, Fits, InOrder, IsLawful, all_entries}
 use Rattle.lsm_levels.specs.Jobs.{AreOutputs, Changed, Conflicts, IsMove, IsOpenIn, Job, at_level, is_input}
 use Rattle.lsm_levels.specs.Kept.{kept_entries}
 use Rattle.lsm_levels.specs.Merging.{Placed}

@@ -8,17 +8,17 @@ ghost use Rattle.lsm_theorems.specs.Newest.{IsReadOfAll};
 use lsm_history::Memory;
 use lsm_slots::Boarded;
 use lsm_state::{State, StateFault};
-use lsm_store::Store;
+use lsm_store::{Invariant, Store};
 use lsm_table::{NamedShelf, Shelf};
 use std::alloc::Global;
 use std::sync::Wait;
 
 /// A read at the last sequence, with all that had come in by then, to be remembered: it gives the
-/// newest of that.
-pub fn first_reads_are_remembered<N: Boarded, S: Shelf, R: Wait>(
+/// newest of that. `K` is the fact that the store's lock keeps, any one.
+pub fn first_reads_are_remembered<N: Boarded, S: Shelf, K: Invariant, R: Wait>(
     rt: &R,
     alloc: Global,
-    store: &Store<N, S>,
+    store: &Store<N, S, K>,
     shelf: &mut NamedShelf<N, S>,
     user: &[u8],
 ) -> (Result<Option<Vec<u8>>, StateFault>, Memory<N>)
@@ -30,10 +30,10 @@ pub fn first_reads_are_remembered<N: Boarded, S: Shelf, R: Wait>(
 
 /// A read under a later taking of the lock, whatever any threads did in between: it gives the
 /// newest of all that has come in (`read`), and that goes on from what was remembered (`later`).
-pub fn later_reads_go_on<N: Boarded, S: Shelf, R: Wait>(
+pub fn later_reads_go_on<N: Boarded, S: Shelf, K: Invariant, R: Wait>(
     rt: &R,
     alloc: Global,
-    store: &Store<N, S>,
+    store: &Store<N, S, K>,
     shelf: &mut NamedShelf<N, S>,
     memory: Memory<N>,
     user: &[u8],
@@ -51,6 +51,7 @@ fn read_first<N: Boarded, S: Shelf>(
     shelf: &mut NamedShelf<N, S>,
     user: &[u8],
 ) -> (Result<Option<Vec<u8>>, StateFault>, Memory<N>)
+    ensures same { state.new ≡ state.old }
     ensures seen { result.1 ≡ state.old.history }
     ensures read { S.honest → IfOk result.0 (λ v.
         IsReadOfAll result.1 user.now (option_map (λ b. b.items) v)) }
@@ -68,6 +69,7 @@ fn read_on<N: Boarded, S: Shelf>(
     memory: Memory<N>,
     user: &[u8],
 ) -> (Result<Option<Vec<u8>>, StateFault>, Memory<N>)
+    ensures same { state.new ≡ state.old }
     ensures later { IsLater result.1 memory }
     ensures read { S.honest → IfOk result.0 (λ v.
         IsReadOfAll result.1 user.now (option_map (λ b. b.items) v)) }

@@ -2,10 +2,12 @@
 
 ghost use Rattle.std.specs.Prelude.{◌≡◌, ℕ, List, IfOk};
 ghost use Rattle.atomic_table.specs.Seated.{TableId};
+ghost use Rattle.lsm_batch.specs.declared.write.Write.{Write};
 ghost use Rattle.lsm_codec.specs.Keys.{UserKey};
 ghost use Rattle.lsm_levels.specs.Plain.{IsReadable, created};
 ghost use Rattle.lsm_levels.specs.Runs.{Event, Run, ingested};
 ghost use Rattle.lsm_state.specs.Held.{Held, IsLawfulState, plain};
+ghost use Rattle.lsm_store.specs.Background.{IsKeptByIngest};
 ghost use Rattle.lsm_store.specs.Compacting.{IsKeptByCompaction, IsSeated};
 ghost use Rattle.lsm_store.specs.Readers.{SeatsPinners};
 ghost use Rattle.lsm_theorems.specs.Calls.{Call, Chain, IsCall, IsReached};
@@ -57,6 +59,12 @@ pub fn what_is_reached_is_kept<P: Premise>()
     ensures called { (found was is : Held) (call : Call) → IsCall P.holds call was is
         → IsReached P.holds found was → IsReached P.holds found is }
     ensures worked { (found : Held) → IsKeptByCompaction P.holds (IsReached P.holds found) }
+{}
+
+/// A batch keeps it too that is brought in beside workers (`Background::ingest`), or refused there.
+pub fn what_is_reached_is_kept_by_ingests<N: Boarded, S: Shelf>()
+    ensures { (found : Held) (writes : List Write)
+        → IsKeptByIngest (S.refuses N.place) writes (IsReached S.honest found) }
 {}
 
 /// So of the state that threads leave: workers, each in a thread of its own, and a batch that is

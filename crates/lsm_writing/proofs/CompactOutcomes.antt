@@ -1,22 +1,22 @@
 -- What a compaction answers, by what is done.
-use Rattle.std.proofs.Common.{◌≡◌, ◌≢◌, ℕ, inl, inr, All, List, Option, IfErr, OnErr, OnOk, refl, ap, ◌∙◌}
+use Rattle.std.proofs.Common.{◌≡◌, ◌≢◌, ℕ, inl, inr, List, Option, IfErr, OnErr, OnOk, refl, sym, subst, ap, ◌∙◌}
 use Rattle.std.specs.Prelude.{◌⊎◌, Result, Ok, Err}
 use Rattle.std.specs.Io.KnownBytes.{Keeps}
 use Rattle.atomic_table.specs.Seated.{TableId}
 use Rattle.lsm_shelf.specs.Asked.{Asked}
 use Rattle.lsm_shelf.specs.declared.shelf_fault.ShelfFault.{ShelfFault}
-use Rattle.lsm_shelf.specs.Told.{Forked, Told}
+use Rattle.lsm_shelf.specs.Told.{Becomes, Forked, Told, finding}
 use Rattle.lsm_codec.specs.Entries.{answer}
 use Rattle.lsm_levels.specs.Files.{all_entries}
 use Rattle.lsm_version.specs.Versions.{files}
 use Rattle.lsm_slots.specs.Slots.{Looked, Slotted}
+use Rattle.lsm_journal.specs.HeldManifest.{HeldManifest}
 use Rattle.lsm_state.specs.Held.{Held}
-use Rattle.lsm_state.specs.declared.state_fault.StateFault.{StateFault}
 use Rattle.lsm_store.specs.Compacting.{IsLeftByWorkers}
 use Rattle.lsm_store.specs.declared.worker_end.WorkerEnd.{WorkerEnd}
 use Rattle.lsm_writing.specs.Starting.{IsReopened}
-use Rattle.lsm_writing.specs.declared.faults.writer_fault.WriterFault.TheVariants.{Write as WriteFault, State}
-use Rattle.lsm_writing.specs.Compacting.{AreEnds, Compacts, IsCompactFault, IsFaultless, IsOfManning, IsOpened, IsNotCompacted, IsSwept, IsWorkersFault, LeavesAll, Refuses}
+use Rattle.lsm_writing.specs.declared.faults.writer_fault.WriterFault.TheVariants.{Write as WriteFault}
+use Rattle.lsm_writing.specs.Compacting.{AreEnds, AreFaultless, Compacts, IsCompactFault, IsNamed, IsOfManning, IsOpened, IsNotCompacted, IsSwept, IsWorkersFault, LeavesAll, StopsSweeping, installed_between}
 use Rattle.lsm_writing.specs.declared.faults.compact_fault.CompactFault.{CompactFault}
 use Rattle.lsm_writing.specs.declared.faults.compact_fault.CompactFault.TheVariants.{Writer}
 
@@ -44,44 +44,55 @@ opens Honest board found was mid is opened on forked = record { mid = mid; opene
 
 -- no worker began, or one of them has a fault
 pub unfinished : (Stored : ℕ → List ℕ → Type 0) (Refused : Asked → ShelfFault → Type 0) (Honest : Type 0) (board : TableId) (found : Held) (workers : ℕ) (e : CompactFault) (was is : Told)
-    → IsOpened Honest board found was is → IsOfManning e ⊎ IsWorkersFault Honest workers e → IsCompactFault Stored Refused Honest workers e was is
+    → IsOpened Honest board found was is → IsOfManning e ⊎ IsWorkersFault Refused Honest (IsLeftByWorkers Honest found) was.place workers e
+    → IsCompactFault Stored Refused Honest workers e was is
 unfinished Stored Refused Honest board found workers e was is opened stops = elim stops [
   | inl manning ↦ inr (inl (inr (manning, (board, (found, opened)))))
-  | inr fault ↦ inr (inr (inl (fault, (board, (found, opened)))))
+  | inr fault ↦ inr (inr (inl record { board = board; found = found; opened = opened; stopped = fault }))
 ]
 
--- the collect was refused
-pub unswept : (Stored : ℕ → List ℕ → Type 0) (Refused : Asked → ShelfFault → Type 0) (Honest : Type 0) (board : TableId) (found left : Held) (workers : ℕ) (ends : List WorkerEnd) (fault : StateFault) (was mid is : Told)
-    → IsOpened Honest board found was mid → AreEnds Honest workers ends → All IsFaultless ends → IsLeftByWorkers Honest found left → Refuses Refused Honest board left fault mid is
-    → IsCompactFault Stored Refused Honest workers (Writer (State fault)) was is
-unswept Stored Refused Honest board found left workers ends fault was mid is opened each faultless by refuses = inr (inr (inr (inl (
-  fault,
-  refl,
-  record {
-    board = board;
-    found = found;
-    left = left;
-    mid = mid;
-    opened = opened;
-    ends = ends;
-    ends_are = each;
-    faultless = faultless;
-    leaves = leaves Honest found left by;
-    refuses = refuses;
-  },
-))))
-
--- all was done
-pub compacts : (Honest : Type 0) (board : TableId) (found left : Held) (workers : ℕ) (ends : List WorkerEnd) (was mid is : Told)
-    → IsOpened Honest board found was mid → AreEnds Honest workers ends → All IsFaultless ends → IsLeftByWorkers Honest found left → IsSwept Honest board left mid is → Compacts Honest workers ends was is
-compacts Honest board found left workers ends was mid is opened each faultless by swept = record {
+-- nothing, or not all, was removed
+pub unswept : (Stored : ℕ → List ℕ → Type 0) (Refused : Asked → ShelfFault → Type 0) (Honest : Type 0) (board : TableId) (found left : Held) (workers : ℕ) (returned : List (WorkerEnd × Option Told))
+    (e : CompactFault) (was mid is : Told) → IsOpened Honest board found was mid → AreEnds Refused Honest (IsLeftByWorkers Honest found) was.place workers returned → AreFaultless returned
+    → IsLeftByWorkers Honest found left → StopsSweeping Refused Honest board left e mid is → IsCompactFault Stored Refused Honest workers e was is
+unswept Stored Refused Honest board found left workers returned e was mid is opened each faultless by stops = inr (inr (inr (inl record {
   board = board;
   found = found;
   left = left;
   mid = mid;
   opened = opened;
+  returned = returned;
   ends_are = each;
   faultless = faultless;
   leaves = leaves Honest found left by;
+  stops = stops;
+})))
+
+-- all was done
+pub compacts : (Refused : Asked → ShelfFault → Type 0) (Honest : Type 0) (board : TableId) (found left : Held) (workers installed : ℕ) (returned : List (WorkerEnd × Option Told)) (was mid read is : Told)
+    → IsOpened Honest board found was mid → AreEnds Refused Honest (IsLeftByWorkers Honest found) was.place workers returned → AreFaultless returned
+    → IsLeftByWorkers Honest found left → installed ≡ installed_between found left → IsNamed left mid read → IsSwept Honest board left read is
+    → Compacts Refused Honest workers installed was is
+compacts Refused Honest board found left workers installed returned was mid read is opened each faultless by count named swept = record {
+  board = board;
+  found = found;
+  left = left;
+  mid = mid;
+  opened = opened;
+  returned = returned;
+  ends_are = each;
+  faultless = faultless;
+  leaves = leaves Honest found left by;
+  count = count;
+  read = read;
+  named = named;
   swept = swept;
 }
+
+-- the manifest of a state of which no more changed than that slots were looked at
+pub named_still : (was is : Held) (t u : Told) → is ≡ record was { slots = is.slots } → IsNamed was t u → IsNamed is t u
+named_still was is t u same named =
+    record {
+      told = subst (λ (j : HeldManifest). Becomes (finding j.number j.bytes t) u) (sym (ap (λ (h : Held). h.journal) same)) named.told;
+      counts = named.counts;
+    }

@@ -1,6 +1,7 @@
 mod Quiet
 mod NameKindLaws
 mod NameLaws
+mod Forks
 mod Looked
 mod WritingOutcomes
 mod Numbers

@@ -45,7 +45,7 @@ module _ {C M : Type 0} (folders : Ghosts C M) where
   comes_in_at (Err e) path options ws start logs begun ended old new on done = tt
 
   pub compacts_at : {T F : Type 0} (r : Result T F) (line : CompactLine) (begun ended : FileShelf C M) (old new : Option (List ℕ)) → IsShelfAt folders line.path.now (IsHeld Exclusive) begun
-      → OnOk r (IsCompacted (AreHonest folders.calls) line.options.workers (told_by folders begun) (told_by folders ended) old new) → OnOk r (IsCompactedAt folders line old new)
+      → OnOk r (IsCompacted MayRefuse (AreHonest folders.calls) line.options.workers (told_by folders begun) (told_by folders ended) old new) → OnOk r (IsCompactedAt folders line old new)
   compacts_at (Ok x) line begun ended old new on done = record { begun = begun; on = on; ended = ended; done = done }
   compacts_at (Err e) line begun ended old new on done = tt
 

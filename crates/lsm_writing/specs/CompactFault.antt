@@ -8,7 +8,7 @@ use Rattle.lsm_text.specs.FaultText.{refusal_text}
 use Rattle.lsm_script.specs.RefusalText.{merge_text, state_text}
 use Rattle.lsm_writing.specs.WriterFault as writer
 use Rattle.lsm_writing.specs.declared.faults.compact_fault.CompactFault.{CompactFault}
-use Rattle.lsm_writing.specs.declared.faults.compact_fault.CompactFault.TheVariants.{Writer, Worker}
+use Rattle.lsm_writing.specs.declared.faults.compact_fault.CompactFault.TheVariants.{Writer, Worker, OtherManifest}
 
 abbrev pub worker_text : WorkerFault → List ℕ
 worker_text NoThread = refusal_text 1 (codes "OutOfMemory") None
@@ -18,6 +18,7 @@ worker_text (Merge fault) = merge_text fault
 abbrev pub fault_text : CompactFault → Option (List ℕ)
 fault_text (Writer fault) = writer.fault_text fault
 fault_text (Worker fault) = Some (worker_text fault)
+fault_text OtherManifest = Some (refusal_text 10 (codes "Missing") None)
 
 -- the number of the file that a merge failed to read or to put
 abbrev pub table_of_merge : MergeFault → Option ℕ
@@ -33,3 +34,4 @@ table_file_of (Writer fault) = writer.table_file_of fault
 table_file_of (Worker NoThread) = None
 table_file_of (Worker (State fault)) = None
 table_file_of (Worker (Merge fault)) = table_of_merge fault
+table_file_of OtherManifest = None

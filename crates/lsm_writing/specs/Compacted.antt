@@ -20,7 +20,7 @@ module _ {C M : Type 0} (folders : Ghosts C M) where
     pub begun : FileShelf C M
     pub on : IsShelfAt folders line.path.now (IsHeld Exclusive) begun
     pub ended : FileShelf C M
-    pub done : IsCompacted (AreHonest folders.calls) line.options.workers (told_by folders begun) (told_by folders ended) old new
+    pub done : IsCompacted MayRefuse (AreHonest folders.calls) line.options.workers (told_by folders begun) (told_by folders ended) old new
 
 module _ {C M : Type 0} (folders : Ghosts C M) (marks : mark.Ghosts M) where
   -- The lock of the folder at the path was held. On a shelf of it this fault was met.

@@ -8,10 +8,11 @@ pub(crate) mod progress;
 pub(crate) mod sweeping;
 pub(crate) mod tally;
 
-ghost use Rattle.std.specs.Prelude.{◌≡◌, ◌≢◌, ◌⊎◌, All, IfErr, IfOk, IsFalse, OnOk, vec_len};
+ghost use Rattle.std.specs.Prelude.{◌≡◌, ◌≢◌, ◌⊎◌, All, IfErr, IfOk, IsFalse, OnOk, replicate};
+ghost use Rattle.std.specs.Prelude.{vec_len};
 ghost use Rattle.std.specs.Io.KnownBytes.{Appends, Keeps};
 ghost use Rattle.lsm_shelf.specs.Stored.{Stored};
-ghost use Rattle.lsm_shelf.specs.Told.{Forked};
+ghost use Rattle.lsm_shelf.specs.Told.{Forked, fresh};
 ghost use Rattle.lsm_shelf.specs.declared.shelf_fault.ShelfFault.TheVariants.{OutOfMemory};
 ghost use Rattle.lsm_slots.specs.Slots.{Looked};
 ghost use Rattle.lsm_state.specs.Held.{Held};
@@ -19,10 +20,11 @@ ghost use Rattle.lsm_state.specs.Making.{IsNewBoard, IsNewHistory};
 ghost use Rattle.lsm_store.specs.Compacting.{IsKeptByCompaction, IsSeated};
 ghost use Rattle.lsm_store.specs.Readers.{SeatsPinners};
 ghost use Rattle.lsm_store.specs.Workers.{IsWorkersEnd};
+ghost use Rattle.lsm_store.specs.Working.{AreReturned};
 ghost use Rattle.lsm_writing.specs.WriterFault.{of_shelf};
 ghost use Rattle.lsm_writing.specs.Starting.{usual};
 ghost use Rattle.lsm_writing.specs.declared.faults.writer_fault.WriterFault.TheVariants.{Write as WriteFault};
-ghost use Rattle.lsm_writing.specs.Compacting.{AreEnds, IsCompactFault, IsCompacted, IsFaultless};
+ghost use Rattle.lsm_writing.specs.Compacting.{AreEnds, AreFaultless, IsCompactFault, IsCompacted};
 ghost use Rattle.lsm_writing.specs.Compacting.{IsOfManning, IsSwept, IsWorkersFault, Refuses};
 ghost use Rattle.lsm_writing.specs.Compacting.{installed_text};
 ghost use Rattle.lsm_writing.specs.declared.faults.compact_fault.CompactFault.TheVariants.{Writer as WriterVariant};
@@ -31,15 +33,15 @@ use crate::compacting::compaction::Compaction;
 use crate::compacting::job_teller::JobTeller;
 use crate::compacting::opening::open;
 use crate::compacting::progress::{tell_installed, tell_opened, tell_removed};
-use crate::compacting::sweeping::sweep;
-use crate::compacting::tally::{installed_by, judge};
+use crate::compacting::sweeping::{find_manifest, sweep};
+use crate::compacting::tally::judge;
 use crate::faults::compact_fault::CompactFault;
 use crate::faults::writer_fault::WriterFault;
 use crate::parts::NewParts;
 use lsm_slots::Boarded;
 use lsm_state::{State, StateFault};
 use lsm_store::laws::what_was_found_is_kept;
-use lsm_store::{Invariant, NoGate, Store, WorkerEnd, run_workers};
+use lsm_store::{Invariant, NoGate, Returned, Store, run_workers_returning};
 use lsm_table::{NamedShelf, Shelf, ShelfFault};
 use lsm_text::CompactOptions;
 use std::alloc::{AllocFailed, Global};
@@ -58,42 +60,46 @@ fn run_all<N: Boarded, S: Shelf, K: Invariant, R: Threads + Wait + Sync, E: Writ
     shelves: Vec<NamedShelf<N, S>>,
     progress: bool,
     err: &mut E,
-) -> Result<Vec<WorkerEnd>, AllocFailed<Vec<NamedShelf<N, S>>>>
+) -> Result<Vec<Returned<N, S>>, AllocFailed<Vec<NamedShelf<N, S>>>>
     requires kept { IsKeptByCompaction S.honest K.keeps }
     ensures len { IfOk result (λ v. vec_len v ≡ vec_len shelves) }
-    ensures ends { IfOk result (λ v. All (IsWorkersEnd S.honest) v.items) }
+    ensures ends { IfOk result (λ v. All (λ r. IsWorkersEnd S.honest r.0) v.items) }
+    ensures returned { IfOk result (λ v.
+        AreReturned S.honest (S.refuses N.place) K.keeps shelves.items v.items) }
     ensures quiet { IsFalse progress → Keeps (E.contents err.old) (E.contents err.new) }
 {
     if progress {
         let teller = JobTeller::new(rt, err);
-        return run_workers(rt, alloc, store, shelves, &teller);
+        return run_workers_returning(rt, alloc, store, shelves, &teller);
     }
-    run_workers(rt, alloc, store, shelves, &NoGate)
+    run_workers_returning(rt, alloc, store, shelves, &NoGate)
 }
 
-/// What the workers of a store have done, one for each shelf, when none of them ends with a fault.
-#[tactic(auto, using(lsm_directory::proofs::CallerLemmas::keeps_same, crate::proofs::Quiet::quiet_then))]
+/// What the workers of a store have done, one for each of so many new forks, when none of them ends
+/// with a fault.
 fn work<N: Boarded, S: Shelf, K: Invariant, R: Threads + Wait + Sync, E: Write + Send>(
     rt: &R,
     alloc: Global,
     store: &Store<N, S, K>,
     shelves: Vec<NamedShelf<N, S>>,
-    progress: bool,
+    options: CompactOptions,
     err: &mut E,
-) -> Result<Vec<WorkerEnd>, CompactFault>
+) -> Result<Vec<Returned<N, S>>, CompactFault>
     requires kept { IsKeptByCompaction S.honest K.keeps }
-    ensures ends { IfOk result (λ v. AreEnds S.honest (vec_len shelves) v.items) }
-    ensures faultless { IfOk result (λ v. All IsFaultless v.items) }
+    requires count { vec_len shelves ≡ options.workers }
+    requires new { shelves.items ≡ replicate options.workers (fresh N.place) }
+    ensures ends { IfOk result (λ v.
+        AreEnds (S.refuses N.place) S.honest K.keeps N.place options.workers v.items) }
+    ensures faultless { IfOk result (λ v. AreFaultless v.items) }
     ensures refused { IfErr result (λ e. (e ≡ WriterVariant (of_shelf OutOfMemory))
-        ⊎ IsWorkersFault S.honest (vec_len shelves) e) }
-    ensures quiet { IsFalse progress → Keeps (E.contents err.old) (E.contents err.new) }
+        ⊎ IsWorkersFault (S.refuses N.place) S.honest K.keeps N.place options.workers e) }
+    ensures quiet { IsFalse options.progress → Keeps (E.contents err.old) (E.contents err.new) }
 {
-    let Ok(ends) = run_all(rt, alloc, store, shelves, progress, err) else {
+    let Ok(returned) = run_all(rt, alloc, store, shelves, options.progress, err) else {
         return Err(CompactFault::of_shelf(ShelfFault::OutOfMemory));
     };
-    judge(&ends)?;
-    tell_installed(installed_by(&ends), progress, err);
-    Ok(ends)
+    judge(&returned)?;
+    Ok(returned)
 }
 
 /// Lets so many workers compact a state, beside which a lock keeps a fact: the state, of which the
@@ -105,15 +111,16 @@ fn compact_state<N: Boarded, S: Shelf, K: Invariant, R: Threads + Wait + Sync, E
     shelf: &mut NamedShelf<N, S>,
     options: CompactOptions,
     err: &mut E,
-) -> Result<(State<N, S>, Vec<WorkerEnd>), CompactFault>
+) -> Result<(State<N, S>, Vec<Returned<N, S>>), CompactFault>
     requires seats { SeatsPinners state }
     requires kept { (h : Held) → IsSeated state h → K.keeps h }
     requires steps { IsKeptByCompaction S.honest K.keeps }
     ensures kept { IfOk result (λ r. ∥ K.keeps r.0 ∥₁) }
-    ensures ends { IfOk result (λ r. AreEnds S.honest options.workers r.1.items) }
-    ensures faultless { IfOk result (λ r. All IsFaultless r.1.items) }
-    ensures refused { IfErr result (λ e.
-        IsOfManning e ⊎ IsWorkersFault S.honest options.workers e) }
+    ensures ends { IfOk result (λ r.
+        AreEnds (S.refuses N.place) S.honest K.keeps N.place options.workers r.1.items) }
+    ensures faultless { IfOk result (λ r. AreFaultless r.1.items) }
+    ensures refused { IfErr result (λ e. IsOfManning e
+        ⊎ IsWorkersFault (S.refuses N.place) S.honest K.keeps N.place options.workers e) }
     ensures told { Forked shelf.old shelf.new }
     ensures quiet { IsFalse options.progress → Keeps (E.contents err.old) (E.contents err.new) }
 {
@@ -122,8 +129,8 @@ fn compact_state<N: Boarded, S: Shelf, K: Invariant, R: Threads + Wait + Sync, E
         Err(fault) => return Err(CompactFault::of_shelf(fault)),
     };
     let Compaction { store, shelves } = made;
-    let ends = work(rt, alloc, &store, shelves, options.progress, err)?;
-    Ok((store.into_state(), ends))
+    let returned = work(rt, alloc, &store, shelves, options, err)?;
+    Ok((store.into_state(), returned))
 }
 
 /// Removes what a state does not keep, and says how much where that is asked for.
@@ -149,7 +156,7 @@ fn sweep_all<N: Boarded, S: Shelf, R: Wait, E: Write>(
 }
 
 /// Writes how many results were installed, and flushes.
-fn reply<O: Write>(out: &mut O, installed: u128) -> io::Result<()>
+fn reply<O: Write>(out: &mut O, installed: u32) -> io::Result<()>
     ensures written { OnOk result
         (Appends (O.contents out.old) (O.contents out.new) (installed_text installed)) }
 {
@@ -157,8 +164,9 @@ fn reply<O: Write>(out: &mut O, installed: u128) -> io::Result<()>
     out.flush()
 }
 
-/// Opens the directory of a shelf, lets so many workers compact it, removes what nothing names any
-/// more, and writes the reply.
+/// Opens the directory of a shelf, lets so many workers compact it, reads the manifest, removes what
+/// nothing names any more, and writes the reply: how many versions became current meanwhile, one for
+/// each result.
 #[tactic(auto, using(lsm_directory::proofs::CallerLemmas::keeps_same, crate::proofs::Quiet::quiet_then))]
 fn compact_named<N: Boarded, S: Shelf, R: Threads + Wait + Sync, O: Write, E: Write + Send>(
     rt: &R,
@@ -170,10 +178,11 @@ fn compact_named<N: Boarded, S: Shelf, R: Threads + Wait + Sync, O: Write, E: Wr
     err: &mut E,
 ) -> Result<(), CompactFault>
     requires records { parts.records ≡ N.registry }
+    requires shelf { shelf.old.place ≡ N.place }
     requires board { IsNewBoard N.board usual parts.publisher parts.pinners.items }
     requires seats { vec_len parts.pinners ≡ usual.readers }
     requires history { IsNewHistory N.history parts.history }
-    ensures done { OnOk result (IsCompacted S.honest options.workers shelf.old
+    ensures done { OnOk result (IsCompacted (S.refuses N.place) S.honest options.workers shelf.old
         shelf.new (O.contents out.old) (O.contents out.new)) }
     ensures fault { IfErr result (λ e.
         IsCompactFault (Stored S.Receipt (S.is_of N.place) S.Receipt.number S.Receipt.image)
@@ -186,11 +195,15 @@ fn compact_named<N: Boarded, S: Shelf, R: Threads + Wait + Sync, O: Write, E: Wr
     let state = open(rt, alloc, shelf, parts)?;
     tell_opened(&state, options.progress, err);
     what_was_found_is_kept::<State<N, S>>();
-    let (mut left, ends) = compact_state::<N, S, Brand, R, E>(
+    let begun = state.current().0;
+    let (mut left, _returned) = compact_state::<N, S, Brand, R, E>(
         rt, alloc, state, shelf, options, err,
     )?;
+    let installed = left.current().0.saturating_sub(begun);
+    tell_installed(installed, options.progress, err);
+    find_manifest(rt, alloc, &left, shelf)?;
     sweep_all(rt, alloc, &mut left, shelf, options.progress, err)?;
-    match reply(out, installed_by(&ends)) {
+    match reply(out, installed) {
         Ok(()) => Ok(()),
         Err(_) => Err(CompactFault::Writer(WriterFault::Write)),
     }
@@ -211,8 +224,8 @@ fn compact_as<N: Boarded, S: Shelf, R: Threads + Wait + Sync, O: Write, E: Write
     requires board { IsNewBoard N.board usual parts.publisher parts.pinners.items }
     requires seats { vec_len parts.pinners ≡ usual.readers }
     requires history { IsNewHistory N.history parts.history }
-    ensures done { OnOk result.0 (IsCompacted S.honest options.workers (S.told shelf)
-        (S.told result.1) (O.contents out.old) (O.contents out.new)) }
+    ensures done { OnOk result.0 (IsCompacted (S.refuses N.place) S.honest options.workers
+        (S.told shelf) (S.told result.1) (O.contents out.old) (O.contents out.new)) }
     ensures fault { IfErr result.0 (λ e.
         IsCompactFault (Stored S.Receipt (S.is_of N.place) S.Receipt.number S.Receipt.image)
         (S.refuses N.place) S.honest options.workers e (S.told shelf) (S.told result.1)) }
@@ -236,8 +249,9 @@ pub(crate) fn compact_to<S: Shelf, R: Threads + Wait + Sync, O: Write, E: Write 
     out: &mut O,
     err: &mut E,
 ) -> (Result<(), CompactFault>, S)
-    ensures done { OnOk result.0 (IsCompacted S.honest options.workers (S.told shelf)
-        (S.told result.1) (O.contents out.old) (O.contents out.new)) }
+    ensures done { OnOk result.0 (IsCompacted (S.refuses (S.told shelf).place) S.honest
+        options.workers (S.told shelf) (S.told result.1) (O.contents out.old)
+        (O.contents out.new)) }
     ensures fault { IfErr result.0 (λ e. IsCompactFault (Stored S.Receipt
         (S.is_of (S.told shelf).place) S.Receipt.number S.Receipt.image)
         (S.refuses (S.told shelf).place) S.honest options.workers e

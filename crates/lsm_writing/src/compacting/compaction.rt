@@ -1,7 +1,7 @@
 //! The store, and the shelves of its workers.
 
-ghost use Rattle.std.specs.Prelude.{◌≡◌, IfErr, IfOk, vec_len};
-ghost use Rattle.lsm_shelf.specs.Told.{Forked, NotNamed};
+ghost use Rattle.std.specs.Prelude.{◌≡◌, IfErr, IfOk, replicate, vec_len};
+ghost use Rattle.lsm_shelf.specs.Told.{Forked, NotNamed, fresh};
 ghost use Rattle.lsm_state.specs.Held.{Held};
 ghost use Rattle.lsm_store.specs.Compacting.{IsSeated};
 ghost use Rattle.lsm_store.specs.Readers.{SeatsPinners};
@@ -20,6 +20,7 @@ fn forks<N: Boarded, S: Shelf>(
     count: usize,
 ) -> Result<Vec<NamedShelf<N, S>>, ShelfFault>
     ensures count { IfOk result (λ v. vec_len v ≡ count) }
+    ensures new { IfOk result (λ v. v.items ≡ replicate count (fresh N.place)) }
     ensures told { Forked shelf.old shelf.new }
     ensures cause { IfErr result NotNamed }
 {
@@ -50,6 +51,7 @@ impl<N: Boarded, S: Shelf, K: Invariant> Compaction<N, S, K> {
         requires seats { SeatsPinners state }
         requires kept { (h : Held) → IsSeated state h → K.keeps h }
         ensures count { IfOk result (λ c. vec_len c.shelves ≡ workers) }
+        ensures new { IfOk result (λ c. c.shelves.items ≡ replicate workers (fresh N.place)) }
         ensures told { Forked shelf.old shelf.new }
         ensures cause { IfErr result NotNamed }
     {

@@ -41,8 +41,9 @@ pub fn compact<S: Shelf, R: Threads + Wait + Sync, O: Write, E: Write + Send>(
     out: &mut O,
     err: &mut E,
 ) -> (u8, S)
-    ensures done { result.0 ≡ 0 → IsCompacted S.honest options.workers (S.told shelf)
-        (S.told result.1) (O.contents out.old) (O.contents out.new) }
+    ensures done { result.0 ≡ 0 → IsCompacted (S.refuses (S.told shelf).place) S.honest
+        options.workers (S.told shelf) (S.told result.1) (O.contents out.old)
+        (O.contents out.new) }
     ensures refused { result.0 ≢ 0 → (result.0 ≡ 1) × ((fault : CompactFault)
         × IsNotCompacted (Stored S.Receipt (S.is_of (S.told shelf).place) S.Receipt.number
         S.Receipt.image) (S.refuses (S.told shelf).place) S.honest options.workers fault

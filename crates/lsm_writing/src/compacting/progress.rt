@@ -42,7 +42,7 @@ pub(crate) fn write_job<E: Write>(err: &mut E, worker: usize, ticket: u64) -> io
 }
 
 /// Writes a line: `installed 4 results`.
-fn write_installed<E: Write>(err: &mut E, results: u128) -> io::Result<()> {
+fn write_installed<E: Write>(err: &mut E, results: u32) -> io::Result<()> {
     writeln!(err, "installed {results} results")
 }
 
@@ -71,7 +71,7 @@ pub(crate) fn tell_opened<N: Boarded, S: Shelf, E: Write>(
 /// Says how many results workers have installed, where that is asked for. What can't be written is
 /// left out.
 #[tactic(auto, using(lsm_directory::proofs::CallerLemmas::keeps_same))]
-pub(crate) fn tell_installed<E: Write>(results: u128, asked: bool, err: &mut E)
+pub(crate) fn tell_installed<E: Write>(results: u32, asked: bool, err: &mut E)
     ensures quiet { IsFalse asked → Keeps (E.contents err.old) (E.contents err.new) }
 {
     if asked {

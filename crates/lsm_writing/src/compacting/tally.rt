@@ -1,37 +1,28 @@
 //! What workers have done, all together.
 
-ghost use Rattle.std.specs.Prelude.{◌≡◌, All, IfErr, OnOk};
-ghost use Rattle.lsm_writing.specs.Compacting.{IsFaultless, IsFirstFault, installed_by};
+ghost use Rattle.std.specs.Prelude.{◌≡◌, IfErr, OnOk};
+ghost use Rattle.lsm_writing.specs.Compacting.{AreFaultless, IsFirstFault};
 
-use lsm_store::{WorkerEnd, WorkerFault};
+use lsm_slots::Boarded;
+use lsm_store::{Returned, WorkerFault};
+use lsm_table::Shelf;
 
 /// The fault of a worker, if it has one.
-fn fault_of(end: &WorkerEnd) -> Option<WorkerFault>
-    ensures { result ≡ end.now.fault }
+fn fault_of<N: Boarded, S: Shelf>(returned: &Returned<N, S>) -> Option<WorkerFault>
+    ensures { result ≡ returned.now.0.fault }
 {
-    end.fault
+    returned.0.fault
 }
 
 /// Ok where no worker has a fault; else the fault of the first one that has one.
-pub(crate) fn judge(ends: &[WorkerEnd]) -> Result<(), WorkerFault>
-    ensures faultless { OnOk result (All IsFaultless ends.now) }
-    ensures first { IfErr result (λ fault. IsFirstFault fault ends.now) }
+pub(crate) fn judge<N: Boarded, S: Shelf>(returned: &[Returned<N, S>]) -> Result<(), WorkerFault>
+    ensures faultless { OnOk result (AreFaultless returned.now) }
+    ensures first { IfErr result (λ fault. IsFirstFault fault returned.now) }
 {
-    for end in ends {
-        if let Some(fault) = fault_of(end) {
+    for one in returned {
+        if let Some(fault) = fault_of(one) {
             return Err(fault);
         }
     }
     Ok(())
-}
-
-/// How many results workers installed.
-pub(crate) fn installed_by(ends: &[WorkerEnd]) -> u128
-    ensures { result ≡ installed_by ends.now }
-{
-    let mut installed = 0u128;
-    for end in ends {
-        installed += u128::from(end.installed);
-    }
-    installed
 }

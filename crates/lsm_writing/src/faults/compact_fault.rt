@@ -9,7 +9,7 @@ ghost use Rattle.lsm_writing.specs.CompactFault.{fault_text, table_file_of, tabl
 ghost use Rattle.lsm_writing.specs.declared.faults.compact_fault.CompactFault.TheVariants.{Writer as WriterVariant};
 ghost use Rattle.lsm_writing.specs.declared.faults.compact_fault.CompactFault.TheVariants.{Worker as WorkerVariant};
 
-use crate::faults::writer_fault::{WriterFault, explain_state};
+use crate::faults::writer_fault::{WriterFault, explain_state, missing};
 use lsm_batch::Write as KeyWrite;
 use lsm_directory::{DirectoryFault, Exit};
 use lsm_merge::MergeFault;
@@ -29,6 +29,8 @@ pub enum CompactFault {
     Writer(WriterFault),
     /// A worker ended early.
     Worker(WorkerFault),
+    /// The directory names another manifest than the one that the database has written.
+    OtherManifest,
 }
 
 impl CompactFault {
@@ -46,6 +48,7 @@ impl fmt::Display for CompactFault {
     fn fmt<W: fmt::Write>(&self, f: &mut fmt::Formatter<W>) -> fmt::Result {
         let fault = match self {
             CompactFault::Writer(fault) => return write!(f, "{fault}"),
+            CompactFault::OtherManifest => return write!(f, "{}", missing()),
             CompactFault::Worker(WorkerFault::NoThread) => {
                 return write!(f, "{}", WriterFault::OutOfMemory);
             }
@@ -81,7 +84,8 @@ impl Exit for CompactFault {
         match self {
             CompactFault::Writer(fault) => fault.table_file(),
             CompactFault::Worker(WorkerFault::Merge(fault)) => table_of_merge(*fault),
-            CompactFault::Worker(WorkerFault::NoThread | WorkerFault::State(_)) => None,
+            CompactFault::Worker(WorkerFault::NoThread | WorkerFault::State(_))
+            | CompactFault::OtherManifest => None,
         }
     }
 
@@ -89,6 +93,7 @@ impl Exit for CompactFault {
         match self {
             CompactFault::Writer(fault) => fault.refusal(),
             CompactFault::Worker(WorkerFault::NoThread) => None,
+            CompactFault::OtherManifest => Some(10),
             CompactFault::Worker(WorkerFault::State(fault)) => Some(u64::from(fault.number())),
             CompactFault::Worker(WorkerFault::Merge(fault)) => cause_of_merge(*fault),
         }
@@ -98,6 +103,10 @@ impl Exit for CompactFault {
         match self {
             CompactFault::Writer(fault) => fault.explain(err, writes),
             CompactFault::Worker(WorkerFault::State(fault)) => explain_state(err, *fault, writes),
+            CompactFault::OtherManifest => writeln!(
+                err,
+                "another program has written the manifest meanwhile: no table was removed"
+            ),
             CompactFault::Worker(WorkerFault::NoThread | WorkerFault::Merge(_)) => Ok(()),
         }
     }

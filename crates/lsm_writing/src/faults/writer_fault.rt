@@ -59,7 +59,7 @@ impl WriterFault {
 }
 
 /// The refusal `10 Missing`.
-fn missing() -> Refusal
+pub(crate) fn missing() -> Refusal
     ensures { refusal_text result.number result.name.now result.field
         ≡ refusal_text 10 (codes "Missing") None }
 {

@@ -5,17 +5,19 @@ use Rattle.lsm_reading.proofs.performing.perform.Goals as goal
 
 pub returns-clause-done : goal.returns-clause-done
 returns-clause-done g c =
-    is_done c.perform_on.result c.args.inquiry.now.form c.args.inquiry.now.command.now c.args.inquiry.now.files.now c.args.inquiry.now.progress g.S.Shelf.honest _ _ _ _ _ _ _ _ _ _ _ _ _ c.perform_on.ensures.told
-    c.in_ok-opened.ensures.opened c.perform_on.ensures.done (λ asked. c.open_told.ensures.quiet (c.tells_files-progress.ensures asked)) c.tell_notes.ensures.quiet c.perform_on.ensures.quiet
+    let Stored : ℕ → List ℕ → Type 0 = λ number image. (r : g.row.S-Receipt.Denot) × g.S.Shelf.is_of g.N.Naming.place r × (g.S.Receipt.TableReceipt.number r ≡ number) × (g.S.Receipt.TableReceipt.image r ≡ image) in
+    is_done c.perform_on.result c.args.inquiry.now.form c.args.inquiry.now.command.now c.args.inquiry.now.files.now c.args.inquiry.now.progress Stored g.S.Shelf.honest _ _ _ _ _ _ _ _ _ _ _ _ _ c.perform_on.ensures.told
+    c.in_ok-opened.ensures.opened c.in_ok-opened.ensures.given c.perform_on.ensures.done (λ asked. c.open_told.ensures.quiet (c.tells_files-progress.ensures asked)) c.tell_notes.ensures.quiet c.perform_on.ensures.quiet
 
 pub returns-clause-fault : goal.returns-clause-fault
 returns-clause-fault g c =
     let Stored : ℕ → List ℕ → Type 0 = λ number image. (r : g.row.S-Receipt.Denot) × g.S.Shelf.is_of g.N.Naming.place r × (g.S.Receipt.TableReceipt.number r ≡ number) × (g.S.Receipt.TableReceipt.image r ≡ image) in
-    is_fault Stored (g.S.Shelf.refuses g.N.Naming.place) g.S.Shelf.honest c.perform_on.result c.args.inquiry.now.command.now _ _ _ _ _ _ _ c.perform_on.ensures.told c.in_ok-opened.ensures.opened c.perform_on.ensures.fault
+    is_fault Stored (g.S.Shelf.refuses g.N.Naming.place) g.S.Shelf.honest c.perform_on.result c.args.inquiry.now.command.now _ _ _ _ _ _ _ c.perform_on.ensures.told c.in_ok-opened.ensures.opened c.in_ok-opened.ensures.given c.perform_on.ensures.fault
 
 pub returns-clause-left : goal.returns-clause-left
 returns-clause-left g c =
-    is_left c.perform_on.result c.args.inquiry.now.form c.args.inquiry.now.command.now g.S.Shelf.honest _ _ _ _ _ _ _ _ _ c.perform_on.ensures.told c.in_ok-opened.ensures.opened c.perform_on.ensures.fault
+    let Stored : ℕ → List ℕ → Type 0 = λ number image. (r : g.row.S-Receipt.Denot) × g.S.Shelf.is_of g.N.Naming.place r × (g.S.Receipt.TableReceipt.number r ≡ number) × (g.S.Receipt.TableReceipt.image r ≡ image) in
+    is_left c.perform_on.result c.args.inquiry.now.form c.args.inquiry.now.command.now Stored g.S.Shelf.honest _ _ _ _ _ _ _ _ _ c.perform_on.ensures.told c.in_ok-opened.ensures.opened c.in_ok-opened.ensures.given c.perform_on.ensures.fault
     c.perform_on.ensures.left
 
 pub returns-in_err-opened-clause-fault : goal.returns-in_err-opened-clause-fault

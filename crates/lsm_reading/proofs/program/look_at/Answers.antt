@@ -7,7 +7,7 @@ use Rattle.lsm_reading.proofs.program.look_at.Goals as goal
 
 pub returns-clause-done : goal.returns-clause-done
 returns-clause-done g c =
-    looks_at g.C.FolderCalls c.begin-done.result.0 c.args.line.now c.deref.result.now c.in_ok-shelf.shelf c.begin-done.result.1 _ _ _ _
+    looks_at g.C.FolderCalls g.C.Mark.Mark c.begin-done.result.0 c.args.line.now c.deref.result.now c.in_ok-shelf.shelf c.begin-done.result.1 _ _ _ _
     (subst (λ (files : List FolderFile). IsShelfAt g.C.FolderCalls c.args.line.now.path.now (TellsBeside files) c.in_ok-shelf.shelf) (sym c.deref.ensures.value) c.in_ok-shelf.ensures.found)
     c.begin-done.ensures.done c.begin-done.ensures.reads
 
