@@ -1,10 +1,9 @@
-use Rattle.std.proofs.Common.{◌≡◌, ℕ, ◌-◌, ◌⊎◌, List, inl, inr, refl, sym, ap, ◌∙◌, subst, rules}
+use Rattle.std.proofs.Common.{◌≡◌, ℕ, ◌-◌, ◌⊎◌, List, inl, inr, refl, sym, subst, rules}
 use Rattle.std.specs.Io.KnownBytes.{Appends}
 use Rattle.std.proofs.lemmas.Result.{err_from_is_err_and}
 use Rattle.lsm_directory.proofs.CallerLemmas.{keeps_same}
 use Rattle.lsm_shelf.specs.Told.{Place}
 use Rattle.lsm_slots.specs.Slots.{current_id}
-use Rattle.lsm_state.specs.Held.{Held}
 use Rattle.lsm_store.specs.Compacting.{IsLeftByWorkers}
 use Rattle.lsm_writing.specs.Compacting.{AreEnds, IsNamed, IsOfManning, IsOpened, IsWorkersFault, installed_between, installed_text}
 use Rattle.lsm_writing.proofs.CompactOutcomes.{compacts, named_still, opens, unfinished, unswept}
@@ -92,7 +91,7 @@ returns-clause-fault g c =
       (
         c.saturating_sub-installed.result,
         compacts Refused Honest g.N.Boarded.board found after c.args.options.workers _ returned _ _ _ _ opened ends c.in_ok-left.ensures.faultless left count named
-        c.in_ok-sweep_all.ensures.ok,
+            c.in_ok-sweep_all.ensures.ok,
       ),
     ))))
 
@@ -116,7 +115,7 @@ returns-in-Ok-clause-done g c =
     let written : Appends (g.O.Write.contents c.args.out.now) (g.O.Write.contents c.reply.new.out) (installed_text c.saturating_sub-installed.result) = search rules in (
       c.saturating_sub-installed.result,
       compacts Refused Honest g.N.Boarded.board found after c.args.options.workers _ returned _ _ _ _ opened ends c.in_ok-left.ensures.faultless left count named
-      c.in_ok-sweep_all.ensures.ok,
+          c.in_ok-sweep_all.ensures.ok,
       written,
     )
 

@@ -1,5 +1,5 @@
-use Rattle.std.proofs.Common.{◌+◌, ◌++◌, ◌∷◌, [], List, ap, ◌∙◌}
-use Rattle.lsm_shelf.specs.Told.{Told, fresh}
+use Rattle.std.proofs.Common.{◌+◌, ap, ◌∙◌}
+use Rattle.lsm_shelf.specs.Told.{fresh}
 use Rattle.lsm_shelf.proofs.CallerLemmas.{forked_once, forked_then}
 use Rattle.lsm_writing.proofs.Forks.{one_more}
 use Rattle.lsm_writing.proofs.compacting.compaction.forks.Goals as goal
