@@ -14,7 +14,7 @@ use Rattle.lsm_journal.specs.HeldManifest.{HeldManifest}
 use Rattle.lsm_state.specs.Held.{Held}
 use Rattle.lsm_store.specs.Compacting.{IsLeftByWorkers}
 use Rattle.lsm_store.specs.declared.worker_end.WorkerEnd.{WorkerEnd}
-use Rattle.lsm_writing.specs.Starting.{IsReopened}
+use Rattle.lsm_writing.specs.Starting.{IsReopenedBy}
 use Rattle.lsm_writing.specs.declared.faults.writer_fault.WriterFault.TheVariants.{Write as WriteFault}
 use Rattle.lsm_writing.specs.Compacting.{AreEnds, AreFaultless, Compacts, IsCompactFault, IsNamed, IsOfManning, IsOpened, IsNotCompacted, IsSwept, IsWorkersFault, LeavesAll, StopsSweeping, installed_between}
 use Rattle.lsm_writing.specs.declared.faults.compact_fault.CompactFault.{CompactFault}
@@ -39,7 +39,7 @@ leaves Honest found left l = record {
   shows = λ h k. ap (λ (q : ℕ). answer (all_entries (files left.slots.version)) k q) l.as_found.last ∙ l.as_found.answers h k found.slots.version.last (inl refl);
 }
 
-pub opens : (Honest : Type 0) (board : TableId) (found : Held) (was mid is : Told) → IsReopened Honest found was mid → found.slots.board.board ≡ board → Forked mid is → IsOpened Honest board found was is
+pub opens : (Honest : Type 0) (board : TableId) (found : Held) (was mid is : Told) → IsReopenedBy Honest found was mid → found.slots.board.board ≡ board → Forked mid is → IsOpened Honest board found was is
 opens Honest board found was mid is opened on forked = record { mid = mid; opened = opened; on = on; forked = forked }
 
 -- no worker began, or one of them has a fault

@@ -25,7 +25,7 @@ use Rattle.lsm_store.specs.declared.worker_end.WorkerEnd.{WorkerEnd}
 use Rattle.lsm_store.specs.declared.worker_fault.WorkerFault.{WorkerFault}
 use Rattle.lsm_directory.specs.Holding.{IsUnheld}
 use Rattle.lsm_directory.specs.declared.faults.directory_fault.DirectoryFault.{DirectoryFault}
-use Rattle.lsm_writing.specs.Starting.{IsReopened, usual}
+use Rattle.lsm_writing.specs.Starting.{IsReopenedBy, usual}
 use Rattle.lsm_writing.specs.WriterFault.{of_open, of_shelf}
 use Rattle.lsm_writing.specs.declared.faults.writer_fault.WriterFault.TheVariants.{OutOfMemory, Write as WriteFault, Directory, State}
 use Rattle.lsm_writing.specs.declared.faults.compact_fault.CompactFault.{CompactFault}
@@ -81,7 +81,7 @@ pub record LeavesAll (Honest : Type 0) (found left : Held) : Type 0 where
 -- The directory was opened as this state, which has this board; after that the shelf was asked for forks alone.
 pub record IsOpened (Honest : Type 0) (board : TableId) (found : Held) (was is : Told) : Type 0 where
   pub mid : Told
-  pub opened : IsReopened Honest found was mid
+  pub opened : IsReopenedBy Honest found was mid
   pub on : found.slots.board.board ≡ board
   pub forked : Forked mid is
 
@@ -131,10 +131,10 @@ NoLock calls e = (fault : DirectoryFault) × (after : List Call) × (e ≡ Write
 abbrev pub IsOutOfMemory : CompactFault → Told → Told → Type 0
 IsOutOfMemory e was is = (e ≡ Writer OutOfMemory) × (is ≡ was)
 
--- The directory was not opened.
+-- Forks were asked for, and the directory was not opened.
 abbrev pub IsUnopened : (ℕ → List ℕ → Type 0) → (Asked → ShelfFault → Type 0) → Type 0 → CompactFault → Told → Told → Type 0
-IsUnopened Stored Refused Honest e was is = (fault : OpenFault) × (e ≡ Writer (of_open fault))
-    × IsOpenRefusal Stored Refused Honest usual.manifest_limit fault was is × IsReadOnce fault was is
+IsUnopened Stored Refused Honest e was is = (fault : OpenFault) × (begun : Told) × (e ≡ Writer (of_open fault)) × Forked was begun
+    × IsOpenRefusal Stored Refused Honest usual.manifest_limit fault begun is × IsReadOnce fault begun is
 
 -- Memory ran out before a worker began, or a shelf failed to fork.
 abbrev pub IsOfManning : CompactFault → Type 0

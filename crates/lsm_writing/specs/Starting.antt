@@ -3,7 +3,7 @@ use Rattle.std.specs.Prelude.{◌≡◌, ℕ, ◌-◌, ◌^◌, ◌⊎◌, false
 use Rattle.lsm_pins.specs.Known.{Known}
 use Rattle.lsm_shelf.specs.Asked.{Asked}
 use Rattle.lsm_shelf.specs.declared.shelf_fault.ShelfFault.{ShelfFault}
-use Rattle.lsm_shelf.specs.Told.{Told, Becomes, Rose, finding, sending}
+use Rattle.lsm_shelf.specs.Told.{Told, Becomes, Forked, Rose, finding, sending}
 use Rattle.lsm_manifest.specs.Shape.{Form}
 use Rattle.lsm_journal.specs.HeldManifest.{HeldManifest}
 use Rattle.lsm_journal.specs.Recovering.{IsRecovered, IsRecoverRefusal, RecoverCounted}
@@ -41,6 +41,12 @@ pub record IsReopened (Honest : Type 0) (h : Held) (was is : Told) : Type 0 wher
   pub pinners : List Known
   pub state : h ≡ opened_state usual publisher pinners h.slots.version h.journal h.next false
   pub begun : IsBegun Honest usual.manifest_limit h.journal h.slots.version h.next was is
+
+-- Forks were asked for, by which threads read and judge tables; then it was opened so.
+pub record IsReopenedBy (Honest : Type 0) (h : Held) (was is : Told) : Type 0 where
+  pub begun : Told
+  pub forked : Forked was begun
+  pub opened : IsReopened Honest h begun is
 
 -- ---- logs beside the database
 

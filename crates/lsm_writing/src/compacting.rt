@@ -192,7 +192,7 @@ fn compact_named<N: Boarded, S: Shelf, R: Threads + Wait + Sync, O: Write, E: Wr
     ensures quiet { IsFalse options.progress → Keeps (E.contents err.old) (E.contents err.new) }
 {
     let parts = parts.named(alloc)?;
-    let state = open(rt, alloc, shelf, parts)?;
+    let state = open(rt, alloc, shelf, parts, options.workers)?;
     tell_opened(&state, options.progress, err);
     what_was_found_is_kept::<State<N, S>>();
     let begun = state.current().0;

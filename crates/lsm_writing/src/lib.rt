@@ -12,7 +12,8 @@ mod cleaning;
 mod compacting;
 mod ingesting;
 
-// What they share: names that lead to a database, what a state is made with.
+// What they share: names that lead to a database, what a state is made with, forks of a shelf.
+mod forking;
 mod names;
 mod parts;
 

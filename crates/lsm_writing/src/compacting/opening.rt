@@ -7,12 +7,13 @@ ghost use Rattle.lsm_storage.specs.FileShelf.{file_told, folder_of};
 ghost use Rattle.lsm_shelf.specs.Told.{fresh};
 ghost use Rattle.lsm_state.specs.Making.{IsNewBoard, IsNewHistory};
 ghost use Rattle.lsm_store.specs.Readers.{SeatsPinners};
-ghost use Rattle.lsm_writing.specs.Starting.{IsReopened, usual};
+ghost use Rattle.lsm_writing.specs.Starting.{IsReopenedBy, usual};
 ghost use Rattle.lsm_directory.specs.Holding.{IsHeld};
 ghost use Rattle.lsm_writing.specs.Compacting.{IsUnopened, NoLock};
 
 use crate::faults::compact_fault::CompactFault;
 use crate::faults::writer_fault::WriterFault;
+use crate::forking::forks_up_to;
 use crate::parts::Parts;
 use lsm_directory::hold;
 use lsm_folder::{FolderCalls, LockKind};
@@ -23,6 +24,7 @@ use lsm_store::laws::made_states_seat_their_pinners;
 use lsm_table::{NamedShelf, Shelf};
 use std::alloc::Global;
 use std::sync::Wait;
+use std::thread::Threads;
 
 /// A shelf on a folder of which the lock is held, exclusively.
 ///
@@ -39,18 +41,20 @@ pub fn held_shelf<C: FolderCalls, R: Wait>(rt: &R, folder: C) -> Result<FileShel
     }
 }
 
-/// The state of the database that is on the shelf, with the usual options.
-pub(crate) fn open<N: Boarded, S: Shelf, R: Wait>(
+/// The state of the database that is on the shelf, with the usual options. So many threads, or as
+/// many as the shelf forks for, read and judge its tables.
+pub(crate) fn open<N: Boarded, S: Shelf, R: Threads + Wait + Sync>(
     rt: &R,
     alloc: Global,
     shelf: &mut NamedShelf<N, S>,
     parts: Parts<N, S>,
+    threads: usize,
 ) -> Result<State<N, S>, CompactFault>
     requires board { IsNewBoard N.board usual parts.publisher parts.pinners.items }
     requires seats { vec_len parts.pinners ≡ usual.readers }
     requires history { IsNewHistory N.history parts.history }
     ensures opened { IfOk result (λ s.
-        IsReopened S.honest s shelf.old shelf.new) }
+        IsReopenedBy S.honest s shelf.old shelf.new) }
     ensures board { IfOk result (λ s. s.slots.board.board ≡ N.board) }
     ensures seats { IfOk result (λ s. SeatsPinners s) }
     ensures refused { IfErr result (λ e.
@@ -60,7 +64,8 @@ pub(crate) fn open<N: Boarded, S: Shelf, R: Wait>(
     made_states_seat_their_pinners();
     let options = Options::usual();
     let board = (parts.publisher, parts.pinners);
-    match State::open(
+    let shelves = forks_up_to(alloc, shelf, threads);
+    match State::open_by(
         rt,
         alloc,
         shelf,
@@ -68,6 +73,7 @@ pub(crate) fn open<N: Boarded, S: Shelf, R: Wait>(
         parts.registry,
         board,
         parts.history,
+        shelves,
     ) {
         Ok(state) => {
             // The law of the state is told by this call.
