@@ -15,8 +15,6 @@ use Rattle.lsm_slots.specs.Slots.{current_id}
 use Rattle.lsm_state.specs.Asked.{CollectRefused, OnShelf}
 use Rattle.lsm_state.specs.Collecting.{AreCollected, IsCollectRefusal, IsCountedOnce, SameCounts}
 use Rattle.lsm_state.specs.Held.{Held, IsLawfulState}
-use Rattle.lsm_state.specs.Opening.{IsOpenRefusal, IsReadOnce}
-use Rattle.lsm_journal.specs.declared.open_fault.OpenFault.{OpenFault}
 use Rattle.lsm_state.specs.declared.state_fault.StateFault.{StateFault}
 use Rattle.lsm_store.specs.Compacting.{IsLeftByWorkers}
 use Rattle.lsm_store.specs.Workers.{IsWorkersEnd}
@@ -25,8 +23,9 @@ use Rattle.lsm_store.specs.declared.worker_end.WorkerEnd.{WorkerEnd}
 use Rattle.lsm_store.specs.declared.worker_fault.WorkerFault.{WorkerFault}
 use Rattle.lsm_directory.specs.Holding.{IsUnheld}
 use Rattle.lsm_directory.specs.declared.faults.directory_fault.DirectoryFault.{DirectoryFault}
-use Rattle.lsm_writing.specs.Starting.{IsReopenedBy, usual}
-use Rattle.lsm_writing.specs.WriterFault.{of_open, of_shelf}
+use Rattle.lsm_writing.specs.Starting.{IsNotReopened, IsReopenedBy}
+use Rattle.lsm_writing.specs.WriterFault.{of_shelf}
+use Rattle.lsm_writing.specs.declared.faults.writer_fault.WriterFault.{WriterFault}
 use Rattle.lsm_writing.specs.declared.faults.writer_fault.WriterFault.TheVariants.{OutOfMemory, Write as WriteFault, Directory, State}
 use Rattle.lsm_writing.specs.declared.faults.compact_fault.CompactFault.{CompactFault}
 use Rattle.lsm_writing.specs.declared.faults.compact_fault.CompactFault.TheVariants.{Writer, Worker, OtherManifest}
@@ -131,10 +130,9 @@ NoLock calls e = (fault : DirectoryFault) × (after : List Call) × (e ≡ Write
 abbrev pub IsOutOfMemory : CompactFault → Told → Told → Type 0
 IsOutOfMemory e was is = (e ≡ Writer OutOfMemory) × (is ≡ was)
 
--- Forks were asked for, and the directory was not opened.
+-- The directory was not opened.
 abbrev pub IsUnopened : (ℕ → List ℕ → Type 0) → (Asked → ShelfFault → Type 0) → Type 0 → CompactFault → Told → Told → Type 0
-IsUnopened Stored Refused Honest e was is = (fault : OpenFault) × (begun : Told) × (e ≡ Writer (of_open fault)) × Forked was begun
-    × IsOpenRefusal Stored Refused Honest usual.manifest_limit fault begun is × IsReadOnce fault begun is
+IsUnopened Stored Refused Honest e was is = (fault : WriterFault) × (e ≡ Writer fault) × IsNotReopened Stored Refused Honest fault was is
 
 -- Memory ran out before a worker began, or a shelf failed to fork.
 abbrev pub IsOfManning : CompactFault → Type 0

@@ -73,7 +73,7 @@ IsUnflushed Refused logs e was is =
 
 -- The database that was there was opened, beside logs that are flushed.
 abbrev pub OpensBeside : Type 0 → List FolderFile → Held → Told → Told → Type 0
-OpensBeside Honest logs h was is = (mid : Told) × IsFlushed logs was mid × IsReopened Honest h mid is
+OpensBeside Honest logs h was is = (mid : Told) × IsFlushed logs was mid × IsReopenedBy Honest h mid is
 
 -- It was opened so, or one was begun beside no log but empty ones: LevelDB would read each.
 abbrev pub IsStarted : Type 0 → Start → List FolderFile → Held → Told → Told → Type 0
@@ -92,9 +92,10 @@ abbrev pub IsUnbegun : ℕ → List FolderFile → (Asked → ShelfFault → Typ
 IsUnbegun number logs Refused e was is =
     ((n : ℕ) × (e ≡ UnflushedLog n) × IsFirstUnread 0 0 logs n × (is ≡ was)) ⊎ IsUncreated number Refused e was is
 
--- Why the database that is there was not opened.
+-- Why the database that is there was not opened, behind forks that were asked for.
 abbrev pub IsNotReopened : (ℕ → List ℕ → Type 0) → (Asked → ShelfFault → Type 0) → Type 0 → WriterFault → Told → Told → Type 0
-IsNotReopened Stored Refused Honest e was is = (fault : OpenFault) × (e ≡ of_open fault) × IsOpenRefusal Stored Refused Honest usual.manifest_limit fault was is × IsReadOnce fault was is
+IsNotReopened Stored Refused Honest e was is = (fault : OpenFault) × (begun : Told) × (e ≡ of_open fault) × Forked was begun
+    × IsOpenRefusal Stored Refused Honest usual.manifest_limit fault begun is × IsReadOnce fault begun is
 
 -- Why it was not, with what the logs beside it may have to do with that.
 abbrev pub IsNotOpened : (ℕ → List ℕ → Type 0) → (Asked → ShelfFault → Type 0) → Type 0 → List FolderFile → WriterFault → Told → Told → Type 0

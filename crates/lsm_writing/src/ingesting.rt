@@ -16,8 +16,9 @@ ghost use Rattle.lsm_writing.specs.Starting.{usual};
 ghost use Rattle.lsm_writing.specs.declared.faults.writer_fault.WriterFault.TheVariants.{Write as WriteFault};
 
 use crate::faults::writer_fault::WriterFault;
+use crate::forking::judging_threads;
 use crate::ingesting::start::Prepared;
-use crate::ingesting::starting::start;
+use crate::ingesting::starting::start_by;
 use crate::parts::NewParts;
 use lsm_batch::Batch;
 use lsm_slots::Boarded;
@@ -27,6 +28,7 @@ use std::alloc::Global;
 use std::io::{self, Write};
 use std::marker::Brand;
 use std::sync::Wait;
+use std::thread::Threads;
 
 /// Writes the reply, and flushes.
 fn reply<O: Write>(out: &mut O, ingested: Ingested) -> io::Result<()>
@@ -39,7 +41,7 @@ fn reply<O: Write>(out: &mut O, ingested: Ingested) -> io::Result<()>
 }
 
 /// Begins or opens the directory of a shelf, brings a batch in, and writes the reply.
-fn bring_in_named<N: Boarded, S: Shelf, R: Wait, O: Write>(
+fn bring_in_named<N: Boarded, S: Shelf, R: Threads + Wait + Sync, O: Write>(
     rt: &R,
     alloc: Global,
     shelf: &mut NamedShelf<N, S>,
@@ -61,7 +63,8 @@ fn bring_in_named<N: Boarded, S: Shelf, R: Wait, O: Write>(
         → Keeps (O.contents out.old) (O.contents out.new)) }
 {
     let parts = parts.named(alloc)?;
-    let mut state: State<N, S> = start(rt, alloc, shelf, prepared, parts)?;
+    let threads = judging_threads(rt);
+    let mut state: State<N, S> = start_by(rt, alloc, shelf, prepared, parts, threads)?;
     let ingested = state.ingest(rt, alloc, shelf, batch)?;
     match reply(out, ingested) {
         Ok(()) => Ok(()),
@@ -70,7 +73,7 @@ fn bring_in_named<N: Boarded, S: Shelf, R: Wait, O: Write>(
 }
 
 /// The same under the name that was picked for the parts and the shelf, which is given back.
-fn bring_in_as<N: Boarded, S: Shelf, R: Wait, O: Write>(
+fn bring_in_as<N: Boarded, S: Shelf, R: Threads + Wait + Sync, O: Write>(
     rt: &R,
     alloc: Global,
     shelf: S,
@@ -99,7 +102,7 @@ fn bring_in_as<N: Boarded, S: Shelf, R: Wait, O: Write>(
 
 /// Begins a database on the shelf, or opens the one that is there, brings a batch in, and writes
 /// `file N first F last L`. The shelf is given back.
-pub(crate) fn bring_in<S: Shelf, R: Wait, O: Write>(
+pub(crate) fn bring_in<S: Shelf, R: Threads + Wait + Sync, O: Write>(
     rt: &R,
     alloc: Global,
     shelf: S,

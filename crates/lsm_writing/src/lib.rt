@@ -29,5 +29,5 @@ pub use ingesting::batch_input::read_batch;
 pub use ingesting::preparing::prepare;
 pub use ingesting::program::{ingest, run_ingest, run_write};
 pub use ingesting::start::{Prepared, Start};
-pub use ingesting::starting::start;
+pub use ingesting::starting::{start, start_by};
 pub use parts::{NewParts, Parts};

@@ -23,6 +23,7 @@ use lsm_text::{IngestOptions, Input};
 use std::alloc::Global;
 use std::io::{Read, Write};
 use std::sync::Wait;
+use std::thread::Threads;
 
 /// Begins a database on the shelf, or opens the one that is there, as `prepare` found it, brings a
 /// batch in, writes `file N first F last L`, and answers the exit status: 0 where it is done, and 1
@@ -31,7 +32,7 @@ use std::sync::Wait;
 ///
 /// Neither is done beside a log that LevelDB would read when it opens the folder, if logs were
 /// looked at: `UnflushedLog` with the number of the first one. The shelf is given back.
-pub fn ingest<S: Shelf, R: Wait, O: Write, E: Write>(
+pub fn ingest<S: Shelf, R: Threads + Wait + Sync, O: Write, E: Write>(
     rt: &R,
     alloc: Global,
     shelf: S,
@@ -59,7 +60,7 @@ pub fn ingest<S: Shelf, R: Wait, O: Write, E: Write>(
 }
 
 /// Brings a batch into the folder at a path.
-fn ingest_at<C: FolderCalls + Send + Sync, P: Paths<C>, R: Wait, O: Write>(
+fn ingest_at<C: FolderCalls + Send + Sync, P: Paths<C>, R: Threads + Wait + Sync, O: Write>(
     rt: &R,
     paths: &P,
     path: &str,
@@ -97,7 +98,7 @@ where
     C: FolderCalls + Send + Sync,
     C::Mark: Send + Sync,
     P: Paths<C>,
-    R: Wait,
+    R: Threads + Wait + Sync,
     O: Write,
     E: Write,
     ensures done { result ≡ 0 → ComesInAt C.FolderCalls path.now options (write.now ∷ [])
@@ -137,7 +138,7 @@ where
     C: FolderCalls + Send + Sync,
     C::Mark: Send + Sync,
     P: Paths<C>,
-    R: Wait,
+    R: Threads + Wait + Sync,
     I: Read,
     O: Write,
     E: Write,
@@ -179,7 +180,7 @@ where
     C: FolderCalls + Send + Sync,
     C::Mark: Send + Sync,
     P: Paths<C>,
-    R: Wait,
+    R: Threads + Wait + Sync,
     I: Read,
     O: Write,
     E: Write,

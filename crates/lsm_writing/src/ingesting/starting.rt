@@ -3,12 +3,13 @@
 ghost use Rattle.std.specs.Prelude.{◌≡◌, IfErr, IfOk, OnOk};
 ghost use Rattle.lsm_directory.specs.Logs.{NoneUnread};
 ghost use Rattle.lsm_state.specs.Making.{IsNewBoard, IsNewHistory};
-ghost use Rattle.lsm_writing.specs.Starting.{IsFlushed, IsNew, IsNotOpened, IsReopened, IsStarted};
+ghost use Rattle.lsm_writing.specs.Starting.{IsFlushed, IsNew, IsNotOpened, IsReopenedBy, IsStarted};
 ghost use Rattle.lsm_writing.specs.Starting.{IsStartRefusal, IsUnbegun, IsUncreated, IsUnflushed};
 ghost use Rattle.lsm_writing.specs.Starting.{IsNotReopened, OpensBeside, usual};
 ghost use Rattle.lsm_shelf.specs.Stored.{Stored};
 
 use crate::faults::writer_fault::WriterFault;
+use crate::forking::forks_up_to;
 use crate::ingesting::start::{Prepared, Start};
 use crate::parts::Parts;
 use lsm_directory::{DirectoryFault, FolderFile, first_unread};
@@ -18,6 +19,7 @@ use lsm_state::{Options, State};
 use lsm_table::{NamedShelf, Naming, Shelf};
 use std::alloc::Global;
 use std::sync::Wait;
+use std::thread::Threads;
 
 /// Reads the manifest, and refuses the first log among these that LevelDB would read.
 fn judge_logs<N: Naming, S: Shelf, R: Wait>(
@@ -126,7 +128,7 @@ fn reopen<N: Boarded, S: Shelf, R: Wait>(
     requires board { IsNewBoard N.board usual parts.publisher parts.pinners.items }
     requires history { IsNewHistory N.history parts.history }
     ensures opened { IfOk result (λ s.
-        IsReopened S.honest s shelf.old shelf.new) }
+        IsReopenedBy S.honest s shelf.old shelf.new) }
     ensures refused { IfErr result (λ e.
         IsNotReopened (Stored S.Receipt (S.is_of N.place) S.Receipt.number S.Receipt.image)
         (S.refuses N.place) S.honest e shelf.old shelf.new) }
@@ -141,6 +143,40 @@ fn reopen<N: Boarded, S: Shelf, R: Wait>(
         parts.registry,
         board,
         parts.history,
+    ) {
+        Ok(state) => Ok(state),
+        Err(fault) => Err(WriterFault::of_open(fault)),
+    }
+}
+
+/// As `reopen`, by so many threads, or as many as the shelf forks for, which read and judge tables.
+fn reopen_by<N: Boarded, S: Shelf, R: Threads + Wait + Sync>(
+    rt: &R,
+    alloc: Global,
+    shelf: &mut NamedShelf<N, S>,
+    parts: Parts<N, S>,
+    threads: usize,
+) -> Result<State<N, S>, WriterFault>
+    requires board { IsNewBoard N.board usual parts.publisher parts.pinners.items }
+    requires history { IsNewHistory N.history parts.history }
+    ensures opened { IfOk result (λ s.
+        IsReopenedBy S.honest s shelf.old shelf.new) }
+    ensures refused { IfErr result (λ e.
+        IsNotReopened (Stored S.Receipt (S.is_of N.place) S.Receipt.number S.Receipt.image)
+        (S.refuses N.place) S.honest e shelf.old shelf.new) }
+{
+    let options = Options::usual();
+    let board = (parts.publisher, parts.pinners);
+    let shelves = forks_up_to(alloc, shelf, threads);
+    match State::open_by(
+        rt,
+        alloc,
+        shelf,
+        options,
+        parts.registry,
+        board,
+        parts.history,
+        shelves,
     ) {
         Ok(state) => Ok(state),
         Err(fault) => Err(WriterFault::of_open(fault)),
@@ -171,6 +207,30 @@ fn open_beside<N: Boarded, S: Shelf, R: Wait>(
     }
 }
 
+/// As `open_beside`, by threads as `reopen_by`.
+fn open_beside_by<N: Boarded, S: Shelf, R: Threads + Wait + Sync>(
+    rt: &R,
+    alloc: Global,
+    shelf: &mut NamedShelf<N, S>,
+    logs: &[FolderFile],
+    parts: Parts<N, S>,
+    threads: usize,
+) -> Result<State<N, S>, WriterFault>
+    requires board { IsNewBoard N.board usual parts.publisher parts.pinners.items }
+    requires history { IsNewHistory N.history parts.history }
+    ensures opened { IfOk result (λ s.
+        OpensBeside S.honest logs.now s shelf.old shelf.new) }
+    ensures refused { IfErr result (λ e.
+        IsNotOpened (Stored S.Receipt (S.is_of N.place) S.Receipt.number S.Receipt.image)
+        (S.refuses N.place) S.honest logs.now e shelf.old shelf.new) }
+{
+    refuse_unflushed(rt, alloc, shelf, logs)?;
+    match reopen_by(rt, alloc, shelf, parts, threads) {
+        Ok(state) => Ok(state),
+        Err(fault) => Err(fault),
+    }
+}
+
 /// The state of a new database on the shelf, or of the one that is there, with the usual options.
 /// Neither is done beside a log that LevelDB would then read, if logs were looked at.
 pub fn start<N: Boarded, S: Shelf, R: Wait>(
@@ -190,6 +250,32 @@ pub fn start<N: Boarded, S: Shelf, R: Wait>(
 {
     match prepared.start {
         Start::Open => open_beside(rt, alloc, shelf, &prepared.logs, parts),
+        Start::Begin(number) => create_beside(rt, alloc, shelf, number, &prepared.logs, parts),
+    }
+}
+
+/// As `start`. So many threads, or as many as the shelf forks for, read and judge the tables of a
+/// database that is there.
+pub fn start_by<N: Boarded, S: Shelf, R: Threads + Wait + Sync>(
+    rt: &R,
+    alloc: Global,
+    shelf: &mut NamedShelf<N, S>,
+    prepared: &Prepared,
+    parts: Parts<N, S>,
+    threads: usize,
+) -> Result<State<N, S>, WriterFault>
+    requires board { IsNewBoard N.board usual parts.publisher parts.pinners.items }
+    requires history { IsNewHistory N.history parts.history }
+    ensures started { IfOk result (λ s. IsStarted S.honest prepared.now.start
+        prepared.now.logs.items s shelf.old shelf.new) }
+    ensures refused { IfErr result (λ e. IsStartRefusal (Stored S.Receipt (S.is_of N.place)
+        S.Receipt.number S.Receipt.image) (S.refuses N.place) S.honest prepared.now.start
+        prepared.now.logs.items e shelf.old shelf.new) }
+{
+    match prepared.start {
+        Start::Open => {
+            open_beside_by(rt, alloc, shelf, &prepared.logs, parts, threads)
+        },
         Start::Begin(number) => create_beside(rt, alloc, shelf, number, &prepared.logs, parts),
     }
 }
