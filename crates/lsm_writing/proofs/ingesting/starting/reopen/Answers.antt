@@ -12,3 +12,13 @@ returns-in-Ok-clause-opened g c = record {
     begun = rw c.usual-options.ensures at c.in-Ok.ensures.begun;
   };
 }
+
+pub returns-in-Err-clause-refused : goal.returns-in-Err-clause-refused
+returns-in-Err-clause-refused g c = (
+  c.in-Err.fault,
+  c.args.shelf.now,
+  c.of_open.ensures,
+  forked_none c.args.shelf.now,
+  rw c.usual-options.ensures at c.in-Err.ensures.refused,
+  c.in-Err.ensures.counts_err,
+)
