@@ -273,9 +273,7 @@ pub fn start_by<N: Boarded, S: Shelf, R: Threads + Wait + Sync>(
         prepared.now.logs.items e shelf.old shelf.new) }
 {
     match prepared.start {
-        Start::Open => {
-            open_beside_by(rt, alloc, shelf, &prepared.logs, parts, threads)
-        },
-        Start::Begin(number) => create_beside(rt, alloc, shelf, number, &prepared.logs, parts),
+        Start::Open => open_beside_by(rt, alloc, shelf, &prepared.logs, parts, threads),
+        Start::Begin(_) => start(rt, alloc, shelf, prepared, parts),
     }
 }
