@@ -1,5 +1,6 @@
 mod KnownLaws
 mod SeenLaws
+mod SessionLaws
 mod AnswerLaws
 mod OptionLaws
 mod PairLaws
