@@ -1,12 +1,10 @@
 -- What is read at a sequence of a state that was learnt.
-use Rattle.std.proofs.Common.{◌≡◌, ℕ, List, [], ◌∷◌, map, Option, None, Some, Result, Ok, Err, IfErr, IfOk, sym, ap, ◌∙◌, subst, inl, inr}
-use Rattle.std.specs.Prelude.{◌⊎◌}
+use Rattle.std.proofs.Common.{◌≡◌, ℕ, List, [], ◌∷◌, map, Result, Ok, Err, IfErr, IfOk, sym, ap, ◌∙◌, subst, inl, inr}
 use Rattle.lsm_codec.specs.Lists.{Has}
 use Rattle.lsm_frames.specs.declared.when.When.{When}
 use Rattle.lsm_frames.specs.declared.when.When.TheVariants.{Now, Snapshot}
 use Rattle.lsm_state.specs.Held.{Held}
 use Rattle.lsm_state.specs.Reading.{IsSequence}
-use Rattle.lsm_store.specs.Promised.{snapshot_sequences}
 use Rattle.lsm_store.specs.Readers.{IsPromised, Learnt}
 use Rattle.lsm_codec.specs.Entries.{Entry}
 use Rattle.lsm_frames.specs.Requests.{Stretch}
