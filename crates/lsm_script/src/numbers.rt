@@ -25,32 +25,8 @@ impl<X> Noted<X> for Brand {
     ghost holds = { λ state drew refused asked. Unit {0} };
 }
 
-/// What a value is put into and taken out of. A merge has a state as such a thing alone: what is
-/// proved of its numbers does not depend on the parts of a state.
-pub(crate) trait StandsFor<T>: Drop {
-    ghost value: { Self → T };
-
-    fn of(inner: T) -> Self
-        ensures { value result ≡ inner };
-
-    fn into_value(self) -> T
-        ensures { result ≡ value self };
-}
-
-impl<T: Drop> StandsFor<T> for T {
-    ghost value = { λ t. t };
-
-    fn of(inner: T) -> T {
-        inner
-    }
-
-    fn into_value(self) -> T {
-        self
-    }
-}
-
-/// A state, and the function that draws a number from it. It has no bound: a method of an impl may
-/// call no function that is bounded by a shelf, so the function is a value.
+/// A state that is lent, and the function that draws a number from it. They have no bound: a method
+/// of an impl may call no function that is bounded by a shelf, so the function is a value.
 #[derive(Drop)]
 pub(crate) struct Numbers<M, X, F> {
     pub(crate) state: Option<X>,
@@ -112,14 +88,13 @@ fn refusal_of(fault: StateFault) -> NumberFault
 
 /// The state's next number, booked under the ticket.
 pub(crate) fn drawn<N: Boarded, S: Shelf>(
-    state: State<N, S>,
+    state: &mut State<N, S>,
     ticket: u64,
-) -> (State<N, S>, Result<u64, NumberFault>)
-    ensures { GivesNumber state ticket result.0 result.1 }
+) -> Result<u64, NumberFault>
+    ensures { GivesNumber state.old ticket state.new result }
 {
-    let mut state = state;
     match state.new_number(ticket) {
-        Ok(number) => (state, Ok(number)),
-        Err(fault) => (state, Err(refusal_of(fault))),
+        Ok(number) => Ok(number),
+        Err(fault) => Err(refusal_of(fault)),
     }
 }
