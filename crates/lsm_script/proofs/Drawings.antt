@@ -1,5 +1,5 @@
 -- Numbers drawn by a merge.
-use Rattle.std.proofs.Common.{◌≡◌, ℕ, ◌<◌, ◌-◌, ◌^◌, ◌==◌, Bool, true, false, cond, List, [], ◌∷◌, map, refl, sym, ◌∙◌, ap, subst, inl, inr, arith}
+use Rattle.std.proofs.Common.{◌≡◌, ℕ, ◌<◌, ◌-◌, ◌^◌, ◌==◌, Bool, true, false, cond, List, [], ◌∷◌, map, refl, sym, ◌∙◌, ap, subst, inl, inr, arith, IfErr, IfOk}
 use Rattle.std.specs.Borrow.{MutBor}
 use Rattle.std.specs.Prelude.{Result, Ok, Err}
 use base.Fml.{GName}
@@ -110,3 +110,11 @@ merged_lent H name start x w done was is m =
 pub refused_lent : (H : Type 0) (name : GName) (start : Held) (x : MutBor Held) (w : Work) (e : MergeFault) (was is : Told) → IsRefusedBy H (Lent name start) w e x was is → IsRefusedMerge H w e start x.now was is
 refused_lent H name start x w e was is m = refused_from H start x.now w e was is
     (record { put = m.put; drew = m.drew; refused = m.refused; asked = m.asked; leaves = m.leaves; told = m.told; cause = m.cause; why = m.why; ticket = m.ticket; asks = m.asks; sound = m.sound; fact = m.fact.1 })
+
+pub all_merged : (H : Type 0) (name : GName) (start : Held) (x : MutBor Held) (w : Work) (r : Result Done MergeFault) (was is : Told) → IfOk r (λ d. IsMergedBy H (Lent name start) w d x was is) → IfOk r (λ d. IsMerged H w d start x.now was is)
+all_merged H name start x w (Ok d) was is m = merged_lent H name start x w d was is m
+all_merged H name start x w (Err e) was is m = tt
+
+pub all_refused : (H : Type 0) (name : GName) (start : Held) (x : MutBor Held) (w : Work) (r : Result Done MergeFault) (was is : Told) → IfErr r (λ e. IsRefusedBy H (Lent name start) w e x was is) → IfErr r (λ e. IsRefusedMerge H w e start x.now was is)
+all_refused H name start x w (Ok d) was is m = tt
+all_refused H name start x w (Err e) was is m = refused_lent H name start x w e was is m

@@ -1,6 +1,6 @@
 //! Merges.
 
-ghost use Rattle.std.specs.Prelude.{◌≡◌, [], IfErr, IfOk};
+ghost use Rattle.std.specs.Prelude.{◌≡◌, [], IfErr, IfOk, List, ℕ};
 ghost use Rattle.lsm_script.specs.Drawing.{Keeps};
 ghost use Rattle.lsm_script.specs.Replies.{IsMergeReply, IsMerged, IsMergedBy, IsRefusedBy};
 ghost use Rattle.lsm_script.specs.Replies.{IsRefusedMerge};
@@ -38,6 +38,8 @@ where
         IsMergedBy S.honest M.holds job d result.0 shelf.old shelf.new) }
     ensures err { IfErr result.1 (λ e.
         IsRefusedBy S.honest M.holds job e result.0 shelf.old shelf.new) }
+    ensures fact { (drew : List ℕ) × (refused : List ℕ) × (asked : List ℕ)
+        × M.holds result.0 drew refused asked }
 {
     let mut numbers = Numbers {
         state: Some(state),
@@ -61,6 +63,7 @@ where
 }
 
 /// Merges a job, with numbers of the state.
+#[tactic(auto, using(crate::proofs::Drawings::all_merged, crate::proofs::Drawings::all_refused))]
 fn merge_lent<N: Boarded, S: Shelf, R: Wait>(
     rt: &R,
     alloc: Global,

@@ -24,6 +24,7 @@ mod saying;
 mod statistics;
 
 // The conversation.
+mod beside;
 mod talk_fault;
 mod talking;
 
@@ -36,6 +37,7 @@ mod program;
 
 pub use ask::Ask;
 pub use ask_line::ask_in;
+pub use beside::talk_beside;
 pub use conversing::converse;
 pub use laws::talks_are_of_the_history;
 pub use pairs::{ScanFault, Step};

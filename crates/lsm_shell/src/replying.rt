@@ -3,7 +3,7 @@
 ghost use Rattle.std.specs.Prelude.{◌≡◌, ◌≢◌, ◌⊎◌, List, ℕ, OnOk, codes};
 ghost use Rattle.std.specs.Io.KnownBytes.{Appends};
 ghost use Rattle.lsm_script.specs.ReplyText.{reply_text};
-ghost use Rattle.lsm_script.specs.Steps.{stage};
+ghost use Rattle.lsm_script.specs.Steps.{OnDesk, stage};
 ghost use Rattle.lsm_script.specs.declared.command_fault.CommandFault.TheVariants.{State as StateRefusal};
 ghost use Rattle.lsm_script.specs.declared.reply.Reply.TheVariants.{Refused};
 ghost use Rattle.lsm_shell.specs.Batching.{no_memory, standing};
@@ -50,7 +50,6 @@ fn say_stopped<O: Write>(
 fn say_scan<N: Boarded, S: Shelf, O: Write>(
     alloc: Global,
     state: &State<N, S>,
-    desk: &Desk<N, S>,
     shelf: &mut NamedShelf<N, S>,
     form: Form,
     bounds: &KeyBounds,
@@ -58,8 +57,8 @@ fn say_scan<N: Boarded, S: Shelf, O: Write>(
     text: &mut Vec<u8>,
     out: &mut O,
 ) -> Result<(), Unsaid>
-    ensures { (said : List ℕ) × IsScanned S.honest form bounds.now limit said
-        (stage state.now desk.now shelf.old) (stage state.now desk.now shelf.new)
+    ensures { (desk : OnDesk) → (said : List ℕ) × IsScanned S.honest form bounds.now limit said
+        (stage state.now desk shelf.old) (stage state.now desk shelf.new)
         × OnOk result (Appends (O.contents out.old) (O.contents out.new) said) }
 {
     let (_id, version) = state.current();
@@ -109,7 +108,7 @@ fn obey<N: Boarded, S: Shelf, R: Wait, O: Write>(
         Ask::Do(command) => answer(rt, alloc, state, desk, shelf, form, &command, text, out),
         Ask::Put(write) => put(rt, alloc, state, desk, begun, shelf, form, write, text, out),
         Ask::Scan(bounds, limit) => {
-            say_scan(alloc, state, desk, shelf, form, &bounds, limit, text, out)
+            say_scan(alloc, state, shelf, form, &bounds, limit, text, out)
         }
         Ask::Begin => begin(alloc, begun, out),
         Ask::Commit => commit(rt, alloc, state, desk, begun, shelf, form, text, out),

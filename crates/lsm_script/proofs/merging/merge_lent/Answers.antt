@@ -1,5 +1,5 @@
-use Rattle.std.proofs.Common.{refl}
-use Rattle.lsm_script.proofs.Drawings.{drawn_begins, lent_keeps, merged_lent, refused_lent}
+use Rattle.std.proofs.Common.{refl, rules}
+use Rattle.lsm_script.proofs.Drawings.{drawn_begins, lent_keeps}
 use Rattle.lsm_script.proofs.merging.merge_lent.Goals as goal
 
 pub merge_job-state-requires-clause-begins : goal.merge_job-state-requires-clause-begins
