@@ -63,7 +63,6 @@ where
 }
 
 /// Merges a job, with numbers of the state.
-#[tactic(auto, using(crate::proofs::Drawings::all_merged, crate::proofs::Drawings::all_refused))]
 fn merge_lent<N: Boarded, S: Shelf, R: Wait>(
     rt: &R,
     alloc: Global,

@@ -9,3 +9,4 @@ mod BatchLaws
 mod TalkLaws
 mod HistoryLaws
 mod RunLaws
+mod EndsLaws
