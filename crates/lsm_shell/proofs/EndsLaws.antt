@@ -26,4 +26,3 @@ more_faultless ends i d lt before its = All-more IsFaultless ends i d lt before 
 
 pub all_faultless : (ends : List WorkerEnd) (i : ℕ) → length ends ≤ i → All IsFaultless (take i ends) → All IsFaultless ends
 all_faultless ends i end before = subst (λ (es : List WorkerEnd). All IsFaultless es) (take_all i ends end) before
-

@@ -10,3 +10,4 @@ mod TalkLaws
 mod HistoryLaws
 mod RunLaws
 mod EndsLaws
+mod BesideLaws

@@ -267,7 +267,5 @@ where
         Ok(parts) => parts,
         Err(_) => return (Err(CompactFault::Writer(WriterFault::OutOfMemory)), shelf),
     };
-    converse_as::<Brand, S, R, I, O>(
-        rt, alloc, shelf, prepared, parts, form, workers, lines, out,
-    )
+    converse_as::<Brand, S, R, I, O>(rt, alloc, shelf, prepared, parts, form, workers, lines, out)
 }

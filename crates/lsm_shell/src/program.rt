@@ -83,9 +83,7 @@ where
         (O.contents out.old) (O.contents out.new)) }
 {
     match workers {
-        Some(workers) => {
-            converse_beside(rt, alloc, shelf, prepared, form, workers, input, out)
-        }
+        Some(workers) => { converse_beside(rt, alloc, shelf, prepared, form, workers, input, out) }
         None => match converse(rt, alloc, shelf, prepared, form, input, out) {
             (Ok(()), shelf) => (Ok(()), shelf),
             (Err(fault), shelf) => (Err(CompactFault::Writer(fault)), shelf),

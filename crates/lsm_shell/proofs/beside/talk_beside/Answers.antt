@@ -19,7 +19,7 @@ returns-in-Ok-false g c =
       talk = (
         c.take_turn-turn.new.begun,
         ended (IsRepliedBeside g.S.Shelf.honest c.args.form) c.args.lines.now.left c.loop-turn.lines c.take_turn-turn.new.lines (waiting c.args.memory.now c.args.shelf.now c.args.desk.now None)
-        (waiting c.loop-turn.memory c.loop-turn.shelf c.loop-turn.desk c.loop-turn.begun) _ _ _ _ c.loop-turn.invariant turn,
+            (waiting c.loop-turn.memory c.loop-turn.shelf c.loop-turn.desk c.loop-turn.begun) _ _ _ _ c.loop-turn.invariant turn,
       );
     }
 
@@ -30,7 +30,7 @@ returns-in-Err g c =
       talk = (
         c.take_turn-turn.new.begun,
         stopped c.in-Err.fault (IsRepliedBeside g.S.Shelf.honest c.args.form) c.args.lines.now.left c.loop-turn.lines c.take_turn-turn.new.lines (waiting c.args.memory.now c.args.shelf.now c.args.desk.now None)
-        (waiting c.loop-turn.memory c.loop-turn.shelf c.loop-turn.desk c.loop-turn.begun) _ _ _ _ c.loop-turn.invariant turn,
+            (waiting c.loop-turn.memory c.loop-turn.shelf c.loop-turn.desk c.loop-turn.begun) _ _ _ _ c.loop-turn.invariant turn,
       );
     }
 

@@ -21,7 +21,7 @@ returns-in-Ok-false g c =
       talk = (
         c.take_turn-turn.new.begun,
         ended (IsReplied g.S.Shelf.honest c.args.form) c.args.lines.now.left c.loop-turn.lines c.take_turn-turn.new.lines (standing (stage c.args.state.now c.args.desk.now c.args.shelf.now) None)
-        (standing (stage c.loop-turn.state c.loop-turn.desk c.loop-turn.shelf) c.loop-turn.begun) _ _ _ _ c.loop-turn.invariant turn,
+            (standing (stage c.loop-turn.state c.loop-turn.desk c.loop-turn.shelf) c.loop-turn.begun) _ _ _ _ c.loop-turn.invariant turn,
       );
     }
 
@@ -32,7 +32,7 @@ returns-in-Err g c =
       talk = (
         c.take_turn-turn.new.begun,
         stopped c.in-Err.fault (IsReplied g.S.Shelf.honest c.args.form) c.args.lines.now.left c.loop-turn.lines c.take_turn-turn.new.lines (standing (stage c.args.state.now c.args.desk.now c.args.shelf.now) None)
-        (standing (stage c.loop-turn.state c.loop-turn.desk c.loop-turn.shelf) c.loop-turn.begun) _ _ _ _ c.loop-turn.invariant turn,
+            (standing (stage c.loop-turn.state c.loop-turn.desk c.loop-turn.shelf) c.loop-turn.begun) _ _ _ _ c.loop-turn.invariant turn,
       );
     }
 
