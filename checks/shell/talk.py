@@ -153,7 +153,7 @@ def workers_beside():
         want(shell.ask(f"get key{n % 20}"), f"value {n}")
     want(shell.ask("get key0 1"), "value first")
     want(shell.ask("release 1"), "released")
-    want(shell.list("scan"), sorted(f"key{n % 20}={n}" for n in range(180, 200)) + ["end"])
+    want(shell.list("scan"), [f"key{n % 20}={n}" for n in sorted(range(180, 200), key=lambda n: str(n % 20))] + ["end"])
     ends = time.monotonic() + 60
     while int(shell.list("stats")[0].split()[3]) >= 4:
         assert time.monotonic() < ends, "the workers leave level 0 as it is"

@@ -1,8 +1,6 @@
 -- Numbers drawn by a merge.
-use Rattle.std.proofs.Common.{◌≡◌, ℕ, ◌<◌, ◌-◌, ◌^◌, ◌==◌, Bool, true, false, cond, List, [], ◌∷◌, map, refl, sym, ◌∙◌, ap, subst, inl, inr, arith, IfErr, IfOk}
-use Rattle.std.specs.Borrow.{MutBor}
+use Rattle.std.proofs.Common.{◌≡◌, ℕ, ◌-◌, ◌^◌, ◌==◌, Bool, true, false, cond, List, [], ◌∷◌, map, refl, sym, ◌∙◌, ap, subst, inl, inr, arith, IfErr, IfOk}
 use Rattle.std.specs.Prelude.{Result, Ok, Err}
-use base.Fml.{GName}
 use Rattle.lsm_codec.specs.Lists.{Has}
 use Rattle.lsm_codec.proofs.CallerLemmas.{has_cases}
 use Rattle.lsm_shelf.specs.Told.{Told}
@@ -10,11 +8,10 @@ use Rattle.lsm_merge.specs.Causes.{AnswersOf, AsksFor, NamesTicket}
 use Rattle.lsm_merge.specs.Work.{Done, Work}
 use Rattle.lsm_merge.specs.declared.merge_fault.MergeFault.{MergeFault}
 use Rattle.lsm_merge.specs.declared.merge_fault.MergeFault.TheVariants.{OutOfMemory, ReadFailed, PutFailed, UnknownTicket, NumbersSpent}
-use Rattle.lsm_merge.specs.declared.number_source.NumberFault.{NumberFault}
 use Rattle.lsm_merge.specs.declared.number_source.NumberFault.TheVariants as numbers
 use Rattle.lsm_live.specs.Booked.{Booked, HasTicket, booked, drawing}
 use Rattle.lsm_state.specs.Held.{Held}
-use Rattle.lsm_script.specs.Drawing.{After, AreDrawn, ArePairsDrawn, Drawn, DrawsOne, GivesNumber, HasDrawn, Keeps, Source}
+use Rattle.lsm_script.specs.Drawing.{AreDrawn, ArePairsDrawn, Drawn, DrawsOne, GivesNumber, HasDrawn, Keeps, Source}
 use Rattle.lsm_script.specs.Replies.{IsMerged, IsMergedBy, IsNumberCause, IsRefusedBy, IsRefusedMerge}
 
 -- ---- a source of numbers
@@ -56,17 +53,6 @@ drawn_keeps start x y t (Err (numbers.UnknownTicket u)) drew refused asked lt d 
 drawn_keeps start x y t (Err numbers.NumbersSpent) drew refused asked lt d g = (refuses start x y t 46 drew refused asked d g.0 (λ q. absurd (omega arith)) (λ q. g.1), tt)
 drawn_keeps start x y t (Err numbers.OutOfMemory) drew refused asked lt d g = (refuses start x y t 1 drew refused asked d g.0 (λ q. absurd (omega arith)) (λ q. absurd (omega arith)), tt)
 
--- ---- a source of numbers of a state that is lent
-
--- it is the one that was lent under this name, with what it drew since then
-abbrev pub Lent : GName → Held → MutBor Held → List ℕ → List ℕ → List ℕ → Type 0
-Lent name start x drew refused asked = (x.ghost_name ≡ name) × Drawn start x.now drew refused asked
-
-pub lent_keeps : (start : Held) (name : GName) (x y : MutBor Held) (t : ℕ) (r : Result ℕ NumberFault) (drew refused asked : List ℕ) → t < 2 ^ 64 → Lent name start x drew refused asked → y.ghost_name ≡ x.ghost_name
-    → GivesNumber x.now t y.now r → After r t (Lent name start y) drew refused asked
-lent_keeps start name x y t (Ok n) drew refused asked lt h same g = (same ∙ h.0, drawn_keeps start x.now y.now t (Ok n) drew refused asked lt h.1 g)
-lent_keeps start name x y t (Err e) drew refused asked lt h same g = (let k = drawn_keeps start x.now y.now t (Err e) drew refused asked lt h.1 g in ((same ∙ h.0, k.0), k.1))
-
 -- ---- what a merge drew
 
 asks_all : (t : ℕ) (asked : List ℕ) → AsksFor t [] asked → (u : ℕ) → Has asked u → u ≡ t
@@ -101,20 +87,12 @@ refused_from H start new w e was is m = record {
   sound = m.sound;
 }
 
--- the same, of a state that is lent
+-- the same, of what a merge answers
 
-pub merged_lent : (H : Type 0) (name : GName) (start : Held) (x : MutBor Held) (w : Work) (done : Done) (was is : Told) → IsMergedBy H (Lent name start) w done x was is → IsMerged H w done start x.now was is
-merged_lent H name start x w done was is m =
-    merged_from H start x.now w done was is (record { its = m.its; finished = m.finished; told = m.told; refused = m.refused; asked = m.asked; asks = m.asks; fact = m.fact.1 })
+pub all_merged : (H : Type 0) (start new : Held) (w : Work) (r : Result Done MergeFault) (was is : Told) → IfOk r (λ d. IsMergedBy H (Drawn start) w d new was is) → IfOk r (λ d. IsMerged H w d start new was is)
+all_merged H start new w (Ok d) was is m = merged_from H start new w d was is m
+all_merged H start new w (Err e) was is m = tt
 
-pub refused_lent : (H : Type 0) (name : GName) (start : Held) (x : MutBor Held) (w : Work) (e : MergeFault) (was is : Told) → IsRefusedBy H (Lent name start) w e x was is → IsRefusedMerge H w e start x.now was is
-refused_lent H name start x w e was is m = refused_from H start x.now w e was is
-    (record { put = m.put; drew = m.drew; refused = m.refused; asked = m.asked; leaves = m.leaves; told = m.told; cause = m.cause; why = m.why; ticket = m.ticket; asks = m.asks; sound = m.sound; fact = m.fact.1 })
-
-pub all_merged : (H : Type 0) (name : GName) (start : Held) (x : MutBor Held) (w : Work) (r : Result Done MergeFault) (was is : Told) → IfOk r (λ d. IsMergedBy H (Lent name start) w d x was is) → IfOk r (λ d. IsMerged H w d start x.now was is)
-all_merged H name start x w (Ok d) was is m = merged_lent H name start x w d was is m
-all_merged H name start x w (Err e) was is m = tt
-
-pub all_refused : (H : Type 0) (name : GName) (start : Held) (x : MutBor Held) (w : Work) (r : Result Done MergeFault) (was is : Told) → IfErr r (λ e. IsRefusedBy H (Lent name start) w e x was is) → IfErr r (λ e. IsRefusedMerge H w e start x.now was is)
-all_refused H name start x w (Ok d) was is m = tt
-all_refused H name start x w (Err e) was is m = refused_lent H name start x w e was is m
+pub all_refused : (H : Type 0) (start new : Held) (w : Work) (r : Result Done MergeFault) (was is : Told) → IfErr r (λ e. IsRefusedBy H (Drawn start) w e new was is) → IfErr r (λ e. IsRefusedMerge H w e start new was is)
+all_refused H start new w (Ok d) was is m = tt
+all_refused H start new w (Err e) was is m = refused_from H start new w e was is m

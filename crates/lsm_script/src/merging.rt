@@ -1,6 +1,6 @@
 //! Merges.
 
-ghost use Rattle.std.specs.Prelude.{◌≡◌, [], IfErr, IfOk, List, ℕ};
+ghost use Rattle.std.specs.Prelude.{◌≡◌, [], IfErr, IfOk};
 ghost use Rattle.lsm_script.specs.Drawing.{Keeps};
 ghost use Rattle.lsm_script.specs.Replies.{IsMergeReply, IsMerged, IsMergedBy, IsRefusedBy};
 ghost use Rattle.lsm_script.specs.Replies.{IsRefusedMerge};
@@ -18,52 +18,44 @@ use std::alloc::Global;
 use std::marker::{Brand, PhantomData};
 use std::sync::Wait;
 
-/// Merges a job, with numbers that are drawn so of a state, as which a value stands here: what is
-/// proved of its numbers does not depend on the parts of a state.
-fn merge_job<M: Noted<X>, X: Drop, F, N: Boarded, S: Shelf, R: Wait>(
+/// Merges a job, with numbers that are drawn so of a state that is lent: what is proved of them does
+/// not depend on the parts of a state.
+fn merge_with<M: Noted<X>, X, F, N: Boarded, S: Shelf, R: Wait>(
     rt: &R,
     alloc: Global,
-    state: X,
-    draw: F,
+    numbers: &mut Numbers<'_, M, X, F>,
     shelf: &mut NamedShelf<N, S>,
     registry: &Registry<N, S>,
     job: Job<N, S>,
-) -> (X, Result<Finished<N, S>, MergeFault>)
+) -> Result<Finished<N, S>, MergeFault>
 where
-    F: Fn(X, u64) -> (X, Result<u64, NumberFault>),
-    requires call { F.IsAlwaysCallable draw }
-    requires begins { M.holds state [] [] [] }
-    requires keeps { Keeps (λ x t y r. F.post draw x t (y, r)) M.holds }
-    ensures ok { IfOk result.1 (λ d.
-        IsMergedBy S.honest M.holds job d result.0 shelf.old shelf.new) }
-    ensures err { IfErr result.1 (λ e.
-        IsRefusedBy S.honest M.holds job e result.0 shelf.old shelf.new) }
-    ensures fact { (drew : List ℕ) × (refused : List ℕ) × (asked : List ℕ)
-        × M.holds result.0 drew refused asked }
+    F: Fn(&mut X, u64) -> Result<u64, NumberFault>,
+    requires call { F.IsAlwaysCallable numbers.old.draw }
+    requires loan { numbers.old.state.ghost_name ≡ M.loan }
+    requires none { (numbers.old.drew.numbers ≡ []) × (numbers.old.refused.numbers ≡ [])
+        × (numbers.old.asked.numbers ≡ []) }
+    requires begins { M.holds numbers.old.state.now [] [] [] }
+    requires keeps { Keeps (λ p t q r. F.post numbers.old.draw p t r q)
+        (λ p drew refused asked. M.holds p.now drew refused asked) }
+    ensures loan { numbers.new.state.ghost_name ≡ numbers.old.state.ghost_name }
+    ensures ok { IfOk result (λ d.
+        IsMergedBy S.honest M.holds job d numbers.new.state.now shelf.old shelf.new) }
+    ensures err { IfErr result (λ e.
+        IsRefusedBy S.honest M.holds job e numbers.new.state.now shelf.old shelf.new) }
 {
-    let mut numbers = Numbers {
-        state: Some(state),
-        draw,
-        drew: Tag::empty(),
-        refused: Tag::empty(),
-        asked: Tag::empty(),
-        noted: PhantomData::<M>,
-    };
-    let merged = match compact(rt, alloc, shelf, registry, job, &mut numbers) {
+    match compact(rt, alloc, shelf, registry, job, numbers) {
         Ok(done) => {
             // What holds of the job is told by this call.
             let _job = done.job();
             Ok(done)
         }
         Err((fault, _job, _put)) => Err(fault),
-    };
-    let Numbers { state, .. } = numbers;
-    let Some(state) = state else { unreachable!() };
-    (state, merged)
+    }
 }
 
 /// Merges a job, with numbers of the state.
-fn merge_lent<N: Boarded, S: Shelf, R: Wait>(
+#[tactic(auto, using(crate::proofs::Drawings::all_merged, crate::proofs::Drawings::all_refused))]
+fn merge_job<N: Boarded, S: Shelf, R: Wait>(
     rt: &R,
     alloc: Global,
     state: &mut State<N, S>,
@@ -76,19 +68,15 @@ fn merge_lent<N: Boarded, S: Shelf, R: Wait>(
     ensures err { IfErr result (λ e.
         IsRefusedMerge S.honest job e state.old state.new shelf.old shelf.new) }
 {
-    let (_state, merged) = merge_job::<Brand, &mut State<N, S>, _, N, S, R>(
-        rt,
-        alloc,
+    let mut numbers = Numbers {
         state,
-        |state: &mut State<N, S>, ticket| {
-            let answer = drawn(state, ticket);
-            (state, answer)
-        },
-        shelf,
-        registry,
-        job,
-    );
-    merged
+        draw: |state: &mut State<N, S>, ticket| drawn(state, ticket),
+        drew: Tag::empty(),
+        refused: Tag::empty(),
+        asked: Tag::empty(),
+        noted: PhantomData::<Brand>,
+    };
+    merge_with::<Brand, State<N, S>, _, N, S, R>(rt, alloc, &mut numbers, shelf, registry, job)
 }
 
 /// Merges the job of this ticket. The result is kept in place of the job.
@@ -115,7 +103,7 @@ pub(crate) fn merge<N: Boarded, S: Shelf, R: Wait>(
     let Ok(job) = jobs[at].try_copy(alloc) else {
         return Reply::out_of_memory();
     };
-    let done = match merge_lent(rt, alloc, state, shelf, registry, job) {
+    let done = match merge_job(rt, alloc, state, shelf, registry, job) {
         Ok(done) => done,
         Err(fault) => return Reply::Refused(CommandFault::Merge(fault)),
     };

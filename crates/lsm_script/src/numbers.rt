@@ -13,23 +13,28 @@ use std::marker::{Brand, PhantomData};
 use std::sync::Wait;
 
 /// What holds of a state that gave numbers: of the state, of the numbers given, of the
-/// numbers of its refusals, and of the tickets that it was asked for, each list the last first. A
-/// merge picks it.
+/// numbers of its refusals, and of the tickets that it was asked for, each list the last first; and
+/// which loan the state is. A merge picks it.
 pub(crate) trait Noted<X> {
     ghost use Rattle.std.specs.Prelude.{ℕ, List};
+    ghost use base.Fml.{GName};
 
     ghost holds: { X → List ℕ → List ℕ → List ℕ → Type 0 };
+
+    ghost loan: { GName };
 }
 
 impl<X> Noted<X> for Brand {
     ghost holds = { λ state drew refused asked. Unit {0} };
+
+    ghost loan = { 0 };
 }
 
 /// A state that is lent, and the function that draws a number from it. They have no bound: a method
 /// of an impl may call no function that is bounded by a shelf, so the function is a value.
 #[derive(Drop)]
-pub(crate) struct Numbers<M, X, F> {
-    pub(crate) state: Option<X>,
+pub(crate) struct Numbers<'a, M, X, F> {
+    pub(crate) state: &'a mut X,
     pub(crate) draw: F,
     pub(crate) drew: Tag,
     pub(crate) refused: Tag,
@@ -37,8 +42,8 @@ pub(crate) struct Numbers<M, X, F> {
     pub(crate) noted: PhantomData<M>,
 }
 
-impl<M: Noted<X>, X: Drop, F: Fn(X, u64) -> (X, Result<u64, NumberFault>)> NumberSource
-    for Numbers<M, X, F> {
+impl<'a, M: Noted<X>, X, F: Fn(&mut X, u64) -> Result<u64, NumberFault>> NumberSource
+    for Numbers<'a, M, X, F> {
     ghost use Rattle.lsm_script.specs.Drawing.{IsSource};
 
     ghost drew = { λ n. n.drew.numbers };
@@ -47,8 +52,9 @@ impl<M: Noted<X>, X: Drop, F: Fn(X, u64) -> (X, Result<u64, NumberFault>)> Numbe
 
     ghost asked = { λ n. n.asked.numbers };
 
-    ghost ready = { λ n. F.IsAlwaysCallable n.draw
-        × IsSource M.holds (λ x t y r. F.post n.draw x t (y, r)) record {
+    ghost ready = { λ n. F.IsAlwaysCallable n.draw × (n.state.ghost_name ≡ M.loan)
+        × IsSource (λ p drew refused asked. M.holds p.now drew refused asked)
+        (λ p t q r. F.post n.draw p t r q) record {
           state = n.state;
           drew = n.drew.numbers;
           refused = n.refused.numbers;
@@ -56,11 +62,8 @@ impl<M: Noted<X>, X: Drop, F: Fn(X, u64) -> (X, Result<u64, NumberFault>)> Numbe
         } };
 
     fn draw<R: Wait>(&mut self, _rt: &R, _alloc: Global, ticket: u64) -> Result<u64, NumberFault> {
-        let Some(state) = self.state.take() else {
-            unreachable!()
-        };
-        let (state, answer) = (self.draw)(state, ticket);
-        self.state = Some(state);
+        let state = &mut *self.state;
+        let answer = (self.draw)(state, ticket);
         self.asked = with_number(ticket, &self.asked);
         match answer {
             Ok(number) => {

@@ -6,8 +6,8 @@ use Rattle.lsm_script.proofs.merging.merge.Goals as goal
 
 pub returns : goal.returns
 returns g c =
-    let done = c.in-Ok-merge_lent.done in
-    let merged = c.in-Ok-merge_lent.ensures.ok in
+    let done = c.in-Ok-merge_job.done in
+    let merged = c.in-Ok-merge_job.ensures.ok in
     let out = job_out c.args.jobs.now.items c.remove.new.self.items c.deref.result.now c.in-Some.at c.args.ticket c.index.result.now done.work c.deref.ensures.value c.in-Some.ensures c.index.ensures (merged.its ∙ c.in-Ok.ensures) c.remove.ensures.items in
     record {
       reply = inl (
@@ -19,7 +19,7 @@ returns g c =
           out = out.1;
           kept = c.in-Ok-push.ensures.items ∙ ap (λ (l : List Done). l ++ done ∷ []) c.reserve.ensures.items;
           count = ap length c.put_numbers-tables.ensures;
-          merged = subst (λ (w : Work). IsMerged g.S.Shelf.honest w done c.args.state.now c.merge_lent.new.state c.args.shelf.now c.merge_lent.new.shelf) (sym merged.its) merged;
+          merged = subst (λ (w : Work). IsMerged g.S.Shelf.honest w done c.args.state.now c.merge_job.new.state c.args.shelf.now c.merge_job.new.shelf) (sym merged.its) merged;
         },
       );
     }

@@ -1,0 +1,18 @@
+use Rattle.std.proofs.Common.{ℕ, List, [], sym, subst}
+use Rattle.lsm_script.proofs.merging.merge_with.Goals as goal
+
+pub compact-requires : goal.compact-requires
+compact-requires g c =
+    let n = c.args.numbers.now in
+    let holds = g.M.Noted.holds n.state.now in
+    record {
+      ready = (
+        c.requires.call,
+        c.requires.loan,
+        record {
+          fact = subst (λ (l : List ℕ). holds l n.refused.numbers n.asked.numbers) (sym c.requires.none.0)
+              (subst (λ (l : List ℕ). holds [] l n.asked.numbers) (sym c.requires.none.1) (subst (λ (l : List ℕ). holds [] [] l) (sym c.requires.none.2) c.requires.begins));
+          keeps = c.requires.keeps;
+        },
+      );
+    }
