@@ -6,7 +6,9 @@ use Rattle.lsm_shelf.specs.Asked.{Asked}
 use Rattle.lsm_shelf.specs.Place.{Place}
 use Rattle.lsm_shelf.specs.Told.{Forked, Told, fresh}
 use Rattle.lsm_shelf.specs.declared.shelf_fault.ShelfFault.{ShelfFault}
-use Rattle.lsm_state.specs.Held.{Held}
+use Rattle.lsm_history.specs.History.{IsLater}
+use Rattle.lsm_levels.specs.Runs.{ReadsAs}
+use Rattle.lsm_state.specs.Held.{Held, plain}
 use Rattle.lsm_text.specs.declared.form.Form.{Form}
 use Rattle.lsm_directory.specs.declared.folder.folder_file.FolderFile.{FolderFile}
 use Rattle.lsm_script.specs.Steps.{OnDesk, clear}
@@ -16,9 +18,13 @@ use Rattle.lsm_loading.specs.Ending.{IsFaultless}
 use Rattle.lsm_writing.specs.Starting.{IsStarted}
 use Rattle.lsm_writing.specs.declared.faults.compact_fault.CompactFault.{CompactFault}
 use Rattle.lsm_writing.specs.declared.ingesting.start.Start.{Start}
-use Rattle.lsm_shell.specs.Beside.{IsTalkBeside, Waiting, waiting}
+use Rattle.lsm_shell.specs.Beside.{IsLent, IsTalkBeside, Waiting, waiting}
 use Rattle.lsm_shell.specs.Conversing.{ConversesBeside, IsBesideFault, IsConversedBeside, IsOfEnds}
 use Rattle.lsm_shell.specs.declared.talk_fault.TalkFault.{TalkFault}
+
+-- a state that was only looked at since
+pub lent : (honest : Type 0) (known : List Entry) (h k : Held) → k ≡ h → IsLater h.history known → (honest → ReadsAs (plain k) k.history) → IsLent honest known h
+lent honest known h k same later reads = record { later = later; reads = subst (λ (x : Held). honest → ReadsAs (plain x) x.history) same reads }
 
 is_fresh : (t : Told) (p : Place) → t ≡ fresh p → t ≡ fresh t.place
 is_fresh t p e = subst (λ (x : Told). x ≡ fresh x.place) (sym e) refl

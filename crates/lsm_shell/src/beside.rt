@@ -24,6 +24,7 @@ use std::mem;
 use std::sync::Wait;
 
 /// The state has all that is remembered. All that has come in is remembered from then on.
+#[tactic(auto, using(crate::proofs::BesideLaws::lent))]
 fn catch_up<N: Boarded, S: Shelf>(state: &mut State<N, S>, memory: &mut Memory<N>)
     ensures lent { IsLent S.honest memory.old state.old }
     ensures known { memory.new ≡ state.old.history }

@@ -46,7 +46,9 @@ pub(crate) fn next_line<I: Read + Drop>(
     match lines.next() {
         Ok(NextLine::End) => Ok(None),
         Ok(NextLine::Line) if lines.line() == b"quit".as_slice() => Ok(None),
-        Ok(next) => Ok(Some(next)),
+        Ok(NextLine::Line) => Ok(Some(NextLine::Line)),
+        Ok(NextLine::TooLong) => Ok(Some(NextLine::TooLong)),
+        Ok(NextLine::NoMemory) => Ok(Some(NextLine::NoMemory)),
         Err(_) => Err(TalkFault::Read),
     }
 }
