@@ -9,21 +9,20 @@ use crate::command_fault::CommandFault;
 use crate::held::index_of_job;
 use crate::numbers::{Noted, Numbers, drawn};
 use crate::reply::Reply;
-use boxcar::tag::Tag;
 use lsm_merge::{Finished, Job, MergeFault, NumberFault, compact};
 use lsm_slots::Boarded;
 use lsm_state::State;
 use lsm_table::{NamedShelf, Registry, Shelf};
 use std::alloc::Global;
-use std::marker::{Brand, PhantomData};
+use std::marker::Brand;
 use std::sync::Wait;
 
 /// Merges a job, with numbers that are drawn so of a state that is lent: what is proved of them does
 /// not depend on the parts of a state.
-fn merge_with<M: Noted<X>, X, F, N: Boarded, S: Shelf, R: Wait>(
+fn merge_with<'a, M: Noted<X>, X, F, N: Boarded, S: Shelf, R: Wait>(
     rt: &R,
     alloc: Global,
-    numbers: &mut Numbers<'_, M, X, F>,
+    numbers: &mut Numbers<'a, M, X, F>,
     shelf: &mut NamedShelf<N, S>,
     registry: &Registry<N, S>,
     job: Job<N, S>,
@@ -68,14 +67,10 @@ fn merge_job<N: Boarded, S: Shelf, R: Wait>(
     ensures err { IfErr result (λ e.
         IsRefusedMerge S.honest job e state.old state.new shelf.old shelf.new) }
 {
-    let mut numbers = Numbers {
+    let mut numbers: Numbers<'_, Brand, State<N, S>, _> = Numbers::of(
         state,
-        draw: |state: &mut State<N, S>, ticket| drawn(state, ticket),
-        drew: Tag::empty(),
-        refused: Tag::empty(),
-        asked: Tag::empty(),
-        noted: PhantomData::<Brand>,
-    };
+        |state: &mut State<N, S>, ticket| { drawn(state, ticket) },
+    );
     merge_with::<Brand, State<N, S>, _, N, S, R>(rt, alloc, &mut numbers, shelf, registry, job)
 }
 

@@ -1,6 +1,6 @@
 //! Numbers that a merge draws from a state.
 
-ghost use Rattle.std.specs.Prelude.{◌≡◌};
+ghost use Rattle.std.specs.Prelude.{◌≡◌, []};
 ghost use Rattle.lsm_script.specs.Drawing.{GivesNumber, refusal_of};
 
 use boxcar::tag::Tag;
@@ -40,6 +40,25 @@ pub(crate) struct Numbers<'a, M, X, F> {
     pub(crate) refused: Tag,
     pub(crate) asked: Tag,
     pub(crate) noted: PhantomData<M>,
+}
+
+impl<'a, M, X, F> Numbers<'a, M, X, F> {
+    /// Those of this state, of which none was given yet.
+    pub(crate) fn of(state: &'a mut X, draw: F) -> Numbers<'a, M, X, F>
+        ensures state { result.state ≡ state.entry }
+        ensures draw { result.draw ≡ draw }
+        ensures none { (result.drew.numbers ≡ []) × (result.refused.numbers ≡ [])
+            × (result.asked.numbers ≡ []) }
+    {
+        Numbers {
+            state,
+            draw,
+            drew: Tag::empty(),
+            refused: Tag::empty(),
+            asked: Tag::empty(),
+            noted: PhantomData,
+        }
+    }
 }
 
 impl<'a, M: Noted<X>, X, F: Fn(&mut X, u64) -> Result<u64, NumberFault>> NumberSource

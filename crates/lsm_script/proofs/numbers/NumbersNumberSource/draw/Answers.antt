@@ -1,13 +1,15 @@
 use Rattle.std.proofs.Common.{ℕ, ◌∷◌, List, sym, ◌∙◌, ap, subst}
 use Rattle.lsm_merge.specs.NumberFault.{number_of}
-use Rattle.lsm_script.proofs.Sourced.{after_draw}
+use Rattle.lsm_script.proofs.Sourced.{after_is}
 use Rattle.lsm_script.proofs.numbers.NumbersNumberSource.draw.Goals as goal
 
 pub returns-in-Ok-clause-ready : goal.returns-in-Ok-clause-ready
 returns-in-Ok-clause-ready g c =
     let source = c.requires.ready.2 in
     let holds = g.M.Noted.holds c.draw-answer.new.arg2 in
-    let after = after_draw _ _ _ _ c.args.ticket c.draw-answer.result _ source c.ranges.ticket.fits c.draw-answer.ensures c.in-Ok.is in (
+    let now = c.args.self.now in
+    let after = after_is holds c.args.ticket now.drew.numbers now.refused.numbers now.asked.numbers c.draw-answer.result _ c.in-Ok.is
+        (source.keeps _ _ c.args.ticket c.draw-answer.result now.drew.numbers now.refused.numbers now.asked.numbers c.ranges.ticket.fits source.fact c.draw-answer.ensures) in (
       c.requires.ready.0,
       c.requires.ready.1,
       record {
@@ -21,7 +23,9 @@ pub returns-in-Err-clause-ready : goal.returns-in-Err-clause-ready
 returns-in-Err-clause-ready g c =
     let source = c.requires.ready.2 in
     let holds = g.M.Noted.holds c.draw-answer.new.arg2 in
-    let after = after_draw _ _ _ _ c.args.ticket c.draw-answer.result _ source c.ranges.ticket.fits c.draw-answer.ensures c.in-Err.is in (
+    let now = c.args.self.now in
+    let after = after_is holds c.args.ticket now.drew.numbers now.refused.numbers now.asked.numbers c.draw-answer.result _ c.in-Err.is
+        (source.keeps _ _ c.args.ticket c.draw-answer.result now.drew.numbers now.refused.numbers now.asked.numbers c.ranges.ticket.fits source.fact c.draw-answer.ensures) in (
       c.requires.ready.0,
       c.requires.ready.1,
       record {
@@ -34,5 +38,9 @@ returns-in-Err-clause-ready g c =
 
 pub returns-in-Err-clause-named : goal.returns-in-Err-clause-named
 returns-in-Err-clause-named g c =
-    let after = after_draw _ _ _ _ c.args.ticket c.draw-answer.result _ c.requires.ready.2 c.ranges.ticket.fits c.draw-answer.ensures c.in-Err.is in
+    let holds = g.M.Noted.holds c.draw-answer.new.arg2 in
+    let now = c.args.self.now in
+    let source = c.requires.ready.2 in
+    let after = after_is holds c.args.ticket now.drew.numbers now.refused.numbers now.asked.numbers c.draw-answer.result _ c.in-Err.is
+        (source.keeps _ _ c.args.ticket c.draw-answer.result now.drew.numbers now.refused.numbers now.asked.numbers c.ranges.ticket.fits source.fact c.draw-answer.ensures) in
     after.1
