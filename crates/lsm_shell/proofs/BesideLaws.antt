@@ -18,7 +18,7 @@ use Rattle.lsm_loading.specs.Ending.{IsFaultless}
 use Rattle.lsm_writing.specs.Starting.{IsStarted}
 use Rattle.lsm_writing.specs.declared.faults.compact_fault.CompactFault.{CompactFault}
 use Rattle.lsm_writing.specs.declared.ingesting.start.Start.{Start}
-use Rattle.lsm_shell.specs.Beside.{IsLent, IsTalkBeside, Waiting, waiting}
+use Rattle.lsm_shell.specs.Beside.{IsLent, IsTalkedBeside, waiting}
 use Rattle.lsm_shell.specs.Conversing.{ConversesBeside, IsBesideFault, IsConversedBeside, IsOfEnds}
 use Rattle.lsm_shell.specs.declared.talk_fault.TalkFault.{TalkFault}
 
@@ -29,32 +29,31 @@ lent honest known h k same later reads = record { later = later; reads = subst (
 is_fresh : (t : Told) (p : Place) → t ≡ fresh p → t ≡ fresh t.place
 is_fresh t p e = subst (λ (x : Told). x ≡ fresh x.place) (sym e) refl
 
-pub conversed : (honest : Type 0) (start : Start) (logs : List FolderFile) (form : Form) (input : Option (List ℕ)) (r : Result (Unit {0}) TalkFault) (ends : List WorkerEnd) (was mid is own : Told) (old new : Option (List ℕ))
+pub conversed : (honest : Type 0) (start : Start) (logs : List FolderFile) (form : Form) (input : Option (List ℕ)) (r : Result (Unit {0}) TalkFault) (ends : List WorkerEnd) (was mid is own : Told) (old : Option (List ℕ))
     (state : Held) (known : List Entry) (desk : OnDesk) (place : Place) → IsStarted honest start logs state was mid → Forked mid is → own ≡ fresh place → known ≡ state.history → desk ≡ clear
-    → (last : Waiting) × IsTalkBeside honest form input r (waiting known own desk None) last old new → All (IsWorkersEnd honest) ends → ConversesBeside honest start logs form input r ends was is old new
-conversed honest start logs form input r ends was mid is own old new state known desk place started forked own_is known_is desk_is talk each = record {
+    → IsTalkedBeside honest form input r (waiting known own desk None) old → All (IsWorkersEnd honest) ends → ConversesBeside honest start logs form input r ends was is old
+conversed honest start logs form input r ends was mid is own old state known desk place started forked own_is known_is desk_is talk each = record {
   state = state;
   mid = mid;
   started = started;
   forked = forked;
   own = own;
   unasked = is_fresh own place own_is;
-  last = talk.0;
-  talk = subst (λ (d : OnDesk). IsTalkBeside honest form input r (waiting state.history own d None) talk.0 old new) desk_is
-      (subst (λ (k : List Entry). IsTalkBeside honest form input r (waiting k own desk None) talk.0 old new) known_is talk.1);
+  talk = subst (λ (d : OnDesk). IsTalkedBeside honest form input r (waiting state.history own d None) old) desk_is
+      (subst (λ (k : List Entry). IsTalkedBeside honest form input r (waiting k own desk None) old) known_is talk);
   each = each;
 }
 
 -- how that is judged
-pub judged_done : (honest : Type 0) (start : Start) (logs : List FolderFile) (form : Form) (input : Option (List ℕ)) (r : Result (Unit {0}) TalkFault) (ends : List WorkerEnd) (was is : Told) (old new : Option (List ℕ))
-    (done : Result (Unit {0}) CompactFault) → ConversesBeside honest start logs form input r ends was is old new → OnOk done ((r ≡ Ok tt) × All IsFaultless ends)
-    → OnOk done (IsConversedBeside honest start logs form input was is old new)
-judged_done honest start logs form input r ends was is old new (Ok x) c judged =
-    (ends, judged.1, subst (λ (q : Result (Unit {0}) TalkFault). ConversesBeside honest start logs form input q ends was is old new) judged.0 c)
-judged_done honest start logs form input r ends was is old new (Err e) c judged = tt
+pub judged_done : (honest : Type 0) (start : Start) (logs : List FolderFile) (form : Form) (input : Option (List ℕ)) (r : Result (Unit {0}) TalkFault) (ends : List WorkerEnd) (was is : Told) (old : Option (List ℕ))
+    (done : Result (Unit {0}) CompactFault) → ConversesBeside honest start logs form input r ends was is old → OnOk done ((r ≡ Ok tt) × All IsFaultless ends)
+    → OnOk done (IsConversedBeside honest start logs form input was is old)
+judged_done honest start logs form input r ends was is old (Ok x) c judged =
+    (ends, judged.1, subst (λ (q : Result (Unit {0}) TalkFault). ConversesBeside honest start logs form input q ends was is old) judged.0 c)
+judged_done honest start logs form input r ends was is old (Err e) c judged = tt
 
 pub judged_fault : (Stored : ℕ → List ℕ → Type 0) (Refused : Asked → ShelfFault → Type 0) (honest : Type 0) (start : Start) (logs : List FolderFile) (form : Form) (input : Option (List ℕ)) (r : Result (Unit {0}) TalkFault)
-    (ends : List WorkerEnd) (was is : Told) (old new : Option (List ℕ)) (done : Result (Unit {0}) CompactFault) → ConversesBeside honest start logs form input r ends was is old new → IfErr done (IsOfEnds r ends)
+    (ends : List WorkerEnd) (was is : Told) (old new : Option (List ℕ)) (done : Result (Unit {0}) CompactFault) → ConversesBeside honest start logs form input r ends was is old → IfErr done (IsOfEnds r ends)
     → IfErr done (λ e. IsBesideFault Stored Refused honest start logs form input e was is old new)
 judged_fault Stored Refused honest start logs form input r ends was is old new (Ok x) c judged = tt
-judged_fault Stored Refused honest start logs form input r ends was is old new (Err e) c judged = inr (inr (r, ends, judged, c))
+judged_fault Stored Refused honest start logs form input r ends was is old new (Err e) c judged = inr (inr (inr (r, ends, judged, c)))

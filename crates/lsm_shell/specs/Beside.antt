@@ -44,3 +44,7 @@ pub record IsRepliedBeside (honest : Type 0) (form : Form) (line said : List ℕ
 -- Such a conversation. No batch was begun before it, and one that is begun at its end is let go.
 abbrev pub IsTalkBeside : Type 0 → Form → Option (List ℕ) → Result (Unit {0}) TalkFault → Waiting → Waiting → Option (List ℕ) → Option (List ℕ) → Type 0
 IsTalkBeside honest form input r s t old new = (begun : Option (List Write)) × IsTalkOf (IsRepliedBeside honest form) input r s (record t { begun = begun }) old new
+
+-- So it was, and it was said of an output that had this much.
+abbrev pub IsTalkedBeside : Type 0 → Form → Option (List ℕ) → Result (Unit {0}) TalkFault → Waiting → Option (List ℕ) → Type 0
+IsTalkedBeside honest form input r s old = (t : Waiting) × (new : Option (List ℕ)) × IsTalkBeside honest form input r s t old new

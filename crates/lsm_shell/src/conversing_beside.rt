@@ -1,13 +1,12 @@
 //! A conversation with the database on a shelf, while workers compact beside.
 
-ghost use Rattle.std.specs.Prelude.{◌≡◌, All, IfErr, IfNone, IfSome, List, None, Ok, OnOk, Some};
+ghost use Rattle.std.specs.Prelude.{◌≡◌, All, IfErr, IfNone, IfSome, None, Ok, OnOk};
 ghost use Rattle.std.specs.Prelude.{vec_len};
-ghost use Rattle.std.specs.Io.KnownBytes.{Keeps};
 ghost use Rattle.lsm_shelf.specs.Stored.{Stored};
 ghost use Rattle.lsm_state.specs.Making.{IsNewBoard, IsNewHistory};
 ghost use Rattle.lsm_store.specs.Workers.{IsWorkersEnd};
 ghost use Rattle.lsm_writing.specs.Starting.{usual};
-ghost use Rattle.lsm_shell.specs.Beside.{IsTalkBeside, Waiting, waiting};
+ghost use Rattle.lsm_shell.specs.Beside.{IsTalkedBeside, waiting};
 ghost use Rattle.lsm_loading.specs.Ending.{IsFaultless, IsFirstFault};
 ghost use Rattle.lsm_shell.specs.Conversing.{IsBesideFault, IsConversedBeside, IsOfEnds};
 
@@ -31,6 +30,9 @@ use std::thread::Threads;
 
 /// Replies to lines on the state of a store, while a worker for each shelf compacts: how that ended,
 /// and the workers' ends. None where there was no memory for the workers; then no line was read.
+///
+/// What is said is said of an output that begins as this one does. The toolchain tells nothing of
+/// what a closure that is handed on leaves of what it borrowed.
 fn talk_in_store<N, S, R, I, O>(
     rt: &R,
     alloc: Global,
@@ -49,10 +51,9 @@ where
     R: Threads + Wait + Sync,
     I: Read + Drop,
     O: Write,
-    ensures talked { IfSome result (λ r. (last : Waiting) × IsTalkBeside S.honest form lines.left r.0
-        (waiting memory own desk None) last (O.contents out.old) (O.contents out.new)) }
+    ensures talked { IfSome result (λ r. IsTalkedBeside S.honest form lines.left r.0
+        (waiting memory own desk None) (O.contents out.old)) }
     ensures ends { IfSome result (λ r. All (IsWorkersEnd S.honest) r.1.items) }
-    ensures none { IfNone result (Keeps (O.contents out.old) (O.contents out.new)) }
 {
     let told = &mut *out;
     let run = with_workers(
@@ -61,17 +62,15 @@ where
         store,
         shelves,
         &NoGate,
-        move |background: &Background| -> (Result<(), TalkFault>, &mut O)
-            ensures talked { (last : Waiting) × IsTalkBeside S.honest form lines.left result.0
-                (waiting memory own desk None) last (O.contents told.entry.now)
-                (O.contents result.1.now) }
-            ensures same { result.1.ghost_name ≡ told.entry.ghost_name }
+        move |background: &Background| -> Result<(), TalkFault>
+            ensures { IsTalkedBeside S.honest form lines.left result (waiting memory own desk None)
+                (O.contents told.entry.now) }
         {
             let mut memory = memory;
             let mut desk = desk;
             let mut own = own;
             let mut lines = lines;
-            let talked = talk_beside(
+            talk_beside(
                 rt,
                 alloc,
                 store,
@@ -82,15 +81,11 @@ where
                 form,
                 &mut lines,
                 told,
-            );
-            (talked, told)
+            )
         },
     );
     match run {
-        Ok((answer, ends)) => {
-            let (talked, _told) = answer;
-            Some((talked, ends))
-        }
+        Ok(run) => Some(run),
         Err(refused) => {
             drop(refused);
             None
@@ -159,7 +154,7 @@ where
     requires history { IsNewHistory N.history parts.history }
     ensures done { OnOk result (IsConversedBeside S.honest prepared.now.start
         prepared.now.logs.items form lines.left shelf.old shelf.new
-        (O.contents out.old) (O.contents out.new)) }
+        (O.contents out.old)) }
     ensures fault { IfErr result (λ e. IsBesideFault (Stored S.Receipt (S.is_of N.place)
         S.Receipt.number S.Receipt.image) (S.refuses N.place) S.honest prepared.now.start
         prepared.now.logs.items form lines.left e shelf.old shelf.new
@@ -220,7 +215,7 @@ where
     requires history { IsNewHistory N.history parts.history }
     ensures done { OnOk result.0 (IsConversedBeside S.honest prepared.now.start
         prepared.now.logs.items form lines.left (S.told shelf) (S.told result.1)
-        (O.contents out.old) (O.contents out.new)) }
+        (O.contents out.old)) }
     ensures fault { IfErr result.0 (λ e. IsBesideFault (Stored S.Receipt (S.is_of N.place)
         S.Receipt.number S.Receipt.image) (S.refuses N.place) S.honest prepared.now.start
         prepared.now.logs.items form lines.left e (S.told shelf) (S.told result.1)
@@ -252,7 +247,7 @@ where
     O: Write,
     ensures done { OnOk result.0 (IsConversedBeside S.honest prepared.now.start
         prepared.now.logs.items form (I.remaining input) (S.told shelf) (S.told result.1)
-        (O.contents out.old) (O.contents out.new)) }
+        (O.contents out.old)) }
     ensures fault { IfErr result.0 (λ e. IsBesideFault (Stored S.Receipt
         (S.is_of (S.told shelf).place) S.Receipt.number S.Receipt.image)
         (S.refuses (S.told shelf).place) S.honest prepared.now.start prepared.now.logs.items form
