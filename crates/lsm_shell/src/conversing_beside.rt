@@ -181,13 +181,12 @@ where
         Ok(crew) => crew,
         Err(fault) => return Err(CompactFault::Writer(WriterFault::of_shelf(fault))),
     };
-    let run = talk_in_store(
+    let Some((talked, ends)) = talk_in_store(
         rt, alloc, &store, shelves, memory, desk, own, form, lines, out,
-    );
-    match run {
-        Some((talked, ends)) => judge(talked, &ends),
-        None => Err(CompactFault::Writer(WriterFault::OutOfMemory)),
-    }
+    ) else {
+        return Err(CompactFault::Writer(WriterFault::OutOfMemory));
+    };
+    judge(talked, &ends)
 }
 
 /// The same under the name that was picked for the parts and the shelf, which is given back.

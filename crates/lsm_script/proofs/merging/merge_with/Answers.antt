@@ -1,8 +1,8 @@
 use Rattle.std.proofs.Common.{ℕ, List, [], sym, subst}
 use Rattle.lsm_script.proofs.merging.merge_with.Goals as goal
 
-pub compact-requires : goal.compact-requires
-compact-requires g c κs within =
+pub compact-requires-after_bounds : goal.compact-requires-after_bounds
+compact-requires-after_bounds g c κs within =
     let n = c.args.numbers.now in
     let holds = g.M.Noted.holds n.state.now in
     record {
