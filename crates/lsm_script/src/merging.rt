@@ -71,7 +71,16 @@ fn merge_job<N: Boarded, S: Shelf, R: Wait>(
         state,
         |state: &mut State<N, S>, ticket| { drawn(state, ticket) },
     );
-    merge_with::<Brand, State<N, S>, _, N, S, R>(rt, alloc, &mut numbers, shelf, registry, job)
+    let merged = merge_with::<Brand, State<N, S>, _, N, S, R>(
+        rt,
+        alloc,
+        &mut numbers,
+        shelf,
+        registry,
+        job,
+    );
+    let Numbers { state: _lent, .. } = numbers;
+    merged
 }
 
 /// Merges the job of this ticket. The result is kept in place of the job.

@@ -1,18 +1,15 @@
 use Rattle.std.proofs.Common.{ℕ, List, [], sym, subst}
 use Rattle.lsm_script.proofs.merging.merge_with.Goals as goal
 
-pub compact-requires-after_bounds : goal.compact-requires-after_bounds
-compact-requires-after_bounds g c κs within =
+pub compact-requires-clause-ready : goal.compact-requires-clause-ready
+compact-requires-clause-ready g c κs within =
     let n = c.args.numbers.now in
-    let holds = g.M.Noted.holds n.state.now in
-    record {
-      ready = (
-        c.requires.call,
-        c.requires.loan,
-        record {
-          fact = subst (λ (l : List ℕ). holds l n.refused.numbers n.asked.numbers) (sym c.requires.none.0)
-              (subst (λ (l : List ℕ). holds [] l n.asked.numbers) (sym c.requires.none.1) (subst (λ (l : List ℕ). holds [] [] l) (sym c.requires.none.2) c.requires.begins));
-          keeps = c.requires.keeps;
-        },
-      );
-    }
+    let holds = g.M.Noted.holds n.state.now in (
+      c.requires.call,
+      c.requires.loan,
+      record {
+        fact = subst (λ (l : List ℕ). holds l n.refused.numbers n.asked.numbers) (sym c.requires.none.0)
+            (subst (λ (l : List ℕ). holds [] l n.asked.numbers) (sym c.requires.none.1) (subst (λ (l : List ℕ). holds [] [] l) (sym c.requires.none.2) c.requires.begins));
+        keeps = c.requires.keeps;
+      },
+    )

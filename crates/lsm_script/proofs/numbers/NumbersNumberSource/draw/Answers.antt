@@ -9,7 +9,7 @@ returns-in-Ok-clause-ready g c =
     let holds = g.M.Noted.holds c.draw-answer.new.arg2 in
     let now = c.args.self.now in
     let after = after_is holds c.args.ticket now.drew.numbers now.refused.numbers now.asked.numbers c.draw-answer.result _ c.in-Ok.is
-        (source.keeps _ _ c.args.ticket c.draw-answer.result now.drew.numbers now.refused.numbers now.asked.numbers c.ranges.ticket.fits source.fact c.draw-answer.ensures) in (
+    (source.keeps _ _ c.args.ticket c.draw-answer.result now.drew.numbers now.refused.numbers now.asked.numbers c.ranges.ticket.fits source.fact c.draw-answer.ensures) in (
       c.requires.ready.0,
       c.requires.ready.1,
       record {
@@ -25,7 +25,7 @@ returns-in-Err-clause-ready g c =
     let holds = g.M.Noted.holds c.draw-answer.new.arg2 in
     let now = c.args.self.now in
     let after = after_is holds c.args.ticket now.drew.numbers now.refused.numbers now.asked.numbers c.draw-answer.result _ c.in-Err.is
-        (source.keeps _ _ c.args.ticket c.draw-answer.result now.drew.numbers now.refused.numbers now.asked.numbers c.ranges.ticket.fits source.fact c.draw-answer.ensures) in (
+    (source.keeps _ _ c.args.ticket c.draw-answer.result now.drew.numbers now.refused.numbers now.asked.numbers c.ranges.ticket.fits source.fact c.draw-answer.ensures) in (
       c.requires.ready.0,
       c.requires.ready.1,
       record {
@@ -42,5 +42,5 @@ returns-in-Err-clause-named g c =
     let now = c.args.self.now in
     let source = c.requires.ready.2 in
     let after = after_is holds c.args.ticket now.drew.numbers now.refused.numbers now.asked.numbers c.draw-answer.result _ c.in-Err.is
-        (source.keeps _ _ c.args.ticket c.draw-answer.result now.drew.numbers now.refused.numbers now.asked.numbers c.ranges.ticket.fits source.fact c.draw-answer.ensures) in
+    (source.keeps _ _ c.args.ticket c.draw-answer.result now.drew.numbers now.refused.numbers now.asked.numbers c.ranges.ticket.fits source.fact c.draw-answer.ensures) in
     after.1
