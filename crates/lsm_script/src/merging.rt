@@ -7,7 +7,7 @@ ghost use Rattle.lsm_script.specs.Replies.{IsRefusedMerge};
 
 use crate::command_fault::CommandFault;
 use crate::held::index_of_job;
-use crate::numbers::{Noted, Numbers, drawn};
+use crate::numbers::{Answered, Noted, Numbers, drawn};
 use crate::reply::Reply;
 use lsm_merge::{Finished, Job, MergeFault, NumberFault, compact};
 use lsm_slots::Boarded;
@@ -31,8 +31,9 @@ where
     F: Fn(&mut X, u64) -> Result<u64, NumberFault>,
     requires call { F.IsAlwaysCallable numbers.old.draw }
     requires loan { numbers.old.state.ghost_name ≡ M.loan }
-    requires none { (numbers.old.drew.numbers ≡ []) × (numbers.old.refused.numbers ≡ [])
-        × (numbers.old.asked.numbers ≡ []) }
+    requires none { (numbers.old.answered.now.drew.numbers ≡ [])
+        × (numbers.old.answered.now.refused.numbers ≡ [])
+        × (numbers.old.answered.now.asked.numbers ≡ []) }
     requires begins { M.holds numbers.old.state.now [] [] [] }
     requires keeps { Keeps (λ p t q r. F.post numbers.old.draw p t r q)
         (λ p drew refused asked. M.holds p.now drew refused asked) }
@@ -67,20 +68,13 @@ fn merge_job<N: Boarded, S: Shelf, R: Wait>(
     ensures err { IfErr result (λ e.
         IsRefusedMerge S.honest job e state.old state.new shelf.old shelf.new) }
 {
+    let mut answered = Answered::nothing();
     let mut numbers: Numbers<'_, Brand, State<N, S>, _> = Numbers::of(
         state,
+        &mut answered,
         |state: &mut State<N, S>, ticket| { drawn(state, ticket) },
     );
-    let merged = merge_with::<Brand, State<N, S>, _, N, S, R>(
-        rt,
-        alloc,
-        &mut numbers,
-        shelf,
-        registry,
-        job,
-    );
-    let Numbers { state: _lent, .. } = numbers;
-    merged
+    merge_with::<Brand, State<N, S>, _, N, S, R>(rt, alloc, &mut numbers, shelf, registry, job)
 }
 
 /// Merges the job of this ticket. The result is kept in place of the job.

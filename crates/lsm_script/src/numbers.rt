@@ -30,32 +30,50 @@ impl<X> Noted<X> for Brand {
     ghost loan = { 0 };
 }
 
-/// A state that is lent, and the function that draws a number from it. They have no bound: a method
-/// of an impl may call no function that is bounded by a shelf, so the function is a value.
+/// What a source of numbers answered, which only clauses read.
 #[derive(Drop)]
-pub(crate) struct Numbers<'a, M, X, F> {
-    pub(crate) state: &'a mut X,
-    pub(crate) draw: F,
+pub(crate) struct Answered {
     pub(crate) drew: Tag,
     pub(crate) refused: Tag,
     pub(crate) asked: Tag,
+}
+
+impl Answered {
+    /// Nothing yet.
+    pub(crate) fn nothing() -> Answered
+        ensures { (result.drew.numbers ≡ []) × (result.refused.numbers ≡ [])
+            × (result.asked.numbers ≡ []) }
+    {
+        Answered {
+            drew: Tag::empty(),
+            refused: Tag::empty(),
+            asked: Tag::empty(),
+        }
+    }
+}
+
+/// A state that is lent, the function that draws a number from it, and what was answered. They have
+/// no bound: a method of an impl may call no function that is bounded by a shelf, so the function is
+/// a value.
+#[derive(Drop)]
+pub(crate) struct Numbers<'a, M, X, F> {
+    pub(crate) state: &'a mut X,
+    pub(crate) answered: &'a mut Answered,
+    pub(crate) draw: F,
     pub(crate) noted: PhantomData<M>,
 }
 
 impl<'a, M, X, F> Numbers<'a, M, X, F> {
-    /// Those of this state, of which none was given yet.
-    pub(crate) fn of(state: &'a mut X, draw: F) -> Numbers<'a, M, X, F>
+    /// Those of this state.
+    pub(crate) fn of(state: &'a mut X, answered: &'a mut Answered, draw: F) -> Numbers<'a, M, X, F>
         ensures state { result.state ≡ state.entry }
+        ensures answered { result.answered ≡ answered.entry }
         ensures draw { result.draw ≡ draw }
-        ensures none { (result.drew.numbers ≡ []) × (result.refused.numbers ≡ [])
-            × (result.asked.numbers ≡ []) }
     {
         Numbers {
             state,
+            answered,
             draw,
-            drew: Tag::empty(),
-            refused: Tag::empty(),
-            asked: Tag::empty(),
             noted: PhantomData,
         }
     }
@@ -65,32 +83,33 @@ impl<'a, M: Noted<X>, X, F: Fn(&mut X, u64) -> Result<u64, NumberFault>> NumberS
     for Numbers<'a, M, X, F> {
     ghost use Rattle.lsm_script.specs.Drawing.{IsSource};
 
-    ghost drew = { λ n. n.drew.numbers };
+    ghost drew = { λ n. n.answered.now.drew.numbers };
 
-    ghost refused = { λ n. n.refused.numbers };
+    ghost refused = { λ n. n.answered.now.refused.numbers };
 
-    ghost asked = { λ n. n.asked.numbers };
+    ghost asked = { λ n. n.answered.now.asked.numbers };
 
     ghost ready = { λ n. F.IsAlwaysCallable n.draw × (n.state.ghost_name ≡ M.loan)
         × IsSource (λ p drew refused asked. M.holds p.now drew refused asked)
         (λ p t q r. F.post n.draw p t r q) record {
           state = n.state;
-          drew = n.drew.numbers;
-          refused = n.refused.numbers;
-          asked = n.asked.numbers;
+          drew = n.answered.now.drew.numbers;
+          refused = n.answered.now.refused.numbers;
+          asked = n.answered.now.asked.numbers;
         } };
 
     fn draw<R: Wait>(&mut self, _rt: &R, _alloc: Global, ticket: u64) -> Result<u64, NumberFault> {
         let state = &mut *self.state;
         let answer = (self.draw)(state, ticket);
-        self.asked = with_number(ticket, &self.asked);
+        let answered = &mut *self.answered;
+        answered.asked = with_number(ticket, &answered.asked);
         match answer {
             Ok(number) => {
-                self.drew = with_number(number, &self.drew);
+                answered.drew = with_number(number, &answered.drew);
                 Ok(number)
             }
             Err(fault) => {
-                self.refused = with_number(u64::from(fault.number()), &self.refused);
+                answered.refused = with_number(u64::from(fault.number()), &answered.refused);
                 Err(fault)
             }
         }

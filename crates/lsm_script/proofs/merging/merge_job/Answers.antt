@@ -13,7 +13,7 @@ merge_with-requires-clause-keeps g c κs within = λ p q t r drew refused asked 
 pub returns-clause-ok : goal.returns-clause-ok
 returns-clause-ok g c =
     let H = g.S.Shelf.honest in
-    let made = c.merge_with-merged in
+    let made = c.merge_with in
     let name = made.ensures.loan in
     let start : c.of-numbers.result.state.now ≡ c.args.state.now = search rules in
     subst (λ (h : Held). IfOk made.result (λ d. IsMerged H c.args.job d c.args.state.now h c.args.shelf.now made.new.shelf)) (search rules)
@@ -23,7 +23,7 @@ returns-clause-ok g c =
 pub returns-clause-err : goal.returns-clause-err
 returns-clause-err g c =
     let H = g.S.Shelf.honest in
-    let made = c.merge_with-merged in
+    let made = c.merge_with in
     let name = made.ensures.loan in
     let start : c.of-numbers.result.state.now ≡ c.args.state.now = search rules in
     subst (λ (h : Held). IfErr made.result (λ e. IsRefusedMerge H c.args.job e c.args.state.now h c.args.shelf.now made.new.shelf)) (search rules)

@@ -3,8 +3,8 @@ use Rattle.lsm_script.proofs.merging.merge_with.Goals as goal
 
 pub compact-requires-clause-ready : goal.compact-requires-clause-ready
 compact-requires-clause-ready g c κs within =
-    let n = c.args.numbers.now in
-    let holds = g.M.Noted.holds n.state.now in (
+    let n = c.args.numbers.now.answered.now in
+    let holds = g.M.Noted.holds c.args.numbers.now.state.now in (
       c.requires.call,
       c.requires.loan,
       record {
