@@ -30,7 +30,8 @@ pub(crate) fn answer<N: Boarded, S: Shelf, R: Wait, O: Write>(
     out: &mut O,
 ) -> Result<(), Unsaid>
     ensures { (said : List ℕ) × (r : Reply) × IsStep S.honest command.now r
-        (stage state.old desk.old shelf.old) (stage state.new desk.new shelf.new) × Says (reply_text form r) said
+        (stage state.old desk.old shelf.old) (stage state.new desk.new shelf.new)
+        × Says (reply_text form r) said
         × OnOk result (Appends (O.contents out.old) (O.contents out.new) said) }
 {
     let reply = desk.answer(rt, alloc, state, shelf, command);

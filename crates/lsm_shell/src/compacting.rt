@@ -52,8 +52,8 @@ pub(crate) fn compact<N: Boarded, S: Shelf, R: Wait, O: Write>(
     text: &mut Vec<u8>,
     out: &mut O,
 ) -> Result<(), Unsaid>
-    ensures { (said : List ℕ) × IsCompactReply S.honest form said (stage state.old desk.old shelf.old)
-        (stage state.new desk.new shelf.new)
+    ensures { (said : List ℕ) × IsCompactReply S.honest form said
+        (stage state.old desk.old shelf.old) (stage state.new desk.new shelf.new)
         × OnOk result (Appends (O.contents out.old) (O.contents out.new) said) }
 {
     match compact_all(rt, alloc, state, desk, shelf) {

@@ -46,9 +46,11 @@ fn try_to<N: Boarded, S: Shelf, R: Wait>(
     command: &Command,
 ) -> Result<(), CommandFault>
     ensures ok { OnOk result
-        (Does S.honest command.now (stage state.old desk.old shelf.old) (stage state.new desk.new shelf.new)) }
+        (Does S.honest command.now
+        (stage state.old desk.old shelf.old) (stage state.new desk.new shelf.new)) }
     ensures err { IfErr result (λ e.
-        Fails S.honest command.now e (stage state.old desk.old shelf.old) (stage state.new desk.new shelf.new)) }
+        Fails S.honest command.now e
+        (stage state.old desk.old shelf.old) (stage state.new desk.new shelf.new)) }
 {
     let reply = desk.answer(rt, alloc, state, shelf, command);
     match unrefused(reply) {
@@ -67,9 +69,11 @@ fn try_to_finish<N: Boarded, S: Shelf, R: Wait>(
     ticket: u64,
 ) -> Result<(), CommandFault>
     ensures ok { OnOk result
-        (IsFinished S.honest ticket (stage state.old desk.old shelf.old) (stage state.new desk.new shelf.new)) }
+        (IsFinished S.honest ticket
+        (stage state.old desk.old shelf.old) (stage state.new desk.new shelf.new)) }
     ensures err { IfErr result (λ e.
-        IsUnfinished S.honest ticket e (stage state.old desk.old shelf.old) (stage state.new desk.new shelf.new)) }
+        IsUnfinished S.honest ticket e
+        (stage state.old desk.old shelf.old) (stage state.new desk.new shelf.new)) }
 {
     match try_to(rt, alloc, state, desk, shelf, &Command::Merge(ticket)) {
         Ok(()) => try_to(rt, alloc, state, desk, shelf, &Command::Install(ticket)),
@@ -87,9 +91,11 @@ fn finish<N: Boarded, S: Shelf, R: Wait>(
     ticket: u64,
 ) -> Result<(), CommandFault>
     ensures ok { OnOk result
-        (IsFinished S.honest ticket (stage state.old desk.old shelf.old) (stage state.new desk.new shelf.new)) }
+        (IsFinished S.honest ticket
+        (stage state.old desk.old shelf.old) (stage state.new desk.new shelf.new)) }
     ensures err { IfErr result (λ e.
-        IsGivenUp S.honest ticket e (stage state.old desk.old shelf.old) (stage state.new desk.new shelf.new)) }
+        IsGivenUp S.honest ticket e
+        (stage state.old desk.old shelf.old) (stage state.new desk.new shelf.new)) }
 {
     match try_to_finish(rt, alloc, state, desk, shelf, ticket) {
         Ok(()) => Ok(()),
@@ -110,11 +116,14 @@ fn take_round<N: Boarded, S: Shelf, R: Wait>(
     shelf: &mut NamedShelf<N, S>,
 ) -> Result<bool, CommandFault>
     ensures round { IfOk result (λ more. more ≡ true
-        → IsRound S.honest (stage state.old desk.old shelf.old) (stage state.new desk.new shelf.new)) }
+        → IsRound S.honest
+        (stage state.old desk.old shelf.old) (stage state.new desk.new shelf.new)) }
     ensures none { IfOk result (λ more. more ≡ false
-        → NoneIsDue S.honest (stage state.old desk.old shelf.old) (stage state.new desk.new shelf.new)) }
+        → NoneIsDue S.honest
+        (stage state.old desk.old shelf.old) (stage state.new desk.new shelf.new)) }
     ensures err { IfErr result (λ e.
-        IsRefusedRound S.honest e (stage state.old desk.old shelf.old) (stage state.new desk.new shelf.new)) }
+        IsRefusedRound S.honest e
+        (stage state.old desk.old shelf.old) (stage state.new desk.new shelf.new)) }
 {
     let reply = desk.answer(rt, alloc, state, shelf, &Command::Reserve);
     let reserved = match unrefused(reply) {
@@ -151,9 +160,11 @@ pub(crate) fn compact_all<N: Boarded, S: Shelf, R: Wait>(
     shelf: &mut NamedShelf<N, S>,
 ) -> Result<u64, CommandFault>
     ensures ok { IfOk result (λ n.
-        IsCompacted S.honest n (stage state.old desk.old shelf.old) (stage state.new desk.new shelf.new)) }
+        IsCompacted S.honest n
+        (stage state.old desk.old shelf.old) (stage state.new desk.new shelf.new)) }
     ensures err { IfErr result (λ e.
-        IsUncompacted S.honest e (stage state.old desk.old shelf.old) (stage state.new desk.new shelf.new)) }
+        IsUncompacted S.honest e
+        (stage state.old desk.old shelf.old) (stage state.new desk.new shelf.new)) }
 {
     for count in 0..u64::MAX {
         match take_round(rt, alloc, state, desk, shelf) {
