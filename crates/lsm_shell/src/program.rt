@@ -84,10 +84,13 @@ where
 {
     match workers {
         Some(workers) => { converse_beside(rt, alloc, shelf, prepared, form, workers, input, out) }
-        None => match converse(rt, alloc, shelf, prepared, form, input, out) {
-            (Ok(()), shelf) => (Ok(()), shelf),
-            (Err(fault), shelf) => (Err(CompactFault::Writer(fault)), shelf),
-        },
+        None => {
+            let (done, shelf) = converse(rt, alloc, shelf, prepared, form, input, out);
+            match done {
+                Ok(()) => (Ok(()), shelf),
+                Err(fault) => (Err(CompactFault::Writer(fault)), shelf),
+            }
+        }
     }
 }
 
