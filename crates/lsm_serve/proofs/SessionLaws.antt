@@ -21,7 +21,7 @@ abbrev pub ReadsBy : Seeing (List ℕ) → Seeing StateFault → (before after :
 ReadsBy Done Fault before after frame =
     (after.shelf ≡ before.shelf) × (after.taken ≡ before.taken) × IsLater after.reader.history before.reader.history
     × (Done before.taken before.reader after.reader before.known after.known frame
-        ⊎ ((e : StateFault) × Fault before.taken before.reader after.reader before.known after.known e × (frame ≡ refusal_frame e)))
+    ⊎ ((e : StateFault) × Fault before.taken before.reader after.reader before.known after.known e × (frame ≡ refusal_frame e)))
 
 -- what was read is answered
 pub says_read : {T : Type 0} (Done : Seeing (List ℕ)) (Fault : Seeing StateFault) (bytes : T → List ℕ) (session : Served) (b a : Learnt) (shelf : Told) (knew knows : List Entry)

@@ -92,7 +92,7 @@ returns-clause-fault g c =
       (
         c.saturating_sub-installed.result,
         compacts Refused Honest g.N.Boarded.board found after c.args.options.workers _ returned _ _ _ _ opened ends c.in_ok-left.ensures.faultless left count named
-        c.in_ok-sweep_all.ensures.ok,
+            c.in_ok-sweep_all.ensures.ok,
       ),
     ))))
 
@@ -116,7 +116,7 @@ returns-in-Ok-clause-done g c =
     let written : Appends (g.O.Write.contents c.args.out.now) (g.O.Write.contents c.reply.new.out) (installed_text c.saturating_sub-installed.result) = search rules in (
       c.saturating_sub-installed.result,
       compacts Refused Honest g.N.Boarded.board found after c.args.options.workers _ returned _ _ _ _ opened ends c.in_ok-left.ensures.faultless left count named
-      c.in_ok-sweep_all.ensures.ok,
+          c.in_ok-sweep_all.ensures.ok,
       written,
     )
 
