@@ -11,7 +11,8 @@
 //   leveldb mktable < LIST              the table of a list, as `lsm mktable` reads it
 //   leveldb dump < TABLE                the list of a table, as `lsm dump` prints it
 //   leveldb alone DIR KEYS READS        times what the program of reading.rattle times under these words, and prints the same lines;
-//   leveldb beside DIR KEYS READS       `verified_1` is a first scan, of files that were not mapped yet, `scan_1` a second one
+//   leveldb cached DIR KEYS READS       `verified_1` is a first scan, of files that were not mapped yet, `scan_1` a second one
+//   leveldb uncached DIR KEYS READS
 //   leveldb compact1 DIR KEYS 0         as `compact`, timed within the process, opening included
 #include <sys/wait.h>
 #include <unistd.h>
@@ -417,14 +418,12 @@ void Compact1(const std::string& folder, uint64_t keys) {
   std::printf("compact_1 %llu %lld 0\n", static_cast<unsigned long long>(keys), spent);
 }
 
-void Beside(const std::string& folder, uint64_t keys, uint64_t reads) {
-  for (bool cached : {true, false}) {
-    Reading reading(folder, keys, cached);
-    reading.Warm(cached ? 1 : 1000);
-    uint64_t count = (cached ? reads : reads / 5) / 2;
-    for (int by : {1, 4}) reading.TimeReads("_newest", by, count);
-    for (int by : {1, 4}) reading.TimeBeside(by, count);
-  }
+void Beside(const std::string& folder, uint64_t keys, uint64_t reads, bool cached) {
+  Reading reading(folder, keys, cached);
+  reading.Warm(cached ? 1 : 1000);
+  uint64_t count = (cached ? reads : reads / 5) / 2;
+  for (int by : {1, 4}) reading.TimeReads("_newest", by, count);
+  for (int by : {1, 4}) reading.TimeBeside(by, count);
 }
 
 }  // namespace
@@ -447,8 +446,10 @@ int main(int count, char** words) {
     Dump();
   } else if (what == "compact1" && count == 5) {
     Compact1(words[2], std::strtoull(words[3], nullptr, 10));
-  } else if ((what == "alone" || what == "beside") && count == 5) {
-    (what == "alone" ? Alone : Beside)(words[2], std::strtoull(words[3], nullptr, 10), std::strtoull(words[4], nullptr, 10));
+  } else if (what == "alone" && count == 5) {
+    Alone(words[2], std::strtoull(words[3], nullptr, 10), std::strtoull(words[4], nullptr, 10));
+  } else if ((what == "cached" || what == "uncached") && count == 5) {
+    Beside(words[2], std::strtoull(words[3], nullptr, 10), std::strtoull(words[4], nullptr, 10), what == "cached");
   } else {
     std::fprintf(stderr, "usage: see the head of leveldb.cc\n");
     return 2;

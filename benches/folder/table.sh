@@ -36,7 +36,7 @@
 #                 it can, and compacts. LevelDB's are synced too
 #
 # ENTRIES=8600000 are those of the large folder (1 GB; of the list a million at most), YOUNG=250000
-# those of a table of level 0, READS=500000 how many cached keys each reader reads; a fifth of them
+# those of a table of level 0, READS=1000000 how many cached keys each reader reads; a fifth of them
 # uncached, and half of each beside a writer. TMPFS=/dev/shm and DISK=/tmp name where folders are made;
 # each has to have some 3 GB. No process may take longer than LIMIT=300 seconds, and no turn but the
 # first of a place begins that would not end within MINUTES=15 of all, or half of them on tmpfs. Needs
@@ -45,7 +45,7 @@ set -euo pipefail
 here=$(cd "$(dirname "$0")" && pwd)
 program=$(readlink -f "${1:-$("$here/../../tools/program")}")
 reading=$(readlink -f "${2:-}" || true)
-entries=${ENTRIES:-8600000} young=${YOUNG:-250000} reads=${READS:-500000}
+entries=${ENTRIES:-8600000} young=${YOUNG:-250000} reads=${READS:-1000000}
 turns=${TURNS:-3} limit=${LIMIT:-300} minutes=${MINUTES:-15}
 lines=$((entries < 1000000 ? entries : 1000000))
 scratch=$(mktemp -d)
@@ -156,17 +156,20 @@ compaction_rows() { # WHO BEFORE FOLDER WORDS..: the rows of a compaction of a c
 }
 
 reading_turn() {
+  local kind
   sync -f "$room"
   rows_of ours "" "$reading" "$room/sorted" "$entries" "$reads" alone
   keep
   rows_of leveldb "" "$leveldb" alone "$room/sorted" "$entries" "$reads"
   beside alone leveldb
-  ready "$room/sorted"
-  rows_of ours "" "$reading" "$room/copy" "$entries" "$reads" beside
-  keep
-  ready "$room/sorted"
-  rows_of leveldb "" "$leveldb" beside "$room/copy" "$entries" "$reads"
-  beside beside leveldb
+  for kind in cached uncached; do
+    ready "$room/sorted"
+    rows_of ours "" "$reading" "$room/copy" "$entries" "$reads" "$kind"
+    keep
+    ready "$room/sorted"
+    rows_of leveldb "" "$leveldb" "$kind" "$room/copy" "$entries" "$reads"
+    beside "$kind" leveldb
+  done
   compaction_rows ours one_ "$room/one" "$reading" "$room/copy" $((4 * young)) 0 compact1
   compaction_rows leveldb one_ "$room/one" "$leveldb" compact1 "$room/copy" $((4 * young)) 0
   compaction_rows ours four_ "$room/four" "$reading" "$room/copy" $((16 * young)) 0 compact1
