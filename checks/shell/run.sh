@@ -1,6 +1,6 @@
 #!/usr/bin/env bash
 # Drives `lsm shell` as another program does, through pipes, and as a person does, in a terminal:
-# each line has its reply before the next line is sent, a list ends by `end`, bad and too long lines
+# each line has its reply before the next line is sent, also beside workers, a list ends by `end`, bad and too long lines
 # and refusals are replies, what was said to be in is in after a kill, a second shell is refused, and
 # a reply that can't be written ends it. Needs python3, and tmux for the last part, which is left
 # out where there is none. LSM=/path/to/lsm names a built program.

@@ -3,6 +3,7 @@ import os
 import subprocess
 import sys
 import threading
+import time
 
 program = sys.argv[1]
 BAD = "bad line: help tells what lines there are"
@@ -133,6 +134,40 @@ def one_opening_and_the_folder():
     assert subprocess.run([program, "check", "twelve"], capture_output=True).returncode == 0
 
 
+def ask_until_there_is_room(shell, line):
+    """The reply to a line that is sent again as long as level 0 is full; workers make room there."""
+    ends = time.monotonic() + 60
+    while True:
+        reply = shell.ask(line)
+        if reply != "refused 40 LevelZeroFull" or time.monotonic() > ends:
+            return reply
+
+
+def workers_beside():
+    shell = Shell("beside", "--text", "--workers", "2")
+    want(ask_until_there_is_room(shell, "put key0 first"), "file 2 first 1 last 1")
+    want(shell.ask("snapshot"), "snapshot 1 seq 1")
+    for n in range(1, 200):
+        said = ask_until_there_is_room(shell, f"put key{n % 20} {n}").split()
+        want(said[2:], ["first", str(n + 1), "last", str(n + 1)])
+        want(shell.ask(f"get key{n % 20}"), f"value {n}")
+    want(shell.ask("get key0 1"), "value first")
+    want(shell.ask("release 1"), "released")
+    want(shell.list("scan"), [f"key{n % 20}={n}" for n in sorted(range(180, 200), key=lambda n: str(n % 20))] + ["end"])
+    ends = time.monotonic() + 60
+    while int(shell.list("stats")[0].split()[3]) >= 4:
+        assert time.monotonic() < ends, "the workers leave level 0 as it is"
+    want(shell.list("stats")[7:], ["last 200", "snapshots 0", "end"])
+    want(shell.ask("frob"), BAD)
+    assert shell.ask("compact").startswith("installed "), "compact"
+    assert shell.ask("collect").startswith("removed"), "collect"
+    want(shell.end(), (0, ""))
+    assert subprocess.run([program, "check", "beside"], capture_output=True).returncode == 0
+    for count in ("0", "17", "x"):
+        status, _said = Shell("beside", "--workers", count).end()
+        want(status, 2)
+
+
 def a_kill_loses_nothing_that_was_said():
     shell = Shell("killed", "--text")
     for n in range(5):
@@ -157,6 +192,6 @@ def a_reply_that_is_not_written():
     assert child.returncode == 1 and err.startswith(b"write fault"), (child.returncode, err)
 
 
-for part in (lines_and_lists, batches, all_that_is_due, one_opening_and_the_folder, a_kill_loses_nothing_that_was_said, a_folder_that_is_refused, a_reply_that_is_not_written):
+for part in (lines_and_lists, batches, all_that_is_due, one_opening_and_the_folder, workers_beside, a_kill_loses_nothing_that_was_said, a_folder_that_is_refused, a_reply_that_is_not_written):
     part()
     print(part.__name__.replace("_", " ") + ": as wanted")

@@ -65,7 +65,7 @@ module _ {C M : Type 0} (folders : Ghosts C M) (marks : mark.Ghosts M) where
       LoadsAt folders line.path.now line.options (text line.input) old new × (IsFalse line.options.progress → Keeps said_old said_new)
   IsDone text (Compact line) old new said_old said_new = IsCompactedAt folders line old new × (IsFalse line.options.progress → Keeps said_old said_new)
   IsDone text (Script input) old new said_old said_new = IsPlayed (text input) old new × Keeps said_old said_new
-  IsDone text (Shell line) old new said_old said_new = TalksAt folders line.path.now line.options (text Standard) old new × Keeps said_old said_new
+  IsDone text (Shell line) old new said_old said_new = TalksAt folders line.path.now line.options line.workers (text Standard) old new × Keeps said_old said_new
   IsDone text (Bench line) old new said_old said_new = BenchesAt folders line.path.now line.options × Keeps said_old said_new
 
   -- The words ask for a command, which was done; or they ask for help, which was written, and nothing was on standard error.
@@ -92,7 +92,7 @@ module _ {C M : Type 0} (folders : Ghosts C M) (marks : mark.Ghosts M) where
   IsUndone text (Load line) old new = FailsToLoad folders marks line.path.now line.options (text line.input) old new
   IsUndone text (Compact line) old new = IsUncompacted folders marks line old new
   IsUndone text (Script input) old new = IsUnplayed (text input) old new
-  IsUndone text (Shell line) old new = FailsToTalk folders marks line.path.now line.options (text Standard) old new
+  IsUndone text (Shell line) old new = FailsToTalk folders marks line.path.now line.options line.workers (text Standard) old new
   IsUndone text (Bench line) old new = ⊤
 
   -- The words ask for a command, which was not done; or for help, of which a beginning was written; or memory ran out before they were read.

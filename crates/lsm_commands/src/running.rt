@@ -133,7 +133,16 @@ where
         Request::Load(line) => run_load(rt, paths, line, input, out, err),
         Request::Compact(line) => run_compact(rt, paths, line, out, err),
         Request::Script(found) => run_script(rt, paths, *found, input, out, err),
-        Request::Shell(line) => run_shell(rt, paths, line.path, line.options, input, out, err),
+        Request::Shell(line) => run_shell(
+            rt,
+            paths,
+            line.path,
+            line.options,
+            line.workers,
+            input,
+            out,
+            err,
+        ),
         Request::Bench(line) => run_bench(rt, paths, line.path, &line.options, out, err),
     }
 }

@@ -1,6 +1,6 @@
 -- Numbers drawn by a merge.
-use Rattle.std.proofs.Common.{◌≡◌, ℕ, ◌-◌, ◌^◌, ◌==◌, Bool, true, false, cond, List, [], ◌∷◌, map, refl, sym, ◌∙◌, ap, subst, inl, inr, arith}
-use Rattle.std.specs.Prelude.{Ok, Err}
+use Rattle.std.proofs.Common.{◌≡◌, ℕ, ◌-◌, ◌^◌, ◌==◌, Bool, true, false, cond, List, [], ◌∷◌, map, refl, sym, ◌∙◌, ap, subst, inl, inr, arith, IfErr, IfOk}
+use Rattle.std.specs.Prelude.{Result, Ok, Err}
 use Rattle.lsm_codec.specs.Lists.{Has}
 use Rattle.lsm_codec.proofs.CallerLemmas.{has_cases}
 use Rattle.lsm_shelf.specs.Told.{Told}
@@ -86,3 +86,13 @@ refused_from H start new w e was is m = record {
   number = number_cause w.ticket start _ e m.fact m.asks m.why m.ticket;
   sound = m.sound;
 }
+
+-- the same, of what a merge answers
+
+pub all_merged : (H : Type 0) (start new : Held) (w : Work) (r : Result Done MergeFault) (was is : Told) → IfOk r (λ d. IsMergedBy H (Drawn start) w d new was is) → IfOk r (λ d. IsMerged H w d start new was is)
+all_merged H start new w (Ok d) was is m = merged_from H start new w d was is m
+all_merged H start new w (Err e) was is m = tt
+
+pub all_refused : (H : Type 0) (start new : Held) (w : Work) (r : Result Done MergeFault) (was is : Told) → IfErr r (λ e. IsRefusedBy H (Drawn start) w e new was is) → IfErr r (λ e. IsRefusedMerge H w e start new was is)
+all_refused H start new w (Ok d) was is m = tt
+all_refused H start new w (Err e) was is m = refused_from H start new w e was is m

@@ -1,5 +1,5 @@
 -- Numbers that a merge draws from a state (this project's rule).
-use Rattle.std.specs.Prelude.{◌≡◌, ℕ, suc, ◌-◌, ◌^◌, ◌<◌, List, [], ◌∷◌, map, Option, Some, Result, Ok, Err}
+use Rattle.std.specs.Prelude.{◌≡◌, ℕ, suc, ◌-◌, ◌^◌, ◌<◌, List, [], ◌∷◌, map, Result, Ok, Err}
 use Rattle.lsm_codec.specs.Lists.{Has}
 use Rattle.lsm_live.specs.Booked.{HasTicket, booked}
 use Rattle.lsm_merge.specs.NumberFault.{IsOfTicket, number_of}
@@ -55,10 +55,8 @@ abbrev pub Keeps : {X : Type 0} → (X → ℕ → X → Result ℕ NumberFault 
 Keeps {X = X} gives holds = (x y : X) (t : ℕ) (r : Result ℕ NumberFault) (drew refused asked : List ℕ) → t < 2 ^ 64 → holds x drew refused asked → gives x t y r → After r t (holds y) drew refused asked
 
 -- a source has a state, of which it holds, and each answer keeps it
-pub record IsSource {X : Type 0} (holds : X → List ℕ → List ℕ → List ℕ → Type 0) (gives : X → ℕ → X → Result ℕ NumberFault → Type 0) (s : Source (Option X)) : Type 0 where
-  pub value : X
-  pub is : s.state ≡ Some value
-  pub fact : holds value s.drew s.refused s.asked
+pub record IsSource {X : Type 0} (holds : X → List ℕ → List ℕ → List ℕ → Type 0) (gives : X → ℕ → X → Result ℕ NumberFault → Type 0) (s : Source X) : Type 0 where
+  pub fact : holds s.state s.drew s.refused s.asked
   pub keeps : Keeps gives holds
 
 -- The state came from this one, by drawing just these numbers. Where it refused for an unknown ticket, one for which it was asked is not

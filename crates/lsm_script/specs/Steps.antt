@@ -15,22 +15,21 @@ pub record Stage : Type 0 where
   pub jobs : List Work
   pub results : List Done
 
--- a state, and the jobs and results of those who drive it by commands
-pub record Driven : Type 0 where
-  pub state : Held
+-- the jobs and results of those who drive a state by commands
+pub record OnDesk : Type 0 where
   pub jobs : List Work
   pub results : List Done
 
 -- who has done nothing has no job and no result
-abbrev pub begun_with : Held → Driven
-begun_with h = record { state = h; jobs = []; results = [] }
+abbrev pub clear : OnDesk
+clear = record { jobs = []; results = [] }
 
--- with what the shelf was told
-abbrev pub stage : Driven → Told → Stage
-stage d t = record { state = d.state; told = t; jobs = d.jobs; results = d.results }
+-- a state with these, and with what the shelf was told
+abbrev pub stage : Held → OnDesk → Told → Stage
+stage h d t = record { state = h; told = t; jobs = d.jobs; results = d.results }
 
 abbrev pub stage_of : Held → Told → Stage
-stage_of h t = stage (begun_with h) t
+stage_of h t = stage h clear t
 
 -- the script's jobs and results are as before
 abbrev pub KeepsAll : Stage → Stage → Type 0

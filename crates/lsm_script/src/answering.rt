@@ -1,12 +1,11 @@
-//! Any command but a merge.
+//! Any command.
 
-ghost use Rattle.std.specs.Prelude.{◌≡◌, ℕ};
 ghost use Rattle.lsm_script.specs.Steps.{IsStep};
-ghost use Rattle.lsm_script.specs.declared.command.Command.TheVariants.{Merge};
 
 use crate::batches::ingest;
 use crate::command::Command;
 use crate::installing::install;
+use crate::merging::merge;
 use crate::pins::{collect, pin, unpin};
 use crate::reads::{get, list};
 use crate::reply::Reply;
@@ -19,7 +18,7 @@ use lsm_table::{NamedShelf, Registry, Shelf};
 use std::alloc::Global;
 use std::sync::Wait;
 
-/// Answers a command that is no merge.
+/// Answers a command.
 pub(crate) fn answer_call<N: Boarded, S: Shelf, R: Wait>(
     rt: &R,
     alloc: Global,
@@ -30,7 +29,6 @@ pub(crate) fn answer_call<N: Boarded, S: Shelf, R: Wait>(
     results: &mut Vec<Finished<N, S>>,
     command: &Command,
 ) -> Reply
-    requires other { (ticket : ℕ) → command.now ≡ Merge ticket → ⊥ }
     ensures step { IsStep S.honest command.now result record {
       state = state.old;
       told = shelf.old;
@@ -60,7 +58,9 @@ pub(crate) fn answer_call<N: Boarded, S: Shelf, R: Wait>(
                 to.as_slice(),
             )
         }
-        Command::Merge(_ticket) => unreachable!(),
+        Command::Merge(ticket) => {
+            merge(rt, alloc, state, shelf, registry, jobs, results, *ticket)
+        }
         Command::Install(ticket) => install(rt, alloc, state, shelf, results, *ticket),
         Command::Cancel(ticket) => cancel(state, *ticket),
         Command::Pin => pin(state),

@@ -19,7 +19,7 @@ pub fn one_script()
     ensures { (text : List ℕ) (a b : List Command) → IsScript text a → IsScript text b → a ≡ b }
 {}
 
-/// A law: where commands are answered by steps from a session that began with this state, however
+/// A law: where commands are answered by steps from a stage that began with this state, however
 /// many there are, whatever was refused, and whatever else was read between, the replies are those of the history from the state's
 /// own entries, and at the end the state is as the history says.
 pub fn steps_are_of_the_history<N: Boarded, S: Shelf>(state: &State<N, S>)

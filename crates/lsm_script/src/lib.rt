@@ -25,9 +25,9 @@ mod snapshots;
 
 // Commands one after another, and the jobs that they hold.
 mod answering;
+mod desk;
 mod held;
 mod script;
-mod session;
 
 // Commands as text.
 mod command_line;
@@ -44,11 +44,11 @@ mod reply_text;
 pub use command::Command;
 pub use command_fault::CommandFault;
 pub use command_line::command_in;
+pub use desk::Desk;
 pub use laws::{one_script, steps_are_of_the_history};
 pub use refusals::{cause_of_merge, of_merge, of_state};
 pub use reply::{Reply, Reserved};
 pub use reply_text::{push_replies, push_reply};
 pub use script::run;
 pub use script_text::{ScriptFault, script_in};
-pub use session::Session;
 pub use words::words_in;

@@ -8,8 +8,8 @@ ghost use Rattle.lsm_script.specs.Scripts.{AreReplies};
 ghost use Rattle.lsm_script.specs.Steps.{IsStep, stage, stage_of};
 
 use crate::command::Command;
+use crate::desk::Desk;
 use crate::reply::Reply;
-use crate::session::Session;
 use lsm_codec::List;
 use lsm_levels::machine::runs_read_all_that_came;
 use lsm_slots::Boarded;
@@ -22,36 +22,32 @@ use std::sync::Wait;
 fn answer_all<N: Boarded, S: Shelf, R: Wait>(
     rt: &R,
     alloc: Global,
-    session: Session<N, S>,
+    state: &mut State<N, S>,
+    desk: &mut Desk<N, S>,
     shelf: &mut NamedShelf<N, S>,
     commands: &[Command],
     replies: &mut Vec<Reply>,
-) -> Session<N, S>
+)
     requires none { (replies.old.items ≡ []) × (vec_len replies.old ≡ 0) }
     requires room { length commands.now ≤ vec_capacity replies.old }
     ensures replies { AreReplies (IsStep S.honest) commands.now replies.new.items
-        (stage session shelf.old) (stage result shelf.new) }
+        (stage state.old desk.old shelf.old) (stage state.new desk.new shelf.new) }
 {
-    let mut session = session;
     for command in commands {
-        let (after, reply) = session.answer(rt, alloc, shelf, command);
-        session = after;
+        let reply = desk.answer(rt, alloc, state, shelf, command);
         let ends = reply.ends_list();
         let Ok(()) = replies.push(reply) else {
             unreachable!()
         };
         if ends {
-            return session;
+            return;
         }
     }
-    session
 }
 
 /// Answers commands one after another, on one thread. The room for all replies is made first. Each
 /// refusal is a reply; one for want of memory is the last, and ends the list. Jobs that it reserved
 /// and results that it merged, and did not install, are let go at the end.
-///
-/// It takes the state, and hands it back with the replies: a merge draws its numbers from it.
 ///
 /// # Errors
 /// `AllocError` where there is no room for the replies; then nothing was done.
@@ -75,14 +71,26 @@ pub fn run<N: Boarded, S: Shelf, R: Wait>(
 
     ensures err { IfErr result (λ e. (e.1 ≡ state) × (shelf.new ≡ shelf.old)) }
 {
-    let session = Session::new(alloc, state)?;
+    let mut state = state;
+    let mut desk = match Desk::new(alloc, &state) {
+        Ok(desk) => desk,
+        Err(memory) => return Err((memory, state)),
+    };
     let mut replies = match Vec::with_capacity(alloc, commands.len()) {
         Ok(replies) => replies,
-        Err(memory) => return Err((memory, session.into_state())),
+        Err(memory) => return Err((memory, state)),
     };
     runs_read_all_that_came::<State<N, S>>();
     // The law of the state is told by this call.
-    let _options = session.state().options();
-    let session = answer_all(rt, alloc, session, shelf, commands, &mut replies);
-    Ok((session.into_state(), List::of(replies)))
+    let _options = state.options();
+    answer_all(
+        rt,
+        alloc,
+        &mut state,
+        &mut desk,
+        shelf,
+        commands,
+        &mut replies,
+    );
+    Ok((state, List::of(replies)))
 }

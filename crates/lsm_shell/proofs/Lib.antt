@@ -9,3 +9,5 @@ mod BatchLaws
 mod TalkLaws
 mod HistoryLaws
 mod RunLaws
+mod EndsLaws
+mod BesideLaws

@@ -10,22 +10,22 @@ use Rattle.lsm_text.specs.declared.ingest_options.IngestOptions.{IngestOptions}
 use Rattle.lsm_directory.specs.Folders.{IsShelfAt, stored_at, told_by}
 use Rattle.lsm_directory.specs.declared.folder.folder_file.FolderFile.{FolderFile}
 use Rattle.lsm_writing.specs.Preparing.{IsPrepared}
-use Rattle.lsm_writing.specs.declared.faults.writer_fault.WriterFault.{WriterFault}
+use Rattle.lsm_writing.specs.declared.faults.compact_fault.CompactFault.{CompactFault}
 use Rattle.lsm_writing.specs.declared.ingesting.start.Start.{Start}
-use Rattle.lsm_shell.specs.Conversing.{Converses, IsConverseFault}
+use Rattle.lsm_shell.specs.Conversing.{IsConversed, IsUnconversed}
 use Rattle.lsm_shell.specs.Talked.{FailsToTalk, TalksAt}
 
 module _ {C M : Type 0} (folders : Ghosts C M) where
-  pub talks_at : {T F : Type 0} (r : Result T F) (path : List ℕ) (options : IngestOptions) (input : Option (List ℕ)) (start : Start) (logs : List FolderFile) (begun ended : FileShelf C M)
+  pub talks_at : {T F : Type 0} (r : Result T F) (path : List ℕ) (options : IngestOptions) (workers : Option ℕ) (input : Option (List ℕ)) (start : Start) (logs : List FolderFile) (begun ended : FileShelf C M)
       (old new : Option (List ℕ)) → IsShelfAt folders path (IsPrepared options start logs) begun
-      → OnOk r (Converses (AreHonest folders.calls) start logs options.form input (Ok tt) (told_by folders begun) (told_by folders ended) old new) → OnOk r (TalksAt folders path options input old new)
-  talks_at (Ok x) path options input start logs begun ended old new on done = record { start = start; logs = logs; begun = begun; on = on; ended = ended; done = done }
-  talks_at (Err e) path options input start logs begun ended old new on done = tt
+      → OnOk r (IsConversed workers (AreHonest folders.calls) start logs options.form input (told_by folders begun) (told_by folders ended) old new) → OnOk r (TalksAt folders path options workers input old new)
+  talks_at (Ok x) path options workers input start logs begun ended old new on done = record { start = start; logs = logs; begun = begun; on = on; ended = ended; done = done }
+  talks_at (Err e) path options workers input start logs begun ended old new on done = tt
 
 module _ {C M : Type 0} (folders : Ghosts C M) (marks : mark.Ghosts M) where
-  pub fails_to_talk : {T : Type 0} (r : Result T WriterFault) (path : List ℕ) (options : IngestOptions) (input : Option (List ℕ)) (start : Start) (logs : List FolderFile) (begun ended : FileShelf C M)
+  pub fails_to_talk : {T : Type 0} (r : Result T CompactFault) (path : List ℕ) (options : IngestOptions) (workers : Option ℕ) (input : Option (List ℕ)) (start : Start) (logs : List FolderFile) (begun ended : FileShelf C M)
       (old new : Option (List ℕ)) → IsShelfAt folders path (IsPrepared options start logs) begun
-      → IfErr r (λ e. IsConverseFault (stored_at folders marks (told_by folders begun).place) MayRefuse (AreHonest folders.calls) start logs options.form input e (told_by folders begun) (told_by folders ended) old new)
-      → OnErr r (FailsToTalk folders marks path options input old new)
-  fails_to_talk (Ok x) path options input start logs begun ended old new on fault = tt
-  fails_to_talk (Err e) path options input start logs begun ended old new on fault = inr (e, record { start = start; logs = logs; begun = begun; on = on; ended = ended; refused = fault })
+      → IfErr r (λ e. IsUnconversed workers (stored_at folders marks (told_by folders begun).place) MayRefuse (AreHonest folders.calls) start logs options.form input e (told_by folders begun) (told_by folders ended) old new)
+      → OnErr r (FailsToTalk folders marks path options workers input old new)
+  fails_to_talk (Ok x) path options workers input start logs begun ended old new on fault = tt
+  fails_to_talk (Err e) path options workers input start logs begun ended old new on fault = inr (e, record { start = start; logs = logs; begun = begun; on = on; ended = ended; refused = fault })

@@ -10,6 +10,8 @@ use Rattle.lsm_table.specs.declared.read_fault.ReadFault.{ReadFault}
 use Rattle.lsm_version.specs.Versions.{Levels, files}
 use Rattle.lsm_batch.specs.declared.write.Write.{Write}
 use Rattle.lsm_lines.specs.Reading.{Lined, TakesLine, most_of_line}
+use Rattle.lsm_lines.specs.declared.line_reader.NextLine.{NextLine}
+use Rattle.lsm_lines.specs.declared.line_reader.NextLine.TheVariants.{Line, TooLong, NoMemory, End}
 use Rattle.lsm_state.specs.declared.state_fault.StateFault.TheVariants.{Read as ReadRefused}
 use Rattle.lsm_text.specs.EntryList.{lines_of}
 use Rattle.lsm_text.specs.declared.form.Form.{Form}
@@ -106,10 +108,14 @@ pub data IsReplied (honest : Type 0) (form : Form) (line said : List ℕ) (s t :
 
 -- ---- line after line
 
+-- Lines were replied to, one after another, each where the one before it left off.
+abbrev pub AreAnswered : {S : Type 0} → (List ℕ → List ℕ → S → S → Type 0) → List (List ℕ) → List ℕ → S → S → Type 0
+AreAnswered answers [] said s t = (said ≡ []) × (t ≡ s)
+AreAnswered {S = S} answers (line ∷ lines) said s t =
+    (mid : S) × (one : List ℕ) × (rest : List ℕ) × (said ≡ one ++ rest) × answers line one s mid × AreAnswered answers lines rest mid t
+
 abbrev pub AreReplied : Type 0 → Form → List (List ℕ) → List ℕ → Standing → Standing → Type 0
-AreReplied honest form [] said s t = (said ≡ []) × (t ≡ s)
-AreReplied honest form (line ∷ lines) said s t =
-    (mid : Standing) × (one : List ℕ) × (rest : List ℕ) × (said ≡ one ++ rest) × IsReplied honest form line one s mid × AreReplied honest form lines rest mid t
+AreReplied honest form lines said s t = AreAnswered (IsReplied honest form) lines said s t
 
 -- behind the lines that were replied to stands `quit`, or nothing
 abbrev pub IsEnd : List (List ℕ) → Type 0
@@ -132,24 +138,48 @@ IsWrite (Ok done) = ⊥
 IsWrite (Err WriteFault) = ⊤
 IsWrite (Err Read) = ⊥
 
--- A conversation: just the first lines of the input were replied to, each by what it asks for, in their order; and these replies were written,
--- unless a write failed. No batch was begun before it, and one that is begun at its end is let go.
-pub record IsTalk (honest : Type 0) (form : Form) (input : Option (List ℕ)) (r : Result (Unit {0}) TalkFault) (s t : Stage) (old new : Option (List ℕ)) : Type 0 where
+-- Just the first lines of the input were replied to, each by what it asks for, in their order; and these replies were written, unless a
+-- write failed.
+pub record IsTalkOf {S : Type 0} (answers : List ℕ → List ℕ → S → S → Type 0) (input : Option (List ℕ)) (r : Result (Unit {0}) TalkFault) (s t : S) (old new : Option (List ℕ)) : Type 0 where
   pub lines : List (List ℕ)
   pub said : List ℕ
-  pub begun : Option (List Write)
-  pub replied : AreReplied honest form lines said (standing s None) (standing t begun)
+  pub replied : AreAnswered answers lines said s t
   pub first : AreFirstOf r lines input
   pub written : (IsWrite r → ⊥) → Appends old new said
 
+-- A conversation. No batch was begun before it, and one that is begun at its end is let go.
+abbrev pub IsTalk : Type 0 → Form → Option (List ℕ) → Result (Unit {0}) TalkFault → Stage → Stage → Option (List ℕ) → Option (List ℕ) → Type 0
+IsTalk honest form input r s t old new = (begun : Option (List Write)) × IsTalkOf (IsReplied honest form) input r (standing s None) (standing t begun) old new
+
 -- ---- one turn
 
+-- a line that is held and is not `quit`, or one that is not held
+abbrev pub IsHeld : NextLine → List ℕ → Type 0
+IsHeld Line held = held ≢ codes "quit"
+IsHeld TooLong held = ⊤
+IsHeld NoMemory held = ⊤
+IsHeld End held = ⊥
+
+-- the line that was read so
+abbrev pub IsLineOf : NextLine → (held line : List ℕ) → Type 0
+IsLineOf Line held line = line ≡ held
+IsLineOf TooLong held line = most_of_line < length line
+IsLineOf NoMemory held line = ⊤
+IsLineOf End held line = ⊥
+
+-- A line was taken of the input, and is to be replied to.
+pub record IsToReply (old new : Lined) (next : NextLine) : Type 0 where
+  pub line : List ℕ
+  pub held : IsHeld next new.line
+  pub is : IsLineOf next new.line line
+  pub takes : TakesLine line old.left new.left
+
 -- The next line was replied to; or the conversation ended, at the end of the input or by `quit`; or it was stopped.
-abbrev pub IsTurn : Type 0 → Form → Result Bool TalkFault → Lined → Lined → Standing → Standing → Option (List ℕ) → Option (List ℕ) → Type 0
-IsTurn honest form (Ok true) in_old in_new s t old new =
-    (line : List ℕ) × (said : List ℕ) × TakesLine line in_old.left in_new.left × IsReplied honest form line said s t × Appends old new said
-IsTurn honest form (Ok false) in_old in_new s t old new =
+abbrev pub IsTurnOf : {S : Type 0} → (List ℕ → List ℕ → S → S → Type 0) → Result Bool TalkFault → Lined → Lined → S → S → Option (List ℕ) → Option (List ℕ) → Type 0
+IsTurnOf answers (Ok true) in_old in_new s t old new =
+    (line : List ℕ) × (said : List ℕ) × TakesLine line in_old.left in_new.left × answers line said s t × Appends old new said
+IsTurnOf answers (Ok false) in_old in_new s t old new =
     (IsAtEnd in_old.left ⊎ TakesLine (codes "quit") in_old.left in_new.left) × (t ≡ s) × Keeps old new
-IsTurn honest form (Err Read) in_old in_new s t old new = (t ≡ s) × Keeps old new
-IsTurn honest form (Err WriteFault) in_old in_new s t old new =
-    (line : List ℕ) × (said : List ℕ) × TakesLine line in_old.left in_new.left × IsReplied honest form line said s t
+IsTurnOf answers (Err Read) in_old in_new s t old new = (t ≡ s) × Keeps old new
+IsTurnOf answers (Err WriteFault) in_old in_new s t old new =
+    (line : List ℕ) × (said : List ℕ) × TakesLine line in_old.left in_new.left × answers line said s t

@@ -8,8 +8,9 @@ ghost use Rattle.lsm_script.specs.declared.reply.Reply.{Reply};
 ghost use Rattle.lsm_shell.specs.Batching.{Says};
 
 use crate::saying::{Unsaid, say_reply};
-use lsm_script::{Command, Session};
+use lsm_script::{Command, Desk};
 use lsm_slots::Boarded;
+use lsm_state::State;
 use lsm_table::{NamedShelf, Shelf};
 use lsm_text::Form;
 use std::alloc::Global;
@@ -20,17 +21,19 @@ use std::sync::Wait;
 pub(crate) fn answer<N: Boarded, S: Shelf, R: Wait, O: Write>(
     rt: &R,
     alloc: Global,
-    session: Session<N, S>,
+    state: &mut State<N, S>,
+    desk: &mut Desk<N, S>,
     shelf: &mut NamedShelf<N, S>,
     form: Form,
     command: &Command,
     text: &mut Vec<u8>,
     out: &mut O,
-) -> (Session<N, S>, Result<(), Unsaid>)
+) -> Result<(), Unsaid>
     ensures { (said : List ℕ) × (r : Reply) × IsStep S.honest command.now r
-        (stage session shelf.old) (stage result.0 shelf.new) × Says (reply_text form r) said
-        × OnOk result.1 (Appends (O.contents out.old) (O.contents out.new) said) }
+        (stage state.old desk.old shelf.old) (stage state.new desk.new shelf.new)
+        × Says (reply_text form r) said
+        × OnOk result (Appends (O.contents out.old) (O.contents out.new) said) }
 {
-    let (session, reply) = session.answer(rt, alloc, shelf, command);
-    (session, say_reply(text, form, &reply, out))
+    let reply = desk.answer(rt, alloc, state, shelf, command);
+    say_reply(text, form, &reply, out)
 }

@@ -10,8 +10,9 @@ use crate::answering::answer;
 use crate::saying::{Unsaid, say};
 use lsm_batch::{Batch, Write as KeyWrite};
 use lsm_lines::{PutFault, WriteBuffer};
-use lsm_script::{Command, Session};
+use lsm_script::{Command, Desk};
 use lsm_slots::Boarded;
+use lsm_state::State;
 use lsm_table::{NamedShelf, Shelf};
 use lsm_text::{Form, push_write};
 use std::alloc::{AllocError, Global};
@@ -76,27 +77,28 @@ fn batch_of(alloc: Global, write: KeyWrite) -> Result<Batch, AllocError>
 pub(crate) fn put<N: Boarded, S: Shelf, R: Wait, O: Write>(
     rt: &R,
     alloc: Global,
-    session: Session<N, S>,
+    state: &mut State<N, S>,
+    desk: &mut Desk<N, S>,
     begun: &mut Option<WriteBuffer>,
     shelf: &mut NamedShelf<N, S>,
     form: Form,
     write: KeyWrite,
     text: &mut Vec<u8>,
     out: &mut O,
-) -> (Session<N, S>, Result<(), Unsaid>)
+) -> Result<(), Unsaid>
     ensures { (said : List ℕ) × IsPutReply S.honest form write begun.old said
-        (standing (stage session shelf.old) begun.old)
-        (standing (stage result.0 shelf.new) begun.new)
-        × OnOk result.1 (Appends (O.contents out.old) (O.contents out.new) said) }
+        (standing (stage state.old desk.old shelf.old) begun.old)
+        (standing (stage state.new desk.new shelf.new) begun.new)
+        × OnOk result (Appends (O.contents out.old) (O.contents out.new) said) }
 {
     if let Some(buffer) = begun {
-        return (session, queue(buffer, write, out));
+        return queue(buffer, write, out);
     }
     let Ok(batch) = batch_of(alloc, write) else {
-        return (session, say(out, b"refused 1 OutOfMemory\n"));
+        return say(out, b"refused 1 OutOfMemory\n");
     };
     let command = Command::Ingest(batch);
-    answer(rt, alloc, session, shelf, form, &command, text, out)
+    answer(rt, alloc, state, desk, shelf, form, &command, text, out)
 }
 
 /// `commit`: brings in, of each key that was written, the last write, as one batch. None is begun
@@ -104,24 +106,25 @@ pub(crate) fn put<N: Boarded, S: Shelf, R: Wait, O: Write>(
 pub(crate) fn commit<N: Boarded, S: Shelf, R: Wait, O: Write>(
     rt: &R,
     alloc: Global,
-    session: Session<N, S>,
+    state: &mut State<N, S>,
+    desk: &mut Desk<N, S>,
     begun: &mut Option<WriteBuffer>,
     shelf: &mut NamedShelf<N, S>,
     form: Form,
     text: &mut Vec<u8>,
     out: &mut O,
-) -> (Session<N, S>, Result<(), Unsaid>)
+) -> Result<(), Unsaid>
     ensures { (said : List ℕ) × IsCommitReply S.honest form begun.old said
-        (standing (stage session shelf.old) begun.old)
-        (standing (stage result.0 shelf.new) begun.new)
-        × OnOk result.1 (Appends (O.contents out.old) (O.contents out.new) said) }
+        (standing (stage state.old desk.old shelf.old) begun.old)
+        (standing (stage state.new desk.new shelf.new) begun.new)
+        × OnOk result (Appends (O.contents out.old) (O.contents out.new) said) }
 {
     let Some(buffer) = begun.take() else {
-        return (session, say(out, b"bad line: no batch is begun\n"));
+        return say(out, b"bad line: no batch is begun\n");
     };
     let Ok(batch) = buffer.into_batch(alloc) else {
-        return (session, say(out, b"refused 1 OutOfMemory\n"));
+        return say(out, b"refused 1 OutOfMemory\n");
     };
     let command = Command::Ingest(batch);
-    answer(rt, alloc, session, shelf, form, &command, text, out)
+    answer(rt, alloc, state, desk, shelf, form, &command, text, out)
 }

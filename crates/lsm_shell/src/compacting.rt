@@ -9,8 +9,9 @@ ghost use Rattle.lsm_shell.specs.Talk.{IsCompactReply};
 
 use crate::rounds::compact_all;
 use crate::saying::{Unsaid, say, say_reply, say_unsaid};
-use lsm_script::{Reply, Session};
+use lsm_script::{Desk, Reply};
 use lsm_slots::Boarded;
+use lsm_state::State;
 use lsm_table::{NamedShelf, Shelf};
 use lsm_text::{Form, push_decimal};
 use std::alloc::{AllocError, Global};
@@ -44,19 +45,19 @@ fn say_installed<O: Write>(text: &mut Vec<u8>, count: u64, out: &mut O) -> Resul
 pub(crate) fn compact<N: Boarded, S: Shelf, R: Wait, O: Write>(
     rt: &R,
     alloc: Global,
-    session: Session<N, S>,
+    state: &mut State<N, S>,
+    desk: &mut Desk<N, S>,
     shelf: &mut NamedShelf<N, S>,
     form: Form,
     text: &mut Vec<u8>,
     out: &mut O,
-) -> (Session<N, S>, Result<(), Unsaid>)
-    ensures { (said : List ℕ) × IsCompactReply S.honest form said (stage session shelf.old)
-        (stage result.0 shelf.new)
-        × OnOk result.1 (Appends (O.contents out.old) (O.contents out.new) said) }
+) -> Result<(), Unsaid>
+    ensures { (said : List ℕ) × IsCompactReply S.honest form said
+        (stage state.old desk.old shelf.old) (stage state.new desk.new shelf.new)
+        × OnOk result (Appends (O.contents out.old) (O.contents out.new) said) }
 {
-    let (session, compacted) = compact_all(rt, alloc, session, shelf);
-    match compacted {
-        Ok(count) => (session, say_installed(text, count, out)),
-        Err(fault) => (session, say_reply(text, form, &Reply::Refused(fault), out)),
+    match compact_all(rt, alloc, state, desk, shelf) {
+        Ok(count) => say_installed(text, count, out),
+        Err(fault) => say_reply(text, form, &Reply::Refused(fault), out),
     }
 }

@@ -9,7 +9,7 @@ ghost use Rattle.lsm_writing.specs.Starting.{usual};
 use crate::talk_fault::TalkFault;
 use crate::talking::talk;
 use lsm_lines::LineReader;
-use lsm_script::Session;
+use lsm_script::Desk;
 use lsm_slots::Boarded;
 use lsm_state::State;
 use lsm_table::{NamedShelf, Shelf};
@@ -46,16 +46,15 @@ fn converse_named<N: Boarded, S: Shelf, R: Wait, I: Read + Drop, O: Write>(
         Ok(parts) => parts,
         Err(_) => return Err(WriterFault::OutOfMemory),
     };
-    let state: State<N, S> = match start(rt, alloc, shelf, prepared, parts) {
+    let mut state: State<N, S> = match start(rt, alloc, shelf, prepared, parts) {
         Ok(state) => state,
         Err(fault) => return Err(fault),
     };
-    let session = match Session::new(alloc, state) {
-        Ok(session) => session,
+    let mut desk = match Desk::new(alloc, &state) {
+        Ok(desk) => desk,
         Err(_) => return Err(WriterFault::OutOfMemory),
     };
-    let (_session, talked) = talk(rt, alloc, session, shelf, form, lines, out);
-    match talked {
+    match talk(rt, alloc, &mut state, &mut desk, shelf, form, lines, out) {
         Ok(()) => Ok(()),
         Err(TalkFault::Read) => Err(WriterFault::Read),
         Err(TalkFault::Write) => Err(WriterFault::Write),

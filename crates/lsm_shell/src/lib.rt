@@ -24,6 +24,7 @@ mod saying;
 mod statistics;
 
 // The conversation.
+mod beside;
 mod talk_fault;
 mod talking;
 
@@ -32,11 +33,15 @@ mod laws;
 
 // The conversation with the database of a folder.
 mod conversing;
+mod conversing_beside;
+mod crew;
 mod program;
 
 pub use ask::Ask;
 pub use ask_line::ask_in;
+pub use beside::talk_beside;
 pub use conversing::converse;
+pub use conversing_beside::converse_beside;
 pub use laws::talks_are_of_the_history;
 pub use pairs::{ScanFault, Step};
 pub use program::run_shell;

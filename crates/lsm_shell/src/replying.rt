@@ -3,7 +3,7 @@
 ghost use Rattle.std.specs.Prelude.{◌≡◌, ◌≢◌, ◌⊎◌, List, ℕ, OnOk, codes};
 ghost use Rattle.std.specs.Io.KnownBytes.{Appends};
 ghost use Rattle.lsm_script.specs.ReplyText.{reply_text};
-ghost use Rattle.lsm_script.specs.Steps.{stage};
+ghost use Rattle.lsm_script.specs.Steps.{OnDesk, stage};
 ghost use Rattle.lsm_script.specs.declared.command_fault.CommandFault.TheVariants.{State as StateRefusal};
 ghost use Rattle.lsm_script.specs.declared.reply.Reply.TheVariants.{Refused};
 ghost use Rattle.lsm_shell.specs.Batching.{no_memory, standing};
@@ -20,7 +20,7 @@ use crate::pairs::{ScanFault, print_version};
 use crate::saying::{Unsaid, say};
 use crate::statistics::push_statistics;
 use lsm_lines::WriteBuffer;
-use lsm_script::{CommandFault, Reply, Session, push_reply};
+use lsm_script::{CommandFault, Desk, Reply, push_reply};
 use lsm_slots::Boarded;
 use lsm_state::{State, StateFault};
 use lsm_table::{NamedShelf, Shelf};
@@ -49,7 +49,7 @@ fn say_stopped<O: Write>(
 /// Writes what a scan shows, as it goes on, and how it ends.
 fn say_scan<N: Boarded, S: Shelf, O: Write>(
     alloc: Global,
-    session: &Session<N, S>,
+    state: &State<N, S>,
     shelf: &mut NamedShelf<N, S>,
     form: Form,
     bounds: &KeyBounds,
@@ -57,11 +57,11 @@ fn say_scan<N: Boarded, S: Shelf, O: Write>(
     text: &mut Vec<u8>,
     out: &mut O,
 ) -> Result<(), Unsaid>
-    ensures { (said : List ℕ) × IsScanned S.honest form bounds.now limit said
-        (stage session.now shelf.old) (stage session.now shelf.new)
+    ensures { (desk : OnDesk) → (said : List ℕ) × IsScanned S.honest form bounds.now limit said
+        (stage state.now desk shelf.old) (stage state.now desk shelf.new)
         × OnOk result (Appends (O.contents out.old) (O.contents out.new) said) }
 {
-    let (_id, version) = session.state().current();
+    let (_id, version) = state.current();
     match print_version(shelf, alloc, version, form, bounds, limit, out) {
         Ok(()) => say(out, b"end\n"),
         Err(ScanFault::Write) => Err(Unsaid),
@@ -90,35 +90,32 @@ fn say_statistics<N: Boarded, S: Shelf, O: Write>(
 fn obey<N: Boarded, S: Shelf, R: Wait, O: Write>(
     rt: &R,
     alloc: Global,
-    session: Session<N, S>,
+    state: &mut State<N, S>,
+    desk: &mut Desk<N, S>,
     begun: &mut Option<WriteBuffer>,
     shelf: &mut NamedShelf<N, S>,
     form: Form,
     ask: Ask,
     text: &mut Vec<u8>,
     out: &mut O,
-) -> (Session<N, S>, Result<(), Unsaid>)
+) -> Result<(), Unsaid>
     ensures { (said : List ℕ) × Obeys S.honest form ask said
-        (standing (stage session shelf.old) begun.old)
-        (standing (stage result.0 shelf.new) begun.new)
-        × OnOk result.1 (Appends (O.contents out.old) (O.contents out.new) said) }
+        (standing (stage state.old desk.old shelf.old) begun.old)
+        (standing (stage state.new desk.new shelf.new) begun.new)
+        × OnOk result (Appends (O.contents out.old) (O.contents out.new) said) }
 {
     match ask {
-        Ask::Do(command) => answer(rt, alloc, session, shelf, form, &command, text, out),
-        Ask::Put(write) => put(rt, alloc, session, begun, shelf, form, write, text, out),
+        Ask::Do(command) => answer(rt, alloc, state, desk, shelf, form, &command, text, out),
+        Ask::Put(write) => put(rt, alloc, state, desk, begun, shelf, form, write, text, out),
         Ask::Scan(bounds, limit) => {
-            let said = say_scan(alloc, &session, shelf, form, &bounds, limit, text, out);
-            (session, said)
+            say_scan(alloc, state, shelf, form, &bounds, limit, text, out)
         }
-        Ask::Begin => (session, begin(alloc, begun, out)),
-        Ask::Commit => commit(rt, alloc, session, begun, shelf, form, text, out),
-        Ask::Abort => (session, abort(begun, out)),
-        Ask::Compact => compact(rt, alloc, session, shelf, form, text, out),
-        Ask::Stats => {
-            let said = say_statistics(session.state(), text, out);
-            (session, said)
-        }
-        Ask::Help => (session, say(out, HELP)),
+        Ask::Begin => begin(alloc, begun, out),
+        Ask::Commit => commit(rt, alloc, state, desk, begun, shelf, form, text, out),
+        Ask::Abort => abort(begun, out),
+        Ask::Compact => compact(rt, alloc, state, desk, shelf, form, text, out),
+        Ask::Stats => say_statistics(state, text, out),
+        Ask::Help => say(out, HELP),
     }
 }
 
@@ -126,26 +123,24 @@ fn obey<N: Boarded, S: Shelf, R: Wait, O: Write>(
 pub(crate) fn reply_to<N: Boarded, S: Shelf, R: Wait, O: Write>(
     rt: &R,
     alloc: Global,
-    session: Session<N, S>,
+    state: &mut State<N, S>,
+    desk: &mut Desk<N, S>,
     begun: &mut Option<WriteBuffer>,
     shelf: &mut NamedShelf<N, S>,
     form: Form,
     line: &[u8],
     text: &mut Vec<u8>,
     out: &mut O,
-) -> (Session<N, S>, Result<(), Unsaid>)
+) -> Result<(), Unsaid>
     requires { line.now ≢ codes "quit" }
     ensures { (said : List ℕ) × IsReplied S.honest form line.now said
-        (standing (stage session shelf.old) begun.old)
-        (standing (stage result.0 shelf.new) begun.new)
-        × OnOk result.1 (Appends (O.contents out.old) (O.contents out.new) said) }
+        (standing (stage state.old desk.old shelf.old) begun.old)
+        (standing (stage state.new desk.new shelf.new) begun.new)
+        × OnOk result (Appends (O.contents out.old) (O.contents out.new) said) }
 {
     match ask_in(alloc, form, line) {
-        Ok(Some(ask)) => obey(rt, alloc, session, begun, shelf, form, ask, text, out),
-        Ok(None) => (
-            session,
-            say(out, b"bad line: help tells what lines there are\n"),
-        ),
-        Err(_) => (session, say(out, b"refused 1 OutOfMemory\n")),
+        Ok(Some(ask)) => obey(rt, alloc, state, desk, begun, shelf, form, ask, text, out),
+        Ok(None) => say(out, b"bad line: help tells what lines there are\n"),
+        Err(_) => say(out, b"refused 1 OutOfMemory\n"),
     }
 }

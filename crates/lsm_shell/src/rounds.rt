@@ -7,9 +7,9 @@ ghost use Rattle.lsm_shell.specs.Rounds.{Does, Fails, IsCompacted, IsFinished, I
 ghost use Rattle.lsm_shell.specs.Rounds.{IsNoRefusal, IsRefusedRound, IsRound, IsUncompacted};
 ghost use Rattle.lsm_shell.specs.Rounds.{IsUnfinished, NoneIsDue, Reserves};
 
-use lsm_script::{Command, CommandFault, Reply, Session};
+use lsm_script::{Command, CommandFault, Desk, Reply};
 use lsm_slots::Boarded;
-use lsm_state::StateFault;
+use lsm_state::{State, StateFault};
 use lsm_table::{NamedShelf, Shelf};
 use std::alloc::Global;
 use std::sync::Wait;
@@ -40,19 +40,22 @@ fn ticket_of(reply: &Reply) -> Option<u64>
 fn try_to<N: Boarded, S: Shelf, R: Wait>(
     rt: &R,
     alloc: Global,
-    session: Session<N, S>,
+    state: &mut State<N, S>,
+    desk: &mut Desk<N, S>,
     shelf: &mut NamedShelf<N, S>,
     command: &Command,
-) -> (Session<N, S>, Result<(), CommandFault>)
-    ensures ok { OnOk result.1
-        (Does S.honest command.now (stage session shelf.old) (stage result.0 shelf.new)) }
-    ensures err { IfErr result.1 (λ e.
-        Fails S.honest command.now e (stage session shelf.old) (stage result.0 shelf.new)) }
+) -> Result<(), CommandFault>
+    ensures ok { OnOk result
+        (Does S.honest command.now
+        (stage state.old desk.old shelf.old) (stage state.new desk.new shelf.new)) }
+    ensures err { IfErr result (λ e.
+        Fails S.honest command.now e
+        (stage state.old desk.old shelf.old) (stage state.new desk.new shelf.new)) }
 {
-    let (session, reply) = session.answer(rt, alloc, shelf, command);
+    let reply = desk.answer(rt, alloc, state, shelf, command);
     match unrefused(reply) {
-        Ok(_) => (session, Ok(())),
-        Err(fault) => (session, Err(fault)),
+        Ok(_) => Ok(()),
+        Err(fault) => Err(fault),
     }
 }
 
@@ -60,19 +63,21 @@ fn try_to<N: Boarded, S: Shelf, R: Wait>(
 fn try_to_finish<N: Boarded, S: Shelf, R: Wait>(
     rt: &R,
     alloc: Global,
-    session: Session<N, S>,
+    state: &mut State<N, S>,
+    desk: &mut Desk<N, S>,
     shelf: &mut NamedShelf<N, S>,
     ticket: u64,
-) -> (Session<N, S>, Result<(), CommandFault>)
-    ensures ok { OnOk result.1
-        (IsFinished S.honest ticket (stage session shelf.old) (stage result.0 shelf.new)) }
-    ensures err { IfErr result.1 (λ e.
-        IsUnfinished S.honest ticket e (stage session shelf.old) (stage result.0 shelf.new)) }
+) -> Result<(), CommandFault>
+    ensures ok { OnOk result
+        (IsFinished S.honest ticket
+        (stage state.old desk.old shelf.old) (stage state.new desk.new shelf.new)) }
+    ensures err { IfErr result (λ e.
+        IsUnfinished S.honest ticket e
+        (stage state.old desk.old shelf.old) (stage state.new desk.new shelf.new)) }
 {
-    let (session, merged) = try_to(rt, alloc, session, shelf, &Command::Merge(ticket));
-    match merged {
-        Ok(()) => try_to(rt, alloc, session, shelf, &Command::Install(ticket)),
-        Err(fault) => (session, Err(fault)),
+    match try_to(rt, alloc, state, desk, shelf, &Command::Merge(ticket)) {
+        Ok(()) => try_to(rt, alloc, state, desk, shelf, &Command::Install(ticket)),
+        Err(fault) => Err(fault),
     }
 }
 
@@ -80,22 +85,24 @@ fn try_to_finish<N: Boarded, S: Shelf, R: Wait>(
 fn finish<N: Boarded, S: Shelf, R: Wait>(
     rt: &R,
     alloc: Global,
-    session: Session<N, S>,
+    state: &mut State<N, S>,
+    desk: &mut Desk<N, S>,
     shelf: &mut NamedShelf<N, S>,
     ticket: u64,
-) -> (Session<N, S>, Result<(), CommandFault>)
-    ensures ok { OnOk result.1
-        (IsFinished S.honest ticket (stage session shelf.old) (stage result.0 shelf.new)) }
-    ensures err { IfErr result.1 (λ e.
-        IsGivenUp S.honest ticket e (stage session shelf.old) (stage result.0 shelf.new)) }
+) -> Result<(), CommandFault>
+    ensures ok { OnOk result
+        (IsFinished S.honest ticket
+        (stage state.old desk.old shelf.old) (stage state.new desk.new shelf.new)) }
+    ensures err { IfErr result (λ e.
+        IsGivenUp S.honest ticket e
+        (stage state.old desk.old shelf.old) (stage state.new desk.new shelf.new)) }
 {
-    let (session, finished) = try_to_finish(rt, alloc, session, shelf, ticket);
-    match finished {
-        Ok(()) => (session, Ok(())),
+    match try_to_finish(rt, alloc, state, desk, shelf, ticket) {
+        Ok(()) => Ok(()),
         Err(fault) => {
             let cancel = Command::Cancel(ticket);
-            let (session, _cancelled) = session.answer(rt, alloc, shelf, &cancel);
-            (session, Err(fault))
+            let _cancelled = desk.answer(rt, alloc, state, shelf, &cancel);
+            Err(fault)
         }
     }
 }
@@ -104,28 +111,31 @@ fn finish<N: Boarded, S: Shelf, R: Wait>(
 fn take_round<N: Boarded, S: Shelf, R: Wait>(
     rt: &R,
     alloc: Global,
-    session: Session<N, S>,
+    state: &mut State<N, S>,
+    desk: &mut Desk<N, S>,
     shelf: &mut NamedShelf<N, S>,
-) -> (Session<N, S>, Result<bool, CommandFault>)
-    ensures round { IfOk result.1 (λ more. more ≡ true
-        → IsRound S.honest (stage session shelf.old) (stage result.0 shelf.new)) }
-    ensures none { IfOk result.1 (λ more. more ≡ false
-        → NoneIsDue S.honest (stage session shelf.old) (stage result.0 shelf.new)) }
-    ensures err { IfErr result.1 (λ e.
-        IsRefusedRound S.honest e (stage session shelf.old) (stage result.0 shelf.new)) }
+) -> Result<bool, CommandFault>
+    ensures round { IfOk result (λ more. more ≡ true
+        → IsRound S.honest
+        (stage state.old desk.old shelf.old) (stage state.new desk.new shelf.new)) }
+    ensures none { IfOk result (λ more. more ≡ false
+        → NoneIsDue S.honest
+        (stage state.old desk.old shelf.old) (stage state.new desk.new shelf.new)) }
+    ensures err { IfErr result (λ e.
+        IsRefusedRound S.honest e
+        (stage state.old desk.old shelf.old) (stage state.new desk.new shelf.new)) }
 {
-    let (session, reply) = session.answer(rt, alloc, shelf, &Command::Reserve);
+    let reply = desk.answer(rt, alloc, state, shelf, &Command::Reserve);
     let reserved = match unrefused(reply) {
         Ok(reserved) => reserved,
-        Err(fault) => return (session, Err(fault)),
+        Err(fault) => return Err(fault),
     };
     let Some(ticket) = ticket_of(&reserved) else {
-        return (session, Ok(false));
+        return Ok(false);
     };
-    let (session, finished) = finish(rt, alloc, session, shelf, ticket);
-    match finished {
-        Ok(()) => (session, Ok(true)),
-        Err(fault) => (session, Err(fault)),
+    match finish(rt, alloc, state, desk, shelf, ticket) {
+        Ok(()) => Ok(true),
+        Err(fault) => Err(fault),
     }
 }
 
@@ -145,26 +155,26 @@ fn counted(swept: Result<(), CommandFault>, count: u64) -> Result<u64, CommandFa
 pub(crate) fn compact_all<N: Boarded, S: Shelf, R: Wait>(
     rt: &R,
     alloc: Global,
-    session: Session<N, S>,
+    state: &mut State<N, S>,
+    desk: &mut Desk<N, S>,
     shelf: &mut NamedShelf<N, S>,
-) -> (Session<N, S>, Result<u64, CommandFault>)
-    ensures ok { IfOk result.1 (λ n.
-        IsCompacted S.honest n (stage session shelf.old) (stage result.0 shelf.new)) }
-    ensures err { IfErr result.1 (λ e.
-        IsUncompacted S.honest e (stage session shelf.old) (stage result.0 shelf.new)) }
+) -> Result<u64, CommandFault>
+    ensures ok { IfOk result (λ n.
+        IsCompacted S.honest n
+        (stage state.old desk.old shelf.old) (stage state.new desk.new shelf.new)) }
+    ensures err { IfErr result (λ e.
+        IsUncompacted S.honest e
+        (stage state.old desk.old shelf.old) (stage state.new desk.new shelf.new)) }
 {
-    let mut session = session;
     for count in 0..u64::MAX {
-        let (after, round) = take_round(rt, alloc, session, shelf);
-        session = after;
-        match round {
+        match take_round(rt, alloc, state, desk, shelf) {
             Ok(true) => {}
             Ok(false) => {
-                let (session, swept) = try_to(rt, alloc, session, shelf, &Command::Collect);
-                return (session, counted(swept, count));
+                let swept = try_to(rt, alloc, state, desk, shelf, &Command::Collect);
+                return counted(swept, count);
             }
-            Err(fault) => return (session, Err(fault)),
+            Err(fault) => return Err(fault),
         }
     }
-    (session, Err(CommandFault::State(StateFault::OutOfMemory)))
+    Err(CommandFault::State(StateFault::OutOfMemory))
 }

@@ -33,6 +33,10 @@ workers = record (valued (codes "workers")) { defaults = codes "2" ∷ []; parse
 abbrev pub verifiers : Rule
 verifiers = record (valued (codes "workers")) { parser = Some (parser.Unsigned 1 16) }
 
+-- `--workers N`, 1 to 16, of the threads that compact beside a conversation
+abbrev pub compactors : Rule
+compactors = record (valued (codes "workers")) { parser = Some (parser.Unsigned 1 16) }
+
 -- `--from-line I`, a number below 2^64 and above 0, which is 1 where it is left out
 abbrev pub from_line : Rule
 from_line = record (valued (codes "from-line")) { defaults = codes "1" ∷ []; parser = Some (parser.Unsigned 1 18446744073709551615) }
@@ -139,7 +143,7 @@ unfoldable pub clean : App
 clean = command (codes "clean") (folder ∷ [])
 
 unfoldable pub shell : App
-shell = command (codes "shell") (folder ∷ text ∷ begin ∷ beside_log ∷ [])
+shell = command (codes "shell") (folder ∷ text ∷ begin ∷ beside_log ∷ compactors ∷ [])
 
 unfoldable pub bench : App
 bench = command (codes "bench") (folder ∷ benchmarks ∷ num ∷ value_size ∷ some_workers ∷ [])

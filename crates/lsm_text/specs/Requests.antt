@@ -215,18 +215,18 @@ abbrev pub IsLineNumber : Option Text → ℕ → Type 0
 IsLineNumber = IsNumberIn 1 18446744073709551615
 
 -- the word of an option writes a number from 1 to 16, and there is a number only where there is the option
-abbrev pub AreVerifiers : Option Text → Option ℕ → Type 0
-AreVerifiers None None = ⊤
-AreVerifiers None (Some n) = ⊥
-AreVerifiers (Some word) None = ⊥
-AreVerifiers (Some word) (Some n) = IsNumberIn 1 16 (Some word) n
+abbrev pub AreThreads : Option Text → Option ℕ → Type 0
+AreThreads None None = ⊤
+AreThreads None (Some n) = ⊥
+AreThreads (Some word) None = ⊥
+AreThreads (Some word) (Some n) = IsNumberIn 1 16 (Some word) n
 
 abbrev pub AreScanOptions : List Row → ScanOptions → Type 0
 AreScanOptions rows options =
     AreBounds rows options.bounds × IsLimit (word_in (codes "limit") rows) options.limit × (options.output ≡ scan_output_in rows)
 
 abbrev pub IsLook : List Row → DirectoryCommand → Type 0
-IsLook rows (look.Check workers) = AreVerifiers (word_in (codes "workers") rows) workers
+IsLook rows (look.Check workers) = AreThreads (word_in (codes "workers") rows) workers
 IsLook rows look.List = ⊤
 IsLook rows (look.Get key output) = IsSpelled (form_in rows) (word_in (codes "KEY") rows) key × (output ≡ get_output_in rows)
 IsLook rows (look.Scan options) = AreScanOptions rows options
@@ -278,7 +278,8 @@ Says rows (Compact line) =
     (word_in (codes "DIR") rows ≡ Some line.path.now) × AreWorkers (word_in (codes "workers") rows) line.options.workers
     × (line.options.progress ≡ is_set (codes "progress") rows)
 Says rows (Script input) = IsInput (word_in (codes "FILE") rows) input
-Says rows (Shell line) = (word_in (codes "DIR") rows ≡ Some line.path.now) × AreIngestOptions rows line.options
+Says rows (Shell line) =
+    (word_in (codes "DIR") rows ≡ Some line.path.now) × AreIngestOptions rows line.options × AreThreads (word_in (codes "workers") rows) line.workers
 Says rows (Bench line) = (word_in (codes "DIR") rows ≡ Some line.path.now) × AreBenchOptions rows line.options
 
 -- The command that was found is the request's, and the request says what its rows say.

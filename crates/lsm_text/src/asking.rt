@@ -5,7 +5,7 @@ ghost use Rattle.std.specs.Prelude.{option_map, ℕ};
 ghost use Rattle.clap.specs.Words.{subcommand_rows_of};
 ghost use Rattle.lsm_text.specs.Requests.{AreBenchOptions, AreBounds, AreIngestOptions};
 ghost use Rattle.lsm_text.specs.Requests.{AreLoadOptions, AreNamed};
-ghost use Rattle.lsm_text.specs.Requests.{AreScanOptions, AreVerifiers, AreWorkers};
+ghost use Rattle.lsm_text.specs.Requests.{AreScanOptions, AreThreads, AreWorkers};
 ghost use Rattle.lsm_text.specs.Requests.{IsAsked, IsBound, IsInput};
 ghost use Rattle.lsm_text.specs.Requests.{IsKeyWrite, IsLimit, IsLineNumber, IsLook, IsNumberIn};
 ghost use Rattle.lsm_text.specs.Requests.{IsSpelled, IsWorkersWord, IsWrite, Reads, form_in};
@@ -321,12 +321,12 @@ fn look_in<'a>(command: DirectoryCommand, found: &ArgMatches<'a>) -> Option<Requ
     }))
 }
 
-/// How many threads verify: none where there is no option. `None` where the word names none of 1 to
-/// 16.
-fn verifiers_of(word: Option<&str>) -> Option<Option<usize>>
-    ensures some { IfSome result (AreVerifiers (option_map (λ w. w.now) word.entry)) }
+/// How many threads an option names: none where there is no option. `None` where the word names none
+/// of 1 to 16.
+fn threads_of(word: Option<&str>) -> Option<Option<usize>>
+    ensures some { IfSome result (AreThreads (option_map (λ w. w.now) word.entry)) }
     ensures none { IfNone result ((n : Option ℕ)
-        → AreVerifiers (option_map (λ w. w.now) word.entry) n → ⊥) }
+        → AreThreads (option_map (λ w. w.now) word.entry) n → ⊥) }
 {
     match word {
         Some(word) => Some(Some(between_in(Some(word), 1, 16)? as usize)),
@@ -338,7 +338,7 @@ fn verifiers_of(word: Option<&str>) -> Option<Option<usize>>
 fn check_in<'a>(found: &ArgMatches<'a>) -> Option<Request<'a>>
     ensures { Reads CommandName.Check (rows_in found.now) result }
 {
-    let workers = verifiers_of(word_in(found, "workers"))?;
+    let workers = threads_of(word_in(found, "workers"))?;
     look_in(DirectoryCommand::Check(workers), found)
 }
 
@@ -465,7 +465,12 @@ fn shell_in<'a>(found: &ArgMatches<'a>) -> Option<Request<'a>>
 {
     let path = word_in(found, "DIR")?;
     let options = ingest_options_in(found);
-    Some(Request::Shell(ShellLine { path, options }))
+    let workers = threads_of(word_in(found, "workers"))?;
+    Some(Request::Shell(ShellLine {
+        path,
+        options,
+        workers,
+    }))
 }
 
 /// Measurements of a folder.

@@ -9,8 +9,9 @@ ghost use Rattle.clap.specs.Words.{subcommand_rows_of};
 ghost use Rattle.clap.specs.Words.{with_rule, with_subcommand};
 ghost use Rattle.clap.specs.declared.error.ErrorKind.TheVariants.{OutOfMemory};
 ghost use Rattle.lsm_text.specs.Grammar.{IsShaped, bare, begin, bench, benchmarks, beside_log};
-ghost use Rattle.lsm_text.specs.Grammar.{check, clean, compact, delete, dump, file, flag, folder, from_line, get, help};
-ghost use Rattle.lsm_text.specs.Grammar.{ingest, key, levels, limit, list, load, lsm};
+ghost use Rattle.lsm_text.specs.Grammar.{check, clean, compact, compactors, delete, dump, file, flag};
+ghost use Rattle.lsm_text.specs.Grammar.{folder, from_line, get, help, ingest, key, levels, limit};
+ghost use Rattle.lsm_text.specs.Grammar.{list, load, lsm};
 ghost use Rattle.lsm_text.specs.Grammar.{make_table, manifest, num, progress, put};
 ghost use Rattle.lsm_text.specs.Grammar.{scan, script, shell, some_workers, text, topic, valued};
 ghost use Rattle.lsm_text.specs.Grammar.{value_size, verifiers, with_inputs, with_looks};
@@ -115,6 +116,20 @@ fn verifiers<'a>(alloc: Global) -> Arg<'a>
         "workers",
         "N",
         "How many threads verify tables, 1 to 16",
+    )
+    .value_parser(ValueParser::Unsigned(1, 16))
+}
+
+/// The option for the number of threads that compact beside a conversation.
+fn compactors<'a>(alloc: Global) -> Arg<'a>
+    ensures rule { rule_of result ≡ compactors }
+    ensures local { result.global ≡ false }
+{
+    valued(
+        alloc,
+        "workers",
+        "N",
+        "How many threads compact beside, 1 to 16",
     )
     .value_parser(ValueParser::Unsigned(1, 16))
 }
@@ -438,7 +453,8 @@ fn shell<'a>(alloc: Global) -> Made<'a>
     let shell = also(titled(alloc, SHELL), folder(alloc));
     let shell = also(shell, text(alloc));
     let shell = also(shell, begin(alloc));
-    also(shell, beside_log(alloc))
+    let shell = also(shell, beside_log(alloc));
+    also(shell, compactors(alloc))
 }
 
 /// The command that measures.

@@ -472,7 +472,7 @@ command line.",
 
 pub(crate) const SHELL: Page = Page {
     name: "shell",
-    usage: "lsm shell <DIR> [--text] [--begin] [--beside-log]",
+    usage: "lsm shell <DIR> [--text] [--begin] [--beside-log] [--workers <N>]",
     about: "Runs commands from standard input on a folder",
     text: "Opens the LevelDB folder DIR once, or begins a database there, as `ingest` does,
 and holds its lock; then it reads commands on standard input, one a line, and
@@ -515,13 +515,18 @@ key the last write comes in. A write that a batch cannot have as well is `refuse
 39 TooLarge`, and the others stay. Where standard input, output and error are
 terminals, `lsm> ` on standard error asks for each line.
 
+--workers is how many threads compact beside the lines as long as the shell runs,
+1 to 16; if it is not said none does. Replies are as without them: `none` and
+`installed 0` where they are at what is due. At the end each of them ends what
+it has begun.
+
 Of --begin and --beside-log, and of all that is refused before the first line,
 the page of `ingest` says more. A second program that wants to write in DIR is
 `refused 52 Locked` as long as the shell runs.
 
 Exit status: 0 behind `quit` or the end of the input, 1 where the folder is
-refused, a reply cannot be written or the input cannot be read, 2 bad command
-line.",
+refused, a reply cannot be written, the input cannot be read, or such a thread
+has ended early, 2 bad command line.",
     example: "Example: printf 'put apple red\\nget apple\\n' | lsm shell db --text",
 };
 

@@ -8,7 +8,7 @@ pub returns-in-Put : goal.returns-in-Put
 returns-in-Put g c = let r = c.put.ensures in (r.0, rw c.in-Put.is r.1, r.2)
 
 pub returns-in-Scan : goal.returns-in-Scan
-returns-in-Scan g c = let r = c.say_scan-said.ensures in (r.0, rw c.in-Scan.is (refl, r.1), r.2)
+returns-in-Scan g c = let r = c.say_scan.ensures c.args.desk.now in (r.0, rw c.in-Scan.is (refl, r.1), r.2)
 
 pub returns-in-Begin : goal.returns-in-Begin
 returns-in-Begin g c = let r = c.begin.ensures in (r.0, rw c.in-Begin.is (refl, r.1), r.2)

@@ -5,29 +5,29 @@ use Rattle.lsm_shell.proofs.rounds.compact_all.Goals as goal
 
 pub loop-count-preserved : goal.loop-count-preserved
 loop-count-preserved g c =
-    let round = rw c.in-Ok-true.is at c.take_round-after.ensures.round in
-    one_round_more g.S.Shelf.honest c.loop-count.count (stage c.args.session c.args.shelf.now) (stage c.loop-count.session c.loop-count.shelf)
-    (stage c.take_round-after.result.0 c.take_round-after.new.shelf) c.loop-count.invariant (round c.in-Ok-true.field-0-test)
+    let round = rw c.in-Ok-true.is at c.take_round.ensures.round in
+    one_round_more g.S.Shelf.honest c.loop-count.count (stage c.args.state.now c.args.desk.now c.args.shelf.now) (stage c.loop-count.state c.loop-count.desk c.loop-count.shelf)
+    (stage c.take_round.new.state c.take_round.new.desk c.take_round.new.shelf) c.loop-count.invariant (round c.in-Ok-true.field-0-test)
 
 pub returns-in-Ok-false : goal.returns-in-Ok-false
 returns-in-Ok-false g c =
     let H = g.S.Shelf.honest in
-    let start = stage c.args.session c.args.shelf.now in
-    let last = stage c.loop-count.session c.loop-count.shelf in
-    let idle = stage c.take_round-after.result.0 c.take_round-after.new.shelf in
-    let end = stage c.try_to-session.result.0 c.try_to-session.new.shelf in
-    let none = (rw c.in-Ok-false.is at c.take_round-after.ensures.none) c.in-Ok-false.field-0-test in
+    let start = stage c.args.state.now c.args.desk.now c.args.shelf.now in
+    let last = stage c.loop-count.state c.loop-count.desk c.loop-count.shelf in
+    let idle = stage c.take_round.new.state c.take_round.new.desk c.take_round.new.shelf in
+    let end = stage c.try_to-swept.new.state c.try_to-swept.new.desk c.try_to-swept.new.shelf in
+    let none = (rw c.in-Ok-false.is at c.take_round.ensures.none) c.in-Ok-false.field-0-test in
     record {
-      ok = collected H c.loop-count.count start last idle end c.try_to-session.result.1 c.counted.result c.loop-count.invariant none c.try_to-session.ensures.ok c.counted.ensures.ok c.counted.ensures.err;
-      err = uncollected H c.loop-count.count start last idle end c.try_to-session.result.1 c.counted.result c.loop-count.invariant none c.try_to-session.ensures.err c.counted.ensures.ok
+      ok = collected H c.loop-count.count start last idle end c.try_to-swept.result c.counted.result c.loop-count.invariant none c.try_to-swept.ensures.ok c.counted.ensures.ok c.counted.ensures.err;
+      err = uncollected H c.loop-count.count start last idle end c.try_to-swept.result c.counted.result c.loop-count.invariant none c.try_to-swept.ensures.err c.counted.ensures.ok
           c.counted.ensures.err;
     }
 
 pub returns-in-Err-clause-err : goal.returns-in-Err-clause-err
 returns-in-Err-clause-err g c =
-    refused g.S.Shelf.honest c.loop-count.count c.in-Err.fault (stage c.args.session c.args.shelf.now) (stage c.loop-count.session c.loop-count.shelf)
-    (stage c.take_round-after.result.0 c.take_round-after.new.shelf) c.loop-count.invariant (rw c.in-Err.is at c.take_round-after.ensures.err)
+    refused g.S.Shelf.honest c.loop-count.count c.in-Err.fault (stage c.args.state.now c.args.desk.now c.args.shelf.now) (stage c.loop-count.state c.loop-count.desk c.loop-count.shelf)
+    (stage c.take_round.new.state c.take_round.new.desk c.take_round.new.shelf) c.loop-count.invariant (rw c.in-Err.is at c.take_round.ensures.err)
 
 pub returns-clause-err : goal.returns-clause-err
 returns-clause-err g c =
-    endless g.S.Shelf.honest c.loop-count.count (stage c.args.session c.args.shelf.now) (stage c.loop-count.session c.loop-count.shelf) c.loop-count.invariant (omega (arith, c.loop-count-test.false))
+    endless g.S.Shelf.honest c.loop-count.count (stage c.args.state.now c.args.desk.now c.args.shelf.now) (stage c.loop-count.state c.loop-count.desk c.loop-count.shelf) c.loop-count.invariant (omega (arith, c.loop-count-test.false))

@@ -1,38 +1,46 @@
-use Rattle.std.proofs.Common.{ℕ, ◌∷◌, List, refl, sym, ◌∙◌, ap, subst}
+use Rattle.std.proofs.Common.{ℕ, ◌∷◌, List, sym, ◌∙◌, ap, subst}
 use Rattle.lsm_merge.specs.NumberFault.{number_of}
-use Rattle.lsm_script.proofs.Sourced.{after_draw}
+use Rattle.lsm_script.proofs.Sourced.{after_is}
 use Rattle.lsm_script.proofs.numbers.NumbersNumberSource.draw.Goals as goal
 
 pub returns-in-Ok-clause-ready : goal.returns-in-Ok-clause-ready
 returns-in-Ok-clause-ready g c =
-    let holds = g.M.Noted.holds c.draw-state.result.0 in
-    let after = after_draw g.M.Noted.holds _ _ c.in-Some.state c.draw-state.result.0 c.args.ticket c.draw-state.result.1 _ c.requires.ready.1 (sym c.take.ensures.value ∙ c.in-Some.is) c.ranges.ticket.fits c.draw-state.ensures c.in-Ok.is in (
+    let source = c.requires.ready.2 in
+    let holds = g.M.Noted.holds c.draw-answer.new.arg2 in
+    let now = c.args.self.now.answered.now in
+    let after = after_is holds c.args.ticket now.drew.numbers now.refused.numbers now.asked.numbers c.draw-answer.result _ c.in-Ok.is
+    (source.keeps _ _ c.args.ticket c.draw-answer.result now.drew.numbers now.refused.numbers now.asked.numbers c.ranges.ticket.fits source.fact c.draw-answer.ensures) in (
       c.requires.ready.0,
+      c.requires.ready.1,
       record {
-        value = c.draw-state.result.0;
-        is = refl;
-        fact = subst (λ (l : List ℕ). holds l c.args.self.now.refused.numbers c.with_number.result.numbers) (sym c.with_number-in-Ok.ensures)
-            (subst (λ (l : List ℕ). holds (c.in-Ok.number ∷ c.args.self.now.drew.numbers) c.args.self.now.refused.numbers l) (sym c.with_number.ensures) after);
-        keeps = c.requires.ready.1.keeps;
+        fact = subst (λ (l : List ℕ). holds l c.args.self.now.answered.now.refused.numbers c.with_number.result.numbers) (sym c.with_number-in-Ok.ensures)
+            (subst (λ (l : List ℕ). holds (c.in-Ok.number ∷ c.args.self.now.answered.now.drew.numbers) c.args.self.now.answered.now.refused.numbers l) (sym c.with_number.ensures) after);
+        keeps = source.keeps;
       },
     )
 
 pub returns-in-Err-clause-ready : goal.returns-in-Err-clause-ready
 returns-in-Err-clause-ready g c =
-    let holds = g.M.Noted.holds c.draw-state.result.0 in
-    let after = after_draw g.M.Noted.holds _ _ c.in-Some.state c.draw-state.result.0 c.args.ticket c.draw-state.result.1 _ c.requires.ready.1 (sym c.take.ensures.value ∙ c.in-Some.is) c.ranges.ticket.fits c.draw-state.ensures c.in-Err.is in (
+    let source = c.requires.ready.2 in
+    let holds = g.M.Noted.holds c.draw-answer.new.arg2 in
+    let now = c.args.self.now.answered.now in
+    let after = after_is holds c.args.ticket now.drew.numbers now.refused.numbers now.asked.numbers c.draw-answer.result _ c.in-Err.is
+    (source.keeps _ _ c.args.ticket c.draw-answer.result now.drew.numbers now.refused.numbers now.asked.numbers c.ranges.ticket.fits source.fact c.draw-answer.ensures) in (
       c.requires.ready.0,
+      c.requires.ready.1,
       record {
-        value = c.draw-state.result.0;
-        is = refl;
-        fact = subst (λ (l : List ℕ). holds c.args.self.now.drew.numbers l c.with_number.result.numbers)
-            (sym (c.with_number-in-Err.ensures ∙ ap (λ (n : ℕ). n ∷ c.args.self.now.refused.numbers) (c.from.ensures ∙ c.number.ensures)))
-            (subst (λ (l : List ℕ). holds c.args.self.now.drew.numbers (number_of c.in-Err.fault ∷ c.args.self.now.refused.numbers) l) (sym c.with_number.ensures) after.0);
-        keeps = c.requires.ready.1.keeps;
+        fact = subst (λ (l : List ℕ). holds c.args.self.now.answered.now.drew.numbers l c.with_number.result.numbers)
+            (sym (c.with_number-in-Err.ensures ∙ ap (λ (n : ℕ). n ∷ c.args.self.now.answered.now.refused.numbers) (c.from.ensures ∙ c.number.ensures)))
+            (subst (λ (l : List ℕ). holds c.args.self.now.answered.now.drew.numbers (number_of c.in-Err.fault ∷ c.args.self.now.answered.now.refused.numbers) l) (sym c.with_number.ensures) after.0);
+        keeps = source.keeps;
       },
     )
 
 pub returns-in-Err-clause-named : goal.returns-in-Err-clause-named
 returns-in-Err-clause-named g c =
-    let after = after_draw g.M.Noted.holds _ _ c.in-Some.state c.draw-state.result.0 c.args.ticket c.draw-state.result.1 _ c.requires.ready.1 (sym c.take.ensures.value ∙ c.in-Some.is) c.ranges.ticket.fits c.draw-state.ensures c.in-Err.is in
+    let holds = g.M.Noted.holds c.draw-answer.new.arg2 in
+    let now = c.args.self.now.answered.now in
+    let source = c.requires.ready.2 in
+    let after = after_is holds c.args.ticket now.drew.numbers now.refused.numbers now.asked.numbers c.draw-answer.result _ c.in-Err.is
+    (source.keeps _ _ c.args.ticket c.draw-answer.result now.drew.numbers now.refused.numbers now.asked.numbers c.ranges.ticket.fits source.fact c.draw-answer.ensures) in
     after.1

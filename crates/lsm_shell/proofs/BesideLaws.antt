@@ -1,0 +1,59 @@
+-- A conversation beside workers.
+use Rattle.std.proofs.Common.{◌≡◌, ℕ, List, All, Option, None, IfErr, OnOk, refl, sym, subst, inl, inr}
+use Rattle.std.specs.Prelude.{Result, Ok, Err}
+use Rattle.lsm_codec.specs.Entries.{Entry}
+use Rattle.lsm_shelf.specs.Asked.{Asked}
+use Rattle.lsm_shelf.specs.Place.{Place}
+use Rattle.lsm_shelf.specs.Told.{Forked, Told, fresh}
+use Rattle.lsm_shelf.specs.declared.shelf_fault.ShelfFault.{ShelfFault}
+use Rattle.lsm_history.specs.History.{IsLater}
+use Rattle.lsm_levels.specs.Runs.{ReadsAs}
+use Rattle.lsm_state.specs.Held.{Held, plain}
+use Rattle.lsm_text.specs.declared.form.Form.{Form}
+use Rattle.lsm_directory.specs.declared.folder.folder_file.FolderFile.{FolderFile}
+use Rattle.lsm_script.specs.Steps.{OnDesk, clear}
+use Rattle.lsm_store.specs.Workers.{IsWorkersEnd}
+use Rattle.lsm_store.specs.declared.worker_end.WorkerEnd.{WorkerEnd}
+use Rattle.lsm_loading.specs.Ending.{IsFaultless}
+use Rattle.lsm_writing.specs.Starting.{IsStarted}
+use Rattle.lsm_writing.specs.declared.faults.compact_fault.CompactFault.{CompactFault}
+use Rattle.lsm_writing.specs.declared.ingesting.start.Start.{Start}
+use Rattle.lsm_shell.specs.Beside.{IsLent, IsTalkedBeside, waiting}
+use Rattle.lsm_shell.specs.Conversing.{ConversesBeside, IsBesideFault, IsConversedBeside, IsOfEnds}
+use Rattle.lsm_shell.specs.declared.talk_fault.TalkFault.{TalkFault}
+
+-- a state that was only looked at since
+pub lent : (honest : Type 0) (known : List Entry) (h k : Held) → k ≡ h → IsLater h.history known → (honest → ReadsAs (plain k) k.history) → IsLent honest known h
+lent honest known h k same later reads = record { later = later; reads = subst (λ (x : Held). honest → ReadsAs (plain x) x.history) same reads }
+
+is_fresh : (t : Told) (p : Place) → t ≡ fresh p → t ≡ fresh t.place
+is_fresh t p e = subst (λ (x : Told). x ≡ fresh x.place) (sym e) refl
+
+pub conversed : (honest : Type 0) (start : Start) (logs : List FolderFile) (form : Form) (input : Option (List ℕ)) (r : Result (Unit {0}) TalkFault) (ends : List WorkerEnd) (was mid is own : Told) (old : Option (List ℕ))
+    (state : Held) (known : List Entry) (desk : OnDesk) (place : Place) → IsStarted honest start logs state was mid → Forked mid is → own ≡ fresh place → known ≡ state.history → desk ≡ clear
+    → IsTalkedBeside honest form input r (waiting known own desk None) old → All (IsWorkersEnd honest) ends → ConversesBeside honest start logs form input r ends was is old
+conversed honest start logs form input r ends was mid is own old state known desk place started forked own_is known_is desk_is talk each = record {
+  state = state;
+  mid = mid;
+  started = started;
+  forked = forked;
+  own = own;
+  unasked = is_fresh own place own_is;
+  talk = subst (λ (d : OnDesk). IsTalkedBeside honest form input r (waiting state.history own d None) old) desk_is
+      (subst (λ (k : List Entry). IsTalkedBeside honest form input r (waiting k own desk None) old) known_is talk);
+  each = each;
+}
+
+-- how that is judged
+pub judged_done : (honest : Type 0) (start : Start) (logs : List FolderFile) (form : Form) (input : Option (List ℕ)) (r : Result (Unit {0}) TalkFault) (ends : List WorkerEnd) (was is : Told) (old : Option (List ℕ))
+    (done : Result (Unit {0}) CompactFault) → ConversesBeside honest start logs form input r ends was is old → OnOk done ((r ≡ Ok tt) × All IsFaultless ends)
+    → OnOk done (IsConversedBeside honest start logs form input was is old)
+judged_done honest start logs form input r ends was is old (Ok x) c judged =
+    (ends, judged.1, subst (λ (q : Result (Unit {0}) TalkFault). ConversesBeside honest start logs form input q ends was is old) judged.0 c)
+judged_done honest start logs form input r ends was is old (Err e) c judged = tt
+
+pub judged_fault : (Stored : ℕ → List ℕ → Type 0) (Refused : Asked → ShelfFault → Type 0) (honest : Type 0) (start : Start) (logs : List FolderFile) (form : Form) (input : Option (List ℕ)) (r : Result (Unit {0}) TalkFault)
+    (ends : List WorkerEnd) (was is : Told) (old new : Option (List ℕ)) (done : Result (Unit {0}) CompactFault) → ConversesBeside honest start logs form input r ends was is old → IfErr done (IsOfEnds r ends)
+    → IfErr done (λ e. IsBesideFault Stored Refused honest start logs form input e was is old new)
+judged_fault Stored Refused honest start logs form input r ends was is old new (Ok x) c judged = tt
+judged_fault Stored Refused honest start logs form input r ends was is old new (Err e) c judged = inr (inr (inr (r, ends, judged, c)))
