@@ -1,5 +1,5 @@
 -- Options with a reader for each channel are in range.
-use Rattle.std.proofs.Common.{ℕ, ◌+◌, ◌≤◌, arith}
+use Rattle.std.proofs.Common.{ℕ, ◌≤◌, arith}
 use Rattle.lsm_state.specs.Options.{Fits}
 use Rattle.lsm_serve.specs.Starting.{options_for}
 

@@ -1,12 +1,10 @@
 -- Pairs of a range, page by page.
-use Rattle.std.proofs.Common.{◌≡◌, ◌≢◌, ℕ, ◌+◌, ◌≤◌, zero, suc, Bool, true, false, List, [], ◌∷◌, ◌++◌, length, map, Option, None, Some, refl, sym, ap, ◌∙◌, subst, append_assoc, append-nil, inl, inr, arith}
-use Rattle.std.specs.Prelude.{not, ◌⊎◌, MatchBool}
-use Rattle.std.specs.List.{filter}
-use Rattle.std.proofs.lemmas.Bool.{cases_Bool}
-use Rattle.lsm_codec.specs.Entries.{Entry, answer}
+use Rattle.std.proofs.Common.{◌≡◌, ◌≢◌, ℕ, Bool, true, false, List, [], ◌∷◌, ◌++◌, map, Option, None, Some, refl, sym, ap, ◌∙◌, subst, append_assoc, inl, inr}
+use Rattle.std.specs.Prelude.{not}
+use Rattle.lsm_codec.specs.Entries.{Entry}
 use Rattle.lsm_codec.specs.Keys.{UserKey, UserLe, user_le}
 use Rattle.lsm_codec.specs.Lists.{Has}
-use Rattle.lsm_codec.proofs.CallerLemmas.{has_cases, has_left, has_right, user_le_trans}
+use Rattle.lsm_codec.proofs.CallerLemmas.{user_le_trans}
 use Rattle.lsm_frames.specs.Answers as frames
 use Rattle.lsm_levels.specs.Scanning.{IsScan, Pair, UsersAscend}
 use Rattle.lsm_merger.specs.Seeking.{at_or_past}

@@ -1,12 +1,10 @@
 -- What is read at a sequence of a state that was learnt.
-use Rattle.std.proofs.Common.{◌≡◌, ℕ, List, [], ◌∷◌, map, Option, None, Some, Result, Ok, Err, IfErr, IfOk, sym, ap, ◌∙◌, subst, inl, inr}
-use Rattle.std.specs.Prelude.{◌⊎◌}
+use Rattle.std.proofs.Common.{◌≡◌, ℕ, List, [], ◌∷◌, map, Result, Ok, Err, IfErr, IfOk, sym, ap, ◌∙◌, subst, inl, inr}
 use Rattle.lsm_codec.specs.Lists.{Has}
 use Rattle.lsm_frames.specs.declared.when.When.{When}
 use Rattle.lsm_frames.specs.declared.when.When.TheVariants.{Now, Snapshot}
 use Rattle.lsm_state.specs.Held.{Held}
 use Rattle.lsm_state.specs.Reading.{IsSequence}
-use Rattle.lsm_store.specs.Promised.{snapshot_sequences}
 use Rattle.lsm_store.specs.Readers.{IsPromised, Learnt}
 use Rattle.lsm_codec.specs.Entries.{Entry}
 use Rattle.lsm_frames.specs.Requests.{Stretch}
@@ -16,6 +14,7 @@ use Rattle.lsm_store.specs.Readers.{IsRefused, unpinned}
 use Rattle.lsm_store.specs.declared.begin_fault.BeginFault.{BeginFault}
 use Rattle.lsm_store.specs.declared.begin_fault.BeginFault.TheVariants.{Moved, PinsSpent}
 use Rattle.lsm_serve.specs.Answered.{done_frame}
+use Rattle.lsm_serve.specs.Pinning.{KnowsSame}
 use Rattle.lsm_serve.specs.Reading.{IsRead, IsReadFault, IsTooLong, IsUnread, values_at}
 use Rattle.lsm_serve.specs.Scanning.{IsScanFault, IsScanned, IsShown, IsUnshown}
 use Rattle.lsm_state.specs.declared.state_fault.StateFault.{StateFault}
@@ -39,8 +38,7 @@ seen_known : (when : When) (taken : List (ℕ × ℕ)) (b v : Learnt) (knew know
 seen_known when taken b v knew knows seq sees = sees.learnt.history ∙ sym sees.told.known
 
 -- a reader that was refused knows what it knew
-pub refused_knows : (r back : Learnt) (fault : BeginFault) → IsRefused r back fault
-    → (back.id ≡ r.id) × (back.version ≡ r.version) × (back.history ≡ r.history) × (back.snapshots ≡ r.snapshots)
+pub refused_knows : (r back : Learnt) (fault : BeginFault) → IsRefused r back fault → KnowsSame r back
 refused_knows r back (Moved id) h = let e = h.2.1 in
     (ap (λ (l : Learnt). l.id) e, ap (λ (l : Learnt). l.version) e, ap (λ (l : Learnt). l.history) e, ap (λ (l : Learnt). l.snapshots) e)
 refused_knows r back PinsSpent h = let e = h.1 in

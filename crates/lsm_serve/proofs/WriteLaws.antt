@@ -1,9 +1,7 @@
 -- Writes that are gathered.
 use Rattle.std.proofs.Common.{◌≡◌, List, [], ◌∷◌, ◌++◌, refl, sym, ap, ◌∙◌, inl, inr, append_assoc}
-use Rattle.std.specs.Prelude.{◌⊎◌}
 use Rattle.lsm_batch.specs.Batches.{IsLarge, IsTooLarge}
 use Rattle.lsm_batch.specs.declared.write.Write.{Write}
-use Rattle.lsm_codec.specs.Lists.{Has}
 use Rattle.lsm_codec.proofs.CallerLemmas.{has_right}
 use Rattle.lsm_frames.specs.Requests.{Written}
 use Rattle.lsm_state.specs.declared.state_fault.StateFault.{StateFault}

@@ -4,8 +4,6 @@ use Rattle.lsm_choice.specs.Choice.{HasNoChoice}
 use Rattle.lsm_codec.specs.Entries.{Entry}
 use Rattle.lsm_live.specs.Reserving.{reserved_jobs}
 use Rattle.lsm_state.specs.Held.{Held}
-use Rattle.lsm_state.specs.declared.state_fault.StateFault.{StateFault}
-use Rattle.lsm_state.specs.declared.state_fault.StateFault.TheVariants.{Shelf, OutOfMemory}
 use Rattle.lsm_store.specs.Workers.{IsOfTurn}
 use Rattle.lsm_serve.specs.Served.{IsToldBy}
 use Rattle.lsm_store.specs.declared.worker_fault.WorkerFault.{WorkerFault}

@@ -1,6 +1,7 @@
 -- What a session is seen as, and what it answers
 pub mod Served
 pub mod Seen
+pub mod Pinning
 pub mod Reading
 pub mod Scanning
 pub mod Writing

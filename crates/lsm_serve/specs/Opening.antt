@@ -1,15 +1,14 @@
 -- How an opening is served, and why it is not (docs/PROTOCOL.md, this project's rule).
-use Rattle.std.specs.Prelude.{◌≡◌, ◌⊎◌, ℕ, Bool, true, false, List}
+use Rattle.std.specs.Prelude.{◌≡◌, ◌⊎◌, Bool, true, false, List}
 use Rattle.lsm_directory.specs.declared.folder.folder_file.FolderFile.{FolderFile}
 use Rattle.lsm_folder.specs.Calls.{Call}
 use Rattle.lsm_text.specs.declared.form.Form.TheVariants.{Hex}
 use Rattle.lsm_text.specs.declared.ingest_options.IngestOptions.{IngestOptions}
 use Rattle.lsm_writing.specs.Preparing.{IsPrepared, IsUnprepared}
-use Rattle.lsm_writing.specs.declared.faults.writer_fault.WriterFault.{WriterFault}
 use Rattle.lsm_writing.specs.declared.ingesting.start.Start.{Start}
 use Rattle.lsm_writing.specs.declared.ingesting.start.Start.TheVariants.{Open, Begin}
 use Rattle.lsm_serve.specs.declared.opening_fault.OpeningFault.{OpeningFault}
-use Rattle.lsm_serve.specs.declared.opening_fault.OpeningFault.TheVariants.{BadOpening, NoDatabase, IsThere, Folder}
+use Rattle.lsm_serve.specs.declared.opening_fault.OpeningFault.TheVariants.{NoDatabase, IsThere, Folder}
 
 -- a database is begun where there is no file of one, and logs are looked at
 abbrev pub looking : IngestOptions

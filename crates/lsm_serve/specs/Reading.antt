@@ -6,11 +6,12 @@ use Rattle.lsm_frames.specs.declared.length.TheConstants.{MOST_ANSWER}
 use Rattle.lsm_frames.specs.declared.when.When.{When}
 use Rattle.lsm_state.specs.Held.{Held}
 use Rattle.lsm_state.specs.declared.state_fault.StateFault.{StateFault}
-use Rattle.lsm_state.specs.declared.state_fault.StateFault.TheVariants.{OutOfMemory, PinsSpent, Read, TooLarge}
+use Rattle.lsm_state.specs.declared.state_fault.StateFault.TheVariants.{OutOfMemory, Read, TooLarge}
 use Rattle.lsm_store.specs.Readers.{Learnt}
 use Rattle.lsm_table.specs.ReadFault.{IsMemoryOrShelf}
 use Rattle.lsm_table.specs.declared.read_fault.ReadFault.{ReadFault}
 use Rattle.lsm_serve.specs.Answered.{done_frame}
+use Rattle.lsm_serve.specs.Pinning.{IsUnpinned}
 use Rattle.lsm_serve.specs.Seen.{IsNotLive, Sees}
 use Rattle.lsm_serve.specs.Served.{IsToldBy}
 
@@ -26,9 +27,9 @@ pub record IsRead (Honest : Type 0) (when : When) (keys : List (List ℕ)) (take
 
 -- ---- refusals
 
--- Why there is no view: in a state that has all that the channel knew the snapshot is not live; all pins were made; or memory ran out.
+-- Why there is no view: in a state that has all that the channel knew the snapshot is not live, or the version is not pinned.
 abbrev pub IsUnseen : When → List (ℕ × ℕ) → (knew knows : List Entry) → StateFault → Type 0
-IsUnseen when taken knew knows e = ((h : Held) × IsToldBy h knew knows × IsNotLive h taken when e) ⊎ ((e ≡ PinsSpent) ⊎ (e ≡ OutOfMemory))
+IsUnseen when taken knew knows e = (h : Held) × IsToldBy h knew knows × (IsNotLive h taken when e ⊎ IsUnpinned h e)
 
 -- Why an answer does not grow: it would be too long; or memory ran out.
 abbrev pub IsAnswerFault : StateFault → Type 0

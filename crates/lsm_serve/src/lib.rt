@@ -19,8 +19,12 @@ mod turn;
 mod writing;
 
 // What these share: what is known, forks of a shelf, answers, a view of what has come in.
+mod channel_reader;
+mod channel_view;
 mod forks;
 mod knowing;
+mod locked_version;
+mod pin;
 mod refusing;
 mod saying;
 mod viewing;

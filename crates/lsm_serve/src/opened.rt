@@ -12,13 +12,26 @@ use crate::parts::{NewParts, options_for};
 use crate::plan::Plan;
 use crate::session::Session;
 use crate::starting::start;
+use lsm_reader::Cached;
 use lsm_slots::Boarded;
-use lsm_state::State;
+use lsm_state::{Options, State};
 use lsm_store::{Reader, Store};
 use lsm_table::{NamedShelf, Shelf, ShelfFault};
 use lsm_writing::{Prepared, WriterFault};
-use std::alloc::Global;
+use std::alloc::{AllocError, Global};
+use std::num::NonZeroUsize;
 use std::sync::Wait;
+
+/// An empty cache, as large as a reader's, over the shelf.
+fn blocks_over<N: Boarded, S: Shelf>(
+    alloc: Global,
+    shelf: NamedShelf<N, S>,
+) -> Result<Cached<N, S>, AllocError> {
+    let Some(blocks) = NonZeroUsize::new(Options::usual().cache_blocks) else {
+        unreachable!()
+    };
+    Cached::new(alloc, shelf, blocks)
+}
 
 /// A channel for each reader, by forks of the shelf. Their descriptors follow one another. Each
 /// knows what had come in by then.
@@ -33,8 +46,9 @@ fn man<N: Boarded, S: Shelf, R: Wait>(
     let mut fd = first;
     let mut channels = Vec::new(alloc);
     for reader in readers {
+        let blocks = blocks_over(alloc, shelf.fork(alloc)?)?;
         let shelf = shelf.fork(alloc)?;
-        let session = Session::new(alloc, reader, shelf, remember(rt, store));
+        let session = Session::new(alloc, reader, blocks, shelf, remember(rt, store));
         channels.push(Channel { session, fd })?;
         fd = fd.saturating_add(1);
     }

@@ -11,13 +11,15 @@ ghost use Rattle.lsm_serve.specs.Reading.{IsRead, IsReadFault, IsTooLong, IsUnre
 ghost use Rattle.lsm_state.specs.declared.state_fault.StateFault.TheVariants.{TooLarge};
 ghost use Rattle.lsm_store.specs.Readers.{IsPromised};
 
+use crate::channel_reader::ChannelReader;
+use crate::channel_view::ChannelView;
 use crate::refusing::of_answer;
 use crate::viewing::view_at;
 use lsm_frames::{AnswerFault, Keys, ValuesAnswer, When};
 use lsm_history::Memory;
 use lsm_slots::Boarded;
 use lsm_state::StateFault;
-use lsm_store::{Reader, Store, View};
+use lsm_store::Store;
 use lsm_table::Shelf;
 use std::alloc::Global;
 use std::sync::Wait;
@@ -38,7 +40,7 @@ fn add_found(values: &mut ValuesAnswer, found: Option<Vec<u8>>) -> Result<(), An
 /// Adds the value of a key at a sequence.
 fn add_value<N: Boarded, S: Shelf>(
     alloc: Global,
-    view: &mut View<N, S>,
+    view: &mut ChannelView<N, S>,
     seq: u64,
     key: &[u8],
     values: &mut ValuesAnswer,
@@ -61,7 +63,7 @@ fn add_value<N: Boarded, S: Shelf>(
 /// Adds the values of keys at a sequence, in the order of the keys.
 fn add_values<N: Boarded, S: Shelf>(
     alloc: Global,
-    view: &mut View<N, S>,
+    view: &mut ChannelView<N, S>,
     seq: u64,
     keys: Keys<'_>,
     values: &mut ValuesAnswer,
@@ -84,7 +86,7 @@ fn add_values<N: Boarded, S: Shelf>(
 /// The answer with the values of keys at a sequence.
 fn values_of<N: Boarded, S: Shelf>(
     alloc: Global,
-    view: &mut View<N, S>,
+    view: &mut ChannelView<N, S>,
     seq: u64,
     keys: Keys<'_>,
 ) -> Result<Vec<u8>, StateFault>
@@ -107,12 +109,12 @@ pub(crate) fn read<N: Boarded, S: Shelf, R: Wait>(
     rt: &R,
     alloc: Global,
     store: &Store<N, S>,
-    reader: Reader<N, S>,
+    reader: ChannelReader<N, S>,
     memory: &mut Memory<N>,
     taken: &[(u64, u64)],
     when: When,
     keys: Keys<'_>,
-) -> (Reader<N, S>, Result<Vec<u8>, StateFault>)
+) -> (ChannelReader<N, S>, Result<Vec<u8>, StateFault>)
     ensures read { IfOk result.1 (λ v. IsRead S.honest when keys.entry taken.now
         reader result.0 memory.old memory.new v.items) }
     ensures known { IsLater memory.new memory.old }
@@ -123,7 +125,7 @@ pub(crate) fn read<N: Boarded, S: Shelf, R: Wait>(
     match view_at(rt, store, reader, memory, taken, when) {
         Ok((mut view, seq)) => {
             let answer = values_of(alloc, &mut view, seq, keys);
-            (view.end(), answer)
+            (view.end(rt, store), answer)
         }
         Err((reader, fault)) => (reader, Err(fault)),
     }

@@ -16,6 +16,8 @@ ghost use Rattle.lsm_state.specs.declared.state_fault.StateFault.TheVariants.{To
 ghost use Rattle.lsm_store.specs.Readers.{IsPromised};
 ghost use Rattle.lsm_table.specs.ReadFault.{IsMemoryOrShelf};
 
+use crate::channel_reader::ChannelReader;
+use crate::channel_view::ChannelView;
 use crate::refusing::of_answer;
 use crate::turn::Turn;
 use crate::viewing::view_at;
@@ -24,7 +26,7 @@ use lsm_history::Memory;
 use lsm_reads::{Pair, Scan};
 use lsm_slots::Boarded;
 use lsm_state::StateFault;
-use lsm_store::{Reader, Store, View};
+use lsm_store::Store;
 use lsm_table::{ReadFault, Shelf};
 use std::alloc::Global;
 use std::sync::Wait;
@@ -53,7 +55,7 @@ fn is_below(to: Option<&[u8]>, key: &[u8]) -> bool
 /// A scan from a key on, of which the first pair is taken.
 fn first_from<N: Boarded, S: Shelf>(
     alloc: Global,
-    view: &mut View<N, S>,
+    view: &mut ChannelView<N, S>,
     seq: u64,
     from: &[u8],
 ) -> Result<(Scan<N, S>, Option<Pair>), ReadFault>
@@ -92,7 +94,7 @@ fn add(pairs: &mut PairsAnswer, pair: &Pair) -> Result<(), StateFault>
 /// Adds the next pair of a scan, if it is before the bound, and the page is not full.
 fn take_turn<N: Boarded, S: Shelf>(
     alloc: Global,
-    view: &mut View<N, S>,
+    view: &mut ChannelView<N, S>,
     scan: &mut Scan<N, S>,
     next: Option<Pair>,
     range: Range<'_>,
@@ -125,7 +127,7 @@ fn take_turn<N: Boarded, S: Shelf>(
 /// Adds the pairs of a range, up to a page. Whether none is left.
 fn fill<N: Boarded, S: Shelf>(
     alloc: Global,
-    view: &mut View<N, S>,
+    view: &mut ChannelView<N, S>,
     scan: &mut Scan<N, S>,
     first: Option<Pair>,
     range: Range<'_>,
@@ -155,7 +157,7 @@ fn fill<N: Boarded, S: Shelf>(
 /// The answer with the first pairs of a range at a sequence.
 fn page_of<N: Boarded, S: Shelf>(
     alloc: Global,
-    view: &mut View<N, S>,
+    view: &mut ChannelView<N, S>,
     seq: u64,
     range: Range<'_>,
 ) -> Result<Vec<u8>, StateFault>
@@ -179,11 +181,11 @@ pub(crate) fn scan<N: Boarded, S: Shelf, R: Wait>(
     rt: &R,
     alloc: Global,
     store: &Store<N, S>,
-    reader: Reader<N, S>,
+    reader: ChannelReader<N, S>,
     memory: &mut Memory<N>,
     taken: &[(u64, u64)],
     range: Range<'_>,
-) -> (Reader<N, S>, Result<Vec<u8>, StateFault>)
+) -> (ChannelReader<N, S>, Result<Vec<u8>, StateFault>)
     ensures scanned { IfOk result.1 (λ v. IsScanned S.honest (stretch_of range.entry) taken.now
         reader result.0 memory.old memory.new v.items) }
     ensures known { IsLater memory.new memory.old }
@@ -194,7 +196,7 @@ pub(crate) fn scan<N: Boarded, S: Shelf, R: Wait>(
     match view_at(rt, store, reader, memory, taken, range.when) {
         Ok((mut view, seq)) => {
             let answer = page_of(alloc, &mut view, seq, range);
-            (view.end(), answer)
+            (view.end(rt, store), answer)
         }
         Err((reader, fault)) => (reader, Err(fault)),
     }

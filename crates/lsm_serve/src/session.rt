@@ -8,6 +8,7 @@ ghost use Rattle.lsm_frames.specs.Views.{asked_of, stretch_of};
 ghost use Rattle.lsm_history.specs.History.{IsLater};
 ghost use Rattle.lsm_serve.specs.Answering.{AnswersStatistics, IsAnswered};
 
+use crate::channel_reader::ChannelReader;
 use crate::collecting::collect;
 use crate::compacting::compact;
 use crate::reading::read;
@@ -19,6 +20,7 @@ use crate::statistics::{list, sizes_of};
 use crate::writing::write;
 use lsm_frames::{Keys, Range, Request, When, Writes, told};
 use lsm_history::Memory;
+use lsm_reader::Cached;
 use lsm_slots::Boarded;
 use lsm_state::StateFault;
 use lsm_store::{Background, Reader, Store};
@@ -56,7 +58,7 @@ fn answer_statistics<N: Boarded, S: Shelf, R: Wait>(
 /// and a sequence.
 #[derive(Drop)]
 pub struct Session<N: Boarded, S: Shelf> {
-    reader: Reader<N, S>,
+    reader: ChannelReader<N, S>,
     shelf: NamedShelf<N, S>,
     memory: Memory<N>,
     taken: Vec<(u64, u64)>,
@@ -76,11 +78,13 @@ impl<N: Boarded, S: Shelf> Model for Session<N, S> {
 }
 
 impl<N: Boarded, S: Shelf> Session<N, S> {
-    /// A session with this reader and this shelf. It knows what is remembered here, and took no
+    /// A session with this reader and this shelf, and with these blocks for reads of a version of
+    /// which the reader has made all its pins. It knows what is remembered here, and took no
     /// snapshot.
     pub fn new(
         alloc: Global,
         reader: Reader<N, S>,
+        blocks: Cached<N, S>,
         shelf: NamedShelf<N, S>,
         memory: Memory<N>,
     ) -> Session<N, S>
@@ -88,7 +92,7 @@ impl<N: Boarded, S: Shelf> Session<N, S> {
             ≡ record { reader = reader; shelf = shelf; known = memory; taken = [] } }
     {
         Session {
-            reader,
+            reader: ChannelReader { reader, blocks },
             shelf,
             memory,
             taken: Vec::new(alloc),

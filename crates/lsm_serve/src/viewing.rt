@@ -5,7 +5,7 @@ ghost use Rattle.lsm_frames.specs.declared.when.When.TheVariants.{Snapshot};
 ghost use Rattle.lsm_history.specs.History.{IsLater};
 ghost use Rattle.lsm_state.specs.Reading.{IsSequence};
 ghost use Rattle.lsm_state.specs.declared.state_fault.StateFault.TheVariants.{OutOfMemory};
-ghost use Rattle.lsm_state.specs.declared.state_fault.StateFault.TheVariants.{PinsSpent};
+ghost use Rattle.lsm_serve.specs.Pinning.{HasSameVersions, IsUnpinned};
 ghost use Rattle.lsm_serve.specs.Reading.{IsUnseen};
 ghost use Rattle.lsm_serve.specs.Seen.{IsAsGiven, IsGiven, IsNotLive, Learns, Sees, is_other};
 ghost use Rattle.lsm_serve.specs.Seen.{snapshot_in};
@@ -13,12 +13,15 @@ ghost use Rattle.std.specs.List.{list_any};
 ghost use Rattle.lsm_serve.specs.Served.{IsToldBy};
 ghost use Rattle.lsm_store.specs.Readers.{refreshed};
 
+use crate::channel_reader::ChannelReader;
+use crate::channel_view::ChannelView;
 use crate::knowing::catch_up;
+use crate::pin::Pin;
 use lsm_frames::When;
 use lsm_history::Memory;
 use lsm_slots::Boarded;
 use lsm_state::{State, StateFault};
-use lsm_store::{Reader, Store, View};
+use lsm_store::{Reader, Store};
 use lsm_table::Shelf;
 use std::sync::Wait;
 
@@ -74,6 +77,7 @@ fn learn<N: Boarded, S: Shelf>(
     ensures given { IfOk result (IsAsGiven taken.now when) }
     ensures learnt { OnOk result (reader.new ≡ refreshed state.old reader.old) }
     ensures later { OnOk result (IsLater reader.new.history reader.old.history) }
+    ensures same { OnOk result (HasSameVersions state.old.slots state.new.slots) }
     ensures err { OnErr result (reader.new ≡ reader.old) }
     ensures refused { IfErr result (λ e. IsNotLive state.old taken.now when e ⊎ (e ≡ OutOfMemory)) }
 {
@@ -82,48 +86,31 @@ fn learn<N: Boarded, S: Shelf>(
     Ok(seq)
 }
 
-/// Pins the version that the reader has learnt. While the lock is held that one is current, and so
-/// no other refusal comes than `PinsSpent`; `Moved` is answered so too.
-fn begin<N: Boarded, S: Shelf>(
-    reader: Reader<N, S>,
-) -> Result<View<N, S>, (Reader<N, S>, StateFault)>
-    ensures begun { IfOk result (λ v. (v.id ≡ reader.id) × (v.version ≡ reader.version)
-        × (v.history ≡ reader.history) × (v.snapshots ≡ reader.snapshots)) }
-    ensures kept { IfErr result (λ e. (e.0.id ≡ reader.id) × (e.0.version ≡ reader.version)
-        × (e.0.history ≡ reader.history) × (e.0.snapshots ≡ reader.snapshots)) }
-    ensures refused { IfErr result (λ e. e.1 ≡ PinsSpent) }
-{
-    match reader.begin() {
-        Ok(view) => Ok(view),
-        Err((reader, _)) => Err((reader, StateFault::PinsSpent)),
-    }
-}
-
 /// A view of the current version of a state, and a sequence of it. The state has all that was known.
 fn view_of<N: Boarded, S: Shelf>(
     state: &mut State<N, S>,
-    reader: Reader<N, S>,
+    reader: ChannelReader<N, S>,
     memory: &mut Memory<N>,
     taken: &[(u64, u64)],
     when: When,
-) -> Result<(View<N, S>, u64), (Reader<N, S>, StateFault)>
+) -> Result<(ChannelView<N, S>, u64), (ChannelReader<N, S>, StateFault)>
     ensures told { IsToldBy state.old memory.old memory.new }
     ensures learnt { IfOk result (λ r. Learns state.old reader r.0) }
     ensures sequence { IfOk result (λ r. IsSequence state.old (snapshot_in when) r.1) }
     ensures given { IfOk result (λ r. IsAsGiven taken.now when r.1) }
     ensures later { IfErr result (λ e. IsLater e.0.history reader.history) }
     ensures refused { IfErr result (λ e.
-        IsNotLive state.old taken.now when e.1 ⊎ ((e.1 ≡ PinsSpent) ⊎ (e.1 ≡ OutOfMemory))) }
+        IsNotLive state.old taken.now when e.1 ⊎ IsUnpinned state.old e.1) }
 {
     catch_up(state, memory);
-    let mut reader = reader;
+    let ChannelReader { mut reader, blocks } = reader;
     let seq = match learn(state, &mut reader, taken, when) {
         Ok(seq) => seq,
-        Err(fault) => return Err((reader, fault)),
+        Err(fault) => return Err((ChannelReader { reader, blocks }, fault)),
     };
-    match begin(reader) {
-        Ok(view) => Ok((view, seq)),
-        Err((reader, fault)) => Err((reader, fault)),
+    match Pin::of(state, reader) {
+        Ok(pin) => Ok((ChannelView { pin, blocks }, seq)),
+        Err((reader, fault)) => Err((ChannelReader { reader, blocks }, fault)),
     }
 }
 
@@ -133,11 +120,11 @@ fn view_of<N: Boarded, S: Shelf>(
 pub(crate) fn view_at<N: Boarded, S: Shelf, R: Wait>(
     rt: &R,
     store: &Store<N, S>,
-    reader: Reader<N, S>,
+    reader: ChannelReader<N, S>,
     memory: &mut Memory<N>,
     taken: &[(u64, u64)],
     when: When,
-) -> Result<(View<N, S>, u64), (Reader<N, S>, StateFault)>
+) -> Result<(ChannelView<N, S>, u64), (ChannelReader<N, S>, StateFault)>
     ensures sees { IfOk result (λ r. Sees when taken.now reader r.0 memory.old memory.new r.1) }
     ensures known { IsLater memory.new memory.old }
     ensures later { IfErr result (λ e. IsLater e.0.history reader.history) }

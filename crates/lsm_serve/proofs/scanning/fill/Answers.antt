@@ -1,4 +1,4 @@
-use Rattle.std.proofs.Common.{◌≡◌, ◌+◌, ap, ◌∙◌, subst}
+use Rattle.std.proofs.Common.{◌+◌, ap, ◌∙◌, subst}
 use Rattle.lsm_frames.specs.Views.{stretch_of}
 use Rattle.lsm_store.specs.Readers.{Learnt}
 use Rattle.lsm_serve.specs.Stepping.{Grows, Turns, ahead}
