@@ -34,7 +34,8 @@ fn batch_of(alloc: Global, form: Form, words: &[&[u8]]) -> Result<Option<Batch>,
 fn ingest_in(alloc: Global, form: Form, words: &[&[u8]]) -> Result<Option<Command>, AllocError>
     ensures some { IfOk result (λ o. IfSome o (IsCommand form (map (λ w. w.now) words.now))) }
     ensures none { IfOk result (λ o.
-        IfNone o ((ws : List Write) → IsCommand form (map (λ w. w.now) words.now) (Ingest ws) → ⊥)) }
+        IfNone o ((ws : List Write)
+        → IsCommand form (map (λ w. w.now) words.now) (Ingest ws) → ⊥)) }
 {
     match words {
         [name, keys @ ..] if *name == b"ingest".as_slice() => match batch_of(alloc, form, keys)? {
@@ -49,7 +50,8 @@ fn ingest_in(alloc: Global, form: Form, words: &[&[u8]]) -> Result<Option<Comman
 fn get_in(alloc: Global, form: Form, words: &[&[u8]]) -> Result<Option<Command>, AllocError>
     ensures some { IfOk result (λ o. IfSome o (IsCommand form (map (λ w. w.now) words.now))) }
     ensures none { IfOk result (λ o.
-        IfNone o ((key : List ℕ) → IsCommand form (map (λ w. w.now) words.now) (Get key None) → ⊥)) }
+        IfNone o ((key : List ℕ)
+        → IsCommand form (map (λ w. w.now) words.now) (Get key None) → ⊥)) }
 {
     match words {
         [name, key] if *name == b"get".as_slice() => match form.read_bytes(alloc, key)? {

@@ -72,9 +72,9 @@ fn reopen<N: Boarded, S: Shelf, R: Wait>(
     requires seats { length parts.board.1.items ≡ options.readers }
     requires history { IsNewHistory N.history parts.history }
     ensures opened { IfOk result (λ s. IsReopened S.honest options s shelf.old shelf.new) }
-    ensures refused { IfErr result (λ e. IsNotReopened (Stored S.Receipt (S.is_of N.place) S.Receipt.number
-        S.Receipt.image) (S.refuses N.place) S.honest options
-        e shelf.old shelf.new) }
+    ensures refused { IfErr result (λ e. IsNotReopened
+        (Stored S.Receipt (S.is_of N.place) S.Receipt.number S.Receipt.image)
+        (S.refuses N.place) S.honest options e shelf.old shelf.new) }
     ensures seats { IfOk result (λ s. SeatsPinners s) }
 {
     made_states_seat_their_pinners();
@@ -108,9 +108,9 @@ fn open_beside<N: Boarded, S: Shelf, R: Wait>(
     requires history { IsNewHistory N.history parts.history }
     ensures opened { IfOk result (λ s.
         IsStarted S.honest options Open logs.now s shelf.old shelf.new) }
-    ensures refused { IfErr result (λ e. IsNotOpened (Stored S.Receipt (S.is_of N.place) S.Receipt.number
-        S.Receipt.image) (S.refuses N.place) S.honest options
-        logs.now e shelf.old shelf.new) }
+    ensures refused { IfErr result (λ e. IsNotOpened
+        (Stored S.Receipt (S.is_of N.place) S.Receipt.number S.Receipt.image)
+        (S.refuses N.place) S.honest options logs.now e shelf.old shelf.new) }
     ensures seats { IfOk result (λ s. SeatsPinners s) }
 {
     refuse_unflushed(rt, alloc, shelf, logs)?;
@@ -203,9 +203,10 @@ pub(crate) fn start<N: Boarded, S: Shelf, R: Wait>(
     requires history { IsNewHistory N.history parts.history }
     ensures started { IfOk result (λ s. IsStarted S.honest options prepared.now.start
         prepared.now.logs.items s shelf.old shelf.new) }
-    ensures refused { IfErr result (λ e. IsUnstarted (Stored S.Receipt (S.is_of N.place) S.Receipt.number
-        S.Receipt.image) (S.refuses N.place) S.honest options
-        prepared.now.start prepared.now.logs.items e shelf.old shelf.new) }
+    ensures refused { IfErr result (λ e. IsUnstarted
+        (Stored S.Receipt (S.is_of N.place) S.Receipt.number S.Receipt.image)
+        (S.refuses N.place) S.honest options prepared.now.start
+        prepared.now.logs.items e shelf.old shelf.new) }
     ensures seats { IfOk result (λ s. SeatsPinners s) }
 {
     match prepared.start {

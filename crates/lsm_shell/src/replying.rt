@@ -37,7 +37,8 @@ fn say_stopped<O: Write>(
     out: &mut O,
 ) -> Result<(), Unsaid>
     ensures { (said : List ℕ) × ((said ≡ reply_text form (Refused (StateRefusal fault)))
-        ⊎ (said ≡ no_memory)) × OnOk result (Appends (O.contents out.old) (O.contents out.new) said) }
+        ⊎ (said ≡ no_memory))
+        × OnOk result (Appends (O.contents out.old) (O.contents out.new) said) }
 {
     text.clear();
     match push_reply(text, form, &Reply::Refused(CommandFault::State(fault))) {

@@ -11,5 +11,6 @@ mod listing;
 mod start;
 mod tables;
 
+pub use file_names::manifest_file;
 pub use file_receipt::FileReceipt;
 pub use file_shelf::{FileShelf, SystemShelf};

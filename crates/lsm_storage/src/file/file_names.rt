@@ -22,7 +22,7 @@ pub(crate) fn table_file(alloc: Global, number: u64) -> Result<String, AllocErro
 }
 
 /// The name of a manifest's file: `MANIFEST-N`.
-pub(crate) fn manifest_file(alloc: Global, number: u64) -> Result<String, AllocError>
+pub fn manifest_file(alloc: Global, number: u64) -> Result<String, AllocError>
     ensures { IfOk result (λ s. string_bytes s ≡ manifest_name number) }
 {
     let digits = digits_of(alloc, number)?;

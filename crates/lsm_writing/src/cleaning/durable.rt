@@ -1,29 +1,14 @@
 //! What a database needs is made durable before anything else of its folder goes.
 
-ghost use Rattle.std.specs.Prelude.{◌≡◌, IfErr, IfOk, OnOk, string_bytes};
-ghost use Rattle.lsm_storage.specs.FileNames.{manifest_name, padded};
+ghost use Rattle.std.specs.Prelude.{◌≡◌, IfErr, OnOk};
 ghost use Rattle.lsm_writing.specs.Cleaning.{IsDurable, IsUndurable};
 
 use crate::cleaning::refused_by;
 use crate::faults::writer_fault::WriterFault;
 use lsm_folder::FolderCalls;
-use std::alloc::{AllocError, Global};
+use lsm_storage::manifest_file;
+use std::alloc::Global;
 use std::sync::Wait;
-
-/// The number in decimal, with zeros in front to at least six digits.
-fn digits_of(alloc: Global, number: u64) -> Result<String, AllocError>
-    ensures { IfOk result (λ s. string_bytes s ≡ padded number) }
-{
-    format!(in alloc; "{number:06}")
-}
-
-/// The name of a manifest's file: `MANIFEST-N`.
-fn manifest_file(alloc: Global, number: u64) -> Result<String, AllocError>
-    ensures { IfOk result (λ s. string_bytes s ≡ manifest_name number) }
-{
-    let digits = digits_of(alloc, number)?;
-    format!(in alloc; "MANIFEST-{digits}")
-}
 
 /// Makes the manifest of this number and the names of the folder durable. The last program in the
 /// folder may have been killed behind an append or a rename and before its sync: then what only an
