@@ -6,7 +6,7 @@ use Rattle.clap.specs.declared.error.ErrorKind.{ErrorKind}
 use Rattle.clap.specs.declared.error.ErrorKind.TheVariants as kind
 use Rattle.clap.proofs.OnLiterals.{clap_on_literals}
 use Rattle.lsm_text.specs.Grammar.{bare, bench, check, clean, compact, delete, dump, get, help, ingest, levels, list, load, lsm, make_table, manifest, put, scan, script, shell, with_inputs, with_looks, with_writes}
-use Rattle.lsm_text.specs.Requests.{AskHelp, HaveUsageFault, faults_in, found_in, named, topic_in, word_in, word_of}
+use Rattle.lsm_text.specs.Requests.{AskHelp, HaveUsageFault, faults_in, found_in, named, named_converting, named_otherwise, named_reading, named_writing, topic_in, word_in, word_of}
 use Rattle.lsm_text.specs.declared.command_name.CommandName.{CommandName}
 use Rattle.lsm_text.specs.declared.command_name.CommandName.TheVariants as name
 
@@ -42,7 +42,7 @@ unfolding clap_on_literals faults_in bare bench check clean compact delete dump 
 alone_good = refl
 
 pub alone_topic : is_some (topic_in (found_in (codes "help" ∷ []))) ≡ true
-unfolding clap_on_literals found_in word_in named bare bench check clean compact delete dump get help ingest levels list load lsm make_table manifest put scan script shell with_inputs with_looks with_writes
+unfolding clap_on_literals found_in word_in named named_converting named_reading named_writing named_otherwise bare bench check clean compact delete dump get help ingest levels list load lsm make_table manifest put scan script shell with_inputs with_looks with_writes
 alone_topic = refl
 
 pub named_good : (n : CommandName) → faults_in (codes "help" ∷ word_of n ∷ []) ≡ []
@@ -67,7 +67,7 @@ named_good name.Bench = refl
 named_good name.Help = refl
 
 pub named_topic : (n : CommandName) → is_some (topic_in (found_in (codes "help" ∷ word_of n ∷ []))) ≡ true
-unfolding clap_on_literals found_in word_in named bare bench check clean compact delete dump get help ingest levels list load lsm make_table manifest put scan script shell with_inputs with_looks with_writes
+unfolding clap_on_literals found_in word_in named named_converting named_reading named_writing named_otherwise bare bench check clean compact delete dump get help ingest levels list load lsm make_table manifest put scan script shell with_inputs with_looks with_writes
 named_topic name.MakeTable = refl
 named_topic name.Dump = refl
 named_topic name.Manifest = refl

@@ -1,6 +1,6 @@
 -- What the words of a command line ask for, by what clap's grammar finds in them: this project's rule.
 use Rattle.std.specs.Prelude.{◌≡◌, ◌≢◌, ℕ, ◌+◌, ◌≤◌, ◌⊎◌, ⊤, Bool, true, false, if◌then◌else◌, List, [], ◌∷◌, codes, Option, Some, None, is_some, option_map}
-use Rattle.std.specs.Option.{option_map_or}
+use Rattle.std.specs.Option.{option_map_or, option_or}
 use Rattle.std.specs.Str.{bytes_eq}
 use Rattle.clap.specs.Words.{IsAmong, Kinds, Row, Text, fault_of, first_of, found_of, rows_of, subcommand_of}
 use Rattle.clap.specs.declared.error.ErrorKind.{ErrorKind}
@@ -68,27 +68,44 @@ form_in rows = if is_set (codes "text") rows then AsText else Hex
 
 -- ---- which command it is
 
-unfoldable pub named : Text → Option CommandName
-named word =
+unfoldable pub named_converting : Text → Option CommandName
+named_converting word =
     if bytes_eq word (codes "mktable") then Some name.MakeTable
     else if bytes_eq word (codes "dump") then Some name.Dump
     else if bytes_eq word (codes "manifest") then Some name.Manifest
-    else if bytes_eq word (codes "script") then Some name.Script
-    else if bytes_eq word (codes "check") then Some name.Check
+    else None
+
+unfoldable pub named_reading : Text → Option CommandName
+named_reading word =
+    if bytes_eq word (codes "check") then Some name.Check
     else if bytes_eq word (codes "list") then Some name.List
     else if bytes_eq word (codes "levels") then Some name.Levels
     else if bytes_eq word (codes "get") then Some name.Get
     else if bytes_eq word (codes "scan") then Some name.Scan
-    else if bytes_eq word (codes "ingest") then Some name.Ingest
+    else None
+
+unfoldable pub named_writing : Text → Option CommandName
+named_writing word =
+    if bytes_eq word (codes "ingest") then Some name.Ingest
     else if bytes_eq word (codes "put") then Some name.Put
     else if bytes_eq word (codes "delete") then Some name.Delete
     else if bytes_eq word (codes "load") then Some name.Load
     else if bytes_eq word (codes "compact") then Some name.Compact
     else if bytes_eq word (codes "clean") then Some name.Clean
+    else None
+
+unfoldable pub named_otherwise : Text → Option CommandName
+named_otherwise word =
+    if bytes_eq word (codes "script") then Some name.Script
     else if bytes_eq word (codes "shell") then Some name.Shell
     else if bytes_eq word (codes "bench") then Some name.Bench
     else if bytes_eq word (codes "help") then Some name.Help
     else None
+
+unfoldable pub named : Text → Option CommandName
+named word =
+    option_or (option_or (option_or (named_converting word) (named_reading word)) (named_writing word))
+    (named_otherwise word)
 
 -- the word that names a command
 abbrev pub word_of : CommandName → Text

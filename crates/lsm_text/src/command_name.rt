@@ -1,7 +1,8 @@
 //! The names of the commands.
 
 ghost use Rattle.std.specs.Prelude.{◌≡◌};
-ghost use Rattle.lsm_text.specs.Requests.{named, word_of};
+ghost use Rattle.lsm_text.specs.Requests.{named, named_converting, named_otherwise};
+ghost use Rattle.lsm_text.specs.Requests.{named_reading, named_writing, word_of};
 
 /// Which command of the program it is.
 #[derive(Clone, Copy, Debug)]
@@ -54,10 +55,10 @@ impl CommandName {
     }
 }
 
-/// The command of this name.
-#[tactic(auto, unfolding(crate::specs::Requests::named))]
-pub(crate) fn named(word: &str) -> Option<CommandName>
-    ensures { result ≡ named word.now }
+/// The command of this name that turns one file into another form.
+#[tactic(auto, unfolding(crate::specs::Requests::named_converting))]
+fn named_converting(word: &str) -> Option<CommandName>
+    ensures { result ≡ named_converting word.now }
 {
     if word == "mktable" {
         return Some(CommandName::MakeTable);
@@ -68,9 +69,14 @@ pub(crate) fn named(word: &str) -> Option<CommandName>
     if word == "manifest" {
         return Some(CommandName::Manifest);
     }
-    if word == "script" {
-        return Some(CommandName::Script);
-    }
+    None
+}
+
+/// The command of this name that reads a folder.
+#[tactic(auto, unfolding(crate::specs::Requests::named_reading))]
+fn named_reading(word: &str) -> Option<CommandName>
+    ensures { result ≡ named_reading word.now }
+{
     if word == "check" {
         return Some(CommandName::Check);
     }
@@ -86,6 +92,14 @@ pub(crate) fn named(word: &str) -> Option<CommandName>
     if word == "scan" {
         return Some(CommandName::Scan);
     }
+    None
+}
+
+/// The command of this name that writes in a folder.
+#[tactic(auto, unfolding(crate::specs::Requests::named_writing))]
+fn named_writing(word: &str) -> Option<CommandName>
+    ensures { result ≡ named_writing word.now }
+{
     if word == "ingest" {
         return Some(CommandName::Ingest);
     }
@@ -104,6 +118,17 @@ pub(crate) fn named(word: &str) -> Option<CommandName>
     if word == "clean" {
         return Some(CommandName::Clean);
     }
+    None
+}
+
+/// The command of this name that is none of these.
+#[tactic(auto, unfolding(crate::specs::Requests::named_otherwise))]
+fn named_otherwise(word: &str) -> Option<CommandName>
+    ensures { result ≡ named_otherwise word.now }
+{
+    if word == "script" {
+        return Some(CommandName::Script);
+    }
     if word == "shell" {
         return Some(CommandName::Shell);
     }
@@ -114,4 +139,15 @@ pub(crate) fn named(word: &str) -> Option<CommandName>
         return Some(CommandName::Help);
     }
     None
+}
+
+/// The command of this name.
+#[tactic(auto, unfolding(crate::specs::Requests::named))]
+pub(crate) fn named(word: &str) -> Option<CommandName>
+    ensures { result ≡ named word.now }
+{
+    named_converting(word)
+        .or(named_reading(word))
+        .or(named_writing(word))
+        .or(named_otherwise(word))
 }
