@@ -1,5 +1,5 @@
 -- A conversation with the database of a folder (this project's rule).
-use Rattle.std.specs.Prelude.{◌≡◌, ◌⊎◌, ℕ, List, All, Option, None, Some, Result, Ok, Err}
+use Rattle.std.specs.Prelude.{◌≡◌, ◌⊎◌, ℕ, List, All, length, Option, None, Some, Result, Ok, Err}
 use Rattle.std.specs.Io.KnownBytes.{Keeps}
 use Rattle.lsm_shelf.specs.Asked.{Asked}
 use Rattle.lsm_shelf.specs.Told.{Forked, NotNamed, Told, fresh}
@@ -44,8 +44,8 @@ IsConverseFault Stored Refused honest start logs form input e was is old new =
 -- ---- beside workers
 
 -- The directory was begun or opened, and its shelf gave forks. With one of them a conversation went on with its state, and ended so, while
--- workers compacted, which ended so. It was said of an output that had this much; that it is the caller's is to be read.
-pub record ConversesBeside (honest : Type 0) (start : Start) (logs : List FolderFile) (form : Form) (input : Option (List ℕ)) (r : Result (Unit {0}) TalkFault) (ends : List WorkerEnd) (was is : Told) (old : Option (List ℕ)) : Type 0 where
+-- so many workers compacted, which ended so. It was said of an output that had this much; that it is the caller's is to be read.
+pub record ConversesBeside (honest : Type 0) (start : Start) (logs : List FolderFile) (form : Form) (workers : ℕ) (input : Option (List ℕ)) (r : Result (Unit {0}) TalkFault) (ends : List WorkerEnd) (was is : Told) (old : Option (List ℕ)) : Type 0 where
   pub state : Held
   pub mid : Told
   pub started : IsStarted honest start logs state was mid
@@ -53,17 +53,18 @@ pub record ConversesBeside (honest : Type 0) (start : Start) (logs : List Folder
   pub own : Told
   pub unasked : own ≡ fresh own.place
   pub talk : IsTalkedBeside honest form input r (waiting state.history own clear None) old
+  pub count : length ends ≡ workers
   pub each : All (IsWorkersEnd honest) ends
 
 -- It came to its end, and no worker ended early.
-abbrev pub IsConversedBeside : Type 0 → Start → List FolderFile → Form → Option (List ℕ) → Told → Told → Option (List ℕ) → Type 0
-IsConversedBeside honest start logs form input was is old =
-    (ends : List WorkerEnd) × All IsFaultless ends × ConversesBeside honest start logs form input (Ok tt) ends was is old
+abbrev pub IsConversedBeside : Type 0 → Start → List FolderFile → Form → (workers : ℕ) → Option (List ℕ) → Told → Told → Option (List ℕ) → Type 0
+IsConversedBeside honest start logs form workers input was is old =
+    (ends : List WorkerEnd) × All IsFaultless ends × ConversesBeside honest start logs form workers input (Ok tt) ends was is old
 
 -- Why one that ended so, beside workers that ended so, is a fault.
 abbrev pub IsOfEnds : Result (Unit {0}) TalkFault → List WorkerEnd → CompactFault → Type 0
 IsOfEnds (Ok done) ends (Worker fault) = IsFirstFault fault ends
-IsOfEnds (Ok done) ends (Writer fault) = ⊥
+IsOfEnds (Ok done) ends e = ⊥
 IsOfEnds (Err Read) ends e = e ≡ Writer ReadFault
 IsOfEnds (Err Write) ends e = e ≡ Writer WriteFault
 
@@ -73,23 +74,23 @@ IsUnforked e = (e ≡ Writer OutOfMemory) ⊎ ((fault : ShelfFault) × NotNamed 
 
 -- Why a conversation beside workers did not come to such an end. Nothing was said: memory ran out, or the shelf gave no fork, before or behind
 -- the opening; or the directory was not begun or opened. Or there was no memory for workers. Or it ended so.
-abbrev pub IsBesideFault : (ℕ → List ℕ → Type 0) → (Asked → ShelfFault → Type 0) → Type 0 → Start → List FolderFile → Form → Option (List ℕ) → CompactFault → Told → Told → Option (List ℕ) → Option (List ℕ) → Type 0
-IsBesideFault Stored Refused honest start logs form input e was is old new =
+abbrev pub IsBesideFault : (ℕ → List ℕ → Type 0) → (Asked → ShelfFault → Type 0) → Type 0 → Start → List FolderFile → Form → (workers : ℕ) → Option (List ℕ) → CompactFault → Told → Told → Option (List ℕ) → Option (List ℕ) → Type 0
+IsBesideFault Stored Refused honest start logs form workers input e was is old new =
     (IsUnforked e × Keeps old new × ((is ≡ was) ⊎ ((h : Held) × (mid : Told) × IsStarted honest start logs h was mid × Forked mid is)))
     ⊎ (((fault : WriterFault) × (e ≡ Writer fault) × IsStartRefusal Stored Refused honest start logs fault was is × Keeps old new)
     ⊎ (((e ≡ Writer OutOfMemory) × ((h : Held) × (mid : Told) × IsStarted honest start logs h was mid × Forked mid is))
-    ⊎ ((r : Result (Unit {0}) TalkFault) × (ends : List WorkerEnd) × IsOfEnds r ends e × ConversesBeside honest start logs form input r ends was is old)))
+    ⊎ ((r : Result (Unit {0}) TalkFault) × (ends : List WorkerEnd) × IsOfEnds r ends e × ConversesBeside honest start logs form workers input r ends was is old)))
 
 -- ---- with workers, or without
 
 -- a conversation came to its end
 abbrev pub IsConversed : Option ℕ → Type 0 → Start → List FolderFile → Form → Option (List ℕ) → Told → Told → Option (List ℕ) → Option (List ℕ) → Type 0
 IsConversed None honest start logs form input was is old new = Converses honest start logs form input (Ok tt) was is old new
-IsConversed (Some workers) honest start logs form input was is old new = IsConversedBeside honest start logs form input was is old
+IsConversed (Some workers) honest start logs form input was is old new = IsConversedBeside honest start logs form workers input was is old
 
 -- this kept it from its end
 abbrev pub IsUnconversed : Option ℕ → (ℕ → List ℕ → Type 0) → (Asked → ShelfFault → Type 0) → Type 0 → Start → List FolderFile → Form → Option (List ℕ) → CompactFault → Told → Told → Option (List ℕ) → Option (List ℕ) → Type 0
 IsUnconversed None Stored Refused honest start logs form input e was is old new =
     (fault : WriterFault) × (e ≡ Writer fault) × IsConverseFault Stored Refused honest start logs form input fault was is old new
 IsUnconversed (Some workers) Stored Refused honest start logs form input e was is old new =
-    IsBesideFault Stored Refused honest start logs form input e was is old new
+    IsBesideFault Stored Refused honest start logs form workers input e was is old new

@@ -36,8 +36,8 @@ fn catch_up<N: Boarded, S: Shelf>(state: &mut State<N, S>, memory: &mut Memory<N
     state.law();
 }
 
-/// Replies to what was read next, on a state that is lent, which has all that is remembered. All that
-/// has come in then is remembered.
+/// Replies to what was read next, on a state that is lent, which has all that is remembered. All
+/// that has come in then is remembered.
 fn reply_lent<N: Boarded, S: Shelf, R: Wait, I: Read + Drop, O: Write>(
     state: &mut State<N, S>,
     rt: &R,
@@ -107,8 +107,8 @@ fn reply_under_lock<N: Boarded, S: Shelf, R: Wait, I: Read + Drop, O: Write>(
     )
 }
 
-/// Reads the next line, and replies to it. `false` at the end of the input, and at `quit`. The store
-/// lends its state once the line is there.
+/// Reads the next line, and replies to it. `false` at the end of the input, and at `quit`. The
+/// store lends its state once the line is there.
 fn take_turn<N: Boarded, S: Shelf, R: Wait, I: Read + Drop, O: Write>(
     rt: &R,
     alloc: Global,
@@ -140,8 +140,8 @@ fn take_turn<N: Boarded, S: Shelf, R: Wait, I: Read + Drop, O: Write>(
 }
 
 /// Replies to lines as `talk` does, on the state of a store, whose workers compact beside: it is
-/// locked for each line, and not while the next one is waited for. Behind each reply the workers look
-/// again. What is remembered when it begins has come in before.
+/// locked for each line, and not while the next one is waited for. Behind each reply the workers
+/// look again. What is remembered when it begins has come in before.
 ///
 /// # Errors
 /// Those of `talk`.

@@ -28,8 +28,9 @@ use std::marker::Brand;
 use std::sync::Wait;
 use std::thread::Threads;
 
-/// Replies to lines on the state of a store, while a worker for each shelf compacts: how that ended,
-/// and the workers' ends. None where there was no memory for the workers; then no line was read.
+/// Replies to lines on the state of a store, while a worker for each shelf compacts: how that
+/// ended, and the workers' ends. None where there was no memory for the workers; then no line was
+/// read.
 ///
 /// What is said is said of an output that begins as this one does. The toolchain tells nothing of
 /// what a closure that is handed on leaves of what it borrowed.
@@ -53,6 +54,7 @@ where
     O: Write,
     ensures talked { IfSome result (λ r. IsTalkedBeside S.honest form lines.left r.0
         (waiting memory own desk None) (O.contents out.old)) }
+    ensures count { IfSome result (λ r. vec_len r.1 ≡ vec_len shelves) }
     ensures ends { IfSome result (λ r. All (IsWorkersEnd S.honest) r.1.items) }
 {
     let told = &mut *out;
@@ -129,8 +131,8 @@ fn judge(talked: Result<(), TalkFault>, ends: &[WorkerEnd]) -> Result<(), Compac
     }
 }
 
-/// Begins or opens the directory of a shelf, and replies to lines while so many workers compact. The
-/// shelf is asked for forks alone once that is done.
+/// Begins or opens the directory of a shelf, and replies to lines while so many workers compact.
+/// Once it is begun or opened the shelf is asked for forks alone.
 fn converse_named<N, S, R, I, O>(
     rt: &R,
     alloc: Global,
@@ -153,11 +155,11 @@ where
     requires seats { vec_len parts.pinners ≡ usual.readers }
     requires history { IsNewHistory N.history parts.history }
     ensures done { OnOk result (IsConversedBeside S.honest prepared.now.start
-        prepared.now.logs.items form lines.left shelf.old shelf.new
+        prepared.now.logs.items form workers lines.left shelf.old shelf.new
         (O.contents out.old)) }
     ensures fault { IfErr result (λ e. IsBesideFault (Stored S.Receipt (S.is_of N.place)
         S.Receipt.number S.Receipt.image) (S.refuses N.place) S.honest prepared.now.start
-        prepared.now.logs.items form lines.left e shelf.old shelf.new
+        prepared.now.logs.items form workers lines.left e shelf.old shelf.new
         (O.contents out.old) (O.contents out.new)) }
 {
     let parts = match parts.named(alloc) {
@@ -213,11 +215,11 @@ where
     requires seats { vec_len parts.pinners ≡ usual.readers }
     requires history { IsNewHistory N.history parts.history }
     ensures done { OnOk result.0 (IsConversedBeside S.honest prepared.now.start
-        prepared.now.logs.items form lines.left (S.told shelf) (S.told result.1)
+        prepared.now.logs.items form workers lines.left (S.told shelf) (S.told result.1)
         (O.contents out.old)) }
     ensures fault { IfErr result.0 (λ e. IsBesideFault (Stored S.Receipt (S.is_of N.place)
         S.Receipt.number S.Receipt.image) (S.refuses N.place) S.honest prepared.now.start
-        prepared.now.logs.items form lines.left e (S.told shelf) (S.told result.1)
+        prepared.now.logs.items form workers lines.left e (S.told shelf) (S.told result.1)
         (O.contents out.old) (O.contents out.new)) }
 {
     let mut shelf: NamedShelf<N, S> = NamedShelf::of(shelf);
@@ -227,8 +229,8 @@ where
     (done, shelf.into_shelf())
 }
 
-/// As `converse`, while so many workers compact beside. Once the conversation has ended each of them
-/// ends what it has begun; the fault of the first one that has ended early is told then.
+/// As `converse`, while so many workers compact beside. Once the conversation has ended each of
+/// them ends what it has begun; the fault of the first one that has ended early is told then.
 pub fn converse_beside<S, R, I, O>(
     rt: &R,
     alloc: Global,
@@ -245,12 +247,12 @@ where
     I: Read + Drop,
     O: Write,
     ensures done { OnOk result.0 (IsConversedBeside S.honest prepared.now.start
-        prepared.now.logs.items form (I.remaining input) (S.told shelf) (S.told result.1)
-        (O.contents out.old)) }
+        prepared.now.logs.items form workers (I.remaining input) (S.told shelf)
+        (S.told result.1) (O.contents out.old)) }
     ensures fault { IfErr result.0 (λ e. IsBesideFault (Stored S.Receipt
         (S.is_of (S.told shelf).place) S.Receipt.number S.Receipt.image)
         (S.refuses (S.told shelf).place) S.honest prepared.now.start prepared.now.logs.items form
-        (I.remaining input) e (S.told shelf) (S.told result.1)
+        workers (I.remaining input) e (S.told shelf) (S.told result.1)
         (O.contents out.old) (O.contents out.new)) }
 {
     let lines = match LineReader::new(alloc, input) {

@@ -1,6 +1,6 @@
 //! A store, and the shelves of those who work on it.
 
-ghost use Rattle.std.specs.Prelude.{◌≡◌, IfErr, IfOk};
+ghost use Rattle.std.specs.Prelude.{◌≡◌, IfErr, IfOk, vec_len};
 ghost use Rattle.lsm_shelf.specs.Told.{Forked, NotNamed, fresh};
 
 use lsm_loading::forks;
@@ -27,6 +27,7 @@ impl<N: Boarded, S: Shelf> Crew<N, S> {
         shelf: &mut NamedShelf<N, S>,
         workers: usize,
     ) -> Result<Crew<N, S>, ShelfFault>
+        ensures count { IfOk result (λ c. vec_len c.shelves ≡ workers) }
         ensures own { IfOk result (λ c. c.own ≡ fresh N.place) }
         ensures told { Forked shelf.old shelf.new }
         ensures cause { IfErr result NotNamed }

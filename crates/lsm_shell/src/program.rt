@@ -138,9 +138,9 @@ where
 
 /// Opens the database of the folder at a path under its lock, or begins one, as `ingest` does, and
 /// replies to the lines of the input, each a command, up to `quit` or to the end. So many workers
-/// compact beside as long as that goes on, or none. Answers the exit status: 0 then, and 1 where the
-/// folder is not opened, the input can't be read, a reply can't be written, or a worker ended early.
-/// A fault is one line on `err`, and may have more behind it that say what it means.
+/// compact beside as long as that goes on, or none. Answers the exit status: 0 then, and 1 where
+/// the folder is not opened, the input can't be read, a reply can't be written, or a worker ended
+/// early. A fault is one line on `err`, and may have more behind it that say what it means.
 pub fn run_shell<C, P, R, I, O, E>(
     rt: &R,
     paths: &P,

@@ -1,7 +1,7 @@
 //! A conversation, line after line.
 
-ghost use Rattle.std.specs.Prelude.{◌≡◌, ◌⊎◌, List, None, ℕ, true, codes, Err, IfErr, IfNone, IfOk, IfSome};
-ghost use Rattle.std.specs.Prelude.{Ok, OnErr, OnOk};
+ghost use Rattle.std.specs.Prelude.{◌≡◌, ◌⊎◌, List, None, ℕ, true, codes, Err, IfErr, IfNone};
+ghost use Rattle.std.specs.Prelude.{IfOk, IfSome, Ok, OnErr, OnOk};
 ghost use Rattle.std.specs.Io.KnownBytes.{Appends, IsAtEnd};
 ghost use Rattle.lsm_lines.specs.Reading.{TakesLine};
 ghost use Rattle.lsm_script.specs.Steps.{stage};
@@ -124,12 +124,12 @@ fn take_turn<N: Boarded, S: Shelf, R: Wait, I: Read + Drop, O: Write>(
 }
 
 /// Replies to lines, one after another, up to `quit` or the end of the input. Each reply is flushed
-/// before the next line is read. A refusal is a reply, also for want of memory. A batch that is begun
-/// at the end is let go.
+/// before the next line is read. A refusal is a reply, also for want of memory. A batch that is
+/// begun at the end is let go.
 ///
 /// # Errors
-/// `Read` where the input can't be read, `Write` where a reply can't be written. What was done until
-/// then stays.
+/// `Read` where the input can't be read, `Write` where a reply can't be written. What was done
+/// until then stays.
 pub fn talk<N: Boarded, S: Shelf, R: Wait, I: Read + Drop, O: Write>(
     rt: &R,
     alloc: Global,
