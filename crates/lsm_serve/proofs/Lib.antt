@@ -1,5 +1,6 @@
 mod KnownLaws
 mod SeenLaws
+mod PinLaws
 mod SessionLaws
 mod AnswerLaws
 mod OptionLaws

@@ -10,11 +10,8 @@ use Rattle.lsm_codec.specs.Entries.{Entry}
 use Rattle.lsm_frames.specs.Requests.{Stretch}
 use Rattle.lsm_frames.specs.Answers.{Found}
 use Rattle.lsm_history.specs.History.{IsLater}
-use Rattle.lsm_store.specs.Readers.{IsRefused, unpinned}
-use Rattle.lsm_store.specs.declared.begin_fault.BeginFault.{BeginFault}
-use Rattle.lsm_store.specs.declared.begin_fault.BeginFault.TheVariants.{Moved, PinsSpent}
+use Rattle.lsm_store.specs.Readers.{unpinned}
 use Rattle.lsm_serve.specs.Answered.{done_frame}
-use Rattle.lsm_serve.specs.Pinning.{KnowsSame}
 use Rattle.lsm_serve.specs.Reading.{IsRead, IsReadFault, IsTooLong, IsUnread, values_at}
 use Rattle.lsm_serve.specs.Scanning.{IsScanFault, IsScanned, IsShown, IsUnshown}
 use Rattle.lsm_state.specs.declared.state_fault.StateFault.{StateFault}
@@ -36,13 +33,6 @@ promised when taken before after knew knows seq sees = promised_at when sees.sta
 -- what the reader has learnt is what is known
 seen_known : (when : When) (taken : List (ℕ × ℕ)) (b v : Learnt) (knew knows : List Entry) (seq : ℕ) → Sees when taken b v knew knows seq → v.history ≡ knows
 seen_known when taken b v knew knows seq sees = sees.learnt.history ∙ sym sees.told.known
-
--- a reader that was refused knows what it knew
-pub refused_knows : (r back : Learnt) (fault : BeginFault) → IsRefused r back fault → KnowsSame r back
-refused_knows r back (Moved id) h = let e = h.2.1 in
-    (ap (λ (l : Learnt). l.id) e, ap (λ (l : Learnt). l.version) e, ap (λ (l : Learnt). l.history) e, ap (λ (l : Learnt). l.snapshots) e)
-refused_knows r back PinsSpent h = let e = h.1 in
-    (ap (λ (l : Learnt). l.id) e, ap (λ (l : Learnt). l.version) e, ap (λ (l : Learnt). l.history) e, ap (λ (l : Learnt). l.snapshots) e)
 
 -- ---- after the view has ended
 

@@ -100,10 +100,7 @@ impl<N: Boarded, S: Shelf> ChannelView<N, S> {
         ensures { result ≡ unpinned self }
     {
         let ChannelView { pin, blocks } = self;
-        let reader = match pin {
-            Pin::Own(view) => view.end(),
-            Pin::Locked(locked) => locked.end(rt, store),
-        };
+        let reader = pin.end(rt, store);
         ChannelReader { reader, blocks }
     }
 }

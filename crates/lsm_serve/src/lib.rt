@@ -23,6 +23,7 @@ mod channel_reader;
 mod channel_view;
 mod forks;
 mod knowing;
+mod locked_pin;
 mod locked_version;
 mod pin;
 mod refusing;

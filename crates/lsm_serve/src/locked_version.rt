@@ -1,14 +1,15 @@
 //! A version that is pinned under the lock.
 
-ghost use Rattle.std.specs.Prelude.{◌≡◌, IfErr, IfOk, OnOk};
+ghost use Rattle.std.specs.Prelude.{◌≡◌, IfErr, IfOk, OnErr, OnOk};
 ghost use Rattle.std.specs.Option.{option_map};
 ghost use Rattle.lsm_codec.specs.Entries.{answer};
 ghost use Rattle.lsm_levels.specs.Scanning.{IsScan};
 ghost use Rattle.lsm_merger.specs.Seeking.{at_or_past};
-ghost use Rattle.lsm_serve.specs.Pinning.{GivesPinBack, IsUnpinned, PinsCurrent};
+ghost use Rattle.lsm_serve.specs.Pinning.{HasLearnt, IsUnpinned, PinsCurrent};
 ghost use Rattle.lsm_store.specs.Readers.{IsIdle, IsPromised};
 ghost use Rattle.lsm_table.specs.ReadFault.{IsMemoryOrShelf};
 
+use crate::locked_pin::LockedPin;
 use lsm_reader::Cached;
 use lsm_reads::{Scan, get_by, scan_from_by};
 use lsm_slots::Boarded;
@@ -25,7 +26,7 @@ use std::sync::{Arc, Wait};
 pub(crate) struct LockedVersion<N: Boarded, S: Shelf> {
     reader: Reader<N, S>,
     version: Arc<Version<N, S>>,
-    id: u32,
+    pin: LockedPin,
 }
 
 impl<N: Boarded, S: Shelf> Model for LockedVersion<N, S> {
@@ -37,14 +38,8 @@ impl<N: Boarded, S: Shelf> Model for LockedVersion<N, S> {
 
     ghost view = { λ l. l.reader };
 
-    ghost invariant = { λ l. arc_value l.version ≡ l.reader.version };
-}
-
-/// Gives a pin under the lock of the version of this id back.
-fn unpin<N: Boarded, S: Shelf>(state: &mut State<N, S>, id: u32)
-    ensures { GivesPinBack state.old.slots state.new.slots id }
-{
-    let _is_given_back = state.unpin(id);
+    ghost invariant = { λ l. (arc_value l.version ≡ l.reader.version)
+        × (l.pin.id ≡ l.reader.id) };
 }
 
 impl<N: Boarded, S: Shelf> LockedVersion<N, S> {
@@ -54,20 +49,21 @@ impl<N: Boarded, S: Shelf> LockedVersion<N, S> {
         state: &mut State<N, S>,
         reader: Reader<N, S>,
     ) -> Result<LockedVersion<N, S>, (Reader<N, S>, StateFault)>
-        requires { reader.version ≡ state.old.slots.version }
+        requires { HasLearnt state.old.slots reader }
         ensures pinned { OnOk result (PinsCurrent state.old.slots state.new.slots) }
         ensures reader { IfOk result (λ l. l ≡ reader) }
+        ensures err { OnErr result (state.new ≡ state.old) }
         ensures back { IfErr result (λ e. e.0 ≡ reader) }
         ensures refused { IfErr result (λ e. IsUnpinned state.old e.1) }
     {
         let Ok(version) = Arc::try_clone(state.current().1) else {
             return Err((reader, StateFault::OutOfMemory));
         };
-        match state.pin() {
-            Ok(id) => Ok(LockedVersion {
+        match LockedPin::of(state) {
+            Ok(pin) => Ok(LockedVersion {
                 reader,
                 version,
-                id,
+                pin,
             }),
             Err(fault) => Err((reader, fault)),
         }
@@ -118,9 +114,9 @@ impl<N: Boarded, S: Shelf> LockedVersion<N, S> {
         let LockedVersion {
             reader,
             version: _,
-            id,
+            pin,
         } = self;
-        unpin(&mut store.lock(rt).state, id);
+        pin.give_back(&mut store.lock(rt).state);
         // That it holds no pin of its own is told by this call.
         let _id = reader.id();
         reader

@@ -10,7 +10,7 @@ use Rattle.lsm_serve.proofs.locked_version.LockedVersion.scan_from.Goals as goal
 
 pub returns-clause-scanned : goal.returns-clause-scanned
 returns-clause-scanned g c fair =
-    let version = c.deref.ensures ∙ c.self.invariant in
+    let version = c.deref.ensures ∙ c.self.invariant.0 in
     let scanned = subst (λ (v : Levels). IfOk c.scan_from_by.result (λ s. IsScan c.args.seq (at_or_past c.args.from.now (all_entries (files v))) s.left)) version (c.scan_from_by.ensures.scanned fair) in
     let promised = subst (λ (r : Learnt). IsPromised r c.args.seq) (sym c.self.view_is) c.requires.promised in
     subst (λ (r : Learnt). IfOk c.scan_from_by.result (λ s. IsScan c.args.seq (at_or_past c.args.from.now r.history) s.left)) c.self.view_is
