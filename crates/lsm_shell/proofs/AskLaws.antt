@@ -1,6 +1,6 @@
 -- What a line asks for, look by look.
 use Rattle.std.proofs.Common.{◌≡◌, ℕ, List, codes, Option, Some, None, sym, subst, inl, inr}
-use Rattle.std.specs.Prelude.{◌⊎◌, IfNone, IfOk, IfSome, Result, Ok, Err}
+use Rattle.std.specs.Prelude.{IfNone, IfOk, IfSome, Result, Ok, Err}
 use Rattle.lsm_batch.specs.declared.write.Write.{Write}
 use Rattle.lsm_text.specs.declared.form.Form.{Form}
 use Rattle.lsm_text.specs.declared.key_bounds.KeyBounds.{KeyBounds}

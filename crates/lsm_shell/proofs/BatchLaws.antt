@@ -1,6 +1,5 @@
 -- A batch of several lines.
 use Rattle.std.proofs.Common.{◌≡◌, ℕ, List, [], ◌∷◌, ◌++◌, Option, Some, None, codes, refl, sym, ap, ◌∙◌, subst, inl, inr}
-use Rattle.std.specs.Prelude.{◌⊎◌}
 use Rattle.lsm_codec.proofs.CallerLemmas.{has_right}
 use Rattle.lsm_batch.specs.Batches.{IsLarge, IsTooLarge}
 use Rattle.lsm_batch.specs.declared.write.Write.{Write}

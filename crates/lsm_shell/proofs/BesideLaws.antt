@@ -59,3 +59,12 @@ pub judged_fault : (Stored : ℕ → List ℕ → Type 0) (Refused : Asked → S
     → IfErr done (IsOfEnds r ends) → IfErr done (λ e. IsBesideFault Stored Refused honest start logs form workers input e was is old new)
 judged_fault Stored Refused honest start logs form workers input r ends was is old new (Ok x) c judged = tt
 judged_fault Stored Refused honest start logs form workers input r ends was is old new (Err e) c judged = inr (inr (inr (r, ends, judged, c)))
+
+-- the same said of equal things
+pub fault_same : (Stored : ℕ → List ℕ → Type 0) (Refused : Asked → ShelfFault → Type 0) (honest : Type 0) (start : Start) (logs : List FolderFile) (form : Form) (workers : ℕ) (i j : Option (List ℕ))
+    (was now is end : Told) (old new : Option (List ℕ)) (done : Result (Unit {0}) CompactFault) → i ≡ j → was ≡ now → is ≡ end
+    → IfErr done (λ e. IsBesideFault Stored Refused honest start logs form workers i e was is old new) → IfErr done (λ e. IsBesideFault Stored Refused honest start logs form workers j e now end old new)
+fault_same Stored Refused honest start logs form workers i j was now is end old new done input before after h =
+    subst (λ (t : Told). IfErr done (λ e. IsBesideFault Stored Refused honest start logs form workers j e now t old new)) after
+    (subst (λ (t : Told). IfErr done (λ e. IsBesideFault Stored Refused honest start logs form workers j e t is old new)) before
+    (subst (λ (k : Option (List ℕ)). IfErr done (λ e. IsBesideFault Stored Refused honest start logs form workers k e was is old new)) input h))

@@ -1,5 +1,5 @@
 -- The commands of a conversation.
-use Rattle.std.proofs.Common.{◌≡◌, ◌∙◌, ℕ, zero, suc, List, [], ◌∷◌, ◌++◌, Option, Some, None, refl, sym, ap, subst, inl, inr}
+use Rattle.std.proofs.Common.{◌≡◌, ◌∙◌, ℕ, zero, suc, List, [], ◌∷◌, ◌++◌, Option, Some, None, refl, ap, subst, inl, inr}
 use Rattle.std.specs.Prelude.{◌⊎◌, All}
 use Rattle.std.proofs.lemmas.List.Elements.{All-append, All-cons, All-nil}
 use Rattle.lsm_batch.specs.declared.write.Write.{Write}
@@ -15,7 +15,7 @@ use Rattle.lsm_script.specs.declared.reply.Reply.TheVariants.{Refused}
 use Rattle.lsm_shell.specs.Asked.{AreDone, IsDone, IsUpkeep, Makes}
 use Rattle.lsm_shell.specs.Asks.{IsAsk}
 use Rattle.lsm_shell.specs.Batching.{IsAbort, IsBegin, IsCommitReply, IsPutReply, Standing}
-use Rattle.lsm_shell.specs.Rounds.{AreRounds, Does, Ends, Fails, IsCompacted, IsFinished, IsGivenUp, IsRefusedRound, IsRound, IsUncompacted, IsUnfinished, NoneIsDue}
+use Rattle.lsm_shell.specs.Rounds.{AreRounds, Ends, IsCompacted, IsFinished, IsRefusedRound, IsRound, IsUncompacted, IsUnfinished, NoneIsDue}
 use Rattle.lsm_shell.specs.Talk.{AreReplied, IsCompactReply, IsReplied, Obeys, Obeyed, Bad, Long, Spent}
 use Rattle.lsm_shell.specs.declared.ask.Ask.{Ask}
 use Rattle.lsm_shell.specs.declared.ask.Ask.TheVariants.{Do, Put, Scan, Begin, Commit, Abort, Compact, Stats, Help}

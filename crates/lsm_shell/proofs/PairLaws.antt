@@ -1,13 +1,11 @@
 -- What a scan shows, pair by pair.
-use Rattle.std.proofs.Common.{◌≡◌, ◌≢◌, ℕ, ◌-◌, ◌<◌, zero, suc, Bool, true, false, List, [], ◌∷◌, ◌++◌, take, Option, Some, None, refl, sym, ap, ◌∙◌, subst, append_assoc, append-nil, inl, inr, arith}
-use Rattle.std.specs.Prelude.{◌&&◌, ◌⊎◌, Result, Ok, Err, IfErr}
+use Rattle.std.proofs.Common.{◌≡◌, ◌≢◌, ℕ, ◌-◌, zero, suc, true, false, List, [], ◌∷◌, ◌++◌, take, Option, Some, None, refl, sym, ap, ◌∙◌, subst, append_assoc, append-nil, inl, inr, arith}
+use Rattle.std.specs.Prelude.{◌⊎◌, Result, Ok, Err}
 use Rattle.std.specs.List.{flat_map, filter}
 use Rattle.std.specs.Io.KnownBytes.{Appends, Keeps}
 use Rattle.std.proofs.KnownBytes.{Appends-kept, Appends-nil, Appends-trans, Keeps-refl}
-use Rattle.std.proofs.lemmas.Bool.{cases_Bool}
 use Rattle.std.proofs.lemmas.Grind.{flat_map-append}
-use Rattle.lsm_codec.specs.Keys.{UserKey, UserLe, user_le}
-use Rattle.lsm_codec.proofs.CallerLemmas.{user_le_trans}
+use Rattle.lsm_codec.specs.Keys.{UserKey, UserLe}
 use Rattle.lsm_codec.specs.Lists.{Has}
 use Rattle.lsm_levels.specs.Files.{all_entries}
 use Rattle.lsm_levels.specs.Scanning.{IsScan, Pair, UsersAscend}
@@ -18,7 +16,7 @@ use Rattle.lsm_version.specs.Versions.{Levels, files}
 use Rattle.lsm_text.specs.KeyBounds.{is_within}
 use Rattle.lsm_text.specs.declared.form.Form.{Form}
 use Rattle.lsm_text.specs.declared.key_bounds.KeyBounds.{KeyBounds}
-use Rattle.lsm_shell.specs.Pairs.{IsFront, IsScanFault, IsWrite, PrintsLeft, PrintsNext, PrintsVersion, Steps, limited, one_less, pair_line, pairs_text, shown}
+use Rattle.lsm_shell.specs.Pairs.{IsScanFault, IsWrite, PrintsLeft, PrintsNext, PrintsVersion, Steps, limited, one_less, pair_line, pairs_text, shown}
 use Rattle.lsm_shell.specs.declared.pairs.ScanFault.{ScanFault}
 use Rattle.lsm_shell.specs.declared.pairs.ScanFault.TheVariants.{Read, NoMemory, Write}
 use Rattle.lsm_shell.specs.declared.pairs.Step.TheVariants.{End, Outside, Within}

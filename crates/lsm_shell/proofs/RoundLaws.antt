@@ -1,6 +1,6 @@
 -- Compactions, one after another.
-use Rattle.std.proofs.Common.{◌≡◌, ℕ, suc, ◌+◌, ◌-◌, ◌^◌, ◌≤◌, refl, sym, subst, inl, inr, add-one, IfErr, IfOk, OnOk}
-use Rattle.std.specs.Prelude.{◌⊎◌, Result, Ok, Err}
+use Rattle.std.proofs.Common.{◌≡◌, ℕ, ◌+◌, ◌-◌, ◌^◌, ◌≤◌, refl, sym, subst, inl, inr, add-one, IfErr, IfOk, OnOk}
+use Rattle.std.specs.Prelude.{Result, Ok, Err}
 use Rattle.lsm_state.specs.declared.state_fault.StateFault.TheVariants.{OutOfMemory}
 use Rattle.lsm_script.specs.Steps.{IsStep, Stage}
 use Rattle.lsm_script.specs.declared.command.Command.TheVariants.{Reserve, Merge, Install, Collect}

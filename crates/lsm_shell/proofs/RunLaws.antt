@@ -1,5 +1,5 @@
 -- What a run says, by what a conversation says of the shelf of the folder that was opened.
-use Rattle.std.proofs.Common.{◌≡◌, ℕ, List, Option, IfErr, OnErr, OnOk, inr}
+use Rattle.std.proofs.Common.{ℕ, List, Option, IfErr, OnErr, OnOk, inr}
 use Rattle.std.specs.Prelude.{Result, Ok, Err}
 use Rattle.lsm_folder.specs.Calls.{AreHonest}
 use Rattle.lsm_folder.specs.declared.folder_calls.FolderCalls.{Ghosts}

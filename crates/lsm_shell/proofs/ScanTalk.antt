@@ -1,5 +1,5 @@
 -- What is said of a scan.
-use Rattle.std.proofs.Common.{◌≡◌, ◌≢◌, ℕ, List, [], ◌∷◌, ◌++◌, codes, Option, Some, None, refl, sym, ap, ◌∙◌, subst, inl, inr}
+use Rattle.std.proofs.Common.{◌≡◌, ℕ, List, [], ◌++◌, codes, Option, refl, subst, inl, inr}
 use Rattle.std.specs.Prelude.{◌⊎◌, ⊤, OnOk, Result, Ok, Err}
 use Rattle.std.specs.Io.KnownBytes.{Appends}
 use Rattle.std.proofs.KnownBytes.{Appends-trans}
@@ -8,7 +8,6 @@ use Rattle.lsm_levels.specs.Files.{all_entries}
 use Rattle.lsm_levels.specs.Scanning.{IsScan, Pair}
 use Rattle.lsm_shelf.specs.Told.{Becomes, Told}
 use Rattle.lsm_state.specs.declared.state_fault.StateFault.TheVariants.{Read as ReadRefused}
-use Rattle.lsm_table.specs.ReadFault.{IsMemoryOrShelf, ReadCounted}
 use Rattle.lsm_table.specs.declared.read_fault.ReadFault.{ReadFault}
 use Rattle.lsm_version.specs.Versions.{Levels, files}
 use Rattle.lsm_text.specs.declared.form.Form.{Form}
@@ -22,7 +21,7 @@ use Rattle.lsm_shell.specs.Pairs.{IsScanFault, IsWrite, PrintsVersion, pairs_tex
 use Rattle.lsm_shell.specs.Batching.{no_memory}
 use Rattle.lsm_shell.specs.Talk.{IsScanned, ShowsAll, ShowsSome, StopsScan}
 use Rattle.lsm_shell.specs.declared.pairs.ScanFault.{ScanFault}
-use Rattle.lsm_shell.specs.declared.pairs.ScanFault.TheVariants.{Read, NoMemory, Write}
+use Rattle.lsm_shell.specs.declared.pairs.ScanFault.TheVariants.{Read}
 
 -- what is said, and that it is a scan's
 abbrev pub Says : Type 0 → Form → KeyBounds → Option ℕ → Held → OnDesk → Told → Told → {E : Type 0} → Result (Unit {0}) E → Option (List ℕ) → Option (List ℕ) → Type 0

@@ -1,12 +1,12 @@
 -- The words of a scan.
-use Rattle.std.proofs.Common.{◌≡◌, ◌≢◌, ℕ, suc, ◌+◌, ◌-◌, ◌^◌, ◌<◌, ◌≤◌, List, [], ◌∷◌, ◌++◌, length, take, drop, map, get_or, codes, Option, Some, None, refl, sym, ap, ◌∙◌, subst, append-nil, take-append-drop, drop-cons, arith}
+use Rattle.std.proofs.Common.{◌≡◌, ◌≢◌, ℕ, suc, ◌+◌, ◌-◌, ◌^◌, ◌<◌, ◌≤◌, List, [], ◌∷◌, ◌++◌, length, take, drop, get_or, codes, Option, Some, None, refl, sym, ap, ◌∙◌, subst, append-nil, take-append-drop, drop-cons, arith}
 use Rattle.std.proofs.lemmas.List.{get_or-append-add, get_or-map, length-append, length-drop, length-map, take-map, take_all, drop_all}
 use Rattle.std.proofs.Math.Seq.{get_or-append_seam, take-append_seam}
 use Rattle.lsm_text.specs.Numbers.{IsNumberWord}
 use Rattle.lsm_text.specs.declared.form.Form.{Form}
 use Rattle.lsm_text.specs.declared.key_bounds.KeyBounds.{KeyBounds}
 use Rattle.std.specs.Prelude.{IfNone, IfOk, IfSome, Result, Ok, Err}
-use Rattle.lsm_shell.specs.Asks.{AreEnds, HasLimit, IsLimit, IsScanRest, IsScanWords}
+use Rattle.lsm_shell.specs.Asks.{AreEnds, HasLimit, IsScanRest, IsScanWords}
 use Rattle.lsm_shell.proofs.WordTexts.{Word, blank, more_texts, texts}
 
 -- ---- words by their places

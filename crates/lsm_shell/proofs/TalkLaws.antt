@@ -1,12 +1,12 @@
 -- A conversation, turn by turn.
-use Rattle.std.proofs.Common.{◌≡◌, ◌≢◌, ℕ, Bool, true, false, List, [], ◌∷◌, ◌++◌, codes, Option, Some, None, refl, sym, ap, ◌∙◌, subst, append_assoc, append-nil, inl, inr}
+use Rattle.std.proofs.Common.{◌≡◌, ℕ, Bool, true, false, List, [], ◌∷◌, ◌++◌, codes, Option, Some, None, refl, sym, ap, ◌∙◌, subst, append_assoc, append-nil, inl, inr}
 use Rattle.std.specs.Prelude.{◌⊎◌, OnErr, OnOk, Result, Ok, Err}
-use Rattle.std.specs.Io.KnownBytes.{Appends, IsAtEnd, Keeps}
+use Rattle.std.specs.Io.KnownBytes.{Appends, IsAtEnd}
 use Rattle.std.proofs.KnownBytes.{Appends-kept, Appends-nil, Appends-trans}
 use Rattle.lsm_text.specs.EntryList.{lines_of}
 use Rattle.lsm_text.proofs.CallerLemmas.{lines_of-nil}
 use Rattle.lsm_lines.specs.Reading.{Lined, TakesLine}
-use Rattle.lsm_shell.specs.Talk.{AreAnswered, AreFirst, AreFirstOf, IsTalkOf, IsTurnOf, IsWrite}
+use Rattle.lsm_shell.specs.Talk.{AreAnswered, AreFirstOf, IsTalkOf, IsTurnOf}
 use Rattle.lsm_shell.specs.declared.talk_fault.TalkFault.{TalkFault}
 use Rattle.lsm_shell.specs.declared.talk_fault.TalkFault.TheVariants.{Read, Write}
 

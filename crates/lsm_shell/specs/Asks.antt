@@ -7,7 +7,6 @@ use Rattle.lsm_text.specs.declared.form.Form.{Form}
 use Rattle.lsm_text.specs.declared.key_bounds.KeyBounds.{KeyBounds}
 use Rattle.lsm_script.specs.CommandLine.{IsCommandLine}
 use Rattle.lsm_script.specs.Words.{words_of}
-use Rattle.lsm_script.specs.declared.command.Command.{Command}
 use Rattle.lsm_shell.specs.declared.ask.Ask.{Ask}
 use Rattle.lsm_shell.specs.declared.ask.Ask.TheVariants.{Do, Put, Scan, Begin, Commit, Abort, Compact, Stats, Help}
 

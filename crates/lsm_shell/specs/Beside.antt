@@ -1,5 +1,5 @@
 -- A conversation beside workers (this project's rule): a store lends its state for each turn, and workers compact between two of them.
-use Rattle.std.specs.Prelude.{◌≡◌, ℕ, List, Option, None, Result}
+use Rattle.std.specs.Prelude.{◌≡◌, ℕ, List, Option, Result}
 use Rattle.lsm_codec.specs.Entries.{Entry}
 use Rattle.lsm_history.specs.History.{IsLater}
 use Rattle.lsm_levels.specs.Runs.{ReadsAs}

@@ -1,5 +1,5 @@
 -- What is printed of a scan (this project's rule). Keys and values stand in a form.
-use Rattle.std.specs.Prelude.{◌≡◌, ◌⊎◌, ℕ, ◌-◌, Bool, true, false, ⊤, List, [], ◌∷◌, ◌++◌, take, codes, Option, Some, None, Result, Ok, Err}
+use Rattle.std.specs.Prelude.{◌≡◌, ◌⊎◌, ℕ, ◌-◌, Bool, true, false, ⊤, List, [], ◌∷◌, ◌++◌, take, Option, Some, None, Result, Ok, Err}
 use Rattle.std.specs.List.{flat_map, filter}
 use Rattle.std.specs.Io.KnownBytes.{Appends, Keeps}
 use Rattle.lsm_levels.specs.Files.{all_entries}
@@ -7,7 +7,6 @@ use Rattle.lsm_levels.specs.Scanning.{IsScan, Pair, UsersAscend}
 use Rattle.lsm_merger.specs.Shown.{Showing}
 use Rattle.lsm_shelf.specs.Told.{Told}
 use Rattle.lsm_table.specs.ReadFault.{IsMemoryOrShelf, ReadCounted}
-use Rattle.lsm_table.specs.declared.read_fault.ReadFault.{ReadFault}
 use Rattle.lsm_version.specs.Versions.{Levels, files}
 use Rattle.lsm_text.specs.KeyBounds.{is_within}
 use Rattle.lsm_text.specs.Spelling.{spelled}

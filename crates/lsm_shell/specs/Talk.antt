@@ -1,7 +1,6 @@
 -- A conversation: lines and the replies to them (this project's rule).
 use Rattle.std.specs.Prelude.{◌≡◌, ◌≢◌, ◌⊎◌, ℕ, ◌<◌, Bool, true, false, ⊤, List, [], ◌∷◌, ◌++◌, length, codes, Option, Some, None, Result, Ok, Err}
 use Rattle.std.specs.Io.KnownBytes.{Appends, IsAtEnd, Keeps}
-use Rattle.lsm_codec.specs.Keys.{UserKey}
 use Rattle.lsm_levels.specs.Files.{all_entries}
 use Rattle.lsm_levels.specs.Scanning.{IsScan, Pair}
 use Rattle.lsm_shelf.specs.Told.{Told, Becomes}
@@ -18,7 +17,6 @@ use Rattle.lsm_text.specs.declared.form.Form.{Form}
 use Rattle.lsm_text.specs.declared.key_bounds.KeyBounds.{KeyBounds}
 use Rattle.lsm_script.specs.ReplyText.{reply_text}
 use Rattle.lsm_script.specs.Steps.{IsStep, Stage}
-use Rattle.lsm_script.specs.declared.command.Command.{Command}
 use Rattle.lsm_script.specs.declared.command_fault.CommandFault.{CommandFault}
 use Rattle.lsm_script.specs.declared.command_fault.CommandFault.TheVariants.{State}
 use Rattle.lsm_script.specs.declared.reply.Reply.{Reply}

@@ -1,7 +1,6 @@
-use Rattle.std.proofs.Common.{◌≡◌, ◌∙◌, ℕ, List, ap, sym}
-use Rattle.lsm_script.specs.Words.{words_of}
+use Rattle.std.proofs.Common.{◌≡◌}
 use Rattle.lsm_shell.proofs.AskLaws.{no_other}
-use Rattle.lsm_shell.proofs.WordTexts.{Word, texts}
+use Rattle.lsm_shell.proofs.WordTexts.{texts}
 use Rattle.lsm_shell.proofs.ask_line.other_in.Goals as goal
 
 pub returns-clause-none : goal.returns-clause-none

@@ -1,6 +1,8 @@
-use Rattle.std.proofs.Common.{◌×◌, ◌≡◌, ℕ, List, inl, inr, refl, ◌∙◌}
+use Rattle.std.proofs.Common.{inl, inr, refl, ap, ◌∙◌}
 use Rattle.std.proofs.KnownBytes.{Keeps-refl}
+use Rattle.lsm_shelf.specs.Stored.{Stored}
 use Rattle.lsm_shelf.proofs.CallerLemmas.{forked_none}
+use Rattle.lsm_writing.specs.declared.faults.compact_fault.CompactFault.TheVariants.{Writer}
 use Rattle.lsm_shell.proofs.BesideLaws.{conversed, judged_done, judged_fault}
 use Rattle.lsm_shell.proofs.conversing_beside.converse_named.Goals as goal
 
@@ -9,14 +11,14 @@ returns-in-Err-new-clause-fault g c = inl (inl refl, Keeps-refl _, inr (c.in-Ok-
 
 pub returns-in-Err-new-2-clause-fault : goal.returns-in-Err-new-2-clause-fault
 returns-in-Err-new-2-clause-fault g c =
-    inl (inr (c.in-Err-new-2.fault, c.in-Err-new-2.ensures.cause, refl), Keeps-refl _, inr (c.in-Ok-start.state, c.start.new.shelf, c.in-Ok-start.ensures.started, c.new-2.ensures.told))
+    inl (inr (c.in-Err-new-2.fault, c.in-Err-new-2.ensures.cause, ap Writer c.of_shelf.ensures), Keeps-refl _, inr (c.in-Ok-start.state, c.start.new.shelf, c.in-Ok-start.ensures.started, c.new-2.ensures.told))
 
 pub returns-in_default-clause-fault : goal.returns-in_default-clause-fault
 returns-in_default-clause-fault g c = inr (inr (inl (refl, (c.in-Ok-start.state, c.start.new.shelf, c.in-Ok-start.ensures.started, c.new-2.ensures.told))))
 
 pub returns : goal.returns
 returns g c =
-    let Stored : ℕ → List ℕ → Type 0 = λ number image. (r : g.row.S-Receipt.Denot) × g.S.Shelf.is_of g.N.Naming.place r × (g.S.Receipt.TableReceipt.number r ≡ number) × (g.S.Receipt.TableReceipt.image r ≡ image) in
+    let There = Stored g.row.S-Receipt.Denot (g.S.Shelf.is_of g.N.Naming.place) g.S.Receipt.TableReceipt.number g.S.Receipt.TableReceipt.image in
     let Refused = g.S.Shelf.refuses g.N.Naming.place in
     let H = g.S.Shelf.honest in
     let start = c.args.prepared.now.start in
@@ -30,5 +32,5 @@ returns g c =
     in
     record {
       done = judged_done H start logs c.args.form c.args.workers input c.in-Some.talked ends c.args.shelf.now c.new-2.new.shelf old c.judge.result talked c.judge.ensures.done;
-      fault = judged_fault Stored Refused H start logs c.args.form c.args.workers input c.in-Some.talked ends c.args.shelf.now c.new-2.new.shelf old _ c.judge.result talked c.judge.ensures.fault;
+      fault = judged_fault There Refused H start logs c.args.form c.args.workers input c.in-Some.talked ends c.args.shelf.now c.new-2.new.shelf old _ c.judge.result talked c.judge.ensures.fault;
     }

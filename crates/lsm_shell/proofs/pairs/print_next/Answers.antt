@@ -1,4 +1,3 @@
-use Rattle.std.proofs.Common.{◌≡◌}
 use Rattle.std.specs.Io.KnownBytes.{Appends}
 use Rattle.lsm_merger.specs.Shown.{user_shown, value_shown}
 use Rattle.lsm_shell.specs.Pairs.{pair_line}

@@ -1,4 +1,4 @@
-use Rattle.std.proofs.Common.{inl, inr, refl}
+use Rattle.std.proofs.Common.{refl}
 use Rattle.lsm_shell.proofs.replying.obey.Goals as goal
 
 pub returns-in-Do : goal.returns-in-Do

@@ -1,6 +1,4 @@
-use Rattle.std.proofs.Common.{◌≡◌, ◌∙◌, refl, inl}
-use Rattle.lsm_version.specs.Versions.{Levels}
-use Rattle.lsm_shell.specs.Pairs.{IsScanFault}
+use Rattle.std.proofs.Common.{◌∙◌, refl, inl}
 use Rattle.lsm_shell.proofs.ScanTalk.{read_stops, said_all, said_none, said_some}
 use Rattle.lsm_shell.proofs.replying.say_scan.Goals as goal
 

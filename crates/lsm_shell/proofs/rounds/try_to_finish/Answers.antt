@@ -14,5 +14,5 @@ returns-in-Ok g c =
       err = uninstalled g.S.Shelf.honest c.args.ticket c.try_to-in-Ok.result s m t merged c.try_to-in-Ok.ensures.err;
     }
 
-pub returns-in-Err-clause-err : goal.returns-in-Err-clause-err
-returns-in-Err-clause-err g c = inl (rw c.in-Err.is at c.try_to.ensures.err)
+pub returns-clause-err : goal.returns-clause-err
+returns-clause-err g c = inl (rw c.in-Err.is at c.try_to.ensures.err)

@@ -9,6 +9,6 @@ pub returns-in-Ok-clause-told : goal.returns-in-Ok-clause-told
 returns-in-Ok-clause-told g c =
     forked_then _ _ _ (forked_then _ _ _ c.forks.ensures.told (forked_once _ _ c.in_ok-own.ensures.ok)) (forked_once _ _ c.in_ok-reading.ensures.ok)
 
-pub returns-in-Err-clause-told : goal.returns-in-Err-clause-told
-returns-in-Err-clause-told g c =
+pub returns-clause-told : goal.returns-clause-told
+returns-clause-told g c =
     forked_then _ _ _ (forked_then _ _ _ c.forks.ensures.told (forked_once _ _ c.in_ok-own.ensures.ok)) (forked_once _ _ c.in_ok-reading.ensures.ok)
