@@ -23,7 +23,7 @@ _lsm() {
     load) options='--text --begin --beside-log --workers --from-line --progress --help' places='DIR FILE' ;;
     compact) options='--workers --progress --help' places='DIR' ;;
     clean) options='--help' places='DIR' ;;
-    shell) options='--text --begin --beside-log --help' places='DIR' ;;
+    shell) options='--text --begin --beside-log --workers --help' places='DIR' ;;
     bench) options='--benchmarks --num --value-size --workers --help' places='DIR' ;;
     help) options='--help' places='COMMAND' ;;
     *) return ;;

@@ -72,6 +72,7 @@ complete -c lsm -n '__fish_seen_subcommand_from shell' -a '(__fish_complete_dire
 complete -c lsm -n '__fish_seen_subcommand_from shell' -l text -d 'Keys and values are text, with `\\xNN` for bytes that do not print'
 complete -c lsm -n '__fish_seen_subcommand_from shell' -l begin -d 'Begin a database also where CURRENT was lost'
 complete -c lsm -n '__fish_seen_subcommand_from shell' -l beside-log -d 'Go on also where LevelDB has not flushed its log'
+complete -c lsm -n '__fish_seen_subcommand_from shell' -l workers -x -d 'How many threads compact beside, 1 to 16'
 complete -c lsm -n __fish_use_subcommand -a bench -d 'Measures writes, reads and compactions in a fresh folder'
 complete -c lsm -n '__fish_seen_subcommand_from bench' -a '(__fish_complete_directories)'
 complete -c lsm -n '__fish_seen_subcommand_from bench' -l benchmarks -x -d 'Which benchmarks run, joined by commas [default: fillbatch,fillrandom,overwrite,readrandom,readwhilewriting,readseq,compact]'
