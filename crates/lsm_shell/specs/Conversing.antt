@@ -68,17 +68,23 @@ IsOfEnds (Ok done) ends e = ⊥
 IsOfEnds (Err Read) ends e = e ≡ Writer ReadFault
 IsOfEnds (Err Write) ends e = e ≡ Writer WriteFault
 
--- no memory, or no fork of the shelf
-abbrev pub IsUnforked : CompactFault → Type 0
-IsUnforked e = (e ≡ Writer OutOfMemory) ⊎ ((fault : ShelfFault) × NotNamed fault × (e ≡ Writer (of_shelf fault)))
+-- the directory was begun or opened, and then its shelf was asked for forks alone
+abbrev pub IsForking : Type 0 → Start → List FolderFile → Told → Told → Type 0
+IsForking honest start logs was is = (h : Held) × (mid : Told) × IsStarted honest start logs h was mid × Forked mid is
 
--- Why a conversation beside workers did not come to such an end. Nothing was said: memory ran out, or the shelf gave no fork, before or behind
--- the opening; or the directory was not begun or opened. Or there was no memory for workers. Or it ended so.
+-- Memory ran out before that or behind it; or behind it the shelf gave no fork, or a store could not be made.
+abbrev pub IsUnforked : Type 0 → Start → List FolderFile → CompactFault → Told → Told → Type 0
+IsUnforked honest start logs e was is =
+    ((e ≡ Writer OutOfMemory) × ((is ≡ was) ⊎ IsForking honest start logs was is))
+    ⊎ ((fault : ShelfFault) × NotNamed fault × (e ≡ Writer (of_shelf fault)) × IsForking honest start logs was is)
+
+-- Why a conversation beside workers did not come to such an end. Nothing was said: memory ran out, or the shelf gave no fork; or the directory
+-- was not begun or opened. Or there was no memory for workers. Or it ended so.
 abbrev pub IsBesideFault : (ℕ → List ℕ → Type 0) → (Asked → ShelfFault → Type 0) → Type 0 → Start → List FolderFile → Form → (workers : ℕ) → Option (List ℕ) → CompactFault → Told → Told → Option (List ℕ) → Option (List ℕ) → Type 0
 IsBesideFault Stored Refused honest start logs form workers input e was is old new =
-    (IsUnforked e × Keeps old new × ((is ≡ was) ⊎ ((h : Held) × (mid : Told) × IsStarted honest start logs h was mid × Forked mid is)))
+    (IsUnforked honest start logs e was is × Keeps old new)
     ⊎ (((fault : WriterFault) × (e ≡ Writer fault) × IsStartRefusal Stored Refused honest start logs fault was is × Keeps old new)
-    ⊎ (((e ≡ Writer OutOfMemory) × ((h : Held) × (mid : Told) × IsStarted honest start logs h was mid × Forked mid is))
+    ⊎ (((e ≡ Writer OutOfMemory) × IsForking honest start logs was is)
     ⊎ ((r : Result (Unit {0}) TalkFault) × (ends : List WorkerEnd) × IsOfEnds r ends e × ConversesBeside honest start logs form workers input r ends was is old)))
 
 -- ---- with workers, or without

@@ -7,11 +7,19 @@ use Rattle.lsm_shell.proofs.BesideLaws.{conversed, judged_done, judged_fault}
 use Rattle.lsm_shell.proofs.conversing_beside.converse_named.Goals as goal
 
 pub returns-in-Err-new-clause-fault : goal.returns-in-Err-new-clause-fault
-returns-in-Err-new-clause-fault g c = inl (inl refl, Keeps-refl _, inr (c.in-Ok-start.state, c.start.new.shelf, c.in-Ok-start.ensures.started, forked_none _))
+returns-in-Err-new-clause-fault g c = inl (inl (refl, inr (c.in-Ok-start.state, c.start.new.shelf, c.in-Ok-start.ensures.started, forked_none _)), Keeps-refl _)
 
 pub returns-in-Err-new-2-clause-fault : goal.returns-in-Err-new-2-clause-fault
 returns-in-Err-new-2-clause-fault g c =
-    inl (inr (c.in-Err-new-2.fault, c.in-Err-new-2.ensures.cause, ap Writer c.of_shelf.ensures), Keeps-refl _, inr (c.in-Ok-start.state, c.start.new.shelf, c.in-Ok-start.ensures.started, c.new-2.ensures.told))
+    inl (
+      inr (
+        c.in-Err-new-2.fault,
+        c.in-Err-new-2.ensures.cause,
+        ap Writer c.of_shelf.ensures,
+        (c.in-Ok-start.state, c.start.new.shelf, c.in-Ok-start.ensures.started, c.new-2.ensures.told),
+      ),
+      Keeps-refl _,
+    )
 
 pub returns-in_default-clause-fault : goal.returns-in_default-clause-fault
 returns-in_default-clause-fault g c = inr (inr (inl (refl, (c.in-Ok-start.state, c.start.new.shelf, c.in-Ok-start.ensures.started, c.new-2.ensures.told))))
