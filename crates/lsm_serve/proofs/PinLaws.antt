@@ -3,7 +3,7 @@ use Rattle.std.proofs.Common.{◌≡◌, ℕ, List, Option, Some, sym, ap, ◌�
 use Rattle.std.specs.Prelude.{slice_get}
 use Rattle.lsm_codec.specs.Entries.{Entry}
 use Rattle.lsm_history.specs.History.{IsLater}
-use Rattle.lsm_slots.specs.Slots.{Epoch, current_slot}
+use Rattle.lsm_slots.specs.Slots.{Epoch, Slotted, current_slot}
 use Rattle.lsm_state.specs.Held.{Held}
 use Rattle.lsm_state.specs.declared.state_fault.StateFault.{StateFault}
 use Rattle.lsm_store.specs.Readers.{IsBegun, IsIdle, IsPinning, IsRefused, Learnt, refreshed, unpinned}
@@ -63,3 +63,13 @@ unpinned_since was is e same (inl h) =
     let there = subst (λ (es : List (Option Epoch)). slice_get es (current_slot is.slots) ≡ Some (Some h.1.0)) same.epochs h.1.1 in
     inl (h.0, (h.1.0, subst (λ (n : ℕ). slice_get was.slots.epochs n ≡ Some (Some h.1.0)) same.slot there, h.1.2))
 unpinned_since was is e same (inr h) = inr h
+
+-- ---- what is left as it was
+
+-- of a state nothing but the slots changed
+pub rest_of : (was is : Held) (slots : Slotted) → is ≡ record was { slots = slots } → is ≡ record was { slots = is.slots }
+rest_of was is slots e = e ∙ ap (λ (s : Slotted). record was { slots = s }) (sym (ap (λ (h : Held). h.slots) e))
+
+-- nor behind that
+pub rest_on : (was mid is : Held) (slots : Slotted) → mid ≡ record was { slots = slots } → is ≡ record mid { slots = is.slots } → is ≡ record was { slots = is.slots }
+rest_on was mid is slots e f = f ∙ ap (λ (h : Held). record h { slots = is.slots }) e

@@ -18,6 +18,7 @@ impl LockedPin {
     pub(crate) fn of<N: Boarded, S: Shelf>(state: &mut State<N, S>) -> Result<LockedPin, StateFault>
         ensures id { IfOk result (λ p. p.id ≡ current_id state.old.slots) }
         ensures pinned { OnOk result (PinsCurrent state.old.slots state.new.slots) }
+        ensures rest { state.new ≡ record state.old { slots = state.new.slots } }
         ensures err { OnErr result (state.new ≡ state.old) }
         ensures refused { IfErr result (IsSpent state.old) }
     {
@@ -27,7 +28,8 @@ impl LockedPin {
 
     /// Gives the pin back.
     pub(crate) fn give_back<N: Boarded, S: Shelf>(self, state: &mut State<N, S>)
-        ensures { GivesPinBack state.old.slots state.new.slots self.id }
+        ensures pin { GivesPinBack state.old.slots state.new.slots self.id }
+        ensures rest { state.new ≡ record state.old { slots = state.new.slots } }
     {
         let LockedPin { id } = self;
         let _is_given_back = state.unpin(id);

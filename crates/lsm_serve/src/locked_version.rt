@@ -52,6 +52,7 @@ impl<N: Boarded, S: Shelf> LockedVersion<N, S> {
         requires { HasLearnt state.old.slots reader }
         ensures pinned { OnOk result (PinsCurrent state.old.slots state.new.slots) }
         ensures reader { IfOk result (λ l. l ≡ reader) }
+        ensures rest { state.new ≡ record state.old { slots = state.new.slots } }
         ensures err { OnErr result (state.new ≡ state.old) }
         ensures back { IfErr result (λ e. e.0 ≡ reader) }
         ensures refused { IfErr result (λ e. IsUnpinned state.old e.1) }

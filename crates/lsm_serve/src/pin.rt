@@ -31,6 +31,7 @@ impl<N: Boarded, S: Shelf> Pin<N, S> {
         requires { HasLearnt state.old.slots reader }
         ensures seen { IfOk result (λ p. KnowsSame reader (seen_by p)) }
         ensures pinned { IfOk result (IsPinnedBy state.old.slots state.new.slots) }
+        ensures rest { state.new ≡ record state.old { slots = state.new.slots } }
         ensures err { OnErr result (state.new ≡ state.old) }
         ensures back { IfErr result (λ e. KnowsSame reader e.0) }
         ensures refused { IfErr result (λ e. IsUnpinned state.old e.1) }

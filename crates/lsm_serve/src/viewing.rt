@@ -78,6 +78,8 @@ fn learn<N: Boarded, S: Shelf>(
     ensures learnt { OnOk result (reader.new ≡ refreshed state.old reader.old) }
     ensures later { OnOk result (IsLater reader.new.history reader.old.history) }
     ensures same { OnOk result (HasSameVersions state.old.slots state.new.slots) }
+    ensures rest { state.new ≡ record state.old
+        { slots = record state.old.slots { board = state.new.slots.board } } }
     ensures err { OnErr result (reader.new ≡ reader.old) }
     ensures refused { IfErr result (λ e. IsNotLive state.old taken.now when e ⊎ (e ≡ OutOfMemory)) }
 {
@@ -87,7 +89,7 @@ fn learn<N: Boarded, S: Shelf>(
 }
 
 /// A view of the current version of a state, and a sequence of it. The state has all that was known.
-#[tactic(auto, using(crate::proofs::PinLaws::still_learnt, crate::proofs::PinLaws::learns_by, crate::proofs::PinLaws::later_by, crate::proofs::PinLaws::unpinned_since))]
+#[tactic(auto, using(crate::proofs::PinLaws::still_learnt, crate::proofs::PinLaws::learns_by, crate::proofs::PinLaws::later_by, crate::proofs::PinLaws::unpinned_since, crate::proofs::PinLaws::rest_on, crate::proofs::PinLaws::rest_of))]
 fn view_of<N: Boarded, S: Shelf>(
     state: &mut State<N, S>,
     reader: ChannelReader<N, S>,
@@ -100,6 +102,7 @@ fn view_of<N: Boarded, S: Shelf>(
     ensures sequence { IfOk result (λ r. IsSequence state.old (snapshot_in when) r.1) }
     ensures given { IfOk result (λ r. IsAsGiven taken.now when r.1) }
     ensures later { IfErr result (λ e. IsLater e.0.history reader.history) }
+    ensures rest { state.new ≡ record state.old { slots = state.new.slots } }
     ensures refused { IfErr result (λ e.
         IsNotLive state.old taken.now when e.1 ⊎ IsUnpinned state.old e.1) }
 {
