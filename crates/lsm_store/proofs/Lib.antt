@@ -1,4 +1,5 @@
 pub mod BackgroundLaws
+pub mod CallerLemmas
 pub mod CompactingLaws
 pub mod FoundLaws
 pub mod PromiseLaws

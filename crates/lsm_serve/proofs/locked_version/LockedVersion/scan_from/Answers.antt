@@ -5,7 +5,7 @@ use Rattle.lsm_levels.specs.Scanning.{IsScan}
 use Rattle.lsm_merger.specs.Seeking.{at_or_past}
 use Rattle.lsm_version.specs.Versions.{Levels, files}
 use Rattle.lsm_store.specs.Readers.{IsPromised, Learnt}
-use Rattle.lsm_store.proofs.ScanLaws.{past_shown}
+use Rattle.lsm_store.proofs.CallerLemmas.{past_shown}
 use Rattle.lsm_serve.proofs.locked_version.LockedVersion.scan_from.Goals as goal
 
 pub returns-clause-scanned : goal.returns-clause-scanned
