@@ -162,7 +162,9 @@ pub(crate) fn put_together(key: &mut Vec<u8>, shared: usize, own: &[u8]) -> Resu
     ensures ok { OnOk result (key.new.items ≡ take shared key.old.items ++ own.now) }
     ensures err { OnErr result (key.new.items ≡ key.old.items) }
 {
-    key.reserve(own.len())?;
+    // What it grows by, so that no room is asked for which the key before has.
+    let more = shared.saturating_add(own.len()).saturating_sub(key.len());
+    key.reserve(more)?;
     key.truncate(shared);
     key.extend_from_slice(own)
 }
