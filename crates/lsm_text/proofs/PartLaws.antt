@@ -1,5 +1,5 @@
 -- A text's part before the first separator, and the part after it.
-use Rattle.std.proofs.Common.{◌≡◌, ◌≢◌, ℕ, suc, ◌+◌, ◌<◌, ◌≤◌, List, [], ◌∷◌, ◌++◌, length, get_or, take, drop, Option, Some, None, refl, sym, ap, ◌∙◌, append_assoc, append-nil, add-one, arith, inl, inr, drop-cons}
+use Rattle.std.proofs.Common.{◌≡◌, ◌≢◌, ℕ, zero, suc, ◌+◌, ◌<◌, ◌≤◌, List, [], ◌∷◌, ◌++◌, length, get_or, take, drop, Option, Some, None, refl, sym, ap, ◌∙◌, append_assoc, append-nil, add-one, arith, inl, inr, drop-cons}
 use Rattle.std.proofs.lemmas.Bool.{cases_eq, ne_eqb}
 use Rattle.std.proofs.lemmas.List.{take_more, drop_all}
 use Rattle.lsm_text.specs.EntryList.{with_first, lines_of}
@@ -17,15 +17,15 @@ pub parts_at-other : (separator c : ℕ) (cs : List ℕ) → c ≢ separator →
 unfolding parts_at
 parts_at-other separator c cs n = grind (arith)
 
--- ---- a loop over the places of a text
+-- ---- the first place of a text that is the separator
 
-pub step_found : (separator : ℕ) (text : List ℕ) (i : ℕ) → i < length text → get_or text i 0 ≡ separator
+step_found : (separator : ℕ) (text : List ℕ) (i : ℕ) → i < length text → get_or text i 0 ≡ separator
     → behind (take i text) (parts_at separator (drop i text)) ≡ Some (take i text, drop (i + 1) text)
 step_found separator text i h e =
     let front : drop i text ≡ get_or text i 0 ∷ drop (suc i) text = drop-cons text i 0 h in
     rw (front, parts_at-separator separator (get_or text i 0) (drop (suc i) text) e) (simp (add-one, append-nil) refl)
 
-pub step_other : (separator : ℕ) (text : List ℕ) (i : ℕ) → i < length text → get_or text i 0 ≢ separator
+step_other : (separator : ℕ) (text : List ℕ) (i : ℕ) → i < length text → get_or text i 0 ≢ separator
     → behind (take i text) (parts_at separator (drop i text)) ≡ behind (take (i + 1) text) (parts_at separator (drop (i + 1) text))
 step_other separator text i h n =
     let front : drop i text ≡ get_or text i 0 ∷ drop (suc i) text = drop-cons text i 0 h in
@@ -34,9 +34,32 @@ step_other separator text i h n =
     ∙ behind-append (take i text) (get_or text i 0 ∷ []) (parts_at separator (drop (suc i) text))
     ∙ rw (take_more text i 0 h, add-one) refl
 
-pub step_end : (separator : ℕ) (text : List ℕ) (i : ℕ) → length text ≤ i → behind (take i text) (parts_at separator (drop i text)) ≡ None
+step_end : (separator : ℕ) (text : List ℕ) (i : ℕ) → length text ≤ i → behind (take i text) (parts_at separator (drop i text)) ≡ None
 unfolding parts_at
 step_end separator text i h = rw (drop_all i text h) refl
+
+behind-nothing : (o : Option (List ℕ × List ℕ)) → behind [] o ≡ o
+behind-nothing None = refl
+behind-nothing (Some p) = refl
+
+-- so many places are no separator
+abbrev pub NoneBelow : ℕ → List ℕ → ℕ → Type 0
+NoneBelow separator text i = (k : ℕ) → k < i → get_or text k 0 ≢ separator
+
+passed : (separator : ℕ) (text : List ℕ) (i : ℕ) → i ≤ length text → NoneBelow separator text i
+    → parts_at separator text ≡ behind (take i text) (parts_at separator (drop i text))
+passed separator text zero h none = sym (behind-nothing (parts_at separator text))
+passed separator text (suc i) h none =
+    passed separator text i (omega arith) (λ k below. none k (omega arith))
+    ∙ step_other separator text i (omega arith) (none i (omega arith))
+    ∙ ap (λ (j : ℕ). behind (take j text) (parts_at separator (drop j text))) (add-one i)
+
+pub parts_found : (separator : ℕ) (text : List ℕ) (i : ℕ) → i < length text → NoneBelow separator text i → get_or text i 0 ≡ separator
+    → parts_at separator text ≡ Some (take i text, drop (i + 1) text)
+parts_found separator text i h none there = passed separator text i (omega arith) none ∙ step_found separator text i h there
+
+pub parts_absent : (separator : ℕ) (text : List ℕ) → NoneBelow separator text (length text) → parts_at separator text ≡ None
+parts_absent separator text none = passed separator text (length text) (omega arith) none ∙ step_end separator text (length text) (omega arith)
 
 -- ---- a text in two parts
 

@@ -1,7 +1,8 @@
 //! The text side of the program `lsm`: what its words ask for, and how keys, values, edits and
 //! refusals are read and spelled.
 //!
-//! Stands on the crates of the files, on `clap` for the grammar and on `hex` for words of bytes.
+//! Stands on the crates of the files, on `clap` for the grammar, on `hex` for words of bytes, and on
+//! `memchr` for what separates them.
 //! Its contracts: `read_line` answers the one request that words ask for by the grammar, or that
 //! they ask for none; what is printed is exact, and what is read is what was spelled.
 #![tactic(auto)]

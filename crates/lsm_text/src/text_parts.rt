@@ -5,16 +5,16 @@ ghost use Rattle.std.specs.Option.{option_map};
 ghost use Rattle.lsm_text.specs.EntryList.{lines_of};
 ghost use Rattle.lsm_text.specs.EntryReading.{parts_at};
 
+use memchr::memchr;
+
 /// What stands before the first separator, and what stands after it.
 pub fn parts<'a>(separator: u8, text: &'a [u8]) -> Option<(&'a [u8], &'a [u8])>
     ensures { option_map (λ p. (p.0.now, p.1.now)) result ≡ parts_at separator text.now }
 {
-    for i in 0..text.len() {
-        if text[i] == separator {
-            return Some((&text[..i], &text[i + 1..]));
-        }
+    match memchr(separator, text) {
+        Some(i) => Some((&text[..i], &text[i + 1..])),
+        None => None,
     }
-    None
 }
 
 /// The first line of a text, and what follows it.
