@@ -18,7 +18,9 @@ COLOURS = {
 }
 CRATES = {
     "lsm_tool": ("program", "the program lsm"),
-    "lsm_commands": ("program", "words, inputs, scripts"),
+    "lsm_terminal": ("program", "a terminal's line, prompt"),
+    "lsm_commands": ("program", "what words ask is done"),
+    "lsm_lists": ("program", "mktable, dump, manifest, script"),
     "lsm_shell": ("program", "a reply to each line"),
     "lsm_load": ("program", "lines into a folder"),
     "lsm_loading": ("database", "lines into a store"),

@@ -1,5 +1,1 @@
-mod AnswerLaws
-mod MakingLaws
-mod ManifestLaws
-mod PlayOutcomes
 mod StatusLaws

@@ -1,15 +1,13 @@
 -- What the program does for the words of its command line: this project's rule. Each command has a relation for what status 0 means, and one
 -- for what status 1 does. Those of a command on a folder are about a folder that was opened at the path of its words, and the calls on it, and
 -- about shelves on its place; that such a shelf is the run's own is to be read.
-use Rattle.std.specs.Prelude.{◌⊎◌, ℕ, Bool, IsFalse, List, [], ◌∷◌, Option, IfSome, ⊤}
+use Rattle.std.specs.Prelude.{◌⊎◌, ℕ, IsFalse, List, [], ◌∷◌, Option, ⊤}
 use Rattle.std.specs.Io.KnownBytes.{Appends, Keeps}
 use Rattle.clap.specs.Words.{Text}
 use Rattle.lsm_folder.specs.declared.folder_calls.FolderCalls.{Ghosts}
 use Rattle.lsm_folder.specs.declared.mark.Mark as mark
 use Rattle.lsm_text.specs.Printing.{Begins}
 use Rattle.lsm_text.specs.Requests.{AskHelp, AskNothing, Asks, HaveUsageFault}
-use Rattle.lsm_text.specs.declared.conversion.Conversion.{Conversion}
-use Rattle.lsm_text.specs.declared.fault.Fault.{Fault}
 use Rattle.lsm_text.specs.declared.input.Input.{Input}
 use Rattle.lsm_text.specs.declared.input.Input.TheVariants.{Standard}
 use Rattle.lsm_text.specs.declared.request.Request.{Request}
@@ -17,8 +15,8 @@ use Rattle.lsm_text.specs.declared.request.Request.TheVariants.{Convert, Look, L
 use Rattle.lsm_text.specs.declared.writing_command.WritingCommand.{WritingCommand}
 use Rattle.lsm_text.specs.declared.writing_command.WritingCommand.TheVariants.{Ingest, WriteKey, Clean}
 use Rattle.lsm_bench.specs.Benched.{BenchesAt}
-use Rattle.lsm_commands.specs.Commands.{IsConverted, IsNotConverted}
-use Rattle.lsm_commands.specs.Played.{IsScriptDone, IsScriptRefused}
+use Rattle.lsm_lists.specs.Converted.{IsConverted, IsUnconverted}
+use Rattle.lsm_lists.specs.Played.{IsPlayed, IsUnplayed}
 use Rattle.lsm_directory.specs.declared.faults.directory_fault.DirectoryFault.{DirectoryFault}
 use Rattle.lsm_writing.specs.declared.faults.writer_fault.WriterFault.{WriterFault}
 use Rattle.lsm_layout.specs.Layout.{FailsToLayOut, LaysOutAt}
@@ -28,20 +26,6 @@ use Rattle.lsm_shell.specs.Talked.{FailsToTalk, TalksAt}
 use Rattle.lsm_writing.specs.Cleaned.{FailsToClean, IsCleanedAt}
 use Rattle.lsm_writing.specs.Compacted.{IsCompactedAt, IsUncompacted}
 use Rattle.lsm_writing.specs.Ingested.{ComesInAt, FailsToBringIn, IsIngested, IsUningested}
-
--- ---- mktable, dump, manifest, script
-
--- the file could not be opened, and nothing was written; or the conversion is refused
-abbrev pub IsUnconverted : Conversion → Option (List ℕ) → (old new : Option (List ℕ)) → Type 0
-IsUnconverted conversion text old new = Keeps old new ⊎ ((fault : Fault) × IsNotConverted conversion text fault old new)
-
--- every command of the script was answered
-abbrev pub IsPlayed : Option (List ℕ) → (old new : Option (List ℕ)) → Type 0
-IsPlayed text old new = IfSome text (λ t. IsScriptDone t old new)
-
--- the file could not be opened, and nothing was written; or the script is refused
-abbrev pub IsUnplayed : Option (List ℕ) → (old new : Option (List ℕ)) → Type 0
-IsUnplayed text old new = Keeps old new ⊎ IfSome text (λ t. (failed : Bool) × IsScriptRefused t failed old new)
 
 module _ {C M : Type 0} (folders : Ghosts C M) where
   -- ---- ingest, put, delete, clean

@@ -8,12 +8,11 @@ ghost use Rattle.lsm_commands.specs.Run.{AreDone, AreUsageFault, AreUndone, IsDo
 ghost use Rattle.lsm_commands.specs.Run.{IsUnwritten, IsWritten};
 ghost use Rattle.lsm_directory.specs.Inputs.{text_in};
 
-use crate::converting::program::run_convert;
-use crate::playing::program::run_script;
 use lsm_bench::run_bench;
 use lsm_directory::{Known, Paths, refuse, status_of};
 use lsm_folder::FolderCalls;
 use lsm_layout::run_levels;
+use lsm_lists::{run_convert, run_script};
 use lsm_load::run_load;
 use lsm_reading::run_look;
 use lsm_shell::run_shell;

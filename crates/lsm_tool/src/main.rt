@@ -1,24 +1,20 @@
 //! The program `lsm`: makes LevelDB's files, and shows what is in them and in a folder of them.
 //!
-//! Stands on `lsm_commands`, which does what the words ask. Here stand the words themselves, standard
-//! input and output, and the exit status.
+//! Stands on `lsm_commands`, which does what the words ask, and on `lsm_terminal` for what a terminal
+//! shows. Here stand the words themselves, standard input and output, and the exit status.
 #![tactic(auto)]
 
-mod far;
-mod prompt;
-mod streams;
-
-use far::{BesideLine, OneLine, asking, shows_how_far};
 use lsm_commands::{refuse_words, run};
 use lsm_directory::SystemPaths;
-use prompt::{Prompted, at_terminal};
+use lsm_terminal::{
+    BesideLine, OneLine, Prompted, asking, at_terminal, hold_streams, shows_how_far,
+};
 use std::env::{self, Env};
 use std::io::{self, BufWriter, IsTerminal};
 use std::process::ExitCode;
 use std::rt::Clock;
 use std::sync::Wait;
 use std::thread::Threads;
-use streams::hold_streams;
 
 /// Whether the words ask for a shell.
 fn is_shell(words: &[String]) -> bool {

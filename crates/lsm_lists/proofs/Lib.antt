@@ -1,0 +1,5 @@
+mod AnswerLaws
+mod MakingLaws
+mod ManifestLaws
+mod PlayOutcomes
+mod StatusLaws

@@ -1,0 +1,195 @@
+//! How far a command is, in one line of a terminal.
+
+use std::alloc::{AllocError, Global};
+use std::fs;
+use std::io::{self, IsTerminal, Write};
+
+/// To the beginning of the terminal's line, and nothing behind it any more.
+const CLEAR: &[u8] = b"\r\x1b[K";
+
+/// How the lines begin that say how far a command is.
+const BEGINNINGS: [&[u8]; 7] = [
+    b"checked ",
+    b"installed ",
+    b"lines 1 to ",
+    b"opened ",
+    b"removed ",
+    b"scanned ",
+    b"worker ",
+];
+
+/// How many marks the bar has.
+const MARKS: u64 = 20;
+
+/// Whether what is open as standard output is a regular file.
+fn goes_into_file(files: &HostRuntime) -> bool {
+    match fs::metadata(files, "/proc/self/fd/1") {
+        Ok(found) => found.is_file(),
+        Err(_) => false,
+    }
+}
+
+/// Whether a command that these words name is to show on standard error how far it is, though they
+/// do not ask for it: one that may take long, at a terminal on which nothing else is written while
+/// it runs.
+pub fn shows_how_far(host: &HostRuntime, words: &[String]) -> bool {
+    let [name, rest @ ..] = words else {
+        return false;
+    };
+    let may_take_long = match name.as_str() {
+        "check" | "compact" | "load" => true,
+        "scan" => goes_into_file(host),
+        _ => false,
+    };
+    may_take_long
+        && !rest
+            .iter()
+            .any(|word| word.as_str().starts_with("--progress"))
+        && host.stderr().is_terminal()
+}
+
+/// The words, and `--progress` behind the first one if it is to be asked for.
+pub fn asking<'a>(
+    alloc: Global,
+    words: &'a [String],
+    asks: bool,
+) -> Result<Vec<&'a str>, AllocError> {
+    let mut all = Vec::new(alloc);
+    for word in words {
+        all.push(word.as_str())?;
+        if asks && all.len() == 1 {
+            all.push("--progress")?;
+        }
+    }
+    Ok(all)
+}
+
+/// How many marks of the bar are set by a line such as `checked 3 of 17 files`; none where the line
+/// does not say of how many it is.
+fn marks_of(line: &[u8]) -> Option<u64> {
+    let mut words = str::from_utf8(line).ok()?.split(' ');
+    let _verb = words.next()?;
+    let done: u64 = words.next()?.parse().ok()?;
+    if words.next()? != "of" {
+        return None;
+    }
+    let all: u64 = words.next()?.parse().ok()?;
+    MARKS.checked_mul(done)?.checked_div(all)
+}
+
+/// Standard error. Where it shows how far a command is, each line that says so takes the place of
+/// the one before it, and the last one is gone at the end; all other lines stay.
+#[derive(Drop)]
+pub struct OneLine<E: Write + Drop> {
+    out: E,
+    shows: bool,
+    /// What was written of a line that has not ended.
+    line: Vec<u8>,
+    /// Whether the terminal's line says how far it is.
+    is_shown: bool,
+}
+
+impl<E: Write + Drop> OneLine<E> {
+    /// One that writes there.
+    pub fn new(alloc: Global, out: E, shows: bool) -> OneLine<E> {
+        OneLine {
+            out,
+            shows,
+            line: Vec::new(alloc),
+            is_shown: false,
+        }
+    }
+
+    /// Appends a bar to the line, if it says of how many it is.
+    fn push_bar(&mut self) -> Result<(), AllocError> {
+        let Some(set) = marks_of(self.line.as_slice()) else {
+            return Ok(());
+        };
+        self.line.extend_from_slice(b"  [")?;
+        for mark in 0..MARKS {
+            self.line.push(if mark < set { b'#' } else { b'.' })?;
+        }
+        self.line.push(b']')?;
+        Ok(())
+    }
+
+    /// Writes the line that has ended.
+    fn end_line(&mut self) -> io::Result<()> {
+        let line = self.line.as_slice();
+        self.is_shown = BEGINNINGS
+            .iter()
+            .any(|beginning| line.starts_with(beginning));
+        if self.is_shown {
+            self.push_bar()?;
+        } else {
+            self.line.push(b'\n')?;
+        }
+        self.out.write_all(CLEAR)?;
+        self.out.write_all(self.line.as_slice())?;
+        self.line.clear();
+        Ok(())
+    }
+
+    /// Takes bytes of lines.
+    fn take(&mut self, bytes: &[u8]) -> io::Result<()> {
+        for byte in bytes {
+            if *byte == b'\n' {
+                self.end_line()?;
+            } else {
+                self.line.push(*byte)?;
+            }
+        }
+        Ok(())
+    }
+
+    /// Ends the terminal's line: nothing of it is left where all was done, else it stays.
+    pub fn end(&mut self, is_done: bool) -> io::Result<()> {
+        if self.is_shown {
+            self.out.write_all(if is_done { CLEAR } else { b"\n" })?;
+            self.is_shown = false;
+        }
+        self.out.write_all(self.line.as_slice())
+    }
+}
+
+impl<E: Write + Drop> Write for OneLine<E> {
+    fn write(&mut self, buf: &[u8]) -> io::Result<usize> {
+        if !self.shows {
+            return self.out.write(buf);
+        }
+        self.take(buf)?;
+        Ok(buf.len())
+    }
+
+    fn flush(&mut self) -> io::Result<()> {
+        self.out.flush()
+    }
+}
+
+/// An output that may be the terminal whose line says how far a command is: before each write the
+/// line is cleared there, if it is.
+#[derive(Drop)]
+pub struct BesideLine<O: Write + Drop, E: Write + Drop> {
+    out: O,
+    terminal: Option<E>,
+}
+
+impl<O: Write + Drop, E: Write + Drop> BesideLine<O, E> {
+    /// An output, and the terminal if it is one.
+    pub fn new(out: O, terminal: Option<E>) -> BesideLine<O, E> {
+        BesideLine { out, terminal }
+    }
+}
+
+impl<O: Write + Drop, E: Write + Drop> Write for BesideLine<O, E> {
+    fn write(&mut self, buf: &[u8]) -> io::Result<usize> {
+        if let Some(terminal) = &mut self.terminal {
+            let _ = terminal.write_all(CLEAR);
+        }
+        self.out.write(buf)
+    }
+
+    fn flush(&mut self) -> io::Result<()> {
+        self.out.flush()
+    }
+}
