@@ -24,7 +24,7 @@ use Rattle.lsm_load.specs.LoadedAt.{FailsToLoad, LoadsAt}
 use Rattle.lsm_reading.specs.Looked.{FailsToLook, LooksAtGiven}
 use Rattle.lsm_shell.specs.Talked.{FailsToTalk, TalksAt}
 use Rattle.lsm_writing.specs.Cleaned.{FailsToClean, IsCleanedAt}
-use Rattle.lsm_writing.specs.Compacted.{IsCompactedAt, IsUncompacted}
+use Rattle.lsm_compacting.specs.Compacted.{IsCompactedAt, IsUncompacted}
 use Rattle.lsm_writing.specs.Ingested.{ComesInAt, FailsToBringIn, IsIngested, IsUningested}
 
 module _ {C M : Type 0} (folders : Ghosts C M) where

@@ -15,7 +15,7 @@ use Rattle.lsm_loading.specs.Ending.{IsIdle}
 use Rattle.lsm_loading.specs.Loading.{IsLoaded}
 use Rattle.lsm_loading.specs.Marks.{Marked, marked_in}
 use Rattle.lsm_loading.specs.declared.progress.Progress.{Progress}
-use Rattle.lsm_writing.specs.Compacting.{IsSwept, Refuses}
+use Rattle.lsm_compacting.specs.Compacting.{IsSwept, Refuses}
 use Rattle.lsm_writing.specs.Starting.{IsStarted}
 use Rattle.lsm_writing.specs.declared.ingesting.start.Start.{Start}
 use Rattle.lsm_load.specs.Loaded.{IsToCome, IsUnswept, LoadsAll, LoadsWhole}

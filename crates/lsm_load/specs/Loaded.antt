@@ -12,7 +12,7 @@ use Rattle.lsm_text.specs.declared.load_options.LoadOptions.{LoadOptions}
 use Rattle.lsm_directory.specs.declared.folder.folder_file.FolderFile.{FolderFile}
 use Rattle.lsm_lines.specs.Gathering.{Pending}
 use Rattle.lsm_lines.specs.Passing.{PassesLines}
-use Rattle.lsm_writing.specs.Compacting.{IsSwept, Refuses}
+use Rattle.lsm_compacting.specs.Compacting.{IsSwept, Refuses}
 use Rattle.lsm_writing.specs.Starting.{IsStartRefusal, IsStarted}
 use Rattle.lsm_writing.specs.declared.faults.writer_fault.WriterFault.TheVariants.{OutOfMemory, Read}
 use Rattle.lsm_writing.specs.declared.ingesting.start.Start.{Start}

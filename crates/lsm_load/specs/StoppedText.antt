@@ -3,9 +3,9 @@ use Rattle.std.specs.Prelude.{ℕ, ◌-◌, ◌==◌, cond, List, [], ◌∷◌,
 use Rattle.lsm_lines.specs.declared.write_line_fault.WriteLineFault.{WriteLineFault}
 use Rattle.lsm_lines.specs.declared.write_line_fault.WriteLineFault.TheVariants as lines
 use Rattle.lsm_writing.specs.WriterFault as writer
-use Rattle.lsm_writing.specs.CompactFault as compact
+use Rattle.lsm_compacting.specs.CompactFault as compact
 use Rattle.lsm_writing.specs.declared.faults.writer_fault.WriterFault.TheVariants as writer_faults
-use Rattle.lsm_writing.specs.declared.faults.compact_fault.CompactFault.TheVariants as compact_faults
+use Rattle.lsm_compacting.specs.declared.compact_fault.CompactFault.TheVariants as compact_faults
 use Rattle.lsm_loading.specs.declared.load_fault.LoadFault.{LoadFault}
 use Rattle.lsm_loading.specs.declared.load_fault.LoadFault.TheVariants as loads
 use Rattle.lsm_load.specs.declared.stopped.Stopped.{Stopped}

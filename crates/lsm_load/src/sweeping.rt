@@ -1,7 +1,7 @@
 //! What nothing names any more is removed.
 
 ghost use Rattle.std.specs.Prelude.{◌≡◌, IfErr, OnOk};
-ghost use Rattle.lsm_writing.specs.Compacting.{IsSwept, Refuses};
+ghost use Rattle.lsm_compacting.specs.Compacting.{IsSwept, Refuses};
 ghost use Rattle.lsm_loading.specs.Ending.{IsIdle};
 ghost use Rattle.lsm_loading.specs.Marks.{marked_in};
 

@@ -16,7 +16,7 @@ use Rattle.lsm_store.specs.Workers.{IsWorkersEnd}
 use Rattle.lsm_store.specs.declared.worker_end.WorkerEnd.{WorkerEnd}
 use Rattle.lsm_loading.specs.Ending.{IsFaultless}
 use Rattle.lsm_writing.specs.Starting.{IsStarted}
-use Rattle.lsm_writing.specs.declared.faults.compact_fault.CompactFault.{CompactFault}
+use Rattle.lsm_compacting.specs.declared.compact_fault.CompactFault.{CompactFault}
 use Rattle.lsm_writing.specs.declared.ingesting.start.Start.{Start}
 use Rattle.lsm_shell.specs.Beside.{IsLent, IsTalkedBeside, waiting}
 use Rattle.lsm_shell.specs.Conversing.{ConversesBeside, IsBesideFault, IsConversedBeside, IsOfEnds}

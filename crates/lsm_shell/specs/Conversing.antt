@@ -13,8 +13,8 @@ use Rattle.lsm_store.specs.declared.worker_end.WorkerEnd.{WorkerEnd}
 use Rattle.lsm_loading.specs.Ending.{IsFaultless, IsFirstFault}
 use Rattle.lsm_writing.specs.Starting.{IsStartRefusal, IsStarted}
 use Rattle.lsm_writing.specs.WriterFault.{of_shelf}
-use Rattle.lsm_writing.specs.declared.faults.compact_fault.CompactFault.{CompactFault}
-use Rattle.lsm_writing.specs.declared.faults.compact_fault.CompactFault.TheVariants.{Writer, Worker}
+use Rattle.lsm_compacting.specs.declared.compact_fault.CompactFault.{CompactFault}
+use Rattle.lsm_compacting.specs.declared.compact_fault.CompactFault.TheVariants.{Writer, Worker}
 use Rattle.lsm_writing.specs.declared.faults.writer_fault.WriterFault.{WriterFault}
 use Rattle.lsm_writing.specs.declared.faults.writer_fault.WriterFault.TheVariants.{OutOfMemory, Read as ReadFault, Write as WriteFault}
 use Rattle.lsm_writing.specs.declared.ingesting.start.Start.{Start}

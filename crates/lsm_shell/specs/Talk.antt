@@ -21,7 +21,7 @@ use Rattle.lsm_script.specs.declared.command_fault.CommandFault.{CommandFault}
 use Rattle.lsm_script.specs.declared.command_fault.CommandFault.TheVariants.{State}
 use Rattle.lsm_script.specs.declared.reply.Reply.{Reply}
 use Rattle.lsm_script.specs.declared.reply.Reply.TheVariants.{Refused}
-use Rattle.lsm_writing.specs.Compacting.{installed_text}
+use Rattle.lsm_compacting.specs.Compacting.{installed_text}
 use Rattle.lsm_shell.specs.Asks.{IsAsk}
 use Rattle.lsm_shell.specs.Batching.{IsAbort, IsBegin, IsCommitReply, IsPutReply, Says, Standing, no_memory, standing}
 use Rattle.lsm_shell.specs.Pairs.{pairs_text, shown}

@@ -11,7 +11,7 @@ use Rattle.lsm_text.specs.declared.ingest_options.IngestOptions.{IngestOptions}
 use Rattle.lsm_directory.specs.Folders.{IsShelfAt, stored_at, told_by}
 use Rattle.lsm_directory.specs.declared.folder.folder_file.FolderFile.{FolderFile}
 use Rattle.lsm_writing.specs.Preparing.{IsPrepared}
-use Rattle.lsm_writing.specs.declared.faults.compact_fault.CompactFault.{CompactFault}
+use Rattle.lsm_compacting.specs.declared.compact_fault.CompactFault.{CompactFault}
 use Rattle.lsm_writing.specs.declared.ingesting.start.Start.{Start}
 use Rattle.lsm_shell.specs.Conversing.{IsConversed, IsUnconversed}
 

@@ -13,6 +13,7 @@ ghost use Rattle.lsm_shell.specs.Conversing.{IsBesideFault, IsConversedBeside, I
 use crate::beside::talk_beside;
 use crate::crew::Crew;
 use crate::talk_fault::TalkFault;
+use lsm_compacting::CompactFault;
 use lsm_history::Memory;
 use lsm_lines::LineReader;
 use lsm_script::Desk;
@@ -21,7 +22,7 @@ use lsm_state::State;
 use lsm_store::{Background, NoGate, Store, WorkerEnd, WorkerFault, with_workers};
 use lsm_table::{NamedShelf, Shelf};
 use lsm_text::Form;
-use lsm_writing::{CompactFault, NewParts, Prepared, WriterFault, start};
+use lsm_writing::{NewParts, Prepared, WriterFault, start};
 use std::alloc::Global;
 use std::io::{Read, Write};
 use std::marker::Brand;

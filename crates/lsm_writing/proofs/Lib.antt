@@ -1,12 +1,8 @@
-mod Quiet
 mod NameKindLaws
 mod NameLaws
-mod Forks
 mod Looked
 mod WritingOutcomes
 mod Numbers
 mod SpareFiles
 mod SpareLaws
-mod Ends
-mod CompactOutcomes
 mod RunLaws

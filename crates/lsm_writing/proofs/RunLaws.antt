@@ -1,39 +1,27 @@
 -- What a run that writes says, by what its command says of the folder or the shelf that was opened.
-use Rattle.std.proofs.Common.{◌≡◌, ◌≢◌, ℕ, List, Option, IfErr, IfOk, OnErr, OnOk, [], ◌∷◌, arith, inr, subst}
+use Rattle.std.proofs.Common.{◌≡◌, ◌≢◌, ℕ, List, Option, IfErr, IfOk, OnErr, OnOk, [], ◌∷◌, inr, subst}
 use Rattle.std.specs.Prelude.{Result, Ok, Err}
 use Rattle.std.specs.Io.KnownBytes.{Keeps}
 use Rattle.lsm_batch.specs.declared.write.Write.{Write}
 use Rattle.lsm_folder.specs.Calls.{AreHonest, opened}
 use Rattle.lsm_folder.specs.declared.folder_calls.FolderCalls.{Ghosts}
-use Rattle.lsm_folder.specs.declared.lock_kind.LockKind.TheVariants.{Exclusive}
 use Rattle.lsm_folder.specs.declared.mark.Mark as mark
 use Rattle.lsm_shelf.specs.Refusals.{MayRefuse}
 use Rattle.lsm_shelf.specs.Place.{IsAtPath, Place}
 use Rattle.lsm_shelf.specs.Told.{Told, fresh}
 use Rattle.lsm_storage.specs.declared.file.file_shelf.FileShelf.{FileShelf}
 use Rattle.lsm_text.specs.declared.ingest_options.IngestOptions.{IngestOptions}
-use Rattle.lsm_text.specs.declared.request.CompactLine.{CompactLine}
 use Rattle.lsm_writing.specs.Cleaning.{HasNone, IsCleaned, IsKept, IsUncleaned, IsUnkept, Needs}
-use Rattle.lsm_writing.specs.Compacting.{IsCompactFault, IsCompacted}
 use Rattle.lsm_directory.specs.Folders.{IsShelfAt, stored_at, told_by}
-use Rattle.lsm_directory.specs.Holding.{IsHeld}
 use Rattle.lsm_writing.specs.Ingesting.{IsBroughtIn, IsIngestFault}
 use Rattle.lsm_writing.specs.Preparing.{IsPrepared}
 use Rattle.lsm_writing.specs.Ingested.{ComesInAt, FailsToBringIn}
 use Rattle.lsm_writing.specs.Cleaned.{FailsToClean, IsCleanedAt}
-use Rattle.lsm_writing.specs.Compacted.{IsCompactedAt, IsUncompacted}
 use Rattle.lsm_writing.specs.declared.cleaning.kept.Kept.{Kept}
-use Rattle.lsm_writing.specs.declared.faults.compact_fault.CompactFault.{CompactFault}
-use Rattle.lsm_writing.specs.declared.faults.compact_fault.CompactFault.TheVariants.{Writer}
 use Rattle.lsm_writing.specs.declared.faults.writer_fault.WriterFault.{WriterFault}
 use Rattle.lsm_writing.specs.declared.faults.writer_fault.WriterFault.TheVariants.{Write as WriteFault}
 use Rattle.lsm_directory.specs.declared.folder.folder_file.FolderFile.{FolderFile}
 use Rattle.lsm_writing.specs.declared.ingesting.start.Start.{Start}
-
--- what holds where a command is done
-pub done_by : {T F P : Type 0} (r : Result T F) (status : ℕ) → OnErr r (status ≡ 1) → OnOk r P → status ≡ 0 → P
-done_by (Ok x) status err done zero = done
-done_by (Err e) status err done zero = absurd (omega (arith, err, zero))
 
 module _ {C M : Type 0} (folders : Ghosts C M) where
   -- ---- what was done on it
@@ -43,11 +31,6 @@ module _ {C M : Type 0} (folders : Ghosts C M) where
       → OnOk r (IsBroughtIn (AreHonest folders.calls) start logs ws (told_by folders begun) (told_by folders ended) old new) → OnOk r (ComesInAt folders path options ws old new)
   comes_in_at (Ok x) path options ws start logs begun ended old new on done = record { start = start; logs = logs; begun = begun; on = on; ended = ended; done = done }
   comes_in_at (Err e) path options ws start logs begun ended old new on done = tt
-
-  pub compacts_at : {T F : Type 0} (r : Result T F) (line : CompactLine) (begun ended : FileShelf C M) (old new : Option (List ℕ)) → IsShelfAt folders line.path.now (IsHeld Exclusive) begun
-      → OnOk r (IsCompacted MayRefuse (AreHonest folders.calls) line.options.workers (told_by folders begun) (told_by folders ended) old new) → OnOk r (IsCompactedAt folders line old new)
-  compacts_at (Ok x) line begun ended old new on done = record { begun = begun; on = on; ended = ended; done = done }
-  compacts_at (Err e) line begun ended old new on done = tt
 
   pub cleans_at : {T F : Type 0} (r : Result T F) (path : List ℕ) (begun ended : C) (old new : Option (List ℕ)) → IsAtPath path (folders.place begun)
       → folders.calls begun ≡ opened ∷ [] → folders.place ended ≡ folders.place begun
@@ -78,12 +61,6 @@ module _ {C M : Type 0} (folders : Ghosts C M) (marks : mark.Ghosts M) where
   fails_to_bring_in (Ok x) path options ws start logs begun ended old new on says left = tt
   fails_to_bring_in (Err e) path options ws start logs begun ended old new on says left =
       inr (e, record { start = start; logs = logs; begun = begun; on = on; ended = ended; refused = record { says = says; left = left } })
-
-  pub uncompacted : {T : Type 0} (r : Result T CompactFault) (line : CompactLine) (begun ended : FileShelf C M) (old new : Option (List ℕ)) → IsShelfAt folders line.path.now (IsHeld Exclusive) begun
-      → IfErr r (λ e. IsCompactFault (stored_at folders marks (told_by folders begun).place) MayRefuse (AreHonest folders.calls) line.options.workers e (told_by folders begun) (told_by folders ended))
-      → IfErr r (λ e. e ≢ Writer WriteFault → Keeps old new) → OnErr r (IsUncompacted folders marks line old new)
-  uncompacted (Ok x) line begun ended old new on says left = tt
-  uncompacted (Err e) line begun ended old new on says left = inr (e, record { begun = begun; on = on; ended = ended; refused = record { says = says; left = left } })
 
   pub fails_to_clean : {T : Type 0} (r : Result T WriterFault) (path : List ℕ) (begun ended : C) (old new : Option (List ℕ)) → IsAtPath path (folders.place begun)
       → folders.calls begun ≡ opened ∷ [] → folders.place ended ≡ folders.place begun

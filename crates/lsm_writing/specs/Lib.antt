@@ -8,6 +8,3 @@ pub mod Ingesting
 pub mod Ingested
 pub mod Cleaning
 pub mod Cleaned
-pub mod CompactFault
-pub mod Compacting
-pub mod Compacted

@@ -1,15 +1,13 @@
-//! The commands of the program `lsm` that write in a LevelDB folder: `ingest`, `put` and `delete`,
-//! `compact` and `clean`.
+//! The commands of the program `lsm` that write in a LevelDB folder: `ingest`, `put` and `delete`, and
+//! `clean`.
 //!
-//! Stands on `lsm_directory` for the folder, its lock and its logs, on `lsm_state` for what comes
-//! in, and on `lsm_store` for the workers that compact. Its contract: `run_ingest`, `run_write`,
-//! `run_compact` and `run_clean` do what the words of a command line ask, and answer the exit
-//! status, by one clause for each.
+//! Stands on `lsm_directory` for the folder, its lock and its logs, and on `lsm_state` for what comes
+//! in. Its contract: `run_ingest`, `run_write` and `run_clean` do what the words of a command line
+//! ask, and answer the exit status, by one clause for each.
 #![tactic(auto)]
 
 // A command each.
 mod cleaning;
-mod compacting;
 mod ingesting;
 
 // What they share: names that lead to a database, what a state is made with.
@@ -20,10 +18,7 @@ mod parts;
 mod faults;
 
 pub use cleaning::program::{clean, run_clean};
-pub use compacting::opening::held_shelf;
-pub use compacting::program::{compact, run_compact};
-pub use faults::compact_fault::CompactFault;
-pub use faults::writer_fault::WriterFault;
+pub use faults::writer_fault::{WriterFault, explain_state, missing};
 pub use ingesting::batch_input::read_batch;
 pub use ingesting::preparing::prepare;
 pub use ingesting::program::{ingest, run_ingest, run_write};

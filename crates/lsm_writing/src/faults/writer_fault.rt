@@ -59,7 +59,7 @@ impl WriterFault {
 }
 
 /// The refusal `10 Missing`.
-pub(crate) fn missing() -> Refusal
+pub fn missing() -> Refusal
     ensures { refusal_text result.number result.name.now result.field
         ≡ refusal_text 10 (codes "Missing") None }
 {
@@ -115,7 +115,7 @@ fn write_cure<E: Write>(err: &mut E, highest: Option<u64>) -> io::Result<()> {
 }
 
 /// Writes what a fault of the database means.
-pub(crate) fn explain_state<E: Write>(
+pub fn explain_state<E: Write>(
     err: &mut E,
     fault: StateFault,
     writes: &[KeyWrite],

@@ -2,7 +2,7 @@ use Rattle.std.proofs.Common.{inl, inr, refl, ap, ◌∙◌}
 use Rattle.std.proofs.KnownBytes.{Keeps-refl}
 use Rattle.lsm_shelf.specs.Stored.{Stored}
 use Rattle.lsm_shelf.proofs.CallerLemmas.{forked_none}
-use Rattle.lsm_writing.specs.declared.faults.compact_fault.CompactFault.TheVariants.{Writer}
+use Rattle.lsm_compacting.specs.declared.compact_fault.CompactFault.TheVariants.{Writer}
 use Rattle.lsm_shell.proofs.BesideLaws.{conversed, judged_done, judged_fault}
 use Rattle.lsm_shell.proofs.conversing_beside.converse_named.Goals as goal
 

@@ -1,0 +1,5 @@
+mod Quiet
+mod Forks
+mod Ends
+mod CompactOutcomes
+mod RunLaws
