@@ -4,7 +4,7 @@
 ghost use Rattle.std.specs.Prelude.{◌≡◌, ◌≤◌};
 
 use crate::table::fruit_table;
-use lsm_codec::{Bytes, Kind, List, MAX_SEQ, push_key};
+use lsm_codec::{KeyRef, Kind, List, MAX_SEQ};
 use lsm_manifest::{AddedFile, Edit, FileMeta, Shape, replay};
 use lsm_reads::{Pair, Scan};
 use lsm_storage::MemoryShelf;
@@ -25,38 +25,29 @@ fn newer_table(alloc: Global) -> Result<Vec<u8>, BuildFault> {
     table.finish()
 }
 
-/// The bytes of an internal key, as a manifest has them.
-fn key(alloc: Global, user: &[u8], seq: u64, kind: Kind) -> Result<Bytes, AllocError>
+/// An internal key.
+fn key(user: &[u8], seq: u64, kind: Kind) -> KeyRef<'_>
     requires { seq ≤ MAX_SEQ }
 {
-    let mut key = Vec::new(alloc);
-    push_key(&mut key, user, seq, kind)?;
-    Ok(Bytes::of(key))
+    KeyRef { user, seq, kind }
 }
 
-/// The older table, which is added to level 1.
-fn older_file(alloc: Global, size: u64) -> Result<AddedFile, AllocError> {
-    let smallest = key(alloc, b"apple", 3, Kind::Value)?;
-    let largest = key(alloc, b"cherry", 2, Kind::Deletion)?;
+/// A table as an edit adds it to a level: its number, its size in bytes, and the first and the last
+/// of its keys.
+fn added_file(
+    alloc: Global,
+    level: u8,
+    number: u64,
+    size: u64,
+    keys: [KeyRef<'_>; 2],
+) -> Result<AddedFile, AllocError> {
+    let [first, last] = keys;
+    let smallest = first.to_bytes(alloc)?;
+    let largest = last.to_bytes(alloc)?;
     Ok(AddedFile {
-        level: 1,
+        level,
         file: FileMeta {
-            number: 5,
-            size,
-            smallest,
-            largest,
-        },
-    })
-}
-
-/// The newer table, which is added to level 0.
-fn newer_file(alloc: Global, size: u64) -> Result<AddedFile, AllocError> {
-    let smallest = key(alloc, b"apple", 5, Kind::Deletion)?;
-    let largest = key(alloc, b"cherry", 4, Kind::Value)?;
-    Ok(AddedFile {
-        level: 0,
-        file: FileMeta {
-            number: 6,
+            number,
             size,
             smallest,
             largest,
@@ -66,9 +57,17 @@ fn newer_file(alloc: Global, size: u64) -> Result<AddedFile, AllocError> {
 
 /// Both tables, as a manifest's first edit adds them.
 fn edit(alloc: Global, older_size: u64, newer_size: u64) -> Result<Edit, AllocError> {
+    let older = [
+        key(b"apple", 3, Kind::Value),
+        key(b"cherry", 2, Kind::Deletion),
+    ];
+    let newer = [
+        key(b"apple", 5, Kind::Deletion),
+        key(b"cherry", 4, Kind::Value),
+    ];
     let mut added = Vec::new(alloc);
-    added.push(older_file(alloc, older_size)?)?;
-    added.push(newer_file(alloc, newer_size)?)?;
+    added.push(added_file(alloc, 1, 5, older_size, older)?)?;
+    added.push(added_file(alloc, 0, 6, newer_size, newer)?)?;
     Ok(Edit {
         comparator: None,
         log: Some(0),
