@@ -9,7 +9,6 @@ ghost use Rattle.lsm_compacting.specs.CompactFault.{fault_text, table_file_of, t
 ghost use Rattle.lsm_compacting.specs.declared.compact_fault.CompactFault.TheVariants.{Writer as WriterVariant};
 ghost use Rattle.lsm_compacting.specs.declared.compact_fault.CompactFault.TheVariants.{Worker as WorkerVariant};
 
-use lsm_writing::{WriterFault, explain_state, missing};
 use lsm_batch::Write as KeyWrite;
 use lsm_directory::{DirectoryFault, Exit};
 use lsm_merge::MergeFault;
@@ -17,6 +16,7 @@ use lsm_script::{cause_of_merge, of_merge};
 use lsm_state::StateFault;
 use lsm_store::WorkerFault;
 use lsm_table::ShelfFault;
+use lsm_writing::{WriterFault, explain_state, missing};
 use std::alloc::AllocError;
 use std::fmt;
 use std::io::{self, Write};

@@ -29,21 +29,20 @@ ghost use Rattle.lsm_compacting.specs.Compacting.{IsOfManning, IsSwept, IsWorker
 ghost use Rattle.lsm_compacting.specs.Compacting.{installed_text};
 ghost use Rattle.lsm_compacting.specs.declared.compact_fault.CompactFault.TheVariants.{Writer as WriterVariant};
 
+use crate::compact_fault::CompactFault;
 use crate::compacting::compaction::Compaction;
 use crate::compacting::job_teller::JobTeller;
 use crate::compacting::opening::open;
 use crate::compacting::progress::{tell_installed, tell_opened, tell_removed};
 use crate::compacting::sweeping::{find_manifest, sweep};
 use crate::compacting::tally::judge;
-use crate::compact_fault::CompactFault;
-use lsm_writing::WriterFault;
-use lsm_writing::NewParts;
 use lsm_slots::Boarded;
 use lsm_state::{State, StateFault};
 use lsm_store::laws::what_was_found_is_kept;
 use lsm_store::{Invariant, NoGate, Returned, Store, run_workers_returning};
 use lsm_table::{NamedShelf, Shelf, ShelfFault};
 use lsm_text::CompactOptions;
+use lsm_writing::{NewParts, WriterFault};
 use std::alloc::{AllocFailed, Global};
 use std::io::{self, Write};
 use std::marker::Brand;

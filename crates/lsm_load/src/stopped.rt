@@ -9,12 +9,12 @@ ghost use Rattle.lsm_writing.specs.declared.faults.writer_fault.WriterFault.TheV
 ghost use Rattle.lsm_writing.specs.declared.faults.writer_fault.WriterFault.TheVariants.{OutOfMemory};
 
 use lsm_batch::Write as KeyWrite;
+use lsm_compacting::CompactFault;
 use lsm_directory::{DirectoryFault, Exit};
 use lsm_lines::WriteLineFault;
 use lsm_loading::LoadFault;
 use lsm_state::StateFault;
 use lsm_store::WorkerFault;
-use lsm_compacting::CompactFault;
 use lsm_writing::WriterFault;
 use std::alloc::AllocError;
 use std::fmt;

@@ -12,8 +12,6 @@ ghost use Rattle.lsm_directory.specs.Holding.{IsHeld};
 ghost use Rattle.lsm_compacting.specs.Compacting.{IsUnopened, NoLock};
 
 use crate::compact_fault::CompactFault;
-use lsm_writing::WriterFault;
-use lsm_writing::Parts;
 use lsm_directory::hold;
 use lsm_folder::{FolderCalls, LockKind};
 use lsm_slots::Boarded;
@@ -21,6 +19,7 @@ use lsm_state::{Options, State};
 use lsm_storage::FileShelf;
 use lsm_store::laws::made_states_seat_their_pinners;
 use lsm_table::{NamedShelf, Shelf};
+use lsm_writing::{Parts, WriterFault};
 use std::alloc::Global;
 use std::sync::Wait;
 

@@ -7,9 +7,9 @@ ghost use Rattle.lsm_compacting.specs.Compacted.{IsCompactedAt, IsUncompacted};
 ghost use Rattle.lsm_compacting.specs.declared.compact_fault.CompactFault.{CompactFault};
 ghost use Rattle.lsm_shelf.specs.Stored.{Stored};
 
+use crate::compact_fault::CompactFault;
 use crate::compacting::compact_to;
 use crate::compacting::opening::held_shelf;
-use crate::compact_fault::CompactFault;
 use lsm_directory::{Known, Paths, open_at, refuse, status_of};
 use lsm_folder::{FolderCalls, Reasons};
 use lsm_table::Shelf;
