@@ -17,6 +17,7 @@ pub mod BatchLaws
 pub mod WriteWordLaws
 pub mod WriteLineLaws
 pub mod OneBatch
+pub mod GrammarLaws
 pub mod HelpLaws
 pub mod HelpLines
 pub mod CallerLemmas

@@ -8,6 +8,7 @@ pub mod Printing
 pub mod Spelling
 pub mod SyntaxFault
 pub mod Grammar
+pub mod Pages
 pub mod Benchmarks
 pub mod Requests
 pub mod BatchText

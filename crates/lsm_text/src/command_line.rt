@@ -38,14 +38,11 @@ fn text_of(alloc: Global, error: &clap::Error) -> Result<Vec<u8>, AllocError> {
 
 /// Writes what is wrong with words that are of the grammar, and how their command is used.
 fn write_wrong<W: Write>(out: &mut W, matches: &ArgMatches<'_>) -> io::Result<()> {
-    match fault_in(matches) {
-        Some(fault) => writeln!(out, "error: {fault}")?,
-        None => out.write_all(b"error: the words ask for no command\n")?,
-    }
+    let fault = fault_in(matches);
     let usage = usage_of(matches.subcommand_name().unwrap_or(""));
     writeln!(
         out,
-        "\nUsage: {usage}\n\nFor more information, try '--help'."
+        "error: {fault}\n\nUsage: {usage}\n\nFor more information, try '--help'."
     )
 }
 

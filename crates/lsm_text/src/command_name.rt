@@ -60,16 +60,12 @@ impl CommandName {
 fn named_converting(word: &str) -> Option<CommandName>
     ensures { result ≡ named_converting word.now }
 {
-    if word == "mktable" {
-        return Some(CommandName::MakeTable);
+    match word {
+        "mktable" => Some(CommandName::MakeTable),
+        "dump" => Some(CommandName::Dump),
+        "manifest" => Some(CommandName::Manifest),
+        _ => None,
     }
-    if word == "dump" {
-        return Some(CommandName::Dump);
-    }
-    if word == "manifest" {
-        return Some(CommandName::Manifest);
-    }
-    None
 }
 
 /// The command of this name that reads a folder.
@@ -77,22 +73,14 @@ fn named_converting(word: &str) -> Option<CommandName>
 fn named_reading(word: &str) -> Option<CommandName>
     ensures { result ≡ named_reading word.now }
 {
-    if word == "check" {
-        return Some(CommandName::Check);
+    match word {
+        "check" => Some(CommandName::Check),
+        "list" => Some(CommandName::List),
+        "levels" => Some(CommandName::Levels),
+        "get" => Some(CommandName::Get),
+        "scan" => Some(CommandName::Scan),
+        _ => None,
     }
-    if word == "list" {
-        return Some(CommandName::List);
-    }
-    if word == "levels" {
-        return Some(CommandName::Levels);
-    }
-    if word == "get" {
-        return Some(CommandName::Get);
-    }
-    if word == "scan" {
-        return Some(CommandName::Scan);
-    }
-    None
 }
 
 /// The command of this name that writes in a folder.
@@ -100,25 +88,15 @@ fn named_reading(word: &str) -> Option<CommandName>
 fn named_writing(word: &str) -> Option<CommandName>
     ensures { result ≡ named_writing word.now }
 {
-    if word == "ingest" {
-        return Some(CommandName::Ingest);
+    match word {
+        "ingest" => Some(CommandName::Ingest),
+        "put" => Some(CommandName::Put),
+        "delete" => Some(CommandName::Delete),
+        "load" => Some(CommandName::Load),
+        "compact" => Some(CommandName::Compact),
+        "clean" => Some(CommandName::Clean),
+        _ => None,
     }
-    if word == "put" {
-        return Some(CommandName::Put);
-    }
-    if word == "delete" {
-        return Some(CommandName::Delete);
-    }
-    if word == "load" {
-        return Some(CommandName::Load);
-    }
-    if word == "compact" {
-        return Some(CommandName::Compact);
-    }
-    if word == "clean" {
-        return Some(CommandName::Clean);
-    }
-    None
 }
 
 /// The command of this name that is none of these.
@@ -126,19 +104,13 @@ fn named_writing(word: &str) -> Option<CommandName>
 fn named_otherwise(word: &str) -> Option<CommandName>
     ensures { result ≡ named_otherwise word.now }
 {
-    if word == "script" {
-        return Some(CommandName::Script);
+    match word {
+        "script" => Some(CommandName::Script),
+        "shell" => Some(CommandName::Shell),
+        "bench" => Some(CommandName::Bench),
+        "help" => Some(CommandName::Help),
+        _ => None,
     }
-    if word == "shell" {
-        return Some(CommandName::Shell);
-    }
-    if word == "bench" {
-        return Some(CommandName::Bench);
-    }
-    if word == "help" {
-        return Some(CommandName::Help);
-    }
-    None
 }
 
 /// The command of this name.

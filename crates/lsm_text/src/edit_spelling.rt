@@ -28,8 +28,7 @@ pub fn push_number(out: &mut Vec<u8>, word: &[u8], n: u64) -> Result<(), AllocEr
 {
     out.extend_from_slice(word)?;
     push_decimal(out, n)?;
-    out.push(b'\n')?;
-    Ok(())
+    out.extend_from_slice(b"\n")
 }
 
 #[tactic(auto, unfolding(crate::specs::ManifestPrinting::field_line))]

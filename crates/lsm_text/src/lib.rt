@@ -25,6 +25,7 @@ mod scan_output;
 mod writing_command;
 
 // How words ask for it: the grammar, what it finds in words, and what that says.
+mod arguments;
 mod asking;
 mod command_line;
 mod command_name;

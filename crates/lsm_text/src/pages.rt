@@ -1,12 +1,18 @@
 //! The texts of the commands' help.
 
+use crate::arguments::{
+    Argument, BATCH, BEGIN, BENCHMARKS, BESIDE_LOG, COMPACTORS, COUNT, EXISTS, FILES, FOLDER, FROM,
+    FROM_LINE, JSON, KEY, KEYS, LIMIT, NUM, PREFIX, PROGRESS, RAW, SOME_WORKERS, SVG, TEXT, TO,
+    VALUE, VALUE_SIZE, VERIFIERS, WORKERS,
+};
 use crate::command_name::{CommandName, named};
 
 /// A command as its help shows it.
 #[derive(Clone, Copy)]
 pub(crate) struct Page {
     pub(crate) name: &'static str,
-    pub(crate) usage: &'static str,
+    /// Its arguments, in their order.
+    pub(crate) arguments: &'static [Argument],
     /// What it does, in a line.
     pub(crate) about: &'static str,
     pub(crate) text: &'static str,
@@ -66,9 +72,9 @@ Exit status:
 
 Example: lsm check db";
 
-pub(crate) const MAKE_TABLE: Page = Page {
+const MAKE_TABLE: Page = Page {
     name: "mktable",
-    usage: "lsm mktable [FILE]",
+    arguments: &[Argument::File],
     about: "Makes a table of the entries in a file",
     text: "Reads a list of entries in FILE, or on standard input where FILE is left out or
 `-`, and writes them as one LevelDB table on standard output.
@@ -85,9 +91,9 @@ failed, 2 bad command line.",
     example: "Example: printf '61 1 put 76\\n' | lsm mktable > a.ldb",
 };
 
-pub(crate) const DUMP: Page = Page {
+const DUMP: Page = Page {
     name: "dump",
-    usage: "lsm dump [FILE]",
+    arguments: &[Argument::File],
     about: "Prints the entries of a table file",
     text: "Reads a LevelDB table in FILE, or on standard input where FILE is left out or
 `-`, and prints its entries on standard output, as lines that `mktable` reads:
@@ -108,9 +114,9 @@ failed, 2 bad command line.",
     example: "Example: lsm dump db/000005.ldb",
 };
 
-pub(crate) const MANIFEST: Page = Page {
+const MANIFEST: Page = Page {
     name: "manifest",
-    usage: "lsm manifest [FILE]",
+    arguments: &[Argument::File],
     about: "Prints the edits of a manifest",
     text: "Reads a LevelDB manifest in FILE, or on standard input where FILE is left out or
 `-`, and prints its edits on standard output: for each `edit I` and then its
@@ -128,9 +134,9 @@ failed, 2 bad command line.",
     example: "Example: lsm manifest db/MANIFEST-000001",
 };
 
-pub(crate) const SCRIPT: Page = Page {
+const SCRIPT: Page = Page {
     name: "script",
-    usage: "lsm script [FILE]",
+    arguments: &[Argument::File],
     about: "Runs the commands in a file on a database in memory",
     text: "Reads commands in FILE, or on standard input where FILE is left out or `-`, one
 a line, runs them on a new database in memory, and prints a reply for each on
@@ -163,9 +169,9 @@ read or a write, 2 bad command line.",
     example: "Example: printf 'ingest 6b=31\\nget 6b\\n' | lsm script",
 };
 
-pub(crate) const CHECK: Page = Page {
+const CHECK: Page = Page {
     name: "check",
-    usage: "lsm check <DIR> [--workers <N>] [--progress]",
+    arguments: &[FOLDER, VERIFIERS, PROGRESS],
     about: "Verifies a folder, and counts what is in it",
     text: "Verifies all that a read of the LevelDB folder DIR can reach: every block of
 every table that its manifest names, and how the tables lie in their levels.
@@ -187,9 +193,9 @@ Exit status: 0 where all is well, 1 at a fault, 2 bad command line.",
     example: "Example: lsm check db --workers 4 --progress",
 };
 
-pub(crate) const LIST: Page = Page {
+const LIST: Page = Page {
     name: "list",
-    usage: "lsm list <DIR> [--text]",
+    arguments: &[FOLDER, TEXT],
     about: "Prints the tables of a folder, level by level",
     text: "Prints the tables of the LevelDB folder DIR, levels 0 to 6 and in a level by
 smallest key, `LEVEL NUMBER SIZE SMALLEST LARGEST` for each, and then `end`.
@@ -203,9 +209,9 @@ Exit status: 0 done, 1 refused, 2 bad command line.",
     example: "Example: lsm list db --text",
 };
 
-pub(crate) const LEVELS: Page = Page {
+const LEVELS: Page = Page {
     name: "levels",
-    usage: "lsm levels <DIR> [--text] [--files] [--svg]",
+    arguments: &[FOLDER, TEXT, FILES, SVG],
     about: "Shows the levels of a folder, and what is due next",
     text: "Reads the file CURRENT of the LevelDB folder DIR and the manifest that it names,
 and nothing else: no table is opened. So it answers also where tables are
@@ -238,9 +244,9 @@ Exit status: 0 done, 1 refused, 2 bad command line.",
           lsm levels db --svg > levels.svg",
 };
 
-pub(crate) const GET: Page = Page {
+const GET: Page = Page {
     name: "get",
-    usage: "lsm get <DIR> <KEY> [--text] [--raw] [--exists]",
+    arguments: &[FOLDER, KEY, TEXT, RAW, EXISTS],
     about: "Prints the value of a key in a folder",
     text: "Prints what the LevelDB folder DIR answers for KEY: `value V`, or `absent`. KEY
 and V are hex, or text with --text, `.` for no bytes.
@@ -261,9 +267,11 @@ Exit status: 0 done, also where `absent` was printed, 1 refused, or absent with
           lsm get db apple --text --exists && echo here",
 };
 
-pub(crate) const SCAN: Page = Page {
+const SCAN: Page = Page {
     name: "scan",
-    usage: "lsm scan <DIR> [--from <KEY>] [--to <KEY>] [--prefix <KEY>] [--limit <N>] [--text] [--keys] [--json] [--count] [--progress]",
+    arguments: &[
+        FOLDER, FROM, TO, PREFIX, LIMIT, TEXT, KEYS, JSON, COUNT, PROGRESS,
+    ],
     about: "Prints the live keys of a folder and their values",
     text: "Prints the live keys of the LevelDB folder DIR with their values, a line
 `KEY=VALUE` each, ascending by the bytes of the keys, from the key of --from to
@@ -297,9 +305,9 @@ before it stand, 2 bad command line.",
           lsm scan db --count --progress",
 };
 
-pub(crate) const INGEST: Page = Page {
+const INGEST: Page = Page {
     name: "ingest",
-    usage: "lsm ingest <DIR> <FILE> [--text] [--begin] [--beside-log]",
+    arguments: &[FOLDER, BATCH, TEXT, BEGIN, BESIDE_LOG],
     about: "Brings keys into a folder, or begins a database there",
     text: "Brings the keys of FILE into the LevelDB folder DIR, as one table at level 0,
 and prints `file N first F last L`: the table's number, and the first and the
@@ -342,9 +350,9 @@ fault` the batch is in; after `refused 9 Device` it may be.",
     example: "Example: printf 'apple=red\\nbanana!\\n' | lsm ingest db - --text",
 };
 
-pub(crate) const PUT: Page = Page {
+const PUT: Page = Page {
     name: "put",
-    usage: "lsm put <DIR> <KEY> <VALUE> [--text] [--begin] [--beside-log]",
+    arguments: &[FOLDER, KEY, VALUE, TEXT, BEGIN, BESIDE_LOG],
     about: "Gives a key of a folder a value",
     text: "Gives KEY the value VALUE in the LevelDB folder DIR, as one table at level 0, and
 prints `file N first L last L`: the table's number and its sequence, as `ingest`
@@ -368,9 +376,9 @@ Exit status: 0 the key has the value, 1 refused, 2 bad command line. After a
           lsm put db apple red --text",
 };
 
-pub(crate) const DELETE: Page = Page {
+const DELETE: Page = Page {
     name: "delete",
-    usage: "lsm delete <DIR> <KEY> [--text] [--begin] [--beside-log]",
+    arguments: &[FOLDER, KEY, TEXT, BEGIN, BESIDE_LOG],
     about: "Deletes a key of a folder",
     text: "Deletes KEY in the LevelDB folder DIR, whether it has a value or not, by one
 table at level 0, and prints `file N first L last L`: the table's number and its
@@ -392,9 +400,18 @@ fault` it is; after `refused 9 Device` it may be.",
           lsm delete db apple --text",
 };
 
-pub(crate) const LOAD: Page = Page {
+const LOAD: Page = Page {
     name: "load",
-    usage: "lsm load <DIR> [FILE] [--text] [--begin] [--beside-log] [--workers <N>] [--from-line <I>] [--progress]",
+    arguments: &[
+        FOLDER,
+        Argument::File,
+        TEXT,
+        BEGIN,
+        BESIDE_LOG,
+        WORKERS,
+        FROM_LINE,
+        PROGRESS,
+    ],
     about: "Brings lines of keys into a folder, any number in any order",
     text: "Brings the lines of FILE, or of standard input where FILE is left out or `-`,
 into the LevelDB folder DIR, and prints `loaded L lines in B batches`. A line is
@@ -428,9 +445,9 @@ Device` one batch more than is said may be in.",
           lsm load db words.txt --text --from-line 131073",
 };
 
-pub(crate) const COMPACT: Page = Page {
+const COMPACT: Page = Page {
     name: "compact",
-    usage: "lsm compact <DIR> [--workers <N>] [--progress]",
+    arguments: &[FOLDER, WORKERS, PROGRESS],
     about: "Compacts a folder until no level is too large",
     text: "Compacts the LevelDB folder DIR until no level is too large: tables of such a
 level, and those of the next one that they meet, are written anew one level
@@ -452,9 +469,9 @@ failed.",
     example: "Example: lsm compact db --workers 4 --progress",
 };
 
-pub(crate) const CLEAN: Page = Page {
+const CLEAN: Page = Page {
     name: "clean",
-    usage: "lsm clean <DIR>",
+    arguments: &[FOLDER],
     about: "Removes old files that a folder does not need",
     text: "Removes the files of the LevelDB folder DIR that no reader of it needs: the
 manifests (`MANIFEST-N`) that CURRENT does not name, what a stopped program left
@@ -470,9 +487,9 @@ command line.",
     example: "Example: lsm clean db",
 };
 
-pub(crate) const SHELL: Page = Page {
+const SHELL: Page = Page {
     name: "shell",
-    usage: "lsm shell <DIR> [--text] [--begin] [--beside-log] [--workers <N>]",
+    arguments: &[FOLDER, TEXT, BEGIN, BESIDE_LOG, COMPACTORS],
     about: "Runs commands from standard input on a folder",
     text: "Opens the LevelDB folder DIR once, or begins a database there, as `ingest` does,
 and holds its lock; then it reads commands on standard input, one a line, and
@@ -530,9 +547,9 @@ has ended early, 2 bad command line.",
     example: "Example: printf 'put apple red\\nget apple\\n' | lsm shell db --text",
 };
 
-pub(crate) const BENCH: Page = Page {
+const BENCH: Page = Page {
     name: "bench",
-    usage: "lsm bench <DIR> [--benchmarks <LIST>] [--num <N>] [--value-size <N>] [--workers <N>]",
+    arguments: &[FOLDER, BENCHMARKS, NUM, VALUE_SIZE, SOME_WORKERS],
     about: "Measures writes, reads and compactions in a fresh folder",
     text: "Begins a database in the folder DIR, which has to be there and to have none, runs
 benchmarks on it, and prints a line for each once it has run, behind a head: in
@@ -559,9 +576,9 @@ Exit status: 0 done, 1 refused, 2 bad command line.",
           lsm bench fresh --benchmarks fillrandom,readrandom --num 100000",
 };
 
-pub(crate) const HELP: Page = Page {
+const HELP: Page = Page {
     name: "help",
-    usage: "lsm help [COMMAND]",
+    arguments: &[Argument::Topic],
     about: "Prints this overview, or the page of a command",
     text: "Prints the page of COMMAND, as `lsm COMMAND --help` does; without COMMAND the
 overview, as `lsm --help` does.
@@ -570,27 +587,36 @@ Exit status: 0 done, 1 refused, 2 bad command line, also where COMMAND is none."
     example: "Example: lsm help check",
 };
 
+/// The commands, in the order in which the overview lists them.
+pub(crate) const COMMANDS: [Page; 18] = [
+    MAKE_TABLE, DUMP, MANIFEST, SCRIPT, CHECK, LIST, LEVELS, GET, SCAN, INGEST, PUT, DELETE, LOAD,
+    COMPACT, CLEAN, SHELL, BENCH, HELP,
+];
+
 /// How a command is used.
 fn usage(name: CommandName) -> &'static str {
     match name {
-        CommandName::MakeTable => MAKE_TABLE.usage,
-        CommandName::Dump => DUMP.usage,
-        CommandName::Manifest => MANIFEST.usage,
-        CommandName::Script => SCRIPT.usage,
-        CommandName::Check => CHECK.usage,
-        CommandName::List => LIST.usage,
-        CommandName::Levels => LEVELS.usage,
-        CommandName::Get => GET.usage,
-        CommandName::Scan => SCAN.usage,
-        CommandName::Ingest => INGEST.usage,
-        CommandName::Put => PUT.usage,
-        CommandName::Delete => DELETE.usage,
-        CommandName::Load => LOAD.usage,
-        CommandName::Compact => COMPACT.usage,
-        CommandName::Clean => CLEAN.usage,
-        CommandName::Shell => SHELL.usage,
-        CommandName::Bench => BENCH.usage,
-        CommandName::Help => HELP.usage,
+        CommandName::MakeTable => "lsm mktable [FILE]",
+        CommandName::Dump => "lsm dump [FILE]",
+        CommandName::Manifest => "lsm manifest [FILE]",
+        CommandName::Script => "lsm script [FILE]",
+        CommandName::Check => "lsm check <DIR> [--workers <N>] [--progress]",
+        CommandName::List => "lsm list <DIR> [--text]",
+        CommandName::Levels => "lsm levels <DIR> [--text] [--files] [--svg]",
+        CommandName::Get => "lsm get <DIR> <KEY> [--text] [--raw] [--exists]",
+        CommandName::Scan =>
+            "lsm scan <DIR> [--from <KEY>] [--to <KEY>] [--prefix <KEY>] [--limit <N>] [--text] [--keys] [--json] [--count] [--progress]",
+        CommandName::Ingest => "lsm ingest <DIR> <FILE> [--text] [--begin] [--beside-log]",
+        CommandName::Put => "lsm put <DIR> <KEY> <VALUE> [--text] [--begin] [--beside-log]",
+        CommandName::Delete => "lsm delete <DIR> <KEY> [--text] [--begin] [--beside-log]",
+        CommandName::Load =>
+            "lsm load <DIR> [FILE] [--text] [--begin] [--beside-log] [--workers <N>] [--from-line <I>] [--progress]",
+        CommandName::Compact => "lsm compact <DIR> [--workers <N>] [--progress]",
+        CommandName::Clean => "lsm clean <DIR>",
+        CommandName::Shell => "lsm shell <DIR> [--text] [--begin] [--beside-log] [--workers <N>]",
+        CommandName::Bench =>
+            "lsm bench <DIR> [--benchmarks <LIST>] [--num <N>] [--value-size <N>] [--workers <N>]",
+        CommandName::Help => "lsm help [COMMAND]",
     }
 }
 

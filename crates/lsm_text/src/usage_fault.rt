@@ -6,27 +6,88 @@ use crate::syntax_fault::{SyntaxFault, syntax_fault_in};
 use clap::ArgMatches;
 use std::fmt;
 
-/// A word that stands wrong in a command line, and why. It prints as a text without a newline.
+/// What stands wrong in a command line, and why. It prints as a text without a newline.
 #[derive(Clone, Copy)]
 pub(crate) enum UsageFault<'a> {
     /// What it is to spell, KEY or VALUE, a word that is none of its form, and where it stops being
     /// one.
     Bytes(&'static str, &'a str, SyntaxFault),
-    /// Two options that exclude one another.
-    Both(&'static str, &'static str),
-    /// No number of pairs, though `clap` reads it as one.
-    Limit(&'a str),
-    /// No size of a value, though `clap` reads it as one.
-    Size(&'a str),
-    /// No names of benchmarks, joined by commas.
-    Benchmarks(&'a str),
-    /// No number of a line, though `clap` reads it as one.
-    Line(&'a str),
-    /// No number of workers, though `clap` reads it as one.
-    Workers(&'a str),
-    /// No command, where one stands behind `help`.
-    Command(&'a str),
+    /// A word, and what is wrong with it.
+    Word(&'a str, &'static str),
+    /// Nothing that is seen here.
+    Unseen,
 }
+
+/// The arguments that spell bytes, and what these are.
+const SPELLED: [(&str, &str); 5] = [
+    ("KEY", "KEY"),
+    ("from", "KEY"),
+    ("to", "KEY"),
+    ("prefix", "KEY"),
+    ("VALUE", "VALUE"),
+];
+
+/// What is said of the word of an argument that writes no number of a range, though `clap` may read
+/// it as one.
+struct Range {
+    name: &'static str,
+    least: u64,
+    most: u64,
+    wrong: &'static str,
+}
+
+/// The ranges, in the order in which words are looked at. Where no number is in a range, each word
+/// stands wrong that comes so far.
+const RANGES: [Range; 8] = [
+    Range {
+        name: "COMMAND",
+        least: 1,
+        most: 0,
+        wrong: "is no command",
+    },
+    Range {
+        name: "limit",
+        least: 1,
+        most: 0,
+        wrong: "is no number of pairs",
+    },
+    Range {
+        name: "from-line",
+        least: 1,
+        most: u64::MAX,
+        wrong: "is no number of a line, from 1",
+    },
+    Range {
+        name: "num",
+        least: 1,
+        most: u64::MAX,
+        wrong: "is no number of pairs",
+    },
+    Range {
+        name: "value-size",
+        least: 0,
+        most: u64::MAX,
+        wrong: "is no size of a value",
+    },
+    Range {
+        name: "workers",
+        least: 0,
+        most: u64::MAX,
+        wrong: "is no number of workers",
+    },
+    Range {
+        name: "benchmarks",
+        least: 1,
+        most: 0,
+        wrong: "names no benchmarks",
+    },
+    Range {
+        name: "workers",
+        least: 1,
+        most: 0,
+        wrong: "is no number of workers",
+    },
+];
 
 /// Why the word under this name spells no bytes in this form; `what` it is to spell.
 fn wrong_bytes<'a>(
@@ -43,60 +104,62 @@ fn wrong_bytes<'a>(
 /// The first word that spells no bytes.
 fn first_wrong_bytes<'a>(found: &ArgMatches<'a>) -> Option<UsageFault<'a>> {
     let form = form_in(found);
-    for name in ["KEY", "from", "to", "prefix"] {
-        if let Some(fault) = wrong_bytes(form, found, name, "KEY") {
-            return Some(fault);
+    for (name, what) in &SPELLED {
+        let fault = wrong_bytes(form, found, name, what);
+        if fault.is_some() {
+            return fault;
         }
     }
-    wrong_bytes(form, found, "VALUE", "VALUE")
+    None
 }
 
-/// The word under this name, where there is one that writes no number of this range.
-fn wrong_number<'a>(found: &ArgMatches<'a>, name: &str, least: u64, most: u64) -> Option<&'a str> {
-    let word = word_in(found, name)?;
-    match between_in(Some(word), least, most) {
+/// What is wrong with the word of this range's argument.
+fn wrong_number<'a>(found: &ArgMatches<'a>, range: &Range) -> Option<UsageFault<'a>> {
+    let word = word_in(found, range.name)?;
+    match between_in(Some(word), range.least, range.most) {
         Some(_) => None,
-        None => Some(word),
+        None => Some(UsageFault::Word(word, range.wrong)),
     }
 }
 
-/// What is wrong with the numbers of `bench`, or else with its benchmarks.
-fn wrong_bench<'a>(found: &ArgMatches<'a>) -> Option<UsageFault<'a>> {
-    let benchmarks = word_in(found, "benchmarks")?;
-    if let Some(word) = wrong_number(found, "num", 1, u64::MAX) {
-        return Some(UsageFault::Limit(word));
+/// The first word that writes no number of its range.
+fn first_wrong_number<'a>(found: &ArgMatches<'a>) -> Option<UsageFault<'a>> {
+    for range in &RANGES {
+        let fault = wrong_number(found, range);
+        if fault.is_some() {
+            return fault;
+        }
     }
-    if let Some(word) = wrong_number(found, "value-size", 0, u64::MAX) {
-        return Some(UsageFault::Size(word));
-    }
-    if let Some(word) = wrong_number(found, "workers", 0, u64::MAX) {
-        return Some(UsageFault::Workers(word));
-    }
-    Some(UsageFault::Benchmarks(benchmarks))
+    None
 }
 
-/// What is wrong with the words of the command that was found; none where nothing is seen here.
-pub(crate) fn fault_in<'a>(matches: &ArgMatches<'a>) -> Option<UsageFault<'a>> {
-    let (_, found) = matches.subcommand()?;
-    if let Some(fault) = first_wrong_bytes(found) {
-        return Some(fault);
-    }
-    if let Some(word) = word_in(found, "COMMAND") {
-        return Some(UsageFault::Command(word));
-    }
+/// What is wrong with the words of a command.
+fn fault_of<'a>(found: &ArgMatches<'a>) -> Option<UsageFault<'a>> {
     if is_set(found, "files") && is_set(found, "svg") {
-        return Some(UsageFault::Both("--files", "--svg"));
+        return Some(UsageFault::Word("--files", "and `--svg` exclude one another"));
     }
-    if let Some(word) = word_in(found, "limit") {
-        return Some(UsageFault::Limit(word));
+    first_wrong_bytes(found).or(first_wrong_number(found))
+}
+
+/// What is wrong with the words of the command that was found.
+pub(crate) fn fault_in<'a>(matches: &ArgMatches<'a>) -> UsageFault<'a> {
+    match matches.subcommand() {
+        Some((_, found)) => fault_of(found).unwrap_or(UsageFault::Unseen),
+        None => UsageFault::Unseen,
     }
-    if let Some(word) = wrong_number(found, "from-line", 1, u64::MAX) {
-        return Some(UsageFault::Line(word));
+}
+
+/// How words of this form are called.
+fn words_of(form: Form) -> &'static str {
+    match form {
+        Form::Text => "of text",
+        Form::Hex => "in hex",
     }
-    if let Some(fault) = wrong_bench(found) {
-        return Some(fault);
-    }
-    Some(UsageFault::Workers(word_in(found, "workers")?))
+}
+
+/// Whether a word that is none in hex is one of text.
+fn is_text_instead(form: Form, word: &str) -> bool {
+    matches!(form, Form::Hex) && syntax_fault_in(Form::Text, word.as_bytes()).is_none()
 }
 
 /// Writes why a word spells no KEY or VALUE.
@@ -106,36 +169,25 @@ fn write_bytes<W: fmt::Write>(
     word: &str,
     fault: SyntaxFault,
 ) -> fmt::Result {
+    let words = words_of(fault.form);
     let column = fault.column(0);
-    match fault.form {
-        Form::Text => write!(
-            f,
-            "{what} `{word}` is no word of text: column {column}: {fault}"
-        ),
-        Form::Hex => {
-            write!(
-                f,
-                "{what} `{word}` is no word in hex: column {column}: {fault}"
-            )?;
-            if syntax_fault_in(Form::Text, word.as_bytes()).is_none() {
-                f.write_str("; with --text it is one")?;
-            }
-            Ok(())
-        }
-    }
+    let end = if is_text_instead(fault.form, word) {
+        "; with --text it is one"
+    } else {
+        ""
+    };
+    write!(
+        f,
+        "{what} `{word}` is no word {words}: column {column}: {fault}{end}"
+    )
 }
 
 impl<'a> fmt::Display for UsageFault<'a> {
     fn fmt<W: fmt::Write>(&self, f: &mut fmt::Formatter<W>) -> fmt::Result {
         match self {
             UsageFault::Bytes(what, word, fault) => write_bytes(f, what, word, *fault),
-            UsageFault::Both(one, other) => write!(f, "`{one}` and `{other}` exclude one another"),
-            UsageFault::Limit(word) => write!(f, "`{word}` is no number of pairs"),
-            UsageFault::Size(word) => write!(f, "`{word}` is no size of a value"),
-            UsageFault::Benchmarks(word) => write!(f, "`{word}` names no benchmarks"),
-            UsageFault::Line(word) => write!(f, "`{word}` is no number of a line, from 1"),
-            UsageFault::Workers(word) => write!(f, "`{word}` is no number of workers"),
-            UsageFault::Command(word) => write!(f, "`{word}` is no command"),
+            UsageFault::Word(word, wrong) => write!(f, "`{word}` {wrong}"),
+            UsageFault::Unseen => f.write_str("the words ask for no command"),
         }
     }
 }

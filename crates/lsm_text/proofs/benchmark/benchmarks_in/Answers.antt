@@ -1,4 +1,4 @@
-use Rattle.std.proofs.Common.{◌≡◌, ◌∷◌, ◌<◌, length, length-append, ap, sym, arith}
+use Rattle.std.proofs.Common.{◌∷◌, ◌<◌, length, length-append, ap, sym, arith}
 use Rattle.lsm_text.proofs.BenchmarkLaws.{bad_first, bad_last, named_more}
 use Rattle.lsm_text.proofs.PartLaws.{parts_take}
 use Rattle.lsm_text.proofs.benchmark.benchmarks_in.Goals as goal

@@ -1,0 +1,200 @@
+//! The arguments of the commands.
+
+/// An option with a word behind it.
+#[derive(Clone, Copy)]
+pub(crate) struct Valued {
+    pub(crate) name: &'static str,
+    /// What help calls the word.
+    pub(crate) value: &'static str,
+    /// What the word is where the option is left out.
+    pub(crate) default: Option<&'static str>,
+    /// The least and the greatest number that the word may write, where it is to be one.
+    pub(crate) range: Option<(u64, u64)>,
+    pub(crate) help: &'static str,
+}
+
+/// An argument of a command. What stands last is what its help says.
+#[derive(Clone, Copy)]
+pub(crate) enum Argument {
+    /// A word of this name, which has to be there.
+    Word(&'static str, &'static str),
+    /// The file that is read, which may be left out.
+    File,
+    /// The command of which help is asked, which may be left out.
+    Topic,
+    /// An option of this name without a word behind it.
+    Flag(&'static str, &'static str),
+    /// An option with a word behind it.
+    Valued(Valued),
+}
+
+/// The path of a folder.
+pub(crate) const FOLDER: Argument = Argument::Word("DIR", "The folder of a LevelDB database");
+
+/// The key of a command on one key.
+pub(crate) const KEY: Argument = Argument::Word("KEY", "The key");
+
+/// The value that a key gets.
+pub(crate) const VALUE: Argument = Argument::Word("VALUE", "Its new value");
+
+/// The file of a batch.
+pub(crate) const BATCH: Argument = Argument::Word(
+    "FILE",
+    "The file of the keys, a line each; `-` is standard input",
+);
+
+/// Words are text.
+pub(crate) const TEXT: Argument = Argument::Flag(
+    "text",
+    "Keys and values are text, with `\\xNN` for bytes that do not print",
+);
+
+/// A database is begun.
+pub(crate) const BEGIN: Argument = Argument::Flag(
+    "begin",
+    "Begin a database also where CURRENT was lost",
+);
+
+/// It is written beside a log that is not flushed.
+pub(crate) const BESIDE_LOG: Argument = Argument::Flag(
+    "beside-log",
+    "Go on also where LevelDB has not flushed its log",
+);
+
+/// Lines say how far a command is.
+pub(crate) const PROGRESS: Argument = Argument::Flag(
+    "progress",
+    "Say on standard error how far it is",
+);
+
+/// Levels are shown with their files.
+pub(crate) const FILES: Argument = Argument::Flag("files", "Print a line a file too");
+
+/// Levels are drawn.
+pub(crate) const SVG: Argument = Argument::Flag("svg", "Draw the levels, as an SVG file");
+
+/// The bytes of a value alone.
+pub(crate) const RAW: Argument = Argument::Flag("raw", "Write the bytes of the value alone");
+
+/// Nothing is written of a value.
+pub(crate) const EXISTS: Argument = Argument::Flag(
+    "exists",
+    "Write nothing; status 1 where it is absent",
+);
+
+/// The keys of a scan alone.
+pub(crate) const KEYS: Argument = Argument::Flag("keys", "Print the keys alone");
+
+/// A scan as JSON.
+pub(crate) const JSON: Argument = Argument::Flag("json", "Print a JSON object a line");
+
+/// The number of pairs of a scan alone.
+pub(crate) const COUNT: Argument = Argument::Flag("count", "Print how many there are alone");
+
+/// The first key of a scan.
+pub(crate) const FROM: Argument = Argument::Valued(Valued {
+    name: "from",
+    value: "KEY",
+    default: None,
+    range: None,
+    help: "The first key that is printed",
+});
+
+/// The last key of a scan.
+pub(crate) const TO: Argument = Argument::Valued(Valued {
+    name: "to",
+    value: "KEY",
+    default: None,
+    range: None,
+    help: "The last key that is printed",
+});
+
+/// How the keys of a scan begin.
+pub(crate) const PREFIX: Argument = Argument::Valued(Valued {
+    name: "prefix",
+    value: "KEY",
+    default: None,
+    range: None,
+    help: "How each key begins that is printed",
+});
+
+/// The most pairs of a scan.
+pub(crate) const LIMIT: Argument = Argument::Valued(Valued {
+    name: "limit",
+    value: "N",
+    default: None,
+    range: Some((0, u64::MAX)),
+    help: "How many pairs are printed at most",
+});
+
+/// The number of threads that compact.
+pub(crate) const WORKERS: Argument = Argument::Valued(Valued {
+    name: "workers",
+    value: "N",
+    default: Some("2"),
+    range: Some((1, 8)),
+    help: "How many threads compact, 1 to 8",
+});
+
+/// The number of threads that verify.
+pub(crate) const VERIFIERS: Argument = Argument::Valued(Valued {
+    name: "workers",
+    value: "N",
+    default: None,
+    range: Some((1, 16)),
+    help: "How many threads verify tables, 1 to 16",
+});
+
+/// The number of threads that compact beside a conversation.
+pub(crate) const COMPACTORS: Argument = Argument::Valued(Valued {
+    name: "workers",
+    value: "N",
+    default: None,
+    range: Some((1, 16)),
+    help: "How many threads compact beside, 1 to 16",
+});
+
+/// The first line that is loaded.
+pub(crate) const FROM_LINE: Argument = Argument::Valued(Valued {
+    name: "from-line",
+    value: "I",
+    default: Some("1"),
+    range: Some((1, u64::MAX)),
+    help: "The first line that is loaded, from 1",
+});
+
+/// The benchmarks that run.
+pub(crate) const BENCHMARKS: Argument = Argument::Valued(Valued {
+    name: "benchmarks",
+    value: "LIST",
+    default: Some("fillbatch,fillrandom,overwrite,readrandom,readwhilewriting,readseq,compact"),
+    range: None,
+    help: "Which benchmarks run, joined by commas",
+});
+
+/// The number of pairs that are measured.
+pub(crate) const NUM: Argument = Argument::Valued(Valued {
+    name: "num",
+    value: "N",
+    default: Some("1000000"),
+    range: Some((1, 10_000_000)),
+    help: "How many pairs, 1 to 10000000",
+});
+
+/// The size of each value that is measured.
+pub(crate) const VALUE_SIZE: Argument = Argument::Valued(Valued {
+    name: "value-size",
+    value: "N",
+    default: Some("100"),
+    range: Some((0, 65_536)),
+    help: "How many bytes a value has, 65536 at most",
+});
+
+/// The number of threads that compact beside benchmarks, which may be 0.
+pub(crate) const SOME_WORKERS: Argument = Argument::Valued(Valued {
+    name: "workers",
+    value: "N",
+    default: Some("2"),
+    range: Some((0, 8)),
+    help: "How many threads compact beside, 0 to 8",
+});
