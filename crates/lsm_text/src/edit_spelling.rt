@@ -69,8 +69,7 @@ fn push_pointer(out: &mut Vec<u8>, pointer: &CompactPointer) -> Result<(), Alloc
     push_decimal(out, pointer.level as u64)?;
     out.push(b' ')?;
     push_key(out, pointer.key.as_slice())?;
-    out.push(b'\n')?;
-    Ok(())
+    out.extend_from_slice(b"\n")
 }
 
 #[tactic(auto, unfolding(crate::specs::ManifestPrinting::deleted_line))]
@@ -81,8 +80,7 @@ fn push_deleted(out: &mut Vec<u8>, deleted: &DeletedFile) -> Result<(), AllocErr
     push_decimal(out, deleted.level as u64)?;
     out.push(b' ')?;
     push_decimal(out, deleted.number)?;
-    out.push(b'\n')?;
-    Ok(())
+    out.extend_from_slice(b"\n")
 }
 
 /// Appends the words of a file: its number, its size, its smallest and its largest key.
@@ -107,8 +105,7 @@ fn push_added(out: &mut Vec<u8>, added: &AddedFile) -> Result<(), AllocError>
     push_decimal(out, added.level as u64)?;
     out.push(b' ')?;
     push_file_words(out, &added.file)?;
-    out.push(b'\n')?;
-    Ok(())
+    out.extend_from_slice(b"\n")
 }
 
 fn push_pointers(out: &mut Vec<u8>, pointers: &[CompactPointer]) -> Result<(), AllocError>

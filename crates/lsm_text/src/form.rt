@@ -41,8 +41,7 @@ impl Form {
         self.push_bytes(out, user)?;
         out.push(b'@')?;
         push_decimal(out, packed / 256)?;
-        out.extend_from_slice(if packed % 256 == 0 { b"-" } else { b"+" })?;
-        Ok(())
+        out.extend_from_slice(if packed % 256 == 0 { b"-" } else { b"+" })
     }
 
     /// The bytes that a word spells; none where it spells none.

@@ -85,25 +85,27 @@ impl LineSyntaxFault {
     }
 }
 
-/// What is wrong.
-fn write_mistake<W: fmt::Write>(f: &mut fmt::Formatter<W>, mistake: Mistake) -> fmt::Result {
-    match mistake {
-        Mistake::Unparted => f.write_str(
-            "neither `=` nor `!` stands in the line, which is KEY=VALUE or KEY!",
-        ),
-        Mistake::Behind => f.write_str("something stands behind the `!` of KEY!"),
-        Mistake::Word(fault) => write!(f, "{fault}"),
+impl fmt::Display for Mistake {
+    fn fmt<W: fmt::Write>(&self, f: &mut fmt::Formatter<W>) -> fmt::Result {
+        match self {
+            Mistake::Unparted => f.write_str(
+                "neither `=` nor `!` stands in the line, which is KEY=VALUE or KEY!",
+            ),
+            Mistake::Behind => f.write_str("something stands behind the `!` of KEY!"),
+            Mistake::Word(fault) => write!(f, "{fault}"),
+        }
     }
 }
 
 impl fmt::Display for LineSyntaxFault {
     fn fmt<W: fmt::Write>(&self, f: &mut fmt::Formatter<W>) -> fmt::Result {
         let column = self.column;
-        write!(f, "column {column}: ")?;
-        write_mistake(f, self.mistake)?;
-        if self.is_text {
-            f.write_str("; it is a line of text, which --text asks for")?;
-        }
-        Ok(())
+        let mistake = self.mistake;
+        let end = if self.is_text {
+            "; it is a line of text, which --text asks for"
+        } else {
+            ""
+        };
+        write!(f, "column {column}: {mistake}{end}")
     }
 }
