@@ -1,6 +1,6 @@
 -- A tree of merges: its files, and the source that has the first entry.
 use Rattle.std.specs.List.{flat_map}
-use Rattle.std.proofs.Common.{◌≡◌, ◌+◌, ◌<◌, ◌≤◌, ℕ, Bool, true, false, Option, Some, None, List, [], ◌∷◌, ◌++◌, map, length, arith, refl, sym, ap, ◌∙◌, subst, append_assoc, append-nil, inl, inr}
+use Rattle.std.proofs.Common.{◌≡◌, ◌+◌, ◌<◌, ◌≤◌, ℕ, Bool, ◌⊎◌, true, false, Option, Some, None, List, [], ◌∷◌, ◌++◌, map, length, arith, refl, sym, ap, ◌∙◌, subst, append_assoc, append-nil, inl, inr}
 use Rattle.std.specs.Ordering.{is_le, nat_cmp}
 use Rattle.lsm_block.specs.Building.{common}
 use Rattle.lsm_block.specs.Standing.{SharesFront}
@@ -96,6 +96,17 @@ pub second_yields : (n : ℕ) (a b b' : Left) → IsLed false a b → IsLed true
 second_yields n a b b' t u s =
     heads_by n (both a b) (both a b') b a (first_right a.placed b.placed (sym t.placed)) (first_left a.placed b'.placed (sym u.placed))
     (shares_swapped n (user_in (first_of a.placed)) (user_in (first_of b.placed)) s)
+
+-- the one that led leads as before, and kept so many bytes, or the other one leads now
+pub first_kept : (r between moved : ℕ) (a a' b : Left) → IsLed true a b → (IsLed true a' b × (r ≡ moved)) ⊎ (IsLed false a' b × (r ≡ between)) → ShareHeads moved a a' → ShareHeads between a b
+    → ShareHeads r (both a b) (both a' b)
+first_kept r between moved a a' b t (inl h) m s = subst (λ (n : ℕ). ShareHeads n (both a b) (both a' b)) (sym h.1) (first_stays moved a a' b t h.0 m)
+first_kept r between moved a a' b t (inr h) m s = subst (λ (n : ℕ). ShareHeads n (both a b) (both a' b)) (sym h.1) (first_yields between a a' b t h.0 s)
+
+pub second_kept : (r between moved : ℕ) (a b b' : Left) → IsLed false a b → (IsLed false a b' × (r ≡ moved)) ⊎ (IsLed true a b' × (r ≡ between)) → ShareHeads moved b b' → ShareHeads between a b
+    → ShareHeads r (both a b) (both a b')
+second_kept r between moved a b b' t (inl h) m s = subst (λ (n : ℕ). ShareHeads n (both a b) (both a b')) (sym h.1) (second_stays moved a b b' t h.0 m)
+second_kept r between moved a b b' t (inr h) m s = subst (λ (n : ℕ). ShareHeads n (both a b) (both a b')) (sym h.1) (second_yields between a b b' t h.0 s)
 
 -- ---- a step that leaves the order of a fork
 

@@ -2,7 +2,8 @@
 //! on the way to one source, of what stands behind a front that both heads share, and copies no key
 //! and no value.
 
-ghost use Rattle.std.specs.Prelude.{◌≡◌, ℕ, ◌+◌, ◌<◌, ◌≤◌, [], length, IfOk, IfErr, OnOk, OnErr};
+ghost use Rattle.std.specs.Prelude.{◌≡◌, ℕ, ◌+◌, ◌<◌, ◌≤◌, ◌⊎◌, [], length, not, true, false};
+ghost use Rattle.std.specs.Prelude.{IfOk, IfErr, OnOk, OnErr};
 ghost use Rattle.lsm_codec.specs.Lists.{Has};
 ghost use Rattle.lsm_table.specs.ReadFault.{ReadCounted, IsMemoryOrShelf};
 ghost use Rattle.lsm_table.specs.Told.{Becomes};
@@ -88,11 +89,33 @@ fn settle<N: Naming, S: Shelf>(tree: &mut Tree<Run<N, S>>, known: usize) -> bool
     now
 }
 
+/// How many bytes of a fork's user key are those of the one before it, where the tree that led, the
+/// first one or not, went on and kept so many: where it leads as before, those that it kept, and
+/// else those that both trees shared before. A user key that has more of the one before it than the
+/// other tree had stands to that tree as the one before it did, so nothing is compared.
+fn kept_by<N: Naming, S: Shelf>(
+    tree: &mut Tree<Run<N, S>>,
+    led: bool,
+    between: usize,
+    moved: usize,
+) -> usize
+    requires ready { AreReady tree.old }
+    requires more { between < moved → IsReady tree.old × IsLedIn led tree.old }
+    requires front { moved ≤ between → ShareHeadsIn moved tree.old }
+    ensures ready { IsReady tree.new }
+    ensures left { left_of tree.new ≡ left_of tree.old }
+    ensures kept { (IsLedIn led tree.old × (result ≡ moved))
+        ⊎ (IsLedIn (not led) tree.old × (result ≡ between)) }
+{
+    if moved > between {
+        return moved;
+    }
+    let leads = settle(tree, moved);
+    if leads == led { moved } else { between }
+}
+
 /// Goes on to the next entry, and tells how many bytes of its user key are known to be those of the
-/// user key before it: where the same one of two trees leads as before, what that one tells, and
-/// else what both shared before. A user key that has more of the one before it than the other tree
-/// had stands to that tree as the one before it did, so nothing is compared. An `Err` leaves what
-/// is left.
+/// user key before it. An `Err` leaves what is left.
 #[tactic(auto, using(crate::proofs::TreeLaws::fault_first, crate::proofs::TreeLaws::fault_second, crate::proofs::TreeLaws::none_other_first, crate::proofs::TreeLaws::none_other_second, crate::proofs::TreeLaws::step_left, crate::proofs::TreeLaws::step_right))]
 pub(crate) fn advance_by<N: Naming, S: Shelf, B: Blocks<N, S>>(
     tree: &mut Tree<Run<N, S>>,
@@ -125,19 +148,16 @@ pub(crate) fn advance_by<N: Naming, S: Shelf, B: Blocks<N, S>>(
         Tree::Fork(led, front, first, second) => {
             let between = *front;
             if *led {
-                let moved = advance_by(first, blocks, alloc)?;
-                if moved > between {
-                    return Ok(moved);
+                match advance_by(first, blocks, alloc) {
+                    Ok(moved) => Ok(kept_by(tree, true, between, moved)),
+                    Err(fault) => Err(fault),
                 }
-                let leads = settle(tree, moved);
-                return Ok(if leads { moved } else { between });
+            } else {
+                match advance_by(second, blocks, alloc) {
+                    Ok(moved) => Ok(kept_by(tree, false, between, moved)),
+                    Err(fault) => Err(fault),
+                }
             }
-            let moved = advance_by(second, blocks, alloc)?;
-            if moved > between {
-                return Ok(moved);
-            }
-            let leads = settle(tree, moved);
-            Ok(if leads { between } else { moved })
         }
     }
 }
