@@ -228,6 +228,10 @@ pub none_before : (old new : List Left) (count : ℕ) (t : Left) → all_left ol
 none_before old [] count t e rest all = sym e
 none_before old (l ∷ new) count t e rest all = absurd (omega arith)
 
+pub of_no_runs : (ls : List Left) → length ls ≡ 0 → none_left ≡ all_left ls
+of_no_runs [] h = refl
+of_no_runs (l ∷ ls) h = absurd (omega (arith, h))
+
 pub all_placed : (ls : List Left) → (all_left ls).placed ≡ merge_all (map (λ (l : Left). l.placed) ls)
 all_placed [] = refl
 all_placed (l ∷ ls) = ap (λ (ps : List Placed). merge l.placed ps) (all_placed ls)
