@@ -8,12 +8,26 @@ use Rattle.lsm_block.specs.Standing.{is_end}
 use Rattle.lsm_levels.specs.Merging.{placed_at}
 use Rattle.lsm_merger.specs.Heads.{first_of, source_in}
 use Rattle.lsm_table.specs.Registry.{Table, image_of}
-use Rattle.lsm_merger.specs.Runs.{HasEntries, IsLastAtEnd, files_at}
+use Rattle.lsm_table.specs.HeldTable.{entries_in}
+use Rattle.lsm_merger.specs.Runs.{HasEntries, IsFirstNumber, IsFirstOf, IsLastAtEnd, files_at}
 
 -- what holds of what each stands for holds of what the first one stands for
 pub first_holds : {X Y : Type 0} (f : X → Y) (P : Y → Type 0) (items : List X) (x y : X) → x ≡ slice_index_or items 0 x → 0 < length items → y ≡ x → All P (map f items) → P (f y)
 first_holds f P [] x y at some same a = absurd (omega arith)
 first_holds f P (z ∷ zs) x y at some same a = rw (same ∙ at) (All-head P (f z) (map f zs) a)
+
+-- what stands for the first one has its number, and its entries
+pub first_number : {X : Type 0} (f : X → ℕ) (items : List X) (x y : X) (n : ℕ) → x ≡ slice_index_or items 0 x → 0 < length items → y ≡ x → n ≡ f y → IsFirstNumber n (map f items)
+first_number f [] x y n at some same e = absurd (omega arith)
+first_number f (z ∷ zs) x y n at some same e = e ∙ ap f (same ∙ at)
+
+pub has_first : {X : Type 0} (f : X → ℕ) (items : List X) (x y : X) (n : ℕ) → x ≡ slice_index_or items 0 x → 0 < length items → y ≡ x → n ≡ f y → Has (map f items) n
+has_first f [] x y n at some same e = absurd (omega arith)
+has_first f (z ∷ zs) x y n at some same e = inl (sym (e ∙ ap f (same ∙ at)))
+
+pub first_entries : {X : Type 0} (f : X → List ℕ) (items : List X) (x y : X) (es : List Entry) → x ≡ slice_index_or items 0 x → 0 < length items → y ≡ x → es ≡ entries_in (f y) → IsFirstOf es (map f items)
+first_entries f [] x y es at some same e = absurd (omega arith)
+first_entries f (z ∷ zs) x y es at some same e = e ∙ ap (λ w. entries_in (f w)) (same ∙ at)
 
 -- where an entry is left, any tables may come after it
 pub last_if_some : (here : List Entry) (images : List (List ℕ)) → is_end here ≡ false → IsLastAtEnd here images
