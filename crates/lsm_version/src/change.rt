@@ -128,6 +128,7 @@ impl<N: Naming, S: Shelf> Version<N, S> {
         requires sound { S.honest → IsSound (changed deleted.now added.now pointer last self.now) }
         ensures { IfOk result (λ v. v ≡ changed deleted.now added.now pointer last self.now) }
     {
+        let pointers = with_pointer(alloc, self.pointers.as_slice(), pointer)?;
         let levels = levels_after(
             alloc,
             &self.registry,
@@ -135,7 +136,6 @@ impl<N: Naming, S: Shelf> Version<N, S> {
             deleted,
             added,
         )?;
-        let pointers = with_pointer(alloc, self.pointers.as_slice(), pointer)?;
         Ok(Version {
             registry: Arc::try_clone(&self.registry)?,
             levels,

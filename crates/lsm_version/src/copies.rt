@@ -14,6 +14,16 @@ pub fn copy_of(alloc: Global, key: &[u8]) -> Result<Bytes, AllocError>
     Ok(Bytes::of(bytes))
 }
 
+/// A copy of a key, where there is one.
+fn copy_of_some(alloc: Global, pointer: &Option<Bytes>) -> Result<Option<Bytes>, AllocError>
+    ensures { IfOk result (λ b. b ≡ pointer.now) }
+{
+    match pointer {
+        None => Ok(None),
+        Some(key) => Ok(Some(copy_of(alloc, key.as_slice())?)),
+    }
+}
+
 /// Copies of keys, where there are any.
 pub fn copies_of(
     alloc: Global,
@@ -23,11 +33,7 @@ pub fn copies_of(
 {
     let mut copies = Vec::new(alloc);
     for pointer in pointers {
-        let copy = match pointer {
-            None => None,
-            Some(key) => Some(copy_of(alloc, key.as_slice())?),
-        };
-        copies.push(copy)?;
+        copies.push(copy_of_some(alloc, pointer)?)?;
     }
     Ok(copies)
 }

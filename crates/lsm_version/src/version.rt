@@ -168,9 +168,8 @@ impl<N: Naming, S: Shelf> Version<N, S> {
             Vec::new(alloc),
             Vec::new(alloc),
         ];
-        let pointers = [None, None, None, None, None, None, None];
         let levels = Vec::from_array(alloc, levels)?;
-        let pointers = Vec::from_array(alloc, pointers)?;
+        let pointers = Vec::from_array(alloc, [None, None, None, None, None, None, None])?;
         Ok(Version {
             registry,
             levels,

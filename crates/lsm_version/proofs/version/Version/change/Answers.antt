@@ -12,8 +12,8 @@ invariant_of-result g c =
     let added = c.args.added.now in
     let was = c.self.inside.levels.items in
     let seen = ap (λ (v : Levels). v.tables) c.self.view_is in
-    let made = c.in_ok-levels.ensures ∙ ap (λ ls. levels_after deleted added 0 (map (λ l. l.items) ls)) c.as_slice.ensures.value in
-    let held = c.in_ok-pointers.ensures ∙ ap (with_pointer c.args.pointer) c.as_slice-2.ensures.value in (
+    let made = c.in_ok-levels.ensures ∙ ap (λ ls. levels_after deleted added 0 (map (λ l. l.items) ls)) c.as_slice-2.ensures.value in
+    let held = c.in_ok-pointers.ensures ∙ ap (with_pointer c.args.pointer) c.as_slice.ensures.value in (
       sym (length-map c.in_ok-levels.levels.items (λ l. l.items)) ∙ ap length made ∙ length-levels_after deleted added 0 (map (λ l. l.items) was) ∙ length-map was (λ l. l.items) ∙ c.self.invariant.0,
       ap length held ∙ length-with_pointer c.args.pointer c.self.inside.pointers.items ∙ c.self.invariant.1,
       subst (λ (ls : List (List Table)). AreInOrder ls) (sym made) (levels_in_order deleted added 0 (map (λ l. l.items) was) c.self.invariant.2),
@@ -27,6 +27,6 @@ returns g c =
     let deleted = c.args.deleted.now in
     let added = c.args.added.now in
     let seen = ap (λ (v : Levels). v.tables) c.self.view_is in
-    let made = c.in_ok-levels.ensures ∙ ap (λ ls. levels_after deleted added 0 (map (λ l. l.items) ls)) c.as_slice.ensures.value in
-    let held = c.in_ok-pointers.ensures ∙ ap (with_pointer c.args.pointer) c.as_slice-2.ensures.value in
+    let made = c.in_ok-levels.ensures ∙ ap (λ ls. levels_after deleted added 0 (map (λ l. l.items) ls)) c.as_slice-2.ensures.value in
+    let held = c.in_ok-pointers.ensures ∙ ap (with_pointer c.args.pointer) c.as_slice.ensures.value in
     changed_is deleted added c.args.pointer c.args.last c.args.self.now _ _ (made ∙ ap (levels_after deleted added 0) seen) (held ∙ ap (λ (v : Levels). with_pointer c.args.pointer v.pointers) c.self.view_is)
