@@ -12,8 +12,9 @@ ghost use Rattle.lsm_table.specs.Options.{AreInRange};
 ghost use Rattle.lsm_table.specs.Handle.{handle_text};
 ghost use Rattle.lsm_table.specs.Table.{IsTable};
 ghost use Rattle.lsm_table.specs.TableBuilding.{is_full, grouped, last_group, data_text, index_of};
+ghost use Rattle.lsm_table.specs.StoredBlock.{stored};
 ghost use Rattle.lsm_table.specs.TableBuilding.{index_block, file_of, groups_by, table_bytes};
-ghost use Rattle.lsm_table.specs.TableBuilding.{written_bytes, PassesLimit};
+ghost use Rattle.lsm_table.specs.TableBuilding.{place, written_bytes, PassesLimit};
 ghost use Rattle.lsm_table.specs.TableMaking.{Made, HasRoom, LacksRoom};
 
 use crate::footer::Footer;
@@ -298,6 +299,32 @@ fn settle(
     Ok(())
 }
 
+/// Puts the block of a builder behind what a file has, with its trailer, and gives its place.
+fn put_at_end(file: &mut Vec<u8>, block: &BlockBuilder) -> Result<Handle, AllocError>
+    ensures ok { OnOk result (file.new.items
+        ≡ file.old.items ++ stored (block_bytes block.now.interval block.now.entries)) }
+    ensures place { IfOk result (λ h. h
+        ≡ place (length file.old.items) (block_bytes block.now.interval block.now.entries)) }
+    ensures block { OnOk result
+        (IsBlock (block_bytes block.now.interval block.now.entries) block.now.entries) }
+{
+    let handle = Handle {
+        offset: file.len() as u64,
+        size: block.size_estimate() as u64,
+    };
+    put_block(file, block)?;
+    Ok(handle)
+}
+
+/// The same of a block without entries.
+fn put_empty(alloc: Global, file: &mut Vec<u8>) -> Result<Handle, AllocError>
+    ensures ok { OnOk result (file.new.items ≡ file.old.items ++ stored (block_bytes 1 [])) }
+    ensures place { IfOk result (λ h. h ≡ place (length file.old.items) (block_bytes 1 [])) }
+{
+    let none = BlockBuilder::new(alloc, 1);
+    put_at_end(file, &none)
+}
+
 /// The file that begins with the data blocks: an empty metaindex block, the index block and the
 /// footer follow them.
 fn end(alloc: Global, front: Vec<u8>, index: &BlockBuilder) -> Result<Vec<u8>, AllocError>
@@ -307,21 +334,9 @@ fn end(alloc: Global, front: Vec<u8>, index: &BlockBuilder) -> Result<Vec<u8>, A
         (IsBlock (block_bytes index.now.interval index.now.entries) index.now.entries) }
 {
     let mut file = front;
-    let none = BlockBuilder::new(alloc, 1);
-    let metaindex = Handle {
-        offset: file.len() as u64,
-        size: none.size_estimate() as u64,
-    };
-    put_block(&mut file, &none)?;
-    let handle = Handle {
-        offset: file.len() as u64,
-        size: index.size_estimate() as u64,
-    };
-    put_block(&mut file, index)?;
-    let footer = Footer {
-        metaindex,
-        index: handle,
-    };
+    let metaindex = put_empty(alloc, &mut file)?;
+    let index = put_at_end(&mut file, index)?;
+    let footer = Footer { metaindex, index };
     file.extend_from_slice(&footer.text(alloc)?)?;
     Ok(file)
 }
