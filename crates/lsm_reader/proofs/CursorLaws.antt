@@ -1,8 +1,8 @@
 -- Going on in a table that is read block by block.
-use Rattle.std.proofs.Common.{◌≡◌, ℕ, ◌-◌, ◌^◌, min, true, false, List, [], ◌∷◌, ◌++◌, Option, Some, None, Result, Err, refl, sym, ap, ◌∙◌, subst}
+use Rattle.std.proofs.Common.{◌≡◌, ℕ, ◌-◌, ◌^◌, min, true, false, List, [], ◌∷◌, ◌++◌, Option, Result, Err, refl, sym, ap, ◌∙◌, subst}
 use Rattle.std.specs.List.{flat_map}
-use Rattle.lsm_codec.specs.Entries.{Entry, internal_key, newest}
-use Rattle.lsm_block.specs.Standing.{is_end, but_first, key_of_first, value_of_first}
+use Rattle.lsm_codec.specs.Entries.{Entry, newest}
+use Rattle.lsm_block.specs.Standing.{is_end, but_first, value_of_first}
 use Rattle.lsm_table.specs.declared.table_fault.TableFault.{TableFault}
 use Rattle.lsm_table.specs.declared.read_fault.ReadFault.{ReadFault}
 use Rattle.lsm_table.specs.declared.read_fault.ReadFault.TheVariants.{Shelf, Table}
@@ -18,10 +18,6 @@ use Rattle.lsm_codec.specs.Keys.{UserKey, InternalKey}
 use Rattle.lsm_block.specs.Seeking.{not_below}
 use Rattle.lsm_table.specs.Searching.{read_key, of_user, Sought}
 use Rattle.lsm_table.specs.Found.{found_in}
-use Rattle.lsm_block.specs.Block.{entry_of}
-
-abbrev pub nothing : Option (Option (List ℕ))
-nothing = None
 
 abbrev rest : List Entry → List Entry → Rest
 rest here index = record { here = here; index = index }
@@ -121,27 +117,15 @@ looked : (k : UserKey) (seq : ℕ) (key : InternalKey) (image : List ℕ) (index
 looked k seq key image index es c is n left =
     found_at k seq (body_of image) index es n ∙ ap (λ (x : InternalKey). of_user k (not_below x es)) (sym is) ∙ ap (of_user k) (sym left)
 
--- a cursor at its end has nothing left
-ended : (image : List ℕ) (c : Rest) → key_of_first c.here ≡ None → IsAtEntry c.here c.index → left_at image c ≡ []
-ended image c h a = by_here c.here c.index h a
+-- what the place of a cursor says of the user is what all that is left there says
+pub cursor_found : (k : UserKey) (seq : ℕ) (key : InternalKey) (image : List ℕ) (index es : List Entry) (c : Rest) (said : Option (Option (List ℕ))) → key ≡ read_key k (min seq (2 ^ 56 - 1)) → Names (body_of image) index es → left_at image c ≡ not_below key es
+    → IsAtEntry c.here c.index → said ≡ found_in (of_user k c.here) → said ≡ found_in (newest k seq es)
+cursor_found k seq key image index es c said is n left a s =
+    s ∙ by_here c.here c.index a ∙ sym (ap found_in (looked k seq key image index es c is n left))
   where
-    by_here : (here index : List Entry) → key_of_first here ≡ None → IsAtEntry here index → left_at image (rest here index) ≡ []
-    by_here [] index h a = rw a refl
-    by_here (e ∷ es) index h a = absurd cc
-
-pub none_found : (k : UserKey) (seq : ℕ) (key : InternalKey) (image : List ℕ) (index es : List Entry) (c : Rest) → key ≡ read_key k (min seq (2 ^ 56 - 1)) → Names (body_of image) index es → left_at image c ≡ not_below key es → key_of_first c.here ≡ None → IsAtEntry c.here c.index
-    → nothing ≡ found_in (newest k seq es)
-none_found k seq key image index es c is n left h a =
-    sym (ap found_in (looked k seq key image index es c is n left ∙ ap (of_user k) (ended image c h a)))
-
-pub some_found : (k : UserKey) (seq : ℕ) (key first : InternalKey) (value : List ℕ) (image : List ℕ) (index es : List Entry) (c : Rest) (said : Option (Option (List ℕ))) → key ≡ read_key k (min seq (2 ^ 56 - 1)) → Names (body_of image) index es → left_at image c ≡ not_below key es
-    → Some first ≡ key_of_first c.here → value ≡ value_of_first c.here → said ≡ found_in (of_user k (entry_of first value ∷ [])) → said ≡ found_in (newest k seq es)
-some_found k seq key first value image index es c said is n left f v s =
-    s ∙ by_here c.here c.index f v ∙ sym (ap found_in (looked k seq key image index es c is n left))
-  where
-    by_here : (here index : List Entry) → Some first ≡ key_of_first here → value ≡ value_of_first here → found_in (of_user k (entry_of first value ∷ [])) ≡ found_in (of_user k (left_at image (rest here index)))
-    by_here [] index f v = absurd cc
-    by_here (e ∷ es) index f v = let same : first ≡ internal_key e = cc in rw (same, v) refl
+    by_here : (here index : List Entry) → IsAtEntry here index → found_in (of_user k here) ≡ found_in (of_user k (left_at image (rest here index)))
+    by_here [] index a = rw a refl
+    by_here (e ∷ es) index a = refl
 
 -- ---- from the front
 

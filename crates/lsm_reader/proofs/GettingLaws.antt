@@ -19,7 +19,7 @@ use Rattle.lsm_reader.specs.Blocks.{Reads}
 use Rattle.lsm_reader.specs.Getting.{or_later, entered_there, first_entered, sought_there, first_named, got_by, got}
 use Rattle.lsm_reader.proofs.OpeningLaws.{reads_on}
 
-abbrev entries_read : Type 0
+abbrev pub entries_read : Type 0
 entries_read = Result (List Entry) TableFault
 
 through : (r : entries_read) (key : InternalKey) (later : entries_read) → (r >>= λ es. or_later (not_below key es) later) ≡ ((r >>= λ es. done (not_below key es)) >>= λ es. or_later es later)
@@ -71,7 +71,7 @@ first_there : (body place : List ℕ) (index : List Entry) → is_end index ≡ 
 first_there body place [] h p = absurd cc
 first_there body place (i ∷ index) h p = ap (entered_there body) (sym p)
 
-fails_as : {X Z Y : Type 0} (see : X → Y) (see' : Z → Y) (e : ReadFault) (r : Result Y TableFault) → Reads see (Err e) r → Reads see' (Err e) r
+pub fails_as : {X Z Y : Type 0} (see : X → Y) (see' : Z → Y) (e : ReadFault) (r : Result Y TableFault) → Reads see (Err e) r → Reads see' (Err e) r
 fails_as see see' (Shelf fault) r h = tt
 fails_as see see' (Table fault) r h = h
 
@@ -130,21 +130,18 @@ got_fails see see' e key body k seq index is r =
 got_there : (key : InternalKey) (body : List ℕ) (k : UserKey) (seq : ℕ) (index here : List Entry) → key ≡ read_key k (min seq (2 ^ 56 - 1)) → first_named key body (not_below key index) ≡ Ok here → got_by body k seq index ≡ Ok (found_in (of_user k here))
 got_there key body k seq index here is r = with_key key body k seq index is ∙ ap (λ (x : entries_read). x >>= λ es. Ok (found_in (of_user k es))) r
 
-none_here : (k : UserKey) (here : List Entry) → key_of_first here ≡ None → found_in (of_user k here) ≡ nothing_got
+pub none_here : (k : UserKey) (here : List Entry) → key_of_first here ≡ None → found_in (of_user k here) ≡ nothing_got
 none_here k [] h = refl
 none_here k (e ∷ es) h = absurd cc
 
-some_here : (k : UserKey) (first : InternalKey) (value : List ℕ) (here : List Entry) → Some first ≡ key_of_first here → value ≡ value_of_first here → found_in (of_user k (entry_of first value ∷ [])) ≡ found_in (of_user k here)
+pub some_here : (k : UserKey) (first : InternalKey) (value : List ℕ) (here : List Entry) → Some first ≡ key_of_first here → value ≡ value_of_first here → found_in (of_user k (entry_of first value ∷ [])) ≡ found_in (of_user k here)
 some_here k first value [] f v = absurd cc
 some_here k first value (e ∷ es) f v = let same : first ≡ internal_key e = cc in rw (same, v) refl
 
-pub got_none : (key : InternalKey) (body : List ℕ) (k : UserKey) (seq : ℕ) (index here : List Entry) → key ≡ read_key k (min seq (2 ^ 56 - 1)) → first_named key body (not_below key index) ≡ Ok here → key_of_first here ≡ None → got_by body k seq index ≡ Ok nothing_got
-got_none key body k seq index here is r h = got_there key body k seq index here is r ∙ ap (λ (x : Option (Option (List ℕ))). Ok x) (none_here k here h)
-
-pub got_some : (key first : InternalKey) (value body : List ℕ) (k : UserKey) (seq : ℕ) (index here : List Entry) (said : Option (Option (List ℕ))) → key ≡ read_key k (min seq (2 ^ 56 - 1)) → first_named key body (not_below key index) ≡ Ok here
-    → Some first ≡ key_of_first here → value ≡ value_of_first here → said ≡ found_in (of_user k (entry_of first value ∷ [])) → got_by body k seq index ≡ Ok said
-got_some key first value body k seq index here said is r f v s =
-    got_there key body k seq index here is r ∙ ap (λ (x : Option (Option (List ℕ))). Ok x) (sym (s ∙ some_here k first value here f v))
+pub got_said : (key : InternalKey) (body : List ℕ) (k : UserKey) (seq : ℕ) (index here : List Entry) (said : Option (Option (List ℕ))) → key ≡ read_key k (min seq (2 ^ 56 - 1)) → first_named key body (not_below key index) ≡ Ok here → said ≡ found_in (of_user k here)
+    → got_by body k seq index ≡ Ok said
+got_said key body k seq index here said is r s =
+    got_there key body k seq index here is r ∙ ap (λ (x : Option (Option (List ℕ))). Ok x) (sym s)
 
 -- ---- from the footer on
 

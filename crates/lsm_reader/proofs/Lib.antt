@@ -2,4 +2,5 @@ pub mod BlocksLaws
 pub mod OpeningLaws
 pub mod CursorLaws
 pub mod GettingLaws
+pub mod AdvanceLaws
 pub mod StepLaws

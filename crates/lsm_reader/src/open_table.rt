@@ -14,7 +14,6 @@ ghost use Rattle.lsm_reader.specs.Getting.{got};
 ghost use Rattle.lsm_reader.specs.Refusals.{IsReadRefusal, IsSomeReadRefusal};
 
 use crate::blocks::Blocks;
-use crate::direct::Direct;
 use crate::opening::index_by;
 use crate::reads::get_from;
 use crate::table_reader::TableReader;
@@ -87,8 +86,7 @@ impl<N: Naming, S: Shelf> OpenTable<N, S> {
         ensures refused { IfErr result
             (IsReadRefusal (S.refuses N.place) (S.Receipt.number receipt.now)) }
     {
-        let mut direct = Direct::new(shelf);
-        OpenTable::open_by(&mut direct, alloc, receipt)
+        OpenTable::open_by(shelf, alloc, receipt)
     }
 
     /// What a read of the user key finds at the sequence: the newest entry with a sequence at most
@@ -133,8 +131,7 @@ impl<N: Naming, S: Shelf> OpenTable<N, S> {
         ensures cause { IfErr result (λ e. ReadCounted e shelf.old shelf.new) }
         ensures refused { IfErr result (IsSomeReadRefusal (S.refuses N.place)) }
     {
-        let mut direct = Direct::new(shelf);
-        self.get_by(&mut direct, alloc, user, seq)
+        self.get_by(shelf, alloc, user, seq)
     }
 
     /// Before the first entry of the table, which over an honest shelf has to be one. Reads nothing

@@ -3,7 +3,7 @@
 ghost use Rattle.std.specs.Prelude.{◌≡◌, ℕ, List, IfOk, IfErr};
 ghost use Rattle.std.specs.Arc.{arc_value};
 ghost use Rattle.lsm_block.specs.Held.{HeldBlock};
-ghost use Rattle.lsm_reader.specs.Blocks.{Reads};
+ghost use Rattle.lsm_reader.specs.Blocks.{Reads, IsAtEntry};
 ghost use Rattle.lsm_reader.specs.Getting.{got, got_by};
 ghost use Rattle.lsm_reader.specs.Refusals.{IsReadRefusal};
 ghost use Rattle.lsm_table.specs.Footer.{body_of};
@@ -11,17 +11,28 @@ ghost use Rattle.lsm_table.specs.HeldTable.{Names};
 ghost use Rattle.lsm_codec.specs.Entries.{Entry, newest};
 ghost use Rattle.lsm_table.specs.Found.{seen, found_in};
 ghost use Rattle.lsm_table.specs.ReadFault.{ReadCounted, IsMemoryOrShelf};
+ghost use Rattle.lsm_table.specs.Searching.{of_user};
 ghost use Rattle.lsm_table.specs.Table.{IsTable};
 ghost use Rattle.lsm_shelf.specs.Told.{Becomes};
 
 use crate::blocks::Blocks;
-use crate::direct::Direct;
 use crate::opening::index_by;
 use crate::table_cursor::TableCursor;
 use lsm_block::Block;
 use lsm_table::{Found, NamedShelf, Naming, ReadFault, Shelf, found_in_entry, key_for};
-use std::alloc::Global;
+use std::alloc::{AllocError, Global};
 use std::sync::Arc;
+
+/// What the entry at which a cursor stands says of the user key; nothing where it stands at none.
+fn found_at(alloc: Global, cursor: &TableCursor, user: &[u8]) -> Result<Option<Found>, AllocError>
+    ensures found { IfOk result (λ f. seen f ≡ found_in (of_user user.now cursor.now.here)) }
+    ensures stands { IsAtEntry cursor.now.here cursor.now.index }
+{
+    match cursor.key() {
+        None => Ok(None),
+        Some(first) => found_in_entry(alloc, &first, cursor.value(), user),
+    }
+}
 
 /// What a read finds in the table of a receipt, where this is its index block.
 pub(crate) fn get_from<N: Naming, S: Shelf, B: Blocks<N, S>>(
@@ -49,10 +60,7 @@ pub(crate) fn get_from<N: Naming, S: Shelf, B: Blocks<N, S>>(
 {
     let key = key_for(user, seq);
     let cursor = TableCursor::seek_by(blocks, alloc, receipt, index, &key)?;
-    match cursor.key() {
-        None => Ok(None),
-        Some(first) => Ok(found_in_entry(alloc, &first, cursor.value(), user)?),
-    }
+    Ok(found_at(alloc, &cursor, user)?)
 }
 
 /// What a read of the user key finds at the sequence in the table of a receipt: the newest entry
@@ -101,6 +109,5 @@ pub fn get<N: Naming, S: Shelf>(
     ensures refused { IfErr result
         (IsReadRefusal (S.refuses N.place) (S.Receipt.number receipt.now)) }
 {
-    let mut direct = Direct::new(shelf);
-    get_by(&mut direct, alloc, receipt, user, seq)
+    get_by(shelf, alloc, receipt, user, seq)
 }

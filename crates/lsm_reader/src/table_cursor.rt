@@ -26,7 +26,7 @@ use crate::opening::data_block_by;
 use lsm_block::{Block, BlockIter};
 use lsm_codec::KeyRef;
 use lsm_table::{Naming, ReadFault, Shelf, TableFault};
-use std::alloc::Global;
+use std::alloc::{AllocError, Global};
 use std::marker::Model;
 use std::sync::Arc;
 
@@ -81,6 +81,41 @@ fn enter_by<N: Naming, S: Shelf, B: Blocks<N, S>>(
         return Err(ReadFault::Table(TableFault::BadIndex));
     }
     Ok(entries)
+}
+
+/// Goes to the first entry of the data block that the next index entry names, and passes that; to
+/// no entry where none is left. An `Err` leaves the index.
+fn enter_next_by<N: Naming, S: Shelf, B: Blocks<N, S>>(
+    blocks: &mut B,
+    alloc: Global,
+    receipt: &S::Receipt,
+    index: &mut BlockIter,
+) -> Result<Option<BlockIter>, ReadFault>
+    requires here { S.is_of N.place receipt.now }
+    ensures stands { IfOk result (λ h. IsAtEntry (or_none h) index.new) }
+    // It stands at an entry, unless no data block was left.
+    ensures some { IfOk result (λ h. is_end index.old ≡ false → IsSome (key_of_first (or_none h))) }
+    ensures exact { S.honest → Reads or_none result
+        (first_entered (body_of (S.Receipt.image receipt.now)) index.old) }
+    ensures entered { S.honest → AreNamed (body_of (S.Receipt.image receipt.now)) index.old
+        → IfOk result (λ h. AreNamed (body_of (S.Receipt.image receipt.now)) index.new
+        × (left_at (S.Receipt.image receipt.now) record { here = or_none h; index = index.new }
+        ≡ left_at (S.Receipt.image receipt.now) record { here = []; index = index.old })) }
+    ensures sound { S.honest → AreNamed (body_of (S.Receipt.image receipt.now)) index.old
+        → IfErr result IsMemoryOrShelf }
+    ensures err { OnErr result (index.new ≡ index.old) }
+    ensures told { Becomes (B.told blocks.old) (B.told blocks.new) }
+    ensures loan { B.loan blocks.new ≡ B.loan blocks.old }
+    ensures cause { IfErr result (λ e. ReadCounted e (B.told blocks.old) (B.told blocks.new)) }
+    ensures refused { IfErr result
+        (IsReadRefusal (S.refuses N.place) (S.Receipt.number receipt.now)) }
+{
+    if index.is_at_end() {
+        return Ok(None);
+    }
+    let entries = enter_by(blocks, alloc, receipt, index.value())?;
+    index.pass()?;
+    Ok(Some(entries))
 }
 
 /// Seeks in the data block of the index entry at which the index stands, and passes that.
@@ -139,17 +174,10 @@ impl TableCursor {
             (IsReadRefusal (S.refuses N.place) (S.Receipt.number receipt.now)) }
     {
         let mut places = BlockIter::first(alloc, index)?;
-        if places.is_at_end() {
-            return Ok(TableCursor {
-                index: places,
-                here: None,
-            });
-        }
-        let entries = enter_by(blocks, alloc, receipt, places.value())?;
-        places.pass()?;
+        let here = enter_next_by(blocks, alloc, receipt, &mut places)?;
         Ok(TableCursor {
             index: places,
-            here: Some(entries),
+            here,
         })
     }
 
@@ -228,6 +256,20 @@ impl TableCursor {
         }
     }
 
+    /// Goes on to the next entry of the data block, as `BlockIter::advance` does. Where none is
+    /// left there it stays, and so does an `Err` leave it.
+    fn advance_here(&mut self) -> Result<Option<usize>, AllocError>
+        ensures stands { IsAtEntry self.old.here self.old.index }
+        ensures moved { IfOk result (λ m. IsMovedBy m self.old.here self.new.here) }
+        ensures index { self.new.index ≡ self.old.index }
+        ensures err { OnErr result (self.new ≡ self.old) }
+    {
+        match &mut self.here {
+            None => Ok(None),
+            Some(entries) => entries.advance(),
+        }
+    }
+
     /// Goes on to the next data block, or to the end. An `Err` leaves it.
     fn next_block_by<N: Naming, S: Shelf, B: Blocks<N, S>>(
         &mut self,
@@ -254,13 +296,7 @@ impl TableCursor {
         ensures refused { IfErr result
             (IsReadRefusal (S.refuses N.place) (S.Receipt.number receipt.now)) }
     {
-        if self.index.is_at_end() {
-            self.here = None;
-            return Ok(());
-        }
-        let entries = enter_by(blocks, alloc, receipt, self.index.value())?;
-        self.index.pass()?;
-        self.here = Some(entries);
+        self.here = enter_next_by(blocks, alloc, receipt, &mut self.index)?;
         Ok(())
     }
 
@@ -288,10 +324,8 @@ impl TableCursor {
         ensures refused { IfErr result
             (IsReadRefusal (S.refuses N.place) (S.Receipt.number receipt.now)) }
     {
-        if let Some(entries) = &mut self.here {
-            if entries.advance()?.is_some() {
-                return Ok(());
-            }
+        if self.advance_here()?.is_some() {
+            return Ok(());
         }
         self.next_block_by(blocks, alloc, receipt)
     }
@@ -326,11 +360,9 @@ impl TableCursor {
         ensures refused { IfErr result
             (IsReadRefusal (S.refuses N.place) (S.Receipt.number receipt.now)) }
     {
-        if let Some(entries) = &mut self.here {
-            let moved = entries.advance()?;
-            if moved.is_some() {
-                return Ok(moved);
-            }
+        let moved = self.advance_here()?;
+        if moved.is_some() {
+            return Ok(moved);
         }
         if self.index.is_at_end() {
             return Ok(None);

@@ -14,7 +14,6 @@ ghost use Rattle.lsm_reader.specs.Stepping.{StepsOn, value_in};
 ghost use Rattle.lsm_reader.specs.Refusals.{IsSomeReadRefusal};
 
 use crate::blocks::Blocks;
-use crate::direct::Direct;
 use crate::table_cursor::TableCursor;
 use lsm_block::Block;
 use lsm_codec::KeyRef;
@@ -122,7 +121,6 @@ impl<N: Naming, S: Shelf> TableReader<N, S> {
         ensures cause { IfErr result (λ e. ReadCounted e shelf.old shelf.new) }
         ensures refused { IfErr result (IsSomeReadRefusal (S.refuses N.place)) }
     {
-        let mut direct = Direct::new(shelf);
-        self.next_by(&mut direct, alloc)
+        self.next_by(shelf, alloc)
     }
 }
